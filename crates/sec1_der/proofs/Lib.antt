@@ -1,0 +1,7 @@
+pub mod DigitLemmas
+pub mod LengthLemmas
+pub mod HeaderLemmas
+pub mod IdentifierLemmas
+pub mod ArcLemmas
+pub mod DottedLemmas
+pub mod DisplayLemmas

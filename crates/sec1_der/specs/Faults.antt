@@ -1,0 +1,41 @@
+-- What a refusal says.
+use Rattle.std.specs.Prelude.{◌≡◌, ℕ, ◌-◌, ◌%◌, Bool, ◌&&◌, not, ◌==◌, nat_lt, nat_le, if◌then◌else◌, List, [], ◌∷◌, length, Result, IsErrAnd}
+use Rattle.sec1_der.specs.declared.error.Error.{Error}
+use Rattle.sec1_der.specs.declared.error.ErrorKind.{ErrorKind}
+use Rattle.sec1_der.specs.declared.error.ErrorKind.TheVariants.{Truncated, Tag, Length, TrailingData, Value, Overlength, Buffer, Failed, Io, Depth, Memory}
+
+-- the call refused, with this kind
+abbrev pub Refuses : {T : Type 0} → Result T Error → ErrorKind → Type 0
+Refuses result kind = IsErrAnd result (λ e. e.kind ≡ kind)
+
+-- the kinds that bytes are refused by
+abbrev pub IsReadingFault : ErrorKind → Type 0
+IsReadingFault Truncated = Unit {0}
+IsReadingFault Tag = Unit {0}
+IsReadingFault Length = Unit {0}
+IsReadingFault TrailingData = Unit {0}
+IsReadingFault Value = Unit {0}
+IsReadingFault Overlength = ⊥
+IsReadingFault Buffer = ⊥
+IsReadingFault Failed = ⊥
+IsReadingFault Io = ⊥
+IsReadingFault Depth = ⊥
+IsReadingFault Memory = ⊥
+
+-- a first byte that announces one to four digits, more than there are
+abbrev pub lacks_digits : ℕ → List ℕ → Bool
+lacks_digits first digits = nat_lt 0x80 first && nat_le first 0x84 && nat_lt (length digits) (first - 0x80)
+
+-- The kind, where no length begins the bytes: they end inside one, or spell none.
+abbrev pub length_fault : List ℕ → ErrorKind
+length_fault [] = Truncated
+length_fault (first ∷ digits) = if lacks_digits first digits then Truncated else Length
+
+-- the test for a tag byte
+abbrev pub is_tag : ℕ → Bool
+is_tag byte = not (byte == 0) && not (byte % 32 == 31)
+
+-- The kind, where no header begins the bytes. A bad tag is told before the length is looked at.
+abbrev pub header_fault : List ℕ → ErrorKind
+header_fault [] = Truncated
+header_fault (byte ∷ rest) = if is_tag byte then length_fault rest else Tag

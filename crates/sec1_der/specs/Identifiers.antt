@@ -1,0 +1,55 @@
+-- Object identifiers: their arcs, the content that spells them, and their dotted text.
+use Rattle.std.specs.Prelude.{◌≡◌, ℕ, ◌+◌, ◌*◌, ◌^◌, ◌<◌, ◌≤◌, Bool, false, ◌&&◌, ◌||◌, nat_lt, nat_le, List, [], ◌∷◌, length, map, Option, Some, None, if◌then◌else◌}
+use Rattle.std.specs.List.{AllByRecursion, list_all, flat_map, join_with_byte}
+use Rattle.std.specs.Fmt.{decimal}
+use Rattle.sec1_der.specs.Numbers.{base128}
+
+-- X.690 section 8.19.4: two or more arcs. The first is 0, 1 or 2, the second is below 40 under 0 and 1; the
+-- number that these two share and each further arc are below 2^32.
+abbrev pub AreArcs : List ℕ → Type 0
+AreArcs [] = ⊥
+AreArcs (a ∷ []) = ⊥
+AreArcs (a ∷ b ∷ further) =
+    (a ≤ 2) × (a < 2 → b < 40) × (40 * a + b < 2 ^ 32) × AllByRecursion (λ arc. arc < 2 ^ 32) further
+
+-- X.690 section 8.19.4: the first two arcs share a number, and each further arc is one.
+abbrev pub subidentifiers : List ℕ → List ℕ
+subidentifiers [] = []
+subidentifiers (a ∷ []) = []
+subidentifiers (a ∷ b ∷ further) = (40 * a + b) ∷ further
+
+-- X.690 section 8.19.2: the base 128 spellings of these numbers, one after the other.
+abbrev pub content_of : List ℕ → List ℕ
+content_of arcs = flat_map base128 (subidentifiers arcs)
+
+-- the bytes spell these arcs, however many they are
+pub record Spells (arcs content : List ℕ) : Type 0 where
+  pub allowed : AreArcs arcs
+  pub spelled : content ≡ content_of arcs
+
+-- the bytes are the content of the identifier with these arcs, at most 39 of them
+pub record IsIdentifier (arcs content : List ℕ) : Type 0 where
+  pub spells : Spells arcs content
+  pub short : length content ≤ 39
+
+-- the bytes are the content of some identifier
+abbrev pub IsIdentifierContent : List ℕ → Type 0
+IsIdentifierContent content = (arcs : List ℕ) × IsIdentifier arcs content
+
+-- the arcs in decimal digits, joined by full stops
+abbrev pub dotted : List ℕ → List ℕ
+dotted arcs = join_with_byte 46 (map decimal arcs)
+
+-- whether a list is the arcs of an identifier
+abbrev pub are_arcs : List ℕ → Bool
+are_arcs [] = false
+are_arcs (a ∷ []) = false
+are_arcs (a ∷ b ∷ further) =
+    nat_le a 2 && ((nat_le 2 a || nat_lt b 40) && (nat_lt (40 * a + b) (2 ^ 32) && list_all (λ arc. nat_lt arc (2 ^ 32)) further))
+
+abbrev pub is_identifier : List ℕ → Bool
+is_identifier arcs = are_arcs arcs && nat_le (length (content_of arcs)) 39
+
+-- the content of an identifier; a list that is no identifier's has none
+abbrev pub identifier_content : List ℕ → Option (List ℕ)
+identifier_content arcs = if is_identifier arcs then Some (content_of arcs) else None

@@ -1,0 +1,12 @@
+pub mod Numbers
+pub mod Elements
+pub mod Trees
+pub mod Identifiers
+pub mod IdentifierLaws
+pub mod ArcsOf
+pub mod Stored
+pub mod Building
+pub mod Contents
+pub mod Values
+pub mod Faults
+pub mod Readers

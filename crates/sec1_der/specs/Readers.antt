@@ -1,0 +1,25 @@
+-- What a reader is: the bytes that it hasn't read, and whether it refused before.
+use Rattle.std.specs.Prelude.{◌≡◌, ◌≤◌, Bool, false, true, List, ◌++◌, length, ℕ}
+use Rattle.sec1_der.specs.Elements.{max_length, element}
+
+pub record Reader : Type 0 where
+  pub unread : List ℕ
+  pub failed : Bool
+
+-- a reader that hasn't refused, with these bytes before it
+abbrev pub before : List ℕ → Reader
+before bytes = record { unread = bytes; failed = false }
+
+-- the reader, after it has refused
+abbrev pub refused : Reader → Reader
+refused r = record { unread = r.unread; failed = true }
+
+-- a reader that hadn't refused read just these bytes
+pub record HasRead (bytes : List ℕ) (old new : Reader) : Type 0 where
+  pub was_whole : old ≡ before (bytes ++ new.unread)
+  pub is_whole : new ≡ before new.unread
+
+-- a reader that hadn't refused read just the element with this tag and content
+pub record HasReadElement (tag : ℕ) (content : List ℕ) (old new : Reader) : Type 0 where
+  pub within : length content ≤ max_length
+  pub read : HasRead (element tag content) old new

@@ -1,0 +1,72 @@
+use crate::header::element_at;
+use crate::{ErrorKind, Length, Result, SliceReader, Tag};
+
+/// An element of any tag, whose content is lent unread.
+#[derive(Clone, Copy, PartialEq, Eq, Debug)]
+pub struct AnyRef<'a> {
+    tag: Tag,
+    value: &'a [u8],
+}
+
+impl<'a> AnyRef<'a> {
+    ghost use Rattle.std.specs.Prelude.{◌≡◌, ◌≤◌, ◌↔◌, ℕ, List, [], ◌++◌, length, true, false, IsOk, IfOk, IsOkAnd, IfErr, OnErr};
+    ghost use Rattle.sec1_der.specs.Elements.{max_length, element, IsHeader, IsProperBeginning};
+    ghost use Rattle.sec1_der.specs.Faults.{Refuses, IsReadingFault};
+    ghost use Rattle.sec1_der.specs.Readers.{before, HasRead};
+    ghost use Rattle.sec1_der.specs.Values.{tag_of, value_of};
+
+    /// The element with this tag and content. Refused as Overlength where the content has more than
+    /// 268,435,455 bytes.
+    pub fn new(tag: Tag, value: &'a [u8]) -> Result<AnyRef<'a>>
+        ensures within { IsOk result ↔ (length value.now ≤ max_length) }
+        ensures tag { IfOk result (λ any. tag_of any ≡ tag) }
+        ensures value { IfOk result (λ any. value_of any ≡ value.now) }
+        ensures above { IfErr result (λ e. e.kind ≡ ErrorKind.Overlength) }
+    {
+        Length::new(value.len())?;
+        Ok(AnyRef { tag, value })
+    }
+
+    /// Reads one element of any tag.
+    ///
+    /// Refused as [`Header::decode`](crate::Header::decode) refuses its header, then as Truncated where the
+    /// content has no room. The reader has then failed.
+    pub fn decode(reader: &mut SliceReader<'a>) -> Result<AnyRef<'a>>
+        ensures found { IfOk result (λ any. IsHeader (tag_of any) (length (value_of any))
+            × HasRead (element (tag_of any) (value_of any)) reader.old reader.new) }
+        ensures only { (tag : ℕ) (content rest : List ℕ) → IsHeader tag (length content) → reader.old ≡ before (element tag content ++ rest)
+            → IsOkAnd result (λ any. (tag_of any ≡ tag) × (value_of any ≡ content)) × (reader.new ≡ before rest) }
+        ensures short { (tag : ℕ) (content : List ℕ) → IsHeader tag (length content) → reader.old.failed ≡ false
+            → IsProperBeginning reader.old.unread (element tag content) → Refuses result ErrorKind.Truncated }
+        ensures kinds { reader.old.failed ≡ false → IfErr result (λ e. IsReadingFault e.kind) }
+        ensures failed { reader.old.failed ≡ true → Refuses result ErrorKind.Failed × (reader.new ≡ reader.old) }
+        ensures refused { OnErr result (reader.new.failed ≡ true) }
+    {
+        reader.check()?;
+        match element_at(reader.unread()) {
+            Ok((header, inside)) => {
+                let (value, rest) = inside.split_at(header.length.get());
+                reader.set_unread(rest);
+                Ok(AnyRef {
+                    tag: header.tag,
+                    value,
+                })
+            }
+            Err(kind) => Err(reader.fail(kind)),
+        }
+    }
+
+    /// The tag.
+    pub fn tag(&self) -> Tag
+        ensures { result ≡ tag_of self.now }
+    {
+        self.tag
+    }
+
+    /// The content.
+    pub fn value(&self) -> &'a [u8]
+        ensures { result.now ≡ value_of self.now }
+    {
+        self.value
+    }
+}

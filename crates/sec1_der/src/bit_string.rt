@@ -1,0 +1,125 @@
+ghost use Rattle.std.specs.Prelude.{◌≡◌, ◌↔◌, IsTrue};
+ghost use Rattle.sec1_der.specs.Contents.{AreBits};
+
+use crate::{DecodeValue, ErrorKind, FixedTag, Length, Result, SliceReader, Tag, ValueContent};
+
+/// A BIT STRING, whose bytes are lent (X.690 section 8.6). Its content is the count of unused bits of the last
+/// byte, and the bytes.
+#[derive(Clone, Copy, PartialEq, Eq, Debug)]
+pub struct BitStringRef<'a> {
+    unused: u8,
+    bytes: &'a [u8],
+    ghost are_bits: { AreBits unused bytes.now },
+}
+
+impl<'a> BitStringRef<'a> {
+    ghost use Rattle.std.specs.Prelude.{◌<◌, ◌+◌, ◌≤◌, length, Some, None, IsOk, IfOk, IfErr, IsSome, IfSome};
+    ghost use Rattle.sec1_der.specs.Elements.{max_length};
+    ghost use Rattle.sec1_der.specs.Faults.{Refuses};
+    ghost use Rattle.sec1_der.specs.Values.{unused_bits_of, bit_bytes_of};
+
+    /// The bit string of these bytes, of whose last the lowest `unused` bits don't count.
+    ///
+    /// Refused as Overlength where there are more than 268,435,454 bytes; then as Value where the count is
+    /// above 7, isn't 0 although there are no bytes, or where an unused bit is set.
+    pub fn new(unused: u8, bytes: &'a [u8]) -> Result<BitStringRef<'a>>
+        ensures bits { IsOk result ↔ ((length bytes.now < max_length) × AreBits unused bytes.now) }
+        ensures count { IfOk result (λ bits. unused_bits_of bits ≡ unused) }
+        ensures bytes { IfOk result (λ bits. bit_bytes_of bits ≡ bytes.now) }
+        ensures above { max_length ≤ length bytes.now → Refuses result ErrorKind.Overlength }
+        ensures value { length bytes.now < max_length → IfErr result (λ e. e.kind ≡ ErrorKind.Value) }
+    {
+        if bytes.len() >= Length::MAX {
+            return Err(ErrorKind::Overlength.into());
+        }
+        if !are_bits(unused, bytes) {
+            return Err(ErrorKind::Value.into());
+        }
+        Ok(BitStringRef { unused, bytes })
+    }
+
+    /// The bit string of these bytes, all of whose bits count. Refused as Overlength where there are more than
+    /// 268,435,454 bytes.
+    pub fn from_bytes(bytes: &'a [u8]) -> Result<BitStringRef<'a>>
+        ensures within { IsOk result ↔ (length bytes.now < max_length) }
+        ensures count { IfOk result (λ bits. unused_bits_of bits ≡ 0) }
+        ensures bytes { IfOk result (λ bits. bit_bytes_of bits ≡ bytes.now) }
+        ensures above { IfErr result (λ e. e.kind ≡ ErrorKind.Overlength) }
+    {
+        BitStringRef::new(0, bytes)
+    }
+
+    /// The bytes, where all of their bits count.
+    pub fn as_bytes(&self) -> Option<&'a [u8]>
+        ensures some { IsSome result ↔ (unused_bits_of self.now ≡ 0) }
+        ensures bytes { IfSome result (λ bytes. bytes.now ≡ bit_bytes_of self.now) }
+    {
+        if self.unused == 0 {
+            Some(self.bytes)
+        } else {
+            None
+        }
+    }
+
+    /// The bytes, the last of which may end in unused bits.
+    pub fn raw_bytes(&self) -> &'a [u8]
+        ensures { result.now ≡ bit_bytes_of self.now }
+    {
+        self.bytes
+    }
+
+    /// The count of unused bits of the last byte, from 0 to 7.
+    pub fn unused_bits(&self) -> u8
+        ensures count { result ≡ unused_bits_of self.now }
+        ensures bits { AreBits result (bit_bytes_of self.now) }
+    {
+        self.unused
+    }
+}
+
+/// Whether these bytes may have so many unused bits.
+fn are_bits(unused: u8, bytes: &[u8]) -> bool
+    ensures { IsTrue result ↔ AreBits unused bytes.now }
+{
+    match bytes.last() {
+        None => unused == 0,
+        Some(last) => unused < 8 && *last % (1 << unused) == 0,
+    }
+}
+
+impl FixedTag for BitStringRef<'_> {
+    const TAG: Tag = Tag::BIT_STRING;
+
+    ghost number = { 0x03 };
+
+    fn fixed_tag() -> Tag
+        ensures { result ≡ 0x03 }
+    {
+        Self::TAG
+    }
+}
+
+impl ValueContent for BitStringRef<'_> {
+    ghost use Rattle.std.specs.Prelude.{Some, ◌∷◌};
+    ghost use Rattle.sec1_der.specs.Contents.{IsBitString, bits_are_one};
+
+    ghost content = { λ bits. Some (bits.unused ∷ bits.bytes.now) };
+
+    ghost is_content = { IsBitString };
+
+    ghost content_is_one = { λ bits bytes same _. bits_are_one bits.unused bits.bytes.now bytes bits.are_bits same };
+}
+
+impl<'a> DecodeValue<'a> for BitStringRef<'a> {
+    fn decode_value(reader: &mut SliceReader<'a>) -> Result<Self> {
+        let content = reader.read_rest()?;
+        let Some((unused, bytes)) = content.split_first() else {
+            return Err(reader.fail(ErrorKind::Value));
+        };
+        let unused = *unused;
+        if !are_bits(unused, bytes) {
+            return Err(reader.fail(ErrorKind::Value));
+        }
+        Ok(BitStringRef { unused, bytes })
+    }
+}

@@ -1,0 +1,134 @@
+ghost use Rattle.std.specs.Prelude.{◌≡◌, ℕ, ◌<◌, ◌≤◌, ◌^◌, length, List, ◌++◌, IfOk, IfErr, IsOkAnd, IsOk, IsErr, OnErr, false, true};
+ghost use Rattle.sec1_der.specs.Elements.{max_length, len, header, element, IsHeader, IsProperBeginning};
+ghost use Rattle.sec1_der.specs.Faults.{length_fault, header_fault, Refuses, IsReadingFault};
+ghost use Rattle.sec1_der.specs.Numbers.{num};
+ghost use Rattle.sec1_der.specs.Readers.{before, refused, HasRead};
+
+use crate::{ErrorKind, Length, Result, SliceReader, Tag};
+
+/// What stands first of some bytes, and the bytes after it; or why nothing does.
+type First<'a, T> = std::result::Result<(T, &'a [u8]), ErrorKind>;
+
+/// The tag byte and the length that an element begins with (X.690 sections 8.1.2 and 8.1.3).
+#[derive(Clone, Copy, Debug, PartialEq, Eq)]
+pub struct Header {
+    /// The tag.
+    pub tag: Tag,
+    /// The count of bytes of the content.
+    pub length: Length,
+}
+
+impl Header {
+    /// Reads one tag byte and one length. Whether the content has room isn't tested.
+    ///
+    /// Refused as Truncated where the bytes end inside the header, as Tag where the first byte is no tag,
+    /// as Length where no length of DER follows it, and as Failed where the reader refused before. The reader
+    /// has then failed.
+    pub fn decode(reader: &mut SliceReader) -> Result<Header>
+        // What is read is a header, and just its bytes are read.
+        ensures found { IfOk result (λ h. IsHeader h.tag h.length × HasRead (header h.tag h.length) reader.old reader.new) }
+        // Where the unread bytes begin with a header, it is read.
+        ensures only { (tag n : ℕ) (rest : List ℕ) → IsHeader tag n → reader.old ≡ before (header tag n ++ rest)
+            → (result ≡ Ok (record { tag = tag; length = n })) × (reader.new ≡ before rest) }
+        // Where they begin with none, the bytes tell the kind.
+        ensures kind { reader.old.failed ≡ false → IsErr result → Refuses result (header_fault reader.old.unread) }
+        ensures failed { reader.old.failed ≡ true → Refuses result ErrorKind.Failed }
+        ensures refused { OnErr result (reader.new ≡ refused reader.old) }
+    {
+        reader.check()?;
+        match header_at(reader.unread()) {
+            Ok((header, rest)) => {
+                reader.set_unread(rest);
+                Ok(header)
+            }
+            Err(kind) => Err(reader.fail(kind)),
+        }
+    }
+}
+
+/// The header of the element that the bytes begin with, and the bytes after the header, where the
+/// content has room in them.
+#[tactic(auto, using(crate::proofs::HeaderLemmas::header_fault_reads))]
+pub(crate) fn element_at(input: &[u8]) -> First<'_, Header>
+    ensures kinds { IfErr result IsReadingFault }
+    ensures found { IfOk result (λ x. IsHeader x.0.tag x.0.length
+        × (input.now ≡ header x.0.tag x.0.length ++ x.1.now) × (x.0.length ≤ length x.1.now)) }
+    ensures only { (tag : ℕ) (content rest : List ℕ) → IsHeader tag (length content) → input.now ≡ element tag content ++ rest
+        → IsOkAnd result (λ x. (x.0 ≡ record { tag = tag; length = length content }) × (x.1.now ≡ content ++ rest)) }
+    ensures short { (tag : ℕ) (content : List ℕ) → IsHeader tag (length content) → IsProperBeginning input.now (element tag content)
+        → result ≡ Err ErrorKind.Truncated }
+{
+    let (header, inside) = match header_at(input) {
+        Ok(found) => found,
+        Err(kind) => return Err(kind),
+    };
+    if inside.len() < header.length.get() {
+        return Err(ErrorKind::Truncated);
+    }
+    Ok((header, inside))
+}
+
+/// The header that the bytes begin with, and the bytes after it.
+fn header_at(bytes: &[u8]) -> First<'_, Header>
+    ensures found { IfOk result (λ x. IsHeader x.0.tag x.0.length × (bytes.now ≡ header x.0.tag x.0.length ++ x.1.now)) }
+    ensures only { (tag n : ℕ) (rest : List ℕ) → IsHeader tag n → bytes.now ≡ header tag n ++ rest
+        → IsOkAnd result (λ x. (x.0 ≡ record { tag = tag; length = n }) × (x.1.now ≡ rest)) }
+    ensures kind { IfErr result (λ kind. kind ≡ header_fault bytes.now) }
+{
+    let Some((first, rest)) = bytes.split_first() else {
+        return Err(ErrorKind::Truncated);
+    };
+    let Ok(tag) = Tag::from_byte(*first) else {
+        return Err(ErrorKind::Tag);
+    };
+    let (length, rest) = match length_at(rest) {
+        Ok(found) => found,
+        Err(kind) => return Err(kind),
+    };
+    Ok((Header { tag, length }, rest))
+}
+
+/// The length that the bytes begin with, and the bytes after it.
+#[tactic(auto, unfolding(crate::specs::Elements::len))]
+fn length_at(bytes: &[u8]) -> First<'_, Length>
+    ensures found { IfOk result (λ x. (x.0 ≤ max_length) × (bytes.now ≡ len x.0 ++ x.1.now)) }
+    ensures only { (n : ℕ) (rest : List ℕ) → n ≤ max_length → bytes.now ≡ len n ++ rest → IsOk result }
+    ensures kind { IfErr result (λ kind. kind ≡ length_fault bytes.now) }
+{
+    let Some((first, rest)) = bytes.split_first() else {
+        return Err(ErrorKind::Truncated);
+    };
+    let first = *first;
+    if first < 0x80 {
+        return Ok((Length::of_byte(first), rest));
+    }
+    if first == 0x80 || first > 0x84 {
+        return Err(ErrorKind::Length);
+    }
+    let count = usize::from(first) - 0x80;
+    if rest.len() < count {
+        return Err(ErrorKind::Truncated);
+    }
+    let (digits, rest) = rest.split_at(count);
+    let n = number(digits);
+    if digits[0] == 0 || n < 0x80 {
+        return Err(ErrorKind::Length);
+    }
+    match Length::new(n) {
+        Ok(length) => Ok((length, rest)),
+        Err(_) => Err(ErrorKind::Length),
+    }
+}
+
+/// The number that at most four base 256 digits spell.
+fn number(digits: &[u8]) -> usize
+    requires { length digits.now ≤ 4 }
+    ensures value { result ≡ num digits.now }
+    ensures bound { result < 256 ^ length digits.now }
+{
+    let mut n = 0;
+    for digit in digits {
+        n = n * 256 + usize::from(*digit);
+    }
+    n
+}

@@ -1,0 +1,57 @@
+ghost use Rattle.std.specs.Prelude.{◌≡◌, ◌≤◌, ◌<◌, ◌↔◌, OkIff, IfErr};
+ghost use Rattle.sec1_der.specs.Elements.{max_length};
+
+use crate::{ErrorKind, Result};
+use std::marker::Model;
+
+/// The count of bytes of a content, from 0 to [`Length::MAX`]. A contract sees the number.
+#[derive(Clone, Copy, Debug, PartialEq, Eq)]
+pub struct Length {
+    bytes: usize,
+}
+
+impl Model for Length {
+    ghost use Rattle.std.specs.Prelude.{ℕ, ◌≤◌};
+    ghost use Rattle.sec1_der.specs.Elements.{max_length};
+
+    ghost Value = { ℕ };
+
+    ghost view = { λ l. l.bytes };
+
+    ghost invariant = { λ l. l.bytes ≤ max_length };
+
+    ghost inverse = { λ n. record { bytes = n } };
+}
+
+impl Length {
+    /// The most bytes that a content may have, 2^28 - 1.
+    pub const MAX: usize = 268_435_455;
+
+    /// The length `n`. Refused as Overlength where `n` is above [`Length::MAX`].
+    pub fn new(n: usize) -> Result<Length>
+        ensures within { OkIff result (n ≤ max_length) n }
+        ensures above { IfErr result (λ e. e.kind ≡ ErrorKind.Overlength) }
+    {
+        if n > Length::MAX {
+            return Err(ErrorKind::Overlength.into());
+        }
+        Ok(Length { bytes: n })
+    }
+
+    /// The length that a single byte spells.
+    pub(crate) fn of_byte(n: u8) -> Length
+        ensures { result ≡ n }
+    {
+        Length {
+            bytes: usize::from(n),
+        }
+    }
+
+    /// The number of bytes.
+    pub fn get(self) -> usize
+        ensures value { result ≡ self }
+        ensures within { result ≤ max_length }
+    {
+        self.bytes
+    }
+}

@@ -1,0 +1,204 @@
+ghost use Rattle.std.specs.Prelude.{◌≡◌, ℕ, ◌<◌, ◌≤◌, ◌↔◌, List, length, IsTrue, IfOk, IfErr, Some, ◌∷◌};
+ghost use Rattle.sec1_der.specs.ArcsOf.{padded, arcs_of_numbers};
+ghost use Rattle.sec1_der.specs.Identifiers.{IsIdentifier, IsIdentifierContent, Spells, content_of, dotted};
+
+mod builder;
+
+use crate::{DecodeValue, ErrorKind, FixedTag, Result, SliceReader, Tag, ValueContent};
+use builder::{Builder, arc};
+use std::fmt;
+use std::marker::Model;
+
+/// The most bytes of a content.
+const MAX: usize = 39;
+
+/// An OBJECT IDENTIFIER (X.690 section 8.19): two or more arcs, whose content has 1 to 39 bytes. A contract sees
+/// the arcs.
+///
+/// The first arc is 0, 1 or 2; the second is below 40 under 0 and 1, and at most 4,294,967,215 under 2; each
+/// further arc is at most 4,294,967,295.
+#[derive(Clone, Copy, PartialEq, Eq)]
+pub struct ObjectIdentifier {
+    bytes: [u8; MAX],
+    len: usize,
+}
+
+/// id-ecPublicKey, 1.2.840.10045.2.1 (RFC 5480 section 2.1.1).
+pub const ID_EC_PUBLIC_KEY: ObjectIdentifier = ObjectIdentifier {
+    bytes: [
+        0x2A, 0x86, 0x48, 0xCE, 0x3D, 0x02, 0x01, 0, 0, 0, 0, 0, 0, 0, 0, 0, 0, 0, 0, 0, 0, 0, 0,
+        0, 0, 0, 0, 0, 0, 0, 0, 0, 0, 0, 0, 0, 0, 0, 0,
+    ],
+    len: 7,
+};
+
+impl Model for ObjectIdentifier {
+    ghost use Rattle.std.specs.Prelude.{List, ℕ, length};
+
+    ghost Value = { List ℕ };
+
+    ghost use Rattle.sec1_der.specs.Stored.{arcs_stored, IsStored, store, store_arcs_stored};
+
+    ghost view = { arcs_stored };
+
+    ghost invariant = { IsStored };
+
+    ghost inverse = { store };
+
+    ghost inverse_ok = { store_arcs_stored };
+}
+
+impl ObjectIdentifier {
+    /// The identifier with this dotted text: its arcs in decimal digits without leading zeros, joined by full
+    /// stops. Any other text is refused as Value, also one whose content would have more than 39 bytes.
+    pub fn new(text: &str) -> Result<ObjectIdentifier>
+        ensures found { IfOk result (λ arcs. IsIdentifier arcs (content_of arcs) × (text.now ≡ dotted arcs)) }
+        ensures only { (arcs : List ℕ) → IsIdentifier arcs (content_of arcs) → text.now ≡ dotted arcs → result ≡ Ok arcs }
+        ensures value { IfErr result (λ e. e.kind ≡ ErrorKind.Value) }
+    {
+        let mut builder = Builder::new();
+        for piece in text.split('.') {
+            let Some(n) = arc(piece) else {
+                return Err(ErrorKind::Value.into());
+            };
+            builder.add(n)?;
+        }
+        if builder.seen < 2 {
+            return Err(ErrorKind::Value.into());
+        }
+        ObjectIdentifier::from_bytes(builder.content.as_bytes())
+    }
+
+    /// The identifier with this content (X.690 section 8.19). Any other bytes are refused as Value.
+    pub fn from_bytes(content: &[u8]) -> Result<ObjectIdentifier>
+        ensures found { IfOk result (λ arcs. IsIdentifier arcs content.now) }
+        ensures only { (arcs : List ℕ) → IsIdentifier arcs content.now → result ≡ Ok arcs }
+        ensures value { IfErr result (λ e. e.kind ≡ ErrorKind.Value) }
+    {
+        if content.len() > MAX || !is_content(content) {
+            return Err(ErrorKind::Value.into());
+        }
+        Ok(ObjectIdentifier {
+            bytes: stored(content),
+            len: content.len(),
+        })
+    }
+
+    /// The content, 1 to 39 bytes.
+    pub fn as_bytes(&self) -> &[u8]
+        ensures { IsIdentifier self.now result.now }
+    {
+        &self.bytes[..self.len]
+    }
+}
+
+/// Whether the bytes are one or more numbers below 2^32 in base 128.
+fn is_content(content: &[u8]) -> bool
+    ensures { IsTrue result ↔ ((arcs : List ℕ) × Spells arcs content.now) }
+{
+    if content.is_empty() {
+        return false;
+    }
+    // What the digits so far spell of a number that goes on. No number that goes on spells 0, since its first
+    // digit isn't 0.
+    let mut high: u32 = 0;
+    for b in content {
+        if high >= 1 << 25 {
+            return false;
+        }
+        if high == 0 && *b == 0x80 {
+            return false;
+        }
+        let n = high * 128 + u32::from(*b % 128);
+        high = if *b < 128 { 0 } else { n };
+    }
+    high == 0
+}
+
+/// The content, with zeros behind it.
+fn stored(content: &[u8]) -> [u8; MAX]
+    requires { length content.now ≤ 39 }
+    ensures { result ≡ padded content.now }
+{
+    let mut bytes = [0; MAX];
+    bytes[..content.len()].copy_from_slice(content);
+    bytes
+}
+
+/// The dotted text.
+impl fmt::Display for ObjectIdentifier {
+    ghost output = { λ arcs. Some (dotted arcs) };
+
+    fn fmt<W: fmt::Write>(&self, f: &mut fmt::Formatter<W>) -> fmt::Result {
+        let content = self.as_bytes();
+        let mut first = true;
+        let mut high: u32 = 0;
+        for b in content {
+            let n = high * 128 + u32::from(*b % 128);
+            if *b >= 128 {
+                high = n;
+            } else {
+                high = 0;
+                if first {
+                    first = false;
+                    let arcs = first_arcs(n);
+                    write!(f, "{}.{}", arcs.0, arcs.1)?;
+                } else {
+                    write!(f, ".{n}")?;
+                }
+            }
+        }
+        Ok(())
+    }
+}
+
+/// The two arcs that share the first number.
+fn first_arcs(n: u32) -> (u32, u32)
+    ensures { (further : List ℕ) → arcs_of_numbers (n ∷ further) ≡ result.0 ∷ result.1 ∷ further }
+{
+    if n < 40 {
+        (0, n)
+    } else if n < 80 {
+        (1, n - 40)
+    } else {
+        (2, n - 80)
+    }
+}
+
+impl fmt::Debug for ObjectIdentifier {
+    fn fmt<W: fmt::Write>(&self, f: &mut fmt::Formatter<W>) -> fmt::Result {
+        write!(f, "ObjectIdentifier({self})")
+    }
+}
+
+impl FixedTag for ObjectIdentifier {
+    const TAG: Tag = Tag::OBJECT_IDENTIFIER;
+
+    ghost number = { 0x06 };
+
+    fn fixed_tag() -> Tag
+        ensures { result ≡ 0x06 }
+    {
+        Self::TAG
+    }
+}
+
+impl ValueContent for ObjectIdentifier {
+    ghost use Rattle.sec1_der.specs.Identifiers.{identifier_content};
+    ghost use Rattle.sec1_der.specs.IdentifierLaws.{identifier_content-tells};
+
+    ghost content = { identifier_content };
+
+    ghost is_content = { IsIdentifierContent };
+
+    ghost content_is_one = { λ arcs bytes same _. (arcs, identifier_content-tells arcs bytes same) };
+}
+
+impl<'a> DecodeValue<'a> for ObjectIdentifier {
+    fn decode_value(reader: &mut SliceReader<'a>) -> Result<Self> {
+        match ObjectIdentifier::from_bytes(reader.read_rest()?) {
+            Ok(identifier) => Ok(identifier),
+            Err(e) => Err(reader.fail(e.kind)),
+        }
+    }
+}

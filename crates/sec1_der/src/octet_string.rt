@@ -1,0 +1,62 @@
+ghost use Rattle.std.specs.Prelude.{◌≡◌};
+
+use crate::{DecodeValue, ErrorKind, FixedTag, Length, Result, SliceReader, Tag, ValueContent};
+
+/// An OCTET STRING, whose bytes are lent (X.690 section 8.7). Its content is its bytes.
+#[derive(Clone, Copy, PartialEq, Eq, Debug)]
+pub struct OctetStringRef<'a> {
+    bytes: &'a [u8],
+}
+
+impl<'a> OctetStringRef<'a> {
+    ghost use Rattle.std.specs.Prelude.{◌≤◌, ◌↔◌, length, IsOk, IfOk, IfErr};
+    ghost use Rattle.sec1_der.specs.Elements.{max_length};
+    ghost use Rattle.sec1_der.specs.Values.{octets_of};
+
+    /// The octet string of these bytes. Refused as Overlength where there are more than 268,435,455.
+    pub fn new(bytes: &'a [u8]) -> Result<OctetStringRef<'a>>
+        ensures within { IsOk result ↔ (length bytes.now ≤ max_length) }
+        ensures value { IfOk result (λ octets. octets_of octets ≡ bytes.now) }
+        ensures above { IfErr result (λ e. e.kind ≡ ErrorKind.Overlength) }
+    {
+        Length::new(bytes.len())?;
+        Ok(OctetStringRef { bytes })
+    }
+
+    /// The bytes.
+    pub fn as_bytes(&self) -> &'a [u8]
+        ensures { result.now ≡ octets_of self.now }
+    {
+        self.bytes
+    }
+}
+
+impl FixedTag for OctetStringRef<'_> {
+    const TAG: Tag = Tag::OCTET_STRING;
+
+    ghost number = { 0x04 };
+
+    fn fixed_tag() -> Tag
+        ensures { result ≡ 0x04 }
+    {
+        Self::TAG
+    }
+}
+
+impl ValueContent for OctetStringRef<'_> {
+    ghost use Rattle.std.specs.Prelude.{Some, ⊤};
+    ghost use Rattle.sec1_der.specs.Values.{octets_of};
+
+    ghost content = { λ octets. Some (octets_of octets) };
+
+    ghost is_content = { λ _. ⊤ };
+
+    ghost content_is_one = { λ _ _ _ _. tt };
+}
+
+impl<'a> DecodeValue<'a> for OctetStringRef<'a> {
+    fn decode_value(reader: &mut SliceReader<'a>) -> Result<Self> {
+        let bytes = reader.read_rest()?;
+        Ok(OctetStringRef { bytes })
+    }
+}

@@ -1,0 +1,267 @@
+ghost use Rattle.std.specs.Prelude.{◌≡◌, ◌≢◌, ◌+◌, ◌≤◌, ◌++◌, ◌∷◌, [], ℕ, List, length, slice_get, true, false, if◌then◌else◌, IsOk, IfOk, IsOkAnd, IsErr, IfErr, OnOk, OnErr, IfSome, IfNone, IsSomeAnd};
+ghost use Rattle.sec1_der.specs.Elements.{max_length, element, IsProperBeginning};
+ghost use Rattle.sec1_der.specs.Faults.{Refuses, IsReadingFault};
+ghost use Rattle.sec1_der.specs.Readers.{before, refused, HasRead, HasReadElement};
+
+use crate::{AnyRef, DecodeValue, Error, ErrorKind, FixedTag, Length, Result, Tag};
+use std::marker::Model;
+
+/// A position in a slice. A contract sees the bytes that are unread, and whether the reader has failed.
+///
+/// After any refusal the reader has failed: [`peek_tag_byte`](SliceReader::peek_tag_byte) is None, no more
+/// bytes are read, and each call that answers a [`Result`] answers Failed.
+#[derive(Drop)]
+pub struct SliceReader<'a> {
+    unread: &'a [u8],
+    failed: bool,
+}
+
+impl<'a> Model for SliceReader<'a> {
+    ghost use Rattle.sec1_der.specs.Readers.{Reader};
+
+    ghost Value = { Reader };
+
+    ghost view = { λ r. record { unread = r.unread.now; failed = r.failed } };
+}
+
+impl<'a> SliceReader<'a> {
+    /// A reader at the beginning of these bytes.
+    pub fn new(bytes: &'a [u8]) -> SliceReader<'a>
+        ensures { result ≡ before bytes.now }
+    {
+        SliceReader {
+            unread: bytes,
+            failed: false,
+        }
+    }
+
+    /// The count of unread bytes.
+    pub fn remaining_len(&self) -> usize
+        ensures { result ≡ length self.now.unread }
+    {
+        self.unread.len()
+    }
+
+    /// Whether the reader refused before.
+    pub fn is_failed(&self) -> bool
+        ensures { result ≡ self.now.failed }
+    {
+        self.failed
+    }
+
+    /// The next byte, which stays unread; None where there is none or the reader has failed.
+    pub fn peek_tag_byte(&self) -> Option<u8>
+        ensures { result ≡ (if self.now.failed then None else slice_get self.now.unread 0) }
+    {
+        if self.failed {
+            None
+        } else {
+            self.unread.first().copied()
+        }
+    }
+
+    /// Reads the next `count` bytes, which are lent. Refused as Truncated where there are fewer.
+    pub fn read_slice(&mut self, count: Length) -> Result<&'a [u8]>
+        ensures found { IfOk result (λ bytes. (length bytes.now ≡ count) × HasRead bytes.now self.old self.new) }
+        ensures only { (bytes rest : List ℕ) → length bytes ≡ count → self.old ≡ before (bytes ++ rest)
+            → IsOkAnd result (λ lent. lent.now ≡ bytes) × (self.new ≡ before rest) }
+        ensures kind { self.old.failed ≡ false → IsErr result → Refuses result ErrorKind.Truncated }
+        ensures failed { self.old.failed ≡ true → Refuses result ErrorKind.Failed }
+        ensures refused { OnErr result (self.new ≡ refused self.old) }
+    {
+        self.check()?;
+        let count = count.get();
+        if self.unread.len() < count {
+            return Err(self.fail(ErrorKind::Truncated));
+        }
+        let (bytes, rest) = self.unread.split_at(count);
+        self.unread = rest;
+        Ok(bytes)
+    }
+
+    /// A reader over exactly the next `count` bytes, which are read here. Refused as Truncated where there
+    /// are fewer.
+    pub fn read_nested(&mut self, count: Length) -> Result<SliceReader<'a>>
+        ensures found { IfOk result (λ nested. (length nested.unread ≡ count) × (nested ≡ before nested.unread) × HasRead nested.unread self.old self.new) }
+        ensures only { (bytes rest : List ℕ) → length bytes ≡ count → self.old ≡ before (bytes ++ rest)
+            → (result ≡ Ok (before bytes)) × (self.new ≡ before rest) }
+        ensures kind { self.old.failed ≡ false → IsErr result → Refuses result ErrorKind.Truncated }
+        ensures failed { self.old.failed ≡ true → Refuses result ErrorKind.Failed }
+        ensures refused { OnErr result (self.new ≡ refused self.old) }
+    {
+        let bytes = self.read_slice(count)?;
+        Ok(SliceReader::new(bytes))
+    }
+
+    /// Reads one element, whose tag is `T::TAG`.
+    ///
+    /// Refused as Truncated where nothing is unread, as Tag where the next byte isn't `T::TAG`, whatever
+    /// follows it, then as Length or Truncated where no length of DER follows or the content has no room,
+    /// then as [`DecodeValue::decode_value`] refuses the content. The reader has then failed.
+    pub fn decode<T: DecodeValue<'a> + FixedTag>(&mut self) -> Result<T>
+        // What is read is the element of the value, and just its bytes are read.
+        ensures found { IfOk result (λ value. IsSomeAnd (T.content value) (λ content. T.is_content content × HasReadElement T.number content self.old self.new)) }
+        // Where the unread bytes begin with the element of a value, it is read.
+        ensures only { (content rest : List ℕ) → T.is_content content → length content ≤ max_length → self.old ≡ before (element T.number content ++ rest)
+            → IsOkAnd result (λ value. T.content value ≡ Some content) × (self.new ≡ before rest) }
+
+        ensures empty { self.old ≡ before [] → Refuses result ErrorKind.Truncated }
+        ensures other_tag { (byte : ℕ) → self.old.failed ≡ false → slice_get self.old.unread 0 ≡ Some byte → byte ≢ T.number → Refuses result ErrorKind.Tag }
+        ensures short { (content : List ℕ) → length content ≤ max_length → self.old.failed ≡ false → IsProperBeginning self.old.unread (element T.number content)
+            → Refuses result ErrorKind.Truncated }
+        ensures kinds { self.old.failed ≡ false → IfErr result (λ e. IsReadingFault e.kind) }
+        ensures failed { self.old.failed ≡ true → Refuses result ErrorKind.Failed × (self.new ≡ self.old) }
+        ensures refused { OnErr result (self.new.failed ≡ true) }
+    {
+        let mut content = self.open(T::fixed_tag())?;
+        match T::decode_value(&mut content) {
+            Ok(value) => Ok(value),
+            Err(e) => Err(self.fail(e.kind)),
+        }
+    }
+
+    /// Reads one explicit field `[number]`, whose content is one element with the tag `T::TAG`; None where
+    /// the next byte isn't `A0 + number` or there is none, and then nothing is read.
+    ///
+    /// Refused as [`decode`](SliceReader::decode) refuses the field's element and the one inside it, and as
+    /// TrailingData where bytes follow that one inside the field. The reader has then failed.
+    pub fn context_specific<T: DecodeValue<'a> + FixedTag + Drop>(
+        &mut self,
+        number: u8,
+    ) -> Result<Option<T>>
+        requires { number ≤ 30 }
+        // What is read is the field around the element of the value, and just its bytes are read.
+        ensures found { IfOk result (λ field. IfSome field (λ value. IsSomeAnd (T.content value) (λ content. T.is_content content
+            × (length content ≤ max_length) × HasReadElement (0xA0 + number) (element T.number content) self.old self.new))) }
+        // None means that no such field is next.
+        ensures missing { IfOk result (λ field. IfNone field ((self.new ≡ self.old) × (slice_get self.old.unread 0 ≢ Some (0xA0 + number)))) }
+
+        // Where another byte is next, or none, nothing is read.
+        ensures absent { self.old.failed ≡ false → slice_get self.old.unread 0 ≢ Some (0xA0 + number)
+            → (result ≡ Ok None) × (self.new ≡ self.old) }
+        // Where the unread bytes begin with such a field, it is read.
+        ensures only { (content rest : List ℕ) → T.is_content content → length content ≤ max_length → length (element T.number content) ≤ max_length
+            → self.old ≡ before (element (0xA0 + number) (element T.number content) ++ rest)
+            → IsOkAnd result (λ field. IsSomeAnd field (λ value. T.content value ≡ Some content)) × (self.new ≡ before rest) }
+
+        ensures kinds { self.old.failed ≡ false → IfErr result (λ e. IsReadingFault e.kind) }
+        ensures failed { self.old.failed ≡ true → Refuses result ErrorKind.Failed × (self.new ≡ self.old) }
+        ensures refused { OnErr result (self.new.failed ≡ true) }
+    {
+        self.check()?;
+        if self.peek_tag_byte() != Some(0xA0 + number) {
+            return Ok(None);
+        }
+        let mut field = self.open(Tag::context(number))?;
+        match field.only_element::<T>() {
+            Ok(value) => Ok(Some(value)),
+            Err(e) => Err(self.fail(e.kind)),
+        }
+    }
+
+    /// Whether everything was read. Refused as TrailingData where bytes are unread.
+    pub fn finish(&mut self) -> Result<()>
+        ensures ok { self.old ≡ before [] → IsOk result }
+        ensures unchanged { OnOk result ((self.old ≡ before []) × (self.new ≡ self.old)) }
+        ensures kind { self.old.failed ≡ false → IsErr result → Refuses result ErrorKind.TrailingData }
+        ensures failed { self.old.failed ≡ true → Refuses result ErrorKind.Failed }
+        ensures refused { OnErr result (self.new ≡ refused self.old) }
+    {
+        self.check()?;
+        if !self.unread.is_empty() {
+            return Err(self.fail(ErrorKind::TrailingData));
+        }
+        Ok(())
+    }
+
+    /// Marks the reader as failed, and gives an error of this kind.
+    pub fn fail(&mut self, kind: ErrorKind) -> Error
+        ensures error { result.kind ≡ kind }
+        ensures after { self.new ≡ refused self.old }
+    {
+        self.failed = true;
+        kind.into()
+    }
+
+    /// Refuses as Failed where the reader refused before.
+    pub(crate) fn check(&self) -> Result<()>
+        ensures whole { OnOk result (self.now.failed ≡ false) }
+        ensures failed { IsErr result → self.now.failed ≡ true }
+        ensures kind { IfErr result (λ e. e.kind ≡ ErrorKind.Failed) }
+    {
+        if self.failed {
+            return Err(ErrorKind::Failed.into());
+        }
+        Ok(())
+    }
+
+    pub(crate) fn unread(&self) -> &'a [u8]
+        ensures { result.now ≡ self.now.unread }
+    {
+        self.unread
+    }
+
+    pub(crate) fn set_unread(&mut self, rest: &'a [u8])
+        ensures { self.new ≡ record self.old { unread = rest.now } }
+    {
+        self.unread = rest;
+    }
+
+    /// Reads all that is unread.
+    pub(crate) fn read_rest(&mut self) -> Result<&'a [u8]>
+        ensures found { IfOk result (λ rest. (self.old ≡ before rest.now) × (self.new ≡ before [])) }
+        ensures only { self.old.failed ≡ false → IsOk result }
+        ensures failed { self.old.failed ≡ true → Refuses result ErrorKind.Failed }
+        ensures refused { OnErr result (self.new ≡ self.old) }
+    {
+        self.check()?;
+        let (rest, end) = self.unread.split_at(self.unread.len());
+        self.unread = end;
+        Ok(rest)
+    }
+
+    /// A reader over the content of the next element, which has this tag and is read here.
+    fn open(&mut self, tag: Tag) -> Result<SliceReader<'a>>
+        ensures found { IfOk result (λ content. (content ≡ before content.unread) × HasReadElement tag content.unread self.old self.new) }
+        ensures only { (content rest : List ℕ) → length content ≤ max_length → self.old ≡ before (element tag content ++ rest)
+            → (result ≡ Ok (before content)) × (self.new ≡ before rest) }
+        ensures empty { self.old ≡ before [] → Refuses result ErrorKind.Truncated }
+        ensures other_tag { (byte : ℕ) → self.old.failed ≡ false → slice_get self.old.unread 0 ≡ Some byte → byte ≢ tag → Refuses result ErrorKind.Tag }
+        ensures short { (content : List ℕ) → length content ≤ max_length → self.old.failed ≡ false → IsProperBeginning self.old.unread (element tag content)
+            → Refuses result ErrorKind.Truncated }
+        ensures kinds { self.old.failed ≡ false → IfErr result (λ e. IsReadingFault e.kind) }
+        ensures failed { self.old.failed ≡ true → Refuses result ErrorKind.Failed × (self.new ≡ self.old) }
+        ensures refused { OnErr result (self.new.failed ≡ true) }
+    {
+        self.check()?;
+        let Some(byte) = self.peek_tag_byte() else {
+            return Err(self.fail(ErrorKind::Truncated));
+        };
+        if byte != tag.byte() {
+            return Err(self.fail(ErrorKind::Tag));
+        }
+        match AnyRef::decode(self) {
+            Ok(any) => Ok(SliceReader::new(any.value())),
+            Err(e) => Err(e),
+        }
+    }
+
+    /// Reads the one element that is all that is unread.
+    pub(crate) fn only_element<T: DecodeValue<'a> + FixedTag + Drop>(&mut self) -> Result<T>
+        ensures found { IfOk result (λ value. IsSomeAnd (T.content value) (λ content. T.is_content content × (length content ≤ max_length)
+            × (self.old ≡ before (element T.number content)))) }
+        ensures only { (content : List ℕ) → T.is_content content → length content ≤ max_length → self.old ≡ before (element T.number content)
+            → IsOkAnd result (λ value. T.content value ≡ Some content) }
+        ensures empty { self.old ≡ before [] → Refuses result ErrorKind.Truncated }
+        ensures other_tag { (byte : ℕ) → self.old.failed ≡ false → slice_get self.old.unread 0 ≡ Some byte → byte ≢ T.number → Refuses result ErrorKind.Tag }
+        ensures short { (content : List ℕ) → length content ≤ max_length → self.old.failed ≡ false → IsProperBeginning self.old.unread (element T.number content)
+            → Refuses result ErrorKind.Truncated }
+        ensures long { (content : List ℕ) → T.is_content content → length content ≤ max_length → self.old.failed ≡ false → IsProperBeginning (element T.number content) self.old.unread
+            → Refuses result ErrorKind.TrailingData }
+        ensures kinds { self.old.failed ≡ false → IfErr result (λ e. IsReadingFault e.kind) }
+    {
+        let value = self.decode::<T>()?;
+        self.finish()?;
+        Ok(value)
+    }
+}

@@ -1,0 +1,84 @@
+ghost use Rattle.std.specs.Prelude.{◌≡◌, ◌+◌, ◌≤◌, ◌↔◌, OkIff, IfErr, IsTrue};
+ghost use Rattle.sec1_der.specs.Elements.{IsTag, IsConstructed};
+
+use crate::{ErrorKind, Result};
+use std::marker::Model;
+
+/// The tag byte of an element (X.690 section 8.1.2). A contract sees the number.
+#[derive(Clone, Copy, Debug, PartialEq, Eq)]
+pub struct Tag {
+    byte: u8,
+}
+
+impl Model for Tag {
+    ghost use Rattle.std.specs.Prelude.{ℕ};
+    ghost use Rattle.sec1_der.specs.Elements.{IsTag};
+
+    ghost Value = { ℕ };
+
+    ghost view = { λ t. t.byte };
+
+    ghost invariant = { λ t. IsTag t.byte };
+
+    ghost inverse = { λ n. record { byte = n } };
+}
+
+impl Tag {
+    /// `02`, of an INTEGER.
+    pub const INTEGER: Tag = Tag { byte: 0x02 };
+
+    /// `03`, of a BIT STRING.
+    pub const BIT_STRING: Tag = Tag { byte: 0x03 };
+
+    /// `04`, of an OCTET STRING.
+    pub const OCTET_STRING: Tag = Tag { byte: 0x04 };
+
+    /// `06`, of an OBJECT IDENTIFIER.
+    pub const OBJECT_IDENTIFIER: Tag = Tag { byte: 0x06 };
+
+    /// `30`, of a SEQUENCE.
+    pub const SEQUENCE: Tag = Tag { byte: 0x30 };
+
+    /// `A0`, of an explicit field `[0]`.
+    pub const CONTEXT_0: Tag = Tag { byte: 0xA0 };
+
+    /// `A1`, of an explicit field `[1]`.
+    pub const CONTEXT_1: Tag = Tag { byte: 0xA1 };
+
+    /// The tag with this byte. Refused as Tag for `00`, which is kept for end-of-contents, and for a byte
+    /// whose low five bits are all ones, since it begins a high tag number.
+    pub fn from_byte(byte: u8) -> Result<Tag>
+        ensures tag { OkIff result (IsTag byte) byte }
+        ensures other { IfErr result (λ e. e.kind ≡ ErrorKind.Tag) }
+    {
+        if byte == 0 || byte % 32 == 31 {
+            return Err(ErrorKind::Tag.into());
+        }
+        Ok(Tag { byte })
+    }
+
+    /// The tag of an explicit field `[number]`.
+    pub(crate) fn context(number: u8) -> Tag
+        requires { number ≤ 30 }
+        ensures { result ≡ 0xA0 + number }
+    {
+        Tag {
+            byte: 0xA0 + number,
+        }
+    }
+
+    /// The byte.
+    pub fn byte(self) -> u8
+        ensures value { result ≡ self }
+        ensures tag { IsTag result }
+    {
+        self.byte
+    }
+
+    /// Whether bit 20 (hexadecimal) is set: the content is elements again (X.690 section 8.1.2.5).
+    pub fn is_constructed(self) -> bool
+        ensures { IsTrue result ↔ IsConstructed self }
+    {
+        self.byte & 0x20 != 0
+    }
+}

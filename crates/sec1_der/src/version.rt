@@ -1,0 +1,40 @@
+ghost use Rattle.std.specs.Prelude.{◌≡◌};
+
+use crate::{DecodeValue, ErrorKind, FixedTag, Result, SliceReader, Tag, ValueContent};
+
+/// The version of an ECPrivateKey, the INTEGER one (RFC 5915 section 3). Its content is the byte `01`, and any
+/// other content is refused as Value.
+#[derive(Clone, Copy, PartialEq, Eq, Debug)]
+pub struct VersionOne;
+
+impl FixedTag for VersionOne {
+    const TAG: Tag = Tag::INTEGER;
+
+    ghost number = { 0x02 };
+
+    fn fixed_tag() -> Tag
+        ensures { result ≡ 0x02 }
+    {
+        Self::TAG
+    }
+}
+
+impl ValueContent for VersionOne {
+    ghost use Rattle.std.specs.Prelude.{Some, [], ◌∷◌};
+    ghost use Rattle.sec1_der.specs.Contents.{IsVersionOne, only_one};
+
+    ghost content = { λ _. Some (1 ∷ []) };
+
+    ghost is_content = { IsVersionOne };
+
+    ghost content_is_one = { λ _ bytes same _. only_one bytes same };
+}
+
+impl<'a> DecodeValue<'a> for VersionOne {
+    fn decode_value(reader: &mut SliceReader<'a>) -> Result<Self> {
+        match reader.read_rest()? {
+            [1] => Ok(VersionOne),
+            _ => Err(reader.fail(ErrorKind::Value)),
+        }
+    }
+}
