@@ -1,6 +1,7 @@
 pub mod DigitLemmas
 pub mod LengthLemmas
 pub mod HeaderLemmas
+pub mod TreeLemmas
 pub mod IdentifierLemmas
 pub mod ArcLemmas
 pub mod DottedLemmas

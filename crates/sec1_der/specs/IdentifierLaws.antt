@@ -42,12 +42,14 @@ are_arcs-holds (a ∷ []) h = absurd h
 are_arcs-holds (a ∷ b ∷ further) h =
     rw (le-leb a 2 h.0, second_holds a b h.1, lt-ltb (40 * a + b) (2 ^ 32) h.2, all_below further h.3) refl
 
-is_identifier-tells : (arcs : List ℕ) → is_identifier arcs ≡ true → IsIdentifier arcs (content_of arcs)
+-- what passes the test is an identifier
+pub is_identifier-tells : (arcs : List ℕ) → is_identifier arcs ≡ true → IsIdentifier arcs (content_of arcs)
 is_identifier-tells arcs e =
     let h = both (are_arcs arcs) (nat_le (length (content_of arcs)) 39) e in
     record { spells = record { allowed = are_arcs-tells arcs h.0; spelled = refl }; short = leb-true (length (content_of arcs)) 39 h.1 }
 
-is_identifier-holds : (arcs content : List ℕ) → IsIdentifier arcs content → is_identifier arcs ≡ true
+-- an identifier passes the test
+pub is_identifier-holds : (arcs content : List ℕ) → IsIdentifier arcs content → is_identifier arcs ≡ true
 is_identifier-holds arcs content h =
     let short : length (content_of arcs) ≤ 39 = rw (← h.spells.spelled) h.short in
     rw (are_arcs-holds arcs h.spells.allowed, le-leb (length (content_of arcs)) 39 short) refl

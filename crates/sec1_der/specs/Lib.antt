@@ -1,6 +1,8 @@
 pub mod Numbers
 pub mod Elements
+pub mod ElementLaws
 pub mod Trees
+pub mod TreeLaws
 pub mod Identifiers
 pub mod IdentifierLaws
 pub mod ArcsOf

@@ -1,11 +1,30 @@
 //! Laws of the definitions, which hold whatever is called. Each function does nothing: its contract is the law.
 ghost use Rattle.std.specs.Prelude.{◌≡◌, ℕ, List, Some};
+ghost use Rattle.sec1_der.specs.TreeLaws.{BytesDetermineTree, BytesDetermineRow, NoTreeBeginsAnother};
 ghost use Rattle.sec1_der.specs.Values.{octets_of, unused_bits_of, bit_bytes_of};
 ghost use Rattle.sec1_der.specs.declared.bit_string.BitStringRef.{BitStringRef};
 ghost use Rattle.sec1_der.specs.declared.octet_string.OctetStringRef.{OctetStringRef};
 ghost use Rattle.sec1_der.specs.declared.version.VersionOne.{VersionOne};
 
 use crate::{BitStringRef, ObjectIdentifier, OctetStringRef, ValueContent, VersionOne};
+
+/// A tree is determined by its bytes, whatever follows them.
+pub fn trees_unique()
+    ensures { BytesDetermineTree }
+{
+}
+
+/// A row of trees is determined by its bytes.
+pub fn rows_unique()
+    ensures { BytesDetermineRow }
+{
+}
+
+/// No tree's bytes are a proper beginning of another's.
+pub fn trees_prefix_free()
+    ensures { NoTreeBeginsAnother }
+{
+}
 
 /// Two versions with one content are the same.
 pub fn one_version()

@@ -1,0 +1,36 @@
+-- What an error of this crate says.
+use Rattle.std.specs.Prelude.{◌≡◌, Result, IsErrAnd}
+use Rattle.sec1.specs.declared.error.Error.{Error}
+use Rattle.sec1.specs.declared.error.Error.TheVariants.{Asn1, Crypto, PointEncoding, Version, Memory}
+use Rattle.sec1_der.specs.Faults.{IsReadingFault}
+use Rattle.sec1_der.specs.declared.error.Error.{Error as DerError}
+use Rattle.sec1_der.specs.declared.error.ErrorKind.{ErrorKind}
+use Rattle.sec1_der.specs.declared.error.ErrorKind.TheVariants.{Memory as WantOfMemory}
+
+-- what becomes of an error of DER, by its kind
+abbrev pub error_by : ErrorKind → DerError → Error
+error_by WantOfMemory cause = Memory
+error_by _ cause = Asn1 cause
+
+abbrev pub error_of : DerError → Error
+error_of cause = error_by cause.kind cause
+
+-- an error of DER of this kind
+abbrev pub IsAsn1 : ErrorKind → Error → Type 0
+IsAsn1 kind (Asn1 cause) = cause.kind ≡ kind
+IsAsn1 kind Crypto = ⊥
+IsAsn1 kind PointEncoding = ⊥
+IsAsn1 kind Version = ⊥
+IsAsn1 kind Memory = ⊥
+
+-- the call refused by an error of DER of this kind
+abbrev pub RefusesAsn1 : {T : Type 0} → Result T Error → ErrorKind → Type 0
+RefusesAsn1 result kind = IsErrAnd result (IsAsn1 kind)
+
+-- an error of DER by which bytes are refused
+abbrev pub IsAsn1ReadingFault : Error → Type 0
+IsAsn1ReadingFault (Asn1 cause) = IsReadingFault cause.kind
+IsAsn1ReadingFault Crypto = ⊥
+IsAsn1ReadingFault PointEncoding = ⊥
+IsAsn1ReadingFault Version = ⊥
+IsAsn1ReadingFault Memory = ⊥

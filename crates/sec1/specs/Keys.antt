@@ -1,0 +1,78 @@
+-- RFC 5915 section 3 (SEC1 v2.0 Appendix C.4): an ECPrivateKey and its tree.
+use Rattle.std.specs.Prelude.{◌≡◌, ℕ, ◌≤◌, Bool, true, ◌&&◌, nat_le, List, [], ◌∷◌, ◌++◌, length, Option, Some, None, IfSome, if◌then◌else◌}
+use Rattle.sec1_der.specs.Elements.{max_length, element}
+use Rattle.sec1_der.specs.Identifiers.{IsIdentifier, content_of, is_identifier}
+use Rattle.sec1_der.specs.Trees.{Tree, leaf, node, row, joined, AreTrees, IsTreeOf}
+
+-- What a key is made of: the bytes of the private key, and where they are there the arcs of the curve's
+-- identifier and the bytes of the public key.
+pub record Key : Type 0 where
+  pub private_key : List ℕ
+  pub parameters : Option (List ℕ)
+  pub public_key : Option (List ℕ)
+
+-- [0] around the curve's identifier, where there is one
+abbrev pub parameters_field : Option (List ℕ) → List Tree
+parameters_field None = []
+parameters_field (Some arcs) = node 0xA0 (leaf 0x06 (content_of arcs) ∷ []) ∷ []
+
+-- [1] around the public key, a bit string without unused bits, where there is one
+abbrev pub public_key_field : Option (List ℕ) → List Tree
+public_key_field None = []
+public_key_field (Some bytes) = node 0xA1 (leaf 0x03 (0 ∷ bytes) ∷ []) ∷ []
+
+-- version 1, the private key, the parameters and the public key
+abbrev pub key_fields : Key → List Tree
+key_fields key =
+    leaf 0x02 (1 ∷ []) ∷ leaf 0x04 key.private_key ∷ parameters_field key.parameters ++ public_key_field key.public_key
+
+-- the tree of a key
+abbrev pub key_tree : Key → Tree
+key_tree key = node 0x30 (key_fields key)
+
+-- parameters that are there name a curve by an identifier
+abbrev pub NameCurve : Option (List ℕ) → Type 0
+NameCurve parameters = IfSome parameters (λ arcs. IsIdentifier arcs (content_of arcs))
+
+-- a public key that is there has room in its field
+abbrev pub HasRoom : Option (List ℕ) → Type 0
+HasRoom public_key = IfSome public_key (λ bytes. length (element 0x03 (0 ∷ bytes)) ≤ max_length)
+
+-- the bytes are those of a key with these parts
+pub record IsKeyOf (key : Key) (input : List ℕ) : Type 0 where
+  pub curve : NameCurve key.parameters
+  pub tree : IsTreeOf (key_tree key) input
+
+-- the bytes of these trees, one after the other
+abbrev pub bytes_of : List Tree → List ℕ
+bytes_of trees = joined (row trees)
+
+-- the content of a key, where its parts stand within the limits
+abbrev pub fields_of : Key → List ℕ
+fields_of key = bytes_of (key_fields key)
+
+-- the bytes are the content of the key with these parts
+pub record IsContentOf (key : Key) (content : List ℕ) : Type 0 where
+  pub curve : NameCurve key.parameters
+  pub fields : AreTrees (row (key_fields key))
+  pub spelled : content ≡ fields_of key
+
+-- the bytes are the content of some key
+abbrev pub IsKeyContent : List ℕ → Type 0
+IsKeyContent content = (key : Key) × IsContentOf key content
+
+-- whether each part of a key stands within the limits
+abbrev pub names_curve : Option (List ℕ) → Bool
+names_curve None = true
+names_curve (Some arcs) = is_identifier arcs
+
+abbrev pub holds_public_key : Option (List ℕ) → Bool
+holds_public_key None = true
+holds_public_key (Some bytes) = nat_le (length (element 0x03 (0 ∷ bytes))) max_length
+
+abbrev pub has_fields : Key → Bool
+has_fields key = nat_le (length key.private_key) max_length && (names_curve key.parameters && holds_public_key key.public_key)
+
+-- the content of a key; one of which a part is beyond the limits has none
+abbrev pub key_content : Key → Option (List ℕ)
+key_content key = if has_fields key then Some (fields_of key) else None

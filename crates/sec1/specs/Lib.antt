@@ -1,0 +1,5 @@
+pub mod Errors
+pub mod Parameters
+pub mod Keys
+pub mod KeyLaws
+pub mod ReadsKey

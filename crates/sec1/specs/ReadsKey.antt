@@ -1,0 +1,20 @@
+-- What reading a key from bytes means.
+use Rattle.std.specs.Prelude.{◌≡◌, List, ℕ, Result, Ok, IfOk, IfErr}
+use Rattle.sec1.specs.Errors.{RefusesAsn1, IsAsn1ReadingFault}
+use Rattle.sec1.specs.Keys.{Key, IsKeyOf}
+use Rattle.sec1.specs.declared.error.Error.{Error}
+use Rattle.sec1_der.specs.Elements.{IsProperBeginning}
+use Rattle.sec1_der.specs.declared.error.ErrorKind.TheVariants.{Truncated, TrailingData}
+
+-- A key is read exactly where the bytes are those of a key, and then it is that key.
+pub record ReadsKey (input : List ℕ) (result : Result Key Error) : Type 0 where
+  -- what is read is a key, and these are its bytes
+  pub found : IfOk result (λ key. IsKeyOf key input)
+  -- where they are the bytes of a key, it is read
+  pub only : (key : Key) → IsKeyOf key input → result ≡ Ok key
+  -- all other bytes are refused, by one of these kinds
+  pub kinds : IfErr result IsAsn1ReadingFault
+  -- a proper beginning of a key's bytes ends too early
+  pub short : (key : Key) (bytes : List ℕ) → IsKeyOf key bytes → IsProperBeginning input bytes → RefusesAsn1 result Truncated
+  -- bytes after a key's are too many
+  pub long : (key : Key) (bytes : List ℕ) → IsKeyOf key bytes → IsProperBeginning bytes input → RefusesAsn1 result TrailingData

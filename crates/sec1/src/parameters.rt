@@ -1,0 +1,64 @@
+ghost use Rattle.std.specs.Prelude.{◌≡◌, Some};
+ghost use Rattle.sec1.specs.Parameters.{curve_of};
+ghost use Rattle.sec1_der.specs.Identifiers.{identifier_content, IsIdentifierContent};
+
+use sec1_der as der;
+use sec1_der::{DecodeValue, FixedTag, ObjectIdentifier, SliceReader, Tag, ValueContent};
+
+/// The curve of a key, by name (RFC 5480 section 2.1.1). Curves that are given by their parameters, or
+/// implicitly, are refused.
+#[derive(Clone, Copy, PartialEq, Eq, Debug)]
+pub enum EcParameters {
+    /// The identifier of the curve.
+    NamedCurve(ObjectIdentifier),
+}
+
+impl EcParameters {
+    /// The identifier of the curve, which is always there.
+    pub fn named_curve(self) -> Option<ObjectIdentifier>
+        ensures { result ≡ Some (curve_of self) }
+    {
+        match self {
+            EcParameters::NamedCurve(identifier) => Some(identifier),
+        }
+    }
+}
+
+impl From<ObjectIdentifier> for EcParameters {
+    ghost from_gives = { λ identifier parameters. curve_of parameters ≡ identifier };
+
+    fn from(identifier: ObjectIdentifier) -> EcParameters {
+        EcParameters::NamedCurve(identifier)
+    }
+}
+
+impl FixedTag for EcParameters {
+    const TAG: Tag = Tag::OBJECT_IDENTIFIER;
+
+    ghost number = { 0x06 };
+
+    fn fixed_tag() -> Tag
+        ensures { result ≡ 0x06 }
+    {
+        Self::TAG
+    }
+}
+
+impl ValueContent for EcParameters {
+    ghost use Rattle.sec1_der.specs.IdentifierLaws.{identifier_content-tells};
+
+    ghost content = { λ parameters. identifier_content (curve_of parameters) };
+
+    ghost is_content = { IsIdentifierContent };
+
+    ghost content_is_one = { λ parameters bytes same _. (curve_of parameters, identifier_content-tells (curve_of parameters) bytes same) };
+}
+
+impl<'a> DecodeValue<'a> for EcParameters {
+    fn decode_value(reader: &mut SliceReader<'a>) -> der::Result<Self> {
+        match ObjectIdentifier::decode_value(reader) {
+            Ok(identifier) => Ok(EcParameters::NamedCurve(identifier)),
+            Err(e) => Err(e),
+        }
+    }
+}

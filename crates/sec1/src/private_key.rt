@@ -1,0 +1,156 @@
+ghost use Rattle.std.specs.Prelude.{◌≡◌, ◌≢◌, ◌++◌, ℕ, List, slice_get, Option, Some, true, false, IsOk, IfOk, IfErr, OnErr};
+ghost use Rattle.std.specs.Option.{option_map};
+ghost use Rattle.sec1.specs.Keys.{parameters_field, public_key_field, NameCurve, HasRoom, bytes_of};
+ghost use Rattle.sec1.specs.Parameters.{curve_of};
+ghost use Rattle.sec1_der.specs.Faults.{Refuses, IsReadingFault};
+ghost use Rattle.sec1_der.specs.Readers.{before, HasRead};
+
+use crate::{EcParameters, Error, Result, laws};
+use sec1_der as der;
+use sec1_der::{
+    BitStringRef, DecodeValue, ErrorKind, FixedTag, OctetStringRef, SliceReader, Tag, ValueContent,
+    VersionOne,
+};
+use std::fmt;
+use std::marker::Model;
+
+/// An EC private key (SEC1 v2.0 Appendix C.4, RFC 5915 section 3), whose bytes are lent. A contract sees its
+/// three parts.
+///
+/// ```text
+/// ECPrivateKey ::= SEQUENCE {
+///   version        INTEGER { ecPrivkeyVer1(1) } (ecPrivkeyVer1),
+///   privateKey     OCTET STRING,
+///   parameters [0] ECParameters {{ NamedCurve }} OPTIONAL,
+///   publicKey  [1] BIT STRING OPTIONAL
+/// }
+/// ```
+///
+/// Whether the private key has its curve's length, and whether the public key is a point, isn't tested.
+#[derive(Clone, Drop)]
+pub struct EcPrivateKey<'a> {
+    /// The bytes of the private key.
+    pub private_key: &'a [u8],
+
+    /// The curve, where it is named.
+    pub parameters: Option<EcParameters>,
+
+    /// The bytes of the public key, where it is there.
+    pub public_key: Option<&'a [u8]>,
+}
+
+impl<'a> Model for EcPrivateKey<'a> {
+    ghost use Rattle.std.specs.Option.{option_map};
+    ghost use Rattle.sec1.specs.Keys.{Key};
+    ghost use Rattle.sec1.specs.Parameters.{curve_of};
+
+    ghost Value = { Key };
+
+    ghost view = { λ key. record {
+        private_key = key.private_key.now;
+        parameters = option_map curve_of key.parameters;
+        public_key = option_map (λ bytes. bytes.now) key.public_key;
+    } };
+}
+
+/// Reads a key from the bytes of its DER encoding, all of them. Nothing is copied but the curve's identifier,
+/// and no memory is taken.
+///
+/// Refused as [`Error::Asn1`], by the first fault from left to right: Truncated where the bytes, or the element
+/// around a part, end too early; Tag where another tag is expected; Length where a length isn't DER's; Value
+/// where the version isn't 1, the identifier isn't one, or the public key has unused bits; TrailingData where
+/// bytes follow a part that should be the last.
+impl<'a> TryFrom<&'a [u8]> for EcPrivateKey<'a> {
+    type Error = Error;
+
+    ghost use Rattle.sec1.specs.ReadsKey.{ReadsKey};
+
+    ghost try_from_gives = { λ bytes result. ReadsKey bytes.now result };
+
+    fn try_from(bytes: &'a [u8]) -> Result<EcPrivateKey<'a>> {
+        laws::one_key();
+        Ok(der::from_der(bytes)?)
+    }
+}
+
+/// The private key isn't shown.
+impl fmt::Debug for EcPrivateKey<'_> {
+    fn fmt<W: fmt::Write>(&self, f: &mut fmt::Formatter<W>) -> fmt::Result {
+        f.debug_struct("EcPrivateKey")
+            .field("parameters", &self.parameters)
+            .field("public_key", &self.public_key)
+            .finish_non_exhaustive()
+    }
+}
+
+impl FixedTag for EcPrivateKey<'_> {
+    const TAG: Tag = Tag::SEQUENCE;
+
+    ghost number = { 0x30 };
+
+    fn fixed_tag() -> Tag
+        ensures { result ≡ 0x30 }
+    {
+        Self::TAG
+    }
+}
+
+impl ValueContent for EcPrivateKey<'_> {
+    ghost use Rattle.sec1.specs.Keys.{key_content, IsKeyContent};
+    ghost use Rattle.sec1.specs.KeyLaws.{key_content-tells};
+
+    ghost content = { key_content };
+
+    ghost is_content = { IsKeyContent };
+
+    ghost content_is_one = { λ key bytes same _. (key, key_content-tells key bytes same) };
+}
+
+impl<'a> DecodeValue<'a> for EcPrivateKey<'a> {
+    fn decode_value(reader: &mut SliceReader<'a>) -> der::Result<Self> {
+        reader.decode::<VersionOne>()?;
+        let private_key = reader.decode::<OctetStringRef>()?;
+        let parameters = read_parameters(reader)?;
+        let public_key = read_public_key(reader)?;
+        reader.finish()?;
+        Ok(EcPrivateKey {
+            private_key: private_key.as_bytes(),
+            parameters,
+            public_key,
+        })
+    }
+}
+
+/// Reads the field `[0]`, where it is next.
+fn read_parameters(reader: &mut SliceReader<'_>) -> der::Result<Option<EcParameters>>
+    ensures found { IfOk result (λ parameters. HasRead (bytes_of (parameters_field (option_map curve_of parameters))) reader.old reader.new) }
+    ensures curve { IfOk result (λ parameters. NameCurve (option_map curve_of parameters)) }
+    ensures only { (curve : Option (List ℕ)) (rest : List ℕ) → NameCurve curve → slice_get rest 0 ≢ Some 0xA0
+        → reader.old ≡ before (bytes_of (parameters_field curve) ++ rest)
+        → IsOk result × (reader.new ≡ before rest) }
+    ensures kinds { reader.old.failed ≡ false → IfErr result (λ e. IsReadingFault e.kind) }
+    ensures failed { reader.old.failed ≡ true → Refuses result ErrorKind.Failed × (reader.new ≡ reader.old) }
+    ensures refused { OnErr result (reader.new.failed ≡ true) }
+{
+    reader.context_specific::<EcParameters>(0)
+}
+
+/// Reads the field `[1]`, where it is next. A bit string with unused bits is refused as Value.
+fn read_public_key<'a>(reader: &mut SliceReader<'a>) -> der::Result<Option<&'a [u8]>>
+    ensures found { IfOk result (λ public_key. HasRead (bytes_of (public_key_field (option_map (λ bytes. bytes.now) public_key))) reader.old reader.new) }
+    ensures room { IfOk result (λ public_key. HasRoom (option_map (λ bytes. bytes.now) public_key)) }
+    ensures only { (bytes : Option (List ℕ)) (rest : List ℕ) → HasRoom bytes → slice_get rest 0 ≢ Some 0xA1
+        → reader.old ≡ before (bytes_of (public_key_field bytes) ++ rest)
+        → IsOk result × (reader.new ≡ before rest) }
+    ensures kinds { reader.old.failed ≡ false → IfErr result (λ e. IsReadingFault e.kind) }
+    ensures failed { reader.old.failed ≡ true → Refuses result ErrorKind.Failed × (reader.new ≡ reader.old) }
+    ensures refused { OnErr result (reader.new.failed ≡ true) }
+{
+    let Some(bits) = reader.context_specific::<BitStringRef>(1)? else {
+        return Ok(None);
+    };
+    match bits.as_bytes() {
+        Some(bytes) => Ok(Some(bytes)),
+        None => Err(reader.fail(ErrorKind::Value)),
+    }
+}
