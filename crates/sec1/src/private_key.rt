@@ -47,9 +47,9 @@ impl<'a> Model for EcPrivateKey<'a> {
     ghost Value = { Key };
 
     ghost view = { λ key. record {
-        private_key = key.private_key.now;
-        parameters = option_map curve_of key.parameters;
-        public_key = option_map (λ bytes. bytes.now) key.public_key;
+      private_key = key.private_key.now;
+      parameters = option_map curve_of key.parameters;
+      public_key = option_map (λ bytes. bytes.now) key.public_key;
     } };
 }
 
