@@ -1,3 +1,4 @@
+pub mod Der
 pub mod Errors
 pub mod Parameters
 pub mod Keys

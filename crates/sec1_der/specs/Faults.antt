@@ -1,5 +1,5 @@
 -- What a refusal says.
-use Rattle.std.specs.Prelude.{◌≡◌, ℕ, ◌-◌, ◌%◌, Bool, ◌&&◌, not, ◌==◌, nat_lt, nat_le, if◌then◌else◌, List, [], ◌∷◌, length, Result, IsErrAnd}
+use Rattle.std.specs.Prelude.{◌≡◌, ◌⊎◌, ℕ, ◌-◌, ◌%◌, Bool, ◌&&◌, not, ◌==◌, nat_lt, nat_le, if◌then◌else◌, List, [], ◌∷◌, length, Result, IsErrAnd}
 use Rattle.sec1_der.specs.declared.error.Error.{Error}
 use Rattle.sec1_der.specs.declared.error.ErrorKind.{ErrorKind}
 use Rattle.sec1_der.specs.declared.error.ErrorKind.TheVariants.{Truncated, Tag, Length, TrailingData, Value, Overlength, Buffer, Failed, Io, Depth, Memory}
@@ -39,3 +39,7 @@ is_tag byte = not (byte == 0) && not (byte % 32 == 31)
 abbrev pub header_fault : List ℕ → ErrorKind
 header_fault [] = Truncated
 header_fault (byte ∷ rest) = if is_tag byte then length_fault rest else Tag
+
+-- the kinds that say nothing of the bytes
+abbrev pub IsIoOrMemory : ErrorKind → Type 0
+IsIoOrMemory kind = (kind ≡ Io) ⊎ (kind ≡ Memory)

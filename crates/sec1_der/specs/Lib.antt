@@ -12,3 +12,5 @@ pub mod Contents
 pub mod Values
 pub mod Faults
 pub mod Readers
+pub mod Streams
+pub mod StdStreams

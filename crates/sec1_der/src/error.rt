@@ -1,51 +1,46 @@
 ghost use Rattle.std.specs.Prelude.{◌≡◌};
+ghost use Rattle.sec1_der.specs.declared.error.ErrorKind.TheVariants.{Io, Memory};
 
-use std::fmt;
+use crate::IoFault;
+use std::alloc::{AllocError, AllocFailed};
 
 /// Why a call of this crate refused.
-#[derive(Clone, Copy, Debug, PartialEq, Eq)]
+#[derive(Clone, Copy, Debug, PartialEq, Eq, thiserror::Error)]
 pub enum ErrorKind {
     /// The input, or the element around what is read, ends too early.
+    #[error("input ends inside an element")]
     Truncated,
     /// A tag byte that no element may have, or another one than is expected.
+    #[error("unexpected or unsupported tag")]
     Tag,
     /// A length that isn't spelled as DER wants it, or is above [`Length::MAX`](crate::Length::MAX).
+    #[error("length not in DER form or above the limit")]
     Length,
     /// Bytes after the last part.
+    #[error("bytes after the value")]
     TrailingData,
     /// A content that its tag doesn't allow, a text that names no identifier, or unused bits that a bit
     /// string can't have.
+    #[error("content not valid for its tag")]
     Value,
     /// A content to be written, or a number, above [`Length::MAX`](crate::Length::MAX).
+    #[error("value longer than 268435455 bytes")]
     Overlength,
     /// A slice to be written into is too small.
+    #[error("output buffer too small")]
     Buffer,
     /// The reader refused before.
+    #[error("reader has already refused")]
     Failed,
     /// A read, a write or the opening of a file failed.
+    #[error("read or write failed")]
     Io,
     /// More than 64 elements inside one another.
+    #[error("more than 64 nested elements")]
     Depth,
     /// Memory was wanted and refused.
+    #[error("out of memory")]
     Memory,
-}
-
-impl fmt::Display for ErrorKind {
-    fn fmt<W: fmt::Write>(&self, f: &mut fmt::Formatter<W>) -> fmt::Result {
-        f.write_str(match self {
-            ErrorKind::Truncated => "input ends inside an element",
-            ErrorKind::Tag => "unexpected or unsupported tag",
-            ErrorKind::Length => "length not in DER form or above the limit",
-            ErrorKind::TrailingData => "bytes after the value",
-            ErrorKind::Value => "content not valid for its tag",
-            ErrorKind::Overlength => "value longer than 268435455 bytes",
-            ErrorKind::Buffer => "output buffer too small",
-            ErrorKind::Failed => "reader has already refused",
-            ErrorKind::Io => "read or write failed",
-            ErrorKind::Depth => "more than 64 nested elements",
-            ErrorKind::Memory => "out of memory",
-        })
-    }
 }
 
 /// A refusal. Its text is that of its kind.
@@ -70,6 +65,39 @@ impl From<ErrorKind> for Error {
 
     fn from(kind: ErrorKind) -> Error {
         Error { kind }
+    }
+}
+
+/// A failed read or write is of kind Io.
+impl From<IoFault> for Error {
+    ghost from_gives = { λ _ e. e ≡ record { kind = Io } };
+
+    fn from(_: IoFault) -> Error {
+        Error {
+            kind: ErrorKind::Io,
+        }
+    }
+}
+
+/// A growth that was refused is of kind Memory.
+impl From<AllocError> for Error {
+    ghost from_gives = { λ _ e. e ≡ record { kind = Memory } };
+
+    fn from(_: AllocError) -> Error {
+        Error {
+            kind: ErrorKind::Memory,
+        }
+    }
+}
+
+/// A growth that was refused is of kind Memory.
+impl<T: Drop> From<AllocFailed<T>> for Error {
+    ghost from_gives = { λ _ e. e ≡ record { kind = Memory } };
+
+    fn from(_: AllocFailed<T>) -> Error {
+        Error {
+            kind: ErrorKind::Memory,
+        }
     }
 }
 

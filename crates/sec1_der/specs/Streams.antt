@@ -1,0 +1,17 @@
+-- What calls over readers and writers do to the bytes that are left to read, and to those that were written.
+use Rattle.std.specs.Prelude.{◌≡◌, ℕ, List, ◌++◌, Option, length}
+use Rattle.std.specs.Io.KnownBytes.{Appends, Consumes}
+
+-- n bytes were read, and stand after the bytes before
+pub record ReadsOnto (old new : Option (List ℕ)) (before after : List ℕ) (n : ℕ) : Type 0 where
+  pub bytes : List ℕ
+  pub consumed : Consumes old new bytes
+  pub appended : after ≡ before ++ bytes
+  pub count : length bytes ≡ n
+
+-- a beginning of the bytes was written
+pub record AppendsBeginning (old new : Option (List ℕ)) (bytes : List ℕ) : Type 0 where
+  pub front : List ℕ
+  pub rest : List ℕ
+  pub joined : bytes ≡ front ++ rest
+  pub appended : Appends old new front

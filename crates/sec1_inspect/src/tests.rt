@@ -1,0 +1,236 @@
+//! Runs whose answers are known, and runs over readers and writers that fail.
+use crate::report::LIMIT;
+use crate::{Fault, run};
+use sec1::der::{StdReader, StdWriter};
+use std::alloc::Global;
+use std::io;
+use std::test::Fail;
+
+/// Keys: the input and the lines.
+static KEYS: [(&str, &str); 7] = [
+    // a key on P-256
+    (
+        "3077 020101 0420 69624171561A63340DE0E7D869F2A05492558E1A04868B6A9F854A866788188D A00A 06082A8648CE3D030107 A144 034200 041CACFFB55F2F2CEFD89D89EB374B2681152452802DEEA09916068137D839CF7FC481A44492304D7EF66AC117BEFE83A8D08F155F2B52F9F618DD447029048E0F",
+        "private_key: 32 bytes\nparameters: 1.2.840.10045.3.1.7\npublic_key: 041CACFFB55F2F2CEFD89D89EB374B2681152452802DEEA09916068137D839CF7FC481A44492304D7EF66AC117BEFE83A8D08F155F2B52F9F618DD447029048E0F\n",
+    ),
+    // neither a curve nor a public key
+    (
+        "30 05 02 01 01 04 00",
+        "private_key: 0 bytes\nparameters: none\npublic_key: none\n",
+    ),
+    // blanks between any two digits, letters of both cases
+    (
+        " 3\t0 0\r\n9 020101 04 04 aB\nCd 0 1 2 3\n",
+        "private_key: 4 bytes\nparameters: none\npublic_key: none\n",
+    ),
+    // a public key that is there and empty
+    (
+        "300A 020101 0400 A103 030100",
+        "private_key: 0 bytes\nparameters: none\npublic_key: empty\n",
+    ),
+    // a public key of one byte
+    (
+        "300B 020101 0400 A104 03020000",
+        "private_key: 0 bytes\nparameters: none\npublic_key: 00\n",
+    ),
+    // a private key of one byte
+    (
+        "3006 020101 040107",
+        "private_key: 1 bytes\nparameters: none\npublic_key: none\n",
+    ),
+    // a second arc above 39
+    (
+        "300B 020101 0400 A004 06028837",
+        "private_key: 0 bytes\nparameters: 2.999\npublic_key: none\n",
+    ),
+];
+
+/// What is refused: the input and the line.
+static REFUSALS: [(&str, &str); 6] = [
+    // an odd count of digits
+    ("300", "refused: not hexadecimal\n"),
+    // a letter that is no digit
+    ("30 0g", "refused: not hexadecimal\n"),
+    // a form feed is no blank
+    ("30\x0C05020101 0400", "refused: not hexadecimal\n"),
+    // no bytes
+    ("", "refused: not an EC private key in DER\n"),
+    // a length in the long form below 128
+    (
+        "30 81 05 02 01 01 04 00",
+        "refused: not an EC private key in DER\n",
+    ),
+    // a curve that stands twice
+    (
+        "3011 020101 0400 A004 06022A03 A004 06022A03",
+        "refused: not an EC private key in DER\n",
+    ),
+];
+
+/// What a run over the input answers, and what it writes.
+fn outcome(alloc: Global, input: &[u8]) -> (Result<u8, Fault>, Vec<u8>) {
+    let mut writer = StdWriter::new(Vec::new(alloc));
+    let result = run(alloc, &mut StdReader::new(input), &mut writer);
+    (result, writer.into_inner())
+}
+
+#[test]
+fn reports_on_keys(rt: HostRuntime) {
+    for &(input, lines) in KEYS.iter() {
+        let (result, text) = outcome(rt.alloc(), input.as_bytes());
+        assert_eq!(rt; result, Ok(0), "on {input}");
+        assert_eq!(rt; text.as_slice(), lines.as_bytes(), "on {input}");
+    }
+}
+
+#[test]
+fn reports_refusals(rt: HostRuntime) {
+    for &(input, line) in REFUSALS.iter() {
+        let (result, text) = outcome(rt.alloc(), input.as_bytes());
+        assert_eq!(rt; result, Ok(1), "on {input}");
+        assert_eq!(rt; text.as_slice(), line.as_bytes(), "on {input}");
+    }
+}
+
+#[test]
+fn refuses_long_inputs(rt: HostRuntime) -> Result<(), Fail> {
+    for (count, line) in [
+        (LIMIT, "refused: not an EC private key in DER\n"),
+        (LIMIT + 1, "refused: input too long\n"),
+    ] {
+        let input = vec![in rt.alloc(); b' '; count]?;
+        let (result, text) = outcome(rt.alloc(), &input);
+        assert_eq!(rt; result, Ok(1), "on {count} bytes");
+        assert_eq!(rt; text.as_slice(), line.as_bytes(), "on {count} bytes");
+    }
+    Ok(())
+}
+
+/// A reader that gives its bytes and then fails.
+#[derive(Drop)]
+struct Broken<'a> {
+    rest: &'a [u8],
+}
+
+impl io::Read for Broken<'_> {
+    fn read(&mut self, buf: &mut [u8]) -> io::Result<usize> {
+        if self.rest.is_empty() {
+            return Err(io::Error::from(io::ErrorKind::Other));
+        }
+        let count = self.rest.len().min(buf.len());
+        let (front, rest) = self.rest.split_at(count);
+        buf[..count].copy_from_slice(front);
+        self.rest = rest;
+        Ok(count)
+    }
+}
+
+/// A writer that takes some bytes in all, a few at a time, and then fails or takes none.
+#[derive(Drop)]
+struct Narrow {
+    taken: Vec<u8>,
+    step: usize,
+    room: usize,
+    fails: bool,
+}
+
+impl io::Write for Narrow {
+    fn write(&mut self, buf: &[u8]) -> io::Result<usize> {
+        let count = self.step.min(self.room).min(buf.len());
+        if count == 0 && self.fails {
+            return Err(io::Error::from(io::ErrorKind::Other));
+        }
+        self.taken.extend_from_slice(&buf[..count])?;
+        self.room -= count;
+        Ok(count)
+    }
+
+    fn flush(&mut self) -> io::Result<()> {
+        Ok(())
+    }
+}
+
+#[test]
+fn tells_failed_input(rt: HostRuntime) {
+    let mut reader = StdReader::new(Broken { rest: b"30050" });
+    let mut writer = StdWriter::new(Vec::new(rt.alloc()));
+    let result = run(rt.alloc(), &mut reader, &mut writer);
+    assert_eq!(rt; result, Err(Fault::Input));
+    assert!(rt; writer.into_inner().is_empty());
+}
+
+#[test]
+fn tells_failed_output(rt: HostRuntime) {
+    for (room, fails) in [(0, true), (0, false), (7, true), (7, false)] {
+        let taken = Vec::new(rt.alloc());
+        let mut reader = StdReader::new(b"30050201010400".as_slice());
+        let mut writer = StdWriter::new(Narrow {
+            taken,
+            step: 3,
+            room,
+            fails,
+        });
+        let result = run(rt.alloc(), &mut reader, &mut writer);
+        assert_eq!(rt; result, Err(Fault::Output));
+        assert_eq!(rt;
+            Some(writer.into_inner().taken.as_slice()),
+            b"private".get(..room)
+        );
+    }
+}
+
+#[test]
+fn names_faults(rt: HostRuntime) -> Result<(), Fail> {
+    for (fault, words) in [
+        (Fault::Input, "input failed"),
+        (Fault::Output, "output failed"),
+        (Fault::Memory, "out of memory"),
+    ] {
+        assert_eq!(rt; format!(in rt.alloc(); "{fault}")?.as_str(), words);
+    }
+    Ok(())
+}
+
+/// Takes all memory that there is, in blocks from large to small, so that the next request for
+/// memory is refused.
+fn hoard(alloc: Global) -> Result<Vec<Vec<u8>>, Fail> {
+    let mut blocks: Vec<Vec<u8>> = Vec::with_capacity(alloc, 1 << 18)?;
+    for shift in 4u32..47 {
+        let size = 1usize << (50 - shift);
+        for _ in 0..1u32 << 15 {
+            if blocks.len() == blocks.capacity() {
+                break;
+            }
+            match Vec::with_capacity(alloc, size) {
+                Ok(block) => blocks.push(block)?,
+                Err(_) => break,
+            }
+        }
+    }
+    Ok(blocks)
+}
+
+/// What a run over a key answers, with room for the report set aside, and whether it wrote.
+fn outcome_in_room(alloc: Global) -> (Result<u8, Fault>, bool) {
+    let mut room = [0u8; 100];
+    let mut writer = StdWriter::new(room.as_mut_slice());
+    let mut reader = StdReader::new(b"30050201010400".as_slice());
+    let result = run(alloc, &mut reader, &mut writer);
+    (result, room != [0u8; 100])
+}
+
+#[test]
+fn tells_want_of_memory(rt: HostRuntime) -> Result<(), Fail> {
+    let blocks = hoard(rt.alloc())?;
+    let mut refused = 0u32;
+    for _block in blocks.into_iter().rev() {
+        let last = outcome_in_room(rt.alloc());
+        if last != (Err(Fault::Memory), false) {
+            break;
+        }
+        refused = refused.saturating_add(1);
+    }
+    assert!(rt; refused > 0);
+    assert_eq!(rt; outcome_in_room(rt.alloc()), (Ok(0), true));
+    Ok(())
+}
