@@ -4,3 +4,4 @@ pub mod Parameters
 pub mod Keys
 pub mod KeyLaws
 pub mod ReadsKey
+pub mod Examples

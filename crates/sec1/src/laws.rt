@@ -1,6 +1,7 @@
 //! Laws of the definitions, which hold whatever is called. Each function does nothing: its contract is the law.
 ghost use Rattle.std.specs.Prelude.{◌≡◌, List, ℕ, Some};
-ghost use Rattle.sec1.specs.Keys.{Key};
+ghost use Rattle.sec1.specs.Examples.{p_256_bytes, p_256_key};
+ghost use Rattle.sec1.specs.Keys.{IsKeyOf, Key};
 ghost use Rattle.sec1.specs.Parameters.{curve_of};
 ghost use Rattle.sec1.specs.declared.parameters.EcParameters.{EcParameters};
 
@@ -22,4 +23,10 @@ pub fn one_key()
 {
     laws::rows_unique();
     laws::one_identifier();
+}
+
+/// A key on P-256 and its bytes (RFC 5915 section 3).
+pub fn spelled_key()
+    ensures { IsKeyOf p_256_key p_256_bytes }
+{
 }
