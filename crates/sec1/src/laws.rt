@@ -28,5 +28,4 @@ pub fn one_key()
 /// A key on P-256 and its bytes (RFC 5915 section 3).
 pub fn spelled_key()
     ensures { IsKeyOf p_256_key p_256_bytes }
-{
-}
+{}

@@ -6,6 +6,9 @@ ghost use Rattle.sec1_der.specs.Readers.{before, refused, HasRead};
 
 use crate::{ErrorKind, Length, Result, SliceReader, Tag};
 
+/// The least length that is spelled in the long form.
+const LONG_FORM: usize = 0x80;
+
 /// What stands first of some bytes, and the bytes after it; or why nothing does.
 type First<'a, T> = std::result::Result<(T, &'a [u8]), ErrorKind>;
 
@@ -111,7 +114,7 @@ fn length_at(bytes: &[u8]) -> First<'_, Length>
     }
     let (digits, rest) = rest.split_at(count);
     let n = number(digits);
-    if digits[0] == 0 || n < 0x80 {
+    if digits[0] == 0 || n < LONG_FORM {
         return Err(ErrorKind::Length);
     }
     match Length::new(n) {

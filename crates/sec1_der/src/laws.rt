@@ -58,8 +58,7 @@ pub fn spelled_lengths()
     ensures two_digits { len 256 ≡ 0x82 ∷ 0x01 ∷ 0x00 ∷ [] }
     ensures last_of_two_digits { len 65535 ≡ 0x82 ∷ 0xFF ∷ 0xFF ∷ [] }
     ensures greatest { len 268435455 ≡ 0x84 ∷ 0x0F ∷ 0xFF ∷ 0xFF ∷ 0xFF ∷ [] }
-{
-}
+{}
 
 /// The contents of P-256's identifier (RFC 5480 section 2.1.1.1), of the example 2.999 (X.690 section 8.19.5),
 /// and of the greatest second arc.
@@ -67,5 +66,4 @@ pub fn spelled_identifiers()
     ensures p_256 { content_of (1 ∷ 2 ∷ 840 ∷ 10045 ∷ 3 ∷ 1 ∷ 7 ∷ []) ≡ 0x2A ∷ 0x86 ∷ 0x48 ∷ 0xCE ∷ 0x3D ∷ 0x03 ∷ 0x01 ∷ 0x07 ∷ [] }
     ensures example { content_of (2 ∷ 999 ∷ []) ≡ 0x88 ∷ 0x37 ∷ [] }
     ensures greatest { content_of (2 ∷ 4294967215 ∷ []) ≡ 0x8F ∷ 0xFF ∷ 0xFF ∷ 0xFF ∷ 0x7F ∷ [] }
-{
-}
+{}

@@ -15,6 +15,8 @@ mod reader;
 mod std_stream;
 mod stream;
 mod tag;
+#[cfg(test)]
+mod tests;
 mod value;
 mod version;
 
