@@ -1,2 +1,7 @@
 pub mod KeyLemmas
 pub mod ReadLemmas
+pub mod Digits
+pub mod PointLemmas
+pub mod Comparisons
+pub mod Buffers
+pub mod HexLemmas

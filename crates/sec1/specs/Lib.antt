@@ -5,3 +5,9 @@ pub mod Keys
 pub mod KeyLaws
 pub mod ReadsKey
 pub mod Examples
+pub mod Points
+pub mod PointOrder
+pub mod Tags
+pub mod Coordinates
+pub mod EncodedPoints
+pub mod HexTexts

@@ -5,12 +5,14 @@
 mod error;
 pub mod laws;
 mod parameters;
+pub mod point;
 mod private_key;
 #[cfg(test)]
 mod tests;
 
 pub use error::{Error, Result};
 pub use parameters::EcParameters;
+pub use point::EncodedPoint;
 pub use private_key::EcPrivateKey;
 pub use sec1_der as der;
 use sec1_der::{ID_EC_PUBLIC_KEY, ObjectIdentifier};

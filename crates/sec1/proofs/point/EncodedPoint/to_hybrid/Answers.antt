@@ -1,0 +1,28 @@
+use Rattle.std.proofs.Common.{◌∙◌, arith, ◌≡◌, take, set}
+use Rattle.sec1.specs.EncodedPoints.{point_of}
+use Rattle.sec1.specs.Points.{enc, hybrid_point}
+use Rattle.sec1.proofs.Buffers.{means, spelled, hybrid_fits, point_fits, hybrid_front}
+use Rattle.sec1.proofs.point.EncodedPoint.to_hybrid.Goals as goal
+use Rattle.sec1.proofs.point.EncodedPoint.to_hybrid.Goals.{After-from}
+
+-- the new front is the encoding of the hybrid point
+new_front : (g : _) (c : After-from g) → take c.args.self.now.len (set c.args.self.now.bytes 0 c.from.result) ≡ enc g.row.N (hybrid_point (point_of c.args.self.now))
+new_front g c =
+    let self = c.args.self.now in
+    hybrid_front g.row.N self.len self.bytes self.encoded (omega (arith, self.room)) _ _ c.from.result c.in-Uncompressed.ensures.point (c.from.ensures ∙ c.hybrid_y-tag.ensures)
+
+pub invariant_of-point : goal.invariant_of-point
+invariant_of-point g c =
+    let self = c.args.self.now in
+    record {
+      sizes = self.sizes;
+      room = self.room;
+      encoded = spelled g.row.N _ (hybrid_point (point_of self))
+          (hybrid_fits g.row.N (point_of self) (point_fits g.row.N self.len self.bytes self.encoded)) (new_front g (goal.at.invariant_of-point g c).After-from);
+    }
+
+pub returns : goal.returns
+returns g c =
+    let self = c.args.self.now in
+    means g.row.N _ (hybrid_point (point_of self))
+    (hybrid_fits g.row.N (point_of self) (point_fits g.row.N self.len self.bytes self.encoded)) (new_front g (goal.at.returns g c).After-from)

@@ -1,0 +1,101 @@
+-- Points of elliptic curves over prime fields, as whole numbers, and their encodings (SEC1 v2.0 section 2.3.3).
+use Rattle.std.specs.Prelude.{◌≡◌, ◌≢◌, ℕ, zero, suc, ◌+◌, ◌*◌, ◌/◌, ◌%◌, ◌^◌, ◌<◌, ◌≤◌, ◌==◌, ◌||◌, Bool, true, false, if◌then◌else◌, List, [], ◌∷◌, ◌++◌, take, drop, ⊤, Option, Some, None}
+use Rattle.sec1_der.specs.Numbers.{num}
+
+-- a point as its encoding gives it. Compact has x alone and nothing of y; hybrid has y, and its tag y's parity
+pub data Point : Type 0 where
+  identity : Point
+  compact : (x : ℕ) → Point
+  compressed : (x : ℕ) (y_is_odd : Bool) → Point
+  uncompressed : (x y : ℕ) → Point
+  hybrid : (x y : ℕ) → Point
+
+-- whether y leaves 1 when divided by 2
+abbrev pub is_odd : ℕ → Bool
+is_odd y = y % 2 == 1
+
+-- the coordinates are numbers of n base 256 digits
+abbrev pub IsPoint : ℕ → Point → Type 0
+IsPoint n identity = ⊤
+IsPoint n (compact x) = x < 256 ^ n
+IsPoint n (compressed x y_is_odd) = x < 256 ^ n
+IsPoint n (uncompressed x y) = (x < 256 ^ n) × (y < 256 ^ n)
+IsPoint n (hybrid x y) = (x < 256 ^ n) × (y < 256 ^ n)
+
+-- x, which the identity alone lacks
+abbrev pub x_of : Point → Option ℕ
+x_of identity = None
+x_of (compact x) = Some x
+x_of (compressed x y_is_odd) = Some x
+x_of (uncompressed x y) = Some x
+x_of (hybrid x y) = Some x
+
+-- y, where the encoding has it
+abbrev pub y_of : Point → Option ℕ
+y_of (uncompressed x y) = Some y
+y_of (hybrid x y) = Some y
+y_of p = None
+
+-- y is dropped, and its parity kept
+abbrev pub compressed_point : Point → Point
+compressed_point (uncompressed x y) = compressed x (is_odd y)
+compressed_point (hybrid x y) = compressed x (is_odd y)
+compressed_point p = p
+
+-- the hybrid form of an uncompressed point
+abbrev pub hybrid_point : Point → Point
+hybrid_point (uncompressed x y) = hybrid x y
+hybrid_point p = p
+
+-- ---- the encoding
+
+-- exactly so many base 256 digits, the most significant first: those of n, where n is below 256 ^ width (SEC1 v2.0
+-- sections 2.3.5 and 2.3.7)
+unfoldable pub fixed_width : ℕ → ℕ → List ℕ
+fixed_width zero n = []
+fixed_width (suc width) n = fixed_width width (n / 256) ++ n % 256 ∷ []
+
+-- the first byte: SEC1's 00 to 04, 05 of the compact form, and ANSI X9.62's 06 and 07
+abbrev pub tag_byte : Point → ℕ
+tag_byte identity = 0
+tag_byte (compact x) = 5
+tag_byte (compressed x y_is_odd) = if y_is_odd then 3 else 2
+tag_byte (uncompressed x y) = 4
+tag_byte (hybrid x y) = if is_odd y then 7 else 6
+
+-- what follows the first byte
+abbrev pub coordinate_bytes : ℕ → Point → List ℕ
+coordinate_bytes n identity = []
+coordinate_bytes n (compact x) = fixed_width n x
+coordinate_bytes n (compressed x y_is_odd) = fixed_width n x
+coordinate_bytes n (uncompressed x y) = fixed_width n x ++ fixed_width n y
+coordinate_bytes n (hybrid x y) = fixed_width n x ++ fixed_width n y
+
+-- the encoding of a point at field elements of n bytes
+unfoldable pub enc : ℕ → Point → List ℕ
+enc n p = tag_byte p ∷ coordinate_bytes n p
+
+-- these bytes encode some point
+pub record IsEncoding (n : ℕ) (bytes : List ℕ) : Type 0 where
+  pub of : Point
+  pub fits : IsPoint n of
+  pub spelled : bytes ≡ enc n of
+
+-- the point with this first byte and these coordinates
+abbrev pub point_from : ℕ → ℕ → ℕ → Point
+point_from tag x y =
+    if tag == 2 then compressed x false
+    else if tag == 3 then compressed x true
+    else if tag == 4 then uncompressed x y
+    else if tag == 5 then compact x
+    else if tag == 6 || tag == 7 then hybrid x y
+    else identity
+
+-- the point that an encoding means; it is read only where the bytes are one
+unfoldable pub meaning : ℕ → List ℕ → Point
+meaning n [] = identity
+meaning n (tag ∷ rest) = point_from tag (num (take n rest)) (num (take n (drop n rest)))
+
+-- field elements have n bytes, at least one, and the longest encoding has l
+abbrev pub Fits : ℕ → ℕ → Type 0
+Fits n l = (1 ≤ n) × (l ≡ 2 * n + 1)

@@ -1,0 +1,344 @@
+//! Points of elliptic curves over prime fields in their encodings (SEC1 v2.0 sections 2.3.3 and 2.3.4).
+//!
+//! No call here tests that a point lies on a curve, or that a coordinate is below a field's modulus.
+
+ghost use Rattle.std.specs.Prelude.{◌≡◌, ◌+◌, ◌*◌, ◌<◌, ◌≤◌, ◌^◌, ◌↔◌, if◌then◌else◌, length, take, drop, IsTrue, IfSome};
+ghost use Rattle.std.specs.Option.{option_map};
+ghost use Rattle.sec1_der.specs.Numbers.{num};
+ghost use Rattle.sec1.specs.Points.{identity, uncompressed, IsEncoding, meaning, enc, Fits, compressed_point, hybrid_point, x_of, y_of};
+
+mod coordinates;
+mod order;
+mod select;
+mod tag;
+mod text;
+
+use crate::error::{Error, Result};
+pub use coordinates::{Coordinates, Parts};
+use std::fmt;
+pub use tag::Tag;
+
+/// A point at field elements of N bytes, as its encoding.
+///
+/// N is at least 1 and L is 2N + 1, the length of the longest encoding. The encoding stands at the beginning of a
+/// buffer of L bytes; what the buffer holds after it counts for nothing, so that two values may be one point.
+#[derive(Clone, Copy)]
+pub struct EncodedPoint<const N: usize, const L: usize> {
+    bytes: [u8; L],
+    len: usize,
+    ghost sizes: { Fits N L },
+    ghost room: { len ≤ L },
+    ghost encoded: { enc N (meaning N (take len bytes)) ≡ take len bytes },
+}
+
+/// A point over a field of 224 bits.
+pub type EncodedPoint28 = EncodedPoint<28, 57>;
+
+/// A point over a field of 256 bits.
+pub type EncodedPoint32 = EncodedPoint<32, 65>;
+
+/// A point over a field of 384 bits.
+pub type EncodedPoint48 = EncodedPoint<48, 97>;
+
+/// A point over a field of 521 bits.
+pub type EncodedPoint66 = EncodedPoint<66, 133>;
+
+impl<const N: usize, const L: usize> EncodedPoint<N, L> {
+    ghost use Rattle.sec1.specs.EncodedPoints.{point_of, ReadsBytes};
+    ghost use Rattle.sec1.specs.Tags.{tag_of, is_compact, is_compressed, is_hybrid, is_identity};
+    ghost use Rattle.sec1.specs.Coordinates.{lent_point, AreWhole};
+
+    /// Whether N and L fit: N is at least 1, and L is 2N + 1. Only then are there points of this type.
+    pub fn fits() -> bool
+        ensures { IsTrue result ↔ Fits N L }
+    {
+        N != 0 && L % 2 == 1 && L / 2 == N
+    }
+
+    /// The point with this encoding (SEC1 v2.0 section 2.3.4).
+    ///
+    /// Any other bytes are refused as PointEncoding, and so are all bytes where N and L don't fit.
+    pub fn from_bytes(input: &[u8]) -> Result<Self>
+        ensures { ReadsBytes input.now result }
+    {
+        if !Self::fits() || !is_encoding(input, N) {
+            return Err(Error::PointEncoding);
+        }
+        let len = input.len();
+        let mut bytes = [0; L];
+        bytes[..len].copy_from_slice(input);
+        Ok(EncodedPoint { bytes, len })
+    }
+
+    /// The uncompressed point whose coordinates stand in these bytes, x first, with no tag before them.
+    ///
+    /// Asks for exactly 2N bytes, and that N and L fit.
+    pub fn from_untagged_bytes(bytes: &[u8]) -> Self
+        requires sizes { Fits N L }
+        requires len { length bytes.now ≡ 2 * N }
+        ensures { point_of result ≡ uncompressed (num (take N bytes.now)) (num (drop N bytes.now)) }
+    {
+        let (x, y) = bytes.split_at(N);
+        Self::from_halves(x, y)
+    }
+
+    /// The point with these coordinates: compressed with the parity of y, or else uncompressed.
+    ///
+    /// Asks that N and L fit.
+    pub fn from_affine_coordinates(x: &[u8; N], y: &[u8; N], compress: bool) -> Self
+        requires { Fits N L }
+        ensures { let whole = uncompressed (num x.now) (num y.now) in
+            point_of result ≡ (if compress then compressed_point whole else whole) }
+    {
+        let point = Self::from_halves(x.as_slice(), y.as_slice());
+        if compress { point.compress() } else { point }
+    }
+
+    // The uncompressed point with these coordinates.
+    fn from_halves(x: &[u8], y: &[u8]) -> Self
+        requires sizes { Fits N L }
+        requires x_len { length x.now ≡ N }
+        requires y_len { length y.now ≡ N }
+        ensures { point_of result ≡ uncompressed (num x.now) (num y.now) }
+    {
+        let mut bytes = [0; L];
+        let buffer = bytes.as_mut_slice();
+        buffer[0] = u8::from(Tag::Uncompressed);
+        buffer[1..N + 1].copy_from_slice(x);
+        buffer[N + 1..].copy_from_slice(y);
+        EncodedPoint { bytes, len: L }
+    }
+
+    /// The identity, SEC1's point at infinity. Asks that N and L fit.
+    pub fn identity() -> Self
+        requires { Fits N L }
+        ensures { point_of result ≡ identity }
+    {
+        EncodedPoint {
+            bytes: [0; L],
+            len: 1,
+        }
+    }
+
+    /// The length of the encoding in bytes.
+    pub fn len(&self) -> usize
+        ensures { result ≡ length (enc N (point_of self.now)) }
+    {
+        self.len
+    }
+
+    /// The encoding (SEC1 v2.0 section 2.3.3).
+    pub fn as_bytes(&self) -> &[u8]
+        ensures { result.now ≡ enc N (point_of self.now) }
+    {
+        &self.bytes[..self.len]
+    }
+
+    /// Whether the encoding is compact.
+    pub fn is_compact(&self) -> bool
+        ensures { result ≡ is_compact (tag_of (point_of self.now)) }
+    {
+        self.tag().is_compact()
+    }
+
+    /// Whether the encoding is compressed. A compact one is not.
+    pub fn is_compressed(&self) -> bool
+        ensures { result ≡ is_compressed (tag_of (point_of self.now)) }
+    {
+        self.tag().is_compressed()
+    }
+
+    /// Whether the encoding is hybrid.
+    pub fn is_hybrid(&self) -> bool
+        ensures { result ≡ is_hybrid (tag_of (point_of self.now)) }
+    {
+        self.tag().is_hybrid()
+    }
+
+    /// Whether the point is the identity.
+    pub fn is_identity(&self) -> bool
+        ensures { result ≡ is_identity (tag_of (point_of self.now)) }
+    {
+        self.tag().is_identity()
+    }
+
+    /// The compressed form of an uncompressed or hybrid point, with the parity of its y. Any other point is unchanged.
+    pub fn compress(&self) -> Self
+        ensures point { point_of result ≡ compressed_point (point_of self.now) }
+        ensures same_x { x_of (point_of result) ≡ x_of (point_of self.now) }
+        ensures once { compressed_point (point_of result) ≡ point_of result }
+    {
+        let Some(y) = self.y() else {
+            return *self;
+        };
+        let tag = Tag::compress_y(y);
+        let mut point = *self;
+        point.bytes[0] = u8::from(tag);
+        point.len = N + 1;
+        point
+    }
+
+    /// The hybrid form of an uncompressed point, with the parity of its y. Any other point is unchanged.
+    pub fn to_hybrid(&self) -> Self
+        ensures { point_of result ≡ hybrid_point (point_of self.now) }
+    {
+        let Coordinates::Uncompressed { y, .. } = self.coordinates() else {
+            return *self;
+        };
+        let tag = Tag::hybrid_y(y);
+        let mut point = *self;
+        point.bytes[0] = u8::from(tag);
+        point
+    }
+
+    /// The tag, the first byte of the encoding.
+    pub fn tag(&self) -> Tag
+        ensures { result ≡ tag_of (point_of self.now) }
+    {
+        match Tag::from_u8(self.bytes[0]) {
+            Ok(tag) => tag,
+            Err(_) => unreachable!(),
+        }
+    }
+
+    /// The parts of the point, lent.
+    pub fn coordinates(&self) -> Coordinates<'_, N>
+        ensures point { lent_point result ≡ point_of self.now }
+        ensures whole { AreWhole N result }
+    {
+        let (x, y) = self.halves();
+        match self.tag() {
+            Tag::Identity => Coordinates::Identity,
+            Tag::CompressedEvenY => Coordinates::Compressed { x, y_is_odd: false },
+            Tag::CompressedOddY => Coordinates::Compressed { x, y_is_odd: true },
+            Tag::Uncompressed => Coordinates::Uncompressed { x, y },
+            Tag::Compact => Coordinates::Compact { x },
+            Tag::HybridEvenY => Coordinates::Hybrid { x, y },
+            Tag::HybridOddY => Coordinates::Hybrid { x, y },
+        }
+    }
+
+    // The N bytes behind the tag, and the N bytes after these, whether or not they belong to the encoding.
+    fn halves(&self) -> (&[u8; N], &[u8; N])
+        ensures x { result.0.now ≡ take N (drop 1 self.now.bytes) }
+        ensures y { result.1.now ≡ take N (drop N (drop 1 self.now.bytes)) }
+        ensures x_len { length result.0.now ≡ N }
+        ensures y_len { length result.1.now ≡ N }
+    {
+        let all = self.bytes.as_slice();
+        let Some((x, rest)) = all[1..].split_first_chunk::<N>() else {
+            unreachable!();
+        };
+        let Some((y, _)) = rest.split_first_chunk::<N>() else {
+            unreachable!();
+        };
+        (x, y)
+    }
+
+    /// The x-coordinate. The identity alone has none.
+    pub fn x(&self) -> Option<&[u8; N]>
+        ensures number { option_map (λ x. num x.now) result ≡ x_of (point_of self.now) }
+        ensures len { IfSome result (λ x. length x.now ≡ N) }
+    {
+        match self.coordinates() {
+            Coordinates::Identity => None,
+            Coordinates::Compact { x } => Some(x),
+            Coordinates::Compressed { x, .. } => Some(x),
+            Coordinates::Uncompressed { x, .. } => Some(x),
+            Coordinates::Hybrid { x, .. } => Some(x),
+        }
+    }
+
+    /// The y-coordinate, which uncompressed and hybrid points have.
+    pub fn y(&self) -> Option<&[u8; N]>
+        ensures number { option_map (λ y. num y.now) result ≡ y_of (point_of self.now) }
+        ensures len { IfSome result (λ y. length y.now ≡ N) }
+    {
+        match self.coordinates() {
+            Coordinates::Uncompressed { y, .. } => Some(y),
+            Coordinates::Hybrid { y, .. } => Some(y),
+            _ => None,
+        }
+    }
+}
+
+// Whether these bytes are an encoding at field elements of n bytes.
+fn is_encoding(input: &[u8], n: usize) -> bool
+    requires positive { 1 ≤ n }
+    requires fits { 2 * n + 1 < 2 ^ 64 }
+    ensures { IsTrue result ↔ IsEncoding n input.now }
+{
+    let Some((first, rest)) = input.split_first() else {
+        return false;
+    };
+    let Ok(tag) = Tag::from_u8(*first) else {
+        return false;
+    };
+    if input.len() != tag.message_len(n) {
+        return false;
+    }
+    !tag.is_hybrid() || rest[rest.len() - 1] % 2 == *first % 2
+}
+
+/// As `from_bytes`.
+impl<const N: usize, const L: usize> TryFrom<&[u8]> for EncodedPoint<N, L> {
+    type Error = Error;
+
+    ghost use Rattle.sec1.specs.EncodedPoints.{ReadsBytes};
+
+    ghost try_from_gives = { λ input result. ReadsBytes input.now result };
+
+    fn try_from(input: &[u8]) -> Result<Self> {
+        Self::from_bytes(input)
+    }
+}
+
+impl Default for EncodedPoint<28, 57> {
+    ghost use Rattle.sec1.specs.EncodedPoints.{point_of};
+
+    ghost is_default = { λ point. point_of point ≡ identity };
+
+    fn default() -> Self {
+        Self::identity()
+    }
+}
+
+impl Default for EncodedPoint<32, 65> {
+    ghost use Rattle.sec1.specs.EncodedPoints.{point_of};
+
+    ghost is_default = { λ point. point_of point ≡ identity };
+
+    fn default() -> Self {
+        Self::identity()
+    }
+}
+
+impl Default for EncodedPoint<48, 97> {
+    ghost use Rattle.sec1.specs.EncodedPoints.{point_of};
+
+    ghost is_default = { λ point. point_of point ≡ identity };
+
+    fn default() -> Self {
+        Self::identity()
+    }
+}
+
+impl Default for EncodedPoint<66, 133> {
+    ghost use Rattle.sec1.specs.EncodedPoints.{point_of};
+
+    ghost is_default = { λ point. point_of point ≡ identity };
+
+    fn default() -> Self {
+        Self::identity()
+    }
+}
+
+impl<const N: usize, const L: usize> fmt::Debug for EncodedPoint<N, L> {
+    fn fmt<W: fmt::Write>(&self, f: &mut fmt::Formatter<W>) -> fmt::Result {
+        let coordinates = self.coordinates();
+        write!(f, "EncodedPoint({coordinates:?})")
+    }
+}
+
+#[cfg(test)]
+mod tests;

@@ -1,0 +1,79 @@
+//! Equality, order and hash of points. The order is by tag, then by coordinates as whole numbers.
+
+ghost use Rattle.std.specs.Prelude.{◌≡◌, ◌↔◌, IsTrue, Some, refl};
+ghost use Rattle.std.specs.Cmp.{on_per, on_equiv, on_total, partial_equiv_from_equiv, partial_order_from_agreeing_total};
+ghost use Rattle.std.specs.Cmp.Lexicographic.{slice_cmp};
+ghost use Rattle.std.specs.Ordering.{nat_cmp};
+ghost use Rattle.sec1.specs.EncodedPoints.{point_of};
+ghost use Rattle.sec1.specs.Points.{enc};
+ghost use Rattle.sec1.specs.PointOrder.{point_cmp, point_cmp_total, same_point, same_point_equiv, IsBelow};
+
+use super::EncodedPoint;
+use std::cmp::Ordering;
+use std::hash::{Hash, Hasher};
+
+impl<const N: usize, const L: usize> PartialEq for EncodedPoint<N, L> {
+    ghost eq = { λ p q. same_point (point_of p) (point_of q) };
+
+    ghost laws = { on_per (λ p. point_of p) (partial_equiv_from_equiv same_point_equiv) };
+
+    fn eq(&self, other: &Self) -> bool
+        ensures value { result ≡ same_point (point_of self.now) (point_of other.now) }
+        ensures same { IsTrue result ↔ (point_of self.now ≡ point_of other.now) }
+        ensures bytes { IsTrue result ↔ (enc N (point_of self.now) ≡ enc N (point_of other.now)) }
+    {
+        self.ct_eq(other)
+    }
+}
+
+impl<const N: usize, const L: usize> Eq for EncodedPoint<N, L> {
+    ghost laws = { on_equiv (λ p. point_of p) same_point_equiv };
+}
+
+impl<const N: usize, const L: usize> PartialOrd for EncodedPoint<N, L> {
+    ghost partial_cmp = { λ p q. Some (point_cmp (point_of p) (point_of q)) };
+
+    ghost laws = { partial_order_from_agreeing_total (λ p q. point_cmp (point_of p) (point_of q)) (on_total (λ p. point_of p) point_cmp_total) (λ p q. refl) (λ p q. refl) };
+
+    fn partial_cmp(&self, other: &Self) -> Option<Ordering> {
+        Some(self.cmp(other))
+    }
+}
+
+impl<const N: usize, const L: usize> Ord for EncodedPoint<N, L> {
+    ghost use Rattle.std.specs.declared.cmp.Ordering.TheVariants.{Less, Equal, Greater};
+
+    ghost cmp = { λ p q. point_cmp (point_of p) (point_of q) };
+
+    ghost total = { on_total (λ p. point_of p) point_cmp_total };
+
+    ghost matches_partial_cmp = { λ p q. refl };
+
+    ghost matches_eq = { λ p q. refl };
+
+    fn cmp(&self, other: &Self) -> Ordering
+        ensures value { result ≡ point_cmp (point_of self.now) (point_of other.now) }
+        ensures below { (result ≡ Less) ↔ IsBelow (point_of self.now) (point_of other.now) }
+        ensures above { (result ≡ Greater) ↔ IsBelow (point_of other.now) (point_of self.now) }
+        ensures same { (result ≡ Equal) ↔ (point_of self.now ≡ point_of other.now) }
+        ensures bytes { result ≡ slice_cmp nat_cmp (enc N (point_of self.now)) (enc N (point_of other.now)) }
+    {
+        self.as_bytes().cmp(other.as_bytes())
+    }
+}
+
+impl<const N: usize, const L: usize> Hash for EncodedPoint<N, L> {
+    ghost use Rattle.std.proofs.Common.{ap};
+    ghost use Rattle.std.specs.Hash as fed;
+    ghost use Rattle.sec1.specs.Points.{Point};
+    ghost use Rattle.sec1.specs.PointOrder.{same_point-true};
+
+    // What the slice of the encoding feeds.
+    ghost hash_input = { λ p. fed.slice fed.u8 (enc N (point_of p)) };
+
+    ghost respects_eq = { λ p q h. ap (λ (r : Point). fed.slice fed.u8 (enc N r)) (same_point-true (point_of p) (point_of q) h) };
+
+    fn hash<H: Hasher>(&self, state: &mut H) {
+        self.as_bytes().hash(state);
+    }
+}

@@ -1,0 +1,54 @@
+//! Comparing, selecting and wiping points. No call here promises to run in constant time.
+
+ghost use Rattle.std.specs.Prelude.{◌≡◌, ◌↔◌, if◌then◌else◌, IsTrue};
+ghost use Rattle.sec1.specs.EncodedPoints.{point_of};
+ghost use Rattle.sec1.specs.Points.{identity, enc};
+
+use super::EncodedPoint;
+
+impl<const N: usize, const L: usize> EncodedPoint<N, L> {
+    /// Whether the points are the same.
+    pub fn ct_eq(&self, other: &Self) -> bool
+        ensures same { IsTrue result ↔ (point_of self.now ≡ point_of other.now) }
+        ensures bytes { IsTrue result ↔ (enc N (point_of self.now) ≡ enc N (point_of other.now)) }
+    {
+        self.as_bytes() == other.as_bytes()
+    }
+
+    /// This point where the choice is false, the other where it is true.
+    pub fn ct_select(&self, other: &Self, choice: bool) -> Self
+        ensures { point_of result ≡ (if choice then point_of other.now else point_of self.now) }
+    {
+        let mut bytes = [0; L];
+        for i in 0..L {
+            bytes[i] = if choice {
+                other.bytes[i]
+            } else {
+                self.bytes[i]
+            };
+        }
+        let len = if choice { other.len } else { self.len };
+        EncodedPoint { bytes, len }
+    }
+
+    /// Becomes the other point where the choice is true, and is unchanged where it is false.
+    pub fn ct_assign(&mut self, other: &Self, choice: bool)
+        ensures { point_of self.new ≡ (if choice then point_of other.now else point_of self.old) }
+    {
+        *self = self.ct_select(other, choice);
+    }
+
+    /// The first point where the choice is false, the second where it is true.
+    pub fn conditional_select(a: &Self, b: &Self, choice: bool) -> Self
+        ensures { point_of result ≡ (if choice then point_of b.now else point_of a.now) }
+    {
+        a.ct_select(b, choice)
+    }
+
+    /// Leaves the identity, and 00 in each byte of the buffer.
+    pub fn zeroize(&mut self)
+        ensures { point_of self.new ≡ identity }
+    {
+        *self = Self::identity();
+    }
+}

@@ -1,0 +1,138 @@
+//! The byte in front of a point's coordinates.
+
+ghost use Rattle.std.specs.Prelude.{◌≡◌, ◌<◌, ◌^◌, if◌then◌else◌};
+ghost use Rattle.sec1_der.specs.Numbers.{num};
+ghost use Rattle.sec1.specs.Points.{is_odd};
+ghost use Rattle.sec1.specs.Tags.{byte_of, ReadsTag, message_len, is_compact, is_compressed, is_hybrid, is_identity};
+
+use crate::error::{Error, Result};
+
+/// What a point's encoding begins with: the identity, compressed and uncompressed of SEC1 v2.0 section 2.3.3, the
+/// compact form that has x alone, and the hybrid form of ANSI X9.62 that has y and its parity too.
+#[derive(Clone, Copy, Debug, PartialEq, Eq)]
+pub enum Tag {
+    /// The point at infinity.
+    Identity = 0,
+    /// x, and an even y that is left out.
+    CompressedEvenY = 2,
+    /// x, and an odd y that is left out.
+    CompressedOddY = 3,
+    /// x and y.
+    Uncompressed = 4,
+    /// x alone.
+    Compact = 5,
+    /// x and an even y.
+    HybridEvenY = 6,
+    /// x and an odd y.
+    HybridOddY = 7,
+}
+
+impl Tag {
+    /// The tag with this byte. A byte that is no tag's is refused as PointEncoding.
+    pub fn from_u8(byte: u8) -> Result<Self>
+        ensures { ReadsTag byte result }
+    {
+        match byte {
+            0 => Ok(Tag::Identity),
+            2 => Ok(Tag::CompressedEvenY),
+            3 => Ok(Tag::CompressedOddY),
+            4 => Ok(Tag::Uncompressed),
+            5 => Ok(Tag::Compact),
+            6 => Ok(Tag::HybridEvenY),
+            7 => Ok(Tag::HybridOddY),
+            _ => Err(Error::PointEncoding),
+        }
+    }
+
+    /// Whether this is the tag of the compact form.
+    pub fn is_compact(self) -> bool
+        ensures { result ≡ is_compact self }
+    {
+        matches!(self, Tag::Compact)
+    }
+
+    /// Whether this is one of the two tags of the compressed form.
+    pub fn is_compressed(self) -> bool
+        ensures { result ≡ is_compressed self }
+    {
+        matches!(self, Tag::CompressedEvenY | Tag::CompressedOddY)
+    }
+
+    /// Whether this is one of the two tags of the hybrid form.
+    pub fn is_hybrid(self) -> bool
+        ensures { result ≡ is_hybrid self }
+    {
+        matches!(self, Tag::HybridEvenY | Tag::HybridOddY)
+    }
+
+    /// Whether this is the identity's tag.
+    pub fn is_identity(self) -> bool
+        ensures { result ≡ is_identity self }
+    {
+        self == Tag::Identity
+    }
+
+    /// The length in bytes of an encoding with this tag, which counts too, at field elements of so many bytes.
+    ///
+    /// Asks that this length fits a usize.
+    pub fn message_len(self, field_element_size: usize) -> usize
+        requires { message_len self field_element_size < 2 ^ 64 }
+        ensures { result ≡ message_len self field_element_size }
+    {
+        match self {
+            Tag::Identity => 1,
+            Tag::CompressedEvenY | Tag::CompressedOddY | Tag::Compact => field_element_size + 1,
+            Tag::Uncompressed | Tag::HybridEvenY | Tag::HybridOddY => field_element_size * 2 + 1,
+        }
+    }
+
+    // The compressed form's tag for the parity of y.
+    pub(super) fn compress_y<const N: usize>(y: &[u8; N]) -> Self
+        ensures { byte_of result ≡ (if is_odd (num y.now) then 3 else 2) }
+    {
+        if is_odd(y) {
+            Tag::CompressedOddY
+        } else {
+            Tag::CompressedEvenY
+        }
+    }
+
+    // The hybrid form's tag for the parity of y.
+    pub(super) fn hybrid_y<const N: usize>(y: &[u8; N]) -> Self
+        ensures { byte_of result ≡ (if is_odd (num y.now) then 7 else 6) }
+    {
+        if is_odd(y) {
+            Tag::HybridOddY
+        } else {
+            Tag::HybridEvenY
+        }
+    }
+}
+
+// Whether the number that the bytes spell is odd. The number of no bytes is 0.
+#[tactic(auto, using(crate::proofs::Digits::parity_of_last, crate::proofs::Digits::num_of_none))]
+fn is_odd<const N: usize>(y: &[u8; N]) -> bool
+    ensures { result ≡ is_odd (num y.now) }
+{
+    N != 0 && y[N - 1] % 2 == 1
+}
+
+/// As `from_u8`.
+impl TryFrom<u8> for Tag {
+    type Error = Error;
+
+    ghost try_from_gives = { λ byte result. ReadsTag byte result };
+
+    fn try_from(byte: u8) -> Result<Self> {
+        Self::from_u8(byte)
+    }
+}
+
+/// The byte of the tag.
+impl From<Tag> for u8 {
+    ghost from_gives = { λ tag byte. byte ≡ byte_of tag };
+
+    fn from(tag: Tag) -> u8 {
+        tag as u8
+    }
+}
