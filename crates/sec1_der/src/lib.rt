@@ -13,6 +13,7 @@ mod object_identifier;
 mod octet_string;
 mod reader;
 mod tag;
+mod tree;
 mod value;
 mod version;
 
@@ -26,5 +27,6 @@ pub use object_identifier::{ID_EC_PUBLIC_KEY, ObjectIdentifier};
 pub use octet_string::OctetStringRef;
 pub use reader::SliceReader;
 pub use tag::Tag;
+pub use tree::check_tree;
 pub use value::{DecodeValue, FixedTag, ValueContent};
 pub use version::VersionOne;
