@@ -1,15 +1,17 @@
 -- What the content of a key says of the key's bytes.
-use Rattle.std.proofs.Common.{◌≡◌, ◌≤◌, ◌++◌, ℕ, List, length, Option, Some, None, Result, Ok, Err, refl, ap, subst, sym, ◌∙◌}
+use Rattle.std.proofs.Common.{◌≡◌, ◌≤◌, ◌++◌, ℕ, List, [], length, Option, Some, None, Result, Ok, Err, refl, ap, subst, sym, ◌∙◌}
 use Rattle.std.specs.Prelude.{IsSomeAnd}
 use Rattle.sec1_der.specs.Elements.{max_length, element, IsElementOf, IsProperBeginning}
 use Rattle.sec1_der.specs.Faults.{IsReadingFault}
+use Rattle.sec1_der.specs.TreeLaws.{BytesDetermineTree}
+use Rattle.sec1_der.specs.Trees.{Tree, IsTreeOf}
 use Rattle.sec1_der.specs.declared.error.Error.{Error as DerError}
 use Rattle.sec1_der.specs.declared.error.ErrorKind.{ErrorKind}
 use Rattle.sec1_der.specs.declared.error.ErrorKind.TheVariants.{Truncated, Tag, Length, TrailingData, Value, Overlength, Buffer, Failed, Io, Depth, Memory as WantOfMemory}
 use Rattle.sec1.specs.declared.error.Error.{Error}
 use Rattle.sec1.specs.declared.error.Error.TheVariants.{Asn1}
 use Rattle.sec1.specs.Errors.{error_by, error_of, IsAsn1, RefusesAsn1, IsAsn1ReadingFault}
-use Rattle.sec1.specs.Keys.{Key, IsKeyOf, IsContentOf, IsKeyContent, fields_of, key_content}
+use Rattle.sec1.specs.Keys.{Key, key_tree, IsKeyOf, IsContentOf, IsKeyContent, fields_of, key_content}
 use Rattle.sec1.specs.KeyLaws.{key_content-tells, key_content-holds, sequence}
 use Rattle.sec1.specs.ReadsKey.{ReadsKey}
 
@@ -55,6 +57,7 @@ key_refused input cause none short long fault =
     (record {
       found = tt;
       only = λ key is. absurd (none (fields_of key) (key, content_of_key key input is) (element_of_key key input is));
+      one_tree = tt;
       kinds = fault;
       short = λ key bytes is begins. short (fields_of key) is.tree.tree.2 (subst (IsProperBeginning input) is.tree.whole begins);
       long = λ key bytes is begins. long (fields_of key) (key, content_of_key key bytes is) is.tree.tree.2 (subst (λ xs. IsProperBeginning xs input) is.tree.whole begins);
@@ -70,18 +73,26 @@ held : (key : Key) (input : List ℕ) (content : Option (List ℕ)) → key_cont
 held key input None same is = absurd is
 held key input (Some content) same is = record { content = content; same = same; at = is.1 }
 
+-- every tree with a key's bytes is the key's
+one_tree : (key : Key) (input : List ℕ) → BytesDetermineTree → IsKeyOf key input → (t : Tree) → IsTreeOf t input → t ≡ key_tree key
+one_tree key input trees is t at =
+    (trees t (key_tree key) [] [] at.tree is.tree.tree (ap (λ xs. xs ++ []) (sym at.whole ∙ is.tree.whole))).0
+
 -- an element that was read is a key that was read
 pub key_read : (input : List ℕ) (key : Key)
+    → BytesDetermineTree
     → ((a b : Key) (bytes : List ℕ) → key_content a ≡ Some bytes → key_content b ≡ Some bytes → a ≡ b)
     → IsSomeAnd (key_content key) (λ content. IsKeyContent content × IsElementOf 0x30 content input)
     → ((content : List ℕ) → IsKeyContent content → IsElementOf 0x30 content input → key_content key ≡ Some content)
     → ((content : List ℕ) → length content ≤ max_length → IsProperBeginning input (element 0x30 content) → ⊥)
     → ((content : List ℕ) → IsKeyContent content → length content ≤ max_length → IsProperBeginning (element 0x30 content) input → ⊥)
     → ReadsKey input (Ok key)
-key_read input key one is only short long =
+key_read input key trees one is only short long =
     let h = held key input (key_content key) refl is in
+    let found = key_of_element key h.content input (key_content-tells key h.content h.same) h.at in
     record {
-      found = key_of_element key h.content input (key_content-tells key h.content h.same) h.at;
+      found = found;
+      one_tree = one_tree key input trees found;
       only = λ other at.
           let content = content_of_key other input at in
           let same = only (fields_of other) (other, content) (element_of_key other input at) in

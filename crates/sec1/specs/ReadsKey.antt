@@ -1,9 +1,10 @@
 -- What reading a key from bytes means.
 use Rattle.std.specs.Prelude.{◌≡◌, List, ℕ, Result, Ok, IfOk, IfErr}
 use Rattle.sec1.specs.Errors.{RefusesAsn1, IsAsn1ReadingFault}
-use Rattle.sec1.specs.Keys.{Key, IsKeyOf}
+use Rattle.sec1.specs.Keys.{Key, key_tree, IsKeyOf}
 use Rattle.sec1.specs.declared.error.Error.{Error}
 use Rattle.sec1_der.specs.Elements.{IsProperBeginning}
+use Rattle.sec1_der.specs.Trees.{Tree, IsTreeOf}
 use Rattle.sec1_der.specs.declared.error.ErrorKind.TheVariants.{Truncated, TrailingData}
 
 -- A key is read exactly where the bytes are those of a key, and then it is that key.
@@ -12,6 +13,8 @@ pub record ReadsKey (input : List ℕ) (result : Result Key Error) : Type 0 wher
   pub found : IfOk result (λ key. IsKeyOf key input)
   -- where they are the bytes of a key, it is read
   pub only : (key : Key) → IsKeyOf key input → result ≡ Ok key
+  -- every tree with the bytes of the key that is read, of any shape and depth, is the key's
+  pub one_tree : IfOk result (λ key. (t : Tree) → IsTreeOf t input → t ≡ key_tree key)
   -- all other bytes are refused, by one of these kinds
   pub kinds : IfErr result IsAsn1ReadingFault
   -- a proper beginning of a key's bytes ends too early

@@ -69,6 +69,7 @@ impl<'a> TryFrom<&'a [u8]> for EcPrivateKey<'a> {
 
     fn try_from(bytes: &'a [u8]) -> Result<EcPrivateKey<'a>> {
         laws::one_key();
+        der::laws::trees_unique();
         Ok(der::from_der(bytes)?)
     }
 }

@@ -2,6 +2,9 @@ pub mod DigitLemmas
 pub mod LengthLemmas
 pub mod HeaderLemmas
 pub mod TreeLemmas
+pub mod EnterLemmas
+pub mod WalkLemmas
+pub mod CheckLemmas
 pub mod IdentifierLemmas
 pub mod ArcLemmas
 pub mod DottedLemmas

@@ -3,6 +3,7 @@ pub mod Elements
 pub mod ElementLaws
 pub mod Trees
 pub mod TreeLaws
+pub mod Walks
 pub mod Identifiers
 pub mod IdentifierLaws
 pub mod ArcsOf

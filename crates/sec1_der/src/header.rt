@@ -10,7 +10,7 @@ use crate::{ErrorKind, Length, Result, SliceReader, Tag};
 const LONG_FORM: usize = 0x80;
 
 /// What stands first of some bytes, and the bytes after it; or why nothing does.
-type First<'a, T> = std::result::Result<(T, &'a [u8]), ErrorKind>;
+pub(crate) type First<'a, T> = std::result::Result<(T, &'a [u8]), ErrorKind>;
 
 /// The tag byte and the length that an element begins with (X.690 sections 8.1.2 and 8.1.3).
 #[derive(Clone, Copy, Debug, PartialEq, Eq)]

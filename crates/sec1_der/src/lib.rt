@@ -17,6 +17,7 @@ mod stream;
 mod tag;
 #[cfg(test)]
 mod tests;
+mod tree;
 mod value;
 mod version;
 
@@ -32,5 +33,6 @@ pub use reader::SliceReader;
 pub use std_stream::{StdReader, StdWriter};
 pub use stream::{IoFault, Read, Write, read_some, write_all};
 pub use tag::Tag;
+pub use tree::check_tree;
 pub use value::{DecodeValue, FixedTag, ValueContent};
 pub use version::VersionOne;

@@ -11,4 +11,4 @@ returns-in_err-from_der c =
 pub returns : goal.returns
 returns c =
     let from_der = c.in_ok-from_der.ensures in
-    key_read c.args.bytes.now c.in_ok-from_der.field-0 c.one_key.ensures from_der.found from_der.only from_der.short from_der.long
+    key_read c.args.bytes.now c.in_ok-from_der.field-0 c.trees_unique.ensures c.one_key.ensures from_der.found from_der.only from_der.short from_der.long

@@ -1,0 +1,8 @@
+use Rattle.sec1_der.proofs.CheckLemmas.{IsAt, measure}
+use Rattle.sec1_der.proofs.tree.check_tree.Given as goal
+
+abbrev pub invariant-loop-nodes : goal.invariant-loop-nodes
+invariant-loop-nodes l = IsAt l.input l.nodes l.rest l.count
+
+abbrev pub decreases-loop-nodes : goal.decreases-loop-nodes
+decreases-loop-nodes l = measure l.nodes l.rest

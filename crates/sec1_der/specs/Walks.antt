@@ -1,0 +1,56 @@
+-- One step of a walk over the bytes of a tree. The open nodes are known by how many bytes are left where each
+-- ends, the innermost first.
+use Rattle.std.specs.Prelude.{◌≡◌, ℕ, zero, suc, ◌+◌, ◌<◌, ◌≤◌, ◌⊎◌, List, [], ◌∷◌, ◌++◌, length, get_or}
+use Rattle.sec1_der.specs.Elements.{header, IsTag, IsConstructed, max_length}
+use Rattle.sec1_der.specs.Trees.{Tree, IsTree, bytes, size, depth}
+
+-- a leaf or an empty node
+pub record IsSingle (t : Tree) : Type 0 where
+  pub tree : IsTree t
+  pub alone : size t ≡ 1
+  pub shallow : depth t ≡ 1
+
+-- the front is the header of a node with a content
+pub record IsOpening (tag n end : ℕ) (rest after : List ℕ) : Type 0 where
+  pub tag_byte : IsTag tag
+  pub constructed : IsConstructed tag
+  pub some : 0 < n
+  pub within : n ≤ max_length
+  pub row : rest ≡ header tag n ++ after
+  pub ends : end + n ≡ length after
+
+-- where the innermost node ends, else the input
+abbrev pub innermost : List ℕ → ℕ
+innermost [] = 0
+innermost (end ∷ ends) = end
+
+-- an element without children stands first, within the innermost node
+pub record Passes (ends rest after : List ℕ) : Type 0 where
+  pub tree : Tree
+  pub single : IsSingle tree
+  pub row : rest ≡ bytes tree ++ after
+  pub fits : innermost ends ≤ length after
+
+-- the header of a node with this end stands first, and the node ends within the innermost
+pub record Opens (ends rest : List ℕ) (end : ℕ) (after : List ℕ) : Type 0 where
+  pub tag : ℕ
+  pub n : ℕ
+  pub opening : IsOpening tag n end rest after
+  pub fits : innermost ends ≤ end
+
+-- what stands first is passed, or is opened where fewer than 63 nodes were
+abbrev pub Enters : List ℕ → List ℕ → List ℕ → List ℕ → Type 0
+Enters ends rest ends' after =
+    (Passes ends rest after × (ends' ≡ ends)) ⊎ ((end : ℕ) × Opens ends rest end after × (ends' ≡ end ∷ ends) × (length ends < 63))
+
+-- 63 nodes are open, and a further one with a content stands first
+pub record IsTooDeep (ends rest : List ℕ) : Type 0 where
+  pub end : ℕ
+  pub after : List ℕ
+  pub opens : Opens ends rest end after
+  pub full : length ends ≡ 63
+
+-- the ends of so many open nodes, from a table that has the outermost at 1
+abbrev pub open_ends : ℕ → List ℕ → List ℕ
+open_ends zero table = []
+open_ends (suc level) table = get_or table (suc level) 0 ∷ open_ends level table

@@ -1,0 +1,143 @@
+ghost use Rattle.std.specs.Prelude.{◌≡◌, ◌<◌, ◌≤◌, ◌⊎◌, IfOk, IfErr};
+ghost use Rattle.sec1_der.specs.Elements.{IsProperBeginning};
+ghost use Rattle.sec1_der.specs.Faults.{Refuses, IsReadingFault};
+ghost use Rattle.sec1_der.specs.Trees.{Tree, IsTree, IsTreeOf, bytes, size, depth};
+
+use crate::header::element_at;
+use crate::{ErrorKind, Result};
+use std::marker::Model;
+
+/// The number of elements of the one DER tree of depth at most 64 with these bytes. An element whose tag is
+/// constructed holds elements again, and nothing else (X.690 sections 8.1.2.5 and 10.1). No memory is taken.
+///
+/// Refused by the first fault from left to right: Tag or Length where an element has no header of DER;
+/// Truncated where the input ends inside an element, or an element beyond the one around it; Depth where an
+/// element at level 64 has elements inside, before they are read; TrailingData where bytes follow the tree.
+pub fn check_tree(input: &[u8]) -> Result<usize>
+    // What is counted is a tree, and these are its bytes.
+    ensures found { IfOk result (λ n. (t : Tree) × IsTreeOf t input.now × (depth t ≤ 64) × (size t ≡ n)) }
+    // Where they are the bytes of such a tree, it is counted.
+    ensures only { (t : Tree) → IsTreeOf t input.now → depth t ≤ 64 → result ≡ Ok (size t) }
+    ensures deeper { (t : Tree) → IsTreeOf t input.now → 64 < depth t → Refuses result ErrorKind.Depth }
+
+    // A tree of any depth that has more bytes.
+    ensures short { (t : Tree) → IsTree t → IsProperBeginning input.now (bytes t) → Refuses result ErrorKind.Truncated }
+    ensures long { (t : Tree) → IsTree t → depth t ≤ 64 → IsProperBeginning (bytes t) input.now → Refuses result ErrorKind.TrailingData }
+    ensures kinds { IfErr result (λ e. (e.kind ≡ ErrorKind.Depth) ⊎ IsReadingFault e.kind) }
+{
+    let mut nodes = OpenNodes::new();
+    let mut rest = nodes.enter(input)?;
+    let mut count = 1;
+    while !nodes.is_empty() {
+        if rest.len() == nodes.end() {
+            nodes.close();
+        } else {
+            rest = nodes.enter(rest)?;
+            count += 1;
+        }
+    }
+    if !rest.is_empty() {
+        return Err(ErrorKind::TrailingData.into());
+    }
+    Ok(count)
+}
+
+/// The nodes around the next element. A contract sees how many bytes are left where each ends, the innermost
+/// first.
+#[derive(Drop)]
+struct OpenNodes {
+    /// How many bytes are left where the input ends, which is none, and where each open node does.
+    ends: [usize; 64],
+
+    /// How many nodes are open.
+    level: usize,
+}
+
+impl Model for OpenNodes {
+    ghost use Rattle.std.specs.Prelude.{◌≡◌, ◌≤◌, List, ℕ, get_or};
+    ghost use Rattle.sec1_der.specs.Walks.{open_ends};
+
+    ghost Value = { List ℕ };
+
+    ghost view = { λ nodes. open_ends nodes.level nodes.ends };
+
+    ghost invariant = { λ nodes. (nodes.level ≤ 63) × (get_or nodes.ends 0 0 ≡ 0) };
+}
+
+impl OpenNodes {
+    ghost use Rattle.std.specs.Prelude.{◌≡◌, ◌≢◌, ◌<◌, ◌≤◌, ◌⊎◌, ◌↔◌, ◌++◌, ℕ, List, [], ◌∷◌, drop, length, IsTrue, IfOk, IfErr, OnOk, OnErr};
+    ghost use Rattle.sec1_der.specs.Elements.{IsProperBeginning};
+    ghost use Rattle.sec1_der.specs.Faults.{Refuses, IsReadingFault};
+    ghost use Rattle.sec1_der.specs.Trees.{Tree, IsTree, bytes};
+    ghost use Rattle.sec1_der.specs.Walks.{innermost, Enters, IsTooDeep};
+
+    fn new() -> OpenNodes
+        ensures { result ≡ [] }
+    {
+        OpenNodes {
+            ends: [0; 64],
+            level: 0,
+        }
+    }
+
+    fn is_empty(&self) -> bool
+        ensures { IsTrue result ↔ (self.now ≡ []) }
+    {
+        self.level == 0
+    }
+
+    /// How many bytes are left where the innermost node ends, or the input where none is open.
+    fn end(&self) -> usize
+        ensures { result ≡ innermost self.now }
+    {
+        self.ends[self.level]
+    }
+
+    /// Opens a node at the next level. Refused as Depth where that is level 64.
+    fn open(&mut self, end: usize) -> Result<()>
+        ensures opened { OnOk result ((length self.old < 63) × (self.new ≡ end ∷ self.old)) }
+        ensures full { OnErr result (length self.old ≡ 63) }
+        ensures kind { IfErr result (λ e. e.kind ≡ ErrorKind.Depth) }
+    {
+        if self.level == 63 {
+            return Err(ErrorKind::Depth.into());
+        }
+        self.level += 1;
+        self.ends[self.level] = end;
+        Ok(())
+    }
+
+    fn close(&mut self)
+        requires { self.old ≢ [] }
+        ensures { self.new ≡ drop 1 self.old }
+    {
+        self.level -= 1;
+    }
+
+    /// Passes the element that stands first, or opens it where it has elements inside. Answers what is left
+    /// behind the element, or behind its header.
+    fn enter<'a>(&mut self, rest: &'a [u8]) -> Result<&'a [u8]>
+        requires { innermost self.old ≤ length rest.now }
+        ensures found { IfOk result (λ after. Enters self.old rest.now self.new after.now) }
+        ensures only { (t : Tree) (tail : List ℕ) → IsTree t → rest.now ≡ bytes t ++ tail → innermost self.old ≤ length tail
+            → IfErr result (λ e. e.kind ≡ ErrorKind.Depth) }
+        ensures deep { Refuses result ErrorKind.Depth → IsTooDeep self.old rest.now }
+        ensures short { (t : Tree) → IsTree t → IsProperBeginning rest.now (bytes t) → self.old ≡ [] → Refuses result ErrorKind.Truncated }
+        ensures kinds { IfErr result (λ e. (e.kind ≡ ErrorKind.Depth) ⊎ IsReadingFault e.kind) }
+    {
+        let end = self.end();
+        let room = rest.len() - end;
+        let (header, inside) = match element_at(&rest[..room]) {
+            Ok(found) => found,
+            Err(kind) => return Err(kind.into()),
+        };
+        let length = header.length.get();
+        let start = room - inside.len();
+        if length > 0 && header.tag.is_constructed() {
+            self.open(end + inside.len() - length)?;
+            Ok(&rest[start..])
+        } else {
+            Ok(&rest[start + length..])
+        }
+    }
+}
