@@ -3,7 +3,11 @@ use Rattle.std.specs.Prelude.{◌≡◌, ℕ, ◌<◌, ◌≤◌, ◌⊎◌, Lis
 use Rattle.std.specs.Fmt.{decimal}
 use Rattle.hex.specs.Hex.{decode_of, encode_upper}
 use Rattle.sec1.specs.Keys.{Key, IsKeyOf}
-use Rattle.sec1.specs.Der.{dotted}
+use Rattle.sec1.specs.Der.{dotted, Tree, IsTreeOf, depth, size}
+use Rattle.sec1.specs.Point.{Point, IsPoint, IsEncoding, enc}
+use Rattle.sec1.specs.Tags.{tag_of}
+use Rattle.sec1.specs.declared.point.Tag.{Tag}
+use Rattle.sec1.specs.declared.point.Tag.TheVariants.{Identity, CompressedEvenY, CompressedOddY, Uncompressed, Compact, HybridEvenY, HybridOddY}
 
 -- the most bytes that an input may have
 abbrev pub limit : ℕ
@@ -28,36 +32,94 @@ public_key_words None = codes "none"
 public_key_words (Some []) = codes "empty"
 public_key_words (Some (byte ∷ bytes)) = encode_upper (byte ∷ bytes)
 
--- a line for each part of a key
-abbrev pub key_lines : Key → List ℕ
-key_lines key =
+-- the words for a point with this tag, and the size of its field in bytes
+abbrev pub tag_words : ℕ → Tag → List ℕ
+tag_words size Identity = codes "identity"
+tag_words size CompressedEvenY = codes "compressed even " ++ decimal size
+tag_words size CompressedOddY = codes "compressed odd " ++ decimal size
+tag_words size Uncompressed = codes "uncompressed " ++ decimal size
+tag_words size Compact = codes "compact " ++ decimal size
+tag_words size HybridEvenY = codes "hybrid even " ++ decimal size
+tag_words size HybridOddY = codes "hybrid odd " ++ decimal size
+
+-- the words for the point that these bytes encode at this size
+pub record IsPointText (size : ℕ) (bytes text : List ℕ) : Type 0 where
+  pub point : Point
+  pub fits : IsPoint size point
+  pub encoded : bytes ≡ enc size point
+  pub words : text ≡ tag_words size (tag_of point)
+
+-- the words for the point that these bytes encode at the first of these sizes at which they encode any, else `none`
+abbrev pub IsFirstPointText : List ℕ → List ℕ → List ℕ → Type 0
+IsFirstPointText [] bytes text = text ≡ codes "none"
+IsFirstPointText (size ∷ sizes) bytes text =
+    IsPointText size bytes text ⊎ ((IsEncoding size bytes → ⊥) × IsFirstPointText sizes bytes text)
+
+-- the words for the point that the public key is, where there is one
+abbrev pub IsPublicPointText : Option (List ℕ) → List ℕ → Type 0
+IsPublicPointText None text = text ≡ codes "none"
+IsPublicPointText (Some bytes) text = IsFirstPointText (28 ∷ 32 ∷ 48 ∷ 66 ∷ []) bytes text
+
+-- a line for each part of a key, and one for its point
+abbrev pub key_lines : Key → List ℕ → List ℕ
+key_lines key point =
     (codes "private_key: " ++ (decimal (length key.private_key) ++ codes " bytes\n"))
     ++ ((codes "parameters: " ++ (parameters_words key.parameters ++ codes "\n"))
-    ++ (codes "public_key: " ++ (public_key_words key.public_key ++ codes "\n")))
+    ++ ((codes "public_key: " ++ (public_key_words key.public_key ++ codes "\n"))
+    ++ (codes "point: " ++ (point ++ codes "\n"))))
 
 -- the report on a key
 pub record IsKeyReport (key : Key) (text : List ℕ) (status : ℕ) : Type 0 where
-  pub lines : text ≡ key_lines key
+  pub point : List ℕ
+  pub point_text : IsPublicPointText key.public_key point
+  pub lines : text ≡ key_lines key point
   pub accepted : status ≡ 0
 
--- the report on what is refused for this reason
-pub record IsRefusal (reason text : List ℕ) (status : ℕ) : Type 0 where
-  pub line : text ≡ codes "refused: " ++ (reason ++ codes "\n")
+-- a tree of at most 64 levels has these bytes
+pub record HasTree (bytes : List ℕ) (tree : Tree) : Type 0 where
+  pub whole : IsTreeOf tree bytes
+  pub shallow : depth tree ≤ 64
+
+-- how many elements the tree with these bytes has, else `no`
+abbrev pub IsTreeText : List ℕ → List ℕ → Type 0
+IsTreeText bytes text =
+    ((tree : Tree) × HasTree bytes tree × (text ≡ decimal (size tree) ++ codes " elements"))
+    ⊎ (((tree : Tree) → ¬ (HasTree bytes tree)) × (text ≡ codes "no"))
+
+-- the report on what is refused for this reason, with these words for its tree
+pub record IsRefusal (reason tree text : List ℕ) (status : ℕ) : Type 0 where
+  pub lines : text ≡ (codes "refused: " ++ (reason ++ codes "\n")) ++ (codes "tree: " ++ (tree ++ codes "\n"))
   pub refused : status ≡ 1
+
+-- the report on bytes that are no key's
+pub record IsNoKeyReport (bytes text : List ℕ) (status : ℕ) : Type 0 where
+  pub tree : List ℕ
+  pub tree_text : IsTreeText bytes tree
+  pub refusal : IsRefusal (codes "not an EC private key in DER") tree text status
 
 -- the report on bytes: on the key that has them, else a refusal
 abbrev pub IsReportOnBytes : List ℕ → List ℕ → ℕ → Type 0
 IsReportOnBytes bytes text status =
     ((key : Key) × IsKeyOf key bytes × IsKeyReport key text status)
-    ⊎ (((key : Key) → ¬ (IsKeyOf key bytes)) × IsRefusal (codes "not an EC private key in DER") text status)
+    ⊎ (((key : Key) → ¬ (IsKeyOf key bytes)) × IsNoKeyReport bytes text status)
 
 -- the report on digits: on the bytes that they spell, else a refusal
 abbrev pub IsReportOnDigits : List ℕ → List ℕ → ℕ → Type 0
 IsReportOnDigits digits text status =
-    MatchResult (decode_of digits) (λ bytes. IsReportOnBytes bytes text status) (λ _. IsRefusal (codes "not hexadecimal") text status)
+    MatchResult (decode_of digits)
+    (λ bytes. IsReportOnBytes bytes text status)
+    (λ _. IsRefusal (codes "not hexadecimal") (codes "no") text status)
 
--- the report on an input: a refusal where it is too long, else on its digits
+-- the report on an input: a refusal where it is too long, else this report on it
+abbrev pub IsReportUnlessLong : (List ℕ → List ℕ → ℕ → Type 0) → List ℕ → List ℕ → ℕ → Type 0
+IsReportUnlessLong IsReportOn input text status =
+    ((limit < length input) × IsRefusal (codes "input too long") (codes "no") text status)
+    ⊎ ((length input ≤ limit) × IsReportOn input text status)
+
+-- the report on an input in hexadecimal
 abbrev pub IsReport : List ℕ → List ℕ → ℕ → Type 0
-IsReport input text status =
-    ((limit < length input) × IsRefusal (codes "input too long") text status)
-    ⊎ ((length input ≤ limit) × IsReportOnDigits (stripped input) text status)
+IsReport input text status = IsReportUnlessLong (λ bytes. IsReportOnDigits (stripped bytes)) input text status
+
+-- the report on an input in DER
+abbrev pub IsDerReport : List ℕ → List ℕ → ℕ → Type 0
+IsDerReport input text status = IsReportUnlessLong IsReportOnBytes input text status

@@ -1,9 +1,11 @@
 //! The report on an input: its lines, and the status that the program ends with.
-ghost use Rattle.std.specs.Prelude.{◌≡◌, IfOk, string_bytes};
-ghost use Rattle.sec1_inspect.specs.Report.{IsKeyReport, IsRefusal, IsReport, IsReportOnBytes, parameters_words, public_key_words, stripped};
+ghost use Rattle.std.specs.Prelude.{◌≡◌, IfOk, IfSome, IfNone, string_bytes};
+ghost use Rattle.sec1.specs.Point.{Fits, IsEncoding};
+ghost use Rattle.sec1_inspect.specs.Report.{IsDerReport, IsKeyReport, IsNoKeyReport, IsPointText, IsPublicPointText, IsRefusal, IsReport, IsReportOnBytes, IsTreeText, parameters_words, public_key_words, stripped, tag_words};
 
 use hex::{FromHexError, ToHex};
-use sec1::{EcParameters, EcPrivateKey};
+use sec1::point::{EncodedPoint, Tag};
+use sec1::{EcParameters, EcPrivateKey, der};
 use std::alloc::{AllocError, Global};
 
 /// The most bytes that an input may have.
@@ -19,18 +21,28 @@ pub struct Report {
 }
 
 /// The report on an input in hexadecimal. Only want of memory is refused.
-pub fn report_on(alloc: Global, input: &[u8]) -> Result<Report, AllocError>
+pub fn report_on_text(alloc: Global, input: &[u8]) -> Result<Report, AllocError>
     ensures { IfOk result (λ report. IsReport input.now (string_bytes report.text) report.status) }
 {
     if input.len() > LIMIT {
-        return refusal(alloc, "input too long");
+        return refusal(alloc, "input too long", "no");
     }
     let digits = without_blanks(alloc, input)?;
     match hex::decode(alloc, digits.as_slice()) {
         Ok(bytes) => report_on_bytes(alloc, &bytes),
         Err(FromHexError::OutOfMemory) => Err(AllocError),
-        Err(_) => refusal(alloc, "not hexadecimal"),
+        Err(_) => refusal(alloc, "not hexadecimal", "no"),
     }
+}
+
+/// The report on an input in DER. Only want of memory is refused.
+pub fn report_on_der(alloc: Global, input: &[u8]) -> Result<Report, AllocError>
+    ensures { IfOk result (λ report. IsDerReport input.now (string_bytes report.text) report.status) }
+{
+    if input.len() > LIMIT {
+        return refusal(alloc, "input too long", "no");
+    }
+    report_on_bytes(alloc, input)
 }
 
 /// The input without its spaces, tabs and ends of lines.
@@ -50,15 +62,34 @@ fn report_on_bytes(alloc: Global, bytes: &[u8]) -> Result<Report, AllocError>
 {
     match EcPrivateKey::try_from(bytes) {
         Ok(key) => key_report(alloc, &key),
-        Err(_) => refusal(alloc, "not an EC private key in DER"),
+        Err(_) => no_key_report(alloc, bytes),
     }
 }
 
-/// The report on what is refused for this reason.
-fn refusal(alloc: Global, reason: &str) -> Result<Report, AllocError>
-    ensures { IfOk result (λ report. IsRefusal reason.now (string_bytes report.text) report.status) }
+/// The report on bytes that are no key's.
+fn no_key_report(alloc: Global, bytes: &[u8]) -> Result<Report, AllocError>
+    ensures { IfOk result (λ report. IsNoKeyReport bytes.now (string_bytes report.text) report.status) }
 {
-    let text = format!(in alloc; "refused: {reason}\n")?;
+    let tree = tree_text(alloc, bytes)?;
+    refusal(alloc, "not an EC private key in DER", tree.as_str())
+}
+
+/// How many elements the tree with these bytes has, or `no`.
+fn tree_text(alloc: Global, bytes: &[u8]) -> Result<String, AllocError>
+    ensures { IfOk result (λ text. IsTreeText bytes.now (string_bytes text)) }
+{
+    match der::check_tree(bytes) {
+        Ok(count) => format!(in alloc; "{count} elements"),
+        Err(_) => "no".to_string(alloc),
+    }
+}
+
+/// The report on what is refused for this reason, with these words for its tree.
+fn refusal(alloc: Global, reason: &str, tree: &str) -> Result<Report, AllocError>
+    ensures { IfOk result
+        (λ report. IsRefusal reason.now tree.now (string_bytes report.text) report.status) }
+{
+    let text = format!(in alloc; "refused: {reason}\ntree: {tree}\n")?;
     Ok(Report { text, status: 1 })
 }
 
@@ -69,8 +100,9 @@ fn key_report(alloc: Global, key: &EcPrivateKey) -> Result<Report, AllocError>
     let count = key.private_key.len();
     let parameters = parameters_text(alloc, key)?;
     let public_key = public_key_text(alloc, key)?;
+    let point = point_text(alloc, key)?;
     let text = format!(in alloc;
-        "private_key: {count} bytes\nparameters: {parameters}\npublic_key: {public_key}\n"
+        "private_key: {count} bytes\nparameters: {parameters}\npublic_key: {public_key}\npoint: {point}\n"
     )?;
     Ok(Report { text, status: 0 })
 }
@@ -93,5 +125,58 @@ fn public_key_text(alloc: Global, key: &EcPrivateKey) -> Result<String, AllocErr
         Some([]) => "empty".to_string(alloc),
         Some(bytes) => bytes.encode_hex_upper(alloc),
         None => "none".to_string(alloc),
+    }
+}
+
+/// The words for the point that the public key is at the first size that accepts it, or `none`.
+fn point_text(alloc: Global, key: &EcPrivateKey) -> Result<String, AllocError>
+    ensures { IfOk result (λ text. IsPublicPointText key.now.public_key (string_bytes text)) }
+{
+    let Some(bytes) = key.public_key else {
+        return "none".to_string(alloc);
+    };
+    if let Some(text) = point_text_at::<28, 57>(alloc, bytes)? {
+        return Ok(text);
+    }
+    if let Some(text) = point_text_at::<32, 65>(alloc, bytes)? {
+        return Ok(text);
+    }
+    if let Some(text) = point_text_at::<48, 97>(alloc, bytes)? {
+        return Ok(text);
+    }
+    if let Some(text) = point_text_at::<66, 133>(alloc, bytes)? {
+        return Ok(text);
+    }
+    "none".to_string(alloc)
+}
+
+/// The words for the point that the bytes encode at this size.
+fn point_text_at<const N: usize, const L: usize>(
+    alloc: Global,
+    bytes: &[u8],
+) -> Result<Option<String>, AllocError>
+    requires { Fits N L }
+    ensures some { IfOk result
+        (λ found. IfSome found (λ text. IsPointText N bytes.now (string_bytes text))) }
+    ensures none { IfOk result (λ found. IfNone found (IsEncoding N bytes.now → ⊥)) }
+{
+    match EncodedPoint::<N, L>::from_bytes(bytes) {
+        Ok(point) => Ok(Some(tag_text(alloc, point.tag(), N)?)),
+        Err(_) => Ok(None),
+    }
+}
+
+/// The words for a point with this tag, at this size.
+fn tag_text(alloc: Global, tag: Tag, size: usize) -> Result<String, AllocError>
+    ensures { IfOk result (λ text. string_bytes text ≡ tag_words size tag) }
+{
+    match tag {
+        Tag::Identity => "identity".to_string(alloc),
+        Tag::CompressedEvenY => format!(in alloc; "compressed even {size}"),
+        Tag::CompressedOddY => format!(in alloc; "compressed odd {size}"),
+        Tag::Uncompressed => format!(in alloc; "uncompressed {size}"),
+        Tag::Compact => format!(in alloc; "compact {size}"),
+        Tag::HybridEvenY => format!(in alloc; "hybrid even {size}"),
+        Tag::HybridOddY => format!(in alloc; "hybrid odd {size}"),
     }
 }

@@ -1,69 +1,100 @@
 //! Runs whose answers are known, and runs over readers and writers that fail.
 use crate::report::LIMIT;
-use crate::{Fault, run};
+use crate::{Fault, run, run_der};
 use sec1::der::{StdReader, StdWriter};
 use std::alloc::Global;
 use std::io;
 use std::test::Fail;
 
+/// A key on P-256, in hexadecimal.
+static KEY: &str =
+    "3077020101042069624171561A63340DE0E7D869F2A05492558E1A04868B6A9F854A866788188DA00A06082A8648CE3D030107A144034200041CACFFB55F2F2CEFD89D89EB374B2681152452802DEEA09916068137D839CF7FC481A44492304D7EF66AC117BEFE83A8D08F155F2B52F9F618DD447029048E0F";
+
+/// The report on that key.
+static KEY_REPORT: &str =
+    "private_key: 32 bytes\nparameters: 1.2.840.10045.3.1.7\npublic_key: 041CACFFB55F2F2CEFD89D89EB374B2681152452802DEEA09916068137D839CF7FC481A44492304D7EF66AC117BEFE83A8D08F155F2B52F9F618DD447029048E0F\npoint: uncompressed 32\n";
+
 /// Keys: the input and the lines.
-static KEYS: [(&str, &str); 7] = [
-    // a key on P-256
-    (
-        "3077 020101 0420 69624171561A63340DE0E7D869F2A05492558E1A04868B6A9F854A866788188D A00A 06082A8648CE3D030107 A144 034200 041CACFFB55F2F2CEFD89D89EB374B2681152452802DEEA09916068137D839CF7FC481A44492304D7EF66AC117BEFE83A8D08F155F2B52F9F618DD447029048E0F",
-        "private_key: 32 bytes\nparameters: 1.2.840.10045.3.1.7\npublic_key: 041CACFFB55F2F2CEFD89D89EB374B2681152452802DEEA09916068137D839CF7FC481A44492304D7EF66AC117BEFE83A8D08F155F2B52F9F618DD447029048E0F\n",
-    ),
+static KEYS: [(&str, &str); 11] = [
     // neither a curve nor a public key
     (
         "30 05 02 01 01 04 00",
-        "private_key: 0 bytes\nparameters: none\npublic_key: none\n",
+        "private_key: 0 bytes\nparameters: none\npublic_key: none\npoint: none\n",
     ),
     // blanks between any two digits, letters of both cases
     (
         " 3\t0 0\r\n9 020101 04 04 aB\nCd 0 1 2 3\n",
-        "private_key: 4 bytes\nparameters: none\npublic_key: none\n",
+        "private_key: 4 bytes\nparameters: none\npublic_key: none\npoint: none\n",
     ),
     // a public key that is there and empty
     (
         "300A 020101 0400 A103 030100",
-        "private_key: 0 bytes\nparameters: none\npublic_key: empty\n",
+        "private_key: 0 bytes\nparameters: none\npublic_key: empty\npoint: none\n",
     ),
     // a public key of one byte
     (
         "300B 020101 0400 A104 03020000",
-        "private_key: 0 bytes\nparameters: none\npublic_key: 00\n",
+        "private_key: 0 bytes\nparameters: none\npublic_key: 00\npoint: identity\n",
     ),
     // a private key of one byte
     (
         "3006 020101 040107",
-        "private_key: 1 bytes\nparameters: none\npublic_key: none\n",
+        "private_key: 1 bytes\nparameters: none\npublic_key: none\npoint: none\n",
     ),
     // a second arc above 39
     (
         "300B 020101 0400 A004 06028837",
-        "private_key: 0 bytes\nparameters: 2.999\npublic_key: none\n",
+        "private_key: 0 bytes\nparameters: 2.999\npublic_key: none\npoint: none\n",
+    ),
+    // a compressed point on a curve of 48 bytes
+    (
+        "303B 020101 0400 A134 0332 0003111111111111111111111111111111111111111111111111111111111111111111111111111111111111111111111111",
+        "private_key: 0 bytes\nparameters: none\npublic_key: 03111111111111111111111111111111111111111111111111111111111111111111111111111111111111111111111111\npoint: compressed odd 48\n",
+    ),
+    // a hybrid point: y is even
+    (
+        "304B 020101 0400 A144 0342 000611111111111111111111111111111111111111111111111111111111111111112222222222222222222222222222222222222222222222222222222222222222",
+        "private_key: 0 bytes\nparameters: none\npublic_key: 0611111111111111111111111111111111111111111111111111111111111111112222222222222222222222222222222222222222222222222222222222222222\npoint: hybrid even 32\n",
+    ),
+    // no point: y isn't odd
+    (
+        "304B 020101 0400 A144 0342 000711111111111111111111111111111111111111111111111111111111111111112222222222222222222222222222222222222222222222222222222222222222",
+        "private_key: 0 bytes\nparameters: none\npublic_key: 0711111111111111111111111111111111111111111111111111111111111111112222222222222222222222222222222222222222222222222222222222222222\npoint: none\n",
+    ),
+    // a compact point
+    (
+        "302B 020101 0400 A124 0322 00051111111111111111111111111111111111111111111111111111111111111111",
+        "private_key: 0 bytes\nparameters: none\npublic_key: 051111111111111111111111111111111111111111111111111111111111111111\npoint: compact 32\n",
+    ),
+    // a compressed point on a curve of 28 bytes
+    (
+        "3027 020101 0400 A120 031E 000211111111111111111111111111111111111111111111111111111111",
+        "private_key: 0 bytes\nparameters: none\npublic_key: 0211111111111111111111111111111111111111111111111111111111\npoint: compressed even 28\n",
     ),
 ];
 
-/// What is refused: the input and the line.
+/// What is refused: the input and the lines.
 static REFUSALS: [(&str, &str); 6] = [
     // an odd count of digits
-    ("300", "refused: not hexadecimal\n"),
+    ("300", "refused: not hexadecimal\ntree: no\n"),
     // a letter that is no digit
-    ("30 0g", "refused: not hexadecimal\n"),
+    ("30 0g", "refused: not hexadecimal\ntree: no\n"),
     // a form feed is no blank
-    ("30\x0C05020101 0400", "refused: not hexadecimal\n"),
+    (
+        "30\x0C05020101 0400",
+        "refused: not hexadecimal\ntree: no\n",
+    ),
     // no bytes
-    ("", "refused: not an EC private key in DER\n"),
+    ("", "refused: not an EC private key in DER\ntree: no\n"),
     // a length in the long form below 128
     (
         "30 81 05 02 01 01 04 00",
-        "refused: not an EC private key in DER\n",
+        "refused: not an EC private key in DER\ntree: no\n",
     ),
     // a curve that stands twice
     (
         "3011 020101 0400 A004 06022A03 A004 06022A03",
-        "refused: not an EC private key in DER\n",
+        "refused: not an EC private key in DER\ntree: 7 elements\n",
     ),
 ];
 
@@ -72,6 +103,36 @@ fn outcome(alloc: Global, input: &[u8]) -> (Result<u8, Fault>, Vec<u8>) {
     let mut writer = StdWriter::new(Vec::new(alloc));
     let result = run(alloc, &mut StdReader::new(input), &mut writer);
     (result, writer.into_inner())
+}
+
+/// What a run over the input in DER answers, and what it writes.
+fn der_outcome(alloc: Global, input: &[u8]) -> (Result<u8, Fault>, Vec<u8>) {
+    let mut writer = StdWriter::new(Vec::new(alloc));
+    let result = run_der(alloc, &mut StdReader::new(input), &mut writer);
+    (result, writer.into_inner())
+}
+
+#[test]
+fn reports_on_a_key(rt: HostRuntime) -> Result<(), Fail> {
+    let bytes = hex::decode(rt.alloc(), KEY)?;
+    for (result, text) in [
+        outcome(rt.alloc(), KEY.as_bytes()),
+        der_outcome(rt.alloc(), &bytes),
+    ] {
+        assert_eq!(rt; result, Ok(0));
+        assert_eq!(rt; text.as_slice(), KEY_REPORT.as_bytes());
+    }
+    Ok(())
+}
+
+#[test]
+fn refuses_hexadecimal_as_der(rt: HostRuntime) {
+    let (result, text) = der_outcome(rt.alloc(), KEY.as_bytes());
+    assert_eq!(rt; result, Ok(1));
+    assert_eq!(rt;
+        text.as_slice(),
+        b"refused: not an EC private key in DER\ntree: no\n".as_slice()
+    );
 }
 
 #[test]
@@ -85,23 +146,23 @@ fn reports_on_keys(rt: HostRuntime) {
 
 #[test]
 fn reports_refusals(rt: HostRuntime) {
-    for &(input, line) in REFUSALS.iter() {
+    for &(input, lines) in REFUSALS.iter() {
         let (result, text) = outcome(rt.alloc(), input.as_bytes());
         assert_eq!(rt; result, Ok(1), "on {input}");
-        assert_eq!(rt; text.as_slice(), line.as_bytes(), "on {input}");
+        assert_eq!(rt; text.as_slice(), lines.as_bytes(), "on {input}");
     }
 }
 
 #[test]
 fn refuses_long_inputs(rt: HostRuntime) -> Result<(), Fail> {
-    for (count, line) in [
-        (LIMIT, "refused: not an EC private key in DER\n"),
-        (LIMIT + 1, "refused: input too long\n"),
+    for (count, lines) in [
+        (LIMIT, "refused: not an EC private key in DER\ntree: no\n"),
+        (LIMIT + 1, "refused: input too long\ntree: no\n"),
     ] {
         let input = vec![in rt.alloc(); b' '; count]?;
         let (result, text) = outcome(rt.alloc(), &input);
         assert_eq!(rt; result, Ok(1), "on {count} bytes");
-        assert_eq!(rt; text.as_slice(), line.as_bytes(), "on {count} bytes");
+        assert_eq!(rt; text.as_slice(), lines.as_bytes(), "on {count} bytes");
     }
     Ok(())
 }
@@ -210,27 +271,34 @@ fn hoard(alloc: Global) -> Result<Vec<Vec<u8>>, Fail> {
     Ok(blocks)
 }
 
-/// What a run over a key answers, with room for the report set aside, and whether it wrote.
-fn outcome_in_room(alloc: Global) -> (Result<u8, Fault>, bool) {
+/// What a run over a key answers where memory may be short, and whether it wrote.
+fn outcome_in_room(alloc: Global, is_der: bool) -> (Result<u8, Fault>, bool) {
     let mut room = [0u8; 100];
     let mut writer = StdWriter::new(room.as_mut_slice());
-    let mut reader = StdReader::new(b"30050201010400".as_slice());
-    let result = run(alloc, &mut reader, &mut writer);
+    let result = if is_der {
+        let der = [0x30, 5, 2, 1, 1, 4, 0];
+        run_der(alloc, &mut StdReader::new(der.as_slice()), &mut writer)
+    } else {
+        let text = b"30050201010400";
+        run(alloc, &mut StdReader::new(text.as_slice()), &mut writer)
+    };
     (result, room != [0u8; 100])
 }
 
 #[test]
 fn tells_want_of_memory(rt: HostRuntime) -> Result<(), Fail> {
-    let blocks = hoard(rt.alloc())?;
-    let mut refused = 0u32;
-    for _block in blocks.into_iter().rev() {
-        let last = outcome_in_room(rt.alloc());
-        if last != (Err(Fault::Memory), false) {
-            break;
+    let want = (Err(Fault::Memory), false);
+    for is_der in [false, true] {
+        let blocks = hoard(rt.alloc())?;
+        let mut last = outcome_in_room(rt.alloc(), is_der);
+        assert_eq!(rt; last, want);
+        for _block in blocks.into_iter().rev() {
+            if last != want {
+                break;
+            }
+            last = outcome_in_room(rt.alloc(), is_der);
         }
-        refused = refused.saturating_add(1);
+        assert_eq!(rt; last, (Ok(0), true));
     }
-    assert!(rt; refused > 0);
-    assert_eq!(rt; outcome_in_room(rt.alloc()), (Ok(0), true));
     Ok(())
 }

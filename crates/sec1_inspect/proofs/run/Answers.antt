@@ -1,5 +1,5 @@
 use Rattle.std.proofs.Common.{rules, string_bytes}
-use Rattle.sec1_inspect.specs.Report.{IsReport}
+use Rattle.sec1_inspect.specs.Report.{IsReport, IsReportOnDigits, stripped}
 use Rattle.sec1_inspect.proofs.Reports.{report_on_input}
 use Rattle.sec1_inspect.proofs.run.Goals as goal
 
@@ -11,5 +11,5 @@ returns-clause-beginning g c failed =
       text = string_bytes report.text;
       status = report.status;
       appended = search (rules, c.write_report.ensures.beginning);
-      report = report_on_input _ _ _ _ _ c.in_ok-input.ensures.read on_taken;
+      report = report_on_input (λ bytes. IsReportOnDigits (stripped bytes)) _ _ _ _ _ c.in_ok-input.ensures.read on_taken;
     }

@@ -2,7 +2,7 @@ use Rattle.std.proofs.Common.{◌≡◌, Ok, inr}
 use Rattle.std.proofs.lemmas.Result.{IfOk-weaker}
 use Rattle.hex.specs.Hex.{decode_of}
 use Rattle.sec1_inspect.specs.Report.{stripped}
-use Rattle.sec1_inspect.proofs.report.report_on.Goals as goal
+use Rattle.sec1_inspect.proofs.report.report_on_text.Goals as goal
 
 pub returns-in-Ok : goal.returns-in-Ok
 returns-in-Ok c =
