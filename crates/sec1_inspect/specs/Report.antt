@@ -4,10 +4,10 @@ use Rattle.std.specs.Fmt.{decimal}
 use Rattle.hex.specs.Hex.{decode_of, encode_upper}
 use Rattle.sec1.specs.Keys.{Key, IsKeyOf}
 use Rattle.sec1.specs.Der.{dotted, Tree, IsTreeOf, depth, size}
-use Rattle.sec1.specs.Point.{Point, IsPoint, IsEncoding, enc}
+use Rattle.sec1.specs.Points.{Point, IsPoint, IsEncoding, enc}
 use Rattle.sec1.specs.Tags.{tag_of}
-use Rattle.sec1.specs.declared.point.Tag.{Tag}
-use Rattle.sec1.specs.declared.point.Tag.TheVariants.{Identity, CompressedEvenY, CompressedOddY, Uncompressed, Compact, HybridEvenY, HybridOddY}
+use Rattle.sec1.specs.declared.point.tag.Tag.{Tag}
+use Rattle.sec1.specs.declared.point.tag.Tag.TheVariants.{Identity, CompressedEvenY, CompressedOddY, Uncompressed, Compact, HybridEvenY, HybridOddY}
 
 -- the most bytes that an input may have
 abbrev pub limit : ℕ
