@@ -1,5 +1,5 @@
 -- X.690: an element is a tag byte, a length and a content.
-use Rattle.std.specs.Prelude.{◌≡◌, ◌≢◌, ℕ, ◌+◌, ◌%◌, ◌<◌, ◌≤◌, List, [], ◌∷◌, ◌++◌, length, nat_lt, if◌then◌else◌}
+use Rattle.std.specs.Prelude.{◌≡◌, ◌≢◌, ℕ, ◌+◌, ◌%◌, ◌<◌, ◌≤◌, List, [], ◌∷◌, ◌++◌, length, nat_lt, nat_le, Option, Some, None, ⊤, if◌then◌else◌}
 use Rattle.std.specs.Int.{IsBitSet}
 use Rattle.std.specs.Int.Digits.{digits_of}
 
@@ -46,3 +46,19 @@ pub record IsProperBeginning (bytes whole : List ℕ) : Type 0 where
   pub more : List ℕ
   pub some : more ≢ []
   pub split : whole ≡ bytes ++ more
+
+-- there is no content, or one that no element can hold
+abbrev pub IsOverlong : Option (List ℕ) → Type 0
+IsOverlong None = ⊤
+IsOverlong (Some content) = max_length < length content
+
+-- the element with this tag around a content, where there is one that an element can hold
+abbrev pub element_of : ℕ → Option (List ℕ) → Option (List ℕ)
+element_of tag None = None
+element_of tag (Some content) = if nat_le (length content) max_length then Some (element tag content) else None
+
+-- X.690 section 8.14: the bytes of an explicit field [number] around the element with this tag; no bytes where
+-- no value is there
+abbrev pub field_of : ℕ → ℕ → Option (Option (List ℕ)) → Option (List ℕ)
+field_of number tag None = Some []
+field_of number tag (Some content) = element_of (0xA0 + number) (element_of tag content)

@@ -12,3 +12,6 @@ pub mod Contents
 pub mod Values
 pub mod Faults
 pub mod Readers
+pub mod SliceWriters
+pub mod BackWriters
+pub mod WriterLaws

@@ -1,5 +1,6 @@
 ghost use Rattle.std.specs.Prelude.{◌≡◌};
 
+use std::alloc::AllocError;
 use std::fmt;
 
 /// Why a call of this crate refused.
@@ -70,6 +71,17 @@ impl From<ErrorKind> for Error {
 
     fn from(kind: ErrorKind) -> Error {
         Error { kind }
+    }
+}
+
+/// Want of memory.
+impl From<AllocError> for Error {
+    ghost use Rattle.sec1_der.specs.declared.error.ErrorKind.TheVariants.{Memory};
+
+    ghost from_gives = { λ _ e. e ≡ record { kind = Memory } };
+
+    fn from(_: AllocError) -> Error {
+        ErrorKind::Memory.into()
     }
 }
 

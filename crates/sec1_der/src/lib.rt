@@ -3,6 +3,7 @@
 #![tactic(auto)]
 
 mod any;
+mod back_writer;
 mod bit_string;
 mod codec;
 mod error;
@@ -12,19 +13,22 @@ mod length;
 mod object_identifier;
 mod octet_string;
 mod reader;
+mod slice_writer;
 mod tag;
 mod value;
 mod version;
 
 pub use any::AnyRef;
+pub use back_writer::BackWriter;
 pub use bit_string::BitStringRef;
-pub use codec::from_der;
+pub use codec::{context_specific_len, encode_to_slice, encoded_len, from_der, to_der};
 pub use error::{Error, ErrorKind, Result};
 pub use header::Header;
 pub use length::Length;
 pub use object_identifier::{ID_EC_PUBLIC_KEY, ObjectIdentifier};
 pub use octet_string::OctetStringRef;
 pub use reader::SliceReader;
+pub use slice_writer::SliceWriter;
 pub use tag::Tag;
-pub use value::{DecodeValue, FixedTag, ValueContent};
+pub use value::{DecodeValue, EncodeValue, FixedTag, Sequence, ValueContent};
 pub use version::VersionOne;
