@@ -1,7 +1,7 @@
 //! The calls that read a value of any type from its whole encoding, and write it.
-ghost use Rattle.std.specs.Prelude.{◌≡◌, ◌≢◌, ◌<◌, ◌≤◌, ◌+◌, [], ◌++◌, ℕ, List, length, drop, Option, Some, None, slice_get, IsOk, IfOk, IsOkAnd, IfErr, IsSomeAnd, MatchResult};
+ghost use Rattle.std.specs.Prelude.{◌≡◌, ◌≢◌, ◌<◌, ◌≤◌, ◌+◌, [], ◌++◌, ℕ, List, length, drop, Option, Some, None, slice_get, IsOk, IfOk, IsOkAnd, IfErr, OnOk, IsSomeAnd, MatchResult};
 ghost use Rattle.std.specs.Option.{option_map};
-ghost use Rattle.sec1_der.specs.Elements.{max_length, element, element_of, field_of, IsElementOf, IsProperBeginning};
+ghost use Rattle.sec1_der.specs.Elements.{max_length, element, element_of, field_of, IsTag, IsElementOf, IsProperBeginning};
 ghost use Rattle.sec1_der.specs.Faults.{Refuses, IsReadingFault};
 
 use crate::{
@@ -36,6 +36,7 @@ pub fn encoded_len<T: EncodeValue + FixedTag>(value: &T) -> Result<usize>
     ensures none { element_of T.number (T.content value.now) ≡ None → Refuses result ErrorKind.Overlength }
     ensures some { (bytes : List ℕ) → element_of T.number (T.content value.now) ≡ Some bytes → result ≡ Ok (length bytes) }
     ensures most { IfOk result (λ n. n ≤ max_length + 6) }
+    ensures tag { OnOk result (IsTag T.number) }
 {
     let header = element_header(value)?;
     Ok(header.encoded_len() + header.length.get())
@@ -88,6 +89,7 @@ pub fn to_der<T: EncodeValue + FixedTag>(alloc: Global, value: &T) -> Result<Vec
     ensures none { element_of T.number (T.content value.now) ≡ None → Refuses result ErrorKind.Overlength }
     ensures some { (bytes : List ℕ) → element_of T.number (T.content value.now) ≡ Some bytes
         → MatchResult result (λ der. der.items ≡ bytes) (λ e. e.kind ≡ ErrorKind.Memory) }
+    ensures tag { OnOk result (IsTag T.number) }
 {
     let total = encoded_len(value)?;
     let mut bytes = vec![in alloc; 0; total]?;
@@ -109,6 +111,7 @@ pub(crate) fn element_header<T: EncodeValue + FixedTag>(value: &T) -> Result<Hea
     ensures none { element_of T.number (T.content value.now) ≡ None → Refuses result ErrorKind.Overlength }
     ensures some { (content : List ℕ) → T.content value.now ≡ Some content → length content ≤ max_length
         → result ≡ Ok (record { tag = T.number; length = length content }) }
+    ensures tag { OnOk result (IsTag T.number) }
 {
     Ok(Header {
         tag: T::fixed_tag(),

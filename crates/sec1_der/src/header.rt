@@ -1,5 +1,5 @@
 ghost use Rattle.std.specs.Prelude.{◌≡◌, ℕ, ◌<◌, ◌≤◌, ◌^◌, length, take, List, ◌++◌, IfOk, IfErr, IsOkAnd, IsOk, IsErr, OnErr, false, true};
-ghost use Rattle.sec1_der.specs.Elements.{max_length, len, header, element, IsHeader, IsProperBeginning};
+ghost use Rattle.sec1_der.specs.Elements.{max_length, len, header, element, IsHeader, IsProperBeginning, LacksHeader};
 ghost use Rattle.sec1_der.specs.Faults.{length_fault, header_fault, Refuses, IsReadingFault};
 ghost use Rattle.sec1_der.specs.Numbers.{num};
 ghost use Rattle.sec1_der.specs.Readers.{before, refused, HasRead};
@@ -102,6 +102,7 @@ pub(crate) fn element_at(input: &[u8]) -> First<'_, Header>
         → IsOkAnd result (λ x. (x.0 ≡ record { tag = tag; length = length content }) × (x.1.now ≡ content ++ rest)) }
     ensures short { (tag : ℕ) (content : List ℕ) → IsHeader tag (length content) → IsProperBeginning input.now (element tag content)
         → result ≡ Err ErrorKind.Truncated }
+    ensures fault { LacksHeader input.now → result ≡ Err (header_fault input.now) }
 {
     let (header, inside) = match header_at(input) {
         Ok(found) => found,
