@@ -1,5 +1,5 @@
 -- X.690: an element is a tag byte, a length and a content.
-use Rattle.std.specs.Prelude.{◌≡◌, ◌≢◌, ℕ, ◌+◌, ◌%◌, ◌<◌, ◌≤◌, List, [], ◌∷◌, ◌++◌, length, nat_lt, if◌then◌else◌}
+use Rattle.std.specs.Prelude.{◌≡◌, ◌≢◌, ℕ, ◌+◌, ◌%◌, ◌<◌, ◌≤◌, List, [], ◌∷◌, ◌++◌, length, nat_lt, nat_le, Option, Some, None, ⊤, if◌then◌else◌}
 use Rattle.std.specs.Int.{IsBitSet}
 use Rattle.std.specs.Int.Digits.{digits_of}
 
@@ -41,8 +41,35 @@ pub record IsElementOf (tag : ℕ) (content bytes : List ℕ) : Type 0 where
   pub within : length content ≤ max_length
   pub spelled : bytes ≡ element tag content
 
+-- the bytes are those of an element, and no more
+pub record IsElement (bytes : List ℕ) : Type 0 where
+  pub tag : ℕ
+  pub content : List ℕ
+  pub allowed : IsHeader tag (length content)
+  pub spelled : bytes ≡ element tag content
+
+-- no header begins the bytes
+abbrev pub LacksHeader : List ℕ → Type 0
+LacksHeader bytes = (tag n : ℕ) (rest : List ℕ) → IsHeader tag n → bytes ≡ header tag n ++ rest → ⊥
+
 -- the bytes begin another list, which has more
 pub record IsProperBeginning (bytes whole : List ℕ) : Type 0 where
   pub more : List ℕ
   pub some : more ≢ []
   pub split : whole ≡ bytes ++ more
+
+-- there is no content, or one that no element can hold
+abbrev pub IsOverlong : Option (List ℕ) → Type 0
+IsOverlong None = ⊤
+IsOverlong (Some content) = max_length < length content
+
+-- the element with this tag around a content, where there is one that an element can hold
+abbrev pub element_of : ℕ → Option (List ℕ) → Option (List ℕ)
+element_of tag None = None
+element_of tag (Some content) = if nat_le (length content) max_length then Some (element tag content) else None
+
+-- X.690 section 8.14: the bytes of an explicit field [number] around the element with this tag; no bytes where
+-- no value is there
+abbrev pub field_of : ℕ → ℕ → Option (Option (List ℕ)) → Option (List ℕ)
+field_of number tag None = Some []
+field_of number tag (Some content) = element_of (0xA0 + number) (element_of tag content)

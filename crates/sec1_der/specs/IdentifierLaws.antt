@@ -1,11 +1,11 @@
 -- The test for the arcs of an identifier tells what it should, so an identifier has its content and a list that
 -- is no identifier's has none.
-use Rattle.std.specs.Prelude.{◌≡◌, ℕ, ◌+◌, ◌*◌, ◌^◌, ◌<◌, ◌≤◌, Bool, true, false, ◌&&◌, ◌||◌, nat_lt, nat_le, List, [], ◌∷◌, length, Option, Some, None, if◌then◌else◌, refl}
-use Rattle.std.proofs.Common.{arith, sym, ap, ◌∙◌}
-use Rattle.std.proofs.lemmas.Bool.{cases_lt, le-leb, lt-ltb, leb-true, ltb-true}
+use Rattle.std.specs.Prelude.{◌≡◌, ℕ, ◌+◌, ◌*◌, ◌^◌, ◌<◌, ◌≤◌, Bool, true, false, ◌&&◌, ◌||◌, nat_lt, nat_le, List, [], ◌∷◌, length, Some, None, if◌then◌else◌, refl}
+use Rattle.std.proofs.Common.{arith}
+use Rattle.std.proofs.lemmas.Bool.{le-leb, lt-ltb, leb-true, ltb-true}
 use Rattle.std.proofs.lemmas.Bool.Decides.{nat_tests}
 use Rattle.std.specs.List.{AllByRecursion, list_all}
-use Rattle.sec1_der.specs.Identifiers.{AreArcs, content_of, Spells, IsIdentifier, are_arcs, is_identifier, identifier_content}
+use Rattle.sec1_der.specs.Identifiers.{AreArcs, content_of, IsIdentifier, are_arcs, is_identifier, identifier_content}
 
 both : (a b : Bool) → (a && b) ≡ true → (a ≡ true) × (b ≡ true)
 both true b e = (refl, e)

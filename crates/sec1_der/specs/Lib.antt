@@ -13,5 +13,8 @@ pub mod Contents
 pub mod Values
 pub mod Faults
 pub mod Readers
+pub mod SliceWriters
+pub mod BackWriters
+pub mod WriterLaws
 pub mod Streams
 pub mod StdStreams

@@ -1,5 +1,8 @@
 use crate::header::element_at;
-use crate::{ErrorKind, Length, Result, SliceReader, Tag};
+use crate::{
+    BackWriter, EncodeValue, ErrorKind, Length, ObjectIdentifier, Result, SliceReader, SliceWriter,
+    Tag, ValueContent,
+};
 
 /// An element of any tag, whose content is lent unread.
 #[derive(Clone, Copy, PartialEq, Eq, Debug)]
@@ -68,5 +71,48 @@ impl<'a> AnyRef<'a> {
         ensures { result.now ≡ value_of self.now }
     {
         self.value
+    }
+}
+
+/// The element of an identifier, which lends its content.
+impl<'a> From<&'a ObjectIdentifier> for AnyRef<'a> {
+    ghost use Rattle.std.specs.Prelude.{◌≡◌};
+    ghost use Rattle.sec1_der.specs.Identifiers.{IsIdentifier};
+    ghost use Rattle.sec1_der.specs.Values.{tag_of, value_of};
+
+    ghost from_gives = { λ identifier any. (tag_of any ≡ 0x06) × IsIdentifier identifier.now (value_of any) };
+
+    fn from(identifier: &'a ObjectIdentifier) -> AnyRef<'a> {
+        AnyRef {
+            tag: Tag::OBJECT_IDENTIFIER,
+            value: identifier.as_bytes(),
+        }
+    }
+}
+
+impl ValueContent for AnyRef<'_> {
+    ghost use Rattle.std.specs.Prelude.{Some, ⊤};
+    ghost use Rattle.sec1_der.specs.Values.{value_of};
+
+    ghost content = { λ any. Some (value_of any) };
+
+    ghost is_content = { λ _. ⊤ };
+
+    ghost content_is_one = { λ _ _ _ _. tt };
+}
+
+impl EncodeValue for AnyRef<'_> {
+    fn value_len(&self) -> Result<Length> {
+        Length::new(self.value.len())
+    }
+
+    fn encode_value(&self, writer: &mut SliceWriter) -> Result<()> {
+        self.value_len()?;
+        writer.write(self.value)
+    }
+
+    fn encode_back(&self, writer: &mut BackWriter) -> Result<()> {
+        self.value_len()?;
+        writer.write(self.value)
     }
 }

@@ -1,7 +1,10 @@
 ghost use Rattle.std.specs.Prelude.{◌≡◌, ◌↔◌, IsTrue};
 ghost use Rattle.sec1_der.specs.Contents.{AreBits};
 
-use crate::{DecodeValue, ErrorKind, FixedTag, Length, Result, SliceReader, Tag, ValueContent};
+use crate::{
+    BackWriter, DecodeValue, EncodeValue, ErrorKind, FixedTag, Length, Result, SliceReader,
+    SliceWriter, Tag, ValueContent,
+};
 
 /// A BIT STRING, whose bytes are lent (X.690 section 8.6). Its content is the count of unused bits of the last
 /// byte, and the bytes.
@@ -121,5 +124,30 @@ impl<'a> DecodeValue<'a> for BitStringRef<'a> {
             return Err(reader.fail(ErrorKind::Value));
         }
         Ok(BitStringRef { unused, bytes })
+    }
+}
+
+impl EncodeValue for BitStringRef<'_> {
+    fn value_len(&self) -> Result<Length> {
+        if self.bytes.len() >= Length::MAX {
+            return Err(ErrorKind::Overlength.into());
+        }
+        Length::new(1 + self.bytes.len())
+    }
+
+    fn encode_value(&self, writer: &mut SliceWriter) -> Result<()> {
+        if writer.remaining() < self.value_len()?.get() {
+            return Err(ErrorKind::Buffer.into());
+        }
+        writer.write_byte(self.unused)?;
+        writer.write(self.bytes)
+    }
+
+    fn encode_back(&self, writer: &mut BackWriter) -> Result<()> {
+        if writer.remaining() < self.value_len()?.get() {
+            return Err(ErrorKind::Buffer.into());
+        }
+        writer.write(self.bytes)?;
+        writer.write(&[self.unused])
     }
 }

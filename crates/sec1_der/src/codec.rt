@@ -1,9 +1,14 @@
-//! The calls that read a value of any type from its whole encoding.
-ghost use Rattle.std.specs.Prelude.{◌≡◌, ◌≢◌, ◌≤◌, [], ℕ, List, length, Some, slice_get, IfOk, IsOkAnd, IfErr, IsSomeAnd};
-ghost use Rattle.sec1_der.specs.Elements.{max_length, element, IsElementOf, IsProperBeginning};
+//! The calls that read a value of any type from its whole encoding, and write it.
+ghost use Rattle.std.specs.Prelude.{◌≡◌, ◌≢◌, ◌<◌, ◌≤◌, ◌+◌, [], ◌++◌, ℕ, List, length, drop, Option, Some, None, slice_get, IsOk, IfOk, IsOkAnd, IfErr, OnOk, IsSomeAnd, MatchResult};
+ghost use Rattle.std.specs.Option.{option_map};
+ghost use Rattle.sec1_der.specs.Elements.{max_length, element, element_of, field_of, IsTag, IsElementOf, IsProperBeginning};
 ghost use Rattle.sec1_der.specs.Faults.{Refuses, IsReadingFault};
 
-use crate::{DecodeValue, ErrorKind, FixedTag, Result, SliceReader};
+use crate::{
+    BackWriter, DecodeValue, EncodeValue, ErrorKind, FixedTag, Header, Length, Result, SliceReader,
+    Tag,
+};
+use std::alloc::Global;
 
 /// Reads the value whose element is all of the input.
 ///
@@ -22,4 +27,107 @@ pub fn from_der<'a, T: DecodeValue<'a> + FixedTag + Drop>(input: &'a [u8]) -> Re
     ensures kinds { IfErr result (λ e. IsReadingFault e.kind) }
 {
     SliceReader::new(input).only_element()
+}
+
+/// The count of bytes of the value's element, header and content.
+///
+/// Refused as Overlength where the value has no content, or one that is longer than 268,435,455 bytes.
+pub fn encoded_len<T: EncodeValue + FixedTag>(value: &T) -> Result<usize>
+    ensures none { element_of T.number (T.content value.now) ≡ None → Refuses result ErrorKind.Overlength }
+    ensures some { (bytes : List ℕ) → element_of T.number (T.content value.now) ≡ Some bytes → result ≡ Ok (length bytes) }
+    ensures most { IfOk result (λ n. n ≤ max_length + 6) }
+    ensures tag { OnOk result (IsTag T.number) }
+{
+    let header = element_header(value)?;
+    Ok(header.encoded_len() + header.length.get())
+}
+
+/// The count of bytes of an explicit field `[number]` around the element of a value; 0 where there is no value.
+///
+/// Refused as Overlength where the value has no content, or where that or its element is longer than 268,435,455
+/// bytes.
+pub fn context_specific_len<T: EncodeValue + FixedTag>(
+    number: u8,
+    field: &Option<T>,
+) -> Result<usize>
+    requires { number ≤ 30 }
+    ensures none { field_of number T.number (option_map T.content field.now) ≡ None → Refuses result ErrorKind.Overlength }
+    ensures some { (bytes : List ℕ) → field_of number T.number (option_map T.content field.now) ≡ Some bytes → result ≡ Ok (length bytes) }
+    ensures most { IfOk result (λ n. n ≤ max_length + 6) }
+{
+    let Some(value) = field else {
+        return Ok(0);
+    };
+    let header = field_header(number, value)?;
+    Ok(header.encoded_len() + header.length.get())
+}
+
+/// Writes the value's element at the beginning of the slice, and answers how many bytes it has. The rest of the
+/// slice is unchanged.
+///
+/// Refused as [`encoded_len`] refuses, then as Buffer where the slice is too short. The whole slice is unchanged
+/// then.
+pub fn encode_to_slice<T: EncodeValue + FixedTag>(value: &T, buffer: &mut [u8]) -> Result<usize>
+    ensures none { element_of T.number (T.content value.now) ≡ None → Refuses result ErrorKind.Overlength × (buffer.new ≡ buffer.old) }
+    ensures fits { (bytes : List ℕ) → element_of T.number (T.content value.now) ≡ Some bytes → length bytes ≤ length buffer.old
+        → (result ≡ Ok (length bytes)) × (buffer.new ≡ bytes ++ drop (length bytes) buffer.old) }
+    ensures full { (bytes : List ℕ) → element_of T.number (T.content value.now) ≡ Some bytes → length buffer.old < length bytes
+        → Refuses result ErrorKind.Buffer × (buffer.new ≡ buffer.old) }
+{
+    let total = encoded_len(value)?;
+    if buffer.len() < total {
+        return Err(ErrorKind::Buffer.into());
+    }
+    fill(value, &mut buffer[..total])?;
+    Ok(total)
+}
+
+/// The value's element.
+///
+/// Refused as [`encoded_len`] refuses, then as Memory.
+pub fn to_der<T: EncodeValue + FixedTag>(alloc: Global, value: &T) -> Result<Vec<u8>>
+    ensures none { element_of T.number (T.content value.now) ≡ None → Refuses result ErrorKind.Overlength }
+    ensures some { (bytes : List ℕ) → element_of T.number (T.content value.now) ≡ Some bytes
+        → MatchResult result (λ der. der.items ≡ bytes) (λ e. e.kind ≡ ErrorKind.Memory) }
+    ensures tag { OnOk result (IsTag T.number) }
+{
+    let total = encoded_len(value)?;
+    let mut bytes = vec![in alloc; 0; total]?;
+    fill(value, &mut bytes)?;
+    Ok(bytes)
+}
+
+/// Writes the value's element over a slice of its length.
+fn fill<T: EncodeValue + FixedTag>(value: &T, buffer: &mut [u8]) -> Result<()>
+    ensures { (bytes : List ℕ) → element_of T.number (T.content value.now) ≡ Some bytes → length buffer.old ≡ length bytes
+        → IsOk result × (buffer.new ≡ bytes) }
+{
+    let mut writer = BackWriter::new(buffer);
+    writer.element(value)
+}
+
+/// The header of the value's element.
+pub(crate) fn element_header<T: EncodeValue + FixedTag>(value: &T) -> Result<Header>
+    ensures none { element_of T.number (T.content value.now) ≡ None → Refuses result ErrorKind.Overlength }
+    ensures some { (content : List ℕ) → T.content value.now ≡ Some content → length content ≤ max_length
+        → result ≡ Ok (record { tag = T.number; length = length content }) }
+    ensures tag { OnOk result (IsTag T.number) }
+{
+    Ok(Header {
+        tag: T::fixed_tag(),
+        length: value.value_len()?,
+    })
+}
+
+/// The header of an explicit field `[number]` around the value's element.
+pub(crate) fn field_header<T: EncodeValue + FixedTag>(number: u8, value: &T) -> Result<Header>
+    requires { number ≤ 30 }
+    ensures none { field_of number T.number (Some (T.content value.now)) ≡ None → Refuses result ErrorKind.Overlength }
+    ensures some { (inside : List ℕ) → element_of T.number (T.content value.now) ≡ Some inside → length inside ≤ max_length
+        → result ≡ Ok (record { tag = 0xA0 + number; length = length inside }) }
+{
+    Ok(Header {
+        tag: Tag::context(number),
+        length: Length::new(encoded_len(value)?)?,
+    })
 }

@@ -1,10 +1,11 @@
-ghost use Rattle.std.specs.Prelude.{◌≡◌, ℕ, ◌<◌, ◌≤◌, ◌^◌, length, List, ◌++◌, IfOk, IfErr, IsOkAnd, IsOk, IsErr, OnErr, false, true};
-ghost use Rattle.sec1_der.specs.Elements.{max_length, len, header, element, IsHeader, IsProperBeginning};
+ghost use Rattle.std.specs.Prelude.{◌≡◌, ℕ, ◌<◌, ◌≤◌, ◌^◌, length, take, List, ◌++◌, IfOk, IfErr, IsOkAnd, IsOk, IsErr, OnErr, false, true};
+ghost use Rattle.sec1_der.specs.Elements.{max_length, len, header, element, IsHeader, IsProperBeginning, LacksHeader};
 ghost use Rattle.sec1_der.specs.Faults.{length_fault, header_fault, Refuses, IsReadingFault};
 ghost use Rattle.sec1_der.specs.Numbers.{num};
 ghost use Rattle.sec1_der.specs.Readers.{before, refused, HasRead};
+ghost use Rattle.sec1_der.specs.SliceWriters.{room_of, KeepsSlice, AppendsNothing, Appends};
 
-use crate::{ErrorKind, Length, Result, SliceReader, Tag};
+use crate::{ErrorKind, Length, Result, SliceReader, SliceWriter, Tag};
 
 /// The least length that is spelled in the long form.
 const LONG_FORM: usize = 0x80;
@@ -47,6 +48,50 @@ impl Header {
             Err(kind) => Err(reader.fail(kind)),
         }
     }
+
+    /// The count of bytes of the header, from 2 to 6.
+    pub fn encoded_len(&self) -> usize
+        ensures value { result ≡ length (header self.now.tag self.now.length) }
+        ensures least { 2 ≤ result }
+        ensures most { result ≤ 6 }
+    {
+        self.octets().1
+    }
+
+    /// Appends the header. Refused as Buffer where it has no room.
+    pub fn encode(&self, writer: &mut SliceWriter) -> Result<()>
+        ensures slice { KeepsSlice writer.old writer.new }
+        ensures fits { length (header self.now.tag self.now.length) ≤ length (room_of writer.old)
+            → IsOk result × Appends writer.old writer.new (header self.now.tag self.now.length) }
+        ensures full { length (room_of writer.old) < length (header self.now.tag self.now.length)
+            → Refuses result ErrorKind.Buffer × AppendsNothing writer.old writer.new }
+    {
+        let (octets, count) = self.octets();
+        writer.write(&octets[..count])
+    }
+
+    /// The bytes of the header, with zeros behind them, and how many they are.
+    #[tactic(auto, using(crate::proofs::LengthLemmas::len_1, crate::proofs::LengthLemmas::len_2, crate::proofs::LengthLemmas::len_3, crate::proofs::LengthLemmas::len_4, crate::proofs::LengthLemmas::len_5))]
+    pub(crate) fn octets(&self) -> ([u8; 6], usize)
+        ensures bytes { take result.1 result.0 ≡ header self.now.tag self.now.length }
+        ensures count { result.1 ≡ length (header self.now.tag self.now.length) }
+        ensures least { 2 ≤ result.1 }
+        ensures most { result.1 ≤ 6 }
+    {
+        let tag = self.tag.byte();
+        let n = self.length.get();
+        let a = (n / 0x100_0000) as u8;
+        let b = (n / 0x1_0000 % 0x100) as u8;
+        let c = (n / 0x100 % 0x100) as u8;
+        let d = (n % 0x100) as u8;
+        match n {
+            0..=0x7F => ([tag, d, 0, 0, 0, 0], 2),
+            0x80..=0xFF => ([tag, 0x81, d, 0, 0, 0], 3),
+            0x100..=0xFFFF => ([tag, 0x82, c, d, 0, 0], 4),
+            0x1_0000..=0xFF_FFFF => ([tag, 0x83, b, c, d, 0], 5),
+            _ => ([tag, 0x84, a, b, c, d], 6),
+        }
+    }
 }
 
 /// The header of the element that the bytes begin with, and the bytes after the header, where the
@@ -60,6 +105,7 @@ pub(crate) fn element_at(input: &[u8]) -> First<'_, Header>
         → IsOkAnd result (λ x. (x.0 ≡ record { tag = tag; length = length content }) × (x.1.now ≡ content ++ rest)) }
     ensures short { (tag : ℕ) (content : List ℕ) → IsHeader tag (length content) → IsProperBeginning input.now (element tag content)
         → result ≡ Err ErrorKind.Truncated }
+    ensures fault { LacksHeader input.now → result ≡ Err (header_fault input.now) }
 {
     let (header, inside) = match header_at(input) {
         Ok(found) => found,

@@ -3,8 +3,10 @@
 #![tactic(auto)]
 
 mod any;
+mod back_writer;
 mod bit_string;
 mod codec;
+mod document;
 mod error;
 mod header;
 pub mod laws;
@@ -12,6 +14,7 @@ mod length;
 mod object_identifier;
 mod octet_string;
 mod reader;
+mod slice_writer;
 mod std_stream;
 mod stream;
 mod tag;
@@ -22,17 +25,20 @@ mod value;
 mod version;
 
 pub use any::AnyRef;
+pub use back_writer::BackWriter;
 pub use bit_string::BitStringRef;
-pub use codec::from_der;
+pub use codec::{context_specific_len, encode_to_slice, encoded_len, from_der, to_der};
+pub use document::SecretDocument;
 pub use error::{Error, ErrorKind, Result};
 pub use header::Header;
 pub use length::Length;
 pub use object_identifier::{ID_EC_PUBLIC_KEY, ObjectIdentifier};
 pub use octet_string::OctetStringRef;
 pub use reader::SliceReader;
+pub use slice_writer::SliceWriter;
 pub use std_stream::{StdReader, StdWriter};
 pub use stream::{IoFault, Read, Write, read_some, write_all};
 pub use tag::Tag;
 pub use tree::check_tree;
-pub use value::{DecodeValue, FixedTag, ValueContent};
+pub use value::{DecodeValue, EncodeValue, FixedTag, Sequence, ValueContent};
 pub use version::VersionOne;

@@ -4,7 +4,10 @@ ghost use Rattle.sec1_der.specs.Identifiers.{IsIdentifier, IsIdentifierContent, 
 
 mod builder;
 
-use crate::{DecodeValue, ErrorKind, FixedTag, Result, SliceReader, Tag, ValueContent};
+use crate::{
+    BackWriter, DecodeValue, EncodeValue, ErrorKind, FixedTag, Length, Result, SliceReader,
+    SliceWriter, Tag, ValueContent,
+};
 use builder::{Builder, arc};
 use std::fmt;
 use std::marker::Model;
@@ -200,5 +203,19 @@ impl<'a> DecodeValue<'a> for ObjectIdentifier {
             Ok(identifier) => Ok(identifier),
             Err(e) => Err(reader.fail(e.kind)),
         }
+    }
+}
+
+impl EncodeValue for ObjectIdentifier {
+    fn value_len(&self) -> Result<Length> {
+        Length::new(self.as_bytes().len())
+    }
+
+    fn encode_value(&self, writer: &mut SliceWriter) -> Result<()> {
+        writer.write(self.as_bytes())
+    }
+
+    fn encode_back(&self, writer: &mut BackWriter) -> Result<()> {
+        writer.write(self.as_bytes())
     }
 }

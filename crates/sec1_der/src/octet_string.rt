@@ -1,6 +1,9 @@
 ghost use Rattle.std.specs.Prelude.{◌≡◌};
 
-use crate::{DecodeValue, ErrorKind, FixedTag, Length, Result, SliceReader, Tag, ValueContent};
+use crate::{
+    BackWriter, DecodeValue, EncodeValue, ErrorKind, FixedTag, Length, Result, SliceReader,
+    SliceWriter, Tag, ValueContent,
+};
 
 /// An OCTET STRING, whose bytes are lent (X.690 section 8.7). Its content is its bytes.
 #[derive(Clone, Copy, PartialEq, Eq, Debug)]
@@ -58,5 +61,21 @@ impl<'a> DecodeValue<'a> for OctetStringRef<'a> {
     fn decode_value(reader: &mut SliceReader<'a>) -> Result<Self> {
         let bytes = reader.read_rest()?;
         Ok(OctetStringRef { bytes })
+    }
+}
+
+impl EncodeValue for OctetStringRef<'_> {
+    fn value_len(&self) -> Result<Length> {
+        Length::new(self.bytes.len())
+    }
+
+    fn encode_value(&self, writer: &mut SliceWriter) -> Result<()> {
+        self.value_len()?;
+        writer.write(self.bytes)
+    }
+
+    fn encode_back(&self, writer: &mut BackWriter) -> Result<()> {
+        self.value_len()?;
+        writer.write(self.bytes)
     }
 }

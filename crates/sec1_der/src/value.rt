@@ -1,10 +1,12 @@
-//! What a type of DER values says of itself, so that the generic calls can read it.
-ghost use Rattle.std.specs.Prelude.{◌≡◌, ◌≤◌, ℕ, List, [], length, true, false, Option, Some, IsOk, IfOk, IfErr, OnOk, OnErr};
-ghost use Rattle.sec1_der.specs.Elements.{max_length};
+//! What a type of DER values says of itself, so that the generic calls can read and write it.
+ghost use Rattle.std.specs.Prelude.{◌≡◌, ◌<◌, ◌≤◌, ℕ, List, [], length, true, false, Option, Some, IsOk, IfOk, IfErr, OnOk, OnErr};
+ghost use Rattle.sec1_der.specs.BackWriters.{end_of, front_of, KeepsEnd, PutsNothing, PutsInFront};
+ghost use Rattle.sec1_der.specs.Elements.{max_length, IsOverlong};
 ghost use Rattle.sec1_der.specs.Faults.{Refuses, IsReadingFault};
 ghost use Rattle.sec1_der.specs.Readers.{before};
+ghost use Rattle.sec1_der.specs.SliceWriters.{room_of, KeepsSlice, AppendsNothing, Appends};
 
-use crate::{ErrorKind, Result, SliceReader, Tag};
+use crate::{BackWriter, ErrorKind, Length, Result, SliceReader, SliceWriter, Tag};
 
 /// A type whose elements have one tag.
 pub trait FixedTag {
@@ -46,4 +48,40 @@ pub trait DecodeValue<'a>: ValueContent + Sized {
         ensures kinds { reader.old.failed ≡ false → IfErr result (λ e. IsReadingFault e.kind) }
         ensures failed { reader.old.failed ≡ true → Refuses result ErrorKind.Failed × (reader.new ≡ reader.old) }
         ensures refused { OnErr result (reader.new.failed ≡ true) };
+}
+
+/// A value whose content is written.
+pub trait EncodeValue: ValueContent {
+    /// The count of bytes of the content. Refused as Overlength where there is no content, or where it is longer
+    /// than 268,435,455 bytes.
+    fn value_len(&self) -> Result<Length>
+        ensures none { IsOverlong (Self.content self.now) → Refuses result ErrorKind.Overlength }
+        ensures some { (bytes : List ℕ) → Self.content self.now ≡ Some bytes → length bytes ≤ max_length → result ≡ Ok (length bytes) };
+
+    /// Appends the content. Refused as [`value_len`](EncodeValue::value_len) refuses, then as Buffer where the
+    /// content has no room. Nothing is written then.
+    fn encode_value(&self, writer: &mut SliceWriter) -> Result<()>
+        ensures slice { KeepsSlice writer.old writer.new }
+        ensures none { IsOverlong (Self.content self.now) → Refuses result ErrorKind.Overlength × AppendsNothing writer.old writer.new }
+        ensures fits { (bytes : List ℕ) → Self.content self.now ≡ Some bytes → length bytes ≤ max_length → length bytes ≤ length (room_of writer.old)
+            → IsOk result × Appends writer.old writer.new bytes }
+        ensures full { (bytes : List ℕ) → Self.content self.now ≡ Some bytes → length bytes ≤ max_length → length (room_of writer.old) < length bytes
+            → Refuses result ErrorKind.Buffer × AppendsNothing writer.old writer.new };
+
+    /// Puts the content in front of what was written. Refused as [`encode_value`](EncodeValue::encode_value)
+    /// refuses, and nothing is written then.
+    fn encode_back(&self, writer: &mut BackWriter) -> Result<()>
+        ensures slice { KeepsEnd writer.old writer.new }
+        ensures grows { length (end_of writer.old) ≤ length (end_of writer.new) }
+        ensures none { IsOverlong (Self.content self.now) → Refuses result ErrorKind.Overlength × PutsNothing writer.old writer.new }
+        ensures fits { (bytes : List ℕ) → Self.content self.now ≡ Some bytes → length bytes ≤ max_length → length bytes ≤ length (front_of writer.old)
+            → IsOk result × PutsInFront writer.old writer.new bytes }
+        ensures full { (bytes : List ℕ) → Self.content self.now ≡ Some bytes → length bytes ≤ max_length → length (front_of writer.old) < length bytes
+            → Refuses result ErrorKind.Buffer × PutsNothing writer.old writer.new };
+}
+
+/// A value that is read and written as a SEQUENCE (X.690 section 8.9).
+pub trait Sequence<'a>: DecodeValue<'a> + EncodeValue + FixedTag {
+    /// The tag is `30`.
+    ghost is_sequence: { Self.number ≡ 0x30 };
 }

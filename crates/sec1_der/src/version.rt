@@ -1,6 +1,9 @@
 ghost use Rattle.std.specs.Prelude.{◌≡◌};
 
-use crate::{DecodeValue, ErrorKind, FixedTag, Result, SliceReader, Tag, ValueContent};
+use crate::{
+    BackWriter, DecodeValue, EncodeValue, ErrorKind, FixedTag, Length, Result, SliceReader,
+    SliceWriter, Tag, ValueContent,
+};
 
 /// The version of an ECPrivateKey, the INTEGER one (RFC 5915 section 3). Its content is the byte `01`, and any
 /// other content is refused as Value.
@@ -36,5 +39,19 @@ impl<'a> DecodeValue<'a> for VersionOne {
             [1] => Ok(VersionOne),
             _ => Err(reader.fail(ErrorKind::Value)),
         }
+    }
+}
+
+impl EncodeValue for VersionOne {
+    fn value_len(&self) -> Result<Length> {
+        Ok(Length::of_byte(1))
+    }
+
+    fn encode_value(&self, writer: &mut SliceWriter) -> Result<()> {
+        writer.write_byte(1)
+    }
+
+    fn encode_back(&self, writer: &mut BackWriter) -> Result<()> {
+        writer.write(&[1])
     }
 }

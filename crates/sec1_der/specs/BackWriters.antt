@@ -1,0 +1,31 @@
+-- What a writer that fills a slice from its end holds, and what its calls do.
+use Rattle.std.specs.Prelude.{◌≡◌, ℕ, ◌+◌, List, ◌++◌, length, take, drop}
+use Rattle.std.specs.Borrow.{MutBor}
+use Rattle.sec1_der.specs.declared.back_writer.BackWriter.{BackWriter}
+
+-- the bytes that were written
+abbrev pub end_of : BackWriter → List ℕ
+end_of writer = drop writer.start writer.buffer.now
+
+-- the bytes of the slice in front of them
+abbrev pub front_of : BackWriter → List ℕ
+front_of writer = take writer.start writer.buffer.now
+
+-- the writer writes into this slice
+abbrev pub IsOverEnd : MutBor (List ℕ) → BackWriter → Type 0
+IsOverEnd slice writer = writer.buffer.ghost_name ≡ slice.ghost_name
+
+-- the writer still writes into the same slice
+abbrev pub KeepsEnd : BackWriter → BackWriter → Type 0
+KeepsEnd old new = new.buffer.ghost_name ≡ old.buffer.ghost_name
+
+-- nothing was written
+pub record PutsNothing (old new : BackWriter) : Type 0 where
+  pub written : end_of new ≡ end_of old
+  pub front : front_of new ≡ front_of old
+
+-- these bytes were put in front of what was written, and those before them are as they were
+pub record PutsInFront (old new : BackWriter) (bytes : List ℕ) : Type 0 where
+  pub written : end_of new ≡ bytes ++ end_of old
+  pub front : length (front_of old) ≡ length (front_of new) + length bytes
+  pub unchanged : front_of new ≡ take (length (front_of new)) (front_of old)

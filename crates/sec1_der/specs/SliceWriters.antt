@@ -1,0 +1,31 @@
+-- What a writer that fills a slice from its beginning holds, and what its calls do.
+use Rattle.std.specs.Prelude.{◌≡◌, ℕ, ◌+◌, List, ◌++◌, length, take, drop}
+use Rattle.std.specs.Borrow.{MutBor}
+use Rattle.sec1_der.specs.declared.slice_writer.SliceWriter.{SliceWriter}
+
+-- the bytes that were written
+abbrev pub written_by : SliceWriter → List ℕ
+written_by writer = take writer.position writer.buffer.now
+
+-- the bytes of the slice behind them
+abbrev pub room_of : SliceWriter → List ℕ
+room_of writer = drop writer.position writer.buffer.now
+
+-- the writer writes into this slice
+abbrev pub IsOver : MutBor (List ℕ) → SliceWriter → Type 0
+IsOver slice writer = writer.buffer.ghost_name ≡ slice.ghost_name
+
+-- the writer still writes into the same slice
+abbrev pub KeepsSlice : SliceWriter → SliceWriter → Type 0
+KeepsSlice old new = new.buffer.ghost_name ≡ old.buffer.ghost_name
+
+-- nothing was written
+pub record AppendsNothing (old new : SliceWriter) : Type 0 where
+  pub written : written_by new ≡ written_by old
+  pub room : room_of new ≡ room_of old
+
+-- these bytes were written, and those behind them are as they were
+pub record Appends (old new : SliceWriter) (bytes : List ℕ) : Type 0 where
+  pub written : written_by new ≡ written_by old ++ bytes
+  pub room : length (room_of old) ≡ length bytes + length (room_of new)
+  pub unchanged : room_of new ≡ drop (length bytes) (room_of old)

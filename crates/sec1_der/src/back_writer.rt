@@ -1,0 +1,133 @@
+ghost use Rattle.std.specs.Prelude.{◌≤◌, length};
+
+use crate::{
+    EncodeValue, ErrorKind, FixedTag, Header, Length, Result, Tag, context_specific_len,
+    encoded_len,
+};
+
+/// Fills a slice from its end, so that a content is written before its header.
+///
+/// A call that refuses has written nothing, and the bytes of the slice in front of what was written are
+/// unchanged.
+#[derive(Drop)]
+pub struct BackWriter<'b> {
+    buffer: &'b mut [u8],
+    start: usize,
+    ghost in_range: { start ≤ length buffer.now },
+}
+
+impl<'b> BackWriter<'b> {
+    ghost use Rattle.std.specs.Prelude.{◌≡◌, ℕ, ◌<◌, ◌+◌, ◌-◌, List, [], Some, None, IsOk};
+    ghost use Rattle.std.specs.Option.{option_map};
+    ghost use Rattle.sec1_der.specs.BackWriters.{end_of, front_of, IsOverEnd, KeepsEnd, PutsNothing, PutsInFront};
+    ghost use Rattle.sec1_der.specs.Elements.{max_length, header, element_of, field_of};
+    ghost use Rattle.sec1_der.specs.Faults.{Refuses};
+
+    /// A writer at the end of this slice.
+    pub fn new(buffer: &'b mut [u8]) -> BackWriter<'b>
+        ensures slice { IsOverEnd buffer.entry result }
+        ensures written { end_of result ≡ [] }
+        ensures front { front_of result ≡ buffer.old }
+    {
+        let start = buffer.len();
+        BackWriter { buffer, start }
+    }
+
+    /// The count of bytes that were written.
+    pub fn written(&self) -> usize
+        ensures { result ≡ length (end_of self.now) }
+    {
+        self.buffer.len() - self.start
+    }
+
+    /// The count of bytes of the slice in front of them.
+    pub fn remaining(&self) -> usize
+        ensures { result ≡ length (front_of self.now) }
+    {
+        self.start
+    }
+
+    /// Puts bytes in front of what was written. Refused as Buffer where the slice has less room.
+    pub fn write(&mut self, bytes: &[u8]) -> Result<()>
+        ensures slice { KeepsEnd self.old self.new }
+        ensures grows { length (end_of self.old) ≤ length (end_of self.new) }
+        ensures fits { length bytes.now ≤ length (front_of self.old) → IsOk result × PutsInFront self.old self.new bytes.now }
+        ensures full { length (front_of self.old) < length bytes.now → Refuses result ErrorKind.Buffer × PutsNothing self.old self.new }
+    {
+        if bytes.len() > self.start {
+            return Err(ErrorKind::Buffer.into());
+        }
+        let start = self.start - bytes.len();
+        self.buffer[start..self.start].copy_from_slice(bytes);
+        self.start = start;
+        Ok(())
+    }
+
+    /// Puts the header in front whose content is what was written since [`written`](BackWriter::written) answered
+    /// `since`.
+    ///
+    /// Refused as Overlength where that is more than 268,435,455 bytes, then as Buffer where the header has no
+    /// room.
+    pub fn header(&mut self, tag: Tag, since: usize) -> Result<()>
+        requires { since ≤ length (end_of self.old) }
+        ensures slice { KeepsEnd self.old self.new }
+        ensures grows { length (end_of self.old) ≤ length (end_of self.new) }
+        ensures none { max_length < length (end_of self.old) - since → Refuses result ErrorKind.Overlength × PutsNothing self.old self.new }
+        ensures fits { (n : ℕ) → length (end_of self.old) ≡ n + since → n ≤ max_length → length (header tag n) ≤ length (front_of self.old)
+            → IsOk result × PutsInFront self.old self.new (header tag n) }
+        ensures full { (n : ℕ) → length (end_of self.old) ≡ n + since → n ≤ max_length → length (front_of self.old) < length (header tag n)
+            → Refuses result ErrorKind.Buffer × PutsNothing self.old self.new }
+    {
+        let length = Length::new(self.written() - since)?;
+        let (octets, count) = Header { tag, length }.octets();
+        self.write(&octets[..count])
+    }
+
+    /// Puts the element of a value in front: its content, and then the header over what was written.
+    ///
+    /// Refused as [`encoded_len`] refuses, then as Buffer where the element has no room.
+    pub fn element<T: EncodeValue + FixedTag>(&mut self, value: &T) -> Result<()>
+        ensures slice { KeepsEnd self.old self.new }
+        ensures grows { length (end_of self.old) ≤ length (end_of self.new) }
+        ensures none { element_of T.number (T.content value.now) ≡ None → Refuses result ErrorKind.Overlength × PutsNothing self.old self.new }
+        ensures fits { (bytes : List ℕ) → element_of T.number (T.content value.now) ≡ Some bytes → length bytes ≤ length (front_of self.old)
+            → IsOk result × PutsInFront self.old self.new bytes }
+        ensures full { (bytes : List ℕ) → element_of T.number (T.content value.now) ≡ Some bytes → length (front_of self.old) < length bytes
+            → Refuses result ErrorKind.Buffer × PutsNothing self.old self.new }
+    {
+        if self.remaining() < encoded_len(value)? {
+            return Err(ErrorKind::Buffer.into());
+        }
+        let since = self.written();
+        value.encode_back(self)?;
+        self.header(T::fixed_tag(), since)
+    }
+
+    /// Puts an explicit field `[number]` around the element of a value in front; nothing where there is no value.
+    ///
+    /// Refused as [`context_specific_len`] refuses, then as Buffer where the field has no room.
+    pub fn context_specific<T: EncodeValue + FixedTag>(
+        &mut self,
+        number: u8,
+        field: &Option<T>,
+    ) -> Result<()>
+        requires { number ≤ 30 }
+        ensures slice { KeepsEnd self.old self.new }
+        ensures grows { length (end_of self.old) ≤ length (end_of self.new) }
+        ensures none { field_of number T.number (option_map T.content field.now) ≡ None → Refuses result ErrorKind.Overlength × PutsNothing self.old self.new }
+        ensures fits { (bytes : List ℕ) → field_of number T.number (option_map T.content field.now) ≡ Some bytes → length bytes ≤ length (front_of self.old)
+            → IsOk result × PutsInFront self.old self.new bytes }
+        ensures full { (bytes : List ℕ) → field_of number T.number (option_map T.content field.now) ≡ Some bytes → length (front_of self.old) < length bytes
+            → Refuses result ErrorKind.Buffer × PutsNothing self.old self.new }
+    {
+        if self.remaining() < context_specific_len(number, field)? {
+            return Err(ErrorKind::Buffer.into());
+        }
+        let Some(value) = field else {
+            return Ok(());
+        };
+        let since = self.written();
+        self.element(value)?;
+        self.header(Tag::context(number), since)
+    }
+}

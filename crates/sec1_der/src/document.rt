@@ -1,0 +1,89 @@
+ghost use Rattle.std.specs.Prelude.{◌≡◌, ◌≤◌, ◌⊎◌, ℕ, List, length, Some, None, IfOk, IfErr, MatchResult};
+ghost use Rattle.sec1_der.specs.Elements.{max_length, element, element_of, IsHeader, IsElement, IsProperBeginning, LacksHeader};
+ghost use Rattle.sec1_der.specs.Faults.{Refuses, IsReadingFault, header_fault};
+
+use crate::header::element_at;
+use crate::{EncodeValue, ErrorKind, FixedTag, Result, to_der};
+use std::alloc::Global;
+use std::fmt;
+use std::marker::Model;
+
+/// The bytes of one element in memory: a header, and as many bytes as it announces. A contract sees the bytes.
+///
+/// Whether the content is elements again isn't tested. There is always a header, so no document is empty.
+#[derive(Drop)]
+pub struct SecretDocument {
+    bytes: Vec<u8>,
+}
+
+impl Model for SecretDocument {
+    ghost use Rattle.std.specs.Prelude.{List, ℕ};
+    ghost use Rattle.sec1_der.specs.Elements.{IsElement};
+
+    ghost Value = { List ℕ };
+
+    ghost view = { λ document. document.bytes.items };
+
+    ghost invariant = { λ document. IsElement document.bytes.items };
+}
+
+impl SecretDocument {
+    /// The document with these bytes, which are copied.
+    ///
+    /// Refused as [`Header::decode`](crate::Header::decode) refuses a header, then as Truncated where the content
+    /// has no room, as TrailingData where bytes follow it, and as Memory.
+    pub fn from_der(alloc: Global, bytes: &[u8]) -> Result<SecretDocument>
+        ensures found { IfOk result (λ document. (document ≡ bytes.now) × IsElement bytes.now) }
+        ensures only { IsElement bytes.now → MatchResult result (λ document. document ≡ bytes.now) (λ e. e.kind ≡ ErrorKind.Memory) }
+        ensures fault { LacksHeader bytes.now → Refuses result (header_fault bytes.now) }
+        ensures short { (tag : ℕ) (content : List ℕ) → IsHeader tag (length content) → IsProperBeginning bytes.now (element tag content)
+            → Refuses result ErrorKind.Truncated }
+        ensures long { (tag : ℕ) (content : List ℕ) → IsHeader tag (length content) → IsProperBeginning (element tag content) bytes.now
+            → Refuses result ErrorKind.TrailingData }
+        ensures kinds { IfErr result (λ e. IsReadingFault e.kind ⊎ ((e.kind ≡ ErrorKind.Memory) × IsElement bytes.now)) }
+    {
+        let (header, inside) = match element_at(bytes) {
+            Ok(found) => found,
+            Err(kind) => return Err(kind.into()),
+        };
+        if inside.len() > header.length.get() {
+            return Err(ErrorKind::TrailingData.into());
+        }
+        let bytes = bytes.to_vec(alloc)?;
+        Ok(SecretDocument { bytes })
+    }
+
+    /// The document of a value's element.
+    ///
+    /// Refused as [`to_der`] refuses.
+    pub fn encode_msg<T: EncodeValue + FixedTag>(alloc: Global, value: &T) -> Result<SecretDocument>
+        ensures none { element_of T.number (T.content value.now) ≡ None → Refuses result ErrorKind.Overlength }
+        ensures some { (bytes : List ℕ) → element_of T.number (T.content value.now) ≡ Some bytes
+            → MatchResult result (λ document. document ≡ bytes) (λ e. e.kind ≡ ErrorKind.Memory) }
+    {
+        let bytes = to_der(alloc, value)?;
+        Ok(SecretDocument { bytes })
+    }
+
+    /// The bytes, header and content.
+    pub fn as_bytes(&self) -> &[u8]
+        ensures bytes { result.now ≡ self.now }
+        ensures element { IsElement self.now }
+    {
+        &self.bytes
+    }
+
+    /// The count of the bytes, at least 2.
+    pub fn len(&self) -> usize
+        ensures { result ≡ length self.now }
+    {
+        self.bytes.len()
+    }
+}
+
+/// The bytes aren't shown.
+impl fmt::Debug for SecretDocument {
+    fn fmt<W: fmt::Write>(&self, f: &mut fmt::Formatter<W>) -> fmt::Result {
+        f.debug_struct("SecretDocument").finish_non_exhaustive()
+    }
+}

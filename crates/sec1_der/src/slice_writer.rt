@@ -1,0 +1,116 @@
+ghost use Rattle.std.specs.Prelude.{◌≤◌, length};
+
+use crate::codec::{element_header, field_header};
+use crate::{EncodeValue, ErrorKind, FixedTag, Result, context_specific_len, encoded_len};
+
+/// Fills a slice from its beginning.
+///
+/// A call that refuses has written nothing, and the bytes of the slice behind what was written are unchanged.
+#[derive(Drop)]
+pub struct SliceWriter<'b> {
+    buffer: &'b mut [u8],
+    position: usize,
+    ghost in_range: { position ≤ length buffer.now },
+}
+
+impl<'b> SliceWriter<'b> {
+    ghost use Rattle.std.specs.Prelude.{◌≡◌, ℕ, ◌<◌, List, [], ◌∷◌, Some, None, IsOk};
+    ghost use Rattle.std.specs.Option.{option_map};
+    ghost use Rattle.sec1_der.specs.Elements.{element_of, field_of};
+    ghost use Rattle.sec1_der.specs.Faults.{Refuses};
+    ghost use Rattle.sec1_der.specs.SliceWriters.{written_by, room_of, IsOver, KeepsSlice, AppendsNothing, Appends};
+
+    /// A writer at the beginning of this slice.
+    pub fn new(buffer: &'b mut [u8]) -> SliceWriter<'b>
+        ensures slice { IsOver buffer.entry result }
+        ensures written { written_by result ≡ [] }
+        ensures room { room_of result ≡ buffer.old }
+    {
+        SliceWriter {
+            buffer,
+            position: 0,
+        }
+    }
+
+    /// The count of bytes that were written.
+    pub fn written(&self) -> usize
+        ensures { result ≡ length (written_by self.now) }
+    {
+        self.position
+    }
+
+    /// The count of bytes of the slice behind them.
+    pub fn remaining(&self) -> usize
+        ensures { result ≡ length (room_of self.now) }
+    {
+        self.buffer.len() - self.position
+    }
+
+    /// Appends one byte. Refused as Buffer where the slice has no more room.
+    pub fn write_byte(&mut self, byte: u8) -> Result<()>
+        ensures slice { KeepsSlice self.old self.new }
+        ensures fits { 0 < length (room_of self.old) → IsOk result × Appends self.old self.new (byte ∷ []) }
+        ensures full { length (room_of self.old) ≡ 0 → Refuses result ErrorKind.Buffer × AppendsNothing self.old self.new }
+    {
+        self.write(&[byte])
+    }
+
+    /// Appends bytes. Refused as Buffer where the slice has less room.
+    pub fn write(&mut self, bytes: &[u8]) -> Result<()>
+        ensures slice { KeepsSlice self.old self.new }
+        ensures fits { length bytes.now ≤ length (room_of self.old) → IsOk result × Appends self.old self.new bytes.now }
+        ensures full { length (room_of self.old) < length bytes.now → Refuses result ErrorKind.Buffer × AppendsNothing self.old self.new }
+    {
+        if bytes.len() > self.remaining() {
+            return Err(ErrorKind::Buffer.into());
+        }
+        let end = self.position + bytes.len();
+        self.buffer[self.position..end].copy_from_slice(bytes);
+        self.position = end;
+        Ok(())
+    }
+
+    /// Appends the element of a value.
+    ///
+    /// Refused as [`encoded_len`] refuses, then as Buffer where the element has no room.
+    pub fn element<T: EncodeValue + FixedTag>(&mut self, value: &T) -> Result<()>
+        ensures slice { KeepsSlice self.old self.new }
+        ensures none { element_of T.number (T.content value.now) ≡ None → Refuses result ErrorKind.Overlength × AppendsNothing self.old self.new }
+        ensures fits { (bytes : List ℕ) → element_of T.number (T.content value.now) ≡ Some bytes → length bytes ≤ length (room_of self.old)
+            → IsOk result × Appends self.old self.new bytes }
+        ensures full { (bytes : List ℕ) → element_of T.number (T.content value.now) ≡ Some bytes → length (room_of self.old) < length bytes
+            → Refuses result ErrorKind.Buffer × AppendsNothing self.old self.new }
+    {
+        if self.remaining() < encoded_len(value)? {
+            return Err(ErrorKind::Buffer.into());
+        }
+        element_header(value)?.encode(self)?;
+        value.encode_value(self)
+    }
+
+    /// Appends an explicit field `[number]` around the element of a value; nothing where there is no value.
+    ///
+    /// Refused as [`context_specific_len`] refuses, then as Buffer where the field has no room.
+    pub fn context_specific<T: EncodeValue + FixedTag>(
+        &mut self,
+        number: u8,
+        field: &Option<T>,
+    ) -> Result<()>
+        requires { number ≤ 30 }
+        ensures slice { KeepsSlice self.old self.new }
+        ensures none { field_of number T.number (option_map T.content field.now) ≡ None → Refuses result ErrorKind.Overlength × AppendsNothing self.old self.new }
+        ensures fits { (bytes : List ℕ) → field_of number T.number (option_map T.content field.now) ≡ Some bytes → length bytes ≤ length (room_of self.old)
+            → IsOk result × Appends self.old self.new bytes }
+        ensures full { (bytes : List ℕ) → field_of number T.number (option_map T.content field.now) ≡ Some bytes → length (room_of self.old) < length bytes
+            → Refuses result ErrorKind.Buffer × AppendsNothing self.old self.new }
+    {
+        if self.remaining() < context_specific_len(number, field)? {
+            return Err(ErrorKind::Buffer.into());
+        }
+        let Some(value) = field else {
+            return Ok(());
+        };
+        field_header(number, value)?.encode(self)?;
+        self.element(value)
+    }
+}
