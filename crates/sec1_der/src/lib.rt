@@ -13,6 +13,8 @@ mod object_identifier;
 mod octet_string;
 mod reader;
 mod tag;
+#[cfg(test)]
+mod tests;
 mod tree;
 mod value;
 mod version;
