@@ -7,6 +7,9 @@ use crate::header::element_at;
 use crate::{ErrorKind, Result};
 use std::marker::Model;
 
+/// The most elements inside one another.
+const MAX_DEPTH: usize = 64;
+
 /// The number of elements of the one DER tree of depth at most 64 with these bytes. An element whose tag is
 /// constructed holds elements again, and nothing else (X.690 sections 8.1.2.5 and 10.1). No memory is taken.
 ///
@@ -47,7 +50,7 @@ pub fn check_tree(input: &[u8]) -> Result<usize>
 #[derive(Drop)]
 struct OpenNodes {
     /// How many bytes are left where the input ends, which is none, and where each open node does.
-    ends: [usize; 64],
+    ends: [usize; MAX_DEPTH],
 
     /// How many nodes are open.
     level: usize,
@@ -75,7 +78,7 @@ impl OpenNodes {
         ensures { result ≡ [] }
     {
         OpenNodes {
-            ends: [0; 64],
+            ends: [0; MAX_DEPTH],
             level: 0,
         }
     }
@@ -99,7 +102,7 @@ impl OpenNodes {
         ensures full { OnErr result (length self.old ≡ 63) }
         ensures kind { IfErr result (λ e. e.kind ≡ ErrorKind.Depth) }
     {
-        if self.level == 63 {
+        if self.level == MAX_DEPTH - 1 {
             return Err(ErrorKind::Depth.into());
         }
         self.level += 1;
