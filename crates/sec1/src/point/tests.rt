@@ -174,6 +174,7 @@ fn lends_coordinates(rt: HostRuntime) -> Result<(), Fail> {
     let point = EncodedPoint32::from_affine_coordinates(&x, &y, true);
     assert_eq!(rt; point.as_bytes(), compressed_32().as_slice());
     assert_eq!(rt; point.tag(), Tag::CompressedEvenY);
+    assert_eq!(rt; whole.to_hybrid().tag(), Tag::HybridEvenY);
     assert!(rt;
         point.coordinates()
             == Coordinates::Compressed {
