@@ -14,8 +14,8 @@ const MAX_DEPTH: usize = 64;
 /// constructed holds elements again, and nothing else (X.690 sections 8.1.2.5 and 10.1). No memory is taken.
 ///
 /// Refused by the first fault from left to right: Tag or Length where an element has no header of DER;
-/// Truncated where the input ends inside an element, or an element beyond the one around it; Depth where an
-/// element at level 64 has elements inside, before they are read; TrailingData where bytes follow the tree.
+/// Truncated where the input ends inside an element, or an element ends beyond the one around it; Depth where
+/// an element at level 64 has elements inside, before they are read; TrailingData where bytes follow the tree.
 pub fn check_tree(input: &[u8]) -> Result<usize>
     // What is counted is a tree, and these are its bytes.
     ensures found { IfOk result (λ n. (t : Tree) × IsTreeOf t input.now × (depth t ≤ 64) × (size t ≡ n)) }
@@ -23,7 +23,7 @@ pub fn check_tree(input: &[u8]) -> Result<usize>
     ensures only { (t : Tree) → IsTreeOf t input.now → depth t ≤ 64 → result ≡ Ok (size t) }
     ensures deeper { (t : Tree) → IsTreeOf t input.now → 64 < depth t → Refuses result ErrorKind.Depth }
 
-    // A tree of any depth that has more bytes.
+    // The bytes end inside those of a tree of any depth, or go on behind those of a tree.
     ensures short { (t : Tree) → IsTree t → IsProperBeginning input.now (bytes t) → Refuses result ErrorKind.Truncated }
     ensures long { (t : Tree) → IsTree t → depth t ≤ 64 → IsProperBeginning (bytes t) input.now → Refuses result ErrorKind.TrailingData }
     ensures kinds { IfErr result (λ e. (e.kind ≡ ErrorKind.Depth) ⊎ IsReadingFault e.kind) }
