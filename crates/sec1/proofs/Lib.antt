@@ -5,3 +5,4 @@ pub mod PointLemmas
 pub mod Comparisons
 pub mod Buffers
 pub mod HexLemmas
+pub mod WriteLemmas

@@ -3,7 +3,10 @@ ghost use Rattle.sec1.specs.Parameters.{curve_of};
 ghost use Rattle.sec1_der.specs.Identifiers.{identifier_content, IsIdentifierContent};
 
 use sec1_der as der;
-use sec1_der::{DecodeValue, FixedTag, ObjectIdentifier, SliceReader, Tag, ValueContent};
+use sec1_der::{
+    AnyRef, BackWriter, DecodeValue, EncodeValue, FixedTag, Length, ObjectIdentifier, SliceReader,
+    SliceWriter, Tag, ValueContent,
+};
 
 /// The curve of a key, by name (RFC 5480 section 2.1.1). Curves that are given by their parameters, or
 /// implicitly, are refused.
@@ -29,6 +32,20 @@ impl From<ObjectIdentifier> for EcParameters {
 
     fn from(identifier: ObjectIdentifier) -> EcParameters {
         EcParameters::NamedCurve(identifier)
+    }
+}
+
+/// The element of the curve's identifier, which lends its content.
+impl<'a> From<&'a EcParameters> for AnyRef<'a> {
+    ghost use Rattle.sec1_der.specs.Identifiers.{IsIdentifier};
+    ghost use Rattle.sec1_der.specs.Values.{tag_of, value_of};
+
+    ghost from_gives = { λ parameters any. (tag_of any ≡ 0x06) × IsIdentifier (curve_of parameters.now) (value_of any) };
+
+    fn from(parameters: &'a EcParameters) -> AnyRef<'a> {
+        match parameters {
+            EcParameters::NamedCurve(identifier) => AnyRef::from(identifier),
+        }
     }
 }
 
@@ -59,6 +76,26 @@ impl<'a> DecodeValue<'a> for EcParameters {
         match ObjectIdentifier::decode_value(reader) {
             Ok(identifier) => Ok(EcParameters::NamedCurve(identifier)),
             Err(e) => Err(e),
+        }
+    }
+}
+
+impl EncodeValue for EcParameters {
+    fn value_len(&self) -> der::Result<Length> {
+        match self {
+            EcParameters::NamedCurve(identifier) => identifier.value_len(),
+        }
+    }
+
+    fn encode_value(&self, writer: &mut SliceWriter) -> der::Result<()> {
+        match self {
+            EcParameters::NamedCurve(identifier) => identifier.encode_value(writer),
+        }
+    }
+
+    fn encode_back(&self, writer: &mut BackWriter) -> der::Result<()> {
+        match self {
+            EcParameters::NamedCurve(identifier) => identifier.encode_back(writer),
         }
     }
 }

@@ -1,16 +1,19 @@
-ghost use Rattle.std.specs.Prelude.{◌≡◌, ◌≢◌, ◌++◌, ℕ, List, slice_get, Option, Some, true, false, IsOk, IfOk, IfErr, OnErr};
+ghost use Rattle.std.specs.Prelude.{◌≡◌, ◌≢◌, ◌≤◌, ◌∷◌, ◌++◌, ℕ, List, length, slice_get, Option, Some, true, false, IsOk, IfOk, IfErr, OnErr, IsSomeAnd};
 ghost use Rattle.std.specs.Option.{option_map};
 ghost use Rattle.sec1.specs.Keys.{parameters_field, public_key_field, NameCurve, HasRoom, bytes_of};
 ghost use Rattle.sec1.specs.Parameters.{curve_of};
+ghost use Rattle.sec1_der.specs.Elements.{max_length};
 ghost use Rattle.sec1_der.specs.Faults.{Refuses, IsReadingFault};
 ghost use Rattle.sec1_der.specs.Readers.{before, HasRead};
 
 use crate::{EcParameters, Error, Result, laws};
 use sec1_der as der;
 use sec1_der::{
-    BitStringRef, DecodeValue, ErrorKind, FixedTag, OctetStringRef, SliceReader, Tag, ValueContent,
+    BackWriter, BitStringRef, DecodeValue, EncodeValue, ErrorKind, FixedTag, Length,
+    OctetStringRef, SecretDocument, Sequence, SliceReader, SliceWriter, Tag, ValueContent,
     VersionOne,
 };
+use std::alloc::Global;
 use std::fmt;
 use std::marker::Model;
 
@@ -154,4 +157,56 @@ fn read_public_key<'a>(reader: &mut SliceReader<'a>) -> der::Result<Option<&'a [
         Some(bytes) => Ok(Some(bytes)),
         None => Err(reader.fail(ErrorKind::Value)),
     }
+}
+
+impl EncodeValue for EcPrivateKey<'_> {
+    fn value_len(&self) -> der::Result<Length> {
+        let version = der::encoded_len(&VersionOne)?;
+        let private_key = der::encoded_len(&OctetStringRef::new(self.private_key)?)?;
+        let parameters = der::context_specific_len(0, &self.parameters)?;
+        let public_key = der::context_specific_len(1, &bit_string(self.public_key)?)?;
+        Length::new(version + private_key + parameters + public_key)
+    }
+
+    fn encode_value(&self, writer: &mut SliceWriter) -> der::Result<()> {
+        if writer.remaining() < self.value_len()?.get() {
+            return Err(ErrorKind::Buffer.into());
+        }
+        let private_key = OctetStringRef::new(self.private_key)?;
+        let public_key = bit_string(self.public_key)?;
+        writer.element(&VersionOne)?;
+        writer.element(&private_key)?;
+        writer.context_specific(0, &self.parameters)?;
+        writer.context_specific(1, &public_key)
+    }
+
+    fn encode_back(&self, writer: &mut BackWriter) -> der::Result<()> {
+        if writer.remaining() < self.value_len()?.get() {
+            return Err(ErrorKind::Buffer.into());
+        }
+        let private_key = OctetStringRef::new(self.private_key)?;
+        let public_key = bit_string(self.public_key)?;
+        writer.context_specific(1, &public_key)?;
+        writer.context_specific(0, &self.parameters)?;
+        writer.element(&private_key)?;
+        writer.element(&VersionOne)
+    }
+}
+
+/// The bit string of the public key, where it is there. Refused as Overlength where the bytes have no room in it.
+fn bit_string(public_key: Option<&[u8]>) -> der::Result<Option<BitStringRef<'_>>>
+    ensures found { IfOk result (λ bits. option_map (⟦<BitStringRef<'static> as ValueContent>⟧.content) bits
+        ≡ option_map (λ bytes. Some (0 ∷ bytes)) (option_map (λ bytes. bytes.now) public_key.entry)) }
+    ensures none { IfErr result (λ e. (e.kind ≡ ErrorKind.Overlength) × IsSomeAnd (option_map (λ bytes. bytes.now) public_key.entry) (λ bytes. max_length ≤ length bytes)) }
+{
+    match public_key {
+        None => Ok(None),
+        Some(bytes) => Ok(Some(BitStringRef::from_bytes(bytes)?)),
+    }
+}
+
+impl<'a> Sequence<'a> for EcPrivateKey<'a> {
+    ghost use Rattle.std.specs.Prelude.{refl};
+
+    ghost is_sequence = { refl };
 }
