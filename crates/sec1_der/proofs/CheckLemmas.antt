@@ -241,7 +241,3 @@ tree_read input (end ∷ ends) rest count empty nothing a = absurd (cc empty)
 -- a tree that is all of the input begins it
 pub begins : (input : List ℕ) (t : Tree) → IsTreeOf t input → Begins input t []
 begins input t p = record { tree = p.tree; row = p.whole ∙ sym (append-nil (bytes t)) }
-
-pub end_within : (input ends rest : List ℕ) (count : ℕ) → IsAt input ends rest count → innermost ends ≤ length rest
-end_within input [] rest count a = omega arith
-end_within input (end ∷ ends) rest count a = a.nested.0
