@@ -16,14 +16,14 @@ use Rattle.sec1.specs.KeyLaws.{key_content-tells, key_content-holds, sequence}
 use Rattle.sec1.specs.ReadsKey.{ReadsKey}
 
 -- a key's bytes are the element of its content
-content_of_key : (key : Key) (bytes : List ℕ) → IsKeyOf key bytes → IsContentOf key (fields_of key)
+pub content_of_key : (key : Key) (bytes : List ℕ) → IsKeyOf key bytes → IsContentOf key (fields_of key)
 content_of_key key bytes is = record { curve = is.curve; fields = is.tree.tree.3; spelled = refl }
 
 element_of_key : (key : Key) (bytes : List ℕ) → IsKeyOf key bytes → IsElementOf 0x30 (fields_of key) bytes
 element_of_key key bytes is = record { within = is.tree.tree.2; spelled = is.tree.whole }
 
 -- the element of a key's content is the key's bytes
-key_of_element : (key : Key) (content bytes : List ℕ) → IsContentOf key content → IsElementOf 0x30 content bytes → IsKeyOf key bytes
+pub key_of_element : (key : Key) (content bytes : List ℕ) → IsContentOf key content → IsElementOf 0x30 content bytes → IsKeyOf key bytes
 key_of_element key content bytes is at = record {
   curve = is.curve;
   tree = record {

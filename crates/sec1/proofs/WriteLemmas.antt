@@ -13,9 +13,10 @@ use Rattle.sec1_der.specs.declared.error.ErrorKind.TheVariants.{Overlength}
 use Rattle.sec1.specs.declared.parameters.EcParameters.{EcParameters}
 use Rattle.sec1.specs.declared.private_key.EcPrivateKey.TheInside.{Inside}
 use Rattle.sec1.specs.KeyLaws.{private_key_fits, public_key_fits, fields_are_trees, key_content-tells, key_content-holds}
-use Rattle.sec1.specs.Keys.{Key, parameters_field, public_key_field, NameCurve, HasRoom, bytes_of, fields_of, IsContentOf, key_content}
+use Rattle.sec1.specs.Keys.{Key, parameters_field, public_key_field, NameCurve, HasRoom, bytes_of, fields_of, IsKeyOf, HasNoBytes, IsContentOf, key_content}
 use Rattle.sec1.specs.Parameters.{curve_of}
 use Rattle.sec1.proofs.KeyLemmas.{field_bytes, fields_parts}
+use Rattle.sec1.proofs.ReadLemmas.{content_of_key, key_of_element}
 
 abbrev pub version_piece : Option (List ℕ)
 version_piece = element_of 0x02 (Some (1 ∷ []))
@@ -176,3 +177,21 @@ above (Err e) n within kind over = kind
 pub within : (result : Result ℕ Error) (n m : ℕ) → OkIff result (n ≤ max_length) n → n ≡ m → m ≤ max_length → result ≡ Ok m
 within (Ok k) n m ok same fits = ap Ok (ok.1 ∙ same)
 within (Err e) n m ok same fits = absurd (ok (omega arith))
+
+-- ---- the bytes of a key
+
+-- a key that has bytes has an element
+pub key_written : (key : Key) (bytes : List ℕ) → IsKeyOf key bytes → element_of 0x30 (key_content key) ≡ Some bytes
+key_written key bytes is =
+    element_of_holds 0x30 (key_content key) (fields_of key) (key_content-holds key (fields_of key) (content_of_key key bytes is)) is.tree.tree.2
+    ∙ ap (λ bytes. Some bytes) (sym is.tree.whole)
+
+-- a key that has none has no element
+pub key_lacks : (key : Key) → HasNoBytes key → element_of 0x30 (key_content key) ≡ None
+key_lacks key none = lacking (element_of 0x30 (key_content key)) refl
+  where
+    lacking : (piece : Option (List ℕ)) → element_of 0x30 (key_content key) ≡ piece → piece ≡ None
+    lacking None e = refl
+    lacking (Some bytes) e =
+        let held = element_of_tells 0x30 (key_content key) bytes e in
+        absurd (none bytes (key_of_element key held.inside bytes (key_content-tells key held.inside held.same) held.at))

@@ -43,6 +43,10 @@ pub record IsKeyOf (key : Key) (input : List ℕ) : Type 0 where
   pub curve : NameCurve key.parameters
   pub tree : IsTreeOf (key_tree key) input
 
+-- no bytes are those of the key: a part of it is beyond the limits
+abbrev pub HasNoBytes : Key → Type 0
+HasNoBytes key = (bytes : List ℕ) → IsKeyOf key bytes → ⊥
+
 -- the bytes of these trees, one after the other
 abbrev pub bytes_of : List Tree → List ℕ
 bytes_of trees = joined (row trees)

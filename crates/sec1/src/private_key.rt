@@ -1,4 +1,4 @@
-ghost use Rattle.std.specs.Prelude.{◌≡◌, ◌≢◌, ◌≤◌, ◌∷◌, ◌++◌, ℕ, List, length, slice_get, Option, Some, true, false, IsOk, IfOk, IfErr, OnErr, IsSomeAnd};
+ghost use Rattle.std.specs.Prelude.{◌≡◌, ◌≢◌, ◌<◌, ◌≤◌, ◌∷◌, ◌++◌, ℕ, List, length, slice_get, Option, Some, true, false, IsOk, IfOk, IfErr, OnErr, IsSomeAnd};
 ghost use Rattle.std.specs.Option.{option_map};
 ghost use Rattle.sec1.specs.Keys.{parameters_field, public_key_field, NameCurve, HasRoom, bytes_of};
 ghost use Rattle.sec1.specs.Parameters.{curve_of};
@@ -74,6 +74,72 @@ impl<'a> TryFrom<&'a [u8]> for EcPrivateKey<'a> {
         laws::one_key();
         der::laws::trees_unique();
         Ok(der::from_der(bytes)?)
+    }
+}
+
+impl<'a> EcPrivateKey<'a> {
+    ghost use Rattle.std.specs.Prelude.{drop, MatchResult};
+    ghost use Rattle.sec1.specs.Errors.{RefusesAsn1};
+    ghost use Rattle.sec1.specs.Keys.{IsKeyOf, HasNoBytes};
+
+    /// The count of bytes of the key's DER encoding.
+    ///
+    /// Refused as [`Error::Asn1`] of Overlength where a part of the key, or all of it, is longer than an element
+    /// can hold, 268,435,455 bytes.
+    #[tactic(auto, using(crate::proofs::WriteLemmas::key_written, crate::proofs::WriteLemmas::key_lacks))]
+    pub fn encoded_len(&self) -> Result<usize>
+        ensures none { HasNoBytes self.now → RefusesAsn1 result ErrorKind.Overlength }
+        ensures some { (bytes : List ℕ) → IsKeyOf self.now bytes → result ≡ Ok (length bytes) }
+    {
+        Ok(der::encoded_len(self)?)
+    }
+
+    /// Writes the key's DER encoding at the beginning of the slice, and answers how many bytes it has. The rest of
+    /// the slice is unchanged.
+    ///
+    /// Refused as [`encoded_len`](EcPrivateKey::encoded_len) refuses, then as [`Error::Asn1`] of Buffer where the
+    /// slice is too short. The whole slice is unchanged then.
+    #[tactic(auto, using(crate::proofs::WriteLemmas::key_written, crate::proofs::WriteLemmas::key_lacks))]
+    pub fn encode_to_slice(&self, buffer: &mut [u8]) -> Result<usize>
+        ensures none { HasNoBytes self.now → RefusesAsn1 result ErrorKind.Overlength × (buffer.new ≡ buffer.old) }
+        ensures fits { (bytes : List ℕ) → IsKeyOf self.now bytes → length bytes ≤ length buffer.old
+            → (result ≡ Ok (length bytes)) × (buffer.new ≡ bytes ++ drop (length bytes) buffer.old) }
+        ensures full { (bytes : List ℕ) → IsKeyOf self.now bytes → length buffer.old < length bytes
+            → RefusesAsn1 result ErrorKind.Buffer × (buffer.new ≡ buffer.old) }
+    {
+        Ok(der::encode_to_slice(self, buffer)?)
+    }
+
+    /// The key's DER encoding.
+    ///
+    /// Refused as [`encoded_len`](EcPrivateKey::encoded_len) refuses, then as [`Error::Memory`].
+    #[tactic(auto, using(crate::proofs::WriteLemmas::key_written, crate::proofs::WriteLemmas::key_lacks))]
+    pub fn to_der(&self, alloc: Global) -> Result<Vec<u8>>
+        ensures none { HasNoBytes self.now → RefusesAsn1 result ErrorKind.Overlength }
+        ensures some { (bytes : List ℕ) → IsKeyOf self.now bytes → MatchResult result (λ der. der.items ≡ bytes) (λ e. e ≡ Error.Memory) }
+    {
+        Ok(der::to_der(alloc, self)?)
+    }
+
+    /// The document of the key's DER encoding. The key is let go, also where this is refused.
+    ///
+    /// Refused as [`to_der`](EcPrivateKey::to_der) refuses.
+    pub fn document(self, alloc: Global) -> Result<SecretDocument>
+        ensures none { HasNoBytes self.entry → RefusesAsn1 result ErrorKind.Overlength }
+        ensures some { (bytes : List ℕ) → IsKeyOf self.entry bytes → MatchResult result (λ document. document ≡ bytes) (λ e. e ≡ Error.Memory) }
+    {
+        self.document_ref(alloc)
+    }
+
+    /// The document of the key's DER encoding.
+    ///
+    /// Refused as [`to_der`](EcPrivateKey::to_der) refuses.
+    #[tactic(auto, using(crate::proofs::WriteLemmas::key_written, crate::proofs::WriteLemmas::key_lacks))]
+    pub fn document_ref(&self, alloc: Global) -> Result<SecretDocument>
+        ensures none { HasNoBytes self.now → RefusesAsn1 result ErrorKind.Overlength }
+        ensures some { (bytes : List ℕ) → IsKeyOf self.now bytes → MatchResult result (λ document. document ≡ bytes) (λ e. e ≡ Error.Memory) }
+    {
+        Ok(SecretDocument::encode_msg(alloc, self)?)
     }
 }
 

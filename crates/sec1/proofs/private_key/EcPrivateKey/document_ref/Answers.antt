@@ -1,0 +1,8 @@
+use Rattle.std.proofs.Common.{rules}
+use Rattle.sec1.proofs.WriteLemmas.{key_written}
+use Rattle.sec1.proofs.private_key.EcPrivateKey.document_ref.Goals as goal
+
+pub returns-in_err-encode_msg-clause-some : goal.returns-in_err-encode_msg-clause-some
+returns-in_err-encode_msg-clause-some c bytes is =
+    let refused = c.in_err-encode_msg.ensures.some bytes (key_written c.args.self.now bytes is) in
+    search rules

@@ -1,0 +1,12 @@
+use Rattle.std.proofs.Common.{rules}
+use Rattle.sec1.proofs.WriteLemmas.{key_written}
+use Rattle.sec1.proofs.private_key.EcPrivateKey.encode_to_slice.Goals as goal
+
+pub returns-in_err-encode_to_slice-clause-fits : goal.returns-in_err-encode_to_slice-clause-fits
+returns-in_err-encode_to_slice-clause-fits c bytes is room =
+    absurd (cc ((c.in_err-encode_to_slice.ensures.fits bytes (key_written c.args.self.now bytes is) room).0))
+
+pub returns-in_err-encode_to_slice-clause-full : goal.returns-in_err-encode_to_slice-clause-full
+returns-in_err-encode_to_slice-clause-full c bytes is short =
+    let refused = c.in_err-encode_to_slice.ensures.full bytes (key_written c.args.self.now bytes is) short in
+    search rules

@@ -1,0 +1,5 @@
+use Rattle.sec1.proofs.WriteLemmas.{key_written}
+use Rattle.sec1.proofs.private_key.EcPrivateKey.encoded_len.Goals as goal
+
+pub returns-in_err-encoded_len-clause-some : goal.returns-in_err-encoded_len-clause-some
+returns-in_err-encoded_len-clause-some c bytes is = absurd (cc (c.in_err-encoded_len.ensures.some bytes (key_written c.args.self.now bytes is)))
