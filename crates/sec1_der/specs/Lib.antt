@@ -14,3 +14,5 @@ pub mod Faults
 pub mod Readers
 pub mod Streams
 pub mod StdStreams
+pub mod Documents
+pub mod ReadsDocument

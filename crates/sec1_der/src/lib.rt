@@ -5,6 +5,7 @@
 mod any;
 mod bit_string;
 mod codec;
+mod document;
 mod error;
 mod header;
 pub mod laws;
@@ -23,6 +24,7 @@ mod version;
 pub use any::AnyRef;
 pub use bit_string::BitStringRef;
 pub use codec::from_der;
+pub use document::SecretDocument;
 pub use error::{Error, ErrorKind, Result};
 pub use header::Header;
 pub use length::Length;
