@@ -4,4 +4,5 @@ pub mod Parameters
 pub mod Keys
 pub mod KeyLaws
 pub mod ReadsKey
+pub mod Traits
 pub mod Examples
