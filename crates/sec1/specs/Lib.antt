@@ -4,6 +4,7 @@ pub mod Parameters
 pub mod Keys
 pub mod KeyLaws
 pub mod ReadsKey
+pub mod Traits
 pub mod Examples
 pub mod Points
 pub mod PointOrder

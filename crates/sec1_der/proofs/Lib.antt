@@ -9,3 +9,5 @@ pub mod IdentifierLemmas
 pub mod ArcLemmas
 pub mod DottedLemmas
 pub mod DisplayLemmas
+pub mod StreamLemmas
+pub mod OneElement

@@ -45,7 +45,7 @@ pub record IsElementOf (tag : ℕ) (content bytes : List ℕ) : Type 0 where
 pub record IsElement (bytes : List ℕ) : Type 0 where
   pub tag : ℕ
   pub content : List ℕ
-  pub allowed : IsHeader tag (length content)
+  pub is_header : IsHeader tag (length content)
   pub spelled : bytes ≡ element tag content
 
 -- no header begins the bytes

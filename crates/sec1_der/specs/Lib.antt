@@ -18,3 +18,4 @@ pub mod BackWriters
 pub mod WriterLaws
 pub mod Streams
 pub mod StdStreams
+pub mod ReadsDocument

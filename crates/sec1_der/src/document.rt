@@ -2,6 +2,8 @@ ghost use Rattle.std.specs.Prelude.{◌≡◌, ◌≤◌, ◌⊎◌, ℕ, List, 
 ghost use Rattle.sec1_der.specs.Elements.{max_length, element, element_of, IsHeader, IsElement, IsProperBeginning, LacksHeader};
 ghost use Rattle.sec1_der.specs.Faults.{Refuses, IsReadingFault, header_fault};
 
+mod stream;
+
 use crate::header::element_at;
 use crate::{EncodeValue, ErrorKind, FixedTag, Result, to_der};
 use std::alloc::Global;

@@ -118,7 +118,7 @@ pub(crate) fn element_at(input: &[u8]) -> First<'_, Header>
 }
 
 /// The header that the bytes begin with, and the bytes after it.
-fn header_at(bytes: &[u8]) -> First<'_, Header>
+pub(crate) fn header_at(bytes: &[u8]) -> First<'_, Header>
     ensures found { IfOk result (λ x. IsHeader x.0.tag x.0.length × (bytes.now ≡ header x.0.tag x.0.length ++ x.1.now)) }
     ensures only { (tag n : ℕ) (rest : List ℕ) → IsHeader tag n → bytes.now ≡ header tag n ++ rest
         → IsOkAnd result (λ x. (x.0 ≡ record { tag = tag; length = n }) × (x.1.now ≡ rest)) }

@@ -1,4 +1,4 @@
-use Rattle.std.proofs.Common.{◌≡◌, ℕ, List, [], ◌∷◌, arith, lit<, lit≤}
+use Rattle.std.proofs.Common.{◌≡◌, [], ◌∷◌, lit<, lit≤}
 use Rattle.std.specs.Int.Digits.{digits_of}
 use Rattle.sec1_der.proofs.DigitLemmas.{digits_of-number}
 use Rattle.sec1_der.proofs.LengthLemmas.{len_long}

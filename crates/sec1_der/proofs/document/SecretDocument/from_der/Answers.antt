@@ -1,18 +1,18 @@
-use Rattle.std.proofs.Common.{◌≡◌, ◌++◌, ℕ, [], length, arith, ap, sym, ◌∙◌}
+use Rattle.std.proofs.Common.{◌≡◌, [], length, arith, ap, sym, ◌∙◌}
 use Rattle.std.proofs.lemmas.List.{append-nil}
 use Rattle.sec1_der.specs.Elements.{element}
 use Rattle.sec1_der.specs.declared.header.Header.{Header}
 use Rattle.sec1_der.proofs.document.SecretDocument.from_der.Goals as goal
 
 pub returns-in-Err-clause-only : goal.returns-in-Err-clause-only
-returns-in-Err-clause-only c is = absurd (c.in-Err.ensures.only is.tag is.content [] is.allowed (is.spelled ∙ sym (append-nil (element is.tag is.content))))
+returns-in-Err-clause-only c is = absurd (c.in-Err.ensures.only is.tag is.content [] is.is_header (is.spelled ∙ sym (append-nil (element is.tag is.content))))
 
 pub returns-in-Err-clause-short : goal.returns-in-Err-clause-short
 returns-in-Err-clause-short c tag content allowed short = cc (c.in-Err.ensures.short tag content allowed short)
 
 pub returns-then-inside-get-clause-only : goal.returns-then-inside-get-clause-only
 returns-then-inside-get-clause-only c is =
-    let read = c.in-Ok.ensures.only is.tag is.content [] is.allowed (is.spelled ∙ sym (append-nil (element is.tag is.content))) in
+    let read = c.in-Ok.ensures.only is.tag is.content [] is.is_header (is.spelled ∙ sym (append-nil (element is.tag is.content))) in
     let announced : c.in-Ok.found.0.length ≡ length is.content = ap (λ (h : Header). h.length) read.0 in
     let inside : length c.in-Ok.found.1.now ≡ length is.content = ap length (read.1 ∙ append-nil is.content) in
     absurd (omega (arith, c.get.ensures.value, c.if-inside-get.true))

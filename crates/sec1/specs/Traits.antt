@@ -1,0 +1,59 @@
+-- What a key type makes of the one element of a stream, and what it writes to one.
+use Rattle.std.specs.Prelude.{◌≡◌, ◌⊎◌, ◌↔◌, ℕ, List, Option, Bool, false, IsTrue, IfSome}
+use Rattle.std.specs.Io.KnownBytes.{Appends}
+use Rattle.sec1.specs.Errors.{error_of}
+use Rattle.sec1.specs.declared.error.Error.{Error}
+use Rattle.sec1.specs.declared.error.Error.TheVariants.{Memory}
+use Rattle.sec1_der.specs.Elements.{IsElement}
+use Rattle.sec1_der.specs.Faults.{IsIoOrMemory}
+use Rattle.sec1_der.specs.ReadsDocument.{IsElementFault, ReadsElement, RefusesElement}
+use Rattle.sec1_der.specs.Streams.{AppendsBeginning}
+use Rattle.sec1_der.specs.declared.error.Error.{Error as DerError}
+use Rattle.sec1_der.specs.declared.error.ErrorKind.TheVariants.{Io}
+
+-- an element of which this holds
+pub record IsElementWith (P : List ℕ → Type 0) : Type 0 where
+  pub bytes : List ℕ
+  pub is_element : IsElement bytes
+  pub holds : P bytes
+
+-- one element was read of which this holds, and nothing is left behind it
+pub record ReadsElementWith (P : List ℕ → Type 0) (old new : Option (List ℕ)) : Type 0 where
+  pub bytes : List ℕ
+  pub read : ReadsElement old new bytes
+  pub holds : P bytes
+
+-- Want of memory, or what a key type refuses by.
+abbrev pub IsMemoryOr : (Error → Type 0) → Error → Type 0
+IsMemoryOr refuses error = (error ≡ Memory) ⊎ refuses error
+
+-- There was no element to be read as a key: what was left isn't one, a read failed or a growth was refused.
+pub record RefusesDocument (old new : Option (List ℕ)) (failed : Bool) (error : Error) : Type 0 where
+  pub cause : DerError
+  pub is : error ≡ error_of cause
+  pub refused : RefusesElement cause.kind old new
+  pub only : IsIoOrMemory cause.kind ⊎ IfSome old (λ left. ¬ (IsElement left))
+  pub io : cause.kind ≡ Io ↔ IsTrue failed
+
+-- The one element there was refused as a key, and no read failed.
+pub record RefusesKey (refuses : List ℕ → Error → Type 0) (old new : Option (List ℕ)) (failed : Bool) (error : Error) : Type 0 where
+  pub of_element : ReadsElementWith (λ bytes. IsMemoryOr (refuses bytes) error) old new
+  pub unfailed : failed ≡ false
+
+-- an error by which the element of a file is refused
+pub record IsDocumentError (error : Error) : Type 0 where
+  pub cause : DerError
+  pub is : error ≡ error_of cause
+  pub kinds : IsElementFault cause.kind
+
+-- all bytes of a key were written
+pub record WritesKey {K : Type 0} (writes : K → List ℕ → Type 0) (key : K) (old new : Option (List ℕ)) : Type 0 where
+  pub bytes : List ℕ
+  pub of_key : writes key bytes
+  pub appended : Appends old new bytes
+
+-- a beginning of a key's bytes was written
+pub record WritesKeyBeginning {K : Type 0} (writes : K → List ℕ → Type 0) (key : K) (old new : Option (List ℕ)) : Type 0 where
+  pub bytes : List ℕ
+  pub of_key : writes key bytes
+  pub appended : AppendsBeginning old new bytes

@@ -1,0 +1,93 @@
+//! Key types that are read from DER and written in it. A key type names which bytes read as which key, which bytes
+//! a key writes, and what it refuses.
+ghost use Rattle.std.specs.Prelude.{ℕ, List, false, ◌≡◌, ◌⊎◌, IsTrue, IfOk, IfErr, OnOk, OnErr};
+ghost use Rattle.sec1.specs.Errors.{IsAsn1, RefusesAsn1};
+ghost use Rattle.sec1.specs.Traits.{IsDocumentError, IsElementWith, IsMemoryOr, ReadsElementWith, RefusesDocument, RefusesKey, WritesKey, WritesKeyBeginning};
+ghost use Rattle.sec1.specs.declared.error.Error.{Error};
+ghost use Rattle.sec1_der.specs.declared.error.ErrorKind.TheVariants.{Io};
+
+use crate::{Error, Result};
+use sec1_der::{Read, SecretDocument, Write};
+use std::alloc::Global;
+use std::rt::Files;
+
+/// A key type that is read from the DER of an EC private key (RFC 5915 section 3).
+pub trait DecodeEcPrivateKey: Sized {
+    /// The bytes that read as a key.
+    ghost reads: { List ℕ → Self → Type 0 };
+
+    /// The bytes that are refused, and by which error.
+    ghost refuses: { List ℕ → Error → Type 0 };
+
+    /// Reads a key from its bytes. Refused as the key type refuses, or as [`Error::Memory`].
+    fn from_sec1_der(alloc: Global, bytes: &[u8]) -> Result<Self>
+        ensures found { IfOk result (reads bytes.now) }
+        ensures refused { IfErr result (IsMemoryOr (refuses bytes.now)) };
+
+    /// Reads a key from the one element that the reader has left, as [`SecretDocument::read_der_from`] and then
+    /// [`from_sec1_der`](DecodeEcPrivateKey::from_sec1_der) do.
+    ///
+    /// Refused as these two refuse. [`Error::Asn1`] of kind Io where a read failed.
+    fn read_sec1_der_from<R: Read>(alloc: Global, reader: &mut R) -> Result<Self>
+        requires { R.failed reader.old ≡ false }
+        ensures found { IfOk result (λ key. ReadsElementWith (λ bytes. reads bytes key) (R.left reader.old) (R.left reader.new)) }
+        ensures refused { IfErr result (λ error. RefusesDocument (R.left reader.old) (R.left reader.new) (R.failed reader.new) error
+            ⊎ RefusesKey refuses (R.left reader.old) (R.left reader.new) (R.failed reader.new) error) }
+        ensures io { IsTrue (R.failed reader.new) → RefusesAsn1 result Io }
+    {
+        let document = SecretDocument::read_der_from(alloc, reader)?;
+        Self::from_sec1_der(alloc, document.as_bytes())
+    }
+
+    /// Reads a key from the one element that the file holds, as [`SecretDocument::read_der_file`] and then
+    /// [`from_sec1_der`](DecodeEcPrivateKey::from_sec1_der) do.
+    fn read_sec1_der_file<F: Files>(rt: &F, alloc: Global, path: &str) -> Result<Self>
+        ensures found { IfOk result (λ key. IsElementWith (λ bytes. reads bytes key)) }
+        ensures refused { IfErr result (λ error. IsDocumentError error ⊎ IsElementWith (λ bytes. IsMemoryOr (refuses bytes) error)) }
+    {
+        let document = SecretDocument::read_der_file(rt, alloc, path)?;
+        Self::from_sec1_der(alloc, document.as_bytes())
+    }
+}
+
+/// A key type that is written in the DER of an EC private key (RFC 5915 section 3).
+pub trait EncodeEcPrivateKey {
+    /// The bytes that a key writes.
+    ghost writes: { Self → List ℕ → Type 0 };
+
+    /// The keys that are refused, and by which error.
+    ghost refuses: { Self → Error → Type 0 };
+
+    /// The key's bytes. Refused as the key type refuses, or as [`Error::Memory`].
+    fn to_sec1_der(&self, alloc: Global) -> Result<SecretDocument>
+        ensures found { IfOk result (writes self.now) }
+        ensures refused { IfErr result (IsMemoryOr (refuses self.now)) };
+
+    /// Writes the bytes of [`to_sec1_der`](EncodeEcPrivateKey::to_sec1_der).
+    ///
+    /// Refused as that refuses, before anything is written, and as [`Error::Asn1`] of kind Io where a write failed;
+    /// then a beginning of the bytes was written.
+    fn write_sec1_der_to<W: Write>(&self, alloc: Global, writer: &mut W) -> Result<()>
+        requires { W.failed writer.old ≡ false }
+        ensures all { OnOk result (WritesKey writes self.now (W.written writer.old) (W.written writer.new)) }
+        ensures io { IsTrue (W.failed writer.new) → RefusesAsn1 result Io }
+        ensures beginning { IsTrue (W.failed writer.new)
+            → WritesKeyBeginning writes self.now (W.written writer.old) (W.written writer.new) }
+        ensures refused { W.failed writer.new ≡ false → IfErr result (IsMemoryOr (refuses self.now)) }
+        ensures nothing { W.failed writer.new ≡ false → OnErr result (W.written writer.new ≡ W.written writer.old) }
+    {
+        let document = self.to_sec1_der(alloc)?;
+        document.write_der_to(writer)?;
+        Ok(())
+    }
+
+    /// Writes the bytes of [`to_sec1_der`](EncodeEcPrivateKey::to_sec1_der) to the file, which is made new or cut to
+    /// nothing first, as [`SecretDocument::write_der_file`] does.
+    fn write_sec1_der_file<F: Files>(&self, rt: &F, alloc: Global, path: &str) -> Result<()>
+        ensures { IfErr result (λ error. IsAsn1 Io error ⊎ IsMemoryOr (refuses self.now) error) }
+    {
+        let document = self.to_sec1_der(alloc)?;
+        document.write_der_file(rt, path)?;
+        Ok(())
+    }
+}
