@@ -166,18 +166,6 @@ contents fields key view = record {
   public_key = ap (λ (k : Key). k.public_key) view;
 }
 
--- ---- the length of a content
-
--- a number above the limit is refused
-pub above : (result : Result ℕ Error) (n : ℕ) → OkIff result (n ≤ max_length) n → IfErr result (λ (e : Error). e.kind ≡ Overlength) → max_length < n → Refuses result Overlength
-above (Ok m) n within kind over = absurd (omega (arith, within.0))
-above (Err e) n within kind over = kind
-
--- a number within it is answered
-pub within : (result : Result ℕ Error) (n m : ℕ) → OkIff result (n ≤ max_length) n → n ≡ m → m ≤ max_length → result ≡ Ok m
-within (Ok k) n m ok same fits = ap Ok (ok.1 ∙ same)
-within (Err e) n m ok same fits = absurd (ok (omega arith))
-
 -- ---- the bytes of a key
 
 -- a key that has bytes has an element

@@ -1,8 +1,11 @@
--- What two calls of a writer do, one after the other, and what a count of bytes says.
-use Rattle.std.specs.Prelude.{◌≡◌, ℕ, ◌≤◌, List, ◌++◌, length, take, drop, Option, Some, None, Result, Ok, Err, refl}
+-- What two calls of a writer do, one after the other; what a count of bytes says, and what its limit does.
+use Rattle.std.specs.Prelude.{◌≡◌, ℕ, ◌<◌, ◌≤◌, List, ◌++◌, length, take, drop, Option, Some, None, Result, Ok, Err, OkIff, IfErr, refl}
 use Rattle.std.proofs.Common.{arith, sym, ap, ◌∙◌, append_assoc, length-append}
 use Rattle.std.proofs.lemmas.List.{drop-drop, take-take}
 use Rattle.sec1_der.specs.BackWriters.{end_of, front_of, PutsInFront}
+use Rattle.sec1_der.specs.Elements.{max_length}
+use Rattle.sec1_der.specs.Faults.{Refuses}
+use Rattle.sec1_der.specs.declared.error.ErrorKind.TheVariants.{Overlength}
 use Rattle.sec1_der.specs.SliceWriters.{written_by, room_of, Appends}
 use Rattle.sec1_der.specs.declared.back_writer.BackWriter.{BackWriter}
 use Rattle.sec1_der.specs.declared.error.Error.{Error}
@@ -44,3 +47,13 @@ measured (Some bytes) count none some = record { bytes = bytes; there = refl; co
 pub unmeasured : (piece : Option (List ℕ)) (error : Error) → ((bytes : List ℕ) → piece ≡ Some bytes → ◌≡◌ {A = Result ℕ Error} (Err error) (Ok (length bytes))) → piece ≡ None
 unmeasured None error some = refl
 unmeasured (Some bytes) error some = absurd (cc (some bytes refl))
+
+-- a number above the limit is refused
+pub refused_above : (result : Result ℕ Error) (n : ℕ) → OkIff result (n ≤ max_length) n → IfErr result (λ (e : Error). e.kind ≡ Overlength) → max_length < n → Refuses result Overlength
+refused_above (Ok m) n within kind over = absurd (omega (arith, within.0))
+refused_above (Err e) n within kind over = kind
+
+-- a number within the limit is answered
+pub answered_within : (result : Result ℕ Error) (n m : ℕ) → OkIff result (n ≤ max_length) n → n ≡ m → m ≤ max_length → result ≡ Ok m
+answered_within (Ok k) n m ok same fits = ap Ok (ok.1 ∙ same)
+answered_within (Err e) n m ok same fits = absurd (ok (omega arith))

@@ -2,10 +2,10 @@ use Rattle.std.proofs.Common.{rules, ◌≡◌, ◌<◌, ◌≤◌, ◌+◌, [],
 use Rattle.std.specs.Option.{option_map}
 use Rattle.std.specs.Prelude.{IsSomeAnd}
 use Rattle.sec1_der.specs.Elements.{max_length, element_of, field_of, IsOverlong}
-use Rattle.sec1_der.specs.WriterLaws.{IsMeasured, measured, unmeasured}
+use Rattle.sec1_der.specs.WriterLaws.{IsMeasured, measured, unmeasured, refused_above, answered_within}
 use Rattle.sec1_der.specs.declared.error.ErrorKind.TheVariants.{Overlength}
 use Rattle.sec1.specs.Keys.{key_content}
-use Rattle.sec1.proofs.WriteLemmas.{private_key_piece, parameters_piece, public_key_piece, written, counted, contents, no_room, above, within}
+use Rattle.sec1.proofs.WriteLemmas.{private_key_piece, parameters_piece, public_key_piece, written, counted, contents, no_room}
 use Rattle.sec1.proofs.private_key.EcPrivateKeyEncodeValue.value_len.Goals as goal
 use Rattle.sec1.proofs.private_key.EcPrivateKeyEncodeValue.value_len.Goals.{After-new-2}
 
@@ -78,10 +78,10 @@ pub returns-clause-none : goal.returns-clause-none
 returns-clause-none c e =
     let all = whole c in
     let over : max_length < length all.bytes = subst IsOverlong all.there e in
-    above c.new-2.result _ c.new-2.ensures.within c.new-2.ensures.above (omega (arith, over, all.counted))
+    refused_above c.new-2.result _ c.new-2.ensures.within c.new-2.ensures.above (omega (arith, over, all.counted))
 
 pub returns-clause-some : goal.returns-clause-some
 returns-clause-some c bytes e fits =
     let all = whole c in
     let same : all.bytes ≡ bytes = cc (all.there, e) in
-    within c.new-2.result _ (length bytes) c.new-2.ensures.within (all.counted ∙ ap length same) fits
+    answered_within c.new-2.result _ (length bytes) c.new-2.ensures.within (all.counted ∙ ap length same) fits

@@ -1,0 +1,20 @@
+use Rattle.std.proofs.Common.{subst, sym, arith}
+use Rattle.std.proofs.lemmas.Bool.{false≢true}
+use Rattle.sec1_der.specs.SliceWriters.{Appends}
+use Rattle.sec1_der.specs.Elements.{element_of}
+use Rattle.sec1_der.specs.WriterLaws.{appends_both}
+use Rattle.der_example.proofs.TwoLemmas.{parted}
+use Rattle.der_example.proofs.two.write_two.Goals as goal
+
+pub returns-in_err-element-clause-fits : goal.returns-in_err-element-clause-fits
+returns-in_err-element-clause-fits g c bytes e fits room =
+    let all = parted (element_of g.A.FixedTag.number (g.A.ValueContent.content c.args.first.now)) (element_of g.B.FixedTag.number (g.B.ValueContent.content c.args.second.now)) bytes e in
+    absurd (false≢true (c.in_err-element.ensures.fits all.front all.first_there (omega (arith, all.total))).0)
+
+pub returns-clause-fits : goal.returns-clause-fits
+returns-clause-fits g c bytes e fits room =
+    let all = parted (element_of g.A.FixedTag.number (g.A.ValueContent.content c.args.first.now)) (element_of g.B.FixedTag.number (g.B.ValueContent.content c.args.second.now)) bytes e in
+    let one = c.element.ensures.fits all.front all.first_there (omega (arith, all.total)) in
+    let two = c.element-2.ensures.fits all.back all.second_there (omega (arith, all.total, one.1.room)) in
+    let both = appends_both _ _ _ all.front all.back one.1 two.1 in
+    (two.0, subst (Appends c.args.writer.now c.element-2.new.self) (sym all.joined) both)
