@@ -13,8 +13,8 @@ pub struct AnyRef<'a> {
 
 impl<'a> AnyRef<'a> {
     ghost use Rattle.std.specs.Prelude.{◌≡◌, ◌≤◌, ◌↔◌, ℕ, List, [], ◌++◌, length, true, false, IsOk, IfOk, IsOkAnd, IfErr, OnErr};
-    ghost use Rattle.sec1_der.specs.Elements.{max_length, element, IsHeader, IsProperBeginning};
-    ghost use Rattle.sec1_der.specs.Faults.{Refuses, IsReadingFault};
+    ghost use Rattle.sec1_der.specs.Elements.{max_length, element, IsHeader, IsProperBeginning, LacksHeader};
+    ghost use Rattle.sec1_der.specs.Faults.{header_fault, Refuses, IsReadingFault};
     ghost use Rattle.sec1_der.specs.Readers.{before, HasRead};
     ghost use Rattle.sec1_der.specs.Values.{tag_of, value_of};
 
@@ -41,6 +41,7 @@ impl<'a> AnyRef<'a> {
             → IsOkAnd result (λ any. (tag_of any ≡ tag) × (value_of any ≡ content)) × (reader.new ≡ before rest) }
         ensures short { (tag : ℕ) (content : List ℕ) → IsHeader tag (length content) → reader.old.failed ≡ false
             → IsProperBeginning reader.old.unread (element tag content) → Refuses result ErrorKind.Truncated }
+        ensures fault { reader.old.failed ≡ false → LacksHeader reader.old.unread → Refuses result (header_fault reader.old.unread) }
         ensures kinds { reader.old.failed ≡ false → IfErr result (λ e. IsReadingFault e.kind) }
         ensures failed { reader.old.failed ≡ true → Refuses result ErrorKind.Failed × (reader.new ≡ reader.old) }
         ensures refused { OnErr result (reader.new.failed ≡ true) }
