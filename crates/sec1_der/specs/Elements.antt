@@ -14,12 +14,12 @@ pub record IsTag (tag : ℕ) : Type 0 where
   pub not_end_of_contents : tag ≢ 0
   pub not_high : tag % 32 ≢ 31
 
--- X.690 section 8.1.2.5: bit 20 marks a constructed element.
+-- X.690 section 8.1.2.5: bit 20 (hexadecimal) marks a constructed element.
 abbrev pub IsConstructed : ℕ → Type 0
 IsConstructed tag = IsBitSet tag 5
 
 -- X.690 sections 8.1.3 and 10.1: the one spelling of a length. It is the number itself below 128, else the
--- count of its base 256 digits with bit 80 set, and the digits.
+-- count of its base 256 digits plus 80 (hexadecimal), and the digits.
 unfoldable pub len : ℕ → List ℕ
 len n = let digits = digits_of 256 n in if nat_lt n 0x80 then n ∷ [] else (0x80 + length digits) ∷ digits
 
