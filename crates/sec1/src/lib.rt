@@ -6,6 +6,8 @@ mod error;
 pub mod laws;
 mod parameters;
 mod private_key;
+#[cfg(test)]
+mod tests;
 
 pub use error::{Error, Result};
 pub use parameters::EcParameters;

@@ -16,6 +16,8 @@ mod octet_string;
 mod reader;
 mod slice_writer;
 mod tag;
+#[cfg(test)]
+mod tests;
 mod value;
 mod version;
 
