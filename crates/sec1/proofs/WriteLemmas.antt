@@ -1,15 +1,12 @@
 -- The pieces that a key is written as, and what their counts say.
-use Rattle.std.proofs.Common.{◌≡◌, ◌<◌, ◌≤◌, ◌+◌, ◌++◌, ◌∷◌, [], ℕ, List, length, Option, Some, None, Result, Ok, Err, refl, ap, subst, sym, ◌∙◌, arith, length-append, Bor}
-use Rattle.std.specs.Prelude.{OkIff, IfErr, IsSomeAnd}
+use Rattle.std.proofs.Common.{◌≡◌, ◌≤◌, ◌+◌, ◌++◌, ◌∷◌, [], ℕ, List, length, Option, Some, None, refl, ap, subst, sym, ◌∙◌, arith, length-append, Bor}
+use Rattle.std.specs.Prelude.{IsSomeAnd}
 use Rattle.std.specs.Option.{option_map}
-use Rattle.sec1_der.specs.ElementLaws.{HasElement, element_of_tells, element_of_holds, length-element, length-header}
+use Rattle.sec1_der.specs.ElementLaws.{element_of_tells, element_of_holds, length-element, length-header}
 use Rattle.sec1_der.specs.Elements.{max_length, element, element_of, field_of}
-use Rattle.sec1_der.specs.Faults.{Refuses}
 use Rattle.sec1_der.specs.Identifiers.{IsIdentifier, content_of, identifier_content}
 use Rattle.sec1_der.specs.IdentifierLaws.{identifier_content-tells, identifier_content-holds}
 use Rattle.sec1_der.specs.WriterLaws.{IsMeasured}
-use Rattle.sec1_der.specs.declared.error.Error.{Error}
-use Rattle.sec1_der.specs.declared.error.ErrorKind.TheVariants.{Overlength}
 use Rattle.sec1.specs.declared.parameters.EcParameters.{EcParameters}
 use Rattle.sec1.specs.declared.private_key.EcPrivateKey.TheInside.{Inside}
 use Rattle.sec1.specs.KeyLaws.{private_key_fits, public_key_fits, fields_are_trees, key_content-tells, key_content-holds}

@@ -110,7 +110,7 @@ impl<'a> EcPrivateKey<'a> {
         Ok(der::encode_to_slice(self, buffer)?)
     }
 
-    /// The key's DER encoding.
+    /// The key's DER encoding. Reading it gives a key with the same parts.
     ///
     /// Refused as [`encoded_len`](EcPrivateKey::encoded_len) refuses, then as [`Error::Memory`].
     #[tactic(auto, using(crate::proofs::WriteLemmas::key_written, crate::proofs::WriteLemmas::key_lacks))]

@@ -83,7 +83,8 @@ impl<'b> BackWriter<'b> {
         self.write(&octets[..count])
     }
 
-    /// Puts the element of a value in front: its content, and then the header over what was written.
+    /// Puts the element of a value in front: its content, and then the header over what was written. The crate
+    /// `der` has no such call.
     ///
     /// Refused as [`encoded_len`] refuses, then as Buffer where the element has no room.
     pub fn element<T: EncodeValue + FixedTag>(&mut self, value: &T) -> Result<()>
@@ -104,6 +105,7 @@ impl<'b> BackWriter<'b> {
     }
 
     /// Puts an explicit field `[number]` around the element of a value in front; nothing where there is no value.
+    /// The crate `der` has no such call.
     ///
     /// Refused as [`context_specific_len`] refuses, then as Buffer where the field has no room.
     pub fn context_specific<T: EncodeValue + FixedTag>(

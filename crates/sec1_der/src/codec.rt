@@ -43,6 +43,7 @@ pub fn encoded_len<T: EncodeValue + FixedTag>(value: &T) -> Result<usize>
 }
 
 /// The count of bytes of an explicit field `[number]` around the element of a value; 0 where there is no value.
+/// The crate `der` has no such call.
 ///
 /// Refused as Overlength where the value has no content, or where that or its element is longer than 268,435,455
 /// bytes.
@@ -58,8 +59,8 @@ pub fn context_specific_len<T: EncodeValue + FixedTag>(
     let Some(value) = field else {
         return Ok(0);
     };
-    let header = field_header(number, value)?;
-    Ok(header.encoded_len() + header.length.get())
+    let outside = field_header(number, value)?;
+    Ok(outside.encoded_len() + outside.length.get())
 }
 
 /// Writes the value's element at the beginning of the slice, and answers how many bytes it has. The rest of the
@@ -102,8 +103,7 @@ fn fill<T: EncodeValue + FixedTag>(value: &T, buffer: &mut [u8]) -> Result<()>
     ensures { (bytes : List ℕ) → element_of T.number (T.content value.now) ≡ Some bytes → length buffer.old ≡ length bytes
         → IsOk result × (buffer.new ≡ bytes) }
 {
-    let mut writer = BackWriter::new(buffer);
-    writer.element(value)
+    BackWriter::new(buffer).element(value)
 }
 
 /// The header of the value's element.

@@ -70,7 +70,7 @@ impl<'b> SliceWriter<'b> {
         Ok(())
     }
 
-    /// Appends the element of a value.
+    /// Appends the element of a value. The crate `der` has no such call.
     ///
     /// Refused as [`encoded_len`] refuses, then as Buffer where the element has no room.
     pub fn element<T: EncodeValue + FixedTag>(&mut self, value: &T) -> Result<()>
@@ -88,7 +88,8 @@ impl<'b> SliceWriter<'b> {
         value.encode_value(self)
     }
 
-    /// Appends an explicit field `[number]` around the element of a value; nothing where there is no value.
+    /// Appends an explicit field `[number]` around the element of a value; nothing where there is no value. The
+    /// crate `der` has no such call.
     ///
     /// Refused as [`context_specific_len`] refuses, then as Buffer where the field has no room.
     pub fn context_specific<T: EncodeValue + FixedTag>(

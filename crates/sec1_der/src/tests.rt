@@ -2,3 +2,4 @@ mod memory;
 mod reading;
 mod streams;
 mod trees;
+mod writing;

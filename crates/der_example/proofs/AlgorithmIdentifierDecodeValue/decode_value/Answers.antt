@@ -1,4 +1,4 @@
-use Rattle.std.proofs.Common.{◌≡◌, List, ℕ, [], ap, ◌∙◌}
+use Rattle.std.proofs.Common.{[]}
 use Rattle.std.proofs.lemmas.Bool.{false≢true}
 use Rattle.sec1_der.specs.Elements.{element}
 use Rattle.sec1_der.specs.Identifiers.{identifier_content, IsIdentifierContent}

@@ -1,4 +1,4 @@
-use Rattle.std.proofs.Common.{rules, ◌≡◌, ◌<◌, ◌+◌, ℕ, length, subst, ap, ◌∙◌, arith}
+use Rattle.std.proofs.Common.{rules, ◌≡◌, ◌<◌, ◌+◌, length, subst, ap, ◌∙◌, arith}
 use Rattle.sec1_der.specs.Elements.{max_length, element_of, IsOverlong}
 use Rattle.sec1_der.specs.WriterLaws.{IsMeasured, measured, unmeasured, refused_above, answered_within}
 use Rattle.sec1_der.specs.declared.error.ErrorKind.TheVariants.{Overlength}
