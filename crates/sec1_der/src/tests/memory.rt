@@ -42,7 +42,10 @@ fn is_refused_in_turn<F: FnMut() -> Result<bool>>(
 }
 
 /// Whether the call is right while the next request for memory would be refused.
-fn needs_no_memory<F: FnMut() -> bool>(alloc: Global, mut call: F) -> std::result::Result<bool, Fail>
+fn needs_no_memory<F: FnMut() -> bool>(
+    alloc: Global,
+    mut call: F,
+) -> std::result::Result<bool, Fail>
     requires { F.IsAlwaysCallable call }
 {
     let blocks = hoard(alloc)?;
@@ -54,9 +57,11 @@ fn needs_no_memory<F: FnMut() -> bool>(alloc: Global, mut call: F) -> std::resul
 #[test]
 fn requests_are_refused_in_turn(rt: HostRuntime) -> std::result::Result<(), Fail> {
     let alloc = rt.alloc();
-    assert!(rt; is_refused_in_turn(alloc, || {
-        let document = SecretDocument::read_der_from(alloc, &mut StdReader::new(KEY))?;
-        Ok(document.as_bytes() == KEY)
-    })?);
+    assert!(rt;
+        is_refused_in_turn(alloc, || {
+            let document = SecretDocument::read_der_from(alloc, &mut StdReader::new(KEY))?;
+            Ok(document.as_bytes() == KEY)
+        })?
+    );
     Ok(())
 }
