@@ -8,7 +8,7 @@ use Rattle.sec1_der.specs.Identifiers.{content_of, identifier_content}
 use Rattle.sec1_der.specs.IdentifierLaws.{identifier_content-holds}
 use Rattle.sec1_der.specs.Readers.{Reader, before, HasRead}
 use Rattle.sec1_der.specs.TreeLaws.{BytesDetermineRow}
-use Rattle.sec1_der.specs.Trees.{Tree, Forest, first, leaf, branch, row}
+use Rattle.sec1_der.specs.Trees.{Forest, first, branch, row}
 use Rattle.sec1.specs.Keys.{Key, parameters_field, public_key_field, key_fields, NameCurve, bytes_of, fields_of, IsContentOf, IsKeyContent}
 
 -- the tag of the first tree of a row, if it is a node

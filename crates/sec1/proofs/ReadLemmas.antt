@@ -1,5 +1,5 @@
 -- What the content of a key says of the key's bytes.
-use Rattle.std.proofs.Common.{◌≡◌, ◌≤◌, ◌++◌, ℕ, List, [], length, Option, Some, None, Result, Ok, Err, refl, ap, subst, sym, ◌∙◌}
+use Rattle.std.proofs.Common.{◌≡◌, ◌≤◌, ◌++◌, ℕ, List, [], length, Option, Some, None, Ok, Err, refl, ap, subst, sym, ◌∙◌}
 use Rattle.std.specs.Prelude.{IsSomeAnd}
 use Rattle.sec1_der.specs.Elements.{max_length, element, IsElementOf, IsProperBeginning}
 use Rattle.sec1_der.specs.Faults.{IsReadingFault}
@@ -10,7 +10,7 @@ use Rattle.sec1_der.specs.declared.error.ErrorKind.{ErrorKind}
 use Rattle.sec1_der.specs.declared.error.ErrorKind.TheVariants.{Truncated, Tag, Length, TrailingData, Value, Overlength, Buffer, Failed, Io, Depth, Memory as WantOfMemory}
 use Rattle.sec1.specs.declared.error.Error.{Error}
 use Rattle.sec1.specs.declared.error.Error.TheVariants.{Asn1}
-use Rattle.sec1.specs.Errors.{error_by, error_of, IsAsn1, RefusesAsn1, IsAsn1ReadingFault}
+use Rattle.sec1.specs.Errors.{error_by, error_of}
 use Rattle.sec1.specs.Keys.{Key, key_tree, IsKeyOf, IsContentOf, IsKeyContent, fields_of, key_content}
 use Rattle.sec1.specs.KeyLaws.{key_content-tells, key_content-holds, sequence}
 use Rattle.sec1.specs.ReadsKey.{ReadsKey}

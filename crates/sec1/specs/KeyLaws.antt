@@ -1,13 +1,13 @@
 -- The test for the parts of a key tells what it should, so what has a content is a key.
-use Rattle.std.specs.Prelude.{◌≡◌, ◌≢◌, ℕ, ◌+◌, ◌≤◌, ◌<◌, ◌%◌, Bool, true, false, ◌&&◌, nat_le, List, [], ◌∷◌, ◌++◌, length, Option, Some, None, IfSome, if◌then◌else◌, refl}
-use Rattle.std.proofs.Common.{arith, sym, ap, ◌∙◌, lit<, lit≤, length-append, append-nil, subst}
+use Rattle.std.specs.Prelude.{◌≡◌, ◌≢◌, ℕ, ◌≤◌, ◌<◌, ◌%◌, Bool, true, false, ◌&&◌, nat_le, List, [], ◌∷◌, ◌++◌, length, Option, Some, None, if◌then◌else◌, refl}
+use Rattle.std.proofs.Common.{arith, sym, ap, lit<, lit≤, append-nil}
 use Rattle.std.proofs.lemmas.Bool.{le-leb, leb-true}
 use Rattle.sec1_der.specs.ElementLaws.{length-header, length-element}
-use Rattle.sec1_der.specs.Elements.{max_length, IsTag, IsConstructed, header, element, len}
-use Rattle.sec1_der.specs.Identifiers.{IsIdentifier, content_of, is_identifier}
+use Rattle.sec1_der.specs.Elements.{max_length, IsTag, IsConstructed, element}
+use Rattle.sec1_der.specs.Identifiers.{IsIdentifier, content_of}
 use Rattle.sec1_der.specs.IdentifierLaws.{is_identifier-tells, is_identifier-holds}
-use Rattle.sec1_der.specs.Trees.{Tree, leaf, node, row, joined, bytes, IsTree, AreTrees}
-use Rattle.sec1.specs.Keys.{Key, parameters_field, public_key_field, key_fields, key_tree, NameCurve, HasRoom, fields_of, IsContentOf, names_curve, holds_public_key, has_fields, key_content}
+use Rattle.sec1_der.specs.Trees.{row, bytes, AreTrees}
+use Rattle.sec1.specs.Keys.{Key, parameters_field, public_key_field, key_fields, NameCurve, HasRoom, fields_of, IsContentOf, names_curve, holds_public_key, has_fields, key_content}
 
 -- A tag byte, by its number: these facts are computed where it is given.
 tag_of : (tag : ℕ) → tag < 256 → tag ≢ 0 → tag % 32 ≢ 31 → IsTag tag

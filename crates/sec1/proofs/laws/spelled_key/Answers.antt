@@ -1,7 +1,6 @@
 use Rattle.std.proofs.Common.{refl, lit≤}
 use Rattle.sec1_der.specs.Elements.{len}
 use Rattle.sec1_der.specs.IdentifierLaws.{is_identifier-tells}
-use Rattle.sec1_der.specs.Identifiers.{IsIdentifier, content_of}
 use Rattle.sec1_der.specs.Trees.{IsTreeOf}
 use Rattle.sec1.specs.Examples.{p_256_key, p_256_bytes}
 use Rattle.sec1.specs.Keys.{key_tree, NameCurve, HasRoom}

@@ -1,4 +1,4 @@
-use Rattle.std.proofs.Common.{◌≡◌, ◌≢◌, ◌≤◌, ◌++◌, ℕ, List, length, Option, Some, None, Result, Ok, Err, ap, ◌∙◌, arith, refl}
+use Rattle.std.proofs.Common.{◌≡◌, ◌≢◌, ◌++◌, ℕ, List, length, Option, Some, None, Result, Ok, Err, ap, ◌∙◌, arith, refl}
 use Rattle.std.specs.Prelude.{slice_get, IsOk, IsOkAnd}
 use Rattle.sec1_der.specs.ElementLaws.{length-element, length-header}
 use Rattle.sec1_der.specs.Elements.{element}

@@ -1,5 +1,4 @@
 use Rattle.std.proofs.Common.{◌++◌, length, Err, sym, ap, ◌∙◌, arith, ⊎_elim}
-use Rattle.std.proofs.lemmas.Bool.{false≢true}
 use Rattle.std.proofs.lemmas.List.{append_assoc, length-append}
 use Rattle.sec1_der.specs.Elements.{header}
 use Rattle.sec1_der.proofs.HeaderLemmas.{header_front, header_apart, some_length}

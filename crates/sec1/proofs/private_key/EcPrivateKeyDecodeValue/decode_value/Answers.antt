@@ -1,10 +1,10 @@
-use Rattle.std.proofs.Common.{◌≡◌, ◌++◌, ◌∷◌, [], ℕ, List, true, false, Option, Some, refl, ap, subst, sym, ◌∙◌, lit≤, Bor}
+use Rattle.std.proofs.Common.{◌≡◌, ◌++◌, ◌∷◌, [], ℕ, List, refl, ap, sym, ◌∙◌, lit≤, Bor}
 use Rattle.std.proofs.lemmas.Bool.{false≢true}
 use Rattle.std.proofs.lemmas.List.{append-nil}
 use Rattle.std.specs.Option.{option_map}
 use Rattle.sec1_der.specs.Elements.{element}
 use Rattle.sec1_der.specs.Readers.{before, HasReadElement}
-use Rattle.sec1.specs.Keys.{Key, IsKeyContent, IsContentOf, parameters_field, public_key_field, bytes_of}
+use Rattle.sec1.specs.Keys.{Key, IsContentOf, parameters_field, public_key_field, bytes_of}
 use Rattle.sec1.specs.KeyLaws.{private_key_fits, public_key_fits, fields_are_trees, key_content-holds}
 use Rattle.sec1.specs.Parameters.{curve_of}
 use Rattle.sec1.proofs.KeyLemmas.{before_key, no_parameters, no_public_key, read_parts}

@@ -1,7 +1,7 @@
 use Rattle.std.proofs.Common.{◌≡◌, ◌++◌, ℕ, Bool, false, List, length, take, drop, sym, ap, ◌∙◌}
-use Rattle.std.proofs.lemmas.List.{append_assoc, take_at, drop_at}
-use Rattle.sec1_der.specs.Elements.{header, element, IsProperBeginning}
-use Rattle.sec1_der.specs.Readers.{Reader, before}
+use Rattle.std.proofs.lemmas.List.{take_at, drop_at}
+use Rattle.sec1_der.specs.Elements.{element, IsProperBeginning}
+use Rattle.sec1_der.specs.Readers.{Reader}
 use Rattle.sec1_der.specs.declared.header.Header.{Header}
 use Rattle.sec1_der.proofs.any.AnyRef.decode.Goals as goal
 

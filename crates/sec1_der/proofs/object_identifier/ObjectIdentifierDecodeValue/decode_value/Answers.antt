@@ -1,4 +1,4 @@
-use Rattle.std.proofs.Common.{◌≡◌, List, ℕ, ap}
+use Rattle.std.proofs.Common.{◌≡◌, ap}
 use Rattle.sec1_der.specs.Readers.{Reader}
 use Rattle.sec1_der.specs.IdentifierLaws.{identifier_content-holds}
 use Rattle.sec1_der.proofs.object_identifier.ObjectIdentifierDecodeValue.decode_value.Goals as goal
