@@ -14,8 +14,8 @@ pub use error::{Error, Result};
 pub use parameters::EcParameters;
 pub use private_key::EcPrivateKey;
 pub use sec1_der as der;
-pub use traits::{DecodeEcPrivateKey, EncodeEcPrivateKey};
 use sec1_der::{ID_EC_PUBLIC_KEY, ObjectIdentifier};
+pub use traits::{DecodeEcPrivateKey, EncodeEcPrivateKey};
 
 /// The algorithm identifier of elliptic curve keys, id-ecPublicKey, 1.2.840.10045.2.1 (RFC 5480 section 2.1.1).
 pub const ALGORITHM_OID: ObjectIdentifier = ID_EC_PUBLIC_KEY;

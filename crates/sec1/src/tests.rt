@@ -1,1 +1,3 @@
+mod memory;
 mod reading;
+mod traits;

@@ -1,12 +1,12 @@
 //! Documents over readers and writers that give and take a few bytes at a time, break or never end, and in files.
 use crate::{ErrorKind, SecretDocument, StdReader, StdWriter};
 use std::alloc::Global;
-use std::fs;
-use std::io;
 use std::test::Fail;
+use std::{fs, io};
 
 /// A key on P-256 with all its fields, 121 bytes.
-pub const KEY: &[u8] = b"\x30\x77\x02\x01\x01\x04\x20\x69\x62\x41\x71\x56\x1A\x63\x34\x0D\xE0\xE7\xD8\x69\xF2\xA0\x54\x92\x55\x8E\x1A\x04\x86\x8B\x6A\x9F\x85\x4A\x86\x67\x88\x18\x8D\xA0\x0A\x06\x08\x2A\x86\x48\xCE\x3D\x03\x01\x07\xA1\x44\x03\x42\x00\x04\x1C\xAC\xFF\xB5\x5F\x2F\x2C\xEF\xD8\x9D\x89\xEB\x37\x4B\x26\x81\x15\x24\x52\x80\x2D\xEE\xA0\x99\x16\x06\x81\x37\xD8\x39\xCF\x7F\xC4\x81\xA4\x44\x92\x30\x4D\x7E\xF6\x6A\xC1\x17\xBE\xFE\x83\xA8\xD0\x8F\x15\x5F\x2B\x52\xF9\xF6\x18\xDD\x44\x70\x29\x04\x8E\x0F";
+pub const KEY: &[u8] =
+    b"\x30\x77\x02\x01\x01\x04\x20\x69\x62\x41\x71\x56\x1A\x63\x34\x0D\xE0\xE7\xD8\x69\xF2\xA0\x54\x92\x55\x8E\x1A\x04\x86\x8B\x6A\x9F\x85\x4A\x86\x67\x88\x18\x8D\xA0\x0A\x06\x08\x2A\x86\x48\xCE\x3D\x03\x01\x07\xA1\x44\x03\x42\x00\x04\x1C\xAC\xFF\xB5\x5F\x2F\x2C\xEF\xD8\x9D\x89\xEB\x37\x4B\x26\x81\x15\x24\x52\x80\x2D\xEE\xA0\x99\x16\x06\x81\x37\xD8\x39\xCF\x7F\xC4\x81\xA4\x44\x92\x30\x4D\x7E\xF6\x6A\xC1\x17\xBE\xFE\x83\xA8\xD0\x8F\x15\x5F\x2B\x52\xF9\xF6\x18\xDD\x44\x70\x29\x04\x8E\x0F";
 
 /// What a reader does behind its bytes.
 #[derive(Clone, Copy)]
@@ -56,17 +56,52 @@ impl io::Read for Pieces<'_> {
 static READS: [(&[u8], usize, usize, Then, Option<ErrorKind>, usize); 12] = [
     (KEY, 121, 1, Then::End, None, 121),
     (KEY, 121, 7, Then::End, None, 121),
-    (KEY, 121, 1, Then::Fill(0, 1), Some(ErrorKind::TrailingData), 122),
+    (
+        KEY,
+        121,
+        1,
+        Then::Fill(0, 1),
+        Some(ErrorKind::TrailingData),
+        122,
+    ),
     (KEY, 121, 121, Then::Fail, Some(ErrorKind::Io), 121),
     (KEY, 10, 3, Then::Fail, Some(ErrorKind::Io), 10),
     (KEY, 10, 3, Then::End, Some(ErrorKind::Truncated), 10),
     (KEY, 0, 1, Then::End, Some(ErrorKind::Truncated), 0),
     (KEY, 0, 1, Then::Fill(0, u32::MAX), Some(ErrorKind::Tag), 1),
-    (KEY, 0, 1, Then::Fill(0x30, u32::MAX), Some(ErrorKind::TrailingData), 51),
-    (b"\x30\x80", 2, 1, Then::Fill(0, u32::MAX), Some(ErrorKind::Length), 2),
-    (b"\x30\x84\x10\x00\x00\x00", 6, 1, Then::End, Some(ErrorKind::Length), 6),
+    (
+        KEY,
+        0,
+        1,
+        Then::Fill(0x30, u32::MAX),
+        Some(ErrorKind::TrailingData),
+        51,
+    ),
+    (
+        b"\x30\x80",
+        2,
+        1,
+        Then::Fill(0, u32::MAX),
+        Some(ErrorKind::Length),
+        2,
+    ),
+    (
+        b"\x30\x84\x10\x00\x00\x00",
+        6,
+        1,
+        Then::End,
+        Some(ErrorKind::Length),
+        6,
+    ),
     // three requests of 4,096 bytes are filled, and the fourth read of content fails
-    (b"\x30\x84\x0F\xFF\xFF\xFF", 6, 1, Then::Fill(0, 3), Some(ErrorKind::Io), 12_294),
+    (
+        b"\x30\x84\x0F\xFF\xFF\xFF",
+        6,
+        1,
+        Then::Fill(0, 3),
+        Some(ErrorKind::Io),
+        12_294,
+    ),
 ];
 
 #[test]
@@ -140,8 +175,16 @@ fn documents_are_written(rt: HostRuntime) -> Result<(), Fail> {
         });
         let result = document.write_der_to(&mut writer);
         let narrow = writer.into_inner();
-        assert_eq!(rt; result.err().map(|error| error.kind), want, "with room for {room}");
-        assert_eq!(rt; Some(narrow.taken.as_slice()), KEY.get(..written), "with room for {room}");
+        assert_eq!(rt;
+            result.err().map(|error| error.kind),
+            want,
+            "with room for {room}"
+        );
+        assert_eq!(rt;
+            Some(narrow.taken.as_slice()),
+            KEY.get(..written),
+            "with room for {room}"
+        );
     }
     Ok(())
 }
@@ -149,11 +192,18 @@ fn documents_are_written(rt: HostRuntime) -> Result<(), Fail> {
 #[test]
 fn documents_are_kept_in_files(rt: HostRuntime) -> Result<(), Fail> {
     let folder = std::env::temp_dir(&rt)?;
-    let path = format!(in rt.alloc(); "{}/sec1_der_{}", folder.display(), std::process::id(rt.process()))?;
+    let path = format!(in rt.alloc();
+        "{}/sec1_der_{}",
+        folder.display(),
+        std::process::id(rt.process())
+    )?;
     let missing = SecretDocument::read_der_file(&rt, rt.alloc(), &path);
     assert_eq!(rt; missing.err().map(|error| error.kind), Some(ErrorKind::Io));
 
-    let empty = SecretDocument::read_der_from(rt.alloc(), &mut StdReader::new(b"\x30\x00".as_slice()))?;
+    let empty = SecretDocument::read_der_from(
+        rt.alloc(),
+        &mut StdReader::new(b"\x30\x00".as_slice()),
+    )?;
     let whole = SecretDocument::read_der_from(rt.alloc(), &mut StdReader::new(KEY))?;
     // the second is longer than the first, and the third shorter
     for document in [&empty, &whole, &empty] {
