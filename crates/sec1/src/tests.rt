@@ -1,2 +1,4 @@
+mod memory;
 mod reading;
+mod traits;
 mod writing;

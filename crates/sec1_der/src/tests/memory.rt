@@ -1,6 +1,6 @@
 //! What is answered while requests for memory are refused. These tests take all memory of their process first.
 use super::streams::KEY;
-use crate::{ErrorKind, Header, Result, SecretDocument, SliceReader, StdReader, from_der};
+use crate::{ErrorKind, OctetStringRef, Result, SecretDocument, StdReader, StdWriter, from_der};
 use std::alloc::Global;
 use std::test::Fail;
 
@@ -22,23 +22,29 @@ fn hoard(alloc: Global) -> std::result::Result<Vec<Vec<u8>>, Fail> {
     Ok(blocks)
 }
 
-/// Whether the call is refused with Memory while it has no memory, and is right once it has enough: memory is given
-/// back block by block until then, so each of its requests is refused in turn.
+/// Takes all memory, gives back one block of each size up to 1,024 bytes, and makes the call before each of them, so
+/// that not its first request alone is refused. It has to be refused with Memory until it has enough, and to be right
+/// then.
 fn is_refused_in_turn<F: FnMut() -> Result<bool>>(
     alloc: Global,
     mut call: F,
 ) -> std::result::Result<bool, Fail>
     requires { F.IsAlwaysCallable call }
 {
+    let mut steps: Vec<Vec<u8>> = Vec::with_capacity(alloc, 64)?;
+    for step in 1..65 {
+        steps.push(Vec::with_capacity(alloc, 16 * step)?)?;
+    }
     let blocks = hoard(alloc)?;
     let mut is_refused = false;
-    for _block in blocks.into_iter().rev() {
+    for _step in steps {
         match call() {
             Err(error) if error.kind == ErrorKind::Memory => is_refused = true,
             answer => return Ok(is_refused && answer == Ok(true)),
         }
     }
-    Ok(false)
+    drop(blocks);
+    Ok(is_refused && call() == Ok(true))
 }
 
 /// Whether the call is right while the next request for memory would be refused.
@@ -48,10 +54,8 @@ fn needs_no_memory<F: FnMut() -> bool>(
 ) -> std::result::Result<bool, Fail>
     requires { F.IsAlwaysCallable call }
 {
-    let blocks = hoard(alloc)?;
-    let is_right = Vec::<u8>::with_capacity(alloc, 1).is_err() && call();
-    blocks.into_iter().for_each(|_| {});
-    Ok(is_right)
+    let _blocks = hoard(alloc)?;
+    Ok(Vec::<u8>::with_capacity(alloc, 1).is_err() && call())
 }
 
 #[test]
@@ -61,6 +65,26 @@ fn requests_are_refused_in_turn(rt: HostRuntime) -> std::result::Result<(), Fail
         is_refused_in_turn(alloc, || {
             let document = SecretDocument::read_der_from(alloc, &mut StdReader::new(KEY))?;
             Ok(document.as_bytes() == KEY)
+        })?
+    );
+    Ok(())
+}
+
+#[test]
+fn calls_without_an_allocator_take_no_memory(rt: HostRuntime) -> std::result::Result<(), Fail> {
+    let alloc = rt.alloc();
+    let document = SecretDocument::read_der_from(alloc, &mut StdReader::new(KEY))?;
+    assert!(rt;
+        needs_no_memory(alloc, || {
+            let mut room = [0u8; 121];
+            let written = document.write_der_to(&mut StdWriter::new(room.as_mut_slice()));
+            written.is_ok() && room.as_slice() == KEY
+        })?
+    );
+    assert!(rt;
+        needs_no_memory(alloc, || {
+            let octets = from_der::<OctetStringRef>(b"\x04\x01\xAA");
+            octets.is_ok_and(|octets| octets.as_bytes() == [0xAA].as_slice())
         })?
     );
     Ok(())
