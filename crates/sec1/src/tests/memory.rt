@@ -2,9 +2,16 @@
 use super::reading::KEY;
 use super::traits::Copied;
 use crate::der::{StdReader, StdWriter};
+use crate::point::EncodedPoint32;
 use crate::{DecodeEcPrivateKey, EcPrivateKey, EncodeEcPrivateKey, Error, Result};
+use serde_json::Value;
 use std::alloc::Global;
+use std::cmp::Ordering;
+use std::str::FromStr;
 use std::test::Fail;
+
+/// A point without its y, in hexadecimal.
+static COMPRESSED: &str = "021111111111111111111111111111111111111111111111111111111111111111";
 
 /// Takes all memory that there is, in blocks from large to small, so that the next request is refused.
 fn hoard(alloc: Global) -> std::result::Result<Vec<Vec<u8>>, Fail> {
@@ -61,7 +68,24 @@ fn needs_no_memory<F: FnMut() -> bool>(
 }
 
 #[test]
-fn requests_are_refused_in_turn(rt: HostRuntime) -> std::result::Result<(), Fail> {
+fn writing_is_refused_in_turn(rt: HostRuntime) -> std::result::Result<(), Fail> {
+    let alloc = rt.alloc();
+    let bytes = hex::decode(alloc, KEY)?;
+    let der = bytes.as_slice();
+    let key = EcPrivateKey::try_from(der)?;
+    assert!(rt; is_refused_in_turn(alloc, || Ok(key.to_der(alloc)?.as_slice() == der))?);
+    assert!(rt; is_refused_in_turn(alloc, || Ok(key.document_ref(alloc)?.as_bytes() == der))?);
+    assert!(rt;
+        is_refused_in_turn(
+            alloc,
+            || Ok(EcPrivateKey::try_from(der)?.document(alloc)?.as_bytes() == der)
+        )?
+    );
+    Ok(())
+}
+
+#[test]
+fn the_traits_are_refused_in_turn(rt: HostRuntime) -> std::result::Result<(), Fail> {
     let alloc = rt.alloc();
     let whole = hex::decode(alloc, KEY)?;
     // of a short key there is room for the document before there is for its copy
@@ -85,9 +109,53 @@ fn requests_are_refused_in_turn(rt: HostRuntime) -> std::result::Result<(), Fail
 }
 
 #[test]
+fn texts_of_points_are_refused_in_turn(rt: HostRuntime) -> std::result::Result<(), Fail> {
+    let alloc = rt.alloc();
+    let point = EncodedPoint32::from_str(COMPRESSED)?;
+    let json = Value::from(String::from_str(alloc, COMPRESSED)?);
+    assert!(rt; is_refused_in_turn(alloc, || Ok(point.to_bytes(alloc)?.len() == 33))?);
+    assert!(rt;
+        is_refused_in_turn(
+            alloc,
+            || Ok(point.to_lower_hex(alloc)?.as_str() == COMPRESSED)
+        )?
+    );
+    assert!(rt;
+        is_refused_in_turn(
+            alloc,
+            || Ok(point.to_upper_hex(alloc)?.as_str() == COMPRESSED)
+        )?
+    );
+    assert!(rt; is_refused_in_turn(alloc, || Ok(point.to_json(alloc)? == json))?);
+    Ok(())
+}
+
+#[test]
 fn calls_without_an_allocator_take_no_memory(rt: HostRuntime) -> std::result::Result<(), Fail> {
     let alloc = rt.alloc();
     let bytes = hex::decode(alloc, KEY)?;
-    assert!(rt; needs_no_memory(alloc, || EcPrivateKey::try_from(bytes.as_slice()).is_ok())?);
+    let json = Value::from(String::from_str(alloc, COMPRESSED)?);
+    assert!(rt;
+        needs_no_memory(alloc, || {
+            let Ok(key) = EcPrivateKey::try_from(bytes.as_slice()) else {
+                return false;
+            };
+            let mut room = [0u8; 121];
+            key.encoded_len() == Ok(121)
+                && key.encode_to_slice(&mut room) == Ok(121)
+                && room.as_slice() == bytes.as_slice()
+        })?
+    );
+    assert!(rt;
+        needs_no_memory(alloc, || {
+            let Ok(point) = EncodedPoint32::from_str(COMPRESSED) else {
+                return false;
+            };
+            EncodedPoint32::from_bytes(point.as_bytes()) == Ok(point)
+                && EncodedPoint32::from_json(&json) == Ok(point)
+                && point.cmp(&EncodedPoint32::identity()) == Ordering::Greater
+                && point.compress() == point
+        })?
+    );
     Ok(())
 }

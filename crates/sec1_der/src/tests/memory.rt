@@ -1,6 +1,9 @@
 //! What is answered while requests for memory are refused. These tests take all memory of their process first.
 use super::streams::KEY;
-use crate::{ErrorKind, OctetStringRef, Result, SecretDocument, StdReader, StdWriter, from_der};
+use crate::{
+    ErrorKind, OctetStringRef, Result, SecretDocument, StdReader, StdWriter, check_tree,
+    encode_to_slice, encoded_len, from_der, to_der,
+};
 use std::alloc::Global;
 use std::test::Fail;
 
@@ -61,6 +64,26 @@ fn needs_no_memory<F: FnMut() -> bool>(
 #[test]
 fn requests_are_refused_in_turn(rt: HostRuntime) -> std::result::Result<(), Fail> {
     let alloc = rt.alloc();
+    let octets = OctetStringRef::new(&[0xAA; 300])?;
+    let header = b"\x04\x82\x01\x2C".as_slice();
+    assert!(rt;
+        is_refused_in_turn(alloc, || {
+            let der = to_der(alloc, &octets)?;
+            Ok(der.len() == 304 && der.starts_with(header))
+        })?
+    );
+    assert!(rt;
+        is_refused_in_turn(alloc, || {
+            let document = SecretDocument::encode_msg(alloc, &octets)?;
+            Ok(document.len() == 304 && document.as_bytes().starts_with(header))
+        })?
+    );
+    assert!(rt;
+        is_refused_in_turn(alloc, || {
+            let document = SecretDocument::from_der(alloc, KEY)?;
+            Ok(document.as_bytes() == KEY)
+        })?
+    );
     assert!(rt;
         is_refused_in_turn(alloc, || {
             let document = SecretDocument::read_der_from(alloc, &mut StdReader::new(KEY))?;
@@ -73,7 +96,7 @@ fn requests_are_refused_in_turn(rt: HostRuntime) -> std::result::Result<(), Fail
 #[test]
 fn calls_without_an_allocator_take_no_memory(rt: HostRuntime) -> std::result::Result<(), Fail> {
     let alloc = rt.alloc();
-    let document = SecretDocument::read_der_from(alloc, &mut StdReader::new(KEY))?;
+    let document = SecretDocument::from_der(alloc, KEY)?;
     assert!(rt;
         needs_no_memory(alloc, || {
             let mut room = [0u8; 121];
@@ -83,8 +106,15 @@ fn calls_without_an_allocator_take_no_memory(rt: HostRuntime) -> std::result::Re
     );
     assert!(rt;
         needs_no_memory(alloc, || {
-            let octets = from_der::<OctetStringRef>(b"\x04\x01\xAA");
-            octets.is_ok_and(|octets| octets.as_bytes() == [0xAA].as_slice())
+            let Ok(octets) = from_der::<OctetStringRef>(b"\x04\x01\xAA") else {
+                return false;
+            };
+            let mut room = [0u8; 3];
+            octets.as_bytes() == [0xAA].as_slice()
+                && encoded_len(&octets) == Ok(3)
+                && encode_to_slice(&octets, &mut room) == Ok(3)
+                && room == [0x04, 0x01, 0xAA]
+                && check_tree(KEY) == Ok(7)
         })?
     );
     Ok(())
