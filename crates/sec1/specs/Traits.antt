@@ -4,7 +4,7 @@ use Rattle.std.specs.Io.KnownBytes.{Appends}
 use Rattle.sec1.specs.Errors.{error_of}
 use Rattle.sec1.specs.declared.error.Error.{Error}
 use Rattle.sec1.specs.declared.error.Error.TheVariants.{Memory}
-use Rattle.sec1_der.specs.Documents.{IsElement}
+use Rattle.sec1_der.specs.Elements.{IsElement}
 use Rattle.sec1_der.specs.Faults.{IsIoOrMemory}
 use Rattle.sec1_der.specs.ReadsDocument.{IsElementFault, ReadsElement, RefusesElement}
 use Rattle.sec1_der.specs.Streams.{AppendsBeginning}

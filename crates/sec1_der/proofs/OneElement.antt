@@ -2,14 +2,13 @@
 use Rattle.std.proofs.Common.{◌≡◌, ℕ, List, [], ◌∷◌, ◌++◌, ◌⊎◌, inl, inr, ⊎_elim, length, Option, Some, None, IfSome, arith, refl, sym, ap, subst, ◌∙◌, append-nil, append_assoc, length-append}
 use Rattle.sec1_der.specs.declared.error.ErrorKind.{ErrorKind}
 use Rattle.sec1_der.specs.declared.error.ErrorKind.TheVariants.{Truncated, Tag, Length, TrailingData, Value, Overlength, Buffer, Failed, Io, Depth, Memory}
-use Rattle.sec1_der.specs.Documents.{IsElement}
-use Rattle.sec1_der.specs.Elements.{IsTag, header}
+use Rattle.sec1_der.specs.Elements.{IsTag, header, IsElement}
 use Rattle.sec1_der.specs.Faults.{IsIoOrMemory}
 use Rattle.sec1_der.specs.ReadsDocument.{IsCutShort, IsBadTag, IsBadLength, IsElementAndByte, RefusesElement}
 use Rattle.sec1_der.proofs.HeaderLemmas.{header_front, header_apart}
 
 cut_is_none : (bytes : List ℕ) → IsCutShort bytes → ¬ (IsElement bytes)
-cut_is_none bytes (inl lacks) whole = lacks.none whole.tag (length whole.content) whole.content whole.is_header whole.spelled
+cut_is_none bytes (inl refused) whole = refused.lacks whole.tag (length whole.content) whole.content whole.allowed whole.spelled
 cut_is_none bytes (inr cut) whole =
     let same = header_apart cut.tag cut.announced whole.tag (length whole.content) cut.content whole.content (sym cut.joined ∙ whole.spelled) in
     omega (arith, cut.few, same.1, ap length same.2)
@@ -18,13 +17,13 @@ bad_tag_is_none : (bytes more : List ℕ) → IsBadTag bytes → ¬ (IsElement (
 bad_tag_is_none bytes more bad whole =
     let joined : bad.byte ∷ more ≡ header whole.tag (length whole.content) ++ whole.content = ap (λ xs. xs ++ more) (sym bad.alone) ∙ whole.spelled in
     let same : whole.tag ≡ bad.byte = cc in
-    bad.bad (subst IsTag same whole.is_header.tag_byte)
+    bad.bad (subst IsTag same whole.allowed.tag_byte)
 
 bad_length_is_none : (bytes more : List ℕ) → IsBadLength bytes → ¬ (IsElement (bytes ++ more))
 bad_length_is_none bytes more bad whole = ⊎_elim
-    (λ longer. bad.bad.none whole.tag (length whole.content) longer.after whole.is_header longer.front)
+    (λ longer. bad.bad.lacks whole.tag (length whole.content) longer.after whole.allowed longer.front)
     (λ cut. cc (cut, bad.bad.told))
-    (header_front whole.tag (length whole.content) bytes more whole.content whole.is_header whole.spelled)
+    (header_front whole.tag (length whole.content) bytes more whole.content whole.allowed whole.spelled)
 
 longer_is_none : (bytes more : List ℕ) → IsElementAndByte bytes → ¬ (IsElement (bytes ++ more))
 longer_is_none bytes more longer whole =

@@ -5,10 +5,9 @@ use Rattle.std.proofs.KnownBytes.{Consumes-trans, Consumes-kept}
 use Rattle.std.proofs.lemmas.Bool.{ltb-true, leb-true, cases_lt}
 use Rattle.sec1_der.specs.declared.error.ErrorKind.{ErrorKind}
 use Rattle.sec1_der.specs.declared.error.ErrorKind.TheVariants.{Truncated, Tag, Length, TrailingData, Io}
-use Rattle.sec1_der.specs.Documents.{IsElement}
-use Rattle.sec1_der.specs.Elements.{IsHeader, header}
+use Rattle.sec1_der.specs.Elements.{IsHeader, header, IsElement}
 use Rattle.sec1_der.specs.Faults.{length_fault, is_tag, header_fault}
-use Rattle.sec1_der.specs.ReadsDocument.{LacksHeader, IsCutContent, TakesBefore, RefusesElement, ReadsHeader, RefusesContent}
+use Rattle.sec1_der.specs.ReadsDocument.{RefusesHeader, IsCutContent, TakesBefore, RefusesElement, ReadsHeader, RefusesContent}
 use Rattle.sec1_der.specs.Streams.{ReadsOnto}
 use Rattle.sec1_der.proofs.HeaderLemmas.{longer}
 
@@ -31,14 +30,14 @@ pub record IsLonger (bytes : List ℕ) : Type 0 where
   pub before : List ℕ
   pub last : ℕ
   pub joined : bytes ≡ before ++ last ∷ []
-  pub cut : LacksHeader Truncated before
+  pub cut : RefusesHeader Truncated before
 
 -- no bytes, or one more than some that were cut short
 abbrev pub IsReachable : List ℕ → Type 0
 IsReachable bytes = (bytes ≡ []) ⊎ IsLonger bytes
 
 -- one byte behind a header that was cut short
-pub one_more : (old new : Option (List ℕ)) (before after : List ℕ) (n : ℕ) → n ≤ 1 → n ≢ 0 → LacksHeader Truncated before → ReadsOnto old new before after n → IsReachable after
+pub one_more : (old new : Option (List ℕ)) (before after : List ℕ) (n : ℕ) → n ≤ 1 → n ≢ 0 → RefusesHeader Truncated before → ReadsOnto old new before after n → IsReachable after
 one_more old new before after n most some cut r = inr (by_bytes r.bytes r.count r.appended)
   where
     by_bytes : (bytes : List ℕ) → length bytes ≡ n → after ≡ before ++ bytes → IsLonger after
@@ -52,7 +51,7 @@ header_alone tag n bytes rest is split (inl empty) = absurd (cc (empty, split))
 header_alone tag n bytes rest is split (inr one) = ⊎_elim
     (λ beyond. by_rest rest split (omega (arith, beyond, lengths)))
     (λ within. let c = longer one.before (header tag n) (one.last ∷ []) rest (sym one.joined ∙ split) within in
-    absurd (one.cut.none tag n c.after is c.front))
+    absurd (one.cut.lacks tag n c.after is c.front))
     (cases_lt (length one.before) (length (header tag n)))
   where
     lengths : length one.before + 1 ≡ length (header tag n) + length rest
@@ -96,7 +95,7 @@ pub whole_element : (tag n : ℕ) (bytes content : List ℕ) → IsHeader tag n 
 whole_element tag n bytes content is spelled count = record {
   tag = tag;
   content = content;
-  is_header = subst (IsHeader tag) (sym count) is;
+  allowed = subst (IsHeader tag) (sym count) is;
   spelled = ap (λ xs. xs ++ content) (spelled ∙ ap (header tag) (sym count));
 }
 

@@ -41,6 +41,17 @@ pub record IsElementOf (tag : ℕ) (content bytes : List ℕ) : Type 0 where
   pub within : length content ≤ max_length
   pub spelled : bytes ≡ element tag content
 
+-- the bytes are those of an element, and no more
+pub record IsElement (bytes : List ℕ) : Type 0 where
+  pub tag : ℕ
+  pub content : List ℕ
+  pub allowed : IsHeader tag (length content)
+  pub spelled : bytes ≡ element tag content
+
+-- no header begins the bytes
+abbrev pub LacksHeader : List ℕ → Type 0
+LacksHeader bytes = (tag n : ℕ) (rest : List ℕ) → IsHeader tag n → bytes ≡ header tag n ++ rest → ⊥
+
 -- the bytes begin another list, which has more
 pub record IsProperBeginning (bytes whole : List ℕ) : Type 0 where
   pub more : List ℕ

@@ -14,5 +14,4 @@ pub mod Faults
 pub mod Readers
 pub mod Streams
 pub mod StdStreams
-pub mod Documents
 pub mod ReadsDocument

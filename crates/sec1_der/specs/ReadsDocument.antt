@@ -1,8 +1,7 @@
 -- What reading one element from a stream takes from it, and why it is refused.
 use Rattle.std.specs.Prelude.{◌≡◌, ℕ, ◌<◌, ◌⊎◌, List, [], ◌∷◌, ◌++◌, length, Option}
 use Rattle.std.specs.Io.KnownBytes.{Consumes, IsAtEnd}
-use Rattle.sec1_der.specs.Documents.{IsElement}
-use Rattle.sec1_der.specs.Elements.{IsTag, IsHeader, header}
+use Rattle.sec1_der.specs.Elements.{IsTag, IsHeader, header, IsElement, LacksHeader}
 use Rattle.sec1_der.specs.Faults.{header_fault, IsIoOrMemory}
 use Rattle.sec1_der.specs.declared.error.ErrorKind.{ErrorKind}
 use Rattle.sec1_der.specs.declared.error.ErrorKind.TheVariants.{Truncated, Tag, Length, TrailingData, Value, Overlength, Buffer, Failed, Io, Depth, Memory}
@@ -28,9 +27,9 @@ IsElementFault Depth = ⊥
 IsElementFault Memory = Unit {0}
 
 -- no header begins the bytes, and they tell this kind
-pub record LacksHeader (kind : ErrorKind) (bytes : List ℕ) : Type 0 where
+pub record RefusesHeader (kind : ErrorKind) (bytes : List ℕ) : Type 0 where
+  pub lacks : LacksHeader bytes
   pub told : header_fault bytes ≡ kind
-  pub none : (tag n : ℕ) (rest : List ℕ) → IsHeader tag n → ¬ (bytes ≡ header tag n ++ rest)
 
 -- a header, and fewer bytes than it announces
 pub record IsCutContent (bytes : List ℕ) : Type 0 where
@@ -43,7 +42,7 @@ pub record IsCutContent (bytes : List ℕ) : Type 0 where
 
 -- the bytes end inside a header, or inside the content that it announces
 abbrev pub IsCutShort : List ℕ → Type 0
-IsCutShort bytes = LacksHeader Truncated bytes ⊎ IsCutContent bytes
+IsCutShort bytes = RefusesHeader Truncated bytes ⊎ IsCutContent bytes
 
 -- a first byte that is no tag
 pub record IsBadTag (bytes : List ℕ) : Type 0 where
@@ -56,8 +55,8 @@ pub record IsBadLength (bytes : List ℕ) : Type 0 where
   pub before : List ℕ
   pub last : ℕ
   pub joined : bytes ≡ before ++ last ∷ []
-  pub cut : LacksHeader Truncated before
-  pub bad : LacksHeader Length bytes
+  pub cut : RefusesHeader Truncated before
+  pub bad : RefusesHeader Length bytes
 
 -- one element and one byte more
 pub record IsElementAndByte (bytes : List ℕ) : Type 0 where

@@ -1,33 +1,35 @@
-//! The bytes of one element.
 ghost use Rattle.std.specs.Prelude.{◌≡◌};
+ghost use Rattle.sec1_der.specs.Elements.{IsElement};
 
 mod stream;
 
 use std::marker::Model;
 
-/// The bytes of one element: a header, and as many bytes as it announces (X.690 section 8.1.1). The content isn't
-/// looked into. A contract sees the bytes.
+/// The bytes of one element in memory: a header, and as many bytes as it announces. A contract sees the bytes.
+///
+/// Whether the content is elements again isn't tested. There is always a header, so no document is empty.
 #[derive(Drop)]
 pub struct SecretDocument {
     bytes: Vec<u8>,
 }
 
 impl Model for SecretDocument {
-    ghost use Rattle.std.specs.Prelude.{ℕ, List};
-    ghost use Rattle.sec1_der.specs.Documents.{IsElement};
+    ghost use Rattle.std.specs.Prelude.{List, ℕ};
+    ghost use Rattle.sec1_der.specs.Elements.{IsElement};
 
     ghost Value = { List ℕ };
 
-    ghost view = { λ d. d.bytes.items };
+    ghost view = { λ document. document.bytes.items };
 
-    ghost invariant = { λ d. IsElement d.bytes.items };
+    ghost invariant = { λ document. IsElement document.bytes.items };
 }
 
 impl SecretDocument {
-    /// The bytes of the element.
+    /// The bytes, header and content.
     pub fn as_bytes(&self) -> &[u8]
-        ensures { result.now ≡ self.now }
+        ensures bytes { result.now ≡ self.now }
+        ensures element { IsElement self.now }
     {
-        self.bytes.as_slice()
+        &self.bytes
     }
 }

@@ -1,7 +1,7 @@
 //! Documents that are read from streams and files, and written to them.
-ghost use Rattle.std.specs.Prelude.{ℕ, List, [], false, ◌≡◌, ◌↔◌, ◌⊎◌, ◌++◌, IsTrue, IsErr, IfOk, IfErr, IfSome, OnOk, OnErr};
+ghost use Rattle.std.specs.Prelude.{[], false, ◌≡◌, ◌↔◌, ◌⊎◌, IsTrue, IsErr, IfOk, IfErr, IfSome, OnOk, OnErr};
 ghost use Rattle.std.specs.Io.KnownBytes.{Appends};
-ghost use Rattle.sec1_der.specs.Documents.{IsElement};
+ghost use Rattle.sec1_der.specs.Elements.{IsElement};
 ghost use Rattle.sec1_der.specs.Faults.{IsIoOrMemory, Refuses};
 ghost use Rattle.sec1_der.specs.ReadsDocument.{IsElementFault, ReadsElement, RefusesElement, ReadsHeader, RefusesContent};
 ghost use Rattle.sec1_der.specs.Streams.{AppendsBeginning, ReadsOnto};

@@ -1,7 +1,7 @@
 use Rattle.std.proofs.Common.{◌≤◌, length, length-append, arith, rules, sym, ap, ◌∙◌}
 use Rattle.sec1_der.specs.declared.error.ErrorKind.TheVariants.{Truncated}
 use Rattle.sec1_der.specs.Faults.{header_fault}
-use Rattle.sec1_der.specs.ReadsDocument.{LacksHeader}
+use Rattle.sec1_der.specs.ReadsDocument.{RefusesHeader}
 use Rattle.sec1_der.proofs.StreamLemmas.{cut_is_short, one_more, reads_onto_read, header_alone}
 use Rattle.sec1_der.proofs.document.stream.read_header.Goals as goal
 
@@ -16,7 +16,7 @@ pub loop-header-preserved : goal.loop-header-preserved
 loop-header-preserved g c =
     let bytes = c.loop-header.bytes.items in
     let fault = c.in-Err-Truncated.ensures in
-    let cut : LacksHeader Truncated bytes = record { told = sym (sym c.in-Err-Truncated.field-0-is ∙ (fault.kind ∙ ap header_fault c.deref.ensures.value)); none = λ tag n rest is e. fault.only tag n rest is (c.deref.ensures.value ∙ e) } in
+    let cut : RefusesHeader Truncated bytes = record { told = sym (sym c.in-Err-Truncated.field-0-is ∙ (fault.kind ∙ ap header_fault c.deref.ensures.value)); lacks = λ tag n rest is e. fault.only tag n rest is (c.deref.ensures.value ∙ e) } in
     let few : length bytes ≤ 5 = cut_is_short bytes cut.told in
     let read = c.in_ok-read_some.ensures.bytes in
     let most = c.in_ok-read_some.ensures.bound in
