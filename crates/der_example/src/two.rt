@@ -16,7 +16,9 @@ pub(crate) fn two_len<A: EncodeValue + FixedTag, B: EncodeValue + FixedTag>(
     second: &B,
 ) -> Result<Length>
     ensures none { IsOverlong (join (element_of A.number (A.content first.now)) (element_of B.number (B.content second.now))) → Refuses result ErrorKind.Overlength }
-    ensures some { (bytes : List ℕ) → join (element_of A.number (A.content first.now)) (element_of B.number (B.content second.now)) ≡ Some bytes
+    ensures some { (bytes : List ℕ)
+        → join (element_of A.number (A.content first.now)) (element_of B.number (B.content second.now))
+        ≡ Some bytes
         → length bytes ≤ max_length → result ≡ Ok (length bytes) }
 {
     let front = encoded_len(first)?;
@@ -33,10 +35,16 @@ pub(crate) fn write_two<A: EncodeValue + FixedTag, B: EncodeValue + FixedTag>(
     ensures slice { KeepsSlice writer.old writer.new }
     ensures none { IsOverlong (join (element_of A.number (A.content first.now)) (element_of B.number (B.content second.now)))
         → Refuses result ErrorKind.Overlength × AppendsNothing writer.old writer.new }
-    ensures fits { (bytes : List ℕ) → join (element_of A.number (A.content first.now)) (element_of B.number (B.content second.now)) ≡ Some bytes
-        → length bytes ≤ max_length → length bytes ≤ length (room_of writer.old) → IsOk result × Appends writer.old writer.new bytes }
-    ensures full { (bytes : List ℕ) → join (element_of A.number (A.content first.now)) (element_of B.number (B.content second.now)) ≡ Some bytes
-        → length bytes ≤ max_length → length (room_of writer.old) < length bytes → Refuses result ErrorKind.Buffer × AppendsNothing writer.old writer.new }
+    ensures fits { (bytes : List ℕ)
+        → join (element_of A.number (A.content first.now)) (element_of B.number (B.content second.now))
+        ≡ Some bytes
+        → length bytes ≤ max_length → length bytes ≤ length (room_of writer.old) → IsOk result
+        × Appends writer.old writer.new bytes }
+    ensures full { (bytes : List ℕ)
+        → join (element_of A.number (A.content first.now)) (element_of B.number (B.content second.now))
+        ≡ Some bytes
+        → length bytes ≤ max_length → length (room_of writer.old) < length bytes
+        → Refuses result ErrorKind.Buffer × AppendsNothing writer.old writer.new }
 {
     if writer.remaining() < two_len(first, second)?.get() {
         return Err(ErrorKind::Buffer.into());
@@ -55,10 +63,16 @@ pub(crate) fn put_two<A: EncodeValue + FixedTag, B: EncodeValue + FixedTag>(
     ensures grows { length (end_of writer.old) ≤ length (end_of writer.new) }
     ensures none { IsOverlong (join (element_of A.number (A.content first.now)) (element_of B.number (B.content second.now)))
         → Refuses result ErrorKind.Overlength × PutsNothing writer.old writer.new }
-    ensures fits { (bytes : List ℕ) → join (element_of A.number (A.content first.now)) (element_of B.number (B.content second.now)) ≡ Some bytes
-        → length bytes ≤ max_length → length bytes ≤ length (front_of writer.old) → IsOk result × PutsInFront writer.old writer.new bytes }
-    ensures full { (bytes : List ℕ) → join (element_of A.number (A.content first.now)) (element_of B.number (B.content second.now)) ≡ Some bytes
-        → length bytes ≤ max_length → length (front_of writer.old) < length bytes → Refuses result ErrorKind.Buffer × PutsNothing writer.old writer.new }
+    ensures fits { (bytes : List ℕ)
+        → join (element_of A.number (A.content first.now)) (element_of B.number (B.content second.now))
+        ≡ Some bytes
+        → length bytes ≤ max_length → length bytes ≤ length (front_of writer.old) → IsOk result
+        × PutsInFront writer.old writer.new bytes }
+    ensures full { (bytes : List ℕ)
+        → join (element_of A.number (A.content first.now)) (element_of B.number (B.content second.now))
+        ≡ Some bytes
+        → length bytes ≤ max_length → length (front_of writer.old) < length bytes
+        → Refuses result ErrorKind.Buffer × PutsNothing writer.old writer.new }
 {
     if writer.remaining() < two_len(first, second)?.get() {
         return Err(ErrorKind::Buffer.into());

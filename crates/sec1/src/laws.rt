@@ -10,7 +10,9 @@ use crate::{EcParameters, EcPrivateKey};
 
 /// Two parameters with one content name the same curve.
 pub fn one_curve()
-    ensures { (a b : EcParameters) (bytes : List ℕ) → ⟦<EcParameters as ValueContent>⟧.content a ≡ Some bytes → ⟦<EcParameters as ValueContent>⟧.content b ≡ Some bytes
+    ensures { (a b : EcParameters) (bytes : List ℕ)
+        → ⟦<EcParameters as ValueContent>⟧.content a ≡ Some bytes
+        → ⟦<EcParameters as ValueContent>⟧.content b ≡ Some bytes
         → curve_of a ≡ curve_of b }
 {
     laws::one_identifier();
@@ -18,7 +20,9 @@ pub fn one_curve()
 
 /// Two keys with one content have the same parts.
 pub fn one_key()
-    ensures { (a b : Key) (bytes : List ℕ) → ⟦<EcPrivateKey<'static> as ValueContent>⟧.content a ≡ Some bytes → ⟦<EcPrivateKey<'static> as ValueContent>⟧.content b ≡ Some bytes
+    ensures { (a b : Key) (bytes : List ℕ)
+        → ⟦<EcPrivateKey<'static> as ValueContent>⟧.content a ≡ Some bytes
+        → ⟦<EcPrivateKey<'static> as ValueContent>⟧.content b ≡ Some bytes
         → a ≡ b }
 {
     laws::rows_unique();

@@ -40,7 +40,8 @@ impl<'a> From<&'a EcParameters> for AnyRef<'a> {
     ghost use Rattle.sec1_der.specs.Identifiers.{IsIdentifier};
     ghost use Rattle.sec1_der.specs.Values.{tag_of, value_of};
 
-    ghost from_gives = { λ parameters any. (tag_of any ≡ 0x06) × IsIdentifier (curve_of parameters.now) (value_of any) };
+    ghost from_gives = { λ parameters any. (tag_of any ≡ 0x06)
+        × IsIdentifier (curve_of parameters.now) (value_of any) };
 
     fn from(parameters: &'a EcParameters) -> AnyRef<'a> {
         match parameters {

@@ -101,7 +101,8 @@ impl<'a> EcPrivateKey<'a> {
     /// slice is too short. The whole slice is unchanged then.
     #[tactic(auto, using(crate::proofs::WriteLemmas::key_written, crate::proofs::WriteLemmas::key_lacks))]
     pub fn encode_to_slice(&self, buffer: &mut [u8]) -> Result<usize>
-        ensures none { HasNoBytes self.now → RefusesAsn1 result ErrorKind.Overlength × (buffer.new ≡ buffer.old) }
+        ensures none { HasNoBytes self.now → RefusesAsn1 result ErrorKind.Overlength
+            × (buffer.new ≡ buffer.old) }
         ensures fits { (bytes : List ℕ) → IsKeyOf self.now bytes → length bytes ≤ length buffer.old
             → (result ≡ Ok (length bytes)) × (buffer.new ≡ bytes ++ drop (length bytes) buffer.old) }
         ensures full { (bytes : List ℕ) → IsKeyOf self.now bytes → length buffer.old < length bytes
@@ -116,7 +117,8 @@ impl<'a> EcPrivateKey<'a> {
     #[tactic(auto, using(crate::proofs::WriteLemmas::key_written, crate::proofs::WriteLemmas::key_lacks))]
     pub fn to_der(&self, alloc: Global) -> Result<Vec<u8>>
         ensures none { HasNoBytes self.now → RefusesAsn1 result ErrorKind.Overlength }
-        ensures some { (bytes : List ℕ) → IsKeyOf self.now bytes → MatchResult result (λ der. der.items ≡ bytes) (λ e. e ≡ Error.Memory) }
+        ensures some { (bytes : List ℕ) → IsKeyOf self.now bytes
+            → MatchResult result (λ der. der.items ≡ bytes) (λ e. e ≡ Error.Memory) }
     {
         Ok(der::to_der(alloc, self)?)
     }
@@ -126,7 +128,8 @@ impl<'a> EcPrivateKey<'a> {
     /// Refused as [`to_der`](EcPrivateKey::to_der) refuses.
     pub fn document(self, alloc: Global) -> Result<SecretDocument>
         ensures none { HasNoBytes self.entry → RefusesAsn1 result ErrorKind.Overlength }
-        ensures some { (bytes : List ℕ) → IsKeyOf self.entry bytes → MatchResult result (λ document. document ≡ bytes) (λ e. e ≡ Error.Memory) }
+        ensures some { (bytes : List ℕ) → IsKeyOf self.entry bytes
+            → MatchResult result (λ document. document ≡ bytes) (λ e. e ≡ Error.Memory) }
     {
         self.document_ref(alloc)
     }
@@ -137,7 +140,8 @@ impl<'a> EcPrivateKey<'a> {
     #[tactic(auto, using(crate::proofs::WriteLemmas::key_written, crate::proofs::WriteLemmas::key_lacks))]
     pub fn document_ref(&self, alloc: Global) -> Result<SecretDocument>
         ensures none { HasNoBytes self.now → RefusesAsn1 result ErrorKind.Overlength }
-        ensures some { (bytes : List ℕ) → IsKeyOf self.now bytes → MatchResult result (λ document. document ≡ bytes) (λ e. e ≡ Error.Memory) }
+        ensures some { (bytes : List ℕ) → IsKeyOf self.now bytes
+            → MatchResult result (λ document. document ≡ bytes) (λ e. e ≡ Error.Memory) }
     {
         Ok(SecretDocument::encode_msg(alloc, self)?)
     }
@@ -195,11 +199,13 @@ impl<'a> DecodeValue<'a> for EcPrivateKey<'a> {
 fn read_parameters(reader: &mut SliceReader<'_>) -> der::Result<Option<EcParameters>>
     ensures found { IfOk result (λ parameters. HasRead (bytes_of (parameters_field (option_map curve_of parameters))) reader.old reader.new) }
     ensures curve { IfOk result (λ parameters. NameCurve (option_map curve_of parameters)) }
-    ensures only { (curve : Option (List ℕ)) (rest : List ℕ) → NameCurve curve → slice_get rest 0 ≢ Some 0xA0
+    ensures only { (curve : Option (List ℕ)) (rest : List ℕ) → NameCurve curve
+        → slice_get rest 0 ≢ Some 0xA0
         → reader.old ≡ before (bytes_of (parameters_field curve) ++ rest)
         → IsOk result × (reader.new ≡ before rest) }
     ensures kinds { reader.old.failed ≡ false → IfErr result (λ e. IsReadingFault e.kind) }
-    ensures failed { reader.old.failed ≡ true → Refuses result ErrorKind.Failed × (reader.new ≡ reader.old) }
+    ensures failed { reader.old.failed ≡ true → Refuses result ErrorKind.Failed
+        × (reader.new ≡ reader.old) }
     ensures refused { OnErr result (reader.new.failed ≡ true) }
 {
     reader.context_specific::<EcParameters>(0)
@@ -209,11 +215,13 @@ fn read_parameters(reader: &mut SliceReader<'_>) -> der::Result<Option<EcParamet
 fn read_public_key<'a>(reader: &mut SliceReader<'a>) -> der::Result<Option<&'a [u8]>>
     ensures found { IfOk result (λ public_key. HasRead (bytes_of (public_key_field (option_map (λ bytes. bytes.now) public_key))) reader.old reader.new) }
     ensures room { IfOk result (λ public_key. HasRoom (option_map (λ bytes. bytes.now) public_key)) }
-    ensures only { (bytes : Option (List ℕ)) (rest : List ℕ) → HasRoom bytes → slice_get rest 0 ≢ Some 0xA1
+    ensures only { (bytes : Option (List ℕ)) (rest : List ℕ) → HasRoom bytes
+        → slice_get rest 0 ≢ Some 0xA1
         → reader.old ≡ before (bytes_of (public_key_field bytes) ++ rest)
         → IsOk result × (reader.new ≡ before rest) }
     ensures kinds { reader.old.failed ≡ false → IfErr result (λ e. IsReadingFault e.kind) }
-    ensures failed { reader.old.failed ≡ true → Refuses result ErrorKind.Failed × (reader.new ≡ reader.old) }
+    ensures failed { reader.old.failed ≡ true → Refuses result ErrorKind.Failed
+        × (reader.new ≡ reader.old) }
     ensures refused { OnErr result (reader.new.failed ≡ true) }
 {
     let Some(bits) = reader.context_specific::<BitStringRef>(1)? else {
@@ -263,7 +271,8 @@ impl EncodeValue for EcPrivateKey<'_> {
 fn bit_string(public_key: Option<&[u8]>) -> der::Result<Option<BitStringRef<'_>>>
     ensures found { IfOk result (λ bits. option_map (⟦<BitStringRef<'static> as ValueContent>⟧.content) bits
         ≡ option_map (λ bytes. Some (0 ∷ bytes)) (option_map (λ bytes. bytes.now) public_key.entry)) }
-    ensures none { IfErr result (λ e. (e.kind ≡ ErrorKind.Overlength) × IsSomeAnd (option_map (λ bytes. bytes.now) public_key.entry) (λ bytes. max_length ≤ length bytes)) }
+    ensures none { IfErr result (λ e. (e.kind ≡ ErrorKind.Overlength)
+        × IsSomeAnd (option_map (λ bytes. bytes.now) public_key.entry) (λ bytes. max_length ≤ length bytes)) }
 {
     match public_key {
         None => Ok(None),

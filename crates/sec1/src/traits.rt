@@ -43,7 +43,8 @@ pub trait DecodeEcPrivateKey: Sized {
     /// [`from_sec1_der`](DecodeEcPrivateKey::from_sec1_der) do.
     fn read_sec1_der_file<F: Files>(rt: &F, alloc: Global, path: &str) -> Result<Self>
         ensures found { IfOk result (λ key. IsElementWith (λ bytes. reads bytes key)) }
-        ensures refused { IfErr result (λ error. IsDocumentError error ⊎ IsElementWith (λ bytes. IsMemoryOr (refuses bytes) error)) }
+        ensures refused { IfErr result (λ error. IsDocumentError error
+            ⊎ IsElementWith (λ bytes. IsMemoryOr (refuses bytes) error)) }
     {
         let document = SecretDocument::read_der_file(rt, alloc, path)?;
         Self::from_sec1_der(alloc, document.as_bytes())
@@ -74,7 +75,8 @@ pub trait EncodeEcPrivateKey {
         ensures beginning { IsTrue (W.failed writer.new)
             → WritesKeyBeginning writes self.now (W.written writer.old) (W.written writer.new) }
         ensures refused { W.failed writer.new ≡ false → IfErr result (IsMemoryOr (refuses self.now)) }
-        ensures nothing { W.failed writer.new ≡ false → OnErr result (W.written writer.new ≡ W.written writer.old) }
+        ensures nothing { W.failed writer.new ≡ false
+            → OnErr result (W.written writer.new ≡ W.written writer.old) }
     {
         let document = self.to_sec1_der(alloc)?;
         document.write_der_to(writer)?;

@@ -206,9 +206,6 @@ goes_on-tells content h some =
 pub not_spelled : (content : List ℕ) → goes_on 0 content ≡ false → (false ≡ true) ↔ ((arcs : List ℕ) × Spells arcs content)
 not_spelled content e = (λ h. absurd (false≢true h), λ s. sym e ∙ (goes_on_from_spells s.0 content s.1).0)
 
-pub empty_not_spelled : (content : List ℕ) → length content ≡ 0 → (false ≡ true) ↔ ((arcs : List ℕ) × Spells arcs content)
-empty_not_spelled content e = (λ h. absurd (false≢true h), λ s. absurd (omega (arith, spells_some s.0 content s.1)))
-
 -- a byte that stops the reading
 pub stops_large : (high : ℕ) (content : List ℕ) (i : ℕ) → i < length content → 2 ^ 25 ≤ high → goes_on high (drop i content) ≡ false
 stops_large high content i l large =
@@ -237,9 +234,6 @@ marked_step n some = ap marked (digits_of_step 128 n (omega arith) some) ∙ map
 
 pub length-marked_step : (n : ℕ) → 0 < n → length (marked (digits_of 128 n)) ≡ length (marked (digits_of 128 (n / 128))) + 1
 length-marked_step n some = ap length (marked_step n some) ∙ length-append (marked (digits_of 128 (n / 128))) ((128 + n % 128) ∷ [])
-
-pub length-base128 : (n : ℕ) → length (base128 n) ≡ length (marked (digits_of 128 (n / 128))) + 1
-length-base128 n = length-append (marked (digits_of 128 (n / 128))) (n % 128 ∷ [])
 
 -- an element can hold the content of an identifier
 pub identifier_fits : (arcs content : List ℕ) → IsIdentifier arcs content → IsOverlong (identifier_content arcs) → ⊥

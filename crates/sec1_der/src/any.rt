@@ -37,13 +37,19 @@ impl<'a> AnyRef<'a> {
     pub fn decode(reader: &mut SliceReader<'a>) -> Result<AnyRef<'a>>
         ensures found { IfOk result (λ any. IsHeader (tag_of any) (length (value_of any))
             × HasRead (element (tag_of any) (value_of any)) reader.old reader.new) }
-        ensures only { (tag : ℕ) (content rest : List ℕ) → IsHeader tag (length content) → reader.old ≡ before (element tag content ++ rest)
-            → IsOkAnd result (λ any. (tag_of any ≡ tag) × (value_of any ≡ content)) × (reader.new ≡ before rest) }
-        ensures short { (tag : ℕ) (content : List ℕ) → IsHeader tag (length content) → reader.old.failed ≡ false
-            → IsProperBeginning reader.old.unread (element tag content) → Refuses result ErrorKind.Truncated }
-        ensures fault { reader.old.failed ≡ false → LacksHeader reader.old.unread → Refuses result (header_fault reader.old.unread) }
+        ensures only { (tag : ℕ) (content rest : List ℕ) → IsHeader tag (length content)
+            → reader.old ≡ before (element tag content ++ rest)
+            → IsOkAnd result (λ any. (tag_of any ≡ tag) × (value_of any ≡ content))
+            × (reader.new ≡ before rest) }
+        ensures short { (tag : ℕ) (content : List ℕ) → IsHeader tag (length content)
+            → reader.old.failed ≡ false
+            → IsProperBeginning reader.old.unread (element tag content)
+            → Refuses result ErrorKind.Truncated }
+        ensures fault { reader.old.failed ≡ false → LacksHeader reader.old.unread
+            → Refuses result (header_fault reader.old.unread) }
         ensures kinds { reader.old.failed ≡ false → IfErr result (λ e. IsReadingFault e.kind) }
-        ensures failed { reader.old.failed ≡ true → Refuses result ErrorKind.Failed × (reader.new ≡ reader.old) }
+        ensures failed { reader.old.failed ≡ true → Refuses result ErrorKind.Failed
+            × (reader.new ≡ reader.old) }
         ensures refused { OnErr result (reader.new.failed ≡ true) }
     {
         reader.check()?;
@@ -81,7 +87,8 @@ impl<'a> From<&'a ObjectIdentifier> for AnyRef<'a> {
     ghost use Rattle.sec1_der.specs.Identifiers.{IsIdentifier};
     ghost use Rattle.sec1_der.specs.Values.{tag_of, value_of};
 
-    ghost from_gives = { λ identifier any. (tag_of any ≡ 0x06) × IsIdentifier identifier.now (value_of any) };
+    ghost from_gives = { λ identifier any. (tag_of any ≡ 0x06)
+        × IsIdentifier identifier.now (value_of any) };
 
     fn from(identifier: &'a ObjectIdentifier) -> AnyRef<'a> {
         AnyRef {

@@ -51,8 +51,10 @@ impl<'b> BackWriter<'b> {
     pub fn write(&mut self, bytes: &[u8]) -> Result<()>
         ensures slice { KeepsEnd self.old self.new }
         ensures grows { length (end_of self.old) ≤ length (end_of self.new) }
-        ensures fits { length bytes.now ≤ length (front_of self.old) → IsOk result × PutsInFront self.old self.new bytes.now }
-        ensures full { length (front_of self.old) < length bytes.now → Refuses result ErrorKind.Buffer × PutsNothing self.old self.new }
+        ensures fits { length bytes.now ≤ length (front_of self.old) → IsOk result
+            × PutsInFront self.old self.new bytes.now }
+        ensures full { length (front_of self.old) < length bytes.now → Refuses result ErrorKind.Buffer
+            × PutsNothing self.old self.new }
     {
         if bytes.len() > self.start {
             return Err(ErrorKind::Buffer.into());
@@ -72,10 +74,13 @@ impl<'b> BackWriter<'b> {
         requires { since ≤ length (end_of self.old) }
         ensures slice { KeepsEnd self.old self.new }
         ensures grows { length (end_of self.old) ≤ length (end_of self.new) }
-        ensures none { max_length < length (end_of self.old) - since → Refuses result ErrorKind.Overlength × PutsNothing self.old self.new }
-        ensures fits { (n : ℕ) → length (end_of self.old) ≡ n + since → n ≤ max_length → length (header tag n) ≤ length (front_of self.old)
+        ensures none { max_length < length (end_of self.old) - since
+            → Refuses result ErrorKind.Overlength × PutsNothing self.old self.new }
+        ensures fits { (n : ℕ) → length (end_of self.old) ≡ n + since → n ≤ max_length
+            → length (header tag n) ≤ length (front_of self.old)
             → IsOk result × PutsInFront self.old self.new (header tag n) }
-        ensures full { (n : ℕ) → length (end_of self.old) ≡ n + since → n ≤ max_length → length (front_of self.old) < length (header tag n)
+        ensures full { (n : ℕ) → length (end_of self.old) ≡ n + since → n ≤ max_length
+            → length (front_of self.old) < length (header tag n)
             → Refuses result ErrorKind.Buffer × PutsNothing self.old self.new }
     {
         let length = Length::new(self.written() - since)?;
@@ -90,10 +95,13 @@ impl<'b> BackWriter<'b> {
     pub fn element<T: EncodeValue + FixedTag>(&mut self, value: &T) -> Result<()>
         ensures slice { KeepsEnd self.old self.new }
         ensures grows { length (end_of self.old) ≤ length (end_of self.new) }
-        ensures none { element_of T.number (T.content value.now) ≡ None → Refuses result ErrorKind.Overlength × PutsNothing self.old self.new }
-        ensures fits { (bytes : List ℕ) → element_of T.number (T.content value.now) ≡ Some bytes → length bytes ≤ length (front_of self.old)
+        ensures none { element_of T.number (T.content value.now) ≡ None
+            → Refuses result ErrorKind.Overlength × PutsNothing self.old self.new }
+        ensures fits { (bytes : List ℕ) → element_of T.number (T.content value.now) ≡ Some bytes
+            → length bytes ≤ length (front_of self.old)
             → IsOk result × PutsInFront self.old self.new bytes }
-        ensures full { (bytes : List ℕ) → element_of T.number (T.content value.now) ≡ Some bytes → length (front_of self.old) < length bytes
+        ensures full { (bytes : List ℕ) → element_of T.number (T.content value.now) ≡ Some bytes
+            → length (front_of self.old) < length bytes
             → Refuses result ErrorKind.Buffer × PutsNothing self.old self.new }
     {
         if self.remaining() < encoded_len(value)? {
@@ -116,10 +124,15 @@ impl<'b> BackWriter<'b> {
         requires { number ≤ 30 }
         ensures slice { KeepsEnd self.old self.new }
         ensures grows { length (end_of self.old) ≤ length (end_of self.new) }
-        ensures none { field_of number T.number (option_map T.content field.now) ≡ None → Refuses result ErrorKind.Overlength × PutsNothing self.old self.new }
-        ensures fits { (bytes : List ℕ) → field_of number T.number (option_map T.content field.now) ≡ Some bytes → length bytes ≤ length (front_of self.old)
+        ensures none { field_of number T.number (option_map T.content field.now) ≡ None
+            → Refuses result ErrorKind.Overlength × PutsNothing self.old self.new }
+        ensures fits { (bytes : List ℕ)
+            → field_of number T.number (option_map T.content field.now) ≡ Some bytes
+            → length bytes ≤ length (front_of self.old)
             → IsOk result × PutsInFront self.old self.new bytes }
-        ensures full { (bytes : List ℕ) → field_of number T.number (option_map T.content field.now) ≡ Some bytes → length (front_of self.old) < length bytes
+        ensures full { (bytes : List ℕ)
+            → field_of number T.number (option_map T.content field.now) ≡ Some bytes
+            → length (front_of self.old) < length bytes
             → Refuses result ErrorKind.Buffer × PutsNothing self.old self.new }
     {
         if self.remaining() < context_specific_len(number, field)? {

@@ -14,15 +14,19 @@ use std::alloc::Global;
 ///
 /// Refused as [`SliceReader::decode`] refuses, then as TrailingData where bytes follow the element.
 pub fn from_der<'a, T: DecodeValue<'a> + FixedTag + Drop>(input: &'a [u8]) -> Result<T>
-    ensures found { IfOk result (λ value. IsSomeAnd (T.content value) (λ content. T.is_content content × IsElementOf T.number content input.now)) }
+    ensures found { IfOk result (λ value. IsSomeAnd (T.content value) (λ content. T.is_content content
+        × IsElementOf T.number content input.now)) }
     ensures only { (content : List ℕ) → T.is_content content → IsElementOf T.number content input.now
         → IsOkAnd result (λ value. T.content value ≡ Some content) }
 
     ensures empty { input.now ≡ [] → Refuses result ErrorKind.Truncated }
-    ensures other_tag { (byte : ℕ) → slice_get input.now 0 ≡ Some byte → byte ≢ T.number → Refuses result ErrorKind.Tag }
-    ensures short { (content : List ℕ) → length content ≤ max_length → IsProperBeginning input.now (element T.number content)
+    ensures other_tag { (byte : ℕ) → slice_get input.now 0 ≡ Some byte → byte ≢ T.number
+        → Refuses result ErrorKind.Tag }
+    ensures short { (content : List ℕ) → length content ≤ max_length
+        → IsProperBeginning input.now (element T.number content)
         → Refuses result ErrorKind.Truncated }
-    ensures long { (content : List ℕ) → T.is_content content → length content ≤ max_length → IsProperBeginning (element T.number content) input.now
+    ensures long { (content : List ℕ) → T.is_content content → length content ≤ max_length
+        → IsProperBeginning (element T.number content) input.now
         → Refuses result ErrorKind.TrailingData }
     ensures kinds { IfErr result (λ e. IsReadingFault e.kind) }
 {
@@ -33,8 +37,10 @@ pub fn from_der<'a, T: DecodeValue<'a> + FixedTag + Drop>(input: &'a [u8]) -> Re
 ///
 /// Refused as Overlength where the value has no content, or one that is longer than 268,435,455 bytes.
 pub fn encoded_len<T: EncodeValue + FixedTag>(value: &T) -> Result<usize>
-    ensures none { element_of T.number (T.content value.now) ≡ None → Refuses result ErrorKind.Overlength }
-    ensures some { (bytes : List ℕ) → element_of T.number (T.content value.now) ≡ Some bytes → result ≡ Ok (length bytes) }
+    ensures none { element_of T.number (T.content value.now) ≡ None
+        → Refuses result ErrorKind.Overlength }
+    ensures some { (bytes : List ℕ) → element_of T.number (T.content value.now) ≡ Some bytes
+        → result ≡ Ok (length bytes) }
     ensures most { IfOk result (λ n. n ≤ max_length + 6) }
     ensures tag { OnOk result (IsTag T.number) }
 {
@@ -52,8 +58,10 @@ pub fn context_specific_len<T: EncodeValue + FixedTag>(
     field: &Option<T>,
 ) -> Result<usize>
     requires { number ≤ 30 }
-    ensures none { field_of number T.number (option_map T.content field.now) ≡ None → Refuses result ErrorKind.Overlength }
-    ensures some { (bytes : List ℕ) → field_of number T.number (option_map T.content field.now) ≡ Some bytes → result ≡ Ok (length bytes) }
+    ensures none { field_of number T.number (option_map T.content field.now) ≡ None
+        → Refuses result ErrorKind.Overlength }
+    ensures some { (bytes : List ℕ)
+        → field_of number T.number (option_map T.content field.now) ≡ Some bytes → result ≡ Ok (length bytes) }
     ensures most { IfOk result (λ n. n ≤ max_length + 6) }
 {
     let Some(value) = field else {
@@ -69,10 +77,13 @@ pub fn context_specific_len<T: EncodeValue + FixedTag>(
 /// Refused as [`encoded_len`] refuses, then as Buffer where the slice is too short. The whole slice is unchanged
 /// then.
 pub fn encode_to_slice<T: EncodeValue + FixedTag>(value: &T, buffer: &mut [u8]) -> Result<usize>
-    ensures none { element_of T.number (T.content value.now) ≡ None → Refuses result ErrorKind.Overlength × (buffer.new ≡ buffer.old) }
-    ensures fits { (bytes : List ℕ) → element_of T.number (T.content value.now) ≡ Some bytes → length bytes ≤ length buffer.old
+    ensures none { element_of T.number (T.content value.now) ≡ None
+        → Refuses result ErrorKind.Overlength × (buffer.new ≡ buffer.old) }
+    ensures fits { (bytes : List ℕ) → element_of T.number (T.content value.now) ≡ Some bytes
+        → length bytes ≤ length buffer.old
         → (result ≡ Ok (length bytes)) × (buffer.new ≡ bytes ++ drop (length bytes) buffer.old) }
-    ensures full { (bytes : List ℕ) → element_of T.number (T.content value.now) ≡ Some bytes → length buffer.old < length bytes
+    ensures full { (bytes : List ℕ) → element_of T.number (T.content value.now) ≡ Some bytes
+        → length buffer.old < length bytes
         → Refuses result ErrorKind.Buffer × (buffer.new ≡ buffer.old) }
 {
     let total = encoded_len(value)?;
@@ -87,7 +98,8 @@ pub fn encode_to_slice<T: EncodeValue + FixedTag>(value: &T, buffer: &mut [u8]) 
 ///
 /// Refused as [`encoded_len`] refuses, then as Memory.
 pub fn to_der<T: EncodeValue + FixedTag>(alloc: Global, value: &T) -> Result<Vec<u8>>
-    ensures none { element_of T.number (T.content value.now) ≡ None → Refuses result ErrorKind.Overlength }
+    ensures none { element_of T.number (T.content value.now) ≡ None
+        → Refuses result ErrorKind.Overlength }
     ensures some { (bytes : List ℕ) → element_of T.number (T.content value.now) ≡ Some bytes
         → MatchResult result (λ der. der.items ≡ bytes) (λ e. e.kind ≡ ErrorKind.Memory) }
     ensures tag { OnOk result (IsTag T.number) }
@@ -100,7 +112,8 @@ pub fn to_der<T: EncodeValue + FixedTag>(alloc: Global, value: &T) -> Result<Vec
 
 /// Writes the value's element over a slice of its length.
 fn fill<T: EncodeValue + FixedTag>(value: &T, buffer: &mut [u8]) -> Result<()>
-    ensures { (bytes : List ℕ) → element_of T.number (T.content value.now) ≡ Some bytes → length buffer.old ≡ length bytes
+    ensures { (bytes : List ℕ) → element_of T.number (T.content value.now) ≡ Some bytes
+        → length buffer.old ≡ length bytes
         → IsOk result × (buffer.new ≡ bytes) }
 {
     BackWriter::new(buffer).element(value)
@@ -108,7 +121,8 @@ fn fill<T: EncodeValue + FixedTag>(value: &T, buffer: &mut [u8]) -> Result<()>
 
 /// The header of the value's element.
 pub(crate) fn element_header<T: EncodeValue + FixedTag>(value: &T) -> Result<Header>
-    ensures none { element_of T.number (T.content value.now) ≡ None → Refuses result ErrorKind.Overlength }
+    ensures none { element_of T.number (T.content value.now) ≡ None
+        → Refuses result ErrorKind.Overlength }
     ensures some { (content : List ℕ) → T.content value.now ≡ Some content → length content ≤ max_length
         → result ≡ Ok (record { tag = T.number; length = length content }) }
     ensures tag { OnOk result (IsTag T.number) }
@@ -122,8 +136,10 @@ pub(crate) fn element_header<T: EncodeValue + FixedTag>(value: &T) -> Result<Hea
 /// The header of an explicit field `[number]` around the value's element.
 pub(crate) fn field_header<T: EncodeValue + FixedTag>(number: u8, value: &T) -> Result<Header>
     requires { number ≤ 30 }
-    ensures none { field_of number T.number (Some (T.content value.now)) ≡ None → Refuses result ErrorKind.Overlength }
-    ensures some { (inside : List ℕ) → element_of T.number (T.content value.now) ≡ Some inside → length inside ≤ max_length
+    ensures none { field_of number T.number (Some (T.content value.now)) ≡ None
+        → Refuses result ErrorKind.Overlength }
+    ensures some { (inside : List ℕ) → element_of T.number (T.content value.now) ≡ Some inside
+        → length inside ≤ max_length
         → result ≡ Ok (record { tag = 0xA0 + number; length = length inside }) }
 {
     Ok(Header {

@@ -36,13 +36,17 @@ impl SecretDocument {
     /// has no room, as TrailingData where bytes follow it, and as Memory.
     pub fn from_der(alloc: Global, bytes: &[u8]) -> Result<SecretDocument>
         ensures found { IfOk result (λ document. (document ≡ bytes.now) × IsElement bytes.now) }
-        ensures only { IsElement bytes.now → MatchResult result (λ document. document ≡ bytes.now) (λ e. e.kind ≡ ErrorKind.Memory) }
+        ensures only { IsElement bytes.now
+            → MatchResult result (λ document. document ≡ bytes.now) (λ e. e.kind ≡ ErrorKind.Memory) }
         ensures fault { LacksHeader bytes.now → Refuses result (header_fault bytes.now) }
-        ensures short { (tag : ℕ) (content : List ℕ) → IsHeader tag (length content) → IsProperBeginning bytes.now (element tag content)
+        ensures short { (tag : ℕ) (content : List ℕ) → IsHeader tag (length content)
+            → IsProperBeginning bytes.now (element tag content)
             → Refuses result ErrorKind.Truncated }
-        ensures long { (tag : ℕ) (content : List ℕ) → IsHeader tag (length content) → IsProperBeginning (element tag content) bytes.now
+        ensures long { (tag : ℕ) (content : List ℕ) → IsHeader tag (length content)
+            → IsProperBeginning (element tag content) bytes.now
             → Refuses result ErrorKind.TrailingData }
-        ensures kinds { IfErr result (λ e. IsReadingFault e.kind ⊎ ((e.kind ≡ ErrorKind.Memory) × IsElement bytes.now)) }
+        ensures kinds { IfErr result (λ e. IsReadingFault e.kind
+            ⊎ ((e.kind ≡ ErrorKind.Memory) × IsElement bytes.now)) }
     {
         let (header, inside) = match element_at(bytes) {
             Ok(found) => found,
@@ -59,7 +63,8 @@ impl SecretDocument {
     ///
     /// Refused as [`to_der`] refuses.
     pub fn encode_msg<T: EncodeValue + FixedTag>(alloc: Global, value: &T) -> Result<SecretDocument>
-        ensures none { element_of T.number (T.content value.now) ≡ None → Refuses result ErrorKind.Overlength }
+        ensures none { element_of T.number (T.content value.now) ≡ None
+            → Refuses result ErrorKind.Overlength }
         ensures some { (bytes : List ℕ) → element_of T.number (T.content value.now) ≡ Some bytes
             → MatchResult result (λ document. document ≡ bytes) (λ e. e.kind ≡ ErrorKind.Memory) }
     {

@@ -30,12 +30,15 @@ impl Header {
     /// has then failed.
     pub fn decode(reader: &mut SliceReader) -> Result<Header>
         // What is read is a header, and just its bytes are read.
-        ensures found { IfOk result (λ h. IsHeader h.tag h.length × HasRead (header h.tag h.length) reader.old reader.new) }
+        ensures found { IfOk result (λ h. IsHeader h.tag h.length
+            × HasRead (header h.tag h.length) reader.old reader.new) }
         // Where the unread bytes begin with a header, it is read.
-        ensures only { (tag n : ℕ) (rest : List ℕ) → IsHeader tag n → reader.old ≡ before (header tag n ++ rest)
+        ensures only { (tag n : ℕ) (rest : List ℕ) → IsHeader tag n
+            → reader.old ≡ before (header tag n ++ rest)
             → (result ≡ Ok (record { tag = tag; length = n })) × (reader.new ≡ before rest) }
         // Where they begin with none, the bytes tell the kind.
-        ensures kind { reader.old.failed ≡ false → IsErr result → Refuses result (header_fault reader.old.unread) }
+        ensures kind { reader.old.failed ≡ false → IsErr result
+            → Refuses result (header_fault reader.old.unread) }
         ensures failed { reader.old.failed ≡ true → Refuses result ErrorKind.Failed }
         ensures refused { OnErr result (reader.new ≡ refused reader.old) }
     {
@@ -101,9 +104,12 @@ pub(crate) fn element_at(input: &[u8]) -> First<'_, Header>
     ensures kinds { IfErr result IsReadingFault }
     ensures found { IfOk result (λ x. IsHeader x.0.tag x.0.length
         × (input.now ≡ header x.0.tag x.0.length ++ x.1.now) × (x.0.length ≤ length x.1.now)) }
-    ensures only { (tag : ℕ) (content rest : List ℕ) → IsHeader tag (length content) → input.now ≡ element tag content ++ rest
-        → IsOkAnd result (λ x. (x.0 ≡ record { tag = tag; length = length content }) × (x.1.now ≡ content ++ rest)) }
-    ensures short { (tag : ℕ) (content : List ℕ) → IsHeader tag (length content) → IsProperBeginning input.now (element tag content)
+    ensures only { (tag : ℕ) (content rest : List ℕ) → IsHeader tag (length content)
+        → input.now ≡ element tag content ++ rest
+        → IsOkAnd result (λ x. (x.0 ≡ record { tag = tag; length = length content })
+        × (x.1.now ≡ content ++ rest)) }
+    ensures short { (tag : ℕ) (content : List ℕ) → IsHeader tag (length content)
+        → IsProperBeginning input.now (element tag content)
         → result ≡ Err ErrorKind.Truncated }
     ensures fault { LacksHeader input.now → result ≡ Err (header_fault input.now) }
 {
@@ -119,7 +125,8 @@ pub(crate) fn element_at(input: &[u8]) -> First<'_, Header>
 
 /// The header that the bytes begin with, and the bytes after it.
 pub(crate) fn header_at(bytes: &[u8]) -> First<'_, Header>
-    ensures found { IfOk result (λ x. IsHeader x.0.tag x.0.length × (bytes.now ≡ header x.0.tag x.0.length ++ x.1.now)) }
+    ensures found { IfOk result (λ x. IsHeader x.0.tag x.0.length
+        × (bytes.now ≡ header x.0.tag x.0.length ++ x.1.now)) }
     ensures only { (tag n : ℕ) (rest : List ℕ) → IsHeader tag n → bytes.now ≡ header tag n ++ rest
         → IsOkAnd result (λ x. (x.0 ≡ record { tag = tag; length = n }) × (x.1.now ≡ rest)) }
     ensures kind { IfErr result (λ kind. kind ≡ header_fault bytes.now) }

@@ -27,25 +27,32 @@ pub fn trees_prefix_free()
 
 /// Two versions with one content are the same.
 pub fn one_version()
-    ensures { (a b : VersionOne) (bytes : List ℕ) → ⟦<VersionOne as ValueContent>⟧.content a ≡ Some bytes → ⟦<VersionOne as ValueContent>⟧.content b ≡ Some bytes
+    ensures { (a b : VersionOne) (bytes : List ℕ)
+        → ⟦<VersionOne as ValueContent>⟧.content a ≡ Some bytes
+        → ⟦<VersionOne as ValueContent>⟧.content b ≡ Some bytes
         → a ≡ b }
 {}
 
 /// Two octet strings with one content have the same bytes.
 pub fn one_octet_string()
-    ensures { (a b : OctetStringRef) (bytes : List ℕ) → ⟦<OctetStringRef<'static> as ValueContent>⟧.content a ≡ Some bytes → ⟦<OctetStringRef<'static> as ValueContent>⟧.content b ≡ Some bytes
+    ensures { (a b : OctetStringRef) (bytes : List ℕ)
+        → ⟦<OctetStringRef<'static> as ValueContent>⟧.content a ≡ Some bytes
+        → ⟦<OctetStringRef<'static> as ValueContent>⟧.content b ≡ Some bytes
         → octets_of a ≡ octets_of b }
 {}
 
 /// Two bit strings with one content have the same bytes, and as many unused bits.
 pub fn one_bit_string()
-    ensures { (a b : BitStringRef) (bytes : List ℕ) → ⟦<BitStringRef<'static> as ValueContent>⟧.content a ≡ Some bytes → ⟦<BitStringRef<'static> as ValueContent>⟧.content b ≡ Some bytes
+    ensures { (a b : BitStringRef) (bytes : List ℕ)
+        → ⟦<BitStringRef<'static> as ValueContent>⟧.content a ≡ Some bytes
+        → ⟦<BitStringRef<'static> as ValueContent>⟧.content b ≡ Some bytes
         → (unused_bits_of a ≡ unused_bits_of b) × (bit_bytes_of a ≡ bit_bytes_of b) }
 {}
 
 /// Two identifiers with one content have the same arcs.
 pub fn one_identifier()
-    ensures { (a b bytes : List ℕ) → ⟦<ObjectIdentifier as ValueContent>⟧.content a ≡ Some bytes → ⟦<ObjectIdentifier as ValueContent>⟧.content b ≡ Some bytes
+    ensures { (a b bytes : List ℕ) → ⟦<ObjectIdentifier as ValueContent>⟧.content a ≡ Some bytes
+        → ⟦<ObjectIdentifier as ValueContent>⟧.content b ≡ Some bytes
         → a ≡ b }
 {}
 
@@ -63,7 +70,8 @@ pub fn spelled_lengths()
 /// The contents of P-256's identifier (RFC 5480 section 2.1.1.1), of the example 2.999 (X.690 section 8.19.5),
 /// and of the greatest second arc.
 pub fn spelled_identifiers()
-    ensures p_256 { content_of (1 ∷ 2 ∷ 840 ∷ 10045 ∷ 3 ∷ 1 ∷ 7 ∷ []) ≡ 0x2A ∷ 0x86 ∷ 0x48 ∷ 0xCE ∷ 0x3D ∷ 0x03 ∷ 0x01 ∷ 0x07 ∷ [] }
+    ensures p_256 { content_of (1 ∷ 2 ∷ 840 ∷ 10045 ∷ 3 ∷ 1 ∷ 7 ∷ [])
+        ≡ 0x2A ∷ 0x86 ∷ 0x48 ∷ 0xCE ∷ 0x3D ∷ 0x03 ∷ 0x01 ∷ 0x07 ∷ [] }
     ensures example { content_of (2 ∷ 999 ∷ []) ≡ 0x88 ∷ 0x37 ∷ [] }
     ensures greatest { content_of (2 ∷ 4294967215 ∷ []) ≡ 0x8F ∷ 0xFF ∷ 0xFF ∷ 0xFF ∷ 0x7F ∷ [] }
 {}

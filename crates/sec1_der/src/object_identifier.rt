@@ -55,8 +55,10 @@ impl ObjectIdentifier {
     /// The identifier with this dotted text: its arcs in decimal digits without leading zeros, joined by full
     /// stops. Any other text is refused as Value, also one whose content would have more than 39 bytes.
     pub fn new(text: &str) -> Result<ObjectIdentifier>
-        ensures found { IfOk result (λ arcs. IsIdentifier arcs (content_of arcs) × (text.now ≡ dotted arcs)) }
-        ensures only { (arcs : List ℕ) → IsIdentifier arcs (content_of arcs) → text.now ≡ dotted arcs → result ≡ Ok arcs }
+        ensures found { IfOk result (λ arcs. IsIdentifier arcs (content_of arcs)
+            × (text.now ≡ dotted arcs)) }
+        ensures only { (arcs : List ℕ) → IsIdentifier arcs (content_of arcs) → text.now ≡ dotted arcs
+            → result ≡ Ok arcs }
         ensures value { IfErr result (λ e. e.kind ≡ ErrorKind.Value) }
     {
         let mut builder = Builder::new();

@@ -62,7 +62,8 @@ impl<'a> SliceReader<'a> {
 
     /// Reads the next `count` bytes, which are lent. Refused as Truncated where there are fewer.
     pub fn read_slice(&mut self, count: Length) -> Result<&'a [u8]>
-        ensures found { IfOk result (λ bytes. (length bytes.now ≡ count) × HasRead bytes.now self.old self.new) }
+        ensures found { IfOk result (λ bytes. (length bytes.now ≡ count)
+            × HasRead bytes.now self.old self.new) }
         ensures only { (bytes rest : List ℕ) → length bytes ≡ count → self.old ≡ before (bytes ++ rest)
             → IsOkAnd result (λ lent. lent.now ≡ bytes) × (self.new ≡ before rest) }
         ensures kind { self.old.failed ≡ false → IsErr result → Refuses result ErrorKind.Truncated }
@@ -82,7 +83,8 @@ impl<'a> SliceReader<'a> {
     /// A reader over exactly the next `count` bytes, which are read here. Refused as Truncated where there
     /// are fewer.
     pub fn read_nested(&mut self, count: Length) -> Result<SliceReader<'a>>
-        ensures found { IfOk result (λ nested. (length nested.unread ≡ count) × (nested ≡ before nested.unread) × HasRead nested.unread self.old self.new) }
+        ensures found { IfOk result (λ nested. (length nested.unread ≡ count)
+            × (nested ≡ before nested.unread) × HasRead nested.unread self.old self.new) }
         ensures only { (bytes rest : List ℕ) → length bytes ≡ count → self.old ≡ before (bytes ++ rest)
             → (result ≡ Ok (before bytes)) × (self.new ≡ before rest) }
         ensures kind { self.old.failed ≡ false → IsErr result → Refuses result ErrorKind.Truncated }
@@ -102,15 +104,19 @@ impl<'a> SliceReader<'a> {
         // What is read is the element of the value, and just its bytes are read.
         ensures found { IfOk result (λ value. IsSomeAnd (T.content value) (λ content. T.is_content content × HasReadElement T.number content self.old self.new)) }
         // Where the unread bytes begin with the element of a value, it is read.
-        ensures only { (content rest : List ℕ) → T.is_content content → length content ≤ max_length → self.old ≡ before (element T.number content ++ rest)
+        ensures only { (content rest : List ℕ) → T.is_content content → length content ≤ max_length
+            → self.old ≡ before (element T.number content ++ rest)
             → IsOkAnd result (λ value. T.content value ≡ Some content) × (self.new ≡ before rest) }
 
         ensures empty { self.old ≡ before [] → Refuses result ErrorKind.Truncated }
-        ensures other_tag { (byte : ℕ) → self.old.failed ≡ false → slice_get self.old.unread 0 ≡ Some byte → byte ≢ T.number → Refuses result ErrorKind.Tag }
-        ensures short { (content : List ℕ) → length content ≤ max_length → self.old.failed ≡ false → IsProperBeginning self.old.unread (element T.number content)
+        ensures other_tag { (byte : ℕ) → self.old.failed ≡ false
+            → slice_get self.old.unread 0 ≡ Some byte → byte ≢ T.number → Refuses result ErrorKind.Tag }
+        ensures short { (content : List ℕ) → length content ≤ max_length → self.old.failed ≡ false
+            → IsProperBeginning self.old.unread (element T.number content)
             → Refuses result ErrorKind.Truncated }
         ensures kinds { self.old.failed ≡ false → IfErr result (λ e. IsReadingFault e.kind) }
-        ensures failed { self.old.failed ≡ true → Refuses result ErrorKind.Failed × (self.new ≡ self.old) }
+        ensures failed { self.old.failed ≡ true → Refuses result ErrorKind.Failed
+            × (self.new ≡ self.old) }
         ensures refused { OnErr result (self.new.failed ≡ true) }
     {
         let mut content = self.open(T::fixed_tag())?;
@@ -132,20 +138,25 @@ impl<'a> SliceReader<'a> {
         requires { number ≤ 30 }
         // What is read is the field around the element of the value, and just its bytes are read.
         ensures found { IfOk result (λ field. IfSome field (λ value. IsSomeAnd (T.content value) (λ content. T.is_content content
-            × (length content ≤ max_length) × HasReadElement (0xA0 + number) (element T.number content) self.old self.new))) }
+            × (length content ≤ max_length)
+            × HasReadElement (0xA0 + number) (element T.number content) self.old self.new))) }
         // None means that no such field is next.
-        ensures missing { IfOk result (λ field. IfNone field ((self.new ≡ self.old) × (slice_get self.old.unread 0 ≢ Some (0xA0 + number)))) }
+        ensures missing { IfOk result (λ field. IfNone field ((self.new ≡ self.old)
+            × (slice_get self.old.unread 0 ≢ Some (0xA0 + number)))) }
 
         // Where another byte is next, or none, nothing is read.
         ensures absent { self.old.failed ≡ false → slice_get self.old.unread 0 ≢ Some (0xA0 + number)
             → (result ≡ Ok None) × (self.new ≡ self.old) }
         // Where the unread bytes begin with such a field, it is read.
-        ensures only { (content rest : List ℕ) → T.is_content content → length content ≤ max_length → length (element T.number content) ≤ max_length
+        ensures only { (content rest : List ℕ) → T.is_content content → length content ≤ max_length
+            → length (element T.number content) ≤ max_length
             → self.old ≡ before (element (0xA0 + number) (element T.number content) ++ rest)
-            → IsOkAnd result (λ field. IsSomeAnd field (λ value. T.content value ≡ Some content)) × (self.new ≡ before rest) }
+            → IsOkAnd result (λ field. IsSomeAnd field (λ value. T.content value ≡ Some content))
+            × (self.new ≡ before rest) }
 
         ensures kinds { self.old.failed ≡ false → IfErr result (λ e. IsReadingFault e.kind) }
-        ensures failed { self.old.failed ≡ true → Refuses result ErrorKind.Failed × (self.new ≡ self.old) }
+        ensures failed { self.old.failed ≡ true → Refuses result ErrorKind.Failed
+            × (self.new ≡ self.old) }
         ensures refused { OnErr result (self.new.failed ≡ true) }
     {
         self.check()?;
@@ -222,15 +233,20 @@ impl<'a> SliceReader<'a> {
 
     /// A reader over the content of the next element, which has this tag and is read here.
     fn open(&mut self, tag: Tag) -> Result<SliceReader<'a>>
-        ensures found { IfOk result (λ content. (content ≡ before content.unread) × HasReadElement tag content.unread self.old self.new) }
-        ensures only { (content rest : List ℕ) → length content ≤ max_length → self.old ≡ before (element tag content ++ rest)
+        ensures found { IfOk result (λ content. (content ≡ before content.unread)
+            × HasReadElement tag content.unread self.old self.new) }
+        ensures only { (content rest : List ℕ) → length content ≤ max_length
+            → self.old ≡ before (element tag content ++ rest)
             → (result ≡ Ok (before content)) × (self.new ≡ before rest) }
         ensures empty { self.old ≡ before [] → Refuses result ErrorKind.Truncated }
-        ensures other_tag { (byte : ℕ) → self.old.failed ≡ false → slice_get self.old.unread 0 ≡ Some byte → byte ≢ tag → Refuses result ErrorKind.Tag }
-        ensures short { (content : List ℕ) → length content ≤ max_length → self.old.failed ≡ false → IsProperBeginning self.old.unread (element tag content)
+        ensures other_tag { (byte : ℕ) → self.old.failed ≡ false
+            → slice_get self.old.unread 0 ≡ Some byte → byte ≢ tag → Refuses result ErrorKind.Tag }
+        ensures short { (content : List ℕ) → length content ≤ max_length → self.old.failed ≡ false
+            → IsProperBeginning self.old.unread (element tag content)
             → Refuses result ErrorKind.Truncated }
         ensures kinds { self.old.failed ≡ false → IfErr result (λ e. IsReadingFault e.kind) }
-        ensures failed { self.old.failed ≡ true → Refuses result ErrorKind.Failed × (self.new ≡ self.old) }
+        ensures failed { self.old.failed ≡ true → Refuses result ErrorKind.Failed
+            × (self.new ≡ self.old) }
         ensures refused { OnErr result (self.new.failed ≡ true) }
     {
         self.check()?;
@@ -250,13 +266,17 @@ impl<'a> SliceReader<'a> {
     pub(crate) fn only_element<T: DecodeValue<'a> + FixedTag + Drop>(&mut self) -> Result<T>
         ensures found { IfOk result (λ value. IsSomeAnd (T.content value) (λ content. T.is_content content × (length content ≤ max_length)
             × (self.old ≡ before (element T.number content)))) }
-        ensures only { (content : List ℕ) → T.is_content content → length content ≤ max_length → self.old ≡ before (element T.number content)
+        ensures only { (content : List ℕ) → T.is_content content → length content ≤ max_length
+            → self.old ≡ before (element T.number content)
             → IsOkAnd result (λ value. T.content value ≡ Some content) }
         ensures empty { self.old ≡ before [] → Refuses result ErrorKind.Truncated }
-        ensures other_tag { (byte : ℕ) → self.old.failed ≡ false → slice_get self.old.unread 0 ≡ Some byte → byte ≢ T.number → Refuses result ErrorKind.Tag }
-        ensures short { (content : List ℕ) → length content ≤ max_length → self.old.failed ≡ false → IsProperBeginning self.old.unread (element T.number content)
+        ensures other_tag { (byte : ℕ) → self.old.failed ≡ false
+            → slice_get self.old.unread 0 ≡ Some byte → byte ≢ T.number → Refuses result ErrorKind.Tag }
+        ensures short { (content : List ℕ) → length content ≤ max_length → self.old.failed ≡ false
+            → IsProperBeginning self.old.unread (element T.number content)
             → Refuses result ErrorKind.Truncated }
-        ensures long { (content : List ℕ) → T.is_content content → length content ≤ max_length → self.old.failed ≡ false → IsProperBeginning (element T.number content) self.old.unread
+        ensures long { (content : List ℕ) → T.is_content content → length content ≤ max_length
+            → self.old.failed ≡ false → IsProperBeginning (element T.number content) self.old.unread
             → Refuses result ErrorKind.TrailingData }
         ensures kinds { self.old.failed ≡ false → IfErr result (λ e. IsReadingFault e.kind) }
     {

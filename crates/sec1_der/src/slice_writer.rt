@@ -49,8 +49,10 @@ impl<'b> SliceWriter<'b> {
     /// Appends one byte. Refused as Buffer where the slice has no more room.
     pub fn write_byte(&mut self, byte: u8) -> Result<()>
         ensures slice { KeepsSlice self.old self.new }
-        ensures fits { 0 < length (room_of self.old) → IsOk result × Appends self.old self.new (byte ∷ []) }
-        ensures full { length (room_of self.old) ≡ 0 → Refuses result ErrorKind.Buffer × AppendsNothing self.old self.new }
+        ensures fits { 0 < length (room_of self.old) → IsOk result
+            × Appends self.old self.new (byte ∷ []) }
+        ensures full { length (room_of self.old) ≡ 0 → Refuses result ErrorKind.Buffer
+            × AppendsNothing self.old self.new }
     {
         self.write(&[byte])
     }
@@ -58,8 +60,10 @@ impl<'b> SliceWriter<'b> {
     /// Appends bytes. Refused as Buffer where the slice has less room.
     pub fn write(&mut self, bytes: &[u8]) -> Result<()>
         ensures slice { KeepsSlice self.old self.new }
-        ensures fits { length bytes.now ≤ length (room_of self.old) → IsOk result × Appends self.old self.new bytes.now }
-        ensures full { length (room_of self.old) < length bytes.now → Refuses result ErrorKind.Buffer × AppendsNothing self.old self.new }
+        ensures fits { length bytes.now ≤ length (room_of self.old) → IsOk result
+            × Appends self.old self.new bytes.now }
+        ensures full { length (room_of self.old) < length bytes.now → Refuses result ErrorKind.Buffer
+            × AppendsNothing self.old self.new }
     {
         if bytes.len() > self.remaining() {
             return Err(ErrorKind::Buffer.into());
@@ -75,10 +79,13 @@ impl<'b> SliceWriter<'b> {
     /// Refused as [`encoded_len`] refuses, then as Buffer where the element has no room.
     pub fn element<T: EncodeValue + FixedTag>(&mut self, value: &T) -> Result<()>
         ensures slice { KeepsSlice self.old self.new }
-        ensures none { element_of T.number (T.content value.now) ≡ None → Refuses result ErrorKind.Overlength × AppendsNothing self.old self.new }
-        ensures fits { (bytes : List ℕ) → element_of T.number (T.content value.now) ≡ Some bytes → length bytes ≤ length (room_of self.old)
+        ensures none { element_of T.number (T.content value.now) ≡ None
+            → Refuses result ErrorKind.Overlength × AppendsNothing self.old self.new }
+        ensures fits { (bytes : List ℕ) → element_of T.number (T.content value.now) ≡ Some bytes
+            → length bytes ≤ length (room_of self.old)
             → IsOk result × Appends self.old self.new bytes }
-        ensures full { (bytes : List ℕ) → element_of T.number (T.content value.now) ≡ Some bytes → length (room_of self.old) < length bytes
+        ensures full { (bytes : List ℕ) → element_of T.number (T.content value.now) ≡ Some bytes
+            → length (room_of self.old) < length bytes
             → Refuses result ErrorKind.Buffer × AppendsNothing self.old self.new }
     {
         if self.remaining() < encoded_len(value)? {
@@ -99,10 +106,15 @@ impl<'b> SliceWriter<'b> {
     ) -> Result<()>
         requires { number ≤ 30 }
         ensures slice { KeepsSlice self.old self.new }
-        ensures none { field_of number T.number (option_map T.content field.now) ≡ None → Refuses result ErrorKind.Overlength × AppendsNothing self.old self.new }
-        ensures fits { (bytes : List ℕ) → field_of number T.number (option_map T.content field.now) ≡ Some bytes → length bytes ≤ length (room_of self.old)
+        ensures none { field_of number T.number (option_map T.content field.now) ≡ None
+            → Refuses result ErrorKind.Overlength × AppendsNothing self.old self.new }
+        ensures fits { (bytes : List ℕ)
+            → field_of number T.number (option_map T.content field.now) ≡ Some bytes
+            → length bytes ≤ length (room_of self.old)
             → IsOk result × Appends self.old self.new bytes }
-        ensures full { (bytes : List ℕ) → field_of number T.number (option_map T.content field.now) ≡ Some bytes → length (room_of self.old) < length bytes
+        ensures full { (bytes : List ℕ)
+            → field_of number T.number (option_map T.content field.now) ≡ Some bytes
+            → length (room_of self.old) < length bytes
             → Refuses result ErrorKind.Buffer × AppendsNothing self.old self.new }
     {
         if self.remaining() < context_specific_len(number, field)? {

@@ -18,14 +18,17 @@ const MAX_DEPTH: usize = 64;
 /// an element at level 64 has elements inside, before they are read; TrailingData where bytes follow the tree.
 pub fn check_tree(input: &[u8]) -> Result<usize>
     // What is counted is a tree, and these are its bytes.
-    ensures found { IfOk result (λ n. (t : Tree) × IsTreeOf t input.now × (depth t ≤ 64) × (size t ≡ n)) }
+    ensures found { IfOk result (λ n. (t : Tree) × IsTreeOf t input.now × (depth t ≤ 64)
+        × (size t ≡ n)) }
     // Where they are the bytes of such a tree, it is counted.
     ensures only { (t : Tree) → IsTreeOf t input.now → depth t ≤ 64 → result ≡ Ok (size t) }
     ensures deeper { (t : Tree) → IsTreeOf t input.now → 64 < depth t → Refuses result ErrorKind.Depth }
 
     // The bytes end inside those of a tree of any depth, or go on behind those of a tree.
-    ensures short { (t : Tree) → IsTree t → IsProperBeginning input.now (bytes t) → Refuses result ErrorKind.Truncated }
-    ensures long { (t : Tree) → IsTree t → depth t ≤ 64 → IsProperBeginning (bytes t) input.now → Refuses result ErrorKind.TrailingData }
+    ensures short { (t : Tree) → IsTree t → IsProperBeginning input.now (bytes t)
+        → Refuses result ErrorKind.Truncated }
+    ensures long { (t : Tree) → IsTree t → depth t ≤ 64 → IsProperBeginning (bytes t) input.now
+        → Refuses result ErrorKind.TrailingData }
     ensures kinds { IfErr result (λ e. (e.kind ≡ ErrorKind.Depth) ⊎ IsReadingFault e.kind) }
 {
     let mut nodes = OpenNodes::new();
@@ -122,10 +125,12 @@ impl OpenNodes {
     fn enter<'a>(&mut self, rest: &'a [u8]) -> Result<&'a [u8]>
         requires { innermost self.old ≤ length rest.now }
         ensures found { IfOk result (λ after. Enters self.old rest.now self.new after.now) }
-        ensures only { (t : Tree) (tail : List ℕ) → IsTree t → rest.now ≡ bytes t ++ tail → innermost self.old ≤ length tail
+        ensures only { (t : Tree) (tail : List ℕ) → IsTree t → rest.now ≡ bytes t ++ tail
+            → innermost self.old ≤ length tail
             → IfErr result (λ e. e.kind ≡ ErrorKind.Depth) }
         ensures deep { Refuses result ErrorKind.Depth → IsTooDeep self.old rest.now }
-        ensures short { (t : Tree) → IsTree t → IsProperBeginning rest.now (bytes t) → self.old ≡ [] → Refuses result ErrorKind.Truncated }
+        ensures short { (t : Tree) → IsTree t → IsProperBeginning rest.now (bytes t) → self.old ≡ []
+            → Refuses result ErrorKind.Truncated }
         ensures kinds { IfErr result (λ e. (e.kind ≡ ErrorKind.Depth) ⊎ IsReadingFault e.kind) }
     {
         let end = self.end();

@@ -30,7 +30,8 @@ pub trait ValueContent {
     ghost is_content: { List ℕ → Type 0 };
 
     /// The content of a value is a content of the type, where an element can hold it.
-    ghost content_is_one: { (value : Self) (bytes : List ℕ) → content value ≡ Some bytes → length bytes ≤ max_length → is_content bytes };
+    ghost content_is_one: { (value : Self) (bytes : List ℕ) → content value ≡ Some bytes
+        → length bytes ≤ max_length → is_content bytes };
 }
 
 /// A value that is read from the content of its element.
@@ -46,7 +47,8 @@ pub trait DecodeValue<'a>: ValueContent + Sized {
         ensures read { OnOk result (reader.new ≡ before []) }
         ensures only { reader.old.failed ≡ false → Self.is_content reader.old.unread → IsOk result }
         ensures kinds { reader.old.failed ≡ false → IfErr result (λ e. IsReadingFault e.kind) }
-        ensures failed { reader.old.failed ≡ true → Refuses result ErrorKind.Failed × (reader.new ≡ reader.old) }
+        ensures failed { reader.old.failed ≡ true → Refuses result ErrorKind.Failed
+            × (reader.new ≡ reader.old) }
         ensures refused { OnErr result (reader.new.failed ≡ true) };
 }
 
@@ -56,16 +58,20 @@ pub trait EncodeValue: ValueContent {
     /// than 268,435,455 bytes.
     fn value_len(&self) -> Result<Length>
         ensures none { IsOverlong (Self.content self.now) → Refuses result ErrorKind.Overlength }
-        ensures some { (bytes : List ℕ) → Self.content self.now ≡ Some bytes → length bytes ≤ max_length → result ≡ Ok (length bytes) };
+        ensures some { (bytes : List ℕ) → Self.content self.now ≡ Some bytes → length bytes ≤ max_length
+            → result ≡ Ok (length bytes) };
 
     /// Appends the content. Refused as [`value_len`](EncodeValue::value_len) refuses, then as Buffer where the
     /// content has no room. Nothing is written then.
     fn encode_value(&self, writer: &mut SliceWriter) -> Result<()>
         ensures slice { KeepsSlice writer.old writer.new }
-        ensures none { IsOverlong (Self.content self.now) → Refuses result ErrorKind.Overlength × AppendsNothing writer.old writer.new }
-        ensures fits { (bytes : List ℕ) → Self.content self.now ≡ Some bytes → length bytes ≤ max_length → length bytes ≤ length (room_of writer.old)
+        ensures none { IsOverlong (Self.content self.now) → Refuses result ErrorKind.Overlength
+            × AppendsNothing writer.old writer.new }
+        ensures fits { (bytes : List ℕ) → Self.content self.now ≡ Some bytes → length bytes ≤ max_length
+            → length bytes ≤ length (room_of writer.old)
             → IsOk result × Appends writer.old writer.new bytes }
-        ensures full { (bytes : List ℕ) → Self.content self.now ≡ Some bytes → length bytes ≤ max_length → length (room_of writer.old) < length bytes
+        ensures full { (bytes : List ℕ) → Self.content self.now ≡ Some bytes → length bytes ≤ max_length
+            → length (room_of writer.old) < length bytes
             → Refuses result ErrorKind.Buffer × AppendsNothing writer.old writer.new };
 
     /// Puts the content in front of what was written. Refused as [`encode_value`](EncodeValue::encode_value)
@@ -73,10 +79,13 @@ pub trait EncodeValue: ValueContent {
     fn encode_back(&self, writer: &mut BackWriter) -> Result<()>
         ensures slice { KeepsEnd writer.old writer.new }
         ensures grows { length (end_of writer.old) ≤ length (end_of writer.new) }
-        ensures none { IsOverlong (Self.content self.now) → Refuses result ErrorKind.Overlength × PutsNothing writer.old writer.new }
-        ensures fits { (bytes : List ℕ) → Self.content self.now ≡ Some bytes → length bytes ≤ max_length → length bytes ≤ length (front_of writer.old)
+        ensures none { IsOverlong (Self.content self.now) → Refuses result ErrorKind.Overlength
+            × PutsNothing writer.old writer.new }
+        ensures fits { (bytes : List ℕ) → Self.content self.now ≡ Some bytes → length bytes ≤ max_length
+            → length bytes ≤ length (front_of writer.old)
             → IsOk result × PutsInFront writer.old writer.new bytes }
-        ensures full { (bytes : List ℕ) → Self.content self.now ≡ Some bytes → length bytes ≤ max_length → length (front_of writer.old) < length bytes
+        ensures full { (bytes : List ℕ) → Self.content self.now ≡ Some bytes → length bytes ≤ max_length
+            → length (front_of writer.old) < length bytes
             → Refuses result ErrorKind.Buffer × PutsNothing writer.old writer.new };
 }
 

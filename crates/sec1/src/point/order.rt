@@ -56,7 +56,8 @@ impl<const N: usize, const L: usize> Ord for EncodedPoint<N, L> {
         ensures below { (result ≡ Less) ↔ IsBelow (point_of self.now) (point_of other.now) }
         ensures above { (result ≡ Greater) ↔ IsBelow (point_of other.now) (point_of self.now) }
         ensures same { (result ≡ Equal) ↔ (point_of self.now ≡ point_of other.now) }
-        ensures bytes { result ≡ slice_cmp nat_cmp (enc N (point_of self.now)) (enc N (point_of other.now)) }
+        ensures bytes { result
+            ≡ slice_cmp nat_cmp (enc N (point_of self.now)) (enc N (point_of other.now)) }
     {
         self.as_bytes().cmp(other.as_bytes())
     }

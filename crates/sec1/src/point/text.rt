@@ -83,7 +83,8 @@ impl<const N: usize, const L: usize> EncodedPoint<N, L> {
 fn decode_digits(text: &[u8], out: &mut [u8]) -> bool
     requires { length out.old ≡ length text.now / 2 }
     ensures decoded { IsTrue result → IsHexOf text.now out.new × IsBytes out.new }
-    ensures only { (bytes : List ℕ) → IsBytes bytes → IsHexOf text.now bytes → IsTrue result × (out.new ≡ bytes) }
+    ensures only { (bytes : List ℕ) → IsBytes bytes → IsHexOf text.now bytes → IsTrue result
+        × (out.new ≡ bytes) }
 {
     is_one_case(text) && hex::decode_to_slice(text, out).is_ok()
 }

@@ -31,7 +31,8 @@ impl SecretDocument {
         // The kind of a refusal says what was taken.
         ensures refused { IfErr result (λ error. RefusesElement error.kind (R.left reader.old) (R.left reader.new)) }
         // One element that is all there is, is read, unless a read failed or a growth was refused.
-        ensures only { IfErr result (λ error. IsIoOrMemory error.kind ⊎ IfSome (R.left reader.old) (λ left. ¬ (IsElement left))) }
+        ensures only { IfErr result (λ error. IsIoOrMemory error.kind
+            ⊎ IfSome (R.left reader.old) (λ left. ¬ (IsElement left))) }
     {
         read_element(alloc, reader)
     }

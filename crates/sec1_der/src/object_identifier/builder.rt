@@ -32,9 +32,11 @@ impl Builder {
 
     /// Adds an arc at the end. Refused as Value where no identifier begins with these arcs.
     pub(crate) fn add(&mut self, arc: u32) -> Result<()>
-        ensures ok { OnOk result ((arcs : List ℕ) → Built self.old.seen self.old.first self.old.content arcs
+        ensures ok { OnOk result ((arcs : List ℕ)
+            → Built self.old.seen self.old.first self.old.content arcs
             → Built self.new.seen self.new.first self.new.content (arcs ++ arc ∷ [])) }
-        ensures err { IsErr result → (arcs more : List ℕ) → Built self.old.seen self.old.first self.old.content arcs
+        ensures err { IsErr result → (arcs more : List ℕ)
+            → Built self.old.seen self.old.first self.old.content arcs
             → IsIdentifier (arcs ++ arc ∷ more) (content_of (arcs ++ arc ∷ more)) → ⊥ }
         ensures kind { IfErr result (λ e. e.kind ≡ ErrorKind.Value) }
     {
