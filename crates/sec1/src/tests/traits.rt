@@ -35,8 +35,7 @@ impl EncodeEcPrivateKey for Copied {
     ghost refuses = { λ _ _. ⊤ };
 
     fn to_sec1_der(&self, alloc: Global) -> Result<SecretDocument> {
-        let mut reader = StdReader::new(self.bytes.as_slice());
-        Ok(SecretDocument::read_der_from(alloc, &mut reader)?)
+        Ok(SecretDocument::from_der(alloc, &self.bytes)?)
     }
 }
 
