@@ -167,7 +167,7 @@ fn refuses_long_inputs(rt: HostRuntime) -> Result<(), Fail> {
     Ok(())
 }
 
-/// A reader that gives its bytes and then fails.
+/// A reader that gives its bytes one by one and then fails.
 #[derive(Drop)]
 struct Broken<'a> {
     rest: &'a [u8],
@@ -178,7 +178,7 @@ impl io::Read for Broken<'_> {
         if self.rest.is_empty() {
             return Err(io::Error::from(io::ErrorKind::Other));
         }
-        let count = self.rest.len().min(buf.len());
+        let count = buf.len().min(1);
         let (front, rest) = self.rest.split_at(count);
         buf[..count].copy_from_slice(front);
         self.rest = rest;
@@ -211,32 +211,50 @@ impl io::Write for Narrow {
     }
 }
 
+/// A key of no bytes and no other part, in hexadecimal.
+static EMPTY_KEY: &[u8] = b"30050201010400";
+
+/// The report on that key.
+static EMPTY_KEY_REPORT: &[u8] =
+    b"private_key: 0 bytes\nparameters: none\npublic_key: none\npoint: none\n";
+
 #[test]
-fn tells_failed_input(rt: HostRuntime) {
-    let mut reader = StdReader::new(Broken { rest: b"30050" });
-    let mut writer = StdWriter::new(Vec::new(rt.alloc()));
-    let result = run(rt.alloc(), &mut reader, &mut writer);
-    assert_eq!(rt; result, Err(Fault::Input));
-    assert!(rt; writer.into_inner().is_empty());
+fn each_read_fails_in_turn(rt: HostRuntime) {
+    for given in 0..=EMPTY_KEY.len() {
+        let rest = EMPTY_KEY.get(..given).unwrap_or_default();
+        for is_der in [false, true] {
+            let mut reader = StdReader::new(Broken { rest });
+            let mut writer = StdWriter::new(Vec::new(rt.alloc()));
+            let result = if is_der {
+                run_der(rt.alloc(), &mut reader, &mut writer)
+            } else {
+                run(rt.alloc(), &mut reader, &mut writer)
+            };
+            assert_eq!(rt; result, Err(Fault::Input), "after {given}");
+            assert!(rt; writer.into_inner().is_empty());
+        }
+    }
 }
 
 #[test]
-fn tells_failed_output(rt: HostRuntime) {
-    for (room, fails) in [(0, true), (0, false), (7, true), (7, false)] {
-        let taken = Vec::new(rt.alloc());
-        let mut reader = StdReader::new(b"30050201010400".as_slice());
-        let mut writer = StdWriter::new(Narrow {
-            taken,
-            step: 3,
-            room,
-            fails,
-        });
-        let result = run(rt.alloc(), &mut reader, &mut writer);
-        assert_eq!(rt; result, Err(Fault::Output));
-        assert_eq!(rt;
-            Some(writer.into_inner().taken.as_slice()),
-            b"private".get(..room)
-        );
+fn each_write_fails_in_turn(rt: HostRuntime) {
+    for room in 0..EMPTY_KEY_REPORT.len() {
+        for (step, fails) in [(1, true), (1, false), (3, true), (100, true)] {
+            let taken = Vec::new(rt.alloc());
+            let mut reader = StdReader::new(EMPTY_KEY);
+            let mut writer = StdWriter::new(Narrow {
+                taken,
+                step,
+                room,
+                fails,
+            });
+            let result = run(rt.alloc(), &mut reader, &mut writer);
+            assert_eq!(rt; result, Err(Fault::Output), "after {room}");
+            assert_eq!(rt;
+                Some(writer.into_inner().taken.as_slice()),
+                EMPTY_KEY_REPORT.get(..room)
+            );
+        }
     }
 }
 

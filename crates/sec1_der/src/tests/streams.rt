@@ -128,6 +128,26 @@ fn documents_are_read(rt: HostRuntime) {
     }
 }
 
+#[test]
+fn each_read_fails_in_turn(rt: HostRuntime) {
+    for given in 0..=KEY.len() {
+        let mut reader = StdReader::new(Pieces {
+            rest: KEY.get(..given).unwrap_or_default(),
+            step: 1,
+            then: Then::Fail,
+            taken: 0,
+            most_asked: 0,
+        });
+        let result = SecretDocument::read_der_from(rt.alloc(), &mut reader);
+        assert_eq!(rt;
+            result.err().map(|error| error.kind),
+            Some(ErrorKind::Io),
+            "after {given}"
+        );
+        assert_eq!(rt; reader.into_inner().taken, given);
+    }
+}
+
 /// A writer that takes so many bytes in all, at most so many a call, and then fails or takes none.
 #[derive(Drop)]
 struct Narrow {
@@ -185,6 +205,29 @@ fn documents_are_written(rt: HostRuntime) -> Result<(), Fail> {
             KEY.get(..written),
             "with room for {room}"
         );
+    }
+    Ok(())
+}
+
+#[test]
+fn each_write_fails_in_turn(rt: HostRuntime) -> Result<(), Fail> {
+    let document = SecretDocument::from_der(rt.alloc(), KEY)?;
+    for room in 0..KEY.len() {
+        for fails in [true, false] {
+            let mut writer = StdWriter::new(Narrow {
+                taken: Vec::new(rt.alloc()),
+                step: 1,
+                room,
+                fails,
+            });
+            let result = document.write_der_to(&mut writer);
+            assert_eq!(rt;
+                result.err().map(|error| error.kind),
+                Some(ErrorKind::Io),
+                "after {room}"
+            );
+            assert_eq!(rt; Some(writer.into_inner().taken.as_slice()), KEY.get(..room));
+        }
     }
     Ok(())
 }
