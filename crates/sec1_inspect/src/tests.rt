@@ -270,10 +270,8 @@ fn names_faults(rt: HostRuntime) -> Result<(), Fail> {
     Ok(())
 }
 
-/// Takes all memory that there is, in blocks from large to small, so that the next request for
-/// memory is refused.
-fn hoard(alloc: Global) -> Result<Vec<Vec<u8>>, Fail> {
-    let mut blocks: Vec<Vec<u8>> = Vec::with_capacity(alloc, 1 << 18)?;
+/// Takes all memory that there is, in blocks from large to small, so that the next request is refused.
+fn hoard(alloc: Global, blocks: &mut Vec<Vec<u8>>) -> Result<(), Fail> {
     for shift in 4u32..47 {
         let size = 1usize << (50 - shift);
         for _ in 0..1u32 << 15 {
@@ -286,37 +284,47 @@ fn hoard(alloc: Global) -> Result<Vec<Vec<u8>>, Fail> {
             }
         }
     }
-    Ok(blocks)
+    Ok(())
 }
 
-/// What a run over a key answers where memory may be short, and whether it wrote.
-fn outcome_in_room(alloc: Global, is_der: bool) -> (Result<u8, Fault>, bool) {
-    let mut room = [0u8; 100];
+/// What a run over the key answers where memory may be short, and what it writes.
+fn outcome_in_room(alloc: Global, der: &[u8], is_der: bool) -> (Result<u8, Fault>, [u8; 220]) {
+    let mut room = [0u8; 220];
     let mut writer = StdWriter::new(room.as_mut_slice());
     let result = if is_der {
-        let der = [0x30, 5, 2, 1, 1, 4, 0];
-        run_der(alloc, &mut StdReader::new(der.as_slice()), &mut writer)
+        run_der(alloc, &mut StdReader::new(der), &mut writer)
     } else {
-        let text = b"30050201010400";
-        run(alloc, &mut StdReader::new(text.as_slice()), &mut writer)
+        run(alloc, &mut StdReader::new(KEY.as_bytes()), &mut writer)
     };
-    (result, room != [0u8; 100])
+    (result, room)
 }
 
+/// Each run has one block of memory and no more, 16 bytes larger each time, so that each of its requests is once the
+/// first that is refused.
 #[test]
 fn tells_want_of_memory(rt: HostRuntime) -> Result<(), Fail> {
-    let want = (Err(Fault::Memory), false);
+    let alloc = rt.alloc();
+    let der = hex::decode(alloc, KEY)?;
+    let mut hoarded = Vec::with_capacity(alloc, 1 << 18)?;
     for is_der in [false, true] {
-        let blocks = hoard(rt.alloc())?;
-        let mut last = outcome_in_room(rt.alloc(), is_der);
-        assert_eq!(rt; last, want);
-        for _block in blocks.into_iter().rev() {
-            if last != want {
+        let mut blocks: Vec<Vec<u8>> = Vec::with_capacity(alloc, 256)?;
+        for step in 0..256 {
+            blocks.push(Vec::with_capacity(alloc, 4096 + 16 * step)?)?;
+        }
+        hoard(alloc, &mut hoarded)?;
+        let mut last = outcome_in_room(alloc, &der, is_der);
+        for block in blocks {
+            assert_eq!(rt; last, (Err(Fault::Memory), [0u8; 220]));
+            drop(block);
+            last = outcome_in_room(alloc, &der, is_der);
+            if last.0 == Ok(0) {
                 break;
             }
-            last = outcome_in_room(rt.alloc(), is_der);
+            hoard(alloc, &mut hoarded)?;
         }
-        assert_eq!(rt; last, (Ok(0), true));
+        assert_eq!(rt; last.0, Ok(0));
+        assert_eq!(rt; last.1.as_slice(), KEY_REPORT.as_bytes());
+        hoarded.clear();
     }
     Ok(())
 }
