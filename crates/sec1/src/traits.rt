@@ -86,7 +86,8 @@ pub trait EncodeEcPrivateKey {
     /// Writes the bytes of [`to_sec1_der`](EncodeEcPrivateKey::to_sec1_der) to the file, which is made new or cut to
     /// nothing first, as [`SecretDocument::write_der_file`] does.
     fn write_sec1_der_file<F: Files>(&self, rt: &F, alloc: Global, path: &str) -> Result<()>
-        ensures { IfErr result (λ error. IsAsn1 Io error ⊎ IsMemoryOr (refuses self.now) error) }
+        ensures written { OnOk result (IsElementWith (writes self.now)) }
+        ensures refused { IfErr result (λ error. IsAsn1 Io error ⊎ IsMemoryOr (refuses self.now) error) }
     {
         let document = self.to_sec1_der(alloc)?;
         document.write_der_file(rt, path)?;
