@@ -48,21 +48,21 @@ impl Tag {
     pub fn is_compact(self) -> bool
         ensures { result ≡ is_compact self }
     {
-        matches!(self, Tag::Compact)
+        self == Tag::Compact
     }
 
     /// Whether this is one of the two tags of the compressed form.
     pub fn is_compressed(self) -> bool
         ensures { result ≡ is_compressed self }
     {
-        matches!(self, Tag::CompressedEvenY | Tag::CompressedOddY)
+        self == Tag::CompressedEvenY || self == Tag::CompressedOddY
     }
 
     /// Whether this is one of the two tags of the hybrid form.
     pub fn is_hybrid(self) -> bool
         ensures { result ≡ is_hybrid self }
     {
-        matches!(self, Tag::HybridEvenY | Tag::HybridOddY)
+        self == Tag::HybridEvenY || self == Tag::HybridOddY
     }
 
     /// Whether this is the identity's tag.
@@ -75,14 +75,14 @@ impl Tag {
     /// The length in bytes of an encoding with this tag, which counts too, at field elements of so many bytes.
     ///
     /// Asks that this length fits a usize.
-    pub fn message_len(self, field_element_size: usize) -> usize
-        requires { message_len self field_element_size < 2 ^ 64 }
-        ensures { result ≡ message_len self field_element_size }
+    pub fn message_len(self, element_len: usize) -> usize
+        requires { message_len self element_len < 2 ^ 64 }
+        ensures { result ≡ message_len self element_len }
     {
         match self {
             Tag::Identity => 1,
-            Tag::CompressedEvenY | Tag::CompressedOddY | Tag::Compact => field_element_size + 1,
-            Tag::Uncompressed | Tag::HybridEvenY | Tag::HybridOddY => field_element_size * 2 + 1,
+            Tag::CompressedEvenY | Tag::CompressedOddY | Tag::Compact => element_len + 1,
+            Tag::Uncompressed | Tag::HybridEvenY | Tag::HybridOddY => element_len * 2 + 1,
         }
     }
 
