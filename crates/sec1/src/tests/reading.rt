@@ -80,7 +80,7 @@ fn curve(alloc: Global, key: &EcPrivateKey) -> std::result::Result<Option<String
 }
 
 #[test]
-fn optional_fields_are_read(rt: HostRuntime) -> std::result::Result<(), Fail> {
+fn optional_fields_are_read_and_written(rt: HostRuntime) -> std::result::Result<(), Fail> {
     for &(text, named, public_key) in KEYS.iter() {
         let bytes = hex::decode(rt.alloc(), text)?;
         let key = EcPrivateKey::try_from(bytes.as_slice())?;
@@ -92,6 +92,11 @@ fn optional_fields_are_read(rt: HostRuntime) -> std::result::Result<(), Fail> {
             None => None,
         };
         assert_eq!(rt; key.public_key, wanted.as_deref(), "{text}");
+        assert_eq!(rt;
+            key.to_der(rt.alloc())?.as_slice(),
+            bytes.as_slice(),
+            "{text}"
+        );
     }
     Ok(())
 }

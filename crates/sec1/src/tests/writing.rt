@@ -1,3 +1,4 @@
+//! Keys that are written, by examples with known answers.
 use crate::der::{self, AnyRef, ErrorKind, ObjectIdentifier, Tag};
 use crate::{EcParameters, EcPrivateKey, Error};
 use std::test::Fail;

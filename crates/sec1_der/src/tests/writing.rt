@@ -1,3 +1,4 @@
+//! What is written, by examples with known answers.
 use crate::{
     AnyRef, BackWriter, BitStringRef, EncodeValue, ErrorKind, Header, ID_EC_PUBLIC_KEY, Length,
     ObjectIdentifier, OctetStringRef, SecretDocument, SliceReader, SliceWriter, Tag, VersionOne,
@@ -97,21 +98,6 @@ fn announces_the_greatest_length(rt: HostRuntime) -> Result<(), Fail> {
     assert_eq!(rt;
         kind_of(Length::new(268_435_456)),
         Some(ErrorKind::Overlength)
-    );
-    Ok(())
-}
-
-#[test]
-fn tells_bit_strings(rt: HostRuntime) -> Result<(), Fail> {
-    assert!(rt; BitStringRef::new(1, &[0x00])?.as_bytes().is_none());
-    assert_eq!(rt;
-        kind_of(BitStringRef::new(1, &[0x01])),
-        Some(ErrorKind::Value)
-    );
-    assert_eq!(rt; kind_of(BitStringRef::new(1, &[])), Some(ErrorKind::Value));
-    assert_eq!(rt;
-        kind_of(BitStringRef::new(8, &[0x00])),
-        Some(ErrorKind::Value)
     );
     Ok(())
 }
