@@ -1,3 +1,4 @@
+//! A public key of a certificate, read and written by examples with known answers.
 use crate::SubjectPublicKeyInfo;
 use sec1_der::{ErrorKind, encode_to_slice, from_der, to_der};
 use std::test::Fail;

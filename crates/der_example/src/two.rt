@@ -15,7 +15,9 @@ pub(crate) fn two_len<A: EncodeValue + FixedTag, B: EncodeValue + FixedTag>(
     first: &A,
     second: &B,
 ) -> Result<Length>
-    ensures none { IsOverlong (join (element_of A.number (A.content first.now)) (element_of B.number (B.content second.now))) → Refuses result ErrorKind.Overlength }
+    ensures none { IsOverlong
+        (join (element_of A.number (A.content first.now)) (element_of B.number (B.content second.now)))
+        → Refuses result ErrorKind.Overlength }
     ensures some { (bytes : List ℕ)
         → join (element_of A.number (A.content first.now)) (element_of B.number (B.content second.now))
         ≡ Some bytes
@@ -33,7 +35,8 @@ pub(crate) fn write_two<A: EncodeValue + FixedTag, B: EncodeValue + FixedTag>(
     second: &B,
 ) -> Result<()>
     ensures slice { KeepsSlice writer.old writer.new }
-    ensures none { IsOverlong (join (element_of A.number (A.content first.now)) (element_of B.number (B.content second.now)))
+    ensures none { IsOverlong
+        (join (element_of A.number (A.content first.now)) (element_of B.number (B.content second.now)))
         → Refuses result ErrorKind.Overlength × AppendsNothing writer.old writer.new }
     ensures fits { (bytes : List ℕ)
         → join (element_of A.number (A.content first.now)) (element_of B.number (B.content second.now))
@@ -61,7 +64,8 @@ pub(crate) fn put_two<A: EncodeValue + FixedTag, B: EncodeValue + FixedTag>(
 ) -> Result<()>
     ensures slice { KeepsEnd writer.old writer.new }
     ensures grows { length (end_of writer.old) ≤ length (end_of writer.new) }
-    ensures none { IsOverlong (join (element_of A.number (A.content first.now)) (element_of B.number (B.content second.now)))
+    ensures none { IsOverlong
+        (join (element_of A.number (A.content first.now)) (element_of B.number (B.content second.now)))
         → Refuses result ErrorKind.Overlength × PutsNothing writer.old writer.new }
     ensures fits { (bytes : List ℕ)
         → join (element_of A.number (A.content first.now)) (element_of B.number (B.content second.now))

@@ -197,7 +197,8 @@ impl<'a> DecodeValue<'a> for EcPrivateKey<'a> {
 
 /// Reads the field `[0]`, where it is next.
 fn read_parameters(reader: &mut SliceReader<'_>) -> der::Result<Option<EcParameters>>
-    ensures found { IfOk result (λ parameters. HasRead (bytes_of (parameters_field (option_map curve_of parameters))) reader.old reader.new) }
+    ensures found { IfOk result (λ parameters.
+        HasRead (bytes_of (parameters_field (option_map curve_of parameters))) reader.old reader.new) }
     ensures curve { IfOk result (λ parameters. NameCurve (option_map curve_of parameters)) }
     ensures only { (curve : Option (List ℕ)) (rest : List ℕ) → NameCurve curve
         → slice_get rest 0 ≢ Some 0xA0
@@ -213,7 +214,9 @@ fn read_parameters(reader: &mut SliceReader<'_>) -> der::Result<Option<EcParamet
 
 /// Reads the field `[1]`, where it is next. A bit string with unused bits is refused as Value.
 fn read_public_key<'a>(reader: &mut SliceReader<'a>) -> der::Result<Option<&'a [u8]>>
-    ensures found { IfOk result (λ public_key. HasRead (bytes_of (public_key_field (option_map (λ bytes. bytes.now) public_key))) reader.old reader.new) }
+    ensures found { IfOk result (λ public_key.
+        HasRead (bytes_of (public_key_field (option_map (λ bytes. bytes.now) public_key)))
+        reader.old reader.new) }
     ensures room { IfOk result (λ public_key. HasRoom (option_map (λ bytes. bytes.now) public_key)) }
     ensures only { (bytes : Option (List ℕ)) (rest : List ℕ) → HasRoom bytes
         → slice_get rest 0 ≢ Some 0xA1

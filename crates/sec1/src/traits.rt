@@ -30,8 +30,10 @@ pub trait DecodeEcPrivateKey: Sized {
     /// Refused as these two refuse. [`Error::Asn1`] of kind Io where a read failed.
     fn read_sec1_der_from<R: Read>(alloc: Global, reader: &mut R) -> Result<Self>
         requires { R.failed reader.old ≡ false }
-        ensures found { IfOk result (λ key. ReadsElementWith (λ bytes. reads bytes key) (R.left reader.old) (R.left reader.new)) }
-        ensures refused { IfErr result (λ error. RefusesDocument (R.left reader.old) (R.left reader.new) (R.failed reader.new) error
+        ensures found { IfOk result (λ key.
+            ReadsElementWith (λ bytes. reads bytes key) (R.left reader.old) (R.left reader.new)) }
+        ensures refused { IfErr result (λ error.
+            RefusesDocument (R.left reader.old) (R.left reader.new) (R.failed reader.new) error
             ⊎ RefusesKey refuses (R.left reader.old) (R.left reader.new) (R.failed reader.new) error) }
         ensures io { IsTrue (R.failed reader.new) → RefusesAsn1 result Io }
     {

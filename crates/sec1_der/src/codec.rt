@@ -61,7 +61,8 @@ pub fn context_specific_len<T: EncodeValue + FixedTag>(
     ensures none { field_of number T.number (option_map T.content field.now) ≡ None
         → Refuses result ErrorKind.Overlength }
     ensures some { (bytes : List ℕ)
-        → field_of number T.number (option_map T.content field.now) ≡ Some bytes → result ≡ Ok (length bytes) }
+        → field_of number T.number (option_map T.content field.now) ≡ Some bytes
+        → result ≡ Ok (length bytes) }
     ensures most { IfOk result (λ n. n ≤ max_length + 6) }
 {
     let Some(value) = field else {

@@ -102,7 +102,8 @@ impl<'a> SliceReader<'a> {
     /// then as [`DecodeValue::decode_value`] refuses the content. The reader has then failed.
     pub fn decode<T: DecodeValue<'a> + FixedTag>(&mut self) -> Result<T>
         // What is read is the element of the value, and just its bytes are read.
-        ensures found { IfOk result (λ value. IsSomeAnd (T.content value) (λ content. T.is_content content × HasReadElement T.number content self.old self.new)) }
+        ensures found { IfOk result (λ value. IsSomeAnd (T.content value) (λ content.
+            T.is_content content × HasReadElement T.number content self.old self.new)) }
         // Where the unread bytes begin with the element of a value, it is read.
         ensures only { (content rest : List ℕ) → T.is_content content → length content ≤ max_length
             → self.old ≡ before (element T.number content ++ rest)
@@ -137,7 +138,8 @@ impl<'a> SliceReader<'a> {
     ) -> Result<Option<T>>
         requires { number ≤ 30 }
         // What is read is the field around the element of the value, and just its bytes are read.
-        ensures found { IfOk result (λ field. IfSome field (λ value. IsSomeAnd (T.content value) (λ content. T.is_content content
+        ensures found { IfOk result (λ field. IfSome field (λ value. IsSomeAnd (T.content value) (λ content.
+            T.is_content content
             × (length content ≤ max_length)
             × HasReadElement (0xA0 + number) (element T.number content) self.old self.new))) }
         // None means that no such field is next.
@@ -264,7 +266,8 @@ impl<'a> SliceReader<'a> {
 
     /// Reads the one element that is all that is unread.
     pub(crate) fn only_element<T: DecodeValue<'a> + FixedTag + Drop>(&mut self) -> Result<T>
-        ensures found { IfOk result (λ value. IsSomeAnd (T.content value) (λ content. T.is_content content × (length content ≤ max_length)
+        ensures found { IfOk result (λ value. IsSomeAnd (T.content value) (λ content.
+            T.is_content content × (length content ≤ max_length)
             × (self.old ≡ before (element T.number content)))) }
         ensures only { (content : List ℕ) → T.is_content content → length content ≤ max_length
             → self.old ≡ before (element T.number content)

@@ -120,7 +120,8 @@ fn read_content<R: Read>(reader: &mut R, bytes: &mut Vec<u8>, announced: usize) 
     ensures io { Refuses result Io ↔ IsTrue (R.failed reader.new) }
     ensures found { OnOk result
         (ReadsOnto (R.left reader.old) (R.left reader.new) bytes.old.items bytes.new.items announced) }
-    ensures refused { IfErr result (λ error. RefusesContent error.kind announced (R.left reader.old) (R.left reader.new)) }
+    ensures refused { IfErr result (λ error.
+        RefusesContent error.kind announced (R.left reader.old) (R.left reader.new)) }
 {
     let mut missing = announced;
     while missing > 0 {
