@@ -11,3 +11,4 @@ pub mod DottedLemmas
 pub mod DisplayLemmas
 pub mod StreamLemmas
 pub mod OneElement
+pub mod UniqueLemmas

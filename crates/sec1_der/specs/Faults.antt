@@ -8,6 +8,17 @@ use Rattle.sec1_der.specs.declared.error.ErrorKind.TheVariants.{Truncated, Tag, 
 abbrev pub Refuses : {T : Type 0} → Result T Error → ErrorKind → Type 0
 Refuses result kind = IsErrAnd result (λ e. e.kind ≡ kind)
 
+-- the kinds by which a header is refused, or the room behind it
+abbrev pub IsHeaderFault : ErrorKind → Type 0
+IsHeaderFault Truncated = Unit {0}
+IsHeaderFault Tag = Unit {0}
+IsHeaderFault Length = Unit {0}
+IsHeaderFault _ = ⊥
+
+-- the kinds by which bytes are refused that aren't those of a tree of at most 64 levels
+abbrev pub IsTreeFault : ErrorKind → Type 0
+IsTreeFault kind = IsHeaderFault kind ⊎ (kind ≡ TrailingData) ⊎ (kind ≡ Depth)
+
 -- the kinds that bytes are refused by
 abbrev pub IsReadingFault : ErrorKind → Type 0
 IsReadingFault Truncated = Unit {0}

@@ -16,6 +16,8 @@ pub mod Readers
 pub mod SliceWriters
 pub mod BackWriters
 pub mod WriterLaws
+pub mod Components
+pub mod ComponentLaws
 pub mod Streams
 pub mod StdStreams
 pub mod ReadsDocument

@@ -90,12 +90,10 @@ pub record RefusesElement (kind : ErrorKind) (old new : Option (List ℕ)) : Typ
   pub by_kind : TakesBefore kind taken
   pub at_end : kind ≡ Truncated → IsAtEnd new
 
--- a header was read onto no bytes
-pub record ReadsHeader (old new : Option (List ℕ)) (bytes : List ℕ) (announced : ℕ) : Type 0 where
-  pub tag : ℕ
+-- a header was read
+pub record ReadsHeader (old new : Option (List ℕ)) (tag announced : ℕ) : Type 0 where
   pub is_header : IsHeader tag announced
-  pub spelled : bytes ≡ header tag announced
-  pub consumed : Consumes old new bytes
+  pub consumed : Consumes old new (header tag announced)
 
 -- so many bytes are refused by this kind, after fewer of them
 pub record RefusesContent (kind : ErrorKind) (announced : ℕ) (old new : Option (List ℕ)) : Type 0 where

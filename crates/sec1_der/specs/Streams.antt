@@ -1,5 +1,5 @@
 -- What calls over readers and writers do to the bytes that are left to read, and to those that were written.
-use Rattle.std.specs.Prelude.{◌≡◌, ℕ, List, ◌++◌, Option, length}
+use Rattle.std.specs.Prelude.{◌≡◌, ◌<◌, ℕ, List, ◌++◌, Option, length}
 use Rattle.std.specs.Io.KnownBytes.{Appends, Consumes}
 
 -- n bytes were read, and stand after the bytes before
@@ -15,3 +15,9 @@ pub record AppendsBeginning (old new : Option (List ℕ)) (bytes : List ℕ) : T
   pub rest : List ℕ
   pub joined : bytes ≡ front ++ rest
   pub appended : Appends old new front
+
+-- fewer than n bytes were read
+pub record TakesFewer (old new : Option (List ℕ)) (n : ℕ) : Type 0 where
+  pub bytes : List ℕ
+  pub consumed : Consumes old new bytes
+  pub few : length bytes < n

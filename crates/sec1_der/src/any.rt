@@ -1,20 +1,24 @@
+ghost use Rattle.sec1_der.specs.Elements.{IsTag};
+
 use crate::header::element_at;
 use crate::{
     BackWriter, EncodeValue, ErrorKind, Length, ObjectIdentifier, Result, SliceReader, SliceWriter,
     Tag, ValueContent,
 };
 
-/// An element of any tag, whose content is lent unread.
+/// An element of any tag, which borrows its content unread.
+// The tag stands as its byte: a value that holds both a reference and a type with a `Model` can't be passed by `?`.
 #[derive(Clone, Copy, PartialEq, Eq, Debug)]
 pub struct AnyRef<'a> {
-    tag: Tag,
+    tag: u8,
     value: &'a [u8],
+    ghost is_tag: { IsTag tag },
 }
 
 impl<'a> AnyRef<'a> {
     ghost use Rattle.std.specs.Prelude.{◌≡◌, ◌≤◌, ◌↔◌, ℕ, List, [], ◌++◌, length, true, false, IsOk, IfOk, IsOkAnd, IfErr, OnErr};
     ghost use Rattle.sec1_der.specs.Elements.{max_length, element, IsHeader, IsProperBeginning, LacksHeader};
-    ghost use Rattle.sec1_der.specs.Faults.{header_fault, Refuses, IsReadingFault};
+    ghost use Rattle.sec1_der.specs.Faults.{header_fault, Refuses, IsHeaderFault};
     ghost use Rattle.sec1_der.specs.Readers.{before, HasRead};
     ghost use Rattle.sec1_der.specs.Values.{tag_of, value_of};
 
@@ -27,7 +31,10 @@ impl<'a> AnyRef<'a> {
         ensures above { IfErr result (λ e. e.kind ≡ ErrorKind.Overlength) }
     {
         Length::new(value.len())?;
-        Ok(AnyRef { tag, value })
+        Ok(AnyRef {
+            tag: tag.byte(),
+            value,
+        })
     }
 
     /// Reads one element of any tag.
@@ -47,7 +54,7 @@ impl<'a> AnyRef<'a> {
             → Refuses result ErrorKind.Truncated }
         ensures fault { reader.old.failed ≡ false → LacksHeader reader.old.unread
             → Refuses result (header_fault reader.old.unread) }
-        ensures kinds { reader.old.failed ≡ false → IfErr result (λ e. IsReadingFault e.kind) }
+        ensures kinds { reader.old.failed ≡ false → IfErr result (λ e. IsHeaderFault e.kind) }
         ensures failed { reader.old.failed ≡ true → Refuses result ErrorKind.Failed
             × (reader.new ≡ reader.old) }
         ensures refused { OnErr result (reader.new.failed ≡ true) }
@@ -58,7 +65,7 @@ impl<'a> AnyRef<'a> {
                 let (value, rest) = inside.split_at(header.length.get());
                 reader.set_unread(rest);
                 Ok(AnyRef {
-                    tag: header.tag,
+                    tag: header.tag.byte(),
                     value,
                 })
             }
@@ -70,7 +77,7 @@ impl<'a> AnyRef<'a> {
     pub fn tag(&self) -> Tag
         ensures { result ≡ tag_of self.now }
     {
-        self.tag
+        Tag::of_byte(self.tag)
     }
 
     /// The content.
@@ -92,7 +99,7 @@ impl<'a> From<&'a ObjectIdentifier> for AnyRef<'a> {
 
     fn from(identifier: &'a ObjectIdentifier) -> AnyRef<'a> {
         AnyRef {
-            tag: Tag::OBJECT_IDENTIFIER,
+            tag: Tag::OBJECT_IDENTIFIER.byte(),
             value: identifier.as_bytes(),
         }
     }

@@ -8,7 +8,8 @@ use crate::{
 /// Fills a slice from its end, so that a content is written before its header.
 ///
 /// A call that refuses has written nothing, and the bytes of the slice in front of what was written are
-/// unchanged.
+/// unchanged. [`put_element`](BackWriter::put_element) and [`put_field`](BackWriter::put_field) promise neither where
+/// there is no room, which their caller tests.
 #[derive(Drop)]
 pub struct BackWriter<'b> {
     buffer: &'b mut [u8],
@@ -70,6 +71,7 @@ impl<'b> BackWriter<'b> {
     ///
     /// Refused as Overlength where that is more than 268,435,455 bytes, then as Buffer where the header has no
     /// room.
+    #[tactic(auto, using(crate::proofs::LengthLemmas::len_1))]
     pub fn header(&mut self, tag: Tag, since: usize) -> Result<()>
         requires { since ≤ length (end_of self.old) }
         ensures slice { KeepsEnd self.old self.new }
@@ -84,6 +86,9 @@ impl<'b> BackWriter<'b> {
             → Refuses result ErrorKind.Buffer × PutsNothing self.old self.new }
     {
         let length = Length::new(self.written() - since)?;
+        if length.get() < 0x80 {
+            return self.write(&[tag.byte(), length.get() as u8]);
+        }
         let (octets, count) = Header { tag, length }.octets();
         self.write(&octets[..count])
     }
@@ -107,8 +112,24 @@ impl<'b> BackWriter<'b> {
         if self.remaining() < encoded_len(value)? {
             return Err(ErrorKind::Buffer.into());
         }
+        self.put_element(value)
+    }
+
+    /// Puts the element of a value in front, where it has room. The caller has tested the room: where there is less,
+    /// or where there is no element, any bytes may have been put in front. The crate `der` has no such call.
+    ///
+    /// # Errors
+    ///
+    /// None where the element has room.
+    pub fn put_element<T: EncodeValue + FixedTag>(&mut self, value: &T) -> Result<()>
+        ensures slice { KeepsEnd self.old self.new }
+        ensures grows { length (end_of self.old) ≤ length (end_of self.new) }
+        ensures fits { (bytes : List ℕ) → element_of T.number (T.content value.now) ≡ Some bytes
+            → length bytes ≤ length (front_of self.old)
+            → IsOk result × PutsInFront self.old self.new bytes }
+    {
         let since = self.written();
-        value.encode_back(self)?;
+        value.put_value(self)?;
         self.header(T::fixed_tag(), since)
     }
 
@@ -138,11 +159,34 @@ impl<'b> BackWriter<'b> {
         if self.remaining() < context_specific_len(number, field)? {
             return Err(ErrorKind::Buffer.into());
         }
+        self.put_field(number, field)
+    }
+
+    /// Puts an explicit field `[number]` around the element of a value in front, where it has room; nothing where
+    /// there is no value. The caller has tested the room: where there is less, or where there is no element, any bytes
+    /// may have been put in front. The crate `der` has no such call.
+    ///
+    /// # Errors
+    ///
+    /// None where the field has room.
+    pub fn put_field<T: EncodeValue + FixedTag>(
+        &mut self,
+        number: u8,
+        field: &Option<T>,
+    ) -> Result<()>
+        requires { number ≤ 30 }
+        ensures slice { KeepsEnd self.old self.new }
+        ensures grows { length (end_of self.old) ≤ length (end_of self.new) }
+        ensures fits { (bytes : List ℕ)
+            → field_of number T.number (option_map T.content field.now) ≡ Some bytes
+            → length bytes ≤ length (front_of self.old)
+            → IsOk result × PutsInFront self.old self.new bytes }
+    {
         let Some(value) = field else {
             return Ok(());
         };
         let since = self.written();
-        self.element(value)?;
+        self.put_element(value)?;
         self.header(Tag::context(number), since)
     }
 }

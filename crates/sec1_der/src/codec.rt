@@ -1,12 +1,12 @@
 //! The calls that read a value of any type from its whole encoding, and write it.
-ghost use Rattle.std.specs.Prelude.{◌≡◌, ◌≢◌, ◌<◌, ◌≤◌, ◌+◌, [], ◌++◌, ℕ, List, length, drop, Option, Some, None, slice_get, IsOk, IfOk, IsOkAnd, IfErr, OnOk, IsSomeAnd, MatchResult};
+ghost use Rattle.std.specs.Prelude.{◌≡◌, ◌≢◌, ◌<◌, ◌≤◌, ◌+◌, ◌⊎◌, [], ◌++◌, ℕ, List, length, drop, Option, Some, None, slice_get, IsOk, IfOk, IsOkAnd, IfErr, OnOk, OnErr, IsSomeAnd, MatchResult};
 ghost use Rattle.std.specs.Option.{option_map};
 ghost use Rattle.sec1_der.specs.Elements.{max_length, element, element_of, field_of, IsTag, IsElementOf, IsProperBeginning};
 ghost use Rattle.sec1_der.specs.Faults.{Refuses, IsReadingFault};
 
 use crate::{
-    BackWriter, DecodeValue, EncodeValue, ErrorKind, FixedTag, Header, Length, Result, SliceReader,
-    Tag,
+    BackWriter, DecodeValue, EncodeComponents, EncodeValue, ErrorKind, FixedTag, Header, Length,
+    Result, SliceReader, Tag,
 };
 use std::alloc::Global;
 
@@ -18,6 +18,12 @@ pub fn from_der<'a, T: DecodeValue<'a> + FixedTag + Drop>(input: &'a [u8]) -> Re
         × IsElementOf T.number content input.now)) }
     ensures only { (content : List ℕ) → T.is_content content → IsElementOf T.number content input.now
         → IsOkAnd result (λ value. T.content value ≡ Some content) }
+    // The same of values: what is read has these bytes, and the bytes of a value are read as one with its content.
+    ensures found_value { IfOk result (λ value. element_of T.number (T.content value) ≡ Some input.now) }
+    ensures only_value { (value : T) → element_of T.number (T.content value) ≡ Some input.now
+        → IsOkAnd result (λ found. T.content found ≡ T.content value) }
+    ensures long_value { (value : T) (bytes : List ℕ) → element_of T.number (T.content value) ≡ Some bytes
+        → IsProperBeginning bytes input.now → Refuses result ErrorKind.TrailingData }
 
     ensures empty { input.now ≡ [] → Refuses result ErrorKind.Truncated }
     ensures other_tag { (byte : ℕ) → slice_get input.now 0 ≡ Some byte → byte ≢ T.number
@@ -41,6 +47,10 @@ pub fn encoded_len<T: EncodeValue + FixedTag>(value: &T) -> Result<usize>
         → Refuses result ErrorKind.Overlength }
     ensures some { (bytes : List ℕ) → element_of T.number (T.content value.now) ≡ Some bytes
         → result ≡ Ok (length bytes) }
+    ensures found { IfOk result (λ n. IsSomeAnd (element_of T.number (T.content value.now)) (λ bytes.
+        n ≡ length bytes)) }
+    ensures kind { IfErr result (λ e. (e.kind ≡ ErrorKind.Overlength)
+        × (element_of T.number (T.content value.now) ≡ None)) }
     ensures most { IfOk result (λ n. n ≤ max_length + 6) }
     ensures tag { OnOk result (IsTag T.number) }
 {
@@ -86,6 +96,14 @@ pub fn encode_to_slice<T: EncodeValue + FixedTag>(value: &T, buffer: &mut [u8]) 
     ensures full { (bytes : List ℕ) → element_of T.number (T.content value.now) ≡ Some bytes
         → length buffer.old < length bytes
         → Refuses result ErrorKind.Buffer × (buffer.new ≡ buffer.old) }
+    // What was written is the element, and it stands within the slice.
+    ensures found { IfOk result (λ n. IsSomeAnd (element_of T.number (T.content value.now)) (λ bytes.
+        (n ≡ length bytes) × (buffer.new ≡ bytes ++ drop n buffer.old))) }
+    ensures within { IfOk result (λ n. n ≤ length buffer.new) }
+    ensures kinds { IfErr result (λ e.
+        ((e.kind ≡ ErrorKind.Overlength) × (element_of T.number (T.content value.now) ≡ None))
+        ⊎ (e.kind ≡ ErrorKind.Buffer)) }
+    ensures unchanged { OnErr result (buffer.new ≡ buffer.old) }
 {
     let total = encoded_len(value)?;
     if buffer.len() < total {
@@ -103,6 +121,10 @@ pub fn to_der<T: EncodeValue + FixedTag>(alloc: Global, value: &T) -> Result<Vec
         → Refuses result ErrorKind.Overlength }
     ensures some { (bytes : List ℕ) → element_of T.number (T.content value.now) ≡ Some bytes
         → MatchResult result (λ der. der.items ≡ bytes) (λ e. e.kind ≡ ErrorKind.Memory) }
+    ensures found { IfOk result (λ der. element_of T.number (T.content value.now) ≡ Some der.items) }
+    ensures kinds { IfErr result (λ e.
+        ((e.kind ≡ ErrorKind.Overlength) × (element_of T.number (T.content value.now) ≡ None))
+        ⊎ (e.kind ≡ ErrorKind.Memory)) }
     ensures tag { OnOk result (IsTag T.number) }
 {
     let total = encoded_len(value)?;
@@ -117,7 +139,16 @@ fn fill<T: EncodeValue + FixedTag>(value: &T, buffer: &mut [u8]) -> Result<()>
         → length buffer.old ≡ length bytes
         → IsOk result × (buffer.new ≡ bytes) }
 {
-    BackWriter::new(buffer).element(value)
+    BackWriter::new(buffer).put_element(value)
+}
+
+/// Writes the content of a SEQUENCE with these components over a slice of its length.
+pub(crate) fn fill_components<R: EncodeComponents>(row: &R, buffer: &mut [u8]) -> Result<()>
+    ensures { (bytes : List ℕ) → R.content row.now ≡ Some bytes → length bytes ≤ max_length
+        → length buffer.old ≡ length bytes
+        → IsOk result × (buffer.new ≡ bytes) }
+{
+    row.put_value(&mut BackWriter::new(buffer))
 }
 
 /// The header of the value's element.

@@ -1,8 +1,8 @@
 ghost use Rattle.std.specs.Prelude.{◌≡◌, ◌≤◌, ◌⊎◌, ℕ, List, length, Some, None, IfOk, IfErr, MatchResult};
 ghost use Rattle.sec1_der.specs.Elements.{max_length, element, element_of, IsHeader, IsElement, IsProperBeginning, LacksHeader};
-ghost use Rattle.sec1_der.specs.Faults.{Refuses, IsReadingFault, header_fault};
+ghost use Rattle.sec1_der.specs.Faults.{Refuses, IsHeaderFault, header_fault};
 
-mod stream;
+pub(crate) mod stream;
 
 use crate::header::element_at;
 use crate::{EncodeValue, ErrorKind, FixedTag, Result, to_der};
@@ -12,7 +12,8 @@ use std::marker::Model;
 
 /// The bytes of one element in memory: a header, and as many bytes as it announces. A contract sees the bytes.
 ///
-/// Whether the content is elements again isn't tested. There is always a header, so no document is empty.
+/// Whether the content is elements again isn't tested. There is always a header, so no document is empty. The bytes
+/// aren't overwritten when the document is dropped.
 #[derive(Drop)]
 pub struct SecretDocument {
     bytes: Vec<u8>,
@@ -45,7 +46,7 @@ impl SecretDocument {
         ensures long { (tag : ℕ) (content : List ℕ) → IsHeader tag (length content)
             → IsProperBeginning (element tag content) bytes.now
             → Refuses result ErrorKind.TrailingData }
-        ensures kinds { IfErr result (λ e. IsReadingFault e.kind
+        ensures kinds { IfErr result (λ e. IsHeaderFault e.kind ⊎ (e.kind ≡ ErrorKind.TrailingData)
             ⊎ ((e.kind ≡ ErrorKind.Memory) × IsElement bytes.now)) }
     {
         let (header, inside) = match element_at(bytes) {
@@ -55,7 +56,7 @@ impl SecretDocument {
         if inside.len() > header.length.get() {
             return Err(ErrorKind::TrailingData.into());
         }
-        let bytes = bytes.to_vec(alloc)?;
+        let bytes = Vec::from_slice(alloc, bytes)?;
         Ok(SecretDocument { bytes })
     }
 
@@ -67,6 +68,10 @@ impl SecretDocument {
             → Refuses result ErrorKind.Overlength }
         ensures some { (bytes : List ℕ) → element_of T.number (T.content value.now) ≡ Some bytes
             → MatchResult result (λ document. document ≡ bytes) (λ e. e.kind ≡ ErrorKind.Memory) }
+        ensures found { IfOk result (λ document. element_of T.number (T.content value.now) ≡ Some document) }
+        ensures kinds { IfErr result (λ e.
+            ((e.kind ≡ ErrorKind.Overlength) × (element_of T.number (T.content value.now) ≡ None))
+            ⊎ (e.kind ≡ ErrorKind.Memory)) }
     {
         let bytes = to_der(alloc, value)?;
         Ok(SecretDocument { bytes })

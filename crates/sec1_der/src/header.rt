@@ -1,6 +1,6 @@
 ghost use Rattle.std.specs.Prelude.{◌≡◌, ℕ, ◌<◌, ◌≤◌, ◌^◌, length, take, List, ◌++◌, IfOk, IfErr, IsOkAnd, IsOk, IsErr, OnErr, false, true};
 ghost use Rattle.sec1_der.specs.Elements.{max_length, len, header, element, IsHeader, IsProperBeginning, LacksHeader};
-ghost use Rattle.sec1_der.specs.Faults.{length_fault, header_fault, Refuses, IsReadingFault};
+ghost use Rattle.sec1_der.specs.Faults.{length_fault, header_fault, Refuses, IsHeaderFault};
 ghost use Rattle.sec1_der.specs.Numbers.{num};
 ghost use Rattle.sec1_der.specs.Readers.{before, refused, HasRead};
 ghost use Rattle.sec1_der.specs.SliceWriters.{room_of, KeepsSlice, AppendsNothing, Appends};
@@ -99,9 +99,9 @@ impl Header {
 
 /// The header of the element that the bytes begin with, and the bytes after the header, where the
 /// content has room in them.
-#[tactic(auto, using(crate::proofs::HeaderLemmas::header_fault_reads))]
+#[tactic(auto, using(crate::proofs::HeaderLemmas::header_fault_kinds))]
 pub(crate) fn element_at(input: &[u8]) -> First<'_, Header>
-    ensures kinds { IfErr result IsReadingFault }
+    ensures kinds { IfErr result IsHeaderFault }
     ensures found { IfOk result (λ x. IsHeader x.0.tag x.0.length
         × (input.now ≡ header x.0.tag x.0.length ++ x.1.now) × (x.0.length ≤ length x.1.now)) }
     ensures only { (tag : ℕ) (content rest : List ℕ) → IsHeader tag (length content)

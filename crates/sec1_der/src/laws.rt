@@ -1,14 +1,20 @@
-//! Laws of the definitions, which hold whatever is called. Each function does nothing: its contract is the law.
-ghost use Rattle.std.specs.Prelude.{◌≡◌, ℕ, List, [], ◌∷◌, Some};
-ghost use Rattle.sec1_der.specs.Elements.{len};
+//! Laws of the definitions, of the constants and of `==`, which a caller may cite. The contract of each function is
+//! the law; the function does no more than the law speaks of.
+ghost use Rattle.std.specs.Prelude.{◌≡◌, ◌⊎◌, ◌↔◌, ◌<◌, ◌≤◌, ℕ, List, [], ◌∷◌, ◌++◌, length, take, drop, ◌-◌, Some, None, IsSome, IsOk, IsTrue};
+ghost use Rattle.sec1_der.specs.Elements.{len, element_of};
+ghost use Rattle.sec1_der.specs.Faults.{Refuses};
 ghost use Rattle.sec1_der.specs.Identifiers.{content_of, dotted};
 ghost use Rattle.sec1_der.specs.TreeLaws.{BytesDetermineTree, BytesDetermineRow, NoTreeBeginsAnother};
-ghost use Rattle.sec1_der.specs.Values.{octets_of, unused_bits_of, bit_bytes_of};
+ghost use Rattle.sec1_der.specs.Values.{octets_of, unused_bits_of, bit_bytes_of, tag_of, value_of};
 ghost use Rattle.sec1_der.specs.declared.bit_string.BitStringRef.{BitStringRef};
 ghost use Rattle.sec1_der.specs.declared.octet_string.OctetStringRef.{OctetStringRef};
 ghost use Rattle.sec1_der.specs.declared.version.VersionOne.{VersionOne};
 
-use crate::{BitStringRef, ObjectIdentifier, OctetStringRef, ValueContent, VersionOne};
+use crate::{
+    AnyRef, BackWriter, BitStringRef, EncodeValue, ErrorKind, FixedTag, Header, ID_EC_PUBLIC_KEY,
+    Length, ObjectIdentifier, OctetStringRef, Result, SECP256R1, SliceWriter, Tag, ValueContent,
+    VersionOne,
+};
 
 /// A tree is determined by its bytes, whatever follows them.
 pub fn trees_unique()
@@ -67,11 +73,165 @@ pub fn spelled_lengths()
     ensures greatest { len 268435455 ≡ 0x84 ∷ 0x0F ∷ 0xFF ∷ 0xFF ∷ 0xFF ∷ [] }
 {}
 
-/// The contents of P-256's identifier (RFC 5480 section 2.1.1.1), of the example 2.999 (X.690 section 8.19.5),
-/// and of the greatest second arc.
+/// The contents of P-256's identifier (RFC 5480 section 2.1.1.1), of 2.999, whose second arc is above 39 (X.690
+/// section 8.19.4), and of the greatest second arc.
 pub fn spelled_identifiers()
     ensures p_256 { content_of (1 ∷ 2 ∷ 840 ∷ 10045 ∷ 3 ∷ 1 ∷ 7 ∷ [])
         ≡ 0x2A ∷ 0x86 ∷ 0x48 ∷ 0xCE ∷ 0x3D ∷ 0x03 ∷ 0x01 ∷ 0x07 ∷ [] }
     ensures example { content_of (2 ∷ 999 ∷ []) ≡ 0x88 ∷ 0x37 ∷ [] }
     ensures greatest { content_of (2 ∷ 4294967215 ∷ []) ≡ 0x8F ∷ 0xFF ∷ 0xFF ∷ 0xFF ∷ 0x7F ∷ [] }
 {}
+
+/// A value has an element, or it has none.
+pub fn element_or_none<T: EncodeValue + FixedTag>(value: &T)
+    ensures { (element_of T.number (T.content value.now) ≡ None)
+        ⊎ IsSome (element_of T.number (T.content value.now)) }
+{
+    let _value = value;
+}
+
+/// Returns the constants of [`Tag`]: INTEGER, BIT STRING, OCTET STRING, NULL, OBJECT IDENTIFIER and SEQUENCE (X.680
+/// section 8.4), `[0]` and `[1]`.
+pub fn tags() -> [Tag; 8]
+    ensures { result ≡ 0x02 ∷ 0x03 ∷ 0x04 ∷ 0x05 ∷ 0x06 ∷ 0x30 ∷ 0xA0 ∷ 0xA1 ∷ [] }
+{
+    [
+        Tag::INTEGER,
+        Tag::BIT_STRING,
+        Tag::OCTET_STRING,
+        Tag::NULL,
+        Tag::OBJECT_IDENTIFIER,
+        Tag::SEQUENCE,
+        Tag::CONTEXT_0,
+        Tag::CONTEXT_1,
+    ]
+}
+
+/// Returns [`FixedTag::TAG`] of [`VersionOne`], which is its [`fixed_tag`](FixedTag::fixed_tag).
+pub fn version_tag() -> Tag
+    ensures { result ≡ ⟦<VersionOne as FixedTag>⟧.number }
+{
+    VersionOne::TAG
+}
+
+/// Returns [`FixedTag::TAG`] of [`OctetStringRef`], which is its [`fixed_tag`](FixedTag::fixed_tag).
+pub fn octet_string_tag() -> Tag
+    ensures { result ≡ ⟦<OctetStringRef<'static> as FixedTag>⟧.number }
+{
+    OctetStringRef::TAG
+}
+
+/// Returns [`FixedTag::TAG`] of [`BitStringRef`], which is its [`fixed_tag`](FixedTag::fixed_tag).
+pub fn bit_string_tag() -> Tag
+    ensures { result ≡ ⟦<BitStringRef<'static> as FixedTag>⟧.number }
+{
+    BitStringRef::TAG
+}
+
+/// Returns [`FixedTag::TAG`] of [`ObjectIdentifier`], which is its [`fixed_tag`](FixedTag::fixed_tag).
+pub fn identifier_tag() -> Tag
+    ensures { result ≡ ⟦<ObjectIdentifier as FixedTag>⟧.number }
+{
+    ObjectIdentifier::TAG
+}
+
+/// Returns [`ID_EC_PUBLIC_KEY`], 1.2.840.10045.2.1 (RFC 5480 section 2.1.1).
+pub fn id_ec_public_key() -> ObjectIdentifier
+    ensures { result ≡ 1 ∷ 2 ∷ 840 ∷ 10045 ∷ 2 ∷ 1 ∷ [] }
+{
+    ID_EC_PUBLIC_KEY
+}
+
+/// Returns [`SECP256R1`], 1.2.840.10045.3.1.7 (RFC 5480 section 2.1.1.1).
+pub fn secp256r1() -> ObjectIdentifier
+    ensures { result ≡ 1 ∷ 2 ∷ 840 ∷ 10045 ∷ 3 ∷ 1 ∷ 7 ∷ [] }
+{
+    SECP256R1
+}
+
+/// Two lengths are equal exactly where their numbers are.
+pub fn same_length(a: Length, b: Length) -> bool
+    ensures { IsTrue result ↔ (a ≡ b) }
+{
+    a == b
+}
+
+/// Two tags are equal exactly where their bytes are.
+pub fn same_tag(a: Tag, b: Tag) -> bool
+    ensures { IsTrue result ↔ (a ≡ b) }
+{
+    a == b
+}
+
+/// Two headers are equal exactly where their tags and their lengths are.
+pub fn same_header(a: Header, b: Header) -> bool
+    ensures { IsTrue result ↔ ((a.tag ≡ b.tag) × (a.length ≡ b.length)) }
+{
+    a == b
+}
+
+/// Two versions are equal.
+pub fn same_version(a: VersionOne, b: VersionOne) -> bool
+    ensures { IsTrue result }
+{
+    a == b
+}
+
+/// Two octet strings are equal exactly where their bytes are.
+pub fn same_octet_string(a: &OctetStringRef, b: &OctetStringRef) -> bool
+    ensures { IsTrue result ↔ (octets_of a.now ≡ octets_of b.now) }
+{
+    *a == *b
+}
+
+/// Two bit strings are equal exactly where their bytes and their counts of unused bits are.
+pub fn same_bit_string(a: &BitStringRef, b: &BitStringRef) -> bool
+    ensures { IsTrue result ↔ ((unused_bits_of a.now ≡ unused_bits_of b.now)
+        × (bit_bytes_of a.now ≡ bit_bytes_of b.now)) }
+{
+    *a == *b
+}
+
+/// Two elements of any tag are equal exactly where their tags and their contents are.
+pub fn same_any(a: &AnyRef, b: &AnyRef) -> bool
+    ensures { IsTrue result ↔ ((tag_of a.now ≡ tag_of b.now) × (value_of a.now ≡ value_of b.now)) }
+{
+    *a == *b
+}
+
+/// Two identifiers are equal exactly where their arcs are.
+pub fn same_identifier(a: ObjectIdentifier, b: ObjectIdentifier) -> bool
+    ensures { IsTrue result ↔ (a ≡ b) }
+{
+    a == b
+}
+
+/// Writes bytes at the beginning of a slice by a [`SliceWriter`]. The rest of the slice is unchanged after the writer
+/// has been dropped.
+///
+/// # Errors
+///
+/// Buffer where the slice is too short. The whole slice is unchanged then.
+pub fn writes_forwards(buffer: &mut [u8], bytes: &[u8]) -> Result<()>
+    ensures fits { length bytes.now ≤ length buffer.old
+        → IsOk result × (buffer.new ≡ bytes.now ++ drop (length bytes.now) buffer.old) }
+    ensures full { length buffer.old < length bytes.now
+        → Refuses result ErrorKind.Buffer × (buffer.new ≡ buffer.old) }
+{
+    SliceWriter::new(buffer).write(bytes)
+}
+
+/// Writes bytes at the end of a slice by a [`BackWriter`]. The rest of the slice is unchanged after the writer has
+/// been dropped.
+///
+/// # Errors
+///
+/// Buffer where the slice is too short. The whole slice is unchanged then.
+pub fn writes_backwards(buffer: &mut [u8], bytes: &[u8]) -> Result<()>
+    ensures fits { length bytes.now ≤ length buffer.old
+        → IsOk result × (buffer.new ≡ take (length buffer.old - length bytes.now) buffer.old ++ bytes.now) }
+    ensures full { length buffer.old < length bytes.now
+        → Refuses result ErrorKind.Buffer × (buffer.new ≡ buffer.old) }
+{
+    BackWriter::new(buffer).write(bytes)
+}

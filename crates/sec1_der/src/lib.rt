@@ -1,19 +1,27 @@
-//! The part of DER (X.690) that EC private keys need: lengths, tags, headers, a reader, and the values that
-//! a key is made of. Each value has one encoding, and everything else is refused.
+//! The part of DER (X.690) that EC private keys need. Each value has one encoding, and everything else is refused.
+//!
+//! Lengths, tags and headers; a reader and two writers over slices; the values that a key is made of; traits by
+//! which a type is read from its element and written as it, and the calls that are generic over these; records, which
+//! are read and written by the row of their components; documents, which are read from streams and files and written
+//! to them; a check of whole trees; laws.
 #![tactic(auto)]
 
 mod any;
 mod back_writer;
 mod bit_string;
 mod codec;
+mod component_values;
+mod components;
 mod document;
 mod error;
+mod explicit;
 mod header;
 pub mod laws;
 mod length;
 mod object_identifier;
 mod octet_string;
 mod reader;
+mod record;
 mod slice_writer;
 mod std_stream;
 mod stream;
@@ -21,6 +29,7 @@ mod tag;
 #[cfg(test)]
 mod tests;
 mod tree;
+mod unique;
 mod value;
 mod version;
 
@@ -28,17 +37,24 @@ pub use any::AnyRef;
 pub use back_writer::BackWriter;
 pub use bit_string::BitStringRef;
 pub use codec::{context_specific_len, encode_to_slice, encoded_len, from_der, to_der};
+pub use component_values::{Containing, Octets, SmallInteger, WholeBits};
+pub use components::{EncodeComponents, End, Optional, Required};
 pub use document::SecretDocument;
 pub use error::{Error, ErrorKind, Result};
+pub use explicit::{
+    DecodeExplicit, Explicit0, Explicit1, ExplicitTag, NoField, OtherThan, UniversalTag,
+};
 pub use header::Header;
 pub use length::Length;
-pub use object_identifier::{ID_EC_PUBLIC_KEY, ObjectIdentifier};
+pub use object_identifier::{ID_EC_PUBLIC_KEY, ObjectIdentifier, SECP256R1};
 pub use octet_string::OctetStringRef;
 pub use reader::SliceReader;
+pub use record::Record;
 pub use slice_writer::SliceWriter;
 pub use std_stream::{StdReader, StdWriter};
-pub use stream::{IoFault, Read, Write, read_some, write_all};
+pub use stream::{IoFault, Read, Write};
 pub use tag::Tag;
 pub use tree::check_tree;
+pub use unique::{UniqueContent, UniqueRecord, read_der};
 pub use value::{DecodeValue, EncodeValue, FixedTag, Sequence, ValueContent};
 pub use version::VersionOne;

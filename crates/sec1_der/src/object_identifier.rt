@@ -35,6 +35,15 @@ pub const ID_EC_PUBLIC_KEY: ObjectIdentifier = ObjectIdentifier {
     len: 7,
 };
 
+/// secp256r1, the curve P-256, 1.2.840.10045.3.1.7 (RFC 5480 section 2.1.1.1).
+pub const SECP256R1: ObjectIdentifier = ObjectIdentifier {
+    bytes: [
+        0x2A, 0x86, 0x48, 0xCE, 0x3D, 0x03, 0x01, 0x07, 0, 0, 0, 0, 0, 0, 0, 0, 0, 0, 0, 0, 0, 0,
+        0, 0, 0, 0, 0, 0, 0, 0, 0, 0, 0, 0, 0, 0, 0, 0, 0,
+    ],
+    len: 8,
+};
+
 impl Model for ObjectIdentifier {
     ghost use Rattle.std.specs.Prelude.{List, ℕ, length};
 

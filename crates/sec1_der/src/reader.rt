@@ -220,8 +220,12 @@ impl<'a> SliceReader<'a> {
         self.unread = rest;
     }
 
-    /// Reads all that is unread.
-    pub(crate) fn read_rest(&mut self) -> Result<&'a [u8]>
+    /// Reads and borrows the remaining input, which may be empty. A type of one's own reads its content by this call.
+    ///
+    /// # Errors
+    ///
+    /// Failed where the reader refused before.
+    pub fn read_rest(&mut self) -> Result<&'a [u8]>
         ensures found { IfOk result (λ rest. (self.old ≡ before rest.now) × (self.new ≡ before [])) }
         ensures only { self.old.failed ≡ false → IsOk result }
         ensures failed { self.old.failed ≡ true → Refuses result ErrorKind.Failed }

@@ -1,7 +1,9 @@
 ghost use Rattle.std.specs.Prelude.{◌≤◌, length};
 
-use crate::codec::{element_header, field_header};
-use crate::{EncodeValue, ErrorKind, FixedTag, Result, context_specific_len, encoded_len};
+use crate::codec::{element_header, field_header, fill_components};
+use crate::{
+    EncodeComponents, EncodeValue, ErrorKind, FixedTag, Result, context_specific_len, encoded_len,
+};
 
 /// Fills a slice from its beginning.
 ///
@@ -16,7 +18,7 @@ pub struct SliceWriter<'b> {
 impl<'b> SliceWriter<'b> {
     ghost use Rattle.std.specs.Prelude.{◌≡◌, ℕ, ◌<◌, List, [], ◌∷◌, Some, None, IsOk};
     ghost use Rattle.std.specs.Option.{option_map};
-    ghost use Rattle.sec1_der.specs.Elements.{element_of, field_of};
+    ghost use Rattle.sec1_der.specs.Elements.{max_length, element_of, field_of, IsOverlong};
     ghost use Rattle.sec1_der.specs.Faults.{Refuses};
     ghost use Rattle.sec1_der.specs.SliceWriters.{written_by, room_of, IsOver, KeepsSlice, AppendsNothing, Appends};
 
@@ -70,6 +72,32 @@ impl<'b> SliceWriter<'b> {
         }
         let end = self.position + bytes.len();
         self.buffer[self.position..end].copy_from_slice(bytes);
+        self.position = end;
+        Ok(())
+    }
+
+    /// Appends the content of a SEQUENCE with these components.
+    ///
+    /// # Errors
+    ///
+    /// As [`EncodeComponents::value_len`], then Buffer where the content has no room.
+    pub(crate) fn components<R: EncodeComponents>(&mut self, row: &R) -> Result<()>
+        ensures slice { KeepsSlice self.old self.new }
+        ensures none { IsOverlong (R.content row.now) → Refuses result ErrorKind.Overlength
+            × AppendsNothing self.old self.new }
+        ensures fits { (bytes : List ℕ) → R.content row.now ≡ Some bytes → length bytes ≤ max_length
+            → length bytes ≤ length (room_of self.old)
+            → IsOk result × Appends self.old self.new bytes }
+        ensures full { (bytes : List ℕ) → R.content row.now ≡ Some bytes → length bytes ≤ max_length
+            → length (room_of self.old) < length bytes
+            → Refuses result ErrorKind.Buffer × AppendsNothing self.old self.new }
+    {
+        let count = row.value_len()?.get();
+        if self.remaining() < count {
+            return Err(ErrorKind::Buffer.into());
+        }
+        let end = self.position + count;
+        fill_components(row, &mut self.buffer[self.position..end])?;
         self.position = end;
         Ok(())
     }

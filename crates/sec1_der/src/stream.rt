@@ -1,11 +1,7 @@
 //! Readers and writers of bytes that remember a failure.
-ghost use Rattle.std.specs.Prelude.{ℕ, List, [], Option, None, Bool, false, IsTrue, IsErr, IfOk, IfErr, OnOk, OnErr, ◌<◌, ◌≤◌, ◌≡◌, ◌↔◌, length};
-ghost use Rattle.std.specs.Io.KnownBytes.{Appends, Consumes, IsAtEnd, ReadConsumes, WriteAppends};
-ghost use Rattle.sec1_der.specs.declared.error.ErrorKind.TheVariants.{Io};
-ghost use Rattle.sec1_der.specs.Faults.{IsIoOrMemory, Refuses};
-ghost use Rattle.sec1_der.specs.Streams.{AppendsBeginning, ReadsOnto};
-
-use crate::error;
+ghost use Rattle.std.specs.Prelude.{ℕ, List, Option, None, Bool, false, IsTrue, IsErr, IfOk, OnOk, OnErr, ◌≤◌, ◌≡◌, ◌↔◌, length};
+ghost use Rattle.std.specs.Io.KnownBytes.{Appends, ReadConsumes, WriteAppends};
+ghost use Rattle.sec1_der.specs.Streams.{AppendsBeginning};
 
 /// A read or a write failed.
 #[derive(Clone, Copy, Debug, PartialEq, Eq)]
@@ -58,56 +54,24 @@ pub trait Write {
     /// Whether a write has failed.
     fn has_failed(&self) -> bool
         ensures { result ≡ failed self.now };
-}
 
-/// The most bytes that are asked for in one read.
-const STEP: usize = 4096;
-
-/// Asks once for bytes that are missing, at most 4,096, reads them onto the end of the vector and
-/// answers how many: none only at the end of the input. The vector grows only by what is asked for.
-///
-/// Io exactly where the read failed, Memory where the growth was refused; then nothing was read and
-/// the vector is as it was. This port's own.
-pub fn read_some<R: Read>(
-    reader: &mut R,
-    bytes: &mut Vec<u8>,
-    missing: usize,
-) -> error::Result<usize>
-    requires unfailed { R.failed reader.old ≡ false }
-    requires some { 0 < missing }
-    ensures io { Refuses result Io ↔ IsTrue (R.failed reader.new) }
-    ensures bound { IfOk result (λ n. n ≤ missing) }
-    ensures bytes { IfOk result
-        (ReadsOnto (R.left reader.old) (R.left reader.new) bytes.old.items bytes.new.items) }
-    ensures end { IfOk result (λ n. n ≡ 0 → IsAtEnd (R.left reader.new)) }
-
-    ensures kind { IfErr result (λ error. IsIoOrMemory error.kind) }
-    ensures nothing { OnErr result (Consumes (R.left reader.old) (R.left reader.new) []) }
-    ensures unchanged { OnErr result (bytes.new.items ≡ bytes.old.items) }
-{
-    let mut chunk = [0u8; STEP];
-    let step = missing.min(STEP);
-    bytes.reserve_exact(step)?;
-    let count = reader.read(&mut chunk[..step])?;
-    bytes.extend_from_slice(&chunk[..count])?;
-    Ok(count)
-}
-
-/// Writes all of the bytes, by as many writes as it takes.
-///
-/// `IoFault` exactly where a write failed; then a beginning of the bytes was written. This port's
-/// own.
-pub fn write_all<W: Write>(writer: &mut W, bytes: &[u8]) -> Result<(), IoFault>
-    requires { W.failed writer.old ≡ false }
-    ensures fault { IsErr result ↔ IsTrue (W.failed writer.new) }
-    ensures all { OnOk result (Appends (W.written writer.old) (W.written writer.new) bytes.now) }
-    ensures beginning { OnErr result
-        (AppendsBeginning (W.written writer.old) (W.written writer.new) bytes.now) }
-{
-    let mut rest = bytes;
-    while !rest.is_empty() {
-        let count = writer.write(rest)?;
-        rest = &rest[count..];
+    /// Writes all of the bytes, by as many writes as it takes.
+    ///
+    /// # Errors
+    ///
+    /// [`IoFault`] exactly where a write failed. A beginning of the bytes was written then.
+    fn write_all(&mut self, bytes: &[u8]) -> Result<(), IoFault>
+        requires { failed self.old ≡ false }
+        ensures fault { IsErr result ↔ IsTrue (failed self.new) }
+        ensures all { OnOk result (Appends (written self.old) (written self.new) bytes.now) }
+        ensures beginning { OnErr result
+            (AppendsBeginning (written self.old) (written self.new) bytes.now) }
+    {
+        let mut rest = bytes;
+        while !rest.is_empty() {
+            let count = self.write(rest)?;
+            rest = &rest[count..];
+        }
+        Ok(())
     }
-    Ok(())
 }

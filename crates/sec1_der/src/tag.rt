@@ -33,6 +33,9 @@ impl Tag {
     /// `04`, of an OCTET STRING.
     pub const OCTET_STRING: Tag = Tag { byte: 0x04 };
 
+    /// `05`, of a NULL.
+    pub const NULL: Tag = Tag { byte: 0x05 };
+
     /// `06`, of an OBJECT IDENTIFIER.
     pub const OBJECT_IDENTIFIER: Tag = Tag { byte: 0x06 };
 
@@ -45,8 +48,8 @@ impl Tag {
     /// `A1`, of an explicit field `[1]`.
     pub const CONTEXT_1: Tag = Tag { byte: 0xA1 };
 
-    /// The tag with this byte. Refused as Tag for `00`, which is kept for end-of-contents, and for a byte
-    /// whose low five bits are all ones, since it begins a high tag number.
+    /// The tag with this byte. Refused as Tag for `00`, which is kept for end-of-contents (X.690 section 8.1.5), and
+    /// for a byte whose low five bits are all ones, since it begins a high tag number (section 8.1.2.4).
     pub fn from_byte(byte: u8) -> Result<Tag>
         ensures tag { OkIff result (IsTag byte) byte }
         ensures other { IfErr result (λ e. e.kind ≡ ErrorKind.Tag) }
@@ -55,6 +58,14 @@ impl Tag {
             return Err(ErrorKind::Tag.into());
         }
         Ok(Tag { byte })
+    }
+
+    /// Returns the tag with this byte, which a tag has.
+    pub(crate) fn of_byte(byte: u8) -> Tag
+        requires { IsTag byte }
+        ensures { result ≡ byte }
+    {
+        Tag { byte }
     }
 
     /// The tag of an explicit field `[number]`.

@@ -1,6 +1,6 @@
-ghost use Rattle.std.specs.Prelude.{◌≡◌, ◌<◌, ◌≤◌, ◌⊎◌, IfOk, IfErr};
+ghost use Rattle.std.specs.Prelude.{◌≡◌, ◌<◌, ◌≤◌, IfOk, IfErr};
 ghost use Rattle.sec1_der.specs.Elements.{IsProperBeginning};
-ghost use Rattle.sec1_der.specs.Faults.{Refuses, IsReadingFault};
+ghost use Rattle.sec1_der.specs.Faults.{Refuses, IsTreeFault};
 ghost use Rattle.sec1_der.specs.Trees.{Tree, IsTree, IsTreeOf, bytes, size, depth};
 
 use crate::header::element_at;
@@ -11,7 +11,7 @@ use std::marker::Model;
 const MAX_DEPTH: usize = 64;
 
 /// The number of elements of the one DER tree of depth at most 64 with these bytes. An element whose tag is
-/// constructed holds elements again, and nothing else (X.690 sections 8.1.2.5 and 10.1). No memory is taken.
+/// constructed holds elements again, and nothing else (X.690 section 8.1.2.5). No memory is taken.
 ///
 /// Refused by the first fault from left to right: Tag or Length where an element has no header of DER;
 /// Truncated where the input ends inside an element, or an element ends beyond the one around it; Depth where
@@ -29,7 +29,7 @@ pub fn check_tree(input: &[u8]) -> Result<usize>
         → Refuses result ErrorKind.Truncated }
     ensures long { (t : Tree) → IsTree t → depth t ≤ 64 → IsProperBeginning (bytes t) input.now
         → Refuses result ErrorKind.TrailingData }
-    ensures kinds { IfErr result (λ e. (e.kind ≡ ErrorKind.Depth) ⊎ IsReadingFault e.kind) }
+    ensures kinds { IfErr result (λ e. IsTreeFault e.kind) }
 {
     let mut nodes = OpenNodes::new();
     let mut rest = nodes.enter(input)?;
@@ -73,7 +73,7 @@ impl Model for OpenNodes {
 impl OpenNodes {
     ghost use Rattle.std.specs.Prelude.{◌≡◌, ◌≢◌, ◌<◌, ◌≤◌, ◌⊎◌, ◌↔◌, ◌++◌, ℕ, List, [], ◌∷◌, drop, length, IsTrue, IfOk, IfErr, OnOk, OnErr};
     ghost use Rattle.sec1_der.specs.Elements.{IsProperBeginning};
-    ghost use Rattle.sec1_der.specs.Faults.{Refuses, IsReadingFault};
+    ghost use Rattle.sec1_der.specs.Faults.{Refuses, IsHeaderFault};
     ghost use Rattle.sec1_der.specs.Trees.{Tree, IsTree, bytes};
     ghost use Rattle.sec1_der.specs.Walks.{innermost, Enters, IsTooDeep};
 
@@ -131,7 +131,7 @@ impl OpenNodes {
         ensures deep { Refuses result ErrorKind.Depth → IsTooDeep self.old rest.now }
         ensures short { (t : Tree) → IsTree t → IsProperBeginning rest.now (bytes t) → self.old ≡ []
             → Refuses result ErrorKind.Truncated }
-        ensures kinds { IfErr result (λ e. (e.kind ≡ ErrorKind.Depth) ⊎ IsReadingFault e.kind) }
+        ensures kinds { IfErr result (λ e. (e.kind ≡ ErrorKind.Depth) ⊎ IsHeaderFault e.kind) }
     {
         let end = self.end();
         let room = rest.len() - end;

@@ -87,6 +87,25 @@ pub trait EncodeValue: ValueContent {
         ensures full { (bytes : List ℕ) → Self.content self.now ≡ Some bytes → length bytes ≤ max_length
             → length (front_of writer.old) < length bytes
             → Refuses result ErrorKind.Buffer × PutsNothing writer.old writer.new };
+
+    /// Puts the content in front of what was written, where the caller has tested that it has room. Where there is
+    /// less room, or no content, any bytes may be put in front.
+    ///
+    /// A type that is made of other elements has a method of its own, which calls
+    /// [`BackWriter::put_element`] and doesn't measure: so an element is measured once, however deep it is nested.
+    ///
+    /// # Errors
+    ///
+    /// None where the content has room.
+    fn put_value(&self, writer: &mut BackWriter) -> Result<()>
+        ensures slice { KeepsEnd writer.old writer.new }
+        ensures grows { length (end_of writer.old) ≤ length (end_of writer.new) }
+        ensures fits { (bytes : List ℕ) → Self.content self.now ≡ Some bytes → length bytes ≤ max_length
+            → length bytes ≤ length (front_of writer.old)
+            → IsOk result × PutsInFront writer.old writer.new bytes }
+    {
+        self.encode_back(writer)
+    }
 }
 
 /// A value that is read and written as a SEQUENCE (X.690 section 8.9).

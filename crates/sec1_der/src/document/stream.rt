@@ -1,23 +1,26 @@
 //! Documents that are read from streams and files, and written to them.
-ghost use Rattle.std.specs.Prelude.{ℕ, List, [], false, ◌≡◌, ◌↔◌, ◌⊎◌, ◌++◌, IsTrue, IsErr, IfOk, IfErr, IfSome, OnOk, OnErr};
-ghost use Rattle.std.specs.Io.KnownBytes.{Appends};
+ghost use Rattle.std.specs.Prelude.{ℕ, List, false, ◌≡◌, ◌<◌, ◌≤◌, ◌↔◌, ◌⊎◌, length, take, IsTrue, IsErr, IfOk, IfErr, IfSome, OnOk, OnErr};
+ghost use Rattle.std.specs.Io.KnownBytes.{Appends, Consumes, IsAtEnd};
 ghost use Rattle.sec1_der.specs.Elements.{IsElement};
 ghost use Rattle.sec1_der.specs.Faults.{IsIoOrMemory, Refuses};
 ghost use Rattle.sec1_der.specs.ReadsDocument.{IsElementFault, ReadsElement, RefusesElement, ReadsHeader, RefusesContent};
-ghost use Rattle.sec1_der.specs.Streams.{AppendsBeginning, ReadsOnto};
+ghost use Rattle.sec1_der.specs.Streams.{AppendsBeginning, ReadsOnto, TakesFewer};
 ghost use Rattle.sec1_der.specs.declared.error.ErrorKind.TheVariants.{Io};
 
 use super::SecretDocument;
 use crate::header::header_at;
-use crate::{Error, ErrorKind, Read, Result, StdReader, StdWriter, Write, read_some, write_all};
+use crate::{Error, ErrorKind, Header, IoFault, Read, Result, StdReader, StdWriter, Write};
 use std::alloc::Global;
 use std::fs;
 use std::rt::Files;
 
+/// The most bytes by which the vector of a document grows at once.
+const STEP: usize = 4096;
+
 impl SecretDocument {
     /// Reads the one element that the reader has left. The header is asked for one byte at a time, the content at
     /// most 4,096 bytes at a time, and then one byte more, which must not be there. The memory that is taken grows by
-    /// what each request asks for, whatever the header announces.
+    /// at most 4,096 bytes at once, and only when all that was taken before is filled, whatever the header announces.
     ///
     /// Refused as Tag after a first byte that is no tag, as Length after the byte of the header that tells that no
     /// length of DER stands there (X.690 sections 8.1.3 and 10.1), as Truncated where the input ends inside the
@@ -58,7 +61,7 @@ impl SecretDocument {
         ensures all { OnOk result (Appends (W.written writer.old) (W.written writer.new) self.now) }
         ensures beginning { OnErr result (AppendsBeginning (W.written writer.old) (W.written writer.new) self.now) }
     {
-        write_all(writer, self.as_bytes())?;
+        writer.write_all(self.as_bytes())?;
         Ok(())
     }
 
@@ -81,8 +84,11 @@ fn read_element<R: Read>(alloc: Global, reader: &mut R) -> Result<SecretDocument
     ensures found { IfOk result (ReadsElement (R.left reader.old) (R.left reader.new)) }
     ensures refused { IfErr result (λ error. RefusesElement error.kind (R.left reader.old) (R.left reader.new)) }
 {
-    let mut bytes = Vec::new(alloc);
-    let announced = read_header(reader, &mut bytes)?;
+    let header = read_header(reader)?;
+    let (octets, count) = header.octets();
+    let announced = header.length.get();
+    let mut bytes = Vec::with_capacity(alloc, count + announced.min(STEP))?;
+    bytes.extend_from_slice(&octets[..count])?;
     read_content(reader, &mut bytes, announced)?;
     if reader.read(&mut [0])? > 0 {
         return Err(Error {
@@ -92,30 +98,36 @@ fn read_element<R: Read>(alloc: Global, reader: &mut R) -> Result<SecretDocument
     Ok(SecretDocument { bytes })
 }
 
-/// Reads a header into the empty vector, one byte at a time, and answers the length that it announces.
-fn read_header<R: Read>(reader: &mut R, bytes: &mut Vec<u8>) -> Result<usize>
-    requires unfailed { R.failed reader.old ≡ false }
-    requires empty { bytes.old.items ≡ [] }
+/// Reads a header, one byte at a time.
+fn read_header<R: Read>(reader: &mut R) -> Result<Header>
+    requires { R.failed reader.old ≡ false }
     ensures io { Refuses result Io ↔ IsTrue (R.failed reader.new) }
-    ensures found { IfOk result (ReadsHeader (R.left reader.old) (R.left reader.new) bytes.new.items) }
+    ensures found { IfOk result (λ h. ReadsHeader (R.left reader.old) (R.left reader.new) h.tag h.length) }
     ensures refused { IfErr result (λ error. RefusesElement error.kind (R.left reader.old) (R.left reader.new)) }
 {
+    let mut octets = [0; 6];
+    let mut count = 0;
     loop {
-        match header_at(bytes) {
-            Ok((header, _)) => return Ok(header.length.get()),
+        match header_at(&octets[..count]) {
+            Ok((header, _)) => return Ok(header),
             Err(ErrorKind::Truncated) => {}
             Err(kind) => return Err(Error { kind }),
         }
-        if read_some(reader, bytes, 1)? == 0 {
+        if reader.read(&mut octets[count..count + 1])? == 0 {
             return Err(Error {
                 kind: ErrorKind::Truncated,
             });
         }
+        count += 1;
     }
 }
 
-/// Reads so many bytes onto the end of the vector.
-fn read_content<R: Read>(reader: &mut R, bytes: &mut Vec<u8>, announced: usize) -> Result<()>
+/// Reads so many bytes onto the end of the vector, which grows by at most 4,096 bytes at once.
+pub(crate) fn read_content<R: Read>(
+    reader: &mut R,
+    bytes: &mut Vec<u8>,
+    announced: usize,
+) -> Result<()>
     requires { R.failed reader.old ≡ false }
     ensures io { Refuses result Io ↔ IsTrue (R.failed reader.new) }
     ensures found { OnOk result
@@ -125,13 +137,40 @@ fn read_content<R: Read>(reader: &mut R, bytes: &mut Vec<u8>, announced: usize) 
 {
     let mut missing = announced;
     while missing > 0 {
-        let count = read_some(reader, bytes, missing)?;
-        if count == 0 {
+        let held = bytes.len();
+        let step = missing.min(STEP);
+        bytes.reserve_exact(step)?;
+        bytes.resize(held + step, 0)?;
+        if fill(reader, &mut bytes[held..])? < step {
             return Err(Error {
                 kind: ErrorKind::Truncated,
             });
         }
-        missing -= count;
+        missing -= step;
     }
     Ok(())
+}
+
+/// Reads bytes until the slice is full or the input ends. Returns how many were read.
+///
+/// # Errors
+///
+/// [`IoFault`] exactly where a read failed; then fewer bytes were taken than the slice has.
+fn fill<R: Read>(reader: &mut R, buf: &mut [u8]) -> std::result::Result<usize, IoFault>
+    requires { R.failed reader.old ≡ false }
+    ensures io { IsErr result ↔ IsTrue (R.failed reader.new) }
+    ensures bound { IfOk result (λ n. n ≤ length buf.new) }
+    ensures bytes { IfOk result (λ n. Consumes (R.left reader.old) (R.left reader.new) (take n buf.new)) }
+    ensures end { IfOk result (λ n. n < length buf.new → IsAtEnd (R.left reader.new)) }
+    ensures few { OnErr result (TakesFewer (R.left reader.old) (R.left reader.new) (length buf.old)) }
+{
+    let mut count = 0;
+    while count < buf.len() {
+        let more = reader.read(&mut buf[count..])?;
+        if more == 0 {
+            break;
+        }
+        count += more;
+    }
+    Ok(count)
 }

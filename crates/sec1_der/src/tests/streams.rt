@@ -146,6 +146,7 @@ fn each_read_fails_in_turn(rt: HostRuntime) {
         );
         assert_eq!(rt; reader.into_inner().taken, given);
     }
+    let _ = println!(&rt; "SecretDocument::read_der_from: each of its 122 reads fails");
 }
 
 /// A writer that takes so many bytes in all, at most so many a call, and then fails or takes none.
@@ -229,6 +230,7 @@ fn each_write_fails_in_turn(rt: HostRuntime) -> Result<(), Fail> {
             assert_eq!(rt; Some(writer.into_inner().taken.as_slice()), KEY.get(..room));
         }
     }
+    let _ = println!(&rt; "SecretDocument::write_der_to: each of its 121 writes fails");
     Ok(())
 }
 

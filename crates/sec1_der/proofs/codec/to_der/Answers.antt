@@ -1,6 +1,8 @@
-use Rattle.std.proofs.Common.{◌≡◌, length, drop, arith, ap, ◌∙◌}
+use Rattle.std.proofs.Common.{◌≡◌, List, ℕ, length, drop, Some, arith, ap, sym, ◌∙◌}
 use Rattle.std.proofs.lemmas.Bool.{false≢true}
 use Rattle.std.proofs.lemmas.List.{take_at}
+use Rattle.sec1_der.specs.Elements.{element_of}
+use Rattle.sec1_der.specs.WriterLaws.{measured}
 use Rattle.sec1_der.proofs.codec.to_der.Goals as goal
 
 pub returns-in_err-total-clause-some : goal.returns-in_err-total-clause-some
@@ -19,3 +21,16 @@ returns-clause-some g c bytes e =
     let filled = (c.fill.ensures bytes e room).1 in
     let count : length c.fill.new.buffer ≡ c.in_ok-bytes.bytes.len = omega (arith, ap length filled, c.in_ok-bytes.ensures.len) in
     take_at c.fill.new.buffer (drop (length c.fill.new.buffer) c.in_ok-bytes.bytes.items) c.in_ok-bytes.bytes.len count ∙ filled
+
+pub returns-in_err-fill-clause-kinds : goal.returns-in_err-fill-clause-kinds
+returns-in_err-fill-clause-kinds g c =
+    let piece = element_of g.T.FixedTag.number (g.T.ValueContent.content c.args.value.now) in
+    let count = measured piece c.in_ok-total.total c.in_ok-total.ensures.none c.in_ok-total.ensures.some in
+    let room : length c.deref_mut.result.now ≡ length count.bytes = omega (arith, count.counted, c.deref_mut.ensures.len, c.in_ok-bytes.ensures.len) in
+    absurd (false≢true (c.in_err-fill.ensures count.bytes count.there room).0)
+
+pub returns-clause-found : goal.returns-clause-found
+returns-clause-found g c =
+    let piece = element_of g.T.FixedTag.number (g.T.ValueContent.content c.args.value.now) in
+    let count = measured piece c.in_ok-total.total c.in_ok-total.ensures.none c.in_ok-total.ensures.some in
+    count.there ∙ ap (λ der. Some der) (sym {A = List ℕ} (returns-clause-some g c count.bytes count.there))

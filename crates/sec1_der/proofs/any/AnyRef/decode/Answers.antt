@@ -15,7 +15,7 @@ returns-in-Ok-clause-only c tag content rest h e =
     let whole : c.args.reader.now.failed ≡ false = ap (λ (r : Reader). r.failed) e in
     let with_failed : Bool → Reader = λ b. record { unread = rest; failed = b } in
     let with_unread : List ℕ → Reader = λ xs. record { unread = xs; failed = c.args.reader.now.failed } in
-    ((ap (λ (h : Header). h.tag) at.0, front), c.set_unread.ensures ∙ (ap with_unread back ∙ ap with_failed whole))
+    ((c.byte.ensures.value ∙ ap (λ (h : Header). h.tag) at.0, front), c.set_unread.ensures ∙ (ap with_unread back ∙ ap with_failed whole))
 
 pub returns-in-Ok-clause-short : goal.returns-in-Ok-clause-short
 returns-in-Ok-clause-short c tag content h fresh short =

@@ -1,15 +1,15 @@
-use Rattle.std.proofs.Common.{◌≡◌, ◌≤◌, ◌-◌, length, false}
+use Rattle.std.proofs.Common.{◌≡◌, ◌≤◌, ◌-◌, take, false}
 use Rattle.std.specs.Io.KnownBytes.{Consumes}
 use Rattle.sec1_der.proofs.document.stream.read_header.Given as goal
 use Rattle.sec1_der.proofs.StreamLemmas.{IsReachable}
 
 abbrev pub invariant-loop-header : goal.invariant-loop-header
 invariant-loop-header g l = record {
-  consumed : Consumes (g.R.Read.left l.initial.reader) (g.R.Read.left l.reader) l.bytes.items;
-  reached : IsReachable l.bytes.items;
-  few : length l.bytes.items ≤ 6;
+  consumed : Consumes (g.R.Read.left l.initial.reader) (g.R.Read.left l.reader) (take l.count l.octets);
+  reached : IsReachable (take l.count l.octets);
+  few : l.count ≤ 6;
   unfailed : g.R.Read.failed l.reader ≡ false;
 }
 
 abbrev pub decreases-loop-header : goal.decreases-loop-header
-decreases-loop-header g l = 6 - length l.bytes.items
+decreases-loop-header g l = 6 - l.count

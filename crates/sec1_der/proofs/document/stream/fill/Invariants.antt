@@ -1,0 +1,14 @@
+use Rattle.std.proofs.Common.{◌≡◌, ◌≤◌, ◌-◌, length, take, false}
+use Rattle.std.specs.Io.KnownBytes.{Consumes}
+use Rattle.sec1_der.proofs.document.stream.fill.Given as goal
+
+abbrev pub invariant-loop-count : goal.invariant-loop-count
+invariant-loop-count g l = record {
+  consumed : Consumes (g.R.Read.left l.initial.reader) (g.R.Read.left l.reader) (take l.count l.buf);
+  few : l.count ≤ length l.buf;
+  size : length l.buf ≡ length l.initial.buf;
+  unfailed : g.R.Read.failed l.reader ≡ false;
+}
+
+abbrev pub decreases-loop-count : goal.decreases-loop-count
+decreases-loop-count g l = length l.buf - l.count

@@ -1,0 +1,9 @@
+-- X.690 section 8.9: the content of a SEQUENCE.
+use Rattle.std.specs.Prelude.{ℕ, List, ◌++◌, Option, Some, None}
+
+-- X.690 sections 8.9.2 and 8.9.3: the bytes of one component and those of the components behind it, where all of
+-- them have bytes. An OPTIONAL component that isn't there has no bytes, []; one that has no encoding is None.
+abbrev pub join : Option (List ℕ) → Option (List ℕ) → Option (List ℕ)
+join None rest = None
+join (Some first) None = None
+join (Some first) (Some rest) = Some (first ++ rest)

@@ -1,0 +1,230 @@
+//! Values for the components of a [`Record`](crate::Record), which contracts know by their bytes alone: so a struct
+//! can hold plain slices.
+ghost use Rattle.std.specs.Prelude.{◌≡◌, ◌∷◌, [], ℕ, List, Some, ⊤};
+ghost use Rattle.sec1_der.specs.Elements.{element_of};
+
+use crate::{
+    BackWriter, BitStringRef, DecodeValue, EncodeValue, End, ErrorKind, FixedTag, Length,
+    OctetStringRef, Required, Result, SliceReader, SliceWriter, Tag, UniversalTag, ValueContent,
+    encoded_len,
+};
+use std::marker::Model;
+
+/// An INTEGER whose content is the one byte `N`, such as a version (X.690 section 8.3). Where `N` is below 128, it is
+/// the number `N`. Any other content is refused as Value.
+#[derive(Clone, Copy, PartialEq, Eq, Debug)]
+pub struct SmallInteger<const N: u8>;
+
+impl<const N: u8> FixedTag for SmallInteger<N> {
+    const TAG: Tag = Tag::INTEGER;
+
+    ghost number = { 0x02 };
+
+    fn fixed_tag() -> Tag
+        ensures { result ≡ 0x02 }
+    {
+        Tag::INTEGER
+    }
+}
+
+impl<const N: u8> ValueContent for SmallInteger<N> {
+    ghost content = { λ _. Some (N ∷ []) };
+
+    ghost is_content = { λ bytes. Some (N ∷ []) ≡ Some bytes };
+
+    ghost content_is_one = { λ _ _ same _. same };
+}
+
+impl<'a, const N: u8> DecodeValue<'a> for SmallInteger<N> {
+    fn decode_value(reader: &mut SliceReader<'a>) -> Result<Self> {
+        match reader.read_rest()? {
+            [byte] if *byte == N => Ok(SmallInteger),
+            _ => Err(reader.fail(ErrorKind::Value)),
+        }
+    }
+}
+
+impl<const N: u8> EncodeValue for SmallInteger<N> {
+    fn value_len(&self) -> Result<Length> {
+        Length::new(1)
+    }
+
+    fn encode_value(&self, writer: &mut SliceWriter) -> Result<()> {
+        writer.write_byte(N)
+    }
+
+    fn encode_back(&self, writer: &mut BackWriter) -> Result<()> {
+        writer.write(&[N])
+    }
+}
+
+/// The bytes of an OCTET STRING (X.690 section 8.7). A contract sees the bytes.
+#[derive(Drop)]
+pub struct Octets<'a> {
+    /// The bytes.
+    pub bytes: &'a [u8],
+}
+
+impl<'a> Model for Octets<'a> {
+    ghost use Rattle.std.specs.Prelude.{ℕ, List};
+
+    ghost Value = { List ℕ };
+
+    ghost view = { λ octets. octets.bytes.now };
+}
+
+impl FixedTag for Octets<'_> {
+    const TAG: Tag = Tag::OCTET_STRING;
+
+    ghost number = { 0x04 };
+
+    fn fixed_tag() -> Tag
+        ensures { result ≡ 0x04 }
+    {
+        Self::TAG
+    }
+}
+
+impl ValueContent for Octets<'_> {
+    ghost content = { λ bytes. Some bytes };
+
+    ghost is_content = { λ _. ⊤ };
+
+    ghost content_is_one = { λ _ _ _ _. tt };
+}
+
+impl<'a> DecodeValue<'a> for Octets<'a> {
+    fn decode_value(reader: &mut SliceReader<'a>) -> Result<Self> {
+        let bytes = reader.read_rest()?;
+        Ok(Octets { bytes })
+    }
+}
+
+impl EncodeValue for Octets<'_> {
+    fn value_len(&self) -> Result<Length> {
+        Length::new(self.bytes.len())
+    }
+
+    fn encode_value(&self, writer: &mut SliceWriter) -> Result<()> {
+        OctetStringRef::new(self.bytes)?.encode_value(writer)
+    }
+
+    fn encode_back(&self, writer: &mut BackWriter) -> Result<()> {
+        OctetStringRef::new(self.bytes)?.encode_back(writer)
+    }
+}
+
+/// The bytes of a BIT STRING without unused bits (X.690 section 8.6). One with unused bits is refused as Value. A
+/// contract sees the bytes.
+#[derive(Drop)]
+pub struct WholeBits<'a> {
+    /// The bytes.
+    pub bytes: &'a [u8],
+}
+
+impl<'a> Model for WholeBits<'a> {
+    ghost use Rattle.std.specs.Prelude.{ℕ, List};
+
+    ghost Value = { List ℕ };
+
+    ghost view = { λ bits. bits.bytes.now };
+}
+
+impl FixedTag for WholeBits<'_> {
+    const TAG: Tag = Tag::BIT_STRING;
+
+    ghost number = { 0x03 };
+
+    fn fixed_tag() -> Tag
+        ensures { result ≡ 0x03 }
+    {
+        Self::TAG
+    }
+}
+
+impl ValueContent for WholeBits<'_> {
+    ghost content = { λ bytes. Some (0 ∷ bytes) };
+
+    ghost is_content = { λ content. (bytes : List ℕ) × (Some (0 ∷ bytes) ≡ Some content) };
+
+    ghost content_is_one = { λ bytes _ same _. (bytes, same) };
+}
+
+impl<'a> DecodeValue<'a> for WholeBits<'a> {
+    fn decode_value(reader: &mut SliceReader<'a>) -> Result<Self> {
+        let bits = BitStringRef::decode_value(reader)?;
+        match bits.as_bytes() {
+            Some(bytes) => Ok(WholeBits { bytes }),
+            None => Err(reader.fail(ErrorKind::Value)),
+        }
+    }
+}
+
+impl EncodeValue for WholeBits<'_> {
+    fn value_len(&self) -> Result<Length> {
+        BitStringRef::from_bytes(self.bytes)?.value_len()
+    }
+
+    fn encode_value(&self, writer: &mut SliceWriter) -> Result<()> {
+        BitStringRef::from_bytes(self.bytes)?.encode_value(writer)
+    }
+
+    fn encode_back(&self, writer: &mut BackWriter) -> Result<()> {
+        BitStringRef::from_bytes(self.bytes)?.encode_back(writer)
+    }
+}
+
+/// An OCTET STRING whose content is the element of another value, `OCTET STRING (CONTAINING T)` (X.682 section 11).
+#[derive(Clone, Copy, PartialEq, Eq, Debug, Drop)]
+pub struct Containing<T> {
+    /// The value.
+    pub value: T,
+}
+
+impl<T> FixedTag for Containing<T> {
+    const TAG: Tag = Tag::OCTET_STRING;
+
+    ghost number = { 0x04 };
+
+    fn fixed_tag() -> Tag
+        ensures { result ≡ 0x04 }
+    {
+        Tag::OCTET_STRING
+    }
+}
+
+impl<T: ValueContent + FixedTag> ValueContent for Containing<T> {
+    ghost content = { λ outside. element_of T.number (T.content outside.value) };
+
+    ghost is_content = { λ bytes. (value : T) × (element_of T.number (T.content value) ≡ Some bytes) };
+
+    ghost content_is_one = { λ outside _ same _. (outside.value, same) };
+}
+
+impl<'a, T: DecodeValue<'a> + FixedTag + Drop> DecodeValue<'a> for Containing<T> {
+    #[tactic(auto, using(crate::specs::ComponentLaws::alone))]
+    fn decode_value(reader: &mut SliceReader<'a>) -> Result<Self> {
+        let Required { first, rest: End } = Required::decode_value(reader)?;
+        Ok(Containing { value: first })
+    }
+}
+
+impl<T: EncodeValue + FixedTag> EncodeValue for Containing<T> {
+    fn value_len(&self) -> Result<Length> {
+        Length::new(encoded_len(&self.value)?)
+    }
+
+    fn encode_value(&self, writer: &mut SliceWriter) -> Result<()> {
+        self.value_len()?;
+        writer.element(&self.value)
+    }
+
+    fn encode_back(&self, writer: &mut BackWriter) -> Result<()> {
+        self.value_len()?;
+        writer.element(&self.value)
+    }
+
+    fn put_value(&self, writer: &mut BackWriter) -> Result<()> {
+        writer.put_element(&self.value)
+    }
+}
