@@ -1,3 +1,4 @@
+pub mod KeyTrees
 pub mod KeyLemmas
 pub mod ReadLemmas
 pub mod Digits
@@ -6,3 +7,4 @@ pub mod Comparisons
 pub mod Buffers
 pub mod HexLemmas
 pub mod WriteLemmas
+pub mod Firsts

@@ -1,27 +1,48 @@
 -- Coordinates lent as arrays of bytes.
-use Rattle.std.specs.Prelude.{◌≡◌, ℕ, List, length, ⊤}
-use Rattle.std.specs.Borrow.{Bor}
+use Rattle.std.specs.Prelude.{◌≡◌, ℕ, zero, suc, List, [], ◌∷◌, ◌++◌, Bool, if◌then◌else◌, length, ⊤, get_or, bytes_eq}
+use Rattle.std.specs.Cmp.{IsEquivalence}
+use Rattle.std.specs.Cmp.Lexicographic.{on_texts_equal}
 use Rattle.sec1_der.specs.Numbers.{num}
 use Rattle.sec1.specs.Points.{Point, identity, compact, compressed, uncompressed, hybrid}
-use Rattle.sec1.specs.declared.point.coordinates.Parts.{Parts}
-use Rattle.sec1.specs.declared.point.coordinates.Parts.TheVariants as parts
+use Rattle.sec1.specs.declared.point.coordinates.Coordinates.{Coordinates}
+use Rattle.sec1.specs.declared.point.coordinates.Coordinates.TheVariants as parts
 
--- the parts of a point, each coordinate behind a reference
-abbrev pub Lent : Type 0
-Lent = Parts (Bor (List ℕ))
+-- The first n bytes. Those of a lent array are all it has; its length is told only where it comes from.
+unfoldable pub first_bytes : ℕ → List ℕ → List ℕ
+first_bytes zero xs = []
+first_bytes (suc n) xs = first_bytes n xs ++ get_or xs n 0 ∷ []
+
+-- the number of a lent array
+abbrev pub lent_number : ℕ → List ℕ → ℕ
+lent_number n xs = num (first_bytes n xs)
 
 -- the point whose parts are lent
-abbrev pub lent_point : Lent → Point
-lent_point parts.Identity = identity
-lent_point (parts.Compact x) = compact (num x.now)
-lent_point (parts.Compressed x y_is_odd) = compressed (num x.now) y_is_odd
-lent_point (parts.Uncompressed x y) = uncompressed (num x.now) (num y.now)
-lent_point (parts.Hybrid x y) = hybrid (num x.now) (num y.now)
+abbrev pub lent_point : {N : ℕ} → Coordinates N → Point
+lent_point {N} parts.Identity = identity
+lent_point {N} (parts.Compact x) = compact (lent_number N x.now)
+lent_point {N} (parts.Compressed x y_is_odd) = compressed (lent_number N x.now) y_is_odd
+lent_point {N} (parts.Uncompressed x y) = uncompressed (lent_number N x.now) (lent_number N y.now)
+lent_point {N} (parts.Hybrid x y) = hybrid (lent_number N x.now) (lent_number N y.now)
 
--- the lent arrays have n bytes
-abbrev pub AreWhole : ℕ → Lent → Type 0
-AreWhole n parts.Identity = ⊤
-AreWhole n (parts.Compact x) = length x.now ≡ n
-AreWhole n (parts.Compressed x y_is_odd) = length x.now ≡ n
-AreWhole n (parts.Uncompressed x y) = (length x.now ≡ n) × (length y.now ≡ n)
-AreWhole n (parts.Hybrid x y) = (length x.now ≡ n) × (length y.now ≡ n)
+-- the lent arrays have N bytes
+abbrev pub AreWhole : {N : ℕ} → Coordinates N → Type 0
+AreWhole {N} parts.Identity = ⊤
+AreWhole {N} (parts.Compact x) = length x.now ≡ N
+AreWhole {N} (parts.Compressed x y_is_odd) = length x.now ≡ N
+AreWhole {N} (parts.Uncompressed x y) = (length x.now ≡ N) × (length y.now ≡ N)
+AreWhole {N} (parts.Hybrid x y) = (length x.now ≡ N) × (length y.now ≡ N)
+
+-- all that is lent in one list: a number for the variant and its flag, then the N bytes of each coordinate
+abbrev pub lent_bytes : {N : ℕ} → Coordinates N → List ℕ
+lent_bytes {N} parts.Identity = 0 ∷ []
+lent_bytes {N} (parts.Compact x) = 1 ∷ first_bytes N x.now
+lent_bytes {N} (parts.Compressed x y_is_odd) = (if y_is_odd then 3 else 2) ∷ first_bytes N x.now
+lent_bytes {N} (parts.Uncompressed x y) = 4 ∷ (first_bytes N x.now ++ first_bytes N y.now)
+lent_bytes {N} (parts.Hybrid x y) = 5 ∷ (first_bytes N x.now ++ first_bytes N y.now)
+
+-- the same variant, flag and bytes
+abbrev pub same_parts : {N : ℕ} → Coordinates N → Coordinates N → Bool
+same_parts c d = bytes_eq (lent_bytes c) (lent_bytes d)
+
+pub same_parts_equiv : {N : ℕ} → IsEquivalence (same_parts {N = N})
+same_parts_equiv {N} = on_texts_equal (lent_bytes {N = N})

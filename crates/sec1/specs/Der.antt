@@ -1,4 +1,17 @@
--- The words of `sec1_der` that the layer above uses.
-pub use Rattle.sec1_der.specs.Identifiers.{dotted}
+-- The words of `sec1_der` that contracts speak of, for a crate that depends on `sec1` alone.
+pub use Rattle.sec1_der.specs.BackWriters.{end_of, front_of, IsOverEnd, KeepsEnd, PutsNothing, PutsInFront}
+pub use Rattle.sec1_der.specs.Components.{join}
+pub use Rattle.sec1_der.specs.Contents.{IsVersionOne, AreBits, IsBitString}
+pub use Rattle.sec1_der.specs.Elements.{max_length, IsTag, IsConstructed, len, header, IsHeader, element, IsElementOf, IsElement, LacksHeader}
+pub use Rattle.sec1_der.specs.Elements.{IsProperBeginning, IsOverlong, element_of, field_of}
+pub use Rattle.sec1_der.specs.Faults.{Refuses, IsReadingFault, IsHeaderFault, IsTreeFault, IsIoOrMemory, header_fault}
+pub use Rattle.sec1_der.specs.Identifiers.{IsIdentifier, IsIdentifierContent, content_of, identifier_content, dotted}
+pub use Rattle.sec1_der.specs.Numbers.{num}
+pub use Rattle.sec1_der.specs.Readers.{Reader, before, refused, HasRead, HasReadElement}
+pub use Rattle.sec1_der.specs.ReadsDocument.{IsElementFault, ReadsElement, RefusesElement}
+pub use Rattle.sec1_der.specs.SliceWriters.{written_by, room_of, IsOver, KeepsSlice, AppendsNothing, Appends}
+pub use Rattle.sec1_der.specs.StdStreams.{reader_failed, reader_inner, writer_failed, writer_inner}
 pub use Rattle.sec1_der.specs.Streams.{AppendsBeginning}
-pub use Rattle.sec1_der.specs.Trees.{Tree, IsTreeOf, depth, size}
+pub use Rattle.sec1_der.specs.Trees.{Tree, Forest, leaf, node, bytes, IsTree, IsTreeOf, depth, size}
+pub use Rattle.sec1_der.specs.TreeLaws.{BytesDetermineTree, BytesDetermineRow, NoTreeBeginsAnother}
+pub use Rattle.sec1_der.specs.Values.{octets_of, unused_bits_of, bit_bytes_of, tag_of, value_of}

@@ -1,6 +1,8 @@
--- A key on the curve P-256 (RFC 5480 section 2.1.1.1) with all its fields, and its 121 bytes.
+-- A key on the curve P-256 (RFC 5480 section 2.1.1.1) with all its fields, its 121 bytes and the point of its public key; the
+-- curve's base point in its compressed form.
 use Rattle.std.specs.Prelude.{ℕ, List, [], ◌∷◌, Some}
 use Rattle.sec1.specs.Keys.{Key}
+use Rattle.sec1.specs.Points.{Point, uncompressed}
 
 abbrev pub p_256_key : Key
 p_256_key = record {
@@ -28,3 +30,22 @@ p_256_bytes =
     0x37 ∷ 0xD8 ∷ 0x39 ∷ 0xCF ∷ 0x7F ∷ 0xC4 ∷ 0x81 ∷ 0xA4 ∷ 0x44 ∷ 0x92 ∷ 0x30 ∷ 0x4D ∷ 0x7E ∷ 0xF6 ∷
     0x6A ∷ 0xC1 ∷ 0x17 ∷ 0xBE ∷ 0xFE ∷ 0x83 ∷ 0xA8 ∷ 0xD0 ∷ 0x8F ∷ 0x15 ∷ 0x5F ∷ 0x2B ∷ 0x52 ∷ 0xF9 ∷
     0xF6 ∷ 0x18 ∷ 0xDD ∷ 0x44 ∷ 0x70 ∷ 0x29 ∷ 0x04 ∷ 0x8E ∷ 0x0F ∷ []
+
+abbrev pub p_256_point : Point
+p_256_point =
+    uncompressed
+    0x1CACFFB55F2F2CEFD89D89EB374B2681152452802DEEA09916068137D839CF7F
+    0xC481A44492304D7EF66AC117BEFE83A8D08F155F2B52F9F618DD447029048E0F
+
+-- SEC 2 v2.0 section 2.4.2 gives the base point in both forms
+abbrev pub p_256_base : Point
+p_256_base =
+    uncompressed
+    0x6B17D1F2E12C4247F8BCE6E563A440F277037D812DEB33A0F4A13945D898C296
+    0x4FE342E2FE1A7F9B8EE7EB4A7C0F9E162BCE33576B315ECECBB6406837BF51F5
+
+abbrev pub p_256_base_compressed : List ℕ
+p_256_base_compressed =
+    0x03 ∷ 0x6B ∷ 0x17 ∷ 0xD1 ∷ 0xF2 ∷ 0xE1 ∷ 0x2C ∷ 0x42 ∷ 0x47 ∷ 0xF8 ∷ 0xBC ∷ 0xE6 ∷ 0xE5 ∷ 0x63 ∷ 0xA4 ∷
+    0x40 ∷ 0xF2 ∷ 0x77 ∷ 0x03 ∷ 0x7D ∷ 0x81 ∷ 0x2D ∷ 0xEB ∷ 0x33 ∷ 0xA0 ∷ 0xF4 ∷ 0xA1 ∷ 0x39 ∷ 0x45 ∷ 0xD8 ∷
+    0x98 ∷ 0xC2 ∷ 0x96 ∷ []

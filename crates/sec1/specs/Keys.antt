@@ -1,7 +1,9 @@
 -- RFC 5915 section 3 (SEC1 v2.0 Appendix C.4): an ECPrivateKey and its tree.
-use Rattle.std.specs.Prelude.{◌≡◌, ℕ, ◌≤◌, Bool, true, ◌&&◌, nat_le, List, [], ◌∷◌, ◌++◌, length, Option, Some, None, IfSome, if◌then◌else◌}
-use Rattle.sec1_der.specs.Elements.{max_length, element}
-use Rattle.sec1_der.specs.Identifiers.{IsIdentifier, content_of, is_identifier}
+use Rattle.std.specs.Prelude.{◌≡◌, ℕ, ◌≤◌, List, [], ◌∷◌, ◌++◌, length, Option, Some, None, IfSome}
+use Rattle.std.specs.Option.{option_map}
+use Rattle.sec1_der.specs.Components.{join}
+use Rattle.sec1_der.specs.Elements.{max_length, element, element_of, field_of}
+use Rattle.sec1_der.specs.Identifiers.{IsIdentifier, content_of, identifier_content}
 use Rattle.sec1_der.specs.Trees.{Tree, leaf, node, row, joined, AreTrees, IsTreeOf}
 
 -- What a key is made of: the bytes of the private key, and where they are there the arcs of the curve's
@@ -47,6 +49,12 @@ pub record IsKeyOf (key : Key) (input : List ℕ) : Type 0 where
 abbrev pub HasNoBytes : Key → Type 0
 HasNoBytes key = (bytes : List ℕ) → IsKeyOf key bytes → ⊥
 
+-- some bytes are those of the key, and this holds of them
+pub record HasBytesWith (key : Key) (P : List ℕ → Type 0) : Type 0 where
+  pub bytes : List ℕ
+  pub of_key : IsKeyOf key bytes
+  pub holds : P bytes
+
 -- the bytes of these trees, one after the other
 abbrev pub bytes_of : List Tree → List ℕ
 bytes_of trees = joined (row trees)
@@ -61,22 +69,10 @@ pub record IsContentOf (key : Key) (content : List ℕ) : Type 0 where
   pub fields : AreTrees (row (key_fields key))
   pub spelled : content ≡ fields_of key
 
--- the bytes are the content of some key
-abbrev pub IsKeyContent : List ℕ → Type 0
-IsKeyContent content = (key : Key) × IsContentOf key content
-
--- whether each part of a key stands within the limits
-abbrev pub names_curve : Option (List ℕ) → Bool
-names_curve None = true
-names_curve (Some arcs) = is_identifier arcs
-
-abbrev pub holds_public_key : Option (List ℕ) → Bool
-holds_public_key None = true
-holds_public_key (Some bytes) = nat_le (length (element 0x03 (0 ∷ bytes))) max_length
-
-abbrev pub has_fields : Key → Bool
-has_fields key = nat_le (length key.private_key) max_length && (names_curve key.parameters && holds_public_key key.public_key)
-
--- the content of a key; one of which a part is beyond the limits has none
+-- SEC1 v2.0 Appendix C.4: the content of a key; one of which a part is beyond the limits has none
 abbrev pub key_content : Key → Option (List ℕ)
-key_content key = if has_fields key then Some (fields_of key) else None
+key_content key =
+    join (element_of 0x02 (Some (1 ∷ [])))
+    (join (element_of 0x04 (Some key.private_key))
+    (join (field_of 0 0x06 (option_map identifier_content key.parameters))
+    (join (field_of 1 0x03 (option_map (λ bytes. Some (0 ∷ bytes)) key.public_key)) (Some []))))

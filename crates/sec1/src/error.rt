@@ -3,7 +3,8 @@ use sec1_der as der;
 /// Why a call of this crate refused.
 #[derive(Debug, PartialEq, Eq, Drop, thiserror::Error)]
 pub enum Error {
-    /// The bytes aren't a value in DER, or a value can't be written in it.
+    /// The bytes aren't a value in DER, or a value can't be written in it; kind Io: a read, a write or the opening
+    /// of a file failed.
     #[error("SEC1 ASN.1 error: {0}")]
     Asn1(der::Error),
 

@@ -1,12 +1,52 @@
-//! Laws of the definitions, which hold whatever is called. Each function does nothing: its contract is the law.
-ghost use Rattle.std.specs.Prelude.{◌≡◌, List, ℕ, Some};
-ghost use Rattle.sec1.specs.Examples.{p_256_bytes, p_256_key};
-ghost use Rattle.sec1.specs.Keys.{IsKeyOf, Key};
+//! Laws of the definitions and of what is compared by `==` or declared as a constant. A law is the contract of a
+//! function, which does nothing beyond what the law is about.
+ghost use Rattle.std.specs.Prelude.{◌≡◌, ◌⊎◌, ◌↔◌, List, [], ◌∷◌, ℕ, Some, false, IsTrue};
+ghost use Rattle.sec1.specs.Examples.{p_256_bytes, p_256_key, p_256_point, p_256_base, p_256_base_compressed};
+ghost use Rattle.sec1.specs.Coordinates.{lent_bytes};
+ghost use Rattle.sec1.specs.Keys.{HasNoBytes, IsKeyOf, Key};
+ghost use Rattle.sec1.specs.EncodedPoints.{point_of};
 ghost use Rattle.sec1.specs.Parameters.{curve_of};
+ghost use Rattle.sec1.specs.Points.{Fits, IsPoint, compact, compressed, compressed_point, enc, hybrid, identity};
 ghost use Rattle.sec1.specs.declared.parameters.EcParameters.{EcParameters};
 
-use crate::der::{ValueContent, laws};
-use crate::{EcParameters, EcPrivateKey};
+use crate::der::{FixedTag, ObjectIdentifier, UniqueContent, ValueContent, laws};
+use crate::point::{Coordinates, Tag};
+use crate::{ALGORITHM_OID, EcParameters, EcPrivateKey, EncodedPoint};
+
+/// Returns whether two parameters name the same curve.
+pub fn same_parameters(a: EcParameters, b: EcParameters) -> bool
+    ensures { IsTrue result ↔ (curve_of a ≡ curve_of b) }
+{
+    a == b
+}
+
+/// Returns whether two tags of points are the same.
+pub fn same_tag(a: Tag, b: Tag) -> bool
+    ensures { IsTrue result ↔ (a ≡ b) }
+{
+    a == b
+}
+
+/// Returns whether the coordinates have the same variant, flag and bytes.
+pub fn same_coordinates<const N: usize>(a: Coordinates<'_, N>, b: Coordinates<'_, N>) -> bool
+    ensures { IsTrue result ↔ (lent_bytes a.entry ≡ lent_bytes b.entry) }
+{
+    a == b
+}
+
+/// Returns the identifier of the keys' algorithm, id-ecPublicKey (RFC 5480 section 2.1.1).
+pub fn algorithm_identifier() -> ObjectIdentifier
+    ensures { result ≡ 1 ∷ 2 ∷ 840 ∷ 10045 ∷ 2 ∷ 1 ∷ [] }
+{
+    ALGORITHM_OID
+}
+
+/// Returns the tag byte of a curve's name, an OBJECT IDENTIFIER (X.690 section 8.19).
+pub fn parameters_tag_byte() -> u8
+    ensures { result ≡ 0x06 }
+{
+    EcParameters::TAG.byte()
+}
 
 /// Two parameters with one content name the same curve.
 pub fn one_curve()
@@ -25,11 +65,38 @@ pub fn one_key()
         → ⟦<EcPrivateKey<'static> as ValueContent>⟧.content b ≡ Some bytes
         → a ≡ b }
 {
-    laws::rows_unique();
-    laws::one_identifier();
+    EcPrivateKey::one();
+}
+
+/// A key has bytes, or it has none.
+pub fn bytes_or_none(key: &EcPrivateKey)
+    ensures { HasNoBytes key.now ⊎ ((bytes : List ℕ) × IsKeyOf key.now bytes) }
+{
+    let _len = key.encoded_len();
 }
 
 /// A key on P-256 and its bytes (RFC 5915 section 3).
 pub fn spelled_key()
     ensures { IsKeyOf p_256_key p_256_bytes }
 {}
+
+/// Encodings of points (SEC1 v2.0 section 2.3.3): the public key of the key on P-256, the curve's base point
+/// compressed (SEC 2 v2.0 section 2.4.2), and each other form at field elements of one byte.
+#[tactic(auto, unfolding(crate::specs::Points::enc, crate::specs::Points::fixed_width))]
+pub fn spelled_points()
+    ensures public_key { Some (enc 32 p_256_point) ≡ p_256_key.public_key }
+    ensures compressed { enc 32 (compressed_point p_256_base) ≡ p_256_base_compressed }
+    ensures compressed_even { enc 1 (compressed 1 false) ≡ 2 ∷ 1 ∷ [] }
+    ensures identity { enc 1 identity ≡ 0 ∷ [] }
+    ensures compact { enc 1 (compact 1) ≡ 5 ∷ 1 ∷ [] }
+    ensures hybrid_even { enc 1 (hybrid 1 2) ≡ 6 ∷ 1 ∷ 2 ∷ [] }
+    ensures hybrid_odd { enc 1 (hybrid 1 3) ≡ 7 ∷ 1 ∷ 3 ∷ [] }
+{}
+
+/// A value means a point of its size.
+pub fn one_point<const N: usize, const L: usize>(point: &EncodedPoint<N, L>)
+    ensures sizes { Fits N L }
+    ensures point { IsPoint N (point_of point.now) }
+{
+    let _len = point.len();
+}

@@ -1,5 +1,7 @@
-//! EC private keys in DER (SEC1 v2.0 Appendix C.4, RFC 5915). Each value has one encoding, and everything else
-//! is refused.
+//! EC private keys in DER (SEC1 v2.0 Appendix C.4, RFC 5915 section 3) and points of elliptic curves over prime
+//! fields (SEC1 v2.0 section 2.3.3). Each value has one encoding in bytes, and everything else is refused.
+//!
+//! Nothing is computed on curves. [`der`] is the layer of DER below.
 #![tactic(auto)]
 
 mod error;

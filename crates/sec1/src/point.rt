@@ -2,7 +2,7 @@
 //!
 //! No call here tests that a point lies on a curve, or that a coordinate is below a field's modulus.
 
-ghost use Rattle.std.specs.Prelude.{◌≡◌, ◌+◌, ◌*◌, ◌<◌, ◌≤◌, ◌^◌, ◌↔◌, if◌then◌else◌, length, take, drop, IsTrue, IfSome};
+ghost use Rattle.std.specs.Prelude.{◌≡◌, ◌+◌, ◌*◌, ◌<◌, ◌≤◌, ◌^◌, ◌↔◌, if◌then◌else◌, length, slice_index, take, drop, set, IsTrue, IfSome};
 ghost use Rattle.std.specs.Option.{option_map};
 ghost use Rattle.sec1_der.specs.Numbers.{num};
 ghost use Rattle.sec1.specs.Points.{identity, uncompressed, IsEncoding, meaning, enc, Fits, compressed_point, hybrid_point, x_of, y_of};
@@ -14,7 +14,7 @@ mod tag;
 mod text;
 
 use crate::error::{Error, Result};
-pub use coordinates::{Coordinates, Parts};
+pub use coordinates::Coordinates;
 use std::fmt;
 pub use tag::Tag;
 
@@ -22,6 +22,9 @@ pub use tag::Tag;
 ///
 /// N is at least 1 and L is 2N + 1, the length of the longest encoding. The encoding stands at the beginning of a
 /// buffer of L bytes; what the buffer holds after it counts for nothing, so that two values may be one point.
+///
+/// A function that is generic over N and L, and has no value of this type among its parameters or in its result,
+/// has to know that such a value has a size: it requires or tests that L is below 2^62 before it calls one of these.
 #[derive(Clone, Copy)]
 pub struct EncodedPoint<const N: usize, const L: usize> {
     bytes: [u8; L],
@@ -45,7 +48,7 @@ pub type EncodedPoint66 = EncodedPoint<66, 133>;
 
 impl<const N: usize, const L: usize> EncodedPoint<N, L> {
     ghost use Rattle.sec1.specs.EncodedPoints.{point_of, ReadsBytes};
-    ghost use Rattle.sec1.specs.Tags.{tag_of, is_compact, is_compressed, is_hybrid, is_identity};
+    ghost use Rattle.sec1.specs.Tags.{byte_of, message_len, tag_of, is_compact, is_compressed, is_hybrid, is_identity};
     ghost use Rattle.sec1.specs.Coordinates.{lent_point, AreWhole};
 
     /// Whether N and L fit: N is at least 1, and L is 2N + 1. Only then are there points of this type.
@@ -94,7 +97,7 @@ impl<const N: usize, const L: usize> EncodedPoint<N, L> {
         if compress { point.compress() } else { point }
     }
 
-    // The uncompressed point with these coordinates.
+    /// Returns the uncompressed point with these coordinates, of N bytes each.
     fn from_halves(x: &[u8], y: &[u8]) -> Self
         requires sizes { Fits N L }
         requires x_len { length x.now ≡ N }
@@ -168,14 +171,22 @@ impl<const N: usize, const L: usize> EncodedPoint<N, L> {
         ensures same_x { x_of (point_of result) ≡ x_of (point_of self.now) }
         ensures once { compressed_point (point_of result) ≡ point_of result }
     {
-        let Some(y) = self.y() else {
-            return *self;
-        };
-        let tag = Tag::compress_y(y);
-        let mut point = *self;
-        point.bytes[0] = u8::from(tag);
-        point.len = N + 1;
-        point
+        let (tag, len) = self.compressed_front();
+        let mut bytes = self.bytes;
+        bytes[0] = tag;
+        EncodedPoint { bytes, len }
+    }
+
+    // The tag byte and the length of the compressed form, whose other bytes are those of this one.
+    fn compressed_front(&self) -> (u8, usize)
+        ensures room { result.1 ≤ L }
+        ensures front { take result.1 (set self.now.bytes 0 result.0)
+            ≡ enc N (compressed_point (point_of self.now)) }
+    {
+        match self.y() {
+            Some(y) => (u8::from(Tag::compress_y(y)), N + 1),
+            None => (self.bytes[0], self.len),
+        }
     }
 
     /// The hybrid form of an uncompressed point, with the parity of its y. Any other point is unchanged.
@@ -191,9 +202,11 @@ impl<const N: usize, const L: usize> EncodedPoint<N, L> {
         point
     }
 
-    /// The tag, the first byte of the encoding.
+    /// Returns the tag, the first byte of the encoding. The length of the encoding is that of its tag.
     pub fn tag(&self) -> Tag
-        ensures { result ≡ tag_of (point_of self.now) }
+        ensures point { result ≡ tag_of (point_of self.now) }
+        ensures first { byte_of result ≡ slice_index (enc N (point_of self.now)) 0 }
+        ensures len { message_len result N ≡ length (enc N (point_of self.now)) }
     {
         match Tag::from_u8(self.bytes[0]) {
             Ok(tag) => tag,
@@ -201,10 +214,10 @@ impl<const N: usize, const L: usize> EncodedPoint<N, L> {
         }
     }
 
-    /// The parts of the point, lent.
+    /// Borrows the parts of the point.
     pub fn coordinates(&self) -> Coordinates<'_, N>
         ensures point { lent_point result ≡ point_of self.now }
-        ensures whole { AreWhole N result }
+        ensures whole { AreWhole result }
     {
         let (x, y) = self.halves();
         match self.tag() {
@@ -218,7 +231,7 @@ impl<const N: usize, const L: usize> EncodedPoint<N, L> {
         }
     }
 
-    // The N bytes behind the tag, and the N bytes after these, whether or not they belong to the encoding.
+    /// Borrows the N bytes behind the tag, and the N bytes after these, whether or not they belong to the encoding.
     fn halves(&self) -> (&[u8; N], &[u8; N])
         ensures x { result.0.now ≡ take N (drop 1 self.now.bytes) }
         ensures y { result.1.now ≡ take N (drop N (drop 1 self.now.bytes)) }
@@ -236,6 +249,7 @@ impl<const N: usize, const L: usize> EncodedPoint<N, L> {
     }
 
     /// The x-coordinate. The identity alone has none.
+    #[tactic(auto, using(crate::proofs::Firsts::lent_whole))]
     pub fn x(&self) -> Option<&[u8; N]>
         ensures number { option_map (λ x. num x.now) result ≡ x_of (point_of self.now) }
         ensures len { IfSome result (λ x. length x.now ≡ N) }
@@ -250,6 +264,7 @@ impl<const N: usize, const L: usize> EncodedPoint<N, L> {
     }
 
     /// The y-coordinate, which uncompressed and hybrid points have.
+    #[tactic(auto, using(crate::proofs::Firsts::lent_whole))]
     pub fn y(&self) -> Option<&[u8; N]>
         ensures number { option_map (λ y. num y.now) result ≡ y_of (point_of self.now) }
         ensures len { IfSome result (λ y. length y.now ≡ N) }
@@ -262,7 +277,7 @@ impl<const N: usize, const L: usize> EncodedPoint<N, L> {
     }
 }
 
-// Whether these bytes are an encoding at field elements of n bytes.
+/// Returns whether these bytes are an encoding at field elements of n bytes.
 fn is_encoding(input: &[u8], n: usize) -> bool
     requires positive { 1 ≤ n }
     requires fits { 2 * n + 1 < 2 ^ 64 }

@@ -1,17 +1,10 @@
-ghost use Rattle.std.specs.Prelude.{◌≡◌, ◌≢◌, ◌<◌, ◌≤◌, ◌∷◌, ◌++◌, ℕ, List, length, slice_get, Option, Some, true, false, IsOk, IfOk, IfErr, OnErr, IsSomeAnd};
-ghost use Rattle.std.specs.Option.{option_map};
-ghost use Rattle.sec1.specs.Keys.{parameters_field, public_key_field, NameCurve, HasRoom, bytes_of};
-ghost use Rattle.sec1.specs.Parameters.{curve_of};
-ghost use Rattle.sec1_der.specs.Elements.{max_length};
-ghost use Rattle.sec1_der.specs.Faults.{Refuses, IsReadingFault};
-ghost use Rattle.sec1_der.specs.Readers.{before, HasRead};
+ghost use Rattle.std.specs.Prelude.{◌≡◌, ◌<◌, ◌≤◌, ◌++◌, ℕ, List, length, Ok};
 
 use crate::{EcParameters, Error, Result, laws};
 use sec1_der as der;
 use sec1_der::{
-    BackWriter, BitStringRef, DecodeValue, EncodeValue, ErrorKind, FixedTag, Length,
-    OctetStringRef, SecretDocument, Sequence, SliceReader, SliceWriter, Tag, ValueContent,
-    VersionOne,
+    End, ErrorKind, Explicit0, Explicit1, ObjectIdentifier, Octets, Optional, Record, Required,
+    SecretDocument, UniqueRecord, VersionOne, WholeBits,
 };
 use std::alloc::Global;
 use std::fmt;
@@ -78,18 +71,21 @@ impl<'a> TryFrom<&'a [u8]> for EcPrivateKey<'a> {
 }
 
 impl<'a> EcPrivateKey<'a> {
-    ghost use Rattle.std.specs.Prelude.{drop, MatchResult};
-    ghost use Rattle.sec1.specs.Errors.{RefusesAsn1};
-    ghost use Rattle.sec1.specs.Keys.{IsKeyOf, HasNoBytes};
+    ghost use Rattle.std.specs.Prelude.{drop, MatchResult, IfOk, IfErr, OnErr, ◌⊎◌};
+    ghost use Rattle.sec1.specs.Errors.{IsAsn1, RefusesAsn1};
+    ghost use Rattle.sec1.specs.Keys.{IsKeyOf, HasNoBytes, HasBytesWith};
 
     /// The count of bytes of the key's DER encoding.
     ///
     /// Refused as [`Error::Asn1`] of Overlength where a part of the key, or all of it, is longer than an element
     /// can hold, 268,435,455 bytes.
-    #[tactic(auto, using(crate::proofs::WriteLemmas::key_written, crate::proofs::WriteLemmas::key_lacks))]
+    #[tactic(auto, using(crate::proofs::WriteLemmas::key_written, crate::proofs::WriteLemmas::key_lacks, crate::proofs::WriteLemmas::key_found_with, crate::proofs::WriteLemmas::key_without))]
     pub fn encoded_len(&self) -> Result<usize>
         ensures none { HasNoBytes self.now → RefusesAsn1 result ErrorKind.Overlength }
         ensures some { (bytes : List ℕ) → IsKeyOf self.now bytes → result ≡ Ok (length bytes) }
+        ensures found { IfOk result (λ n. HasBytesWith self.now (λ bytes. n ≡ length bytes)) }
+        ensures kind { IfErr result (IsAsn1 ErrorKind.Overlength) }
+        ensures lacks { OnErr result (HasNoBytes self.now) }
     {
         Ok(der::encoded_len(self)?)
     }
@@ -99,7 +95,7 @@ impl<'a> EcPrivateKey<'a> {
     ///
     /// Refused as [`encoded_len`](EcPrivateKey::encoded_len) refuses, then as [`Error::Asn1`] of Buffer where the
     /// slice is too short. The whole slice is unchanged then.
-    #[tactic(auto, using(crate::proofs::WriteLemmas::key_written, crate::proofs::WriteLemmas::key_lacks))]
+    #[tactic(auto, using(crate::proofs::WriteLemmas::key_written, crate::proofs::WriteLemmas::key_lacks, crate::proofs::WriteLemmas::key_found_with, crate::proofs::WriteLemmas::key_without))]
     pub fn encode_to_slice(&self, buffer: &mut [u8]) -> Result<usize>
         ensures none { HasNoBytes self.now → RefusesAsn1 result ErrorKind.Overlength
             × (buffer.new ≡ buffer.old) }
@@ -107,6 +103,13 @@ impl<'a> EcPrivateKey<'a> {
             → (result ≡ Ok (length bytes)) × (buffer.new ≡ bytes ++ drop (length bytes) buffer.old) }
         ensures full { (bytes : List ℕ) → IsKeyOf self.now bytes → length buffer.old < length bytes
             → RefusesAsn1 result ErrorKind.Buffer × (buffer.new ≡ buffer.old) }
+        // What was written are the key's bytes, and they stand within the slice.
+        ensures found { IfOk result (λ n. HasBytesWith self.now (λ bytes.
+            (n ≡ length bytes) × (buffer.new ≡ bytes ++ drop n buffer.old))) }
+        ensures within { IfOk result (λ n. n ≤ length buffer.new) }
+        ensures kinds { IfErr result (λ e. (IsAsn1 ErrorKind.Overlength e × HasNoBytes self.now)
+            ⊎ IsAsn1 ErrorKind.Buffer e) }
+        ensures unchanged { OnErr result (buffer.new ≡ buffer.old) }
     {
         Ok(der::encode_to_slice(self, buffer)?)
     }
@@ -114,11 +117,14 @@ impl<'a> EcPrivateKey<'a> {
     /// The key's DER encoding. Reading it gives a key with the same parts.
     ///
     /// Refused as [`encoded_len`](EcPrivateKey::encoded_len) refuses, then as [`Error::Memory`].
-    #[tactic(auto, using(crate::proofs::WriteLemmas::key_written, crate::proofs::WriteLemmas::key_lacks))]
+    #[tactic(auto, using(crate::proofs::WriteLemmas::key_written, crate::proofs::WriteLemmas::key_lacks, crate::proofs::WriteLemmas::key_found, crate::proofs::WriteLemmas::key_without))]
     pub fn to_der(&self, alloc: Global) -> Result<Vec<u8>>
         ensures none { HasNoBytes self.now → RefusesAsn1 result ErrorKind.Overlength }
         ensures some { (bytes : List ℕ) → IsKeyOf self.now bytes
             → MatchResult result (λ der. der.items ≡ bytes) (λ e. e ≡ Error.Memory) }
+        ensures found { IfOk result (λ der. IsKeyOf self.now der.items) }
+        ensures kinds { IfErr result (λ e. (IsAsn1 ErrorKind.Overlength e × HasNoBytes self.now)
+            ⊎ (e ≡ Error.Memory)) }
     {
         Ok(der::to_der(alloc, self)?)
     }
@@ -130,6 +136,9 @@ impl<'a> EcPrivateKey<'a> {
         ensures none { HasNoBytes self.entry → RefusesAsn1 result ErrorKind.Overlength }
         ensures some { (bytes : List ℕ) → IsKeyOf self.entry bytes
             → MatchResult result (λ document. document ≡ bytes) (λ e. e ≡ Error.Memory) }
+        ensures found { IfOk result (IsKeyOf self.entry) }
+        ensures kinds { IfErr result (λ e. (IsAsn1 ErrorKind.Overlength e × HasNoBytes self.entry)
+            ⊎ (e ≡ Error.Memory)) }
     {
         self.document_ref(alloc)
     }
@@ -137,11 +146,14 @@ impl<'a> EcPrivateKey<'a> {
     /// The document of the key's DER encoding.
     ///
     /// Refused as [`to_der`](EcPrivateKey::to_der) refuses.
-    #[tactic(auto, using(crate::proofs::WriteLemmas::key_written, crate::proofs::WriteLemmas::key_lacks))]
+    #[tactic(auto, using(crate::proofs::WriteLemmas::key_written, crate::proofs::WriteLemmas::key_lacks, crate::proofs::WriteLemmas::key_found, crate::proofs::WriteLemmas::key_without))]
     pub fn document_ref(&self, alloc: Global) -> Result<SecretDocument>
         ensures none { HasNoBytes self.now → RefusesAsn1 result ErrorKind.Overlength }
         ensures some { (bytes : List ℕ) → IsKeyOf self.now bytes
             → MatchResult result (λ document. document ≡ bytes) (λ e. e ≡ Error.Memory) }
+        ensures found { IfOk result (IsKeyOf self.now) }
+        ensures kinds { IfErr result (λ e. (IsAsn1 ErrorKind.Overlength e × HasNoBytes self.now)
+            ⊎ (e ≡ Error.Memory)) }
     {
         Ok(SecretDocument::encode_msg(alloc, self)?)
     }
@@ -157,134 +169,66 @@ impl fmt::Debug for EcPrivateKey<'_> {
     }
 }
 
-impl FixedTag for EcPrivateKey<'_> {
-    const TAG: Tag = Tag::SEQUENCE;
+impl<'a> Record for EcPrivateKey<'a> {
+    type Components = Required<
+        VersionOne,
+        Required<
+            Octets<'a>,
+            Optional<Explicit0, ObjectIdentifier, Optional<Explicit1, WholeBits<'a>, End>>,
+        >,
+    >;
 
-    ghost number = { 0x30 };
+    ghost parts = { λ key. record {
+      first = record {};
+      rest = record {
+        first = key.private_key;
+        rest = record {
+          first = key.parameters;
+          rest = record { first = key.public_key; rest = record {}; tag = record {} };
+          tag = record {};
+        };
+      };
+    } };
 
-    fn fixed_tag() -> Tag
-        ensures { result ≡ 0x30 }
-    {
-        Self::TAG
-    }
-}
-
-impl ValueContent for EcPrivateKey<'_> {
-    ghost use Rattle.sec1.specs.Keys.{key_content, IsKeyContent};
-    ghost use Rattle.sec1.specs.KeyLaws.{key_content-tells};
-
-    ghost content = { key_content };
-
-    ghost is_content = { IsKeyContent };
-
-    ghost content_is_one = { λ key bytes same _. (key, key_content-tells key bytes same) };
-}
-
-impl<'a> DecodeValue<'a> for EcPrivateKey<'a> {
-    fn decode_value(reader: &mut SliceReader<'a>) -> der::Result<Self> {
-        reader.decode::<VersionOne>()?;
-        let private_key = reader.decode::<OctetStringRef>()?;
-        let parameters = read_parameters(reader)?;
-        let public_key = read_public_key(reader)?;
-        reader.finish()?;
-        Ok(EcPrivateKey {
-            private_key: private_key.as_bytes(),
-            parameters,
-            public_key,
-        })
-    }
-}
-
-/// Reads the field `[0]`, where it is next.
-fn read_parameters(reader: &mut SliceReader<'_>) -> der::Result<Option<EcParameters>>
-    ensures found { IfOk result (λ parameters.
-        HasRead (bytes_of (parameters_field (option_map curve_of parameters))) reader.old reader.new) }
-    ensures curve { IfOk result (λ parameters. NameCurve (option_map curve_of parameters)) }
-    ensures only { (curve : Option (List ℕ)) (rest : List ℕ) → NameCurve curve
-        → slice_get rest 0 ≢ Some 0xA0
-        → reader.old ≡ before (bytes_of (parameters_field curve) ++ rest)
-        → IsOk result × (reader.new ≡ before rest) }
-    ensures kinds { reader.old.failed ≡ false → IfErr result (λ e. IsReadingFault e.kind) }
-    ensures failed { reader.old.failed ≡ true → Refuses result ErrorKind.Failed
-        × (reader.new ≡ reader.old) }
-    ensures refused { OnErr result (reader.new.failed ≡ true) }
-{
-    reader.context_specific::<EcParameters>(0)
-}
-
-/// Reads the field `[1]`, where it is next. A bit string with unused bits is refused as Value.
-fn read_public_key<'a>(reader: &mut SliceReader<'a>) -> der::Result<Option<&'a [u8]>>
-    ensures found { IfOk result (λ public_key.
-        HasRead (bytes_of (public_key_field (option_map (λ bytes. bytes.now) public_key)))
-        reader.old reader.new) }
-    ensures room { IfOk result (λ public_key. HasRoom (option_map (λ bytes. bytes.now) public_key)) }
-    ensures only { (bytes : Option (List ℕ)) (rest : List ℕ) → HasRoom bytes
-        → slice_get rest 0 ≢ Some 0xA1
-        → reader.old ≡ before (bytes_of (public_key_field bytes) ++ rest)
-        → IsOk result × (reader.new ≡ before rest) }
-    ensures kinds { reader.old.failed ≡ false → IfErr result (λ e. IsReadingFault e.kind) }
-    ensures failed { reader.old.failed ≡ true → Refuses result ErrorKind.Failed
-        × (reader.new ≡ reader.old) }
-    ensures refused { OnErr result (reader.new.failed ≡ true) }
-{
-    let Some(bits) = reader.context_specific::<BitStringRef>(1)? else {
-        return Ok(None);
-    };
-    match bits.as_bytes() {
-        Some(bytes) => Ok(Some(bytes)),
-        None => Err(reader.fail(ErrorKind::Value)),
-    }
-}
-
-impl EncodeValue for EcPrivateKey<'_> {
-    fn value_len(&self) -> der::Result<Length> {
-        let version = der::encoded_len(&VersionOne)?;
-        let private_key = der::encoded_len(&OctetStringRef::new(self.private_key)?)?;
-        let parameters = der::context_specific_len(0, &self.parameters)?;
-        let public_key = der::context_specific_len(1, &bit_string(self.public_key)?)?;
-        Length::new(version + private_key + parameters + public_key)
-    }
-
-    fn encode_value(&self, writer: &mut SliceWriter) -> der::Result<()> {
-        if writer.remaining() < self.value_len()?.get() {
-            return Err(ErrorKind::Buffer.into());
+    fn from_components(row: &Self::Components) -> Self {
+        let fields = &row.rest;
+        let options = &fields.rest;
+        EcPrivateKey {
+            private_key: fields.first.bytes,
+            parameters: match options.first {
+                Some(curve) => Some(EcParameters::NamedCurve(curve)),
+                None => None,
+            },
+            public_key: match &options.rest.first {
+                Some(bits) => Some(bits.bytes),
+                None => None,
+            },
         }
-        let private_key = OctetStringRef::new(self.private_key)?;
-        let public_key = bit_string(self.public_key)?;
-        writer.element(&VersionOne)?;
-        writer.element(&private_key)?;
-        writer.context_specific(0, &self.parameters)?;
-        writer.context_specific(1, &public_key)
     }
 
-    fn encode_back(&self, writer: &mut BackWriter) -> der::Result<()> {
-        if writer.remaining() < self.value_len()?.get() {
-            return Err(ErrorKind::Buffer.into());
-        }
-        let private_key = OctetStringRef::new(self.private_key)?;
-        let public_key = bit_string(self.public_key)?;
-        writer.context_specific(1, &public_key)?;
-        writer.context_specific(0, &self.parameters)?;
-        writer.element(&private_key)?;
-        writer.element(&VersionOne)
+    fn to_components(&self) -> Self::Components {
+        let curve = match self.parameters {
+            Some(EcParameters::NamedCurve(curve)) => Some(curve),
+            None => None,
+        };
+        let public_key = match self.public_key {
+            Some(bytes) => Some(WholeBits { bytes }),
+            None => None,
+        };
+        let bytes = self.private_key;
+        let options = Optional::new(curve, Optional::new(public_key, End));
+        Required::new(VersionOne, Required::new(Octets { bytes }, options))
     }
 }
 
-/// The bit string of the public key, where it is there. Refused as Overlength where the bytes have no room in it.
-fn bit_string(public_key: Option<&[u8]>) -> der::Result<Option<BitStringRef<'_>>>
-    ensures found { IfOk result (λ bits. option_map (⟦<BitStringRef<'static> as ValueContent>⟧.content) bits
-        ≡ option_map (λ bytes. Some (0 ∷ bytes)) (option_map (λ bytes. bytes.now) public_key.entry)) }
-    ensures none { IfErr result (λ e. (e.kind ≡ ErrorKind.Overlength)
-        × IsSomeAnd (option_map (λ bytes. bytes.now) public_key.entry) (λ bytes. max_length ≤ length bytes)) }
-{
-    match public_key {
-        None => Ok(None),
-        Some(bytes) => Ok(Some(BitStringRef::from_bytes(bytes)?)),
-    }
-}
-
-impl<'a> Sequence<'a> for EcPrivateKey<'a> {
+impl<'a> UniqueRecord for EcPrivateKey<'a> {
     ghost use Rattle.std.specs.Prelude.{refl};
 
-    ghost is_sequence = { refl };
+    ghost of_parts = { λ row. record {
+      private_key = row.rest.first;
+      parameters = row.rest.rest.first;
+      public_key = row.rest.rest.rest.first;
+    } };
+
+    ghost same = { λ _. refl };
 }

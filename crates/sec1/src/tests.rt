@@ -1,4 +1,6 @@
+mod files;
 mod memory;
 mod reading;
+mod streams;
 mod traits;
 mod writing;

@@ -1,46 +1,156 @@
 //! The parts of a point.
 
-ghost use Rattle.std.specs.Prelude.{◌≡◌};
+ghost use Rattle.std.specs.Prelude.{◌≡◌, bytes_eq};
 ghost use Rattle.sec1.specs.Tags.{tag_of};
-ghost use Rattle.sec1.specs.Coordinates.{lent_point};
+ghost use Rattle.sec1.specs.Coordinates.{first_bytes, lent_point};
 
 use super::Tag;
+use std::fmt;
 
-/// The parts of a point, as its encoding gives them, over what holds a coordinate.
-#[derive(Clone, Copy, Debug, PartialEq, Eq)]
-pub enum Parts<X> {
-    /// The point at infinity has no coordinates.
+/// The parts of a point, each coordinate borrowed as N bytes, the most significant first.
+#[derive(Clone, Copy)]
+pub enum Coordinates<'a, const N: usize> {
+    /// The point at infinity, which has no coordinates.
     Identity,
     /// x alone.
-    Compact { x: X },
+    Compact { x: &'a [u8; N] },
     /// x, and the parity of y.
-    Compressed { x: X, y_is_odd: bool },
+    Compressed { x: &'a [u8; N], y_is_odd: bool },
     /// x and y.
-    Uncompressed { x: X, y: X },
+    Uncompressed { x: &'a [u8; N], y: &'a [u8; N] },
     /// x and y, under a tag that repeats the parity of y.
-    Hybrid { x: X, y: X },
+    Hybrid { x: &'a [u8; N], y: &'a [u8; N] },
 }
 
-/// The parts of a point, each coordinate lent as N bytes, the most significant first.
-pub type Coordinates<'a, const N: usize> = Parts<&'a [u8; N]>;
-
-impl<const N: usize> Parts<&[u8; N]> {
-    /// The tag in front of these parts.
+impl<const N: usize> Coordinates<'_, N> {
+    /// Returns the tag in front of these parts.
+    #[tactic(auto, using(crate::proofs::Firsts::lent_parity, crate::proofs::Firsts::lent_none))]
     pub fn tag(&self) -> Tag
         ensures { result ≡ tag_of (lent_point self.now) }
     {
         match *self {
-            Parts::Identity => Tag::Identity,
-            Parts::Compact { .. } => Tag::Compact,
-            Parts::Compressed { y_is_odd, .. } => {
+            Coordinates::Identity => Tag::Identity,
+            Coordinates::Compact { .. } => Tag::Compact,
+            Coordinates::Compressed { y_is_odd, .. } => {
                 if y_is_odd {
                     Tag::CompressedOddY
                 } else {
                     Tag::CompressedEvenY
                 }
             }
-            Parts::Uncompressed { .. } => Tag::Uncompressed,
-            Parts::Hybrid { y, .. } => Tag::hybrid_y(y),
+            Coordinates::Uncompressed { .. } => Tag::Uncompressed,
+            Coordinates::Hybrid { y, .. } => {
+                if N != 0 && y[N - 1] % 2 == 1 {
+                    Tag::HybridOddY
+                } else {
+                    Tag::HybridEvenY
+                }
+            }
+        }
+    }
+}
+
+/// A coordinate, which is passed on in this form: the size of a bare array would have to be known at each call.
+#[derive(Clone, Copy)]
+struct Coordinate<'a, const N: usize>(&'a [u8; N]);
+
+impl<const N: usize> Coordinate<'_, N> {
+    /// Returns whether the bytes are the same.
+    #[tactic(auto, using(crate::proofs::Firsts::first_none, crate::proofs::Firsts::first_more, crate::proofs::Firsts::first_same, crate::proofs::Firsts::first_apart))]
+    fn is(self, other: Self) -> bool
+        ensures { result ≡ bytes_eq (first_bytes N self.entry.0.now) (first_bytes N other.entry.0.now) }
+    {
+        for i in 0..N {
+            if self.0[i] != other.0[i] {
+                return false;
+            }
+        }
+        true
+    }
+}
+
+/// Prints the bytes as those of an array are printed.
+impl<const N: usize> fmt::Debug for Coordinate<'_, N> {
+    fn fmt<W: fmt::Write>(&self, f: &mut fmt::Formatter<W>) -> fmt::Result {
+        let mut list = f.debug_list();
+        for i in 0..N {
+            list.entry(&self.0[i]);
+        }
+        list.finish()
+    }
+}
+
+/// Two are equal where the variant, the flag and each byte are the same.
+impl<const N: usize> PartialEq for Coordinates<'_, N> {
+    ghost use Rattle.sec1.specs.Coordinates.{same_parts, same_parts_equiv};
+    ghost use Rattle.std.specs.Cmp.{partial_equiv_from_equiv};
+
+    ghost eq = { same_parts };
+
+    ghost laws = { partial_equiv_from_equiv same_parts_equiv };
+
+    #[tactic(auto, using(crate::proofs::Firsts::eq_first))]
+    fn eq(&self, other: &Self) -> bool {
+        match (*self, *other) {
+            (Coordinates::Identity, Coordinates::Identity) => true,
+            (Coordinates::Compact { x }, Coordinates::Compact { x: other_x }) => {
+                Coordinate(x).is(Coordinate(other_x))
+            }
+            (
+                Coordinates::Compressed { x, y_is_odd },
+                Coordinates::Compressed {
+                    x: other_x,
+                    y_is_odd: other_y_is_odd,
+                },
+            ) => y_is_odd == other_y_is_odd && Coordinate(x).is(Coordinate(other_x)),
+            (
+                Coordinates::Uncompressed { x, y },
+                Coordinates::Uncompressed {
+                    x: other_x,
+                    y: other_y,
+                },
+            )
+            | (
+                Coordinates::Hybrid { x, y },
+                Coordinates::Hybrid {
+                    x: other_x,
+                    y: other_y,
+                },
+            ) => Coordinate(x).is(Coordinate(other_x)) && Coordinate(y).is(Coordinate(other_y)),
+            _ => false,
+        }
+    }
+}
+
+impl<const N: usize> Eq for Coordinates<'_, N> {
+    ghost use Rattle.sec1.specs.Coordinates.{same_parts_equiv};
+
+    ghost laws = { same_parts_equiv };
+}
+
+impl<const N: usize> fmt::Debug for Coordinates<'_, N> {
+    fn fmt<W: fmt::Write>(&self, f: &mut fmt::Formatter<W>) -> fmt::Result {
+        match *self {
+            Coordinates::Identity => f.write_str("Identity"),
+            Coordinates::Compact { x } => f
+                .debug_struct("Compact")
+                .field("x", &Coordinate(x))
+                .finish(),
+            Coordinates::Compressed { x, y_is_odd } => f
+                .debug_struct("Compressed")
+                .field("x", &Coordinate(x))
+                .field("y_is_odd", &y_is_odd)
+                .finish(),
+            Coordinates::Uncompressed { x, y } => f
+                .debug_struct("Uncompressed")
+                .field("x", &Coordinate(x))
+                .field("y", &Coordinate(y))
+                .finish(),
+            Coordinates::Hybrid { x, y } => f
+                .debug_struct("Hybrid")
+                .field("x", &Coordinate(x))
+                .field("y", &Coordinate(y))
+                .finish(),
         }
     }
 }

@@ -72,21 +72,22 @@ impl Tag {
         self == Tag::Identity
     }
 
-    /// The length in bytes of an encoding with this tag, which counts too, at field elements of so many bytes.
+    /// Returns the length in bytes of an encoding with this tag, the tag included, at field elements of this
+    /// many bytes.
     ///
-    /// Asks that this length fits a usize.
-    pub fn message_len(self, element_len: usize) -> usize
-        requires { message_len self element_len < 2 ^ 64 }
-        ensures { result ≡ message_len self element_len }
+    /// The length must fit a usize.
+    pub const fn message_len(self, field_element_size: usize) -> usize
+        requires { message_len self field_element_size < 2 ^ 64 }
+        ensures { result ≡ message_len self field_element_size }
     {
         match self {
             Tag::Identity => 1,
-            Tag::CompressedEvenY | Tag::CompressedOddY | Tag::Compact => element_len + 1,
-            Tag::Uncompressed | Tag::HybridEvenY | Tag::HybridOddY => element_len * 2 + 1,
+            Tag::CompressedEvenY | Tag::CompressedOddY | Tag::Compact => field_element_size + 1,
+            Tag::Uncompressed | Tag::HybridEvenY | Tag::HybridOddY => field_element_size * 2 + 1,
         }
     }
 
-    // The compressed form's tag for the parity of y.
+    /// Returns the compressed form's tag for the parity of y.
     pub(super) fn compress_y<const N: usize>(y: &[u8; N]) -> Self
         ensures { byte_of result ≡ (if is_odd (num y.now) then 3 else 2) }
     {
@@ -97,7 +98,7 @@ impl Tag {
         }
     }
 
-    // The hybrid form's tag for the parity of y.
+    /// Returns the hybrid form's tag for the parity of y.
     pub(super) fn hybrid_y<const N: usize>(y: &[u8; N]) -> Self
         ensures { byte_of result ≡ (if is_odd (num y.now) then 7 else 6) }
     {
@@ -109,7 +110,7 @@ impl Tag {
     }
 }
 
-// Whether the number that the bytes spell is odd. The number of no bytes is 0.
+/// Returns whether the number that the bytes spell is odd. The number of no bytes is 0.
 #[tactic(auto, using(crate::proofs::Digits::parity_of_last, crate::proofs::Digits::num_of_none))]
 fn is_odd<const N: usize>(y: &[u8; N]) -> bool
     ensures { result ≡ is_odd (num y.now) }

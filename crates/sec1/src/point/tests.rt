@@ -2,6 +2,7 @@
 
 ghost use Rattle.std.specs.Prelude.{◌+◌, ◌*◌, ◌%◌, ◌^◌, fold};
 
+use super::Coordinates::{Compressed, Identity};
 use super::{
     Coordinates, EncodedPoint, EncodedPoint28, EncodedPoint32, EncodedPoint48, EncodedPoint66, Tag,
 };
@@ -169,6 +170,7 @@ fn lends_coordinates(rt: HostRuntime) -> Result<(), Fail> {
     assert_eq!(rt; whole.compress().as_bytes(), compressed_32().as_slice());
     assert!(rt; whole.coordinates() == Coordinates::Uncompressed { x: &x, y: &y });
     assert!(rt; whole.x() == Some(&x) && whole.y() == Some(&y));
+    assert!(rt; whole.tag() == Tag::Uncompressed && whole.len() == 65);
     assert!(rt; whole.clone()? == whole);
     assert!(rt; whole == EncodedPoint32::from_untagged_bytes(&uncompressed_32()[1..]));
     let point = EncodedPoint32::from_affine_coordinates(&x, &y, true);
@@ -201,11 +203,66 @@ fn lends_coordinates(rt: HostRuntime) -> Result<(), Fail> {
     let odd = Point1::from_bytes(&[7, 1, 3])?;
     assert!(rt; odd.coordinates() == Coordinates::Hybrid { x: &[1], y: &[3] });
     assert_eq!(rt; odd.coordinates().tag(), Tag::HybridOddY);
+    let none: Coordinates<'_, 0> = Coordinates::Hybrid { x: &[], y: &[] };
+    assert_eq!(rt; none.tag(), Tag::HybridEvenY);
+    Ok(())
+}
+
+// Prints coordinates.
+fn printed(alloc: Global, coordinates: Coordinates<'_, 2>) -> Result<String, Fail> {
+    Ok(format!(in alloc; "{coordinates:?}")?)
+}
+
+#[test]
+fn prints_coordinates(rt: HostRuntime) -> Result<(), Fail> {
+    let alloc = rt.alloc();
+    let (x, y) = (&[1, 255], &[0, 3]);
+    assert_eq!(rt; printed(alloc, Identity)?.as_str(), "Identity");
     assert_eq!(rt;
-        Coordinates::<0>::Hybrid { x: &[], y: &[] }.tag(),
-        Tag::HybridEvenY
+        printed(alloc, Coordinates::Compact { x })?.as_str(),
+        "Compact { x: [1, 255] }"
+    );
+    let y_is_odd = true;
+    assert_eq!(rt;
+        printed(alloc, Compressed { x, y_is_odd })?.as_str(),
+        "Compressed { x: [1, 255], y_is_odd: true }"
+    );
+    assert_eq!(rt;
+        printed(alloc, Coordinates::Uncompressed { x, y })?.as_str(),
+        "Uncompressed { x: [1, 255], y: [0, 3] }"
+    );
+    assert_eq!(rt;
+        printed(alloc, Coordinates::Hybrid { x, y })?.as_str(),
+        "Hybrid { x: [1, 255], y: [0, 3] }"
     );
     Ok(())
+}
+
+#[test]
+fn compares_coordinates(rt: HostRuntime) {
+    let (x, other, y) = (&[1, 2], &[1, 3], &[0, 3]);
+    let even = Compressed { x, y_is_odd: false };
+    let uncompressed = Coordinates::Uncompressed { x, y };
+    assert!(rt;
+        even == Compressed {
+            x: &[1, 2],
+            y_is_odd: false
+        }
+    );
+    assert!(rt; even != Compressed { x, y_is_odd: true });
+    assert!(rt;
+        even != Compressed {
+            x: other,
+            y_is_odd: false
+        }
+    );
+    assert!(rt; even != Coordinates::Compact { x } && even != Identity);
+    assert!(rt; uncompressed == Coordinates::Uncompressed { x, y });
+    assert!(rt; uncompressed != Coordinates::Uncompressed { x: other, y });
+    assert!(rt; uncompressed != Coordinates::Uncompressed { x, y: other });
+    assert!(rt; uncompressed != Coordinates::Hybrid { x, y });
+    assert!(rt; Coordinates::Hybrid { x, y } == Coordinates::Hybrid { x, y });
+    assert!(rt; Identity == Coordinates::<'_, 2>::Identity);
 }
 
 #[test]
@@ -241,6 +298,7 @@ fn reads_parities(rt: HostRuntime) -> Result<(), Fail> {
 fn has_identities(rt: HostRuntime) {
     let identity = EncodedPoint32::identity();
     assert!(rt; identity.is_identity() && identity.x().is_none() && identity.y().is_none());
+    assert!(rt; EncodedPoint32::from_bytes(&[0]) == Ok(identity));
     assert!(rt; EncodedPoint28::default() == EncodedPoint28::identity());
     assert!(rt; EncodedPoint32::default() == identity);
     assert!(rt; EncodedPoint48::default() == EncodedPoint48::identity());
@@ -289,7 +347,7 @@ fn orders_points(rt: HostRuntime) -> Result<(), Fail> {
     Ok(())
 }
 
-// The bytes that were fed, the last 16 of them, as one number.
+// The bytes that were fed, up to 15 of them, as the digits behind the first one, 1, of a number in base 256.
 #[derive(Drop)]
 struct Recorder(u128);
 
@@ -310,7 +368,7 @@ impl Hasher for Recorder {
 }
 
 fn fed_by<T: Hash>(value: &T) -> u128 {
-    let mut recorder = Recorder(0);
+    let mut recorder = Recorder(1);
     value.hash(&mut recorder);
     recorder.0
 }
@@ -320,6 +378,8 @@ fn hashes_points(rt: HostRuntime) -> Result<(), Fail> {
     let point = Point1::from_str("02AF")?;
     let bytes: &[u8] = &[2, 0xAF];
     assert_eq!(rt; fed_by(&point), fed_by(&bytes));
+    // no digit was lost
+    assert!(rt; fed_by(&point) < 1 << 120 && fed_by(&point) > 1 << 16);
     let mut points = HashSet::new(rt.alloc());
     assert!(rt; points.insert(point)?);
     assert!(rt; points.contains(&Point1::from_bytes(bytes)?));

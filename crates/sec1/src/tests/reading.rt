@@ -1,6 +1,6 @@
 //! Keys that are read and bytes that are refused, by examples with known answers.
 use crate::{ALGORITHM_OID, EcParameters, EcPrivateKey, Error, Result, der};
-use der::{ErrorKind, ObjectIdentifier};
+use der::{ErrorKind, FixedTag, ObjectIdentifier};
 use std::alloc::Global;
 use std::test::Fail;
 
@@ -25,6 +25,11 @@ fn refusal(bytes: &[u8]) -> Option<ErrorKind> {
         Err(Error::Asn1(cause)) => Some(cause.kind),
         _ => None,
     }
+}
+
+#[test]
+fn a_key_is_a_sequence(rt: HostRuntime) {
+    assert_eq!(rt; EcPrivateKey::TAG.byte(), 0x30);
 }
 
 #[test]
@@ -237,13 +242,32 @@ fn errors_have_their_texts(rt: HostRuntime) -> std::result::Result<(), Fail> {
     Ok(())
 }
 
+/// Keys, and their texts. Of the private key, `69 96` or `AA`, no byte is shown.
+static DEBUG_TEXTS: [(&[u8], &str); 4] = [
+    (
+        b"\x30\x05\x02\x01\x01\x04\x00",
+        "EcPrivateKey { parameters: None, public_key: None, .. }",
+    ),
+    (
+        b"\x30\x07\x02\x01\x01\x04\x02\x69\x96",
+        "EcPrivateKey { parameters: None, public_key: None, .. }",
+    ),
+    (
+        b"\x30\x0D\x02\x01\x01\x04\x02\x69\x96\xA0\x04\x06\x02\x2A\x03",
+        "EcPrivateKey { parameters: Some(NamedCurve(ObjectIdentifier(1.2.3))), public_key: None, .. }",
+    ),
+    (
+        b"\x30\x14\x02\x01\x01\x04\x01\xAA\xA0\x04\x06\x02\x2A\x03\xA1\x06\x03\x04\x00\x02\x01\x07",
+        "EcPrivateKey { parameters: Some(NamedCurve(ObjectIdentifier(1.2.3))), public_key: Some([2, 1, 7]), .. }",
+    ),
+];
+
 #[test]
 fn a_debug_text_shows_no_private_key(rt: HostRuntime) -> std::result::Result<(), Fail> {
-    let key = EcPrivateKey::try_from(b"\x30\x05\x02\x01\x01\x04\x00".as_slice())?;
-    assert_eq!(rt;
-        format!(in rt.alloc(); "{key:?}")?.as_str(),
-        "EcPrivateKey { parameters: None, public_key: None, .. }"
-    );
+    for &(bytes, text) in DEBUG_TEXTS.iter() {
+        let key = EcPrivateKey::try_from(bytes)?;
+        assert_eq!(rt; format!(in rt.alloc(); "{key:?}")?.as_str(), text);
+    }
     let curve = EcParameters::from(ObjectIdentifier::new("1.2.3")?);
     assert_eq!(rt;
         format!(in rt.alloc(); "{curve:?}")?.as_str(),

@@ -1,5 +1,5 @@
 //! Keys that are written, by examples with known answers.
-use crate::der::{self, AnyRef, ErrorKind, ObjectIdentifier, Tag};
+use crate::der::{self, AnyRef, EncodeValue, ErrorKind, ObjectIdentifier, SliceWriter, Tag};
 use crate::{EcParameters, EcPrivateKey, Error};
 use std::test::Fail;
 
@@ -48,41 +48,49 @@ fn documents_hold_the_encoding(rt: HostRuntime) -> Result<(), Fail> {
     Ok(())
 }
 
-/// From a content of 128 bytes on the length has two bytes.
+/// From a content of 128 bytes on the length has two bytes. The private key, and what stands before it.
+static LONG_FORMS: [(usize, &[u8]); 2] = [
+    (122, &[0x30, 0x7F, 0x02, 0x01, 0x01, 0x04, 0x7A]),
+    (123, &[0x30, 0x81, 0x80, 0x02, 0x01, 0x01, 0x04, 0x7B]),
+];
+
 #[test]
 fn writes_the_long_form(rt: HostRuntime) -> Result<(), Fail> {
-    let zeros = [0; 123];
-    let short = EcPrivateKey {
-        private_key: &zeros[..122],
-        parameters: None,
-        public_key: None,
-    };
-    let written = short.to_der(rt.alloc())?;
-    assert_eq!(rt; written.len(), 129);
-    assert_eq!(rt;
-        &written[..7],
-        [0x30, 0x7F, 0x02, 0x01, 0x01, 0x04, 0x7A].as_slice()
-    );
-    assert_eq!(rt;
-        EcPrivateKey::try_from(written.as_slice())?.private_key,
-        &zeros[..122]
-    );
+    for &(count, front) in LONG_FORMS.iter() {
+        let mut wanted = front.to_vec(rt.alloc())?;
+        wanted.extend_from_slice(&[0; 123][..count])?;
+        let zeros = [0; 123];
+        let key = EcPrivateKey {
+            private_key: &zeros[..count],
+            parameters: None,
+            public_key: None,
+        };
+        assert_eq!(rt; key.encoded_len()?, wanted.len());
+        assert_eq!(rt; key.to_der(rt.alloc())?.as_slice(), wanted.as_slice());
+        let mut room = [0xAA; 140];
+        assert_eq!(rt; key.encode_to_slice(&mut room)?, wanted.len());
+        assert!(rt; room.starts_with(&wanted), "{count}");
+        assert_eq!(rt;
+            room.iter().filter(|byte| **byte == 0xAA).count(),
+            140 - wanted.len()
+        );
+        assert_eq!(rt;
+            EcPrivateKey::try_from(wanted.as_slice())?.private_key,
+            key.private_key
+        );
+    }
+    Ok(())
+}
 
-    let long = EcPrivateKey {
-        private_key: &zeros,
-        parameters: None,
-        public_key: None,
-    };
-    let written = long.to_der(rt.alloc())?;
-    assert_eq!(rt; written.len(), 131);
-    assert_eq!(rt;
-        &written[..8],
-        [0x30, 0x81, 0x80, 0x02, 0x01, 0x01, 0x04, 0x7B].as_slice()
-    );
-    assert_eq!(rt;
-        EcPrivateKey::try_from(written.as_slice())?.private_key,
-        zeros.as_slice()
-    );
+#[test]
+fn writes_the_content(rt: HostRuntime) -> Result<(), Fail> {
+    let key = EcPrivateKey::try_from(P256_KEY.as_slice())?;
+    let mut room = [0xAA; 121];
+    let mut writer = SliceWriter::new(&mut room);
+    key.encode_value(&mut writer)?;
+    assert_eq!(rt; writer.written(), 119);
+    assert_eq!(rt; &room[..119], &P256_KEY[2..]);
+    assert_eq!(rt; &room[119..], [0xAA, 0xAA].as_slice());
     Ok(())
 }
 
@@ -122,19 +130,59 @@ fn lends_the_identifier_of_parameters(rt: HostRuntime) -> Result<(), Fail> {
     Ok(())
 }
 
-/// Whatever byte of a key is changed, what is still read is written just as it came.
+/// Returns at how many of the 255 other values of this byte the key is still one, as another reader tells.
+fn accepted_at(place: usize) -> u32 {
+    match place {
+        0..=5 | 39..=42 | 51..=55 => 0,
+        6 => 2,
+        43 | 44 | 46 | 48 | 49 => 254,
+        50 => 127,
+        _ => 255,
+    }
+}
+
+/// The kinds by which the others are refused, and how many are by each, as that reader tells.
+static REFUSALS: [(ErrorKind, u32); 5] = [
+    (ErrorKind::Truncated, 528),
+    (ErrorKind::Tag, 1_277),
+    (ErrorKind::Length, 881),
+    (ErrorKind::TrailingData, 761),
+    (ErrorKind::Value, 764),
+];
+
+/// Whatever byte of a key is changed, what is still read is written just as it came. `tests/keys/reader.py` counted the
+/// 26,644 of the 30,855 changed keys that are read, and how the others are refused.
 #[test]
 fn writes_what_is_read(rt: HostRuntime) -> Result<(), Fail> {
+    let mut all = 0u32;
+    let mut refused = [0u32; 5];
     for place in 0..121 {
-        for byte in 0..=255 {
+        let mut accepted = 0u32;
+        for other in 1..=255u8 {
             let mut changed = P256_KEY;
-            changed[place] = byte;
-            if let Ok(key) = EcPrivateKey::try_from(changed.as_slice()) {
-                let mut room = [0; 121];
-                assert_eq!(rt; key.encode_to_slice(&mut room)?, 121);
-                assert_eq!(rt; room, changed);
+            changed[place] ^= other;
+            match EcPrivateKey::try_from(changed.as_slice()) {
+                Ok(key) => {
+                    let mut room = [0; 121];
+                    assert_eq!(rt; key.encode_to_slice(&mut room)?, 121);
+                    assert_eq!(rt; room, changed);
+                    accepted = accepted.saturating_add(1);
+                }
+                Err(error) => {
+                    for (count, (kind, _)) in refused.iter_mut().zip(REFUSALS.iter()) {
+                        if error == Error::Asn1(der::Error { kind: *kind }) {
+                            *count = count.saturating_add(1);
+                        }
+                    }
+                }
             }
         }
+        assert_eq!(rt; accepted, accepted_at(place), "at {place}");
+        all = all.saturating_add(accepted);
+    }
+    assert_eq!(rt; all, 26_644);
+    for (count, (kind, wanted)) in refused.iter().zip(REFUSALS.iter()) {
+        assert_eq!(rt; count, wanted, "{kind:?}");
     }
     Ok(())
 }
