@@ -1,2 +1,4 @@
-pub mod Sequences
 pub mod PublicKeys
+pub mod PrivateKeys
+pub mod KeyReading
+pub mod KeyStores

@@ -1,30 +1,190 @@
-//! A public key of a certificate, read and written by examples with known answers.
-use crate::SubjectPublicKeyInfo;
-use sec1_der::{ErrorKind, encode_to_slice, from_der, to_der};
+//! Keys in containers, read and written by examples that were made by openssl; a point, read again.
+use crate::points::{from_own_bytes, from_own_json, from_own_lower_hex, from_own_upper_hex};
+use crate::{
+    KeyStore, PrivateKeyInfo, SubjectPublicKeyInfo, find, find_by_public_key, keep,
+    read_private_key, read_public_key,
+};
+use sec1::der::{Containing, ErrorKind, SecretDocument, encode_to_slice, from_der, to_der};
+use sec1::point::Coordinates::{Compressed, Identity};
+use sec1::point::EncodedPoint32;
+use sec1::{EcPrivateKey, EncodedPoint, Error};
 use std::test::Fail;
 
-/// A public key of two bytes, on the curve P-256.
-static INFO: [u8; 28] = [
-    0x30, 0x1A, 0x30, 0x13, 0x06, 0x07, 0x2A, 0x86, 0x48, 0xCE, 0x3D, 0x02, 0x01, 0x06, 0x08, 0x2A,
-    0x86, 0x48, 0xCE, 0x3D, 0x03, 0x01, 0x07, 0x03, 0x03, 0x00, 0x05, 0x06,
+/// A public key on the curve P-256: `openssl ec -pubout -outform DER`.
+static INFO: [u8; 91] = [
+    0x30, 0x59, 0x30, 0x13, 0x06, 0x07, 0x2A, 0x86, 0x48, 0xCE, 0x3D, 0x02, 0x01, 0x06, 0x08, 0x2A,
+    0x86, 0x48, 0xCE, 0x3D, 0x03, 0x01, 0x07, 0x03, 0x42, 0x00, 0x04, 0x70, 0xBF, 0x84, 0x7F, 0x04,
+    0xEA, 0x56, 0x8F, 0x25, 0x50, 0x92, 0xE0, 0x43, 0xD7, 0x68, 0xAC, 0x5F, 0x54, 0xFF, 0x8C, 0xB8,
+    0x5B, 0x7B, 0x77, 0x02, 0x55, 0x1C, 0x6B, 0x29, 0x83, 0xEA, 0xFA, 0x0B, 0x76, 0x92, 0xD6, 0xAA,
+    0x9E, 0x78, 0xA7, 0xBF, 0xAC, 0xDD, 0xFC, 0xF9, 0x80, 0x71, 0xA8, 0x9E, 0x94, 0x5B, 0xD1, 0x48,
+    0x60, 0xAB, 0x47, 0x76, 0x54, 0xBE, 0x93, 0x0C, 0x0B, 0xAA, 0xC2,
+];
+
+/// The private key of it: `openssl pkcs8 -topk8 -nocrypt -outform DER`.
+static CONTAINER: [u8; 138] = [
+    0x30, 0x81, 0x87, 0x02, 0x01, 0x00, 0x30, 0x13, 0x06, 0x07, 0x2A, 0x86, 0x48, 0xCE, 0x3D, 0x02,
+    0x01, 0x06, 0x08, 0x2A, 0x86, 0x48, 0xCE, 0x3D, 0x03, 0x01, 0x07, 0x04, 0x6D, 0x30, 0x6B, 0x02,
+    0x01, 0x01, 0x04, 0x20, 0x72, 0x51, 0x0F, 0xC1, 0x6A, 0x4A, 0x41, 0x0F, 0x9F, 0x14, 0x6D, 0xE4,
+    0x1F, 0x62, 0xBE, 0x2D, 0x4E, 0x55, 0xB5, 0x8C, 0x6B, 0xF6, 0x62, 0x61, 0xAB, 0x07, 0x47, 0x73,
+    0x58, 0xA7, 0x5A, 0xAD, 0xA1, 0x44, 0x03, 0x42, 0x00, 0x04, 0x70, 0xBF, 0x84, 0x7F, 0x04, 0xEA,
+    0x56, 0x8F, 0x25, 0x50, 0x92, 0xE0, 0x43, 0xD7, 0x68, 0xAC, 0x5F, 0x54, 0xFF, 0x8C, 0xB8, 0x5B,
+    0x7B, 0x77, 0x02, 0x55, 0x1C, 0x6B, 0x29, 0x83, 0xEA, 0xFA, 0x0B, 0x76, 0x92, 0xD6, 0xAA, 0x9E,
+    0x78, 0xA7, 0xBF, 0xAC, 0xDD, 0xFC, 0xF9, 0x80, 0x71, 0xA8, 0x9E, 0x94, 0x5B, 0xD1, 0x48, 0x60,
+    0xAB, 0x47, 0x76, 0x54, 0xBE, 0x93, 0x0C, 0x0B, 0xAA, 0xC2,
+];
+
+/// A public key on the curve P-384: `openssl ecparam -name secp384r1 -genkey`, `openssl ec -pubout -outform DER`.
+static OTHER_CURVE: [u8; 120] = [
+    0x30, 0x76, 0x30, 0x10, 0x06, 0x07, 0x2A, 0x86, 0x48, 0xCE, 0x3D, 0x02, 0x01, 0x06, 0x05, 0x2B,
+    0x81, 0x04, 0x00, 0x22, 0x03, 0x62, 0x00, 0x04, 0xC2, 0x9A, 0xFC, 0xCD, 0x22, 0x24, 0x1D, 0x7D,
+    0x7B, 0x09, 0x35, 0x15, 0xA6, 0x2F, 0x1F, 0x2A, 0xD5, 0x61, 0x6D, 0x01, 0xE1, 0x1F, 0x23, 0xFB,
+    0xA4, 0x3E, 0x2D, 0x5E, 0xD3, 0x59, 0x1E, 0xC9, 0x53, 0x69, 0xC0, 0x25, 0x1C, 0x77, 0x89, 0x33,
+    0x83, 0x54, 0xB8, 0xC6, 0x82, 0xE5, 0xBC, 0xF8, 0x6A, 0x78, 0x93, 0xA1, 0xA1, 0xEE, 0xAB, 0xC2,
+    0x18, 0x5A, 0xE1, 0xAE, 0x70, 0x9E, 0x69, 0x49, 0x74, 0x89, 0x5A, 0x58, 0xC8, 0x42, 0xBE, 0x26,
+    0xAF, 0x8B, 0xAD, 0x79, 0x83, 0x1E, 0xAD, 0x76, 0x81, 0xF6, 0xB9, 0x3A, 0x6A, 0x69, 0xE8, 0xCF,
+    0x03, 0x78, 0x53, 0xD3, 0x2B, 0x09, 0x4A, 0x53,
+];
+
+/// A private key of another algorithm: `openssl genpkey -algorithm ED25519 -outform DER`.
+static OTHER_ALGORITHM: [u8; 48] = [
+    0x30, 0x2E, 0x02, 0x01, 0x00, 0x30, 0x05, 0x06, 0x03, 0x2B, 0x65, 0x70, 0x04, 0x22, 0x04, 0x20,
+    0x0A, 0x95, 0x6B, 0x37, 0xDB, 0x05, 0xC8, 0xFD, 0x9C, 0x4F, 0x2A, 0xBD, 0x87, 0xB2, 0x58, 0xB5,
+    0xC1, 0xA1, 0xE6, 0xE2, 0x92, 0x52, 0xA9, 0x64, 0x01, 0xDC, 0x7F, 0xF3, 0xAC, 0xA8, 0x84, 0x52,
 ];
 
 #[test]
 fn reads_and_writes_a_public_key(rt: HostRuntime) -> Result<(), Fail> {
     let info: SubjectPublicKeyInfo = from_der(&INFO)?;
-    assert_eq!(rt; info.algorithm.algorithm, sec1_der::ID_EC_PUBLIC_KEY);
-    assert_eq!(rt; info.public_key, [0x05, 0x06].as_slice());
+    assert_eq!(rt; info.algorithm.algorithm, sec1::der::ID_EC_PUBLIC_KEY);
+    assert_eq!(rt; info.algorithm.parameters, sec1::der::SECP256R1);
+    assert_eq!(rt; info.public_key, &INFO[26..]);
     assert_eq!(rt; to_der(rt.alloc(), &info)?.as_slice(), INFO.as_slice());
-    let mut room = [0; 28];
-    assert_eq!(rt; encode_to_slice(&info, &mut room)?, 28);
-    assert_eq!(rt; room, INFO);
+    let mut room = [0; 91];
+    assert_eq!(rt; encode_to_slice(&info, &mut room)?, 91);
+    assert_eq!(rt; room.as_slice(), INFO.as_slice());
     Ok(())
 }
 
 #[test]
 fn refuses_a_cut_public_key(rt: HostRuntime) {
-    match from_der::<SubjectPublicKeyInfo>(&INFO[..27]) {
+    match from_der::<SubjectPublicKeyInfo>(&INFO[..90]) {
         Ok(_) => assert!(rt; false),
         Err(e) => assert_eq!(rt; e.kind(), ErrorKind::Truncated),
     }
+}
+
+#[test]
+fn reads_and_writes_a_container(rt: HostRuntime) -> Result<(), Fail> {
+    let info: PrivateKeyInfo = from_der(&CONTAINER)?;
+    assert_eq!(rt; info.algorithm.parameters, sec1::der::SECP256R1);
+    assert_eq!(rt; info.private_key, &CONTAINER[29..]);
+    assert_eq!(rt; to_der(rt.alloc(), &info)?.as_slice(), CONTAINER.as_slice());
+    let key = EcPrivateKey::try_from(info.private_key)?;
+    assert_eq!(rt; key.private_key, &CONTAINER[36..68]);
+    assert!(rt; key.parameters.is_none());
+    assert_eq!(rt; key.public_key, Some(&INFO[26..]));
+    Ok(())
+}
+
+#[test]
+fn reads_a_point_from_a_public_key(rt: HostRuntime) -> Result<(), Fail> {
+    assert_eq!(rt; read_public_key(&INFO)?.as_bytes(), &INFO[26..]);
+    Ok(())
+}
+
+#[test]
+fn refuses_public_keys_without_a_point_on_p_256(rt: HostRuntime) {
+    assert!(rt; matches!(read_public_key(&OTHER_CURVE), Err(Error::Crypto)));
+    let mut bytes = INFO;
+    bytes[26] = 8;
+    assert!(rt; matches!(read_public_key(&bytes), Err(Error::PointEncoding)));
+    bytes[25] = 1;
+    assert!(rt; matches!(read_public_key(&bytes), Err(Error::Asn1(_))));
+}
+
+#[test]
+fn reads_a_key_from_a_container(rt: HostRuntime) -> Result<(), Fail> {
+    let key = read_private_key(&CONTAINER)?;
+    assert_eq!(rt; key.private_key, &CONTAINER[36..68]);
+    assert!(rt; key.parameters.is_none());
+    assert_eq!(rt; key.public_key, Some(&INFO[26..]));
+    Ok(())
+}
+
+#[test]
+fn refuses_containers_without_an_elliptic_key(rt: HostRuntime) {
+    assert!(rt; matches!(read_private_key(&OTHER_ALGORITHM), Err(Error::Asn1(_))));
+    let mut bytes = CONTAINER;
+    bytes[16] = 2;
+    assert!(rt; matches!(read_private_key(&bytes), Err(Error::Crypto)));
+}
+
+/// A container with attributes behind the key (RFC 5208 section 5).
+#[test]
+fn refuses_attributes(rt: HostRuntime) -> Result<(), Fail> {
+    let mut bytes = vec![in rt.alloc(); 0; 140]?;
+    bytes[..138].copy_from_slice(&CONTAINER);
+    bytes[2] = 0x89;
+    bytes[138] = 0xA0;
+    match read_private_key(&bytes) {
+        Ok(_) => assert!(rt; false),
+        Err(e) => assert_eq!(rt; e, Error::Asn1(ErrorKind::TrailingData.into())),
+    }
+    Ok(())
+}
+
+#[test]
+fn reads_and_writes_an_octet_string_that_contains_a_record(rt: HostRuntime) -> Result<(), Fail> {
+    let mut bytes = vec![in rt.alloc(); 0; 93]?;
+    bytes[0] = 0x04;
+    bytes[1] = 0x5B;
+    bytes[2..].copy_from_slice(&INFO);
+    let outside: Containing<SubjectPublicKeyInfo> = from_der(&bytes)?;
+    assert_eq!(rt; outside.value.public_key, &INFO[26..]);
+    assert_eq!(rt; to_der(rt.alloc(), &outside)?.as_slice(), bytes.as_slice());
+    Ok(())
+}
+
+#[test]
+fn finds_a_key_by_its_public_key(rt: HostRuntime) -> Result<(), Fail> {
+    let mut store = KeyStore::new(rt.alloc());
+    let document = SecretDocument::from_der(rt.alloc(), &CONTAINER)?;
+    keep(&mut store, read_public_key(&INFO)?, document)?;
+    match find_by_public_key(&store, &INFO)? {
+        Some(document) => assert_eq!(rt; document.as_bytes(), CONTAINER.as_slice()),
+        None => assert!(rt; false),
+    }
+    assert!(rt; matches!(find_by_public_key(&store, &OTHER_CURVE), Err(Error::Crypto)));
+    Ok(())
+}
+
+/// The compressed point (SEC1 v2.0 section 2.3.3), from its bytes and from the uncompressed one.
+#[test]
+fn finds_a_key_by_another_value_of_its_point(rt: HostRuntime) -> Result<(), Fail> {
+    let mut store = KeyStore::new(rt.alloc());
+    let point = read_public_key(&INFO)?;
+    let document = SecretDocument::from_der(rt.alloc(), &CONTAINER)?;
+    keep(&mut store, point.compress(), document)?;
+    let mut bytes = [2; 33];
+    bytes[1..].copy_from_slice(&INFO[27..59]);
+    match find(&store, &EncodedPoint32::from_bytes(&bytes)?) {
+        Some(document) => assert_eq!(rt; document.as_bytes(), CONTAINER.as_slice()),
+        None => assert!(rt; false),
+    }
+    assert!(rt; find(&store, &point).is_none());
+    Ok(())
+}
+
+#[test]
+fn reads_a_point_again(rt: HostRuntime) -> Result<(), Fail> {
+    let alloc = rt.alloc();
+    let point = EncodedPoint::<1, 3>::from_bytes(&[3, 0xAF])?;
+    let (x, y_is_odd) = (&[0xAF], true);
+    assert!(rt; from_own_bytes(&point)?.coordinates() == Compressed { x, y_is_odd });
+    assert!(rt; from_own_lower_hex(alloc, &point)?.coordinates() == Compressed { x, y_is_odd });
+    assert!(rt; from_own_upper_hex(alloc, &point)?.coordinates() == Compressed { x, y_is_odd });
+    assert!(rt; from_own_json(alloc, &point)?.coordinates() == Compressed { x, y_is_odd });
+    let identity = EncodedPoint::<1, 3>::identity();
+    assert!(rt; from_own_bytes(&identity)?.coordinates() == Identity);
+    Ok(())
 }

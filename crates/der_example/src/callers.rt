@@ -1,0 +1,87 @@
+//! What a program does with keys and with values of DER, each with the contract that it wants of it.
+//!
+//! All of it is proved from the contracts of `sec1` alone, in the words that `sec1` passes on.
+ghost use Rattle.std.specs.Prelude.{◌≡◌, ◌⊎◌, ◌↔◌, ◌≤◌, ◌++◌, ℕ, List, length, Some, IsOk, IfOk, IfErr, IsOkAnd, MatchResult};
+ghost use Rattle.sec1.specs.Der.{max_length, element, element_of, octets_of, tag_of, value_of, header_fault, IsElementOf, IsHeader, IsHeaderFault, LacksHeader, Refuses};
+ghost use Rattle.sec1.specs.Errors.{IsAsn1ReadingFault};
+ghost use Rattle.sec1.specs.Keys.{Key, IsKeyOf};
+
+use sec1::der::{
+    self, AnyRef, EncodeValue, FixedTag, OctetStringRef, SecretDocument, SliceReader, Tag,
+};
+use sec1::{EcPrivateKey, Error, Result};
+use std::alloc::Global;
+
+/// Writes a key at the beginning of a buffer and returns its bytes.
+pub fn key_in<'b>(key: &EcPrivateKey, buffer: &'b mut [u8]) -> Result<&'b [u8]>
+    ensures found { IfOk result (λ bytes. IsKeyOf key.now bytes.now) }
+    ensures only { (bytes : List ℕ) → IsKeyOf key.now bytes → length bytes ≤ length buffer.old
+        → IsOkAnd result (λ written. written.now ≡ bytes) }
+{
+    let n = key.encode_to_slice(buffer)?;
+    Ok(&buffer[..n])
+}
+
+/// Writes a value at the beginning of a buffer and returns its bytes.
+pub fn element_in<'b, T: EncodeValue + FixedTag>(
+    value: &T,
+    buffer: &'b mut [u8],
+) -> der::Result<&'b [u8]>
+    ensures found { IfOk result (λ bytes. element_of T.number (T.content value.now) ≡ Some bytes.now) }
+    ensures only { (bytes : List ℕ) → element_of T.number (T.content value.now) ≡ Some bytes
+        → length bytes ≤ length buffer.old → IsOkAnd result (λ written. written.now ≡ bytes) }
+{
+    let n = der::encode_to_slice(value, buffer)?;
+    Ok(&buffer[..n])
+}
+
+/// Writes an octet string at the beginning of a buffer and returns its bytes.
+pub fn octet_string_in<'b>(octets: &OctetStringRef, buffer: &'b mut [u8]) -> der::Result<&'b [u8]>
+    ensures { IfOk result (λ bytes. IsElementOf 0x04 (octets_of octets.now) bytes.now) }
+{
+    let n = der::encode_to_slice(octets, buffer)?;
+    Ok(&buffer[..n])
+}
+
+/// Reads a key and writes it again: the bytes that were read.
+pub fn key_again(alloc: Global, bytes: &[u8]) -> Result<Vec<u8>>
+    ensures same { IfOk result (λ der. der.items ≡ bytes.now) }
+    ensures kinds { IfErr result (λ e. IsAsn1ReadingFault e ⊎ (e ≡ Error.Memory)) }
+    ensures key { (key : Key) → IsKeyOf key bytes.now
+        → MatchResult result (λ der. der.items ≡ bytes.now) (λ e. e ≡ Error.Memory) }
+{
+    let key = EcPrivateKey::try_from(bytes)?;
+    key.to_der(alloc)
+}
+
+/// Reads a key and makes its document: the bytes that were read.
+pub fn document_again(alloc: Global, bytes: &[u8]) -> Result<SecretDocument>
+    ensures same { IfOk result (λ document. document ≡ bytes.now) }
+    ensures kinds { IfErr result (λ e. IsAsn1ReadingFault e ⊎ (e ≡ Error.Memory)) }
+    ensures key { (key : Key) → IsKeyOf key bytes.now
+        → MatchResult result (λ document. document ≡ bytes.now) (λ e. e ≡ Error.Memory) }
+{
+    let key = EcPrivateKey::try_from(bytes)?;
+    key.document(alloc)
+}
+
+/// Returns the content of the element that the bytes begin with.
+pub fn first_content(bytes: &[u8]) -> der::Result<&[u8]>
+    ensures only { (tag : ℕ) (content rest : List ℕ) → IsHeader tag (length content)
+        → bytes.now ≡ element tag content ++ rest → IsOkAnd result (λ found. found.now ≡ content) }
+    ensures kinds { IfErr result (λ e. IsHeaderFault e.kind) }
+    ensures fault { LacksHeader bytes.now → Refuses result (header_fault bytes.now) }
+{
+    let any = AnyRef::decode(&mut SliceReader::new(bytes))?;
+    Ok(any.value())
+}
+
+/// Returns the element of this tag and content.
+pub fn any_of(tag: Tag, content: &[u8]) -> der::Result<AnyRef<'_>>
+    ensures within { IsOk result ↔ (length content.now ≤ max_length) }
+    ensures tag { IfOk result (λ any. tag_of any ≡ tag) }
+    ensures value { IfOk result (λ any. value_of any ≡ content.now) }
+{
+    let any = AnyRef::new(tag, content)?;
+    Ok(any)
+}

@@ -1,0 +1,89 @@
+//! The examples of the documents: a key read and written, points, and refusals.
+ghost use Rattle.std.specs.Prelude.{◌≡◌, ◌↔◌, Some, None, Ok, List, ℕ, IfOk, IfNone, IsOkAnd, IsTrue};
+ghost use Rattle.std.specs.Box.{boxed_slice_items};
+ghost use Rattle.std.specs.Option.{option_map};
+ghost use Rattle.der_example.specs.PrivateKeys.{PrivateKey, private_key_content};
+ghost use Rattle.sec1.specs.Der.{element_of};
+ghost use Rattle.sec1.specs.HexTexts.{IsHexOf};
+ghost use Rattle.sec1.specs.Keys.{Key, IsKeyOf};
+ghost use Rattle.sec1.specs.Parameters.{curve_of};
+ghost use Rattle.sec1.specs.Points.{IsPoint, Point, compressed_point, enc};
+
+use crate::PrivateKeyInfo;
+use sec1::der::{ErrorKind, ObjectIdentifier, read_der};
+use sec1::point::EncodedPoint32;
+use sec1::{EcParameters, EcPrivateKey, Error, Result};
+use serde_json::Value;
+use std::alloc::Global;
+use std::boxed::BoxedSlice;
+use std::str::FromStr;
+
+/// Returns the curve of a key, where the key names one.
+pub fn curve(bytes: &[u8]) -> Result<Option<EcParameters>>
+    ensures found { IfOk result (λ c. (key : Key) × IsKeyOf key bytes.now × (option_map curve_of c ≡ key.parameters)) }
+    ensures only { (key : Key) → IsKeyOf key bytes.now → IsOkAnd result (λ c. option_map curve_of c ≡ key.parameters) }
+{
+    let key = EcPrivateKey::try_from(bytes)?;
+    Ok(key.parameters)
+}
+
+/// Returns the DER encoding of a key on a named curve, without its public key.
+pub fn key_on(alloc: Global, curve: ObjectIdentifier, private_key: &[u8]) -> Result<Vec<u8>>
+    ensures { IfOk result (λ der. IsKeyOf (record {
+      private_key = private_key.now;
+      parameters = Some curve;
+      public_key = None;
+    }) der.items) }
+{
+    let key = EcPrivateKey {
+        private_key,
+        parameters: Some(EcParameters::NamedCurve(curve)),
+        public_key: None,
+    };
+    key.to_der(alloc)
+}
+
+/// Returns whether a point, compressed, is the one of a text in hexadecimal; and the compressed point as JSON.
+pub fn compressed(alloc: Global, bytes: &[u8], text: &str) -> Result<(bool, Value)>
+    ensures { (p q : Point) → IsPoint 32 p → IsPoint 32 q → bytes.now ≡ enc 32 p
+        → IsHexOf text.now (enc 32 q) → IfOk result (λ x. IsTrue x.0 ↔ (compressed_point p ≡ q)) }
+{
+    let point = EncodedPoint32::from_bytes(bytes)?.compress();
+    let other = EncodedPoint32::from_str(text)?;
+    Ok((point == other, point.to_json(alloc)?))
+}
+
+/// Returns why the bytes aren't a key's, or None where they are.
+pub fn refusal(bytes: &[u8]) -> Option<ErrorKind>
+    ensures found { IfNone result ((key : Key) × IsKeyOf key bytes.now) }
+    ensures only { (key : Key) → IsKeyOf key bytes.now → result ≡ None }
+{
+    match EcPrivateKey::try_from(bytes) {
+        Ok(_) => None,
+        Err(Error::Asn1(e)) => Some(e.kind),
+        Err(_) => unreachable!(),
+    }
+}
+
+/// Returns the public key of a key on a field of 256 bits, in its compressed form.
+pub fn compressed_public_key(alloc: Global, bytes: &[u8]) -> Result<BoxedSlice<u8>>
+    ensures { (key : Key) (p : Point) → IsKeyOf key bytes.now → IsPoint 32 p
+        → key.public_key ≡ Some (enc 32 p)
+        → IfOk result (λ point. boxed_slice_items point ≡ enc 32 (compressed_point p)) }
+{
+    let key = EcPrivateKey::try_from(bytes)?;
+    let Some(public_key) = key.public_key else {
+        return Err(Error::Crypto);
+    };
+    let point = EncodedPoint32::from_bytes(public_key)?;
+    point.compress().to_bytes(alloc)
+}
+
+/// Returns the key in a private key container of PKCS #8 (RFC 5208 section 5).
+pub fn contained_key(bytes: &[u8]) -> Result<EcPrivateKey<'_>>
+    ensures { (info : PrivateKey) (key : Key) → element_of 0x30 (private_key_content info) ≡ Some bytes.now
+        → IsKeyOf key info.bytes → result ≡ Ok key }
+{
+    let container: PrivateKeyInfo = read_der(bytes)?;
+    EcPrivateKey::try_from(container.private_key)
+}

@@ -1,0 +1,56 @@
+//! A type of DER of one's own that holds no elements: NULL.
+ghost use Rattle.std.specs.Prelude.{◌≡◌};
+
+use sec1::der::{
+    BackWriter, DecodeValue, EncodeValue, ErrorKind, FixedTag, Length, Result, SliceReader,
+    SliceWriter, Tag, ValueContent,
+};
+
+/// A NULL (X.690 section 8.8). Its content is empty, and any other content is refused as Value.
+#[derive(Clone, Copy, PartialEq, Eq, Debug)]
+pub struct Null;
+
+impl FixedTag for Null {
+    const TAG: Tag = Tag::NULL;
+
+    ghost number = { 0x05 };
+
+    fn fixed_tag() -> Tag
+        ensures { result ≡ 0x05 }
+    {
+        Self::TAG
+    }
+}
+
+impl ValueContent for Null {
+    ghost use Rattle.std.specs.Prelude.{◌≡◌, [], Some};
+
+    ghost content = { λ _. Some [] };
+
+    ghost is_content = { λ bytes. Some [] ≡ Some bytes };
+
+    ghost content_is_one = { λ _ _ same _. same };
+}
+
+impl<'a> DecodeValue<'a> for Null {
+    fn decode_value(reader: &mut SliceReader<'a>) -> Result<Self> {
+        if !reader.read_rest()?.is_empty() {
+            return Err(reader.fail(ErrorKind::Value));
+        }
+        Ok(Null)
+    }
+}
+
+impl EncodeValue for Null {
+    fn value_len(&self) -> Result<Length> {
+        Length::new(0)
+    }
+
+    fn encode_value(&self, _writer: &mut SliceWriter) -> Result<()> {
+        Ok(())
+    }
+
+    fn encode_back(&self, _writer: &mut BackWriter) -> Result<()> {
+        Ok(())
+    }
+}

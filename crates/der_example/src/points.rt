@@ -1,0 +1,86 @@
+//! Points of `sec1`, read again from what was written of them: bytes, texts and JSON.
+
+ghost use Rattle.std.specs.Prelude.{◌≡◌, ◌↔◌, ◌<◌, ◌^◌, IsTrue, IfOk, IfErr, IsOkAnd};
+ghost use Rattle.sec1.specs.EncodedPoints.{point_of};
+ghost use Rattle.sec1.specs.Points.{Fits, IsEncoding};
+ghost use Rattle.sec1.specs.declared.error.Error.TheVariants.{Memory};
+
+use sec1::laws::one_point;
+use sec1::{EncodedPoint, Result};
+use std::alloc::Global;
+use std::str::FromStr;
+
+/// Reads a point again from its encoding.
+///
+/// # Errors
+///
+/// None: the encoding of a point is one.
+pub fn from_own_bytes<const N: usize, const L: usize>(
+    point: &EncodedPoint<N, L>,
+) -> Result<EncodedPoint<N, L>>
+    ensures { IsOkAnd result (λ again. point_of again ≡ point_of point.now) }
+{
+    one_point(point);
+    EncodedPoint::from_bytes(point.as_bytes())
+}
+
+/// Reads a point again from its text in lower case.
+///
+/// # Errors
+///
+/// `Memory` where the text isn't given its memory.
+pub fn from_own_lower_hex<const N: usize, const L: usize>(
+    alloc: Global,
+    point: &EncodedPoint<N, L>,
+) -> Result<EncodedPoint<N, L>>
+    ensures ok { IfOk result (λ again. point_of again ≡ point_of point.now) }
+    ensures kind { IfErr result (λ e. e ≡ Memory) }
+{
+    one_point(point);
+    let text = point.to_lower_hex(alloc)?;
+    EncodedPoint::from_str(text.as_str())
+}
+
+/// Reads a point again from its text in upper case.
+///
+/// # Errors
+///
+/// `Memory` where the text isn't given its memory.
+pub fn from_own_upper_hex<const N: usize, const L: usize>(
+    alloc: Global,
+    point: &EncodedPoint<N, L>,
+) -> Result<EncodedPoint<N, L>>
+    ensures ok { IfOk result (λ again. point_of again ≡ point_of point.now) }
+    ensures kind { IfErr result (λ e. e ≡ Memory) }
+{
+    one_point(point);
+    let text = point.to_upper_hex(alloc)?;
+    EncodedPoint::from_str(text.as_str())
+}
+
+/// Reads a point again from its JSON.
+///
+/// # Errors
+///
+/// `Memory` where the text isn't given its memory.
+pub fn from_own_json<const N: usize, const L: usize>(
+    alloc: Global,
+    point: &EncodedPoint<N, L>,
+) -> Result<EncodedPoint<N, L>>
+    ensures ok { IfOk result (λ again. point_of again ≡ point_of point.now) }
+    ensures kind { IfErr result (λ e. e ≡ Memory) }
+{
+    one_point(point);
+    let json = point.to_json(alloc)?;
+    EncodedPoint::from_json(&json)
+}
+
+/// Returns whether the bytes are the encoding of a point at field elements of N bytes.
+///
+/// No value of the type stands in this signature, so that L must be bounded for the call.
+pub fn is_encoding<const N: usize, const L: usize>(bytes: &[u8]) -> bool
+    requires { L < 2 ^ 62 }
+    ensures { IsTrue result ↔ Fits N L × IsEncoding N bytes.now }
+{
+    EncodedPoint::<N, L>::from_bytes(bytes).is_ok()
+}
