@@ -1,8 +1,20 @@
--- What a run reads and writes.
-use Rattle.std.specs.Prelude.{◌≡◌, ℕ, ◌+◌, ◌≤◌, ◌⊎◌, List, Option, IfSome, length}
+-- What a run reads and writes, and what the program makes of it.
+use Rattle.std.specs.Prelude.{◌≡◌, ℕ, ◌+◌, ◌≤◌, ◌⊎◌, List, ◌++◌, Option, IfSome, length, codes}
 use Rattle.std.specs.Io.KnownBytes.{Appends, Consumes, IsAtEnd}
 use Rattle.sec1.specs.Der.{AppendsBeginning}
-use Rattle.sec1_inspect.specs.Report.{limit}
+use Rattle.sec1_inspect.specs.declared.Failure.{Failure}
+use Rattle.sec1_inspect.specs.declared.Failure.TheVariants.{Run, Paths}
+use Rattle.sec1_inspect.specs.declared.Fault.TheVariants.{Input, Output, Memory}
+use Rattle.sec1_inspect.specs.declared.Form.{Form}
+use Rattle.sec1_inspect.specs.declared.Form.TheVariants.{Text, Der}
+use Rattle.sec1_inspect.specs.Report.{IsDerReport, IsReport, limit}
+
+-- n bytes were read, and stand after the bytes before
+pub record ReadsOnto (old new : Option (List ℕ)) (before after : List ℕ) (n : ℕ) : Type 0 where
+  pub bytes : List ℕ
+  pub consumed : Consumes old new bytes
+  pub appended : after ≡ before ++ bytes
+  pub count : length bytes ≡ n
 
 -- these bytes were read: all that was left, or one byte more than an input may have
 pub record Takes (old new : Option (List ℕ)) (taken : List ℕ) : Type 0 where
@@ -26,3 +38,20 @@ pub record WritesBeginning (IsReport : List ℕ → List ℕ → ℕ → Type 0)
   pub status : ℕ
   pub appended : AppendsBeginning old new text
   pub report : IfSome input (λ bytes. IsReport bytes text status)
+
+-- the report on an input in this form
+abbrev pub report_in : Form → List ℕ → List ℕ → ℕ → Type 0
+report_in Text = IsReport
+report_in Der = IsDerReport
+
+-- a report on the input has this status
+pub record HasStatus (IsReport : List ℕ → List ℕ → ℕ → Type 0) (input : Option (List ℕ)) (status : ℕ) : Type 0 where
+  pub text : List ℕ
+  pub report : IfSome input (λ bytes. IsReport bytes text status)
+
+-- the line that tells why there is no report
+abbrev pub line_of : Failure → List ℕ
+line_of (Run Input) = codes "sec1_inspect: input failed"
+line_of (Run Output) = codes "sec1_inspect: output failed"
+line_of (Run Memory) = codes "sec1_inspect: out of memory"
+line_of Paths = codes "sec1_inspect: at most one path"

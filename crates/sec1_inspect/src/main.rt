@@ -2,20 +2,21 @@
 //! the one argument names.
 #![tactic(auto)]
 
-ghost use Rattle.std.specs.Prelude.{◌≡◌, ◌≢◌, ℕ, List, false, ◌↔◌, ◌⊎◌, IsTrue, IfOk, IfErr, OnOk, OnErr, IsErrOf, string_bytes};
-ghost use Rattle.std.specs.Io.KnownBytes.{Appends};
+ghost use Rattle.std.specs.Prelude.{◌≡◌, ◌≢◌, ◌<◌, ◌≤◌, ℕ, List, false, ◌↔◌, ◌⊎◌, IsTrue, IfOk, IfErr, OnOk, OnErr, IsErrOf, MatchOption, MatchResult, Ok, Err, string_bytes};
+ghost use Rattle.std.specs.Io.KnownBytes.{Appends, IsAtEnd};
 ghost use Rattle.sec1.specs.Der.{AppendsBeginning};
-ghost use Rattle.sec1_inspect.specs.declared.Failure.TheVariants.{Run};
+ghost use Rattle.sec1_inspect.specs.declared.Failure.TheVariants.{Run, Paths};
 ghost use Rattle.sec1_inspect.specs.declared.Fault.TheVariants.{Input, Output, Memory};
+ghost use Rattle.sec1_inspect.specs.declared.Source.TheVariants.{StandardInput, File};
 ghost use Rattle.sec1_inspect.specs.Report.{IsDerReport, IsReport};
-ghost use Rattle.sec1_inspect.specs.Run.{ReadsInput, Takes, WritesBeginning, WritesReport};
+ghost use Rattle.sec1_inspect.specs.Run.{HasStatus, ReadsInput, ReadsOnto, Takes, WritesBeginning, WritesReport, line_of, report_in};
 
 mod report;
 #[cfg(test)]
 mod tests;
 
 use crate::report::{LIMIT, Report, report_on_der, report_on_text};
-use sec1::der::{ErrorKind, Read, StdReader, StdWriter, Write, read_some, write_all};
+use sec1::der::{Read, StdReader, StdWriter, Write};
 use std::alloc::{AllocError, Global};
 use std::io::Write as _;
 use std::process::ExitCode;
@@ -104,7 +105,10 @@ pub fn run_der<R: Read, W: Write>(
     write_report(writer, &report)
 }
 
-/// All that the reader has left, up to one byte more than an input may have.
+/// Returns all that the reader has left, up to one byte more than an input may have.
+///
+/// # Errors
+/// Input exactly where a read failed, Memory where a growth was refused.
 fn read_input<R: Read>(alloc: Global, reader: &mut R) -> Result<Vec<u8>, Fault>
     requires { R.failed reader.old ≡ false }
     ensures input { IsErrOf result Fault.Input ↔ IsTrue (R.failed reader.new) }
@@ -114,17 +118,46 @@ fn read_input<R: Read>(alloc: Global, reader: &mut R) -> Result<Vec<u8>, Fault>
     let mut input = Vec::new(alloc);
     while input.len() <= LIMIT {
         let missing = LIMIT + 1 - input.len();
-        match read_some(reader, &mut input, missing) {
-            Ok(0) => break,
-            Ok(_) => {}
-            Err(error) if error.kind == ErrorKind::Io => return Err(Fault::Input),
-            Err(_) => return Err(Fault::Memory),
+        if read_some(reader, &mut input, missing)? == 0 {
+            break;
         }
     }
     Ok(input)
 }
 
-/// Writes the report, and answers its status.
+/// The most bytes that are asked for in one read.
+const STEP: usize = 4096;
+
+/// Asks once for bytes that are missing, at most 4,096, reads them onto the end of the input and returns how many:
+/// none only at the end of what is read. The input grows only by what is asked for.
+///
+/// # Errors
+/// Input exactly where the read failed, Memory where the growth was refused. The input is then as it was.
+fn read_some<R: Read>(reader: &mut R, input: &mut Vec<u8>, missing: usize) -> Result<usize, Fault>
+    requires unfailed { R.failed reader.old ≡ false }
+    requires some { 0 < missing }
+    ensures input { IsErrOf result Fault.Input ↔ IsTrue (R.failed reader.new) }
+    ensures kind { IfErr result (λ fault. (fault ≡ Input) ⊎ (fault ≡ Memory)) }
+    ensures bound { IfOk result (λ n. n ≤ missing) }
+    ensures bytes { IfOk result
+        (ReadsOnto (R.left reader.old) (R.left reader.new) input.old.items input.new.items) }
+    ensures end { IfOk result (λ n. n ≡ 0 → IsAtEnd (R.left reader.new)) }
+    ensures unchanged { OnErr result (input.new.items ≡ input.old.items) }
+{
+    let mut chunk = [0u8; STEP];
+    let step = missing.min(STEP);
+    input.reserve_exact(step)?;
+    let Ok(count) = reader.read(&mut chunk[..step]) else {
+        return Err(Fault::Input);
+    };
+    input.extend_from_slice(&chunk[..count])?;
+    Ok(count)
+}
+
+/// Writes the report, and returns its status.
+///
+/// # Errors
+/// Output exactly where a write failed; a beginning of the report was written then.
 fn write_report<W: Write>(writer: &mut W, report: &Report) -> Result<u8, Fault>
     requires { W.failed writer.old ≡ false }
     ensures output { IsErrOf result Fault.Output ↔ IsTrue (W.failed writer.new) }
@@ -135,28 +168,52 @@ fn write_report<W: Write>(writer: &mut W, report: &Report) -> Result<u8, Fault>
     ensures beginning { OnErr result
         (AppendsBeginning (W.written writer.old) (W.written writer.new) (string_bytes report.now.text)) }
 {
-    match write_all(writer, report.text.as_bytes()) {
+    match writer.write_all(report.text.as_bytes()) {
         Ok(()) => Ok(report.status),
         Err(_) => Err(Fault::Output),
     }
 }
 
-/// Why the program ends with status 2.
+/// The form in which an input stands.
+#[derive(Clone, Copy)]
+enum Form {
+    /// Hexadecimal text.
+    Text,
+    /// Raw bytes.
+    Der,
+}
+
+/// Reports on the reader's input to the writer, flushes what was written, and returns the report's status.
+///
+/// # Errors
+/// Input where a read failed, Output where a write or the flush did, Memory where a growth was refused.
+fn inspect<R: io::Read + Drop, W: io::Write + Drop>(
+    alloc: Global,
+    form: Form,
+    reader: R,
+    writer: W,
+) -> Result<u8, Fault>
+    ensures { IfOk result (HasStatus (report_in form) (R.remaining reader)) }
+{
+    let mut reader = StdReader::new(reader);
+    let mut writer = StdWriter::new(writer);
+    let status = match form {
+        Form::Text => run(alloc, &mut reader, &mut writer)?,
+        Form::Der => run_der(alloc, &mut reader, &mut writer)?,
+    };
+    match writer.into_inner().flush() {
+        Ok(()) => Ok(status),
+        Err(_) => Err(Fault::Output),
+    }
+}
+
+/// Why the program has no report.
 #[derive(Drop)]
 enum Failure {
-    /// The run has no report.
+    /// The run has none.
     Run(Fault),
     /// Two or more paths were given.
     Paths,
-}
-
-impl fmt::Display for Failure {
-    fn fmt<W: fmt::Write>(&self, f: &mut fmt::Formatter<W>) -> fmt::Result {
-        match self {
-            Failure::Run(fault) => write!(f, "{fault}"),
-            Failure::Paths => f.write_str("at most one path"),
-        }
-    }
 }
 
 impl From<Fault> for Failure {
@@ -167,39 +224,72 @@ impl From<Fault> for Failure {
     }
 }
 
-/// The path that the arguments name, where there is one.
-fn path_argument<H: AllocGlobal + Env>(rt: &H) -> Result<Option<String>, Failure> {
-    let mut arguments = env::args(rt).map_err(|_| Fault::Input)?;
-    let _program = arguments.next();
-    let path = arguments.next();
-    match arguments.next() {
-        Some(_) => Err(Failure::Paths),
-        None => Ok(path),
+/// What the program reports on.
+#[derive(Drop)]
+enum Source {
+    /// Hexadecimal text on standard input.
+    StandardInput,
+    /// DER in the file at this path.
+    File(String),
+}
+
+/// Returns the source that the arguments name: the first after the program's own name, and the one after that.
+///
+/// # Errors
+/// Paths where there are two.
+fn chosen_source(path: Option<String>, other: Option<String>) -> Result<Source, Failure>
+    ensures { MatchOption path (result ≡ Ok StandardInput)
+        (λ path. MatchOption other (result ≡ Ok (File path)) (λ _. result ≡ Err Paths)) }
+{
+    match (path, other) {
+        (None, _) => Ok(Source::StandardInput),
+        (Some(path), None) => Ok(Source::File(path)),
+        (Some(_), Some(_)) => Err(Failure::Paths),
     }
 }
 
-/// Reports to standard output on the file that the arguments name, else on standard input, and
-/// flushes what was written.
-fn inspect<H: AllocGlobal + Env + Files + Input + Print>(rt: &H) -> Result<u8, Failure> {
-    let path = path_argument(rt)?;
-    let mut writer = StdWriter::new(io::writer(rt));
-    let status = match path {
-        None => run(rt.alloc(), &mut StdReader::new(rt.reader()), &mut writer)?,
-        Some(path) => {
+/// Returns the status that the program ends with: the report's, else 2.
+fn status(outcome: &Result<u8, Failure>) -> u8
+    ensures { MatchResult outcome.now (λ status. result ≡ status) (λ _. result ≡ 2) }
+{
+    match outcome {
+        Ok(status) => *status,
+        Err(_) => 2,
+    }
+}
+
+/// Returns the line, without its end, that tells on standard error why there is no report.
+fn line(failure: &Failure) -> &'static str
+    ensures { result.now ≡ line_of failure.now }
+{
+    match failure {
+        Failure::Run(Fault::Input) => "sec1_inspect: input failed",
+        Failure::Run(Fault::Output) => "sec1_inspect: output failed",
+        Failure::Run(Fault::Memory) => "sec1_inspect: out of memory",
+        Failure::Paths => "sec1_inspect: at most one path",
+    }
+}
+
+/// Reports on the source that the program's arguments name to standard output, and returns the status.
+fn inspect_source<H: AllocGlobal + Env + Files + Input + Print>(rt: &H) -> Result<u8, Failure> {
+    let Ok(mut arguments) = env::args(rt) else {
+        return Err(Failure::Run(Fault::Input));
+    };
+    let _program = arguments.next();
+    let status = match chosen_source(arguments.next(), arguments.next())? {
+        Source::StandardInput => inspect(rt.alloc(), Form::Text, rt.reader(), io::writer(rt))?,
+        Source::File(path) => {
             let file = fs::open(rt, path.as_str()).map_err(|_| Fault::Input)?;
-            run_der(rt.alloc(), &mut StdReader::new(file), &mut writer)?
+            inspect(rt.alloc(), Form::Der, file, io::writer(rt))?
         }
     };
-    writer.into_inner().flush().map_err(|_| Fault::Output)?;
     Ok(status)
 }
 
 fn main(rt: HostRuntime) -> ExitCode {
-    match inspect(&rt) {
-        Ok(status) => ExitCode::from(status),
-        Err(failure) => {
-            let _ = eprintln!(&rt; "sec1_inspect: {failure}");
-            ExitCode::from(2)
-        }
+    let outcome = inspect_source(&rt);
+    if let Err(failure) = &outcome {
+        let _ = eprintln!(&rt; "{}", line(failure));
     }
+    ExitCode::from(status(&outcome))
 }

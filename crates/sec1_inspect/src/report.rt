@@ -1,10 +1,11 @@
 //! The report on an input: its lines, and the status that the program ends with.
-ghost use Rattle.std.specs.Prelude.{◌≡◌, IfOk, string_bytes};
-ghost use Rattle.sec1_inspect.specs.Report.{IsDerReport, IsKeyReport, IsNoKeyReport, IsPublicPointText, IsRefusal, IsReport, IsReportOnBytes, IsTreeText, parameters_words, public_key_words, stripped, tag_words};
+ghost use Rattle.std.specs.Prelude.{◌≡◌, ◌<◌, ◌^◌, IfOk, MatchOption, string_bytes};
+ghost use Rattle.sec1_inspect.specs.Report.{IsDerReport, IsKeyReport, IsNoKeyReport, IsPointText, IsPublicPointText, IsRefusal, IsReport, IsReportOnBytes, IsTreeText, parameters_words, public_key_words, stripped, tag_words};
+ghost use Rattle.sec1.specs.Points.{Fits, IsEncoding};
 
 use hex::{FromHexError, ToHex};
-use sec1::point::{EncodedPoint28, EncodedPoint32, EncodedPoint48, EncodedPoint66, Tag};
-use sec1::{EcParameters, EcPrivateKey, der};
+use sec1::point::Tag;
+use sec1::{EcParameters, EcPrivateKey, EncodedPoint, der};
 use std::alloc::{AllocError, Global};
 
 /// The most bytes that an input may have.
@@ -134,19 +135,35 @@ fn point_text(alloc: Global, key: &EcPrivateKey) -> Result<String, AllocError>
     let Some(bytes) = key.public_key else {
         return "none".to_string(alloc);
     };
-    if let Ok(point) = EncodedPoint28::from_bytes(bytes) {
-        return tag_text(alloc, point.tag(), 28);
+    if let Some(text) = point_words::<28, 57>(alloc, bytes)? {
+        return Ok(text);
     }
-    if let Ok(point) = EncodedPoint32::from_bytes(bytes) {
-        return tag_text(alloc, point.tag(), 32);
+    if let Some(text) = point_words::<32, 65>(alloc, bytes)? {
+        return Ok(text);
     }
-    if let Ok(point) = EncodedPoint48::from_bytes(bytes) {
-        return tag_text(alloc, point.tag(), 48);
+    if let Some(text) = point_words::<48, 97>(alloc, bytes)? {
+        return Ok(text);
     }
-    if let Ok(point) = EncodedPoint66::from_bytes(bytes) {
-        return tag_text(alloc, point.tag(), 66);
+    if let Some(text) = point_words::<66, 133>(alloc, bytes)? {
+        return Ok(text);
     }
     "none".to_string(alloc)
+}
+
+/// Returns the words for the point that the bytes encode at field elements of N bytes, if they encode one.
+fn point_words<const N: usize, const L: usize>(
+    alloc: Global,
+    bytes: &[u8],
+) -> Result<Option<String>, AllocError>
+    requires fits { Fits N L }
+    requires size { L < 2 ^ 62 }
+    ensures { IfOk result (λ words. MatchOption words (IsEncoding N bytes.now → ⊥) (λ text.
+        IsPointText N bytes.now (string_bytes text))) }
+{
+    match EncodedPoint::<N, L>::from_bytes(bytes) {
+        Ok(point) => Ok(Some(tag_text(alloc, point.tag(), N)?)),
+        Err(_) => Ok(None),
+    }
 }
 
 /// The words for a point with this tag, at this size.

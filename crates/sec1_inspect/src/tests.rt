@@ -1,4 +1,7 @@
 //! Runs whose answers are known, and runs over readers and writers that fail.
+mod large;
+mod memory;
+
 use crate::report::LIMIT;
 use crate::{Fault, run, run_der};
 use sec1::der::{StdReader, StdWriter};
@@ -234,28 +237,37 @@ fn each_read_fails_in_turn(rt: HostRuntime) {
             assert!(rt; writer.into_inner().is_empty());
         }
     }
+    let _ = println!(&rt; "run, run_der: each of their 15 reads fails");
 }
 
 #[test]
-fn each_write_fails_in_turn(rt: HostRuntime) {
+fn each_write_fails_in_turn(rt: HostRuntime) -> Result<(), Fail> {
+    let der = hex::decode(rt.alloc(), EMPTY_KEY)?;
     for room in 0..EMPTY_KEY_REPORT.len() {
         for (step, fails) in [(1, true), (1, false), (3, true), (100, true)] {
-            let taken = Vec::new(rt.alloc());
-            let mut reader = StdReader::new(EMPTY_KEY);
-            let mut writer = StdWriter::new(Narrow {
-                taken,
-                step,
-                room,
-                fails,
-            });
-            let result = run(rt.alloc(), &mut reader, &mut writer);
-            assert_eq!(rt; result, Err(Fault::Output), "after {room}");
-            assert_eq!(rt;
-                Some(writer.into_inner().taken.as_slice()),
-                EMPTY_KEY_REPORT.get(..room)
-            );
+            for is_der in [false, true] {
+                let taken = Vec::new(rt.alloc());
+                let mut writer = StdWriter::new(Narrow {
+                    taken,
+                    step,
+                    room,
+                    fails,
+                });
+                let result = if is_der {
+                    run_der(rt.alloc(), &mut StdReader::new(der.as_slice()), &mut writer)
+                } else {
+                    run(rt.alloc(), &mut StdReader::new(EMPTY_KEY), &mut writer)
+                };
+                assert_eq!(rt; result, Err(Fault::Output), "after {room}");
+                assert_eq!(rt;
+                    Some(writer.into_inner().taken.as_slice()),
+                    EMPTY_KEY_REPORT.get(..room)
+                );
+            }
         }
     }
+    let _ = println!(&rt; "run, run_der: each of their 67 writes fails");
+    Ok(())
 }
 
 #[test]
@@ -266,65 +278,6 @@ fn names_faults(rt: HostRuntime) -> Result<(), Fail> {
         (Fault::Memory, "out of memory"),
     ] {
         assert_eq!(rt; format!(in rt.alloc(); "{fault}")?.as_str(), words);
-    }
-    Ok(())
-}
-
-/// Takes all memory that there is, in blocks from large to small, so that the next request is refused.
-fn hoard(alloc: Global, blocks: &mut Vec<Vec<u8>>) -> Result<(), Fail> {
-    for shift in 4u32..47 {
-        let size = 1usize << (50 - shift);
-        for _ in 0..1u32 << 15 {
-            if blocks.len() == blocks.capacity() {
-                break;
-            }
-            match Vec::with_capacity(alloc, size) {
-                Ok(block) => blocks.push(block)?,
-                Err(_) => break,
-            }
-        }
-    }
-    Ok(())
-}
-
-/// What a run over the key answers where memory may be short, and what it writes.
-fn outcome_in_room(alloc: Global, der: &[u8], is_der: bool) -> (Result<u8, Fault>, [u8; 220]) {
-    let mut room = [0u8; 220];
-    let mut writer = StdWriter::new(room.as_mut_slice());
-    let result = if is_der {
-        run_der(alloc, &mut StdReader::new(der), &mut writer)
-    } else {
-        run(alloc, &mut StdReader::new(KEY.as_bytes()), &mut writer)
-    };
-    (result, room)
-}
-
-/// Each run has one block of memory and no more, 16 bytes larger each time, so that each of its requests is once the
-/// first that is refused.
-#[test]
-fn tells_want_of_memory(rt: HostRuntime) -> Result<(), Fail> {
-    let alloc = rt.alloc();
-    let der = hex::decode(alloc, KEY)?;
-    let mut hoarded = Vec::with_capacity(alloc, 1 << 18)?;
-    for is_der in [false, true] {
-        let mut blocks: Vec<Vec<u8>> = Vec::with_capacity(alloc, 256)?;
-        for step in 0..256 {
-            blocks.push(Vec::with_capacity(alloc, 4096 + 16 * step)?)?;
-        }
-        hoard(alloc, &mut hoarded)?;
-        let mut last = outcome_in_room(alloc, &der, is_der);
-        for block in blocks {
-            assert_eq!(rt; last, (Err(Fault::Memory), [0u8; 220]));
-            drop(block);
-            last = outcome_in_room(alloc, &der, is_der);
-            if last.0 == Ok(0) {
-                break;
-            }
-            hoard(alloc, &mut hoarded)?;
-        }
-        assert_eq!(rt; last.0, Ok(0));
-        assert_eq!(rt; last.1.as_slice(), KEY_REPORT.as_bytes());
-        hoarded.clear();
     }
     Ok(())
 }

@@ -1,0 +1,75 @@
+//! Reads EC private keys in hexadecimal, one a line, and prints of each its parts and whether it is written again as
+//! it was read, or why it is refused. Lines that begin with `#` are passed over.
+#![tactic(auto)]
+
+use hex::ToHex;
+use sec1::{EcParameters, EcPrivateKey};
+use std::alloc::{AllocError, Global};
+use std::io;
+use std::io::{BufRead, BufReader};
+
+/// Returns the hexadecimal digits of the bytes, or `-` where there are none.
+fn digits(alloc: Global, bytes: &[u8]) -> Result<String, AllocError> {
+    if bytes.is_empty() {
+        return "-".to_string(alloc);
+    }
+    bytes.encode_hex_upper(alloc)
+}
+
+/// Returns the parts of the key: the private key, the curve and the public key, `none` for what is missing.
+fn parts(alloc: Global, key: &EcPrivateKey) -> Result<String, AllocError> {
+    let private_key = digits(alloc, key.private_key)?;
+    let curve = match key.parameters {
+        Some(EcParameters::NamedCurve(curve)) => format!(in alloc; "{curve}")?,
+        None => "none".to_string(alloc)?,
+    };
+    let public_key = match key.public_key {
+        Some(bytes) => digits(alloc, bytes)?,
+        None => "none".to_string(alloc)?,
+    };
+    format!(in alloc; "{private_key} {curve} {public_key}")
+}
+
+/// Returns whether the key is written as these bytes, both into a slice and into a vector.
+fn is_written_as(alloc: Global, key: &EcPrivateKey, bytes: &[u8]) -> bool {
+    let Ok(mut room) = bytes.to_vec(alloc) else {
+        return false;
+    };
+    room.fill(0xAA);
+    let Ok(count) = key.encode_to_slice(&mut room) else {
+        return false;
+    };
+    let Ok(der) = key.to_der(alloc) else {
+        return false;
+    };
+    count == bytes.len() && room.as_slice() == bytes && der.as_slice() == bytes
+}
+
+/// Returns what is told of the key that a line spells.
+fn answer(alloc: Global, line: &str) -> Result<String, AllocError> {
+    let Ok(bytes) = hex::decode(alloc, line) else {
+        return "not hexadecimal".to_string(alloc);
+    };
+    match EcPrivateKey::try_from(bytes.as_slice()) {
+        Ok(key) => {
+            let parts = parts(alloc, &key)?;
+            let written = if is_written_as(alloc, &key, &bytes) {
+                "same"
+            } else {
+                "other"
+            };
+            format!(in alloc; "{parts} {written}")
+        }
+        Err(error) => format!(in alloc; "{error}"),
+    }
+}
+
+fn main(rt: HostRuntime) -> io::Result<()> {
+    for line in BufReader::new(rt.alloc(), rt.reader())?.lines(rt.alloc()) {
+        let line = line?;
+        if !line.starts_with('#') {
+            println!(&rt; "{}", answer(rt.alloc(), &line)?)?;
+        }
+    }
+    Ok(())
+}
