@@ -1,0 +1,14 @@
+#!/usr/bin/env bash
+# Proves and builds the library, and installs it: build.sh [FOLDER], by default out/install.
+#   FOLDER/include/sec1.h, FOLDER/lib/libsec1.a, FOLDER/lib/libsec1.so
+# RT names the command `rt`, CC the C compiler.
+set -euo pipefail
+folder=$(realpath -m "${1:-$(dirname "$0")/out/install}")
+cd "$(dirname "$0")"
+${RT:-rt} lib
+mkdir -p "$folder/include" "$folder/lib"
+cp sec1.h "$folder/include/sec1.h"
+cp out/libsec1_c.a "$folder/lib/libsec1.a"
+${CC:-cc} -shared -nostdlib -o "$folder/lib/libsec1.so" -Wl,-soname,libsec1.so -Wl,--whole-archive "$folder/lib/libsec1.a" \
+    -Wl,--no-whole-archive -lc
+echo "installed into $folder"

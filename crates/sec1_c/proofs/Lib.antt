@@ -1,0 +1,7 @@
+pub mod FieldLemmas
+pub mod PlaceLemmas
+pub mod PointLemmas
+pub mod StatusLemmas
+pub mod GivenLemmas
+pub mod DigitLemmas
+pub mod TextLemmas

@@ -1,0 +1,33 @@
+-- Where the parts of a key stand in its bytes (RFC 5915 section 3).
+use Rattle.std.specs.Prelude.{ℕ, List, length}
+use Rattle.std.specs.Option.{option_map}
+use Rattle.sec1_der.specs.Identifiers.{content_of}
+use Rattle.sec1.specs.Keys.{Key, IsKeyOf}
+use Rattle.sec1_c.specs.GivenKeys.{IsGiven}
+use Rattle.sec1_c.specs.Places.{IsPart, IsWithin, StandsAt, bytes_at}
+use Rattle.sec1_c.specs.declared.key.KeyParts.{KeyParts}
+
+-- the bytes are those of some key
+abbrev pub IsKey : List ℕ → Type 0
+IsKey input = (key : Key) × IsKeyOf key input
+
+-- The parts are those of the key. The curve's is the content of its identifier.
+pub record ArePartsOf (key : Key) (input : List ℕ) (parts : KeyParts) : Type 0 where
+  pub private_key : StandsAt input parts.private_key key.private_key
+  pub curve : IsPart input parts.curve (option_map content_of key.parameters)
+  pub public_key : IsPart input parts.public_key key.public_key
+
+-- the places of the parts are within the input
+pub record AreWithin (input : List ℕ) (parts : KeyParts) : Type 0 where
+  pub private_key : IsWithin input parts.private_key
+  pub curve : IsWithin input parts.curve
+  pub public_key : IsWithin input parts.public_key
+
+-- The bytes at the places of the parts give the key again.
+abbrev pub GiveAgain : Key → List ℕ → KeyParts → Type 0
+GiveAgain key input parts =
+    IsGiven key (bytes_at input parts.private_key) (bytes_at input parts.curve) (bytes_at input parts.public_key) parts.public_key.present
+
+-- the length of the content of the identifier with these arcs
+abbrev pub content_len : List ℕ → ℕ
+content_len arcs = length (content_of arcs)

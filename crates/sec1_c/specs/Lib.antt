@@ -1,0 +1,10 @@
+pub mod Statuses
+pub mod Outputs
+pub mod Places
+pub mod KeyPlaces
+pub mod GivenKeys
+pub mod FieldLengths
+pub mod PointPlaces
+pub mod IdentifierTexts
+pub mod BinaryNumbers
+pub mod Documents

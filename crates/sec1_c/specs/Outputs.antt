@@ -1,0 +1,20 @@
+-- What a call does with the buffer that it writes into, and with the length that it stores.
+use Rattle.std.specs.Prelude.{◌≡◌, ℕ, ◌≤◌, ◌<◌, List, ◌++◌, length, drop}
+
+-- The length of the bytes is stored, and they are written at the beginning of the buffer where they fit. A buffer
+-- that is too short is unchanged, and the number 7 is returned.
+pub record Writes (bytes old new : List ℕ) (result stored : ℕ) : Type 0 where
+  pub len : stored ≡ length bytes
+  pub fits : length bytes ≤ length old → (result ≡ 0) × (new ≡ bytes ++ drop (length bytes) old)
+  pub short : length old < length bytes → (result ≡ 7) × (new ≡ old)
+
+-- The length of the bytes is stored, and the number 0 is returned.
+pub record StoresLength (bytes : List ℕ) (result stored : ℕ) : Type 0 where
+  pub number : result ≡ 0
+  pub len : stored ≡ length bytes
+
+-- This number is returned, and the buffer and the length are unchanged.
+pub record WritesNothing (number : ℕ) (old new : List ℕ) (result len_old len_new : ℕ) : Type 0 where
+  pub number_is : result ≡ number
+  pub buffer : new ≡ old
+  pub len : len_new ≡ len_old

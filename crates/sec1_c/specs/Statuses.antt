@@ -1,0 +1,36 @@
+-- The numbers that the calls return: 0 where a call did what its name says, else the reason of the refusal.
+use Rattle.std.specs.Prelude.{◌≡◌, ◌⊎◌, ℕ}
+use Rattle.sec1.specs.declared.error.Error.{Error}
+use Rattle.sec1.specs.declared.error.Error.TheVariants.{Asn1, Crypto, PointEncoding, Version, Memory}
+use Rattle.sec1_der.specs.declared.error.ErrorKind.{ErrorKind}
+use Rattle.sec1_der.specs.declared.error.ErrorKind.TheVariants.{Truncated, Tag, Length, TrailingData, Value, Overlength, Buffer, Failed, Io, Depth, Memory as OutOfMemory}
+
+-- the number of a kind of error in DER
+abbrev pub kind_number : ErrorKind → ℕ
+kind_number Truncated = 1
+kind_number Tag = 2
+kind_number Length = 3
+kind_number TrailingData = 4
+kind_number Value = 5
+kind_number Overlength = 6
+kind_number Buffer = 7
+kind_number Depth = 8
+kind_number Failed = 11
+kind_number Io = 12
+kind_number OutOfMemory = 13
+
+-- the number of an error; no call returns one above 10
+abbrev pub error_number : Error → ℕ
+error_number (Asn1 cause) = kind_number cause.kind
+error_number PointEncoding = 9
+error_number Memory = 13
+error_number Crypto = 14
+error_number Version = 15
+
+-- the number of a field length that isn't supported
+abbrev pub field_length_number : ℕ
+field_length_number = 10
+
+-- the reasons for which bytes are refused: Truncated, Tag, Length, TrailingData or Value
+abbrev pub IsReadingNumber : ℕ → Type 0
+IsReadingNumber n = (n ≡ 1) ⊎ ((n ≡ 2) ⊎ ((n ≡ 3) ⊎ ((n ≡ 4) ⊎ (n ≡ 5))))

@@ -1,0 +1,81 @@
+//! Elements of DER (X.690): `sec1_check_tree` and `sec1_document_len`.
+ghost use Rattle.std.specs.Prelude.{◌≡◌, ◌≢◌, ◌≤◌, ◌<◌, ◌⊎◌, ℕ, List, length};
+ghost use Rattle.sec1_der.specs.Elements.{IsElement, IsProperBeginning, LacksHeader};
+ghost use Rattle.sec1_der.specs.Faults.{header_fault};
+ghost use Rattle.sec1_der.specs.Trees.{Tree, IsTree, IsTreeOf, bytes, depth, size};
+ghost use Rattle.sec1_c.specs.Documents.{Announces, element_len};
+ghost use Rattle.sec1_c.specs.Statuses.{IsReadingNumber, kind_number};
+
+use crate::status::{OK, kind_number};
+use sec1::der::{self, ErrorKind, Header, SliceReader};
+use std::cmp::Ordering;
+
+/// Checks that all of `input` is a tree of DER elements of depth at most 64, and stores how many elements it has. An
+/// element whose tag is constructed holds elements and nothing else.
+///
+/// # Errors
+///
+/// Returns the number of the first fault from left to right, and leaves `elements` unchanged: Tag or Length where an
+/// element has no header of DER; Truncated where the input ends inside an element, or an element ends beyond the one
+/// around it; Depth where an element at level 64 has elements inside; TrailingData where bytes follow the tree.
+#[unsafe(no_mangle)]
+pub extern "C" fn sec1_check_tree(input: &[u8], elements: &mut usize) -> u32
+    ensures tree { (t : Tree) → IsTreeOf t input.now → depth t ≤ 64
+        → (result ≡ 0) × (elements.new ≡ size t) }
+    ensures only { result ≡ 0 → (t : Tree) × IsTreeOf t input.now × (depth t ≤ 64) }
+    ensures deeper { (t : Tree) → IsTreeOf t input.now → 64 < depth t
+        → result ≡ kind_number ErrorKind.Depth }
+    ensures short { (t : Tree) → IsTree t → IsProperBeginning input.now (bytes t)
+        → result ≡ kind_number ErrorKind.Truncated }
+    ensures long { (t : Tree) → IsTree t → depth t ≤ 64 → IsProperBeginning (bytes t) input.now
+        → result ≡ kind_number ErrorKind.TrailingData }
+    ensures refused { result ≢ 0 → (result ≡ kind_number ErrorKind.Depth) ⊎ IsReadingNumber result }
+    ensures unchanged { result ≢ 0 → elements.new ≡ elements.old }
+{
+    match der::check_tree(input) {
+        Ok(count) => {
+            *elements = count;
+            OK
+        }
+        Err(e) => kind_number(e.kind),
+    }
+}
+
+/// Checks that all of `input` is one element, whatever its content is, and stores the length that its header
+/// announces for it, header and content together; 0 where no whole header begins the input.
+///
+/// # Errors
+///
+/// Returns the number of Truncated where the input ends inside the header or the content; of Tag or Length where no
+/// header of DER begins the input; of TrailingData where bytes follow the element.
+#[unsafe(no_mangle)]
+pub extern "C" fn sec1_document_len(input: &[u8], len: &mut usize) -> u32
+    ensures announced { (tag announced : ℕ) (inside : List ℕ) → Announces input.now inside announced tag
+        → len.new ≡ element_len tag announced }
+    ensures whole { (tag announced : ℕ) (inside : List ℕ) → Announces input.now inside announced tag
+        → length inside ≡ announced → result ≡ 0 }
+    ensures short { (tag announced : ℕ) (inside : List ℕ) → Announces input.now inside announced tag
+        → length inside < announced → result ≡ kind_number ErrorKind.Truncated }
+    ensures long { (tag announced : ℕ) (inside : List ℕ) → Announces input.now inside announced tag
+        → announced < length inside → result ≡ kind_number ErrorKind.TrailingData }
+    ensures no_header { LacksHeader input.now
+        → (result ≡ kind_number (header_fault input.now)) × (len.new ≡ 0) }
+    ensures only { result ≡ 0 → IsElement input.now }
+{
+    let mut reader = SliceReader::new(input);
+    match Header::decode(&mut reader) {
+        Ok(header) => {
+            let announced = header.length.get();
+            *len = header.encoded_len() + announced;
+            match reader.remaining_len().cmp(&announced) {
+                Ordering::Less => kind_number(ErrorKind::Truncated),
+                Ordering::Equal => OK,
+                Ordering::Greater => kind_number(ErrorKind::TrailingData),
+            }
+        }
+        Err(e) => {
+            *len = 0;
+            kind_number(e.kind)
+        }
+    }
+}

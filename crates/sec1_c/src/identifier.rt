@@ -1,0 +1,61 @@
+//! Object identifiers (X.690 section 8.19): `sec1_identifier_to_text` and `sec1_identifier_from_text`.
+ghost use Rattle.std.specs.Prelude.{◌≡◌, ℕ, List};
+ghost use Rattle.sec1_der.specs.Identifiers.{IsIdentifier, IsIdentifierContent, content_of};
+ghost use Rattle.sec1_c.specs.IdentifierTexts.{IsIdentifierText, IsTextOf, c_text};
+ghost use Rattle.sec1_c.specs.Outputs.{Writes, WritesNothing};
+ghost use Rattle.sec1_c.specs.Statuses.{kind_number};
+
+mod digits;
+mod text;
+
+use crate::buffer::write_bytes;
+use crate::status::kind_number;
+use sec1::der::{ErrorKind, ObjectIdentifier};
+use text::Text;
+
+/// Writes the dotted text of the identifier with this content, and a byte 0 behind it, at the beginning of `text`,
+/// and stores how many bytes they are together, at most 158. The rest of `text` is unchanged.
+///
+/// # Errors
+///
+/// Returns the number of Buffer where `text` is too short, and stores the length; or that of Value where `content`
+/// isn't the content of an identifier, and leaves `len` unchanged. `text` is unchanged in both cases.
+#[unsafe(no_mangle)]
+pub extern "C" fn sec1_identifier_to_text(content: &[u8], text: &mut [u8], len: &mut usize) -> u32
+    ensures identifier { (arcs : List ℕ) → IsIdentifier arcs content.now
+        → Writes (c_text arcs) text.old text.new result len.new }
+    ensures none { ¬ IsIdentifierContent content.now
+        → WritesNothing (kind_number ErrorKind.Value) text.old text.new result len.old len.new }
+{
+    match ObjectIdentifier::from_bytes(content) {
+        Ok(identifier) => {
+            let mut dotted = Text::dotted(&identifier);
+            dotted.push(0);
+            write_bytes(dotted.as_bytes(), text, len)
+        }
+        Err(e) => kind_number(e.kind),
+    }
+}
+
+/// Writes the content of the identifier with this dotted text, which is all of `text`, at the beginning of `content`,
+/// and stores its length, at most 39. The rest of `content` is unchanged.
+///
+/// # Errors
+///
+/// Returns the number of Buffer where `content` is too short, and stores the length; or that of Value where `text`
+/// isn't the text of an identifier, and leaves `len` unchanged. `content` is unchanged in both cases.
+#[unsafe(no_mangle)]
+pub extern "C" fn sec1_identifier_from_text(text: &[u8], content: &mut [u8], len: &mut usize) -> u32
+    ensures identifier { (arcs : List ℕ) → IsTextOf arcs text.now
+        → Writes (content_of arcs) content.old content.new result len.new }
+    ensures none { ¬ IsIdentifierText text.now
+        → WritesNothing (kind_number ErrorKind.Value) content.old content.new result len.old len.new }
+{
+    let Ok(text) = str::from_utf8(text) else {
+        return kind_number(ErrorKind::Value);
+    };
+    match ObjectIdentifier::new(text) {
+        Ok(identifier) => write_bytes(identifier.as_bytes(), content, len),
+        Err(e) => kind_number(e.kind),
+    }
+}

@@ -1,0 +1,153 @@
+//! Private keys (RFC 5915 section 3): `sec1_key_read`, `sec1_key_len` and `sec1_key_write`.
+ghost use Rattle.std.specs.Prelude.{◌≡◌, ◌≢◌, List, ℕ};
+ghost use Rattle.sec1.specs.Keys.{HasNoBytes, Key, IsKeyOf};
+ghost use Rattle.sec1_der.specs.Elements.{IsProperBeginning};
+ghost use Rattle.sec1_c.specs.GivenKeys.{IsGiven, IsNoCurve, IsTooLong};
+ghost use Rattle.sec1_c.specs.KeyPlaces.{AreWithin, ArePartsOf, GiveAgain, IsKey};
+ghost use Rattle.sec1_c.specs.Outputs.{StoresLength, Writes, WritesNothing};
+ghost use Rattle.sec1_c.specs.Statuses.{IsReadingNumber, kind_number};
+
+mod given;
+mod places;
+
+use crate::part::Part;
+use crate::status::{OK, error_number, kind_number};
+use given::key_given;
+use places::places;
+use sec1::EcPrivateKey;
+use sec1::der::ErrorKind;
+
+/// Where the parts of a private key stand in its bytes.
+#[repr(C)]
+#[derive(Clone, Copy)]
+pub struct KeyParts {
+    /// The bytes of the private key. Always present.
+    pub private_key: Part,
+
+    /// The content of the curve's object identifier, 1 to 39 bytes.
+    pub curve: Part,
+
+    /// The bytes of the public key, which may be none.
+    pub public_key: Part,
+}
+
+/// Reads a private key from its DER encoding, which is all of `bytes`, and stores where its parts stand.
+///
+/// # Errors
+///
+/// Returns the number of the first fault from left to right, and leaves `parts` unchanged: Truncated where the bytes,
+/// or the element around a part, end too early; Tag where another tag is expected; Length where a length isn't DER's;
+/// Value where a content isn't one of its tag; TrailingData where bytes follow the last part.
+#[unsafe(no_mangle)]
+pub extern "C" fn sec1_key_read(bytes: &[u8], parts: &mut KeyParts) -> u32
+    ensures accepted { (key : Key) → IsKeyOf key bytes.now → result ≡ 0 }
+    ensures parts { (key : Key) → IsKeyOf key bytes.now → ArePartsOf key bytes.now parts.new }
+    ensures within { result ≡ 0 → AreWithin bytes.now parts.new }
+    ensures again { (key : Key) → IsKeyOf key bytes.now → GiveAgain key bytes.now parts.new }
+    ensures only { result ≡ 0 → IsKey bytes.now }
+    ensures refused { result ≢ 0 → IsReadingNumber result }
+    ensures unchanged { result ≢ 0 → parts.new ≡ parts.old }
+    ensures short { (key : Key) (whole : List ℕ) → IsKeyOf key whole
+        → IsProperBeginning bytes.now whole → result ≡ kind_number ErrorKind.Truncated }
+    ensures long { (key : Key) (whole : List ℕ) → IsKeyOf key whole
+        → IsProperBeginning whole bytes.now → result ≡ kind_number ErrorKind.TrailingData }
+{
+    match EcPrivateKey::try_from(bytes) {
+        Ok(key) => {
+            *parts = places(bytes, &key);
+            OK
+        }
+        Err(e) => error_number(&e),
+    }
+}
+
+/// Stores the length in bytes of the DER encoding of the private key with these parts. An empty `curve` names none,
+/// any other is the content of an object identifier. There is no public key where `has_public_key` is 0.
+///
+/// # Errors
+///
+/// Leaves `len` unchanged, and returns the number of Value where `curve` isn't the content of an identifier, or of
+/// Overlength where the private key, the public key or all of it is longer than an element can be.
+#[unsafe(no_mangle)]
+pub extern "C" fn sec1_key_len(
+    private_key: &[u8],
+    curve: &[u8],
+    public_key: &[u8],
+    has_public_key: usize,
+    len: &mut usize,
+) -> u32
+    ensures key { (key : Key) (bytes : List ℕ)
+        → IsGiven key private_key.now curve.now public_key.now has_public_key → IsKeyOf key bytes
+        → StoresLength bytes result len.new }
+    ensures no_curve { IsNoCurve curve.now
+        → (result ≡ kind_number ErrorKind.Value) × (len.new ≡ len.old) }
+    ensures too_long { IsTooLong private_key.now curve.now public_key.now has_public_key
+        → (result ≡ kind_number ErrorKind.Overlength) × (len.new ≡ len.old) }
+{
+    let Some(key) = key_given(private_key, curve, public_key, has_public_key) else {
+        return kind_number(ErrorKind::Value);
+    };
+    store_len(&key, len)
+}
+
+/// Stores the length in bytes of the key's DER encoding. Returns the number of Overlength where it has none.
+fn store_len(key: &EcPrivateKey, len: &mut usize) -> u32
+    ensures key { (bytes : List ℕ) → IsKeyOf key.now bytes → StoresLength bytes result len.new }
+    ensures none { HasNoBytes key.now
+        → (result ≡ kind_number ErrorKind.Overlength) × (len.new ≡ len.old) }
+{
+    match key.encoded_len() {
+        Ok(found) => {
+            *len = found;
+            OK
+        }
+        Err(e) => error_number(&e),
+    }
+}
+
+/// Writes the DER encoding of the private key with these parts at the beginning of `out`, and stores its length. The
+/// parts are those of `sec1_key_len`. The rest of `out` is unchanged.
+///
+/// # Errors
+///
+/// Returns the number of Buffer where `out` is too short, and stores the length. Refuses as `sec1_key_len` does
+/// otherwise, and leaves `len` unchanged then. `out` is unchanged in each case.
+#[unsafe(no_mangle)]
+pub extern "C" fn sec1_key_write(
+    private_key: &[u8],
+    curve: &[u8],
+    public_key: &[u8],
+    has_public_key: usize,
+    out: &mut [u8],
+    len: &mut usize,
+) -> u32
+    ensures key { (key : Key) (bytes : List ℕ)
+        → IsGiven key private_key.now curve.now public_key.now has_public_key → IsKeyOf key bytes
+        → Writes bytes out.old out.new result len.new }
+    ensures no_curve { IsNoCurve curve.now
+        → WritesNothing (kind_number ErrorKind.Value) out.old out.new result len.old len.new }
+    ensures too_long { IsTooLong private_key.now curve.now public_key.now has_public_key
+        → WritesNothing (kind_number ErrorKind.Overlength) out.old out.new result len.old len.new }
+{
+    let Some(key) = key_given(private_key, curve, public_key, has_public_key) else {
+        return kind_number(ErrorKind::Value);
+    };
+    write_key(&key, out, len)
+}
+
+/// Writes the key's DER encoding at the beginning of `out`, and stores its length. Returns the number of Buffer where
+/// `out` is too short, and that of Overlength where the key has no encoding.
+fn write_key(key: &EcPrivateKey, out: &mut [u8], len: &mut usize) -> u32
+    ensures key { (bytes : List ℕ) → IsKeyOf key.now bytes → Writes bytes out.old out.new result len.new }
+    ensures none { HasNoBytes key.now
+        → WritesNothing (kind_number ErrorKind.Overlength) out.old out.new result len.old len.new }
+{
+    match key.encoded_len() {
+        Ok(found) => *len = found,
+        Err(e) => return error_number(&e),
+    }
+    match key.encode_to_slice(out) {
+        Ok(_) => OK,
+        Err(e) => error_number(&e),
+    }
+}

@@ -1,0 +1,77 @@
+//! Where the parts of a key stand: each is found from the end of the bytes, by the lengths of the fields behind it.
+ghost use Rattle.std.specs.Prelude.{◌≡◌, length};
+ghost use Rattle.std.specs.Option.{option_map};
+ghost use Rattle.sec1.specs.Keys.{IsKeyOf, HasRoom, NameCurve, bytes_of, parameters_field, public_key_field};
+ghost use Rattle.sec1.specs.Parameters.{curve_of};
+ghost use Rattle.sec1_c.specs.KeyPlaces.{ArePartsOf, AreWithin, GiveAgain, content_len};
+
+use super::KeyParts;
+use crate::part::Part;
+use sec1::der::BitStringRef;
+use sec1::{EcParameters, EcPrivateKey, der};
+
+/// Returns where the parts of the key stand in its bytes.
+pub fn places(bytes: &[u8], key: &EcPrivateKey) -> KeyParts
+    requires { IsKeyOf key.now bytes.now }
+    ensures parts { ArePartsOf key.now bytes.now result }
+    ensures within { AreWithin bytes.now result }
+    ensures again { GiveAgain key.now bytes.now result }
+{
+    let parameters_end = bytes.len() - public_key_field_len(key.public_key);
+    let private_key_end = parameters_end - parameters_field_len(&key.parameters);
+    KeyParts {
+        private_key: Part::before(private_key_end, Some(key.private_key.len())),
+        curve: Part::before(parameters_end, curve_len(&key.parameters)),
+        public_key: Part::before(bytes.len(), bytes_len(key.public_key)),
+    }
+}
+
+/// Returns the length in bytes of the content of the curve's identifier.
+fn curve_len(parameters: &Option<EcParameters>) -> Option<usize>
+    ensures { result ≡ option_map content_len (option_map curve_of parameters.now) }
+{
+    match parameters {
+        None => None,
+        Some(EcParameters::NamedCurve(curve)) => Some(curve.as_bytes().len()),
+    }
+}
+
+/// Returns how many bytes these are.
+fn bytes_len(bytes: Option<&[u8]>) -> Option<usize>
+    ensures { result ≡ option_map (λ bytes. length bytes) (option_map (λ bytes. bytes.now) bytes.entry) }
+{
+    match bytes {
+        None => None,
+        Some(bytes) => Some(bytes.len()),
+    }
+}
+
+/// Returns the length in bytes of the field `[0]`.
+#[tactic(auto, using(crate::proofs::FieldLemmas::parameters_counted))]
+fn parameters_field_len(parameters: &Option<EcParameters>) -> usize
+    requires { NameCurve (option_map curve_of parameters.now) }
+    ensures { result ≡ length (bytes_of (parameters_field (option_map curve_of parameters.now))) }
+{
+    match der::context_specific_len(0, parameters) {
+        Ok(len) => len,
+        Err(_) => unreachable!(),
+    }
+}
+
+/// Returns the length in bytes of the field `[1]`.
+#[tactic(auto, using(crate::proofs::FieldLemmas::public_key_counted, crate::proofs::FieldLemmas::bits_fit))]
+fn public_key_field_len(public_key: Option<&[u8]>) -> usize
+    requires { HasRoom (option_map (λ bytes. bytes.now) public_key) }
+    ensures { result ≡ length (bytes_of (public_key_field (option_map (λ bytes. bytes.now) public_key.entry))) }
+{
+    let Some(bytes) = public_key else {
+        return 0;
+    };
+    match BitStringRef::from_bytes(bytes) {
+        Ok(bits) => match der::context_specific_len(1, &Some(bits)) {
+            Ok(len) => len,
+            Err(_) => unreachable!(),
+        },
+        Err(_) => unreachable!(),
+    }
+}

@@ -1,0 +1,16 @@
+//! EC private keys and points of `sec1` for C. Each exported function takes slices as a pointer and a length, stores
+//! what it finds through references, and returns 0, or a number that says why it refused.
+//!
+//! No function allocates memory, keeps a pointer, or reads or writes beyond what it is given. `sec1.h` declares
+//! them for C.
+#![tactic(auto)]
+
+mod buffer;
+mod element;
+mod identifier;
+mod key;
+mod part;
+mod point;
+mod status;
+#[cfg(test)]
+mod tests;

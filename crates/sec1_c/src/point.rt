@@ -1,0 +1,169 @@
+//! Points (SEC1 v2.0 section 2.3.3) over fields whose elements have 28, 32, 48 or 66 bytes: `sec1_point_check`,
+//! `sec1_point_read`, `sec1_point_compress`, `sec1_point_to_hybrid` and `sec1_point_compare`.
+ghost use Rattle.std.specs.Prelude.{◌≡◌, ◌≢◌};
+ghost use Rattle.sec1.specs.Points.{Point, IsEncoding, compressed_point, enc, hybrid_point};
+ghost use Rattle.sec1_c.specs.FieldLengths.{Encodes, EncodesBoth, IsFieldLength};
+ghost use Rattle.sec1_c.specs.Outputs.{Writes, WritesNothing};
+ghost use Rattle.sec1_c.specs.PointPlaces.{ArePointPartsOf, IsOrderOf};
+ghost use Rattle.sec1_c.specs.Statuses.{error_number, field_length_number};
+
+mod sized;
+
+use crate::part::Part;
+use crate::status::field_length_number;
+use sec1::Error;
+
+/// The tag of a point, and where its coordinates stand in its encoding.
+#[repr(C)]
+#[derive(Clone, Copy)]
+pub struct PointParts {
+    /// The first byte of the encoding: 0 identity, 2 and 3 compressed with an even and an odd y, 4 uncompressed,
+    /// 5 compact, 6 and 7 hybrid with an even and an odd y.
+    pub tag: usize,
+
+    /// The x-coordinate, which the identity alone lacks.
+    pub x: Part,
+
+    /// The y-coordinate, which uncompressed and hybrid points have.
+    pub y: Part,
+}
+
+/// Checks that all of `bytes` is the encoding of a point over a field whose elements have `field_len` bytes.
+///
+/// # Errors
+///
+/// Returns the number of PointEncoding where it isn't, and another one where the field length isn't supported.
+#[unsafe(no_mangle)]
+pub extern "C" fn sec1_point_check(bytes: &[u8], field_len: usize) -> u32
+    ensures point { (p : Point) → IsFieldLength field_len → Encodes field_len p bytes.now → result ≡ 0 }
+    ensures only { result ≡ 0 → IsFieldLength field_len × IsEncoding field_len bytes.now }
+    ensures no_point { IsFieldLength field_len → ¬ IsEncoding field_len bytes.now
+        → result ≡ error_number Error.PointEncoding }
+    ensures other_field { ¬ IsFieldLength field_len → result ≡ field_length_number }
+{
+    match field_len {
+        28 => sized::check::<28, 57>(bytes),
+        32 => sized::check::<32, 65>(bytes),
+        48 => sized::check::<48, 97>(bytes),
+        66 => sized::check::<66, 133>(bytes),
+        _ => field_length_number(),
+    }
+}
+
+/// Reads a point from its encoding, which is all of `bytes`, and stores its tag and where its coordinates stand.
+///
+/// # Errors
+///
+/// Refuses as `sec1_point_check` does, and leaves `parts` unchanged.
+#[unsafe(no_mangle)]
+pub extern "C" fn sec1_point_read(bytes: &[u8], field_len: usize, parts: &mut PointParts) -> u32
+    ensures point { (p : Point) → IsFieldLength field_len → Encodes field_len p bytes.now → result ≡ 0 }
+    ensures parts { (p : Point) → IsFieldLength field_len → Encodes field_len p bytes.now
+        → ArePointPartsOf field_len p bytes.now parts.new }
+    ensures only { result ≡ 0 → IsFieldLength field_len × IsEncoding field_len bytes.now }
+    ensures no_point { IsFieldLength field_len → ¬ IsEncoding field_len bytes.now
+        → result ≡ error_number Error.PointEncoding }
+    ensures other_field { ¬ IsFieldLength field_len → result ≡ field_length_number }
+    ensures unchanged { result ≢ 0 → parts.new ≡ parts.old }
+{
+    match field_len {
+        28 => sized::read::<28, 57>(bytes, parts),
+        32 => sized::read::<32, 65>(bytes, parts),
+        48 => sized::read::<48, 97>(bytes, parts),
+        66 => sized::read::<66, 133>(bytes, parts),
+        _ => field_length_number(),
+    }
+}
+
+/// Writes the compressed form of an uncompressed or hybrid point, with the parity of its y, at the beginning of
+/// `out`, and stores its length. Any other point is written as it is. The rest of `out` is unchanged.
+///
+/// # Errors
+///
+/// Returns the number of Buffer where `out` is too short, and stores the length. Refuses as `sec1_point_check` does
+/// otherwise, and leaves `len` unchanged then. `out` is unchanged in each case.
+#[unsafe(no_mangle)]
+pub extern "C" fn sec1_point_compress(
+    bytes: &[u8],
+    field_len: usize,
+    out: &mut [u8],
+    len: &mut usize,
+) -> u32
+    ensures point { (p : Point) → IsFieldLength field_len → Encodes field_len p bytes.now
+        → Writes (enc field_len (compressed_point p)) out.old out.new result len.new }
+    ensures no_point { IsFieldLength field_len → ¬ IsEncoding field_len bytes.now
+        → WritesNothing (error_number Error.PointEncoding) out.old out.new result len.old len.new }
+    ensures other_field { ¬ IsFieldLength field_len
+        → WritesNothing field_length_number out.old out.new result len.old len.new }
+{
+    match field_len {
+        28 => sized::compress::<28, 57>(bytes, out, len),
+        32 => sized::compress::<32, 65>(bytes, out, len),
+        48 => sized::compress::<48, 97>(bytes, out, len),
+        66 => sized::compress::<66, 133>(bytes, out, len),
+        _ => field_length_number(),
+    }
+}
+
+/// Writes the hybrid form of an uncompressed point, with the parity of its y, at the beginning of `out`, and stores
+/// its length. Any other point is written as it is. The rest of `out` is unchanged.
+///
+/// # Errors
+///
+/// Returns the number of Buffer where `out` is too short, and stores the length. Refuses as `sec1_point_check` does
+/// otherwise, and leaves `len` unchanged then. `out` is unchanged in each case.
+#[unsafe(no_mangle)]
+pub extern "C" fn sec1_point_to_hybrid(
+    bytes: &[u8],
+    field_len: usize,
+    out: &mut [u8],
+    len: &mut usize,
+) -> u32
+    ensures point { (p : Point) → IsFieldLength field_len → Encodes field_len p bytes.now
+        → Writes (enc field_len (hybrid_point p)) out.old out.new result len.new }
+    ensures no_point { IsFieldLength field_len → ¬ IsEncoding field_len bytes.now
+        → WritesNothing (error_number Error.PointEncoding) out.old out.new result len.old len.new }
+    ensures other_field { ¬ IsFieldLength field_len
+        → WritesNothing field_length_number out.old out.new result len.old len.new }
+{
+    match field_len {
+        28 => sized::to_hybrid::<28, 57>(bytes, out, len),
+        32 => sized::to_hybrid::<32, 65>(bytes, out, len),
+        48 => sized::to_hybrid::<48, 97>(bytes, out, len),
+        66 => sized::to_hybrid::<66, 133>(bytes, out, len),
+        _ => field_length_number(),
+    }
+}
+
+/// Compares two points by tag, then by coordinates as whole numbers, and stores -1, 0 or 1: whether the first stands
+/// below the second, is the same, or stands above it.
+///
+/// # Errors
+///
+/// Refuses as `sec1_point_check` does, where it refuses either point, and leaves `order` unchanged.
+#[unsafe(no_mangle)]
+pub extern "C" fn sec1_point_compare(
+    first: &[u8],
+    second: &[u8],
+    field_len: usize,
+    order: &mut i32,
+) -> u32
+    ensures points { (p q : Point) → IsFieldLength field_len
+        → EncodesBoth field_len p q first.now second.now → result ≡ 0 }
+    ensures order { (p q : Point) → IsFieldLength field_len
+        → EncodesBoth field_len p q first.now second.now → IsOrderOf p q order.new }
+    ensures first { IsFieldLength field_len → ¬ IsEncoding field_len first.now
+        → result ≡ error_number Error.PointEncoding }
+    ensures second { IsFieldLength field_len → ¬ IsEncoding field_len second.now
+        → result ≡ error_number Error.PointEncoding }
+    ensures other_field { ¬ IsFieldLength field_len → result ≡ field_length_number }
+    ensures unchanged { result ≢ 0 → order.new ≡ order.old }
+{
+    match field_len {
+        28 => sized::compare::<28, 57>(first, second, order),
+        32 => sized::compare::<32, 65>(first, second, order),
+        48 => sized::compare::<48, 97>(first, second, order),
+        66 => sized::compare::<66, 133>(first, second, order),
+        _ => field_length_number(),
+    }
+}

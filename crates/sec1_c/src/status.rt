@@ -1,0 +1,48 @@
+//! The numbers that the exported functions return.
+ghost use Rattle.std.specs.Prelude.{◌≡◌};
+ghost use Rattle.sec1_c.specs.Statuses.{error_number, field_length_number, kind_number};
+
+use sec1::Error;
+use sec1::der::ErrorKind;
+
+/// The number of success.
+pub const OK: u32 = 0;
+
+/// Returns the number of a kind of error in DER.
+pub fn kind_number(kind: ErrorKind) -> u32
+    ensures { result ≡ kind_number kind }
+{
+    match kind {
+        ErrorKind::Truncated => 1,
+        ErrorKind::Tag => 2,
+        ErrorKind::Length => 3,
+        ErrorKind::TrailingData => 4,
+        ErrorKind::Value => 5,
+        ErrorKind::Overlength => 6,
+        ErrorKind::Buffer => 7,
+        ErrorKind::Depth => 8,
+        ErrorKind::Failed => 11,
+        ErrorKind::Io => 12,
+        ErrorKind::Memory => 13,
+    }
+}
+
+/// Returns the number of an error.
+pub fn error_number(error: &Error) -> u32
+    ensures { result ≡ error_number error.now }
+{
+    match error {
+        Error::Asn1(cause) => kind_number(cause.kind),
+        Error::PointEncoding => 9,
+        Error::Memory => 13,
+        Error::Crypto => 14,
+        Error::Version => 15,
+    }
+}
+
+/// Returns the number of a field length that isn't supported.
+pub fn field_length_number() -> u32
+    ensures { result ≡ field_length_number }
+{
+    10
+}

@@ -1,0 +1,148 @@
+#!/usr/bin/env bash
+# Builds the library, and tests it from C, Rust and Python. The last line is `N passed, M failed`; the status is 1 where
+# anything failed, also where a tool that a test needs is missing.
+# RT names the command `rt`; with SEC1_C_BUILT=1 the library that stands in out/ is taken as it is.
+set -uo pipefail
+cd "$(dirname "$0")"
+passed=0 failed=0
+work=$(mktemp -d)
+trap 'rm -rf "$work"' EXIT
+installed=$work/installed
+
+pass() { passed=$((passed + 1)); echo "ok: $1"; }
+fail() { failed=$((failed + 1)); echo "FAILED: $1"; }
+check() { # NAME COMMAND..: passes where the command does
+    local name=$1
+    shift
+    if "$@"; then pass "$name"; else fail "$name"; fi
+}
+add() { # NAME COMMAND..: adds what the command counts in its last line
+    local name=$1 last status
+    shift
+    timeout 150 "$@" > "$work/output" 2>&1
+    status=$?
+    cat "$work/output"
+    last=$(tail -n 1 "$work/output")
+    if [[ $last =~ ^([0-9]+)\ passed,\ ([0-9]+)\ failed$ ]]; then
+        passed=$((passed + BASH_REMATCH[1])) failed=$((failed + BASH_REMATCH[2]))
+        if [[ $status -ne 0 && ${BASH_REMATCH[2]} -eq 0 ]]; then fail "$name ended with status $status"; fi
+    else
+        fail "$name ended with status $status, before its last line"
+    fi
+}
+finish() {
+    echo "$passed passed, $failed failed"
+    [[ $failed -eq 0 ]]
+    exit
+}
+
+# ---- the library, and what it wants
+
+build() { if [[ ${SEC1_C_BUILT:-} ]]; then RT=true ./build.sh "$installed"; else ./build.sh "$installed"; fi; }
+if build > "$work/build" 2>&1; then
+    pass "build.sh installs the library"
+else
+    tail -n 20 "$work/build"
+    fail "build.sh installs the library"
+    finish
+fi
+archive=$installed/lib/libsec1.a
+shared=$installed/lib/libsec1.so
+exported="sec1_check_tree sec1_document_len sec1_identifier_from_text sec1_identifier_to_text sec1_key_len sec1_key_read \
+sec1_key_write sec1_point_check sec1_point_compare sec1_point_compress sec1_point_read sec1_point_to_hybrid"
+same() { [[ $1 == "$2" ]] || { echo "  '$1' isn't '$2'"; false; }; }
+words() { echo $(printf '%s\n' "$@" | LC_ALL=C sort); }
+if command -v nm > "$work/null" && command -v ar > "$work/null"; then
+    check "the archive is one object" same "$(ar t "$archive" | wc -l)" 1
+    check "it wants memcpy, memmove and memset alone" \
+        same "$(words $(nm -u "$archive" | awk '$1 == "U" {print $2}'))" "memcpy memmove memset"
+    check "it exports what the header declares" \
+        same "$(words $(nm -g --defined-only "$archive" | awk 'NF == 3 {print $3}'))" "$(words $exported)"
+    check "so does the shared library" \
+        same "$(words $(nm -D --defined-only "$shared" | awk '{print $3}'))" "$(words $exported)"
+else
+    fail "nm or ar is missing (Debian: binutils)"
+fi
+check "the header declares them" \
+    same "$(words $(grep -o '\bsec1_[a-z_]*(' sec1.h | tr -d '(' | grep -v status_text))" "$(words $exported)"
+
+# ---- C compilers that have the sanitizers
+
+warnings="-std=c11 -g -O1 -Wall -Wextra -Wpedantic -Werror"
+sanitizers="-fsanitize=address,undefined -fno-sanitize-recover=all"
+echo 'int main(void) { return 0; }' > "$work/empty.c"
+compilers=()
+for compiler in clang gcc; do
+    if $compiler $sanitizers -o "$work/empty" "$work/empty.c" 2> "$work/null" && "$work/empty"; then
+        compilers+=("$compiler")
+    else
+        echo "note: $compiler with the sanitizers is missing"
+    fi
+done
+if [[ ${#compilers[@]} -eq 0 ]]; then
+    fail "no C compiler with the sanitizers is there (Debian: gcc, or clang and libclang-rt-dev)"
+fi
+for compiler in "${compilers[@]}"; do
+    check "$compiler compiles tests/calls.c" \
+        $compiler $warnings $sanitizers -I "$installed/include" -o "$work/calls" tests/calls.c "$archive"
+    add "tests/calls.c by $compiler" "$work/calls"
+done
+printf '#include <sec1.h>\nint main() { return sec1_point_check(nullptr, 0, 32) == SEC1_POINT_ENCODING ? 0 : 1; }\n' > "$work/header.cc"
+if command -v g++ > "$work/null"; then
+    check "the header compiles as C++" \
+        g++ -std=c++11 -Wall -Wextra -Wpedantic -Werror -I "$installed/include" -o "$work/header" "$work/header.cc" "$archive"
+    check "and runs" "$work/header"
+else
+    echo "note: g++ is missing, so the header isn't compiled as C++"
+fi
+
+# ---- OpenSSL
+
+has_openssl() { echo '#include <openssl/ec.h>' | ${CC:-cc} -E -o "$work/null" - 2> "$work/null"; }
+if ! has_openssl; then
+    apt-get install -y libssl-dev > "$work/apt" 2>&1 || tail -n 3 "$work/apt"
+fi
+if has_openssl && [[ ${#compilers[@]} -gt 0 ]]; then
+    check "tests/openssl.c compiles" ${compilers[0]} $warnings $sanitizers -I "$installed/include" \
+        -o "$work/openssl" tests/openssl.c "$archive" -lcrypto
+    add "tests/openssl.c" "$work/openssl"
+else
+    fail "the headers of OpenSSL are missing (Debian: libssl-dev)"
+fi
+
+# ---- the examples
+
+prints() { # WANTED COMMAND..: the command prints what the file has
+    local wanted=$1
+    shift
+    "$@" > "$work/printed" && diff "$wanted" "$work/printed"
+}
+key=examples/p256.der
+wanted=examples/p256.txt
+refuses() { [[ $("$@") == "refused: "* ]]; }
+head -c 60 "$key" > "$work/cut"
+if ${CC:-cc} -std=c11 -Wall -Wextra -Wpedantic -Werror -I "$installed/include" -o "$work/key_parts" examples/key_parts.c "$archive"; then
+    check "the example in C" prints "$wanted" "$work/key_parts" "$key"
+    check "the example in C refuses half a key" refuses "$work/key_parts" "$work/cut"
+    ${CC:-cc} -I "$installed/include" -o "$work/key_parts" examples/key_parts.c -L "$installed/lib" -lsec1
+    check "the example in C over the shared library" \
+        prints "$wanted" env LD_LIBRARY_PATH="$installed/lib" "$work/key_parts" "$key"
+else
+    fail "examples/key_parts.c doesn't compile"
+fi
+if command -v rustc > "$work/null"; then
+    check "the example in Rust compiles" \
+        rustc --edition 2021 -O -D warnings -L native="$installed/lib" -o "$work/key_parts_rs" examples/key_parts.rs
+    check "the example in Rust" prints "$wanted" "$work/key_parts_rs" "$key"
+    check "the example in Rust refuses half a key" refuses "$work/key_parts_rs" "$work/cut"
+else
+    fail "rustc is missing"
+fi
+if command -v python3 > "$work/null"; then
+    add "tests/header.py" python3 -B tests/header.py
+    check "the example in Python" prints "$wanted" python3 -B examples/key_parts.py "$shared" "$key"
+    check "the example in Python refuses half a key" refuses python3 -B examples/key_parts.py "$shared" "$work/cut"
+else
+    fail "python3 is missing"
+fi
+finish

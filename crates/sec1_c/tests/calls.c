@@ -1,0 +1,854 @@
+/* Tests of each function of the library. Each input stands in pages of its own, which can only be read, once against
+ * the page behind it and once against the page before it, which can't be read; each buffer that is written into stands
+ * the same way. So a single byte read or written beyond what a call is given ends the program. */
+#define _GNU_SOURCE
+#include <sec1.h>
+#include <stddef.h>
+#include <stdio.h>
+#include <stdlib.h>
+#include <string.h>
+#include <sys/mman.h>
+#include <unistd.h>
+
+/* ---- results */
+
+static unsigned long passed, failed;
+
+static void expect(int holds, const char *what, int line)
+{
+    if (holds) {
+        passed++;
+    } else {
+        failed++;
+        if (failed <= 50)
+            printf("line %d: FAILED: %s\n", line, what);
+    }
+}
+
+#define EXPECT(condition) expect((condition) ? 1 : 0, #condition, __LINE__)
+
+/* ---- bytes between pages that can't be touched */
+
+enum side { AT_END, AT_START };
+
+struct guarded {
+    uint8_t *pages;
+    size_t size;
+    uint8_t *data;
+};
+
+static size_t page_size;
+
+/* Maps room for len bytes, against the page behind it or against the page before it. */
+static struct guarded map_guarded(size_t len, enum side side)
+{
+    size_t inner = (len + page_size - 1) / page_size * page_size;
+    struct guarded g = {0};
+    g.size = inner + 2 * page_size;
+    g.pages = mmap(NULL, g.size, PROT_NONE, MAP_PRIVATE | MAP_ANONYMOUS, -1, 0);
+    if (g.pages == MAP_FAILED || (inner && mprotect(g.pages + page_size, inner, PROT_READ | PROT_WRITE))) {
+        perror("mmap");
+        exit(2);
+    }
+    g.data = g.pages + page_size + (side == AT_END ? inner - len : 0);
+    return g;
+}
+
+/* Maps a copy of the bytes that can only be read. */
+static struct guarded map_input(const void *bytes, size_t len, enum side side)
+{
+    struct guarded g = map_guarded(len, side);
+    if (len) {
+        memcpy(g.data, bytes, len);
+        if (mprotect(g.pages + page_size, g.size - 2 * page_size, PROT_READ)) {
+            perror("mprotect");
+            exit(2);
+        }
+    }
+    return g;
+}
+
+static void unmap(struct guarded g)
+{
+    munmap(g.pages, g.size);
+}
+
+/* Whether len bytes have this value. */
+static int all_are(const uint8_t *bytes, size_t len, uint8_t value)
+{
+    for (size_t i = 0; i < len; i++)
+        if (bytes[i] != value)
+            return 0;
+    return 1;
+}
+
+/* ---- bytes from hexadecimal text */
+
+struct bytes {
+    size_t len;
+    uint8_t data[4096];
+};
+
+static struct bytes unhex(const char *text)
+{
+    struct bytes b = {0};
+    int high = -1;
+    for (; *text; text++) {
+        int digit = *text >= '0' && *text <= '9' ? *text - '0' : *text >= 'A' && *text <= 'F' ? *text - 'A' + 10 : -1;
+        if (digit < 0)
+            continue;
+        if (high < 0) {
+            high = digit;
+        } else {
+            b.data[b.len++] = (uint8_t)(high * 16 + digit);
+            high = -1;
+        }
+    }
+    return b;
+}
+
+static struct bytes joined(struct bytes a, struct bytes b)
+{
+    memcpy(a.data + a.len, b.data, b.len);
+    a.len += b.len;
+    return a;
+}
+
+static struct bytes repeated(uint8_t value, size_t len)
+{
+    struct bytes b = {0};
+    b.len = len;
+    memset(b.data, value, len);
+    return b;
+}
+
+#define PRIVATE "69624171561A63340DE0E7D869F2A05492558E1A04868B6A9F854A866788188D"
+#define X "1CACFFB55F2F2CEFD89D89EB374B2681152452802DEEA09916068137D839CF7F"
+#define Y "C481A44492304D7EF66AC117BEFE83A8D08F155F2B52F9F618DD447029048E0F"
+#define WHOLE_KEY "3077020101" "0420" PRIVATE "A00A06082A8648CE3D030107" "A144034200" "04" X Y
+
+/* ---- calls with guarded arguments */
+
+static uint32_t read_key(struct bytes input, struct sec1_key_parts *parts)
+{
+    uint32_t status[2];
+    struct sec1_key_parts stored[2];
+    for (enum side side = AT_END; side <= AT_START; side++) {
+        struct guarded in = map_input(input.data, input.len, side);
+        struct guarded out = map_guarded(sizeof *parts, side);
+        memset(out.data, 0xA5, sizeof *parts);
+        status[side] = sec1_key_read(in.data, input.len, (struct sec1_key_parts *)out.data);
+        memcpy(&stored[side], out.data, sizeof *parts);
+        EXPECT(status[side] == SEC1_OK || all_are(out.data, sizeof *parts, 0xA5));
+        unmap(in);
+        unmap(out);
+    }
+    EXPECT(status[0] == status[1] && memcmp(&stored[0], &stored[1], sizeof *parts) == 0);
+    *parts = stored[0];
+    return status[0];
+}
+
+struct given {
+    struct bytes private_key, curve, public_key;
+    size_t has_public_key;
+};
+
+static struct given no_key;
+
+/* Writes a key into a buffer of out_len bytes of the value EE. Returns the buffer's bytes in out. */
+static uint32_t write_key(struct given key, size_t out_len, struct bytes *out, size_t *len)
+{
+    uint32_t status[2];
+    size_t stored[2] = {0};
+    for (enum side side = AT_END; side <= AT_START; side++) {
+        struct guarded private_key = map_input(key.private_key.data, key.private_key.len, side);
+        struct guarded curve = map_input(key.curve.data, key.curve.len, side);
+        struct guarded public_key = map_input(key.public_key.data, key.public_key.len, side);
+        struct guarded buffer = map_guarded(out_len, side);
+        memset(buffer.data, 0xEE, out_len);
+        stored[side] = 777777;
+        status[side] = sec1_key_write(private_key.data, key.private_key.len, curve.data, key.curve.len,
+                                      public_key.data, key.public_key.len, key.has_public_key,
+                                      buffer.data, out_len, &stored[side]);
+        size_t only_len = 777777;
+        uint32_t only_status = sec1_key_len(private_key.data, key.private_key.len, curve.data, key.curve.len,
+                                            public_key.data, key.public_key.len, key.has_public_key, &only_len);
+        EXPECT(only_len == stored[side]);
+        EXPECT(only_status == (status[side] == SEC1_BUFFER ? (uint32_t)SEC1_OK : status[side]));
+        out->len = out_len;
+        memcpy(out->data, buffer.data, out_len);
+        unmap(private_key);
+        unmap(curve);
+        unmap(public_key);
+        unmap(buffer);
+    }
+    EXPECT(status[0] == status[1] && stored[0] == stored[1]);
+    *len = stored[0];
+    return status[0];
+}
+
+/* A call that reads bytes and writes others into a buffer. */
+typedef uint32_t (*converter)(const uint8_t *, size_t, uint8_t *, size_t, size_t *);
+
+/* Converts at every length of the buffer, from 0 to three bytes more than are needed. */
+static void expect_converted(converter convert, struct bytes input, struct bytes wanted)
+{
+    for (size_t room = 0; room <= wanted.len + 3; room++) {
+        for (enum side side = AT_END; side <= AT_START; side++) {
+            struct guarded in = map_input(input.data, input.len, side);
+            struct guarded out = map_guarded(room, side);
+            memset(out.data, 0xEE, room);
+            size_t len = 777777;
+            uint32_t status = convert(in.data, input.len, out.data, room, &len);
+            EXPECT(len == wanted.len);
+            if (room < wanted.len) {
+                EXPECT(status == SEC1_BUFFER && all_are(out.data, room, 0xEE));
+            } else {
+                EXPECT(status == SEC1_OK && memcmp(out.data, wanted.data, wanted.len) == 0);
+                EXPECT(all_are(out.data + wanted.len, room - wanted.len, 0xEE));
+            }
+            unmap(in);
+            unmap(out);
+        }
+    }
+}
+
+/* Converts with room to spare, and expects a refusal that changes nothing. */
+static void expect_refused(converter convert, struct bytes input, uint32_t wanted)
+{
+    for (enum side side = AT_END; side <= AT_START; side++) {
+        struct guarded in = map_input(input.data, input.len, side);
+        struct guarded out = map_guarded(200, side);
+        memset(out.data, 0xEE, 200);
+        size_t len = 777777;
+        EXPECT(convert(in.data, input.len, out.data, 200, &len) == wanted);
+        EXPECT(len == 777777 && all_are(out.data, 200, 0xEE));
+        EXPECT(convert(in.data, input.len, NULL, 0, &len) == wanted && len == 777777);
+        unmap(in);
+        unmap(out);
+    }
+}
+
+/* ---- the header */
+
+static void test_header(void)
+{
+    EXPECT(sizeof(struct sec1_part) == 3 * sizeof(size_t));
+    EXPECT(offsetof(struct sec1_part, offset) == 0);
+    EXPECT(offsetof(struct sec1_part, len) == sizeof(size_t));
+    EXPECT(offsetof(struct sec1_part, present) == 2 * sizeof(size_t));
+    EXPECT(sizeof(struct sec1_key_parts) == 9 * sizeof(size_t));
+    EXPECT(offsetof(struct sec1_key_parts, private_key) == 0);
+    EXPECT(offsetof(struct sec1_key_parts, curve) == 3 * sizeof(size_t));
+    EXPECT(offsetof(struct sec1_key_parts, public_key) == 6 * sizeof(size_t));
+    EXPECT(sizeof(struct sec1_point_parts) == 7 * sizeof(size_t));
+    EXPECT(offsetof(struct sec1_point_parts, tag) == 0);
+    EXPECT(offsetof(struct sec1_point_parts, x) == sizeof(size_t));
+    EXPECT(offsetof(struct sec1_point_parts, y) == 4 * sizeof(size_t));
+    EXPECT(sizeof(size_t) == 8 && sizeof(void *) == 8);
+
+    static const char *const texts[] = {
+        "ok", "input ends inside an element", "unexpected or unsupported tag",
+        "length not in DER form or above the limit", "bytes after the value", "content not valid for its tag",
+        "value longer than 268435455 bytes", "output buffer too small", "more than 64 nested elements",
+        "elliptic curve point encoding error", "length of field elements not supported",
+    };
+    for (uint32_t status = 0; status < 11; status++)
+        EXPECT(strcmp(sec1_status_text(status), texts[status]) == 0);
+    EXPECT(strcmp(sec1_status_text(11), "unknown status") == 0);
+    EXPECT(strcmp(sec1_status_text(UINT32_MAX), "unknown status") == 0);
+}
+
+/* ---- keys */
+
+static int is_part(struct sec1_part part, size_t offset, size_t len)
+{
+    return part.present == 1 && part.offset == offset && part.len == len;
+}
+
+static int is_absent(struct sec1_part part)
+{
+    return part.present == 0 && part.offset == 0 && part.len == 0;
+}
+
+/* Keys by their bytes, with the offset and the length of each part; an offset of 0 where it is absent. */
+static const struct accepted {
+    const char *key;
+    size_t private_offset, private_len, curve_offset, curve_len, public_offset, public_len;
+} accepted_keys[] = {
+    {WHOLE_KEY, 7, 32, 43, 8, 56, 65},
+    {"306B020101" "0420" PRIVATE "A144034200" "04" X Y, 7, 32, 0, 0, 44, 65},
+    {"30050201010400", 7, 0, 0, 0, 0, 0},
+    {"300A0201010400A103030100", 7, 0, 0, 0, 12, 0},
+    {"300F0201010400A00806062A8FFFFFFF7F", 7, 0, 11, 6, 0, 0},
+    {"300E0201010400A00706052B81040022", 7, 0, 11, 5, 0, 0},
+    {"300B0201010400A00406022A03", 7, 0, 11, 2, 0, 0},
+    {"30100201010400A00406022A03A103030100", 7, 0, 11, 2, 18, 0},
+    {"30100201010400A00406022A03A103030100", 7, 0, 11, 2, 18, 0},
+    {"3006020101040155", 7, 1, 0, 0, 0, 0},
+};
+
+static void test_accepted_keys(void)
+{
+    for (size_t i = 0; i < sizeof accepted_keys / sizeof *accepted_keys; i++) {
+        struct accepted a = accepted_keys[i];
+        struct bytes key = unhex(a.key);
+        struct sec1_key_parts parts;
+        EXPECT(read_key(key, &parts) == SEC1_OK);
+        EXPECT(is_part(parts.private_key, a.private_offset, a.private_len));
+        EXPECT(a.curve_offset ? is_part(parts.curve, a.curve_offset, a.curve_len) : is_absent(parts.curve));
+        EXPECT(a.public_offset ? is_part(parts.public_key, a.public_offset, a.public_len) : is_absent(parts.public_key));
+
+        struct given given = no_key;
+        given.private_key.len = a.private_len;
+        memcpy(given.private_key.data, key.data + a.private_offset, a.private_len);
+        given.curve.len = a.curve_len;
+        memcpy(given.curve.data, key.data + a.curve_offset, a.curve_len);
+        given.public_key.len = a.public_len;
+        memcpy(given.public_key.data, key.data + a.public_offset, a.public_len);
+        given.has_public_key = a.public_offset ? (i % 3 == 0 ? 1 : i % 3 == 1 ? 256 : SIZE_MAX) : 0;
+        for (size_t room = 0; room <= key.len + 3; room++) {
+            struct bytes out;
+            size_t len;
+            uint32_t status = write_key(given, room, &out, &len);
+            EXPECT(len == key.len);
+            if (room < key.len) {
+                EXPECT(status == SEC1_BUFFER && all_are(out.data, room, 0xEE));
+            } else {
+                EXPECT(status == SEC1_OK && memcmp(out.data, key.data, key.len) == 0);
+                EXPECT(all_are(out.data + key.len, room - key.len, 0xEE));
+            }
+        }
+    }
+}
+
+static const struct refused {
+    const char *bytes;
+    uint32_t status;
+} refused_keys[] = {
+    {"3081050201010400", SEC1_LENGTH},
+    {"30800201010400" "0000", SEC1_LENGTH},
+    {"3006020200010400", SEC1_VALUE},
+    {"3003020102", SEC1_VALUE},
+    {"300402000400", SEC1_VALUE},
+    {"3003020101", SEC1_TRUNCATED},
+    {"3180", SEC1_TAG},
+    {"300B0201010400A10403020100", SEC1_VALUE},
+    {"30110201010400A00406022A03A00406022A03", SEC1_TRAILING_DATA},
+    {"30100201010400A103030100A00406022A03", SEC1_TRAILING_DATA},
+    {"300702010104000500", SEC1_TRAILING_DATA},
+    {"30090201010400A0023000", SEC1_TAG},
+    {"30090201010400A0020500", SEC1_TAG},
+    {"300F0201010400A00806062A9080808000", SEC1_VALUE},
+    {"300C0201010400A00506032A8001", SEC1_VALUE},
+    {"", SEC1_TRUNCATED},
+    {"30", SEC1_TRUNCATED},
+    {"00", SEC1_TAG},
+};
+
+static void test_refused_keys(void)
+{
+    struct sec1_key_parts parts;
+    for (size_t i = 0; i < sizeof refused_keys / sizeof *refused_keys; i++)
+        EXPECT(read_key(unhex(refused_keys[i].bytes), &parts) == refused_keys[i].status);
+
+    struct bytes key = unhex(WHOLE_KEY);
+    for (size_t len = 0; len < key.len; len++) {
+        struct bytes beginning = key;
+        beginning.len = len;
+        EXPECT(read_key(beginning, &parts) == SEC1_TRUNCATED);
+    }
+    EXPECT(read_key(joined(key, unhex("00")), &parts) == SEC1_TRAILING_DATA);
+    EXPECT(sec1_key_read(NULL, 0, &parts) == SEC1_TRUNCATED);
+}
+
+static void test_written_keys(void)
+{
+    struct bytes out;
+    size_t len;
+    struct given key = no_key;
+
+    /* a private key of 122 bytes has a short length around it, and one of 123 a long one */
+    key.private_key = repeated(0, 122);
+    EXPECT(write_key(key, 200, &out, &len) == SEC1_OK && len == 129);
+    EXPECT(memcmp(out.data, unhex("307F020101047A").data, 7) == 0 && all_are(out.data + 7, 122, 0));
+    key.private_key = repeated(0, 123);
+    EXPECT(write_key(key, 200, &out, &len) == SEC1_OK && len == 131);
+    EXPECT(memcmp(out.data, unhex("308180020101047B").data, 8) == 0 && all_are(out.data + 8, 123, 0));
+
+    /* the buffer keeps what is behind the key */
+    key = no_key;
+    EXPECT(write_key(key, 9, &out, &len) == SEC1_OK && len == 7);
+    EXPECT(memcmp(out.data, unhex("30050201010400EEEE").data, 9) == 0);
+
+    /* the number 0 says that there is no public key, whatever its bytes are */
+    key.public_key = repeated(7, 3);
+    EXPECT(write_key(key, 9, &out, &len) == SEC1_OK && len == 7);
+
+    /* a content that is no identifier's */
+    static const char *const no_curves[] = {"80", "2A80", "2A8001", "2A9080808000", "AA"};
+    for (size_t i = 0; i < sizeof no_curves / sizeof *no_curves; i++) {
+        key = no_key;
+        key.curve = unhex(no_curves[i]);
+        EXPECT(write_key(key, 200, &out, &len) == SEC1_VALUE && len == 777777 && all_are(out.data, 200, 0xEE));
+    }
+    key.curve = repeated(1, 40);
+    EXPECT(write_key(key, 200, &out, &len) == SEC1_VALUE && len == 777777);
+    key.curve = repeated(1, 39);
+    EXPECT(write_key(key, 200, &out, &len) == SEC1_OK && len == 5 + 2 + 2 + 2 + 39);
+
+    size_t found = 777777;
+    EXPECT(sec1_key_write(NULL, 0, NULL, 0, NULL, 0, 0, NULL, 0, &found) == SEC1_BUFFER && found == 7);
+    EXPECT(sec1_key_len(NULL, 0, NULL, 0, NULL, 0, 1, &found) == SEC1_OK && found == 12);
+}
+
+/* Parts at the limit of 268,435,455 bytes of a content. Nothing is read of them where only the length is asked. */
+static void test_long_keys(void)
+{
+    size_t size = (size_t)1 << 28;
+    uint8_t *zeros = mmap(NULL, size + 16, PROT_READ, MAP_PRIVATE | MAP_ANONYMOUS | MAP_NORESERVE, -1, 0);
+    if (zeros == MAP_FAILED) {
+        perror("mmap");
+        exit(2);
+    }
+    size_t len = 777777;
+    uint8_t out[16];
+    memset(out, 0xEE, sizeof out);
+    EXPECT(sec1_key_len(zeros, 268435446, NULL, 0, NULL, 0, 0, &len) == SEC1_OK && len == 268435461);
+    EXPECT(sec1_key_write(zeros, 268435446, NULL, 0, NULL, 0, 0, out, 16, &len) == SEC1_BUFFER && len == 268435461);
+    len = 777777;
+    EXPECT(sec1_key_len(zeros, 268435447, NULL, 0, NULL, 0, 0, &len) == SEC1_OVERLENGTH && len == 777777);
+    EXPECT(sec1_key_len(zeros, size, NULL, 0, NULL, 0, 0, &len) == SEC1_OVERLENGTH && len == 777777);
+    EXPECT(sec1_key_len(NULL, 0, NULL, 0, zeros, 268435430, 1, &len) == SEC1_OK && len == 268435454);
+    EXPECT(sec1_key_len(NULL, 0, NULL, 0, zeros, 268435437, 1, &len) == SEC1_OK && len == 268435461);
+    len = 777777;
+    EXPECT(sec1_key_len(NULL, 0, NULL, 0, zeros, 268435438, 1, &len) == SEC1_OVERLENGTH && len == 777777);
+    EXPECT(sec1_key_len(NULL, 0, NULL, 0, zeros, size, 1, &len) == SEC1_OVERLENGTH && len == 777777);
+    EXPECT(sec1_key_write(zeros, size, NULL, 0, zeros, size, 1, out, 16, &len) == SEC1_OVERLENGTH && len == 777777);
+    EXPECT(all_are(out, 16, 0xEE));
+    munmap(zeros, size + 16);
+}
+
+/* ---- points */
+
+static size_t field;
+
+static uint32_t compress(const uint8_t *bytes, size_t bytes_len, uint8_t *out, size_t out_len, size_t *len)
+{
+    return sec1_point_compress(bytes, bytes_len, field, out, out_len, len);
+}
+
+static uint32_t to_hybrid(const uint8_t *bytes, size_t bytes_len, uint8_t *out, size_t out_len, size_t *len)
+{
+    return sec1_point_to_hybrid(bytes, bytes_len, field, out, out_len, len);
+}
+
+static uint32_t read_point(struct bytes input, struct sec1_point_parts *parts)
+{
+    uint32_t status = 0;
+    for (enum side side = AT_END; side <= AT_START; side++) {
+        struct guarded in = map_input(input.data, input.len, side);
+        struct guarded out = map_guarded(sizeof *parts, side);
+        memset(out.data, 0xA5, sizeof *parts);
+        status = sec1_point_read(in.data, input.len, field, (struct sec1_point_parts *)out.data);
+        memcpy(parts, out.data, sizeof *parts);
+        EXPECT(status == SEC1_OK || all_are(out.data, sizeof *parts, 0xA5));
+        EXPECT(sec1_point_check(in.data, input.len, field) == status);
+        unmap(in);
+        unmap(out);
+    }
+    return status;
+}
+
+/* A tag, x where it isn't NULL and y where it isn't NULL. */
+static struct bytes point_bytes(uint8_t tag, const struct bytes *x, const struct bytes *y)
+{
+    struct bytes point = repeated(tag, 1);
+    if (x)
+        point = joined(point, *x);
+    if (y)
+        point = joined(point, *y);
+    return point;
+}
+
+static void test_points_of(size_t n)
+{
+    field = n;
+    struct sec1_point_parts parts;
+    struct bytes x = repeated(0x11, n), even = repeated(0x22, n), odd = repeated(0x33, n);
+
+    EXPECT(read_point(point_bytes(0, NULL, NULL), &parts) == SEC1_OK);
+    EXPECT(parts.tag == SEC1_POINT_IDENTITY && is_absent(parts.x) && is_absent(parts.y));
+    for (uint8_t tag = 2; tag <= 5; tag++) {
+        if (tag == 4)
+            continue;
+        struct bytes point = point_bytes(tag, &x, NULL);
+        EXPECT(read_point(point, &parts) == SEC1_OK);
+        EXPECT(parts.tag == tag && is_part(parts.x, 1, n) && is_absent(parts.y));
+        expect_converted(compress, point, point);
+        expect_converted(to_hybrid, point, point);
+    }
+    for (uint8_t tag = 4; tag <= 7; tag++) {
+        if (tag == 5)
+            continue;
+        for (int is_odd = 0; is_odd < 2; is_odd++) {
+            struct bytes y = is_odd ? odd : even;
+            struct bytes point = point_bytes(tag, &x, &y);
+            if (tag != 4 && tag % 2 != is_odd) {
+                EXPECT(read_point(point, &parts) == SEC1_POINT_ENCODING);
+                expect_refused(compress, point, SEC1_POINT_ENCODING);
+                expect_refused(to_hybrid, point, SEC1_POINT_ENCODING);
+                continue;
+            }
+            EXPECT(read_point(point, &parts) == SEC1_OK);
+            EXPECT(parts.tag == tag && is_part(parts.x, 1, n) && is_part(parts.y, 1 + n, n));
+            expect_converted(compress, point, point_bytes(is_odd ? 3 : 2, &x, NULL));
+            expect_converted(to_hybrid, point, point_bytes(tag == 4 ? (is_odd ? 7 : 6) : tag, &x, &y));
+        }
+    }
+    expect_converted(compress, repeated(0, 1), repeated(0, 1));
+
+    /* every other tag and every other length */
+    for (unsigned tag = 0; tag < 256; tag++) {
+        for (size_t len = 0; len <= 2 * n + 2; len++) {
+            struct bytes input = repeated(0, len);
+            if (len)
+                input.data[0] = (uint8_t)tag;
+            int is_point = (tag == 0 && len == 1) || ((tag == 2 || tag == 3 || tag == 5) && len == n + 1)
+                           || ((tag == 4 || tag == 6) && len == 2 * n + 1);
+            EXPECT(sec1_point_check(input.data, len, n) == (is_point ? SEC1_OK : SEC1_POINT_ENCODING));
+        }
+    }
+    EXPECT(sec1_point_check(NULL, 0, n) == SEC1_POINT_ENCODING);
+}
+
+static int32_t order_of(struct bytes a, struct bytes b)
+{
+    int32_t order = 99;
+    struct guarded first = map_input(a.data, a.len, AT_END), second = map_input(b.data, b.len, AT_START);
+    EXPECT(sec1_point_compare(first.data, a.len, second.data, b.len, field, &order) == SEC1_OK);
+    unmap(first);
+    unmap(second);
+    return order;
+}
+
+static void test_point_order(size_t n)
+{
+    field = n;
+    /* in ascending order: by tag, then by x, then by y */
+    struct bytes low = repeated(0, n), high = repeated(0xFF, n);
+    struct bytes one = low, big = low;
+    one.data[n - 1] = 1;
+    big.data[0] = 1;
+    struct bytes points[] = {
+        point_bytes(0, NULL, NULL), point_bytes(2, &low, NULL), point_bytes(2, &one, NULL), point_bytes(2, &big, NULL),
+        point_bytes(2, &high, NULL), point_bytes(3, &low, NULL), point_bytes(4, &low, &high), point_bytes(4, &one, &low),
+        point_bytes(4, &one, &one), point_bytes(4, &one, &big), point_bytes(4, &big, &low), point_bytes(5, &low, NULL),
+        point_bytes(6, &low, &low), point_bytes(6, &high, &low), point_bytes(7, &low, &one), point_bytes(7, &low, &high),
+    };
+    int count = sizeof points / sizeof *points;
+    for (int i = 0; i < count; i++)
+        for (int j = 0; j < count; j++)
+            EXPECT(order_of(points[i], points[j]) == (i > j) - (i < j));
+
+    int32_t order = 99;
+    struct bytes point = points[1], none = repeated(9, 5);
+    EXPECT(sec1_point_compare(point.data, point.len, none.data, none.len, n, &order) == SEC1_POINT_ENCODING);
+    EXPECT(sec1_point_compare(none.data, none.len, point.data, point.len, n, &order) == SEC1_POINT_ENCODING);
+    EXPECT(sec1_point_compare(point.data, point.len, point.data, point.len, n + 1, &order) == SEC1_FIELD_LENGTH);
+    EXPECT(order == 99);
+}
+
+static void test_points(void)
+{
+    static const size_t fields[] = {28, 32, 48, 66};
+    for (int i = 0; i < 4; i++) {
+        test_points_of(fields[i]);
+        test_point_order(fields[i]);
+    }
+
+    /* the public key of the key above */
+    field = 32;
+    struct bytes point = unhex("04" X Y);
+    expect_converted(compress, point, unhex("03" X));
+    expect_converted(to_hybrid, point, unhex("07" X Y));
+
+    struct sec1_point_parts parts;
+    static const size_t others[] = {0, 1, 27, 29, 31, 33, 47, 49, 65, 67, 256 + 32, ((size_t)1 << 32) + 32, SIZE_MAX};
+    for (size_t i = 0; i < sizeof others / sizeof *others; i++) {
+        field = others[i];
+        EXPECT(read_point(point, &parts) == SEC1_FIELD_LENGTH);
+        EXPECT(read_point(repeated(0, 1), &parts) == SEC1_FIELD_LENGTH);
+        expect_refused(compress, point, SEC1_FIELD_LENGTH);
+        expect_refused(to_hybrid, point, SEC1_FIELD_LENGTH);
+    }
+}
+
+/* ---- identifiers */
+
+static uint32_t to_text(const uint8_t *bytes, size_t bytes_len, uint8_t *out, size_t out_len, size_t *len)
+{
+    return sec1_identifier_to_text(bytes, bytes_len, (char *)out, out_len, len);
+}
+
+static uint32_t from_text(const uint8_t *bytes, size_t bytes_len, uint8_t *out, size_t out_len, size_t *len)
+{
+    return sec1_identifier_from_text((const char *)bytes, bytes_len, out, out_len, len);
+}
+
+static struct bytes text_bytes(const char *text)
+{
+    struct bytes b = {0};
+    b.len = strlen(text);
+    memcpy(b.data, text, b.len);
+    return b;
+}
+
+static void expect_identifier(const char *text, struct bytes content)
+{
+    struct bytes ended = text_bytes(text);
+    ended.len++;
+    expect_converted(to_text, content, ended);
+    expect_converted(from_text, text_bytes(text), content);
+}
+
+static void test_identifiers(void)
+{
+    expect_identifier("1.2.840.10045.2.1", unhex("2A8648CE3D0201"));
+    expect_identifier("1.2.840.10045.3.1.7", unhex("2A8648CE3D030107"));
+    expect_identifier("1.3.132.0.34", unhex("2B81040022"));
+    expect_identifier("0.0", unhex("00"));
+    expect_identifier("0.39", unhex("27"));
+    expect_identifier("1.0", unhex("28"));
+    expect_identifier("1.39", unhex("4F"));
+    expect_identifier("2.0", unhex("50"));
+    expect_identifier("2.39", unhex("77"));
+    expect_identifier("2.40", unhex("78"));
+    expect_identifier("2.47", unhex("7F"));
+    expect_identifier("2.48", unhex("8100"));
+    expect_identifier("2.999", unhex("8837"));
+    expect_identifier("2.4294967215", unhex("8FFFFFFF7F"));
+    expect_identifier("1.2.4294967295", unhex("2A8FFFFFFF7F"));
+    expect_identifier("1.2.0", unhex("2A00"));
+    expect_identifier("1.2.127.128.16383.16384", unhex("2A7F8100FF7F818000"));
+
+    /* 39 bytes of content, as the longest text and as the shortest */
+    char longest[200] = "2.47", shortest[200] = "1.2";
+    for (int i = 0; i < 38; i++) {
+        strcat(longest, ".127");
+        strcat(shortest, ".1");
+    }
+    EXPECT(strlen(longest) == 156);
+    expect_identifier(longest, repeated(0x7F, 39));
+    expect_identifier(shortest, joined(unhex("2A"), repeated(1, 38)));
+    expect_refused(from_text, text_bytes(strcat(shortest, ".1")), SEC1_VALUE);
+    expect_refused(to_text, repeated(1, 40), SEC1_VALUE);
+
+    static const char *const no_texts[] = {
+        "", ".", "1", "1.", ".1", "1.2.", "01.2", "1.02", "1.40", "0.40", "3.1", "1.-2", "+1.2", "1.+2", "1 .2", "1. 2",
+        "1.2\n", "1.2.4294967296", "2.4294967216", "1.2.99999999999999999999", "1..2", "a.b", "1.2.\xC3\xA9", "\xFF\xFE",
+    };
+    for (size_t i = 0; i < sizeof no_texts / sizeof *no_texts; i++)
+        expect_refused(from_text, text_bytes(no_texts[i]), SEC1_VALUE);
+    struct bytes with_end = text_bytes("1.2");
+    with_end.len++;
+    expect_refused(from_text, with_end, SEC1_VALUE);
+
+    static const char *const no_contents[] = {"", "80", "8001", "2A80", "2A8001", "2AFF", "2A9080808000", "9080808000"};
+    for (size_t i = 0; i < sizeof no_contents / sizeof *no_contents; i++)
+        expect_refused(to_text, unhex(no_contents[i]), SEC1_VALUE);
+    size_t len = 777777;
+    EXPECT(sec1_identifier_to_text(NULL, 0, NULL, 0, &len) == SEC1_VALUE && len == 777777);
+    EXPECT(sec1_identifier_from_text(NULL, 0, NULL, 0, &len) == SEC1_VALUE && len == 777777);
+}
+
+/* ---- elements */
+
+static uint32_t check_tree(struct bytes input, size_t *elements)
+{
+    uint32_t status = 0;
+    for (enum side side = AT_END; side <= AT_START; side++) {
+        struct guarded in = map_input(input.data, input.len, side);
+        *elements = 777777;
+        status = sec1_check_tree(in.data, input.len, elements);
+        EXPECT(status == SEC1_OK || *elements == 777777);
+        unmap(in);
+    }
+    return status;
+}
+
+static uint32_t document_len(struct bytes input, size_t *len)
+{
+    uint32_t status = 0;
+    for (enum side side = AT_END; side <= AT_START; side++) {
+        struct guarded in = map_input(input.data, input.len, side);
+        *len = 777777;
+        status = sec1_document_len(in.data, input.len, len);
+        unmap(in);
+    }
+    return status;
+}
+
+static const struct tree {
+    const char *bytes;
+    uint32_t status;
+    size_t elements;
+} trees[] = {
+    {WHOLE_KEY, SEC1_OK, 7},
+    {"306B020101" "0420" PRIVATE "A144034200" "04" X Y, SEC1_OK, 5},
+    {"30050201010400", SEC1_OK, 3},
+    {"3006020200010400", SEC1_OK, 3},
+    {"30110201010400A00406022A03A00406022A03", SEC1_OK, 7},
+    {"0400", SEC1_OK, 1},
+    {"3000", SEC1_OK, 1},
+    {"3003040500", SEC1_TRUNCATED, 0},
+    {"3081050201010400", SEC1_LENGTH, 0},
+    {"30800201010400" "0000", SEC1_LENGTH, 0},
+    {"040000", SEC1_TRAILING_DATA, 0},
+    {"1F00", SEC1_TAG, 0},
+    {"", SEC1_TRUNCATED, 0},
+};
+
+static const struct document {
+    const char *bytes;
+    uint32_t status;
+    size_t len;
+} documents[] = {
+    {WHOLE_KEY, SEC1_OK, 121},
+    {WHOLE_KEY "00", SEC1_TRAILING_DATA, 121},
+    {"3003040500", SEC1_OK, 5},
+    {"30840FFFFFFF", SEC1_TRUNCATED, 268435461},
+    {"308410000000", SEC1_LENGTH, 0},
+    {"308410", SEC1_TRUNCATED, 0},
+    {"0400", SEC1_OK, 2},
+    {"0403AABB", SEC1_TRUNCATED, 5},
+    {"0401AABB", SEC1_TRAILING_DATA, 3},
+    {"048180", SEC1_TRUNCATED, 131},
+    {"04817F", SEC1_LENGTH, 0},
+    {"0480", SEC1_LENGTH, 0},
+    {"0485", SEC1_LENGTH, 0},
+    {"04", SEC1_TRUNCATED, 0},
+    {"0000", SEC1_TAG, 0},
+    {"1F", SEC1_TAG, 0},
+    {"", SEC1_TRUNCATED, 0},
+};
+
+static void test_elements(void)
+{
+    size_t found;
+    for (size_t i = 0; i < sizeof trees / sizeof *trees; i++) {
+        EXPECT(check_tree(unhex(trees[i].bytes), &found) == trees[i].status);
+        EXPECT(trees[i].status != SEC1_OK || found == trees[i].elements);
+    }
+    for (size_t i = 0; i < sizeof documents / sizeof *documents; i++) {
+        EXPECT(document_len(unhex(documents[i].bytes), &found) == documents[i].status);
+        EXPECT(found == documents[i].len);
+    }
+    EXPECT(sec1_check_tree(NULL, 0, &found) == SEC1_TRUNCATED);
+    EXPECT(sec1_document_len(NULL, 0, &found) == SEC1_TRUNCATED && found == 0);
+
+    /* 64 headers around one another, and one more */
+    struct bytes tree = {0};
+    for (int i = 0; i < 64; i++) {
+        tree.data[2 * i] = 0x30;
+        tree.data[2 * i + 1] = (uint8_t)(126 - 2 * i);
+    }
+    tree.len = 128;
+    EXPECT(check_tree(tree, &found) == SEC1_OK && found == 64);
+    EXPECT(check_tree(joined(unhex("308180"), tree), &found) == SEC1_DEPTH);
+}
+
+/* ---- random bytes */
+
+static uint64_t state = 0x9E3779B97F4A7C15;
+
+static uint32_t draw(uint32_t limit)
+{
+    state ^= state << 13;
+    state ^= state >> 7;
+    state ^= state << 17;
+    return (uint32_t)(state >> 32) % limit;
+}
+
+/* Bytes of small DER in no order, so that many of them are read far. */
+static struct bytes draw_bytes(size_t most)
+{
+    static const uint8_t often[] = {0x30, 0x02, 0x01, 0x01, 0x04, 0x00, 0xA0, 0x06, 0xA1, 0x03, 0x2A, 0x80, 0x81, 0x7F};
+    struct bytes b = {0};
+    b.len = draw((uint32_t)most + 1);
+    for (size_t i = 0; i < b.len; i++)
+        b.data[i] = draw(3) ? often[draw(sizeof often)] : (uint8_t)draw(256);
+    return b;
+}
+
+static void test_random_bytes(void)
+{
+    enum { ROOM = 256 };
+    struct guarded in = map_guarded(ROOM, AT_END), out = map_guarded(ROOM, AT_END);
+    for (int i = 0; i < 300000; i++) {
+        struct bytes b = draw_bytes(i % 2 ? 24 : 72);
+        if (i % 5 == 0 && b.len > 7)
+            memcpy(b.data, "\x30\x05\x02\x01\x01\x04\x00", 7), b.data[1] = (uint8_t)(b.len - 2);
+        uint8_t *bytes = in.data + ROOM - b.len;
+        memcpy(bytes, b.data, b.len);
+        size_t len = 777777, elements;
+        struct sec1_key_parts p;
+        uint32_t status = sec1_key_read(bytes, b.len, &p);
+        EXPECT(status <= SEC1_VALUE);
+        if (status == SEC1_OK) {
+            EXPECT(sec1_check_tree(bytes, b.len, &elements) == SEC1_OK);
+            EXPECT(elements == 3 + 2 * p.curve.present + 2 * p.public_key.present);
+            EXPECT(sec1_document_len(bytes, b.len, &len) == SEC1_OK && len == b.len);
+            EXPECT(sec1_key_write(bytes + p.private_key.offset, p.private_key.len, bytes + p.curve.offset, p.curve.len,
+                                  bytes + p.public_key.offset, p.public_key.len, p.public_key.present,
+                                  out.data + ROOM - b.len, b.len, &len) == SEC1_OK);
+            EXPECT(len == b.len && memcmp(out.data + ROOM - b.len, bytes, len) == 0);
+        }
+        uint8_t text[SEC1_IDENTIFIER_TEXT_MAX], content[SEC1_IDENTIFIER_CONTENT_MAX];
+        if (to_text(bytes, b.len, text, sizeof text, &len) == SEC1_OK) {
+            size_t again;
+            EXPECT(from_text(text, len - 1, content, sizeof content, &again) == SEC1_OK);
+            EXPECT(again == b.len && memcmp(content, bytes, again) == 0);
+        }
+        field = 28 + 4 * (unsigned)(i % 2);
+        struct sec1_point_parts point;
+        status = sec1_point_read(bytes, b.len, field, &point);
+        EXPECT(status == SEC1_OK || status == SEC1_POINT_ENCODING);
+        if (status == SEC1_OK && b.len > 1) {
+            uint8_t form[133];
+            EXPECT(compress(bytes, b.len, form, sizeof form, &len) == SEC1_OK && len == field + 1);
+            EXPECT(memcmp(form + 1, bytes + point.x.offset, field) == 0);
+        }
+    }
+    unmap(in);
+    unmap(out);
+}
+
+int main(void)
+{
+    page_size = (size_t)sysconf(_SC_PAGESIZE);
+    setvbuf(stdout, NULL, _IOLBF, 0);
+    static const struct test {
+        const char *name;
+        void (*run)(void);
+    } tests[] = {
+        {"header", test_header},
+        {"accepted keys", test_accepted_keys},
+        {"refused keys", test_refused_keys},
+        {"written keys", test_written_keys},
+        {"long keys", test_long_keys},
+        {"points", test_points},
+        {"identifiers", test_identifiers},
+        {"elements", test_elements},
+        {"random bytes", test_random_bytes},
+    };
+    unsigned tests_passed = 0, tests_failed = 0;
+    for (size_t i = 0; i < sizeof tests / sizeof *tests; i++) {
+        passed = failed = 0;
+        tests[i].run();
+        printf("%s: %lu checks hold, %lu don't\n", tests[i].name, passed, failed);
+        failed ? tests_failed++ : tests_passed++;
+    }
+    printf("%u passed, %u failed\n", tests_passed, tests_failed);
+    return tests_failed != 0;
+}
