@@ -1,0 +1,53 @@
+"""Prints 2,000 damaged copies of the keys on standard input, the same in each run, each behind a line that says what was done."""
+import random
+import sys
+
+HEAD = 8
+
+
+def damage(numbers, data):
+    """Returns what is done to the bytes, and what they are then."""
+    place = numbers.randrange(len(data))
+    kind = numbers.randrange(10)
+    if kind <= 2:
+        # headers stand at the beginning, and behind the private key
+        place = numbers.choice([numbers.randrange(HEAD), len(data) // 2 - 4 + numbers.randrange(8), place])
+        data[place] = (data[place] + numbers.choice([1, 255, 0x80, 0x20])) % 256
+        return f"byte {place} changed", data
+    if kind == 3:
+        data[place] = numbers.randrange(256)
+        return f"byte {place} made anew", data
+    if kind == 4:
+        return f"cut off at {place}", data[:place]
+    if kind == 5:
+        more = numbers.randbytes(numbers.randrange(1, 4))
+        return f"{len(more)} bytes added", data + more
+    if kind == 6:
+        data.insert(place, numbers.randrange(256))
+        return f"a byte put in at {place}", data
+    if kind == 7:
+        del data[place]
+        return f"byte {place} taken out", data
+    if kind == 8:
+        # the element around the key tells the new length, so that the fault stands deeper
+        place = numbers.randrange(2, len(data))
+        del data[place:]
+        data[1] = min(len(data) - 2, 0x7F)
+        return f"cut off at {place}, and announced so", data
+    start, end = sorted((place, numbers.randrange(len(data))))
+    data[start:start] = data[start:end]
+    return f"bytes {start} to {end} doubled", data
+
+
+def main():
+    keys = [bytes.fromhex(line) for line in sys.stdin.read().split("\n") if line and not line.startswith("#")]
+    keys = [key for key in keys if len(key) <= 129]
+    numbers, seen = random.Random(2026), {*keys}
+    while len(seen) < 2_000 + len({*keys}):
+        what, data = damage(numbers, bytearray(numbers.choice(keys)))
+        if bytes(data) not in seen:
+            seen.add(bytes(data))
+            print(f"# {what}\n{bytes(data).hex().upper()}")
+
+
+main()

@@ -1,0 +1,57 @@
+#!/usr/bin/env bash
+# Compares what sec1_rewrite is stored to read and to print with what the reader of this folder says, and the keys with OpenSSL where
+# that is there. rt ci compares it with what the program prints. Its last line is 'N passed, M failed'.
+set -u
+top=$(cd "$(dirname "$0")/../.." && pwd)
+here=$top/tests/keys
+crate=$top/crates/sec1_rewrite
+room=$(mktemp -d)
+trap 'rm -rf "$room"' EXIT
+export PYTHONDONTWRITEBYTECODE=1
+passed=0 failed=0
+
+# Counts a case, and says what it is where it failed.
+tell() {
+    if [ "$2" = yes ]; then
+        passed=$((passed + 1))
+    else
+        failed=$((failed + 1))
+        echo "FAILED: $1"
+    fi
+}
+
+# Compares two files.
+same() {
+    cmp -s "$2" "$3" && tell "$1" yes || tell "$1" no
+}
+
+if ! command -v python3 >/dev/null; then
+    tell "there is no python3 to run the reader with" no
+else
+    python3 "$here/damage.py" <"$here/openssl.txt" >"$room/damaged"
+    cat "$here/openssl.txt" "$room/damaged" >"$room/stdin"
+    same "the stored input is the keys of OpenSSL and their damaged copies" "$room/stdin" "$crate/stdin"
+    python3 "$here/answers.py" <"$crate/stdin" >"$room/stdout"
+    same "the stored output is what the other reader says" "$room/stdout" "$crate/stdout"
+fi
+lines=$(grep -vc '^#' "$crate/stdin")
+[ "$lines" = 2656 ] && tell "656 keys and 2,000 damaged copies" yes || tell "there are $lines keys" no
+
+# Each key that is read is OpenSSL's too: it reads it and finds the same private key.
+if command -v openssl >/dev/null; then
+    count=0
+    while read -r digits && read -r private _ <&3; do
+        case $private in SEC1) continue ;; esac
+        printf '%b' "$(echo "$digits" | sed 's/../\\x&/g')" >"$room/key"
+        if openssl asn1parse -inform DER -in "$room/key" -noout 2>"$room/error" &&
+            openssl asn1parse -inform DER -in "$room/key" | grep -q "OCTET STRING *\[HEX DUMP\]:$private$"; then
+            count=$((count + 1))
+        fi
+    done < <(grep -v '^#' "$here/openssl.txt" | head -80) 3< <(head -80 "$crate/stdout")
+    [ "$count" -gt 60 ] && tell "OpenSSL finds the private keys" yes || tell "OpenSSL finds $count private keys" no
+else
+    echo "there is no openssl: its own reading of the keys wasn't compared"
+fi
+
+echo "$passed passed, $failed failed"
+[ "$failed" = 0 ]

@@ -1,0 +1,88 @@
+#!/usr/bin/env bash
+# Runs those built tests that refuse memory, reads and writes one by one, over an allocator that refuses (tests/refuse.c), and prints
+# how many requests each call makes. Its last line is 'N passed, M failed'.
+set -u
+top=$(cd "$(dirname "$0")/.." && pwd)
+room=$(mktemp -d)
+trap 'rm -rf "$room"' EXIT
+passed=0 failed=0
+
+# The calls whose requests have to be refused, by crate, and those that have to make none.
+calls=(
+    'sec1_der to_der'
+    'sec1_der SecretDocument::encode_msg'
+    'sec1_der SecretDocument::from_der'
+    'sec1_der SecretDocument::read_der_from'
+    'sec1_der SecretDocument::read_der_from of 10,004 bytes'
+    'sec1_der SecretDocument::read_der_file'
+    'sec1 EcPrivateKey::to_der'
+    'sec1 EcPrivateKey::document_ref'
+    'sec1 EcPrivateKey::document'
+    'sec1 read_sec1_der_from'
+    'sec1 write_sec1_der_to'
+    'sec1 read_sec1_der_file'
+    'sec1 write_sec1_der_file'
+    'sec1 to_bytes'
+    'sec1 to_lower_hex'
+    'sec1 to_upper_hex'
+    'sec1 to_json'
+    'sec1_inspect run'
+    'sec1_inspect run_der'
+)
+without=(
+    'sec1_der SecretDocument::write_der_to'
+    'sec1_der from_der, encoded_len, encode_to_slice, check_tree'
+    'sec1 try_from, encoded_len, encode_to_slice, check_tree'
+    'sec1 from_bytes, cmp, compress'
+    'sec1 from_str, from_json'
+)
+
+# Counts a case, and says what it is where it failed.
+tell() {
+    if [ "$2" = yes ]; then
+        passed=$((passed + 1))
+    else
+        failed=$((failed + 1))
+        echo "FAILED: $1"
+    fi
+}
+
+if ! cc -O1 -shared -fPIC -o "$room/refuse.so" "$top/tests/refuse.c" -ldl 2>"$room/compiler"; then
+    echo "no allocator was built, since there is no C compiler: $(head -c 200 "$room/compiler")"
+    echo "0 passed, 1 failed"
+    exit 1
+fi
+
+for crate in sec1_der sec1 sec1_inspect; do
+    tests=$top/crates/$crate/out/${crate}_tests
+    if [ ! -x "$tests" ]; then
+        tell "the tests of $crate aren't built: run rt ci first" no
+        continue
+    fi
+    for name in $("$tests" --list | sed -n 's/^\(.*\(memory::\|in_turn\).*\): test$/\1/p'); do
+        if (cd "$room" && TMPDIR=$room LD_PRELOAD=$room/refuse.so timeout 60 "$tests" "$name" >wrote 2>error); then
+            tell "$crate, $name" yes
+        else
+            tell "$crate, $name: $(head -c 300 "$room/error")" no
+        fi
+        sed -n "s/^\(.*\(request\|fails\|grows\).*\)$/$crate \1/p" "$room/wrote" | tee -a "$room/lines"
+    done
+done
+
+for call in "${calls[@]}"; do
+    if grep -q "^$call: [1-9][0-9]* of [1-9][0-9]* requests end it$" "$room/lines"; then
+        tell "$call" yes
+    else
+        tell "$call: its requests weren't refused" no
+    fi
+done
+for call in "${without[@]}"; do
+    if grep -qxF "$call: no request" "$room/lines"; then
+        tell "$call" yes
+    else
+        tell "$call: it isn't known to make no request" no
+    fi
+done
+
+echo "$passed passed, $failed failed"
+[ "$failed" = 0 ]
