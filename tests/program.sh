@@ -3,26 +3,15 @@
 # requests for memory refused. Its last line is 'N passed, M failed'.
 set -u
 top=$(cd "$(dirname "$0")/.." && pwd)
+. "$top/tests/count.sh"
 program=$top/crates/sec1_inspect/out/sec1_inspect
 if [ ! -x "$program" ]; then
-    echo "the program isn't built: run rt ci first"
-    echo "0 passed, 1 failed"
-    exit 1
+    tell "the program isn't built: run rt ci first" no
+    finish
 fi
 room=$(mktemp -d)
 trap 'rm -rf "$room"' EXIT
 cd "$room" || exit 1
-passed=0 failed=0
-
-# Counts a case, and says what it is where it failed.
-tell() {
-    if [ "$2" = yes ]; then
-        passed=$((passed + 1))
-    else
-        failed=$((failed + 1))
-        echo "FAILED: $1"
-    fi
-}
 
 # Compares the status, standard output and standard error of the last run with these.
 ended() {
@@ -147,5 +136,4 @@ else
     tell "no allocator was built, since there is no C compiler: $(head -c 200 compiler)" no
 fi
 
-echo "$passed passed, $failed failed"
-[ "$failed" = 0 ]
+finish

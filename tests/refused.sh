@@ -3,9 +3,9 @@
 # how many requests each call makes. Its last line is 'N passed, M failed'.
 set -u
 top=$(cd "$(dirname "$0")/.." && pwd)
+. "$top/tests/count.sh"
 room=$(mktemp -d)
 trap 'rm -rf "$room"' EXIT
-passed=0 failed=0
 
 # The calls whose requests have to be refused, by crate, and those that have to make none.
 calls=(
@@ -37,26 +37,16 @@ without=(
     'sec1 from_str, from_json'
 )
 
-# Counts a case, and says what it is where it failed.
-tell() {
-    if [ "$2" = yes ]; then
-        passed=$((passed + 1))
-    else
-        failed=$((failed + 1))
-        echo "FAILED: $1"
-    fi
-}
-
 if ! cc -O1 -shared -fPIC -o "$room/refuse.so" "$top/tests/refuse.c" -ldl 2>"$room/compiler"; then
-    echo "no allocator was built, since there is no C compiler: $(head -c 200 "$room/compiler")"
-    echo "0 passed, 1 failed"
-    exit 1
+    tell "no allocator was built, since there is no C compiler: $(head -c 200 "$room/compiler")" no
+    finish
 fi
 
-for crate in sec1_der sec1 sec1_inspect; do
-    tests=$top/crates/$crate/out/${crate}_tests
+for tested in sec1_der_tests sec1_tests sec1_inspect; do
+    crate=${tested%_tests}
+    tests=$top/crates/$tested/out/${tested}_tests
     if [ ! -x "$tests" ]; then
-        tell "the tests of $crate aren't built: run rt ci first" no
+        tell "the tests of $tested aren't built: run rt ci first" no
         continue
     fi
     for name in $("$tests" --list | sed -n 's/^\(.*\(memory::\|in_turn\).*\): test$/\1/p'); do
@@ -76,6 +66,8 @@ for call in "${calls[@]}"; do
         tell "$call: its requests weren't refused" no
     fi
 done
+grew='sec1_der SecretDocument::read_der_from grows by 4,096 bytes'
+grep -qxF "$grew" "$room/lines" && tell "$grew" yes || tell "it isn't known that $grew" no
 for call in "${without[@]}"; do
     if grep -qxF "$call: no request" "$room/lines"; then
         tell "$call" yes
@@ -84,5 +76,4 @@ for call in "${without[@]}"; do
     fi
 done
 
-echo "$passed passed, $failed failed"
-[ "$failed" = 0 ]
+finish

@@ -8,17 +8,7 @@ crate=$top/crates/sec1_rewrite
 room=$(mktemp -d)
 trap 'rm -rf "$room"' EXIT
 export PYTHONDONTWRITEBYTECODE=1
-passed=0 failed=0
-
-# Counts a case, and says what it is where it failed.
-tell() {
-    if [ "$2" = yes ]; then
-        passed=$((passed + 1))
-    else
-        failed=$((failed + 1))
-        echo "FAILED: $1"
-    fi
-}
+. "$top/tests/count.sh"
 
 # Compares two files.
 same() {
@@ -53,5 +43,4 @@ else
     echo "there is no openssl: its own reading of the keys wasn't compared"
 fi
 
-echo "$passed passed, $failed failed"
-[ "$failed" = 0 ]
+finish

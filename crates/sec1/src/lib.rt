@@ -9,8 +9,6 @@ pub mod laws;
 mod parameters;
 pub mod point;
 mod private_key;
-#[cfg(test)]
-mod tests;
 mod traits;
 
 pub use error::{Error, Result};

@@ -26,8 +26,6 @@ mod slice_writer;
 mod std_stream;
 mod stream;
 mod tag;
-#[cfg(test)]
-mod tests;
 mod tree;
 mod unique;
 mod value;

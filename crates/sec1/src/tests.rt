@@ -1,6 +1,0 @@
-mod files;
-mod memory;
-mod reading;
-mod streams;
-mod traits;
-mod writing;

@@ -1,7 +1,0 @@
-mod large;
-mod memory;
-mod reading;
-mod streams;
-mod trees;
-mod values;
-mod writing;

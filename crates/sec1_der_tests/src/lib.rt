@@ -1,0 +1,20 @@
+//! Tests of `sec1_der` by its public calls: what its contracts can't say, on streams, files and memory, and values from
+//! outside.
+//!
+//! They stand in a crate of their own, so that `sec1_der` is proved once.
+#![tactic(auto)]
+
+#[cfg(test)]
+mod large;
+#[cfg(test)]
+mod memory;
+#[cfg(test)]
+mod reading;
+#[cfg(test)]
+mod streams;
+#[cfg(test)]
+mod trees;
+#[cfg(test)]
+mod values;
+#[cfg(test)]
+mod writing;

@@ -1,0 +1,265 @@
+//! Documents over readers and writers that give and take a few bytes at a time, break or never end, and in files.
+use sec1_der::{ErrorKind, SecretDocument, StdReader, StdWriter};
+use std::alloc::Global;
+use std::test::Fail;
+use std::{fs, io};
+
+/// A key on P-256 with all its fields, 121 bytes.
+pub const KEY: &[u8] =
+    b"\x30\x77\x02\x01\x01\x04\x20\x69\x62\x41\x71\x56\x1A\x63\x34\x0D\xE0\xE7\xD8\x69\xF2\xA0\x54\x92\x55\x8E\x1A\x04\x86\x8B\x6A\x9F\x85\x4A\x86\x67\x88\x18\x8D\xA0\x0A\x06\x08\x2A\x86\x48\xCE\x3D\x03\x01\x07\xA1\x44\x03\x42\x00\x04\x1C\xAC\xFF\xB5\x5F\x2F\x2C\xEF\xD8\x9D\x89\xEB\x37\x4B\x26\x81\x15\x24\x52\x80\x2D\xEE\xA0\x99\x16\x06\x81\x37\xD8\x39\xCF\x7F\xC4\x81\xA4\x44\x92\x30\x4D\x7E\xF6\x6A\xC1\x17\xBE\xFE\x83\xA8\xD0\x8F\x15\x5F\x2B\x52\xF9\xF6\x18\xDD\x44\x70\x29\x04\x8E\x0F";
+
+/// What a reader does behind its bytes.
+#[derive(Clone, Copy)]
+enum Then {
+    End,
+    Fail,
+    /// Fills so many requests with this byte, and fails then.
+    Fill(u8, u32),
+}
+
+/// A reader that gives its bytes, at most so many a call, and keeps count of what is asked for and taken.
+#[derive(Drop)]
+struct Pieces<'a> {
+    rest: &'a [u8],
+    step: usize,
+    then: Then,
+    taken: usize,
+    most_asked: usize,
+}
+
+impl io::Read for Pieces<'_> {
+    fn read(&mut self, buf: &mut [u8]) -> io::Result<usize> {
+        self.most_asked = self.most_asked.max(buf.len());
+        if !self.rest.is_empty() {
+            let count = self.step.min(self.rest.len()).min(buf.len());
+            let (front, rest) = self.rest.split_at(count);
+            buf[..count].copy_from_slice(front);
+            self.rest = rest;
+            self.taken = self.taken.saturating_add(count);
+            return Ok(count);
+        }
+        match self.then {
+            Then::End => Ok(0),
+            Then::Fill(byte, times) if times > 0 => {
+                buf.fill(byte);
+                self.then = Then::Fill(byte, times - 1);
+                self.taken = self.taken.saturating_add(buf.len());
+                Ok(buf.len())
+            }
+            _ => Err(io::Error::from(io::ErrorKind::Other)),
+        }
+    }
+}
+
+/// The reader's bytes, how many of them it gives, at most so many a call, and what it does then; why no document
+/// is read, and how many bytes are taken.
+static READS: [(&[u8], usize, usize, Then, Option<ErrorKind>, usize); 12] = [
+    (KEY, 121, 1, Then::End, None, 121),
+    (KEY, 121, 7, Then::End, None, 121),
+    (
+        KEY,
+        121,
+        1,
+        Then::Fill(0, 1),
+        Some(ErrorKind::TrailingData),
+        122,
+    ),
+    (KEY, 121, 121, Then::Fail, Some(ErrorKind::Io), 121),
+    (KEY, 10, 3, Then::Fail, Some(ErrorKind::Io), 10),
+    (KEY, 10, 3, Then::End, Some(ErrorKind::Truncated), 10),
+    (KEY, 0, 1, Then::End, Some(ErrorKind::Truncated), 0),
+    (KEY, 0, 1, Then::Fill(0, u32::MAX), Some(ErrorKind::Tag), 1),
+    (
+        KEY,
+        0,
+        1,
+        Then::Fill(0x30, u32::MAX),
+        Some(ErrorKind::TrailingData),
+        51,
+    ),
+    (
+        b"\x30\x80",
+        2,
+        1,
+        Then::Fill(0, u32::MAX),
+        Some(ErrorKind::Length),
+        2,
+    ),
+    (
+        b"\x30\x84\x10\x00\x00\x00",
+        6,
+        1,
+        Then::End,
+        Some(ErrorKind::Length),
+        6,
+    ),
+    // three requests of 4,096 bytes are filled, and the fourth read of content fails
+    (
+        b"\x30\x84\x0F\xFF\xFF\xFF",
+        6,
+        1,
+        Then::Fill(0, 3),
+        Some(ErrorKind::Io),
+        12_294,
+    ),
+];
+
+#[test]
+fn documents_are_read(rt: HostRuntime) {
+    for (row, &(bytes, given, step, then, want, taken)) in READS.iter().enumerate() {
+        let mut reader = StdReader::new(Pieces {
+            rest: bytes.get(..given).unwrap_or_default(),
+            step,
+            then,
+            taken: 0,
+            most_asked: 0,
+        });
+        let result = SecretDocument::read_der_from(rt.alloc(), &mut reader);
+        let pieces = reader.into_inner();
+        assert_eq!(rt; pieces.taken, taken, "in row {row}");
+        assert!(rt; pieces.most_asked <= 4096, "in row {row}");
+        match result {
+            Ok(document) => {
+                assert_eq!(rt; want, None, "in row {row}");
+                assert_eq!(rt; document.as_bytes(), bytes, "in row {row}");
+            }
+            Err(error) => assert_eq!(rt; Some(error.kind), want, "in row {row}"),
+        }
+    }
+}
+
+#[test]
+fn each_read_fails_in_turn(rt: HostRuntime) {
+    for given in 0..=KEY.len() {
+        let mut reader = StdReader::new(Pieces {
+            rest: KEY.get(..given).unwrap_or_default(),
+            step: 1,
+            then: Then::Fail,
+            taken: 0,
+            most_asked: 0,
+        });
+        let result = SecretDocument::read_der_from(rt.alloc(), &mut reader);
+        assert_eq!(rt;
+            result.err().map(|error| error.kind),
+            Some(ErrorKind::Io),
+            "after {given}"
+        );
+        assert_eq!(rt; reader.into_inner().taken, given);
+    }
+    let _ = println!(&rt; "SecretDocument::read_der_from: each of its 122 reads fails");
+}
+
+/// A writer that takes so many bytes in all, at most so many a call, and then fails or takes none.
+#[derive(Drop)]
+struct Narrow {
+    taken: Vec<u8>,
+    step: usize,
+    room: usize,
+    fails: bool,
+}
+
+impl io::Write for Narrow {
+    fn write(&mut self, buf: &[u8]) -> io::Result<usize> {
+        let count = self.step.min(self.room).min(buf.len());
+        if count == 0 && self.fails {
+            return Err(io::Error::from(io::ErrorKind::Other));
+        }
+        self.taken.extend_from_slice(&buf[..count])?;
+        self.room -= count;
+        Ok(count)
+    }
+
+    fn flush(&mut self) -> io::Result<()> {
+        Ok(())
+    }
+}
+
+/// How many bytes the writer takes a call, how many in all, and whether it fails then; why the key isn't written,
+/// and how many of its bytes are.
+static WRITES: [(usize, usize, bool, Option<ErrorKind>, usize); 5] = [
+    (1000, 1000, true, None, 121),
+    (1, 1000, true, None, 121),
+    (1000, 7, true, Some(ErrorKind::Io), 7),
+    (1000, 7, false, Some(ErrorKind::Io), 7),
+    (1000, 0, false, Some(ErrorKind::Io), 0),
+];
+
+#[test]
+fn documents_are_written(rt: HostRuntime) -> Result<(), Fail> {
+    let document = SecretDocument::read_der_from(rt.alloc(), &mut StdReader::new(KEY))?;
+    for &(step, room, fails, want, written) in WRITES.iter() {
+        let mut writer = StdWriter::new(Narrow {
+            taken: Vec::new(rt.alloc()),
+            step,
+            room,
+            fails,
+        });
+        let result = document.write_der_to(&mut writer);
+        let narrow = writer.into_inner();
+        assert_eq!(rt;
+            result.err().map(|error| error.kind),
+            want,
+            "with room for {room}"
+        );
+        assert_eq!(rt;
+            Some(narrow.taken.as_slice()),
+            KEY.get(..written),
+            "with room for {room}"
+        );
+    }
+    Ok(())
+}
+
+#[test]
+fn each_write_fails_in_turn(rt: HostRuntime) -> Result<(), Fail> {
+    let document = SecretDocument::from_der(rt.alloc(), KEY)?;
+    for room in 0..KEY.len() {
+        for fails in [true, false] {
+            let mut writer = StdWriter::new(Narrow {
+                taken: Vec::new(rt.alloc()),
+                step: 1,
+                room,
+                fails,
+            });
+            let result = document.write_der_to(&mut writer);
+            assert_eq!(rt;
+                result.err().map(|error| error.kind),
+                Some(ErrorKind::Io),
+                "after {room}"
+            );
+            assert_eq!(rt; Some(writer.into_inner().taken.as_slice()), KEY.get(..room));
+        }
+    }
+    let _ = println!(&rt; "SecretDocument::write_der_to: each of its 121 writes fails");
+    Ok(())
+}
+
+#[test]
+fn documents_are_kept_in_files(rt: HostRuntime) -> Result<(), Fail> {
+    let folder = std::env::temp_dir(&rt)?;
+    let path = format!(in rt.alloc();
+        "{}/sec1_der_{}",
+        folder.display(),
+        std::process::id(rt.process())
+    )?;
+    let missing = SecretDocument::read_der_file(&rt, rt.alloc(), &path);
+    assert_eq!(rt; missing.err().map(|error| error.kind), Some(ErrorKind::Io));
+
+    let empty = SecretDocument::read_der_from(
+        rt.alloc(),
+        &mut StdReader::new(b"\x30\x00".as_slice()),
+    )?;
+    let whole = SecretDocument::read_der_from(rt.alloc(), &mut StdReader::new(KEY))?;
+    // the second is longer than the first, and the third shorter
+    for document in [&empty, &whole, &empty] {
+        document.write_der_file(&rt, &path)?;
+        let again = SecretDocument::read_der_file(&rt, rt.alloc(), &path)?;
+        assert_eq!(rt; again.as_bytes(), document.as_bytes());
+    }
+    fs::remove_file(&rt, &path)?;
+
+    let nowhere = format!(in rt.alloc(); "{path}/none")?;
+    let unmade = whole.write_der_file(&rt, &nowhere);
+    assert_eq!(rt; unmade.err().map(|error| error.kind), Some(ErrorKind::Io));
+    Ok(())
+}

@@ -1,0 +1,109 @@
+//! Values and calls of the reader that no other test makes, by examples with known answers.
+use sec1_der::{
+    BitStringRef, Containing, EncodeValue, ErrorKind, FixedTag, ID_EC_PUBLIC_KEY, Length,
+    ObjectIdentifier, Octets, SliceReader, SliceWriter, SmallInteger, Tag, VersionOne, WholeBits,
+    from_der,
+};
+use std::test::Fail;
+
+#[test]
+fn component_values_have_their_tags(rt: HostRuntime) {
+    assert_eq!(rt; SmallInteger::<0>::TAG.byte(), 0x02);
+    assert_eq!(rt; WholeBits::TAG.byte(), 0x03);
+    assert_eq!(rt; Octets::TAG.byte(), 0x04);
+    assert_eq!(rt; Containing::<VersionOne>::TAG.byte(), 0x04);
+}
+
+#[test]
+fn contents_are_written(rt: HostRuntime) -> Result<(), Fail> {
+    let mut room = [0xAA; 11];
+    let mut writer = SliceWriter::new(&mut room);
+    ID_EC_PUBLIC_KEY.encode_value(&mut writer)?;
+    BitStringRef::new(4, &[0xF0])?.encode_value(&mut writer)?;
+    VersionOne.encode_value(&mut writer)?;
+    assert_eq!(rt; writer.written(), 10);
+    assert_eq!(rt;
+        room,
+        [
+            0x2A, 0x86, 0x48, 0xCE, 0x3D, 0x02, 0x01, 0x04, 0xF0, 0x01, 0xAA
+        ]
+    );
+    Ok(())
+}
+
+#[test]
+fn elements_of_identifiers_are_read(rt: HostRuntime) -> Result<(), Fail> {
+    let identifier = from_der::<ObjectIdentifier>(b"\x06\x02\x88\x37")?;
+    assert_eq!(rt; identifier.as_bytes(), [0x88, 0x37].as_slice());
+    assert_eq!(rt; format!(in rt.alloc(); "{identifier}")?.as_str(), "2.999");
+    for (bytes, kind) in [
+        (b"\x06\x00".as_slice(), ErrorKind::Value),
+        (b"\x06\x01\x80", ErrorKind::Value),
+        (b"\x05\x00", ErrorKind::Tag),
+    ] {
+        let refused = from_der::<ObjectIdentifier>(bytes).map_err(|e| e.kind);
+        assert!(rt; refused == Err(kind), "of {bytes:?}");
+    }
+    Ok(())
+}
+
+/// The content of a version is whole, so what it isn't is told of its value, whatever its length.
+#[test]
+fn other_versions_are_other_values(rt: HostRuntime) {
+    for bytes in [
+        b"\x02\x00".as_slice(),
+        b"\x02\x01\x00",
+        b"\x02\x02\x00\x01",
+        b"\x02\x02\x01\x00",
+    ] {
+        assert_eq!(rt;
+            from_der::<VersionOne>(bytes).map_err(|e| e.kind),
+            Err(ErrorKind::Value),
+            "of {bytes:?}"
+        );
+    }
+}
+
+#[test]
+fn tags_are_bytes(rt: HostRuntime) -> Result<(), Fail> {
+    for (byte, is_constructed) in [(0x01, false), (0x04, false), (0x30, true), (0xBE, true)] {
+        let tag = Tag::from_byte(byte)?;
+        assert_eq!(rt; tag.byte(), byte);
+        assert_eq!(rt; tag.is_constructed(), is_constructed, "{byte}");
+    }
+    assert_eq!(rt; Tag::from_byte(0x30)?, Tag::SEQUENCE);
+    for byte in [0x00, 0x1F, 0x3F, 0xFF] {
+        assert_eq!(rt;
+            Tag::from_byte(byte).map_err(|e| e.kind),
+            Err(ErrorKind::Tag),
+            "{byte}"
+        );
+    }
+    Ok(())
+}
+
+#[test]
+fn parts_of_a_slice_are_read(rt: HostRuntime) -> Result<(), Fail> {
+    let mut reader = SliceReader::new(b"\x01\x02\x03\x04\x05");
+    assert_eq!(rt; reader.read_slice(Length::new(2)?)?, b"\x01\x02".as_slice());
+    assert_eq!(rt; reader.remaining_len(), 3);
+    assert_eq!(rt; reader.peek_tag_byte(), Some(0x03));
+
+    let mut nested = reader.read_nested(Length::new(2)?)?;
+    assert_eq!(rt; nested.remaining_len(), 2);
+    assert_eq!(rt; nested.read_slice(Length::new(2)?)?, b"\x03\x04".as_slice());
+    assert!(rt; nested.finish().is_ok());
+    assert_eq!(rt; reader.remaining_len(), 1);
+    assert!(rt; !reader.is_failed());
+
+    assert_eq!(rt; reader.fail(ErrorKind::Value).kind(), ErrorKind::Value);
+    assert!(rt; reader.is_failed());
+    assert_eq!(rt; reader.remaining_len(), 1);
+
+    let mut unread = SliceReader::new(b"\x05");
+    assert_eq!(rt;
+        unread.finish().map_err(|e| e.kind),
+        Err(ErrorKind::TrailingData)
+    );
+    Ok(())
+}

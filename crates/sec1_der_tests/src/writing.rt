@@ -1,0 +1,203 @@
+//! What is written, by examples with known answers.
+use sec1_der::{
+    AnyRef, BackWriter, BitStringRef, EncodeValue, ErrorKind, Header, ID_EC_PUBLIC_KEY, Length,
+    ObjectIdentifier, OctetStringRef, SecretDocument, SliceReader, SliceWriter, Tag, VersionOne,
+    context_specific_len, encode_to_slice, encoded_len, to_der,
+};
+use std::test::Fail;
+
+fn kind_of<T: Drop>(answer: sec1_der::Result<T>) -> Option<ErrorKind> {
+    match answer {
+        Ok(_) => None,
+        Err(e) => Some(e.kind()),
+    }
+}
+
+#[test]
+fn writes_from_the_back(rt: HostRuntime) -> Result<(), Fail> {
+    let mut room = [0xAA; 4];
+    let mut writer = BackWriter::new(&mut room);
+    writer.write(&[0x05])?;
+    writer.header(Tag::OCTET_STRING, 0)?;
+    assert_eq!(rt; writer.written(), 3);
+    assert_eq!(rt; writer.remaining(), 1);
+    assert_eq!(rt;
+        kind_of(writer.write(&[0x01, 0x02])),
+        Some(ErrorKind::Buffer)
+    );
+    assert_eq!(rt; writer.written(), 3);
+    assert_eq!(rt; room, [0xAA, 0x04, 0x01, 0x05]);
+
+    let mut room = [0; 2];
+    BackWriter::new(&mut room).header(Tag::SEQUENCE, 0)?;
+    assert_eq!(rt; room, [0x30, 0x00]);
+    Ok(())
+}
+
+#[test]
+fn writes_from_the_front(rt: HostRuntime) -> Result<(), Fail> {
+    let mut room = [0xAA; 4];
+    let mut writer = SliceWriter::new(&mut room);
+    writer.write(&[0x01, 0x02])?;
+    writer.write_byte(0x03)?;
+    assert_eq!(rt; writer.written(), 3);
+    assert_eq!(rt; writer.remaining(), 1);
+    assert_eq!(rt;
+        kind_of(writer.write(&[0x04, 0x05])),
+        Some(ErrorKind::Buffer)
+    );
+    assert_eq!(rt; room, [0x01, 0x02, 0x03, 0xAA]);
+    Ok(())
+}
+
+/// X.690 section 8.1.3: lengths and their spellings.
+static LENGTHS: [(usize, [u8; 6], usize); 8] = [
+    (0, [0x04, 0x00, 0, 0, 0, 0], 2),
+    (127, [0x04, 0x7F, 0, 0, 0, 0], 2),
+    (128, [0x04, 0x81, 0x80, 0, 0, 0], 3),
+    (255, [0x04, 0x81, 0xFF, 0, 0, 0], 3),
+    (256, [0x04, 0x82, 0x01, 0x00, 0, 0], 4),
+    (65_536, [0x04, 0x83, 0x01, 0x00, 0x00, 0], 5),
+    (16_777_216, [0x04, 0x84, 0x01, 0x00, 0x00, 0x00], 6),
+    (268_435_455, [0x04, 0x84, 0x0F, 0xFF, 0xFF, 0xFF], 6),
+];
+
+#[test]
+fn writes_headers(rt: HostRuntime) -> Result<(), Fail> {
+    for &(n, spelled, count) in LENGTHS.iter() {
+        let header = Header {
+            tag: Tag::OCTET_STRING,
+            length: Length::new(n)?,
+        };
+        assert_eq!(rt; header.encoded_len(), count);
+        let mut room = [0; 6];
+        header.encode(&mut SliceWriter::new(&mut room))?;
+        assert_eq!(rt; room, spelled);
+    }
+    Ok(())
+}
+
+#[test]
+fn announces_the_greatest_length(rt: HostRuntime) -> Result<(), Fail> {
+    let greatest = [0x30, 0x84, 0x0F, 0xFF, 0xFF, 0xFF];
+    let header = Header::decode(&mut SliceReader::new(&greatest))?;
+    assert_eq!(rt; header.length.get(), 268_435_455);
+    assert_eq!(rt;
+        kind_of(SecretDocument::from_der(rt.alloc(), &greatest)),
+        Some(ErrorKind::Truncated)
+    );
+    let above = [0x30, 0x84, 0x10, 0x00, 0x00, 0x00];
+    assert_eq!(rt;
+        kind_of(Header::decode(&mut SliceReader::new(&above))),
+        Some(ErrorKind::Length)
+    );
+    assert_eq!(rt;
+        kind_of(Header::decode(&mut SliceReader::new(&above[..3]))),
+        Some(ErrorKind::Truncated)
+    );
+    assert_eq!(rt;
+        kind_of(Length::new(268_435_456)),
+        Some(ErrorKind::Overlength)
+    );
+    Ok(())
+}
+
+#[test]
+fn writes_values(rt: HostRuntime) -> Result<(), Fail> {
+    let octets = OctetStringRef::new(&[0xAA, 0xBB])?;
+    assert_eq!(rt; encoded_len(&octets)?, 4);
+    assert_eq!(rt;
+        to_der(rt.alloc(), &octets)?.as_slice(),
+        [0x04, 0x02, 0xAA, 0xBB].as_slice()
+    );
+    let bits = BitStringRef::new(4, &[0xF0])?;
+    assert_eq!(rt;
+        to_der(rt.alloc(), &bits)?.as_slice(),
+        [0x03, 0x02, 0x04, 0xF0].as_slice()
+    );
+    assert_eq!(rt;
+        to_der(rt.alloc(), &VersionOne)?.as_slice(),
+        [0x02, 0x01, 0x01].as_slice()
+    );
+    let mut room = [0xAA; 10];
+    assert_eq!(rt; encode_to_slice(&ID_EC_PUBLIC_KEY, &mut room)?, 9);
+    assert_eq!(rt;
+        room,
+        [0x06, 0x07, 0x2A, 0x86, 0x48, 0xCE, 0x3D, 0x02, 0x01, 0xAA]
+    );
+    Ok(())
+}
+
+#[test]
+fn writes_elements_and_fields(rt: HostRuntime) -> Result<(), Fail> {
+    let octets = Some(OctetStringRef::new(&[])?);
+    let missing: Option<OctetStringRef> = None;
+    assert_eq!(rt; context_specific_len(30, &octets)?, 4);
+    assert_eq!(rt; context_specific_len(30, &missing)?, 0);
+
+    let mut room = [0xAA; 8];
+    let mut writer = SliceWriter::new(&mut room);
+    writer.element(&VersionOne)?;
+    writer.context_specific(0, &missing)?;
+    writer.context_specific(30, &octets)?;
+    assert_eq!(rt;
+        kind_of(writer.element(&VersionOne)),
+        Some(ErrorKind::Buffer)
+    );
+    assert_eq!(rt; room, [0x02, 0x01, 0x01, 0xBE, 0x02, 0x04, 0x00, 0xAA]);
+
+    let mut room = [0xAA; 8];
+    let mut writer = BackWriter::new(&mut room);
+    writer.context_specific(30, &octets)?;
+    writer.context_specific(0, &missing)?;
+    writer.element(&VersionOne)?;
+    assert_eq!(rt;
+        kind_of(writer.context_specific(30, &octets)),
+        Some(ErrorKind::Buffer)
+    );
+    assert_eq!(rt; room, [0xAA, 0x02, 0x01, 0x01, 0xBE, 0x02, 0x04, 0x00]);
+    Ok(())
+}
+
+#[test]
+fn lends_identifiers(rt: HostRuntime) -> Result<(), Fail> {
+    let identifier = ObjectIdentifier::new("1.3.132.0.34")?;
+    let any = AnyRef::from(&identifier);
+    assert_eq!(rt; any.tag(), Tag::OBJECT_IDENTIFIER);
+    assert_eq!(rt; any.value(), [0x2B, 0x81, 0x04, 0x00, 0x22].as_slice());
+    let mut room = [0; 5];
+    any.encode_value(&mut SliceWriter::new(&mut room))?;
+    assert_eq!(rt; room, [0x2B, 0x81, 0x04, 0x00, 0x22]);
+    Ok(())
+}
+
+#[test]
+fn holds_documents(rt: HostRuntime) -> Result<(), Fail> {
+    let octets = [0x04, 0x01, 0xAA];
+    let document = SecretDocument::from_der(rt.alloc(), &octets)?;
+    assert_eq!(rt; document.as_bytes(), octets.as_slice());
+    assert_eq!(rt; document.len(), 3);
+    assert_eq!(rt;
+        format!(in rt.alloc(); "{document:?}")?.as_str(),
+        "SecretDocument { .. }"
+    );
+    assert_eq!(rt;
+        SecretDocument::from_der(rt.alloc(), &[0x30, 0x03, 0x04, 0x05, 0x00])?.len(),
+        5
+    );
+    let value = OctetStringRef::new(&[0xAA])?;
+    assert_eq!(rt;
+        SecretDocument::encode_msg(rt.alloc(), &value)?.as_bytes(),
+        octets.as_slice()
+    );
+    Ok(())
+}
+
+#[test]
+fn refuses_what_is_no_document(rt: HostRuntime) {
+    let kind = |bytes: &[u8]| kind_of(SecretDocument::from_der(rt.alloc(), bytes));
+    assert_eq!(rt; kind(&[0x05, 0x00, 0x00]), Some(ErrorKind::TrailingData));
+    assert_eq!(rt; kind(&[0x1F, 0x00]), Some(ErrorKind::Tag));
+    assert_eq!(rt; kind(&[]), Some(ErrorKind::Truncated));
+    assert_eq!(rt; kind(&[0x04, 0x01]), Some(ErrorKind::Truncated));
+}

@@ -1,0 +1,363 @@
+//! What is returned while requests for memory are refused, one by one.
+//!
+//! They are refused by `tests/refuse.c`, an allocator that is laid under the built tests. A test speaks to it by
+//! requests of sizes that no allocator grants. Without it nothing is refused, and each call is made once.
+use super::reading::KEY;
+use super::traits::Copied;
+use sec1::der::{self, ErrorKind, Read, StdReader, StdWriter, Write, check_tree};
+use sec1::point::{EncodedPoint, EncodedPoint32};
+use sec1::{DecodeEcPrivateKey, EcPrivateKey, EncodeEcPrivateKey, Error};
+use serde_json::Value;
+use std::alloc::Global;
+use std::cmp::Ordering;
+use std::fs;
+use std::str::FromStr;
+use std::test::Fail;
+
+type Point1 = EncodedPoint<1, 3>;
+
+/// A point without its y, in hexadecimal.
+static COMPRESSED: &str = "021111111111111111111111111111111111111111111111111111111111111111";
+
+/// How a call ended.
+#[derive(Clone, Copy)]
+enum Outcome {
+    /// It returned what it returns with memory to spare.
+    Right,
+    /// It was refused for memory, and left all as it promises.
+    Refused,
+    /// Anything else.
+    Wrong,
+}
+
+/// Returns the outcome of a call that wasn't refused.
+fn right(is_right: bool) -> Outcome {
+    if is_right {
+        Outcome::Right
+    } else {
+        Outcome::Wrong
+    }
+}
+
+/// Returns the outcome of a call that was refused.
+fn refused(is_kept: bool) -> Outcome {
+    if is_kept {
+        Outcome::Refused
+    } else {
+        Outcome::Wrong
+    }
+}
+
+/// Asks for so many bytes more than any allocator grants. Returns whether the allocator of the tests granted them.
+fn signal(alloc: Global, more: u32) -> bool {
+    Vec::<u8>::with_capacity(alloc, (1 << 62) + more as usize).is_ok()
+}
+
+/// Has the request of this number refused, the first from now on being 1. Returns whether there is who refuses it.
+fn refuse(alloc: Global, number: u16) -> bool {
+    signal(alloc, u32::from(number))
+}
+
+/// Returns whether so many requests were made since, and none was refused.
+fn were_made(alloc: Global, count: u16) -> bool {
+    signal(alloc, 0x1_0000 + u32::from(count))
+}
+
+/// Returns whether one of them was refused.
+fn one_was_refused(alloc: Global) -> bool {
+    signal(alloc, 0x3_0000)
+}
+
+/// Makes the call with its first request refused, with its second, and so on until it makes no more, and prints how
+/// many it makes. Returns whether each of these calls was refused, or right after it had asked for less memory.
+fn is_refused_in_turn<F: FnMut() -> Outcome>(
+    rt: &impl Print,
+    alloc: Global,
+    name: &str,
+    mut call: F,
+) -> bool
+    requires { F.IsAlwaysCallable call }
+{
+    let mut refusals = 0u16;
+    for count in 0..1000u16 {
+        let is_refusing = refuse(alloc, count + 1);
+        let outcome = call();
+        let is_refused = is_refusing && one_was_refused(alloc);
+        match outcome {
+            Outcome::Refused if is_refused => refusals = refusals.saturating_add(1),
+            Outcome::Right if is_refused => {}
+            Outcome::Right if is_refusing => {
+                return refusals > 0
+                    && were_made(alloc, count)
+                    && println!(rt; "{name}: {refusals} of {count} requests end it").is_ok();
+            }
+            Outcome::Right => return true,
+            _ => return false,
+        }
+    }
+    false
+}
+
+/// Returns whether the call is right and makes no request.
+fn needs_no_memory<F: FnMut() -> bool>(
+    rt: &impl Print,
+    alloc: Global,
+    name: &str,
+    mut call: F,
+) -> bool
+    requires { F.IsAlwaysCallable call }
+{
+    let is_refusing = refuse(alloc, 1);
+    let is_right = call();
+    if !is_refusing {
+        return is_right;
+    }
+    is_right && were_made(alloc, 0) && println!(rt; "{name}: no request").is_ok()
+}
+
+#[test]
+fn requests_of_writing_calls_are_refused(rt: HostRuntime) -> std::result::Result<(), Fail> {
+    let alloc = rt.alloc();
+    let bytes = hex::decode(alloc, KEY)?;
+    let der = bytes.as_slice();
+    let key = EcPrivateKey::try_from(der)?;
+    assert!(rt;
+        is_refused_in_turn(
+            &rt,
+            alloc,
+            "EcPrivateKey::to_der",
+            || match key.to_der(alloc) {
+                Ok(written) => right(written.as_slice() == der),
+                Err(error) => refused(error == Error::Memory),
+            }
+        )
+    );
+    assert!(rt;
+        is_refused_in_turn(&rt, alloc, "EcPrivateKey::document_ref", || {
+            match key.document_ref(alloc) {
+                Ok(document) => right(document.as_bytes() == der),
+                Err(error) => refused(error == Error::Memory),
+            }
+        })
+    );
+    assert!(rt;
+        is_refused_in_turn(&rt, alloc, "EcPrivateKey::document", || {
+            let Ok(key) = EcPrivateKey::try_from(der) else {
+                return Outcome::Wrong;
+            };
+            match key.document(alloc) {
+                Ok(document) => right(document.as_bytes() == der),
+                Err(error) => refused(error == Error::Memory),
+            }
+        })
+    );
+    Ok(())
+}
+
+/// Returns the outcome of reading these bytes off a reader. A refusal leaves the reader behind the bytes it gave.
+fn read_outcome(alloc: Global, bytes: &[u8]) -> Outcome {
+    let mut reader = StdReader::new(bytes);
+    let result = Copied::read_sec1_der_from(alloc, &mut reader);
+    let has_failed = reader.has_failed();
+    let rest = reader.into_inner();
+    match result {
+        Ok(key) => right(key.bytes.as_slice() == bytes && rest.is_empty()),
+        Err(error) => refused(error == Error::Memory && !has_failed && bytes.ends_with(rest)),
+    }
+}
+
+/// Returns the outcome of writing the key. A refusal has written nothing.
+fn written_outcome(alloc: Global, key: &Copied) -> Outcome {
+    let mut room = [0u8; 121];
+    let mut writer = StdWriter::new(room.as_mut_slice());
+    let result = key.write_sec1_der_to(alloc, &mut writer);
+    let has_failed = writer.has_failed();
+    match result {
+        Ok(()) => right(room.as_slice().starts_with(&key.bytes)),
+        Err(error) => refused(error == Error::Memory && !has_failed && room == [0; 121]),
+    }
+}
+
+#[test]
+fn requests_of_the_traits_are_refused(rt: HostRuntime) -> std::result::Result<(), Fail> {
+    let alloc = rt.alloc();
+    let whole = hex::decode(alloc, KEY)?;
+    // of a short key there is room for the document before there is for its copy
+    for bytes in [whole.as_slice(), b"\x04\x01\xAA".as_slice()] {
+        let key = Copied::from_sec1_der(alloc, bytes)?;
+        assert!(rt;
+            is_refused_in_turn(
+                &rt,
+                alloc,
+                "read_sec1_der_from",
+                || read_outcome(alloc, bytes)
+            )
+        );
+        assert!(rt;
+            is_refused_in_turn(
+                &rt,
+                alloc,
+                "write_sec1_der_to",
+                || written_outcome(alloc, &key)
+            )
+        );
+    }
+    Ok(())
+}
+
+/// What the opening or the making of a file takes is refused as a failed read or write.
+fn is_memory_or_io(error: Error) -> bool {
+    let io = Error::Asn1(der::Error {
+        kind: ErrorKind::Io,
+    });
+    error == Error::Memory || error == io
+}
+
+#[test]
+fn requests_of_calls_on_files_are_refused(rt: HostRuntime) -> std::result::Result<(), Fail> {
+    let alloc = rt.alloc();
+    let folder = std::env::temp_dir(&rt)?;
+    let path = format!(in alloc;
+        "{}/sec1_memory_{}",
+        folder.display(),
+        std::process::id(rt.process())
+    )?;
+    let key = Copied::from_sec1_der(alloc, b"\x04\x01\xAA")?;
+    assert!(rt;
+        is_refused_in_turn(&rt, alloc, "write_sec1_der_file", || {
+            match key.write_sec1_der_file(&rt, alloc, &path) {
+                Ok(()) => Outcome::Right,
+                Err(error) => refused(is_memory_or_io(error)),
+            }
+        })
+    );
+    assert_eq!(rt; fs::read(&rt, &path)?.as_slice(), key.bytes.as_slice());
+    assert!(rt;
+        is_refused_in_turn(&rt, alloc, "read_sec1_der_file", || {
+            match Copied::read_sec1_der_file(&rt, alloc, &path) {
+                Ok(read) => right(read == key),
+                Err(error) => refused(is_memory_or_io(error)),
+            }
+        })
+    );
+    fs::remove_file(&rt, &path)?;
+    Ok(())
+}
+
+#[test]
+fn requests_for_texts_of_points_are_refused(rt: HostRuntime) -> std::result::Result<(), Fail> {
+    let alloc = rt.alloc();
+    let point = EncodedPoint32::from_str(COMPRESSED)?;
+    let json = Value::from(String::from_str(alloc, COMPRESSED)?);
+    assert!(rt;
+        is_refused_in_turn(&rt, alloc, "to_bytes", || match point.to_bytes(alloc) {
+            Ok(bytes) => right(bytes.as_slice() == point.as_bytes()),
+            Err(error) => refused(error == Error::Memory),
+        })
+    );
+    assert!(rt;
+        is_refused_in_turn(
+            &rt,
+            alloc,
+            "to_lower_hex",
+            || match point.to_lower_hex(alloc) {
+                Ok(text) => right(text.as_str() == COMPRESSED),
+                Err(error) => refused(error == Error::Memory),
+            }
+        )
+    );
+    assert!(rt;
+        is_refused_in_turn(
+            &rt,
+            alloc,
+            "to_upper_hex",
+            || match point.to_upper_hex(alloc) {
+                Ok(text) => right(text.as_str() == COMPRESSED),
+                Err(error) => refused(error == Error::Memory),
+            }
+        )
+    );
+    assert!(rt;
+        is_refused_in_turn(&rt, alloc, "to_json", || match point.to_json(alloc) {
+            Ok(value) => right(value == json),
+            Err(error) => refused(error == Error::Memory),
+        })
+    );
+    Ok(())
+}
+
+#[test]
+fn keys_take_no_memory(rt: HostRuntime) -> std::result::Result<(), Fail> {
+    let alloc = rt.alloc();
+    let bytes = hex::decode(alloc, KEY)?;
+    assert!(rt;
+        needs_no_memory(
+            &rt,
+            alloc,
+            "try_from, encoded_len, encode_to_slice, check_tree",
+            || {
+                let Ok(key) = EcPrivateKey::try_from(bytes.as_slice()) else {
+                    return false;
+                };
+                let mut room = [0u8; 121];
+                key.encoded_len() == Ok(121)
+                    && key.encode_to_slice(&mut room) == Ok(121)
+                    && room.as_slice() == bytes.as_slice()
+                    && check_tree(&bytes) == Ok(7)
+            }
+        )
+    );
+    Ok(())
+}
+
+/// Encodings at one byte, each of them below the next.
+static ORDERED: [(&[u8], &[u8]); 3] = [
+    (&[2, 0xFF], &[3, 0]),
+    (&[4, 1, 0xFF], &[4, 2, 0]),
+    (&[0], &[2, 0xFF]),
+];
+
+#[test]
+fn points_take_no_memory(rt: HostRuntime) -> std::result::Result<(), Fail> {
+    let alloc = rt.alloc();
+    assert!(rt;
+        needs_no_memory(&rt, alloc, "from_bytes, cmp, compress", || {
+            for &(lower, higher) in ORDERED.iter() {
+                let (Ok(low), Ok(high)) = (Point1::from_bytes(lower), Point1::from_bytes(higher))
+                else {
+                    return false;
+                };
+                if low.cmp(&high) != Ordering::Less || high.cmp(&low) != Ordering::Greater {
+                    return false;
+                }
+            }
+            let point = Point1::from_untagged_bytes(&[1, 0xFF]);
+            point.as_bytes() == [4, 1, 0xFF].as_slice()
+                && point.compress().as_bytes() == [3, 1].as_slice()
+                && EncodedPoint::<32, 64>::from_bytes(&[0]) == Err(Error::PointEncoding)
+        })
+    );
+    Ok(())
+}
+
+#[test]
+fn texts_of_points_take_no_memory(rt: HostRuntime) -> std::result::Result<(), Fail> {
+    let alloc = rt.alloc();
+    let json = Value::from(String::from_str(alloc, "02AF")?);
+    let number = Value::from(2u8);
+    assert!(rt;
+        needs_no_memory(&rt, alloc, "from_str, from_json", || {
+            let point = Point1::from_str("02AF");
+            point == Point1::from_bytes(&[2, 0xAF])
+                && Point1::from_str("02af") == point
+                && Point1::from_str("02aF") == Err(Error::PointEncoding)
+                && Point1::from_str("02A") == Err(Error::PointEncoding)
+                && Point1::from_str("") == Err(Error::PointEncoding)
+                && Point1::from_str("02") == Err(Error::PointEncoding)
+                && Point1::from_str("02AF0000") == Err(Error::PointEncoding)
+                && Point1::from_json(&json) == point
+                && Point1::from_json(&number) == Err(Error::PointEncoding)
+        })
+    );
+    Ok(())
+}

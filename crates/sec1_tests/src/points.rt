@@ -1,0 +1,501 @@
+//! Points from outside, what is printed of them, and the calls that take memory.
+
+ghost use Rattle.std.specs.Prelude.{◌+◌, ◌*◌, ◌%◌, ◌^◌, fold};
+
+use sec1::Error;
+use sec1::point::Coordinates::{Compressed, Identity};
+use sec1::point::{
+    Coordinates, EncodedPoint, EncodedPoint28, EncodedPoint32, EncodedPoint48, EncodedPoint66, Tag,
+};
+use serde_json::Value;
+use std::alloc::Global;
+use std::cmp::Ordering;
+use std::collections::HashSet;
+use std::hash::{Hash, Hasher};
+use std::process::Abort;
+use std::str::FromStr;
+use std::test::Fail;
+
+type Point1 = EncodedPoint<1, 3>;
+
+type Point2 = EncodedPoint<2, 5>;
+
+// An encoding, and what it compresses to.
+static COMPRESSED_1: [(&[u8], &[u8]); 7] = [
+    (&[4, 1, 0xFF], &[3, 1]),
+    (&[4, 1, 1], &[3, 1]),
+    (&[4, 1, 3], &[3, 1]),
+    (&[5, 7], &[5, 7]),
+    (&[6, 1, 2], &[2, 1]),
+    (&[7, 1, 3], &[3, 1]),
+    (&[0], &[0]),
+];
+
+static COMPRESSED_2: [(&[u8], &[u8]); 2] = [
+    (&[4, 0, 0, 1, 0], &[2, 0, 0]),
+    (&[4, 0, 0, 0, 1], &[3, 0, 0]),
+];
+
+// An encoding, and its hybrid form.
+static HYBRID: [(&[u8], &[u8]); 4] = [
+    (&[4, 1, 3], &[7, 1, 3]),
+    (&[6, 1, 2], &[6, 1, 2]),
+    (&[2, 1], &[2, 1]),
+    (&[0], &[0]),
+];
+
+static NO_ENCODING: [&[u8]; 6] = [&[], &[1], &[5, 7, 0], &[7, 1, 2], &[6, 1, 3], &[8, 1]];
+
+// Each encoding is below the next.
+static ORDERED: [&[u8]; 8] = [
+    &[0],
+    &[2, 0xFF],
+    &[3, 0],
+    &[4, 1, 0xFF],
+    &[4, 2, 0],
+    &[5, 0xFF],
+    &[6, 0, 0],
+    &[7, 0, 1],
+];
+
+static NO_TEXT: [&str; 7] = ["02aF", "02A", "", "02", "02AF0000", "070102", "02G0"];
+
+// The text of an encoding with the letters A to F, and with a to f. The first is a point of the curve P-256.
+static TEXTS_32: [(&str, &str); 3] = [
+    (
+        "041CACFFB55F2F2CEFD89D89EB374B2681152452802DEEA09916068137D839CF7FC481A44492304D7EF66AC117BEFE83A8D08F155F2B52F9F618DD447029048E0F",
+        "041cacffb55f2f2cefd89d89eb374b2681152452802deea09916068137d839cf7fc481a44492304d7ef66ac117befe83a8d08f155f2b52f9f618dd447029048e0f",
+    ),
+    (
+        "021111111111111111111111111111111111111111111111111111111111111111",
+        "021111111111111111111111111111111111111111111111111111111111111111",
+    ),
+    (
+        "0411111111111111111111111111111111111111111111111111111111111111112222222222222222222222222222222222222222222222222222222222222222",
+        "0411111111111111111111111111111111111111111111111111111111111111112222222222222222222222222222222222222222222222222222222222222222",
+    ),
+];
+
+// 02 and 32 bytes 11.
+fn compressed_32() -> [u8; 33] {
+    let mut bytes = [0x11; 33];
+    bytes[0] = 2;
+    bytes
+}
+
+// 04, 32 bytes 11 and 32 bytes 22.
+fn uncompressed_32() -> [u8; 65] {
+    let mut bytes = [0x22; 65];
+    bytes[0] = 4;
+    for i in 1..33 {
+        bytes[i] = 0x11;
+    }
+    bytes
+}
+
+#[test]
+fn compresses_points(rt: HostRuntime) -> Result<(), Fail> {
+    for &(bytes, compressed) in COMPRESSED_1.iter() {
+        let point = Point1::from_bytes(bytes)?.compress();
+        assert_eq!(rt; point.as_bytes(), compressed, "{bytes:?}");
+        assert_eq!(rt; point.len(), compressed.len(), "{bytes:?}");
+        assert!(rt; point == Point1::try_from(compressed)?, "{bytes:?}");
+    }
+    for &(bytes, compressed) in COMPRESSED_2.iter() {
+        let point = Point2::try_from(bytes)?.compress();
+        assert_eq!(rt; point.as_bytes(), compressed, "{bytes:?}");
+    }
+    for &(bytes, hybrid) in HYBRID.iter() {
+        assert_eq!(rt;
+            Point1::from_bytes(bytes)?.to_hybrid().as_bytes(),
+            hybrid,
+            "{bytes:?}"
+        );
+    }
+    Ok(())
+}
+
+#[test]
+fn refuses_other_bytes(rt: HostRuntime) -> Result<(), Fail> {
+    for &bytes in NO_ENCODING.iter() {
+        assert_eq!(rt;
+            Point1::from_bytes(bytes).err(),
+            Some(Error::PointEncoding),
+            "{bytes:?}"
+        );
+    }
+    let mut compressed = compressed_32();
+    let mut uncompressed = uncompressed_32();
+    for end in 0..33 {
+        assert!(rt;
+            EncodedPoint32::from_bytes(&compressed[..end]).is_err(),
+            "{end} bytes"
+        );
+    }
+    for end in 0..65 {
+        assert!(rt;
+            EncodedPoint32::from_bytes(&uncompressed[..end]).is_err(),
+            "{end} bytes"
+        );
+    }
+    for first in 0..=255u8 {
+        compressed[0] = first;
+        uncompressed[0] = first;
+        let compressed_stands = EncodedPoint32::from_bytes(compressed.as_slice()).is_ok();
+        let uncompressed_stands = EncodedPoint32::from_bytes(uncompressed.as_slice()).is_ok();
+        assert_eq!(rt; compressed_stands, matches!(first, 2 | 3 | 5), "{first}");
+        assert_eq!(rt; uncompressed_stands, matches!(first, 4 | 6), "{first}");
+    }
+    assert!(rt; Point1::fits() && EncodedPoint32::fits());
+    assert!(rt; !EncodedPoint::<32, 64>::fits() && !EncodedPoint::<0, 1>::fits());
+    assert_eq!(rt;
+        EncodedPoint::<32, 64>::from_bytes(&[0]).err(),
+        Some(Error::PointEncoding)
+    );
+    assert_eq!(rt;
+        EncodedPoint::<0, 1>::from_bytes(&[0]).err(),
+        Some(Error::PointEncoding)
+    );
+    Ok(())
+}
+
+#[test]
+fn lends_coordinates(rt: HostRuntime) -> Result<(), Fail> {
+    let x = [0x11; 32];
+    let y = [0x22; 32];
+    let whole = EncodedPoint32::from_affine_coordinates(&x, &y, false);
+    assert_eq!(rt; whole.as_bytes(), uncompressed_32().as_slice());
+    assert_eq!(rt; whole.compress().as_bytes(), compressed_32().as_slice());
+    assert!(rt; whole.coordinates() == Coordinates::Uncompressed { x: &x, y: &y });
+    assert!(rt; whole.x() == Some(&x) && whole.y() == Some(&y));
+    assert!(rt; whole.tag() == Tag::Uncompressed && whole.len() == 65);
+    assert!(rt; whole.clone()? == whole);
+    assert!(rt; whole == EncodedPoint32::from_untagged_bytes(&uncompressed_32()[1..]));
+    let point = EncodedPoint32::from_affine_coordinates(&x, &y, true);
+    assert_eq!(rt; point.as_bytes(), compressed_32().as_slice());
+    assert_eq!(rt; point.tag(), Tag::CompressedEvenY);
+    assert_eq!(rt; whole.to_hybrid().tag(), Tag::HybridEvenY);
+    assert!(rt;
+        point.coordinates()
+            == Coordinates::Compressed {
+                x: &x,
+                y_is_odd: false
+            }
+    );
+    assert!(rt;
+        point.is_compressed() && !point.is_compact() && !point.is_hybrid() && !point.is_identity()
+    );
+    assert!(rt; point.len() == 33 && point.x() == Some(&x) && point.y().is_none());
+    assert_eq!(rt;
+        Point1::from_untagged_bytes(&[1, 0xFF]).as_bytes(),
+        [4, 1, 0xFF].as_slice()
+    );
+    assert_eq!(rt;
+        Point1::from_affine_coordinates(&[1], &[0xFF], true).as_bytes(),
+        [3, 1].as_slice()
+    );
+    let compact = Point1::from_bytes(&[5, 7])?;
+    assert!(rt; compact.is_compact() && !compact.is_compressed());
+    assert!(rt; compact.x() == Some(&[7]) && compact.y().is_none());
+    assert!(rt; Point1::from_bytes(&[4, 1, 3])?.to_hybrid().is_hybrid());
+    let odd = Point1::from_bytes(&[7, 1, 3])?;
+    assert!(rt; odd.coordinates() == Coordinates::Hybrid { x: &[1], y: &[3] });
+    assert_eq!(rt; odd.coordinates().tag(), Tag::HybridOddY);
+    let none: Coordinates<'_, 0> = Coordinates::Hybrid { x: &[], y: &[] };
+    assert_eq!(rt; none.tag(), Tag::HybridEvenY);
+    Ok(())
+}
+
+// Prints coordinates.
+fn printed(alloc: Global, coordinates: Coordinates<'_, 2>) -> Result<String, Fail> {
+    Ok(format!(in alloc; "{coordinates:?}")?)
+}
+
+#[test]
+fn prints_coordinates(rt: HostRuntime) -> Result<(), Fail> {
+    let alloc = rt.alloc();
+    let (x, y) = (&[1, 255], &[0, 3]);
+    assert_eq!(rt; printed(alloc, Identity)?.as_str(), "Identity");
+    assert_eq!(rt;
+        printed(alloc, Coordinates::Compact { x })?.as_str(),
+        "Compact { x: [1, 255] }"
+    );
+    let y_is_odd = true;
+    assert_eq!(rt;
+        printed(alloc, Compressed { x, y_is_odd })?.as_str(),
+        "Compressed { x: [1, 255], y_is_odd: true }"
+    );
+    assert_eq!(rt;
+        printed(alloc, Coordinates::Uncompressed { x, y })?.as_str(),
+        "Uncompressed { x: [1, 255], y: [0, 3] }"
+    );
+    assert_eq!(rt;
+        printed(alloc, Coordinates::Hybrid { x, y })?.as_str(),
+        "Hybrid { x: [1, 255], y: [0, 3] }"
+    );
+    Ok(())
+}
+
+#[test]
+fn compares_coordinates(rt: HostRuntime) {
+    let (x, other, y) = (&[1, 2], &[1, 3], &[0, 3]);
+    let even = Compressed { x, y_is_odd: false };
+    let uncompressed = Coordinates::Uncompressed { x, y };
+    assert!(rt;
+        even == Compressed {
+            x: &[1, 2],
+            y_is_odd: false
+        }
+    );
+    assert!(rt; even != Compressed { x, y_is_odd: true });
+    assert!(rt;
+        even != Compressed {
+            x: other,
+            y_is_odd: false
+        }
+    );
+    assert!(rt; even != Coordinates::Compact { x } && even != Identity);
+    assert!(rt; uncompressed == Coordinates::Uncompressed { x, y });
+    assert!(rt; uncompressed != Coordinates::Uncompressed { x: other, y });
+    assert!(rt; uncompressed != Coordinates::Uncompressed { x, y: other });
+    assert!(rt; uncompressed != Coordinates::Hybrid { x, y });
+    assert!(rt; Coordinates::Hybrid { x, y } == Coordinates::Hybrid { x, y });
+    assert!(rt; Identity == Coordinates::<'_, 2>::Identity);
+}
+
+#[test]
+fn reads_parities(rt: HostRuntime) -> Result<(), Fail> {
+    let mut bytes = [0; 33];
+    bytes[0] = 2;
+    bytes[1] = 1;
+    let even = EncodedPoint32::from_bytes(bytes.as_slice())?;
+    bytes[0] = 3;
+    bytes[1] = 2;
+    let odd = EncodedPoint32::from_bytes(bytes.as_slice())?;
+    assert!(rt; even.tag() == Tag::CompressedEvenY && odd.tag() == Tag::CompressedOddY);
+    assert!(rt; even.len() == 33 && even.y().is_none() && odd.y().is_none());
+    assert!(rt;
+        matches!(
+            even.coordinates(),
+            Coordinates::Compressed {
+                y_is_odd: false,
+                ..
+            }
+        )
+    );
+    assert!(rt;
+        matches!(
+            odd.coordinates(),
+            Coordinates::Compressed { y_is_odd: true, .. }
+        )
+    );
+    Ok(())
+}
+
+#[test]
+fn has_identities(rt: HostRuntime) {
+    let identity = EncodedPoint32::identity();
+    assert!(rt; identity.is_identity() && identity.x().is_none() && identity.y().is_none());
+    assert!(rt; EncodedPoint32::from_bytes(&[0]) == Ok(identity));
+    assert!(rt; EncodedPoint28::default() == EncodedPoint28::identity());
+    assert!(rt; EncodedPoint32::default() == identity);
+    assert!(rt; EncodedPoint48::default() == EncodedPoint48::identity());
+    assert!(rt; EncodedPoint66::default() == EncodedPoint66::identity());
+    assert_eq!(rt; EncodedPoint32::default().tag(), Tag::Identity);
+    assert_eq!(rt; EncodedPoint32::default().as_bytes(), [0].as_slice());
+    assert_eq!(rt; Point1::identity().len(), 1);
+}
+
+#[test]
+fn has_tags(rt: HostRuntime) -> Result<(), Fail> {
+    assert_eq!(rt; Tag::Identity.message_len(66), 1);
+    assert_eq!(rt; Tag::Compact.message_len(66), 67);
+    assert_eq!(rt; Tag::Uncompressed.message_len(66), 133);
+    assert_eq!(rt; Tag::from_u8(6)?, Tag::HybridEvenY);
+    assert_eq!(rt; Tag::try_from(7)?, Tag::HybridOddY);
+    assert_eq!(rt; u8::from(Tag::HybridOddY), 7);
+    for byte in [1, 8, 0xFF] {
+        assert_eq!(rt;
+            Tag::from_u8(byte).err(),
+            Some(Error::PointEncoding),
+            "{byte}"
+        );
+    }
+    Ok(())
+}
+
+#[test]
+fn orders_points(rt: HostRuntime) -> Result<(), Fail> {
+    for (i, &lower) in ORDERED.iter().enumerate() {
+        let point = Point1::from_bytes(lower)?;
+        for &higher in ORDERED[i + 1..].iter() {
+            let other = Point1::from_bytes(higher)?;
+            assert!(rt;
+                point < other && other > point && point != other,
+                "{lower:?} {higher:?}"
+            );
+        }
+    }
+    let compressed = Point1::from_bytes(&[4, 1, 0xFF])?.compress();
+    let read = Point1::from_bytes(&[3, 1])?;
+    assert!(rt; compressed == read && compressed.ct_eq(&read));
+    assert_eq!(rt; compressed.cmp(&read), Ordering::Equal);
+    let small = EncodedPoint32::from_bytes(compressed_32().as_slice())?;
+    assert!(rt; small < EncodedPoint32::from_bytes(uncompressed_32().as_slice())?);
+    Ok(())
+}
+
+// The bytes that were fed, up to 15 of them, as the digits behind the first one, 1, of a number in base 256.
+#[derive(Drop)]
+struct Recorder(u128);
+
+impl Hasher for Recorder {
+    ghost write = { λ fed bytes. record { 0 = fold (λ number byte. number % 2 ^ 120 * 256 + byte) fed.0 bytes } };
+
+    ghost finish = { λ fed. fed.0 % 2 ^ 64 };
+
+    fn finish(&self) -> u64 {
+        (self.0 % (1 << 64)) as u64
+    }
+
+    fn write(&mut self, bytes: &[u8]) {
+        for byte in bytes {
+            self.0 = self.0 % (1 << 120) * 256 + *byte as u128;
+        }
+    }
+}
+
+fn fed_by<T: Hash>(value: &T) -> u128 {
+    let mut recorder = Recorder(1);
+    value.hash(&mut recorder);
+    recorder.0
+}
+
+#[test]
+fn hashes_points(rt: HostRuntime) -> Result<(), Fail> {
+    let point = Point1::from_str("02AF")?;
+    let bytes: &[u8] = &[2, 0xAF];
+    assert_eq!(rt; fed_by(&point), fed_by(&bytes));
+    // no digit was lost
+    assert!(rt; fed_by(&point) < 1 << 120 && fed_by(&point) > 1 << 16);
+    let mut points = HashSet::new(rt.alloc());
+    assert!(rt; points.insert(point)?);
+    assert!(rt; points.contains(&Point1::from_bytes(bytes)?));
+    let compressed = Point1::from_bytes(&[4, 0xAF, 2])?.compress();
+    assert!(rt; !points.insert(compressed)?);
+    assert_eq!(rt; points.len(), 1);
+    let wide = EncodedPoint32::identity();
+    assert_eq!(rt; fed_by(&wide), fed_by(&wide.as_bytes()));
+    Ok(())
+}
+
+fn selects<const N: usize, const L: usize>(
+    rt: &impl Abort,
+    a: EncodedPoint<N, L>,
+    b: EncodedPoint<N, L>,
+) {
+    assert_eq!(rt; a.ct_select(&b, false).as_bytes(), a.as_bytes());
+    assert_eq!(rt; a.ct_select(&b, true).as_bytes(), b.as_bytes());
+    assert_eq!(rt;
+        EncodedPoint::conditional_select(&a, &b, false).as_bytes(),
+        a.as_bytes()
+    );
+    assert_eq!(rt;
+        EncodedPoint::conditional_select(&a, &b, true).as_bytes(),
+        b.as_bytes()
+    );
+    let mut point = a;
+    point.ct_assign(&b, false);
+    assert_eq!(rt; point.as_bytes(), a.as_bytes());
+    point.ct_assign(&b, true);
+    assert_eq!(rt; point.as_bytes(), b.as_bytes());
+    assert!(rt; point.ct_eq(&b) && !point.ct_eq(&a));
+    point.zeroize();
+    assert_eq!(rt; point.as_bytes(), [0].as_slice());
+}
+
+#[test]
+fn selects_points(rt: HostRuntime) -> Result<(), Fail> {
+    let whole = Point1::from_bytes(&[4, 1, 2])?;
+    selects(&rt, whole, Point1::identity());
+    selects(&rt, Point1::identity(), whole);
+    let compressed = EncodedPoint32::from_bytes(compressed_32().as_slice())?;
+    selects(
+        &rt,
+        compressed,
+        EncodedPoint32::from_bytes(uncompressed_32().as_slice())?,
+    );
+    let mut assigned = whole;
+    assigned.ct_assign(&Point1::identity(), true);
+    assert_eq!(rt; assigned.as_bytes(), [0].as_slice());
+    assert!(rt; assigned.len() == 1 && assigned.ct_eq(&Point1::identity()));
+    let mut assigned = Point1::identity();
+    assigned.ct_assign(&whole, true);
+    assert_eq!(rt; assigned.as_bytes(), [4, 1, 2].as_slice());
+    Ok(())
+}
+
+fn is_written<const N: usize, const L: usize>(
+    rt: &impl Abort,
+    alloc: Global,
+    point: EncodedPoint<N, L>,
+    upper: &str,
+    lower: &str,
+) -> Result<(), Fail> {
+    assert!(rt; point == EncodedPoint::<N, L>::from_str(upper)?);
+    assert!(rt; point == EncodedPoint::<N, L>::from_str(lower)?);
+    assert_eq!(rt; format!(in alloc; "{point}")?.as_str(), upper);
+    assert_eq!(rt; format!(in alloc; "{point:>200}")?.as_str(), upper);
+    assert_eq!(rt; point.to_upper_hex(alloc)?.as_str(), upper);
+    assert_eq!(rt; point.to_lower_hex(alloc)?.as_str(), lower);
+    assert_eq!(rt; point.to_bytes(alloc)?.as_slice(), point.as_bytes());
+    let json = point.to_json(alloc)?;
+    assert_eq!(rt; json.as_str(), Some(upper));
+    assert!(rt; EncodedPoint::<N, L>::from_json(&json)? == point);
+    Ok(())
+}
+
+#[test]
+fn writes_texts(rt: HostRuntime) -> Result<(), Fail> {
+    let alloc = rt.alloc();
+    is_written(&rt, alloc, Point1::from_bytes(&[2, 0xAF])?, "02AF", "02af")?;
+    for &(upper, lower) in TEXTS_32.iter() {
+        let bytes = hex::decode(alloc, upper)?;
+        is_written(
+            &rt,
+            alloc,
+            EncodedPoint32::from_bytes(&bytes)?,
+            upper,
+            lower,
+        )?;
+    }
+    assert_eq!(rt;
+        Point1::from_str("070103")?.as_bytes(),
+        [7, 1, 3].as_slice()
+    );
+    for &text in NO_TEXT.iter() {
+        assert_eq!(rt;
+            Point1::from_str(text).err(),
+            Some(Error::PointEncoding),
+            "{text}"
+        );
+    }
+    assert_eq!(rt;
+        Point1::from_json(&Value::from(2u8)).err(),
+        Some(Error::PointEncoding)
+    );
+    assert_eq!(rt;
+        Point1::from_json(&Value::from(0.5)).err(),
+        Some(Error::PointEncoding)
+    );
+    let point = Point1::from_bytes(&[2, 0xAF])?;
+    assert_eq!(rt;
+        format!(in alloc; "{point:?}")?.as_str(),
+        "EncodedPoint(Compressed { x: [175], y_is_odd: false })"
+    );
+    assert_eq!(rt;
+        format!(in alloc; "{:?}", EncodedPoint32::identity())?.as_str(),
+        "EncodedPoint(Identity)"
+    );
+    Ok(())
+}

@@ -1,0 +1,291 @@
+//! Keys that are read and bytes that are refused, by examples with known answers.
+use der::{ErrorKind, FixedTag, ObjectIdentifier};
+use sec1::{ALGORITHM_OID, EcParameters, EcPrivateKey, Error, Result, der};
+use std::alloc::Global;
+use std::test::Fail;
+
+/// The private key of a key on P-256.
+static PRIVATE_KEY: &str = "69624171561A63340DE0E7D869F2A05492558E1A04868B6A9F854A866788188D";
+
+/// Its public key.
+static PUBLIC_KEY: &str =
+    "041CACFFB55F2F2CEFD89D89EB374B2681152452802DEEA09916068137D839CF7FC481A44492304D7EF66AC117BEFE83A8D08F155F2B52F9F618DD447029048E0F";
+
+/// The key with all its fields, 121 bytes.
+pub static KEY: &str =
+    "3077020101042069624171561A63340DE0E7D869F2A05492558E1A04868B6A9F854A866788188DA00A06082A8648CE3D030107A144034200041CACFFB55F2F2CEFD89D89EB374B2681152452802DEEA09916068137D839CF7FC481A44492304D7EF66AC117BEFE83A8D08F155F2B52F9F618DD447029048E0F";
+
+/// The key without parameters, as it stands inside PKCS#8, 109 bytes.
+static KEY_OF_KNOWN_CURVE: &str =
+    "306B020101042069624171561A63340DE0E7D869F2A05492558E1A04868B6A9F854A866788188DA144034200041CACFFB55F2F2CEFD89D89EB374B2681152452802DEEA09916068137D839CF7FC481A44492304D7EF66AC117BEFE83A8D08F155F2B52F9F618DD447029048E0F";
+
+/// The kind by which the bytes are refused as a key; None where they are one, or the refusal has no kind.
+fn refusal(bytes: &[u8]) -> Option<ErrorKind> {
+    match EcPrivateKey::try_from(bytes) {
+        Err(Error::Asn1(cause)) => Some(cause.kind),
+        _ => None,
+    }
+}
+
+#[test]
+fn a_key_is_a_sequence(rt: HostRuntime) {
+    assert_eq!(rt; EcPrivateKey::TAG.byte(), 0x30);
+}
+
+#[test]
+fn whole_keys_are_read(rt: HostRuntime) -> std::result::Result<(), Fail> {
+    let private_key = hex::decode(rt.alloc(), PRIVATE_KEY)?;
+    let public_key = hex::decode(rt.alloc(), PUBLIC_KEY)?;
+    let p_256 = ObjectIdentifier::new("1.2.840.10045.3.1.7")?;
+
+    let bytes = hex::decode(rt.alloc(), KEY)?;
+    let key = EcPrivateKey::try_from(bytes.as_slice())?;
+    assert_eq!(rt; key.private_key, private_key.as_slice());
+    assert!(rt; key.parameters == Some(EcParameters::from(p_256)));
+    assert_eq!(rt; key.public_key, Some(public_key.as_slice()));
+
+    let bytes = hex::decode(rt.alloc(), KEY_OF_KNOWN_CURVE)?;
+    let key = EcPrivateKey::try_from(bytes.as_slice())?;
+    assert_eq!(rt; key.private_key, private_key.as_slice());
+    assert!(rt; key.parameters.is_none());
+    assert_eq!(rt; key.public_key, Some(public_key.as_slice()));
+    Ok(())
+}
+
+/// Keys without a private key: the bytes, the dotted text of the curve, the hexadecimal of the public key.
+static KEYS: [(&str, Option<&str>, Option<&str>); 6] = [
+    ("30050201010400", None, None),
+    ("300A0201010400A103030100", None, Some("")),
+    (
+        "300F0201010400A00806062A8FFFFFFF7F",
+        Some("1.2.4294967295"),
+        None,
+    ),
+    (
+        "300E0201010400A00706052B81040022",
+        Some("1.3.132.0.34"),
+        None,
+    ),
+    ("300B0201010400A00406028837", Some("2.999"), None),
+    (
+        "30300201010400A02906272A0101010101010101010101010101010101010101010101010101010101010101010101010101",
+        Some("1.2.1.1.1.1.1.1.1.1.1.1.1.1.1.1.1.1.1.1.1.1.1.1.1.1.1.1.1.1.1.1.1.1.1.1.1.1.1.1"),
+        None,
+    ),
+];
+
+/// The dotted text of the curve.
+fn curve(alloc: Global, key: &EcPrivateKey) -> std::result::Result<Option<String>, Fail> {
+    match key.parameters {
+        Some(EcParameters::NamedCurve(identifier)) => {
+            Ok(Some(format!(in alloc; "{identifier}")?))
+        }
+        None => Ok(None),
+    }
+}
+
+#[test]
+fn optional_fields_are_read_and_written(rt: HostRuntime) -> std::result::Result<(), Fail> {
+    for &(text, named, public_key) in KEYS.iter() {
+        let bytes = hex::decode(rt.alloc(), text)?;
+        let key = EcPrivateKey::try_from(bytes.as_slice())?;
+        assert!(rt; key.private_key.is_empty(), "{text}");
+        let curve = curve(rt.alloc(), &key)?;
+        assert_eq!(rt; curve.as_deref(), named, "{text}");
+        let wanted = match public_key {
+            Some(digits) => Some(hex::decode(rt.alloc(), digits)?),
+            None => None,
+        };
+        assert_eq!(rt; key.public_key, wanted.as_deref(), "{text}");
+        assert_eq!(rt;
+            key.to_der(rt.alloc())?.as_slice(),
+            bytes.as_slice(),
+            "{text}"
+        );
+    }
+    Ok(())
+}
+
+static REFUSED: [(&str, ErrorKind); 35] = [
+    ("", ErrorKind::Truncated),
+    // a length in the long form that the short form has
+    ("3081050201010400", ErrorKind::Length),
+    // the indefinite form
+    ("308002010104000000", ErrorKind::Length),
+    // a version that isn't the byte 01
+    ("3006020200010400", ErrorKind::Value),
+    ("3003020102", ErrorKind::Value),
+    ("300402000400", ErrorKind::Value),
+    // no private key
+    ("3003020101", ErrorKind::Truncated),
+    // a tag is told before the length
+    ("3180", ErrorKind::Tag),
+    // a public key with an unused bit
+    ("300B0201010400A10403020100", ErrorKind::Value),
+    // a field that stands twice, or in the wrong place
+    (
+        "30110201010400A00406022A03A00406022A03",
+        ErrorKind::TrailingData,
+    ),
+    (
+        "30100201010400A103030100A00406022A03",
+        ErrorKind::TrailingData,
+    ),
+    // another field
+    ("300702010104000500", ErrorKind::TrailingData),
+    // a curve that isn't named
+    ("30090201010400A0023000", ErrorKind::Tag),
+    ("30090201010400A0020500", ErrorKind::Tag),
+    // an arc above the limit
+    ("300F0201010400A00806062A9080808000", ErrorKind::Value),
+    // an arc with a leading 80
+    ("300C0201010400A00506032A8001", ErrorKind::Value),
+    // bytes after the bit string are told before its unused bits
+    ("300D0201010400A106030201000500", ErrorKind::TrailingData),
+    // but after a content that no bit string has
+    ("300D0201010400A106030201010500", ErrorKind::Value),
+    // less than the outer element announces
+    ("30840FFFFFFF020101", ErrorKind::Truncated),
+    // a private key that ends behind the outer element
+    ("30050201010401AA", ErrorKind::Truncated),
+    // fields in another order
+    ("30050400020101", ErrorKind::Tag),
+    ("30050201011F00", ErrorKind::Tag),
+    // bytes after the identifier
+    ("300E0201010400A00706022A0306012A", ErrorKind::TrailingData),
+    // an identifier that ends behind its field
+    ("300B0201010400A00306022A03", ErrorKind::Truncated),
+    // identifiers that end too early
+    ("30090201010400A0020600", ErrorKind::Value),
+    ("300A0201010400A0030601AA", ErrorKind::Value),
+    // an identifier of 40 bytes
+    (
+        "30310201010400A02A06282A010101010101010101010101010101010101010101010101010101010101010101010101010101",
+        ErrorKind::Value,
+    ),
+    // lengths that aren't DER's
+    ("30817F", ErrorKind::Length),
+    ("30820080", ErrorKind::Length),
+    ("308300FFFF", ErrorKind::Length),
+    ("3085", ErrorKind::Length),
+    ("30FF", ErrorKind::Length),
+    ("308201", ErrorKind::Truncated),
+    ("308180", ErrorKind::Truncated),
+    // 64 elements inside one another
+    (
+        "307E307C307A30783076307430723070306E306C306A30683066306430623060305E305C305A30583056305430523050304E304C304A30483046304430423040303E303C303A30383036303430323030302E302C302A30283026302430223020301E301C301A30183016301430123010300E300C300A30083006300430023000",
+        ErrorKind::Tag,
+    ),
+];
+
+#[test]
+fn other_bytes_are_refused(rt: HostRuntime) -> std::result::Result<(), Fail> {
+    for &(text, kind) in REFUSED.iter() {
+        let bytes = hex::decode(rt.alloc(), text)?;
+        assert_eq!(rt; refusal(bytes.as_slice()), Some(kind), "{text}");
+    }
+    Ok(())
+}
+
+#[test]
+fn parts_of_a_key_are_refused(rt: HostRuntime) -> std::result::Result<(), Fail> {
+    let mut bytes = hex::decode(rt.alloc(), KEY)?;
+    for count in 0..bytes.len() {
+        let part = bytes.get(..count).ok_or("too short")?;
+        assert_eq!(rt; refusal(part), Some(ErrorKind::Truncated), "{count} bytes");
+    }
+    bytes.push(0)?;
+    assert_eq!(rt; refusal(bytes.as_slice()), Some(ErrorKind::TrailingData));
+    Ok(())
+}
+
+/// What a caller with a result of its own makes of a key.
+fn private_key_len(bytes: &[u8]) -> Result<usize> {
+    let key = EcPrivateKey::try_from(bytes)?;
+    Ok(key.private_key.len())
+}
+
+#[test]
+fn callers_hand_refusals_on(rt: HostRuntime) -> std::result::Result<(), Fail> {
+    assert_eq!(rt; private_key_len(b"\x30\x06\x02\x01\x01\x04\x01\x07")?, 1);
+    let refused = private_key_len(b"\x31\x80");
+    assert!(rt; refused == Err(Error::from(der::Error::from(ErrorKind::Tag))));
+    Ok(())
+}
+
+static TEXTS: [(Error, &str); 6] = [
+    (
+        Error::Asn1(der::Error {
+            kind: ErrorKind::Value,
+        }),
+        "SEC1 ASN.1 error: content not valid for its tag",
+    ),
+    (
+        Error::Asn1(der::Error {
+            kind: ErrorKind::Io,
+        }),
+        "SEC1 ASN.1 error: read or write failed",
+    ),
+    (Error::Crypto, "SEC1 cryptographic error"),
+    (Error::PointEncoding, "elliptic curve point encoding error"),
+    (Error::Version, "SEC1 version error"),
+    (Error::Memory, "out of memory"),
+];
+
+#[test]
+fn errors_have_their_texts(rt: HostRuntime) -> std::result::Result<(), Fail> {
+    for (error, text) in TEXTS.iter() {
+        assert_eq!(rt; format!(in rt.alloc(); "{error}")?.as_str(), *text);
+    }
+    let refused_growth = Error::from(der::Error::from(ErrorKind::Memory));
+    assert!(rt; refused_growth == Error::Memory);
+    Ok(())
+}
+
+/// Keys, and their texts. Of the private key, `69 96` or `AA`, no byte is shown.
+static DEBUG_TEXTS: [(&[u8], &str); 4] = [
+    (
+        b"\x30\x05\x02\x01\x01\x04\x00",
+        "EcPrivateKey { parameters: None, public_key: None, .. }",
+    ),
+    (
+        b"\x30\x07\x02\x01\x01\x04\x02\x69\x96",
+        "EcPrivateKey { parameters: None, public_key: None, .. }",
+    ),
+    (
+        b"\x30\x0D\x02\x01\x01\x04\x02\x69\x96\xA0\x04\x06\x02\x2A\x03",
+        "EcPrivateKey { parameters: Some(NamedCurve(ObjectIdentifier(1.2.3))), public_key: None, .. }",
+    ),
+    (
+        b"\x30\x14\x02\x01\x01\x04\x01\xAA\xA0\x04\x06\x02\x2A\x03\xA1\x06\x03\x04\x00\x02\x01\x07",
+        "EcPrivateKey { parameters: Some(NamedCurve(ObjectIdentifier(1.2.3))), public_key: Some([2, 1, 7]), .. }",
+    ),
+];
+
+#[test]
+fn a_debug_text_shows_no_private_key(rt: HostRuntime) -> std::result::Result<(), Fail> {
+    for &(bytes, text) in DEBUG_TEXTS.iter() {
+        let key = EcPrivateKey::try_from(bytes)?;
+        assert_eq!(rt; format!(in rt.alloc(); "{key:?}")?.as_str(), text);
+    }
+    let curve = EcParameters::from(ObjectIdentifier::new("1.2.3")?);
+    assert_eq!(rt;
+        format!(in rt.alloc(); "{curve:?}")?.as_str(),
+        "NamedCurve(ObjectIdentifier(1.2.3))"
+    );
+    Ok(())
+}
+
+#[test]
+fn keys_and_curves_are_copied(rt: HostRuntime) -> std::result::Result<(), Fail> {
+    let bytes = hex::decode(rt.alloc(), KEY)?;
+    let key = EcPrivateKey::try_from(bytes.as_slice())?;
+    let copy = key.clone()?;
+    assert_eq!(rt; copy.private_key, key.private_key);
+    assert!(rt; copy.parameters == key.parameters);
+    assert_eq!(rt; copy.public_key, key.public_key);
+    let curve = ObjectIdentifier::new("1.3.132.0.34")?;
+    assert!(rt; EcParameters::from(curve).named_curve() == Some(curve));
+    assert!(rt; ALGORITHM_OID == ObjectIdentifier::new("1.2.840.10045.2.1")?);
+    Ok(())
+}

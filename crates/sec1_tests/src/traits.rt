@@ -1,0 +1,151 @@
+//! The two traits, by a key type that copies its bytes unread.
+use super::reading::KEY;
+use der::{ErrorKind, SecretDocument, StdReader, StdWriter};
+use sec1::{DecodeEcPrivateKey, EncodeEcPrivateKey, Error, Result, der};
+use std::alloc::Global;
+use std::test::Fail;
+use std::{fs, io};
+
+/// A key that is any bytes. It is written where they are one element.
+#[derive(Debug, PartialEq, Drop)]
+pub struct Copied {
+    pub bytes: Vec<u8>,
+}
+
+impl DecodeEcPrivateKey for Copied {
+    ghost use Rattle.std.specs.Prelude.{◌≡◌};
+
+    ghost reads = { λ bytes key. key.bytes.items ≡ bytes };
+
+    ghost refuses = { λ _ _. ⊥ };
+
+    fn from_sec1_der(alloc: Global, bytes: &[u8]) -> Result<Copied> {
+        match Vec::from_slice(alloc, bytes) {
+            Ok(bytes) => Ok(Copied { bytes }),
+            Err(_) => Err(Error::Memory),
+        }
+    }
+}
+
+impl EncodeEcPrivateKey for Copied {
+    ghost use Rattle.std.specs.Prelude.{◌≡◌, ⊤};
+
+    ghost writes = { λ key bytes. key.bytes.items ≡ bytes };
+
+    ghost refuses = { λ _ _. ⊤ };
+
+    fn to_sec1_der(&self, alloc: Global) -> Result<SecretDocument> {
+        Ok(SecretDocument::from_der(alloc, &self.bytes)?)
+    }
+}
+
+/// Bytes of which each is a key, and whether they are one element.
+static BYTES: [(&[u8], bool); 4] = [
+    (b"", false),
+    (b"\x04\x01\xAA", true),
+    (b"\x04\x02\xAA", false),
+    (b"\x00\xFF", false),
+];
+
+/// The error of this kind.
+fn asn1(kind: ErrorKind) -> Option<Error> {
+    Some(Error::Asn1(der::Error::from(kind)))
+}
+
+#[test]
+fn keys_are_read(rt: HostRuntime) -> std::result::Result<(), Fail> {
+    let alloc = rt.alloc();
+    for &(bytes, is_element) in BYTES.iter() {
+        assert_eq!(rt;
+            Copied::from_sec1_der(alloc, bytes)?.bytes.as_slice(),
+            bytes
+        );
+        let read = Copied::read_sec1_der_from(alloc, &mut StdReader::new(bytes));
+        assert_eq!(rt; read.is_ok(), is_element, "of {bytes:?}");
+    }
+    let bytes = hex::decode(alloc, KEY)?;
+    let key = Copied::read_sec1_der_from(alloc, &mut StdReader::new(bytes.as_slice()))?;
+    assert_eq!(rt; key.bytes.as_slice(), bytes.as_slice());
+
+    let short = Copied::read_sec1_der_from(alloc, &mut StdReader::new(b"\x04\x02\xAA".as_slice()));
+    assert_eq!(rt; short.err(), asn1(ErrorKind::Truncated));
+    Ok(())
+}
+
+/// A writer that takes seven bytes and then fails.
+#[derive(Drop)]
+struct SevenBytes {
+    taken: Vec<u8>,
+}
+
+impl io::Write for SevenBytes {
+    fn write(&mut self, buf: &[u8]) -> io::Result<usize> {
+        let count = buf.len().min(7usize.saturating_sub(self.taken.len()));
+        if count == 0 {
+            return Err(io::Error::from(io::ErrorKind::Other));
+        }
+        self.taken.extend_from_slice(&buf[..count])?;
+        Ok(count)
+    }
+
+    fn flush(&mut self) -> io::Result<()> {
+        Ok(())
+    }
+}
+
+#[test]
+fn keys_are_written(rt: HostRuntime) -> std::result::Result<(), Fail> {
+    let alloc = rt.alloc();
+    let key = Copied {
+        bytes: hex::decode(alloc, KEY)?,
+    };
+    let mut writer = StdWriter::new(Vec::new(alloc));
+    key.write_sec1_der_to(alloc, &mut writer)?;
+    assert_eq!(rt; writer.into_inner().as_slice(), key.bytes.as_slice());
+
+    let mut writer = StdWriter::new(SevenBytes {
+        taken: Vec::new(alloc),
+    });
+    let broken = key.write_sec1_der_to(alloc, &mut writer);
+    assert_eq!(rt; broken.err(), asn1(ErrorKind::Io));
+    assert_eq!(rt;
+        writer.into_inner().taken.as_slice(),
+        b"\x30\x77\x02\x01\x01\x04\x20".as_slice()
+    );
+    Ok(())
+}
+
+#[test]
+fn refused_keys_write_nothing(rt: HostRuntime) -> std::result::Result<(), Fail> {
+    let alloc = rt.alloc();
+    let key = Copied::from_sec1_der(alloc, b"\x04\x02\xAA")?;
+    let mut writer = StdWriter::new(Vec::new(alloc));
+    let refused = key.write_sec1_der_to(alloc, &mut writer);
+    assert_eq!(rt; refused.err(), asn1(ErrorKind::Truncated));
+    assert!(rt; writer.into_inner().is_empty());
+    Ok(())
+}
+
+#[test]
+fn keys_are_kept_in_files(rt: HostRuntime) -> std::result::Result<(), Fail> {
+    let alloc = rt.alloc();
+    let folder = std::env::temp_dir(&rt)?;
+    let path = format!(in alloc;
+        "{}/sec1_{}",
+        folder.display(),
+        std::process::id(rt.process())
+    )?;
+    let missing = Copied::read_sec1_der_file(&rt, alloc, &path);
+    assert_eq!(rt; missing.err(), asn1(ErrorKind::Io));
+
+    let bytes = hex::decode(alloc, KEY)?;
+    fs::write(&rt, &path, &bytes)?;
+    let key = Copied::read_sec1_der_file(&rt, alloc, &path)?;
+    assert_eq!(rt; key.bytes.as_slice(), bytes.as_slice());
+    fs::remove_file(&rt, &path)?;
+
+    key.write_sec1_der_file(&rt, alloc, &path)?;
+    assert_eq!(rt; Copied::read_sec1_der_file(&rt, alloc, &path)?, key);
+    fs::remove_file(&rt, &path)?;
+    Ok(())
+}

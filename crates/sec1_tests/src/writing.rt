@@ -1,0 +1,188 @@
+//! Keys that are written, by examples with known answers.
+use sec1::der::{self, AnyRef, EncodeValue, ErrorKind, ObjectIdentifier, SliceWriter, Tag};
+use sec1::{EcParameters, EcPrivateKey, Error};
+use std::test::Fail;
+
+/// A key of the curve P-256 with all of its parts.
+static P256_KEY: [u8; 121] = [
+    0x30, 0x77, 0x02, 0x01, 0x01, 0x04, 0x20, 0x69, 0x62, 0x41, 0x71, 0x56, 0x1A, 0x63, 0x34, 0x0D,
+    0xE0, 0xE7, 0xD8, 0x69, 0xF2, 0xA0, 0x54, 0x92, 0x55, 0x8E, 0x1A, 0x04, 0x86, 0x8B, 0x6A, 0x9F,
+    0x85, 0x4A, 0x86, 0x67, 0x88, 0x18, 0x8D, 0xA0, 0x0A, 0x06, 0x08, 0x2A, 0x86, 0x48, 0xCE, 0x3D,
+    0x03, 0x01, 0x07, 0xA1, 0x44, 0x03, 0x42, 0x00, 0x04, 0x1C, 0xAC, 0xFF, 0xB5, 0x5F, 0x2F, 0x2C,
+    0xEF, 0xD8, 0x9D, 0x89, 0xEB, 0x37, 0x4B, 0x26, 0x81, 0x15, 0x24, 0x52, 0x80, 0x2D, 0xEE, 0xA0,
+    0x99, 0x16, 0x06, 0x81, 0x37, 0xD8, 0x39, 0xCF, 0x7F, 0xC4, 0x81, 0xA4, 0x44, 0x92, 0x30, 0x4D,
+    0x7E, 0xF6, 0x6A, 0xC1, 0x17, 0xBE, 0xFE, 0x83, 0xA8, 0xD0, 0x8F, 0x15, 0x5F, 0x2B, 0x52, 0xF9,
+    0xF6, 0x18, 0xDD, 0x44, 0x70, 0x29, 0x04, 0x8E, 0x0F,
+];
+
+/// A key with no bytes and no other part.
+static EMPTY_KEY: [u8; 7] = [0x30, 0x05, 0x02, 0x01, 0x01, 0x04, 0x00];
+
+fn kind_of<T: Drop>(answer: sec1::Result<T>) -> Option<ErrorKind> {
+    match answer {
+        Err(Error::Asn1(cause)) => Some(cause.kind()),
+        _ => None,
+    }
+}
+
+#[test]
+fn writes_all_parts(rt: HostRuntime) -> Result<(), Fail> {
+    let key = EcPrivateKey::try_from(P256_KEY.as_slice())?;
+    assert_eq!(rt; key.encoded_len()?, 121);
+    assert_eq!(rt; key.to_der(rt.alloc())?.as_slice(), P256_KEY.as_slice());
+    let mut room = [0xAA; 130];
+    assert_eq!(rt; key.encode_to_slice(&mut room)?, 121);
+    assert_eq!(rt; &room[..121], P256_KEY.as_slice());
+    assert_eq!(rt; &room[121..], [0xAA; 9].as_slice());
+    Ok(())
+}
+
+#[test]
+fn documents_hold_the_encoding(rt: HostRuntime) -> Result<(), Fail> {
+    let key = EcPrivateKey::try_from(EMPTY_KEY.as_slice())?;
+    assert_eq!(rt;
+        key.document_ref(rt.alloc())?.as_bytes(),
+        EMPTY_KEY.as_slice()
+    );
+    assert_eq!(rt; key.document(rt.alloc())?.as_bytes(), EMPTY_KEY.as_slice());
+    Ok(())
+}
+
+/// From a content of 128 bytes on the length has two bytes. The private key, and what stands before it.
+static LONG_FORMS: [(usize, &[u8]); 2] = [
+    (122, &[0x30, 0x7F, 0x02, 0x01, 0x01, 0x04, 0x7A]),
+    (123, &[0x30, 0x81, 0x80, 0x02, 0x01, 0x01, 0x04, 0x7B]),
+];
+
+#[test]
+fn writes_the_long_form(rt: HostRuntime) -> Result<(), Fail> {
+    for &(count, front) in LONG_FORMS.iter() {
+        let mut wanted = front.to_vec(rt.alloc())?;
+        wanted.extend_from_slice(&[0; 123][..count])?;
+        let zeros = [0; 123];
+        let key = EcPrivateKey {
+            private_key: &zeros[..count],
+            parameters: None,
+            public_key: None,
+        };
+        assert_eq!(rt; key.encoded_len()?, wanted.len());
+        assert_eq!(rt; key.to_der(rt.alloc())?.as_slice(), wanted.as_slice());
+        let mut room = [0xAA; 140];
+        assert_eq!(rt; key.encode_to_slice(&mut room)?, wanted.len());
+        assert!(rt; room.starts_with(&wanted), "{count}");
+        assert_eq!(rt;
+            room.iter().filter(|byte| **byte == 0xAA).count(),
+            140 - wanted.len()
+        );
+        assert_eq!(rt;
+            EcPrivateKey::try_from(wanted.as_slice())?.private_key,
+            key.private_key
+        );
+    }
+    Ok(())
+}
+
+#[test]
+fn writes_the_content(rt: HostRuntime) -> Result<(), Fail> {
+    let key = EcPrivateKey::try_from(P256_KEY.as_slice())?;
+    let mut room = [0xAA; 121];
+    let mut writer = SliceWriter::new(&mut room);
+    key.encode_value(&mut writer)?;
+    assert_eq!(rt; writer.written(), 119);
+    assert_eq!(rt; &room[..119], &P256_KEY[2..]);
+    assert_eq!(rt; &room[119..], [0xAA, 0xAA].as_slice());
+    Ok(())
+}
+
+#[test]
+fn leaves_the_rest_of_the_slice(rt: HostRuntime) -> Result<(), Fail> {
+    let key = EcPrivateKey::try_from(EMPTY_KEY.as_slice())?;
+    let mut small = [0xAA; 6];
+    assert_eq!(rt;
+        kind_of(key.encode_to_slice(&mut small)),
+        Some(ErrorKind::Buffer)
+    );
+    assert_eq!(rt; small, [0xAA; 6]);
+    let mut large = [0xAA; 9];
+    assert_eq!(rt; key.encode_to_slice(&mut large)?, 7);
+    assert_eq!(rt;
+        large,
+        [0x30, 0x05, 0x02, 0x01, 0x01, 0x04, 0x00, 0xAA, 0xAA]
+    );
+    Ok(())
+}
+
+#[test]
+fn lends_the_identifier_of_parameters(rt: HostRuntime) -> Result<(), Fail> {
+    let parameters = EcParameters::from(ObjectIdentifier::new("1.2.840.10045.3.1.7")?);
+    let any = AnyRef::from(&parameters);
+    assert_eq!(rt; any.tag(), Tag::OBJECT_IDENTIFIER);
+    assert_eq!(rt;
+        any.value(),
+        [0x2A, 0x86, 0x48, 0xCE, 0x3D, 0x03, 0x01, 0x07].as_slice()
+    );
+    let mut room = [0; 10];
+    assert_eq!(rt; der::encode_to_slice(&parameters, &mut room)?, 10);
+    assert_eq!(rt;
+        room,
+        [0x06, 0x08, 0x2A, 0x86, 0x48, 0xCE, 0x3D, 0x03, 0x01, 0x07]
+    );
+    Ok(())
+}
+
+/// Returns at how many of the 255 other values of this byte the key is still one, as another reader tells.
+fn accepted_at(place: usize) -> u32 {
+    match place {
+        0..=5 | 39..=42 | 51..=55 => 0,
+        6 => 2,
+        43 | 44 | 46 | 48 | 49 => 254,
+        50 => 127,
+        _ => 255,
+    }
+}
+
+/// The kinds by which the others are refused, and how many are by each, as that reader tells.
+static REFUSALS: [(ErrorKind, u32); 5] = [
+    (ErrorKind::Truncated, 528),
+    (ErrorKind::Tag, 1_277),
+    (ErrorKind::Length, 881),
+    (ErrorKind::TrailingData, 761),
+    (ErrorKind::Value, 764),
+];
+
+/// Whatever byte of a key is changed, what is still read is written just as it came. `tests/keys/reader.py` counted the
+/// 26,644 of the 30,855 changed keys that are read, and how the others are refused.
+#[test]
+fn writes_what_is_read(rt: HostRuntime) -> Result<(), Fail> {
+    let mut all = 0u32;
+    let mut refused = [0u32; 5];
+    for place in 0..121 {
+        let mut accepted = 0u32;
+        for other in 1..=255u8 {
+            let mut changed = P256_KEY;
+            changed[place] ^= other;
+            match EcPrivateKey::try_from(changed.as_slice()) {
+                Ok(key) => {
+                    let mut room = [0; 121];
+                    assert_eq!(rt; key.encode_to_slice(&mut room)?, 121);
+                    assert_eq!(rt; room, changed);
+                    accepted = accepted.saturating_add(1);
+                }
+                Err(error) => {
+                    for (count, (kind, _)) in refused.iter_mut().zip(REFUSALS.iter()) {
+                        if error == Error::Asn1(der::Error { kind: *kind }) {
+                            *count = count.saturating_add(1);
+                        }
+                    }
+                }
+            }
+        }
+        assert_eq!(rt; accepted, accepted_at(place), "at {place}");
+        all = all.saturating_add(accepted);
+    }
+    assert_eq!(rt; all, 26_644);
+    for (count, (kind, wanted)) in refused.iter().zip(REFUSALS.iter()) {
+        assert_eq!(rt; count, wanted, "{kind:?}");
+    }
+    Ok(())
+}
