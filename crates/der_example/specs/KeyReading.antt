@@ -1,5 +1,6 @@
 -- What the public key of a certificate and a private key container hold.
-use Rattle.std.specs.Prelude.{◌≡◌, ℕ, List, [], ◌∷◌, Some}
+use Rattle.std.specs.Prelude.{◌≡◌, ℕ, List, [], ◌∷◌, Some, None}
+use Rattle.sec1.specs.Keys.{Key}
 use Rattle.sec1.specs.Points.{Point, IsPoint, enc}
 use Rattle.sec1.specs.Der.{element_of}
 use Rattle.der_example.specs.PrivateKeys.{PrivateKey, private_key_content}
@@ -29,3 +30,7 @@ HasPoint info point = IsPoint 32 point × (info.bytes ≡ enc 32 point)
 -- RFC 5208 section 5: the bytes are the DER encoding of this PrivateKeyInfo
 abbrev pub IsPrivateKeyOf : PrivateKey → List ℕ → Type 0
 IsPrivateKeyOf info bytes = element_of 0x30 (private_key_content info) ≡ Some bytes
+
+-- RFC 5915 section 3: a key whose parameters name a curve, without its public key
+abbrev pub curve_key : List ℕ → List ℕ → Key
+curve_key curve private_key = record { private_key = private_key; parameters = Some curve; public_key = None }

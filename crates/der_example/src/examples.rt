@@ -1,9 +1,9 @@
 //! The examples of the documents: a key read and written, points, and refusals.
-ghost use Rattle.std.specs.Prelude.{◌≡◌, ◌↔◌, Some, None, Ok, List, ℕ, IfOk, IfNone, IsOkAnd, IsTrue};
+ghost use Rattle.std.specs.Prelude.{◌≡◌, ◌↔◌, Some, Ok, None, List, ℕ, IfOk, IfNone, IsOkAnd, IsTrue, MatchResult};
 ghost use Rattle.std.specs.Box.{boxed_slice_items};
 ghost use Rattle.std.specs.Option.{option_map};
-ghost use Rattle.der_example.specs.PrivateKeys.{PrivateKey, private_key_content};
-ghost use Rattle.sec1.specs.Der.{element_of};
+ghost use Rattle.der_example.specs.KeyReading.{curve_key, IsPrivateKeyOf};
+ghost use Rattle.der_example.specs.PrivateKeys.{PrivateKey};
 ghost use Rattle.sec1.specs.HexTexts.{IsHexOf};
 ghost use Rattle.sec1.specs.Keys.{Key, IsKeyOf};
 ghost use Rattle.sec1.specs.Parameters.{curve_of};
@@ -29,11 +29,9 @@ pub fn curve(bytes: &[u8]) -> Result<Option<EcParameters>>
 
 /// Returns the DER encoding of a key on a named curve, without its public key.
 pub fn key_on(alloc: Global, curve: ObjectIdentifier, private_key: &[u8]) -> Result<Vec<u8>>
-    ensures { IfOk result (λ der. IsKeyOf (record {
-      private_key = private_key.now;
-      parameters = Some curve;
-      public_key = None;
-    }) der.items) }
+    ensures found { IfOk result (λ der. IsKeyOf (curve_key curve private_key.now) der.items) }
+    ensures only { (bytes : List ℕ) → IsKeyOf (curve_key curve private_key.now) bytes
+        → MatchResult result (λ der. der.items ≡ bytes) (λ e. e ≡ Error.Memory) }
 {
     let key = EcPrivateKey {
         private_key,
@@ -45,8 +43,8 @@ pub fn key_on(alloc: Global, curve: ObjectIdentifier, private_key: &[u8]) -> Res
 
 /// Returns whether a point, compressed, is the one of a text in hexadecimal; and the compressed point as JSON.
 pub fn compressed(alloc: Global, bytes: &[u8], text: &str) -> Result<(bool, Value)>
-    ensures { (p q : Point) → IsPoint 32 p → IsPoint 32 q → bytes.now ≡ enc 32 p
-        → IsHexOf text.now (enc 32 q) → IfOk result (λ x. IsTrue x.0 ↔ (compressed_point p ≡ q)) }
+    ensures { (p q : Point) → IsPoint 32 p → IsPoint 32 q → bytes.now ≡ enc 32 p → IsHexOf text.now (enc 32 q)
+        → MatchResult result (λ x. IsTrue x.0 ↔ (compressed_point p ≡ q)) (λ e. e ≡ Error.Memory) }
 {
     let point = EncodedPoint32::from_bytes(bytes)?.compress();
     let other = EncodedPoint32::from_str(text)?;
@@ -69,7 +67,8 @@ pub fn refusal(bytes: &[u8]) -> Option<ErrorKind>
 pub fn compressed_public_key(alloc: Global, bytes: &[u8]) -> Result<BoxedSlice<u8>>
     ensures { (key : Key) (p : Point) → IsKeyOf key bytes.now → IsPoint 32 p
         → key.public_key ≡ Some (enc 32 p)
-        → IfOk result (λ point. boxed_slice_items point ≡ enc 32 (compressed_point p)) }
+        → MatchResult result (λ point. boxed_slice_items point ≡ enc 32 (compressed_point p))
+        (λ e. e ≡ Error.Memory) }
 {
     let key = EcPrivateKey::try_from(bytes)?;
     let Some(public_key) = key.public_key else {
@@ -81,8 +80,8 @@ pub fn compressed_public_key(alloc: Global, bytes: &[u8]) -> Result<BoxedSlice<u
 
 /// Returns the key in a private key container of PKCS #8 (RFC 5208 section 5).
 pub fn contained_key(bytes: &[u8]) -> Result<EcPrivateKey<'_>>
-    ensures { (info : PrivateKey) (key : Key) → element_of 0x30 (private_key_content info) ≡ Some bytes.now
-        → IsKeyOf key info.bytes → result ≡ Ok key }
+    ensures found { IfOk result (λ key. (info : PrivateKey) × IsPrivateKeyOf info bytes.now × IsKeyOf key info.bytes) }
+    ensures only { (info : PrivateKey) (key : Key) → IsPrivateKeyOf info bytes.now → IsKeyOf key info.bytes → result ≡ Ok key }
 {
     let container: PrivateKeyInfo = read_der(bytes)?;
     EcPrivateKey::try_from(container.private_key)
