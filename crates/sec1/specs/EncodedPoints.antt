@@ -1,5 +1,6 @@
 -- The point that a value means, and what reading one answers.
 use Rattle.std.specs.Prelude.{◌≡◌, ℕ, List, take, Result, IsOkAnd, IfOk, IfErr, OnOk}
+use Rattle.std.specs.List.{All}
 use Rattle.sec1_der.specs.Elements.{IsProperBeginning}
 use Rattle.serde_json.specs.Data.{Data}
 use Rattle.sec1.specs.Points.{Point, IsPoint, Fits, enc, meaning}
@@ -11,6 +12,10 @@ use Rattle.sec1.specs.declared.point.EncodedPoint.{EncodedPoint}
 -- the point of a value; the bytes past its length count for nothing
 abbrev pub point_of : {N L : ℕ} → EncodedPoint N L → Point
 point_of {N} p = meaning N (take p.len p.bytes)
+
+-- each byte of the value's buffer is 00, also those past the length of its encoding
+abbrev pub IsWiped : {N L : ℕ} → EncodedPoint N L → Type 0
+IsWiped p = All (λ byte. byte ≡ 0) p.bytes
 
 -- reading bytes: the encodings of points are accepted, each as its point, and nothing else is; and no encoding at
 -- this size begins another

@@ -47,7 +47,7 @@ pub type EncodedPoint48 = EncodedPoint<48, 97>;
 pub type EncodedPoint66 = EncodedPoint<66, 133>;
 
 impl<const N: usize, const L: usize> EncodedPoint<N, L> {
-    ghost use Rattle.sec1.specs.EncodedPoints.{point_of, ReadsBytes};
+    ghost use Rattle.sec1.specs.EncodedPoints.{point_of, IsWiped, ReadsBytes};
     ghost use Rattle.sec1.specs.Tags.{byte_of, message_len, tag_of, is_compact, is_compressed, is_hybrid, is_identity};
     ghost use Rattle.sec1.specs.Coordinates.{lent_point, AreWhole};
 
@@ -115,7 +115,8 @@ impl<const N: usize, const L: usize> EncodedPoint<N, L> {
     /// The identity, SEC1's point at infinity. Asks that N and L fit.
     pub fn identity() -> Self
         requires { Fits N L }
-        ensures { point_of result ≡ identity }
+        ensures point { point_of result ≡ identity }
+        ensures wiped { IsWiped result }
     {
         EncodedPoint {
             bytes: [0; L],
@@ -354,6 +355,3 @@ impl<const N: usize, const L: usize> fmt::Debug for EncodedPoint<N, L> {
         write!(f, "EncodedPoint({coordinates:?})")
     }
 }
-
-#[cfg(test)]
-mod tests;

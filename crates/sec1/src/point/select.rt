@@ -1,7 +1,7 @@
 //! Comparing, selecting and wiping points. No call here promises to run in constant time.
 
 ghost use Rattle.std.specs.Prelude.{◌≡◌, ◌↔◌, if◌then◌else◌, IsTrue};
-ghost use Rattle.sec1.specs.EncodedPoints.{point_of};
+ghost use Rattle.sec1.specs.EncodedPoints.{point_of, IsWiped};
 ghost use Rattle.sec1.specs.Points.{identity, enc};
 
 use super::EncodedPoint;
@@ -47,7 +47,8 @@ impl<const N: usize, const L: usize> EncodedPoint<N, L> {
 
     /// Leaves the identity, and 00 in each byte of the buffer.
     pub fn zeroize(&mut self)
-        ensures { point_of self.new ≡ identity }
+        ensures point { point_of self.new ≡ identity }
+        ensures wiped { IsWiped self.new }
     {
         *self = Self::identity();
     }

@@ -10,5 +10,5 @@ invariant_of-result g c = record {
   encoded = spelled g.row.N _ identity tt (identity_front g.row.N g.row.L (omega arith));
 }
 
-pub returns : goal.returns
-returns g c = means g.row.N _ identity tt (identity_front g.row.N g.row.L (omega arith))
+pub returns-clause-point : goal.returns-clause-point
+returns-clause-point g c = means g.row.N _ identity tt (identity_front g.row.N g.row.L (omega arith))
