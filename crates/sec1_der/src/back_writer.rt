@@ -5,10 +5,9 @@ use crate::{
     encoded_len,
 };
 
-/// Fills a slice from its end, so that a content is written before its header.
+/// A writer that fills a slice from its end, so that a content is written before its header.
 ///
-/// A call that refuses has written nothing, and the bytes of the slice in front of what was written are
-/// unchanged. [`put_element`](BackWriter::put_element) and [`put_field`](BackWriter::put_field) promise neither where
+/// On an error nothing is written. The bytes of the slice in front of what was written are never changed. [`put_element`](BackWriter::put_element) and [`put_field`](BackWriter::put_field) promise neither if
 /// there is no room, which their caller tests.
 #[derive(Drop)]
 pub struct BackWriter<'b> {
@@ -24,7 +23,7 @@ impl<'b> BackWriter<'b> {
     ghost use Rattle.sec1_der.specs.Elements.{max_length, header, element_of, field_of};
     ghost use Rattle.sec1_der.specs.Faults.{Refuses};
 
-    /// A writer at the end of this slice.
+    /// Creates a writer at the end of a slice.
     pub fn new(buffer: &'b mut [u8]) -> BackWriter<'b>
         ensures slice { IsOverEnd buffer.entry result }
         ensures written { end_of result ≡ [] }
@@ -34,21 +33,25 @@ impl<'b> BackWriter<'b> {
         BackWriter { buffer, start }
     }
 
-    /// The count of bytes that were written.
+    /// Returns the number of bytes written.
     pub fn written(&self) -> usize
         ensures { result ≡ length (end_of self.now) }
     {
         self.buffer.len() - self.start
     }
 
-    /// The count of bytes of the slice in front of them.
+    /// Returns the number of bytes of the slice in front of what was written.
     pub fn remaining(&self) -> usize
         ensures { result ≡ length (front_of self.now) }
     {
         self.start
     }
 
-    /// Puts bytes in front of what was written. Refused as Buffer where the slice has less room.
+    /// Prepends bytes to what was written.
+    ///
+    /// # Errors
+    ///
+    /// Buffer if the slice has less room.
     pub fn write(&mut self, bytes: &[u8]) -> Result<()>
         ensures slice { KeepsEnd self.old self.new }
         ensures grows { length (end_of self.old) ≤ length (end_of self.new) }
@@ -66,11 +69,11 @@ impl<'b> BackWriter<'b> {
         Ok(())
     }
 
-    /// Puts the header in front whose content is what was written since [`written`](BackWriter::written) answered
-    /// `since`.
+    /// Prepends a header for everything written since [`written`](BackWriter::written) returned `since`.
     ///
-    /// Refused as Overlength where that is more than 268,435,455 bytes, then as Buffer where the header has no
-    /// room.
+    /// # Errors
+    ///
+    /// Overlength if that is more than 268,435,455 bytes, then Buffer if the header has no room.
     #[tactic(auto, using(crate::proofs::LengthLemmas::len_1))]
     pub fn header(&mut self, tag: Tag, since: usize) -> Result<()>
         requires { since ≤ length (end_of self.old) }
@@ -93,10 +96,11 @@ impl<'b> BackWriter<'b> {
         self.write(&octets[..count])
     }
 
-    /// Puts the element of a value in front: its content, and then the header over what was written. The crate
-    /// `der` has no such call.
+    /// Prepends the element of a value: its content, and then the header over it. The crate `der` has no such call.
     ///
-    /// Refused as [`encoded_len`] refuses, then as Buffer where the element has no room.
+    /// # Errors
+    ///
+    /// Those of [`encoded_len`], then Buffer if the element has no room.
     pub fn element<T: EncodeValue + FixedTag>(&mut self, value: &T) -> Result<()>
         ensures slice { KeepsEnd self.old self.new }
         ensures grows { length (end_of self.old) ≤ length (end_of self.new) }
@@ -115,12 +119,12 @@ impl<'b> BackWriter<'b> {
         self.put_element(value)
     }
 
-    /// Puts the element of a value in front, where it has room. The caller has tested the room: where there is less,
-    /// or where there is no element, any bytes may have been put in front. The crate `der` has no such call.
+    /// Prepends the element of a value, without testing the room first. If there is less room, or if the value has no
+    /// encoding, any bytes may have been prepended. The crate `der` has no such call.
     ///
     /// # Errors
     ///
-    /// None where the element has room.
+    /// None if the element has room.
     pub fn put_element<T: EncodeValue + FixedTag>(&mut self, value: &T) -> Result<()>
         ensures slice { KeepsEnd self.old self.new }
         ensures grows { length (end_of self.old) ≤ length (end_of self.new) }
@@ -133,10 +137,12 @@ impl<'b> BackWriter<'b> {
         self.header(T::fixed_tag(), since)
     }
 
-    /// Puts an explicit field `[number]` around the element of a value in front; nothing where there is no value.
-    /// The crate `der` has no such call.
+    /// Prepends an explicit field `[number]` around the element of a value, if present. The crate `der` has no such
+    /// call.
     ///
-    /// Refused as [`context_specific_len`] refuses, then as Buffer where the field has no room.
+    /// # Errors
+    ///
+    /// Those of [`context_specific_len`], then Buffer if the field has no room.
     pub fn context_specific<T: EncodeValue + FixedTag>(
         &mut self,
         number: u8,
@@ -162,13 +168,13 @@ impl<'b> BackWriter<'b> {
         self.put_field(number, field)
     }
 
-    /// Puts an explicit field `[number]` around the element of a value in front, where it has room; nothing where
-    /// there is no value. The caller has tested the room: where there is less, or where there is no element, any bytes
-    /// may have been put in front. The crate `der` has no such call.
+    /// Prepends an explicit field `[number]` around the element of a value, if present, without testing the room
+    /// first. If there is less room, or if the value has no encoding, any bytes may have been prepended. The crate
+    /// `der` has no such call.
     ///
     /// # Errors
     ///
-    /// None where the field has room.
+    /// None if the field has room.
     pub fn put_field<T: EncodeValue + FixedTag>(
         &mut self,
         number: u8,

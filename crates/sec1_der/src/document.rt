@@ -10,10 +10,10 @@ use std::alloc::Global;
 use std::fmt;
 use std::marker::Model;
 
-/// The bytes of one element in memory: a header, and as many bytes as it announces. A contract sees the bytes.
+/// The DER encoding of one element, in memory: a header, and as many bytes as it announces. A contract sees the bytes.
 ///
-/// Whether the content is elements again isn't tested. There is always a header, so no document is empty. The bytes
-/// aren't overwritten when the document is dropped.
+/// The content isn't examined. A document is never empty, since it has a header. Its bytes aren't wiped when it is
+/// dropped.
 #[derive(Drop)]
 pub struct SecretDocument {
     bytes: Vec<u8>,
@@ -31,10 +31,12 @@ impl Model for SecretDocument {
 }
 
 impl SecretDocument {
-    /// The document with these bytes, which are copied.
+    /// Creates a document from the encoding of one element, which is copied.
     ///
-    /// Refused as [`Header::decode`](crate::Header::decode) refuses a header, then as Truncated where the content
-    /// has no room, as TrailingData where bytes follow it, and as Memory.
+    /// # Errors
+    ///
+    /// Those of [`Header::decode`](crate::Header::decode), then Truncated if the input ends inside the content,
+    /// TrailingData if bytes follow it, and Memory if the allocation fails.
     pub fn from_der(alloc: Global, bytes: &[u8]) -> Result<SecretDocument>
         ensures found { IfOk result (λ document. (document ≡ bytes.now) × IsElement bytes.now) }
         ensures only { IsElement bytes.now
@@ -60,9 +62,11 @@ impl SecretDocument {
         Ok(SecretDocument { bytes })
     }
 
-    /// The document of a value's element.
+    /// Creates a document from the encoding of a value.
     ///
-    /// Refused as [`to_der`] refuses.
+    /// # Errors
+    ///
+    /// Those of [`to_der`].
     pub fn encode_msg<T: EncodeValue + FixedTag>(alloc: Global, value: &T) -> Result<SecretDocument>
         ensures none { element_of T.number (T.content value.now) ≡ None
             → Refuses result ErrorKind.Overlength }
@@ -77,7 +81,7 @@ impl SecretDocument {
         Ok(SecretDocument { bytes })
     }
 
-    /// The bytes, header and content.
+    /// Borrows the bytes, header and content.
     pub fn as_bytes(&self) -> &[u8]
         ensures bytes { result.now ≡ self.now }
         ensures element { IsElement self.now }
@@ -85,7 +89,7 @@ impl SecretDocument {
         &self.bytes
     }
 
-    /// The count of the bytes, at least 2.
+    /// Returns the number of bytes, at least 2.
     pub fn len(&self) -> usize
         ensures { result ≡ length self.now }
     {
@@ -93,7 +97,7 @@ impl SecretDocument {
     }
 }
 
-/// The bytes aren't shown.
+/// Prints no bytes.
 impl fmt::Debug for SecretDocument {
     fn fmt<W: fmt::Write>(&self, f: &mut fmt::Formatter<W>) -> fmt::Result {
         f.debug_struct("SecretDocument").finish_non_exhaustive()

@@ -4,55 +4,55 @@ ghost use Rattle.sec1_der.specs.declared.error.ErrorKind.TheVariants.{Io, Memory
 use crate::IoFault;
 use std::alloc::{AllocError, AllocFailed};
 
-/// Why a call of this crate refused.
+/// The reason of an [`Error`].
 #[derive(Clone, Copy, Debug, PartialEq, Eq, thiserror::Error)]
 pub enum ErrorKind {
-    /// The input, or the element around what is read, ends too early.
+    /// The input, or the surrounding element, ends too early.
     #[error("input ends inside an element")]
     Truncated,
-    /// A tag byte that no element may have, or another one than is expected.
+    /// A byte that is no tag, or not the expected one.
     #[error("unexpected or unsupported tag")]
     Tag,
-    /// A length that isn't spelled as DER wants it, or is above [`Length::MAX`](crate::Length::MAX).
+    /// A length that isn't in the form of DER, or is above [`Length::MAX`](crate::Length::MAX).
     #[error("length not in DER form or above the limit")]
     Length,
-    /// Bytes after the last part.
+    /// Bytes after the end of the value.
     #[error("bytes after the value")]
     TrailingData,
-    /// A content that its tag doesn't allow, a text that names no identifier, or unused bits that a bit
-    /// string can't have.
+    /// A content that isn't valid for its tag, a text that isn't an identifier's, or unused bits that a bit string
+    /// can't have.
     #[error("content not valid for its tag")]
     Value,
-    /// A content to be written, or a number, above [`Length::MAX`](crate::Length::MAX).
+    /// A content to write, or a number, above [`Length::MAX`](crate::Length::MAX).
     #[error("value longer than 268435455 bytes")]
     Overlength,
-    /// A slice to be written into is too small.
+    /// The slice to write into is too small.
     #[error("output buffer too small")]
     Buffer,
-    /// The reader refused before.
+    /// The reader failed before.
     #[error("reader has already refused")]
     Failed,
     /// A read, a write or the opening of a file failed.
     #[error("read or write failed")]
     Io,
-    /// More than 64 elements inside one another.
+    /// More than 64 nested elements.
     #[error("more than 64 nested elements")]
     Depth,
-    /// Memory was wanted and refused.
+    /// An allocation failed.
     #[error("out of memory")]
     Memory,
 }
 
-/// A refusal. Its text is that of its kind.
+/// The error type of this crate. Its text is that of its kind.
 #[derive(Debug, PartialEq, Eq, Drop, thiserror::Error)]
 #[error("{kind}")]
 pub struct Error {
-    /// Why the call refused.
+    /// The reason.
     pub kind: ErrorKind,
 }
 
 impl Error {
-    /// Why the call refused.
+    /// Returns the reason.
     pub fn kind(&self) -> ErrorKind
         ensures { result ≡ self.now.kind }
     {
@@ -68,7 +68,7 @@ impl From<ErrorKind> for Error {
     }
 }
 
-/// A failed read or write is of kind Io.
+/// A failed read or write becomes Io.
 impl From<IoFault> for Error {
     ghost from_gives = { λ _ e. e ≡ record { kind = Io } };
 
@@ -79,7 +79,7 @@ impl From<IoFault> for Error {
     }
 }
 
-/// A growth that was refused is of kind Memory.
+/// A failed allocation becomes Memory.
 impl From<AllocError> for Error {
     ghost from_gives = { λ _ e. e ≡ record { kind = Memory } };
 
@@ -90,7 +90,7 @@ impl From<AllocError> for Error {
     }
 }
 
-/// A growth that was refused is of kind Memory.
+/// A failed allocation becomes Memory.
 impl<T: Drop> From<AllocFailed<T>> for Error {
     ghost from_gives = { λ _ e. e ≡ record { kind = Memory } };
 
@@ -101,5 +101,5 @@ impl<T: Drop> From<AllocFailed<T>> for Error {
     }
 }
 
-/// What a call of this crate answers.
+/// A [`Result`](std::result::Result) with the [`Error`] of this crate.
 pub type Result<T> = std::result::Result<T, Error>;

@@ -4,7 +4,7 @@ ghost use Rattle.sec1_der.specs.Elements.{max_length};
 use crate::{ErrorKind, Result};
 use std::marker::Model;
 
-/// The count of bytes of a content, from 0 to [`Length::MAX`]. A contract sees the number.
+/// The number of bytes of a content, from 0 to [`Length::MAX`]. A contract sees the number.
 #[derive(Clone, Copy, Debug, PartialEq, Eq)]
 pub struct Length {
     bytes: usize,
@@ -24,10 +24,14 @@ impl Model for Length {
 }
 
 impl Length {
-    /// The most bytes that a content may have, 2^28 - 1.
+    /// The greatest length of a content, 2^28 - 1.
     pub const MAX: usize = 268_435_455;
 
-    /// The length `n`. Refused as Overlength where `n` is above [`Length::MAX`].
+    /// Creates a length.
+    ///
+    /// # Errors
+    ///
+    /// Overlength if `n` is above [`Length::MAX`].
     pub fn new(n: usize) -> Result<Length>
         ensures within { OkIff result (n ≤ max_length) n }
         ensures above { IfErr result (λ e. e.kind ≡ ErrorKind.Overlength) }
@@ -38,7 +42,7 @@ impl Length {
         Ok(Length { bytes: n })
     }
 
-    /// The length that a single byte spells.
+    /// Returns the length that a single byte spells.
     pub(crate) fn of_byte(n: u8) -> Length
         ensures { result ≡ n }
     {
@@ -47,7 +51,7 @@ impl Length {
         }
     }
 
-    /// The number of bytes.
+    /// Returns the number of bytes.
     pub fn get(self) -> usize
         ensures value { result ≡ self }
         ensures within { result ≤ max_length }

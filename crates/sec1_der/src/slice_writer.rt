@@ -5,9 +5,9 @@ use crate::{
     EncodeComponents, EncodeValue, ErrorKind, FixedTag, Result, context_specific_len, encoded_len,
 };
 
-/// Fills a slice from its beginning.
+/// A writer that fills a slice from its beginning.
 ///
-/// A call that refuses has written nothing, and the bytes of the slice behind what was written are unchanged.
+/// On an error nothing is written. The bytes of the slice behind what was written are never changed.
 #[derive(Drop)]
 pub struct SliceWriter<'b> {
     buffer: &'b mut [u8],
@@ -22,7 +22,7 @@ impl<'b> SliceWriter<'b> {
     ghost use Rattle.sec1_der.specs.Faults.{Refuses};
     ghost use Rattle.sec1_der.specs.SliceWriters.{written_by, room_of, IsOver, KeepsSlice, AppendsNothing, Appends};
 
-    /// A writer at the beginning of this slice.
+    /// Creates a writer at the beginning of a slice.
     pub fn new(buffer: &'b mut [u8]) -> SliceWriter<'b>
         ensures slice { IsOver buffer.entry result }
         ensures written { written_by result ≡ [] }
@@ -34,21 +34,25 @@ impl<'b> SliceWriter<'b> {
         }
     }
 
-    /// The count of bytes that were written.
+    /// Returns the number of bytes written.
     pub fn written(&self) -> usize
         ensures { result ≡ length (written_by self.now) }
     {
         self.position
     }
 
-    /// The count of bytes of the slice behind them.
+    /// Returns the number of bytes of the slice behind what was written.
     pub fn remaining(&self) -> usize
         ensures { result ≡ length (room_of self.now) }
     {
         self.buffer.len() - self.position
     }
 
-    /// Appends one byte. Refused as Buffer where the slice has no more room.
+    /// Appends one byte.
+    ///
+    /// # Errors
+    ///
+    /// Buffer if the slice is full.
     pub fn write_byte(&mut self, byte: u8) -> Result<()>
         ensures slice { KeepsSlice self.old self.new }
         ensures fits { 0 < length (room_of self.old) → IsOk result
@@ -59,7 +63,11 @@ impl<'b> SliceWriter<'b> {
         self.write(&[byte])
     }
 
-    /// Appends bytes. Refused as Buffer where the slice has less room.
+    /// Appends bytes.
+    ///
+    /// # Errors
+    ///
+    /// Buffer if the slice has less room.
     pub fn write(&mut self, bytes: &[u8]) -> Result<()>
         ensures slice { KeepsSlice self.old self.new }
         ensures fits { length bytes.now ≤ length (room_of self.old) → IsOk result
@@ -80,7 +88,7 @@ impl<'b> SliceWriter<'b> {
     ///
     /// # Errors
     ///
-    /// As [`EncodeComponents::value_len`], then Buffer where the content has no room.
+    /// Those of [`EncodeComponents::value_len`], then Buffer if the content has no room.
     pub(crate) fn components<R: EncodeComponents>(&mut self, row: &R) -> Result<()>
         ensures slice { KeepsSlice self.old self.new }
         ensures none { IsOverlong (R.content row.now) → Refuses result ErrorKind.Overlength
@@ -104,7 +112,9 @@ impl<'b> SliceWriter<'b> {
 
     /// Appends the element of a value. The crate `der` has no such call.
     ///
-    /// Refused as [`encoded_len`] refuses, then as Buffer where the element has no room.
+    /// # Errors
+    ///
+    /// Those of [`encoded_len`], then Buffer if the element has no room.
     pub fn element<T: EncodeValue + FixedTag>(&mut self, value: &T) -> Result<()>
         ensures slice { KeepsSlice self.old self.new }
         ensures none { element_of T.number (T.content value.now) ≡ None
@@ -123,10 +133,12 @@ impl<'b> SliceWriter<'b> {
         value.encode_value(self)
     }
 
-    /// Appends an explicit field `[number]` around the element of a value; nothing where there is no value. The
-    /// crate `der` has no such call.
+    /// Appends an explicit field `[number]` around the element of a value, if present. The crate `der` has no such
+    /// call.
     ///
-    /// Refused as [`context_specific_len`] refuses, then as Buffer where the field has no room.
+    /// # Errors
+    ///
+    /// Those of [`context_specific_len`], then Buffer if the field has no room.
     pub fn context_specific<T: EncodeValue + FixedTag>(
         &mut self,
         number: u8,

@@ -5,7 +5,7 @@ ghost use Rattle.sec1_der.specs.StdStreams.{reader_failed, reader_inner, writer_
 use crate::stream::{IoFault, Read, Write};
 use std::io;
 
-/// A reader of the standard library. It has failed once a read of that failed.
+/// A reader of the standard library. It has failed once one of its reads failed.
 #[derive(Drop)]
 pub struct StdReader<R> {
     inner: R,
@@ -13,7 +13,7 @@ pub struct StdReader<R> {
 }
 
 impl<R> StdReader<R> {
-    /// A reader that hasn't failed, over this one.
+    /// Creates a reader that hasn't failed.
     pub fn new(inner: R) -> StdReader<R>
         ensures inner { reader_inner result ≡ inner }
         ensures unfailed { reader_failed result ≡ false }
@@ -24,7 +24,7 @@ impl<R> StdReader<R> {
         }
     }
 
-    /// The standard library's reader.
+    /// Returns the standard library's reader.
     pub fn into_inner(self) -> R
         ensures { result ≡ reader_inner self }
     {
@@ -59,8 +59,7 @@ impl<R: io::Read> Read for StdReader<R> {
     }
 }
 
-/// A writer of the standard library. It has failed once a write of that failed or took none of some
-/// bytes.
+/// A writer of the standard library. It has failed once one of its writes failed, or wrote none of some bytes.
 #[derive(Drop)]
 pub struct StdWriter<W> {
     inner: W,
@@ -68,7 +67,7 @@ pub struct StdWriter<W> {
 }
 
 impl<W> StdWriter<W> {
-    /// A writer that hasn't failed, over this one.
+    /// Creates a writer that hasn't failed.
     pub fn new(inner: W) -> StdWriter<W>
         ensures inner { writer_inner result ≡ inner }
         ensures unfailed { writer_failed result ≡ false }
@@ -79,7 +78,7 @@ impl<W> StdWriter<W> {
         }
     }
 
-    /// The standard library's writer.
+    /// Returns the standard library's writer.
     pub fn into_inner(self) -> W
         ensures { result ≡ writer_inner self }
     {

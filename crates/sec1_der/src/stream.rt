@@ -1,49 +1,50 @@
-//! Readers and writers of bytes that remember a failure.
+//! Byte readers and writers that remember a failure.
 ghost use Rattle.std.specs.Prelude.{ℕ, List, Option, None, Bool, false, IsTrue, IsErr, IfOk, OnOk, OnErr, ◌≤◌, ◌≡◌, ◌↔◌, length};
 ghost use Rattle.std.specs.Io.KnownBytes.{Appends, ReadConsumes, WriteAppends};
 ghost use Rattle.sec1_der.specs.Streams.{AppendsBeginning};
 
-/// A read or a write failed.
+/// The error of a failed read or write.
 #[derive(Clone, Copy, Debug, PartialEq, Eq)]
 pub struct IoFault;
 
-/// A reader that remembers a failure. Calls that take one ask that it hasn't failed.
+/// A reader that remembers a failure. Calls that take one require that it hasn't failed.
 pub trait Read {
-    /// The bytes that are still to be read, where the value tells them.
+    /// The remaining input, if it is known.
     ghost left: { Self → Option (List ℕ) } = { λ _. None };
 
     /// Whether a read has failed.
     ghost failed: { Self → Bool };
 
-    /// Reads bytes into the beginning of the slice and answers how many: none only at the end of
-    /// the input or for an empty slice.
+    /// Reads bytes into the beginning of the slice and returns their number: 0 only at the end of the input or for an
+    /// empty slice.
     ///
-    /// `IoFault` is answered exactly where the reader has failed after the call, and then nothing
-    /// was taken. What has failed stays so.
+    /// # Errors
+    ///
+    /// [`IoFault`] exactly if the reader has failed after the call; nothing is read then. It stays failed.
     fn read(&mut self, buf: &mut [u8]) -> Result<usize, IoFault>
         ensures bound { IfOk result (λ n. n ≤ length buf.new) }
         ensures fault { IsErr result ↔ IsTrue (failed self.new) }
         ensures stays { IsTrue (failed self.old) → IsTrue (failed self.new) }
         ensures bytes { ReadConsumes (left self.old) (left self.new) result buf.new };
 
-    /// Whether a read has failed.
+    /// Returns `true` if a read has failed.
     fn has_failed(&self) -> bool
         ensures { result ≡ failed self.now };
 }
 
-/// A writer that remembers a failure. Calls that take one ask that it hasn't failed.
+/// A writer that remembers a failure. Calls that take one require that it hasn't failed.
 pub trait Write {
-    /// The bytes that were written, where the value tells them.
+    /// The bytes written, if they are known.
     ghost written: { Self → Option (List ℕ) } = { λ _. None };
 
     /// Whether a write has failed.
     ghost failed: { Self → Bool };
 
-    /// Writes bytes from the beginning of the slice and answers how many: none only for an empty
-    /// slice.
+    /// Writes bytes from the beginning of the slice and returns their number: 0 only for an empty slice.
     ///
-    /// `IoFault` is answered exactly where the writer has failed after the call, and then nothing
-    /// was written. What has failed stays so.
+    /// # Errors
+    ///
+    /// [`IoFault`] exactly if the writer has failed after the call; nothing is written then. It stays failed.
     fn write(&mut self, buf: &[u8]) -> Result<usize, IoFault>
         ensures bound { IfOk result (λ n. n ≤ length buf.now) }
         ensures some { IfOk result (λ n. n ≡ 0 → length buf.now ≡ 0) }
@@ -51,15 +52,15 @@ pub trait Write {
         ensures stays { IsTrue (failed self.old) → IsTrue (failed self.new) }
         ensures bytes { WriteAppends (written self.old) (written self.new) result buf.now };
 
-    /// Whether a write has failed.
+    /// Returns `true` if a write has failed.
     fn has_failed(&self) -> bool
         ensures { result ≡ failed self.now };
 
-    /// Writes all of the bytes, by as many writes as it takes.
+    /// Writes all of the bytes, in as many writes as needed.
     ///
     /// # Errors
     ///
-    /// [`IoFault`] exactly where a write failed. A beginning of the bytes was written then.
+    /// [`IoFault`] exactly if a write failed; a beginning of the bytes is written then.
     fn write_all(&mut self, bytes: &[u8]) -> Result<(), IoFault>
         requires { failed self.old ≡ false }
         ensures fault { IsErr result ↔ IsTrue (failed self.new) }

@@ -48,8 +48,12 @@ impl Tag {
     /// `A1`, of an explicit field `[1]`.
     pub const CONTEXT_1: Tag = Tag { byte: 0xA1 };
 
-    /// The tag with this byte. Refused as Tag for `00`, which is kept for end-of-contents (X.690 section 8.1.5), and
-    /// for a byte whose low five bits are all ones, since it begins a high tag number (section 8.1.2.4).
+    /// Returns the tag with this byte.
+    ///
+    /// # Errors
+    ///
+    /// Tag if the byte is `00`, which is reserved for end-of-contents (X.690 section 8.1.5), or if its low five bits
+    /// are all ones, since it begins a high tag number (section 8.1.2.4).
     pub fn from_byte(byte: u8) -> Result<Tag>
         ensures tag { OkIff result (IsTag byte) byte }
         ensures other { IfErr result (λ e. e.kind ≡ ErrorKind.Tag) }
@@ -60,7 +64,7 @@ impl Tag {
         Ok(Tag { byte })
     }
 
-    /// Returns the tag with this byte, which a tag has.
+    /// Returns the tag with this byte, which is that of a tag.
     pub(crate) fn of_byte(byte: u8) -> Tag
         requires { IsTag byte }
         ensures { result ≡ byte }
@@ -68,7 +72,7 @@ impl Tag {
         Tag { byte }
     }
 
-    /// The tag of an explicit field `[number]`.
+    /// Returns the tag of an explicit field `[number]`.
     pub(crate) fn context(number: u8) -> Tag
         requires { number ≤ 30 }
         ensures { result ≡ 0xA0 + number }
@@ -78,7 +82,7 @@ impl Tag {
         }
     }
 
-    /// The byte.
+    /// Returns the tag byte.
     pub fn byte(self) -> u8
         ensures value { result ≡ self }
         ensures tag { IsTag result }
@@ -86,7 +90,7 @@ impl Tag {
         self.byte
     }
 
-    /// Whether bit 20 (hexadecimal) is set: the content is elements again (X.690 section 8.1.2.5).
+    /// Returns `true` if the content consists of elements: bit 20 (hexadecimal) is set (X.690 section 8.1.2.5).
     pub fn is_constructed(self) -> bool
         ensures { IsTrue result ↔ IsConstructed self }
     {

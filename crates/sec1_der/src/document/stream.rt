@@ -14,17 +14,19 @@ use std::alloc::Global;
 use std::fs;
 use std::rt::Files;
 
-/// The most bytes by which the vector of a document grows at once.
+/// The number of bytes by which the vector of a document grows at most.
 const STEP: usize = 4096;
 
 impl SecretDocument {
-    /// Reads the one element that the reader has left. The header is asked for one byte at a time, the content at
-    /// most 4,096 bytes at a time, and then one byte more, which must not be there. The memory that is taken grows by
-    /// at most 4,096 bytes at once, and only when all that was taken before is filled, whatever the header announces.
+    /// Reads one element up to the end of the input. The header is read one byte at a time, the content at most 4,096
+    /// bytes at a time, and then one byte more, which must not be there. Whatever the header announces, memory grows by
+    /// at most 4,096 bytes at once, and only when it is full.
     ///
-    /// Refused as Tag after a first byte that is no tag, as Length after the byte of the header that tells that no
-    /// length of DER stands there (X.690 sections 8.1.3 and 10.1), as Truncated where the input ends inside the
-    /// element, as TrailingData one byte past it, as Io where a read failed and as Memory where a growth was refused.
+    /// # Errors
+    ///
+    /// Tag if the first byte is no tag; Length at the first byte of the header that can't be in a length of DER (X.690
+    /// sections 8.1.3 and 10.1); Truncated if the input ends inside the element; TrailingData if one byte follows it;
+    /// Io if a read failed; Memory if an allocation failed.
     pub fn read_der_from<R: Read>(alloc: Global, reader: &mut R) -> Result<SecretDocument>
         requires { R.failed reader.old ≡ false }
         // Io comes exactly where a read failed.
@@ -40,8 +42,11 @@ impl SecretDocument {
         read_element(alloc, reader)
     }
 
-    /// Reads the one element that the file holds, as [`SecretDocument::read_der_from`] does. Refused as Io also where
-    /// the file can't be opened.
+    /// Reads the one element in a file, as [`SecretDocument::read_der_from`] does.
+    ///
+    /// # Errors
+    ///
+    /// Those of [`SecretDocument::read_der_from`], and Io if the file can't be opened.
     pub fn read_der_file<F: Files>(rt: &F, alloc: Global, path: &str) -> Result<SecretDocument>
         ensures { IfErr result (λ error. IsElementFault error.kind) }
     {
@@ -51,9 +56,11 @@ impl SecretDocument {
         }
     }
 
-    /// Writes the bytes, by as many writes as it takes.
+    /// Writes the bytes, in as many writes as needed.
     ///
-    /// Refused as Io exactly where a write failed; then a beginning of the bytes was written.
+    /// # Errors
+    ///
+    /// Io exactly if a write failed; a beginning of the bytes is written then.
     pub fn write_der_to<W: Write>(&self, writer: &mut W) -> Result<()>
         requires { W.failed writer.old ≡ false }
         ensures io { IsErr result ↔ IsTrue (W.failed writer.new) }
@@ -65,8 +72,11 @@ impl SecretDocument {
         Ok(())
     }
 
-    /// Writes the bytes to the file, which is made new or cut to nothing first, as [`SecretDocument::write_der_to`]
-    /// does. Refused as Io also where the file can't be made.
+    /// Writes the bytes to a file, which is created or truncated first.
+    ///
+    /// # Errors
+    ///
+    /// Io if the file can't be created, or if a write failed.
     pub fn write_der_file<F: Files>(&self, rt: &F, path: &str) -> Result<()>
         ensures { IfErr result (λ error. error.kind ≡ Io) }
     {
@@ -77,7 +87,7 @@ impl SecretDocument {
     }
 }
 
-/// Reads the one element that the reader has left.
+/// Reads one element up to the end of the input.
 fn read_element<R: Read>(alloc: Global, reader: &mut R) -> Result<SecretDocument>
     requires { R.failed reader.old ≡ false }
     ensures io { Refuses result Io ↔ IsTrue (R.failed reader.new) }
@@ -122,7 +132,7 @@ fn read_header<R: Read>(reader: &mut R) -> Result<Header>
     }
 }
 
-/// Reads so many bytes onto the end of the vector, which grows by at most 4,096 bytes at once.
+/// Appends the next `announced` bytes of the input to the vector, which grows by at most 4,096 bytes at once.
 pub(crate) fn read_content<R: Read>(
     reader: &mut R,
     bytes: &mut Vec<u8>,
@@ -151,11 +161,11 @@ pub(crate) fn read_content<R: Read>(
     Ok(())
 }
 
-/// Reads bytes until the slice is full or the input ends. Returns how many were read.
+/// Reads bytes until the slice is full or the input ends, and returns their number.
 ///
 /// # Errors
 ///
-/// [`IoFault`] exactly where a read failed; then fewer bytes were taken than the slice has.
+/// [`IoFault`] exactly if a read failed; fewer bytes than the slice has are read then.
 fn fill<R: Read>(reader: &mut R, buf: &mut [u8]) -> std::result::Result<usize, IoFault>
     requires { R.failed reader.old ≡ false }
     ensures io { IsErr result ↔ IsTrue (R.failed reader.new) }

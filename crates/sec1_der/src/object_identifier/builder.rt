@@ -1,4 +1,4 @@
-//! An identifier in the making, from the arcs of its text.
+//! Builds an identifier from the arcs of its text.
 ghost use Rattle.std.specs.Prelude.{◌≡◌, ℕ, ◌<◌, ◌≤◌, ◌+◌, ◌*◌, ◌^◌, List, [], ◌∷◌, ◌++◌, length, IsErr, OnOk, IfErr, IfSome, IfNone};
 ghost use Rattle.std.specs.Fmt.{decimal};
 ghost use Rattle.std.specs.Int.Digits.{digits_of};
@@ -9,13 +9,13 @@ ghost use Rattle.sec1_der.specs.Numbers.{base128, marked};
 use crate::{ErrorKind, Result};
 use std::marker::Model;
 
-/// How far an identifier whose arcs come one by one has come.
+/// An identifier to which arcs are added one by one.
 #[derive(Drop)]
 pub(crate) struct Builder {
     pub(crate) content: Content,
-    /// The first arc, which waits for the second.
+    /// The first arc, until the second is added.
     pub(crate) first: u32,
-    /// How many arcs have come; 2 stands for more.
+    /// The number of arcs added; 2 stands for 2 or more.
     pub(crate) seen: u8,
 }
 
@@ -30,7 +30,11 @@ impl Builder {
         }
     }
 
-    /// Adds an arc at the end. Refused as Value where no identifier begins with these arcs.
+    /// Appends an arc.
+    ///
+    /// # Errors
+    ///
+    /// Value if no identifier begins with these arcs.
     pub(crate) fn add(&mut self, arc: u32) -> Result<()>
         ensures ok { OnOk result ((arcs : List ℕ)
             → Built self.old.seen self.old.first self.old.content arcs
@@ -57,7 +61,8 @@ impl Builder {
     }
 }
 
-/// The number that the first two arcs share, where they may stand first.
+/// Returns the first subidentifier, which encodes the first two arcs; `None` if no identifier begins with them (X.690
+/// section 8.19.4).
 fn shared_number(a: u32, b: u32) -> Option<u32>
     ensures found { IfSome result (λ n. (n ≡ 40 * a + b) × AreArcs (a ∷ b ∷ [])) }
     ensures none { IfNone result (¬ AreArcs (a ∷ b ∷ [])) }
@@ -68,7 +73,7 @@ fn shared_number(a: u32, b: u32) -> Option<u32>
     b.checked_add(40 * a)
 }
 
-/// The number that the text spells in decimal digits, without a sign or a leading zero.
+/// Parses an arc: decimal digits without a sign or a leading zero.
 pub(crate) fn arc(text: &str) -> Option<u32>
     ensures found { IfSome result (λ n. (n < 2 ^ 32) × (text.now ≡ decimal n)) }
     ensures none { IfNone result ((n : ℕ) → n < 2 ^ 32 → text.now ≡ decimal n → ⊥) }
@@ -89,7 +94,7 @@ pub(crate) fn arc(text: &str) -> Option<u32>
     }
 }
 
-/// The bytes of a content, at most 39 of them.
+/// The content of an identifier, at most 39 bytes.
 #[derive(Drop)]
 pub(crate) struct Content {
     bytes: [u8; 39],
@@ -122,7 +127,11 @@ impl Content {
         &self.bytes[..self.len]
     }
 
-    /// Appends a number in base 128 digits. Refused as Value where they have no room.
+    /// Appends a subidentifier in base 128 (X.690 section 8.19.2).
+    ///
+    /// # Errors
+    ///
+    /// Value if it has no room.
     fn push_number(&mut self, n: u32) -> Result<()>
         ensures ok { OnOk result (self.new ≡ self.old ++ base128 n) }
         ensures err { IsErr result → 39 < length self.old + length (base128 n) }
@@ -132,7 +141,7 @@ impl Content {
         self.push((n % 128) as u8)
     }
 
-    /// Appends the base 128 digits of a number, none for 0, each marked as followed by another.
+    /// Appends the base 128 digits of a number, none for 0, each with bit 80 (hexadecimal) set.
     fn push_marked(&mut self, n: u32) -> Result<()>
         ensures ok { OnOk result (self.new ≡ self.old ++ marked (digits_of 128 n)) }
         ensures err { IsErr result → 39 < length self.old + length (marked (digits_of 128 n)) }
