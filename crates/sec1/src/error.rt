@@ -1,14 +1,14 @@
 use sec1_der as der;
 
-/// Why a call of this crate refused.
+/// The error type of this crate.
 #[derive(Debug, PartialEq, Eq, Drop, thiserror::Error)]
 pub enum Error {
-    /// The bytes aren't a value in DER, or a value can't be written in it; kind Io: a read, a write or the opening
-    /// of a file failed.
+    /// The input isn't a value in DER, or a value can't be encoded in it. If the kind is Io, a read or write failed or a
+    /// file couldn't be opened.
     #[error("SEC1 ASN.1 error: {0}")]
     Asn1(der::Error),
 
-    /// For users: a value that was read isn't valid cryptographically. No call of this crate answers it.
+    /// For users of the crate: a value isn't valid cryptographically. No call of this crate returns it.
     #[error("SEC1 cryptographic error")]
     Crypto,
 
@@ -16,19 +16,19 @@ pub enum Error {
     #[error("elliptic curve point encoding error")]
     PointEncoding,
 
-    /// For users: a version that they don't accept. No call of this crate answers it.
+    /// For users of the crate: a version isn't supported. No call of this crate returns it.
     #[error("SEC1 version error")]
     Version,
 
-    /// Memory was wanted and refused.
+    /// An allocation failed.
     #[error("out of memory")]
     Memory,
 }
 
-/// What a call of this crate answers.
+/// A [`Result`](std::result::Result) with the [`Error`] of this crate.
 pub type Result<T> = std::result::Result<T, Error>;
 
-/// Want of memory is [`Error::Memory`], and every other error of DER is [`Error::Asn1`].
+/// A failed allocation becomes [`Error::Memory`], and every other error [`Error::Asn1`].
 impl From<der::Error> for Error {
     ghost use Rattle.std.specs.Prelude.{◌≡◌};
     ghost use Rattle.sec1.specs.Errors.{error_of};

@@ -1,5 +1,5 @@
-//! Laws of the definitions and of what is compared by `==` or declared as a constant. A law is the contract of a
-//! function, which does nothing beyond what the law is about.
+//! Laws of the definitions, of the constants and of `==`, for callers to cite. Each law is the contract of a function,
+//! which does nothing else.
 ghost use Rattle.std.specs.Prelude.{◌≡◌, ◌⊎◌, ◌↔◌, List, [], ◌∷◌, ℕ, Some, false, IsTrue};
 ghost use Rattle.sec1.specs.Examples.{p_256_bytes, p_256_key, p_256_point, p_256_base, p_256_base_compressed};
 ghost use Rattle.sec1.specs.Coordinates.{lent_bytes};
@@ -68,7 +68,7 @@ pub fn one_key()
     EcPrivateKey::one();
 }
 
-/// A key has bytes, or it has none.
+/// A key has an encoding, or it has none.
 pub fn bytes_or_none(key: &EcPrivateKey)
     ensures { HasNoBytes key.now ⊎ ((bytes : List ℕ) × IsKeyOf key.now bytes) }
 {
@@ -93,7 +93,7 @@ pub fn spelled_points()
     ensures hybrid_odd { enc 1 (hybrid 1 3) ≡ 7 ∷ 1 ∷ 3 ∷ [] }
 {}
 
-/// A value means a point of its size.
+/// The meaning of an [`EncodedPoint`] is a point of its size.
 pub fn one_point<const N: usize, const L: usize>(point: &EncodedPoint<N, L>)
     ensures sizes { Fits N L }
     ensures point { IsPoint N (point_of point.now) }

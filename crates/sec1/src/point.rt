@@ -18,13 +18,13 @@ pub use coordinates::Coordinates;
 use std::fmt;
 pub use tag::Tag;
 
-/// A point at field elements of N bytes, as its encoding.
+/// The encoding of a point, for field elements of N bytes.
 ///
-/// N is at least 1 and L is 2N + 1, the length of the longest encoding. The encoding stands at the beginning of a
-/// buffer of L bytes; what the buffer holds after it counts for nothing, so that two values may be one point.
+/// N is at least 1 and L is 2N + 1, the length of the longest encoding. The encoding is at the beginning of a buffer of L
+/// bytes; the bytes after it are ignored, so that two values may be equal and differ there.
 ///
-/// A function that is generic over N and L, and has no value of this type among its parameters or in its result,
-/// has to know that such a value has a size: it requires or tests that L is below 2^62 before it calls one of these.
+/// A function that is generic over N and L, without a value of this type among its parameters or in its result, must
+/// require or test that L is below 2^62 before it calls one of these: only then is the type known to have a size.
 #[derive(Clone, Copy)]
 pub struct EncodedPoint<const N: usize, const L: usize> {
     bytes: [u8; L],
@@ -51,16 +51,18 @@ impl<const N: usize, const L: usize> EncodedPoint<N, L> {
     ghost use Rattle.sec1.specs.Tags.{byte_of, message_len, tag_of, is_compact, is_compressed, is_hybrid, is_identity};
     ghost use Rattle.sec1.specs.Coordinates.{lent_point, AreWhole};
 
-    /// Whether N and L fit: N is at least 1, and L is 2N + 1. Only then are there points of this type.
+    /// Returns `true` if N is at least 1 and L is 2N + 1. Otherwise there are no points of this type.
     pub fn fits() -> bool
         ensures { IsTrue result ↔ Fits N L }
     {
         N != 0 && L % 2 == 1 && L / 2 == N
     }
 
-    /// The point with this encoding (SEC1 v2.0 section 2.3.4).
+    /// Reads a point from its whole encoding (SEC1 v2.0 section 2.3.4).
     ///
-    /// Any other bytes are refused as PointEncoding, and so are all bytes where N and L don't fit.
+    /// # Errors
+    ///
+    /// PointEncoding if the input isn't the encoding of a point, or if N and L don't [fit](EncodedPoint::fits).
     pub fn from_bytes(input: &[u8]) -> Result<Self>
         ensures { ReadsBytes input.now result }
     {
@@ -73,9 +75,9 @@ impl<const N: usize, const L: usize> EncodedPoint<N, L> {
         Ok(EncodedPoint { bytes, len })
     }
 
-    /// The uncompressed point whose coordinates stand in these bytes, x first, with no tag before them.
+    /// Returns the uncompressed point with these coordinates, x and then y, without a tag.
     ///
-    /// Asks for exactly 2N bytes, and that N and L fit.
+    /// Requires exactly 2N bytes, and that N and L [fit](EncodedPoint::fits).
     pub fn from_untagged_bytes(bytes: &[u8]) -> Self
         requires sizes { Fits N L }
         requires len { length bytes.now ≡ 2 * N }
@@ -85,9 +87,9 @@ impl<const N: usize, const L: usize> EncodedPoint<N, L> {
         Self::from_halves(x, y)
     }
 
-    /// The point with these coordinates: compressed with the parity of y, or else uncompressed.
+    /// Returns the point with these coordinates, compressed or uncompressed.
     ///
-    /// Asks that N and L fit.
+    /// Requires that N and L [fit](EncodedPoint::fits).
     pub fn from_affine_coordinates(x: &[u8; N], y: &[u8; N], compress: bool) -> Self
         requires { Fits N L }
         ensures { let whole = uncompressed (num x.now) (num y.now) in
@@ -112,7 +114,9 @@ impl<const N: usize, const L: usize> EncodedPoint<N, L> {
         EncodedPoint { bytes, len: L }
     }
 
-    /// The identity, SEC1's point at infinity. Asks that N and L fit.
+    /// Returns the identity, the point at infinity.
+    ///
+    /// Requires that N and L [fit](EncodedPoint::fits).
     pub fn identity() -> Self
         requires { Fits N L }
         ensures point { point_of result ≡ identity }
@@ -124,49 +128,49 @@ impl<const N: usize, const L: usize> EncodedPoint<N, L> {
         }
     }
 
-    /// The length of the encoding in bytes.
+    /// Returns the length of the encoding in bytes.
     pub fn len(&self) -> usize
         ensures { result ≡ length (enc N (point_of self.now)) }
     {
         self.len
     }
 
-    /// The encoding (SEC1 v2.0 section 2.3.3).
+    /// Borrows the encoding (SEC1 v2.0 section 2.3.3).
     pub fn as_bytes(&self) -> &[u8]
         ensures { result.now ≡ enc N (point_of self.now) }
     {
         &self.bytes[..self.len]
     }
 
-    /// Whether the encoding is compact.
+    /// Returns `true` if the encoding is compact.
     pub fn is_compact(&self) -> bool
         ensures { result ≡ is_compact (tag_of (point_of self.now)) }
     {
         self.tag().is_compact()
     }
 
-    /// Whether the encoding is compressed. A compact one is not.
+    /// Returns `true` if the encoding is compressed. A compact one isn't.
     pub fn is_compressed(&self) -> bool
         ensures { result ≡ is_compressed (tag_of (point_of self.now)) }
     {
         self.tag().is_compressed()
     }
 
-    /// Whether the encoding is hybrid.
+    /// Returns `true` if the encoding is hybrid.
     pub fn is_hybrid(&self) -> bool
         ensures { result ≡ is_hybrid (tag_of (point_of self.now)) }
     {
         self.tag().is_hybrid()
     }
 
-    /// Whether the point is the identity.
+    /// Returns `true` if the point is the identity.
     pub fn is_identity(&self) -> bool
         ensures { result ≡ is_identity (tag_of (point_of self.now)) }
     {
         self.tag().is_identity()
     }
 
-    /// The compressed form of an uncompressed or hybrid point, with the parity of its y. Any other point is unchanged.
+    /// Returns the compressed form of an uncompressed or hybrid point. Any other point is returned as it is.
     pub fn compress(&self) -> Self
         ensures point { point_of result ≡ compressed_point (point_of self.now) }
         ensures same_x { x_of (point_of result) ≡ x_of (point_of self.now) }
@@ -190,7 +194,7 @@ impl<const N: usize, const L: usize> EncodedPoint<N, L> {
         }
     }
 
-    /// The hybrid form of an uncompressed point, with the parity of its y. Any other point is unchanged.
+    /// Returns the hybrid form of an uncompressed point. Any other point is returned as it is.
     pub fn to_hybrid(&self) -> Self
         ensures { point_of result ≡ hybrid_point (point_of self.now) }
     {
@@ -232,7 +236,7 @@ impl<const N: usize, const L: usize> EncodedPoint<N, L> {
         }
     }
 
-    /// Borrows the N bytes behind the tag, and the N bytes after these, whether or not they belong to the encoding.
+    /// Borrows the N bytes after the tag, and the N bytes after these, whether or not they belong to the encoding.
     fn halves(&self) -> (&[u8; N], &[u8; N])
         ensures x { result.0.now ≡ take N (drop 1 self.now.bytes) }
         ensures y { result.1.now ≡ take N (drop N (drop 1 self.now.bytes)) }
@@ -249,7 +253,7 @@ impl<const N: usize, const L: usize> EncodedPoint<N, L> {
         (x, y)
     }
 
-    /// The x-coordinate. The identity alone has none.
+    /// Borrows the x-coordinate; `None` for the identity.
     #[tactic(auto, using(crate::proofs::Firsts::lent_whole))]
     pub fn x(&self) -> Option<&[u8; N]>
         ensures number { option_map (λ x. num x.now) result ≡ x_of (point_of self.now) }
@@ -264,7 +268,7 @@ impl<const N: usize, const L: usize> EncodedPoint<N, L> {
         }
     }
 
-    /// The y-coordinate, which uncompressed and hybrid points have.
+    /// Borrows the y-coordinate, if the point is uncompressed or hybrid.
     #[tactic(auto, using(crate::proofs::Firsts::lent_whole))]
     pub fn y(&self) -> Option<&[u8; N]>
         ensures number { option_map (λ y. num y.now) result ≡ y_of (point_of self.now) }
@@ -278,7 +282,7 @@ impl<const N: usize, const L: usize> EncodedPoint<N, L> {
     }
 }
 
-/// Returns whether these bytes are an encoding at field elements of n bytes.
+/// Returns `true` if the input is the encoding of a point for field elements of n bytes.
 fn is_encoding(input: &[u8], n: usize) -> bool
     requires positive { 1 ≤ n }
     requires fits { 2 * n + 1 < 2 ^ 64 }
@@ -296,7 +300,7 @@ fn is_encoding(input: &[u8], n: usize) -> bool
     !tag.is_hybrid() || rest[rest.len() - 1] % 2 == *first % 2
 }
 
-/// As `from_bytes`.
+/// Reads a point as [`EncodedPoint::from_bytes`] does.
 impl<const N: usize, const L: usize> TryFrom<&[u8]> for EncodedPoint<N, L> {
     type Error = Error;
 

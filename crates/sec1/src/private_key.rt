@@ -10,7 +10,7 @@ use std::alloc::Global;
 use std::fmt;
 use std::marker::Model;
 
-/// An EC private key (SEC1 v2.0 Appendix C.4, RFC 5915 section 3), whose bytes are lent. A contract sees its
+/// An EC private key (SEC1 v2.0 Appendix C.4, RFC 5915 section 3), which borrows its bytes. A contract sees its
 /// three parts.
 ///
 /// ```text
@@ -22,16 +22,16 @@ use std::marker::Model;
 /// }
 /// ```
 ///
-/// Whether the private key has its curve's length, and whether the public key is a point, isn't tested.
+/// The length of the private key isn't compared with the curve's, and the public key need not be a point.
 #[derive(Clone, Drop)]
 pub struct EcPrivateKey<'a> {
     /// The bytes of the private key.
     pub private_key: &'a [u8],
 
-    /// The curve, where it is named.
+    /// The curve, if present.
     pub parameters: Option<EcParameters>,
 
-    /// The bytes of the public key, where it is there.
+    /// The bytes of the public key, if present.
     pub public_key: Option<&'a [u8]>,
 }
 
@@ -49,13 +49,15 @@ impl<'a> Model for EcPrivateKey<'a> {
     } };
 }
 
-/// Reads a key from the bytes of its DER encoding, all of them. Nothing is copied but the curve's identifier,
-/// and no memory is taken.
+/// Reads a key from its whole DER encoding, without an allocation. The private key and the public key are borrowed from
+/// the input.
 ///
-/// Refused as [`Error::Asn1`], by the first fault from left to right: Truncated where the bytes, or the element
-/// around a part, end too early; Tag where another tag is expected; Length where a length isn't DER's; Value
-/// where the version isn't 1, the identifier isn't one, or the public key has unused bits; TrailingData where
-/// bytes follow a part that should be the last.
+/// # Errors
+///
+/// [`Error::Asn1`] of the first fault from left to right: Truncated if the input, or the element around a part, ends too
+/// early; Tag if another tag is expected; Length if a length isn't in the form of DER; Value if the version isn't 1, the
+/// identifier isn't valid, or the public key has unused bits; TrailingData if bytes follow the last part of an element or
+/// of the input.
 impl<'a> TryFrom<&'a [u8]> for EcPrivateKey<'a> {
     type Error = Error;
 
@@ -75,10 +77,11 @@ impl<'a> EcPrivateKey<'a> {
     ghost use Rattle.sec1.specs.Errors.{IsAsn1, RefusesAsn1};
     ghost use Rattle.sec1.specs.Keys.{IsKeyOf, HasNoBytes, HasBytesWith};
 
-    /// The count of bytes of the key's DER encoding.
+    /// Returns the length of the key's DER encoding in bytes.
     ///
-    /// Refused as [`Error::Asn1`] of Overlength where a part of the key, or all of it, is longer than an element
-    /// can hold, 268,435,455 bytes.
+    /// # Errors
+    ///
+    /// [`Error::Asn1`] of Overlength if the content of an element would be longer than 268,435,455 bytes.
     #[tactic(auto, using(crate::proofs::WriteLemmas::key_written, crate::proofs::WriteLemmas::key_lacks, crate::proofs::WriteLemmas::key_found_with, crate::proofs::WriteLemmas::key_without))]
     pub fn encoded_len(&self) -> Result<usize>
         ensures none { HasNoBytes self.now → RefusesAsn1 result ErrorKind.Overlength }
@@ -90,11 +93,13 @@ impl<'a> EcPrivateKey<'a> {
         Ok(der::encoded_len(self)?)
     }
 
-    /// Writes the key's DER encoding at the beginning of the slice, and answers how many bytes it has. The rest of
+    /// Writes the key's DER encoding at the beginning of the slice, and returns the number of bytes written. The rest of
     /// the slice is unchanged.
     ///
-    /// Refused as [`encoded_len`](EcPrivateKey::encoded_len) refuses, then as [`Error::Asn1`] of Buffer where the
-    /// slice is too short. The whole slice is unchanged then.
+    /// # Errors
+    ///
+    /// Those of [`encoded_len`](EcPrivateKey::encoded_len), then [`Error::Asn1`] of Buffer if the slice is too short. The
+    /// whole slice is unchanged then.
     #[tactic(auto, using(crate::proofs::WriteLemmas::key_written, crate::proofs::WriteLemmas::key_lacks, crate::proofs::WriteLemmas::key_found_with, crate::proofs::WriteLemmas::key_without))]
     pub fn encode_to_slice(&self, buffer: &mut [u8]) -> Result<usize>
         ensures none { HasNoBytes self.now → RefusesAsn1 result ErrorKind.Overlength
@@ -114,9 +119,11 @@ impl<'a> EcPrivateKey<'a> {
         Ok(der::encode_to_slice(self, buffer)?)
     }
 
-    /// The key's DER encoding. Reading it gives a key with the same parts.
+    /// Returns the key's DER encoding.
     ///
-    /// Refused as [`encoded_len`](EcPrivateKey::encoded_len) refuses, then as [`Error::Memory`].
+    /// # Errors
+    ///
+    /// Those of [`encoded_len`](EcPrivateKey::encoded_len), then [`Error::Memory`] if the allocation fails.
     #[tactic(auto, using(crate::proofs::WriteLemmas::key_written, crate::proofs::WriteLemmas::key_lacks, crate::proofs::WriteLemmas::key_found, crate::proofs::WriteLemmas::key_without))]
     pub fn to_der(&self, alloc: Global) -> Result<Vec<u8>>
         ensures none { HasNoBytes self.now → RefusesAsn1 result ErrorKind.Overlength }
@@ -129,9 +136,11 @@ impl<'a> EcPrivateKey<'a> {
         Ok(der::to_der(alloc, self)?)
     }
 
-    /// The document of the key's DER encoding. The key is let go, also where this is refused.
+    /// Returns a document of the key's DER encoding. Consumes the key, even on error.
     ///
-    /// Refused as [`to_der`](EcPrivateKey::to_der) refuses.
+    /// # Errors
+    ///
+    /// Those of [`to_der`](EcPrivateKey::to_der).
     pub fn document(self, alloc: Global) -> Result<SecretDocument>
         ensures none { HasNoBytes self.entry → RefusesAsn1 result ErrorKind.Overlength }
         ensures some { (bytes : List ℕ) → IsKeyOf self.entry bytes
@@ -143,9 +152,11 @@ impl<'a> EcPrivateKey<'a> {
         self.document_ref(alloc)
     }
 
-    /// The document of the key's DER encoding.
+    /// Returns a document of the key's DER encoding.
     ///
-    /// Refused as [`to_der`](EcPrivateKey::to_der) refuses.
+    /// # Errors
+    ///
+    /// Those of [`to_der`](EcPrivateKey::to_der).
     #[tactic(auto, using(crate::proofs::WriteLemmas::key_written, crate::proofs::WriteLemmas::key_lacks, crate::proofs::WriteLemmas::key_found, crate::proofs::WriteLemmas::key_without))]
     pub fn document_ref(&self, alloc: Global) -> Result<SecretDocument>
         ensures none { HasNoBytes self.now → RefusesAsn1 result ErrorKind.Overlength }
@@ -159,7 +170,7 @@ impl<'a> EcPrivateKey<'a> {
     }
 }
 
-/// The private key isn't shown.
+/// Doesn't print the private key.
 impl fmt::Debug for EcPrivateKey<'_> {
     fn fmt<W: fmt::Write>(&self, f: &mut fmt::Formatter<W>) -> fmt::Result {
         f.debug_struct("EcPrivateKey")

@@ -1,5 +1,5 @@
-//! Key types that are read from DER and written in it. A key type names which bytes read as which key, which bytes
-//! a key writes, and what it refuses.
+//! Key types that are read from and written in the DER of an EC private key. A key type says which bytes are read as
+//! which key, which bytes a key is written as, and what is an error.
 ghost use Rattle.std.specs.Prelude.{ℕ, List, false, ◌≡◌, ◌⊎◌, IsTrue, IfOk, IfErr, OnOk, OnErr};
 ghost use Rattle.sec1.specs.Errors.{IsAsn1, RefusesAsn1};
 ghost use Rattle.sec1.specs.Traits.{IsDocumentError, IsElementWith, IsMemoryOr, ReadsElementWith, RefusesDocument, RefusesKey, WritesKey, WritesKeyBeginning};
@@ -13,21 +13,27 @@ use std::rt::Files;
 
 /// A key type that is read from the DER of an EC private key (RFC 5915 section 3).
 pub trait DecodeEcPrivateKey: Sized {
-    /// The bytes that read as a key.
+    /// Which bytes are read as which key.
     ghost reads: { List ℕ → Self → Type 0 };
 
-    /// The bytes that are refused, and by which error.
+    /// Which bytes are refused, and with which error.
     ghost refuses: { List ℕ → Error → Type 0 };
 
-    /// Reads a key from its bytes. Refused as the key type refuses, or as [`Error::Memory`].
+    /// Reads a key from its DER encoding.
+    ///
+    /// # Errors
+    ///
+    /// Those of the key type, or [`Error::Memory`] if an allocation fails.
     fn from_sec1_der(alloc: Global, bytes: &[u8]) -> Result<Self>
         ensures found { IfOk result (reads bytes.now) }
         ensures refused { IfErr result (IsMemoryOr (refuses bytes.now)) };
 
-    /// Reads a key from the one element that the reader has left, as [`SecretDocument::read_der_from`] and then
-    /// [`from_sec1_der`](DecodeEcPrivateKey::from_sec1_der) do.
+    /// Reads a key from a reader up to the end of the input.
     ///
-    /// Refused as these two refuse. [`Error::Asn1`] of kind Io where a read failed.
+    /// # Errors
+    ///
+    /// Those of [`SecretDocument::read_der_from`], [`Error::Asn1`] of kind Io among them if a read failed; then those of
+    /// [`from_sec1_der`](DecodeEcPrivateKey::from_sec1_der).
     fn read_sec1_der_from<R: Read>(alloc: Global, reader: &mut R) -> Result<Self>
         requires { R.failed reader.old ≡ false }
         ensures found { IfOk result (λ key.
@@ -41,8 +47,11 @@ pub trait DecodeEcPrivateKey: Sized {
         Self::from_sec1_der(alloc, document.as_bytes())
     }
 
-    /// Reads a key from the one element that the file holds, as [`SecretDocument::read_der_file`] and then
-    /// [`from_sec1_der`](DecodeEcPrivateKey::from_sec1_der) do.
+    /// Reads a key from a file.
+    ///
+    /// # Errors
+    ///
+    /// Those of [`SecretDocument::read_der_file`], then those of [`from_sec1_der`](DecodeEcPrivateKey::from_sec1_der).
     fn read_sec1_der_file<F: Files>(rt: &F, alloc: Global, path: &str) -> Result<Self>
         ensures found { IfOk result (λ key. IsElementWith (λ bytes. reads bytes key)) }
         ensures refused { IfErr result (λ error. IsDocumentError error
@@ -55,21 +64,27 @@ pub trait DecodeEcPrivateKey: Sized {
 
 /// A key type that is written in the DER of an EC private key (RFC 5915 section 3).
 pub trait EncodeEcPrivateKey {
-    /// The bytes that a key writes.
+    /// The encoding of a key.
     ghost writes: { Self → List ℕ → Type 0 };
 
-    /// The keys that are refused, and by which error.
+    /// Which keys are refused, and with which error.
     ghost refuses: { Self → Error → Type 0 };
 
-    /// The key's bytes. Refused as the key type refuses, or as [`Error::Memory`].
+    /// Returns the key's DER encoding.
+    ///
+    /// # Errors
+    ///
+    /// Those of the key type, or [`Error::Memory`] if an allocation fails.
     fn to_sec1_der(&self, alloc: Global) -> Result<SecretDocument>
         ensures found { IfOk result (writes self.now) }
         ensures refused { IfErr result (IsMemoryOr (refuses self.now)) };
 
-    /// Writes the bytes of [`to_sec1_der`](EncodeEcPrivateKey::to_sec1_der).
+    /// Writes the key's DER encoding.
     ///
-    /// Refused as that refuses, before anything is written, and as [`Error::Asn1`] of kind Io where a write failed;
-    /// then a beginning of the bytes was written.
+    /// # Errors
+    ///
+    /// Those of [`to_sec1_der`](EncodeEcPrivateKey::to_sec1_der), before anything is written; then [`Error::Asn1`] of kind
+    /// Io if a write failed, and a beginning of the bytes is written.
     fn write_sec1_der_to<W: Write>(&self, alloc: Global, writer: &mut W) -> Result<()>
         requires { W.failed writer.old ≡ false }
         ensures all { OnOk result (WritesKey writes self.now (W.written writer.old) (W.written writer.new)) }
@@ -85,8 +100,12 @@ pub trait EncodeEcPrivateKey {
         Ok(())
     }
 
-    /// Writes the bytes of [`to_sec1_der`](EncodeEcPrivateKey::to_sec1_der) to the file, which is made new or cut to
-    /// nothing first, as [`SecretDocument::write_der_file`] does.
+    /// Writes the key's DER encoding to a file, which is created or truncated.
+    ///
+    /// # Errors
+    ///
+    /// Those of [`to_sec1_der`](EncodeEcPrivateKey::to_sec1_der), before the file is opened, then those of
+    /// [`SecretDocument::write_der_file`].
     fn write_sec1_der_file<F: Files>(&self, rt: &F, alloc: Global, path: &str) -> Result<()>
         ensures written { OnOk result (IsElementWith (writes self.now)) }
         ensures refused { IfErr result (λ error. IsAsn1 Io error ⊎ IsMemoryOr (refuses self.now) error) }

@@ -1,5 +1,5 @@
-//! Laws of the definitions, of the constants and of `==`, which a caller may cite. The contract of each function is
-//! the law; the function does no more than the law speaks of.
+//! Laws of the definitions, of the constants and of `==`, for callers to cite. Each law is the contract of a function,
+//! which does nothing else.
 ghost use Rattle.std.specs.Prelude.{◌≡◌, ◌⊎◌, ◌↔◌, ◌<◌, ◌≤◌, ℕ, List, [], ◌∷◌, ◌++◌, length, take, drop, ◌-◌, Some, None, IsSome, IsOk, IsTrue};
 ghost use Rattle.sec1_der.specs.Elements.{len, element_of};
 ghost use Rattle.sec1_der.specs.Faults.{Refuses};
@@ -82,7 +82,7 @@ pub fn spelled_identifiers()
     ensures greatest { content_of (2 ∷ 4294967215 ∷ []) ≡ 0x8F ∷ 0xFF ∷ 0xFF ∷ 0xFF ∷ 0x7F ∷ [] }
 {}
 
-/// A value has an element, or it has none.
+/// A value has an encoding, or it has none.
 pub fn element_or_none<T: EncodeValue + FixedTag>(value: &T)
     ensures { (element_of T.number (T.content value.now) ≡ None)
         ⊎ IsSome (element_of T.number (T.content value.now)) }
@@ -211,7 +211,7 @@ pub fn same_identifier(a: ObjectIdentifier, b: ObjectIdentifier) -> bool
 ///
 /// # Errors
 ///
-/// Buffer where the slice is too short. The whole slice is unchanged then.
+/// Buffer if the slice is too short. The whole slice is unchanged then.
 pub fn writes_forwards(buffer: &mut [u8], bytes: &[u8]) -> Result<()>
     ensures fits { length bytes.now ≤ length buffer.old
         → IsOk result × (buffer.new ≡ bytes.now ++ drop (length bytes.now) buffer.old) }
@@ -226,7 +226,7 @@ pub fn writes_forwards(buffer: &mut [u8], bytes: &[u8]) -> Result<()>
 ///
 /// # Errors
 ///
-/// Buffer where the slice is too short. The whole slice is unchanged then.
+/// Buffer if the slice is too short. The whole slice is unchanged then.
 pub fn writes_backwards(buffer: &mut [u8], bytes: &[u8]) -> Result<()>
     ensures fits { length bytes.now ≤ length buffer.old
         → IsOk result × (buffer.new ≡ take (length buffer.old - length bytes.now) buffer.old ++ bytes.now) }

@@ -1,4 +1,4 @@
-//! The parts of a point.
+//! The coordinates of a point, by the form of its encoding.
 
 ghost use Rattle.std.specs.Prelude.{◌≡◌, bytes_eq};
 ghost use Rattle.sec1.specs.Tags.{tag_of};
@@ -7,7 +7,7 @@ ghost use Rattle.sec1.specs.Coordinates.{first_bytes, lent_point};
 use super::Tag;
 use std::fmt;
 
-/// The parts of a point, each coordinate borrowed as N bytes, the most significant first.
+/// The coordinates of a point, by the form of its encoding. Each is borrowed as N bytes, the most significant first.
 #[derive(Clone, Copy)]
 pub enum Coordinates<'a, const N: usize> {
     /// The point at infinity, which has no coordinates.
@@ -18,12 +18,12 @@ pub enum Coordinates<'a, const N: usize> {
     Compressed { x: &'a [u8; N], y_is_odd: bool },
     /// x and y.
     Uncompressed { x: &'a [u8; N], y: &'a [u8; N] },
-    /// x and y, under a tag that repeats the parity of y.
+    /// x and y; the encoding has the parity of y too.
     Hybrid { x: &'a [u8; N], y: &'a [u8; N] },
 }
 
 impl<const N: usize> Coordinates<'_, N> {
-    /// Returns the tag in front of these parts.
+    /// Returns the tag of the encoding.
     #[tactic(auto, using(crate::proofs::Firsts::lent_parity, crate::proofs::Firsts::lent_none))]
     pub fn tag(&self) -> Tag
         ensures { result ≡ tag_of (lent_point self.now) }
@@ -55,7 +55,7 @@ impl<const N: usize> Coordinates<'_, N> {
 struct Coordinate<'a, const N: usize>(&'a [u8; N]);
 
 impl<const N: usize> Coordinate<'_, N> {
-    /// Returns whether the bytes are the same.
+    /// Returns `true` if the bytes are the same.
     #[tactic(auto, using(crate::proofs::Firsts::first_none, crate::proofs::Firsts::first_more, crate::proofs::Firsts::first_same, crate::proofs::Firsts::first_apart))]
     fn is(self, other: Self) -> bool
         ensures { result ≡ bytes_eq (first_bytes N self.entry.0.now) (first_bytes N other.entry.0.now) }
@@ -80,7 +80,7 @@ impl<const N: usize> fmt::Debug for Coordinate<'_, N> {
     }
 }
 
-/// Two are equal where the variant, the flag and each byte are the same.
+/// Two are equal if the variant, the flag and each byte are the same.
 impl<const N: usize> PartialEq for Coordinates<'_, N> {
     ghost use Rattle.sec1.specs.Coordinates.{same_parts, same_parts_equiv};
     ghost use Rattle.std.specs.Cmp.{partial_equiv_from_equiv};

@@ -7,7 +7,7 @@ ghost use Rattle.sec1.specs.Points.{identity, enc};
 use super::EncodedPoint;
 
 impl<const N: usize, const L: usize> EncodedPoint<N, L> {
-    /// Whether the points are the same.
+    /// Returns `true` if the points are the same.
     pub fn ct_eq(&self, other: &Self) -> bool
         ensures same { IsTrue result ↔ (point_of self.now ≡ point_of other.now) }
         ensures bytes { IsTrue result ↔ (enc N (point_of self.now) ≡ enc N (point_of other.now)) }
@@ -15,7 +15,7 @@ impl<const N: usize, const L: usize> EncodedPoint<N, L> {
         self.as_bytes() == other.as_bytes()
     }
 
-    /// This point where the choice is false, the other where it is true.
+    /// Returns this point if the choice is `false`, and the other if it is `true`.
     pub fn ct_select(&self, other: &Self, choice: bool) -> Self
         ensures { point_of result ≡ (if choice then point_of other.now else point_of self.now) }
     {
@@ -31,21 +31,21 @@ impl<const N: usize, const L: usize> EncodedPoint<N, L> {
         EncodedPoint { bytes, len }
     }
 
-    /// Becomes the other point where the choice is true, and is unchanged where it is false.
+    /// Assigns the other point if the choice is `true`.
     pub fn ct_assign(&mut self, other: &Self, choice: bool)
         ensures { point_of self.new ≡ (if choice then point_of other.now else point_of self.old) }
     {
         *self = self.ct_select(other, choice);
     }
 
-    /// The first point where the choice is false, the second where it is true.
+    /// Returns the first point if the choice is `false`, and the second if it is `true`.
     pub fn conditional_select(a: &Self, b: &Self, choice: bool) -> Self
         ensures { point_of result ≡ (if choice then point_of b.now else point_of a.now) }
     {
         a.ct_select(b, choice)
     }
 
-    /// Leaves the identity, and 00 in each byte of the buffer.
+    /// Assigns the identity, with `00` in each byte of the buffer.
     pub fn zeroize(&mut self)
         ensures point { point_of self.new ≡ identity }
         ensures wiped { IsWiped self.new }

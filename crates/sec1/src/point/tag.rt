@@ -1,4 +1,4 @@
-//! The byte in front of a point's coordinates.
+//! The first byte of a point's encoding.
 
 ghost use Rattle.std.specs.Prelude.{◌≡◌, ◌<◌, ◌^◌, if◌then◌else◌};
 ghost use Rattle.sec1_der.specs.Numbers.{num};
@@ -7,28 +7,32 @@ ghost use Rattle.sec1.specs.Tags.{byte_of, ReadsTag, message_len, is_compact, is
 
 use crate::error::{Error, Result};
 
-/// What a point's encoding begins with: the identity, compressed and uncompressed of SEC1 v2.0 section 2.3.3, the
-/// compact form that has x alone, and the hybrid form of ANSI X9.62 that has y and its parity too.
+/// The first byte of a point's encoding: identity, compressed and uncompressed (SEC1 v2.0 section 2.3.3), compact, which
+/// has x alone, and hybrid, which has y and its parity (ANSI X9.62).
 #[derive(Clone, Copy, Debug, PartialEq, Eq)]
 pub enum Tag {
     /// The point at infinity.
     Identity = 0,
-    /// x, and an even y that is left out.
+    /// x, with an even y.
     CompressedEvenY = 2,
-    /// x, and an odd y that is left out.
+    /// x, with an odd y.
     CompressedOddY = 3,
     /// x and y.
     Uncompressed = 4,
     /// x alone.
     Compact = 5,
-    /// x and an even y.
+    /// x and y, which is even.
     HybridEvenY = 6,
-    /// x and an odd y.
+    /// x and y, which is odd.
     HybridOddY = 7,
 }
 
 impl Tag {
-    /// The tag with this byte. A byte that is no tag's is refused as PointEncoding.
+    /// Returns the tag with this byte.
+    ///
+    /// # Errors
+    ///
+    /// PointEncoding if there is no such tag.
     pub fn from_u8(byte: u8) -> Result<Self>
         ensures { ReadsTag byte result }
     {
@@ -44,38 +48,37 @@ impl Tag {
         }
     }
 
-    /// Whether this is the tag of the compact form.
+    /// Returns `true` for the compact form.
     pub fn is_compact(self) -> bool
         ensures { result ≡ is_compact self }
     {
         self == Tag::Compact
     }
 
-    /// Whether this is one of the two tags of the compressed form.
+    /// Returns `true` for the compressed form.
     pub fn is_compressed(self) -> bool
         ensures { result ≡ is_compressed self }
     {
         self == Tag::CompressedEvenY || self == Tag::CompressedOddY
     }
 
-    /// Whether this is one of the two tags of the hybrid form.
+    /// Returns `true` for the hybrid form.
     pub fn is_hybrid(self) -> bool
         ensures { result ≡ is_hybrid self }
     {
         self == Tag::HybridEvenY || self == Tag::HybridOddY
     }
 
-    /// Whether this is the identity's tag.
+    /// Returns `true` for the identity.
     pub fn is_identity(self) -> bool
         ensures { result ≡ is_identity self }
     {
         self == Tag::Identity
     }
 
-    /// Returns the length in bytes of an encoding with this tag, the tag included, at field elements of this
-    /// many bytes.
+    /// Returns the length in bytes of an encoding with this tag, the tag included, for field elements of this many bytes.
     ///
-    /// The length must fit a usize.
+    /// Requires that the length fits a `usize`.
     pub const fn message_len(self, field_element_size: usize) -> usize
         requires { message_len self field_element_size < 2 ^ 64 }
         ensures { result ≡ message_len self field_element_size }
@@ -110,7 +113,7 @@ impl Tag {
     }
 }
 
-/// Returns whether the number that the bytes spell is odd. The number of no bytes is 0.
+/// Returns `true` if the number in the bytes, the most significant first, is odd. Without bytes it is 0.
 #[tactic(auto, using(crate::proofs::Digits::parity_of_last, crate::proofs::Digits::num_of_none))]
 fn is_odd<const N: usize>(y: &[u8; N]) -> bool
     ensures { result ≡ is_odd (num y.now) }
@@ -118,7 +121,7 @@ fn is_odd<const N: usize>(y: &[u8; N]) -> bool
     N != 0 && y[N - 1] % 2 == 1
 }
 
-/// As `from_u8`.
+/// Returns a tag as [`Tag::from_u8`] does.
 impl TryFrom<u8> for Tag {
     type Error = Error;
 
@@ -129,7 +132,7 @@ impl TryFrom<u8> for Tag {
     }
 }
 
-/// The byte of the tag.
+/// Returns the byte of the tag.
 impl From<Tag> for u8 {
     ghost from_gives = { λ tag byte. byte ≡ byte_of tag };
 
