@@ -23,13 +23,16 @@ impl FixedTag for Null {
 }
 
 impl ValueContent for Null {
-    ghost use Rattle.std.specs.Prelude.{◌≡◌, [], Some};
+    ghost use Rattle.std.specs.Prelude.{◌≡◌, ◌==◌, [], Some, length};
+    ghost use Rattle.sec1.specs.Der.{value_unless};
 
     ghost content = { λ _. Some [] };
 
     ghost is_content = { λ bytes. Some [] ≡ Some bytes };
 
     ghost content_is_one = { λ _ _ same _. same };
+
+    ghost fault = { λ bytes. value_unless (length bytes == 0) };
 }
 
 impl<'a> DecodeValue<'a> for Null {

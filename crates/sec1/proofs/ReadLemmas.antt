@@ -1,5 +1,5 @@
 -- What the content of a key says of the key's bytes.
-use Rattle.std.proofs.Common.{◌≡◌, ◌≤◌, ◌++◌, ℕ, List, [], length, Some, Ok, Err, refl, ap, subst, sym, ◌∙◌}
+use Rattle.std.proofs.Common.{◌≡◌, ◌≤◌, ◌++◌, ℕ, List, [], length, Some, None, Ok, Err, refl, ap, subst, sym, ◌∙◌}
 use Rattle.sec1_der.specs.Elements.{max_length, element, element_of, IsProperBeginning}
 use Rattle.sec1_der.specs.Faults.{IsReadingFault}
 use Rattle.sec1_der.specs.TreeLaws.{BytesDetermineTree}
@@ -11,6 +11,7 @@ use Rattle.sec1.specs.declared.error.Error.{Error}
 use Rattle.sec1.specs.declared.error.Error.TheVariants.{Asn1}
 use Rattle.sec1.specs.Errors.{error_by, error_of}
 use Rattle.sec1.specs.Keys.{Key, key_tree, IsKeyOf, fields_of, key_content}
+use Rattle.sec1.specs.KeyRefusals.{key_fault}
 use Rattle.sec1.specs.ReadsKey.{ReadsKey}
 use Rattle.sec1.proofs.WriteLemmas.{content_of_key, key_content-holds, key_written, key_found}
 
@@ -32,14 +33,15 @@ asn1 WantOfMemory cause fault = absurd fault
 pub key_refused : (input : List ℕ) (cause : DerError) → ((key : Key) → element_of 0x30 (key_content key) ≡ Some input → ⊥)
     → ((content : List ℕ) → length content ≤ max_length → IsProperBeginning input (element 0x30 content) → cause.kind ≡ Truncated)
     → ((key : Key) (bytes : List ℕ) → element_of 0x30 (key_content key) ≡ Some bytes → IsProperBeginning bytes input → cause.kind ≡ TrailingData)
-    → IsReadingFault cause.kind → ReadsKey input (Err (error_of cause))
-key_refused input cause none short long fault =
+    → IsReadingFault cause.kind → key_fault input ≡ Some cause.kind → ReadsKey input (Err (error_of cause))
+key_refused input cause none short long fault told =
     subst (λ (e : Error). ReadsKey input (Err e)) (sym (asn1 cause.kind cause fault))
     (record {
       found = tt;
       only = λ key is. absurd (none key (key_written key input is));
       one_tree = tt;
       kinds = fault;
+      kind = told;
       short = λ key bytes is begins. short (fields_of key) is.tree.tree.2 (subst (IsProperBeginning input) is.tree.whole begins);
       long = λ key bytes is begins. long key bytes (key_written key bytes is) begins;
     })
@@ -56,8 +58,8 @@ pub key_read : (input : List ℕ) (key : Key) → BytesDetermineTree
     → ((value : Key) → element_of 0x30 (key_content value) ≡ Some input → key_content key ≡ key_content value)
     → ((content : List ℕ) → length content ≤ max_length → IsProperBeginning input (element 0x30 content) → ⊥)
     → ((key : Key) (bytes : List ℕ) → element_of 0x30 (key_content key) ≡ Some bytes → IsProperBeginning bytes input → ⊥)
-    → ReadsKey input (Ok key)
-key_read input key trees one is only short long =
+    → key_fault input ≡ None → ReadsKey input (Ok key)
+key_read input key trees one is only short long told =
     let found = key_found key input is in
     record {
       found = found;
@@ -66,6 +68,7 @@ key_read input key trees one is only short long =
           let there = key_content-holds other (fields_of other) (content_of_key other input at) in
           ap Ok (one key other (fields_of other) (only other (key_written other input at) ∙ there) there);
       kinds = tt;
+      kind = told;
       short = λ other bytes at begins. absurd (short (fields_of other) at.tree.tree.2 (subst (IsProperBeginning input) at.tree.whole begins));
       long = λ other bytes at begins. absurd (long other bytes (key_written other bytes at) begins);
     }

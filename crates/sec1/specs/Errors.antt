@@ -1,5 +1,5 @@
 -- What an error of this crate says.
-use Rattle.std.specs.Prelude.{◌≡◌, Result, IsErrAnd}
+use Rattle.std.specs.Prelude.{◌≡◌, Option, Some, None, Result, IsErrAnd, MatchResult}
 use Rattle.sec1.specs.declared.error.Error.{Error}
 use Rattle.sec1.specs.declared.error.Error.TheVariants.{Asn1, Crypto, PointEncoding, Version, Memory}
 use Rattle.sec1_der.specs.Faults.{IsReadingFault}
@@ -34,3 +34,15 @@ IsAsn1ReadingFault Crypto = ⊥
 IsAsn1ReadingFault PointEncoding = ⊥
 IsAsn1ReadingFault Version = ⊥
 IsAsn1ReadingFault Memory = ⊥
+
+-- an error of DER of the kind that is told
+abbrev pub IsAsn1Told : Option ErrorKind → Error → Type 0
+IsAsn1Told fault (Asn1 cause) = fault ≡ Some cause.kind
+IsAsn1Told fault Crypto = ⊥
+IsAsn1Told fault PointEncoding = ⊥
+IsAsn1Told fault Version = ⊥
+IsAsn1Told fault Memory = ⊥
+
+-- the call refuses by an error of DER of this kind, and answers where there is none
+abbrev pub TellsAsn1 : {T : Type 0} → Result T Error → Option ErrorKind → Type 0
+TellsAsn1 result fault = MatchResult result (λ _. fault ≡ None) (IsAsn1Told fault)

@@ -2,6 +2,7 @@ pub mod Der
 pub mod Errors
 pub mod Parameters
 pub mod Keys
+pub mod KeyRefusals
 pub mod ReadsKey
 pub mod Traits
 pub mod Examples

@@ -1,6 +1,7 @@
 -- What reading a key from bytes means.
 use Rattle.std.specs.Prelude.{◌≡◌, List, ℕ, Result, Ok, IfOk, IfErr}
-use Rattle.sec1.specs.Errors.{RefusesAsn1, IsAsn1ReadingFault}
+use Rattle.sec1.specs.Errors.{RefusesAsn1, IsAsn1ReadingFault, TellsAsn1}
+use Rattle.sec1.specs.KeyRefusals.{key_fault}
 use Rattle.sec1.specs.Keys.{Key, key_tree, IsKeyOf}
 use Rattle.sec1.specs.declared.error.Error.{Error}
 use Rattle.sec1_der.specs.Elements.{IsProperBeginning}
@@ -17,6 +18,8 @@ pub record ReadsKey (input : List ℕ) (result : Result Key Error) : Type 0 wher
   pub one_tree : IfOk result (λ key. (t : Tree) → IsTreeOf t input → t ≡ key_tree key)
   -- all other bytes are refused, by one of these kinds
   pub kinds : IfErr result IsAsn1ReadingFault
+  -- whether the bytes are refused, and by which kind, is a function of them
+  pub kind : TellsAsn1 result (key_fault input)
   -- a proper beginning of a key's bytes ends too early
   pub short : (key : Key) (bytes : List ℕ) → IsKeyOf key bytes → IsProperBeginning input bytes → RefusesAsn1 result Truncated
   -- bytes after a key's are too many

@@ -1,5 +1,6 @@
 ghost use Rattle.std.specs.Prelude.{◌≡◌, Some};
 ghost use Rattle.sec1.specs.Parameters.{curve_of};
+ghost use Rattle.sec1_der.specs.Contents.{identifier_fault};
 ghost use Rattle.sec1_der.specs.Identifiers.{identifier_content, IsIdentifierContent};
 
 use sec1_der as der;
@@ -70,6 +71,8 @@ impl ValueContent for EcParameters {
     ghost is_content = { IsIdentifierContent };
 
     ghost content_is_one = { λ parameters bytes same _. (curve_of parameters, identifier_content-tells (curve_of parameters) bytes same) };
+
+    ghost fault = { identifier_fault };
 }
 
 impl<'a> DecodeValue<'a> for EcParameters {

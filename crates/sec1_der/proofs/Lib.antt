@@ -1,6 +1,8 @@
 pub mod DigitLemmas
 pub mod LengthLemmas
 pub mod HeaderLemmas
+pub mod RefusalLemmas
+pub mod ContentRefusals
 pub mod TreeLemmas
 pub mod EnterLemmas
 pub mod WalkLemmas

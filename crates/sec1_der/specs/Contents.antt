@@ -1,5 +1,12 @@
 -- The contents of the primitive types.
-use Rattle.std.specs.Prelude.{◌≡◌, ℕ, ◌-◌, ◌^◌, ◌%◌, ◌<◌, ◌≤◌, List, [], ◌∷◌, length, slice_index, Some}
+use Rattle.std.specs.Prelude.{◌≡◌, ◌==◌, ℕ, ◌-◌, ◌^◌, ◌%◌, ◌<◌, ◌≤◌, nat_le, Bool, false, ◌&&◌, if◌then◌else◌, List, [], ◌∷◌, length, slice_index}
+use Rattle.std.specs.Prelude.{Option, Some, None}
+use Rattle.std.specs.Str.{bytes_eq}
+use Rattle.sec1_der.specs.ArcsOf.{arcs_of}
+use Rattle.sec1_der.specs.Identifiers.{is_identifier, content_of}
+use Rattle.sec1_der.specs.Refusals.{Fault}
+use Rattle.sec1_der.specs.declared.error.ErrorKind.{ErrorKind}
+use Rattle.sec1_der.specs.declared.error.ErrorKind.TheVariants.{Value}
 
 -- RFC 5915 section 3: the version is the INTEGER one, by X.690 section 8.3 the one byte 01.
 abbrev pub IsVersionOne : List ℕ → Type 0
@@ -28,3 +35,32 @@ bits_are_one unused bytes (count ∷ rest) bits same =
     let counts : unused ≡ count = cc in
     let rests : bytes ≡ rest = cc in
     rw (← counts, ← rests) bits
+
+-- refused as Value where the test fails
+abbrev pub value_unless : Bool → Option ErrorKind
+value_unless passes = if passes then None else Some Value
+
+-- any content but this one byte
+abbrev pub byte_fault : ℕ → Fault
+byte_fault n content = value_unless (bytes_eq content (n ∷ []))
+
+-- the test for a count of unused bits
+abbrev pub are_bits : ℕ → List ℕ → Bool
+are_bits unused [] = unused == 0
+are_bits unused (byte ∷ bytes) = nat_le unused 7 && slice_index (byte ∷ bytes) (length bytes) % 2 ^ unused == 0
+
+abbrev pub is_bit_string : List ℕ → Bool
+is_bit_string [] = false
+is_bit_string (unused ∷ bytes) = are_bits unused bytes
+
+-- X.690 sections 8.6 and 11.2.1: any content but that of a bit string, and but that of one without unused bits
+abbrev pub bit_string_fault : Fault
+bit_string_fault content = value_unless (is_bit_string content)
+
+abbrev pub whole_bits_fault : Fault
+whole_bits_fault [] = Some Value
+whole_bits_fault (unused ∷ bytes) = value_unless (unused == 0)
+
+-- X.690 section 8.19: any content but that of an identifier
+abbrev pub identifier_fault : Fault
+identifier_fault content = value_unless (is_identifier (arcs_of content) && bytes_eq (content_of (arcs_of content)) content)

@@ -9,9 +9,10 @@ pub mod IdentifierLaws
 pub mod ArcsOf
 pub mod Stored
 pub mod Building
+pub mod Faults
+pub mod Refusals
 pub mod Contents
 pub mod Values
-pub mod Faults
 pub mod Readers
 pub mod SliceWriters
 pub mod BackWriters

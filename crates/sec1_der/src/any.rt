@@ -20,6 +20,7 @@ impl<'a> AnyRef<'a> {
     ghost use Rattle.sec1_der.specs.Elements.{max_length, element, IsHeader, IsProperBeginning, LacksHeader};
     ghost use Rattle.sec1_der.specs.Faults.{header_fault, Refuses, IsHeaderFault};
     ghost use Rattle.sec1_der.specs.Readers.{before, HasRead};
+    ghost use Rattle.sec1_der.specs.Refusals.{Tells, any_fault, no_fault};
     ghost use Rattle.sec1_der.specs.Values.{tag_of, value_of};
 
     /// The element with this tag and content. Refused as Overlength where the content has more than
@@ -55,6 +56,8 @@ impl<'a> AnyRef<'a> {
         ensures fault { reader.old.failed ≡ false → LacksHeader reader.old.unread
             → Refuses result (header_fault reader.old.unread) }
         ensures kinds { reader.old.failed ≡ false → IfErr result (λ e. IsHeaderFault e.kind) }
+        ensures kind { reader.old.failed ≡ false
+            → Tells result (any_fault (λ _. no_fault) no_fault reader.old.unread) }
         ensures failed { reader.old.failed ≡ true → Refuses result ErrorKind.Failed
             × (reader.new ≡ reader.old) }
         ensures refused { OnErr result (reader.new.failed ≡ true) }
@@ -107,6 +110,7 @@ impl<'a> From<&'a ObjectIdentifier> for AnyRef<'a> {
 
 impl ValueContent for AnyRef<'_> {
     ghost use Rattle.std.specs.Prelude.{Some, ⊤};
+    ghost use Rattle.sec1_der.specs.Refusals.{no_fault};
     ghost use Rattle.sec1_der.specs.Values.{value_of};
 
     ghost content = { λ any. Some (value_of any) };
@@ -114,6 +118,8 @@ impl ValueContent for AnyRef<'_> {
     ghost is_content = { λ _. ⊤ };
 
     ghost content_is_one = { λ _ _ _ _. tt };
+
+    ghost fault = { no_fault };
 }
 
 impl EncodeValue for AnyRef<'_> {

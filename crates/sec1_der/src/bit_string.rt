@@ -104,13 +104,15 @@ impl FixedTag for BitStringRef<'_> {
 
 impl ValueContent for BitStringRef<'_> {
     ghost use Rattle.std.specs.Prelude.{Some, ◌∷◌};
-    ghost use Rattle.sec1_der.specs.Contents.{IsBitString, bits_are_one};
+    ghost use Rattle.sec1_der.specs.Contents.{IsBitString, bit_string_fault, bits_are_one};
 
     ghost content = { λ bits. Some (bits.unused ∷ bits.bytes.now) };
 
     ghost is_content = { IsBitString };
 
     ghost content_is_one = { λ bits bytes same _. bits_are_one bits.unused bits.bytes.now bytes bits.are_bits same };
+
+    ghost fault = { bit_string_fault };
 }
 
 impl<'a> DecodeValue<'a> for BitStringRef<'a> {

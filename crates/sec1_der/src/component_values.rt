@@ -1,7 +1,9 @@
 //! Values for the components of a [`Record`](crate::Record), which contracts know by their bytes alone: so a struct
 //! can hold plain slices.
 ghost use Rattle.std.specs.Prelude.{◌≡◌, ◌∷◌, [], ℕ, List, Some, ⊤};
+ghost use Rattle.sec1_der.specs.Contents.{byte_fault, is_bit_string, whole_bits_fault};
 ghost use Rattle.sec1_der.specs.Elements.{element_of};
+ghost use Rattle.sec1_der.specs.Refusals.{element_fault, end_fault, no_fault};
 
 use crate::{
     BackWriter, BitStringRef, DecodeValue, EncodeValue, End, ErrorKind, FixedTag, Length,
@@ -33,6 +35,8 @@ impl<const N: u8> ValueContent for SmallInteger<N> {
     ghost is_content = { λ bytes. Some (N ∷ []) ≡ Some bytes };
 
     ghost content_is_one = { λ _ _ same _. same };
+
+    ghost fault = { byte_fault N };
 }
 
 impl<'a, const N: u8> DecodeValue<'a> for SmallInteger<N> {
@@ -91,6 +95,8 @@ impl ValueContent for Octets<'_> {
     ghost is_content = { λ _. ⊤ };
 
     ghost content_is_one = { λ _ _ _ _. tt };
+
+    ghost fault = { no_fault };
 }
 
 impl<'a> DecodeValue<'a> for Octets<'a> {
@@ -148,6 +154,10 @@ impl ValueContent for WholeBits<'_> {
     ghost is_content = { λ content. (bytes : List ℕ) × (Some (0 ∷ bytes) ≡ Some content) };
 
     ghost content_is_one = { λ bytes _ same _. (bytes, same) };
+
+    ghost fault = { whole_bits_fault };
+
+    ghost told_late = { is_bit_string };
 }
 
 impl<'a> DecodeValue<'a> for WholeBits<'a> {
@@ -199,6 +209,8 @@ impl<T: ValueContent + FixedTag> ValueContent for Containing<T> {
     ghost is_content = { λ bytes. (value : T) × (element_of T.number (T.content value) ≡ Some bytes) };
 
     ghost content_is_one = { λ outside _ same _. (outside.value, same) };
+
+    ghost fault = { element_fault T.number T.fault end_fault };
 }
 
 impl<'a, T: DecodeValue<'a> + FixedTag + Drop> DecodeValue<'a> for Containing<T> {

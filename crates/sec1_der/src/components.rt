@@ -6,6 +6,7 @@ ghost use Rattle.sec1_der.specs.BackWriters.{end_of, front_of, KeepsEnd, PutsInF
 ghost use Rattle.sec1_der.specs.Components.{join};
 ghost use Rattle.sec1_der.specs.Elements.{max_length, element_of, field_of, IsOverlong};
 ghost use Rattle.sec1_der.specs.Faults.{Refuses};
+ghost use Rattle.sec1_der.specs.Refusals.{element_fault, end_fault, field_fault};
 
 use crate::{
     BackWriter, DecodeExplicit, DecodeValue, EncodeValue, ErrorKind, ExplicitTag, FixedTag, Length,
@@ -49,6 +50,8 @@ impl ValueContent for End {
     ghost is_content = { λ bytes. Some [] ≡ Some bytes };
 
     ghost content_is_one = { λ _ _ same _. same };
+
+    ghost fault = { end_fault };
 }
 
 impl<'a> DecodeValue<'a> for End {
@@ -99,6 +102,8 @@ impl<A: ValueContent + FixedTag, R: ValueContent> ValueContent for Required<A, R
         × (join (element_of A.number (A.content first)) (R.content rest) ≡ Some bytes) };
 
     ghost content_is_one = { λ row _ same _. (row.first, row.rest, same) };
+
+    ghost fault = { element_fault A.number A.fault R.fault };
 }
 
 impl<'a, A: DecodeValue<'a> + FixedTag + Drop, R: DecodeValue<'a>> DecodeValue<'a>
@@ -163,6 +168,8 @@ impl<N: ExplicitTag, A: ValueContent + FixedTag, R: ValueContent> ValueContent
         × (join (field_of N.at A.number (option_map A.content first)) (R.content rest) ≡ Some bytes) };
 
     ghost content_is_one = { λ row _ same _. (row.first, row.rest, same) };
+
+    ghost fault = { field_fault N.at A.number A.told_late A.fault R.fault };
 }
 
 impl<'a, N: ExplicitTag, A: DecodeExplicit<'a>, R: DecodeValue<'a> + NoField<N>> DecodeValue<'a>

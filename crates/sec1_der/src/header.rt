@@ -1,8 +1,9 @@
-ghost use Rattle.std.specs.Prelude.{◌≡◌, ℕ, ◌<◌, ◌≤◌, ◌^◌, length, take, List, ◌++◌, IfOk, IfErr, IsOkAnd, IsOk, IsErr, OnErr, false, true};
+ghost use Rattle.std.specs.Prelude.{◌≡◌, ℕ, ◌<◌, ◌≤◌, ◌^◌, length, take, List, ◌++◌, IfOk, IfErr, IsOkAnd, IsOk, IsErr, OnErr, false, true, Some};
 ghost use Rattle.sec1_der.specs.Elements.{max_length, len, header, element, IsHeader, IsProperBeginning, LacksHeader};
 ghost use Rattle.sec1_der.specs.Faults.{length_fault, header_fault, Refuses, IsHeaderFault};
 ghost use Rattle.sec1_der.specs.Numbers.{num};
 ghost use Rattle.sec1_der.specs.Readers.{before, refused, HasRead};
+ghost use Rattle.sec1_der.specs.Refusals.{Fault, any_fault};
 ghost use Rattle.sec1_der.specs.SliceWriters.{room_of, KeepsSlice, AppendsNothing, Appends};
 
 use crate::{ErrorKind, Length, Result, SliceReader, SliceWriter, Tag};
@@ -112,6 +113,8 @@ pub(crate) fn element_at(input: &[u8]) -> First<'_, Header>
         → IsProperBeginning input.now (element tag content)
         → result ≡ Err ErrorKind.Truncated }
     ensures fault { LacksHeader input.now → result ≡ Err (header_fault input.now) }
+    ensures told { IfErr result (λ kind. (content : ℕ → Fault) (behind : Fault)
+        → any_fault content behind input.now ≡ Some kind) }
 {
     let (header, inside) = match header_at(input) {
         Ok(found) => found,

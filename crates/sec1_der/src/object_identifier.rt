@@ -198,6 +198,7 @@ impl FixedTag for ObjectIdentifier {
 }
 
 impl ValueContent for ObjectIdentifier {
+    ghost use Rattle.sec1_der.specs.Contents.{identifier_fault};
     ghost use Rattle.sec1_der.specs.Identifiers.{identifier_content};
     ghost use Rattle.sec1_der.specs.IdentifierLaws.{identifier_content-tells};
 
@@ -206,6 +207,8 @@ impl ValueContent for ObjectIdentifier {
     ghost is_content = { IsIdentifierContent };
 
     ghost content_is_one = { λ arcs bytes same _. (arcs, identifier_content-tells arcs bytes same) };
+
+    ghost fault = { identifier_fault };
 }
 
 impl<'a> DecodeValue<'a> for ObjectIdentifier {

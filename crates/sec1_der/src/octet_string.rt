@@ -48,6 +48,7 @@ impl FixedTag for OctetStringRef<'_> {
 
 impl ValueContent for OctetStringRef<'_> {
     ghost use Rattle.std.specs.Prelude.{Some, ⊤};
+    ghost use Rattle.sec1_der.specs.Refusals.{no_fault};
     ghost use Rattle.sec1_der.specs.Values.{octets_of};
 
     ghost content = { λ octets. Some (octets_of octets) };
@@ -55,6 +56,8 @@ impl ValueContent for OctetStringRef<'_> {
     ghost is_content = { λ _. ⊤ };
 
     ghost content_is_one = { λ _ _ _ _. tt };
+
+    ghost fault = { no_fault };
 }
 
 impl<'a> DecodeValue<'a> for OctetStringRef<'a> {

@@ -2,6 +2,7 @@ ghost use Rattle.std.specs.Prelude.{◌≡◌, ◌≢◌, ◌+◌, ◌≤◌, �
 ghost use Rattle.sec1_der.specs.Elements.{max_length, element, IsProperBeginning};
 ghost use Rattle.sec1_der.specs.Faults.{Refuses, IsReadingFault};
 ghost use Rattle.sec1_der.specs.Readers.{before, refused, HasRead, HasReadElement};
+ghost use Rattle.sec1_der.specs.Refusals.{Tells, element_fault, end_fault, field_fault, never_late, no_fault};
 
 use crate::{AnyRef, DecodeValue, Error, ErrorKind, FixedTag, Length, Result, Tag};
 use std::marker::Model;
@@ -116,6 +117,9 @@ impl<'a> SliceReader<'a> {
             → IsProperBeginning self.old.unread (element T.number content)
             → Refuses result ErrorKind.Truncated }
         ensures kinds { self.old.failed ≡ false → IfErr result (λ e. IsReadingFault e.kind) }
+        // The unread bytes tell which kind.
+        ensures kind { self.old.failed ≡ false
+            → Tells result (element_fault T.number T.fault no_fault self.old.unread) }
         ensures failed { self.old.failed ≡ true → Refuses result ErrorKind.Failed
             × (self.new ≡ self.old) }
         ensures refused { OnErr result (self.new.failed ≡ true) }
@@ -157,6 +161,9 @@ impl<'a> SliceReader<'a> {
             × (self.new ≡ before rest) }
 
         ensures kinds { self.old.failed ≡ false → IfErr result (λ e. IsReadingFault e.kind) }
+        // The unread bytes tell which kind.
+        ensures kind { self.old.failed ≡ false
+            → Tells result (field_fault number T.number never_late T.fault no_fault self.old.unread) }
         ensures failed { self.old.failed ≡ true → Refuses result ErrorKind.Failed
             × (self.new ≡ self.old) }
         ensures refused { OnErr result (self.new.failed ≡ true) }
@@ -251,6 +258,8 @@ impl<'a> SliceReader<'a> {
             → IsProperBeginning self.old.unread (element tag content)
             → Refuses result ErrorKind.Truncated }
         ensures kinds { self.old.failed ≡ false → IfErr result (λ e. IsReadingFault e.kind) }
+        ensures kind { self.old.failed ≡ false
+            → Tells result (element_fault tag no_fault no_fault self.old.unread) }
         ensures failed { self.old.failed ≡ true → Refuses result ErrorKind.Failed
             × (self.new ≡ self.old) }
         ensures refused { OnErr result (self.new.failed ≡ true) }
@@ -286,6 +295,8 @@ impl<'a> SliceReader<'a> {
             → self.old.failed ≡ false → IsProperBeginning (element T.number content) self.old.unread
             → Refuses result ErrorKind.TrailingData }
         ensures kinds { self.old.failed ≡ false → IfErr result (λ e. IsReadingFault e.kind) }
+        ensures kind { self.old.failed ≡ false
+            → Tells result (element_fault T.number T.fault end_fault self.old.unread) }
     {
         let value = self.decode::<T>()?;
         self.finish()?;

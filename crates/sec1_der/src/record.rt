@@ -54,6 +54,8 @@ where
     ghost is_content = { T.Components.is_content };
 
     ghost content_is_one = { λ value. T.Components.content_is_one (T.parts value) };
+
+    ghost fault = { T.Components.fault };
 }
 
 impl<'a, T: Record> DecodeValue<'a> for T

@@ -1,9 +1,10 @@
 //! What a type of DER values says of itself, so that the generic calls can read and write it.
-ghost use Rattle.std.specs.Prelude.{◌≡◌, ◌<◌, ◌≤◌, ℕ, List, [], length, true, false, Option, Some, IsOk, IfOk, IfErr, OnOk, OnErr};
+ghost use Rattle.std.specs.Prelude.{◌≡◌, ◌<◌, ◌≤◌, ℕ, List, [], length, Bool, true, false, Option, Some, IsOk, IfOk, IfErr, OnOk, OnErr};
 ghost use Rattle.sec1_der.specs.BackWriters.{end_of, front_of, KeepsEnd, PutsNothing, PutsInFront};
 ghost use Rattle.sec1_der.specs.Elements.{max_length, IsOverlong};
 ghost use Rattle.sec1_der.specs.Faults.{Refuses, IsReadingFault};
 ghost use Rattle.sec1_der.specs.Readers.{before};
+ghost use Rattle.sec1_der.specs.Refusals.{Fault, Tells, never_late};
 ghost use Rattle.sec1_der.specs.SliceWriters.{room_of, KeepsSlice, AppendsNothing, Appends};
 
 use crate::{BackWriter, ErrorKind, Length, Result, SliceReader, SliceWriter, Tag};
@@ -32,6 +33,14 @@ pub trait ValueContent {
     /// The content of a value is a content of the type, where an element can hold it.
     ghost content_is_one: { (value : Self) (bytes : List ℕ) → content value ≡ Some bytes
         → length bytes ≤ max_length → is_content bytes };
+
+    /// What bytes are refused by as a content of the type: a kind, or None where they are a content.
+    ghost fault: { Fault };
+
+    /// Which contents are refused, if at all, only after the end of an explicit field (X.690 section 8.14) around
+    /// them has been tested. A type whose [`DecodeExplicit`](crate::DecodeExplicit) is a call of
+    /// [`SliceReader::context_specific`] has none, and leaves this out.
+    ghost told_late: { List ℕ → Bool } = { never_late };
 }
 
 /// A value that is read from the content of its element.
@@ -47,6 +56,7 @@ pub trait DecodeValue<'a>: ValueContent + Sized {
         ensures read { OnOk result (reader.new ≡ before []) }
         ensures only { reader.old.failed ≡ false → Self.is_content reader.old.unread → IsOk result }
         ensures kinds { reader.old.failed ≡ false → IfErr result (λ e. IsReadingFault e.kind) }
+        ensures kind { reader.old.failed ≡ false → Tells result (Self.fault reader.old.unread) }
         ensures failed { reader.old.failed ≡ true → Refuses result ErrorKind.Failed
             × (reader.new ≡ reader.old) }
         ensures refused { OnErr result (reader.new.failed ≡ true) };

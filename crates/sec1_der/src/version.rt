@@ -24,13 +24,15 @@ impl FixedTag for VersionOne {
 
 impl ValueContent for VersionOne {
     ghost use Rattle.std.specs.Prelude.{Some, [], ◌∷◌};
-    ghost use Rattle.sec1_der.specs.Contents.{IsVersionOne, only_one};
+    ghost use Rattle.sec1_der.specs.Contents.{IsVersionOne, byte_fault, only_one};
 
     ghost content = { λ _. Some (1 ∷ []) };
 
     ghost is_content = { IsVersionOne };
 
     ghost content_is_one = { λ _ bytes same _. only_one bytes same };
+
+    ghost fault = { byte_fault 1 };
 }
 
 impl<'a> DecodeValue<'a> for VersionOne {

@@ -2,7 +2,9 @@ use Rattle.std.proofs.Common.{◌≡◌, ◌++◌, ℕ, Bool, false, List, lengt
 use Rattle.std.proofs.lemmas.List.{take_at, drop_at}
 use Rattle.sec1_der.specs.Elements.{element, IsProperBeginning}
 use Rattle.sec1_der.specs.Readers.{Reader}
+use Rattle.sec1_der.specs.Refusals.{no_fault}
 use Rattle.sec1_der.specs.declared.header.Header.{Header}
+use Rattle.sec1_der.proofs.RefusalLemmas.{any_room}
 use Rattle.sec1_der.proofs.any.AnyRef.decode.Goals as goal
 
 pub returns-in-Ok-clause-only : goal.returns-in-Ok-clause-only
@@ -27,3 +29,8 @@ returns-in-Err-clause-short c tag content h fresh short =
     let here : IsProperBeginning c.unread.result.now (element tag content) = rw c.unread.ensures short in
     let kind = c.in-Err.ensures.short tag content h here in
     c.fail.ensures.error ∙ cc
+
+pub returns-in-Ok-clause-kind : goal.returns-in-Ok-clause-kind
+returns-in-Ok-clause-kind c fresh =
+    let found = c.in-Ok.ensures.found in
+    any_room (λ _. no_fault) no_fault c.in-Ok.header.tag c.in-Ok.header.length c.args.reader.now.unread c.in-Ok.inside.now found.0 (sym c.unread.ensures ∙ found.1) found.2

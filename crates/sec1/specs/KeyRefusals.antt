@@ -1,0 +1,16 @@
+-- Which refusal of bytes that are no key's.
+use Rattle.sec1_der.specs.Contents.{byte_fault, identifier_fault, is_bit_string, whole_bits_fault}
+use Rattle.sec1_der.specs.Refusals.{Fault, no_fault, end_fault, never_late, element_fault, field_fault}
+
+-- RFC 5915 section 3: the components of an ECPrivateKey in their order, and nothing behind them. The unused bits of the
+-- public key are told late, after the end of its field.
+abbrev pub components_fault : Fault
+components_fault =
+    element_fault 0x02 (byte_fault 1)
+    (element_fault 0x04 no_fault
+    (field_fault 0 0x06 never_late identifier_fault
+    (field_fault 1 0x03 is_bit_string whole_bits_fault end_fault)))
+
+-- SEC1 v2.0 Appendix C.4: the SEQUENCE of these components, and nothing behind it
+unfoldable pub key_fault : Fault
+key_fault = element_fault 0x30 components_fault end_fault

@@ -1,0 +1,101 @@
+-- Which refusal: what bytes are refused by, as a function of the bytes. It is the first fault from left to right.
+use Rattle.std.specs.Prelude.{◌≡◌, ◌==◌, ℕ, zero, suc, ◌+◌, ◌-◌, Bool, false, ◌&&◌, not, nat_lt, nat_le, if◌then◌else◌, bit_and}
+use Rattle.std.specs.Prelude.{List, [], ◌∷◌, length, take, drop, Option, Some, None, Result, Ok, Err, MatchResult}
+use Rattle.std.specs.Option.{option_or}
+use Rattle.std.specs.Str.{bytes_eq}
+use Rattle.sec1_der.specs.Elements.{max_length, len}
+use Rattle.sec1_der.specs.Faults.{is_tag, length_fault}
+use Rattle.sec1_der.specs.Numbers.{num}
+use Rattle.sec1_der.specs.declared.error.Error.{Error}
+use Rattle.sec1_der.specs.declared.error.ErrorKind.{ErrorKind}
+use Rattle.sec1_der.specs.declared.error.ErrorKind.TheVariants.{Truncated, Tag, TrailingData, Depth}
+
+-- What bytes are refused by: a kind, or None where they aren't refused.
+abbrev pub Fault : Type 0
+Fault = List ℕ → Option ErrorKind
+
+-- the call refuses by this kind, and answers where there is none
+abbrev pub Tells : {T : Type 0} → Result T Error → Option ErrorKind → Type 0
+Tells result fault = MatchResult result (λ _. fault ≡ None) (λ e. fault ≡ Some e.kind)
+
+-- bytes of which nothing is refused, and the end, behind which nothing may stand
+abbrev pub no_fault : Fault
+no_fault bytes = None
+
+abbrev pub end_fault : Fault
+end_fault [] = None
+end_fault (byte ∷ bytes) = Some TrailingData
+
+-- X.690 sections 8.1.3 and 10.1: the number whose spelling begins the bytes, where one does
+abbrev pub number_at : List ℕ → ℕ
+number_at [] = 0
+number_at (first ∷ digits) = if nat_lt first 0x80 then first else num (take (first - 0x80) digits)
+
+-- the length that begins the bytes, and the bytes behind it
+abbrev pub length_at : List ℕ → Result (ℕ × List ℕ) ErrorKind
+length_at bytes =
+    let n = number_at bytes in
+    let spelled = len n in
+    if nat_le n max_length && bytes_eq (take (length spelled) bytes) spelled then Ok (n, drop (length spelled) bytes) else Err (length_fault bytes)
+
+-- X.690 section 8.1.4: as many bytes as the length says, and the bytes behind them
+abbrev pub within : Result (ℕ × List ℕ) ErrorKind → Result (List ℕ × List ℕ) ErrorKind
+within (Err kind) = Err kind
+within (Ok x) = if nat_le x.0 (length x.1) then Ok (take x.0 x.1, drop x.0 x.1) else Err Truncated
+
+-- the fault of the length, of the content, or of the bytes behind it, in this order
+abbrev pub parts_fault : Fault → Fault → Result (List ℕ × List ℕ) ErrorKind → Option ErrorKind
+parts_fault content behind (Err kind) = Some kind
+parts_fault content behind (Ok x) = option_or (content x.0) (behind x.1)
+
+-- X.690 section 8.1.1: an element with this tag, and what stands behind it. The tag is told before the length.
+abbrev pub element_fault : ℕ → Fault → Fault → Fault
+element_fault tag content behind [] = Some Truncated
+element_fault tag content behind (byte ∷ bytes) =
+    if byte == tag then parts_fault content behind (within (length_at bytes)) else Some Tag
+
+-- whether this byte is next
+abbrev pub is_next : ℕ → List ℕ → Bool
+is_next tag [] = false
+is_next tag (byte ∷ bytes) = byte == tag
+
+-- a type that refuses no content late
+abbrev pub never_late : List ℕ → Bool
+never_late content = false
+
+-- the content of an explicit field: an element with this tag, and nothing behind it. What is told late of its content
+-- is told after that.
+abbrev pub inside_fault : ℕ → (List ℕ → Bool) → Fault → Fault
+inside_fault tag late content bytes =
+    option_or (element_fault tag (λ inside. if late inside then None else content inside) end_fault bytes) (element_fault tag content no_fault bytes)
+
+-- X.690 section 8.14: where its tag is next, an explicit field [number] around an element with this tag
+abbrev pub field_fault : ℕ → ℕ → (List ℕ → Bool) → Fault → Fault → Fault
+field_fault number tag late content behind bytes =
+    if is_next (0xA0 + number) bytes then element_fault (0xA0 + number) (inside_fault tag late content) behind bytes else behind bytes
+
+-- an element of any tag, by which its content is refused, and what stands behind it
+abbrev pub any_fault : (ℕ → Fault) → Fault → Fault
+any_fault content behind [] = Some Truncated
+any_fault content behind (tag ∷ bytes) =
+    if is_tag tag then parts_fault (content tag) behind (within (length_at bytes)) else Some Tag
+
+-- one element of any tag, with any bytes as its content
+abbrev pub document_fault : Fault
+document_fault = any_fault (λ _. no_fault) end_fault
+
+-- X.690 section 8.1.2.5: the content of a constructed element is elements again
+abbrev pub nested_fault : Fault → ℕ → Fault
+nested_fault row tag content = if not (bit_and tag 0x20 == 0) then row content else None
+
+-- Elements in a row at this level. There are at most as many, and at most so many inside one another, as there are bytes.
+abbrev pub row_fault : ℕ → ℕ → Fault
+row_fault zero level bytes = None
+row_fault (suc most) level [] = None
+row_fault (suc most) level (byte ∷ bytes) =
+    if nat_lt 64 level then Some Depth
+    else any_fault (nested_fault (row_fault most (level + 1))) (row_fault most level) (byte ∷ bytes)
+
+-- one tree of at most 64 levels
+abbrev pub tree_fault : Fault
+tree_fault bytes = any_fault (nested_fault (row_fault (length bytes) 2)) end_fault bytes
