@@ -7,6 +7,7 @@ pub mod TreeLemmas
 pub mod EnterLemmas
 pub mod WalkLemmas
 pub mod CheckLemmas
+pub mod TreeRefusals
 pub mod IdentifierLemmas
 pub mod ArcLemmas
 pub mod DottedLemmas

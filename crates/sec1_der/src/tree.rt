@@ -1,6 +1,7 @@
 ghost use Rattle.std.specs.Prelude.{◌≡◌, ◌<◌, ◌≤◌, IfOk, IfErr};
 ghost use Rattle.sec1_der.specs.Elements.{IsProperBeginning};
 ghost use Rattle.sec1_der.specs.Faults.{Refuses, IsTreeFault};
+ghost use Rattle.sec1_der.specs.Refusals.{Tells, tree_fault};
 ghost use Rattle.sec1_der.specs.Trees.{Tree, IsTree, IsTreeOf, bytes, size, depth};
 
 use crate::header::element_at;
@@ -30,6 +31,8 @@ pub fn check_tree(input: &[u8]) -> Result<usize>
     ensures long { (t : Tree) → IsTree t → depth t ≤ 64 → IsProperBeginning (bytes t) input.now
         → Refuses result ErrorKind.TrailingData }
     ensures kinds { IfErr result (λ e. IsTreeFault e.kind) }
+    // Whether the input is refused, and by which kind, is a function of its bytes.
+    ensures kind { Tells result (tree_fault input.now) }
 {
     let mut nodes = OpenNodes::new();
     let mut rest = nodes.enter(input)?;
@@ -71,9 +74,10 @@ impl Model for OpenNodes {
 }
 
 impl OpenNodes {
-    ghost use Rattle.std.specs.Prelude.{◌≡◌, ◌≢◌, ◌<◌, ◌≤◌, ◌⊎◌, ◌↔◌, ◌++◌, ℕ, List, [], ◌∷◌, drop, length, IsTrue, IfOk, IfErr, OnOk, OnErr};
+    ghost use Rattle.std.specs.Prelude.{◌≡◌, ◌≢◌, ◌<◌, ◌≤◌, ◌-◌, ◌⊎◌, ◌↔◌, ◌++◌, ℕ, List, [], ◌∷◌, Some, take, drop, length, IsTrue, IfOk, IfErr, OnOk, OnErr};
     ghost use Rattle.sec1_der.specs.Elements.{IsProperBeginning};
     ghost use Rattle.sec1_der.specs.Faults.{Refuses, IsHeaderFault};
+    ghost use Rattle.sec1_der.specs.Refusals.{Fault, any_fault};
     ghost use Rattle.sec1_der.specs.Trees.{Tree, IsTree, bytes};
     ghost use Rattle.sec1_der.specs.Walks.{innermost, Enters, IsTooDeep};
 
@@ -132,6 +136,9 @@ impl OpenNodes {
         ensures short { (t : Tree) → IsTree t → IsProperBeginning rest.now (bytes t) → self.old ≡ []
             → Refuses result ErrorKind.Truncated }
         ensures kinds { IfErr result (λ e. (e.kind ≡ ErrorKind.Depth) ⊎ IsHeaderFault e.kind) }
+        ensures told { IfErr result (λ e. (e.kind ≡ ErrorKind.Depth)
+            ⊎ ((content : ℕ → Fault) (behind : Fault) → any_fault content behind
+                (take (length rest.now - innermost self.old) rest.now) ≡ Some e.kind)) }
     {
         let end = self.end();
         let room = rest.len() - end;
