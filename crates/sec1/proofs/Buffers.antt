@@ -1,8 +1,9 @@
 -- What the bytes of a buffer mean.
-use Rattle.std.proofs.Common.{◌≡◌, ℕ, zero, suc, ◌+◌, ◌-◌, ◌*◌, ◌^◌, ◌<◌, ◌≤◌, cond, List, [], ◌∷◌, ◌++◌, length, get_or, take, drop, set, replicate, refl, sym, ap, ◌∙◌, arith, append_assoc, add-one, Some}
+use Rattle.std.proofs.Common.{◌≡◌, ℕ, zero, suc, ◌+◌, ◌-◌, ◌*◌, ◌^◌, ◌<◌, ◌≤◌, cond, List, [], ◌∷◌, ◌++◌, length, get_or, take, drop, set, replicate, refl, sym, ap, ◌∙◌, arith, append_assoc, add-one, Bool, Some}
 use Rattle.std.specs.Cmp.Lexicographic.{slice_cmp}
 use Rattle.std.specs.Ordering.{nat_cmp}
-use Rattle.std.proofs.lemmas.List.{take_at, take-append-drop, length-append, length-drop, length-take}
+use Rattle.std.specs.Prelude.{◌↔◌, IsTrue}
+use Rattle.std.proofs.lemmas.List.{take_at, take_all, take-append-drop, length-append, length-drop, length-take}
 use Rattle.std.proofs.lemmas.Slice.{take-put_mid}
 use borrow.Rule.Slice.PartMut.{put_mid}
 use Rattle.hex.specs.Hex.{IsBytes}
@@ -60,6 +61,44 @@ pub made_of_halves : (n len : ℕ) (bytes : List ℕ) → enc n (meaning n (take
     → point_from (byte_of tag) (num x) (num y) ≡ meaning n (take len bytes)
 made_of_halves n len bytes e x y tag et ex ey =
     made_of n (meaning n (take len bytes)) bytes (drop len bytes) x y tag (point_fits n len bytes e) (whole n len bytes e) et ex ey
+
+-- a buffer that the encoding fills is the encoding
+pub filled : (n len : ℕ) (bytes : List ℕ) → length bytes ≤ len → enc n (meaning n (take len bytes)) ≡ take len bytes
+    → bytes ≡ enc n (meaning n (take len bytes))
+filled n len bytes room e = sym (e ∙ take_all len bytes room)
+
+-- comparing two such buffers compares the points, and their encodings
+module _ (n len other_len : ℕ) (bytes other_bytes : List ℕ) (equal : Bool) (room : length bytes ≤ len) (other_room : length other_bytes ≤ other_len)
+    (e : enc n (meaning n (take len bytes)) ≡ take len bytes) (f : enc n (meaning n (take other_len other_bytes)) ≡ take other_len other_bytes)
+    (decides : IsTrue equal ↔ (bytes ≡ other_bytes)) where
+  pub filled_bytes : IsTrue equal ↔ (enc n (meaning n (take len bytes)) ≡ enc n (meaning n (take other_len other_bytes)))
+  filled_bytes = (
+    λ h. sym (filled n len bytes room e) ∙ decides.0 h ∙ filled n other_len other_bytes other_room f,
+    λ h. decides.1 (filled n len bytes room e ∙ h ∙ sym (filled n other_len other_bytes other_room f)),
+  )
+
+  pub filled_same : IsTrue equal ↔ (meaning n (take len bytes) ≡ meaning n (take other_len other_bytes))
+  filled_same = (
+    λ h. ap (meaning n) (sym e ∙ filled_bytes.0 h ∙ f),
+    λ h. filled_bytes.1 (ap (enc n) h),
+  )
+
+-- what two halves behind the first byte make
+joined : (n : ℕ) (xs : List ℕ) → length xs ≡ 2 * n → take n xs ++ take n (drop n xs) ≡ xs
+joined n xs e =
+    ap (λ (ys : List ℕ). take n xs ++ ys) (take_all n (drop n xs) (omega (arith, length-drop n xs))) ∙ take-append-drop n xs
+
+-- two buffers are the same where their first bytes and both halves are
+pub halves_same : (n : ℕ) (xs ys x y u v : List ℕ) → length xs ≡ 2 * n + 1 → length ys ≡ 2 * n + 1 → get_or xs 0 0 ≡ get_or ys 0 0
+    → x ≡ take n (drop 1 xs) → y ≡ take n (drop n (drop 1 xs)) → u ≡ take n (drop 1 ys) → v ≡ take n (drop n (drop 1 ys))
+    → x ≡ u → y ≡ v → xs ≡ ys
+halves_same n [] ys x y u v lx ly e ex ey eu ev same_x same_y = absurd (omega arith)
+halves_same n (a ∷ xs) [] x y u v lx ly e ex ey eu ev same_x same_y = absurd (omega arith)
+halves_same n (a ∷ xs) (b ∷ ys) x y u v lx ly e ex ey eu ev same_x same_y =
+    let front : take n xs ≡ take n ys = sym ex ∙ same_x ∙ eu in
+    let back : take n (drop n xs) ≡ take n (drop n ys) = sym ey ∙ same_y ∙ ev in
+    let rest : xs ≡ ys = sym (joined n xs (omega arith)) ∙ (rw (front, back) refl) ∙ joined n ys (omega arith) in
+    rw (e, rest) refl
 
 -- comparing two encodings compares the points
 pub values_cmp : (n len other_len : ℕ) (bytes other_bytes xs ys : List ℕ)

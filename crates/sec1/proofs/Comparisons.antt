@@ -1,18 +1,20 @@
 -- Comparing bytes compares points.
-use Rattle.std.proofs.Common.{◌≡◌, ℕ, ◌+◌, ◌*◌, ◌^◌, ◌<◌, ◌==◌, ◌||◌, Bool, true, false, Option, Some, None, is_some, List, [], ◌∷◌, ◌++◌, length, refl, sym, ap, subst, ◌∙◌, arith, inl, inr, ◌⊎◌}
+use Rattle.std.proofs.Common.{◌≡◌, ◌≢◌, ℕ, ◌+◌, ◌*◌, ◌^◌, ◌<◌, ◌≤◌, take, drop, w64, ◌==◌, ◌||◌, Bool, true, false, Option, Some, None, is_some, List, [], ◌∷◌, ◌++◌, length, refl, sym, ap, subst, ◌∙◌, arith, inl, inr, ◌⊎◌}
 use Rattle.std.specs.Prelude.{nat_lt, ◌↔◌}
 use Rattle.std.specs.declared.cmp.Ordering.{Ordering}
 use Rattle.std.specs.declared.cmp.Ordering.TheVariants.{Less, Equal, Greater}
+use Rattle.std.specs.Int.{from_be_bytes}
 use Rattle.std.specs.Int.Digits.{number_from_digits_after}
 use Rattle.std.specs.Ordering.{nat_cmp, ordering_then, ordering_reverse, is_eq}
 use Rattle.std.specs.Cmp.Lexicographic.{slice_cmp}
 use Rattle.std.proofs.lemmas.Bool.{cases_order, cases_Bool}
 use Rattle.std.proofs.lemmas.Cmp.{ranked, tied_itself}
+use Rattle.std.proofs.lemmas.List.{take-append-drop, length-take}
 use Rattle.hex.specs.Hex.{IsBytes}
 use Rattle.sec1_der.specs.Numbers.{num}
 use Rattle.sec1.specs.Points.{Point, identity, compact, compressed, uncompressed, hybrid, is_odd, IsPoint, fixed_width, tag_byte, coordinate_bytes, x_of, y_of, enc, point_from}
 use Rattle.sec1.specs.PointOrder.{or_zero, coordinates_cmp, point_cmp, IsLess, IsBelow, point_cmp_total, point_from-parts, same_point, same_point-true}
-use Rattle.sec1.proofs.Digits.{IsBytes-tail, IsBytes-fixed_width, length-fixed_width, num-fixed_width}
+use Rattle.sec1.proofs.Digits.{IsBytes-tail, IsBytes-take, IsBytes-fixed_width, length-fixed_width, num-fixed_width}
 
 -- ---- numbers
 
@@ -47,6 +49,12 @@ then-same : (o a b : Ordering) → (o ≡ Equal → a ≡ b) → ordering_then o
 then-same Less a b h = refl
 then-same Equal a b h = h refl
 then-same Greater a b h = refl
+
+-- what is no tie is the answer
+then-first : (o p : Ordering) → (o ≡ Equal → ⊥) → ordering_then o p ≡ o
+then-first Less p h = refl
+then-first Equal p h = absurd (h refl)
+then-first Greater p h = refl
 
 -- one digit more decides only at a tie
 digit_decides : (a b x y : ℕ) → x < 256 → y < 256 → nat_cmp (a * 256 + x) (b * 256 + y) ≡ ordering_then (nat_cmp a b) (nat_cmp x y)
@@ -93,6 +101,44 @@ slice_cmp-append (x ∷ a) b [] d e = absurd (omega arith)
 slice_cmp-append (x ∷ a) b (y ∷ c) d e =
     ap (ordering_then (nat_cmp x y)) (slice_cmp-append a b c d (omega arith))
     ∙ sym (then-assoc (nat_cmp x y) (slice_cmp nat_cmp a c) (slice_cmp nat_cmp b d))
+
+-- ---- eight bytes as one number
+
+word_num : (bs : List ℕ) → length bs ≡ 8 → from_be_bytes w64 bs ≡ num bs
+word_num [] l = absurd (omega arith)
+word_num (a ∷ []) l = absurd (omega arith)
+word_num (a ∷ b ∷ []) l = absurd (omega arith)
+word_num (a ∷ b ∷ c ∷ []) l = absurd (omega arith)
+word_num (a ∷ b ∷ c ∷ d ∷ []) l = absurd (omega arith)
+word_num (a ∷ b ∷ c ∷ d ∷ e ∷ []) l = absurd (omega arith)
+word_num (a ∷ b ∷ c ∷ d ∷ e ∷ f ∷ []) l = absurd (omega arith)
+word_num (a ∷ b ∷ c ∷ d ∷ e ∷ f ∷ g ∷ []) l = absurd (omega arith)
+word_num (a ∷ b ∷ c ∷ d ∷ e ∷ f ∷ g ∷ h ∷ []) l = omega arith
+word_num (a ∷ b ∷ c ∷ d ∷ e ∷ f ∷ g ∷ h ∷ i ∷ r) l = absurd (omega arith)
+
+-- the first eight bytes of two lists, and what stands behind them
+module _ (xs ys w v r s : List ℕ) (n m : ℕ) (hx : IsBytes xs) (hy : IsBytes ys) (lx : 8 ≤ length xs) (ly : 8 ≤ length ys)
+    (front : w ≡ take 8 xs) (back : r ≡ drop 8 xs) (other_front : v ≡ take 8 ys) (other_back : s ≡ drop 8 ys)
+    (number : n ≡ from_be_bytes w64 w) (other : m ≡ from_be_bytes w64 v) where
+  word_decides : slice_cmp nat_cmp xs ys ≡ ordering_then (nat_cmp n m) (slice_cmp nat_cmp r s)
+  word_decides =
+      let len : length (take 8 xs) ≡ 8 = omega (arith, length-take 8 xs) in
+      let other_len : length (take 8 ys) ≡ 8 = omega (arith, length-take 8 ys) in
+      let is : n ≡ num (take 8 xs) = number ∙ ap (from_be_bytes w64) front ∙ word_num (take 8 xs) len in
+      let other_is : m ≡ num (take 8 ys) = other ∙ ap (from_be_bytes w64) other_front ∙ word_num (take 8 ys) other_len in
+      let words = slice_cmp-num (take 8 xs) (take 8 ys) (IsBytes-take 8 xs hx) (IsBytes-take 8 ys hy) (len ∙ sym other_len) in
+      ap (λ (l : List ℕ). slice_cmp nat_cmp l ys) (sym (take-append-drop 8 xs))
+      ∙ ap (slice_cmp nat_cmp (take 8 xs ++ drop 8 xs)) (sym (take-append-drop 8 ys))
+      ∙ slice_cmp-append (take 8 xs) (drop 8 xs) (take 8 ys) (drop 8 ys) (len ∙ sym other_len)
+      ∙ (rw (is, other_is, back, other_back, words) refl)
+
+  -- two that differ settle the order
+  pub word_settles : n ≢ m → nat_cmp n m ≡ slice_cmp nat_cmp xs ys
+  word_settles apart = sym (word_decides ∙ then-first (nat_cmp n m) (slice_cmp nat_cmp r s) (λ tie. apart (nat_cmp-Equal n m tie)))
+
+  -- two that are the same leave it to the rest
+  pub word_passed : n ≡ m → slice_cmp nat_cmp r s ≡ slice_cmp nat_cmp xs ys
+  word_passed same = sym (word_decides ∙ ap (λ (o : Ordering). ordering_then o (slice_cmp nat_cmp r s)) (nat_cmp-same n m same))
 
 -- ---- encodings
 

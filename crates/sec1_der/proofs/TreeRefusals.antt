@@ -98,8 +98,8 @@ row_some level [] some fits = absurd (omega arith)
 row_some level (b ∷ bs) some fits =
     rw (le-ltb 64 level fits)
     (any_same (nested_fault (row_fault (length bs) (level + 1))) (nested_fault (row (level + 1))) (row_fault (length bs) level) (row level) (b ∷ bs)
-        (λ tag c few. nested_same (row_fault (length bs) (level + 1)) (row (level + 1)) tag c (row_bound (length bs) (length c) (level + 1) c (omega arith) (omega arith)))
-        (λ c few. row_bound (length bs) (length c) level c (omega arith) (omega arith)))
+    (λ tag c few. nested_same (row_fault (length bs) (level + 1)) (row (level + 1)) tag c (row_bound (length bs) (length c) (level + 1) c (omega arith) (omega arith)))
+    (λ c few. row_bound (length bs) (length c) level c (omega arith) (omega arith)))
 
 -- a row at level 65 is too deep
 row_deep : (level : ℕ) (bytes : List ℕ) → 0 < length bytes → level ≡ 65 → row level bytes ≡ Some Depth

@@ -164,7 +164,8 @@ fn length_at(bytes: &[u8]) -> First<'_, Length>
     if first == 0x80 || first > 0x84 {
         return Err(ErrorKind::Length);
     }
-    let count = usize::from(first) - 0x80;
+    // 1 to 4. A remainder, so that the compiler knows how few digits there are, and `number` becomes code without a loop.
+    let count = usize::from(first % 8);
     if rest.len() < count {
         return Err(ErrorKind::Truncated);
     }

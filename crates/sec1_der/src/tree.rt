@@ -126,6 +126,7 @@ impl OpenNodes {
 
     /// Passes the element that stands first, or opens it where it has elements inside. Answers what is left
     /// behind the element, or behind its header.
+    #[inline(always)]
     fn enter<'a>(&mut self, rest: &'a [u8]) -> Result<&'a [u8]>
         requires { innermost self.old ≤ length rest.now }
         ensures found { IfOk result (λ after. Enters self.old rest.now self.new after.now) }
@@ -138,7 +139,7 @@ impl OpenNodes {
         ensures kinds { IfErr result (λ e. (e.kind ≡ ErrorKind.Depth) ⊎ IsHeaderFault e.kind) }
         ensures told { IfErr result (λ e. (e.kind ≡ ErrorKind.Depth)
             ⊎ ((content : ℕ → Fault) (behind : Fault) → any_fault content behind
-                (take (length rest.now - innermost self.old) rest.now) ≡ Some e.kind)) }
+            (take (length rest.now - innermost self.old) rest.now) ≡ Some e.kind)) }
     {
         let end = self.end();
         let room = rest.len() - end;

@@ -59,8 +59,33 @@ impl<const N: usize, const L: usize> Ord for EncodedPoint<N, L> {
         ensures bytes { result
             ≡ slice_cmp nat_cmp (enc N (point_of self.now)) (enc N (point_of other.now)) }
     {
-        self.as_bytes().cmp(other.as_bytes())
+        // The compiler knows how many words these have, and compares them without a loop.
+        if self.len == L && other.len == L {
+            return words_cmp(&self.bytes, &other.bytes);
+        }
+        words_cmp(self.as_bytes(), other.as_bytes())
     }
+}
+
+/// Returns the order of the bytes, of which eight are compared at a time.
+fn words_cmp(a: &[u8], b: &[u8]) -> Ordering
+    ensures { result ≡ slice_cmp nat_cmp a.now b.now }
+{
+    let mut rest = a;
+    let mut other_rest = b;
+    while let Some((word, behind)) = rest.split_first_chunk::<8>() {
+        let Some((other_word, other_behind)) = other_rest.split_first_chunk::<8>() else {
+            break;
+        };
+        let number = u64::from_be_bytes(*word);
+        let other_number = u64::from_be_bytes(*other_word);
+        if number != other_number {
+            return number.cmp(&other_number);
+        }
+        rest = behind;
+        other_rest = other_behind;
+    }
+    rest.cmp(other_rest)
 }
 
 impl<const N: usize, const L: usize> Hash for EncodedPoint<N, L> {

@@ -12,7 +12,20 @@ impl<const N: usize, const L: usize> EncodedPoint<N, L> {
         ensures same { IsTrue result ↔ (point_of self.now ≡ point_of other.now) }
         ensures bytes { IsTrue result ↔ (enc N (point_of self.now) ≡ enc N (point_of other.now)) }
     {
+        // Two arrays are compared without a loop.
+        if self.len == L && other.len == L {
+            return self.is_filled_as(other);
+        }
         self.as_bytes() == other.as_bytes()
+    }
+
+    /// Returns `true` if all bytes of the buffers are the same.
+    fn is_filled_as(&self, other: &Self) -> bool
+        ensures { IsTrue result ↔ (self.now.bytes ≡ other.now.bytes) }
+    {
+        let (x, y) = self.halves();
+        let (other_x, other_y) = other.halves();
+        self.bytes[0] == other.bytes[0] && x == other_x && y == other_y
     }
 
     /// Returns this point if the choice is `false`, and the other if it is `true`.

@@ -1,8 +1,6 @@
 //! Points as hexadecimal text, JSON and owned bytes.
 
 ghost use Rattle.std.specs.Prelude.{◌≡◌, ◌/◌, ℕ, List, length, Some, IsTrue, IfOk, IfErr};
-ghost use Rattle.std.specs.Char.{is_ascii_uppercase, is_ascii_lowercase};
-ghost use Rattle.std.specs.List.{list_any};
 ghost use Rattle.std.specs.String.{string_bytes};
 ghost use Rattle.std.specs.Box.{boxed_slice_items};
 ghost use Rattle.hex.specs.Hex.{encode_upper, encode_lower, IsBytes};
@@ -89,23 +87,17 @@ fn decode_digits(text: &[u8], out: &mut [u8]) -> bool
     is_one_case(text) && hex::decode_to_slice(text, out).is_ok()
 }
 
-// Whether no letter is upper case, or none is lower case.
+// Whether no letter is upper case, or none is lower case. All of the text is looked at, so that many bytes are at once.
 fn is_one_case(text: &[u8]) -> bool
     ensures { result ≡ is_one_case text.now }
 {
-    !has_upper(text) || !has_lower(text)
-}
-
-fn has_upper(text: &[u8]) -> bool
-    ensures { result ≡ list_any is_ascii_uppercase text.now }
-{
-    text.iter().any(|c| c.is_ascii_uppercase())
-}
-
-fn has_lower(text: &[u8]) -> bool
-    ensures { result ≡ list_any is_ascii_lowercase text.now }
-{
-    text.iter().any(|c| c.is_ascii_lowercase())
+    let mut has_upper = false;
+    let mut has_lower = false;
+    for c in text {
+        has_upper |= c.is_ascii_uppercase();
+        has_lower |= c.is_ascii_lowercase();
+    }
+    !has_upper || !has_lower
 }
 
 /// The point whose encoding a text spells in hexadecimal.
