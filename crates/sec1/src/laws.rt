@@ -4,12 +4,13 @@ ghost use Rattle.std.specs.Prelude.{◌≡◌, ◌⊎◌, ◌↔◌, List, [], �
 ghost use Rattle.sec1.specs.Examples.{p_256_bytes, p_256_key, p_256_point, p_256_base, p_256_base_compressed};
 ghost use Rattle.sec1.specs.Coordinates.{lent_bytes};
 ghost use Rattle.sec1.specs.Keys.{HasNoBytes, IsKeyOf, Key};
+ghost use Rattle.sec1.specs.KeyRefusals.{key_fault};
 ghost use Rattle.sec1.specs.EncodedPoints.{point_of};
 ghost use Rattle.sec1.specs.Parameters.{curve_of};
 ghost use Rattle.sec1.specs.Points.{Fits, IsPoint, compact, compressed, compressed_point, enc, hybrid, identity};
 ghost use Rattle.sec1.specs.declared.parameters.EcParameters.{EcParameters};
 
-use crate::der::{FixedTag, ObjectIdentifier, UniqueContent, ValueContent, laws};
+use crate::der::{ErrorKind, FixedTag, ObjectIdentifier, UniqueContent, ValueContent, laws};
 use crate::point::{Coordinates, Tag};
 use crate::{ALGORITHM_OID, EcParameters, EcPrivateKey, EncodedPoint};
 
@@ -78,6 +79,31 @@ pub fn bytes_or_none(key: &EcPrivateKey)
 /// A key on P-256 and its bytes (RFC 5915 section 3).
 pub fn spelled_key()
     ensures { IsKeyOf p_256_key p_256_bytes }
+{}
+
+/// Bytes that are refused as a key, and by which kind (RFC 5915 section 3).
+pub fn spelled_refusals()
+    ensures no_byte { key_fault [] ≡ Some ErrorKind.Truncated }
+    ensures tag_before_length { key_fault (0x31 ∷ 0x80 ∷ []) ≡ Some ErrorKind.Tag }
+    ensures indefinite_length { key_fault (0x30 ∷ 0x80 ∷ []) ≡ Some ErrorKind.Length }
+    ensures less_than_announced { key_fault (0x30 ∷ 0x05 ∷ 0x02 ∷ 0x01 ∷ 0x01 ∷ 0x04 ∷ 0x01 ∷ 0xAA ∷ [])
+        ≡ Some ErrorKind.Truncated }
+    ensures another_version { key_fault (0x30 ∷ 0x06 ∷ 0x02 ∷ 0x02 ∷ 0x00 ∷ 0x01 ∷ 0x04 ∷ 0x00 ∷ [])
+        ≡ Some ErrorKind.Value }
+    ensures no_private_key { key_fault (0x30 ∷ 0x03 ∷ 0x02 ∷ 0x01 ∷ 0x01 ∷ [])
+        ≡ Some ErrorKind.Truncated }
+    ensures identifier { key_fault (0x30 ∷ 0x0C ∷ 0x02 ∷ 0x01 ∷ 0x01 ∷ 0x04 ∷ 0x00 ∷ 0xA0 ∷ 0x05
+        ∷ 0x06 ∷ 0x03 ∷ 0x2A ∷ 0x80 ∷ 0x01 ∷ []) ≡ Some ErrorKind.Value }
+    ensures field_twice { key_fault (0x30 ∷ 0x11 ∷ 0x02 ∷ 0x01 ∷ 0x01 ∷ 0x04 ∷ 0x00 ∷ 0xA0
+        ∷ 0x04 ∷ 0x06 ∷ 0x02 ∷ 0x2A ∷ 0x03 ∷ 0xA0 ∷ 0x04 ∷ 0x06 ∷ 0x02 ∷ 0x2A ∷ 0x03 ∷ [])
+        ≡ Some ErrorKind.TrailingData }
+    ensures unused_bits { key_fault (0x30 ∷ 0x0B ∷ 0x02 ∷ 0x01 ∷ 0x01 ∷ 0x04 ∷ 0x00 ∷ 0xA1
+        ∷ 0x04 ∷ 0x03 ∷ 0x02 ∷ 0x01 ∷ 0x00 ∷ []) ≡ Some ErrorKind.Value }
+    ensures end_before_unused_bits { key_fault (0x30 ∷ 0x0D ∷ 0x02 ∷ 0x01 ∷ 0x01 ∷ 0x04 ∷ 0x00
+        ∷ 0xA1 ∷ 0x06 ∷ 0x03 ∷ 0x02 ∷ 0x01 ∷ 0x00 ∷ 0x05 ∷ 0x00 ∷ [])
+        ≡ Some ErrorKind.TrailingData }
+    ensures bit_string_before_end { key_fault (0x30 ∷ 0x0D ∷ 0x02 ∷ 0x01 ∷ 0x01 ∷ 0x04 ∷ 0x00
+        ∷ 0xA1 ∷ 0x06 ∷ 0x03 ∷ 0x02 ∷ 0x01 ∷ 0x01 ∷ 0x05 ∷ 0x00 ∷ []) ≡ Some ErrorKind.Value }
 {}
 
 /// Encodings of points (SEC1 v2.0 section 2.3.3): the public key of the key on P-256, the curve's base point

@@ -1,7 +1,7 @@
 -- What the bytes of an element, and bytes that begin with none, are refused by.
 use Rattle.std.proofs.Common.{◌≡◌, ◌==◌, ℕ, ◌+◌, ◌-◌, ◌%◌, ◌<◌, ◌≤◌, Bool, true, false, ◌&&◌, not, if◌then◌else◌, nat_lt, nat_le, List, [], ◌∷◌, ◌++◌, length, take, drop, Option, Some, None, IsSomeAnd, IfSome, IfNone, slice_get, Result, Ok, Err, ⊎_elim, refl, ap, sym, ◌∙◌, arith}
 use Rattle.std.proofs.lemmas.Bool.{lt-ltb, le-leb, le-ltb, leb-true, eqb-true, eq-eqb}
-use Rattle.std.proofs.lemmas.List.{take_at, drop_at, length-append, append_assoc, take-append-drop}
+use Rattle.std.proofs.lemmas.List.{take_at, drop_at, length-append, length-drop, append_assoc, take-append-drop, drop_all}
 use Rattle.std.proofs.lemmas.Slice.Eq.{bytes_eq-Decides}
 use Rattle.std.proofs.lemmas.Int.Digits.{number_digits_of}
 use Rattle.std.specs.Int.Digits.{digits_of}
@@ -11,7 +11,7 @@ use Rattle.sec1_der.specs.Elements.{max_length, len, header, element, IsTag, IsH
 use Rattle.sec1_der.specs.Faults.{is_tag, length_fault, header_fault}
 use Rattle.sec1_der.specs.Numbers.{num}
 use Rattle.sec1_der.specs.Readers.{Reader, before, HasReadElement}
-use Rattle.sec1_der.specs.Refusals.{Fault, no_fault, end_fault, number_at, length_at, within, parts_fault, element_fault, is_next, inside_fault, field_fault, any_fault}
+use Rattle.sec1_der.specs.Refusals.{Fault, no_fault, end_fault, number_at, length_at, within, parts_fault, element_fault, is_next, inside_fault, field_fault, any_fault, document_fault}
 use Rattle.sec1_der.specs.declared.error.ErrorKind.{ErrorKind}
 use Rattle.sec1_der.specs.declared.error.ErrorKind.TheVariants.{Truncated, Tag, TrailingData}
 use Rattle.sec1_der.proofs.DigitLemmas.{IsBytes}
@@ -217,6 +217,16 @@ reader_at r bytes unread whole =
 pub end_told : (bytes : List ℕ) → (bytes ≡ [] → ⊥) → end_fault bytes ≡ Some TrailingData
 end_told [] some = absurd (some refl)
 end_told (byte ∷ bytes) some = refl
+
+-- one element of any tag, and bytes behind it
+pub document_whole : (tag n : ℕ) (bytes inside : List ℕ) → IsHeader tag n → bytes ≡ header tag n ++ inside → n ≡ length inside → document_fault bytes ≡ None
+document_whole tag n bytes inside h e same =
+    any_room (λ _. no_fault) end_fault tag n bytes inside h e (omega arith) ∙ ap end_fault (drop_all n inside (omega arith))
+
+pub document_long : (tag n : ℕ) (bytes inside : List ℕ) → IsHeader tag n → bytes ≡ header tag n ++ inside → n < length inside → document_fault bytes ≡ Some TrailingData
+document_long tag n bytes inside h e more =
+    any_room (λ _. no_fault) end_fault tag n bytes inside h e (omega arith)
+    ∙ end_told (drop n inside) (λ none. absurd (omega (arith, ap length none, length-drop n inside)))
 
 -- ---- explicit fields
 

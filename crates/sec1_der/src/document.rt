@@ -1,6 +1,7 @@
 ghost use Rattle.std.specs.Prelude.{◌≡◌, ◌≤◌, ◌⊎◌, ℕ, List, length, Some, None, IfOk, IfErr, MatchResult};
 ghost use Rattle.sec1_der.specs.Elements.{max_length, element, element_of, IsHeader, IsElement, IsProperBeginning, LacksHeader};
 ghost use Rattle.sec1_der.specs.Faults.{Refuses, IsHeaderFault, header_fault};
+ghost use Rattle.sec1_der.specs.Refusals.{document_fault};
 
 pub(crate) mod stream;
 
@@ -50,6 +51,10 @@ impl SecretDocument {
             → Refuses result ErrorKind.TrailingData }
         ensures kinds { IfErr result (λ e. IsHeaderFault e.kind ⊎ (e.kind ≡ ErrorKind.TrailingData)
             ⊎ ((e.kind ≡ ErrorKind.Memory) × IsElement bytes.now)) }
+        // The bytes tell whether they are refused, and by which kind; where they aren't, memory may be.
+        ensures kind { MatchResult result (λ _. document_fault bytes.now ≡ None) (λ e.
+            (document_fault bytes.now ≡ Some e.kind)
+            ⊎ ((e.kind ≡ ErrorKind.Memory) × (document_fault bytes.now ≡ None))) }
     {
         let (header, inside) = match element_at(bytes) {
             Ok(found) => found,
