@@ -1,5 +1,6 @@
 -- What the contents of identifiers and of bit strings are refused by.
-use Rattle.std.proofs.Common.{◌≡◌, ◌==◌, ℕ, ◌+◌, Bool, true, false, ◌&&◌, if◌then◌else◌, ◌≤◌, List, [], ◌∷◌, length, slice_get, append-nil, Some, None, refl, sym, ap, ◌∙◌, subst, arith}
+use Rattle.std.proofs.Common.{◌≡◌, ◌==◌, ℕ, ◌+◌, Bool, true, false, ◌&&◌, if◌then◌else◌, ◌≤◌, List, [], ◌∷◌, length, slice_get, append-nil, Some, None}
+use Rattle.std.proofs.Common.{refl, sym, ap, ◌∙◌, subst, arith}
 use Rattle.std.proofs.lemmas.Bool.{eq-eqb, eqb-true}
 use Rattle.std.proofs.lemmas.Slice.Eq.{bytes_eq-Decides}
 use Rattle.std.specs.Option.{option_or}
@@ -31,7 +32,8 @@ both false b e = absurd (cc e)
 pub identifier_refused : (content : List ℕ) → ((arcs : List ℕ) → IsIdentifier arcs content → ⊥) → identifier_fault content ≡ Some Value
 identifier_refused content none = by (is_identifier (arcs_of content) && bytes_eq (content_of (arcs_of content)) content) refl
   where
-    by : (b : Bool) → (is_identifier (arcs_of content) && bytes_eq (content_of (arcs_of content)) content) ≡ b → value_unless (is_identifier (arcs_of content) && bytes_eq (content_of (arcs_of content)) content) ≡ Some Value
+    by : (b : Bool) → (is_identifier (arcs_of content) && bytes_eq (content_of (arcs_of content)) content) ≡ b
+        → value_unless (is_identifier (arcs_of content) && bytes_eq (content_of (arcs_of content)) content) ≡ Some Value
     by false e = rw e refl
     by true e =
         let parts = both _ _ e in
@@ -48,7 +50,8 @@ pub told_early : (content : List ℕ) → (if is_bit_string content then None el
 told_early [] = refl
 told_early (unused ∷ bytes) = by (are_bits unused bytes) (unused == 0) refl refl
   where
-    by : (b z : Bool) → are_bits unused bytes ≡ b → (unused == 0) ≡ z → (if are_bits unused bytes then None else value_unless (unused == 0)) ≡ value_unless (are_bits unused bytes)
+    by : (b z : Bool) → are_bits unused bytes ≡ b → (unused == 0) ≡ z
+        → (if are_bits unused bytes then None else value_unless (unused == 0)) ≡ value_unless (are_bits unused bytes)
     by true z e f = rw e refl
     by false false e f = rw (e, f) refl
     by false true e f = absurd (cc (e, eqb-true unused 0 f, whole_are_bits bytes))
@@ -56,14 +59,17 @@ told_early (unused ∷ bytes) = by (are_bits unused bytes) (unused == 0) refl re
 early : ◌≡◌ {A = Fault} (λ content. if is_bit_string content then None else whole_bits_fault content) bit_string_fault
 early = λ i. λ content. told_early content i
 
-inside_whole : (bytes : List ℕ) → inside_fault 0x03 is_bit_string whole_bits_fault bytes ≡ option_or (element_fault 0x03 bit_string_fault end_fault bytes) (element_fault 0x03 whole_bits_fault no_fault bytes)
+inside_whole : (bytes : List ℕ) → inside_fault 0x03 is_bit_string whole_bits_fault bytes ≡ option_or (element_fault 0x03 bit_string_fault end_fault bytes)
+    (element_fault 0x03 whole_bits_fault no_fault bytes)
 inside_whole bytes = ap (λ (f : Fault). option_or (element_fault 0x03 f end_fault bytes) (element_fault 0x03 whole_bits_fault no_fault bytes)) early
 
 -- a field that is refused around a bit string is refused
-pub bits_refused : (number : ℕ) (bytes : List ℕ) (k : ErrorKind) → field_fault number 0x03 (λ _. false) bit_string_fault no_fault bytes ≡ Some k → field_fault number 0x03 is_bit_string whole_bits_fault no_fault bytes ≡ Some k
+pub bits_refused : (number : ℕ) (bytes : List ℕ) (k : ErrorKind) → field_fault number 0x03 (λ _. false) bit_string_fault no_fault bytes ≡ Some k
+    → field_fault number 0x03 is_bit_string whole_bits_fault no_fault bytes ≡ Some k
 bits_refused number bytes k e = by (is_next (0xA0 + number) bytes) e
   where
-    more : (content : List ℕ) → inside_fault 0x03 (λ _. false) bit_string_fault content ≡ Some k → inside_fault 0x03 is_bit_string whole_bits_fault content ≡ Some k
+    more : (content : List ℕ) → inside_fault 0x03 (λ _. false) bit_string_fault content ≡ Some k
+        → inside_fault 0x03 is_bit_string whole_bits_fault content ≡ Some k
     more content e =
         let first : element_fault 0x03 bit_string_fault end_fault content ≡ Some k = sym (inside_at_once 0x03 bit_string_fault content) ∙ e in
         inside_whole content ∙ rw first refl
@@ -71,14 +77,19 @@ bits_refused number bytes k e = by (is_next (0xA0 + number) bytes) e
     by : (b : Bool) → (if b then element_fault (0xA0 + number) (inside_fault 0x03 (λ _. false) bit_string_fault) no_fault bytes else None) ≡ Some k
         → (if b then element_fault (0xA0 + number) (inside_fault 0x03 is_bit_string whole_bits_fault) no_fault bytes else None) ≡ Some k
     by false e = e
-    by true e = refused_more (inside_fault 0x03 (λ _. false) bit_string_fault) (inside_fault 0x03 is_bit_string whole_bits_fault) no_fault (0xA0 + number) bytes k more e
+    by true e = refused_more (inside_fault 0x03 (λ _. false) bit_string_fault) (inside_fault 0x03 is_bit_string whole_bits_fault) no_fault
+        (0xA0 + number) bytes k more e
 
 -- of a field around a bit string the unused bits are told
 pub bits_told : (number : ℕ) (content : List ℕ) (old new : Reader) → length content ≤ max_length → HasReadElement (0xA0 + number) (element 0x03 content) old new
-    → field_fault number 0x03 (λ _. false) bit_string_fault no_fault old.unread ≡ None → field_fault number 0x03 is_bit_string whole_bits_fault no_fault old.unread ≡ whole_bits_fault content
+    → field_fault number 0x03 (λ _. false) bit_string_fault no_fault old.unread ≡ None
+    → field_fault number 0x03 is_bit_string whole_bits_fault no_fault old.unread ≡ whole_bits_fault content
 bits_told number content old new fits h none =
-    let first : element_fault 0x03 bit_string_fault end_fault (element 0x03 content) ≡ None = sym (field_told number 0x03 bit_string_fault (element 0x03 content) old new h) ∙ none in
-    let second : element_fault 0x03 whole_bits_fault no_fault (element 0x03 content) ≡ whole_bits_fault content = element_at whole_bits_fault no_fault 0x03 content (element 0x03 content) [] fits (sym (append-nil (element 0x03 content))) ∙ alone (whole_bits_fault content) in
+    let first : element_fault 0x03 bit_string_fault end_fault (element 0x03 content) ≡ None =
+    sym (field_told number 0x03 bit_string_fault (element 0x03 content) old new h) ∙ none in
+    let second : element_fault 0x03 whole_bits_fault no_fault (element 0x03 content) ≡ whole_bits_fault content =
+    element_at whole_bits_fault no_fault 0x03 content (element 0x03 content) [] fits (sym (append-nil (element 0x03 content)))
+    ∙ alone (whole_bits_fault content) in
     rw (next_told (0xA0 + number) old.unread (ap (λ (r : Reader). slice_get r.unread 0) h.read.was_whole))
     (read_element (inside_fault 0x03 is_bit_string whole_bits_fault) no_fault (0xA0 + number) (element 0x03 content) old new h
     ∙ (alone _ ∙ (inside_whole (element 0x03 content) ∙ rw first second)))

@@ -1,5 +1,7 @@
 -- What the bytes of an element, and bytes that begin with none, are refused by.
-use Rattle.std.proofs.Common.{◌≡◌, ◌==◌, ℕ, ◌+◌, ◌-◌, ◌%◌, ◌<◌, ◌≤◌, Bool, true, false, ◌&&◌, not, if◌then◌else◌, nat_lt, nat_le, List, [], ◌∷◌, ◌++◌, length, take, drop, Option, Some, None, IsSomeAnd, IfSome, IfNone, slice_get, Result, Ok, Err, ⊎_elim, refl, ap, sym, ◌∙◌, arith}
+use Rattle.std.proofs.Common.{◌≡◌, ◌==◌, ℕ, ◌+◌, ◌-◌, ◌%◌, ◌<◌, ◌≤◌, Bool, true, false, ◌&&◌, not, if◌then◌else◌, nat_lt, nat_le, List, [], ◌∷◌, ◌++◌}
+use Rattle.std.proofs.Common.{length, take, drop, Option, Some, None, IsSomeAnd, IfSome, IfNone, slice_get, Result, Ok, Err, ⊎_elim, refl, ap, sym, ◌∙◌}
+use Rattle.std.proofs.Common.{arith}
 use Rattle.std.proofs.lemmas.Bool.{lt-ltb, le-leb, le-ltb, leb-true, eqb-true, eq-eqb}
 use Rattle.std.proofs.lemmas.List.{take_at, drop_at, length-append, length-drop, append_assoc, take-append-drop, drop_all}
 use Rattle.std.proofs.lemmas.Slice.Eq.{bytes_eq-Decides}
@@ -11,7 +13,8 @@ use Rattle.sec1_der.specs.Elements.{max_length, len, header, element, IsTag, IsH
 use Rattle.sec1_der.specs.Faults.{is_tag, length_fault, header_fault}
 use Rattle.sec1_der.specs.Numbers.{num}
 use Rattle.sec1_der.specs.Readers.{Reader, before, HasReadElement}
-use Rattle.sec1_der.specs.Refusals.{Fault, no_fault, end_fault, number_at, length_at, within, parts_fault, element_fault, is_next, inside_fault, field_fault, any_fault, document_fault}
+use Rattle.sec1_der.specs.Refusals.{Fault, no_fault, end_fault, number_at, length_at, within, parts_fault, element_fault, is_next, inside_fault}
+use Rattle.sec1_der.specs.Refusals.{field_fault, any_fault, document_fault}
 use Rattle.sec1_der.specs.declared.error.ErrorKind.{ErrorKind}
 use Rattle.sec1_der.specs.declared.error.ErrorKind.TheVariants.{Truncated, Tag, TrailingData}
 use Rattle.sec1_der.proofs.DigitLemmas.{IsBytes}
@@ -61,7 +64,8 @@ length_at_lacks bytes lacks = by (nat_le n max_length && bytes_eq (take (length 
     n : ℕ
     n = number_at bytes
 
-    by : (b : Bool) → (nat_le (number_at bytes) max_length && bytes_eq (take (length (len (number_at bytes))) bytes) (len (number_at bytes))) ≡ b → length_at bytes ≡ Err (length_fault bytes)
+    by : (b : Bool) → (nat_le (number_at bytes) max_length && bytes_eq (take (length (len (number_at bytes))) bytes) (len (number_at bytes))) ≡ b
+        → length_at bytes ≡ Err (length_fault bytes)
     by true e =
         let parts = both _ _ e in
         let front = (bytes_eq-Decides (take (length (len (number_at bytes))) bytes) (len (number_at bytes))).0 parts.1 in
@@ -86,12 +90,14 @@ within_lacks n inside few = rw (short (nat_le n (length inside)) refl) refl
 -- ---- elements
 
 -- the bytes of an element, behind its tag
-behind_tag : (content bytes rest : List ℕ) → length content ≤ max_length → bytes ≡ len (length content) ++ (content ++ rest) → within (length_at bytes) ≡ Ok (content, rest)
+behind_tag : (content bytes rest : List ℕ) → length content ≤ max_length → bytes ≡ len (length content) ++ (content ++ rest)
+    → within (length_at bytes) ≡ Ok (content, rest)
 behind_tag content bytes rest fits e =
     ap within (length_at_spelled (length content) bytes (content ++ rest) fits e) ∙ within_room (length content) content rest refl
 
 -- an element of any tag, and what stands behind it
-pub any_at : (f : ℕ → Fault) (g : Fault) (tag : ℕ) (content bytes rest : List ℕ) → IsHeader tag (length content) → bytes ≡ element tag content ++ rest → any_fault f g bytes ≡ option_or (f tag content) (g rest)
+pub any_at : (f : ℕ → Fault) (g : Fault) (tag : ℕ) (content bytes rest : List ℕ) → IsHeader tag (length content) → bytes ≡ element tag content ++ rest
+    → any_fault f g bytes ≡ option_or (f tag content) (g rest)
 any_at f g tag content [] rest h e = absurd (cc e)
 any_at f g tag content (byte ∷ bytes) rest h e =
     let same : byte ≡ tag = cc in
@@ -99,7 +105,8 @@ any_at f g tag content (byte ∷ bytes) rest h e =
     rw (same, is_tag-true tag h.tag_byte, behind_tag content bytes rest h.within (tail ∙ append_assoc (len (length content)) content rest)) refl
 
 -- an element with this tag, and what stands behind it
-pub element_at : (f g : Fault) (tag : ℕ) (content bytes rest : List ℕ) → length content ≤ max_length → bytes ≡ element tag content ++ rest → element_fault tag f g bytes ≡ option_or (f content) (g rest)
+pub element_at : (f g : Fault) (tag : ℕ) (content bytes rest : List ℕ) → length content ≤ max_length → bytes ≡ element tag content ++ rest
+    → element_fault tag f g bytes ≡ option_or (f content) (g rest)
 element_at f g tag content [] rest fits e = absurd (cc e)
 element_at f g tag content (byte ∷ bytes) rest fits e =
     let same : byte ≡ tag = cc in
@@ -137,7 +144,8 @@ any_lacks f g (byte ∷ bytes) all lacks = by (is_tag byte) refl
         rw (e, none) refl
 
 -- a header, and less behind it than it announces
-pub any_short : (f : ℕ → Fault) (g : Fault) (tag n : ℕ) (bytes inside : List ℕ) → IsHeader tag n → bytes ≡ header tag n ++ inside → length inside < n → any_fault f g bytes ≡ Some Truncated
+pub any_short : (f : ℕ → Fault) (g : Fault) (tag n : ℕ) (bytes inside : List ℕ) → IsHeader tag n → bytes ≡ header tag n ++ inside → length inside < n
+    → any_fault f g bytes ≡ Some Truncated
 any_short f g tag n [] inside h e few = absurd (cc e)
 any_short f g tag n (byte ∷ bytes) inside h e few =
     let same : byte ≡ tag = cc in
@@ -145,7 +153,8 @@ any_short f g tag n (byte ∷ bytes) inside h e few =
     rw (same, is_tag-true tag h.tag_byte, length_at_spelled n bytes inside h.within tail, within_lacks n inside few) refl
 
 -- an element of any tag, with room for its content
-pub any_room : (f : ℕ → Fault) (g : Fault) (tag n : ℕ) (bytes inside : List ℕ) → IsHeader tag n → bytes ≡ header tag n ++ inside → n ≤ length inside → any_fault f g bytes ≡ option_or (f tag (take n inside)) (g (drop n inside))
+pub any_room : (f : ℕ → Fault) (g : Fault) (tag n : ℕ) (bytes inside : List ℕ) → IsHeader tag n → bytes ≡ header tag n ++ inside → n ≤ length inside
+    → any_fault f g bytes ≡ option_or (f tag (take n inside)) (g (drop n inside))
 any_room f g tag n [] inside h e fits = absurd (cc e)
 any_room f g tag n (byte ∷ bytes) inside h e fits =
     let same : byte ≡ tag = cc in
@@ -155,12 +164,14 @@ any_room f g tag n (byte ∷ bytes) inside h e fits =
 -- ---- one element after another
 
 -- the element that a reader read, and what is left behind it
-pub read_element : (f g : Fault) (tag : ℕ) (content : List ℕ) (old new : Reader) → HasReadElement tag content old new → element_fault tag f g old.unread ≡ option_or (f content) (g new.unread)
+pub read_element : (f g : Fault) (tag : ℕ) (content : List ℕ) (old new : Reader) → HasReadElement tag content old new
+    → element_fault tag f g old.unread ≡ option_or (f content) (g new.unread)
 read_element f g tag content old new h =
     element_at f g tag content old.unread new.unread h.within (ap (λ (r : Reader). r.unread) h.read.was_whole)
 
 -- what is refused stays so where more is tested
-pub refused_more : (f h g : Fault) (tag : ℕ) (bytes : List ℕ) (k : ErrorKind) → ((content : List ℕ) → f content ≡ Some k → h content ≡ Some k) → element_fault tag f no_fault bytes ≡ Some k → element_fault tag h g bytes ≡ Some k
+pub refused_more : (f h g : Fault) (tag : ℕ) (bytes : List ℕ) (k : ErrorKind) → ((content : List ℕ) → f content ≡ Some k → h content ≡ Some k)
+    → element_fault tag f no_fault bytes ≡ Some k → element_fault tag h g bytes ≡ Some k
 refused_more f h g tag [] k more e = e
 refused_more f h g tag (byte ∷ bytes) k more e = by (byte == tag) (within (length_at bytes)) e
   where
@@ -168,15 +179,18 @@ refused_more f h g tag (byte ∷ bytes) k more e = by (byte == tag) (within (len
     either None b c more e = absurd (cc e)
     either (Some j) b c more e = rw (more e) refl
 
-    by : (b : Bool) (parts : Result (List ℕ × List ℕ) ErrorKind) → (if b then parts_fault f no_fault parts else Some Tag) ≡ Some k → (if b then parts_fault h g parts else Some Tag) ≡ Some k
+    by : (b : Bool) (parts : Result (List ℕ × List ℕ) ErrorKind) → (if b then parts_fault f no_fault parts else Some Tag) ≡ Some k
+        → (if b then parts_fault h g parts else Some Tag) ≡ Some k
     by false parts e = e
     by true (Err j) e = e
     by true (Ok x) e = either (f x.0) (h x.0) (g x.1) (more x.0) e
 
-pub refused_head : (f g : Fault) (tag : ℕ) (bytes : List ℕ) (k : ErrorKind) → element_fault tag no_fault no_fault bytes ≡ Some k → element_fault tag f g bytes ≡ Some k
+pub refused_head : (f g : Fault) (tag : ℕ) (bytes : List ℕ) (k : ErrorKind) → element_fault tag no_fault no_fault bytes ≡ Some k
+    → element_fault tag f g bytes ≡ Some k
 refused_head f g tag bytes k e = refused_more no_fault f g tag bytes k (λ content none. absurd (cc none)) e
 
-pub refused_content : (f g : Fault) (tag : ℕ) (bytes : List ℕ) (k : ErrorKind) → element_fault tag f no_fault bytes ≡ Some k → element_fault tag f g bytes ≡ Some k
+pub refused_content : (f g : Fault) (tag : ℕ) (bytes : List ℕ) (k : ErrorKind) → element_fault tag f no_fault bytes ≡ Some k
+    → element_fault tag f g bytes ≡ Some k
 refused_content f g tag bytes k e = refused_more f f g tag bytes k (λ content same. same) e
 
 pub none_first : (a b : Option ErrorKind) → option_or a b ≡ None → a ≡ None
@@ -188,7 +202,8 @@ pub none_less : (f g : Fault) (tag : ℕ) (bytes : List ℕ) → element_fault t
 none_less f g tag [] e = e
 none_less f g tag (byte ∷ bytes) e = by (byte == tag) (within (length_at bytes)) e
   where
-    by : (b : Bool) (parts : Result (List ℕ × List ℕ) ErrorKind) → (if b then parts_fault f g parts else Some Tag) ≡ None → (if b then parts_fault f no_fault parts else Some Tag) ≡ None
+    by : (b : Bool) (parts : Result (List ℕ × List ℕ) ErrorKind) → (if b then parts_fault f g parts else Some Tag) ≡ None
+        → (if b then parts_fault f no_fault parts else Some Tag) ≡ None
     by false parts e = e
     by true (Err j) e = e
     by true (Ok x) e = rw (none_first (f x.0) (g x.1) e) refl
@@ -198,7 +213,8 @@ pub record ReadsOn (tag : ℕ) (f : Fault) (old new : Reader) : Type 0 where
   pub whole : new.failed ≡ false
   pub next : (g : Fault) → element_fault tag f g old.unread ≡ g new.unread
 
-pub reads_on : (f : Fault) (tag : ℕ) (content : Option (List ℕ)) (P : List ℕ → Type 0) (old new : Reader) → IsSomeAnd content (λ inside. P inside × HasReadElement tag inside old new) → element_fault tag f no_fault old.unread ≡ None → ReadsOn tag f old new
+pub reads_on : (f : Fault) (tag : ℕ) (content : Option (List ℕ)) (P : List ℕ → Type 0) (old new : Reader)
+    → IsSomeAnd content (λ inside. P inside × HasReadElement tag inside old new) → element_fault tag f no_fault old.unread ≡ None → ReadsOn tag f old new
 reads_on f tag None P old new h none = absurd h
 reads_on f tag (Some content) P old new h none =
     let first : f content ≡ None = none_first (f content) None (sym (read_element f no_fault tag content old new h.1) ∙ none) in
@@ -223,7 +239,8 @@ pub document_whole : (tag n : ℕ) (bytes inside : List ℕ) → IsHeader tag n 
 document_whole tag n bytes inside h e same =
     any_room (λ _. no_fault) end_fault tag n bytes inside h e (omega arith) ∙ ap end_fault (drop_all n inside (omega arith))
 
-pub document_long : (tag n : ℕ) (bytes inside : List ℕ) → IsHeader tag n → bytes ≡ header tag n ++ inside → n < length inside → document_fault bytes ≡ Some TrailingData
+pub document_long : (tag n : ℕ) (bytes inside : List ℕ) → IsHeader tag n → bytes ≡ header tag n ++ inside → n < length inside
+    → document_fault bytes ≡ Some TrailingData
 document_long tag n bytes inside h e more =
     any_room (λ _. no_fault) end_fault tag n bytes inside h e (omega arith)
     ∙ end_told (drop n inside) (λ none. absurd (omega (arith, ap length none, length-drop n inside)))
@@ -243,10 +260,12 @@ other_told tag (byte ∷ bytes) other = by (byte == tag) refl
     by true e = absurd (other (ap (λ n. Some n) (eqb-true byte tag e)))
 
 -- a field that is refused stays so whatever stands behind it
-pub refused_field : (number tag : ℕ) (late : List ℕ → Bool) (f g : Fault) (bytes : List ℕ) (k : ErrorKind) → field_fault number tag late f no_fault bytes ≡ Some k → field_fault number tag late f g bytes ≡ Some k
+pub refused_field : (number tag : ℕ) (late : List ℕ → Bool) (f g : Fault) (bytes : List ℕ) (k : ErrorKind)
+    → field_fault number tag late f no_fault bytes ≡ Some k → field_fault number tag late f g bytes ≡ Some k
 refused_field number tag late f g bytes k e = by (is_next (0xA0 + number) bytes) e
   where
-    by : (b : Bool) → (if b then element_fault (0xA0 + number) (inside_fault tag late f) no_fault bytes else None) ≡ Some k → (if b then element_fault (0xA0 + number) (inside_fault tag late f) g bytes else g bytes) ≡ Some k
+    by : (b : Bool) → (if b then element_fault (0xA0 + number) (inside_fault tag late f) no_fault bytes else None) ≡ Some k
+        → (if b then element_fault (0xA0 + number) (inside_fault tag late f) g bytes else g bytes) ≡ Some k
     by false e = absurd (cc e)
     by true e = refused_content (inside_fault tag late f) g (0xA0 + number) bytes k e
 
@@ -255,7 +274,8 @@ pub record PassesField (number tag : ℕ) (late : List ℕ → Bool) (f : Fault)
   pub whole : new.failed ≡ false
   pub next : (g : Fault) → field_fault number tag late f g old.unread ≡ g new.unread
 
-pub passes_field : {A : Type 0} (number tag : ℕ) (late : List ℕ → Bool) (f : Fault) (field : Option A) (content : A → Option (List ℕ)) (P Q : List ℕ → Type 0) (old new : Reader) → old.failed ≡ false
+pub passes_field : {A : Type 0} (number tag : ℕ) (late : List ℕ → Bool) (f : Fault) (field : Option A) (content : A → Option (List ℕ)) (P Q : List ℕ
+    → Type 0) (old new : Reader) → old.failed ≡ false
     → IfSome field (λ value. IsSomeAnd (content value) (λ inside. P inside × Q inside × HasReadElement (0xA0 + number) (element tag inside) old new))
     → IfNone field ((new ≡ old) × (slice_get old.unread 0 ≡ Some (0xA0 + number) → ⊥))
     → field_fault number tag late f no_fault old.unread ≡ None → PassesField number tag late f old new
@@ -266,7 +286,8 @@ passes_field number tag late f None content P Q old new whole some none e =
     }
 passes_field number tag late f (Some value) content P Q old new whole some none e = by (content value) some
   where
-    by : (o : Option (List ℕ)) → IsSomeAnd o (λ inside. P inside × Q inside × HasReadElement (0xA0 + number) (element tag inside) old new) → PassesField number tag late f old new
+    by : (o : Option (List ℕ)) → IsSomeAnd o (λ inside. P inside × Q inside × HasReadElement (0xA0 + number) (element tag inside) old new)
+        → PassesField number tag late f old new
     by None h = absurd h
     by (Some inside) h =
         let here = next_told (0xA0 + number) old.unread (ap (λ (r : Reader). slice_get r.unread 0) h.2.read.was_whole) in
@@ -278,7 +299,8 @@ passes_field number tag late f (Some value) content P Q old new whole some none 
 pub inside_at_once : (tag : ℕ) (f : Fault) (bytes : List ℕ) → inside_fault tag (λ _. false) f bytes ≡ element_fault tag f end_fault bytes
 inside_at_once tag f bytes = by (element_fault tag f end_fault bytes) refl
   where
-    by : (o : Option ErrorKind) → element_fault tag f end_fault bytes ≡ o → option_or (element_fault tag f end_fault bytes) (element_fault tag f no_fault bytes) ≡ element_fault tag f end_fault bytes
+    by : (o : Option ErrorKind) → element_fault tag f end_fault bytes ≡ o
+        → option_or (element_fault tag f end_fault bytes) (element_fault tag f no_fault bytes) ≡ element_fault tag f end_fault bytes
     by None e = rw (e, none_less f end_fault tag bytes e) refl
     by (Some k) e = rw e refl
 

@@ -6,7 +6,7 @@ use Rattle.sec1_der.specs.Faults.{Refuses}
 use Rattle.sec1_der.specs.declared.error.Error.{Error}
 use Rattle.sec1_der.specs.declared.error.ErrorKind.TheVariants.{Depth}
 use Rattle.sec1_der.specs.Walks.{innermost}
-use Rattle.sec1_der.proofs.TreeRefusals.{Walks, walk_started, walk_unstarted, walk_closed, walk_entered, walk_refused, open_fault}
+use Rattle.sec1_der.proofs.TreeRefusals.{walk_started, walk_unstarted, walk_closed, walk_entered, walk_refused, open_fault}
 use Rattle.sec1_der.proofs.RefusalLemmas.{end_told}
 use Rattle.sec1_der.proofs.CheckLemmas.{first_stands, too_deep, ended, tree_read, begins, fewer, shorter}
 use Rattle.sec1_der.proofs.tree.check_tree.Goals as goal
@@ -19,20 +19,24 @@ loop-nodes-smaller-then-rest-end c = fewer c.loop-nodes.nodes c.close.new.self c
 
 pub loop-nodes-preserved-then-rest-end : goal.loop-nodes-preserved-then-rest-end
 loop-nodes-preserved-then-rest-end c =
-    walk_closed c.args.input.now c.loop-nodes.nodes c.close.new.self c.loop-nodes.rest.now c.loop-nodes.count (λ empty. false≢true (c.loop-nodes-test.ensures.1 empty)) c.close.ensures (c.if-rest-end.true ∙ c.end.ensures) c.loop-nodes.invariant
+    walk_closed c.args.input.now c.loop-nodes.nodes c.close.new.self c.loop-nodes.rest.now c.loop-nodes.count
+    (λ empty. false≢true (c.loop-nodes-test.ensures.1 empty)) c.close.ensures (c.if-rest-end.true ∙ c.end.ensures) c.loop-nodes.invariant
 
 pub returns-in_err-rest-2-clause-only : goal.returns-in_err-rest-2-clause-only
 returns-in_err-rest-2-clause-only c t p shallow =
     let apart : length c.loop-nodes.rest.now ≢ innermost c.loop-nodes.nodes = λ same. c.if-rest-end.false (same ∙ sym c.end.ensures) in
-    let s = first_stands c.args.input.now c.loop-nodes.nodes c.loop-nodes.rest.now c.loop-nodes.count t [] (λ empty. false≢true (c.loop-nodes-test.ensures.1 empty)) apart c.loop-nodes.invariant.at (begins c.args.input.now t p) in
+    let s = first_stands c.args.input.now c.loop-nodes.nodes c.loop-nodes.rest.now c.loop-nodes.count t []
+    (λ empty. false≢true (c.loop-nodes-test.ensures.1 empty)) apart c.loop-nodes.invariant.at (begins c.args.input.now t p) in
     let kind = c.in_err-rest-2.ensures.only s.tree s.tail s.is s.row s.fits in
-    let deep = too_deep c.args.input.now c.loop-nodes.nodes c.loop-nodes.rest.now c.loop-nodes.count t [] (c.in_err-rest-2.ensures.deep kind) apart c.loop-nodes.invariant.at (begins c.args.input.now t p) in
+    let deep = too_deep c.args.input.now c.loop-nodes.nodes c.loop-nodes.rest.now c.loop-nodes.count t []
+    (c.in_err-rest-2.ensures.deep kind) apart c.loop-nodes.invariant.at (begins c.args.input.now t p) in
     absurd (omega arith)
 
 pub returns-in_err-rest-2-clause-deeper : goal.returns-in_err-rest-2-clause-deeper
 returns-in_err-rest-2-clause-deeper c t p deep =
     let apart : length c.loop-nodes.rest.now ≢ innermost c.loop-nodes.nodes = λ same. c.if-rest-end.false (same ∙ sym c.end.ensures) in
-    let s = first_stands c.args.input.now c.loop-nodes.nodes c.loop-nodes.rest.now c.loop-nodes.count t [] (λ empty. false≢true (c.loop-nodes-test.ensures.1 empty)) apart c.loop-nodes.invariant.at (begins c.args.input.now t p) in
+    let s = first_stands c.args.input.now c.loop-nodes.nodes c.loop-nodes.rest.now c.loop-nodes.count t []
+    (λ empty. false≢true (c.loop-nodes-test.ensures.1 empty)) apart c.loop-nodes.invariant.at (begins c.args.input.now t p) in
     let kind = c.in_err-rest-2.ensures.only s.tree s.tail s.is s.row s.fits in
     let refusal = err_from_is_err_and c.from_residual-in_err-rest-2.result c.from_residual-in_err-rest-2.ensures.1 in
     subst (λ r. Refuses r Depth) (sym refusal.1) (ap (λ e. e.kind) refusal.2 ∙ kind)
@@ -40,36 +44,45 @@ returns-in_err-rest-2-clause-deeper c t p deep =
 pub returns-in_err-rest-2-clause-long : goal.returns-in_err-rest-2-clause-long
 returns-in_err-rest-2-clause-long c t p shallow long =
     let apart : length c.loop-nodes.rest.now ≢ innermost c.loop-nodes.nodes = λ same. c.if-rest-end.false (same ∙ sym c.end.ensures) in
-    let s = first_stands c.args.input.now c.loop-nodes.nodes c.loop-nodes.rest.now c.loop-nodes.count t long.more (λ empty. false≢true (c.loop-nodes-test.ensures.1 empty)) apart c.loop-nodes.invariant.at (record { tree = p; row = long.split }) in
+    let s = first_stands c.args.input.now c.loop-nodes.nodes c.loop-nodes.rest.now c.loop-nodes.count t long.more
+    (λ empty. false≢true (c.loop-nodes-test.ensures.1 empty)) apart c.loop-nodes.invariant.at (record { tree = p; row = long.split }) in
     let kind = c.in_err-rest-2.ensures.only s.tree s.tail s.is s.row s.fits in
-    let deep = too_deep c.args.input.now c.loop-nodes.nodes c.loop-nodes.rest.now c.loop-nodes.count t long.more (c.in_err-rest-2.ensures.deep kind) apart c.loop-nodes.invariant.at (record { tree = p; row = long.split }) in
+    let deep = too_deep c.args.input.now c.loop-nodes.nodes c.loop-nodes.rest.now c.loop-nodes.count t long.more
+    (c.in_err-rest-2.ensures.deep kind) apart c.loop-nodes.invariant.at (record { tree = p; row = long.split }) in
     absurd (omega arith)
 
 pub loop-nodes-smaller : goal.loop-nodes-smaller
-loop-nodes-smaller c = shorter c.args.input.now c.loop-nodes.nodes c.loop-nodes.rest.now c.enter-else-rest-end.new.self c.in_ok-rest-2.rest.now c.loop-nodes.count c.in_ok-rest-2.ensures.found c.loop-nodes.invariant.at
+loop-nodes-smaller c = shorter c.args.input.now c.loop-nodes.nodes c.loop-nodes.rest.now c.enter-else-rest-end.new.self c.in_ok-rest-2.rest.now
+    c.loop-nodes.count c.in_ok-rest-2.ensures.found c.loop-nodes.invariant.at
 
 pub loop-nodes-preserved : goal.loop-nodes-preserved
 loop-nodes-preserved c =
-    walk_entered c.args.input.now c.loop-nodes.nodes c.loop-nodes.rest.now c.enter-else-rest-end.new.self c.in_ok-rest-2.rest.now c.loop-nodes.count (λ empty. false≢true (c.loop-nodes-test.ensures.1 empty)) (λ same. c.if-rest-end.false (same ∙ sym c.end.ensures)) c.in_ok-rest-2.ensures.found c.loop-nodes.invariant
+    walk_entered c.args.input.now c.loop-nodes.nodes c.loop-nodes.rest.now c.enter-else-rest-end.new.self c.in_ok-rest-2.rest.now c.loop-nodes.count
+    (λ empty. false≢true (c.loop-nodes-test.ensures.1 empty)) (λ same. c.if-rest-end.false (same ∙ sym c.end.ensures)) c.in_ok-rest-2.ensures.found
+    c.loop-nodes.invariant
 
 pub returns-clause-found : goal.returns-clause-found
-returns-clause-found c = tree_read c.args.input.now c.loop-nodes.nodes c.loop-nodes.rest.now c.loop-nodes.count (c.loop-nodes-test.ensures.0 refl) (nil_from_length c.loop-nodes.rest.now (eqb-true (length c.loop-nodes.rest.now) 0 (sym c.if-not-is_empty.ensures))) c.loop-nodes.invariant.at
+returns-clause-found c = tree_read c.args.input.now c.loop-nodes.nodes c.loop-nodes.rest.now c.loop-nodes.count (c.loop-nodes-test.ensures.0 refl)
+    (nil_from_length c.loop-nodes.rest.now (eqb-true (length c.loop-nodes.rest.now) 0 (sym c.if-not-is_empty.ensures))) c.loop-nodes.invariant.at
 
 pub returns-clause-only : goal.returns-clause-only
 returns-clause-only c t p shallow =
-    let end = ended c.args.input.now c.loop-nodes.nodes c.loop-nodes.rest.now c.loop-nodes.count t [] (c.loop-nodes-test.ensures.0 refl) c.loop-nodes.invariant.at (begins c.args.input.now t p) in
+    let end = ended c.args.input.now c.loop-nodes.nodes c.loop-nodes.rest.now c.loop-nodes.count t []
+    (c.loop-nodes-test.ensures.0 refl) c.loop-nodes.invariant.at (begins c.args.input.now t p) in
     ap Ok (sym end.sizes)
 
 pub returns-in_err-rest-clause-kind : goal.returns-in_err-rest-clause-kind
 returns-in_err-rest-clause-kind c =
-    let told = walk_unstarted c.args.input.now c.new-nodes.result c.in_err-rest.field-0.0.kind c.new-nodes.ensures c.in_err-rest.ensures.deep c.in_err-rest.ensures.told in
+    let told = walk_unstarted c.args.input.now c.new-nodes.result c.in_err-rest.field-0.0.kind c.new-nodes.ensures c.in_err-rest.ensures.deep
+    c.in_err-rest.ensures.told in
     let refusal = err_from_is_err_and c.from_residual.result c.from_residual.ensures.1 in
     rw (refusal.1, refusal.2) told
 
 pub returns-in_err-rest-2-clause-kind : goal.returns-in_err-rest-2-clause-kind
 returns-in_err-rest-2-clause-kind c =
     let apart = λ (same : length c.loop-nodes.rest.now ≡ innermost c.loop-nodes.nodes). c.if-rest-end.false (same ∙ sym c.end.ensures) in
-    let told = walk_refused c.args.input.now c.loop-nodes.nodes c.loop-nodes.rest.now c.loop-nodes.count c.in_err-rest-2.field-0.0.kind (λ empty. false≢true (c.loop-nodes-test.ensures.1 empty)) apart c.loop-nodes.invariant c.in_err-rest-2.ensures.deep c.in_err-rest-2.ensures.told in
+    let told = walk_refused c.args.input.now c.loop-nodes.nodes c.loop-nodes.rest.now c.loop-nodes.count c.in_err-rest-2.field-0.0.kind
+    (λ empty. false≢true (c.loop-nodes-test.ensures.1 empty)) apart c.loop-nodes.invariant c.in_err-rest-2.ensures.deep c.in_err-rest-2.ensures.told in
     let refusal = err_from_is_err_and c.from_residual-in_err-rest-2.result c.from_residual-in_err-rest-2.ensures.1 in
     rw (refusal.1, refusal.2) told
 
@@ -77,7 +90,9 @@ pub returns-then-not-is_empty-clause-kind : goal.returns-then-not-is_empty-claus
 returns-then-not-is_empty-clause-kind c =
     let closed = c.loop-nodes-test.ensures.0 refl in
     let more = λ (empty : c.loop-nodes.rest.now ≡ []). eqb-false (length c.loop-nodes.rest.now) 0 (sym c.if-not-is_empty.ensures) (ap length empty) in
-    c.loop-nodes.invariant.told ∙ (ap (λ ends. open_fault ends c.loop-nodes.rest.now) closed ∙ (end_told c.loop-nodes.rest.now more ∙ ap (λ (e : Error). Some e.kind) (sym c.into.ensures)))
+    c.loop-nodes.invariant.told
+    ∙ (ap (λ ends. open_fault ends c.loop-nodes.rest.now) closed
+    ∙ (end_told c.loop-nodes.rest.now more ∙ ap (λ (e : Error). Some e.kind) (sym c.into.ensures)))
 
 pub returns-clause-kind : goal.returns-clause-kind
 returns-clause-kind c =

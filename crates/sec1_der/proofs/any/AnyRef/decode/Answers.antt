@@ -33,4 +33,5 @@ returns-in-Err-clause-short c tag content h fresh short =
 pub returns-in-Ok-clause-kind : goal.returns-in-Ok-clause-kind
 returns-in-Ok-clause-kind c fresh =
     let found = c.in-Ok.ensures.found in
-    any_room (λ _. no_fault) no_fault c.in-Ok.header.tag c.in-Ok.header.length c.args.reader.now.unread c.in-Ok.inside.now found.0 (sym c.unread.ensures ∙ found.1) found.2
+    any_room (λ _. no_fault) no_fault c.in-Ok.header.tag c.in-Ok.header.length c.args.reader.now.unread c.in-Ok.inside.now found.0 (sym c.unread.ensures
+    ∙ found.1) found.2

@@ -32,17 +32,20 @@ returns-clause-short c tag content allowed short = cc (c.in-Ok.ensures.short tag
 pub returns-then-inside-get-clause-kind : goal.returns-then-inside-get-clause-kind
 returns-then-inside-get-clause-kind c =
     let found = c.in-Ok.ensures.found in
-    inl (document_long c.in-Ok.found.0.tag c.in-Ok.found.0.length c.args.bytes.now c.in-Ok.found.1.now found.0 found.1 (omega (arith, c.get.ensures.value, c.if-inside-get.true))
-        ∙ ap (λ (e : Error). Some e.kind) (sym c.into-then-inside-get.ensures))
+    inl (document_long c.in-Ok.found.0.tag c.in-Ok.found.0.length c.args.bytes.now c.in-Ok.found.1.now found.0 found.1
+    (omega (arith, c.get.ensures.value, c.if-inside-get.true))
+    ∙ ap (λ (e : Error). Some e.kind) (sym c.into-then-inside-get.ensures))
 
 pub returns-in_err-bytes-clause-kind : goal.returns-in_err-bytes-clause-kind
 returns-in_err-bytes-clause-kind c =
     let found = c.in-Ok.ensures.found in
-    let none = document_whole c.in-Ok.found.0.tag c.in-Ok.found.0.length c.args.bytes.now c.in-Ok.found.1.now found.0 found.1 (omega (arith, c.get.ensures.value, c.if-inside-get.false, found.2)) in
+    let none = document_whole c.in-Ok.found.0.tag c.in-Ok.found.0.length c.args.bytes.now c.in-Ok.found.1.now found.0 found.1
+    (omega (arith, c.get.ensures.value, c.if-inside-get.false, found.2)) in
     let refusal = err_from_is_err_and c.from_residual.result c.from_residual.ensures.1 in
     rw refusal.1 (inr (ap (λ (e : Error). e.kind) refusal.2, none))
 
 pub returns-clause-kind : goal.returns-clause-kind
 returns-clause-kind c =
     let found = c.in-Ok.ensures.found in
-    document_whole c.in-Ok.found.0.tag c.in-Ok.found.0.length c.args.bytes.now c.in-Ok.found.1.now found.0 found.1 (omega (arith, c.get.ensures.value, c.if-inside-get.false, found.2))
+    document_whole c.in-Ok.found.0.tag c.in-Ok.found.0.length c.args.bytes.now c.in-Ok.found.1.now found.0 found.1
+    (omega (arith, c.get.ensures.value, c.if-inside-get.false, found.2))

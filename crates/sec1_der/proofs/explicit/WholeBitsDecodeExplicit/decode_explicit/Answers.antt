@@ -30,11 +30,13 @@ returns-in-Some-as_bytes-clause-kind c fresh =
     let bits = c.in-Some.bits in
     let found = rw c.in-Some.is at c.in_ok-bits.ensures.found in
     let unused : bits.unused ≡ 0 = c.in-Some-as_bytes.ensures.some.0 refl in
-    bits_told c.args.number (bits.unused ∷ bits.bytes.now) c.args.reader.now c.context_specific.new.self found.1 found.2 (c.in_ok-bits.ensures.kind fresh) ∙ rw (eq-eqb bits.unused 0 unused) refl
+    bits_told c.args.number (bits.unused ∷ bits.bytes.now) c.args.reader.now c.context_specific.new.self found.1 found.2 (c.in_ok-bits.ensures.kind fresh)
+    ∙ rw (eq-eqb bits.unused 0 unused) refl
 
 pub returns-in-None-clause-kind : goal.returns-in-None-clause-kind
 returns-in-None-clause-kind c fresh =
     let bits = c.in-Some.bits in
     let found = rw c.in-Some.is at c.in_ok-bits.ensures.found in
     let unused : (bits.unused == 0) ≡ false = ne_eqb bits.unused 0 (λ zero. false≢true (c.in-None.ensures.some.1 zero)) in
-    bits_told c.args.number (bits.unused ∷ bits.bytes.now) c.args.reader.now c.context_specific.new.self found.1 found.2 (c.in_ok-bits.ensures.kind fresh) ∙ rw (unused, c.fail.ensures.error) refl
+    bits_told c.args.number (bits.unused ∷ bits.bytes.now) c.args.reader.now c.context_specific.new.self found.1 found.2 (c.in_ok-bits.ensures.kind fresh)
+    ∙ rw (unused, c.fail.ensures.error) refl

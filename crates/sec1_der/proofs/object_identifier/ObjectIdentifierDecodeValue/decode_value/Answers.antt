@@ -12,9 +12,11 @@ returns-in-Ok-clause-found c =
 
 pub returns-in-Ok-clause-kind : goal.returns-in-Ok-clause-kind
 returns-in-Ok-clause-kind c fresh =
-    ap (λ (r : Reader). identifier_fault r.unread) c.in_ok-read_rest.ensures.found.0 ∙ identifier_taken c.in-Ok.identifier c.in_ok-read_rest.field-0.now c.in-Ok.ensures.found
+    ap (λ (r : Reader). identifier_fault r.unread) c.in_ok-read_rest.ensures.found.0
+    ∙ identifier_taken c.in-Ok.identifier c.in_ok-read_rest.field-0.now c.in-Ok.ensures.found
 
 pub returns-in-Err-clause-kind : goal.returns-in-Err-clause-kind
 returns-in-Err-clause-kind c fresh =
     ap (λ (r : Reader). identifier_fault r.unread) c.in_ok-read_rest.ensures.found.0
-    ∙ (identifier_refused c.in_ok-read_rest.field-0.now (λ arcs is. cc (c.in-Err.ensures.only arcs is)) ∙ ap (λ k. Some k) (sym (c.fail.ensures.error ∙ c.in-Err.ensures.value)))
+    ∙ (identifier_refused c.in_ok-read_rest.field-0.now (λ arcs is. cc (c.in-Err.ensures.only arcs is))
+    ∙ ap (λ k. Some k) (sym (c.fail.ensures.error ∙ c.in-Err.ensures.value)))

@@ -20,14 +20,17 @@ returns-in_err-finish-clause-only g c content is within e =
 
 pub returns-in_err-finish-clause-kind : goal.returns-in_err-finish-clause-kind
 returns-in_err-finish-clause-kind g c fresh =
-    let first = reads_on g.T.ValueContent.fault g.T.FixedTag.number (g.T.ValueContent.content c.in_ok-value.value) g.T.ValueContent.is_content c.args.self.now c.decode.new.self c.in_ok-value.ensures.found (c.in_ok-value.ensures.kind fresh) in
+    let first = reads_on g.T.ValueContent.fault g.T.FixedTag.number (g.T.ValueContent.content c.in_ok-value.value) g.T.ValueContent.is_content
+    c.args.self.now c.decode.new.self c.in_ok-value.ensures.found (c.in_ok-value.ensures.kind fresh) in
     let more = λ (none : c.decode.new.self.unread ≡ []). false≢true (c.in_err-finish.ensures.ok (reader_at c.decode.new.self [] none first.whole)) in
     let kind : c.in_err-finish.field-0.0.kind ≡ TrailingData = c.in_err-finish.ensures.kind first.whole refl in
-    let told : element_fault g.T.FixedTag.number g.T.ValueContent.fault end_fault c.args.self.now.unread ≡ Some c.in_err-finish.field-0.0.kind = first.next end_fault ∙ (end_told c.decode.new.self.unread more ∙ ap (λ k. Some k) (sym kind)) in
+    let told : element_fault g.T.FixedTag.number g.T.ValueContent.fault end_fault c.args.self.now.unread ≡ Some c.in_err-finish.field-0.0.kind =
+    first.next end_fault ∙ (end_told c.decode.new.self.unread more ∙ ap (λ k. Some k) (sym kind)) in
     let refusal = err_from_is_err_and c.from_residual-in_err-finish.result c.from_residual-in_err-finish.ensures.1 in
     rw (refusal.1, refusal.2) told
 
 pub returns-clause-kind : goal.returns-clause-kind
 returns-clause-kind g c fresh =
-    let first = reads_on g.T.ValueContent.fault g.T.FixedTag.number (g.T.ValueContent.content c.in_ok-value.value) g.T.ValueContent.is_content c.args.self.now c.decode.new.self c.in_ok-value.ensures.found (c.in_ok-value.ensures.kind fresh) in
+    let first = reads_on g.T.ValueContent.fault g.T.FixedTag.number (g.T.ValueContent.content c.in_ok-value.value) g.T.ValueContent.is_content
+    c.args.self.now c.decode.new.self c.in_ok-value.ensures.found (c.in_ok-value.ensures.kind fresh) in
     first.next end_fault ∙ ap (λ (r : Reader). end_fault r.unread) c.in_ok-finish.ensures.unchanged.0
