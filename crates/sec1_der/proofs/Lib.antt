@@ -14,4 +14,5 @@ pub mod DottedLemmas
 pub mod DisplayLemmas
 pub mod StreamLemmas
 pub mod OneElement
+pub mod StreamRefusals
 pub mod UniqueLemmas

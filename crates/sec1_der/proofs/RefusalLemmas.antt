@@ -114,7 +114,7 @@ element_at f g tag content (byte ∷ bytes) rest fits e =
     rw (eq-eqb byte tag same, behind_tag content bytes rest fits (tail ∙ append_assoc (len (length content)) content rest)) refl
 
 -- a tag byte passes the test, and what passes it is one
-tag_from_test : (byte : ℕ) → byte < 256 → is_tag byte ≡ true → IsTag byte
+pub tag_from_test : (byte : ℕ) → byte < 256 → is_tag byte ≡ true → IsTag byte
 tag_from_test byte small e = record {
   byte = small;
   not_end_of_contents = λ z. zero_fails z;

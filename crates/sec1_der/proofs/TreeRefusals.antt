@@ -103,7 +103,8 @@ abbrev pub row_at : ℕ → Fault
 row_at level bytes = row_fault (length bytes) level bytes
 
 -- a row within 64 levels is its first element, and a row
-row_some : (level : ℕ) (bytes : List ℕ) → 0 < length bytes → level ≤ 64 → row_at level bytes ≡ any_fault (nested_fault (row_at (level + 1))) (row_at level) bytes
+row_some : (level : ℕ) (bytes : List ℕ) → 0 < length bytes → level ≤ 64
+    → row_at level bytes ≡ any_fault (nested_fault (row_at (level + 1))) (row_at level) bytes
 row_some level [] some fits = absurd (omega arith)
 row_some level (b ∷ bs) some fits =
     rw (le-ltb 64 level fits)
@@ -167,7 +168,8 @@ or_assoc (Some k) b c = refl
 pub tree_next : (input : List ℕ) → tree_fault input ≡ next_fault [] input
 tree_next input =
     any_same (nested_fault (row_fault (length input) 2)) (nested_fault (row_at 2)) end_fault end_fault input
-    (λ tag c few. nested_same (row_fault (length input) 2) (row_at 2) tag c (row_bound (length input) (length c) 2 c (omega arith) (omega arith))) (λ r few. refl)
+    (λ tag c few. nested_same (row_fault (length input) 2) (row_at 2) tag c (row_bound (length input) (length c) 2 c (omega arith) (omega arith)))
+    (λ r few. refl)
     ∙ (sym (alone (any_fault (nested_fault (row_at 2)) end_fault input)) ∙ sym (next_at [] input [] input (sym (append-nil input)) refl))
 
 -- inside a node that hasn't ended an element is next

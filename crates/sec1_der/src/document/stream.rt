@@ -1,9 +1,12 @@
 //! Documents that are read from streams and files, and written to them.
+ghost use Rattle.std.specs.Prelude.{Some, None, MatchResult};
 ghost use Rattle.std.specs.Prelude.{ℕ, List, false, ◌≡◌, ◌<◌, ◌≤◌, ◌↔◌, ◌⊎◌, length, take, IsTrue, IsErr, IfOk, IfErr, IfSome, OnOk, OnErr};
 ghost use Rattle.std.specs.Io.KnownBytes.{Appends, Consumes, IsAtEnd};
+ghost use Rattle.std.specs.List.{All};
 ghost use Rattle.sec1_der.specs.Elements.{IsElement};
 ghost use Rattle.sec1_der.specs.Faults.{IsIoOrMemory, Refuses};
 ghost use Rattle.sec1_der.specs.ReadsDocument.{IsElementFault, ReadsElement, RefusesElement, ReadsHeader, RefusesContent};
+ghost use Rattle.sec1_der.specs.Refusals.{document_fault};
 ghost use Rattle.sec1_der.specs.Streams.{AppendsBeginning, ReadsOnto, TakesFewer};
 ghost use Rattle.sec1_der.specs.declared.error.ErrorKind.TheVariants.{Io};
 
@@ -38,6 +41,11 @@ impl SecretDocument {
         // One element that is all there is, is read, unless a read failed or a growth was refused.
         ensures only { IfErr result (λ error. IsIoOrMemory error.kind
             ⊎ IfSome (R.left reader.old) (λ left. ¬ (IsElement left))) }
+        // What the reader had left tells whether it is refused, and by which kind, as of a slice.
+        ensures kind { MatchResult result
+            (λ _. IfSome (R.left reader.old) (λ left. document_fault left ≡ None))
+            (λ error. IsIoOrMemory error.kind ⊎ IfSome (R.left reader.old) (λ left.
+            All (λ byte. byte < 256) left → document_fault left ≡ Some error.kind)) }
     {
         read_element(alloc, reader)
     }
