@@ -1,4 +1,4 @@
-use Rattle.std.proofs.Common.{◌≡◌, ◌≢◌, ◌∙◌, sym, ap, arith, get_or, take, drop, true}
+use Rattle.std.proofs.Common.{◌∙◌, sym, ap, arith, take, drop}
 use Rattle.std.specs.Prelude.{List, ℕ}
 use Rattle.std.proofs.lemmas.Bool.{eqb-true}
 use Rattle.std.proofs.lemmas.Slice.Eq.{bytes_eq-Decides}

@@ -1,5 +1,4 @@
-use Rattle.std.proofs.Common.{◌≡◌, ◌≤◌, ◌∙◌, refl, arith, length}
-use Rattle.std.specs.Prelude.{ℕ}
+use Rattle.std.proofs.Common.{◌∙◌, refl, arith}
 use Rattle.sec1.proofs.Comparisons.{word_settles, word_passed}
 use Rattle.sec1.proofs.Digits.{IsBytes-drop}
 use Rattle.sec1.proofs.point.order.words_cmp.Goals as goal

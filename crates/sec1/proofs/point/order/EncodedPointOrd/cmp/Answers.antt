@@ -1,6 +1,4 @@
 use Rattle.std.proofs.Common.{◌∙◌, sym, ◌≡◌, arith}
-use Rattle.std.specs.Cmp.Lexicographic.{slice_cmp}
-use Rattle.std.specs.Ordering.{nat_cmp}
 use Rattle.sec1.specs.EncodedPoints.{point_of}
 use Rattle.sec1.specs.PointOrder.{point_cmp, point_cmp-Equal}
 use Rattle.sec1.proofs.Buffers.{values_cmp, filled}
