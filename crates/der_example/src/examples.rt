@@ -5,6 +5,7 @@ ghost use Rattle.std.specs.Option.{option_map};
 ghost use Rattle.der_example.specs.KeyReading.{curve_key, IsPrivateKeyOf};
 ghost use Rattle.der_example.specs.PrivateKeys.{PrivateKey};
 ghost use Rattle.sec1.specs.HexTexts.{IsHexOf};
+ghost use Rattle.sec1.specs.KeyRefusals.{key_fault};
 ghost use Rattle.sec1.specs.Keys.{Key, IsKeyOf};
 ghost use Rattle.sec1.specs.Parameters.{curve_of};
 ghost use Rattle.sec1.specs.Points.{IsPoint, Point, compressed_point, enc};
@@ -55,6 +56,7 @@ pub fn compressed(alloc: Global, bytes: &[u8], text: &str) -> Result<(bool, Valu
 pub fn refusal(bytes: &[u8]) -> Option<ErrorKind>
     ensures found { IfNone result ((key : Key) × IsKeyOf key bytes.now) }
     ensures only { (key : Key) → IsKeyOf key bytes.now → result ≡ None }
+    ensures kind { result ≡ key_fault bytes.now }
 {
     match EcPrivateKey::try_from(bytes) {
         Ok(_) => None,

@@ -122,7 +122,7 @@ tag_from_test byte small e = record {
 }
   where
     zero_fails : byte ≡ 0 → ⊥
-    zero_fails z = cc (e, eq-eqb byte 0 z)
+    zero_fails z = cc (e, z)
 
     high_fails : byte % 32 ≡ 31 → ⊥
     high_fails z = by (byte == 0) (eq-eqb (byte % 32) 31 z) e
