@@ -1,5 +1,4 @@
-//! Private keys, found by their public keys: by any value that means the point, whatever its buffer holds behind the
-//! encoding.
+//! Private keys, found by their public keys: by any value of the point, whatever its buffer holds after the encoding.
 ghost use Rattle.std.specs.Prelude.{◌≡◌, ◌≢◌, Some, OnOk, OnErr, IfErr, IsOkAnd};
 ghost use Rattle.std.specs.Option.{option_map};
 ghost use Rattle.sec1.specs.EncodedPoints.{point_of};
@@ -17,11 +16,11 @@ use std::collections::BTreeMap;
 /// Documents of private keys, by their public keys on the curve P-256.
 pub type KeyStore = BTreeMap<EncodedPoint32, SecretDocument>;
 
-/// Keeps a document for a point, in place of the one that was kept for it.
+/// Keeps a document for a point, in place of an earlier one.
 ///
 /// # Errors
 ///
-/// Memory where the allocator refuses a new entry. The store is unchanged then.
+/// Memory if the allocation of an entry fails. The store is unchanged then.
 pub fn keep(store: &mut KeyStore, point: EncodedPoint32, document: SecretDocument) -> Result<()>
     // The document is found by any value that means the point, and what other points have stays.
     ensures same { (again : EncodedPoint 32 65) → point_of again ≡ point_of point
@@ -35,7 +34,7 @@ pub fn keep(store: &mut KeyStore, point: EncodedPoint32, document: SecretDocumen
     Ok(())
 }
 
-/// Borrows the document that is kept for a point.
+/// Borrows the document of a point.
 pub fn find<'s>(store: &'s KeyStore, point: &EncodedPoint32) -> Option<&'s SecretDocument>
     ensures value { option_map (λ document. document.now) result ≡ kept store.now (point_of point.now) }
     ensures any_value { (again : EncodedPoint 32 65) → point_of again ≡ point_of point.now
@@ -44,12 +43,12 @@ pub fn find<'s>(store: &'s KeyStore, point: &EncodedPoint32) -> Option<&'s Secre
     store.get(point)
 }
 
-/// Borrows the document that is kept for the public key of a certificate, from the bytes of its SubjectPublicKeyInfo
+/// Borrows the document of a certificate's public key, given the DER encoding of its SubjectPublicKeyInfo
 /// (RFC 5280 section 4.1).
 ///
 /// # Errors
 ///
-/// As [`read_public_key`].
+/// Those of [`read_public_key`].
 pub fn find_by_public_key<'s>(
     store: &'s KeyStore,
     bytes: &[u8],

@@ -1,4 +1,4 @@
-//! A type of DER of one's own that holds no elements: NULL.
+//! A DER type of one's own without elements inside: NULL.
 ghost use Rattle.std.specs.Prelude.{◌≡◌};
 
 use sec1::der::{

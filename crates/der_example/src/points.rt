@@ -28,7 +28,7 @@ pub fn from_own_bytes<const N: usize, const L: usize>(
 ///
 /// # Errors
 ///
-/// `Memory` where the text isn't given its memory.
+/// Memory if an allocation fails.
 pub fn from_own_lower_hex<const N: usize, const L: usize>(
     alloc: Global,
     point: &EncodedPoint<N, L>,
@@ -45,7 +45,7 @@ pub fn from_own_lower_hex<const N: usize, const L: usize>(
 ///
 /// # Errors
 ///
-/// `Memory` where the text isn't given its memory.
+/// Memory if an allocation fails.
 pub fn from_own_upper_hex<const N: usize, const L: usize>(
     alloc: Global,
     point: &EncodedPoint<N, L>,
@@ -62,7 +62,7 @@ pub fn from_own_upper_hex<const N: usize, const L: usize>(
 ///
 /// # Errors
 ///
-/// `Memory` where the text isn't given its memory.
+/// Memory if an allocation fails.
 pub fn from_own_json<const N: usize, const L: usize>(
     alloc: Global,
     point: &EncodedPoint<N, L>,
@@ -75,9 +75,9 @@ pub fn from_own_json<const N: usize, const L: usize>(
     EncodedPoint::from_json(&json)
 }
 
-/// Returns whether the bytes are the encoding of a point at field elements of N bytes.
+/// Returns `true` if the bytes are the encoding of a point, for field elements of N bytes.
 ///
-/// No value of the type stands in this signature, so that L must be bounded for the call.
+/// L is bounded here, since this signature has no value of the type.
 pub fn is_encoding<const N: usize, const L: usize>(bytes: &[u8]) -> bool
     requires { L < 2 ^ 62 }
     ensures { IsTrue result ↔ Fits N L × IsEncoding N bytes.now }

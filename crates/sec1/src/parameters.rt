@@ -9,8 +9,8 @@ use sec1_der::{
     SliceWriter, Tag, ValueContent,
 };
 
-/// The curve of a key, by name (RFC 5480 section 2.1.1). Curves that are given by their parameters, or
-/// implicitly, are refused.
+/// The curve of a key, named by an identifier (RFC 5480 section 2.1.1). Curves given by their parameters, or implicitly,
+/// are refused.
 #[derive(Clone, Copy, PartialEq, Eq, Debug)]
 pub enum EcParameters {
     /// The identifier of the curve.
@@ -18,7 +18,7 @@ pub enum EcParameters {
 }
 
 impl EcParameters {
-    /// The identifier of the curve, which is always there.
+    /// Returns the identifier of the curve, which is always present.
     pub fn named_curve(self) -> Option<ObjectIdentifier>
         ensures { result ≡ Some (curve_of self) }
     {
@@ -36,7 +36,7 @@ impl From<ObjectIdentifier> for EcParameters {
     }
 }
 
-/// The element of the curve's identifier, which lends its content.
+/// Returns the element of the curve's identifier, whose content is borrowed.
 impl<'a> From<&'a EcParameters> for AnyRef<'a> {
     ghost use Rattle.sec1_der.specs.Identifiers.{IsIdentifier};
     ghost use Rattle.sec1_der.specs.Values.{tag_of, value_of};

@@ -23,8 +23,11 @@ impl<'a> AnyRef<'a> {
     ghost use Rattle.sec1_der.specs.Refusals.{Tells, any_fault, no_fault};
     ghost use Rattle.sec1_der.specs.Values.{tag_of, value_of};
 
-    /// The element with this tag and content. Refused as Overlength where the content has more than
-    /// 268,435,455 bytes.
+    /// Returns the element with this tag and content.
+    ///
+    /// # Errors
+    ///
+    /// Overlength if the content is longer than 268,435,455 bytes.
     pub fn new(tag: Tag, value: &'a [u8]) -> Result<AnyRef<'a>>
         ensures within { IsOk result ↔ (length value.now ≤ max_length) }
         ensures tag { IfOk result (λ any. tag_of any ≡ tag) }
@@ -40,8 +43,10 @@ impl<'a> AnyRef<'a> {
 
     /// Reads one element of any tag.
     ///
-    /// Refused as [`Header::decode`](crate::Header::decode) refuses its header, then as Truncated where the
-    /// content has no room. The reader has then failed.
+    /// # Errors
+    ///
+    /// Those of [`Header::decode`](crate::Header::decode), then Truncated if the input ends inside the content. The
+    /// reader has failed then.
     pub fn decode(reader: &mut SliceReader<'a>) -> Result<AnyRef<'a>>
         ensures found { IfOk result (λ any. IsHeader (tag_of any) (length (value_of any))
             × HasRead (element (tag_of any) (value_of any)) reader.old reader.new) }
@@ -76,14 +81,14 @@ impl<'a> AnyRef<'a> {
         }
     }
 
-    /// The tag.
+    /// Returns the tag.
     pub fn tag(&self) -> Tag
         ensures { result ≡ tag_of self.now }
     {
         Tag::of_byte(self.tag)
     }
 
-    /// The content.
+    /// Borrows the content.
     pub fn value(&self) -> &'a [u8]
         ensures { result.now ≡ value_of self.now }
     {
@@ -91,7 +96,7 @@ impl<'a> AnyRef<'a> {
     }
 }
 
-/// The element of an identifier, which lends its content.
+/// Returns the element of an identifier, whose content is borrowed.
 impl<'a> From<&'a ObjectIdentifier> for AnyRef<'a> {
     ghost use Rattle.std.specs.Prelude.{◌≡◌};
     ghost use Rattle.sec1_der.specs.Identifiers.{IsIdentifier};

@@ -6,8 +6,8 @@ use crate::{
     SliceWriter, Tag, ValueContent,
 };
 
-/// A BIT STRING, whose bytes are lent (X.690 section 8.6). Its content is the count of unused bits of the last
-/// byte, and the bytes.
+/// A BIT STRING, which borrows its bytes (X.690 section 8.6). Its content is the number of unused bits of the last byte,
+/// and the bytes.
 #[derive(Clone, Copy, PartialEq, Eq, Debug)]
 pub struct BitStringRef<'a> {
     unused: u8,
@@ -21,10 +21,12 @@ impl<'a> BitStringRef<'a> {
     ghost use Rattle.sec1_der.specs.Faults.{Refuses};
     ghost use Rattle.sec1_der.specs.Values.{unused_bits_of, bit_bytes_of};
 
-    /// The bit string of these bytes, of whose last the lowest `unused` bits don't count.
+    /// Returns a bit string without the lowest `unused` bits of the last byte.
     ///
-    /// Refused as Overlength where there are more than 268,435,454 bytes; then as Value where the count is
-    /// above 7, isn't 0 although there are no bytes, or where an unused bit is set.
+    /// # Errors
+    ///
+    /// Overlength if there are more than 268,435,454 bytes; then Value if `unused` is above 7, or isn't 0 without bytes, or
+    /// if an unused bit is set (X.690 section 11.2.1).
     pub fn new(unused: u8, bytes: &'a [u8]) -> Result<BitStringRef<'a>>
         ensures bits { IsOk result ↔ ((length bytes.now < max_length) × AreBits unused bytes.now) }
         ensures count { IfOk result (λ bits. unused_bits_of bits ≡ unused) }
@@ -41,8 +43,11 @@ impl<'a> BitStringRef<'a> {
         Ok(BitStringRef { unused, bytes })
     }
 
-    /// The bit string of these bytes, all of whose bits count. Refused as Overlength where there are more than
-    /// 268,435,454 bytes.
+    /// Returns a bit string without unused bits.
+    ///
+    /// # Errors
+    ///
+    /// Overlength if there are more than 268,435,454 bytes.
     pub fn from_bytes(bytes: &'a [u8]) -> Result<BitStringRef<'a>>
         ensures within { IsOk result ↔ (length bytes.now < max_length) }
         ensures count { IfOk result (λ bits. unused_bits_of bits ≡ 0) }
@@ -52,7 +57,7 @@ impl<'a> BitStringRef<'a> {
         BitStringRef::new(0, bytes)
     }
 
-    /// The bytes, where all of their bits count.
+    /// Borrows the bytes, if there are no unused bits.
     pub fn as_bytes(&self) -> Option<&'a [u8]>
         ensures some { IsSome result ↔ (unused_bits_of self.now ≡ 0) }
         ensures bytes { IfSome result (λ bytes. bytes.now ≡ bit_bytes_of self.now) }
@@ -64,14 +69,14 @@ impl<'a> BitStringRef<'a> {
         }
     }
 
-    /// The bytes, the last of which may end in unused bits.
+    /// Borrows the bytes, the last of which may have unused bits.
     pub fn raw_bytes(&self) -> &'a [u8]
         ensures { result.now ≡ bit_bytes_of self.now }
     {
         self.bytes
     }
 
-    /// The count of unused bits of the last byte, from 0 to 7.
+    /// Returns the number of unused bits of the last byte, from 0 to 7.
     pub fn unused_bits(&self) -> u8
         ensures count { result ≡ unused_bits_of self.now }
         ensures bits { AreBits result (bit_bytes_of self.now) }
@@ -80,7 +85,7 @@ impl<'a> BitStringRef<'a> {
     }
 }
 
-/// Whether these bytes may have so many unused bits.
+/// Returns `true` if the bytes may have this number of unused bits.
 fn are_bits(unused: u8, bytes: &[u8]) -> bool
     ensures { IsTrue result ↔ AreBits unused bytes.now }
 {

@@ -1,4 +1,4 @@
-//! The calls that read a value of any type from its whole encoding, and write it.
+//! Reading and writing values of any type, by their whole DER encoding.
 ghost use Rattle.std.specs.Prelude.{◌≡◌, ◌≢◌, ◌<◌, ◌≤◌, ◌+◌, ◌⊎◌, [], ◌++◌, ℕ, List, length, drop, Option, Some, None, slice_get, IsOk, IfOk, IsOkAnd, IfErr, OnOk, OnErr, IsSomeAnd, MatchResult};
 ghost use Rattle.std.specs.Option.{option_map};
 ghost use Rattle.sec1_der.specs.Elements.{max_length, element, element_of, field_of, IsTag, IsElementOf, IsProperBeginning};
@@ -11,9 +11,11 @@ use crate::{
 };
 use std::alloc::Global;
 
-/// Reads the value whose element is all of the input.
+/// Reads a value from its whole DER encoding.
 ///
-/// Refused as [`SliceReader::decode`] refuses, then as TrailingData where bytes follow the element.
+/// # Errors
+///
+/// Those of [`SliceReader::decode`], then TrailingData if bytes follow the element.
 pub fn from_der<'a, T: DecodeValue<'a> + FixedTag + Drop>(input: &'a [u8]) -> Result<T>
     ensures found { IfOk result (λ value. IsSomeAnd (T.content value) (λ content. T.is_content content
         × IsElementOf T.number content input.now)) }
@@ -42,9 +44,11 @@ pub fn from_der<'a, T: DecodeValue<'a> + FixedTag + Drop>(input: &'a [u8]) -> Re
     SliceReader::new(input).only_element()
 }
 
-/// The count of bytes of the value's element, header and content.
+/// Returns the length of the value's DER encoding in bytes.
 ///
-/// Refused as Overlength where the value has no content, or one that is longer than 268,435,455 bytes.
+/// # Errors
+///
+/// Overlength if the value has no content, or one that is longer than 268,435,455 bytes.
 pub fn encoded_len<T: EncodeValue + FixedTag>(value: &T) -> Result<usize>
     ensures none { element_of T.number (T.content value.now) ≡ None
         → Refuses result ErrorKind.Overlength }
@@ -61,11 +65,12 @@ pub fn encoded_len<T: EncodeValue + FixedTag>(value: &T) -> Result<usize>
     Ok(header.encoded_len() + header.length.get())
 }
 
-/// The count of bytes of an explicit field `[number]` around the element of a value; 0 where there is no value.
+/// Returns the length in bytes of an explicit field `[number]` around the element of a value, if present, and otherwise 0.
 /// The crate `der` has no such call.
 ///
-/// Refused as Overlength where the value has no content, or where that or its element is longer than 268,435,455
-/// bytes.
+/// # Errors
+///
+/// Overlength if the value has no content, or if that or its element is longer than 268,435,455 bytes.
 pub fn context_specific_len<T: EncodeValue + FixedTag>(
     number: u8,
     field: &Option<T>,
@@ -85,11 +90,12 @@ pub fn context_specific_len<T: EncodeValue + FixedTag>(
     Ok(outside.encoded_len() + outside.length.get())
 }
 
-/// Writes the value's element at the beginning of the slice, and answers how many bytes it has. The rest of the
+/// Writes the value's DER encoding at the beginning of the slice, and returns the number of bytes written. The rest of the
 /// slice is unchanged.
 ///
-/// Refused as [`encoded_len`] refuses, then as Buffer where the slice is too short. The whole slice is unchanged
-/// then.
+/// # Errors
+///
+/// Those of [`encoded_len`], then Buffer if the slice is too short. The whole slice is unchanged then.
 pub fn encode_to_slice<T: EncodeValue + FixedTag>(value: &T, buffer: &mut [u8]) -> Result<usize>
     ensures none { element_of T.number (T.content value.now) ≡ None
         → Refuses result ErrorKind.Overlength × (buffer.new ≡ buffer.old) }
@@ -116,9 +122,11 @@ pub fn encode_to_slice<T: EncodeValue + FixedTag>(value: &T, buffer: &mut [u8]) 
     Ok(total)
 }
 
-/// The value's element.
+/// Returns the value's DER encoding.
 ///
-/// Refused as [`encoded_len`] refuses, then as Memory.
+/// # Errors
+///
+/// Those of [`encoded_len`], then Memory if the allocation fails.
 pub fn to_der<T: EncodeValue + FixedTag>(alloc: Global, value: &T) -> Result<Vec<u8>>
     ensures none { element_of T.number (T.content value.now) ≡ None
         → Refuses result ErrorKind.Overlength }
@@ -136,7 +144,7 @@ pub fn to_der<T: EncodeValue + FixedTag>(alloc: Global, value: &T) -> Result<Vec
     Ok(bytes)
 }
 
-/// Writes the value's element over a slice of its length.
+/// Writes the value's element into a slice of its length.
 fn fill<T: EncodeValue + FixedTag>(value: &T, buffer: &mut [u8]) -> Result<()>
     ensures { (bytes : List ℕ) → element_of T.number (T.content value.now) ≡ Some bytes
         → length buffer.old ≡ length bytes
@@ -145,7 +153,7 @@ fn fill<T: EncodeValue + FixedTag>(value: &T, buffer: &mut [u8]) -> Result<()>
     BackWriter::new(buffer).put_element(value)
 }
 
-/// Writes the content of a SEQUENCE with these components over a slice of its length.
+/// Writes the content of a SEQUENCE with these components into a slice of its length.
 pub(crate) fn fill_components<R: EncodeComponents>(row: &R, buffer: &mut [u8]) -> Result<()>
     ensures { (bytes : List ℕ) → R.content row.now ≡ Some bytes → length bytes ≤ max_length
         → length buffer.old ≡ length bytes
@@ -154,7 +162,7 @@ pub(crate) fn fill_components<R: EncodeComponents>(row: &R, buffer: &mut [u8]) -
     row.put_value(&mut BackWriter::new(buffer))
 }
 
-/// The header of the value's element.
+/// Returns the header of the value's element.
 pub(crate) fn element_header<T: EncodeValue + FixedTag>(value: &T) -> Result<Header>
     ensures none { element_of T.number (T.content value.now) ≡ None
         → Refuses result ErrorKind.Overlength }
@@ -168,7 +176,7 @@ pub(crate) fn element_header<T: EncodeValue + FixedTag>(value: &T) -> Result<Hea
     })
 }
 
-/// The header of an explicit field `[number]` around the value's element.
+/// Returns the header of an explicit field `[number]` around the value's element.
 pub(crate) fn field_header<T: EncodeValue + FixedTag>(number: u8, value: &T) -> Result<Header>
     requires { number ≤ 30 }
     ensures none { field_of number T.number (Some (T.content value.now)) ≡ None

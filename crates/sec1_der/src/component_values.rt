@@ -1,5 +1,5 @@
-//! Values for the components of a [`Record`](crate::Record), which contracts know by their bytes alone: so a struct
-//! can hold plain slices.
+//! Values for the components of a [`Record`](crate::Record). A contract sees only their bytes, so that the record can hold
+//! plain slices.
 ghost use Rattle.std.specs.Prelude.{◌≡◌, ◌∷◌, [], ℕ, List, Some, ⊤};
 ghost use Rattle.sec1_der.specs.Contents.{byte_fault, is_bit_string, whole_bits_fault};
 ghost use Rattle.sec1_der.specs.Elements.{element_of};
@@ -12,8 +12,8 @@ use crate::{
 };
 use std::marker::Model;
 
-/// An INTEGER whose content is the one byte `N`, such as a version (X.690 section 8.3). Where `N` is below 128, it is
-/// the number `N`. Any other content is refused as Value.
+/// An INTEGER whose content is the one byte `N`, such as a version (X.690 section 8.3). It is the number `N` if that is
+/// below 128. Any other content is refused as Value.
 #[derive(Clone, Copy, PartialEq, Eq, Debug)]
 pub struct SmallInteger<const N: u8>;
 

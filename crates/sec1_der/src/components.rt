@@ -1,5 +1,4 @@
-//! The components of a SEQUENCE, one behind the other (X.690 section 8.9): [`Required`] and [`Optional`] components,
-//! and the [`End`].
+//! The components of a SEQUENCE (X.690 section 8.9): [`Required`] and [`Optional`] ones, and the [`End`].
 ghost use Rattle.std.specs.Prelude.{◌≡◌, ◌≤◌, ◌+◌, ℕ, List, [], length, Option, Some, IsOk};
 ghost use Rattle.std.specs.Option.{option_map};
 ghost use Rattle.sec1_der.specs.BackWriters.{end_of, front_of, KeepsEnd, PutsInFront};
@@ -17,21 +16,21 @@ use std::marker::PhantomData;
 
 /// Components whose content is written.
 pub trait EncodeComponents: ValueContent {
-    /// Returns the count of bytes of the content.
+    /// Returns the length of the content in bytes.
     ///
     /// # Errors
     ///
-    /// Overlength where a component has no encoding, or where the content is longer than 268,435,455 bytes.
+    /// Overlength if a component has no encoding, or if the content is longer than 268,435,455 bytes.
     fn value_len(&self) -> Result<Length>
         ensures none { IsOverlong (Self.content self.now) → Refuses result ErrorKind.Overlength }
         ensures some { (bytes : List ℕ) → Self.content self.now ≡ Some bytes → length bytes ≤ max_length
             → result ≡ Ok (length bytes) };
 
-    /// Puts the content in front of what was written, as [`EncodeValue::put_value`] does.
+    /// Prepends the content to what was written, as [`EncodeValue::put_value`] does.
     ///
     /// # Errors
     ///
-    /// None where the content has room.
+    /// None if the content has room.
     fn put_value(&self, writer: &mut BackWriter) -> Result<()>
         ensures slice { KeepsEnd writer.old writer.new }
         ensures grows { length (end_of writer.old) ≤ length (end_of writer.new) }
@@ -77,17 +76,17 @@ impl<N: ExplicitTag> NoField<N> for End {
     ghost none = { λ _ bytes same. end_apart N.at bytes same };
 }
 
-/// A component that is always there, and the components behind it.
+/// A component that is always present, and the components after it.
 #[derive(Clone, Copy, PartialEq, Eq, Debug, Drop)]
 pub struct Required<A, R> {
     /// The component.
     pub first: A,
-    /// The components behind it.
+    /// The components after it.
     pub rest: R,
 }
 
 impl<A, R> Required<A, R> {
-    /// Returns a component with the components behind it.
+    /// Returns a component with the components after it.
     pub fn new(first: A, rest: R) -> Self
         ensures { result ≡ record { first = first; rest = rest } }
     {
@@ -136,19 +135,19 @@ impl<N: ExplicitTag, A: ValueContent + UniversalTag, R: ValueContent> NoField<N>
         (R.content row.rest) bytes same };
 }
 
-/// An OPTIONAL component with the explicit tag `N` (X.690 section 8.14), and the components behind it.
+/// An OPTIONAL component with the explicit tag `N` (X.690 section 8.14), and the components after it.
 #[derive(Drop)]
 pub struct Optional<N, A, R> {
-    /// The component, where it is there.
+    /// The component, if present.
     pub first: Option<A>,
-    /// The components behind it.
+    /// The components after it.
     pub rest: R,
     /// The explicit tag.
     pub tag: PhantomData<N>,
 }
 
 impl<N, A, R> Optional<N, A, R> {
-    /// Returns a component, where it is there, with the components behind it.
+    /// Returns a component, if present, with the components after it.
     pub fn new(first: Option<A>, rest: R) -> Self
         ensures { result ≡ record { first = first; rest = rest; tag = record {} } }
     {

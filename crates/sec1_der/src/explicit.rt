@@ -1,4 +1,4 @@
-//! The numbers of explicit tags (X.690 section 8.14), and which components begin with which tag.
+//! Explicit tags (X.690 section 8.14), and which components may begin with them.
 ghost use Rattle.std.proofs.Common.{lit<};
 ghost use Rattle.std.specs.Prelude.{◌≡◌, ◌≢◌, ◌≤◌, ◌<◌, ◌+◌, ◌++◌, ℕ, List, Some, None, Ok, true, false, length, slice_get, IfOk, IfErr, IfSome, IfNone, IsOkAnd, IsSomeAnd, OnErr};
 ghost use Rattle.sec1_der.specs.Elements.{max_length, element};
@@ -11,7 +11,7 @@ use crate::{
     Octets, Record, Result, SliceReader, SmallInteger, ValueContent, VersionOne, WholeBits,
 };
 
-/// A type that stands for the number of an explicit tag `[number]` of the context-specific class.
+/// A type that stands for an explicit tag `[number]` of the context-specific class.
 pub trait ExplicitTag {
     /// The number.
     ghost at: { ℕ };
@@ -56,10 +56,10 @@ impl OtherThan<Explicit0> for Explicit1 {
     ghost other = { λ e. absurd (cc e) };
 }
 
-/// A content that never begins with the explicit tag `N`, so that it may stand behind an OPTIONAL component with
-/// that tag (X.680 section 25.6).
+/// A content that never begins with the explicit tag `N`, so that it may follow an OPTIONAL component with that tag (X.680
+/// section 25.6).
 pub trait NoField<N: ExplicitTag>: ValueContent {
-    /// No content has the tag byte `A0 + number` in front.
+    /// No content begins with the tag byte `A0 + number`.
     ghost none: { (value : Self) (bytes : List ℕ) → Self.content value ≡ Some bytes
         → slice_get bytes 0 ≢ Some (0xA0 + N.at) };
 }
@@ -104,13 +104,12 @@ impl UniversalTag for ObjectIdentifier {
 
 /// A value that is read from an explicit field, as an OPTIONAL component is (X.690 section 8.14).
 pub trait DecodeExplicit<'a>: DecodeValue<'a> + FixedTag + Drop {
-    /// Reads an explicit field `[number]` around the element of a value, if it is next, as
-    /// [`SliceReader::context_specific`] does. A type may refuse a content only after the end of the field has been
-    /// tested.
+    /// Reads an explicit field `[number]` around the element of a value, if present, as
+    /// [`SliceReader::context_specific`] does. A type may refuse a content only after the end of the field was checked.
     ///
     /// # Errors
     ///
-    /// As [`SliceReader::context_specific`]. The reader has then failed.
+    /// Those of [`SliceReader::context_specific`]. The reader has failed then.
     fn decode_explicit(reader: &mut SliceReader<'a>, number: u8) -> Result<Option<Self>>
         requires { number ≤ 30 }
         // What is read is the field around the element of the value, and just its bytes are read.
@@ -191,7 +190,7 @@ where
     }
 }
 
-/// Unused bits are refused after the end of the field has been tested.
+/// Unused bits are refused after the end of the field was checked.
 impl<'a> DecodeExplicit<'a> for WholeBits<'a> {
     fn decode_explicit(reader: &mut SliceReader<'a>, number: u8) -> Result<Option<Self>> {
         let Some(bits) = reader.context_specific::<BitStringRef>(number)? else {

@@ -8,27 +8,29 @@ ghost use Rattle.sec1_der.specs.SliceWriters.{room_of, KeepsSlice, AppendsNothin
 
 use crate::{ErrorKind, Length, Result, SliceReader, SliceWriter, Tag};
 
-/// The least length that is spelled in the long form.
+/// The least length in the long form (X.690 section 8.1.3.5).
 const LONG_FORM: usize = 0x80;
 
-/// What stands first of some bytes, and the bytes after it; or why nothing does.
+/// What some bytes begin with, and the bytes after it; or the reason why they don't.
 pub(crate) type First<'a, T> = std::result::Result<(T, &'a [u8]), ErrorKind>;
 
-/// The tag byte and the length that an element begins with (X.690 sections 8.1.2 and 8.1.3).
+/// The tag and the length of an element (X.690 sections 8.1.2 and 8.1.3).
 #[derive(Clone, Copy, Debug, PartialEq, Eq)]
 pub struct Header {
     /// The tag.
     pub tag: Tag,
-    /// The count of bytes of the content.
+    /// The length of the content.
     pub length: Length,
 }
 
 impl Header {
-    /// Reads one tag byte and one length. Whether the content has room isn't tested.
+    /// Reads a header. The content may be longer than the remaining input.
     ///
-    /// Refused as Truncated where the bytes end inside the header, as Tag where the first byte is no tag,
-    /// as Length where no length of DER follows it, and as Failed where the reader refused before. The reader
-    /// has then failed.
+    /// # Errors
+    ///
+    /// Tag if the first byte is no tag; Length if no length in the form of DER follows it; Truncated if the input ends
+    /// inside the header; Failed if the reader failed before. The tag is checked before the length. The reader has
+    /// failed then.
     pub fn decode(reader: &mut SliceReader) -> Result<Header>
         // What is read is a header, and just its bytes are read.
         ensures found { IfOk result (λ h. IsHeader h.tag h.length
@@ -53,7 +55,7 @@ impl Header {
         }
     }
 
-    /// The count of bytes of the header, from 2 to 6.
+    /// Returns the length of the header in bytes, from 2 to 6.
     pub fn encoded_len(&self) -> usize
         ensures value { result ≡ length (header self.now.tag self.now.length) }
         ensures least { 2 ≤ result }
@@ -62,7 +64,11 @@ impl Header {
         self.octets().1
     }
 
-    /// Appends the header. Refused as Buffer where it has no room.
+    /// Appends the header.
+    ///
+    /// # Errors
+    ///
+    /// Buffer if it has no room.
     pub fn encode(&self, writer: &mut SliceWriter) -> Result<()>
         ensures slice { KeepsSlice writer.old writer.new }
         ensures fits { length (header self.now.tag self.now.length) ≤ length (room_of writer.old)
@@ -74,7 +80,7 @@ impl Header {
         writer.write(&octets[..count])
     }
 
-    /// The bytes of the header, with zeros behind them, and how many they are.
+    /// Returns the bytes of the header, followed by zeros, and their number.
     #[tactic(auto, using(crate::proofs::LengthLemmas::len_1, crate::proofs::LengthLemmas::len_2, crate::proofs::LengthLemmas::len_3, crate::proofs::LengthLemmas::len_4, crate::proofs::LengthLemmas::len_5))]
     pub(crate) fn octets(&self) -> ([u8; 6], usize)
         ensures bytes { take result.1 result.0 ≡ header self.now.tag self.now.length }
@@ -98,8 +104,7 @@ impl Header {
     }
 }
 
-/// The header of the element that the bytes begin with, and the bytes after the header, where the
-/// content has room in them.
+/// Returns the header at the beginning of the bytes, and the bytes after it, which have room for the content.
 #[tactic(auto, using(crate::proofs::HeaderLemmas::header_fault_kinds))]
 pub(crate) fn element_at(input: &[u8]) -> First<'_, Header>
     ensures kinds { IfErr result IsHeaderFault }
@@ -126,7 +131,7 @@ pub(crate) fn element_at(input: &[u8]) -> First<'_, Header>
     Ok((header, inside))
 }
 
-/// The header that the bytes begin with, and the bytes after it.
+/// Returns the header at the beginning of the bytes, and the bytes after it.
 pub(crate) fn header_at(bytes: &[u8]) -> First<'_, Header>
     ensures found { IfOk result (λ x. IsHeader x.0.tag x.0.length
         × (bytes.now ≡ header x.0.tag x.0.length ++ x.1.now)) }
@@ -147,7 +152,7 @@ pub(crate) fn header_at(bytes: &[u8]) -> First<'_, Header>
     Ok((Header { tag, length }, rest))
 }
 
-/// The length that the bytes begin with, and the bytes after it.
+/// Returns the length at the beginning of the bytes, and the bytes after it.
 #[tactic(auto, unfolding(crate::specs::Elements::len))]
 fn length_at(bytes: &[u8]) -> First<'_, Length>
     ensures found { IfOk result (λ x. (x.0 ≤ max_length) × (bytes.now ≡ len x.0 ++ x.1.now)) }
@@ -180,7 +185,7 @@ fn length_at(bytes: &[u8]) -> First<'_, Length>
     }
 }
 
-/// The number that at most four base 256 digits spell.
+/// Returns the number in at most four bytes, the most significant first.
 fn number(digits: &[u8]) -> usize
     requires { length digits.now ≤ 4 }
     ensures value { result ≡ num digits.now }

@@ -12,7 +12,7 @@ use builder::{Builder, arc};
 use std::fmt;
 use std::marker::Model;
 
-/// The most bytes of a content.
+/// The greatest length of a content in bytes.
 const MAX: usize = 39;
 
 /// An OBJECT IDENTIFIER (X.690 section 8.19): two or more arcs, whose content has 1 to 39 bytes. A contract sees
@@ -61,8 +61,11 @@ impl Model for ObjectIdentifier {
 }
 
 impl ObjectIdentifier {
-    /// The identifier with this dotted text: its arcs in decimal digits without leading zeros, joined by full
-    /// stops. Any other text is refused as Value, also one whose content would have more than 39 bytes.
+    /// Parses an identifier: its arcs in decimal digits without leading zeros, joined by full stops.
+    ///
+    /// # Errors
+    ///
+    /// Value for any other text, and if the content would have more than 39 bytes.
     pub fn new(text: &str) -> Result<ObjectIdentifier>
         ensures found { IfOk result (λ arcs. IsIdentifier arcs (content_of arcs)
             × (text.now ≡ dotted arcs)) }
@@ -83,7 +86,11 @@ impl ObjectIdentifier {
         ObjectIdentifier::from_bytes(builder.content.as_bytes())
     }
 
-    /// The identifier with this content (X.690 section 8.19). Any other bytes are refused as Value.
+    /// Returns the identifier with this content (X.690 section 8.19).
+    ///
+    /// # Errors
+    ///
+    /// Value if no identifier has this content, or if it has more than 39 bytes.
     pub fn from_bytes(content: &[u8]) -> Result<ObjectIdentifier>
         ensures found { IfOk result (λ arcs. IsIdentifier arcs content.now) }
         ensures only { (arcs : List ℕ) → IsIdentifier arcs content.now → result ≡ Ok arcs }
@@ -98,7 +105,7 @@ impl ObjectIdentifier {
         })
     }
 
-    /// The content, 1 to 39 bytes.
+    /// Borrows the content, 1 to 39 bytes.
     pub fn as_bytes(&self) -> &[u8]
         ensures { IsIdentifier self.now result.now }
     {
@@ -106,15 +113,14 @@ impl ObjectIdentifier {
     }
 }
 
-/// Whether the bytes are one or more numbers below 2^32 in base 128.
+/// Returns `true` if the bytes are one or more subidentifiers, each below 2^32 (X.690 section 8.19.2).
 fn is_content(content: &[u8]) -> bool
     ensures { IsTrue result ↔ ((arcs : List ℕ) × Spells arcs content.now) }
 {
     if content.is_empty() {
         return false;
     }
-    // What the digits so far spell of a number that goes on. No number that goes on spells 0, since its first
-    // digit isn't 0.
+    // The number in the digits so far of a subidentifier that goes on. It isn't 0 then, since its first digit isn't.
     let mut high: u32 = 0;
     for b in content {
         if high >= 1 << 25 {
@@ -129,7 +135,7 @@ fn is_content(content: &[u8]) -> bool
     high == 0
 }
 
-/// The content, with zeros behind it.
+/// Returns the content, followed by zeros.
 fn stored(content: &[u8]) -> [u8; MAX]
     requires { length content.now ≤ 39 }
     ensures { result ≡ padded content.now }
@@ -139,7 +145,7 @@ fn stored(content: &[u8]) -> [u8; MAX]
     bytes
 }
 
-/// The dotted text.
+/// Prints the arcs in decimal digits, joined by full stops.
 impl fmt::Display for ObjectIdentifier {
     ghost output = { λ arcs. Some (dotted arcs) };
 
@@ -166,7 +172,7 @@ impl fmt::Display for ObjectIdentifier {
     }
 }
 
-/// The two arcs that share the first number.
+/// Returns the two arcs in the first subidentifier (X.690 section 8.19.4).
 fn first_arcs(n: u32) -> (u32, u32)
     ensures { (further : List ℕ) → arcs_of_numbers (n ∷ further) ≡ result.0 ∷ result.1 ∷ further }
 {

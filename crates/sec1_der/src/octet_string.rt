@@ -5,7 +5,7 @@ use crate::{
     SliceWriter, Tag, ValueContent,
 };
 
-/// An OCTET STRING, whose bytes are lent (X.690 section 8.7). Its content is its bytes.
+/// An OCTET STRING, which borrows its bytes (X.690 section 8.7). Its content is its bytes.
 #[derive(Clone, Copy, PartialEq, Eq, Debug)]
 pub struct OctetStringRef<'a> {
     bytes: &'a [u8],
@@ -16,7 +16,11 @@ impl<'a> OctetStringRef<'a> {
     ghost use Rattle.sec1_der.specs.Elements.{max_length};
     ghost use Rattle.sec1_der.specs.Values.{octets_of};
 
-    /// The octet string of these bytes. Refused as Overlength where there are more than 268,435,455.
+    /// Returns an octet string of these bytes.
+    ///
+    /// # Errors
+    ///
+    /// Overlength if there are more than 268,435,455.
     pub fn new(bytes: &'a [u8]) -> Result<OctetStringRef<'a>>
         ensures within { IsOk result ↔ (length bytes.now ≤ max_length) }
         ensures value { IfOk result (λ octets. octets_of octets ≡ bytes.now) }
@@ -26,7 +30,7 @@ impl<'a> OctetStringRef<'a> {
         Ok(OctetStringRef { bytes })
     }
 
-    /// The bytes.
+    /// Borrows the bytes.
     pub fn as_bytes(&self) -> &'a [u8]
         ensures { result.now ≡ octets_of self.now }
     {

@@ -7,10 +7,10 @@ ghost use Rattle.sec1_der.specs.Refusals.{Tells, element_fault, end_fault, field
 use crate::{AnyRef, DecodeValue, Error, ErrorKind, FixedTag, Length, Result, Tag};
 use std::marker::Model;
 
-/// A position in a slice. A contract sees the bytes that are unread, and whether the reader has failed.
+/// A reader over a slice. A contract sees the remaining input, and whether the reader has failed.
 ///
-/// After any refusal the reader has failed: [`peek_tag_byte`](SliceReader::peek_tag_byte) is None, no more
-/// bytes are read, and each call that answers a [`Result`] answers Failed.
+/// A reader has failed after its first error: [`peek_tag_byte`](SliceReader::peek_tag_byte) returns `None`, no more
+/// bytes are read, and each call that returns a [`Result`] returns Failed.
 #[derive(Drop)]
 pub struct SliceReader<'a> {
     unread: &'a [u8],
@@ -26,7 +26,7 @@ impl<'a> Model for SliceReader<'a> {
 }
 
 impl<'a> SliceReader<'a> {
-    /// A reader at the beginning of these bytes.
+    /// Creates a reader at the beginning of a slice.
     pub fn new(bytes: &'a [u8]) -> SliceReader<'a>
         ensures { result ≡ before bytes.now }
     {
@@ -36,21 +36,21 @@ impl<'a> SliceReader<'a> {
         }
     }
 
-    /// The count of unread bytes.
+    /// Returns the number of bytes of the remaining input.
     pub fn remaining_len(&self) -> usize
         ensures { result ≡ length self.now.unread }
     {
         self.unread.len()
     }
 
-    /// Whether the reader refused before.
+    /// Returns `true` if the reader has failed.
     pub fn is_failed(&self) -> bool
         ensures { result ≡ self.now.failed }
     {
         self.failed
     }
 
-    /// The next byte, which stays unread; None where there is none or the reader has failed.
+    /// Returns the next byte without reading it, if there is one and the reader hasn't failed.
     pub fn peek_tag_byte(&self) -> Option<u8>
         ensures { result ≡ (if self.now.failed then None else slice_get self.now.unread 0) }
     {
@@ -61,7 +61,11 @@ impl<'a> SliceReader<'a> {
         }
     }
 
-    /// Reads the next `count` bytes, which are lent. Refused as Truncated where there are fewer.
+    /// Reads and borrows the next `count` bytes.
+    ///
+    /// # Errors
+    ///
+    /// Truncated if there are fewer; Failed if the reader failed before.
     pub fn read_slice(&mut self, count: Length) -> Result<&'a [u8]>
         ensures found { IfOk result (λ bytes. (length bytes.now ≡ count)
             × HasRead bytes.now self.old self.new) }
@@ -81,8 +85,11 @@ impl<'a> SliceReader<'a> {
         Ok(bytes)
     }
 
-    /// A reader over exactly the next `count` bytes, which are read here. Refused as Truncated where there
-    /// are fewer.
+    /// Reads the next `count` bytes, and returns a reader over them.
+    ///
+    /// # Errors
+    ///
+    /// Truncated if there are fewer; Failed if the reader failed before.
     pub fn read_nested(&mut self, count: Length) -> Result<SliceReader<'a>>
         ensures found { IfOk result (λ nested. (length nested.unread ≡ count)
             × (nested ≡ before nested.unread) × HasRead nested.unread self.old self.new) }
@@ -96,11 +103,13 @@ impl<'a> SliceReader<'a> {
         Ok(SliceReader::new(bytes))
     }
 
-    /// Reads one element, whose tag is `T::TAG`.
+    /// Reads one element with the tag `T::TAG`.
     ///
-    /// Refused as Truncated where nothing is unread, as Tag where the next byte isn't `T::TAG`, whatever
-    /// follows it, then as Length or Truncated where no length of DER follows or the content has no room,
-    /// then as [`DecodeValue::decode_value`] refuses the content. The reader has then failed.
+    /// # Errors
+    ///
+    /// Truncated if no input remains; Tag if the next byte isn't `T::TAG`; then Length or Truncated if no length in the
+    /// form of DER follows, or if the input ends inside the content; then those of [`DecodeValue::decode_value`]; Failed
+    /// if the reader failed before. The reader has failed then.
     pub fn decode<T: DecodeValue<'a> + FixedTag>(&mut self) -> Result<T>
         // What is read is the element of the value, and just its bytes are read.
         ensures found { IfOk result (λ value. IsSomeAnd (T.content value) (λ content.
@@ -117,7 +126,7 @@ impl<'a> SliceReader<'a> {
             → IsProperBeginning self.old.unread (element T.number content)
             → Refuses result ErrorKind.Truncated }
         ensures kinds { self.old.failed ≡ false → IfErr result (λ e. IsReadingFault e.kind) }
-        // The unread bytes tell which kind.
+        // The kind of a refusal is a function of the remaining input.
         ensures kind { self.old.failed ≡ false
             → Tells result (element_fault T.number T.fault no_fault self.old.unread) }
         ensures failed { self.old.failed ≡ true → Refuses result ErrorKind.Failed
@@ -131,11 +140,13 @@ impl<'a> SliceReader<'a> {
         }
     }
 
-    /// Reads one explicit field `[number]`, whose content is one element with the tag `T::TAG`; None where
-    /// the next byte isn't `A0 + number` or there is none, and then nothing is read.
+    /// Reads an explicit field `[number]` around one element with the tag `T::TAG`, if present (X.690 section 8.14). It is
+    /// present if the next byte is `A0 + number`. Otherwise nothing is read.
     ///
-    /// Refused as [`decode`](SliceReader::decode) refuses the field's element and the one inside it, and as
-    /// TrailingData where bytes follow that one inside the field. The reader has then failed.
+    /// # Errors
+    ///
+    /// Those of [`decode`](SliceReader::decode) for the field and for the element inside; TrailingData if bytes follow
+    /// that element inside the field; Failed if the reader failed before. The reader has failed then.
     pub fn context_specific<T: DecodeValue<'a> + FixedTag + Drop>(
         &mut self,
         number: u8,
@@ -179,7 +190,11 @@ impl<'a> SliceReader<'a> {
         }
     }
 
-    /// Whether everything was read. Refused as TrailingData where bytes are unread.
+    /// Checks that the whole input was read.
+    ///
+    /// # Errors
+    ///
+    /// TrailingData if input remains; Failed if the reader failed before.
     pub fn finish(&mut self) -> Result<()>
         ensures ok { self.old ≡ before [] → IsOk result }
         ensures unchanged { OnOk result ((self.old ≡ before []) × (self.new ≡ self.old)) }
@@ -194,7 +209,7 @@ impl<'a> SliceReader<'a> {
         Ok(())
     }
 
-    /// Marks the reader as failed, and gives an error of this kind.
+    /// Marks the reader as failed, and returns an error of this kind.
     pub fn fail(&mut self, kind: ErrorKind) -> Error
         ensures error { result.kind ≡ kind }
         ensures after { self.new ≡ refused self.old }
@@ -203,7 +218,11 @@ impl<'a> SliceReader<'a> {
         kind.into()
     }
 
-    /// Refuses as Failed where the reader refused before.
+    /// Checks that the reader hasn't failed.
+    ///
+    /// # Errors
+    ///
+    /// Failed if it has.
     pub(crate) fn check(&self) -> Result<()>
         ensures whole { OnOk result (self.now.failed ≡ false) }
         ensures failed { IsErr result → self.now.failed ≡ true }
@@ -231,7 +250,7 @@ impl<'a> SliceReader<'a> {
     ///
     /// # Errors
     ///
-    /// Failed where the reader refused before.
+    /// Failed if the reader failed before.
     pub fn read_rest(&mut self) -> Result<&'a [u8]>
         ensures found { IfOk result (λ rest. (self.old ≡ before rest.now) × (self.new ≡ before [])) }
         ensures only { self.old.failed ≡ false → IsOk result }
@@ -244,7 +263,7 @@ impl<'a> SliceReader<'a> {
         Ok(rest)
     }
 
-    /// A reader over the content of the next element, which has this tag and is read here.
+    /// Reads the next element, which has this tag, and returns a reader over its content.
     fn open(&mut self, tag: Tag) -> Result<SliceReader<'a>>
         ensures found { IfOk result (λ content. (content ≡ before content.unread)
             × HasReadElement tag content.unread self.old self.new) }
@@ -277,7 +296,7 @@ impl<'a> SliceReader<'a> {
         }
     }
 
-    /// Reads the one element that is all that is unread.
+    /// Reads the one element in the remaining input.
     pub(crate) fn only_element<T: DecodeValue<'a> + FixedTag + Drop>(&mut self) -> Result<T>
         ensures found { IfOk result (λ value. IsSomeAnd (T.content value) (λ content.
             T.is_content content × (length content ≤ max_length)

@@ -8,8 +8,8 @@ use crate::{
 
 /// A struct that is read and written as the SEQUENCE of its components (X.690 section 8.9).
 ///
-/// Its [`Components`](Record::Components) say the shape once. With them the struct has [`FixedTag`],
-/// [`ValueContent`], [`DecodeValue`], [`EncodeValue`] and [`Sequence`].
+/// Its [`Components`](Record::Components) describe the shape once. From them it gets [`FixedTag`], [`ValueContent`],
+/// [`DecodeValue`], [`EncodeValue`] and [`Sequence`].
 pub trait Record: Sized {
     /// The components, in their order: [`Required`](crate::Required) and [`Optional`](crate::Optional) ones, and the
     /// [`End`](crate::End).

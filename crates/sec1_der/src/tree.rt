@@ -8,15 +8,17 @@ use crate::header::element_at;
 use crate::{ErrorKind, Result};
 use std::marker::Model;
 
-/// The most elements inside one another.
+/// The greatest number of nested elements.
 const MAX_DEPTH: usize = 64;
 
-/// The number of elements of the one DER tree of depth at most 64 with these bytes. An element whose tag is
-/// constructed holds elements again, and nothing else (X.690 section 8.1.2.5). No memory is taken.
+/// Checks that the input is one tree of elements with at most 64 levels, and returns their number. The content of an
+/// element with a constructed tag is elements again, and nothing else (X.690 section 8.1.2.5). Allocates no memory.
 ///
-/// Refused by the first fault from left to right: Tag or Length where an element has no header of DER;
-/// Truncated where the input ends inside an element, or an element ends beyond the one around it; Depth where
-/// an element at level 64 has elements inside, before they are read; TrailingData where bytes follow the tree.
+/// # Errors
+///
+/// The first from left to right: Tag or Length if an element has no header of DER; Truncated if the input ends inside an
+/// element, or an element ends after the one around it; Depth if an element at level 64 contains elements, before they are
+/// read; TrailingData if bytes follow the tree.
 pub fn check_tree(input: &[u8]) -> Result<usize>
     // What is counted is a tree, and these are its bytes.
     ensures found { IfOk result (λ n. (t : Tree) × IsTreeOf t input.now × (depth t ≤ 64)
@@ -51,14 +53,14 @@ pub fn check_tree(input: &[u8]) -> Result<usize>
     Ok(count)
 }
 
-/// The nodes around the next element. A contract sees how many bytes are left where each ends, the innermost
-/// first.
+/// The elements around the next one, which are its open nodes. A contract sees how many bytes are left at the end of each,
+/// the innermost first.
 #[derive(Drop)]
 struct OpenNodes {
-    /// How many bytes are left where the input ends, which is none, and where each open node does.
+    /// The number of bytes left at the end of the input, which is 0, and at the end of each open node.
     ends: [usize; MAX_DEPTH],
 
-    /// How many nodes are open.
+    /// The number of open nodes.
     level: usize,
 }
 
@@ -96,14 +98,18 @@ impl OpenNodes {
         self.level == 0
     }
 
-    /// How many bytes are left where the innermost node ends, or the input where none is open.
+    /// Returns the number of bytes left at the end of the innermost node, or of the input.
     fn end(&self) -> usize
         ensures { result ≡ innermost self.now }
     {
         self.ends[self.level]
     }
 
-    /// Opens a node at the next level. Refused as Depth where that is level 64.
+    /// Opens a node at the next level.
+    ///
+    /// # Errors
+    ///
+    /// Depth if that is level 64.
     fn open(&mut self, end: usize) -> Result<()>
         ensures opened { OnOk result ((length self.old < 63) × (self.new ≡ end ∷ self.old)) }
         ensures full { OnErr result (length self.old ≡ 63) }
@@ -124,8 +130,7 @@ impl OpenNodes {
         self.level -= 1;
     }
 
-    /// Passes the element that stands first, or opens it where it has elements inside. Answers what is left
-    /// behind the element, or behind its header.
+    /// Skips the next element, or opens it if it contains elements. Returns the bytes after the element, or after its header.
     #[inline(always)]
     fn enter<'a>(&mut self, rest: &'a [u8]) -> Result<&'a [u8]>
         requires { innermost self.old ≤ length rest.now }

@@ -10,7 +10,7 @@ use crate::{
     from_der,
 };
 
-/// A type no two values of which have one content.
+/// A type whose values have different contents.
 pub trait UniqueContent: ValueContent {
     /// Does nothing: its contract is the law that two values with one content are the same.
     fn one()
@@ -85,15 +85,15 @@ where
     }
 }
 
-/// Reads the value whose element is all of the input, where a value is determined by its content.
+/// Reads a value from its whole DER encoding. The value is determined by its content.
 ///
 /// # Errors
 ///
-/// As [`from_der`].
+/// Those of [`from_der`].
 pub fn read_der<'a, T: DecodeValue<'a> + FixedTag + UniqueContent + Drop>(
     input: &'a [u8],
 ) -> Result<T>
-    // What is read has these bytes, and the value that has these bytes is read.
+    // What is read has these bytes, and a value with these bytes is read.
     ensures found { IfOk result (λ value. element_of T.number (T.content value) ≡ Some input.now) }
     ensures only { (value : T) → element_of T.number (T.content value) ≡ Some input.now → result ≡ Ok value }
     ensures kinds { IfErr result (λ e. IsReadingFault e.kind) }

@@ -1,4 +1,4 @@
-//! What a type of DER values says of itself, so that the generic calls can read and write it.
+//! The traits of DER values: with them the generic calls read and write a type.
 ghost use Rattle.std.specs.Prelude.{◌≡◌, ◌<◌, ◌≤◌, ℕ, List, [], length, Bool, true, false, Option, Some, IsOk, IfOk, IfErr, OnOk, OnErr};
 ghost use Rattle.sec1_der.specs.BackWriters.{end_of, front_of, KeepsEnd, PutsNothing, PutsInFront};
 ghost use Rattle.sec1_der.specs.Elements.{max_length, IsOverlong};
@@ -9,7 +9,7 @@ ghost use Rattle.sec1_der.specs.SliceWriters.{room_of, KeepsSlice, AppendsNothin
 
 use crate::{BackWriter, ErrorKind, Length, Result, SliceReader, SliceWriter, Tag};
 
-/// A type whose elements have one tag.
+/// A type whose elements all have the same tag.
 pub trait FixedTag {
     /// The tag.
     const TAG: Tag;
@@ -17,38 +17,40 @@ pub trait FixedTag {
     /// The number of the tag byte.
     ghost number: { ℕ };
 
-    /// The tag, with the number that contracts know it by. Each type answers `Self::TAG`.
+    /// Returns `Self::TAG`. A contract knows its number.
     fn fixed_tag() -> Tag
         ensures { result ≡ number };
 }
 
-/// What the content of a value's element is.
+/// A type whose values have a content, the bytes in their element after the header.
 pub trait ValueContent {
-    /// The content of a value, where it has one.
+    /// The content of a value, if it has one.
     ghost content: { Self → Option (List ℕ) };
 
     /// Which bytes are contents of the type.
     ghost is_content: { List ℕ → Type 0 };
 
-    /// The content of a value is a content of the type, where an element can hold it.
+    /// The content of a value is a content of the type, if an element can hold it.
     ghost content_is_one: { (value : Self) (bytes : List ℕ) → content value ≡ Some bytes
         → length bytes ≤ max_length → is_content bytes };
 
-    /// What bytes are refused by as a content of the type: a kind, or None where they are a content.
+    /// The kind of the error by which bytes are refused as a content of the type, or None if they are a content.
     ghost fault: { Fault };
 
     /// Which contents are refused, if at all, only after the end of an explicit field (X.690 section 8.14) around
-    /// them has been tested. A type whose [`DecodeExplicit`](crate::DecodeExplicit) is a call of
+    /// them was checked. A type whose [`DecodeExplicit`](crate::DecodeExplicit) is a call of
     /// [`SliceReader::context_specific`] has none, and leaves this out.
     ghost told_late: { List ℕ → Bool } = { never_late };
 }
 
 /// A value that is read from the content of its element.
 pub trait DecodeValue<'a>: ValueContent + Sized {
-    /// Reads the value whose content is all that is unread, at most 268,435,455 bytes.
+    /// Reads a value from its content, which is all of the remaining input, at most 268,435,455 bytes.
     ///
-    /// Refused as Truncated, Tag, Length, TrailingData or Value where the unread bytes are no content of the
-    /// type, and as Failed where the reader refused before. The reader has then failed.
+    /// # Errors
+    ///
+    /// Truncated, Tag, Length, TrailingData or Value if the remaining input isn't a content of the type; Failed if the
+    /// reader failed before. The reader has failed then.
     fn decode_value(reader: &mut SliceReader<'a>) -> Result<Self>
         requires { length reader.old.unread ≤ max_length }
         ensures found { IfOk result (λ value. Self.content value ≡ Some reader.old.unread) }
@@ -64,15 +66,21 @@ pub trait DecodeValue<'a>: ValueContent + Sized {
 
 /// A value whose content is written.
 pub trait EncodeValue: ValueContent {
-    /// The count of bytes of the content. Refused as Overlength where there is no content, or where it is longer
-    /// than 268,435,455 bytes.
+    /// Returns the length of the content in bytes.
+    ///
+    /// # Errors
+    ///
+    /// Overlength if there is no content, or if it is longer than 268,435,455 bytes.
     fn value_len(&self) -> Result<Length>
         ensures none { IsOverlong (Self.content self.now) → Refuses result ErrorKind.Overlength }
         ensures some { (bytes : List ℕ) → Self.content self.now ≡ Some bytes → length bytes ≤ max_length
             → result ≡ Ok (length bytes) };
 
-    /// Appends the content. Refused as [`value_len`](EncodeValue::value_len) refuses, then as Buffer where the
-    /// content has no room. Nothing is written then.
+    /// Appends the content.
+    ///
+    /// # Errors
+    ///
+    /// Those of [`value_len`](EncodeValue::value_len), then Buffer if the content has no room. Nothing is written then.
     fn encode_value(&self, writer: &mut SliceWriter) -> Result<()>
         ensures slice { KeepsSlice writer.old writer.new }
         ensures none { IsOverlong (Self.content self.now) → Refuses result ErrorKind.Overlength
@@ -84,8 +92,11 @@ pub trait EncodeValue: ValueContent {
             → length (room_of writer.old) < length bytes
             → Refuses result ErrorKind.Buffer × AppendsNothing writer.old writer.new };
 
-    /// Puts the content in front of what was written. Refused as [`encode_value`](EncodeValue::encode_value)
-    /// refuses, and nothing is written then.
+    /// Prepends the content to what was written.
+    ///
+    /// # Errors
+    ///
+    /// Those of [`encode_value`](EncodeValue::encode_value). Nothing is written then.
     fn encode_back(&self, writer: &mut BackWriter) -> Result<()>
         ensures slice { KeepsEnd writer.old writer.new }
         ensures grows { length (end_of writer.old) ≤ length (end_of writer.new) }
@@ -98,15 +109,15 @@ pub trait EncodeValue: ValueContent {
             → length (front_of writer.old) < length bytes
             → Refuses result ErrorKind.Buffer × PutsNothing writer.old writer.new };
 
-    /// Puts the content in front of what was written, where the caller has tested that it has room. Where there is
-    /// less room, or no content, any bytes may be put in front.
+    /// Prepends the content to what was written, without testing the room first. If there is less room, or no content, any
+    /// bytes may be prepended.
     ///
-    /// A type that is made of other elements has a method of its own, which calls
-    /// [`BackWriter::put_element`] and doesn't measure: so an element is measured once, however deep it is nested.
+    /// A type that contains other elements overrides this with calls of [`BackWriter::put_element`], so that an element is
+    /// measured once, however deep it is nested.
     ///
     /// # Errors
     ///
-    /// None where the content has room.
+    /// None if the content has room.
     fn put_value(&self, writer: &mut BackWriter) -> Result<()>
         ensures slice { KeepsEnd writer.old writer.new }
         ensures grows { length (end_of writer.old) ≤ length (end_of writer.new) }

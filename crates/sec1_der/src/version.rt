@@ -5,8 +5,8 @@ use crate::{
     SliceWriter, Tag, ValueContent,
 };
 
-/// The version of an ECPrivateKey, the INTEGER one (RFC 5915 section 3). Its content is the byte `01`, and any
-/// other content is refused as Value.
+/// The version of an ECPrivateKey, the INTEGER 1 (RFC 5915 section 3). Its content is the byte `01`; any other is refused
+/// as Value.
 #[derive(Clone, Copy, PartialEq, Eq, Debug)]
 pub struct VersionOne;
 

@@ -1,5 +1,4 @@
-//! Inspects an EC private key: its hexadecimal text on standard input, or its DER in the file that
-//! the one argument names.
+//! Inspects an EC private key: hexadecimal text on standard input, or DER in the file named by the one argument.
 #![tactic(auto)]
 
 ghost use Rattle.std.specs.Prelude.{◌≡◌, ◌≢◌, ◌<◌, ◌≤◌, ℕ, List, false, ◌↔◌, ◌⊎◌, IsTrue, IfOk, IfErr, OnOk, OnErr, IsErrOf, MatchOption, MatchResult, Ok, Err, string_bytes};
@@ -30,7 +29,7 @@ pub enum Fault {
     Input,
     /// The writer failed.
     Output,
-    /// A growth was refused.
+    /// An allocation failed.
     Memory,
 }
 
@@ -52,12 +51,13 @@ impl From<AllocError> for Fault {
     }
 }
 
-/// Reads an input in hexadecimal, builds the whole report on it and then writes that: 0 for a key,
-/// 1 for what is refused. Of an input above 1,048,576 bytes one byte more is read.
+/// Reads an input in hexadecimal, writes the report on it, and returns the status: 0 for a key, 1 for anything else. At
+/// most 1,048,577 bytes are read.
 ///
-/// Input exactly where the reader has failed after the call, Output exactly where the writer has,
-/// Memory where a growth was refused. After Output a beginning of the report was written, after the
-/// others nothing.
+/// # Errors
+///
+/// Input exactly if a read failed, Output exactly if a write failed, Memory if an allocation failed. After Output a
+/// beginning of the report is written, otherwise nothing.
 pub fn run<R: Read, W: Write>(alloc: Global, reader: &mut R, writer: &mut W) -> Result<u8, Fault>
     requires reader { R.failed reader.old ≡ false }
     requires writer { W.failed writer.old ≡ false }
@@ -79,7 +79,11 @@ pub fn run<R: Read, W: Write>(alloc: Global, reader: &mut R, writer: &mut W) -> 
     write_report(writer, &report)
 }
 
-/// Reads an input in DER, and reports on it as `run` does. This port's own.
+/// Reads an input in DER, and reports on it as [`run`] does.
+///
+/// # Errors
+///
+/// Those of [`run`].
 pub fn run_der<R: Read, W: Write>(
     alloc: Global,
     reader: &mut R,
@@ -105,10 +109,10 @@ pub fn run_der<R: Read, W: Write>(
     write_report(writer, &report)
 }
 
-/// Returns all that the reader has left, up to one byte more than an input may have.
+/// Reads the remaining input, at most one byte more than the limit.
 ///
 /// # Errors
-/// Input exactly where a read failed, Memory where a growth was refused.
+/// Input exactly if a read failed, Memory if an allocation failed.
 fn read_input<R: Read>(alloc: Global, reader: &mut R) -> Result<Vec<u8>, Fault>
     requires { R.failed reader.old ≡ false }
     ensures input { IsErrOf result Fault.Input ↔ IsTrue (R.failed reader.new) }
@@ -125,14 +129,14 @@ fn read_input<R: Read>(alloc: Global, reader: &mut R) -> Result<Vec<u8>, Fault>
     Ok(input)
 }
 
-/// The most bytes that are asked for in one read.
+/// The greatest number of bytes in one read.
 const STEP: usize = 4096;
 
-/// Asks once for bytes that are missing, at most 4,096, reads them onto the end of the input and returns how many:
-/// none only at the end of what is read. The input grows only by what is asked for.
+/// Appends the bytes of one read to the input, at most 4,096 and at most those missing, and returns their number: 0 only at
+/// the end. The vector grows by no more.
 ///
 /// # Errors
-/// Input exactly where the read failed, Memory where the growth was refused. The input is then as it was.
+/// Input exactly if the read failed, Memory if the allocation failed. The vector is unchanged then.
 fn read_some<R: Read>(reader: &mut R, input: &mut Vec<u8>, missing: usize) -> Result<usize, Fault>
     requires unfailed { R.failed reader.old ≡ false }
     requires some { 0 < missing }
@@ -157,7 +161,7 @@ fn read_some<R: Read>(reader: &mut R, input: &mut Vec<u8>, missing: usize) -> Re
 /// Writes the report, and returns its status.
 ///
 /// # Errors
-/// Output exactly where a write failed; a beginning of the report was written then.
+/// Output exactly if a write failed; a beginning of the report is written then.
 fn write_report<W: Write>(writer: &mut W, report: &Report) -> Result<u8, Fault>
     requires { W.failed writer.old ≡ false }
     ensures output { IsErrOf result Fault.Output ↔ IsTrue (W.failed writer.new) }
@@ -174,7 +178,7 @@ fn write_report<W: Write>(writer: &mut W, report: &Report) -> Result<u8, Fault>
     }
 }
 
-/// The form in which an input stands.
+/// The form of an input.
 #[derive(Clone, Copy)]
 enum Form {
     /// Hexadecimal text.
@@ -183,10 +187,10 @@ enum Form {
     Der,
 }
 
-/// Reports on the reader's input to the writer, flushes what was written, and returns the report's status.
+/// Reads the input, writes and flushes the report on it, and returns the status.
 ///
 /// # Errors
-/// Input where a read failed, Output where a write or the flush did, Memory where a growth was refused.
+/// Input if a read failed, Output if a write or the flush failed, Memory if an allocation failed.
 fn inspect<R: io::Read + Drop, W: io::Write + Drop>(
     alloc: Global,
     form: Form,
@@ -207,10 +211,10 @@ fn inspect<R: io::Read + Drop, W: io::Write + Drop>(
     }
 }
 
-/// Why the program has no report.
+/// Why the program prints no report.
 #[derive(Drop)]
 enum Failure {
-    /// The run has none.
+    /// A run failed.
     Run(Fault),
     /// Two or more paths were given.
     Paths,
@@ -233,10 +237,10 @@ enum Source {
     File(String),
 }
 
-/// Returns the source that the arguments name: the first after the program's own name, and the one after that.
+/// Returns the source named by the first two arguments.
 ///
 /// # Errors
-/// Paths where there are two.
+/// Paths if there are two.
 fn chosen_source(path: Option<String>, other: Option<String>) -> Result<Source, Failure>
     ensures { MatchOption path (result ≡ Ok StandardInput)
         (λ path. MatchOption other (result ≡ Ok (File path)) (λ _. result ≡ Err Paths)) }
@@ -258,7 +262,7 @@ fn status(outcome: &Result<u8, Failure>) -> u8
     }
 }
 
-/// Returns the line, without its end, that tells on standard error why there is no report.
+/// Returns the line for standard error, without its end.
 fn line(failure: &Failure) -> &'static str
     ensures { result.now ≡ line_of failure.now }
 {
@@ -270,7 +274,7 @@ fn line(failure: &Failure) -> &'static str
     }
 }
 
-/// Reports on the source that the program's arguments name to standard output, and returns the status.
+/// Writes the report on the source named by the program's arguments to standard output, and returns the status.
 fn inspect_source<H: AllocGlobal + Env + Files + Input + Print>(rt: &H) -> Result<u8, Failure> {
     let Ok(mut arguments) = env::args(rt) else {
         return Err(Failure::Run(Fault::Input));

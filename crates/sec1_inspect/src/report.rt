@@ -8,19 +8,19 @@ use sec1::point::Tag;
 use sec1::{EcParameters, EcPrivateKey, EncodedPoint, der};
 use std::alloc::{AllocError, Global};
 
-/// The most bytes that an input may have.
+/// The greatest length of an input in bytes.
 pub const LIMIT: usize = 1_048_576;
 
-/// What is written for an input, and the status that the program ends with.
+/// The report on an input, and the status that the program ends with.
 #[derive(Drop)]
 pub struct Report {
     /// The lines.
     pub text: String,
-    /// 0 for a key, 1 for what is refused.
+    /// 0 for a key, 1 for anything else.
     pub status: u8,
 }
 
-/// The report on an input in hexadecimal. Only want of memory is refused.
+/// Returns the report on an input in hexadecimal. Fails only if an allocation fails.
 pub fn report_on_text(alloc: Global, input: &[u8]) -> Result<Report, AllocError>
     ensures { IfOk result (λ report. IsReport input.now (string_bytes report.text) report.status) }
 {
@@ -35,7 +35,7 @@ pub fn report_on_text(alloc: Global, input: &[u8]) -> Result<Report, AllocError>
     }
 }
 
-/// The report on an input in DER. Only want of memory is refused.
+/// Returns the report on an input in DER. Fails only if an allocation fails.
 pub fn report_on_der(alloc: Global, input: &[u8]) -> Result<Report, AllocError>
     ensures { IfOk result (λ report. IsDerReport input.now (string_bytes report.text) report.status) }
 {
@@ -45,7 +45,7 @@ pub fn report_on_der(alloc: Global, input: &[u8]) -> Result<Report, AllocError>
     report_on_bytes(alloc, input)
 }
 
-/// The input without its spaces, tabs and ends of lines.
+/// Returns the input without its spaces, tabs and ends of lines.
 fn without_blanks(alloc: Global, input: &[u8]) -> Result<Vec<u8>, AllocError>
     ensures { IfOk result (λ digits. digits.items ≡ stripped input.now) }
 {
@@ -56,7 +56,7 @@ fn without_blanks(alloc: Global, input: &[u8]) -> Result<Vec<u8>, AllocError>
         .collect(alloc)
 }
 
-/// The report on bytes that may be a key's.
+/// Returns the report on bytes that may be a key's.
 fn report_on_bytes(alloc: Global, bytes: &[u8]) -> Result<Report, AllocError>
     ensures { IfOk result (λ report. IsReportOnBytes bytes.now (string_bytes report.text) report.status) }
 {
@@ -66,7 +66,7 @@ fn report_on_bytes(alloc: Global, bytes: &[u8]) -> Result<Report, AllocError>
     }
 }
 
-/// The report on bytes that are no key's.
+/// Returns the report on bytes that aren't a key's.
 fn no_key_report(alloc: Global, bytes: &[u8]) -> Result<Report, AllocError>
     ensures { IfOk result (λ report. IsNoKeyReport bytes.now (string_bytes report.text) report.status) }
 {
@@ -74,7 +74,7 @@ fn no_key_report(alloc: Global, bytes: &[u8]) -> Result<Report, AllocError>
     refusal(alloc, "not an EC private key in DER", tree.as_str())
 }
 
-/// How many elements the tree with these bytes has, or `no`.
+/// Returns the number of elements of the tree with these bytes, or `no`.
 fn tree_text(alloc: Global, bytes: &[u8]) -> Result<String, AllocError>
     ensures { IfOk result (λ text. IsTreeText bytes.now (string_bytes text)) }
 {
@@ -84,7 +84,7 @@ fn tree_text(alloc: Global, bytes: &[u8]) -> Result<String, AllocError>
     }
 }
 
-/// The report on what is refused for this reason, with these words for its tree.
+/// Returns the report on a refused input, with the reason and the words for its tree.
 fn refusal(alloc: Global, reason: &str, tree: &str) -> Result<Report, AllocError>
     ensures { IfOk result
         (λ report. IsRefusal reason.now tree.now (string_bytes report.text) report.status) }
@@ -93,7 +93,7 @@ fn refusal(alloc: Global, reason: &str, tree: &str) -> Result<Report, AllocError
     Ok(Report { text, status: 1 })
 }
 
-/// The report on a key.
+/// Returns the report on a key.
 fn key_report(alloc: Global, key: &EcPrivateKey) -> Result<Report, AllocError>
     ensures { IfOk result (λ report. IsKeyReport key.now (string_bytes report.text) report.status) }
 {
@@ -107,7 +107,7 @@ fn key_report(alloc: Global, key: &EcPrivateKey) -> Result<Report, AllocError>
     Ok(Report { text, status: 0 })
 }
 
-/// The dotted text of the curve, or `none`.
+/// Returns the dotted text of the curve, or `none`.
 fn parameters_text(alloc: Global, key: &EcPrivateKey) -> Result<String, AllocError>
     ensures { IfOk result (λ text. string_bytes text ≡ parameters_words key.now.parameters) }
 {
@@ -117,7 +117,7 @@ fn parameters_text(alloc: Global, key: &EcPrivateKey) -> Result<String, AllocErr
     }
 }
 
-/// The hexadecimal digits of the public key, `empty` or `none`.
+/// Returns the hexadecimal digits of the public key, `empty` or `none`.
 fn public_key_text(alloc: Global, key: &EcPrivateKey) -> Result<String, AllocError>
     ensures { IfOk result (λ text. string_bytes text ≡ public_key_words key.now.public_key) }
 {
@@ -128,7 +128,7 @@ fn public_key_text(alloc: Global, key: &EcPrivateKey) -> Result<String, AllocErr
     }
 }
 
-/// The words for the point that the public key is at the first size that accepts it, or `none`.
+/// Returns the words for the point that the public key encodes, at the first size at which it does, or `none`.
 fn point_text(alloc: Global, key: &EcPrivateKey) -> Result<String, AllocError>
     ensures { IfOk result (λ text. IsPublicPointText key.now.public_key (string_bytes text)) }
 {
@@ -166,7 +166,7 @@ fn point_words<const N: usize, const L: usize>(
     }
 }
 
-/// The words for a point with this tag, at this size.
+/// Returns the words for a point with this tag, for field elements of this many bytes.
 fn tag_text(alloc: Global, tag: Tag, size: usize) -> Result<String, AllocError>
     ensures { IfOk result (λ text. string_bytes text ≡ tag_words size tag) }
 {

@@ -1,5 +1,5 @@
-//! Reads EC private keys in hexadecimal, one a line, and prints of each its parts and whether it is written again as
-//! it was read, or why it is refused. Lines that begin with `#` are passed over.
+//! Reads EC private keys in hexadecimal, one a line, and prints for each its parts and whether it is written as it was
+//! read, or why it is refused. Lines that begin with `#` are skipped.
 #![tactic(auto)]
 
 use hex::ToHex;
@@ -16,7 +16,7 @@ fn digits(alloc: Global, bytes: &[u8]) -> Result<String, AllocError> {
     bytes.encode_hex_upper(alloc)
 }
 
-/// Returns the parts of the key: the private key, the curve and the public key, `none` for what is missing.
+/// Returns the parts of the key: the private key, the curve and the public key, each `none` if absent.
 fn parts(alloc: Global, key: &EcPrivateKey) -> Result<String, AllocError> {
     let private_key = digits(alloc, key.private_key)?;
     let curve = match key.parameters {
@@ -30,7 +30,7 @@ fn parts(alloc: Global, key: &EcPrivateKey) -> Result<String, AllocError> {
     format!(in alloc; "{private_key} {curve} {public_key}")
 }
 
-/// Returns whether the key is written as these bytes, both into a slice and into a vector.
+/// Returns `true` if the key is written as these bytes, both into a slice and into a vector.
 fn is_written_as(alloc: Global, key: &EcPrivateKey, bytes: &[u8]) -> bool {
     let Ok(mut room) = bytes.to_vec(alloc) else {
         return false;
@@ -45,7 +45,7 @@ fn is_written_as(alloc: Global, key: &EcPrivateKey, bytes: &[u8]) -> bool {
     count == bytes.len() && room.as_slice() == bytes && der.as_slice() == bytes
 }
 
-/// Returns what is told of the key that a line spells.
+/// Returns the line to print for a key in hexadecimal.
 fn answer(alloc: Global, line: &str) -> Result<String, AllocError> {
     let Ok(bytes) = hex::decode(alloc, line) else {
         return "not hexadecimal".to_string(alloc);

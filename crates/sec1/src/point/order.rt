@@ -59,7 +59,7 @@ impl<const N: usize, const L: usize> Ord for EncodedPoint<N, L> {
         ensures bytes { result
             ≡ slice_cmp nat_cmp (enc N (point_of self.now)) (enc N (point_of other.now)) }
     {
-        // The compiler knows how many words these have, and compares them without a loop.
+        // The compiler knows the number of words in these, and compares them without a loop.
         if self.len == L && other.len == L {
             return words_cmp(&self.bytes, &other.bytes);
         }
@@ -67,7 +67,7 @@ impl<const N: usize, const L: usize> Ord for EncodedPoint<N, L> {
     }
 }
 
-/// Returns the order of the bytes, of which eight are compared at a time.
+/// Compares the bytes, eight at a time.
 fn words_cmp(a: &[u8], b: &[u8]) -> Ordering
     ensures { result ≡ slice_cmp nat_cmp a.now b.now }
 {

@@ -20,7 +20,11 @@ use std::fmt;
 use std::str::FromStr;
 
 impl<const N: usize, const L: usize> EncodedPoint<N, L> {
-    /// The encoding, owned. Memory where that is refused.
+    /// Returns a copy of the encoding.
+    ///
+    /// # Errors
+    ///
+    /// Memory if the allocation fails.
     pub fn to_bytes(&self, alloc: Global) -> Result<BoxedSlice<u8>>
         ensures ok { IfOk result (λ bytes. boxed_slice_items bytes ≡ enc N (point_of self.now)) }
         ensures kind { IfErr result (λ e. e ≡ Memory) }
@@ -28,7 +32,11 @@ impl<const N: usize, const L: usize> EncodedPoint<N, L> {
         BoxedSlice::from_slice(alloc, self.as_bytes()).map_err(|_| Error::Memory)
     }
 
-    /// The encoding in hexadecimal, with the letters a to f. Memory where that is refused.
+    /// Returns the encoding in hexadecimal, with the letters a to f.
+    ///
+    /// # Errors
+    ///
+    /// Memory if the allocation fails.
     pub fn to_lower_hex(&self, alloc: Global) -> Result<String>
         ensures ok { IfOk result (λ text. string_bytes text ≡ encode_lower (enc N (point_of self.now))) }
         ensures kind { IfErr result (λ e. e ≡ Memory) }
@@ -36,7 +44,11 @@ impl<const N: usize, const L: usize> EncodedPoint<N, L> {
         hex::encode(alloc, self.as_bytes()).map_err(|_| Error::Memory)
     }
 
-    /// The encoding in hexadecimal, with the letters A to F. Memory where that is refused.
+    /// Returns the encoding in hexadecimal, with the letters A to F.
+    ///
+    /// # Errors
+    ///
+    /// Memory if the allocation fails.
     pub fn to_upper_hex(&self, alloc: Global) -> Result<String>
         ensures ok { IfOk result (λ text. string_bytes text ≡ encode_upper (enc N (point_of self.now))) }
         ensures kind { IfErr result (λ e. e ≡ Memory) }
@@ -44,7 +56,11 @@ impl<const N: usize, const L: usize> EncodedPoint<N, L> {
         hex::encode_upper(alloc, self.as_bytes()).map_err(|_| Error::Memory)
     }
 
-    /// A JSON string of the encoding in hexadecimal, with the letters A to F. Memory where that is refused.
+    /// Returns a JSON string of the encoding in hexadecimal, with the letters A to F.
+    ///
+    /// # Errors
+    ///
+    /// Memory if the allocation fails.
     pub fn to_json(&self, alloc: Global) -> Result<Value>
         ensures ok { IfOk result (λ json. view json ≡ string (encode_upper (enc N (point_of self.now)))) }
         ensures kind { IfErr result (λ e. e ≡ Memory) }
@@ -52,9 +68,11 @@ impl<const N: usize, const L: usize> EncodedPoint<N, L> {
         Ok(Value::String(self.to_upper_hex(alloc)?))
     }
 
-    /// The point whose encoding a JSON string spells, by the rule of `from_str`.
+    /// Reads a point from a JSON string of its encoding in hexadecimal, as [`from_str`](EncodedPoint::from_str) does.
     ///
-    /// Any other string and any other JSON value are refused as PointEncoding.
+    /// # Errors
+    ///
+    /// PointEncoding for any other string, and for any other JSON value.
     pub fn from_json(value: &Value) -> Result<Self>
         ensures { ReadsJson (view value.now) result }
     {
@@ -64,7 +82,7 @@ impl<const N: usize, const L: usize> EncodedPoint<N, L> {
         }
     }
 
-    // The point whose encoding these digits spell.
+    /// Reads a point from its encoding in hexadecimal digits.
     fn from_digits(text: &[u8]) -> Result<Self>
         ensures { ReadsText text.now result }
     {
@@ -77,7 +95,7 @@ impl<const N: usize, const L: usize> EncodedPoint<N, L> {
     }
 }
 
-// Decodes two digits for each byte, whose letters are all of one case.
+/// Decodes two hexadecimal digits for each byte, and returns `true` if they are digits with letters of one case.
 fn decode_digits(text: &[u8], out: &mut [u8]) -> bool
     requires { length out.old ≡ length text.now / 2 }
     ensures decoded { IsTrue result → IsHexOf text.now out.new × IsBytes out.new }
@@ -87,10 +105,11 @@ fn decode_digits(text: &[u8], out: &mut [u8]) -> bool
     is_one_case(text) && hex::decode_to_slice(text, out).is_ok()
 }
 
-// Whether no letter is upper case, or none is lower case. All of the text is looked at, so that many bytes are at once.
+/// Returns `true` if no letter is upper case, or none is lower case.
 fn is_one_case(text: &[u8]) -> bool
     ensures { result ≡ is_one_case text.now }
 {
+    // No early end, so that the compiler tests many bytes at once.
     let mut has_upper = false;
     let mut has_lower = false;
     for c in text {
@@ -100,10 +119,11 @@ fn is_one_case(text: &[u8]) -> bool
     !has_upper || !has_lower
 }
 
-/// The point whose encoding a text spells in hexadecimal.
+/// Reads a point from its encoding in hexadecimal, with letters of one case.
 ///
-/// The letters are all upper case or all lower case. Any other text is refused as PointEncoding, and so are all
-/// texts where N and L don't fit.
+/// # Errors
+///
+/// PointEncoding for any other text, or if N and L don't [fit](EncodedPoint::fits).
 impl<const N: usize, const L: usize> FromStr for EncodedPoint<N, L> {
     type Err = Error;
 
@@ -114,7 +134,7 @@ impl<const N: usize, const L: usize> FromStr for EncodedPoint<N, L> {
     }
 }
 
-/// The encoding in hexadecimal, with the letters A to F. A width that is asked counts for nothing.
+/// Prints the encoding in hexadecimal, with the letters A to F. A width is ignored.
 impl<const N: usize, const L: usize> fmt::Display for EncodedPoint<N, L> {
     ghost output = { λ point. Some (encode_upper (enc N (point_of point))) };
 
