@@ -1,4 +1,4 @@
--- Coordinates lent as arrays of bytes.
+-- Coordinates borrowed as arrays of bytes.
 use Rattle.std.specs.Prelude.{◌≡◌, ℕ, zero, suc, List, [], ◌∷◌, ◌++◌, Bool, if◌then◌else◌, length, ⊤, get_or, bytes_eq}
 use Rattle.std.specs.Cmp.{IsEquivalence}
 use Rattle.std.specs.Cmp.Lexicographic.{on_texts_equal}
@@ -7,16 +7,16 @@ use Rattle.sec1.specs.Points.{Point, identity, compact, compressed, uncompressed
 use Rattle.sec1.specs.declared.point.coordinates.Coordinates.{Coordinates}
 use Rattle.sec1.specs.declared.point.coordinates.Coordinates.TheVariants as parts
 
--- The first n bytes. Those of a lent array are all it has; its length is told only where it comes from.
+-- The first n bytes. Those of a borrowed array are all it has; its length is known only where it is borrowed.
 unfoldable pub first_bytes : ℕ → List ℕ → List ℕ
 first_bytes zero xs = []
 first_bytes (suc n) xs = first_bytes n xs ++ get_or xs n 0 ∷ []
 
--- the number of a lent array
+-- the number in a borrowed array
 abbrev pub lent_number : ℕ → List ℕ → ℕ
 lent_number n xs = num (first_bytes n xs)
 
--- the point whose parts are lent
+-- the point with these coordinates
 abbrev pub lent_point : {N : ℕ} → Coordinates N → Point
 lent_point {N} parts.Identity = identity
 lent_point {N} (parts.Compact x) = compact (lent_number N x.now)
@@ -24,7 +24,7 @@ lent_point {N} (parts.Compressed x y_is_odd) = compressed (lent_number N x.now) 
 lent_point {N} (parts.Uncompressed x y) = uncompressed (lent_number N x.now) (lent_number N y.now)
 lent_point {N} (parts.Hybrid x y) = hybrid (lent_number N x.now) (lent_number N y.now)
 
--- the lent arrays have N bytes
+-- the borrowed arrays have N bytes
 abbrev pub AreWhole : {N : ℕ} → Coordinates N → Type 0
 AreWhole {N} parts.Identity = ⊤
 AreWhole {N} (parts.Compact x) = length x.now ≡ N
@@ -32,7 +32,7 @@ AreWhole {N} (parts.Compressed x y_is_odd) = length x.now ≡ N
 AreWhole {N} (parts.Uncompressed x y) = (length x.now ≡ N) × (length y.now ≡ N)
 AreWhole {N} (parts.Hybrid x y) = (length x.now ≡ N) × (length y.now ≡ N)
 
--- all that is lent in one list: a number for the variant and its flag, then the N bytes of each coordinate
+-- the coordinates in one list: a number for the variant and its flag, then the N bytes of each coordinate
 abbrev pub lent_bytes : {N : ℕ} → Coordinates N → List ℕ
 lent_bytes {N} parts.Identity = 0 ∷ []
 lent_bytes {N} (parts.Compact x) = 1 ∷ first_bytes N x.now

@@ -1,4 +1,4 @@
--- The point that a value means, and what reading one answers.
+-- The point of a value, and the results of reading one.
 use Rattle.std.specs.Prelude.{◌≡◌, ℕ, List, take, Result, IsOkAnd, IfOk, IfErr, OnOk}
 use Rattle.std.specs.List.{All}
 use Rattle.sec1_der.specs.Elements.{IsProperBeginning}

@@ -35,7 +35,7 @@ IsAsn1ReadingFault PointEncoding = ⊥
 IsAsn1ReadingFault Version = ⊥
 IsAsn1ReadingFault Memory = ⊥
 
--- an error of DER of the kind that is told
+-- an error of DER of this kind
 abbrev pub IsAsn1Told : Option ErrorKind → Error → Type 0
 IsAsn1Told fault (Asn1 cause) = fault ≡ Some cause.kind
 IsAsn1Told fault Crypto = ⊥
@@ -43,6 +43,6 @@ IsAsn1Told fault PointEncoding = ⊥
 IsAsn1Told fault Version = ⊥
 IsAsn1Told fault Memory = ⊥
 
--- the call refuses by an error of DER of this kind, and answers where there is none
+-- the call refuses by an error of DER of this kind, and succeeds if there is none
 abbrev pub TellsAsn1 : {T : Type 0} → Result T Error → Option ErrorKind → Type 0
 TellsAsn1 result fault = MatchResult result (λ _. fault ≡ None) (IsAsn1Told fault)

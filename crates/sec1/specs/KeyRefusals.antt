@@ -3,7 +3,7 @@ use Rattle.sec1_der.specs.Contents.{byte_fault, identifier_fault, is_bit_string,
 use Rattle.sec1_der.specs.Refusals.{Fault, no_fault, end_fault, never_late, element_fault, field_fault}
 
 -- RFC 5915 section 3: the components of an ECPrivateKey in their order, and nothing behind them. The unused bits of the
--- public key are told late, after the end of its field.
+-- public key are checked late, after the end of its field.
 abbrev pub components_fault : Fault
 components_fault =
     element_fault 0x02 (byte_fault 1)

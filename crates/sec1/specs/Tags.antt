@@ -16,7 +16,7 @@ byte_of tags.Compact = 5
 byte_of tags.HybridEvenY = 6
 byte_of tags.HybridOddY = 7
 
--- what reading a tag answers
+-- the result of reading a tag
 pub record ReadsTag (byte : ℕ) (result : Result Tag Error) : Type 0 where
   pub found : IfOk result (λ tag. byte_of tag ≡ byte)
   pub none : OnErr result ((tag : Tag) → byte_of tag ≢ byte)

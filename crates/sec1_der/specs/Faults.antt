@@ -46,7 +46,7 @@ length_fault (first ∷ digits) = if lacks_digits first digits then Truncated el
 abbrev pub is_tag : ℕ → Bool
 is_tag byte = not (byte == 0) && not (byte % 32 == 31)
 
--- The kind, where no header begins the bytes. A bad tag is told before the length is looked at.
+-- The kind, where no header begins the bytes. The tag is checked before the length.
 abbrev pub header_fault : List ℕ → ErrorKind
 header_fault [] = Truncated
 header_fault (byte ∷ rest) = if is_tag byte then length_fault rest else Tag

@@ -14,11 +14,11 @@ use Rattle.sec1_der.specs.declared.error.ErrorKind.TheVariants.{Truncated, Tag, 
 abbrev pub Fault : Type 0
 Fault = List ℕ → Option ErrorKind
 
--- the call refuses by this kind, and answers where there is none
+-- the call refuses by this kind, and succeeds if there is none
 abbrev pub Tells : {T : Type 0} → Result T Error → Option ErrorKind → Type 0
 Tells result fault = MatchResult result (λ _. fault ≡ None) (λ e. fault ≡ Some e.kind)
 
--- bytes of which nothing is refused, and the end, behind which nothing may stand
+-- bytes that are never refused; and the end, after which there are no bytes
 abbrev pub no_fault : Fault
 no_fault bytes = None
 
@@ -48,7 +48,7 @@ abbrev pub parts_fault : Fault → Fault → Result (List ℕ × List ℕ) Error
 parts_fault content behind (Err kind) = Some kind
 parts_fault content behind (Ok x) = option_or (content x.0) (behind x.1)
 
--- X.690 section 8.1.1: an element with this tag, and what stands behind it. The tag is told before the length.
+-- X.690 section 8.1.1: an element with this tag, and what follows it. The tag is checked before the length.
 abbrev pub element_fault : ℕ → Fault → Fault → Fault
 element_fault tag content behind [] = Some Truncated
 element_fault tag content behind (byte ∷ bytes) =
@@ -63,8 +63,8 @@ is_next tag (byte ∷ bytes) = byte == tag
 abbrev pub never_late : List ℕ → Bool
 never_late content = false
 
--- the content of an explicit field: an element with this tag, and nothing behind it. What is told late of its content
--- is told after that.
+-- the content of an explicit field: an element with this tag, and nothing after it. What is checked late of its content
+-- is checked after that.
 abbrev pub inside_fault : ℕ → (List ℕ → Bool) → Fault → Fault
 inside_fault tag late content bytes =
     option_or (element_fault tag (λ inside. if late inside then None else content inside) end_fault bytes) (element_fault tag content no_fault bytes)
@@ -74,7 +74,7 @@ abbrev pub field_fault : ℕ → ℕ → (List ℕ → Bool) → Fault → Fault
 field_fault number tag late content behind bytes =
     if is_next (0xA0 + number) bytes then element_fault (0xA0 + number) (inside_fault tag late content) behind bytes else behind bytes
 
--- an element of any tag, by which its content is refused, and what stands behind it
+-- an element of any tag, which decides how its content is checked, and what follows it
 abbrev pub any_fault : (ℕ → Fault) → Fault → Fault
 any_fault content behind [] = Some Truncated
 any_fault content behind (tag ∷ bytes) =
