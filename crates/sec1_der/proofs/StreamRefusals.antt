@@ -45,7 +45,8 @@ digits_there : (first : ℕ) (digits more : List ℕ) → lacks_digits first dig
 digits_there first digits more e = by (nat_lt 0x80 first && nat_le first 0x84) e
   where
     fewer : (b : Bool) → nat_lt (length digits) (first - 0x80) ≡ b → b ≡ false → nat_lt (length (digits ++ more)) (first - 0x80) ≡ false
-    fewer b e none = le-ltb (length (digits ++ more)) (first - 0x80) (omega (arith, length-append digits more, ltb-false (length digits) (first - 0x80) (e ∙ none)))
+    fewer b e none = le-ltb (length (digits ++ more)) (first - 0x80)
+        (omega (arith, length-append digits more, ltb-false (length digits) (first - 0x80) (e ∙ none)))
 
     by : (b : Bool) → (b && nat_lt (length digits) (first - 0x80)) ≡ false → (b && nat_lt (length (digits ++ more)) (first - 0x80)) ≡ false
     by false none = refl
