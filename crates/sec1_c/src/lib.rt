@@ -12,5 +12,3 @@ mod key;
 mod part;
 mod point;
 mod status;
-#[cfg(test)]
-mod tests;

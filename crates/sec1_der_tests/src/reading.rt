@@ -163,43 +163,6 @@ fn context_fields_are_read(rt: HostRuntime) -> Result<(), Fail> {
     Ok(())
 }
 
-#[test]
-fn failed_readers_stay_failed(rt: HostRuntime) -> Result<(), Fail> {
-    let mut reader = SliceReader::new(b"\x05\x00\x04\x00");
-    let one = Length::new(1)?;
-    let refused = reader.decode::<OctetStringRef>().map_err(|e| e.kind);
-    assert_eq!(rt; refused, Err(ErrorKind::Tag));
-    let left = reader.remaining_len();
-    assert!(rt; reader.is_failed());
-    assert_eq!(rt; reader.peek_tag_byte(), None);
-    assert_eq!(rt;
-        reader.decode::<OctetStringRef>().map_err(|e| e.kind),
-        Err(ErrorKind::Failed)
-    );
-    assert_eq!(rt; reader.remaining_len(), left);
-    assert_eq!(rt;
-        reader
-            .context_specific::<OctetStringRef>(0)
-            .map_err(|e| e.kind),
-        Err(ErrorKind::Failed)
-    );
-    assert_eq!(rt; reader.remaining_len(), left);
-    assert_eq!(rt;
-        reader.read_slice(one).map_err(|e| e.kind),
-        Err(ErrorKind::Failed)
-    );
-    assert_eq!(rt; reader.remaining_len(), left);
-    assert!(rt;
-        reader
-            .read_nested(one)
-            .is_err_and(|e| e.kind == ErrorKind::Failed)
-    );
-    assert_eq!(rt; reader.remaining_len(), left);
-    assert_eq!(rt; reader.finish().map_err(|e| e.kind), Err(ErrorKind::Failed));
-    assert_eq!(rt; reader.remaining_len(), left);
-    Ok(())
-}
-
 static IDENTIFIERS: [(&str, &[u8]); 9] = [
     ("1.2.840.10045.2.1", b"\x2A\x86\x48\xCE\x3D\x02\x01"),
     ("1.2.840.10045.3.1.7", b"\x2A\x86\x48\xCE\x3D\x03\x01\x07"),

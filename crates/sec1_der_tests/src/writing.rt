@@ -192,12 +192,3 @@ fn holds_documents(rt: HostRuntime) -> Result<(), Fail> {
     );
     Ok(())
 }
-
-#[test]
-fn refuses_what_is_no_document(rt: HostRuntime) {
-    let kind = |bytes: &[u8]| kind_of(SecretDocument::from_der(rt.alloc(), bytes));
-    assert_eq!(rt; kind(&[0x05, 0x00, 0x00]), Some(ErrorKind::TrailingData));
-    assert_eq!(rt; kind(&[0x1F, 0x00]), Some(ErrorKind::Tag));
-    assert_eq!(rt; kind(&[]), Some(ErrorKind::Truncated));
-    assert_eq!(rt; kind(&[0x04, 0x01]), Some(ErrorKind::Truncated));
-}

@@ -18,13 +18,6 @@ static P256_KEY: [u8; 121] = [
 /// A key with no bytes and no other part.
 static EMPTY_KEY: [u8; 7] = [0x30, 0x05, 0x02, 0x01, 0x01, 0x04, 0x00];
 
-fn kind_of<T: Drop>(answer: sec1::Result<T>) -> Option<ErrorKind> {
-    match answer {
-        Err(Error::Asn1(cause)) => Some(cause.kind()),
-        _ => None,
-    }
-}
-
 #[test]
 fn writes_all_parts(rt: HostRuntime) -> Result<(), Fail> {
     let key = EcPrivateKey::try_from(P256_KEY.as_slice())?;
@@ -65,19 +58,9 @@ fn writes_the_long_form(rt: HostRuntime) -> Result<(), Fail> {
             parameters: None,
             public_key: None,
         };
-        assert_eq!(rt; key.encoded_len()?, wanted.len());
-        assert_eq!(rt; key.to_der(rt.alloc())?.as_slice(), wanted.as_slice());
         let mut room = [0xAA; 140];
         assert_eq!(rt; key.encode_to_slice(&mut room)?, wanted.len());
         assert!(rt; room.starts_with(&wanted), "{count}");
-        assert_eq!(rt;
-            room.iter().filter(|byte| **byte == 0xAA).count(),
-            140 - wanted.len()
-        );
-        assert_eq!(rt;
-            EcPrivateKey::try_from(wanted.as_slice())?.private_key,
-            key.private_key
-        );
     }
     Ok(())
 }
@@ -91,24 +74,6 @@ fn writes_the_content(rt: HostRuntime) -> Result<(), Fail> {
     assert_eq!(rt; writer.written(), 119);
     assert_eq!(rt; &room[..119], &P256_KEY[2..]);
     assert_eq!(rt; &room[119..], [0xAA, 0xAA].as_slice());
-    Ok(())
-}
-
-#[test]
-fn leaves_the_rest_of_the_slice(rt: HostRuntime) -> Result<(), Fail> {
-    let key = EcPrivateKey::try_from(EMPTY_KEY.as_slice())?;
-    let mut small = [0xAA; 6];
-    assert_eq!(rt;
-        kind_of(key.encode_to_slice(&mut small)),
-        Some(ErrorKind::Buffer)
-    );
-    assert_eq!(rt; small, [0xAA; 6]);
-    let mut large = [0xAA; 9];
-    assert_eq!(rt; key.encode_to_slice(&mut large)?, 7);
-    assert_eq!(rt;
-        large,
-        [0x30, 0x05, 0x02, 0x01, 0x01, 0x04, 0x00, 0xAA, 0xAA]
-    );
     Ok(())
 }
 
