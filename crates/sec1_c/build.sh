@@ -1,11 +1,11 @@
 #!/usr/bin/env bash
 # Proves and builds the library, and installs it: build.sh [FOLDER], by default out/install.
 #   FOLDER/include/sec1.h, FOLDER/lib/libsec1.a, FOLDER/lib/libsec1.so
-# RT names the command `rt`, CC the C compiler.
+# RT names the command `rt`, JOBS the number of its jobs, CC the C compiler.
 set -euo pipefail
 folder=$(realpath -m "${1:-$(dirname "$0")/out/install}")
 cd "$(dirname "$0")"
-${RT:-rt} lib
+${RT:-rt} lib ${JOBS:+--jobs "$JOBS"}
 mkdir -p "$folder/include" "$folder/lib"
 cp sec1.h "$folder/include/sec1.h"
 cp out/libsec1_c.a "$folder/lib/libsec1.a"
