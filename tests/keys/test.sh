@@ -29,16 +29,18 @@ lines=$(grep -vc '^#' "$crate/stdin")
 
 # Each key that is read is OpenSSL's too: it reads it and finds the same private key.
 if command -v openssl >/dev/null; then
-    count=0
+    count=0 total=0
     while read -r digits && read -r private _ <&3; do
         case $private in SEC1) continue ;; esac
+        total=$((total + 1))
         printf '%b' "$(echo "$digits" | sed 's/../\\x&/g')" >"$room/key"
         if openssl asn1parse -inform DER -in "$room/key" -noout 2>"$room/error" &&
             openssl asn1parse -inform DER -in "$room/key" | grep -q "OCTET STRING *\[HEX DUMP\]:$private$"; then
             count=$((count + 1))
         fi
     done < <(grep -v '^#' "$here/openssl.txt" | head -80) 3< <(head -80 "$crate/stdout")
-    [ "$count" -gt 60 ] && tell "OpenSSL finds the private keys" yes || tell "OpenSSL finds $count private keys" no
+    [ "$total" -gt 0 ] && [ "$count" = "$total" ] && tell "OpenSSL finds the private keys" yes ||
+        tell "OpenSSL finds $count of $total private keys" no
 else
     echo "there is no openssl: its own reading of the keys wasn't compared"
 fi

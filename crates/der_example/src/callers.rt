@@ -37,7 +37,9 @@ pub fn element_in<'b, T: EncodeValue + FixedTag>(
 
 /// Writes an octet string at the beginning of a buffer and returns its bytes.
 pub fn octet_string_in<'b>(octets: &OctetStringRef, buffer: &'b mut [u8]) -> der::Result<&'b [u8]>
-    ensures { IfOk result (λ bytes. IsElementOf 0x04 (octets_of octets.now) bytes.now) }
+    ensures found { IfOk result (λ bytes. IsElementOf 0x04 (octets_of octets.now) bytes.now) }
+    ensures only { (bytes : List ℕ) → IsElementOf 0x04 (octets_of octets.now) bytes
+        → length bytes ≤ length buffer.old → IsOkAnd result (λ written. written.now ≡ bytes) }
 {
     let n = der::encode_to_slice(octets, buffer)?;
     Ok(&buffer[..n])
@@ -67,6 +69,8 @@ pub fn document_again(alloc: Global, bytes: &[u8]) -> Result<SecretDocument>
 
 /// Returns the content of the element that the bytes begin with.
 pub fn first_content(bytes: &[u8]) -> der::Result<&[u8]>
+    ensures found { IfOk result (λ content. (tag : ℕ) × (rest : List ℕ)
+        × IsHeader tag (length content.now) × (bytes.now ≡ element tag content.now ++ rest)) }
     ensures only { (tag : ℕ) (content rest : List ℕ) → IsHeader tag (length content)
         → bytes.now ≡ element tag content ++ rest → IsOkAnd result (λ found. found.now ≡ content) }
     ensures kinds { IfErr result (λ e. IsHeaderFault e.kind) }

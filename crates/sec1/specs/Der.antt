@@ -9,7 +9,7 @@ pub use Rattle.sec1_der.specs.Faults.{Refuses, IsReadingFault, IsHeaderFault, Is
 pub use Rattle.sec1_der.specs.Identifiers.{IsIdentifier, IsIdentifierContent, content_of, identifier_content, dotted}
 pub use Rattle.sec1_der.specs.Numbers.{num}
 pub use Rattle.sec1_der.specs.Readers.{Reader, before, refused, HasRead, HasReadElement}
-pub use Rattle.sec1_der.specs.Refusals.{Fault, Tells, no_fault, end_fault, never_late, element_fault, field_fault, any_fault, document_fault, tree_fault}
+pub use Rattle.sec1_der.specs.Refusals.{Fault, HasFault, no_fault, end_fault, never_late, element_fault, field_fault, any_fault, document_fault, tree_fault}
 pub use Rattle.sec1_der.specs.ReadsDocument.{IsElementFault, ReadsElement, RefusesElement}
 pub use Rattle.sec1_der.specs.SliceWriters.{written_by, room_of, IsOver, KeepsSlice, AppendsNothing, Appends}
 pub use Rattle.sec1_der.specs.StdStreams.{reader_failed, reader_inner, writer_failed, writer_inner}

@@ -36,13 +36,13 @@ IsAsn1ReadingFault Version = ⊥
 IsAsn1ReadingFault Memory = ⊥
 
 -- an error of DER of this kind
-abbrev pub IsAsn1Told : Option ErrorKind → Error → Type 0
-IsAsn1Told fault (Asn1 cause) = fault ≡ Some cause.kind
-IsAsn1Told fault Crypto = ⊥
-IsAsn1Told fault PointEncoding = ⊥
-IsAsn1Told fault Version = ⊥
-IsAsn1Told fault Memory = ⊥
+abbrev pub IsAsn1Fault : Option ErrorKind → Error → Type 0
+IsAsn1Fault fault (Asn1 cause) = fault ≡ Some cause.kind
+IsAsn1Fault fault Crypto = ⊥
+IsAsn1Fault fault PointEncoding = ⊥
+IsAsn1Fault fault Version = ⊥
+IsAsn1Fault fault Memory = ⊥
 
 -- the call refuses by an error of DER of this kind, and succeeds if there is none
-abbrev pub TellsAsn1 : {T : Type 0} → Result T Error → Option ErrorKind → Type 0
-TellsAsn1 result fault = MatchResult result (λ _. fault ≡ None) (IsAsn1Told fault)
+abbrev pub HasAsn1Fault : {T : Type 0} → Result T Error → Option ErrorKind → Type 0
+HasAsn1Fault result fault = MatchResult result (λ _. fault ≡ None) (IsAsn1Fault fault)

@@ -2,6 +2,7 @@
  * the page behind it and once against the page before it, which can't be read; each buffer that is written into stands
  * the same way. So a single byte read or written beyond what a call is given ends the program. */
 #define _GNU_SOURCE
+#include "draw.h"
 #include <sec1.h>
 #include <stddef.h>
 #include <stdio.h>
@@ -759,16 +760,6 @@ static void test_elements(void)
 }
 
 /* ---- random bytes */
-
-static uint64_t state = 0x9E3779B97F4A7C15;
-
-static uint32_t draw(uint32_t limit)
-{
-    state ^= state << 13;
-    state ^= state >> 7;
-    state ^= state << 17;
-    return (uint32_t)(state >> 32) % limit;
-}
 
 /* Bytes of small DER in no order, so that many of them are read far. */
 static struct bytes draw_bytes(size_t most)

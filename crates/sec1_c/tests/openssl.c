@@ -6,6 +6,7 @@
 #include <openssl/ec.h>
 #include <openssl/err.h>
 #include <openssl/objects.h>
+#include "draw.h"
 #include <sec1.h>
 #include <stdio.h>
 #include <stdlib.h>
@@ -259,16 +260,6 @@ static int compare(struct bytes key)
 }
 
 /* ---- keys made by OpenSSL, and their damage */
-
-static uint64_t state = 0x9E3779B97F4A7C15;
-
-static uint32_t draw(uint32_t limit)
-{
-    state ^= state << 13;
-    state ^= state >> 7;
-    state ^= state << 17;
-    return (uint32_t)(state >> 32) % limit;
-}
 
 static struct bytes keys[64];
 static int key_count;

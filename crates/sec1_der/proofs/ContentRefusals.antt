@@ -45,7 +45,7 @@ whole_are_bits : (bytes : List ℕ) → are_bits 0 bytes ≡ true
 whole_are_bits [] = refl
 whole_are_bits (byte ∷ bytes) = eq-eqb _ 0 (omega arith)
 
--- what isn't told late of a content without unused bits is told of that of any bit string
+-- what isn't checked late of a content without unused bits is the fault of any bit string
 pub told_early : (content : List ℕ) → (if is_bit_string content then None else whole_bits_fault content) ≡ bit_string_fault content
 told_early [] = refl
 told_early (unused ∷ bytes) = by (are_bits unused bytes) (unused == 0) refl refl
@@ -80,7 +80,7 @@ bits_refused number bytes k e = by (is_next (0xA0 + number) bytes) e
     by true e = refused_more (inside_fault 0x03 (λ _. false) bit_string_fault) (inside_fault 0x03 is_bit_string whole_bits_fault) no_fault
         (0xA0 + number) bytes k more e
 
--- of a field around a bit string the unused bits are told
+-- the unused bits are the fault of a field around a bit string
 pub bits_told : (number : ℕ) (content : List ℕ) (old new : Reader) → length content ≤ max_length → HasReadElement (0xA0 + number) (element 0x03 content) old new
     → field_fault number 0x03 (λ _. false) bit_string_fault no_fault old.unread ≡ None
     → field_fault number 0x03 is_bit_string whole_bits_fault no_fault old.unread ≡ whole_bits_fault content

@@ -295,7 +295,7 @@ passes_field number tag late f (Some value) content P Q old new whole some none 
         let all = reads_on (inside_fault tag late f) (0xA0 + number) (Some (element tag inside)) (λ _. Unit {0}) old new (tt, h.2) none in
         record { whole = all.whole; next = λ g. rw here (all.next g) }
 
--- in a field of which nothing is told late, the one element is told of
+-- in a field of which nothing is checked late, the fault is that of the one element
 pub inside_at_once : (tag : ℕ) (f : Fault) (bytes : List ℕ) → inside_fault tag (λ _. false) f bytes ≡ element_fault tag f end_fault bytes
 inside_at_once tag f bytes = by (element_fault tag f end_fault bytes) refl
   where

@@ -95,7 +95,7 @@ read_told (Some all) (Some left) bytes r =
     r.consumed ∙ (ap (λ xs. bytes ++ xs) r.at_end ∙ ap (λ xs. xs ++ []) whole.spelled) in
     any_at (λ _. no_fault) end_fault whole.tag whole.content all [] whole.is_header same
 
--- what is refused by a kind that says something of the bytes, is told of them all
+-- a refusal by a kind that says something of the bytes is the fault of them all
 pub refused_told : (kind : ErrorKind) (old new : Option (List ℕ)) → RefusesElement kind old new
     → IsIoOrMemory kind ⊎ IfSome old (λ left. All (λ byte. byte < 256) left → document_fault left ≡ Some kind)
 refused_told Io old new r = inl (inl refl)

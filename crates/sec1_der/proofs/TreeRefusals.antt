@@ -48,7 +48,7 @@ parts_same : (f h g k : Fault) (m : ℕ) (parts : Result (List ℕ × List ℕ) 
 parts_same f h g k m (Err kind) small content behind = refl
 parts_same f h g k m (Ok x) small content behind = rw (content x.0 small.0, behind x.1 small.1) refl
 
--- what is told of fewer bytes tells all
+-- the fault of fewer bytes is that of all
 any_same : (f h : ℕ → Fault) (g k : Fault) (bytes : List ℕ) → ((tag : ℕ) (c : List ℕ) → length c < length bytes → f tag c ≡ h tag c)
     → ((r : List ℕ) → length r < length bytes → g r ≡ k r) → any_fault f g bytes ≡ any_fault h k bytes
 any_same f h g k [] content behind = refl
@@ -90,7 +90,7 @@ row_step m n level bytes inside behind = by (nat_lt 64 level)
     by true = refl
     by false = same
 
--- a row is told of by any bound that its bytes have
+-- the fault of a row is the same by any bound on its bytes
 row_bound : (m n level : ℕ) (bytes : List ℕ) → length bytes ≤ m → length bytes ≤ n → row_fault m level bytes ≡ row_fault n level bytes
 row_bound m n level [] l r = row_none m level ∙ sym (row_none n level)
 row_bound zero n level (b ∷ bs) l r = absurd (omega arith)

@@ -15,8 +15,8 @@ abbrev pub Fault : Type 0
 Fault = List ℕ → Option ErrorKind
 
 -- the call refuses by this kind, and succeeds if there is none
-abbrev pub Tells : {T : Type 0} → Result T Error → Option ErrorKind → Type 0
-Tells result fault = MatchResult result (λ _. fault ≡ None) (λ e. fault ≡ Some e.kind)
+abbrev pub HasFault : {T : Type 0} → Result T Error → Option ErrorKind → Type 0
+HasFault result fault = MatchResult result (λ _. fault ≡ None) (λ e. fault ≡ Some e.kind)
 
 -- bytes that are never refused; and the end, after which there are no bytes
 abbrev pub no_fault : Fault

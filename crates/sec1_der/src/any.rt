@@ -20,7 +20,7 @@ impl<'a> AnyRef<'a> {
     ghost use Rattle.sec1_der.specs.Elements.{max_length, element, IsHeader, IsProperBeginning, LacksHeader};
     ghost use Rattle.sec1_der.specs.Faults.{header_fault, Refuses, IsHeaderFault};
     ghost use Rattle.sec1_der.specs.Readers.{before, HasRead};
-    ghost use Rattle.sec1_der.specs.Refusals.{Tells, any_fault, no_fault};
+    ghost use Rattle.sec1_der.specs.Refusals.{HasFault, any_fault, no_fault};
     ghost use Rattle.sec1_der.specs.Values.{tag_of, value_of};
 
     /// Returns the element with this tag and content.
@@ -62,7 +62,7 @@ impl<'a> AnyRef<'a> {
             → Refuses result (header_fault reader.old.unread) }
         ensures kinds { reader.old.failed ≡ false → IfErr result (λ e. IsHeaderFault e.kind) }
         ensures kind { reader.old.failed ≡ false
-            → Tells result (any_fault (λ _. no_fault) no_fault reader.old.unread) }
+            → HasFault result (any_fault (λ _. no_fault) no_fault reader.old.unread) }
         ensures failed { reader.old.failed ≡ true → Refuses result ErrorKind.Failed
             × (reader.new ≡ reader.old) }
         ensures refused { OnErr result (reader.new.failed ≡ true) }

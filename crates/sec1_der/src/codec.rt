@@ -3,7 +3,7 @@ ghost use Rattle.std.specs.Prelude.{◌≡◌, ◌≢◌, ◌<◌, ◌≤◌, �
 ghost use Rattle.std.specs.Option.{option_map};
 ghost use Rattle.sec1_der.specs.Elements.{max_length, element, element_of, field_of, IsTag, IsElementOf, IsProperBeginning};
 ghost use Rattle.sec1_der.specs.Faults.{Refuses, IsReadingFault};
-ghost use Rattle.sec1_der.specs.Refusals.{Tells, element_fault, end_fault};
+ghost use Rattle.sec1_der.specs.Refusals.{HasFault, element_fault, end_fault};
 
 use crate::{
     BackWriter, DecodeValue, EncodeComponents, EncodeValue, ErrorKind, FixedTag, Header, Length,
@@ -39,7 +39,7 @@ pub fn from_der<'a, T: DecodeValue<'a> + FixedTag + Drop>(input: &'a [u8]) -> Re
         → Refuses result ErrorKind.TrailingData }
     ensures kinds { IfErr result (λ e. IsReadingFault e.kind) }
     // Whether the input is refused, and by which kind, is a function of its bytes.
-    ensures kind { Tells result (element_fault T.number T.fault end_fault input.now) }
+    ensures kind { HasFault result (element_fault T.number T.fault end_fault input.now) }
 {
     SliceReader::new(input).only_element()
 }

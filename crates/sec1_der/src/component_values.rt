@@ -157,7 +157,7 @@ impl ValueContent for WholeBits<'_> {
 
     ghost fault = { whole_bits_fault };
 
-    ghost told_late = { is_bit_string };
+    ghost checked_late = { is_bit_string };
 }
 
 impl<'a> DecodeValue<'a> for WholeBits<'a> {

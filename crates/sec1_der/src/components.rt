@@ -168,7 +168,7 @@ impl<N: ExplicitTag, A: ValueContent + FixedTag, R: ValueContent> ValueContent
 
     ghost content_is_one = { λ row _ same _. (row.first, row.rest, same) };
 
-    ghost fault = { field_fault N.at A.number A.told_late A.fault R.fault };
+    ghost fault = { field_fault N.at A.number A.checked_late A.fault R.fault };
 }
 
 impl<'a, N: ExplicitTag, A: DecodeExplicit<'a>, R: DecodeValue<'a> + NoField<N>> DecodeValue<'a>

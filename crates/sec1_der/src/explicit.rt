@@ -4,7 +4,7 @@ ghost use Rattle.std.specs.Prelude.{◌≡◌, ◌≢◌, ◌≤◌, ◌<◌, �
 ghost use Rattle.sec1_der.specs.Elements.{max_length, element};
 ghost use Rattle.sec1_der.specs.Faults.{Refuses, IsReadingFault};
 ghost use Rattle.sec1_der.specs.Readers.{before, HasReadElement};
-ghost use Rattle.sec1_der.specs.Refusals.{Tells, field_fault, no_fault};
+ghost use Rattle.sec1_der.specs.Refusals.{HasFault, field_fault, no_fault};
 
 use crate::{
     BitStringRef, Containing, DecodeValue, ErrorKind, FixedTag, ObjectIdentifier, OctetStringRef,
@@ -132,8 +132,8 @@ pub trait DecodeExplicit<'a>: DecodeValue<'a> + FixedTag + Drop {
             × (reader.new ≡ before rest) }
 
         ensures kinds { reader.old.failed ≡ false → IfErr result (λ e. IsReadingFault e.kind) }
-        ensures kind { reader.old.failed ≡ false → Tells result (field_fault number Self.number
-            Self.told_late Self.fault no_fault reader.old.unread) }
+        ensures kind { reader.old.failed ≡ false → HasFault result (field_fault number Self.number
+            Self.checked_late Self.fault no_fault reader.old.unread) }
         ensures failed { reader.old.failed ≡ true → Refuses result ErrorKind.Failed
             × (reader.new ≡ reader.old) }
         ensures refused { OnErr result (reader.new.failed ≡ true) };

@@ -118,7 +118,7 @@ pub(crate) fn element_at(input: &[u8]) -> First<'_, Header>
         → IsProperBeginning input.now (element tag content)
         → result ≡ Err ErrorKind.Truncated }
     ensures fault { LacksHeader input.now → result ≡ Err (header_fault input.now) }
-    ensures told { IfErr result (λ kind. (content : ℕ → Fault) (behind : Fault)
+    ensures refusal { IfErr result (λ kind. (content : ℕ → Fault) (behind : Fault)
         → any_fault content behind input.now ≡ Some kind) }
 {
     let (header, inside) = match header_at(input) {

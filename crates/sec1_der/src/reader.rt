@@ -2,7 +2,7 @@ ghost use Rattle.std.specs.Prelude.{◌≡◌, ◌≢◌, ◌+◌, ◌≤◌, �
 ghost use Rattle.sec1_der.specs.Elements.{max_length, element, IsProperBeginning};
 ghost use Rattle.sec1_der.specs.Faults.{Refuses, IsReadingFault};
 ghost use Rattle.sec1_der.specs.Readers.{before, refused, HasRead, HasReadElement};
-ghost use Rattle.sec1_der.specs.Refusals.{Tells, element_fault, end_fault, field_fault, never_late, no_fault};
+ghost use Rattle.sec1_der.specs.Refusals.{HasFault, element_fault, end_fault, field_fault, never_late, no_fault};
 
 use crate::{AnyRef, DecodeValue, Error, ErrorKind, FixedTag, Length, Result, Tag};
 use std::marker::Model;
@@ -128,7 +128,7 @@ impl<'a> SliceReader<'a> {
         ensures kinds { self.old.failed ≡ false → IfErr result (λ e. IsReadingFault e.kind) }
         // The kind of a refusal is a function of the remaining input.
         ensures kind { self.old.failed ≡ false
-            → Tells result (element_fault T.number T.fault no_fault self.old.unread) }
+            → HasFault result (element_fault T.number T.fault no_fault self.old.unread) }
         ensures failed { self.old.failed ≡ true → Refuses result ErrorKind.Failed
             × (self.new ≡ self.old) }
         ensures refused { OnErr result (self.new.failed ≡ true) }
@@ -174,7 +174,7 @@ impl<'a> SliceReader<'a> {
         ensures kinds { self.old.failed ≡ false → IfErr result (λ e. IsReadingFault e.kind) }
         // The unread bytes tell which kind.
         ensures kind { self.old.failed ≡ false
-            → Tells result (field_fault number T.number never_late T.fault no_fault self.old.unread) }
+            → HasFault result (field_fault number T.number never_late T.fault no_fault self.old.unread) }
         ensures failed { self.old.failed ≡ true → Refuses result ErrorKind.Failed
             × (self.new ≡ self.old) }
         ensures refused { OnErr result (self.new.failed ≡ true) }
@@ -278,7 +278,7 @@ impl<'a> SliceReader<'a> {
             → Refuses result ErrorKind.Truncated }
         ensures kinds { self.old.failed ≡ false → IfErr result (λ e. IsReadingFault e.kind) }
         ensures kind { self.old.failed ≡ false
-            → Tells result (element_fault tag no_fault no_fault self.old.unread) }
+            → HasFault result (element_fault tag no_fault no_fault self.old.unread) }
         ensures failed { self.old.failed ≡ true → Refuses result ErrorKind.Failed
             × (self.new ≡ self.old) }
         ensures refused { OnErr result (self.new.failed ≡ true) }
@@ -315,7 +315,7 @@ impl<'a> SliceReader<'a> {
             → Refuses result ErrorKind.TrailingData }
         ensures kinds { self.old.failed ≡ false → IfErr result (λ e. IsReadingFault e.kind) }
         ensures kind { self.old.failed ≡ false
-            → Tells result (element_fault T.number T.fault end_fault self.old.unread) }
+            → HasFault result (element_fault T.number T.fault end_fault self.old.unread) }
     {
         let value = self.decode::<T>()?;
         self.finish()?;

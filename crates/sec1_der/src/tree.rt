@@ -1,7 +1,7 @@
 ghost use Rattle.std.specs.Prelude.{◌≡◌, ◌<◌, ◌≤◌, IfOk, IfErr};
 ghost use Rattle.sec1_der.specs.Elements.{IsProperBeginning};
 ghost use Rattle.sec1_der.specs.Faults.{Refuses, IsTreeFault};
-ghost use Rattle.sec1_der.specs.Refusals.{Tells, tree_fault};
+ghost use Rattle.sec1_der.specs.Refusals.{HasFault, tree_fault};
 ghost use Rattle.sec1_der.specs.Trees.{Tree, IsTree, IsTreeOf, bytes, size, depth};
 
 use crate::header::element_at;
@@ -34,7 +34,7 @@ pub fn check_tree(input: &[u8]) -> Result<usize>
         → Refuses result ErrorKind.TrailingData }
     ensures kinds { IfErr result (λ e. IsTreeFault e.kind) }
     // Whether the input is refused, and by which kind, is a function of its bytes.
-    ensures kind { Tells result (tree_fault input.now) }
+    ensures kind { HasFault result (tree_fault input.now) }
 {
     let mut nodes = OpenNodes::new();
     let mut rest = nodes.enter(input)?;
@@ -142,7 +142,7 @@ impl OpenNodes {
         ensures short { (t : Tree) → IsTree t → IsProperBeginning rest.now (bytes t) → self.old ≡ []
             → Refuses result ErrorKind.Truncated }
         ensures kinds { IfErr result (λ e. (e.kind ≡ ErrorKind.Depth) ⊎ IsHeaderFault e.kind) }
-        ensures told { IfErr result (λ e. (e.kind ≡ ErrorKind.Depth)
+        ensures refusal { IfErr result (λ e. (e.kind ≡ ErrorKind.Depth)
             ⊎ ((content : ℕ → Fault) (behind : Fault) → any_fault content behind
             (take (length rest.now - innermost self.old) rest.now) ≡ Some e.kind)) }
     {

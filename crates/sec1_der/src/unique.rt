@@ -2,7 +2,7 @@
 ghost use Rattle.std.specs.Prelude.{◌≡◌, ◌∷◌, ℕ, List, Some, Ok, IfOk, IfErr};
 ghost use Rattle.sec1_der.specs.Elements.{element_of};
 ghost use Rattle.sec1_der.specs.Faults.{IsReadingFault};
-ghost use Rattle.sec1_der.specs.Refusals.{Tells, element_fault, end_fault};
+ghost use Rattle.sec1_der.specs.Refusals.{HasFault, element_fault, end_fault};
 
 use crate::{
     Containing, DecodeValue, End, ExplicitTag, FixedTag, NoField, ObjectIdentifier, Octets,
@@ -97,7 +97,7 @@ pub fn read_der<'a, T: DecodeValue<'a> + FixedTag + UniqueContent + Drop>(
     ensures found { IfOk result (λ value. element_of T.number (T.content value) ≡ Some input.now) }
     ensures only { (value : T) → element_of T.number (T.content value) ≡ Some input.now → result ≡ Ok value }
     ensures kinds { IfErr result (λ e. IsReadingFault e.kind) }
-    ensures kind { Tells result (element_fault T.number T.fault end_fault input.now) }
+    ensures kind { HasFault result (element_fault T.number T.fault end_fault input.now) }
 {
     T::one();
     from_der(input)

@@ -4,7 +4,7 @@ ghost use Rattle.sec1_der.specs.BackWriters.{end_of, front_of, KeepsEnd, PutsNot
 ghost use Rattle.sec1_der.specs.Elements.{max_length, IsOverlong};
 ghost use Rattle.sec1_der.specs.Faults.{Refuses, IsReadingFault};
 ghost use Rattle.sec1_der.specs.Readers.{before};
-ghost use Rattle.sec1_der.specs.Refusals.{Fault, Tells, never_late};
+ghost use Rattle.sec1_der.specs.Refusals.{Fault, HasFault, never_late};
 ghost use Rattle.sec1_der.specs.SliceWriters.{room_of, KeepsSlice, AppendsNothing, Appends};
 
 use crate::{BackWriter, ErrorKind, Length, Result, SliceReader, SliceWriter, Tag};
@@ -40,7 +40,7 @@ pub trait ValueContent {
     /// Which contents are refused, if at all, only after the end of an explicit field (X.690 section 8.14) around
     /// them was checked. A type whose [`DecodeExplicit`](crate::DecodeExplicit) is a call of
     /// [`SliceReader::context_specific`] has none, and leaves this out.
-    ghost told_late: { List ℕ → Bool } = { never_late };
+    ghost checked_late: { List ℕ → Bool } = { never_late };
 }
 
 /// A value that is read from the content of its element.
@@ -58,7 +58,7 @@ pub trait DecodeValue<'a>: ValueContent + Sized {
         ensures read { OnOk result (reader.new ≡ before []) }
         ensures only { reader.old.failed ≡ false → Self.is_content reader.old.unread → IsOk result }
         ensures kinds { reader.old.failed ≡ false → IfErr result (λ e. IsReadingFault e.kind) }
-        ensures kind { reader.old.failed ≡ false → Tells result (Self.fault reader.old.unread) }
+        ensures kind { reader.old.failed ≡ false → HasFault result (Self.fault reader.old.unread) }
         ensures failed { reader.old.failed ≡ true → Refuses result ErrorKind.Failed
             × (reader.new ≡ reader.old) }
         ensures refused { OnErr result (reader.new.failed ≡ true) };

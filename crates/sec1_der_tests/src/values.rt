@@ -47,7 +47,7 @@ fn elements_of_identifiers_are_read(rt: HostRuntime) -> Result<(), Fail> {
     Ok(())
 }
 
-/// The content of a version is whole, so what it isn't is told of its value, whatever its length.
+/// The content of a version is whole, so any other is refused as Value, whatever its length.
 #[test]
 fn other_versions_are_other_values(rt: HostRuntime) {
     for bytes in [

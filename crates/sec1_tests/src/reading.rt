@@ -118,7 +118,7 @@ static REFUSED: [(&str, ErrorKind); 35] = [
     ("300402000400", ErrorKind::Value),
     // no private key
     ("3003020101", ErrorKind::Truncated),
-    // a tag is told before the length
+    // the tag is checked before the length
     ("3180", ErrorKind::Tag),
     // a public key with an unused bit
     ("300B0201010400A10403020100", ErrorKind::Value),
@@ -140,7 +140,7 @@ static REFUSED: [(&str, ErrorKind); 35] = [
     ("300F0201010400A00806062A9080808000", ErrorKind::Value),
     // an arc with a leading 80
     ("300C0201010400A00506032A8001", ErrorKind::Value),
-    // bytes after the bit string are told before its unused bits
+    // bytes after the bit string are refused before its unused bits
     ("300D0201010400A106030201000500", ErrorKind::TrailingData),
     // but after a content that no bit string has
     ("300D0201010400A106030201010500", ErrorKind::Value),
