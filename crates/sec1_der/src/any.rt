@@ -1,8 +1,7 @@
 ghost use Rattle.sec1_der.specs.Elements.{IsTag};
 
-use crate::header::element_at;
 use crate::{
-    BackWriter, EncodeValue, ErrorKind, Length, ObjectIdentifier, Result, SliceReader, SliceWriter,
+    BackWriter, EncodeValue, ErrorKind, Header, Length, ObjectIdentifier, Result, SliceReader, SliceWriter,
     Tag, ValueContent,
 };
 
@@ -67,18 +66,12 @@ impl<'a> AnyRef<'a> {
             × (reader.new ≡ reader.old) }
         ensures refused { OnErr result (reader.new.failed ≡ true) }
     {
-        reader.check()?;
-        match element_at(reader.unread()) {
-            Ok((header, inside)) => {
-                let (value, rest) = inside.split_at(header.length.get());
-                reader.set_unread(rest);
-                Ok(AnyRef {
-                    tag: header.tag.byte(),
-                    value,
-                })
-            }
-            Err(kind) => Err(reader.fail(kind)),
-        }
+        let header = Header::decode(reader)?;
+        let value = reader.read_slice(header.length)?;
+        Ok(AnyRef {
+            tag: header.tag.byte(),
+            value,
+        })
     }
 
     /// Returns the tag.

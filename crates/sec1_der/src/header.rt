@@ -42,6 +42,9 @@ impl Header {
         // Where they begin with none, the bytes tell the kind.
         ensures kind { reader.old.failed ≡ false → IsErr result
             → Refuses result (header_fault reader.old.unread) }
+        // By the same kind an element of any tag is refused there.
+        ensures element { reader.old.failed ≡ false → IfErr result (λ e. (content : ℕ → Fault) (behind : Fault)
+            → any_fault content behind reader.old.unread ≡ Some e.kind) }
         ensures failed { reader.old.failed ≡ true → Refuses result ErrorKind.Failed }
         ensures refused { OnErr result (reader.new ≡ refused reader.old) }
     {
@@ -118,7 +121,7 @@ pub(crate) fn element_at(input: &[u8]) -> First<'_, Header>
         → IsProperBeginning input.now (element tag content)
         → result ≡ Err ErrorKind.Truncated }
     ensures fault { LacksHeader input.now → result ≡ Err (header_fault input.now) }
-    ensures refusal { IfErr result (λ kind. (content : ℕ → Fault) (behind : Fault)
+    ensures element { IfErr result (λ kind. (content : ℕ → Fault) (behind : Fault)
         → any_fault content behind input.now ≡ Some kind) }
 {
     let (header, inside) = match header_at(input) {
@@ -138,6 +141,8 @@ pub(crate) fn header_at(bytes: &[u8]) -> First<'_, Header>
     ensures only { (tag n : ℕ) (rest : List ℕ) → IsHeader tag n → bytes.now ≡ header tag n ++ rest
         → IsOkAnd result (λ x. (x.0 ≡ record { tag = tag; length = n }) × (x.1.now ≡ rest)) }
     ensures kind { IfErr result (λ kind. kind ≡ header_fault bytes.now) }
+    ensures element { IfErr result (λ kind. (content : ℕ → Fault) (behind : Fault)
+        → any_fault content behind bytes.now ≡ Some kind) }
 {
     let Some((first, rest)) = bytes.split_first() else {
         return Err(ErrorKind::Truncated);

@@ -1,4 +1,4 @@
-ghost use Rattle.std.specs.Prelude.{◌≡◌, ◌≢◌, ◌+◌, ◌≤◌, ◌++◌, ◌∷◌, [], ℕ, List, length, slice_get, true, false, if◌then◌else◌, IsOk, IfOk, IsOkAnd, IsErr, IfErr, OnOk, OnErr, IfSome, IfNone, IsSomeAnd};
+ghost use Rattle.std.specs.Prelude.{◌≡◌, ◌≢◌, ◌↔◌, ◌+◌, ◌≤◌, ◌++◌, ◌∷◌, [], ℕ, List, length, slice_get, true, false, if◌then◌else◌, IsOk, IfOk, IsOkAnd, IsErr, IfErr, OnOk, OnErr, IfSome, IfNone, IsSomeAnd};
 ghost use Rattle.sec1_der.specs.Elements.{max_length, element, IsProperBeginning};
 ghost use Rattle.sec1_der.specs.Faults.{Refuses, IsReadingFault};
 ghost use Rattle.sec1_der.specs.Readers.{before, refused, HasRead, HasReadElement};
@@ -70,7 +70,8 @@ impl<'a> SliceReader<'a> {
         ensures found { IfOk result (λ bytes. (length bytes.now ≡ count)
             × HasRead bytes.now self.old self.new) }
         ensures only { (bytes rest : List ℕ) → length bytes ≡ count → self.old ≡ before (bytes ++ rest)
-            → IsOkAnd result (λ lent. lent.now ≡ bytes) × (self.new ≡ before rest) }
+            → IsOkAnd result (λ found. found.now ≡ bytes) × (self.new ≡ before rest) }
+        ensures within { self.old.failed ≡ false → IsOk result ↔ (count ≤ length self.old.unread) }
         ensures kind { self.old.failed ≡ false → IsErr result → Refuses result ErrorKind.Truncated }
         ensures failed { self.old.failed ≡ true → Refuses result ErrorKind.Failed }
         ensures refused { OnErr result (self.new ≡ refused self.old) }
@@ -95,6 +96,7 @@ impl<'a> SliceReader<'a> {
             × (nested ≡ before nested.unread) × HasRead nested.unread self.old self.new) }
         ensures only { (bytes rest : List ℕ) → length bytes ≡ count → self.old ≡ before (bytes ++ rest)
             → (result ≡ Ok (before bytes)) × (self.new ≡ before rest) }
+        ensures within { self.old.failed ≡ false → IsOk result ↔ (count ≤ length self.old.unread) }
         ensures kind { self.old.failed ≡ false → IsErr result → Refuses result ErrorKind.Truncated }
         ensures failed { self.old.failed ≡ true → Refuses result ErrorKind.Failed }
         ensures refused { OnErr result (self.new ≡ refused self.old) }
@@ -290,10 +292,8 @@ impl<'a> SliceReader<'a> {
         if byte != tag.byte() {
             return Err(self.fail(ErrorKind::Tag));
         }
-        match AnyRef::decode(self) {
-            Ok(any) => Ok(SliceReader::new(any.value())),
-            Err(e) => Err(e),
-        }
+        let any = AnyRef::decode(self)?;
+        Ok(SliceReader::new(any.value()))
     }
 
     /// Reads the one element in the remaining input.

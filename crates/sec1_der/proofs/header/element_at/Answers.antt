@@ -1,8 +1,8 @@
-use Rattle.std.proofs.Common.{◌++◌, length, Some, Err, sym, ap, ◌∙◌, arith, ⊎_elim}
+use Rattle.std.proofs.Common.{◌++◌, length, Err, sym, ap, ◌∙◌, arith, ⊎_elim}
 use Rattle.std.proofs.lemmas.List.{append_assoc, length-append}
 use Rattle.sec1_der.specs.Elements.{header}
 use Rattle.sec1_der.proofs.HeaderLemmas.{header_front, header_apart, some_length}
-use Rattle.sec1_der.proofs.RefusalLemmas.{any_lacks, any_short}
+use Rattle.sec1_der.proofs.RefusalLemmas.{any_short}
 use Rattle.sec1_der.proofs.header.element_at.Goals as goal
 
 pub returns-in-Err-clause-short : goal.returns-in-Err-clause-short
@@ -25,13 +25,8 @@ returns-clause-short c tag content h short =
     let lengths = ap length apart.2 ∙ length-append c.in-Ok.found.1.now short.more in
     absurd (omega (arith, lengths, apart.1, some_length short.more short.some, c.get.ensures.value, c.if-inside-get.false))
 
-pub returns-in-Err-clause-refusal : goal.returns-in-Err-clause-refusal
-returns-in-Err-clause-refusal c content behind =
-    any_lacks content behind c.args.input.now (λ i. omega (arith, c.type_inv.input i)) (λ tag n rest h e. c.in-Err.ensures.only tag n rest h e)
-    ∙ ap (λ kind. Some kind) (sym c.in-Err.ensures.kind)
-
-pub returns-then-inside-get-clause-refusal : goal.returns-then-inside-get-clause-refusal
-returns-then-inside-get-clause-refusal c content behind =
+pub returns-then-inside-get-clause-element : goal.returns-then-inside-get-clause-element
+returns-then-inside-get-clause-element c content behind =
     let f = c.in-Ok.ensures.found in
     any_short content behind c.in-Ok.found.0.tag c.in-Ok.found.0.length c.args.input.now c.in-Ok.found.1.now f.0 f.1
     (omega (arith, c.if-inside-get.true, c.get.ensures.value))

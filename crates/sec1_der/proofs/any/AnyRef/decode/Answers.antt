@@ -1,37 +1,43 @@
-use Rattle.std.proofs.Common.{◌≡◌, ◌++◌, ℕ, Bool, false, List, length, take, drop, sym, ap, ◌∙◌}
-use Rattle.std.proofs.lemmas.List.{take_at, drop_at}
-use Rattle.sec1_der.specs.Elements.{element, IsProperBeginning}
+use Rattle.std.proofs.Common.{◌<◌, ◌++◌, length, refl, sym, ap, ◌∙◌, arith, rules, ⊎_elim}
+use Rattle.std.proofs.lemmas.List.{append_assoc, length-append}
+use Rattle.std.proofs.lemmas.Bool.{cases_lt}
+use Rattle.sec1_der.specs.Elements.{header}
 use Rattle.sec1_der.specs.Readers.{Reader}
 use Rattle.sec1_der.specs.Refusals.{no_fault}
-use Rattle.sec1_der.specs.declared.header.Header.{Header}
-use Rattle.sec1_der.proofs.RefusalLemmas.{any_room}
+use Rattle.sec1_der.proofs.HeaderLemmas.{header_front, header_apart, some_length}
+use Rattle.sec1_der.proofs.RefusalLemmas.{any_short, any_room, reader_at}
 use Rattle.sec1_der.proofs.any.AnyRef.decode.Goals as goal
 
-pub returns-in-Ok-clause-only : goal.returns-in-Ok-clause-only
-returns-in-Ok-clause-only c tag content rest h e =
-    let unread : c.unread.result.now ≡ element tag content ++ rest = c.unread.ensures ∙ ap (λ (r : Reader). r.unread) e in
-    let at = c.in-Ok.ensures.only tag content rest h unread in
-    let count : length content ≡ c.get.result = sym (c.get.ensures.value ∙ ap (λ (h : Header). h.length) at.0) in
-    let front : c.split_at.result.0.now ≡ content = c.split_at.ensures.front ∙ (ap (take c.get.result) at.1 ∙ take_at content rest c.get.result count) in
-    let back : c.split_at.result.1.now ≡ rest = c.split_at.ensures.back ∙ (ap (drop c.get.result) at.1 ∙ drop_at content rest c.get.result count) in
-    let whole : c.args.reader.now.failed ≡ false = ap (λ (r : Reader). r.failed) e in
-    let with_failed : Bool → Reader = λ b. record { unread = rest; failed = b } in
-    let with_unread : List ℕ → Reader = λ xs. record { unread = xs; failed = c.args.reader.now.failed } in
-    ((c.byte.ensures.value ∙ ap (λ (h : Header). h.tag) at.0, front), c.set_unread.ensures ∙ (ap with_unread back ∙ ap with_failed whole))
+pub returns-in_err-header-clause-short : goal.returns-in_err-header-clause-short
+returns-in_err-header-clause-short c tag content h fresh short = ⊎_elim
+    (λ whole. absurd (cc (c.in_err-header.ensures.only tag (length content) whole.after h (reader_at _ _ whole.front fresh)).0))
+    (λ lacks. let kind = rw lacks at (c.in_err-header.ensures.kind fresh refl) in search rules)
+    (header_front tag (length content) c.args.reader.now.unread short.more content h (sym short.split))
 
-pub returns-in-Ok-clause-short : goal.returns-in-Ok-clause-short
-returns-in-Ok-clause-short c tag content h fresh short =
-    let here : IsProperBeginning c.unread.result.now (element tag content) = rw c.unread.ensures short in
-    cc (c.in-Ok.ensures.short tag content h here)
+pub returns-in_err-value-clause-kind : goal.returns-in_err-value-clause-kind
+returns-in_err-value-clause-kind c fresh =
+    let unread = ap (λ (r : Reader). r.unread) c.in_ok-header.ensures.found.1.was_whole in
+    let whole = ap (λ (r : Reader). r.failed) c.in_ok-header.ensures.found.1.is_whole in
+    let few : length c.decode.new.reader.unread < c.in_ok-header.header.length =
+        ⊎_elim (λ few. few) (λ fits. absurd (cc ((c.in_err-value.ensures.within whole).1 fits))) (cases_lt _ _) in
+    let kind = any_short (λ _. no_fault) no_fault c.in_ok-header.header.tag c.in_ok-header.header.length c.args.reader.now.unread c.decode.new.reader.unread
+        c.in_ok-header.ensures.found.0 unread few in
+    let truncated = c.in_err-value.ensures.kind whole refl in
+    search rules
 
-pub returns-in-Err-clause-short : goal.returns-in-Err-clause-short
-returns-in-Err-clause-short c tag content h fresh short =
-    let here : IsProperBeginning c.unread.result.now (element tag content) = rw c.unread.ensures short in
-    let kind = c.in-Err.ensures.short tag content h here in
-    c.fail.ensures.error ∙ cc
+pub returns-clause-short : goal.returns-clause-short
+returns-clause-short c tag content h fresh short =
+    let old = c.in_ok-header.header in
+    let unread = ap (λ (r : Reader). r.unread) c.in_ok-header.ensures.found.1.was_whole in
+    let inside = ap (λ (r : Reader). r.unread) c.in_ok-value.ensures.found.1.was_whole in
+    let apart = header_apart tag (length content) old.tag old.length content (c.decode.new.reader.unread ++ short.more)
+        (short.split ∙ (ap (λ xs. xs ++ short.more) unread ∙ append_assoc (header old.tag old.length) c.decode.new.reader.unread short.more)) in
+    let lengths = ap length (apart.2 ∙ ap (λ xs. xs ++ short.more) inside) in
+    absurd (omega (arith, simp length-append at lengths, apart.1, some_length short.more short.some, c.in_ok-value.ensures.found.0))
 
-pub returns-in-Ok-clause-kind : goal.returns-in-Ok-clause-kind
-returns-in-Ok-clause-kind c fresh =
-    let found = c.in-Ok.ensures.found in
-    any_room (λ _. no_fault) no_fault c.in-Ok.header.tag c.in-Ok.header.length c.args.reader.now.unread c.in-Ok.inside.now found.0 (sym c.unread.ensures
-    ∙ found.1) found.2
+pub returns-clause-kind : goal.returns-clause-kind
+returns-clause-kind c fresh =
+    let unread = ap (λ (r : Reader). r.unread) c.in_ok-header.ensures.found.1.was_whole in
+    any_room (λ _. no_fault) no_fault c.in_ok-header.header.tag c.in_ok-header.header.length c.args.reader.now.unread c.decode.new.reader.unread
+        c.in_ok-header.ensures.found.0 unread
+        ((c.in_ok-value.ensures.within (ap (λ (r : Reader). r.failed) c.in_ok-header.ensures.found.1.is_whole)).0 refl)
