@@ -1,7 +1,7 @@
 -- The parts of a key that stand within the limits are trees, and the other way round.
 use Rattle.std.specs.Prelude.{◌≡◌, ◌≢◌, ℕ, ◌≤◌, ◌<◌, ◌%◌, List, [], ◌∷◌, ◌++◌, length, Option, Some, None, refl}
 use Rattle.std.proofs.Common.{arith, ap, lit<, lit≤, append-nil}
-use Rattle.sec1_der.specs.ElementLaws.{length-header, length-element}
+use Rattle.sec1_der.proofs.ElementLemmas.{length-header, length-element}
 use Rattle.sec1_der.specs.Elements.{max_length, IsTag, IsConstructed, element}
 use Rattle.sec1_der.specs.Identifiers.{IsIdentifier, content_of}
 use Rattle.sec1_der.specs.Trees.{row, AreTrees}

@@ -3,8 +3,8 @@ use Rattle.std.proofs.Common.{◌≡◌, ◌≤◌, ◌++◌, ◌∷◌, [], ℕ
 use Rattle.std.specs.Prelude.{IsSomeAnd}
 use Rattle.std.specs.Option.{option_map}
 use Rattle.sec1_der.specs.Components.{join}
-use Rattle.sec1_der.specs.ComponentLaws.{parted, joined, alone}
-use Rattle.sec1_der.specs.ElementLaws.{element_of_tells, element_of_holds, length-element, length-header}
+use Rattle.sec1_der.proofs.ComponentLemmas.{parted, joined, alone}
+use Rattle.sec1_der.proofs.ElementLemmas.{element_of_tells, element_of_holds, length-element, length-header}
 use Rattle.sec1_der.specs.Elements.{max_length, element, element_of, field_of, IsElementOf}
 use Rattle.sec1_der.specs.Identifiers.{IsIdentifier, content_of, identifier_content}
 use Rattle.sec1_der.specs.IdentifierLaws.{identifier_content-tells, identifier_content-holds}

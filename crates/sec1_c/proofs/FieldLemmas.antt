@@ -2,7 +2,7 @@
 use Rattle.std.proofs.Common.{◌≡◌, ◌<◌, ◌++◌, ◌∷◌, [], ℕ, List, length, Option, Some, None, refl, ap, sym, ◌∙◌, arith}
 use Rattle.std.proofs.lemmas.List.{append-nil}
 use Rattle.std.specs.Option.{option_map}
-use Rattle.sec1_der.specs.ElementLaws.{element_of_holds, length-element, length-header}
+use Rattle.sec1_der.proofs.ElementLemmas.{element_of_holds, length-element, length-header}
 use Rattle.sec1_der.specs.Elements.{max_length, element, element_of, field_of}
 use Rattle.sec1_der.specs.Identifiers.{content_of, identifier_content}
 use Rattle.sec1_der.specs.IdentifierLaws.{identifier_content-holds}

@@ -1,5 +1,8 @@
 pub mod DigitLemmas
 pub mod LengthLemmas
+pub mod ElementLemmas
+pub mod WriterLemmas
+pub mod ComponentLemmas
 pub mod HeaderLemmas
 pub mod RefusalLemmas
 pub mod ContentRefusals

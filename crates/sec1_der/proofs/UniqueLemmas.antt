@@ -3,9 +3,9 @@ use Rattle.std.proofs.Common.{◌≡◌, ◌+◌, [], ◌++◌, ℕ, List, Optio
 use Rattle.std.specs.Option.{option_map}
 use Rattle.std.specs.Prelude.{◌≢◌, slice_get, Result, Ok, Err, IsOkAnd}
 use Rattle.sec1_der.specs.declared.error.Error.{Error}
-use Rattle.sec1_der.specs.ComponentLaws.{parted}
+use Rattle.sec1_der.proofs.ComponentLemmas.{parted}
 use Rattle.sec1_der.specs.Components.{join}
-use Rattle.sec1_der.specs.ElementLaws.{element_of_tells}
+use Rattle.sec1_der.proofs.ElementLemmas.{element_of_tells}
 use Rattle.sec1_der.specs.Elements.{element, element_of, field_of}
 use Rattle.sec1_der.specs.IdentifierLaws.{identifier_content-tells}
 use Rattle.sec1_der.specs.Identifiers.{identifier_content}

@@ -2,10 +2,12 @@
 use Rattle.std.specs.Prelude.{◌≡◌, ◌≢◌, ℕ, ◌+◌, ◌%◌, ◌<◌, ◌≤◌, List, [], ◌∷◌, ◌++◌, length, nat_lt, nat_le, Option, Some, None, ⊤, if◌then◌else◌}
 use Rattle.std.specs.Int.{IsBitSet}
 use Rattle.std.specs.Int.Digits.{digits_of}
+use Rattle.sec1_der.specs.declared.header.TheConstants.{LONG_FORM}
+use Rattle.sec1_der.specs.declared.length.TheConstants.Length.{MAX}
 
 -- the most bytes that a content may have
 abbrev pub max_length : ℕ
-max_length = 268435455
+max_length = MAX
 
 -- X.690 section 8.1.2: a tag byte. It isn't 00, which is kept for end-of-contents, and its low five bits
 -- aren't all ones, which begin a high tag number.
@@ -21,7 +23,7 @@ IsConstructed tag = IsBitSet tag 5
 -- X.690 sections 8.1.3 and 10.1: the one spelling of a length. It is the number itself below 128, else the
 -- count of its base 256 digits plus 80 (hexadecimal), and the digits.
 unfoldable pub len : ℕ → List ℕ
-len n = let digits = digits_of 256 n in if nat_lt n 0x80 then n ∷ [] else (0x80 + length digits) ∷ digits
+len n = let digits = digits_of 256 n in if nat_lt n LONG_FORM then n ∷ [] else (LONG_FORM + length digits) ∷ digits
 
 -- a tag byte and a length
 abbrev pub header : ℕ → ℕ → List ℕ

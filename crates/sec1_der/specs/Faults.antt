@@ -1,5 +1,6 @@
 -- What a refusal says.
 use Rattle.std.specs.Prelude.{◌≡◌, ◌⊎◌, ℕ, ◌-◌, ◌%◌, Bool, ◌&&◌, not, ◌==◌, nat_lt, nat_le, if◌then◌else◌, List, [], ◌∷◌, length, Result, IsErrAnd}
+use Rattle.sec1_der.specs.declared.header.TheConstants.{LONG_FORM}
 use Rattle.sec1_der.specs.declared.error.Error.{Error}
 use Rattle.sec1_der.specs.declared.error.ErrorKind.{ErrorKind}
 use Rattle.sec1_der.specs.declared.error.ErrorKind.TheVariants.{Truncated, Tag, Length, TrailingData, Value, Overlength, Buffer, Failed, Io, Depth, Memory}
@@ -35,7 +36,7 @@ IsReadingFault Memory = ⊥
 
 -- a first byte that announces one to four digits, more than there are
 abbrev pub lacks_digits : ℕ → List ℕ → Bool
-lacks_digits first digits = nat_lt 0x80 first && nat_le first 0x84 && nat_lt (length digits) (first - 0x80)
+lacks_digits first digits = nat_lt LONG_FORM first && nat_le first 0x84 && nat_lt (length digits) (first - LONG_FORM)
 
 -- The kind, where no length begins the bytes: they end inside one, or spell none.
 abbrev pub length_fault : List ℕ → ErrorKind

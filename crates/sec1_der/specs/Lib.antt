@@ -1,6 +1,5 @@
 pub mod Numbers
 pub mod Elements
-pub mod ElementLaws
 pub mod Trees
 pub mod TreeLaws
 pub mod Walks
@@ -16,9 +15,8 @@ pub mod Values
 pub mod Readers
 pub mod SliceWriters
 pub mod BackWriters
-pub mod WriterLaws
 pub mod Components
-pub mod ComponentLaws
+pub mod Beginnings
 pub mod Streams
 pub mod StdStreams
 pub mod ReadsDocument

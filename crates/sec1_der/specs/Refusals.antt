@@ -6,6 +6,7 @@ use Rattle.std.specs.Str.{bytes_eq}
 use Rattle.sec1_der.specs.Elements.{max_length, len}
 use Rattle.sec1_der.specs.Faults.{is_tag, length_fault}
 use Rattle.sec1_der.specs.Numbers.{num}
+use Rattle.sec1_der.specs.declared.header.TheConstants.{LONG_FORM}
 use Rattle.sec1_der.specs.declared.error.Error.{Error}
 use Rattle.sec1_der.specs.declared.error.ErrorKind.{ErrorKind}
 use Rattle.sec1_der.specs.declared.error.ErrorKind.TheVariants.{Truncated, Tag, TrailingData, Depth}
@@ -29,7 +30,7 @@ end_fault (byte ∷ bytes) = Some TrailingData
 -- X.690 sections 8.1.3 and 10.1: the number whose spelling begins the bytes, where one does
 abbrev pub number_at : List ℕ → ℕ
 number_at [] = 0
-number_at (first ∷ digits) = if nat_lt first 0x80 then first else num (take (first - 0x80) digits)
+number_at (first ∷ digits) = if nat_lt first LONG_FORM then first else num (take (first - LONG_FORM) digits)
 
 -- the length that begins the bytes, and the bytes behind it
 abbrev pub length_at : List ℕ → Result (ℕ × List ℕ) ErrorKind

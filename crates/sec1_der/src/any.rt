@@ -1,8 +1,8 @@
 ghost use Rattle.sec1_der.specs.Elements.{IsTag};
 
 use crate::{
-    BackWriter, EncodeValue, ErrorKind, Header, Length, ObjectIdentifier, Result, SliceReader, SliceWriter,
-    Tag, ValueContent,
+    BackWriter, EncodeValue, ErrorKind, Header, Length, ObjectIdentifier, Result, SliceReader,
+    SliceWriter, Tag, ValueContent,
 };
 
 /// An element of any tag, which borrows its content unread.

@@ -1,5 +1,7 @@
 ghost use Rattle.std.specs.Prelude.{◌≤◌, length};
 
+use crate::codec::check_room;
+use crate::header::LONG_FORM;
 use crate::{
     EncodeValue, ErrorKind, FixedTag, Header, Length, Result, Tag, context_specific_len,
     encoded_len,
@@ -60,9 +62,7 @@ impl<'b> BackWriter<'b> {
         ensures full { length (front_of self.old) < length bytes.now → Refuses result ErrorKind.Buffer
             × PutsNothing self.old self.new }
     {
-        if bytes.len() > self.start {
-            return Err(ErrorKind::Buffer.into());
-        }
+        check_room(bytes.len(), self.start)?;
         let start = self.start - bytes.len();
         self.buffer[start..self.start].copy_from_slice(bytes);
         self.start = start;
@@ -89,7 +89,7 @@ impl<'b> BackWriter<'b> {
             → Refuses result ErrorKind.Buffer × PutsNothing self.old self.new }
     {
         let length = Length::new(self.written() - since)?;
-        if length.get() < 0x80 {
+        if length.get() < LONG_FORM {
             return self.write(&[tag.byte(), length.get() as u8]);
         }
         let (octets, count) = Header { tag, length }.octets();
@@ -113,9 +113,7 @@ impl<'b> BackWriter<'b> {
             → length (front_of self.old) < length bytes
             → Refuses result ErrorKind.Buffer × PutsNothing self.old self.new }
     {
-        if self.remaining() < encoded_len(value)? {
-            return Err(ErrorKind::Buffer.into());
-        }
+        check_room(encoded_len(value)?, self.remaining())?;
         self.put_element(value)
     }
 
@@ -162,9 +160,7 @@ impl<'b> BackWriter<'b> {
             → length (front_of self.old) < length bytes
             → Refuses result ErrorKind.Buffer × PutsNothing self.old self.new }
     {
-        if self.remaining() < context_specific_len(number, field)? {
-            return Err(ErrorKind::Buffer.into());
-        }
+        check_room(context_specific_len(number, field)?, self.remaining())?;
         self.put_field(number, field)
     }
 

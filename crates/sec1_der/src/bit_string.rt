@@ -1,6 +1,7 @@
 ghost use Rattle.std.specs.Prelude.{◌≡◌, ◌↔◌, IsTrue};
 ghost use Rattle.sec1_der.specs.Contents.{AreBits};
 
+use crate::codec::check_room;
 use crate::{
     BackWriter, DecodeValue, EncodeValue, ErrorKind, FixedTag, Length, Result, SliceReader,
     SliceWriter, Tag, ValueContent,
@@ -143,17 +144,13 @@ impl EncodeValue for BitStringRef<'_> {
     }
 
     fn encode_value(&self, writer: &mut SliceWriter) -> Result<()> {
-        if writer.remaining() < self.value_len()?.get() {
-            return Err(ErrorKind::Buffer.into());
-        }
+        check_room(self.value_len()?.get(), writer.remaining())?;
         writer.write_byte(self.unused)?;
         writer.write(self.bytes)
     }
 
     fn encode_back(&self, writer: &mut BackWriter) -> Result<()> {
-        if writer.remaining() < self.value_len()?.get() {
-            return Err(ErrorKind::Buffer.into());
-        }
+        check_room(self.value_len()?.get(), writer.remaining())?;
         writer.write(self.bytes)?;
         writer.write(&[self.unused])
     }

@@ -115,9 +115,7 @@ pub fn encode_to_slice<T: EncodeValue + FixedTag>(value: &T, buffer: &mut [u8]) 
     ensures unchanged { OnErr result (buffer.new ≡ buffer.old) }
 {
     let total = encoded_len(value)?;
-    if buffer.len() < total {
-        return Err(ErrorKind::Buffer.into());
-    }
+    check_room(total, buffer.len())?;
     fill(value, &mut buffer[..total])?;
     Ok(total)
 }
@@ -142,6 +140,22 @@ pub fn to_der<T: EncodeValue + FixedTag>(alloc: Global, value: &T) -> Result<Vec
     let mut bytes = vec![in alloc; 0; total]?;
     fill(value, &mut bytes)?;
     Ok(bytes)
+}
+
+/// Checks that `count` bytes have room where there is room for `room` bytes.
+///
+/// # Errors
+///
+/// Buffer if they haven't.
+pub(crate) fn check_room(count: usize, room: usize) -> Result<()>
+    ensures fits { OnOk result (count ≤ room) }
+    ensures full { OnErr result (room < count) }
+    ensures kind { IfErr result (λ e. e.kind ≡ ErrorKind.Buffer) }
+{
+    if room < count {
+        return Err(ErrorKind::Buffer.into());
+    }
+    Ok(())
 }
 
 /// Writes the value's element into a slice of its length.

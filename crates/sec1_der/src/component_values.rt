@@ -214,7 +214,7 @@ impl<T: ValueContent + FixedTag> ValueContent for Containing<T> {
 }
 
 impl<'a, T: DecodeValue<'a> + FixedTag + Drop> DecodeValue<'a> for Containing<T> {
-    #[tactic(auto, using(crate::specs::ComponentLaws::alone))]
+    #[tactic(auto, using(crate::proofs::ComponentLemmas::alone))]
     fn decode_value(reader: &mut SliceReader<'a>) -> Result<Self> {
         let Required { first, rest: End } = Required::decode_value(reader)?;
         Ok(Containing { value: first })

@@ -71,7 +71,7 @@ impl EncodeComponents for End {
 }
 
 impl<N: ExplicitTag> NoField<N> for End {
-    ghost use Rattle.sec1_der.specs.ComponentLaws.{end_apart};
+    ghost use Rattle.sec1_der.specs.Beginnings.{end_apart};
 
     ghost none = { λ _ bytes same. end_apart N.at bytes same };
 }
@@ -129,7 +129,7 @@ impl<A: EncodeValue + FixedTag, R: EncodeComponents> EncodeComponents for Requir
 
 impl<N: ExplicitTag, A: ValueContent + UniversalTag, R: ValueContent> NoField<N>
     for Required<A, R> {
-    ghost use Rattle.sec1_der.specs.ComponentLaws.{required_apart};
+    ghost use Rattle.sec1_der.specs.Beginnings.{required_apart};
 
     ghost none = { λ row bytes same. required_apart N.at A.number A.universal (A.content row.first)
         (R.content row.rest) bytes same };
@@ -196,7 +196,7 @@ impl<N: ExplicitTag, A: EncodeValue + FixedTag, R: EncodeComponents> EncodeCompo
 
 impl<N: ExplicitTag, M: OtherThan<N>, A: ValueContent + FixedTag, R: NoField<N>> NoField<N>
     for Optional<M, A, R> {
-    ghost use Rattle.sec1_der.specs.ComponentLaws.{optional_apart};
+    ghost use Rattle.sec1_der.specs.Beginnings.{optional_apart};
 
     ghost none = { λ row bytes same. optional_apart M.at N.at M.other A.number (option_map A.content row.first)
         (R.content row.rest) bytes same (R.none row.rest) };

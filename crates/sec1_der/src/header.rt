@@ -9,7 +9,7 @@ ghost use Rattle.sec1_der.specs.SliceWriters.{room_of, KeepsSlice, AppendsNothin
 use crate::{ErrorKind, Length, Result, SliceReader, SliceWriter, Tag};
 
 /// The least length in the long form (X.690 section 8.1.3.5).
-const LONG_FORM: usize = 0x80;
+pub(crate) const LONG_FORM: usize = 0x80;
 
 /// What some bytes begin with, and the bytes after it; or the reason why they don't.
 pub(crate) type First<'a, T> = std::result::Result<(T, &'a [u8]), ErrorKind>;
@@ -168,7 +168,7 @@ fn length_at(bytes: &[u8]) -> First<'_, Length>
         return Err(ErrorKind::Truncated);
     };
     let first = *first;
-    if first < 0x80 {
+    if usize::from(first) < LONG_FORM {
         return Ok((Length::of_byte(first), rest));
     }
     if first == 0x80 || first > 0x84 {

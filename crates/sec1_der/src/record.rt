@@ -1,9 +1,10 @@
 //! A struct of one's own that is read and written as a SEQUENCE.
 ghost use Rattle.std.specs.Prelude.{◌≡◌};
 
+use crate::codec::check_room;
 use crate::{
-    BackWriter, DecodeValue, EncodeComponents, EncodeValue, ErrorKind, FixedTag, Length, Result,
-    Sequence, SliceReader, SliceWriter, Tag, UniversalTag, ValueContent,
+    BackWriter, DecodeValue, EncodeComponents, EncodeValue, FixedTag, Length, Result, Sequence,
+    SliceReader, SliceWriter, Tag, UniversalTag, ValueContent,
 };
 
 /// A struct that is read and written as the SEQUENCE of its components (X.690 section 8.9).
@@ -82,9 +83,7 @@ where
 
     fn encode_back(&self, writer: &mut BackWriter) -> Result<()> {
         let row = self.to_components();
-        if writer.remaining() < row.value_len()?.get() {
-            return Err(ErrorKind::Buffer.into());
-        }
+        check_room(row.value_len()?.get(), writer.remaining())?;
         row.put_value(writer)
     }
 

@@ -1,6 +1,6 @@
 ghost use Rattle.std.specs.Prelude.{◌≤◌, length};
 
-use crate::codec::{element_header, field_header, fill_components};
+use crate::codec::{check_room, element_header, field_header, fill_components};
 use crate::{
     EncodeComponents, EncodeValue, ErrorKind, FixedTag, Result, context_specific_len, encoded_len,
 };
@@ -75,9 +75,7 @@ impl<'b> SliceWriter<'b> {
         ensures full { length (room_of self.old) < length bytes.now → Refuses result ErrorKind.Buffer
             × AppendsNothing self.old self.new }
     {
-        if bytes.len() > self.remaining() {
-            return Err(ErrorKind::Buffer.into());
-        }
+        check_room(bytes.len(), self.remaining())?;
         let end = self.position + bytes.len();
         self.buffer[self.position..end].copy_from_slice(bytes);
         self.position = end;
@@ -101,9 +99,7 @@ impl<'b> SliceWriter<'b> {
             → Refuses result ErrorKind.Buffer × AppendsNothing self.old self.new }
     {
         let count = row.value_len()?.get();
-        if self.remaining() < count {
-            return Err(ErrorKind::Buffer.into());
-        }
+        check_room(count, self.remaining())?;
         let end = self.position + count;
         fill_components(row, &mut self.buffer[self.position..end])?;
         self.position = end;
@@ -126,9 +122,7 @@ impl<'b> SliceWriter<'b> {
             → length (room_of self.old) < length bytes
             → Refuses result ErrorKind.Buffer × AppendsNothing self.old self.new }
     {
-        if self.remaining() < encoded_len(value)? {
-            return Err(ErrorKind::Buffer.into());
-        }
+        check_room(encoded_len(value)?, self.remaining())?;
         element_header(value)?.encode(self)?;
         value.encode_value(self)
     }
@@ -157,9 +151,7 @@ impl<'b> SliceWriter<'b> {
             → length (room_of self.old) < length bytes
             → Refuses result ErrorKind.Buffer × AppendsNothing self.old self.new }
     {
-        if self.remaining() < context_specific_len(number, field)? {
-            return Err(ErrorKind::Buffer.into());
-        }
+        check_room(context_specific_len(number, field)?, self.remaining())?;
         let Some(value) = field else {
             return Ok(());
         };

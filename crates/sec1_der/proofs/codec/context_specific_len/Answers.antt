@@ -1,5 +1,5 @@
 use Rattle.std.proofs.Common.{◌≡◌, ◌+◌, length, Ok, arith, ap}
-use Rattle.sec1_der.specs.ElementLaws.{element_of_tells, length-element}
+use Rattle.sec1_der.proofs.ElementLemmas.{element_of_tells, length-element}
 use Rattle.sec1_der.specs.Elements.{header, element_of}
 use Rattle.sec1_der.specs.declared.header.Header.{Header}
 use Rattle.sec1_der.proofs.codec.context_specific_len.Goals as goal

@@ -1,7 +1,7 @@
 use Rattle.std.proofs.Common.{rules, ◌≡◌, ◌<◌, ◌+◌, length, arith, subst}
-use Rattle.sec1_der.specs.ElementLaws.{element_of_lacks}
+use Rattle.sec1_der.proofs.ElementLemmas.{element_of_lacks}
 use Rattle.sec1_der.specs.Elements.{max_length, element_of, IsOverlong}
-use Rattle.sec1_der.specs.WriterLaws.{measured, unmeasured}
+use Rattle.sec1_der.proofs.WriterLemmas.{measured, unmeasured}
 use Rattle.sec1_der.specs.declared.error.ErrorKind.TheVariants.{Overlength}
 use Rattle.sec1_der.proofs.codec.field_header.Goals as goal
 

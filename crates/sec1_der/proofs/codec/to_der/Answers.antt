@@ -2,7 +2,7 @@ use Rattle.std.proofs.Common.{◌≡◌, List, ℕ, length, drop, Some, arith, a
 use Rattle.std.proofs.lemmas.Bool.{false≢true}
 use Rattle.std.proofs.lemmas.List.{take_at}
 use Rattle.sec1_der.specs.Elements.{element_of}
-use Rattle.sec1_der.specs.WriterLaws.{measured}
+use Rattle.sec1_der.proofs.WriterLemmas.{measured}
 use Rattle.sec1_der.proofs.codec.to_der.Goals as goal
 
 pub returns-in_err-total-clause-some : goal.returns-in_err-total-clause-some

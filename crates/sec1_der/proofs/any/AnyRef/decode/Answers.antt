@@ -19,9 +19,9 @@ returns-in_err-value-clause-kind c fresh =
     let unread = ap (λ (r : Reader). r.unread) c.in_ok-header.ensures.found.1.was_whole in
     let whole = ap (λ (r : Reader). r.failed) c.in_ok-header.ensures.found.1.is_whole in
     let few : length c.decode.new.reader.unread < c.in_ok-header.header.length =
-        ⊎_elim (λ few. few) (λ fits. absurd (cc ((c.in_err-value.ensures.within whole).1 fits))) (cases_lt _ _) in
+    ⊎_elim (λ few. few) (λ fits. absurd (cc ((c.in_err-value.ensures.within whole).1 fits))) (cases_lt _ _) in
     let kind = any_short (λ _. no_fault) no_fault c.in_ok-header.header.tag c.in_ok-header.header.length c.args.reader.now.unread c.decode.new.reader.unread
-        c.in_ok-header.ensures.found.0 unread few in
+    c.in_ok-header.ensures.found.0 unread few in
     let truncated = c.in_err-value.ensures.kind whole refl in
     search rules
 
@@ -31,7 +31,7 @@ returns-clause-short c tag content h fresh short =
     let unread = ap (λ (r : Reader). r.unread) c.in_ok-header.ensures.found.1.was_whole in
     let inside = ap (λ (r : Reader). r.unread) c.in_ok-value.ensures.found.1.was_whole in
     let apart = header_apart tag (length content) old.tag old.length content (c.decode.new.reader.unread ++ short.more)
-        (short.split ∙ (ap (λ xs. xs ++ short.more) unread ∙ append_assoc (header old.tag old.length) c.decode.new.reader.unread short.more)) in
+    (short.split ∙ (ap (λ xs. xs ++ short.more) unread ∙ append_assoc (header old.tag old.length) c.decode.new.reader.unread short.more)) in
     let lengths = ap length (apart.2 ∙ ap (λ xs. xs ++ short.more) inside) in
     absurd (omega (arith, simp length-append at lengths, apart.1, some_length short.more short.some, c.in_ok-value.ensures.found.0))
 
@@ -39,5 +39,5 @@ pub returns-clause-kind : goal.returns-clause-kind
 returns-clause-kind c fresh =
     let unread = ap (λ (r : Reader). r.unread) c.in_ok-header.ensures.found.1.was_whole in
     any_room (λ _. no_fault) no_fault c.in_ok-header.header.tag c.in_ok-header.header.length c.args.reader.now.unread c.decode.new.reader.unread
-        c.in_ok-header.ensures.found.0 unread
-        ((c.in_ok-value.ensures.within (ap (λ (r : Reader). r.failed) c.in_ok-header.ensures.found.1.is_whole)).0 refl)
+    c.in_ok-header.ensures.found.0 unread
+    ((c.in_ok-value.ensures.within (ap (λ (r : Reader). r.failed) c.in_ok-header.ensures.found.1.is_whole)).0 refl)

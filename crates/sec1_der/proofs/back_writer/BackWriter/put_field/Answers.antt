@@ -1,9 +1,9 @@
 use Rattle.std.proofs.Common.{◌≡◌, ◌+◌, length, arith, ap, subst, sym, ◌∙◌, length-append}
 use Rattle.std.proofs.lemmas.Bool.{false≢true}
 use Rattle.sec1_der.specs.BackWriters.{end_of, PutsInFront}
-use Rattle.sec1_der.specs.ElementLaws.{element_of_tells, length-element}
+use Rattle.sec1_der.proofs.ElementLemmas.{element_of_tells, length-element}
 use Rattle.sec1_der.specs.Elements.{header, element_of}
-use Rattle.sec1_der.specs.WriterLaws.{puts_both}
+use Rattle.sec1_der.proofs.WriterLemmas.{puts_both}
 use Rattle.sec1_der.proofs.back_writer.BackWriter.put_field.Goals as goal
 
 pub returns-in_err-put_element-clause-fits : goal.returns-in_err-put_element-clause-fits

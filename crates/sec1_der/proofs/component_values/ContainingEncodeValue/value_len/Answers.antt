@@ -1,6 +1,6 @@
 use Rattle.std.proofs.Common.{rules, ◌≡◌, ◌<◌, length, subst, arith}
 use Rattle.sec1_der.specs.Elements.{max_length, IsOverlong}
-use Rattle.sec1_der.specs.WriterLaws.{measured, unmeasured, refused_above}
+use Rattle.sec1_der.proofs.WriterLemmas.{measured, unmeasured, refused_above}
 use Rattle.sec1_der.specs.declared.error.ErrorKind.TheVariants.{Overlength}
 use Rattle.sec1_der.proofs.component_values.ContainingEncodeValue.value_len.Goals as goal
 

@@ -1,10 +1,10 @@
 use Rattle.std.proofs.Common.{sym, rules, ◌≡◌, ◌<◌, ◌+◌, length, subst, ap, arith}
 use Rattle.std.specs.Option.{option_map}
 use Rattle.sec1_der.specs.Elements.{max_length, field_of, IsOverlong}
-use Rattle.sec1_der.specs.WriterLaws.{IsMeasured, measured, unmeasured, refused_above, answered_within}
+use Rattle.sec1_der.proofs.WriterLemmas.{IsMeasured, measured, unmeasured, refused_above, answered_within}
 use Rattle.sec1_der.specs.declared.error.ErrorKind.TheVariants.{Overlength}
 use Rattle.sec1_der.specs.Components.{join}
-use Rattle.sec1_der.specs.ComponentLaws.{parted, counted, measured_within}
+use Rattle.sec1_der.proofs.ComponentLemmas.{parted, counted, measured_within}
 use Rattle.sec1_der.proofs.components.OptionalEncodeComponents.value_len.Given.{Over}
 use Rattle.sec1_der.proofs.components.OptionalEncodeComponents.value_len.Goals as goal
 use Rattle.sec1_der.proofs.components.OptionalEncodeComponents.value_len.Goals.{After-new}

@@ -1,8 +1,8 @@
 use Rattle.std.proofs.Common.{subst, sym, arith}
 use Rattle.sec1_der.specs.BackWriters.{PutsInFront}
 use Rattle.sec1_der.specs.Elements.{element_of}
-use Rattle.sec1_der.specs.WriterLaws.{puts_both}
-use Rattle.sec1_der.specs.ComponentLaws.{parted}
+use Rattle.sec1_der.proofs.WriterLemmas.{puts_both}
+use Rattle.sec1_der.proofs.ComponentLemmas.{parted}
 use Rattle.sec1_der.proofs.components.RequiredEncodeComponents.put_value.Goals as goal
 
 pub returns-clause-fits : goal.returns-clause-fits

@@ -1,8 +1,8 @@
 use Rattle.std.proofs.Common.{◌≡◌, ◌++◌, length, arith, ap, subst, sym, ◌∙◌}
-use Rattle.sec1_der.specs.ElementLaws.{element_of_tells, length-element}
+use Rattle.sec1_der.proofs.ElementLemmas.{element_of_tells, length-element}
 use Rattle.sec1_der.specs.Elements.{header}
 use Rattle.sec1_der.specs.SliceWriters.{Appends}
-use Rattle.sec1_der.specs.WriterLaws.{appends_both}
+use Rattle.sec1_der.proofs.WriterLemmas.{appends_both}
 use Rattle.sec1_der.specs.declared.header.Header.{Header}
 use Rattle.sec1_der.proofs.slice_writer.SliceWriter.element.Goals as goal
 

@@ -4,9 +4,9 @@ use Rattle.std.specs.Prelude.{◌≢◌, slice_get, true, nat_le, Result, Ok}
 use Rattle.std.proofs.lemmas.Bool.{leb-true, leb-false}
 use Rattle.std.proofs.lemmas.List.{append-nil}
 use Rattle.sec1_der.specs.declared.error.Error.{Error}
-use Rattle.sec1_der.specs.ElementLaws.{element_of_tells}
+use Rattle.sec1_der.proofs.ElementLemmas.{element_of_tells}
 use Rattle.sec1_der.specs.Elements.{max_length, element, element_of, field_of, IsOverlong}
-use Rattle.sec1_der.specs.WriterLaws.{IsMeasured}
+use Rattle.sec1_der.proofs.WriterLemmas.{IsMeasured}
 use Rattle.sec1_der.specs.Components.{join}
 
 -- the bytes of both, one behind the other
@@ -49,32 +49,3 @@ measured_within (Some bytes) count none some = by (nat_le (length bytes) max_len
     by : (b : Bool) → nat_le (length bytes) max_length ≡ b → IsMeasured (Some bytes) count
     by true e = record { bytes = bytes; there = refl; counted = cc (some bytes refl (leb-true (length bytes) max_length e)) }
     by false e = absurd (none (leb-false (length bytes) max_length e))
-
--- no bytes begin with no field
-pub end_apart : (n : ℕ) (bytes : List ℕ) → Some [] ≡ Some bytes → slice_get bytes 0 ≢ Some (0xA0 + n)
-end_apart n bytes e = let none : bytes ≡ [] = cc (e) in rw none (λ h. cc h)
-
--- a row that a field [m] begins, or the row behind it, doesn't begin with a field [n]
-pub optional_apart : (m n : ℕ) → m ≢ n → (tag : ℕ) (x : Option (Option (List ℕ))) (y : Option (List ℕ)) (bytes : List ℕ) → join (field_of m tag x) y ≡ Some bytes
-    → ((back : List ℕ) → y ≡ Some back → slice_get back 0 ≢ Some (0xA0 + n)) → slice_get bytes 0 ≢ Some (0xA0 + n)
-optional_apart m n other tag None y bytes e behind starts =
-    let parts = parted (Some []) y bytes e in
-    let front : parts.front ≡ [] = cc (parts.first_there) in
-    behind bytes (parts.second_there ∙ ap (λ xs. Some xs) (sym (parts.joined ∙ ap (λ xs. xs ++ parts.back) front))) starts
-optional_apart m n other tag (Some content) y bytes e behind starts =
-    let parts = parted (field_of m tag (Some content)) y bytes e in
-    let held = element_of_tells (0xA0 + m) (element_of tag content) parts.front parts.first_there in
-    let whole : bytes ≡ element (0xA0 + m) held.inside ++ parts.back = parts.joined ∙ ap (λ xs. xs ++ parts.back) held.at.spelled in
-    let byte : Some (0xA0 + m) ≡ Some (0xA0 + n) = sym (ap (λ xs. slice_get xs 0) whole) ∙ starts in
-    let same : 0xA0 + m ≡ 0xA0 + n = cc byte in
-    other (omega (arith, same))
-
--- a row that an element with a lower tag begins doesn't begin with a field [n]
-pub required_apart : (n tag : ℕ) → tag < 0x40 → (x y : Option (List ℕ)) (bytes : List ℕ) → join (element_of tag x) y ≡ Some bytes → slice_get bytes 0 ≢ Some (0xA0 + n)
-required_apart n tag low x y bytes e starts =
-    let parts = parted (element_of tag x) y bytes e in
-    let held = element_of_tells tag x parts.front parts.first_there in
-    let whole : bytes ≡ element tag held.inside ++ parts.back = parts.joined ∙ ap (λ xs. xs ++ parts.back) held.at.spelled in
-    let byte : Some tag ≡ Some (0xA0 + n) = sym (ap (λ xs. slice_get xs 0) whole) ∙ starts in
-    let same : tag ≡ 0xA0 + n = cc byte in
-    absurd (omega (arith, same, low))
