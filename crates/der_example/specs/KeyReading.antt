@@ -1,7 +1,7 @@
 -- What the public key of a certificate and a private key container hold.
 use Rattle.std.specs.Prelude.{◌≡◌, ℕ, List, [], ◌∷◌, Some, None}
 use Rattle.sec1.specs.Keys.{Key}
-use Rattle.sec1.specs.Points.{Point, IsPoint, enc}
+use Rattle.sec1.specs.Points.{Point, IsPoint, encoding}
 use Rattle.sec1.specs.Der.{element_of}
 use Rattle.der_example.specs.PrivateKeys.{PrivateKey, private_key_content}
 use Rattle.der_example.specs.PublicKeys.{PublicKey, public_key_content}
@@ -25,7 +25,7 @@ IsPublicKeyOf info bytes = element_of 0x30 (public_key_content info) ≡ Some by
 
 -- RFC 5480 section 2.2: the bytes of the public key are the encoding of this point
 abbrev pub HasPoint : PublicKey → Point → Type 0
-HasPoint info point = IsPoint 32 point × (info.bytes ≡ enc 32 point)
+HasPoint info point = IsPoint 32 point × (info.bytes ≡ encoding 32 point)
 
 -- RFC 5208 section 5: the bytes are the DER encoding of this PrivateKeyInfo
 abbrev pub IsPrivateKeyOf : PrivateKey → List ℕ → Type 0

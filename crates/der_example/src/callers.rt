@@ -27,8 +27,8 @@ pub fn element_in<'b, T: EncodeValue + FixedTag>(
     value: &T,
     buffer: &'b mut [u8],
 ) -> der::Result<&'b [u8]>
-    ensures found { IfOk result (λ bytes. element_of T.number (T.content value.now) ≡ Some bytes.now) }
-    ensures only { (bytes : List ℕ) → element_of T.number (T.content value.now) ≡ Some bytes
+    ensures found { IfOk result (λ bytes. element_of T.tag_byte (T.content value.now) ≡ Some bytes.now) }
+    ensures only { (bytes : List ℕ) → element_of T.tag_byte (T.content value.now) ≡ Some bytes
         → length bytes ≤ length buffer.old → IsOkAnd result (λ written. written.now ≡ bytes) }
 {
     let n = der::encode_to_slice(value, buffer)?;

@@ -8,7 +8,7 @@ ghost use Rattle.sec1.specs.HexTexts.{IsHexOf};
 ghost use Rattle.sec1.specs.KeyRefusals.{key_fault};
 ghost use Rattle.sec1.specs.Keys.{Key, IsKeyOf};
 ghost use Rattle.sec1.specs.Parameters.{curve_of};
-ghost use Rattle.sec1.specs.Points.{IsPoint, Point, compressed_point, enc};
+ghost use Rattle.sec1.specs.Points.{IsPoint, Point, compressed_point, encoding};
 
 use crate::PrivateKeyInfo;
 use sec1::der::{ErrorKind, ObjectIdentifier, read_der};
@@ -44,7 +44,7 @@ pub fn key_on(alloc: Global, curve: ObjectIdentifier, private_key: &[u8]) -> Res
 
 /// Returns whether a point, compressed, is the one of a text in hexadecimal; and the compressed point as JSON.
 pub fn compressed(alloc: Global, bytes: &[u8], text: &str) -> Result<(bool, Value)>
-    ensures { (p q : Point) → IsPoint 32 p → IsPoint 32 q → bytes.now ≡ enc 32 p → IsHexOf text.now (enc 32 q)
+    ensures { (p q : Point) → IsPoint 32 p → IsPoint 32 q → bytes.now ≡ encoding 32 p → IsHexOf text.now (encoding 32 q)
         → MatchResult result (λ x. IsTrue x.0 ↔ (compressed_point p ≡ q)) (λ e. e ≡ Error.Memory) }
 {
     let point = EncodedPoint32::from_bytes(bytes)?.compress();
@@ -68,8 +68,8 @@ pub fn refusal(bytes: &[u8]) -> Option<ErrorKind>
 /// Returns the public key of a key on a field of 256 bits, in its compressed form.
 pub fn compressed_public_key(alloc: Global, bytes: &[u8]) -> Result<BoxedSlice<u8>>
     ensures { (key : Key) (p : Point) → IsKeyOf key bytes.now → IsPoint 32 p
-        → key.public_key ≡ Some (enc 32 p)
-        → MatchResult result (λ point. boxed_slice_items point ≡ enc 32 (compressed_point p))
+        → key.public_key ≡ Some (encoding 32 p)
+        → MatchResult result (λ point. boxed_slice_items point ≡ encoding 32 (compressed_point p))
         (λ e. e ≡ Error.Memory) }
 {
     let key = EcPrivateKey::try_from(bytes)?;

@@ -13,7 +13,7 @@ pub struct Null;
 impl FixedTag for Null {
     const TAG: Tag = Tag::NULL;
 
-    ghost number = { 0x05 };
+    ghost tag_byte = { 0x05 };
 
     fn fixed_tag() -> Tag
         ensures { result ≡ 0x05 }
@@ -30,7 +30,7 @@ impl ValueContent for Null {
 
     ghost is_content = { λ bytes. Some [] ≡ Some bytes };
 
-    ghost content_is_one = { λ _ _ same _. same };
+    ghost content_is_valid = { λ _ _ same _. same };
 
     ghost fault = { λ bytes. value_unless (length bytes == 0) };
 }

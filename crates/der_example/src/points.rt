@@ -33,7 +33,7 @@ pub fn from_own_lower_hex<const N: usize, const L: usize>(
     alloc: Global,
     point: &EncodedPoint<N, L>,
 ) -> Result<EncodedPoint<N, L>>
-    ensures ok { IfOk result (λ again. point_of again ≡ point_of point.now) }
+    ensures found { IfOk result (λ again. point_of again ≡ point_of point.now) }
     ensures kind { IfErr result (λ e. e ≡ Memory) }
 {
     one_point(point);
@@ -50,7 +50,7 @@ pub fn from_own_upper_hex<const N: usize, const L: usize>(
     alloc: Global,
     point: &EncodedPoint<N, L>,
 ) -> Result<EncodedPoint<N, L>>
-    ensures ok { IfOk result (λ again. point_of again ≡ point_of point.now) }
+    ensures found { IfOk result (λ again. point_of again ≡ point_of point.now) }
     ensures kind { IfErr result (λ e. e ≡ Memory) }
 {
     one_point(point);
@@ -67,7 +67,7 @@ pub fn from_own_json<const N: usize, const L: usize>(
     alloc: Global,
     point: &EncodedPoint<N, L>,
 ) -> Result<EncodedPoint<N, L>>
-    ensures ok { IfOk result (λ again. point_of again ≡ point_of point.now) }
+    ensures found { IfOk result (λ again. point_of again ≡ point_of point.now) }
     ensures kind { IfErr result (λ e. e ≡ Memory) }
 {
     one_point(point);

@@ -7,10 +7,10 @@ use Rattle.std.proofs.lemmas.List.{take_at, take_all, take-append-drop, length-a
 use Rattle.std.proofs.lemmas.Slice.{take-put_mid}
 use borrow.Rule.Slice.PartMut.{put_mid}
 use Rattle.hex.specs.Hex.{IsBytes}
-use Rattle.sec1_der.specs.Numbers.{num}
-use Rattle.sec1.specs.Points.{Point, identity, compact, compressed, uncompressed, hybrid, is_odd, IsPoint, fixed_width, tag_byte, enc, meaning, point_from, compressed_point, hybrid_point, x_of, y_of}
+use Rattle.sec1_der.specs.Numbers.{number_of}
+use Rattle.sec1.specs.Points.{Point, identity, compact, compressed, uncompressed, hybrid, is_odd, IsPoint, fixed_width, tag_byte, encoding, meaning, point_from, compressed_point, hybrid_point, x_of, y_of}
 use Rattle.sec1.specs.PointOrder.{point_cmp}
-use Rattle.sec1.specs.Tags.{byte_of, tag_of}
+use Rattle.sec1.specs.Tags.{byte_of, point_tag}
 use Rattle.sec1.specs.declared.point.tag.Tag.{Tag}
 use Rattle.sec1.proofs.Digits.{length-fixed_width, num-below, fixed_width-num}
 use Rattle.sec1.proofs.PointLemmas.{meaning-enc, meaning-enc-append, meaning-fits, IsBytes-enc, encoding_spelled, byte_of-tag_of}
@@ -19,59 +19,59 @@ use Rattle.sec1.proofs.Comparisons.{slice_cmp-enc}
 -- ---- a front that is a point's encoding
 
 -- it means the point
-pub means : (n : ℕ) (front : List ℕ) (p : Point) → IsPoint n p → front ≡ enc n p → meaning n front ≡ p
+pub means : (n : ℕ) (front : List ℕ) (p : Point) → IsPoint n p → front ≡ encoding n p → meaning n front ≡ p
 means n front p h e = rw e (meaning-enc n p h)
 
 -- and is the encoding of its meaning
-pub spelled : (n : ℕ) (front : List ℕ) (p : Point) → IsPoint n p → front ≡ enc n p → enc n (meaning n front) ≡ front
+pub spelled : (n : ℕ) (front : List ℕ) (p : Point) → IsPoint n p → front ≡ encoding n p → encoding n (meaning n front) ≡ front
 spelled n front p h e = encoding_spelled n front (record { of = p; fits = h; spelled = e })
 
-pub identity_front : (n l : ℕ) → 1 ≤ l → take {A = ℕ} 1 (replicate {A = ℕ} l 0) ≡ enc n identity
-unfolding enc
+pub identity_front : (n l : ℕ) → 1 ≤ l → take {A = ℕ} 1 (replicate {A = ℕ} l 0) ≡ encoding n identity
+unfolding encoding
 identity_front n zero h = absurd (omega arith)
 identity_front n (suc l) h = refl
 
 -- ---- a value's buffer, whose front is the encoding of its meaning
 
-module _ (n len : ℕ) (bytes : List ℕ) (e : enc n (meaning n (take len bytes)) ≡ take len bytes) where
+module _ (n len : ℕ) (bytes : List ℕ) (e : encoding n (meaning n (take len bytes)) ≡ take len bytes) where
   pub point_fits : IsPoint n (meaning n (take len bytes))
   point_fits = meaning-fits n (take len bytes) (rw (← e) (IsBytes-enc n (meaning n (take len bytes))))
 
-  whole : bytes ≡ enc n (meaning n (take len bytes)) ++ drop len bytes
+  whole : bytes ≡ encoding n (meaning n (take len bytes)) ++ drop len bytes
   whole = sym (take-append-drop len bytes) ∙ ap (λ (front : List ℕ). front ++ drop len bytes) (sym e)
 
-first_of : (n : ℕ) (p : Point) (bytes rest : List ℕ) → bytes ≡ enc n p ++ rest → get_or bytes 0 0 ≡ tag_byte p
-unfolding enc
+first_of : (n : ℕ) (p : Point) (bytes rest : List ℕ) → bytes ≡ encoding n p ++ rest → get_or bytes 0 0 ≡ tag_byte p
+unfolding encoding
 first_of n p bytes rest e = rw e refl
 
 -- it begins with the point's tag
-pub first_byte : (n len : ℕ) (bytes : List ℕ) → enc n (meaning n (take len bytes)) ≡ take len bytes → get_or bytes 0 0 ≡ byte_of (tag_of (meaning n (take len bytes)))
+pub first_byte : (n len : ℕ) (bytes : List ℕ) → encoding n (meaning n (take len bytes)) ≡ take len bytes → get_or bytes 0 0 ≡ byte_of (point_tag (meaning n (take len bytes)))
 first_byte n len bytes e =
     let p = meaning n (take len bytes) in
     first_of n p bytes (drop len bytes) (whole n len bytes e) ∙ sym (byte_of-tag_of p)
 
-made_of : (n : ℕ) (p : Point) (bytes rest x y : List ℕ) (tag : Tag) → IsPoint n p → bytes ≡ enc n p ++ rest
-    → tag ≡ tag_of p → x ≡ take n (drop 1 bytes) → y ≡ take n (drop n (drop 1 bytes)) → point_from (byte_of tag) (num x) (num y) ≡ p
-unfolding enc meaning
+made_of : (n : ℕ) (p : Point) (bytes rest x y : List ℕ) (tag : Tag) → IsPoint n p → bytes ≡ encoding n p ++ rest
+    → tag ≡ point_tag p → x ≡ take n (drop 1 bytes) → y ≡ take n (drop n (drop 1 bytes)) → point_from (byte_of tag) (number_of x) (number_of y) ≡ p
+unfolding encoding meaning
 made_of n p bytes rest x y tag h e et ex ey = rw (et, ex, ey, e, byte_of-tag_of p) (meaning-enc-append n p rest h)
 
 -- the tag and the two halves behind it make the point
-pub made_of_halves : (n len : ℕ) (bytes : List ℕ) → enc n (meaning n (take len bytes)) ≡ take len bytes
-    → (x y : List ℕ) (tag : Tag) → tag ≡ tag_of (meaning n (take len bytes)) → x ≡ take n (drop 1 bytes) → y ≡ take n (drop n (drop 1 bytes))
-    → point_from (byte_of tag) (num x) (num y) ≡ meaning n (take len bytes)
+pub made_of_halves : (n len : ℕ) (bytes : List ℕ) → encoding n (meaning n (take len bytes)) ≡ take len bytes
+    → (x y : List ℕ) (tag : Tag) → tag ≡ point_tag (meaning n (take len bytes)) → x ≡ take n (drop 1 bytes) → y ≡ take n (drop n (drop 1 bytes))
+    → point_from (byte_of tag) (number_of x) (number_of y) ≡ meaning n (take len bytes)
 made_of_halves n len bytes e x y tag et ex ey =
     made_of n (meaning n (take len bytes)) bytes (drop len bytes) x y tag (point_fits n len bytes e) (whole n len bytes e) et ex ey
 
 -- a buffer that the encoding fills is the encoding
-pub filled : (n len : ℕ) (bytes : List ℕ) → length bytes ≤ len → enc n (meaning n (take len bytes)) ≡ take len bytes
-    → bytes ≡ enc n (meaning n (take len bytes))
+pub filled : (n len : ℕ) (bytes : List ℕ) → length bytes ≤ len → encoding n (meaning n (take len bytes)) ≡ take len bytes
+    → bytes ≡ encoding n (meaning n (take len bytes))
 filled n len bytes room e = sym (e ∙ take_all len bytes room)
 
 -- comparing two such buffers compares the points, and their encodings
 module _ (n len other_len : ℕ) (bytes other_bytes : List ℕ) (equal : Bool) (room : length bytes ≤ len) (other_room : length other_bytes ≤ other_len)
-    (e : enc n (meaning n (take len bytes)) ≡ take len bytes) (f : enc n (meaning n (take other_len other_bytes)) ≡ take other_len other_bytes)
+    (e : encoding n (meaning n (take len bytes)) ≡ take len bytes) (f : encoding n (meaning n (take other_len other_bytes)) ≡ take other_len other_bytes)
     (decides : IsTrue equal ↔ (bytes ≡ other_bytes)) where
-  pub filled_bytes : IsTrue equal ↔ (enc n (meaning n (take len bytes)) ≡ enc n (meaning n (take other_len other_bytes)))
+  pub filled_bytes : IsTrue equal ↔ (encoding n (meaning n (take len bytes)) ≡ encoding n (meaning n (take other_len other_bytes)))
   filled_bytes = (
     λ h. sym (filled n len bytes room e) ∙ decides.0 h ∙ filled n other_len other_bytes other_room f,
     λ h. decides.1 (filled n len bytes room e ∙ h ∙ sym (filled n other_len other_bytes other_room f)),
@@ -80,7 +80,7 @@ module _ (n len other_len : ℕ) (bytes other_bytes : List ℕ) (equal : Bool) (
   pub filled_same : IsTrue equal ↔ (meaning n (take len bytes) ≡ meaning n (take other_len other_bytes))
   filled_same = (
     λ h. ap (meaning n) (sym e ∙ filled_bytes.0 h ∙ f),
-    λ h. filled_bytes.1 (ap (enc n) h),
+    λ h. filled_bytes.1 (ap (encoding n) h),
   )
 
 -- what two halves behind the first byte make
@@ -102,8 +102,8 @@ halves_same n (a ∷ xs) (b ∷ ys) x y u v lx ly e ex ey eu ev same_x same_y =
 
 -- comparing two encodings compares the points
 pub values_cmp : (n len other_len : ℕ) (bytes other_bytes xs ys : List ℕ)
-    → enc n (meaning n (take len bytes)) ≡ take len bytes → enc n (meaning n (take other_len other_bytes)) ≡ take other_len other_bytes
-    → xs ≡ enc n (meaning n (take len bytes)) → ys ≡ enc n (meaning n (take other_len other_bytes))
+    → encoding n (meaning n (take len bytes)) ≡ take len bytes → encoding n (meaning n (take other_len other_bytes)) ≡ take other_len other_bytes
+    → xs ≡ encoding n (meaning n (take len bytes)) → ys ≡ encoding n (meaning n (take other_len other_bytes))
     → slice_cmp nat_cmp xs ys ≡ point_cmp (meaning n (take len bytes)) (meaning n (take other_len other_bytes))
 values_cmp n len other_len bytes other_bytes xs ys e f ex ey =
     rw (ex, ey) (slice_cmp-enc n (meaning n (take len bytes)) (meaning n (take other_len other_bytes)) (point_fits n len bytes e) (point_fits n other_len other_bytes f))
@@ -144,8 +144,8 @@ x_front n x y tag rest =
     (ap (λ (xs : List ℕ). tag ∷ xs) (take_at (fixed_width n x) (fixed_width n y ++ rest) n (length-fixed_width n x)))
 
 compress_of : (n : ℕ) (p : Point) (rest : List ℕ) (y tag : ℕ) → Some y ≡ y_of p → tag ≡ cond (is_odd y) 3 2
-    → take (n + 1) (set (enc n p ++ rest) 0 tag) ≡ enc n (compressed_point p)
-unfolding enc
+    → take (n + 1) (set (encoding n p ++ rest) 0 tag) ≡ encoding n (compressed_point p)
+unfolding encoding
 compress_of n identity rest y tag h e = absurd cc
 compress_of n (compact u) rest y tag h e = absurd cc
 compress_of n (compressed u odd) rest y tag h e = absurd cc
@@ -156,39 +156,39 @@ compress_of n (hybrid u v) rest y tag h e =
     let same : y ≡ v = cc in
     x_front n u v tag rest ∙ (rw (e, same) refl)
 
-pub compress_front : (n len : ℕ) (bytes : List ℕ) → enc n (meaning n (take len bytes)) ≡ take len bytes
+pub compress_front : (n len : ℕ) (bytes : List ℕ) → encoding n (meaning n (take len bytes)) ≡ take len bytes
     → (y tag : ℕ) → Some y ≡ y_of (meaning n (take len bytes)) → tag ≡ cond (is_odd y) 3 2
-    → take (n + 1) (set bytes 0 tag) ≡ enc n (compressed_point (meaning n (take len bytes)))
+    → take (n + 1) (set bytes 0 tag) ≡ encoding n (compressed_point (meaning n (take len bytes)))
 compress_front n len bytes e y tag h k =
     ap (λ (xs : List ℕ). take (n + 1) (set xs 0 tag)) (whole n len bytes e)
     ∙ compress_of n (meaning n (take len bytes)) (drop len bytes) y tag h k
 
-hybrid_of : (n len : ℕ) (p : Point) (rest : List ℕ) (x y tag : ℕ) → uncompressed x y ≡ p → len ≡ length (enc n p) → tag ≡ cond (is_odd y) 7 6
-    → take len (set (enc n p ++ rest) 0 tag) ≡ enc n (hybrid_point p)
-unfolding enc
+hybrid_of : (n len : ℕ) (p : Point) (rest : List ℕ) (x y tag : ℕ) → uncompressed x y ≡ p → len ≡ length (encoding n p) → tag ≡ cond (is_odd y) 7 6
+    → take len (set (encoding n p ++ rest) 0 tag) ≡ encoding n (hybrid_point p)
+unfolding encoding
 hybrid_of n len p rest x y tag h e k =
     rw (e, ← h, k) (ap (λ (xs : List ℕ). cond (is_odd y) 7 6 ∷ xs) (take_at (fixed_width n x ++ fixed_width n y) rest (length (fixed_width n x ++ fixed_width n y)) refl))
 
-pub hybrid_front : (n len : ℕ) (bytes : List ℕ) → enc n (meaning n (take len bytes)) ≡ take len bytes → len ≤ length bytes
+pub hybrid_front : (n len : ℕ) (bytes : List ℕ) → encoding n (meaning n (take len bytes)) ≡ take len bytes → len ≤ length bytes
     → (x y tag : ℕ) → uncompressed x y ≡ meaning n (take len bytes) → tag ≡ cond (is_odd y) 7 6
-    → take len (set bytes 0 tag) ≡ enc n (hybrid_point (meaning n (take len bytes)))
+    → take len (set bytes 0 tag) ≡ encoding n (hybrid_point (meaning n (take len bytes)))
 hybrid_front n len bytes e room x y tag h k =
     ap (λ (xs : List ℕ). take len (set xs 0 tag)) (whole n len bytes e)
     ∙ hybrid_of n len (meaning n (take len bytes)) (drop len bytes) x y tag h (sym (ap length e ∙ omega (arith, length-take len bytes))) k
 
 -- ---- a buffer made of coordinates
 
-number_fits : (n : ℕ) (x : List ℕ) → length x ≡ n → IsBytes x → num x < 256 ^ n
+number_fits : (n : ℕ) (x : List ℕ) → length x ≡ n → IsBytes x → number_of x < 256 ^ n
 number_fits n x e h = rw (← e) (num-below x h)
 
-pub halves_fit : (n : ℕ) (x y : List ℕ) → length x ≡ n → length y ≡ n → IsBytes x → IsBytes y → IsPoint n (uncompressed (num x) (num y))
+pub halves_fit : (n : ℕ) (x y : List ℕ) → length x ≡ n → length y ≡ n → IsBytes x → IsBytes y → IsPoint n (uncompressed (number_of x) (number_of y))
 halves_fit n x y ex ey hx hy = (number_fits n x ex hx, number_fits n y ey hy)
 
 -- the tag, x and y, written into a buffer one after the other
 pub halves_front : (n l k tag : ℕ) (buffer written_x written_y x y : List ℕ) → l ≡ 2 * n + 1 → length buffer ≡ l → tag ≡ 4
     → written_x ≡ x → written_y ≡ y → length x ≡ n → length y ≡ n → IsBytes x → IsBytes y
-    → take l (put_mid (n + 1) k (put_mid 1 (n + 1 - 1) (set buffer 0 tag) written_x) written_y) ≡ enc n (uncompressed (num x) (num y))
-unfolding enc
+    → take l (put_mid (n + 1) k (put_mid 1 (n + 1 - 1) (set buffer 0 tag) written_x) written_y) ≡ encoding n (uncompressed (number_of x) (number_of y))
+unfolding encoding
 halves_front n l k tag [] written_x written_y x y el eb et wx wy ex ey hx hy = absurd (omega arith)
 halves_front n l k tag (b ∷ buffer) written_x written_y x y el eb et wx wy ex ey hx hy =
     let tagged = set (b ∷ buffer) 0 tag in

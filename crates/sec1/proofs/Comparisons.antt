@@ -11,8 +11,8 @@ use Rattle.std.proofs.lemmas.Bool.{cases_order, cases_Bool}
 use Rattle.std.proofs.lemmas.Cmp.{ranked, tied_itself}
 use Rattle.std.proofs.lemmas.List.{take-append-drop, length-take}
 use Rattle.hex.specs.Hex.{IsBytes}
-use Rattle.sec1_der.specs.Numbers.{num}
-use Rattle.sec1.specs.Points.{Point, identity, compact, compressed, uncompressed, hybrid, is_odd, IsPoint, fixed_width, tag_byte, coordinate_bytes, x_of, y_of, enc, point_from}
+use Rattle.sec1_der.specs.Numbers.{number_of}
+use Rattle.sec1.specs.Points.{Point, identity, compact, compressed, uncompressed, hybrid, is_odd, IsPoint, fixed_width, tag_byte, coordinate_bytes, x_of, y_of, encoding, point_from}
 use Rattle.sec1.specs.PointOrder.{or_zero, coordinates_cmp, point_cmp, IsLess, IsBelow, point_cmp_total, point_from-parts, same_point, same_point-true}
 use Rattle.sec1.proofs.Digits.{IsBytes-tail, IsBytes-take, IsBytes-fixed_width, length-fixed_width, num-fixed_width}
 
@@ -84,7 +84,7 @@ slice_cmp-after a b (x ∷ xs) (y ∷ ys) hx hy e =
     ∙ slice_cmp-after (a * 256 + x) (b * 256 + y) xs ys (IsBytes-tail x xs hx) (IsBytes-tail y ys hy) (omega arith)
 
 -- bytes of one length are ordered as the numbers that they spell
-slice_cmp-num : (xs ys : List ℕ) → IsBytes xs → IsBytes ys → length xs ≡ length ys → slice_cmp nat_cmp xs ys ≡ nat_cmp (num xs) (num ys)
+slice_cmp-num : (xs ys : List ℕ) → IsBytes xs → IsBytes ys → length xs ≡ length ys → slice_cmp nat_cmp xs ys ≡ nat_cmp (number_of xs) (number_of ys)
 slice_cmp-num xs ys hx hy e = slice_cmp-after 0 0 xs ys hx hy e
 
 slice_cmp-digits : (n x y : ℕ) → x < 256 ^ n → y < 256 ^ n → slice_cmp nat_cmp (fixed_width n x) (fixed_width n y) ≡ nat_cmp x y
@@ -104,7 +104,7 @@ slice_cmp-append (x ∷ a) b (y ∷ c) d e =
 
 -- ---- eight bytes as one number
 
-word_num : (bs : List ℕ) → length bs ≡ 8 → from_be_bytes w64 bs ≡ num bs
+word_num : (bs : List ℕ) → length bs ≡ 8 → from_be_bytes w64 bs ≡ number_of bs
 word_num [] l = absurd (omega arith)
 word_num (a ∷ []) l = absurd (omega arith)
 word_num (a ∷ b ∷ []) l = absurd (omega arith)
@@ -124,8 +124,8 @@ module _ (xs ys w v r s : List ℕ) (n m : ℕ) (hx : IsBytes xs) (hy : IsBytes 
   word_decides =
       let len : length (take 8 xs) ≡ 8 = omega (arith, length-take 8 xs) in
       let other_len : length (take 8 ys) ≡ 8 = omega (arith, length-take 8 ys) in
-      let is : n ≡ num (take 8 xs) = number ∙ ap (from_be_bytes w64) front ∙ word_num (take 8 xs) len in
-      let other_is : m ≡ num (take 8 ys) = other ∙ ap (from_be_bytes w64) other_front ∙ word_num (take 8 ys) other_len in
+      let is : n ≡ number_of (take 8 xs) = number ∙ ap (from_be_bytes w64) front ∙ word_num (take 8 xs) len in
+      let other_is : m ≡ number_of (take 8 ys) = other ∙ ap (from_be_bytes w64) other_front ∙ word_num (take 8 ys) other_len in
       let words = slice_cmp-num (take 8 xs) (take 8 ys) (IsBytes-take 8 xs hx) (IsBytes-take 8 ys hy) (len ∙ sym other_len) in
       ap (λ (l : List ℕ). slice_cmp nat_cmp l ys) (sym (take-append-drop 8 xs))
       ∙ ap (slice_cmp nat_cmp (take 8 xs ++ drop 8 xs)) (sym (take-append-drop 8 ys))
@@ -174,8 +174,8 @@ same_tag n p q h k e =
     (behind_tag n p (or_zero (x_of q)) (or_zero (y_of q)) h) k
 
 -- encodings are ordered as their points
-pub slice_cmp-enc : (n : ℕ) (p q : Point) → IsPoint n p → IsPoint n q → slice_cmp nat_cmp (enc n p) (enc n q) ≡ point_cmp p q
-unfolding enc point_cmp
+pub slice_cmp-enc : (n : ℕ) (p q : Point) → IsPoint n p → IsPoint n q → slice_cmp nat_cmp (encoding n p) (encoding n q) ≡ point_cmp p q
+unfolding encoding point_cmp
 slice_cmp-enc n p q h k =
     then-same (nat_cmp (tag_byte p) (tag_byte q)) (slice_cmp nat_cmp (coordinate_bytes n p) (coordinate_bytes n q)) (coordinates_cmp p q)
     (λ e. same_tag n p q h k (nat_cmp-Equal (tag_byte p) (tag_byte q) e))

@@ -7,7 +7,7 @@ use Rattle.std.proofs.lemmas.Nat.{div-add-mod'}
 use Rattle.std.proofs.lemmas.Bool.{cases_lt}
 use Rattle.std.proofs.lemmas.List.{length-append, length-take, get_or-drop, get_or-take, get_or_past, take_more, take_all, nil_from_length}
 use Rattle.hex.specs.Hex.{IsBytes}
-use Rattle.sec1_der.specs.Numbers.{num}
+use Rattle.sec1_der.specs.Numbers.{number_of}
 use Rattle.sec1.specs.Points.{fixed_width}
 
 -- ---- lists of bytes
@@ -55,11 +55,11 @@ IsBytes-fixed_width zero n = IsBytes-nil
 IsBytes-fixed_width (suc width) n =
     IsBytes-append (fixed_width width (n / 256)) (n % 256 ∷ []) (IsBytes-fixed_width width (n / 256)) (IsBytes-cons (n % 256) [] (omega arith) IsBytes-nil)
 
-pub num-below : (bs : List ℕ) → IsBytes bs → num bs < 256 ^ length bs
+pub num-below : (bs : List ℕ) → IsBytes bs → number_of bs < 256 ^ length bs
 num-below bs h = number_lt 256 bs (IsBytes-below bs h)
 
 -- a number below 256 ^ width is spelled by that many digits
-pub num-fixed_width : (width n : ℕ) → n < 256 ^ width → num (fixed_width width n) ≡ n
+pub num-fixed_width : (width n : ℕ) → n < 256 ^ width → number_of (fixed_width width n) ≡ n
 unfolding fixed_width
 num-fixed_width zero n h = let none : n < 1 = h in omega arith
 num-fixed_width (suc width) n h =
@@ -67,30 +67,30 @@ num-fixed_width (suc width) n h =
     let front = num-fixed_width width (n / 256) (omega arith) in
     number_push 256 (fixed_width width (n / 256)) (n % 256) ∙ ap (λ (k : ℕ). k * 256 + n % 256) front ∙ div-add-mod' n 256
 
-fixed_width-front : (bs : List ℕ) → IsBytes bs → (i : ℕ) → i ≤ length bs → fixed_width i (num (take i bs)) ≡ take i bs
+fixed_width-front : (bs : List ℕ) → IsBytes bs → (i : ℕ) → i ≤ length bs → fixed_width i (number_of (take i bs)) ≡ take i bs
 unfolding fixed_width
 fixed_width-front bs h zero le = refl
 fixed_width-front bs h (suc i) le =
     let byte : get_or bs i 0 < 256 = h i in
     let next : i + 1 ≡ suc i = omega arith in
-    let more : num (take (suc i) bs) ≡ num (take i bs) * 256 + get_or bs i 0 =
-    ap (λ (k : ℕ). num (take k bs)) (sym next) ∙ number_more 256 bs i (omega arith) in
-    let front : num (take (suc i) bs) / 256 ≡ num (take i bs) = omega arith in
-    let last : num (take (suc i) bs) % 256 ≡ get_or bs i 0 = omega arith in
+    let more : number_of (take (suc i) bs) ≡ number_of (take i bs) * 256 + get_or bs i 0 =
+    ap (λ (k : ℕ). number_of (take k bs)) (sym next) ∙ number_more 256 bs i (omega arith) in
+    let front : number_of (take (suc i) bs) / 256 ≡ number_of (take i bs) = omega arith in
+    let last : number_of (take (suc i) bs) % 256 ≡ get_or bs i 0 = omega arith in
     rw (front, last, fixed_width-front bs h i (omega arith)) (sym (take_more bs i 0 (omega arith)) ∙ ap (λ (k : ℕ). take k bs) next)
 
 -- n bytes are the digits of the number that they spell
-pub fixed_width-num : (n : ℕ) (bs : List ℕ) → IsBytes bs → length bs ≡ n → fixed_width n (num bs) ≡ bs
+pub fixed_width-num : (n : ℕ) (bs : List ℕ) → IsBytes bs → length bs ≡ n → fixed_width n (number_of bs) ≡ bs
 fixed_width-num n bs h e =
     let all = take_all n bs (omega arith) in
-    ap (λ (xs : List ℕ). fixed_width n (num xs)) (sym all) ∙ fixed_width-front bs h n (omega arith) ∙ all
+    ap (λ (xs : List ℕ). fixed_width n (number_of xs)) (sym all) ∙ fixed_width-front bs h n (omega arith) ∙ all
 
 -- the last byte has the number's parity
-pub parity_of_last : (bs : List ℕ) → 0 < length bs → num bs % 2 ≡ get_or bs (length bs - 1) 0 % 2
+pub parity_of_last : (bs : List ℕ) → 0 < length bs → number_of bs % 2 ≡ get_or bs (length bs - 1) 0 % 2
 parity_of_last bs some =
     let more = number_more 256 bs (length bs - 1) (omega arith) in
-    let all : num (take (length bs - 1 + 1) bs) ≡ num bs = ap num (take_all (length bs - 1 + 1) bs (omega arith)) in
+    let all : number_of (take (length bs - 1 + 1) bs) ≡ number_of bs = ap number_of (take_all (length bs - 1 + 1) bs (omega arith)) in
     omega arith
 
-pub num_of_none : (bs : List ℕ) → length bs ≡ 0 → num bs ≡ 0
-num_of_none bs e = ap num (nil_from_length bs e)
+pub num_of_none : (bs : List ℕ) → length bs ≡ 0 → number_of bs ≡ 0
+num_of_none bs e = ap number_of (nil_from_length bs e)

@@ -4,8 +4,8 @@ use Rattle.std.proofs.Common.{nat_eq, bytes_eq, refl, sym, ap, ◌∙◌, arith,
 use Rattle.std.proofs.lemmas.Bool.{cases_lt, cases_Bool}
 use Rattle.std.proofs.lemmas.List.{take_more, take_all, length-append, get_or_append_left, get_or-append_right}
 use Rattle.std.proofs.lemmas.Slice.Eq.{bytes_eq-Decides}
-use Rattle.sec1_der.specs.Numbers.{num}
-use Rattle.sec1.specs.Coordinates.{first_bytes, lent_number}
+use Rattle.sec1_der.specs.Numbers.{number_of}
+use Rattle.sec1.specs.Coordinates.{first_bytes, coordinate_number}
 use Rattle.sec1.proofs.Digits.{parity_of_last}
 
 pub first_none : (xs : List ℕ) → first_bytes 0 xs ≡ []
@@ -25,8 +25,8 @@ first_take (suc n) xs h =
     ∙ sym (take_more xs n 0 (omega arith)) ∙ ap (λ (k : ℕ). take k xs) step
 
 -- a lent array whose length is told has the number of all its bytes
-pub lent_whole : (n : ℕ) (xs : List ℕ) → length xs ≡ n → lent_number n xs ≡ num xs
-lent_whole n xs e = ap num (first_take n xs (omega arith) ∙ take_all n xs (omega arith))
+pub coordinates_whole : (n : ℕ) (xs : List ℕ) → length xs ≡ n → coordinate_number n xs ≡ number_of xs
+coordinates_whole n xs e = ap number_of (first_take n xs (omega arith) ∙ take_all n xs (omega arith))
 
 length-first : (n : ℕ) (xs : List ℕ) → length (first_bytes n xs) ≡ n
 unfolding first_bytes
@@ -48,15 +48,15 @@ get_or-first (suc n) i xs h =
     ]
 
 -- the number of a lent array has the parity of its last byte
-pub lent_parity : (n : ℕ) (xs : List ℕ) → 0 < n → lent_number n xs % 2 ≡ get_or xs (n - 1) 0 % 2
-lent_parity n xs h =
+pub coordinates_parity : (n : ℕ) (xs : List ℕ) → 0 < n → coordinate_number n xs % 2 ≡ get_or xs (n - 1) 0 % 2
+coordinates_parity n xs h =
     let len = length-first n xs in
     parity_of_last (first_bytes n xs) (omega arith)
     ∙ ap (λ (k : ℕ). get_or (first_bytes n xs) (k - 1) 0 % 2) len ∙ ap (λ (b : ℕ). b % 2) (get_or-first n (n - 1) xs (omega arith))
 
 -- no bytes spell 0
-pub lent_none : (n : ℕ) (xs : List ℕ) → n ≡ 0 → lent_number n xs ≡ 0
-lent_none n xs e = ap (λ (k : ℕ). lent_number k xs) e ∙ ap num (first_none xs)
+pub coordinates_none : (n : ℕ) (xs : List ℕ) → n ≡ 0 → coordinate_number n xs ≡ 0
+coordinates_none n xs e = ap (λ (k : ℕ). coordinate_number k xs) e ∙ ap number_of (first_none xs)
 
 -- ---- comparison
 

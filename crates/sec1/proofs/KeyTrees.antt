@@ -5,7 +5,7 @@ use Rattle.sec1_der.proofs.ElementLemmas.{length-header, length-element}
 use Rattle.sec1_der.specs.Elements.{max_length, IsTag, IsConstructed, element}
 use Rattle.sec1_der.specs.Identifiers.{IsIdentifier, content_of}
 use Rattle.sec1_der.specs.Trees.{row, AreTrees}
-use Rattle.sec1.specs.Keys.{Key, parameters_field, public_key_field, key_fields, NameCurve, HasRoom}
+use Rattle.sec1.specs.Keys.{Key, parameters_field, public_key_field, key_fields, IsNamedCurve, PublicKeyFits}
 
 -- A tag byte, by its number: these facts are computed where it is given.
 tag_of : (tag : ℕ) → tag < 256 → tag ≢ 0 → tag % 32 ≢ 31 → IsTag tag
@@ -56,14 +56,14 @@ public_key_has_room bytes are =
     let within = are.0.2 in
     omega (arith, within, whole)
 
-options_are_trees : (parameters public_key : Option (List ℕ)) → NameCurve parameters → HasRoom public_key → AreTrees (row (parameters_field parameters ++ public_key_field public_key))
+options_are_trees : (parameters public_key : Option (List ℕ)) → IsNamedCurve parameters → PublicKeyFits public_key → AreTrees (row (parameters_field parameters ++ public_key_field public_key))
 options_are_trees None None curve room = tt
 options_are_trees None (Some bytes) curve room = a_public_key_is_a_tree bytes room
 options_are_trees (Some arcs) None curve room = a_curve_is_a_tree arcs curve
 options_are_trees (Some arcs) (Some bytes) curve room = ((a_curve_is_a_tree arcs curve).0, a_public_key_is_a_tree bytes room)
 
 -- parts within the limits are trees
-pub fields_are_trees : (key : Key) → length key.private_key ≤ max_length → NameCurve key.parameters → HasRoom key.public_key → AreTrees (row (key_fields key))
+pub fields_are_trees : (key : Key) → length key.private_key ≤ max_length → IsNamedCurve key.parameters → PublicKeyFits key.public_key → AreTrees (row (key_fields key))
 fields_are_trees key within curve room =
     ((integer.0, integer.1, lit≤ tt), ((octet_string.0, octet_string.1, within), options_are_trees key.parameters key.public_key curve room))
 
@@ -71,10 +71,10 @@ fields_are_trees key within curve room =
 pub private_key_fits : (key : Key) → AreTrees (row (key_fields key)) → length key.private_key ≤ max_length
 private_key_fits key are = are.1.0.2
 
-public_key_fits_behind : (parameters public_key : Option (List ℕ)) → AreTrees (row (parameters_field parameters ++ public_key_field public_key)) → HasRoom public_key
+public_key_fits_behind : (parameters public_key : Option (List ℕ)) → AreTrees (row (parameters_field parameters ++ public_key_field public_key)) → PublicKeyFits public_key
 public_key_fits_behind parameters None are = tt
 public_key_fits_behind None (Some bytes) are = public_key_has_room bytes are
 public_key_fits_behind (Some arcs) (Some bytes) are = public_key_has_room bytes are.1
 
-pub public_key_fits : (key : Key) → AreTrees (row (key_fields key)) → HasRoom key.public_key
+pub public_key_fits : (key : Key) → AreTrees (row (key_fields key)) → PublicKeyFits key.public_key
 public_key_fits key are = public_key_fits_behind key.parameters key.public_key are.1.1

@@ -4,10 +4,10 @@ use Rattle.std.proofs.Math.Nat.{pow-le-pow_right}
 use Rattle.std.proofs.lemmas.Bool.{cases_Bool}
 use Rattle.std.proofs.lemmas.List.{take_at, drop_at, take_all, length-drop, get_or-drop, length-append, nil_from_length, length-take, take-append-drop}
 use Rattle.hex.specs.Hex.{IsBytes}
-use Rattle.sec1_der.specs.Numbers.{num}
+use Rattle.sec1_der.specs.Numbers.{number_of}
 use Rattle.sec1_der.specs.Elements.{IsProperBeginning}
-use Rattle.sec1.specs.Points.{Point, identity, compact, compressed, uncompressed, hybrid, is_odd, IsPoint, IsEncoding, fixed_width, tag_byte, coordinate_bytes, enc, meaning}
-use Rattle.sec1.specs.Tags.{byte_of, tag_of, message_len, is_hybrid}
+use Rattle.sec1.specs.Points.{Point, identity, compact, compressed, uncompressed, hybrid, is_odd, IsPoint, IsEncoding, fixed_width, tag_byte, coordinate_bytes, encoding, meaning}
+use Rattle.sec1.specs.Tags.{byte_of, point_tag, message_len, is_hybrid}
 use Rattle.sec1.specs.declared.point.tag.Tag.{Tag}
 use Rattle.sec1.specs.declared.point.tag.Tag.TheVariants as tags
 use Rattle.sec1.proofs.Digits.{IsBytes-nil, IsBytes-cons, IsBytes-tail, IsBytes-append, IsBytes-take, IsBytes-drop, length-fixed_width, IsBytes-fixed_width, num-below, num-fixed_width, fixed_width-num, parity_of_last}
@@ -32,7 +32,7 @@ tag_at-byte_of tags.HybridOddY = refl
 pub byte_of-injective : (t u : Tag) → byte_of t ≡ byte_of u → t ≡ u
 byte_of-injective t u e = sym (tag_at-byte_of t) ∙ ap tag_at e ∙ tag_at-byte_of u
 
-pub byte_of-tag_of : (p : Point) → byte_of (tag_of p) ≡ tag_byte p
+pub byte_of-tag_of : (p : Point) → byte_of (point_tag p) ≡ tag_byte p
 byte_of-tag_of identity = refl
 byte_of-tag_of (compact x) = refl
 byte_of-tag_of (compressed x true) = refl
@@ -45,8 +45,8 @@ byte_of-tag_of (hybrid x y) =
     ]
 
 -- a point's tag is the one with its byte
-pub tag_of-byte : (tag : Tag) (p : Point) → byte_of tag ≡ tag_byte p → tag ≡ tag_of p
-tag_of-byte tag p e = byte_of-injective tag (tag_of p) (e ∙ sym (byte_of-tag_of p))
+pub tag_of-byte : (tag : Tag) (p : Point) → byte_of tag ≡ tag_byte p → tag ≡ point_tag p
+tag_of-byte tag p e = byte_of-injective tag (point_tag p) (e ∙ sym (byte_of-tag_of p))
 
 pub message_len-le : (tag : Tag) (n : ℕ) → message_len tag n ≤ 2 * n + 1
 message_len-le tags.Identity n = omega arith
@@ -62,8 +62,8 @@ message_len-le tags.HybridOddY n = omega arith
 length-both : (n x y : ℕ) → length (fixed_width n x ++ fixed_width n y) ≡ 2 * n
 length-both n x y = omega (arith, length-append (fixed_width n x) (fixed_width n y), length-fixed_width n x, length-fixed_width n y)
 
-pub length-enc : (n : ℕ) (p : Point) → length (enc n p) ≡ message_len (tag_of p) n
-unfolding enc
+pub length-enc : (n : ℕ) (p : Point) → length (encoding n p) ≡ message_len (point_tag p) n
+unfolding encoding
 length-enc n identity = refl
 length-enc n (compact x) = omega (arith, length-fixed_width n x)
 length-enc n (compressed x true) = omega (arith, length-fixed_width n x)
@@ -75,8 +75,8 @@ length-enc n (hybrid x y) =
       | inr even ↦ rw even (omega (arith, length-both n x y))
     ]
 
-pub length-enc-le : (n : ℕ) (p : Point) → length (enc n p) ≤ 2 * n + 1
-length-enc-le n p = omega (arith, length-enc n p, message_len-le (tag_of p) n)
+pub length-enc-le : (n : ℕ) (p : Point) → length (encoding n p) ≤ 2 * n + 1
+length-enc-le n p = omega (arith, length-enc n p, message_len-le (point_tag p) n)
 
 IsBytes-both : (n x y : ℕ) → IsBytes (fixed_width n x ++ fixed_width n y)
 IsBytes-both n x y = IsBytes-append (fixed_width n x) (fixed_width n y) (IsBytes-fixed_width n x) (IsBytes-fixed_width n y)
@@ -85,8 +85,8 @@ hybrid_byte : (odd : Bool) → cond odd 7 6 < 256
 hybrid_byte true = omega arith
 hybrid_byte false = omega arith
 
-pub IsBytes-enc : (n : ℕ) (p : Point) → IsBytes (enc n p)
-unfolding enc
+pub IsBytes-enc : (n : ℕ) (p : Point) → IsBytes (encoding n p)
+unfolding encoding
 IsBytes-enc n identity = IsBytes-cons 0 [] (omega arith) IsBytes-nil
 IsBytes-enc n (compact x) = IsBytes-cons 5 (fixed_width n x) (omega arith) (IsBytes-fixed_width n x)
 IsBytes-enc n (compressed x true) = IsBytes-cons 3 (fixed_width n x) (omega arith) (IsBytes-fixed_width n x)
@@ -95,15 +95,15 @@ IsBytes-enc n (uncompressed x y) = IsBytes-cons 4 (fixed_width n x ++ fixed_widt
 IsBytes-enc n (hybrid x y) = IsBytes-cons (cond (is_odd y) 7 6) (fixed_width n x ++ fixed_width n y) (hybrid_byte (is_odd y)) (IsBytes-both n x y)
 
 -- no encoding begins another
-pub no_beginning : (n : ℕ) (p q : Point) → IsProperBeginning (enc n p) (enc n q) → ⊥
-unfolding enc
+pub no_beginning : (n : ℕ) (p q : Point) → IsProperBeginning (encoding n p) (encoding n q) → ⊥
+unfolding encoding
 no_beginning n p q begins =
     let rest = begins.more in
     let byte : tag_byte q ≡ tag_byte p = ap (λ (bs : List ℕ). get_or bs 0 0) begins.split in
-    let tag : tag_of q ≡ tag_of p = byte_of-injective (tag_of q) (tag_of p) (byte_of-tag_of q ∙ byte ∙ sym (byte_of-tag_of p)) in
-    let long : length (enc n q) ≡ length (enc n p ++ rest) = ap length begins.split in
-    let same : message_len (tag_of q) n ≡ message_len (tag_of p) n = ap (λ (t : Tag). message_len t n) tag in
-    begins.some (nil_from_length rest (omega (arith, length-append (enc n p) rest, length-enc n p, length-enc n q)))
+    let tag : point_tag q ≡ point_tag p = byte_of-injective (point_tag q) (point_tag p) (byte_of-tag_of q ∙ byte ∙ sym (byte_of-tag_of p)) in
+    let long : length (encoding n q) ≡ length (encoding n p ++ rest) = ap length begins.split in
+    let same : message_len (point_tag q) n ≡ message_len (point_tag p) n = ap (λ (t : Tag). message_len t n) tag in
+    begins.some (nil_from_length rest (omega (arith, length-append (encoding n p) rest, length-enc n p, length-enc n q)))
 
 -- ---- what encodings mean
 
@@ -114,8 +114,8 @@ second_of : (n x y : ℕ) (r : List ℕ) → take n (drop n (fixed_width n x ++ 
 second_of n x y r = rw (drop_at (fixed_width n x) (fixed_width n y ++ r) n (length-fixed_width n x)) (first_of n y r)
 
 -- an encoding means its point, whatever follows it
-pub meaning-enc-append : (n : ℕ) (p : Point) (r : List ℕ) → IsPoint n p → meaning n (enc n p ++ r) ≡ p
-unfolding enc meaning
+pub meaning-enc-append : (n : ℕ) (p : Point) (r : List ℕ) → IsPoint n p → meaning n (encoding n p ++ r) ≡ p
+unfolding encoding meaning
 meaning-enc-append n identity r h = refl
 meaning-enc-append n (compact x) r h = rw (first_of n x r, num-fixed_width n x h) refl
 meaning-enc-append n (compressed x true) r h = rw (first_of n x r, num-fixed_width n x h) refl
@@ -128,10 +128,10 @@ meaning-enc-append n (hybrid x y) r h =
       | inr even ↦ rw (even, append_assoc (fixed_width n x) (fixed_width n y) r, first_of n x (fixed_width n y ++ r), second_of n x y r, num-fixed_width n x h.0, num-fixed_width n y h.1) refl
     ]
 
-pub meaning-enc : (n : ℕ) (p : Point) → IsPoint n p → meaning n (enc n p) ≡ p
-meaning-enc n p h = sym (ap (meaning n) (append-nil (enc n p))) ∙ meaning-enc-append n p [] h
+pub meaning-enc : (n : ℕ) (p : Point) → IsPoint n p → meaning n (encoding n p) ≡ p
+meaning-enc n p h = sym (ap (meaning n) (append-nil (encoding n p))) ∙ meaning-enc-append n p [] h
 
-num-take-fits : (n : ℕ) (bs : List ℕ) → IsBytes bs → num (take n bs) < 256 ^ n
+num-take-fits : (n : ℕ) (bs : List ℕ) → IsBytes bs → number_of (take n bs) < 256 ^ n
 num-take-fits n bs h =
     let below = num-below (take n bs) (IsBytes-take n bs h) in
     let len : length (take n bs) ≤ n = omega (arith, length-take n bs) in
@@ -155,11 +155,11 @@ meaning-fits n (tag ∷ rest) h =
 -- ---- the tests of a reader
 
 -- what follows the tag has the right length, and of a hybrid point the right parity
-pub record Passes (n : ℕ) (tag : Tag) (rest : List ℕ) : Type 0 where
+pub record Skips (n : ℕ) (tag : Tag) (rest : List ℕ) : Type 0 where
   pub long : suc (length rest) ≡ message_len tag n
   pub parity : is_hybrid tag ≡ true → get_or rest (length rest - 1) 0 % 2 ≡ byte_of tag % 2
 
-spelled_x : (n : ℕ) (rest : List ℕ) → IsBytes rest → length rest ≡ n → fixed_width n (num (take n rest)) ≡ rest
+spelled_x : (n : ℕ) (rest : List ℕ) → IsBytes rest → length rest ≡ n → fixed_width n (number_of (take n rest)) ≡ rest
 spelled_x n rest h e = rw (take_all n rest (omega arith)) (fixed_width-num n rest h e)
 
 -- the second half
@@ -167,14 +167,14 @@ half : (n : ℕ) (rest : List ℕ) → length rest ≡ 2 * n → take n (drop n 
 half n rest e = take_all n (drop n rest) (omega (arith, length-drop n rest))
 
 spelled_xy : (n : ℕ) (rest : List ℕ) → IsBytes rest → length rest ≡ 2 * n
-    → fixed_width n (num (take n rest)) ++ fixed_width n (num (take n (drop n rest))) ≡ rest
+    → fixed_width n (number_of (take n rest)) ++ fixed_width n (number_of (take n (drop n rest))) ≡ rest
 spelled_xy n rest h e =
     let x = fixed_width-num n (take n rest) (IsBytes-take n rest h) (omega (arith, length-take n rest)) in
     let y = fixed_width-num n (drop n rest) (IsBytes-drop n rest h) (omega (arith, length-drop n rest)) in
     rw (half n rest e, x, y) (take-append-drop n rest)
 
 -- the last byte has the parity of the second half
-parity_rest : (n : ℕ) (rest : List ℕ) → 1 ≤ n → length rest ≡ 2 * n → get_or rest (length rest - 1) 0 % 2 ≡ num (take n (drop n rest)) % 2
+parity_rest : (n : ℕ) (rest : List ℕ) → 1 ≤ n → length rest ≡ 2 * n → get_or rest (length rest - 1) 0 % 2 ≡ number_of (take n (drop n rest)) % 2
 parity_rest n rest some e =
     let y = drop n rest in
     let len : length y ≡ n = omega (arith, length-drop n rest) in
@@ -183,9 +183,9 @@ parity_rest n rest some e =
     rw (half n rest e) (sym (parity_of_last y (omega arith) ∙ ap (λ (b : ℕ). b % 2) moved))
 
 -- what passes is spelled so
-passes_spelled : (n : ℕ) (tag : Tag) (rest : List ℕ) → 1 ≤ n → IsBytes rest → Passes n tag rest
-    → enc n (meaning n (byte_of tag ∷ rest)) ≡ byte_of tag ∷ rest
-unfolding enc meaning
+passes_spelled : (n : ℕ) (tag : Tag) (rest : List ℕ) → 1 ≤ n → IsBytes rest → Skips n tag rest
+    → encoding n (meaning n (byte_of tag ∷ rest)) ≡ byte_of tag ∷ rest
+unfolding encoding meaning
 passes_spelled n tags.Identity rest some h p = rw (nil_from_length rest (omega (arith, p.long))) refl
 passes_spelled n tags.CompressedEvenY rest some h p = rw (spelled_x n rest h (omega (arith, p.long))) refl
 passes_spelled n tags.CompressedOddY rest some h p = rw (spelled_x n rest h (omega (arith, p.long))) refl
@@ -193,17 +193,17 @@ passes_spelled n tags.Uncompressed rest some h p = rw (spelled_xy n rest h (omeg
 passes_spelled n tags.Compact rest some h p = rw (spelled_x n rest h (omega (arith, p.long))) refl
 passes_spelled n tags.HybridEvenY rest some h p =
     let long : length rest ≡ 2 * n = omega (arith, p.long) in
-    let even : is_odd (num (take n (drop n rest))) ≡ false = ap (λ (k : ℕ). k == 1) (sym (parity_rest n rest some long) ∙ p.parity refl) in
+    let even : is_odd (number_of (take n (drop n rest))) ≡ false = ap (λ (k : ℕ). k == 1) (sym (parity_rest n rest some long) ∙ p.parity refl) in
     rw (even, spelled_xy n rest h long) refl
 passes_spelled n tags.HybridOddY rest some h p =
     let long : length rest ≡ 2 * n = omega (arith, p.long) in
-    let odd : is_odd (num (take n (drop n rest))) ≡ true = ap (λ (k : ℕ). k == 1) (sym (parity_rest n rest some long) ∙ p.parity refl) in
+    let odd : is_odd (number_of (take n (drop n rest))) ≡ true = ap (λ (k : ℕ). k == 1) (sym (parity_rest n rest some long) ∙ p.parity refl) in
     rw (odd, spelled_xy n rest h long) refl
 
 hybrid_parity : (y : ℕ) → y % 2 ≡ cond (is_odd y) 7 6 % 2
 hybrid_parity y = grind arith
 
-enc_parity : (n : ℕ) (p : Point) → 1 ≤ n → IsPoint n p → is_hybrid (tag_of p) ≡ true
+enc_parity : (n : ℕ) (p : Point) → 1 ≤ n → IsPoint n p → is_hybrid (point_tag p) ≡ true
     → get_or (coordinate_bytes n p) (length (coordinate_bytes n p) - 1) 0 % 2 ≡ tag_byte p % 2
 enc_parity n identity some h t = absurd cc
 enc_parity n (compact x) some h t = absurd cc
@@ -217,11 +217,11 @@ enc_parity n (hybrid x y) some h t =
     ∙ rw (y_digits, num-fixed_width n y h.1) (hybrid_parity y)
 
 -- an encoding passes
-pub encoding_passes : (n : ℕ) (tag : Tag) (rest input : List ℕ) → 1 ≤ n → input ≡ byte_of tag ∷ rest → IsEncoding n input → Passes n tag rest
-unfolding enc
+pub encoding_passes : (n : ℕ) (tag : Tag) (rest input : List ℕ) → 1 ≤ n → input ≡ byte_of tag ∷ rest → IsEncoding n input → Skips n tag rest
+unfolding encoding
 encoding_passes n tag rest input some is e =
     let p = e.of in
-    let whole : byte_of tag ∷ rest ≡ enc n p = sym is ∙ e.spelled in
+    let whole : byte_of tag ∷ rest ≡ encoding n p = sym is ∙ e.spelled in
     let byte : byte_of tag ≡ tag_byte p = ap (λ (bs : List ℕ). get_or bs 0 0) whole in
     let others : rest ≡ coordinate_bytes n p = ap (drop 1) whole in
     rw (tag_of-byte tag p byte, others) (record {
@@ -230,24 +230,24 @@ encoding_passes n tag rest input some is e =
     })
 
 -- what is spelled as its meaning is an encoding, and the other way
-pub spelled_encoding : (n : ℕ) (bs : List ℕ) → IsBytes bs → enc n (meaning n bs) ≡ bs → IsEncoding n bs
+pub spelled_encoding : (n : ℕ) (bs : List ℕ) → IsBytes bs → encoding n (meaning n bs) ≡ bs → IsEncoding n bs
 spelled_encoding n bs h e = record { of = meaning n bs; fits = meaning-fits n bs h; spelled = sym e }
 
-pub encoding_spelled : (n : ℕ) (bs : List ℕ) → IsEncoding n bs → enc n (meaning n bs) ≡ bs
-encoding_spelled n bs e = rw e.spelled (ap (enc n) (meaning-enc n e.of e.fits))
+pub encoding_spelled : (n : ℕ) (bs : List ℕ) → IsEncoding n bs → encoding n (meaning n bs) ≡ bs
+encoding_spelled n bs e = rw e.spelled (ap (encoding n) (meaning-enc n e.of e.fits))
 
 -- and what passes is an encoding
-pub passing_encoding : (n : ℕ) (tag : Tag) (rest input : List ℕ) → 1 ≤ n → IsBytes input → input ≡ byte_of tag ∷ rest → Passes n tag rest → IsEncoding n input
+pub passing_encoding : (n : ℕ) (tag : Tag) (rest input : List ℕ) → 1 ≤ n → IsBytes input → input ≡ byte_of tag ∷ rest → Skips n tag rest → IsEncoding n input
 passing_encoding n tag rest input some h is p =
     let bytes : IsBytes (byte_of tag ∷ rest) = rw is at h in
     rw is (spelled_encoding n (byte_of tag ∷ rest) bytes (passes_spelled n tag rest some (IsBytes-tail (byte_of tag) rest bytes) p))
 
 -- the first byte of an encoding is some tag's, and there is one
-pub encoding_tag : (n first : ℕ) (rest input : List ℕ) → input ≡ first ∷ rest → IsEncoding n input → byte_of (tag_of (meaning n input)) ≡ first
-unfolding enc
+pub encoding_tag : (n first : ℕ) (rest input : List ℕ) → input ≡ first ∷ rest → IsEncoding n input → byte_of (point_tag (meaning n input)) ≡ first
+unfolding encoding
 encoding_tag n first rest input is e =
     byte_of-tag_of (meaning n input) ∙ ap (λ (bs : List ℕ). get_or bs 0 0) (encoding_spelled n input e ∙ is)
 
 pub encoding_some : (n : ℕ) (input : List ℕ) → length input ≡ 0 → IsEncoding n input → ⊥
-unfolding enc
+unfolding encoding
 encoding_some n input none e = absurd (omega (arith, ap length e.spelled))

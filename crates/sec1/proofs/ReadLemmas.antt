@@ -6,17 +6,17 @@ use Rattle.sec1_der.specs.TreeLaws.{BytesDetermineTree}
 use Rattle.sec1_der.specs.Trees.{Tree, IsTreeOf}
 use Rattle.sec1_der.specs.declared.error.Error.{Error as DerError}
 use Rattle.sec1_der.specs.declared.error.ErrorKind.{ErrorKind}
-use Rattle.sec1_der.specs.declared.error.ErrorKind.TheVariants.{Truncated, Tag, Length, TrailingData, Value, Overlength, Buffer, Failed, Io, Depth, Memory as WantOfMemory}
+use Rattle.sec1_der.specs.declared.error.ErrorKind.TheVariants.{Truncated, Tag, Length, TrailingData, Value, Overlength, Buffer, Failed, Io, Depth, Memory as DerMemory}
 use Rattle.sec1.specs.declared.error.Error.{Error}
 use Rattle.sec1.specs.declared.error.Error.TheVariants.{Asn1}
-use Rattle.sec1.specs.Errors.{error_by, error_of}
+use Rattle.sec1.specs.Errors.{error_of_kind, error_of}
 use Rattle.sec1.specs.Keys.{Key, key_tree, IsKeyOf, fields_of, key_content}
 use Rattle.sec1.specs.KeyRefusals.{key_fault}
 use Rattle.sec1.specs.ReadsKey.{ReadsKey}
 use Rattle.sec1.proofs.WriteLemmas.{content_of_key, key_content-holds, key_written, key_found}
 
 -- a reading fault stays an error of DER
-asn1 : (kind : ErrorKind) (cause : DerError) → IsReadingFault kind → error_by kind cause ≡ Asn1 cause
+asn1 : (kind : ErrorKind) (cause : DerError) → IsReadingFault kind → error_of_kind kind cause ≡ Asn1 cause
 asn1 Truncated cause fault = refl
 asn1 Tag cause fault = refl
 asn1 Length cause fault = refl
@@ -27,7 +27,7 @@ asn1 Buffer cause fault = absurd fault
 asn1 Failed cause fault = absurd fault
 asn1 Io cause fault = absurd fault
 asn1 Depth cause fault = absurd fault
-asn1 WantOfMemory cause fault = absurd fault
+asn1 DerMemory cause fault = absurd fault
 
 -- a refused element is a refused key
 pub key_refused : (input : List ℕ) (cause : DerError) → ((key : Key) → element_of 0x30 (key_content key) ≡ Some input → ⊥)

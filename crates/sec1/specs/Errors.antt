@@ -5,15 +5,15 @@ use Rattle.sec1.specs.declared.error.Error.TheVariants.{Asn1, Crypto, PointEncod
 use Rattle.sec1_der.specs.Faults.{IsReadingFault}
 use Rattle.sec1_der.specs.declared.error.Error.{Error as DerError}
 use Rattle.sec1_der.specs.declared.error.ErrorKind.{ErrorKind}
-use Rattle.sec1_der.specs.declared.error.ErrorKind.TheVariants.{Memory as WantOfMemory}
+use Rattle.sec1_der.specs.declared.error.ErrorKind.TheVariants.{Memory as DerMemory}
 
 -- what becomes of an error of DER, by its kind
-abbrev pub error_by : ErrorKind → DerError → Error
-error_by WantOfMemory cause = Memory
-error_by _ cause = Asn1 cause
+abbrev pub error_of_kind : ErrorKind → DerError → Error
+error_of_kind DerMemory cause = Memory
+error_of_kind _ cause = Asn1 cause
 
 abbrev pub error_of : DerError → Error
-error_of cause = error_by cause.kind cause
+error_of cause = error_of_kind cause.kind cause
 
 -- an error of DER of this kind
 abbrev pub IsAsn1 : ErrorKind → Error → Type 0

@@ -33,24 +33,24 @@ abbrev pub key_tree : Key → Tree
 key_tree key = node 0x30 (key_fields key)
 
 -- parameters that are there name a curve by an identifier
-abbrev pub NameCurve : Option (List ℕ) → Type 0
-NameCurve parameters = IfSome parameters (λ arcs. IsIdentifier arcs (content_of arcs))
+abbrev pub IsNamedCurve : Option (List ℕ) → Type 0
+IsNamedCurve parameters = IfSome parameters (λ arcs. IsIdentifier arcs (content_of arcs))
 
 -- a public key that is there has room in its field
-abbrev pub HasRoom : Option (List ℕ) → Type 0
-HasRoom public_key = IfSome public_key (λ bytes. length (element 0x03 (0 ∷ bytes)) ≤ max_length)
+abbrev pub PublicKeyFits : Option (List ℕ) → Type 0
+PublicKeyFits public_key = IfSome public_key (λ bytes. length (element 0x03 (0 ∷ bytes)) ≤ max_length)
 
 -- the bytes are those of a key with these parts
 pub record IsKeyOf (key : Key) (input : List ℕ) : Type 0 where
-  pub curve : NameCurve key.parameters
+  pub curve : IsNamedCurve key.parameters
   pub tree : IsTreeOf (key_tree key) input
 
 -- no bytes are those of the key: a part of it is beyond the limits
-abbrev pub HasNoBytes : Key → Type 0
-HasNoBytes key = (bytes : List ℕ) → IsKeyOf key bytes → ⊥
+abbrev pub HasNoEncoding : Key → Type 0
+HasNoEncoding key = (bytes : List ℕ) → IsKeyOf key bytes → ⊥
 
 -- some bytes are those of the key, and this holds of them
-pub record HasBytesWith (key : Key) (P : List ℕ → Type 0) : Type 0 where
+pub record HasEncodingWith (key : Key) (P : List ℕ → Type 0) : Type 0 where
   pub bytes : List ℕ
   pub of_key : IsKeyOf key bytes
   pub holds : P bytes
@@ -64,8 +64,8 @@ abbrev pub fields_of : Key → List ℕ
 fields_of key = bytes_of (key_fields key)
 
 -- the bytes are the content of the key with these parts
-pub record IsContentOf (key : Key) (content : List ℕ) : Type 0 where
-  pub curve : NameCurve key.parameters
+pub record IsKeyContentOf (key : Key) (content : List ℕ) : Type 0 where
+  pub curve : IsNamedCurve key.parameters
   pub fields : AreTrees (row (key_fields key))
   pub spelled : content ≡ fields_of key
 

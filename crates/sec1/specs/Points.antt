@@ -1,6 +1,6 @@
 -- Points of elliptic curves over prime fields, as whole numbers, and their encodings (SEC1 v2.0 section 2.3.3).
 use Rattle.std.specs.Prelude.{◌≡◌, ℕ, zero, suc, ◌+◌, ◌*◌, ◌/◌, ◌%◌, ◌^◌, ◌<◌, ◌≤◌, ◌==◌, ◌||◌, Bool, true, false, if◌then◌else◌, List, [], ◌∷◌, ◌++◌, take, drop, ⊤, Option, Some, None}
-use Rattle.sec1_der.specs.Numbers.{num}
+use Rattle.sec1_der.specs.Numbers.{number_of}
 
 -- a point as its encoding gives it. Compact has x alone and nothing of y; hybrid has y, and its tag y's parity
 pub data Point : Type 0 where
@@ -72,14 +72,14 @@ coordinate_bytes n (uncompressed x y) = fixed_width n x ++ fixed_width n y
 coordinate_bytes n (hybrid x y) = fixed_width n x ++ fixed_width n y
 
 -- the encoding of a point at field elements of n bytes
-unfoldable pub enc : ℕ → Point → List ℕ
-enc n p = tag_byte p ∷ coordinate_bytes n p
+unfoldable pub encoding : ℕ → Point → List ℕ
+encoding n p = tag_byte p ∷ coordinate_bytes n p
 
 -- these bytes encode some point
 pub record IsEncoding (n : ℕ) (bytes : List ℕ) : Type 0 where
   pub of : Point
   pub fits : IsPoint n of
-  pub spelled : bytes ≡ enc n of
+  pub spelled : bytes ≡ encoding n of
 
 -- the point with this first byte and these coordinates
 abbrev pub point_from : ℕ → ℕ → ℕ → Point
@@ -94,7 +94,7 @@ point_from tag x y =
 -- the point that an encoding means; it is read only where the bytes are one
 unfoldable pub meaning : ℕ → List ℕ → Point
 meaning n [] = identity
-meaning n (tag ∷ rest) = point_from tag (num (take n rest)) (num (take n (drop n rest)))
+meaning n (tag ∷ rest) = point_from tag (number_of (take n rest)) (number_of (take n (drop n rest)))
 
 -- field elements have n bytes, at least one, and the longest encoding has l
 abbrev pub Fits : ℕ → ℕ → Type 0

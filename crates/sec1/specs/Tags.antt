@@ -51,9 +51,9 @@ is_identity tags.Identity = true
 is_identity tag = false
 
 -- the tag of a point's encoding
-abbrev pub tag_of : Point → Tag
-tag_of identity = tags.Identity
-tag_of (compact x) = tags.Compact
-tag_of (compressed x y_is_odd) = if y_is_odd then tags.CompressedOddY else tags.CompressedEvenY
-tag_of (uncompressed x y) = tags.Uncompressed
-tag_of (hybrid x y) = if is_odd y then tags.HybridOddY else tags.HybridEvenY
+abbrev pub point_tag : Point → Tag
+point_tag identity = tags.Identity
+point_tag (compact x) = tags.Compact
+point_tag (compressed x y_is_odd) = if y_is_odd then tags.CompressedOddY else tags.CompressedEvenY
+point_tag (uncompressed x y) = tags.Uncompressed
+point_tag (hybrid x y) = if is_odd y then tags.HybridOddY else tags.HybridEvenY

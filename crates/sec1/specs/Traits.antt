@@ -6,7 +6,7 @@ use Rattle.sec1.specs.declared.error.Error.{Error}
 use Rattle.sec1.specs.declared.error.Error.TheVariants.{Memory}
 use Rattle.sec1_der.specs.Elements.{IsElement}
 use Rattle.sec1_der.specs.Faults.{IsIoOrMemory}
-use Rattle.sec1_der.specs.ReadsDocument.{IsElementFault, ReadsElement, RefusesElement}
+use Rattle.sec1_der.specs.ReadsDocument.{IsElementFault, ConsumesElement, RefusesElement}
 use Rattle.sec1_der.specs.Streams.{AppendsBeginning}
 use Rattle.sec1_der.specs.declared.error.Error.{Error as DerError}
 use Rattle.sec1_der.specs.declared.error.ErrorKind.TheVariants.{Io}
@@ -18,9 +18,9 @@ pub record IsElementWith (P : List ℕ → Type 0) : Type 0 where
   pub holds : P bytes
 
 -- one element was read of which this holds, and nothing is left behind it
-pub record ReadsElementWith (P : List ℕ → Type 0) (old new : Option (List ℕ)) : Type 0 where
+pub record ConsumesElementWith (P : List ℕ → Type 0) (old new : Option (List ℕ)) : Type 0 where
   pub bytes : List ℕ
-  pub read : ReadsElement old new bytes
+  pub read : ConsumesElement old new bytes
   pub holds : P bytes
 
 -- Want of memory, or what a key type refuses by.
@@ -37,7 +37,7 @@ pub record RefusesDocument (old new : Option (List ℕ)) (failed : Bool) (error 
 
 -- The one element there was refused as a key, and no read failed.
 pub record RefusesKey (refuses : List ℕ → Error → Type 0) (old new : Option (List ℕ)) (failed : Bool) (error : Error) : Type 0 where
-  pub of_element : ReadsElementWith (λ bytes. IsMemoryOr (refuses bytes) error) old new
+  pub of_element : ConsumesElementWith (λ bytes. IsMemoryOr (refuses bytes) error) old new
   pub unfailed : failed ≡ false
 
 -- an error by which the element of a file is refused

@@ -2,12 +2,12 @@
 //! which does nothing else.
 ghost use Rattle.std.specs.Prelude.{◌≡◌, ◌⊎◌, ◌↔◌, List, [], ◌∷◌, ℕ, Some, false, IsTrue};
 ghost use Rattle.sec1.specs.Examples.{p_256_bytes, p_256_key, p_256_point, p_256_base, p_256_base_compressed};
-ghost use Rattle.sec1.specs.Coordinates.{lent_bytes};
-ghost use Rattle.sec1.specs.Keys.{HasNoBytes, IsKeyOf, Key};
+ghost use Rattle.sec1.specs.Coordinates.{coordinates_bytes};
+ghost use Rattle.sec1.specs.Keys.{HasNoEncoding, IsKeyOf, Key};
 ghost use Rattle.sec1.specs.KeyRefusals.{key_fault};
 ghost use Rattle.sec1.specs.EncodedPoints.{point_of};
 ghost use Rattle.sec1.specs.Parameters.{curve_of};
-ghost use Rattle.sec1.specs.Points.{Fits, IsPoint, compact, compressed, compressed_point, enc, hybrid, identity};
+ghost use Rattle.sec1.specs.Points.{Fits, IsPoint, compact, compressed, compressed_point, encoding, hybrid, identity};
 ghost use Rattle.sec1.specs.declared.parameters.EcParameters.{EcParameters};
 
 use crate::der::{ErrorKind, FixedTag, ObjectIdentifier, UniqueContent, ValueContent, laws};
@@ -30,7 +30,7 @@ pub fn same_tag(a: Tag, b: Tag) -> bool
 
 /// Returns whether the coordinates have the same variant, flag and bytes.
 pub fn same_coordinates<const N: usize>(a: Coordinates<'_, N>, b: Coordinates<'_, N>) -> bool
-    ensures { IsTrue result ↔ (lent_bytes a.entry ≡ lent_bytes b.entry) }
+    ensures { IsTrue result ↔ (coordinates_bytes a.entry ≡ coordinates_bytes b.entry) }
 {
     a == b
 }
@@ -71,7 +71,7 @@ pub fn one_key()
 
 /// A key has an encoding, or it has none.
 pub fn bytes_or_none(key: &EcPrivateKey)
-    ensures { HasNoBytes key.now ⊎ ((bytes : List ℕ) × IsKeyOf key.now bytes) }
+    ensures { HasNoEncoding key.now ⊎ ((bytes : List ℕ) × IsKeyOf key.now bytes) }
 {
     let _len = key.encoded_len();
 }
@@ -108,15 +108,15 @@ pub fn spelled_refusals()
 
 /// Encodings of points (SEC1 v2.0 section 2.3.3): the public key of the key on P-256, the curve's base point
 /// compressed (SEC 2 v2.0 section 2.4.2), and each other form at field elements of one byte.
-#[tactic(auto, unfolding(crate::specs::Points::enc, crate::specs::Points::fixed_width))]
+#[tactic(auto, unfolding(crate::specs::Points::encoding, crate::specs::Points::fixed_width))]
 pub fn spelled_points()
-    ensures public_key { Some (enc 32 p_256_point) ≡ p_256_key.public_key }
-    ensures compressed { enc 32 (compressed_point p_256_base) ≡ p_256_base_compressed }
-    ensures compressed_even { enc 1 (compressed 1 false) ≡ 2 ∷ 1 ∷ [] }
-    ensures identity { enc 1 identity ≡ 0 ∷ [] }
-    ensures compact { enc 1 (compact 1) ≡ 5 ∷ 1 ∷ [] }
-    ensures hybrid_even { enc 1 (hybrid 1 2) ≡ 6 ∷ 1 ∷ 2 ∷ [] }
-    ensures hybrid_odd { enc 1 (hybrid 1 3) ≡ 7 ∷ 1 ∷ 3 ∷ [] }
+    ensures public_key { Some (encoding 32 p_256_point) ≡ p_256_key.public_key }
+    ensures compressed { encoding 32 (compressed_point p_256_base) ≡ p_256_base_compressed }
+    ensures compressed_even { encoding 1 (compressed 1 false) ≡ 2 ∷ 1 ∷ [] }
+    ensures identity { encoding 1 identity ≡ 0 ∷ [] }
+    ensures compact { encoding 1 (compact 1) ≡ 5 ∷ 1 ∷ [] }
+    ensures hybrid_even { encoding 1 (hybrid 1 2) ≡ 6 ∷ 1 ∷ 2 ∷ [] }
+    ensures hybrid_odd { encoding 1 (hybrid 1 3) ≡ 7 ∷ 1 ∷ 3 ∷ [] }
 {}
 
 /// The meaning of an [`EncodedPoint`] is a point of its size.

@@ -54,7 +54,7 @@ impl<'a> From<&'a EcParameters> for AnyRef<'a> {
 impl FixedTag for EcParameters {
     const TAG: Tag = Tag::OBJECT_IDENTIFIER;
 
-    ghost number = { 0x06 };
+    ghost tag_byte = { 0x06 };
 
     fn fixed_tag() -> Tag
         ensures { result ≡ 0x06 }
@@ -64,13 +64,13 @@ impl FixedTag for EcParameters {
 }
 
 impl ValueContent for EcParameters {
-    ghost use Rattle.sec1_der.specs.IdentifierLaws.{identifier_content-tells};
+    ghost use Rattle.sec1_der.specs.IdentifierLaws.{identifier_content-some};
 
     ghost content = { λ parameters. identifier_content (curve_of parameters) };
 
     ghost is_content = { IsIdentifierContent };
 
-    ghost content_is_one = { λ parameters bytes same _. (curve_of parameters, identifier_content-tells (curve_of parameters) bytes same) };
+    ghost content_is_valid = { λ parameters bytes same _. (curve_of parameters, identifier_content-some (curve_of parameters) bytes same) };
 
     ghost fault = { identifier_fault };
 }

@@ -4,8 +4,8 @@
 
 ghost use Rattle.std.specs.Prelude.{◌≡◌, ◌+◌, ◌*◌, ◌<◌, ◌≤◌, ◌^◌, ◌↔◌, if◌then◌else◌, length, slice_index, take, drop, set, IsTrue, IfSome};
 ghost use Rattle.std.specs.Option.{option_map};
-ghost use Rattle.sec1_der.specs.Numbers.{num};
-ghost use Rattle.sec1.specs.Points.{identity, uncompressed, IsEncoding, meaning, enc, Fits, compressed_point, hybrid_point, x_of, y_of};
+ghost use Rattle.sec1_der.specs.Numbers.{number_of};
+ghost use Rattle.sec1.specs.Points.{identity, uncompressed, IsEncoding, meaning, encoding, Fits, compressed_point, hybrid_point, x_of, y_of};
 
 mod coordinates;
 mod order;
@@ -31,7 +31,7 @@ pub struct EncodedPoint<const N: usize, const L: usize> {
     len: usize,
     ghost sizes: { Fits N L },
     ghost room: { len ≤ L },
-    ghost encoded: { enc N (meaning N (take len bytes)) ≡ take len bytes },
+    ghost encoded: { encoding N (meaning N (take len bytes)) ≡ take len bytes },
 }
 
 /// A point over a field of 224 bits.
@@ -48,8 +48,8 @@ pub type EncodedPoint66 = EncodedPoint<66, 133>;
 
 impl<const N: usize, const L: usize> EncodedPoint<N, L> {
     ghost use Rattle.sec1.specs.EncodedPoints.{point_of, IsWiped, ReadsBytes};
-    ghost use Rattle.sec1.specs.Tags.{byte_of, message_len, tag_of, is_compact, is_compressed, is_hybrid, is_identity};
-    ghost use Rattle.sec1.specs.Coordinates.{lent_point, AreWhole};
+    ghost use Rattle.sec1.specs.Tags.{byte_of, message_len, point_tag, is_compact, is_compressed, is_hybrid, is_identity};
+    ghost use Rattle.sec1.specs.Coordinates.{coordinates_point, AreWhole};
 
     /// Returns `true` if N is at least 1 and L is 2N + 1. Otherwise there are no points of this type.
     pub fn fits() -> bool
@@ -81,7 +81,7 @@ impl<const N: usize, const L: usize> EncodedPoint<N, L> {
     pub fn from_untagged_bytes(bytes: &[u8]) -> Self
         requires sizes { Fits N L }
         requires len { length bytes.now ≡ 2 * N }
-        ensures { point_of result ≡ uncompressed (num (take N bytes.now)) (num (drop N bytes.now)) }
+        ensures { point_of result ≡ uncompressed (number_of (take N bytes.now)) (number_of (drop N bytes.now)) }
     {
         let (x, y) = bytes.split_at(N);
         Self::from_halves(x, y)
@@ -92,7 +92,7 @@ impl<const N: usize, const L: usize> EncodedPoint<N, L> {
     /// Requires that N and L [fit](EncodedPoint::fits).
     pub fn from_affine_coordinates(x: &[u8; N], y: &[u8; N], compress: bool) -> Self
         requires { Fits N L }
-        ensures { let whole = uncompressed (num x.now) (num y.now) in
+        ensures { let whole = uncompressed (number_of x.now) (number_of y.now) in
             point_of result ≡ (if compress then compressed_point whole else whole) }
     {
         let point = Self::from_halves(x.as_slice(), y.as_slice());
@@ -104,7 +104,7 @@ impl<const N: usize, const L: usize> EncodedPoint<N, L> {
         requires sizes { Fits N L }
         requires x_len { length x.now ≡ N }
         requires y_len { length y.now ≡ N }
-        ensures { point_of result ≡ uncompressed (num x.now) (num y.now) }
+        ensures { point_of result ≡ uncompressed (number_of x.now) (number_of y.now) }
     {
         let mut bytes = [0; L];
         let buffer = bytes.as_mut_slice();
@@ -130,42 +130,42 @@ impl<const N: usize, const L: usize> EncodedPoint<N, L> {
 
     /// Returns the length of the encoding in bytes.
     pub fn len(&self) -> usize
-        ensures { result ≡ length (enc N (point_of self.now)) }
+        ensures { result ≡ length (encoding N (point_of self.now)) }
     {
         self.len
     }
 
     /// Borrows the encoding (SEC1 v2.0 section 2.3.3).
     pub fn as_bytes(&self) -> &[u8]
-        ensures { result.now ≡ enc N (point_of self.now) }
+        ensures { result.now ≡ encoding N (point_of self.now) }
     {
         &self.bytes[..self.len]
     }
 
     /// Returns `true` if the encoding is compact.
     pub fn is_compact(&self) -> bool
-        ensures { result ≡ is_compact (tag_of (point_of self.now)) }
+        ensures { result ≡ is_compact (point_tag (point_of self.now)) }
     {
         self.tag().is_compact()
     }
 
     /// Returns `true` if the encoding is compressed. A compact one isn't.
     pub fn is_compressed(&self) -> bool
-        ensures { result ≡ is_compressed (tag_of (point_of self.now)) }
+        ensures { result ≡ is_compressed (point_tag (point_of self.now)) }
     {
         self.tag().is_compressed()
     }
 
     /// Returns `true` if the encoding is hybrid.
     pub fn is_hybrid(&self) -> bool
-        ensures { result ≡ is_hybrid (tag_of (point_of self.now)) }
+        ensures { result ≡ is_hybrid (point_tag (point_of self.now)) }
     {
         self.tag().is_hybrid()
     }
 
     /// Returns `true` if the point is the identity.
     pub fn is_identity(&self) -> bool
-        ensures { result ≡ is_identity (tag_of (point_of self.now)) }
+        ensures { result ≡ is_identity (point_tag (point_of self.now)) }
     {
         self.tag().is_identity()
     }
@@ -186,7 +186,7 @@ impl<const N: usize, const L: usize> EncodedPoint<N, L> {
     fn compressed_front(&self) -> (u8, usize)
         ensures room { result.1 ≤ L }
         ensures front { take result.1 (set self.now.bytes 0 result.0)
-            ≡ enc N (compressed_point (point_of self.now)) }
+            ≡ encoding N (compressed_point (point_of self.now)) }
     {
         match self.y() {
             Some(y) => (u8::from(Tag::compress_y(y)), N + 1),
@@ -209,9 +209,9 @@ impl<const N: usize, const L: usize> EncodedPoint<N, L> {
 
     /// Returns the tag, the first byte of the encoding. The length of the encoding is that of its tag.
     pub fn tag(&self) -> Tag
-        ensures point { result ≡ tag_of (point_of self.now) }
-        ensures first { byte_of result ≡ slice_index (enc N (point_of self.now)) 0 }
-        ensures len { message_len result N ≡ length (enc N (point_of self.now)) }
+        ensures point { result ≡ point_tag (point_of self.now) }
+        ensures first { byte_of result ≡ slice_index (encoding N (point_of self.now)) 0 }
+        ensures len { message_len result N ≡ length (encoding N (point_of self.now)) }
     {
         match Tag::from_u8(self.bytes[0]) {
             Ok(tag) => tag,
@@ -221,7 +221,7 @@ impl<const N: usize, const L: usize> EncodedPoint<N, L> {
 
     /// Borrows the parts of the point.
     pub fn coordinates(&self) -> Coordinates<'_, N>
-        ensures point { lent_point result ≡ point_of self.now }
+        ensures point { coordinates_point result ≡ point_of self.now }
         ensures whole { AreWhole result }
     {
         let (x, y) = self.halves();
@@ -254,9 +254,9 @@ impl<const N: usize, const L: usize> EncodedPoint<N, L> {
     }
 
     /// Borrows the x-coordinate; `None` for the identity.
-    #[tactic(auto, using(crate::proofs::Firsts::lent_whole))]
+    #[tactic(auto, using(crate::proofs::Firsts::coordinates_whole))]
     pub fn x(&self) -> Option<&[u8; N]>
-        ensures number { option_map (λ x. num x.now) result ≡ x_of (point_of self.now) }
+        ensures number { option_map (λ x. number_of x.now) result ≡ x_of (point_of self.now) }
         ensures len { IfSome result (λ x. length x.now ≡ N) }
     {
         match self.coordinates() {
@@ -269,9 +269,9 @@ impl<const N: usize, const L: usize> EncodedPoint<N, L> {
     }
 
     /// Borrows the y-coordinate, if the point is uncompressed or hybrid.
-    #[tactic(auto, using(crate::proofs::Firsts::lent_whole))]
+    #[tactic(auto, using(crate::proofs::Firsts::coordinates_whole))]
     pub fn y(&self) -> Option<&[u8; N]>
-        ensures number { option_map (λ y. num y.now) result ≡ y_of (point_of self.now) }
+        ensures number { option_map (λ y. number_of y.now) result ≡ y_of (point_of self.now) }
         ensures len { IfSome result (λ y. length y.now ≡ N) }
     {
         match self.coordinates() {

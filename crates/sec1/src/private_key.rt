@@ -75,7 +75,7 @@ impl<'a> TryFrom<&'a [u8]> for EcPrivateKey<'a> {
 impl<'a> EcPrivateKey<'a> {
     ghost use Rattle.std.specs.Prelude.{drop, MatchResult, IfOk, IfErr, OnErr, ◌⊎◌};
     ghost use Rattle.sec1.specs.Errors.{IsAsn1, RefusesAsn1};
-    ghost use Rattle.sec1.specs.Keys.{IsKeyOf, HasNoBytes, HasBytesWith};
+    ghost use Rattle.sec1.specs.Keys.{IsKeyOf, HasNoEncoding, HasEncodingWith};
 
     /// Returns the length of the key's DER encoding in bytes.
     ///
@@ -84,11 +84,11 @@ impl<'a> EcPrivateKey<'a> {
     /// [`Error::Asn1`] of Overlength if the content of an element would be longer than 268,435,455 bytes.
     #[tactic(auto, using(crate::proofs::WriteLemmas::key_written, crate::proofs::WriteLemmas::key_lacks, crate::proofs::WriteLemmas::key_found_with, crate::proofs::WriteLemmas::key_without))]
     pub fn encoded_len(&self) -> Result<usize>
-        ensures none { HasNoBytes self.now → RefusesAsn1 result ErrorKind.Overlength }
-        ensures some { (bytes : List ℕ) → IsKeyOf self.now bytes → result ≡ Ok (length bytes) }
-        ensures found { IfOk result (λ n. HasBytesWith self.now (λ bytes. n ≡ length bytes)) }
+        ensures overlength { HasNoEncoding self.now → RefusesAsn1 result ErrorKind.Overlength }
+        ensures only { (bytes : List ℕ) → IsKeyOf self.now bytes → result ≡ Ok (length bytes) }
+        ensures found { IfOk result (λ n. HasEncodingWith self.now (λ bytes. n ≡ length bytes)) }
         ensures kind { IfErr result (IsAsn1 ErrorKind.Overlength) }
-        ensures lacks { OnErr result (HasNoBytes self.now) }
+        ensures lacks { OnErr result (HasNoEncoding self.now) }
     {
         Ok(der::encoded_len(self)?)
     }
@@ -102,17 +102,17 @@ impl<'a> EcPrivateKey<'a> {
     /// whole slice is unchanged then.
     #[tactic(auto, using(crate::proofs::WriteLemmas::key_written, crate::proofs::WriteLemmas::key_lacks, crate::proofs::WriteLemmas::key_found_with, crate::proofs::WriteLemmas::key_without))]
     pub fn encode_to_slice(&self, buffer: &mut [u8]) -> Result<usize>
-        ensures none { HasNoBytes self.now → RefusesAsn1 result ErrorKind.Overlength
+        ensures overlength { HasNoEncoding self.now → RefusesAsn1 result ErrorKind.Overlength
             × (buffer.new ≡ buffer.old) }
         ensures fits { (bytes : List ℕ) → IsKeyOf self.now bytes → length bytes ≤ length buffer.old
             → (result ≡ Ok (length bytes)) × (buffer.new ≡ bytes ++ drop (length bytes) buffer.old) }
-        ensures full { (bytes : List ℕ) → IsKeyOf self.now bytes → length buffer.old < length bytes
+        ensures buffer { (bytes : List ℕ) → IsKeyOf self.now bytes → length buffer.old < length bytes
             → RefusesAsn1 result ErrorKind.Buffer × (buffer.new ≡ buffer.old) }
         // What was written are the key's bytes, and they stand within the slice.
-        ensures found { IfOk result (λ n. HasBytesWith self.now (λ bytes.
+        ensures found { IfOk result (λ n. HasEncodingWith self.now (λ bytes.
             (n ≡ length bytes) × (buffer.new ≡ bytes ++ drop n buffer.old))) }
         ensures within { IfOk result (λ n. n ≤ length buffer.new) }
-        ensures kinds { IfErr result (λ e. (IsAsn1 ErrorKind.Overlength e × HasNoBytes self.now)
+        ensures kinds { IfErr result (λ e. (IsAsn1 ErrorKind.Overlength e × HasNoEncoding self.now)
             ⊎ IsAsn1 ErrorKind.Buffer e) }
         ensures unchanged { OnErr result (buffer.new ≡ buffer.old) }
     {
@@ -126,11 +126,11 @@ impl<'a> EcPrivateKey<'a> {
     /// Those of [`encoded_len`](EcPrivateKey::encoded_len), then [`Error::Memory`] if the allocation fails.
     #[tactic(auto, using(crate::proofs::WriteLemmas::key_written, crate::proofs::WriteLemmas::key_lacks, crate::proofs::WriteLemmas::key_found, crate::proofs::WriteLemmas::key_without))]
     pub fn to_der(&self, alloc: Global) -> Result<Vec<u8>>
-        ensures none { HasNoBytes self.now → RefusesAsn1 result ErrorKind.Overlength }
-        ensures some { (bytes : List ℕ) → IsKeyOf self.now bytes
+        ensures overlength { HasNoEncoding self.now → RefusesAsn1 result ErrorKind.Overlength }
+        ensures only { (bytes : List ℕ) → IsKeyOf self.now bytes
             → MatchResult result (λ der. der.items ≡ bytes) (λ e. e ≡ Error.Memory) }
         ensures found { IfOk result (λ der. IsKeyOf self.now der.items) }
-        ensures kinds { IfErr result (λ e. (IsAsn1 ErrorKind.Overlength e × HasNoBytes self.now)
+        ensures kinds { IfErr result (λ e. (IsAsn1 ErrorKind.Overlength e × HasNoEncoding self.now)
             ⊎ (e ≡ Error.Memory)) }
     {
         Ok(der::to_der(alloc, self)?)
@@ -142,11 +142,11 @@ impl<'a> EcPrivateKey<'a> {
     ///
     /// Those of [`to_der`](EcPrivateKey::to_der).
     pub fn document(self, alloc: Global) -> Result<SecretDocument>
-        ensures none { HasNoBytes self.entry → RefusesAsn1 result ErrorKind.Overlength }
-        ensures some { (bytes : List ℕ) → IsKeyOf self.entry bytes
+        ensures overlength { HasNoEncoding self.entry → RefusesAsn1 result ErrorKind.Overlength }
+        ensures only { (bytes : List ℕ) → IsKeyOf self.entry bytes
             → MatchResult result (λ document. document ≡ bytes) (λ e. e ≡ Error.Memory) }
         ensures found { IfOk result (IsKeyOf self.entry) }
-        ensures kinds { IfErr result (λ e. (IsAsn1 ErrorKind.Overlength e × HasNoBytes self.entry)
+        ensures kinds { IfErr result (λ e. (IsAsn1 ErrorKind.Overlength e × HasNoEncoding self.entry)
             ⊎ (e ≡ Error.Memory)) }
     {
         self.document_ref(alloc)
@@ -159,11 +159,11 @@ impl<'a> EcPrivateKey<'a> {
     /// Those of [`to_der`](EcPrivateKey::to_der).
     #[tactic(auto, using(crate::proofs::WriteLemmas::key_written, crate::proofs::WriteLemmas::key_lacks, crate::proofs::WriteLemmas::key_found, crate::proofs::WriteLemmas::key_without))]
     pub fn document_ref(&self, alloc: Global) -> Result<SecretDocument>
-        ensures none { HasNoBytes self.now → RefusesAsn1 result ErrorKind.Overlength }
-        ensures some { (bytes : List ℕ) → IsKeyOf self.now bytes
+        ensures overlength { HasNoEncoding self.now → RefusesAsn1 result ErrorKind.Overlength }
+        ensures only { (bytes : List ℕ) → IsKeyOf self.now bytes
             → MatchResult result (λ document. document ≡ bytes) (λ e. e ≡ Error.Memory) }
         ensures found { IfOk result (IsKeyOf self.now) }
-        ensures kinds { IfErr result (λ e. (IsAsn1 ErrorKind.Overlength e × HasNoBytes self.now)
+        ensures kinds { IfErr result (λ e. (IsAsn1 ErrorKind.Overlength e × HasNoEncoding self.now)
             ⊎ (e ≡ Error.Memory)) }
     {
         Ok(SecretDocument::encode_msg(alloc, self)?)

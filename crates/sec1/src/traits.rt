@@ -2,7 +2,7 @@
 //! which key, which bytes a key is written as, and what is an error.
 ghost use Rattle.std.specs.Prelude.{ℕ, List, false, ◌≡◌, ◌⊎◌, IsTrue, IfOk, IfErr, OnOk, OnErr};
 ghost use Rattle.sec1.specs.Errors.{IsAsn1, RefusesAsn1};
-ghost use Rattle.sec1.specs.Traits.{IsDocumentError, IsElementWith, IsMemoryOr, ReadsElementWith, RefusesDocument, RefusesKey, WritesKey, WritesKeyBeginning};
+ghost use Rattle.sec1.specs.Traits.{IsDocumentError, IsElementWith, IsMemoryOr, ConsumesElementWith, RefusesDocument, RefusesKey, WritesKey, WritesKeyBeginning};
 ghost use Rattle.sec1.specs.declared.error.Error.{Error};
 ghost use Rattle.sec1_der.specs.declared.error.ErrorKind.TheVariants.{Io};
 
@@ -37,7 +37,7 @@ pub trait DecodeEcPrivateKey: Sized {
     fn read_sec1_der_from<R: Read>(alloc: Global, reader: &mut R) -> Result<Self>
         requires { R.failed reader.old ≡ false }
         ensures found { IfOk result (λ key.
-            ReadsElementWith (λ bytes. reads bytes key) (R.left reader.old) (R.left reader.new)) }
+            ConsumesElementWith (λ bytes. reads bytes key) (R.left reader.old) (R.left reader.new)) }
         ensures refused { IfErr result (λ error.
             RefusesDocument (R.left reader.old) (R.left reader.new) (R.failed reader.new) error
             ⊎ RefusesKey refuses (R.left reader.old) (R.left reader.new) (R.failed reader.new) error) }

@@ -4,7 +4,7 @@ use Rattle.std.specs.List.{flat_map}
 use Rattle.std.specs.Option.{option_map}
 use Rattle.sec1_der.specs.Identifiers.{IsIdentifier, content_of}
 use Rattle.sec1_der.specs.Numbers.{base128}
-use Rattle.sec1.specs.Keys.{Key, IsKeyOf, NameCurve}
+use Rattle.sec1.specs.Keys.{Key, IsKeyOf, IsNamedCurve}
 use Rattle.sec1_c.specs.GivenKeys.{IsCurveOf, IsGiven, public_key_if}
 use Rattle.sec1_c.specs.KeyPlaces.{ArePartsOf, AreWithin, GiveAgain}
 use Rattle.sec1_c.specs.Places.{IsPart, IsWithin, bytes_at}
@@ -57,7 +57,7 @@ parts_within key input parts are = record {
   public_key = part_within input parts.public_key _ are.public_key;
 }
 
-curve_again : (input : List ℕ) (part : Part) (parameters : Option (List ℕ)) → NameCurve parameters
+curve_again : (input : List ℕ) (part : Part) (parameters : Option (List ℕ)) → IsNamedCurve parameters
     → IsPart input part (option_map content_of parameters) → IsCurveOf (bytes_at input part) parameters
 curve_again input part None names is = record { content_is = rw is.len refl; names = names }
 curve_again input part (Some arcs) names is = record { content_is = is.bytes_are; names = names }

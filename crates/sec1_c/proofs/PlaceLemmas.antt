@@ -7,13 +7,13 @@ use Rattle.std.specs.Prelude.{IfSome}
 use Rattle.sec1_der.specs.Elements.{element, header}
 use Rattle.sec1_der.specs.Identifiers.{content_of}
 use Rattle.sec1_der.specs.Trees.{row, AreTrees}
-use Rattle.sec1.specs.Keys.{Key, IsKeyOf, key_fields, parameters_field, public_key_field, NameCurve, HasRoom, bytes_of, fields_of}
+use Rattle.sec1.specs.Keys.{Key, IsKeyOf, key_fields, parameters_field, public_key_field, IsNamedCurve, PublicKeyFits, bytes_of, fields_of}
 use Rattle.sec1_c.specs.Places.{StandsAt, IsPart, part_before}
 use Rattle.sec1_c.specs.KeyPlaces.{content_len}
 use Rattle.sec1_c.proofs.FieldLemmas.{field_bytes}
 
 -- a public key whose field is a tree has room in it
-room_behind : (parameters public_key : Option (List ℕ)) → AreTrees (row (parameters_field parameters ++ public_key_field public_key)) → HasRoom public_key
+room_behind : (parameters public_key : Option (List ℕ)) → AreTrees (row (parameters_field parameters ++ public_key_field public_key)) → PublicKeyFits public_key
 room_behind parameters None are = tt
 room_behind None (Some bytes) are =
     let whole : length (element 0x03 (0 ∷ bytes) ++ []) ≡ length (element 0x03 (0 ∷ bytes)) = ap length (append-nil (element 0x03 (0 ∷ bytes))) in
@@ -24,7 +24,7 @@ room_behind (Some arcs) (Some bytes) are =
     let within = are.1.0.2 in
     omega (arith, within, whole)
 
-public_key_fits : (key : Key) → AreTrees (row (key_fields key)) → HasRoom key.public_key
+public_key_fits : (key : Key) → AreTrees (row (key_fields key)) → PublicKeyFits key.public_key
 public_key_fits key are = room_behind key.parameters key.public_key are.1.1
 
 -- what stands between a front and a rest, by the length of the rest
@@ -146,8 +146,8 @@ pub record HasSpans (key : Key) (input : List ℕ) : Type 0 where
   pub private_key : StandsAt input (part_before (private_key_end key input) (Some (length key.private_key))) key.private_key
   pub curve : IsPart input (part_before (curve_end key input) (option_map content_len key.parameters)) (option_map content_of key.parameters)
   pub public_key : IsPart input (part_before (length input) (option_map (λ bytes. length bytes) key.public_key)) key.public_key
-  pub names_curve : NameCurve key.parameters
-  pub has_room : HasRoom key.public_key
+  pub names_curve : IsNamedCurve key.parameters
+  pub has_room : PublicKeyFits key.public_key
 
 pub spans : (key : Key) (input : List ℕ) → IsKeyOf key input → HasSpans key input
 spans key input is =

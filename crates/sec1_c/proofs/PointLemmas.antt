@@ -4,13 +4,13 @@ use Rattle.std.proofs.Common.{◌++◌, length, take, drop, Some, refl, ap, sym,
 use Rattle.std.proofs.lemmas.Bool.{cases_Bool}
 use Rattle.std.proofs.lemmas.List.{append-nil, take_at, drop_at}
 use Rattle.std.specs.Option.{option_map}
-use Rattle.sec1.specs.Points.{Point, identity, compact, compressed, uncompressed, hybrid, is_odd, tag_byte, x_of, y_of, fixed_width, enc}
-use Rattle.sec1.specs.Tags.{byte_of, tag_of}
+use Rattle.sec1.specs.Points.{Point, identity, compact, compressed, uncompressed, hybrid, is_odd, tag_byte, x_of, y_of, fixed_width, encoding}
+use Rattle.sec1.specs.Tags.{byte_of, point_tag}
 use Rattle.sec1_c.specs.FieldLengths.{Encodes}
 use Rattle.sec1_c.specs.Places.{StandsAt, IsPart, part_from}
 
 -- the byte of a point's tag is the first of its encoding
-pub tag_bytes : (p : Point) → byte_of (tag_of p) ≡ tag_byte p
+pub tag_bytes : (p : Point) → byte_of (point_tag p) ≡ tag_byte p
 tag_bytes identity = refl
 tag_bytes (compact x) = refl
 tag_bytes (compressed x true) = refl
@@ -56,7 +56,7 @@ y_second n tag x y input e =
 
 pub x_stands : (n : ℕ) (p : Point) (input : List ℕ) → Encodes n p input
     → IsPart input (part_from 1 (option_map (λ (_ : ℕ). n) (x_of p))) (option_map (fixed_width n) (x_of p))
-unfolding enc
+unfolding encoding
 x_stands n identity input e = record { present = refl; offset = refl; len = refl }
 x_stands n (compact x) input e = x_alone n 5 x input e.spelled
 x_stands n (compressed x odd) input e = x_alone n (tag_byte (compressed x odd)) x input e.spelled
@@ -65,7 +65,7 @@ x_stands n (hybrid x y) input e = x_first n (tag_byte (hybrid x y)) x y input e.
 
 pub y_stands : (n : ℕ) (p : Point) (input : List ℕ) → Encodes n p input
     → IsPart input (part_from (1 + n) (option_map (λ (_ : ℕ). n) (y_of p))) (option_map (fixed_width n) (y_of p))
-unfolding enc
+unfolding encoding
 y_stands n identity input e = record { present = refl; offset = refl; len = refl }
 y_stands n (compact x) input e = record { present = refl; offset = refl; len = refl }
 y_stands n (compressed x odd) input e = record { present = refl; offset = refl; len = refl }

@@ -1,6 +1,6 @@
 -- The lengths of field elements at which points are read.
 use Rattle.std.specs.Prelude.{◌≡◌, ◌⊎◌, ℕ, List}
-use Rattle.sec1.specs.Points.{Point, IsPoint, enc}
+use Rattle.sec1.specs.Points.{Point, IsPoint, encoding}
 
 -- 28, 32, 48 or 66 bytes: those of fields of 224, 256, 384 and 521 bits
 abbrev pub IsFieldLength : ℕ → Type 0
@@ -9,7 +9,7 @@ IsFieldLength n = (n ≡ 28) ⊎ ((n ≡ 32) ⊎ ((n ≡ 48) ⊎ (n ≡ 66)))
 -- the bytes are the encoding of this point (SEC1 v2.0 section 2.3.3)
 pub record Encodes (n : ℕ) (p : Point) (bytes : List ℕ) : Type 0 where
   pub fits : IsPoint n p
-  pub spelled : bytes ≡ enc n p
+  pub spelled : bytes ≡ encoding n p
 
 -- the bytes are the encodings of these two points
 pub record EncodesBoth (n : ℕ) (p q : Point) (first second : List ℕ) : Type 0 where

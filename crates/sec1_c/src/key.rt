@@ -1,6 +1,6 @@
 //! Private keys (RFC 5915 section 3): `sec1_key_read`, `sec1_key_len` and `sec1_key_write`.
 ghost use Rattle.std.specs.Prelude.{◌≡◌, ◌≢◌, List, ℕ};
-ghost use Rattle.sec1.specs.Keys.{HasNoBytes, Key, IsKeyOf};
+ghost use Rattle.sec1.specs.Keys.{HasNoEncoding, Key, IsKeyOf};
 ghost use Rattle.sec1_der.specs.Elements.{IsProperBeginning};
 ghost use Rattle.sec1_c.specs.GivenKeys.{IsGiven, IsNoCurve, IsTooLong};
 ghost use Rattle.sec1_c.specs.KeyPlaces.{AreWithin, ArePartsOf, GiveAgain, IsKey};
@@ -81,7 +81,7 @@ pub extern "C" fn sec1_key_len(
         → StoresLength bytes result len.new }
     ensures no_curve { IsNoCurve curve.now
         → (result ≡ kind_number ErrorKind.Value) × (len.new ≡ len.old) }
-    ensures too_long { IsTooLong private_key.now curve.now public_key.now has_public_key
+    ensures overlength { IsTooLong private_key.now curve.now public_key.now has_public_key
         → (result ≡ kind_number ErrorKind.Overlength) × (len.new ≡ len.old) }
 {
     let Some(key) = key_given(private_key, curve, public_key, has_public_key) else {
@@ -93,7 +93,7 @@ pub extern "C" fn sec1_key_len(
 /// Stores the length in bytes of the key's DER encoding. Returns the number of Overlength where it has none.
 fn store_len(key: &EcPrivateKey, len: &mut usize) -> u32
     ensures key { (bytes : List ℕ) → IsKeyOf key.now bytes → StoresLength bytes result len.new }
-    ensures none { HasNoBytes key.now
+    ensures overlength { HasNoEncoding key.now
         → (result ≡ kind_number ErrorKind.Overlength) × (len.new ≡ len.old) }
 {
     match key.encoded_len() {
@@ -126,7 +126,7 @@ pub extern "C" fn sec1_key_write(
         → Writes bytes out.old out.new result len.new }
     ensures no_curve { IsNoCurve curve.now
         → WritesNothing (kind_number ErrorKind.Value) out.old out.new result len.old len.new }
-    ensures too_long { IsTooLong private_key.now curve.now public_key.now has_public_key
+    ensures overlength { IsTooLong private_key.now curve.now public_key.now has_public_key
         → WritesNothing (kind_number ErrorKind.Overlength) out.old out.new result len.old len.new }
 {
     let Some(key) = key_given(private_key, curve, public_key, has_public_key) else {
@@ -139,7 +139,7 @@ pub extern "C" fn sec1_key_write(
 /// `out` is too short, and that of Overlength where the key has no encoding.
 fn write_key(key: &EcPrivateKey, out: &mut [u8], len: &mut usize) -> u32
     ensures key { (bytes : List ℕ) → IsKeyOf key.now bytes → Writes bytes out.old out.new result len.new }
-    ensures none { HasNoBytes key.now
+    ensures overlength { HasNoEncoding key.now
         → WritesNothing (kind_number ErrorKind.Overlength) out.old out.new result len.old len.new }
 {
     match key.encoded_len() {

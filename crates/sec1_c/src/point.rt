@@ -1,7 +1,7 @@
 //! Points (SEC1 v2.0 section 2.3.3) over fields whose elements have 28, 32, 48 or 66 bytes: `sec1_point_check`,
 //! `sec1_point_read`, `sec1_point_compress`, `sec1_point_to_hybrid` and `sec1_point_compare`.
 ghost use Rattle.std.specs.Prelude.{◌≡◌, ◌≢◌};
-ghost use Rattle.sec1.specs.Points.{Point, IsEncoding, compressed_point, enc, hybrid_point};
+ghost use Rattle.sec1.specs.Points.{Point, IsEncoding, compressed_point, encoding, hybrid_point};
 ghost use Rattle.sec1_c.specs.FieldLengths.{Encodes, EncodesBoth, IsFieldLength};
 ghost use Rattle.sec1_c.specs.Outputs.{Writes, WritesNothing};
 ghost use Rattle.sec1_c.specs.PointPlaces.{ArePointPartsOf, IsOrderOf};
@@ -90,7 +90,7 @@ pub extern "C" fn sec1_point_compress(
     len: &mut usize,
 ) -> u32
     ensures point { (p : Point) → IsFieldLength field_len → Encodes field_len p bytes.now
-        → Writes (enc field_len (compressed_point p)) out.old out.new result len.new }
+        → Writes (encoding field_len (compressed_point p)) out.old out.new result len.new }
     ensures no_point { IsFieldLength field_len → ¬ IsEncoding field_len bytes.now
         → WritesNothing (error_number Error.PointEncoding) out.old out.new result len.old len.new }
     ensures other_field { ¬ IsFieldLength field_len
@@ -120,7 +120,7 @@ pub extern "C" fn sec1_point_to_hybrid(
     len: &mut usize,
 ) -> u32
     ensures point { (p : Point) → IsFieldLength field_len → Encodes field_len p bytes.now
-        → Writes (enc field_len (hybrid_point p)) out.old out.new result len.new }
+        → Writes (encoding field_len (hybrid_point p)) out.old out.new result len.new }
     ensures no_point { IsFieldLength field_len → ¬ IsEncoding field_len bytes.now
         → WritesNothing (error_number Error.PointEncoding) out.old out.new result len.old len.new }
     ensures other_field { ¬ IsFieldLength field_len

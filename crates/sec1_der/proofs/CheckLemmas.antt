@@ -3,7 +3,7 @@ use Rattle.std.proofs.Common.{◌≡◌, ◌≢◌, ℕ, suc, ◌+◌, ◌*◌, 
 use Rattle.std.proofs.lemmas.List.{append_assoc, append-nil, length-append, nil_from_length}
 use Rattle.sec1_der.specs.Elements.{header}
 use Rattle.sec1_der.specs.Trees.{Tree, leaf, branch, Forest, none, first, bytes, joined, IsTree, AreTrees, IsTreeOf, size, total_size, depth, max_depth}
-use Rattle.sec1_der.specs.Walks.{IsSingle, IsOpening, innermost, Passes, Opens, Enters, IsTooDeep}
+use Rattle.sec1_der.specs.Walks.{IsSingle, IsOpening, innermost, Skips, Opens, Enters, IsTooDeep}
 use Rattle.sec1_der.proofs.TreeLemmas.{tree_apart}
 use Rattle.sec1_der.proofs.WalkLemmas.{Left, Nested, length-bytes, same_length_left, Begins, Behind, Progress, opened_tree, progress-closed, progress-passed, progress-entered, entered, one_more, predecessor}
 
@@ -117,7 +117,7 @@ next_closed input (end ∷ ends) ends' rest count some is e a =
       progress = progress-closed input ends rest end count (omega arith) e a.progress;
     })
 
-next_single : (input rest after : List ℕ) (end : ℕ) (ends : List ℕ) (count : ℕ) → Passes (end ∷ ends) rest after → IsAt input (end ∷ ends) rest count → IsAt input (end ∷ ends) after (count + 1)
+next_single : (input rest after : List ℕ) (end : ℕ) (ends : List ℕ) (count : ℕ) → Skips (end ∷ ends) rest after → IsAt input (end ∷ ends) rest count → IsAt input (end ∷ ends) after (count + 1)
 next_single input rest after end ends count p a =
     let nested = a.nested in
     let room = a.room in

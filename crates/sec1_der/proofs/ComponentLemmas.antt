@@ -4,7 +4,7 @@ use Rattle.std.specs.Prelude.{◌≢◌, slice_get, true, nat_le, Result, Ok}
 use Rattle.std.proofs.lemmas.Bool.{leb-true, leb-false}
 use Rattle.std.proofs.lemmas.List.{append-nil}
 use Rattle.sec1_der.specs.declared.error.Error.{Error}
-use Rattle.sec1_der.proofs.ElementLemmas.{element_of_tells}
+use Rattle.sec1_der.proofs.ElementLemmas.{element_of-some}
 use Rattle.sec1_der.specs.Elements.{max_length, element, element_of, field_of, IsOverlong}
 use Rattle.sec1_der.proofs.WriterLemmas.{IsMeasured}
 use Rattle.sec1_der.specs.Components.{join}

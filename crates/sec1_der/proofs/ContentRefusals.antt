@@ -12,7 +12,7 @@ use Rattle.sec1_der.specs.Refusals.{Fault, no_fault, end_fault, element_fault, i
 use Rattle.sec1_der.proofs.RefusalLemmas.{alone, element_at, read_element, refused_more, next_told, inside_at_once, field_told}
 use Rattle.sec1_der.specs.Contents.{value_unless, are_bits, is_bit_string, bit_string_fault, whole_bits_fault, identifier_fault}
 use Rattle.sec1_der.specs.Identifiers.{IsIdentifier, is_identifier, content_of}
-use Rattle.sec1_der.specs.IdentifierLaws.{is_identifier-tells, is_identifier-holds}
+use Rattle.sec1_der.specs.IdentifierLaws.{is_identifier-true, is_identifier-valid}
 use Rattle.sec1_der.specs.declared.error.ErrorKind.{ErrorKind}
 use Rattle.sec1_der.specs.declared.error.ErrorKind.TheVariants.{Value}
 use Rattle.sec1_der.proofs.IdentifierLemmas.{goes_on_from_spells}
@@ -22,7 +22,7 @@ pub identifier_taken : (arcs content : List ℕ) → IsIdentifier arcs content �
 identifier_taken arcs content h =
     let same = (goes_on_from_spells arcs content h.spells).1 in
     let spelled : content_of arcs ≡ content = sym h.spells.spelled in
-    rw (same, is_identifier-holds arcs content h, (bytes_eq-Decides (content_of arcs) content).1 spelled) refl
+    rw (same, is_identifier-valid arcs content h, (bytes_eq-Decides (content_of arcs) content).1 spelled) refl
 
 both : (a b : Bool) → (a && b) ≡ true → (a ≡ true) × (b ≡ true)
 both true b e = (refl, e)
@@ -38,7 +38,7 @@ identifier_refused content none = by (is_identifier (arcs_of content) && bytes_e
     by true e =
         let parts = both _ _ e in
         let same = (bytes_eq-Decides (content_of (arcs_of content)) content).0 parts.1 in
-        absurd (none (arcs_of content) (subst (IsIdentifier (arcs_of content)) same (is_identifier-tells (arcs_of content) parts.0)))
+        absurd (none (arcs_of content) (subst (IsIdentifier (arcs_of content)) same (is_identifier-true (arcs_of content) parts.0)))
 
 -- without unused bits any bytes are a bit string
 whole_are_bits : (bytes : List ℕ) → are_bits 0 bytes ≡ true

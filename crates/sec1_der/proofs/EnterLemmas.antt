@@ -5,16 +5,16 @@ use Rattle.std.proofs.lemmas.List.{append_assoc, length-append, length-drop, len
 use Rattle.std.specs.Prelude.{bit_and}
 use Rattle.sec1_der.specs.Elements.{IsConstructed, IsHeader, IsProperBeginning, header, element}
 use Rattle.sec1_der.specs.Trees.{Tree, leaf, branch, none, bytes, joined, IsTree}
-use Rattle.sec1_der.specs.Walks.{innermost, Passes, Opens}
+use Rattle.sec1_der.specs.Walks.{innermost, Skips, Opens}
 
 -- a tree is an element
-pub record HasElement (t : Tree) : Type 0 where
+pub record FoundContent (t : Tree) : Type 0 where
   pub tag : ℕ
   pub content : List ℕ
   pub fits : IsHeader tag (length content)
   pub is : bytes t ≡ element tag content
 
-pub tree_element : (t : Tree) → IsTree t → HasElement t
+pub tree_element : (t : Tree) → IsTree t → FoundContent t
 tree_element (leaf tag content) p = record { tag = tag; content = content; fits = record { tag_byte = p.0; within = p.2 }; is = refl }
 tree_element (branch tag f) p = record { tag = tag; content = joined f; fits = record { tag_byte = p.0; within = p.2 }; is = refl }
 
@@ -24,7 +24,7 @@ take_past (x ∷ xs) ys zero l = absurd (omega arith)
 take_past (x ∷ xs) ys (suc n) l = ap (λ ws. x ∷ ws) (take_past xs ys n (omega arith) ∙ ap (λ m. xs ++ take m ys) (omega arith))
 
 -- a tree that stands before the end is an element there
-pub stands_before : (t : Tree) (tail rest : List ℕ) (end : ℕ) (el : HasElement t) → rest ≡ bytes t ++ tail → end ≤ length tail → (after : List ℕ) × (take (length rest - end) rest ≡ element el.tag el.content ++ after)
+pub stands_before : (t : Tree) (tail rest : List ℕ) (end : ℕ) (el : FoundContent t) → rest ≡ bytes t ++ tail → end ≤ length tail → (after : List ℕ) × (take (length rest - end) rest ≡ element el.tag el.content ++ after)
 stands_before t tail rest end el e l =
     let room = length rest - end in
     let lengths = ap length e ∙ length-append (bytes t) tail in
@@ -32,7 +32,7 @@ stands_before t tail rest end el e l =
     (after, ap (take room) e ∙ (take_past (bytes t) tail room (omega arith) ∙ ap (λ xs. xs ++ after) el.is))
 
 -- a proper beginning of a tree's bytes is one of an element's
-pub begins_element : (t : Tree) (rest : List ℕ) (end : ℕ) (el : HasElement t) → IsProperBeginning rest (bytes t) → end ≡ 0 → IsProperBeginning (take (length rest - end) rest) (element el.tag el.content)
+pub begins_element : (t : Tree) (rest : List ℕ) (end : ℕ) (el : FoundContent t) → IsProperBeginning rest (bytes t) → end ≡ 0 → IsProperBeginning (take (length rest - end) rest) (element el.tag el.content)
 begins_element t rest end el short is =
     let all : take (length rest - end) rest ≡ rest = take_all (length rest - end) rest (omega arith) in
     record { more = short.more; some = short.some; split = sym el.is ∙ (short.split ∙ ap (λ xs. xs ++ short.more) (sym all)) }
@@ -89,7 +89,7 @@ opens_at ends rest inside tag n end is f some constructed =
     })
 
 -- an element without children is behind its content
-pub passes_at : (ends rest inside : List ℕ) (tag n end : ℕ) → end ≡ innermost ends → IsInFront rest inside tag n end → ¬ IsConstructed tag ⊎ (n ≡ 0) → Passes ends rest (take (length rest - (length rest - end - length inside + n)) (drop (length rest - end - length inside + n) rest))
+pub passes_at : (ends rest inside : List ℕ) (tag n end : ℕ) → end ≡ innermost ends → IsInFront rest inside tag n end → ¬ IsConstructed tag ⊎ (n ≡ 0) → Skips ends rest (take (length rest - (length rest - end - length inside + n)) (drop (length rest - end - length inside + n) rest))
 passes_at ends rest inside tag n end is f which =
     let s = split_at_end rest inside tag n end f in
     let start = length rest - end - length inside in
@@ -103,9 +103,9 @@ passes_at ends rest inside tag n end is f which =
     let after = from_start rest (element tag content) behind (start + n) whole past in
     let end_is = s.ends in
     let ends_before : innermost ends ≤ length behind = omega (arith, length-append (drop n inside) s.behind) in
-    subst (Passes ends rest) (sym after) (choose behind whole ends_before size)
+    subst (Skips ends rest) (sym after) (choose behind whole ends_before size)
   where
-    as_leaf : ¬ IsConstructed tag → (behind : List ℕ) → rest ≡ element tag (take n inside) ++ behind → innermost ends ≤ length behind → length (take n inside) ≡ n → Passes ends rest behind
+    as_leaf : ¬ IsConstructed tag → (behind : List ℕ) → rest ≡ element tag (take n inside) ++ behind → innermost ends ≤ length behind → length (take n inside) ≡ n → Skips ends rest behind
     as_leaf apart behind whole ends_before size = record {
       tree = leaf tag (take n inside);
       single = record { tree = (f.fits.tag_byte, apart, omega (arith, f.fits.within)); alone = refl; shallow = refl };
@@ -113,7 +113,7 @@ passes_at ends rest inside tag n end is f which =
       fits = ends_before;
     }
 
-    choose : (behind : List ℕ) → rest ≡ element tag (take n inside) ++ behind → innermost ends ≤ length behind → length (take n inside) ≡ n → Passes ends rest behind
+    choose : (behind : List ℕ) → rest ≡ element tag (take n inside) ++ behind → innermost ends ≤ length behind → length (take n inside) ≡ n → Skips ends rest behind
     choose behind whole ends_before size = ⊎_elim (λ apart. as_leaf apart behind whole ends_before size)
         (λ nothing. ⊎_elim
         (λ zero_bit. as_leaf (λ set_bit. set_bit zero_bit) behind whole ends_before size)

@@ -10,7 +10,7 @@ use Rattle.sec1_der.specs.Numbers.{base128, marked}
 use Rattle.sec1_der.specs.ArcsOf.{padded, numbers_after, arcs_of_numbers, arcs_of}
 use Rattle.sec1_der.specs.Elements.{IsOverlong}
 use Rattle.sec1_der.specs.Identifiers.{AreArcs, subidentifiers, Spells, IsIdentifier, identifier_content}
-use Rattle.sec1_der.specs.IdentifierLaws.{identifier_content-holds}
+use Rattle.sec1_der.specs.IdentifierLaws.{identifier_content-valid}
 use Rattle.sec1_der.proofs.DigitLemmas.{IsBytes, digits_of-push}
 
 -- the bytes go on a spelling whose digits so far are those of high, and end one
@@ -238,5 +238,5 @@ length-marked_step n some = ap length (marked_step n some) ∙ length-append (ma
 -- an element can hold the content of an identifier
 pub identifier_fits : (arcs content : List ℕ) → IsIdentifier arcs content → IsOverlong (identifier_content arcs) → ⊥
 identifier_fits arcs content is none =
-    let over = subst IsOverlong (identifier_content-holds arcs content is) none in
+    let over = subst IsOverlong (identifier_content-valid arcs content is) none in
     omega (arith, over, is.short)

@@ -9,10 +9,10 @@ use Rattle.std.proofs.lemmas.Int.Digits.{number_digits_of}
 use Rattle.std.specs.Int.Digits.{digits_of}
 use Rattle.std.specs.Option.{option_or}
 use Rattle.std.specs.Str.{bytes_eq}
-use Rattle.sec1_der.specs.Elements.{max_length, len, header, element, IsTag, IsHeader, LacksHeader}
+use Rattle.sec1_der.specs.Elements.{max_length, length_octets, header, element, IsTag, IsHeader, LacksHeader}
 use Rattle.sec1_der.specs.Faults.{is_tag, length_fault, header_fault}
-use Rattle.sec1_der.specs.Numbers.{num}
-use Rattle.sec1_der.specs.Readers.{Reader, before, HasReadElement}
+use Rattle.sec1_der.specs.Numbers.{number_of}
+use Rattle.sec1_der.specs.Readers.{Reader, reader_over, HasReadElement}
 use Rattle.sec1_der.specs.Refusals.{Fault, no_fault, end_fault, number_at, length_at, within, parts_fault, element_fault, is_next, inside_fault}
 use Rattle.sec1_der.specs.Refusals.{field_fault, any_fault, document_fault}
 use Rattle.sec1_der.specs.declared.error.ErrorKind.{ErrorKind}
@@ -23,8 +23,8 @@ use Rattle.sec1_der.proofs.LengthLemmas.{len_shape}
 
 -- ---- lengths
 
-some_spelled : (n : ℕ) → 0 < length (len n)
-unfolding len
+some_spelled : (n : ℕ) → 0 < length (length_octets n)
+unfolding length_octets
 some_spelled n = by (nat_lt n 0x80)
   where
     by : (b : Bool) → 0 < length (if b then n ∷ [] else (0x80 + length (digits_of 256 n)) ∷ digits_of 256 n)
@@ -32,45 +32,45 @@ some_spelled n = by (nat_lt n 0x80)
     by false = omega arith
 
 -- the number whose spelling begins the bytes
-number_spelled : (n : ℕ) (bytes rest : List ℕ) → n ≤ max_length → bytes ≡ len n ++ rest → number_at bytes ≡ n
-number_spelled n [] rest fits e = absurd (omega (arith, ap length e ∙ length-append (len n) rest, some_spelled n))
+number_spelled : (n : ℕ) (bytes rest : List ℕ) → n ≤ max_length → bytes ≡ length_octets n ++ rest → number_at bytes ≡ n
+number_spelled n [] rest fits e = absurd (omega (arith, ap length e ∙ length-append (length_octets n) rest, some_spelled n))
 number_spelled n (first ∷ digits) rest fits e = ⊎_elim
     (λ s. let is = s.is in let small = s.small in rw (lt-ltb first 128 (omega arith)) is)
     (λ s. let is = s.is in
     let front : take (first - 128) digits ≡ digits_of 256 n = ap (take (first - 128)) s.after ∙ take_at (digits_of 256 n) rest (first - 128) (omega arith) in
-    rw (le-ltb first 128 (omega arith)) (ap num front ∙ number_digits_of 256 n (omega arith)))
+    rw (le-ltb first 128 (omega arith)) (ap number_of front ∙ number_digits_of 256 n (omega arith)))
     (len_shape n first digits rest fits e)
 
 -- the test of a spelling, by its outcome
 abbrev tested : Bool → ℕ → List ℕ → Result (ℕ × List ℕ) ErrorKind
-tested b n bytes = if b then Ok (n, drop (length (len n)) bytes) else Err (length_fault bytes)
+tested b n bytes = if b then Ok (n, drop (length (length_octets n)) bytes) else Err (length_fault bytes)
 
 -- the length that the bytes begin with
-pub length_at_spelled : (n : ℕ) (bytes rest : List ℕ) → n ≤ max_length → bytes ≡ len n ++ rest → length_at bytes ≡ Ok (n, rest)
+pub length_at_spelled : (n : ℕ) (bytes rest : List ℕ) → n ≤ max_length → bytes ≡ length_octets n ++ rest → length_at bytes ≡ Ok (n, rest)
 length_at_spelled n bytes rest fits e =
     let number = number_spelled n bytes rest fits e in
-    let front : take (length (len n)) bytes ≡ len n = ap (take (length (len n))) e ∙ take_at (len n) rest (length (len n)) refl in
-    let back : drop (length (len n)) bytes ≡ rest = ap (drop (length (len n))) e ∙ drop_at (len n) rest (length (len n)) refl in
-    rw (number, le-leb n max_length fits, (bytes_eq-Decides (take (length (len n)) bytes) (len n)).1 front, back) refl
+    let front : take (length (length_octets n)) bytes ≡ length_octets n = ap (take (length (length_octets n))) e ∙ take_at (length_octets n) rest (length (length_octets n)) refl in
+    let back : drop (length (length_octets n)) bytes ≡ rest = ap (drop (length (length_octets n))) e ∙ drop_at (length_octets n) rest (length (length_octets n)) refl in
+    rw (number, le-leb n max_length fits, (bytes_eq-Decides (take (length (length_octets n)) bytes) (length_octets n)).1 front, back) refl
 
 both : (a b : Bool) → (a && b) ≡ true → (a ≡ true) × (b ≡ true)
 both true b e = (refl, e)
 both false b e = absurd (cc e)
 
 -- bytes that begin with no length
-pub length_at_lacks : (bytes : List ℕ) → ((n : ℕ) (rest : List ℕ) → n ≤ max_length → bytes ≡ len n ++ rest → ⊥) → length_at bytes ≡ Err (length_fault bytes)
-length_at_lacks bytes lacks = by (nat_le n max_length && bytes_eq (take (length (len n)) bytes) (len n)) refl
+pub length_at_lacks : (bytes : List ℕ) → ((n : ℕ) (rest : List ℕ) → n ≤ max_length → bytes ≡ length_octets n ++ rest → ⊥) → length_at bytes ≡ Err (length_fault bytes)
+length_at_lacks bytes lacks = by (nat_le n max_length && bytes_eq (take (length (length_octets n)) bytes) (length_octets n)) refl
   where
     n : ℕ
     n = number_at bytes
 
-    by : (b : Bool) → (nat_le (number_at bytes) max_length && bytes_eq (take (length (len (number_at bytes))) bytes) (len (number_at bytes))) ≡ b
+    by : (b : Bool) → (nat_le (number_at bytes) max_length && bytes_eq (take (length (length_octets (number_at bytes))) bytes) (length_octets (number_at bytes))) ≡ b
         → length_at bytes ≡ Err (length_fault bytes)
     by true e =
         let parts = both _ _ e in
-        let front = (bytes_eq-Decides (take (length (len (number_at bytes))) bytes) (len (number_at bytes))).0 parts.1 in
-        absurd (lacks (number_at bytes) (drop (length (len (number_at bytes))) bytes) (leb-true _ max_length parts.0)
-        (sym (take-append-drop (length (len (number_at bytes))) bytes) ∙ ap (λ xs. xs ++ drop (length (len (number_at bytes))) bytes) front))
+        let front = (bytes_eq-Decides (take (length (length_octets (number_at bytes))) bytes) (length_octets (number_at bytes))).0 parts.1 in
+        absurd (lacks (number_at bytes) (drop (length (length_octets (number_at bytes))) bytes) (leb-true _ max_length parts.0)
+        (sym (take-append-drop (length (length_octets (number_at bytes))) bytes) ∙ ap (λ xs. xs ++ drop (length (length_octets (number_at bytes))) bytes) front))
     by false e = rw e refl
 
 -- ---- room
@@ -90,7 +90,7 @@ within_lacks n inside few = rw (short (nat_le n (length inside)) refl) refl
 -- ---- elements
 
 -- the bytes of an element, behind its tag
-behind_tag : (content bytes rest : List ℕ) → length content ≤ max_length → bytes ≡ len (length content) ++ (content ++ rest)
+behind_tag : (content bytes rest : List ℕ) → length content ≤ max_length → bytes ≡ length_octets (length content) ++ (content ++ rest)
     → within (length_at bytes) ≡ Ok (content, rest)
 behind_tag content bytes rest fits e =
     ap within (length_at_spelled (length content) bytes (content ++ rest) fits e) ∙ within_room (length content) content rest refl
@@ -101,8 +101,8 @@ pub any_at : (f : ℕ → Fault) (g : Fault) (tag : ℕ) (content bytes rest : L
 any_at f g tag content [] rest h e = absurd (cc e)
 any_at f g tag content (byte ∷ bytes) rest h e =
     let same : byte ≡ tag = cc in
-    let tail : bytes ≡ (len (length content) ++ content) ++ rest = cc in
-    rw (same, is_tag-true tag h.tag_byte, behind_tag content bytes rest h.within (tail ∙ append_assoc (len (length content)) content rest)) refl
+    let tail : bytes ≡ (length_octets (length content) ++ content) ++ rest = cc in
+    rw (same, is_tag-true tag h.tag_byte, behind_tag content bytes rest h.within (tail ∙ append_assoc (length_octets (length content)) content rest)) refl
 
 -- an element with this tag, and what stands behind it
 pub element_at : (f g : Fault) (tag : ℕ) (content bytes rest : List ℕ) → length content ≤ max_length → bytes ≡ element tag content ++ rest
@@ -110,8 +110,8 @@ pub element_at : (f g : Fault) (tag : ℕ) (content bytes rest : List ℕ) → l
 element_at f g tag content [] rest fits e = absurd (cc e)
 element_at f g tag content (byte ∷ bytes) rest fits e =
     let same : byte ≡ tag = cc in
-    let tail : bytes ≡ (len (length content) ++ content) ++ rest = cc in
-    rw (eq-eqb byte tag same, behind_tag content bytes rest fits (tail ∙ append_assoc (len (length content)) content rest)) refl
+    let tail : bytes ≡ (length_octets (length content) ++ content) ++ rest = cc in
+    rw (eq-eqb byte tag same, behind_tag content bytes rest fits (tail ∙ append_assoc (length_octets (length content)) content rest)) refl
 
 -- a tag byte passes the test, and what passes it is one
 pub tag_from_test : (byte : ℕ) → byte < 256 → is_tag byte ≡ true → IsTag byte
@@ -149,7 +149,7 @@ pub any_short : (f : ℕ → Fault) (g : Fault) (tag n : ℕ) (bytes inside : Li
 any_short f g tag n [] inside h e few = absurd (cc e)
 any_short f g tag n (byte ∷ bytes) inside h e few =
     let same : byte ≡ tag = cc in
-    let tail : bytes ≡ len n ++ inside = cc in
+    let tail : bytes ≡ length_octets n ++ inside = cc in
     rw (same, is_tag-true tag h.tag_byte, length_at_spelled n bytes inside h.within tail, within_lacks n inside few) refl
 
 -- an element of any tag, with room for its content
@@ -158,7 +158,7 @@ pub any_room : (f : ℕ → Fault) (g : Fault) (tag n : ℕ) (bytes inside : Lis
 any_room f g tag n [] inside h e fits = absurd (cc e)
 any_room f g tag n (byte ∷ bytes) inside h e fits =
     let same : byte ≡ tag = cc in
-    let tail : bytes ≡ len n ++ inside = cc in
+    let tail : bytes ≡ length_octets n ++ inside = cc in
     rw (same, is_tag-true tag h.tag_byte, length_at_spelled n bytes inside h.within tail, le-leb n (length inside) fits) refl
 
 -- ---- one element after another
@@ -224,7 +224,7 @@ reads_on f tag (Some content) P old new h none =
     }
 
 -- a reader that hasn't refused, by its bytes
-pub reader_at : (r : Reader) (bytes : List ℕ) → r.unread ≡ bytes → r.failed ≡ false → r ≡ before bytes
+pub reader_at : (r : Reader) (bytes : List ℕ) → r.unread ≡ bytes → r.failed ≡ false → r ≡ reader_over bytes
 reader_at r bytes unread whole =
     let with_bytes : List ℕ → Reader = λ xs. record { unread = xs; failed = r.failed } in
     let with_failed : Bool → Reader = λ b. record { unread = bytes; failed = b } in

@@ -9,7 +9,7 @@ use Rattle.sec1_der.specs.declared.error.ErrorKind.TheVariants.{Truncated, Tag, 
 use Rattle.sec1_der.specs.Elements.{IsElement}
 use Rattle.sec1_der.specs.Elements.{IsHeader, header}
 use Rattle.sec1_der.specs.Faults.{length_fault, is_tag, header_fault}
-use Rattle.sec1_der.specs.ReadsDocument.{HasHeaderFault, IsCutContent, TakesBefore, RefusesElement, ReadsHeader, RefusesContent}
+use Rattle.sec1_der.specs.ReadsDocument.{HasHeaderFault, IsCutContent, TakenBeforeRefusal, RefusesElement, ReadsHeader, RefusesContent}
 use Rattle.sec1_der.specs.Streams.{ReadsOnto, TakesFewer}
 use Rattle.std.proofs.Math.Seq.{take-append-add, take-append_seam}
 use Rattle.std.proofs.lemmas.List.{length-replicate, length-take-le, take_all, take-append-le}
@@ -144,10 +144,10 @@ refused_content kind old mid new tag n h r = record {
   consumed = Consumes-trans old mid new (header tag n) r.taken h.consumed r.consumed;
   by_kind =
       ⊎_elim
-      (λ cut. subst (λ k. TakesBefore k (header tag n ++ r.taken)) (sym cut) (inr part))
+      (λ cut. subst (λ k. TakenBeforeRefusal k (header tag n ++ r.taken)) (sym cut) (inr part))
       (λ other. ⊎_elim
-      (λ io. subst (λ k. TakesBefore k (header tag n ++ r.taken)) (sym io) (inl (inr part)))
-      (λ memory. subst (λ k. TakesBefore k (header tag n ++ r.taken)) (sym memory) (inl (inr part)))
+      (λ io. subst (λ k. TakenBeforeRefusal k (header tag n ++ r.taken)) (sym io) (inl (inr part)))
+      (λ memory. subst (λ k. TakenBeforeRefusal k (header tag n ++ r.taken)) (sym memory) (inl (inr part)))
       other)
       r.kinds;
   at_end = r.at_end;

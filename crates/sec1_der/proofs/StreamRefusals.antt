@@ -7,7 +7,7 @@ use Rattle.std.proofs.lemmas.List.Elements.{All-get_or}
 use Rattle.std.specs.List.{All}
 use Rattle.sec1_der.specs.Elements.{LacksHeader, element}
 use Rattle.sec1_der.specs.Faults.{is_tag, lacks_digits, length_fault, header_fault, IsIoOrMemory}
-use Rattle.sec1_der.specs.ReadsDocument.{IsCutShort, IsBadTag, IsBadLength, IsElementAndByte, ReadsElement, RefusesElement}
+use Rattle.sec1_der.specs.ReadsDocument.{IsCutShort, IsBadTag, IsBadLength, IsElementAndByte, ConsumesElement, RefusesElement}
 use Rattle.sec1_der.specs.Refusals.{no_fault, end_fault, document_fault}
 use Rattle.sec1_der.specs.declared.error.ErrorKind.{ErrorKind}
 use Rattle.sec1_der.specs.declared.error.ErrorKind.TheVariants.{Truncated, Tag, Length, TrailingData, Value, Overlength, Buffer, Failed, Io, Depth, Memory}
@@ -86,7 +86,7 @@ longer_told bytes more longer =
     any_at (λ _. no_fault) end_fault whole.tag whole.content (bytes ++ more) (longer.byte ∷ more) whole.is_header joined
 
 -- what is read isn't refused
-pub read_told : (old new : Option (List ℕ)) (bytes : List ℕ) → ReadsElement old new bytes → IfSome old (λ left. document_fault left ≡ None)
+pub read_told : (old new : Option (List ℕ)) (bytes : List ℕ) → ConsumesElement old new bytes → IfSome old (λ left. document_fault left ≡ None)
 read_told None new bytes r = tt
 read_told (Some all) None bytes r = absurd r.consumed
 read_told (Some all) (Some left) bytes r =

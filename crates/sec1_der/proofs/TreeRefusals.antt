@@ -5,11 +5,11 @@ use Rattle.std.proofs.lemmas.Bool.{lt-ltb, le-ltb, ne_eqb, eq-eqb}
 use Rattle.std.proofs.lemmas.List.{take_at, drop_at, length-append, length-take-le, length-drop, append_assoc, append-nil, take-append-drop, nil_from_length}
 use Rattle.std.specs.Option.{option_or}
 use Rattle.std.specs.Str.{bytes_eq}
-use Rattle.sec1_der.specs.Elements.{max_length, len, header, element, IsConstructed, IsHeader}
+use Rattle.sec1_der.specs.Elements.{max_length, length_octets, header, element, IsConstructed, IsHeader}
 use Rattle.sec1_der.specs.Faults.{is_tag, length_fault}
 use Rattle.sec1_der.specs.Refusals.{Fault, no_fault, end_fault, number_at, length_at, within, parts_fault, any_fault, nested_fault, row_fault, tree_fault}
 use Rattle.sec1_der.specs.Trees.{Tree, leaf, branch, none, first, bytes, size}
-use Rattle.sec1_der.specs.Walks.{IsSingle, innermost, Passes, Opens, Enters, IsTooDeep}
+use Rattle.sec1_der.specs.Walks.{IsSingle, innermost, Skips, Opens, Enters, IsTooDeep}
 use Rattle.sec1_der.specs.declared.error.ErrorKind.{ErrorKind}
 use Rattle.sec1_der.specs.declared.error.ErrorKind.TheVariants.{Truncated, Tag, Depth}
 use Rattle.sec1_der.proofs.RefusalLemmas.{alone, any_at}
@@ -35,12 +35,12 @@ room_small m x small = by (nat_le x.0 (length x.1))
     by false = tt
 
 parts_small : (bytes : List ℕ) → AreWithin (length bytes) (within (length_at bytes))
-parts_small bytes = by (nat_le (number_at bytes) max_length && bytes_eq (take (length (len (number_at bytes))) bytes) (len (number_at bytes)))
+parts_small bytes = by (nat_le (number_at bytes) max_length && bytes_eq (take (length (length_octets (number_at bytes))) bytes) (length_octets (number_at bytes)))
   where
     by : (b : Bool) → AreWithin (length bytes)
-        (within (if b then Ok (number_at bytes, drop (length (len (number_at bytes))) bytes) else Err (length_fault bytes)))
-    by true = room_small (length bytes) (number_at bytes, drop (length (len (number_at bytes))) bytes)
-        (omega (arith, length-drop (length (len (number_at bytes))) bytes))
+        (within (if b then Ok (number_at bytes, drop (length (length_octets (number_at bytes))) bytes) else Err (length_fault bytes)))
+    by true = room_small (length bytes) (number_at bytes, drop (length (length_octets (number_at bytes))) bytes)
+        (omega (arith, length-drop (length (length_octets (number_at bytes))) bytes))
     by false = tt
 
 parts_same : (f h g k : Fault) (m : ℕ) (parts : Result (List ℕ × List ℕ) ErrorKind) → AreWithin m parts
@@ -240,7 +240,7 @@ positive : (t : Tree) → 0 < size t
 positive (leaf tag content) = omega arith
 positive (branch tag children) = omega arith
 
-passed_told : (ends rest after : List ℕ) → Passes ends rest after → next_fault ends rest ≡ open_fault ends after
+passed_told : (ends rest after : List ℕ) → Skips ends rest after → next_fault ends rest ≡ open_fault ends after
 passed_told ends rest after p = by p.tree p.single p.row
   where
     by : (t : Tree) → IsSingle t → rest ≡ bytes t ++ after → next_fault ends rest ≡ open_fault ends after

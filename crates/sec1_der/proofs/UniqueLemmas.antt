@@ -5,9 +5,9 @@ use Rattle.std.specs.Prelude.{◌≢◌, slice_get, Result, Ok, Err, IsOkAnd}
 use Rattle.sec1_der.specs.declared.error.Error.{Error}
 use Rattle.sec1_der.proofs.ComponentLemmas.{parted}
 use Rattle.sec1_der.specs.Components.{join}
-use Rattle.sec1_der.proofs.ElementLemmas.{element_of_tells}
+use Rattle.sec1_der.proofs.ElementLemmas.{element_of-some}
 use Rattle.sec1_der.specs.Elements.{element, element_of, field_of}
-use Rattle.sec1_der.specs.IdentifierLaws.{identifier_content-tells}
+use Rattle.sec1_der.specs.IdentifierLaws.{identifier_content-some}
 use Rattle.sec1_der.specs.Identifiers.{identifier_content}
 use Rattle.sec1_der.proofs.DottedLemmas.{same_arcs}
 use Rattle.sec1_der.proofs.TreeLemmas.{element_apart}
@@ -29,8 +29,8 @@ same : (tag : ℕ) (x y a b : Option (List ℕ)) (bytes : List ℕ) → join (el
 same tag x y a b bytes e f =
     let p = parted (element_of tag x) a bytes e in
     let q = parted (element_of tag y) b bytes f in
-    let s = element_of_tells tag x p.front p.first_there in
-    let t = element_of_tells tag y q.front q.first_there in
+    let s = element_of-some tag x p.front p.first_there in
+    let t = element_of-some tag y q.front q.first_there in
     let left : bytes ≡ element tag s.inside ++ p.back = p.joined ∙ ap (λ xs. xs ++ p.back) s.at.spelled in
     let right : bytes ≡ element tag t.inside ++ q.back = q.joined ∙ ap (λ xs. xs ++ q.back) t.at.spelled in
     let apart = element_apart tag tag s.inside t.inside p.back q.back (sym left ∙ right) in
@@ -67,7 +67,7 @@ without (Some xs) bytes e = e
 begins : (n tag : ℕ) (x rest : Option (List ℕ)) (bytes : List ℕ) → join (field_of n tag (Some x)) rest ≡ Some bytes → slice_get bytes 0 ≡ Some (0xA0 + n)
 begins n tag x rest bytes e =
     let p = parted (field_of n tag (Some x)) rest bytes e in
-    let s = element_of_tells (0xA0 + n) (element_of tag x) p.front p.first_there in
+    let s = element_of-some (0xA0 + n) (element_of tag x) p.front p.first_there in
     ap (λ xs. slice_get xs 0) (p.joined ∙ ap (λ xs. xs ++ p.back) s.at.spelled)
 
 pub unique_optional : (n tag : ℕ) {A R : Type 0} (content : A → Option (List ℕ)) (rest : R → Option (List ℕ)) → IsUnique content → IsUnique rest
@@ -89,10 +89,10 @@ unique_optional n tag content rest one two none (Some x) (Some y) a b bytes e f 
 pub unique_read : (tag : ℕ) {A : Type 0} (content : A → Option (List ℕ)) → IsUnique content → (result : Result A Error) (value : A) (input : List ℕ)
     → element_of tag (content value) ≡ Some input → IsOkAnd result (λ found. content found ≡ content value) → result ≡ Ok value
 unique_read tag content one (Ok found) value input e is =
-    let held = element_of_tells tag (content value) input e in
+    let held = element_of-some tag (content value) input e in
     ap Ok (one found value held.inside (is ∙ held.same) held.same)
 unique_read tag content one (Err cause) value input e is = absurd is
 
 -- two lists of arcs with one content are the same
 pub unique_identifier : IsUnique identifier_content
-unique_identifier a b bytes e f = same_arcs a b bytes (identifier_content-tells a bytes e).spells (identifier_content-tells b bytes f).spells
+unique_identifier a b bytes e f = same_arcs a b bytes (identifier_content-some a bytes e).spells (identifier_content-some b bytes f).spells

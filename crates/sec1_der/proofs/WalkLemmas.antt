@@ -1,7 +1,7 @@
 -- How far a walk over a tree's bytes has come, and that each step of it keeps this.
 use Rattle.std.proofs.Common.{◌≡◌, ◌≢◌, ℕ, zero, suc, ◌+◌, ◌<◌, ◌≤◌, max, List, [], ◌∷◌, ◌++◌, length, get_or, set, refl, ap, sym, ◌∙◌, subst, arith}
 use Rattle.std.proofs.lemmas.List.{append_assoc, length-append, get_or-set_same, get_or-set_other}
-use Rattle.sec1_der.specs.Elements.{len, header, element, IsConstructed}
+use Rattle.sec1_der.specs.Elements.{length_octets, header, element, IsConstructed}
 use Rattle.sec1_der.specs.Trees.{Tree, leaf, branch, Forest, none, first, bytes, joined, IsTree, AreTrees, size, total_size, depth, max_depth}
 use Rattle.sec1_der.specs.Walks.{IsSingle, IsOpening, open_ends}
 use Rattle.sec1_der.proofs.LengthLemmas.{len_apart}
@@ -136,8 +136,8 @@ opened_tree tag n end rest after tail (leaf tag' content) o p e =
 opened_tree tag n end rest after tail (branch tag' f) o p e =
     let whole : header tag n ++ after ≡ element tag' (joined f) ++ tail = sym o.row ∙ e in
     let head : tag' ≡ tag = cc in
-    let behind : len n ++ after ≡ (len (length (joined f)) ++ joined f) ++ tail = cc in
-    let apart = len_apart n (length (joined f)) after (joined f ++ tail) (behind ∙ append_assoc (len (length (joined f))) (joined f) tail) in
+    let behind : length_octets n ++ after ≡ (length_octets (length (joined f)) ++ joined f) ++ tail = cc in
+    let apart = len_apart n (length (joined f)) after (joined f ++ tail) (behind ∙ append_assoc (length_octets (length (joined f))) (joined f) tail) in
     let lengths = same_length_left (joined f) tail after apart.1 in
     record { children = f; is = ap (λ x. branch x f) head; trees = p.3; row = apart.1; length_is = sym apart.0; ends = omega (arith, o.ends, apart.0) }
 

@@ -54,6 +54,6 @@ refused_above (Ok m) n within kind over = absurd (omega (arith, within.0))
 refused_above (Err e) n within kind over = kind
 
 -- a number within the limit is answered
-pub answered_within : (result : Result ℕ Error) (n m : ℕ) → OkIff result (n ≤ max_length) n → n ≡ m → m ≤ max_length → result ≡ Ok m
-answered_within (Ok k) n m ok same fits = ap Ok (ok.1 ∙ same)
-answered_within (Err e) n m ok same fits = absurd (ok (omega arith))
+pub result_within : (result : Result ℕ Error) (n m : ℕ) → OkIff result (n ≤ max_length) n → n ≡ m → m ≤ max_length → result ≡ Ok m
+result_within (Ok k) n m ok same fits = ap Ok (ok.1 ∙ same)
+result_within (Err e) n m ok same fits = absurd (ok (omega arith))

@@ -3,6 +3,7 @@ use Rattle.std.specs.Prelude.{◌≡◌, ◌≢◌, ℕ, ◌+◌, ◌%◌, ◌<�
 use Rattle.std.specs.Int.{IsBitSet}
 use Rattle.std.specs.Int.Digits.{digits_of}
 use Rattle.sec1_der.specs.declared.header.TheConstants.{LONG_FORM}
+use Rattle.sec1_der.specs.declared.tag.TheConstants.{EXPLICIT}
 use Rattle.sec1_der.specs.declared.length.TheConstants.Length.{MAX}
 
 -- the most bytes that a content may have
@@ -20,14 +21,18 @@ pub record IsTag (tag : ℕ) : Type 0 where
 abbrev pub IsConstructed : ℕ → Type 0
 IsConstructed tag = IsBitSet tag 5
 
+-- X.690 section 8.14: the tag byte of an explicit field [number]
+abbrev pub explicit_tag : ℕ → ℕ
+explicit_tag number = EXPLICIT + number
+
 -- X.690 sections 8.1.3 and 10.1: the one spelling of a length. It is the number itself below 128, else the
 -- count of its base 256 digits plus 80 (hexadecimal), and the digits.
-unfoldable pub len : ℕ → List ℕ
-len n = let digits = digits_of 256 n in if nat_lt n LONG_FORM then n ∷ [] else (LONG_FORM + length digits) ∷ digits
+unfoldable pub length_octets : ℕ → List ℕ
+length_octets n = let digits = digits_of 256 n in if nat_lt n LONG_FORM then n ∷ [] else (LONG_FORM + length digits) ∷ digits
 
 -- a tag byte and a length
 abbrev pub header : ℕ → ℕ → List ℕ
-header tag n = tag ∷ len n
+header tag n = tag ∷ length_octets n
 
 -- what may stand in a header
 pub record IsHeader (tag n : ℕ) : Type 0 where
@@ -74,4 +79,4 @@ element_of tag (Some content) = if nat_le (length content) max_length then Some 
 -- no value is there
 abbrev pub field_of : ℕ → ℕ → Option (Option (List ℕ)) → Option (List ℕ)
 field_of number tag None = Some []
-field_of number tag (Some content) = element_of (0xA0 + number) (element_of tag content)
+field_of number tag (Some content) = element_of (explicit_tag number) (element_of tag content)

@@ -3,8 +3,8 @@ use Rattle.std.specs.Prelude.{ℕ, ◌+◌, ◌/◌, ◌%◌, List, [], ◌∷�
 use Rattle.std.specs.Int.Digits.{digits_of, number_from_digits}
 
 -- The number that bytes spell in base 256. No bytes spell 0.
-abbrev pub num : List ℕ → ℕ
-num bytes = number_from_digits 256 bytes
+abbrev pub number_of : List ℕ → ℕ
+number_of bytes = number_from_digits 256 bytes
 
 -- digits with bit 80 set, which says that another one follows
 abbrev pub marked : List ℕ → List ℕ

@@ -7,8 +7,8 @@ pub record Reader : Type 0 where
   pub failed : Bool
 
 -- a reader that hasn't refused, with these bytes before it
-abbrev pub before : List ℕ → Reader
-before bytes = record { unread = bytes; failed = false }
+abbrev pub reader_over : List ℕ → Reader
+reader_over bytes = record { unread = bytes; failed = false }
 
 -- the reader, after it has refused
 abbrev pub refused : Reader → Reader
@@ -16,8 +16,8 @@ refused r = record { unread = r.unread; failed = true }
 
 -- a reader that hadn't refused read just these bytes
 pub record HasRead (bytes : List ℕ) (old new : Reader) : Type 0 where
-  pub was_whole : old ≡ before (bytes ++ new.unread)
-  pub is_whole : new ≡ before new.unread
+  pub was_whole : old ≡ reader_over (bytes ++ new.unread)
+  pub is_whole : new ≡ reader_over new.unread
 
 -- a reader that hadn't refused read just the element with this tag and content
 pub record HasReadElement (tag : ℕ) (content : List ℕ) (old new : Reader) : Type 0 where

@@ -7,7 +7,7 @@ use Rattle.sec1_der.specs.declared.error.ErrorKind.{ErrorKind}
 use Rattle.sec1_der.specs.declared.error.ErrorKind.TheVariants.{Truncated, Tag, Length, TrailingData, Value, Overlength, Buffer, Failed, Io, Depth, Memory}
 
 -- one element was read, and nothing is left behind it
-pub record ReadsElement (old new : Option (List ℕ)) (bytes : List ℕ) : Type 0 where
+pub record ConsumesElement (old new : Option (List ℕ)) (bytes : List ℕ) : Type 0 where
   pub is_element : IsElement bytes
   pub consumed : Consumes old new bytes
   pub at_end : IsAtEnd new
@@ -70,24 +70,24 @@ abbrev pub IsUpToElement : List ℕ → Type 0
 IsUpToElement bytes = IsCutShort bytes ⊎ IsElement bytes
 
 -- the bytes that were taken where an element is refused by this kind
-abbrev pub TakesBefore : ErrorKind → List ℕ → Type 0
-TakesBefore Truncated taken = IsCutShort taken
-TakesBefore Tag taken = IsBadTag taken
-TakesBefore Length taken = IsBadLength taken
-TakesBefore TrailingData taken = IsElementAndByte taken
-TakesBefore Value taken = ⊥
-TakesBefore Overlength taken = ⊥
-TakesBefore Buffer taken = ⊥
-TakesBefore Failed taken = ⊥
-TakesBefore Io taken = IsUpToElement taken
-TakesBefore Depth taken = ⊥
-TakesBefore Memory taken = IsUpToElement taken
+abbrev pub TakenBeforeRefusal : ErrorKind → List ℕ → Type 0
+TakenBeforeRefusal Truncated taken = IsCutShort taken
+TakenBeforeRefusal Tag taken = IsBadTag taken
+TakenBeforeRefusal Length taken = IsBadLength taken
+TakenBeforeRefusal TrailingData taken = IsElementAndByte taken
+TakenBeforeRefusal Value taken = ⊥
+TakenBeforeRefusal Overlength taken = ⊥
+TakenBeforeRefusal Buffer taken = ⊥
+TakenBeforeRefusal Failed taken = ⊥
+TakenBeforeRefusal Io taken = IsUpToElement taken
+TakenBeforeRefusal Depth taken = ⊥
+TakenBeforeRefusal Memory taken = IsUpToElement taken
 
 -- an element is refused by this kind, and these bytes were taken; what is cut short was the last of the input
 pub record RefusesElement (kind : ErrorKind) (old new : Option (List ℕ)) : Type 0 where
   pub taken : List ℕ
   pub consumed : Consumes old new taken
-  pub by_kind : TakesBefore kind taken
+  pub by_kind : TakenBeforeRefusal kind taken
   pub at_end : kind ≡ Truncated → IsAtEnd new
 
 -- a header was read

@@ -3,9 +3,9 @@ use Rattle.std.specs.Prelude.{◌≡◌, ◌==◌, ℕ, zero, suc, ◌+◌, ◌-
 use Rattle.std.specs.Prelude.{List, [], ◌∷◌, length, take, drop, Option, Some, None, Result, Ok, Err, MatchResult}
 use Rattle.std.specs.Option.{option_or}
 use Rattle.std.specs.Str.{bytes_eq}
-use Rattle.sec1_der.specs.Elements.{max_length, len}
+use Rattle.sec1_der.specs.Elements.{max_length, length_octets, explicit_tag}
 use Rattle.sec1_der.specs.Faults.{is_tag, length_fault}
-use Rattle.sec1_der.specs.Numbers.{num}
+use Rattle.sec1_der.specs.Numbers.{number_of}
 use Rattle.sec1_der.specs.declared.header.TheConstants.{LONG_FORM}
 use Rattle.sec1_der.specs.declared.error.Error.{Error}
 use Rattle.sec1_der.specs.declared.error.ErrorKind.{ErrorKind}
@@ -30,13 +30,13 @@ end_fault (byte ∷ bytes) = Some TrailingData
 -- X.690 sections 8.1.3 and 10.1: the number whose spelling begins the bytes, where one does
 abbrev pub number_at : List ℕ → ℕ
 number_at [] = 0
-number_at (first ∷ digits) = if nat_lt first LONG_FORM then first else num (take (first - LONG_FORM) digits)
+number_at (first ∷ digits) = if nat_lt first LONG_FORM then first else number_of (take (first - LONG_FORM) digits)
 
 -- the length that begins the bytes, and the bytes behind it
 abbrev pub length_at : List ℕ → Result (ℕ × List ℕ) ErrorKind
 length_at bytes =
     let n = number_at bytes in
-    let spelled = len n in
+    let spelled = length_octets n in
     if nat_le n max_length && bytes_eq (take (length spelled) bytes) spelled then Ok (n, drop (length spelled) bytes) else Err (length_fault bytes)
 
 -- X.690 section 8.1.4: as many bytes as the length says, and the bytes behind them
@@ -73,7 +73,7 @@ inside_fault tag late content bytes =
 -- X.690 section 8.14: where its tag is next, an explicit field [number] around an element with this tag
 abbrev pub field_fault : ℕ → ℕ → (List ℕ → Bool) → Fault → Fault → Fault
 field_fault number tag late content behind bytes =
-    if is_next (0xA0 + number) bytes then element_fault (0xA0 + number) (inside_fault tag late content) behind bytes else behind bytes
+    if is_next (explicit_tag number) bytes then element_fault (explicit_tag number) (inside_fault tag late content) behind bytes else behind bytes
 
 -- an element of any tag, which decides how its content is checked, and what follows it
 abbrev pub any_fault : (ℕ → Fault) → Fault → Fault

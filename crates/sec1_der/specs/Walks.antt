@@ -25,7 +25,7 @@ innermost [] = 0
 innermost (end ∷ ends) = end
 
 -- an element without children stands first, within the innermost node
-pub record Passes (ends rest after : List ℕ) : Type 0 where
+pub record Skips (ends rest after : List ℕ) : Type 0 where
   pub tree : Tree
   pub single : IsSingle tree
   pub row : rest ≡ bytes tree ++ after
@@ -41,7 +41,7 @@ pub record Opens (ends rest : List ℕ) (end : ℕ) (after : List ℕ) : Type 0 
 -- what stands first is passed, or is opened where fewer than 63 nodes were
 abbrev pub Enters : List ℕ → List ℕ → List ℕ → List ℕ → Type 0
 Enters ends rest ends' after =
-    (Passes ends rest after × (ends' ≡ ends)) ⊎ ((end : ℕ) × Opens ends rest end after × (ends' ≡ end ∷ ends) × (length ends < 63))
+    (Skips ends rest after × (ends' ≡ ends)) ⊎ ((end : ℕ) × Opens ends rest end after × (ends' ≡ end ∷ ends) × (length ends < 63))
 
 -- 63 nodes are open, and a further one with a content stands first
 pub record IsTooDeep (ends rest : List ℕ) : Type 0 where

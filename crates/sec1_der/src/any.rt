@@ -18,7 +18,7 @@ impl<'a> AnyRef<'a> {
     ghost use Rattle.std.specs.Prelude.{◌≡◌, ◌≤◌, ◌↔◌, ℕ, List, [], ◌++◌, length, true, false, IsOk, IfOk, IsOkAnd, IfErr, OnErr};
     ghost use Rattle.sec1_der.specs.Elements.{max_length, element, IsHeader, IsProperBeginning, LacksHeader};
     ghost use Rattle.sec1_der.specs.Faults.{header_fault, Refuses, IsHeaderFault};
-    ghost use Rattle.sec1_der.specs.Readers.{before, HasRead};
+    ghost use Rattle.sec1_der.specs.Readers.{reader_over, HasRead};
     ghost use Rattle.sec1_der.specs.Refusals.{HasFault, any_fault, no_fault};
     ghost use Rattle.sec1_der.specs.Values.{tag_of, value_of};
 
@@ -31,7 +31,7 @@ impl<'a> AnyRef<'a> {
         ensures within { IsOk result ↔ (length value.now ≤ max_length) }
         ensures tag { IfOk result (λ any. tag_of any ≡ tag) }
         ensures value { IfOk result (λ any. value_of any ≡ value.now) }
-        ensures above { IfErr result (λ e. e.kind ≡ ErrorKind.Overlength) }
+        ensures kind { IfErr result (λ e. e.kind ≡ ErrorKind.Overlength) }
     {
         Length::new(value.len())?;
         Ok(AnyRef {
@@ -50,9 +50,9 @@ impl<'a> AnyRef<'a> {
         ensures found { IfOk result (λ any. IsHeader (tag_of any) (length (value_of any))
             × HasRead (element (tag_of any) (value_of any)) reader.old reader.new) }
         ensures only { (tag : ℕ) (content rest : List ℕ) → IsHeader tag (length content)
-            → reader.old ≡ before (element tag content ++ rest)
+            → reader.old ≡ reader_over (element tag content ++ rest)
             → IsOkAnd result (λ any. (tag_of any ≡ tag) × (value_of any ≡ content))
-            × (reader.new ≡ before rest) }
+            × (reader.new ≡ reader_over rest) }
         ensures short { (tag : ℕ) (content : List ℕ) → IsHeader tag (length content)
             → reader.old.failed ≡ false
             → IsProperBeginning reader.old.unread (element tag content)
@@ -115,7 +115,7 @@ impl ValueContent for AnyRef<'_> {
 
     ghost is_content = { λ _. ⊤ };
 
-    ghost content_is_one = { λ _ _ _ _. tt };
+    ghost content_is_valid = { λ _ _ _ _. tt };
 
     ghost fault = { no_fault };
 }

@@ -59,7 +59,7 @@ impl<'b> BackWriter<'b> {
         ensures grows { length (end_of self.old) ≤ length (end_of self.new) }
         ensures fits { length bytes.now ≤ length (front_of self.old) → IsOk result
             × PutsInFront self.old self.new bytes.now }
-        ensures full { length (front_of self.old) < length bytes.now → Refuses result ErrorKind.Buffer
+        ensures buffer { length (front_of self.old) < length bytes.now → Refuses result ErrorKind.Buffer
             × PutsNothing self.old self.new }
     {
         check_room(bytes.len(), self.start)?;
@@ -79,12 +79,12 @@ impl<'b> BackWriter<'b> {
         requires { since ≤ length (end_of self.old) }
         ensures slice { KeepsEnd self.old self.new }
         ensures grows { length (end_of self.old) ≤ length (end_of self.new) }
-        ensures none { max_length < length (end_of self.old) - since
+        ensures overlength { max_length < length (end_of self.old) - since
             → Refuses result ErrorKind.Overlength × PutsNothing self.old self.new }
         ensures fits { (n : ℕ) → length (end_of self.old) ≡ n + since → n ≤ max_length
             → length (header tag n) ≤ length (front_of self.old)
             → IsOk result × PutsInFront self.old self.new (header tag n) }
-        ensures full { (n : ℕ) → length (end_of self.old) ≡ n + since → n ≤ max_length
+        ensures buffer { (n : ℕ) → length (end_of self.old) ≡ n + since → n ≤ max_length
             → length (front_of self.old) < length (header tag n)
             → Refuses result ErrorKind.Buffer × PutsNothing self.old self.new }
     {
@@ -104,12 +104,12 @@ impl<'b> BackWriter<'b> {
     pub fn element<T: EncodeValue + FixedTag>(&mut self, value: &T) -> Result<()>
         ensures slice { KeepsEnd self.old self.new }
         ensures grows { length (end_of self.old) ≤ length (end_of self.new) }
-        ensures none { element_of T.number (T.content value.now) ≡ None
+        ensures overlength { element_of T.tag_byte (T.content value.now) ≡ None
             → Refuses result ErrorKind.Overlength × PutsNothing self.old self.new }
-        ensures fits { (bytes : List ℕ) → element_of T.number (T.content value.now) ≡ Some bytes
+        ensures fits { (bytes : List ℕ) → element_of T.tag_byte (T.content value.now) ≡ Some bytes
             → length bytes ≤ length (front_of self.old)
             → IsOk result × PutsInFront self.old self.new bytes }
-        ensures full { (bytes : List ℕ) → element_of T.number (T.content value.now) ≡ Some bytes
+        ensures buffer { (bytes : List ℕ) → element_of T.tag_byte (T.content value.now) ≡ Some bytes
             → length (front_of self.old) < length bytes
             → Refuses result ErrorKind.Buffer × PutsNothing self.old self.new }
     {
@@ -126,7 +126,7 @@ impl<'b> BackWriter<'b> {
     pub fn put_element<T: EncodeValue + FixedTag>(&mut self, value: &T) -> Result<()>
         ensures slice { KeepsEnd self.old self.new }
         ensures grows { length (end_of self.old) ≤ length (end_of self.new) }
-        ensures fits { (bytes : List ℕ) → element_of T.number (T.content value.now) ≡ Some bytes
+        ensures fits { (bytes : List ℕ) → element_of T.tag_byte (T.content value.now) ≡ Some bytes
             → length bytes ≤ length (front_of self.old)
             → IsOk result × PutsInFront self.old self.new bytes }
     {
@@ -149,14 +149,14 @@ impl<'b> BackWriter<'b> {
         requires { number ≤ 30 }
         ensures slice { KeepsEnd self.old self.new }
         ensures grows { length (end_of self.old) ≤ length (end_of self.new) }
-        ensures none { field_of number T.number (option_map T.content field.now) ≡ None
+        ensures overlength { field_of number T.tag_byte (option_map T.content field.now) ≡ None
             → Refuses result ErrorKind.Overlength × PutsNothing self.old self.new }
         ensures fits { (bytes : List ℕ)
-            → field_of number T.number (option_map T.content field.now) ≡ Some bytes
+            → field_of number T.tag_byte (option_map T.content field.now) ≡ Some bytes
             → length bytes ≤ length (front_of self.old)
             → IsOk result × PutsInFront self.old self.new bytes }
-        ensures full { (bytes : List ℕ)
-            → field_of number T.number (option_map T.content field.now) ≡ Some bytes
+        ensures buffer { (bytes : List ℕ)
+            → field_of number T.tag_byte (option_map T.content field.now) ≡ Some bytes
             → length (front_of self.old) < length bytes
             → Refuses result ErrorKind.Buffer × PutsNothing self.old self.new }
     {
@@ -180,7 +180,7 @@ impl<'b> BackWriter<'b> {
         ensures slice { KeepsEnd self.old self.new }
         ensures grows { length (end_of self.old) ≤ length (end_of self.new) }
         ensures fits { (bytes : List ℕ)
-            → field_of number T.number (option_map T.content field.now) ≡ Some bytes
+            → field_of number T.tag_byte (option_map T.content field.now) ≡ Some bytes
             → length bytes ≤ length (front_of self.old)
             → IsOk result × PutsInFront self.old self.new bytes }
     {

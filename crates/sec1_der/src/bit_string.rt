@@ -32,7 +32,7 @@ impl<'a> BitStringRef<'a> {
         ensures bits { IsOk result ↔ ((length bytes.now < max_length) × AreBits unused bytes.now) }
         ensures count { IfOk result (λ bits. unused_bits_of bits ≡ unused) }
         ensures bytes { IfOk result (λ bits. bit_bytes_of bits ≡ bytes.now) }
-        ensures above { max_length ≤ length bytes.now → Refuses result ErrorKind.Overlength }
+        ensures overlength { max_length ≤ length bytes.now → Refuses result ErrorKind.Overlength }
         ensures value { length bytes.now < max_length → IfErr result (λ e. e.kind ≡ ErrorKind.Value) }
     {
         if bytes.len() >= Length::MAX {
@@ -53,14 +53,14 @@ impl<'a> BitStringRef<'a> {
         ensures within { IsOk result ↔ (length bytes.now < max_length) }
         ensures count { IfOk result (λ bits. unused_bits_of bits ≡ 0) }
         ensures bytes { IfOk result (λ bits. bit_bytes_of bits ≡ bytes.now) }
-        ensures above { IfErr result (λ e. e.kind ≡ ErrorKind.Overlength) }
+        ensures kind { IfErr result (λ e. e.kind ≡ ErrorKind.Overlength) }
     {
         BitStringRef::new(0, bytes)
     }
 
     /// Borrows the bytes, if there are no unused bits.
     pub fn as_bytes(&self) -> Option<&'a [u8]>
-        ensures some { IsSome result ↔ (unused_bits_of self.now ≡ 0) }
+        ensures within { IsSome result ↔ (unused_bits_of self.now ≡ 0) }
         ensures bytes { IfSome result (λ bytes. bytes.now ≡ bit_bytes_of self.now) }
     {
         if self.unused == 0 {
@@ -99,7 +99,7 @@ fn are_bits(unused: u8, bytes: &[u8]) -> bool
 impl FixedTag for BitStringRef<'_> {
     const TAG: Tag = Tag::BIT_STRING;
 
-    ghost number = { 0x03 };
+    ghost tag_byte = { 0x03 };
 
     fn fixed_tag() -> Tag
         ensures { result ≡ 0x03 }
@@ -116,7 +116,7 @@ impl ValueContent for BitStringRef<'_> {
 
     ghost is_content = { IsBitString };
 
-    ghost content_is_one = { λ bits bytes same _. bits_are_one bits.unused bits.bytes.now bytes bits.are_bits same };
+    ghost content_is_valid = { λ bits bytes same _. bits_are_one bits.unused bits.bytes.now bytes bits.are_bits same };
 
     ghost fault = { bit_string_fault };
 }

@@ -1,7 +1,7 @@
 //! Reading and writing values of any type, by their whole DER encoding.
 ghost use Rattle.std.specs.Prelude.{◌≡◌, ◌≢◌, ◌<◌, ◌≤◌, ◌+◌, ◌⊎◌, [], ◌++◌, ℕ, List, length, drop, Option, Some, None, slice_get, IsOk, IfOk, IsOkAnd, IfErr, OnOk, OnErr, IsSomeAnd, MatchResult};
 ghost use Rattle.std.specs.Option.{option_map};
-ghost use Rattle.sec1_der.specs.Elements.{max_length, element, element_of, field_of, IsTag, IsElementOf, IsProperBeginning};
+ghost use Rattle.sec1_der.specs.Elements.{max_length, element, element_of, field_of, IsTag, IsElementOf, IsProperBeginning, explicit_tag};
 ghost use Rattle.sec1_der.specs.Faults.{Refuses, IsReadingFault};
 ghost use Rattle.sec1_der.specs.Refusals.{HasFault, element_fault, end_fault};
 
@@ -18,28 +18,28 @@ use std::alloc::Global;
 /// Those of [`SliceReader::decode`], then TrailingData if bytes follow the element.
 pub fn from_der<'a, T: DecodeValue<'a> + FixedTag + Drop>(input: &'a [u8]) -> Result<T>
     ensures found { IfOk result (λ value. IsSomeAnd (T.content value) (λ content. T.is_content content
-        × IsElementOf T.number content input.now)) }
-    ensures only { (content : List ℕ) → T.is_content content → IsElementOf T.number content input.now
+        × IsElementOf T.tag_byte content input.now)) }
+    ensures only { (content : List ℕ) → T.is_content content → IsElementOf T.tag_byte content input.now
         → IsOkAnd result (λ value. T.content value ≡ Some content) }
     // The same of values: what is read has these bytes, and the bytes of a value are read as one with its content.
-    ensures found_value { IfOk result (λ value. element_of T.number (T.content value) ≡ Some input.now) }
-    ensures only_value { (value : T) → element_of T.number (T.content value) ≡ Some input.now
+    ensures found_value { IfOk result (λ value. element_of T.tag_byte (T.content value) ≡ Some input.now) }
+    ensures only_value { (value : T) → element_of T.tag_byte (T.content value) ≡ Some input.now
         → IsOkAnd result (λ found. T.content found ≡ T.content value) }
-    ensures long_value { (value : T) (bytes : List ℕ) → element_of T.number (T.content value) ≡ Some bytes
+    ensures long_value { (value : T) (bytes : List ℕ) → element_of T.tag_byte (T.content value) ≡ Some bytes
         → IsProperBeginning bytes input.now → Refuses result ErrorKind.TrailingData }
 
     ensures empty { input.now ≡ [] → Refuses result ErrorKind.Truncated }
-    ensures other_tag { (byte : ℕ) → slice_get input.now 0 ≡ Some byte → byte ≢ T.number
+    ensures other_tag { (byte : ℕ) → slice_get input.now 0 ≡ Some byte → byte ≢ T.tag_byte
         → Refuses result ErrorKind.Tag }
     ensures short { (content : List ℕ) → length content ≤ max_length
-        → IsProperBeginning input.now (element T.number content)
+        → IsProperBeginning input.now (element T.tag_byte content)
         → Refuses result ErrorKind.Truncated }
     ensures long { (content : List ℕ) → T.is_content content → length content ≤ max_length
-        → IsProperBeginning (element T.number content) input.now
+        → IsProperBeginning (element T.tag_byte content) input.now
         → Refuses result ErrorKind.TrailingData }
     ensures kinds { IfErr result (λ e. IsReadingFault e.kind) }
     // Whether the input is refused, and by which kind, is a function of its bytes.
-    ensures kind { HasFault result (element_fault T.number T.fault end_fault input.now) }
+    ensures kind { HasFault result (element_fault T.tag_byte T.fault end_fault input.now) }
 {
     SliceReader::new(input).only_element()
 }
@@ -50,16 +50,16 @@ pub fn from_der<'a, T: DecodeValue<'a> + FixedTag + Drop>(input: &'a [u8]) -> Re
 ///
 /// Overlength if the value has no content, or one that is longer than 268,435,455 bytes.
 pub fn encoded_len<T: EncodeValue + FixedTag>(value: &T) -> Result<usize>
-    ensures none { element_of T.number (T.content value.now) ≡ None
+    ensures overlength { element_of T.tag_byte (T.content value.now) ≡ None
         → Refuses result ErrorKind.Overlength }
-    ensures some { (bytes : List ℕ) → element_of T.number (T.content value.now) ≡ Some bytes
+    ensures only { (bytes : List ℕ) → element_of T.tag_byte (T.content value.now) ≡ Some bytes
         → result ≡ Ok (length bytes) }
-    ensures found { IfOk result (λ n. IsSomeAnd (element_of T.number (T.content value.now)) (λ bytes.
+    ensures found { IfOk result (λ n. IsSomeAnd (element_of T.tag_byte (T.content value.now)) (λ bytes.
         n ≡ length bytes)) }
     ensures kind { IfErr result (λ e. (e.kind ≡ ErrorKind.Overlength)
-        × (element_of T.number (T.content value.now) ≡ None)) }
+        × (element_of T.tag_byte (T.content value.now) ≡ None)) }
     ensures most { IfOk result (λ n. n ≤ max_length + 6) }
-    ensures tag { OnOk result (IsTag T.number) }
+    ensures tag { OnOk result (IsTag T.tag_byte) }
 {
     let header = element_header(value)?;
     Ok(header.encoded_len() + header.length.get())
@@ -76,10 +76,10 @@ pub fn context_specific_len<T: EncodeValue + FixedTag>(
     field: &Option<T>,
 ) -> Result<usize>
     requires { number ≤ 30 }
-    ensures none { field_of number T.number (option_map T.content field.now) ≡ None
+    ensures overlength { field_of number T.tag_byte (option_map T.content field.now) ≡ None
         → Refuses result ErrorKind.Overlength }
-    ensures some { (bytes : List ℕ)
-        → field_of number T.number (option_map T.content field.now) ≡ Some bytes
+    ensures only { (bytes : List ℕ)
+        → field_of number T.tag_byte (option_map T.content field.now) ≡ Some bytes
         → result ≡ Ok (length bytes) }
     ensures most { IfOk result (λ n. n ≤ max_length + 6) }
 {
@@ -97,20 +97,20 @@ pub fn context_specific_len<T: EncodeValue + FixedTag>(
 ///
 /// Those of [`encoded_len`], then Buffer if the slice is too short. The whole slice is unchanged then.
 pub fn encode_to_slice<T: EncodeValue + FixedTag>(value: &T, buffer: &mut [u8]) -> Result<usize>
-    ensures none { element_of T.number (T.content value.now) ≡ None
+    ensures overlength { element_of T.tag_byte (T.content value.now) ≡ None
         → Refuses result ErrorKind.Overlength × (buffer.new ≡ buffer.old) }
-    ensures fits { (bytes : List ℕ) → element_of T.number (T.content value.now) ≡ Some bytes
+    ensures fits { (bytes : List ℕ) → element_of T.tag_byte (T.content value.now) ≡ Some bytes
         → length bytes ≤ length buffer.old
         → (result ≡ Ok (length bytes)) × (buffer.new ≡ bytes ++ drop (length bytes) buffer.old) }
-    ensures full { (bytes : List ℕ) → element_of T.number (T.content value.now) ≡ Some bytes
+    ensures buffer { (bytes : List ℕ) → element_of T.tag_byte (T.content value.now) ≡ Some bytes
         → length buffer.old < length bytes
         → Refuses result ErrorKind.Buffer × (buffer.new ≡ buffer.old) }
     // What was written is the element, and it stands within the slice.
-    ensures found { IfOk result (λ n. IsSomeAnd (element_of T.number (T.content value.now)) (λ bytes.
+    ensures found { IfOk result (λ n. IsSomeAnd (element_of T.tag_byte (T.content value.now)) (λ bytes.
         (n ≡ length bytes) × (buffer.new ≡ bytes ++ drop n buffer.old))) }
     ensures within { IfOk result (λ n. n ≤ length buffer.new) }
     ensures kinds { IfErr result (λ e.
-        ((e.kind ≡ ErrorKind.Overlength) × (element_of T.number (T.content value.now) ≡ None))
+        ((e.kind ≡ ErrorKind.Overlength) × (element_of T.tag_byte (T.content value.now) ≡ None))
         ⊎ (e.kind ≡ ErrorKind.Buffer)) }
     ensures unchanged { OnErr result (buffer.new ≡ buffer.old) }
 {
@@ -126,15 +126,15 @@ pub fn encode_to_slice<T: EncodeValue + FixedTag>(value: &T, buffer: &mut [u8]) 
 ///
 /// Those of [`encoded_len`], then Memory if the allocation fails.
 pub fn to_der<T: EncodeValue + FixedTag>(alloc: Global, value: &T) -> Result<Vec<u8>>
-    ensures none { element_of T.number (T.content value.now) ≡ None
+    ensures overlength { element_of T.tag_byte (T.content value.now) ≡ None
         → Refuses result ErrorKind.Overlength }
-    ensures some { (bytes : List ℕ) → element_of T.number (T.content value.now) ≡ Some bytes
+    ensures only { (bytes : List ℕ) → element_of T.tag_byte (T.content value.now) ≡ Some bytes
         → MatchResult result (λ der. der.items ≡ bytes) (λ e. e.kind ≡ ErrorKind.Memory) }
-    ensures found { IfOk result (λ der. element_of T.number (T.content value.now) ≡ Some der.items) }
+    ensures found { IfOk result (λ der. element_of T.tag_byte (T.content value.now) ≡ Some der.items) }
     ensures kinds { IfErr result (λ e.
-        ((e.kind ≡ ErrorKind.Overlength) × (element_of T.number (T.content value.now) ≡ None))
+        ((e.kind ≡ ErrorKind.Overlength) × (element_of T.tag_byte (T.content value.now) ≡ None))
         ⊎ (e.kind ≡ ErrorKind.Memory)) }
-    ensures tag { OnOk result (IsTag T.number) }
+    ensures tag { OnOk result (IsTag T.tag_byte) }
 {
     let total = encoded_len(value)?;
     let mut bytes = vec![in alloc; 0; total]?;
@@ -160,7 +160,7 @@ pub(crate) fn check_room(count: usize, room: usize) -> Result<()>
 
 /// Writes the value's element into a slice of its length.
 fn fill<T: EncodeValue + FixedTag>(value: &T, buffer: &mut [u8]) -> Result<()>
-    ensures { (bytes : List ℕ) → element_of T.number (T.content value.now) ≡ Some bytes
+    ensures { (bytes : List ℕ) → element_of T.tag_byte (T.content value.now) ≡ Some bytes
         → length buffer.old ≡ length bytes
         → IsOk result × (buffer.new ≡ bytes) }
 {
@@ -178,11 +178,11 @@ pub(crate) fn fill_components<R: EncodeComponents>(row: &R, buffer: &mut [u8]) -
 
 /// Returns the header of the value's element.
 pub(crate) fn element_header<T: EncodeValue + FixedTag>(value: &T) -> Result<Header>
-    ensures none { element_of T.number (T.content value.now) ≡ None
+    ensures overlength { element_of T.tag_byte (T.content value.now) ≡ None
         → Refuses result ErrorKind.Overlength }
-    ensures some { (content : List ℕ) → T.content value.now ≡ Some content → length content ≤ max_length
-        → result ≡ Ok (record { tag = T.number; length = length content }) }
-    ensures tag { OnOk result (IsTag T.number) }
+    ensures only { (content : List ℕ) → T.content value.now ≡ Some content → length content ≤ max_length
+        → result ≡ Ok (record { tag = T.tag_byte; length = length content }) }
+    ensures tag { OnOk result (IsTag T.tag_byte) }
 {
     Ok(Header {
         tag: T::fixed_tag(),
@@ -193,11 +193,11 @@ pub(crate) fn element_header<T: EncodeValue + FixedTag>(value: &T) -> Result<Hea
 /// Returns the header of an explicit field `[number]` around the value's element.
 pub(crate) fn field_header<T: EncodeValue + FixedTag>(number: u8, value: &T) -> Result<Header>
     requires { number ≤ 30 }
-    ensures none { field_of number T.number (Some (T.content value.now)) ≡ None
+    ensures overlength { field_of number T.tag_byte (Some (T.content value.now)) ≡ None
         → Refuses result ErrorKind.Overlength }
-    ensures some { (inside : List ℕ) → element_of T.number (T.content value.now) ≡ Some inside
+    ensures only { (inside : List ℕ) → element_of T.tag_byte (T.content value.now) ≡ Some inside
         → length inside ≤ max_length
-        → result ≡ Ok (record { tag = 0xA0 + number; length = length inside }) }
+        → result ≡ Ok (record { tag = explicit_tag number; length = length inside }) }
 {
     Ok(Header {
         tag: Tag::context(number),

@@ -20,7 +20,7 @@ pub struct SmallInteger<const N: u8>;
 impl<const N: u8> FixedTag for SmallInteger<N> {
     const TAG: Tag = Tag::INTEGER;
 
-    ghost number = { 0x02 };
+    ghost tag_byte = { 0x02 };
 
     fn fixed_tag() -> Tag
         ensures { result ≡ 0x02 }
@@ -34,7 +34,7 @@ impl<const N: u8> ValueContent for SmallInteger<N> {
 
     ghost is_content = { λ bytes. Some (N ∷ []) ≡ Some bytes };
 
-    ghost content_is_one = { λ _ _ same _. same };
+    ghost content_is_valid = { λ _ _ same _. same };
 
     ghost fault = { byte_fault N };
 }
@@ -80,7 +80,7 @@ impl<'a> Model for Octets<'a> {
 impl FixedTag for Octets<'_> {
     const TAG: Tag = Tag::OCTET_STRING;
 
-    ghost number = { 0x04 };
+    ghost tag_byte = { 0x04 };
 
     fn fixed_tag() -> Tag
         ensures { result ≡ 0x04 }
@@ -94,7 +94,7 @@ impl ValueContent for Octets<'_> {
 
     ghost is_content = { λ _. ⊤ };
 
-    ghost content_is_one = { λ _ _ _ _. tt };
+    ghost content_is_valid = { λ _ _ _ _. tt };
 
     ghost fault = { no_fault };
 }
@@ -139,7 +139,7 @@ impl<'a> Model for WholeBits<'a> {
 impl FixedTag for WholeBits<'_> {
     const TAG: Tag = Tag::BIT_STRING;
 
-    ghost number = { 0x03 };
+    ghost tag_byte = { 0x03 };
 
     fn fixed_tag() -> Tag
         ensures { result ≡ 0x03 }
@@ -153,7 +153,7 @@ impl ValueContent for WholeBits<'_> {
 
     ghost is_content = { λ content. (bytes : List ℕ) × (Some (0 ∷ bytes) ≡ Some content) };
 
-    ghost content_is_one = { λ bytes _ same _. (bytes, same) };
+    ghost content_is_valid = { λ bytes _ same _. (bytes, same) };
 
     ghost fault = { whole_bits_fault };
 
@@ -194,7 +194,7 @@ pub struct Containing<T> {
 impl<T> FixedTag for Containing<T> {
     const TAG: Tag = Tag::OCTET_STRING;
 
-    ghost number = { 0x04 };
+    ghost tag_byte = { 0x04 };
 
     fn fixed_tag() -> Tag
         ensures { result ≡ 0x04 }
@@ -204,13 +204,13 @@ impl<T> FixedTag for Containing<T> {
 }
 
 impl<T: ValueContent + FixedTag> ValueContent for Containing<T> {
-    ghost content = { λ outside. element_of T.number (T.content outside.value) };
+    ghost content = { λ outside. element_of T.tag_byte (T.content outside.value) };
 
-    ghost is_content = { λ bytes. (value : T) × (element_of T.number (T.content value) ≡ Some bytes) };
+    ghost is_content = { λ bytes. (value : T) × (element_of T.tag_byte (T.content value) ≡ Some bytes) };
 
-    ghost content_is_one = { λ outside _ same _. (outside.value, same) };
+    ghost content_is_valid = { λ outside _ same _. (outside.value, same) };
 
-    ghost fault = { element_fault T.number T.fault end_fault };
+    ghost fault = { element_fault T.tag_byte T.fault end_fault };
 }
 
 impl<'a, T: DecodeValue<'a> + FixedTag + Drop> DecodeValue<'a> for Containing<T> {

@@ -22,8 +22,8 @@ pub trait EncodeComponents: ValueContent {
     ///
     /// Overlength if a component has no encoding, or if the content is longer than 268,435,455 bytes.
     fn value_len(&self) -> Result<Length>
-        ensures none { IsOverlong (Self.content self.now) → Refuses result ErrorKind.Overlength }
-        ensures some { (bytes : List ℕ) → Self.content self.now ≡ Some bytes → length bytes ≤ max_length
+        ensures overlength { IsOverlong (Self.content self.now) → Refuses result ErrorKind.Overlength }
+        ensures only { (bytes : List ℕ) → Self.content self.now ≡ Some bytes → length bytes ≤ max_length
             → result ≡ Ok (length bytes) };
 
     /// Prepends the content to what was written, as [`EncodeValue::put_value`] does.
@@ -48,7 +48,7 @@ impl ValueContent for End {
 
     ghost is_content = { λ bytes. Some [] ≡ Some bytes };
 
-    ghost content_is_one = { λ _ _ same _. same };
+    ghost content_is_valid = { λ _ _ same _. same };
 
     ghost fault = { end_fault };
 }
@@ -95,14 +95,14 @@ impl<A, R> Required<A, R> {
 }
 
 impl<A: ValueContent + FixedTag, R: ValueContent> ValueContent for Required<A, R> {
-    ghost content = { λ row. join (element_of A.number (A.content row.first)) (R.content row.rest) };
+    ghost content = { λ row. join (element_of A.tag_byte (A.content row.first)) (R.content row.rest) };
 
     ghost is_content = { λ bytes. (first : A) × (rest : R)
-        × (join (element_of A.number (A.content first)) (R.content rest) ≡ Some bytes) };
+        × (join (element_of A.tag_byte (A.content first)) (R.content rest) ≡ Some bytes) };
 
-    ghost content_is_one = { λ row _ same _. (row.first, row.rest, same) };
+    ghost content_is_valid = { λ row _ same _. (row.first, row.rest, same) };
 
-    ghost fault = { element_fault A.number A.fault R.fault };
+    ghost fault = { element_fault A.tag_byte A.fault R.fault };
 }
 
 impl<'a, A: DecodeValue<'a> + FixedTag + Drop, R: DecodeValue<'a>> DecodeValue<'a>
@@ -131,7 +131,7 @@ impl<N: ExplicitTag, A: ValueContent + UniversalTag, R: ValueContent> NoField<N>
     for Required<A, R> {
     ghost use Rattle.sec1_der.specs.Beginnings.{required_apart};
 
-    ghost none = { λ row bytes same. required_apart N.at A.number A.universal (A.content row.first)
+    ghost none = { λ row bytes same. required_apart N.at A.tag_byte A.universal (A.content row.first)
         (R.content row.rest) bytes same };
 }
 
@@ -161,14 +161,14 @@ impl<N, A, R> Optional<N, A, R> {
 
 impl<N: ExplicitTag, A: ValueContent + FixedTag, R: ValueContent> ValueContent
     for Optional<N, A, R> {
-    ghost content = { λ row. join (field_of N.at A.number (option_map A.content row.first)) (R.content row.rest) };
+    ghost content = { λ row. join (field_of N.at A.tag_byte (option_map A.content row.first)) (R.content row.rest) };
 
     ghost is_content = { λ bytes. (first : Option A) × (rest : R)
-        × (join (field_of N.at A.number (option_map A.content first)) (R.content rest) ≡ Some bytes) };
+        × (join (field_of N.at A.tag_byte (option_map A.content first)) (R.content rest) ≡ Some bytes) };
 
-    ghost content_is_one = { λ row _ same _. (row.first, row.rest, same) };
+    ghost content_is_valid = { λ row _ same _. (row.first, row.rest, same) };
 
-    ghost fault = { field_fault N.at A.number A.checked_late A.fault R.fault };
+    ghost fault = { field_fault N.at A.tag_byte A.checked_late A.fault R.fault };
 }
 
 impl<'a, N: ExplicitTag, A: DecodeExplicit<'a>, R: DecodeValue<'a> + NoField<N>> DecodeValue<'a>
@@ -198,6 +198,6 @@ impl<N: ExplicitTag, M: OtherThan<N>, A: ValueContent + FixedTag, R: NoField<N>>
     for Optional<M, A, R> {
     ghost use Rattle.sec1_der.specs.Beginnings.{optional_apart};
 
-    ghost none = { λ row bytes same. optional_apart M.at N.at M.other A.number (option_map A.content row.first)
+    ghost none = { λ row bytes same. optional_apart M.at N.at M.other A.tag_byte (option_map A.content row.first)
         (R.content row.rest) bytes same (R.none row.rest) };
 }

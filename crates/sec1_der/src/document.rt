@@ -73,13 +73,13 @@ impl SecretDocument {
     ///
     /// Those of [`to_der`].
     pub fn encode_msg<T: EncodeValue + FixedTag>(alloc: Global, value: &T) -> Result<SecretDocument>
-        ensures none { element_of T.number (T.content value.now) ≡ None
+        ensures overlength { element_of T.tag_byte (T.content value.now) ≡ None
             → Refuses result ErrorKind.Overlength }
-        ensures some { (bytes : List ℕ) → element_of T.number (T.content value.now) ≡ Some bytes
+        ensures only { (bytes : List ℕ) → element_of T.tag_byte (T.content value.now) ≡ Some bytes
             → MatchResult result (λ document. document ≡ bytes) (λ e. e.kind ≡ ErrorKind.Memory) }
-        ensures found { IfOk result (λ document. element_of T.number (T.content value.now) ≡ Some document) }
+        ensures found { IfOk result (λ document. element_of T.tag_byte (T.content value.now) ≡ Some document) }
         ensures kinds { IfErr result (λ e.
-            ((e.kind ≡ ErrorKind.Overlength) × (element_of T.number (T.content value.now) ≡ None))
+            ((e.kind ≡ ErrorKind.Overlength) × (element_of T.tag_byte (T.content value.now) ≡ None))
             ⊎ (e.kind ≡ ErrorKind.Memory)) }
     {
         let bytes = to_der(alloc, value)?;

@@ -1,9 +1,9 @@
 //! Explicit tags (X.690 section 8.14), and which components may begin with them.
 ghost use Rattle.std.proofs.Common.{lit<};
 ghost use Rattle.std.specs.Prelude.{◌≡◌, ◌≢◌, ◌≤◌, ◌<◌, ◌+◌, ◌++◌, ℕ, List, Some, None, Ok, true, false, length, slice_get, IfOk, IfErr, IfSome, IfNone, IsOkAnd, IsSomeAnd, OnErr};
-ghost use Rattle.sec1_der.specs.Elements.{max_length, element};
+ghost use Rattle.sec1_der.specs.Elements.{max_length, element, explicit_tag};
 ghost use Rattle.sec1_der.specs.Faults.{Refuses, IsReadingFault};
-ghost use Rattle.sec1_der.specs.Readers.{before, HasReadElement};
+ghost use Rattle.sec1_der.specs.Readers.{reader_over, HasReadElement};
 ghost use Rattle.sec1_der.specs.Refusals.{HasFault, field_fault, no_fault};
 
 use crate::{
@@ -61,13 +61,13 @@ impl OtherThan<Explicit0> for Explicit1 {
 pub trait NoField<N: ExplicitTag>: ValueContent {
     /// No content begins with the tag byte `A0 + number`.
     ghost none: { (value : Self) (bytes : List ℕ) → Self.content value ≡ Some bytes
-        → slice_get bytes 0 ≢ Some (0xA0 + N.at) };
+        → slice_get bytes 0 ≢ Some (explicit_tag N.at) };
 }
 
 /// A type whose tag is of the universal class (X.690 section 8.1.2.2).
 pub trait UniversalTag: FixedTag {
     /// The two highest bits of the tag byte are zero.
-    ghost universal: { Self.number < 0x40 };
+    ghost universal: { Self.tag_byte < 0x40 };
 }
 
 impl UniversalTag for VersionOne {
@@ -116,23 +116,23 @@ pub trait DecodeExplicit<'a>: DecodeValue<'a> + FixedTag + Drop {
         ensures found { IfOk result (λ field. IfSome field (λ value. IsSomeAnd (Self.content value) (λ content.
             Self.is_content content
             × (length content ≤ max_length)
-            × HasReadElement (0xA0 + number) (element Self.number content) reader.old reader.new))) }
+            × HasReadElement (explicit_tag number) (element Self.tag_byte content) reader.old reader.new))) }
         // None means that no such field is next.
         ensures missing { IfOk result (λ field. IfNone field ((reader.new ≡ reader.old)
-            × (slice_get reader.old.unread 0 ≢ Some (0xA0 + number)))) }
+            × (slice_get reader.old.unread 0 ≢ Some (explicit_tag number)))) }
 
         // Where another byte is next, or none, nothing is read.
-        ensures absent { reader.old.failed ≡ false → slice_get reader.old.unread 0 ≢ Some (0xA0 + number)
+        ensures absent { reader.old.failed ≡ false → slice_get reader.old.unread 0 ≢ Some (explicit_tag number)
             → (result ≡ Ok None) × (reader.new ≡ reader.old) }
         // Where the unread bytes begin with such a field, it is read.
         ensures only { (content rest : List ℕ) → Self.is_content content → length content ≤ max_length
-            → length (element Self.number content) ≤ max_length
-            → reader.old ≡ before (element (0xA0 + number) (element Self.number content) ++ rest)
+            → length (element Self.tag_byte content) ≤ max_length
+            → reader.old ≡ reader_over (element (explicit_tag number) (element Self.tag_byte content) ++ rest)
             → IsOkAnd result (λ field. IsSomeAnd field (λ value. Self.content value ≡ Some content))
-            × (reader.new ≡ before rest) }
+            × (reader.new ≡ reader_over rest) }
 
         ensures kinds { reader.old.failed ≡ false → IfErr result (λ e. IsReadingFault e.kind) }
-        ensures kind { reader.old.failed ≡ false → HasFault result (field_fault number Self.number
+        ensures kind { reader.old.failed ≡ false → HasFault result (field_fault number Self.tag_byte
             Self.checked_late Self.fault no_fault reader.old.unread) }
         ensures failed { reader.old.failed ≡ true → Refuses result ErrorKind.Failed
             × (reader.new ≡ reader.old) }

@@ -1,8 +1,8 @@
 ghost use Rattle.std.specs.Prelude.{◌≡◌, ℕ, ◌<◌, ◌≤◌, ◌^◌, length, take, List, ◌++◌, IfOk, IfErr, IsOkAnd, IsOk, IsErr, OnErr, false, true, Some};
-ghost use Rattle.sec1_der.specs.Elements.{max_length, len, header, element, IsHeader, IsProperBeginning, LacksHeader};
+ghost use Rattle.sec1_der.specs.Elements.{max_length, length_octets, header, element, IsHeader, IsProperBeginning, LacksHeader};
 ghost use Rattle.sec1_der.specs.Faults.{length_fault, header_fault, Refuses, IsHeaderFault};
-ghost use Rattle.sec1_der.specs.Numbers.{num};
-ghost use Rattle.sec1_der.specs.Readers.{before, refused, HasRead};
+ghost use Rattle.sec1_der.specs.Numbers.{number_of};
+ghost use Rattle.sec1_der.specs.Readers.{reader_over, refused, HasRead};
 ghost use Rattle.sec1_der.specs.Refusals.{Fault, any_fault};
 ghost use Rattle.sec1_der.specs.SliceWriters.{room_of, KeepsSlice, AppendsNothing, Appends};
 
@@ -37,8 +37,8 @@ impl Header {
             × HasRead (header h.tag h.length) reader.old reader.new) }
         // Where the unread bytes begin with a header, it is read.
         ensures only { (tag n : ℕ) (rest : List ℕ) → IsHeader tag n
-            → reader.old ≡ before (header tag n ++ rest)
-            → (result ≡ Ok (record { tag = tag; length = n })) × (reader.new ≡ before rest) }
+            → reader.old ≡ reader_over (header tag n ++ rest)
+            → (result ≡ Ok (record { tag = tag; length = n })) × (reader.new ≡ reader_over rest) }
         // Where they begin with none, the bytes tell the kind.
         ensures kind { reader.old.failed ≡ false → IsErr result
             → Refuses result (header_fault reader.old.unread) }
@@ -76,7 +76,7 @@ impl Header {
         ensures slice { KeepsSlice writer.old writer.new }
         ensures fits { length (header self.now.tag self.now.length) ≤ length (room_of writer.old)
             → IsOk result × Appends writer.old writer.new (header self.now.tag self.now.length) }
-        ensures full { length (room_of writer.old) < length (header self.now.tag self.now.length)
+        ensures buffer { length (room_of writer.old) < length (header self.now.tag self.now.length)
             → Refuses result ErrorKind.Buffer × AppendsNothing writer.old writer.new }
     {
         let (octets, count) = self.octets();
@@ -158,10 +158,10 @@ pub(crate) fn header_at(bytes: &[u8]) -> First<'_, Header>
 }
 
 /// Returns the length at the beginning of the bytes, and the bytes after it.
-#[tactic(auto, unfolding(crate::specs::Elements::len))]
+#[tactic(auto, unfolding(crate::specs::Elements::length_octets))]
 fn length_at(bytes: &[u8]) -> First<'_, Length>
-    ensures found { IfOk result (λ x. (x.0 ≤ max_length) × (bytes.now ≡ len x.0 ++ x.1.now)) }
-    ensures only { (n : ℕ) (rest : List ℕ) → n ≤ max_length → bytes.now ≡ len n ++ rest → IsOk result }
+    ensures found { IfOk result (λ x. (x.0 ≤ max_length) × (bytes.now ≡ length_octets x.0 ++ x.1.now)) }
+    ensures only { (n : ℕ) (rest : List ℕ) → n ≤ max_length → bytes.now ≡ length_octets n ++ rest → IsOk result }
     ensures kind { IfErr result (λ kind. kind ≡ length_fault bytes.now) }
 {
     let Some((first, rest)) = bytes.split_first() else {
@@ -193,7 +193,7 @@ fn length_at(bytes: &[u8]) -> First<'_, Length>
 /// Returns the number in at most four bytes, the most significant first.
 fn number(digits: &[u8]) -> usize
     requires { length digits.now ≤ 4 }
-    ensures value { result ≡ num digits.now }
+    ensures value { result ≡ number_of digits.now }
     ensures bound { result < 256 ^ length digits.now }
 {
     let mut n = 0;

@@ -1,7 +1,7 @@
 //! Laws of the definitions, of the constants and of `==`, for callers to cite. Each law is the contract of a function,
 //! which does nothing else.
 ghost use Rattle.std.specs.Prelude.{◌≡◌, ◌⊎◌, ◌↔◌, ◌<◌, ◌≤◌, ℕ, List, [], ◌∷◌, ◌++◌, length, take, drop, ◌-◌, Some, None, IsSome, IsOk, IsTrue};
-ghost use Rattle.sec1_der.specs.Elements.{len, element_of};
+ghost use Rattle.sec1_der.specs.Elements.{length_octets, element_of};
 ghost use Rattle.sec1_der.specs.Faults.{Refuses};
 ghost use Rattle.sec1_der.specs.Identifiers.{content_of, dotted};
 ghost use Rattle.sec1_der.specs.TreeLaws.{BytesDetermineTree, BytesDetermineRow, NoTreeBeginsAnother};
@@ -63,14 +63,14 @@ pub fn one_identifier()
 {}
 
 /// Lengths where their spelling changes its form (X.690 section 8.1.3), and the greatest.
-#[tactic(auto, unfolding(crate::specs::Elements::len))]
+#[tactic(auto, unfolding(crate::specs::Elements::length_octets))]
 pub fn spelled_lengths()
-    ensures short { len 127 ≡ 0x7F ∷ [] }
-    ensures one_digit { len 128 ≡ 0x81 ∷ 0x80 ∷ [] }
-    ensures last_of_one_digit { len 255 ≡ 0x81 ∷ 0xFF ∷ [] }
-    ensures two_digits { len 256 ≡ 0x82 ∷ 0x01 ∷ 0x00 ∷ [] }
-    ensures last_of_two_digits { len 65535 ≡ 0x82 ∷ 0xFF ∷ 0xFF ∷ [] }
-    ensures greatest { len 268435455 ≡ 0x84 ∷ 0x0F ∷ 0xFF ∷ 0xFF ∷ 0xFF ∷ [] }
+    ensures short { length_octets 127 ≡ 0x7F ∷ [] }
+    ensures one_digit { length_octets 128 ≡ 0x81 ∷ 0x80 ∷ [] }
+    ensures last_of_one_digit { length_octets 255 ≡ 0x81 ∷ 0xFF ∷ [] }
+    ensures two_digits { length_octets 256 ≡ 0x82 ∷ 0x01 ∷ 0x00 ∷ [] }
+    ensures last_of_two_digits { length_octets 65535 ≡ 0x82 ∷ 0xFF ∷ 0xFF ∷ [] }
+    ensures greatest { length_octets 268435455 ≡ 0x84 ∷ 0x0F ∷ 0xFF ∷ 0xFF ∷ 0xFF ∷ [] }
 {}
 
 /// The contents of P-256's identifier (RFC 5480 section 2.1.1.1), of 2.999, whose second arc is above 39 (X.690
@@ -84,8 +84,8 @@ pub fn spelled_identifiers()
 
 /// A value has an encoding, or it has none.
 pub fn element_or_none<T: EncodeValue + FixedTag>(value: &T)
-    ensures { (element_of T.number (T.content value.now) ≡ None)
-        ⊎ IsSome (element_of T.number (T.content value.now)) }
+    ensures { (element_of T.tag_byte (T.content value.now) ≡ None)
+        ⊎ IsSome (element_of T.tag_byte (T.content value.now)) }
 {
     let _value = value;
 }
@@ -109,28 +109,28 @@ pub fn tags() -> [Tag; 8]
 
 /// Returns [`FixedTag::TAG`] of [`VersionOne`], which is its [`fixed_tag`](FixedTag::fixed_tag).
 pub fn version_tag() -> Tag
-    ensures { result ≡ ⟦<VersionOne as FixedTag>⟧.number }
+    ensures { result ≡ ⟦<VersionOne as FixedTag>⟧.tag_byte }
 {
     VersionOne::TAG
 }
 
 /// Returns [`FixedTag::TAG`] of [`OctetStringRef`], which is its [`fixed_tag`](FixedTag::fixed_tag).
 pub fn octet_string_tag() -> Tag
-    ensures { result ≡ ⟦<OctetStringRef<'static> as FixedTag>⟧.number }
+    ensures { result ≡ ⟦<OctetStringRef<'static> as FixedTag>⟧.tag_byte }
 {
     OctetStringRef::TAG
 }
 
 /// Returns [`FixedTag::TAG`] of [`BitStringRef`], which is its [`fixed_tag`](FixedTag::fixed_tag).
 pub fn bit_string_tag() -> Tag
-    ensures { result ≡ ⟦<BitStringRef<'static> as FixedTag>⟧.number }
+    ensures { result ≡ ⟦<BitStringRef<'static> as FixedTag>⟧.tag_byte }
 {
     BitStringRef::TAG
 }
 
 /// Returns [`FixedTag::TAG`] of [`ObjectIdentifier`], which is its [`fixed_tag`](FixedTag::fixed_tag).
 pub fn identifier_tag() -> Tag
-    ensures { result ≡ ⟦<ObjectIdentifier as FixedTag>⟧.number }
+    ensures { result ≡ ⟦<ObjectIdentifier as FixedTag>⟧.tag_byte }
 {
     ObjectIdentifier::TAG
 }
@@ -215,7 +215,7 @@ pub fn same_identifier(a: ObjectIdentifier, b: ObjectIdentifier) -> bool
 pub fn writes_forwards(buffer: &mut [u8], bytes: &[u8]) -> Result<()>
     ensures fits { length bytes.now ≤ length buffer.old
         → IsOk result × (buffer.new ≡ bytes.now ++ drop (length bytes.now) buffer.old) }
-    ensures full { length buffer.old < length bytes.now
+    ensures buffer { length buffer.old < length bytes.now
         → Refuses result ErrorKind.Buffer × (buffer.new ≡ buffer.old) }
 {
     SliceWriter::new(buffer).write(bytes)
@@ -230,7 +230,7 @@ pub fn writes_forwards(buffer: &mut [u8], bytes: &[u8]) -> Result<()>
 pub fn writes_backwards(buffer: &mut [u8], bytes: &[u8]) -> Result<()>
     ensures fits { length bytes.now ≤ length buffer.old
         → IsOk result × (buffer.new ≡ take (length buffer.old - length bytes.now) buffer.old ++ bytes.now) }
-    ensures full { length buffer.old < length bytes.now
+    ensures buffer { length buffer.old < length bytes.now
         → Refuses result ErrorKind.Buffer × (buffer.new ≡ buffer.old) }
 {
     BackWriter::new(buffer).write(bytes)

@@ -34,7 +34,7 @@ impl Length {
     /// Overlength if `n` is above [`Length::MAX`].
     pub fn new(n: usize) -> Result<Length>
         ensures within { OkIff result (n ≤ max_length) n }
-        ensures above { IfErr result (λ e. e.kind ≡ ErrorKind.Overlength) }
+        ensures kind { IfErr result (λ e. e.kind ≡ ErrorKind.Overlength) }
     {
         if n > Length::MAX {
             return Err(ErrorKind::Overlength.into());

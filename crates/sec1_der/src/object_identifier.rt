@@ -194,7 +194,7 @@ impl fmt::Debug for ObjectIdentifier {
 impl FixedTag for ObjectIdentifier {
     const TAG: Tag = Tag::OBJECT_IDENTIFIER;
 
-    ghost number = { 0x06 };
+    ghost tag_byte = { 0x06 };
 
     fn fixed_tag() -> Tag
         ensures { result ≡ 0x06 }
@@ -206,13 +206,13 @@ impl FixedTag for ObjectIdentifier {
 impl ValueContent for ObjectIdentifier {
     ghost use Rattle.sec1_der.specs.Contents.{identifier_fault};
     ghost use Rattle.sec1_der.specs.Identifiers.{identifier_content};
-    ghost use Rattle.sec1_der.specs.IdentifierLaws.{identifier_content-tells};
+    ghost use Rattle.sec1_der.specs.IdentifierLaws.{identifier_content-some};
 
     ghost content = { identifier_content };
 
     ghost is_content = { IsIdentifierContent };
 
-    ghost content_is_one = { λ arcs bytes same _. (arcs, identifier_content-tells arcs bytes same) };
+    ghost content_is_valid = { λ arcs bytes same _. (arcs, identifier_content-some arcs bytes same) };
 
     ghost fault = { identifier_fault };
 }

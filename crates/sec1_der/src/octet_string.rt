@@ -24,7 +24,7 @@ impl<'a> OctetStringRef<'a> {
     pub fn new(bytes: &'a [u8]) -> Result<OctetStringRef<'a>>
         ensures within { IsOk result ↔ (length bytes.now ≤ max_length) }
         ensures value { IfOk result (λ octets. octets_of octets ≡ bytes.now) }
-        ensures above { IfErr result (λ e. e.kind ≡ ErrorKind.Overlength) }
+        ensures kind { IfErr result (λ e. e.kind ≡ ErrorKind.Overlength) }
     {
         Length::new(bytes.len())?;
         Ok(OctetStringRef { bytes })
@@ -41,7 +41,7 @@ impl<'a> OctetStringRef<'a> {
 impl FixedTag for OctetStringRef<'_> {
     const TAG: Tag = Tag::OCTET_STRING;
 
-    ghost number = { 0x04 };
+    ghost tag_byte = { 0x04 };
 
     fn fixed_tag() -> Tag
         ensures { result ≡ 0x04 }
@@ -59,7 +59,7 @@ impl ValueContent for OctetStringRef<'_> {
 
     ghost is_content = { λ _. ⊤ };
 
-    ghost content_is_one = { λ _ _ _ _. tt };
+    ghost content_is_valid = { λ _ _ _ _. tt };
 
     ghost fault = { no_fault };
 }

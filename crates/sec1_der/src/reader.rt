@@ -1,7 +1,7 @@
 ghost use Rattle.std.specs.Prelude.{◌≡◌, ◌≢◌, ◌↔◌, ◌+◌, ◌≤◌, ◌++◌, ◌∷◌, [], ℕ, List, length, slice_get, true, false, if◌then◌else◌, IsOk, IfOk, IsOkAnd, IsErr, IfErr, OnOk, OnErr, IfSome, IfNone, IsSomeAnd};
-ghost use Rattle.sec1_der.specs.Elements.{max_length, element, IsProperBeginning};
+ghost use Rattle.sec1_der.specs.Elements.{max_length, element, IsProperBeginning, explicit_tag};
 ghost use Rattle.sec1_der.specs.Faults.{Refuses, IsReadingFault};
-ghost use Rattle.sec1_der.specs.Readers.{before, refused, HasRead, HasReadElement};
+ghost use Rattle.sec1_der.specs.Readers.{reader_over, refused, HasRead, HasReadElement};
 ghost use Rattle.sec1_der.specs.Refusals.{HasFault, element_fault, end_fault, field_fault, never_late, no_fault};
 
 use crate::{AnyRef, DecodeValue, Error, ErrorKind, FixedTag, Length, Result, Tag};
@@ -28,7 +28,7 @@ impl<'a> Model for SliceReader<'a> {
 impl<'a> SliceReader<'a> {
     /// Creates a reader at the beginning of a slice.
     pub fn new(bytes: &'a [u8]) -> SliceReader<'a>
-        ensures { result ≡ before bytes.now }
+        ensures { result ≡ reader_over bytes.now }
     {
         SliceReader {
             unread: bytes,
@@ -69,8 +69,8 @@ impl<'a> SliceReader<'a> {
     pub fn read_slice(&mut self, count: Length) -> Result<&'a [u8]>
         ensures found { IfOk result (λ bytes. (length bytes.now ≡ count)
             × HasRead bytes.now self.old self.new) }
-        ensures only { (bytes rest : List ℕ) → length bytes ≡ count → self.old ≡ before (bytes ++ rest)
-            → IsOkAnd result (λ found. found.now ≡ bytes) × (self.new ≡ before rest) }
+        ensures only { (bytes rest : List ℕ) → length bytes ≡ count → self.old ≡ reader_over (bytes ++ rest)
+            → IsOkAnd result (λ found. found.now ≡ bytes) × (self.new ≡ reader_over rest) }
         ensures within { self.old.failed ≡ false → IsOk result ↔ (count ≤ length self.old.unread) }
         ensures kind { self.old.failed ≡ false → IsErr result → Refuses result ErrorKind.Truncated }
         ensures failed { self.old.failed ≡ true → Refuses result ErrorKind.Failed }
@@ -93,9 +93,9 @@ impl<'a> SliceReader<'a> {
     /// Truncated if there are fewer; Failed if the reader failed before.
     pub fn read_nested(&mut self, count: Length) -> Result<SliceReader<'a>>
         ensures found { IfOk result (λ nested. (length nested.unread ≡ count)
-            × (nested ≡ before nested.unread) × HasRead nested.unread self.old self.new) }
-        ensures only { (bytes rest : List ℕ) → length bytes ≡ count → self.old ≡ before (bytes ++ rest)
-            → (result ≡ Ok (before bytes)) × (self.new ≡ before rest) }
+            × (nested ≡ reader_over nested.unread) × HasRead nested.unread self.old self.new) }
+        ensures only { (bytes rest : List ℕ) → length bytes ≡ count → self.old ≡ reader_over (bytes ++ rest)
+            → (result ≡ Ok (reader_over bytes)) × (self.new ≡ reader_over rest) }
         ensures within { self.old.failed ≡ false → IsOk result ↔ (count ≤ length self.old.unread) }
         ensures kind { self.old.failed ≡ false → IsErr result → Refuses result ErrorKind.Truncated }
         ensures failed { self.old.failed ≡ true → Refuses result ErrorKind.Failed }
@@ -115,22 +115,22 @@ impl<'a> SliceReader<'a> {
     pub fn decode<T: DecodeValue<'a> + FixedTag>(&mut self) -> Result<T>
         // What is read is the element of the value, and just its bytes are read.
         ensures found { IfOk result (λ value. IsSomeAnd (T.content value) (λ content.
-            T.is_content content × HasReadElement T.number content self.old self.new)) }
+            T.is_content content × HasReadElement T.tag_byte content self.old self.new)) }
         // Where the unread bytes begin with the element of a value, it is read.
         ensures only { (content rest : List ℕ) → T.is_content content → length content ≤ max_length
-            → self.old ≡ before (element T.number content ++ rest)
-            → IsOkAnd result (λ value. T.content value ≡ Some content) × (self.new ≡ before rest) }
+            → self.old ≡ reader_over (element T.tag_byte content ++ rest)
+            → IsOkAnd result (λ value. T.content value ≡ Some content) × (self.new ≡ reader_over rest) }
 
-        ensures empty { self.old ≡ before [] → Refuses result ErrorKind.Truncated }
+        ensures empty { self.old ≡ reader_over [] → Refuses result ErrorKind.Truncated }
         ensures other_tag { (byte : ℕ) → self.old.failed ≡ false
-            → slice_get self.old.unread 0 ≡ Some byte → byte ≢ T.number → Refuses result ErrorKind.Tag }
+            → slice_get self.old.unread 0 ≡ Some byte → byte ≢ T.tag_byte → Refuses result ErrorKind.Tag }
         ensures short { (content : List ℕ) → length content ≤ max_length → self.old.failed ≡ false
-            → IsProperBeginning self.old.unread (element T.number content)
+            → IsProperBeginning self.old.unread (element T.tag_byte content)
             → Refuses result ErrorKind.Truncated }
         ensures kinds { self.old.failed ≡ false → IfErr result (λ e. IsReadingFault e.kind) }
         // The kind of a refusal is a function of the remaining input.
         ensures kind { self.old.failed ≡ false
-            → HasFault result (element_fault T.number T.fault no_fault self.old.unread) }
+            → HasFault result (element_fault T.tag_byte T.fault no_fault self.old.unread) }
         ensures failed { self.old.failed ≡ true → Refuses result ErrorKind.Failed
             × (self.new ≡ self.old) }
         ensures refused { OnErr result (self.new.failed ≡ true) }
@@ -158,34 +158,35 @@ impl<'a> SliceReader<'a> {
         ensures found { IfOk result (λ field. IfSome field (λ value. IsSomeAnd (T.content value) (λ content.
             T.is_content content
             × (length content ≤ max_length)
-            × HasReadElement (0xA0 + number) (element T.number content) self.old self.new))) }
+            × HasReadElement (explicit_tag number) (element T.tag_byte content) self.old self.new))) }
         // None means that no such field is next.
         ensures missing { IfOk result (λ field. IfNone field ((self.new ≡ self.old)
-            × (slice_get self.old.unread 0 ≢ Some (0xA0 + number)))) }
+            × (slice_get self.old.unread 0 ≢ Some (explicit_tag number)))) }
 
         // Where another byte is next, or none, nothing is read.
-        ensures absent { self.old.failed ≡ false → slice_get self.old.unread 0 ≢ Some (0xA0 + number)
+        ensures absent { self.old.failed ≡ false → slice_get self.old.unread 0 ≢ Some (explicit_tag number)
             → (result ≡ Ok None) × (self.new ≡ self.old) }
         // Where the unread bytes begin with such a field, it is read.
         ensures only { (content rest : List ℕ) → T.is_content content → length content ≤ max_length
-            → length (element T.number content) ≤ max_length
-            → self.old ≡ before (element (0xA0 + number) (element T.number content) ++ rest)
+            → length (element T.tag_byte content) ≤ max_length
+            → self.old ≡ reader_over (element (explicit_tag number) (element T.tag_byte content) ++ rest)
             → IsOkAnd result (λ field. IsSomeAnd field (λ value. T.content value ≡ Some content))
-            × (self.new ≡ before rest) }
+            × (self.new ≡ reader_over rest) }
 
         ensures kinds { self.old.failed ≡ false → IfErr result (λ e. IsReadingFault e.kind) }
         // The unread bytes tell which kind.
         ensures kind { self.old.failed ≡ false
-            → HasFault result (field_fault number T.number never_late T.fault no_fault self.old.unread) }
+            → HasFault result (field_fault number T.tag_byte never_late T.fault no_fault self.old.unread) }
         ensures failed { self.old.failed ≡ true → Refuses result ErrorKind.Failed
             × (self.new ≡ self.old) }
         ensures refused { OnErr result (self.new.failed ≡ true) }
     {
         self.check()?;
-        if self.peek_tag_byte() != Some(0xA0 + number) {
+        let tag = Tag::context(number);
+        if self.peek_tag_byte() != Some(tag.byte()) {
             return Ok(None);
         }
-        let mut field = self.open(Tag::context(number))?;
+        let mut field = self.open(tag)?;
         match field.only_element::<T>() {
             Ok(value) => Ok(Some(value)),
             Err(e) => Err(self.fail(e.kind)),
@@ -198,8 +199,8 @@ impl<'a> SliceReader<'a> {
     ///
     /// TrailingData if input remains; Failed if the reader failed before.
     pub fn finish(&mut self) -> Result<()>
-        ensures ok { self.old ≡ before [] → IsOk result }
-        ensures unchanged { OnOk result ((self.old ≡ before []) × (self.new ≡ self.old)) }
+        ensures only { self.old ≡ reader_over [] → IsOk result }
+        ensures unchanged { OnOk result ((self.old ≡ reader_over []) × (self.new ≡ self.old)) }
         ensures kind { self.old.failed ≡ false → IsErr result → Refuses result ErrorKind.TrailingData }
         ensures failed { self.old.failed ≡ true → Refuses result ErrorKind.Failed }
         ensures refused { OnErr result (self.new ≡ refused self.old) }
@@ -254,7 +255,7 @@ impl<'a> SliceReader<'a> {
     ///
     /// Failed if the reader failed before.
     pub fn read_rest(&mut self) -> Result<&'a [u8]>
-        ensures found { IfOk result (λ rest. (self.old ≡ before rest.now) × (self.new ≡ before [])) }
+        ensures found { IfOk result (λ rest. (self.old ≡ reader_over rest.now) × (self.new ≡ reader_over [])) }
         ensures only { self.old.failed ≡ false → IsOk result }
         ensures failed { self.old.failed ≡ true → Refuses result ErrorKind.Failed }
         ensures refused { OnErr result (self.new ≡ self.old) }
@@ -267,12 +268,12 @@ impl<'a> SliceReader<'a> {
 
     /// Reads the next element, which has this tag, and returns a reader over its content.
     fn open(&mut self, tag: Tag) -> Result<SliceReader<'a>>
-        ensures found { IfOk result (λ content. (content ≡ before content.unread)
+        ensures found { IfOk result (λ content. (content ≡ reader_over content.unread)
             × HasReadElement tag content.unread self.old self.new) }
         ensures only { (content rest : List ℕ) → length content ≤ max_length
-            → self.old ≡ before (element tag content ++ rest)
-            → (result ≡ Ok (before content)) × (self.new ≡ before rest) }
-        ensures empty { self.old ≡ before [] → Refuses result ErrorKind.Truncated }
+            → self.old ≡ reader_over (element tag content ++ rest)
+            → (result ≡ Ok (reader_over content)) × (self.new ≡ reader_over rest) }
+        ensures empty { self.old ≡ reader_over [] → Refuses result ErrorKind.Truncated }
         ensures other_tag { (byte : ℕ) → self.old.failed ≡ false
             → slice_get self.old.unread 0 ≡ Some byte → byte ≢ tag → Refuses result ErrorKind.Tag }
         ensures short { (content : List ℕ) → length content ≤ max_length → self.old.failed ≡ false
@@ -300,22 +301,22 @@ impl<'a> SliceReader<'a> {
     pub(crate) fn only_element<T: DecodeValue<'a> + FixedTag + Drop>(&mut self) -> Result<T>
         ensures found { IfOk result (λ value. IsSomeAnd (T.content value) (λ content.
             T.is_content content × (length content ≤ max_length)
-            × (self.old ≡ before (element T.number content)))) }
+            × (self.old ≡ reader_over (element T.tag_byte content)))) }
         ensures only { (content : List ℕ) → T.is_content content → length content ≤ max_length
-            → self.old ≡ before (element T.number content)
+            → self.old ≡ reader_over (element T.tag_byte content)
             → IsOkAnd result (λ value. T.content value ≡ Some content) }
-        ensures empty { self.old ≡ before [] → Refuses result ErrorKind.Truncated }
+        ensures empty { self.old ≡ reader_over [] → Refuses result ErrorKind.Truncated }
         ensures other_tag { (byte : ℕ) → self.old.failed ≡ false
-            → slice_get self.old.unread 0 ≡ Some byte → byte ≢ T.number → Refuses result ErrorKind.Tag }
+            → slice_get self.old.unread 0 ≡ Some byte → byte ≢ T.tag_byte → Refuses result ErrorKind.Tag }
         ensures short { (content : List ℕ) → length content ≤ max_length → self.old.failed ≡ false
-            → IsProperBeginning self.old.unread (element T.number content)
+            → IsProperBeginning self.old.unread (element T.tag_byte content)
             → Refuses result ErrorKind.Truncated }
         ensures long { (content : List ℕ) → T.is_content content → length content ≤ max_length
-            → self.old.failed ≡ false → IsProperBeginning (element T.number content) self.old.unread
+            → self.old.failed ≡ false → IsProperBeginning (element T.tag_byte content) self.old.unread
             → Refuses result ErrorKind.TrailingData }
         ensures kinds { self.old.failed ≡ false → IfErr result (λ e. IsReadingFault e.kind) }
         ensures kind { self.old.failed ≡ false
-            → HasFault result (element_fault T.number T.fault end_fault self.old.unread) }
+            → HasFault result (element_fault T.tag_byte T.fault end_fault self.old.unread) }
     {
         let value = self.decode::<T>()?;
         self.finish()?;

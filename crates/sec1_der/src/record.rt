@@ -31,7 +31,7 @@ pub trait Record: Sized {
 impl<T: Record> FixedTag for T {
     const TAG: Tag = Tag::SEQUENCE;
 
-    ghost number = { 0x30 };
+    ghost tag_byte = { 0x30 };
 
     fn fixed_tag() -> Tag
         ensures { result ≡ 0x30 }
@@ -54,7 +54,7 @@ where
 
     ghost is_content = { T.Components.is_content };
 
-    ghost content_is_one = { λ value. T.Components.content_is_one (T.parts value) };
+    ghost content_is_valid = { λ value. T.Components.content_is_valid (T.parts value) };
 
     ghost fault = { T.Components.fault };
 }

@@ -57,7 +57,7 @@ impl<'b> SliceWriter<'b> {
         ensures slice { KeepsSlice self.old self.new }
         ensures fits { 0 < length (room_of self.old) → IsOk result
             × Appends self.old self.new (byte ∷ []) }
-        ensures full { length (room_of self.old) ≡ 0 → Refuses result ErrorKind.Buffer
+        ensures buffer { length (room_of self.old) ≡ 0 → Refuses result ErrorKind.Buffer
             × AppendsNothing self.old self.new }
     {
         self.write(&[byte])
@@ -72,7 +72,7 @@ impl<'b> SliceWriter<'b> {
         ensures slice { KeepsSlice self.old self.new }
         ensures fits { length bytes.now ≤ length (room_of self.old) → IsOk result
             × Appends self.old self.new bytes.now }
-        ensures full { length (room_of self.old) < length bytes.now → Refuses result ErrorKind.Buffer
+        ensures buffer { length (room_of self.old) < length bytes.now → Refuses result ErrorKind.Buffer
             × AppendsNothing self.old self.new }
     {
         check_room(bytes.len(), self.remaining())?;
@@ -89,12 +89,12 @@ impl<'b> SliceWriter<'b> {
     /// Those of [`EncodeComponents::value_len`], then Buffer if the content has no room.
     pub(crate) fn components<R: EncodeComponents>(&mut self, row: &R) -> Result<()>
         ensures slice { KeepsSlice self.old self.new }
-        ensures none { IsOverlong (R.content row.now) → Refuses result ErrorKind.Overlength
+        ensures overlength { IsOverlong (R.content row.now) → Refuses result ErrorKind.Overlength
             × AppendsNothing self.old self.new }
         ensures fits { (bytes : List ℕ) → R.content row.now ≡ Some bytes → length bytes ≤ max_length
             → length bytes ≤ length (room_of self.old)
             → IsOk result × Appends self.old self.new bytes }
-        ensures full { (bytes : List ℕ) → R.content row.now ≡ Some bytes → length bytes ≤ max_length
+        ensures buffer { (bytes : List ℕ) → R.content row.now ≡ Some bytes → length bytes ≤ max_length
             → length (room_of self.old) < length bytes
             → Refuses result ErrorKind.Buffer × AppendsNothing self.old self.new }
     {
@@ -113,12 +113,12 @@ impl<'b> SliceWriter<'b> {
     /// Those of [`encoded_len`], then Buffer if the element has no room.
     pub fn element<T: EncodeValue + FixedTag>(&mut self, value: &T) -> Result<()>
         ensures slice { KeepsSlice self.old self.new }
-        ensures none { element_of T.number (T.content value.now) ≡ None
+        ensures overlength { element_of T.tag_byte (T.content value.now) ≡ None
             → Refuses result ErrorKind.Overlength × AppendsNothing self.old self.new }
-        ensures fits { (bytes : List ℕ) → element_of T.number (T.content value.now) ≡ Some bytes
+        ensures fits { (bytes : List ℕ) → element_of T.tag_byte (T.content value.now) ≡ Some bytes
             → length bytes ≤ length (room_of self.old)
             → IsOk result × Appends self.old self.new bytes }
-        ensures full { (bytes : List ℕ) → element_of T.number (T.content value.now) ≡ Some bytes
+        ensures buffer { (bytes : List ℕ) → element_of T.tag_byte (T.content value.now) ≡ Some bytes
             → length (room_of self.old) < length bytes
             → Refuses result ErrorKind.Buffer × AppendsNothing self.old self.new }
     {
@@ -140,14 +140,14 @@ impl<'b> SliceWriter<'b> {
     ) -> Result<()>
         requires { number ≤ 30 }
         ensures slice { KeepsSlice self.old self.new }
-        ensures none { field_of number T.number (option_map T.content field.now) ≡ None
+        ensures overlength { field_of number T.tag_byte (option_map T.content field.now) ≡ None
             → Refuses result ErrorKind.Overlength × AppendsNothing self.old self.new }
         ensures fits { (bytes : List ℕ)
-            → field_of number T.number (option_map T.content field.now) ≡ Some bytes
+            → field_of number T.tag_byte (option_map T.content field.now) ≡ Some bytes
             → length bytes ≤ length (room_of self.old)
             → IsOk result × Appends self.old self.new bytes }
-        ensures full { (bytes : List ℕ)
-            → field_of number T.number (option_map T.content field.now) ≡ Some bytes
+        ensures buffer { (bytes : List ℕ)
+            → field_of number T.tag_byte (option_map T.content field.now) ≡ Some bytes
             → length (room_of self.old) < length bytes
             → Refuses result ErrorKind.Buffer × AppendsNothing self.old self.new }
     {

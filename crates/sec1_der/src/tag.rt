@@ -1,5 +1,5 @@
 ghost use Rattle.std.specs.Prelude.{◌≡◌, ◌+◌, ◌≤◌, ◌↔◌, OkIff, IfErr, IsTrue};
-ghost use Rattle.sec1_der.specs.Elements.{IsTag, IsConstructed};
+ghost use Rattle.sec1_der.specs.Elements.{IsTag, IsConstructed, explicit_tag};
 
 use crate::{ErrorKind, Result};
 use std::marker::Model;
@@ -23,6 +23,9 @@ impl Model for Tag {
     ghost inverse = { λ n. record { byte = n } };
 }
 
+/// The tag byte of an explicit field `[0]`: the class context-specific, and constructed (X.690 section 8.1.2).
+const EXPLICIT: u8 = 0xA0;
+
 impl Tag {
     /// `02`, of an INTEGER.
     pub const INTEGER: Tag = Tag { byte: 0x02 };
@@ -43,10 +46,10 @@ impl Tag {
     pub const SEQUENCE: Tag = Tag { byte: 0x30 };
 
     /// `A0`, of an explicit field `[0]`.
-    pub const CONTEXT_0: Tag = Tag { byte: 0xA0 };
+    pub const CONTEXT_0: Tag = Tag { byte: EXPLICIT };
 
     /// `A1`, of an explicit field `[1]`.
-    pub const CONTEXT_1: Tag = Tag { byte: 0xA1 };
+    pub const CONTEXT_1: Tag = Tag { byte: EXPLICIT + 1 };
 
     /// Returns the tag with this byte.
     ///
@@ -56,7 +59,7 @@ impl Tag {
     /// are all ones, since it begins a high tag number (section 8.1.2.4).
     pub fn from_byte(byte: u8) -> Result<Tag>
         ensures tag { OkIff result (IsTag byte) byte }
-        ensures other { IfErr result (λ e. e.kind ≡ ErrorKind.Tag) }
+        ensures kind { IfErr result (λ e. e.kind ≡ ErrorKind.Tag) }
     {
         if byte == 0 || byte % 32 == 31 {
             return Err(ErrorKind::Tag.into());
@@ -75,10 +78,10 @@ impl Tag {
     /// Returns the tag of an explicit field `[number]`.
     pub(crate) fn context(number: u8) -> Tag
         requires { number ≤ 30 }
-        ensures { result ≡ 0xA0 + number }
+        ensures { result ≡ explicit_tag number }
     {
         Tag {
-            byte: 0xA0 + number,
+            byte: EXPLICIT + number,
         }
     }
 

@@ -94,10 +94,10 @@ pub fn read_der<'a, T: DecodeValue<'a> + FixedTag + UniqueContent + Drop>(
     input: &'a [u8],
 ) -> Result<T>
     // What is read has these bytes, and a value with these bytes is read.
-    ensures found { IfOk result (λ value. element_of T.number (T.content value) ≡ Some input.now) }
-    ensures only { (value : T) → element_of T.number (T.content value) ≡ Some input.now → result ≡ Ok value }
+    ensures found { IfOk result (λ value. element_of T.tag_byte (T.content value) ≡ Some input.now) }
+    ensures only { (value : T) → element_of T.tag_byte (T.content value) ≡ Some input.now → result ≡ Ok value }
     ensures kinds { IfErr result (λ e. IsReadingFault e.kind) }
-    ensures kind { HasFault result (element_fault T.number T.fault end_fault input.now) }
+    ensures kind { HasFault result (element_fault T.tag_byte T.fault end_fault input.now) }
 {
     T::one();
     from_der(input)

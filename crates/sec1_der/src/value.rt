@@ -3,7 +3,7 @@ ghost use Rattle.std.specs.Prelude.{◌≡◌, ◌<◌, ◌≤◌, ℕ, List, []
 ghost use Rattle.sec1_der.specs.BackWriters.{end_of, front_of, KeepsEnd, PutsNothing, PutsInFront};
 ghost use Rattle.sec1_der.specs.Elements.{max_length, IsOverlong};
 ghost use Rattle.sec1_der.specs.Faults.{Refuses, IsReadingFault};
-ghost use Rattle.sec1_der.specs.Readers.{before};
+ghost use Rattle.sec1_der.specs.Readers.{reader_over};
 ghost use Rattle.sec1_der.specs.Refusals.{Fault, HasFault, never_late};
 ghost use Rattle.sec1_der.specs.SliceWriters.{room_of, KeepsSlice, AppendsNothing, Appends};
 
@@ -15,11 +15,11 @@ pub trait FixedTag {
     const TAG: Tag;
 
     /// The number of the tag byte.
-    ghost number: { ℕ };
+    ghost tag_byte: { ℕ };
 
     /// Returns `Self::TAG`. A contract knows its number.
     fn fixed_tag() -> Tag
-        ensures { result ≡ number };
+        ensures { result ≡ tag_byte };
 }
 
 /// A type whose values have a content, the bytes in their element after the header.
@@ -31,7 +31,7 @@ pub trait ValueContent {
     ghost is_content: { List ℕ → Type 0 };
 
     /// The content of a value is a content of the type, if an element can hold it.
-    ghost content_is_one: { (value : Self) (bytes : List ℕ) → content value ≡ Some bytes
+    ghost content_is_valid: { (value : Self) (bytes : List ℕ) → content value ≡ Some bytes
         → length bytes ≤ max_length → is_content bytes };
 
     /// The kind of the error by which bytes are refused as a content of the type, or None if they are a content.
@@ -55,7 +55,7 @@ pub trait DecodeValue<'a>: ValueContent + Sized {
         requires { length reader.old.unread ≤ max_length }
         ensures found { IfOk result (λ value. Self.content value ≡ Some reader.old.unread) }
         ensures allowed { OnOk result (Self.is_content reader.old.unread) }
-        ensures read { OnOk result (reader.new ≡ before []) }
+        ensures read { OnOk result (reader.new ≡ reader_over []) }
         ensures only { reader.old.failed ≡ false → Self.is_content reader.old.unread → IsOk result }
         ensures kinds { reader.old.failed ≡ false → IfErr result (λ e. IsReadingFault e.kind) }
         ensures kind { reader.old.failed ≡ false → HasFault result (Self.fault reader.old.unread) }
@@ -72,8 +72,8 @@ pub trait EncodeValue: ValueContent {
     ///
     /// Overlength if there is no content, or if it is longer than 268,435,455 bytes.
     fn value_len(&self) -> Result<Length>
-        ensures none { IsOverlong (Self.content self.now) → Refuses result ErrorKind.Overlength }
-        ensures some { (bytes : List ℕ) → Self.content self.now ≡ Some bytes → length bytes ≤ max_length
+        ensures overlength { IsOverlong (Self.content self.now) → Refuses result ErrorKind.Overlength }
+        ensures only { (bytes : List ℕ) → Self.content self.now ≡ Some bytes → length bytes ≤ max_length
             → result ≡ Ok (length bytes) };
 
     /// Appends the content.
@@ -83,12 +83,12 @@ pub trait EncodeValue: ValueContent {
     /// Those of [`value_len`](EncodeValue::value_len), then Buffer if the content has no room. Nothing is written then.
     fn encode_value(&self, writer: &mut SliceWriter) -> Result<()>
         ensures slice { KeepsSlice writer.old writer.new }
-        ensures none { IsOverlong (Self.content self.now) → Refuses result ErrorKind.Overlength
+        ensures overlength { IsOverlong (Self.content self.now) → Refuses result ErrorKind.Overlength
             × AppendsNothing writer.old writer.new }
         ensures fits { (bytes : List ℕ) → Self.content self.now ≡ Some bytes → length bytes ≤ max_length
             → length bytes ≤ length (room_of writer.old)
             → IsOk result × Appends writer.old writer.new bytes }
-        ensures full { (bytes : List ℕ) → Self.content self.now ≡ Some bytes → length bytes ≤ max_length
+        ensures buffer { (bytes : List ℕ) → Self.content self.now ≡ Some bytes → length bytes ≤ max_length
             → length (room_of writer.old) < length bytes
             → Refuses result ErrorKind.Buffer × AppendsNothing writer.old writer.new };
 
@@ -100,12 +100,12 @@ pub trait EncodeValue: ValueContent {
     fn encode_back(&self, writer: &mut BackWriter) -> Result<()>
         ensures slice { KeepsEnd writer.old writer.new }
         ensures grows { length (end_of writer.old) ≤ length (end_of writer.new) }
-        ensures none { IsOverlong (Self.content self.now) → Refuses result ErrorKind.Overlength
+        ensures overlength { IsOverlong (Self.content self.now) → Refuses result ErrorKind.Overlength
             × PutsNothing writer.old writer.new }
         ensures fits { (bytes : List ℕ) → Self.content self.now ≡ Some bytes → length bytes ≤ max_length
             → length bytes ≤ length (front_of writer.old)
             → IsOk result × PutsInFront writer.old writer.new bytes }
-        ensures full { (bytes : List ℕ) → Self.content self.now ≡ Some bytes → length bytes ≤ max_length
+        ensures buffer { (bytes : List ℕ) → Self.content self.now ≡ Some bytes → length bytes ≤ max_length
             → length (front_of writer.old) < length bytes
             → Refuses result ErrorKind.Buffer × PutsNothing writer.old writer.new };
 
@@ -132,5 +132,5 @@ pub trait EncodeValue: ValueContent {
 /// A value that is read and written as a SEQUENCE (X.690 section 8.9).
 pub trait Sequence<'a>: DecodeValue<'a> + EncodeValue + FixedTag {
     /// The tag is `30`.
-    ghost is_sequence: { Self.number ≡ 0x30 };
+    ghost is_sequence: { Self.tag_byte ≡ 0x30 };
 }

@@ -13,7 +13,7 @@ pub struct VersionOne;
 impl FixedTag for VersionOne {
     const TAG: Tag = Tag::INTEGER;
 
-    ghost number = { 0x02 };
+    ghost tag_byte = { 0x02 };
 
     fn fixed_tag() -> Tag
         ensures { result ≡ 0x02 }
@@ -30,7 +30,7 @@ impl ValueContent for VersionOne {
 
     ghost is_content = { IsVersionOne };
 
-    ghost content_is_one = { λ _ bytes same _. only_one bytes same };
+    ghost content_is_valid = { λ _ bytes same _. only_one bytes same };
 
     ghost fault = { byte_fault 1 };
 }

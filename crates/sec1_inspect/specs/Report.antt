@@ -4,8 +4,8 @@ use Rattle.std.specs.Fmt.{decimal}
 use Rattle.hex.specs.Hex.{decode_of, encode_upper}
 use Rattle.sec1.specs.Keys.{Key, IsKeyOf}
 use Rattle.sec1.specs.Der.{dotted, Tree, IsTreeOf, depth, size}
-use Rattle.sec1.specs.Points.{Point, IsPoint, IsEncoding, enc}
-use Rattle.sec1.specs.Tags.{tag_of}
+use Rattle.sec1.specs.Points.{Point, IsPoint, IsEncoding, encoding}
+use Rattle.sec1.specs.Tags.{point_tag}
 use Rattle.sec1.specs.declared.point.tag.Tag.{Tag}
 use Rattle.sec1.specs.declared.point.tag.Tag.TheVariants.{Identity, CompressedEvenY, CompressedOddY, Uncompressed, Compact, HybridEvenY, HybridOddY}
 
@@ -46,8 +46,8 @@ tag_words size HybridOddY = codes "hybrid odd " ++ decimal size
 pub record IsPointText (size : ℕ) (bytes text : List ℕ) : Type 0 where
   pub point : Point
   pub fits : IsPoint size point
-  pub encoded : bytes ≡ enc size point
-  pub words : text ≡ tag_words size (tag_of point)
+  pub encoded : bytes ≡ encoding size point
+  pub words : text ≡ tag_words size (point_tag point)
 
 -- the words for the point that these bytes encode at the first of these sizes at which they encode any, else `none`
 abbrev pub IsFirstPointText : List ℕ → List ℕ → List ℕ → Type 0

@@ -1,8 +1,8 @@
 //! The coordinates of a point, by the form of its encoding.
 
 ghost use Rattle.std.specs.Prelude.{◌≡◌, bytes_eq};
-ghost use Rattle.sec1.specs.Tags.{tag_of};
-ghost use Rattle.sec1.specs.Coordinates.{first_bytes, lent_point};
+ghost use Rattle.sec1.specs.Tags.{point_tag};
+ghost use Rattle.sec1.specs.Coordinates.{first_bytes, coordinates_point};
 
 use super::Tag;
 use std::fmt;
@@ -24,9 +24,9 @@ pub enum Coordinates<'a, const N: usize> {
 
 impl<const N: usize> Coordinates<'_, N> {
     /// Returns the tag of the encoding.
-    #[tactic(auto, using(crate::proofs::Firsts::lent_parity, crate::proofs::Firsts::lent_none))]
+    #[tactic(auto, using(crate::proofs::Firsts::coordinates_parity, crate::proofs::Firsts::coordinates_none))]
     pub fn tag(&self) -> Tag
-        ensures { result ≡ tag_of (lent_point self.now) }
+        ensures { result ≡ point_tag (coordinates_point self.now) }
     {
         match *self {
             Coordinates::Identity => Tag::Identity,

@@ -5,7 +5,7 @@ ghost use Rattle.std.specs.Cmp.{on_per, on_equiv, on_total, partial_equiv_from_e
 ghost use Rattle.std.specs.Cmp.Lexicographic.{slice_cmp};
 ghost use Rattle.std.specs.Ordering.{nat_cmp};
 ghost use Rattle.sec1.specs.EncodedPoints.{point_of};
-ghost use Rattle.sec1.specs.Points.{enc};
+ghost use Rattle.sec1.specs.Points.{encoding};
 ghost use Rattle.sec1.specs.PointOrder.{point_cmp, point_cmp_total, same_point, same_point_equiv, IsBelow};
 
 use super::EncodedPoint;
@@ -20,7 +20,7 @@ impl<const N: usize, const L: usize> PartialEq for EncodedPoint<N, L> {
     fn eq(&self, other: &Self) -> bool
         ensures value { result ≡ same_point (point_of self.now) (point_of other.now) }
         ensures same { IsTrue result ↔ (point_of self.now ≡ point_of other.now) }
-        ensures bytes { IsTrue result ↔ (enc N (point_of self.now) ≡ enc N (point_of other.now)) }
+        ensures bytes { IsTrue result ↔ (encoding N (point_of self.now) ≡ encoding N (point_of other.now)) }
     {
         self.ct_eq(other)
     }
@@ -57,7 +57,7 @@ impl<const N: usize, const L: usize> Ord for EncodedPoint<N, L> {
         ensures above { (result ≡ Greater) ↔ IsBelow (point_of other.now) (point_of self.now) }
         ensures same { (result ≡ Equal) ↔ (point_of self.now ≡ point_of other.now) }
         ensures bytes { result
-            ≡ slice_cmp nat_cmp (enc N (point_of self.now)) (enc N (point_of other.now)) }
+            ≡ slice_cmp nat_cmp (encoding N (point_of self.now)) (encoding N (point_of other.now)) }
     {
         // The compiler knows the number of words in these, and compares them without a loop.
         if self.len == L && other.len == L {
@@ -95,9 +95,9 @@ impl<const N: usize, const L: usize> Hash for EncodedPoint<N, L> {
     ghost use Rattle.sec1.specs.PointOrder.{same_point-true};
 
     // What the slice of the encoding feeds.
-    ghost hash_input = { λ p. fed.slice fed.u8 (enc N (point_of p)) };
+    ghost hash_input = { λ p. fed.slice fed.u8 (encoding N (point_of p)) };
 
-    ghost respects_eq = { λ p q h. ap (λ (r : Point). fed.slice fed.u8 (enc N r)) (same_point-true (point_of p) (point_of q) h) };
+    ghost respects_eq = { λ p q h. ap (λ (r : Point). fed.slice fed.u8 (encoding N r)) (same_point-true (point_of p) (point_of q) h) };
 
     fn hash<H: Hasher>(&self, state: &mut H) {
         self.as_bytes().hash(state);

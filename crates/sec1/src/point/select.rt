@@ -2,7 +2,7 @@
 
 ghost use Rattle.std.specs.Prelude.{◌≡◌, ◌↔◌, if◌then◌else◌, IsTrue};
 ghost use Rattle.sec1.specs.EncodedPoints.{point_of, IsWiped};
-ghost use Rattle.sec1.specs.Points.{identity, enc};
+ghost use Rattle.sec1.specs.Points.{identity, encoding};
 
 use super::EncodedPoint;
 
@@ -10,7 +10,7 @@ impl<const N: usize, const L: usize> EncodedPoint<N, L> {
     /// Returns `true` if the points are the same.
     pub fn ct_eq(&self, other: &Self) -> bool
         ensures same { IsTrue result ↔ (point_of self.now ≡ point_of other.now) }
-        ensures bytes { IsTrue result ↔ (enc N (point_of self.now) ≡ enc N (point_of other.now)) }
+        ensures bytes { IsTrue result ↔ (encoding N (point_of self.now) ≡ encoding N (point_of other.now)) }
     {
         // Two arrays are compared without a loop.
         if self.len == L && other.len == L {

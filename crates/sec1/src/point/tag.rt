@@ -1,7 +1,7 @@
 //! The first byte of a point's encoding.
 
 ghost use Rattle.std.specs.Prelude.{◌≡◌, ◌<◌, ◌^◌, if◌then◌else◌};
-ghost use Rattle.sec1_der.specs.Numbers.{num};
+ghost use Rattle.sec1_der.specs.Numbers.{number_of};
 ghost use Rattle.sec1.specs.Points.{is_odd};
 ghost use Rattle.sec1.specs.Tags.{byte_of, ReadsTag, message_len, is_compact, is_compressed, is_hybrid, is_identity};
 
@@ -92,7 +92,7 @@ impl Tag {
 
     /// Returns the compressed form's tag for the parity of y.
     pub(super) fn compress_y<const N: usize>(y: &[u8; N]) -> Self
-        ensures { byte_of result ≡ (if is_odd (num y.now) then 3 else 2) }
+        ensures { byte_of result ≡ (if is_odd (number_of y.now) then 3 else 2) }
     {
         if is_odd(y) {
             Tag::CompressedOddY
@@ -103,7 +103,7 @@ impl Tag {
 
     /// Returns the hybrid form's tag for the parity of y.
     pub(super) fn hybrid_y<const N: usize>(y: &[u8; N]) -> Self
-        ensures { byte_of result ≡ (if is_odd (num y.now) then 7 else 6) }
+        ensures { byte_of result ≡ (if is_odd (number_of y.now) then 7 else 6) }
     {
         if is_odd(y) {
             Tag::HybridOddY
@@ -116,7 +116,7 @@ impl Tag {
 /// Returns `true` if the number in the bytes, the most significant first, is odd. Without bytes it is 0.
 #[tactic(auto, using(crate::proofs::Digits::parity_of_last, crate::proofs::Digits::num_of_none))]
 fn is_odd<const N: usize>(y: &[u8; N]) -> bool
-    ensures { result ≡ is_odd (num y.now) }
+    ensures { result ≡ is_odd (number_of y.now) }
 {
     N != 0 && y[N - 1] % 2 == 1
 }

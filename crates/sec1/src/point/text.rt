@@ -6,7 +6,7 @@ ghost use Rattle.std.specs.Box.{boxed_slice_items};
 ghost use Rattle.hex.specs.Hex.{encode_upper, encode_lower, IsBytes};
 ghost use Rattle.serde_json.specs.Data.{string};
 ghost use Rattle.serde_json.specs.View.{view};
-ghost use Rattle.sec1.specs.Points.{enc};
+ghost use Rattle.sec1.specs.Points.{encoding};
 ghost use Rattle.sec1.specs.HexTexts.{IsHexOf, is_one_case};
 ghost use Rattle.sec1.specs.EncodedPoints.{point_of, ReadsText, ReadsJson};
 ghost use Rattle.sec1.specs.declared.error.Error.TheVariants.{Memory};
@@ -26,7 +26,7 @@ impl<const N: usize, const L: usize> EncodedPoint<N, L> {
     ///
     /// Memory if the allocation fails.
     pub fn to_bytes(&self, alloc: Global) -> Result<BoxedSlice<u8>>
-        ensures ok { IfOk result (λ bytes. boxed_slice_items bytes ≡ enc N (point_of self.now)) }
+        ensures found { IfOk result (λ bytes. boxed_slice_items bytes ≡ encoding N (point_of self.now)) }
         ensures kind { IfErr result (λ e. e ≡ Memory) }
     {
         BoxedSlice::from_slice(alloc, self.as_bytes()).map_err(|_| Error::Memory)
@@ -38,7 +38,7 @@ impl<const N: usize, const L: usize> EncodedPoint<N, L> {
     ///
     /// Memory if the allocation fails.
     pub fn to_lower_hex(&self, alloc: Global) -> Result<String>
-        ensures ok { IfOk result (λ text. string_bytes text ≡ encode_lower (enc N (point_of self.now))) }
+        ensures found { IfOk result (λ text. string_bytes text ≡ encode_lower (encoding N (point_of self.now))) }
         ensures kind { IfErr result (λ e. e ≡ Memory) }
     {
         hex::encode(alloc, self.as_bytes()).map_err(|_| Error::Memory)
@@ -50,7 +50,7 @@ impl<const N: usize, const L: usize> EncodedPoint<N, L> {
     ///
     /// Memory if the allocation fails.
     pub fn to_upper_hex(&self, alloc: Global) -> Result<String>
-        ensures ok { IfOk result (λ text. string_bytes text ≡ encode_upper (enc N (point_of self.now))) }
+        ensures found { IfOk result (λ text. string_bytes text ≡ encode_upper (encoding N (point_of self.now))) }
         ensures kind { IfErr result (λ e. e ≡ Memory) }
     {
         hex::encode_upper(alloc, self.as_bytes()).map_err(|_| Error::Memory)
@@ -62,7 +62,7 @@ impl<const N: usize, const L: usize> EncodedPoint<N, L> {
     ///
     /// Memory if the allocation fails.
     pub fn to_json(&self, alloc: Global) -> Result<Value>
-        ensures ok { IfOk result (λ json. view json ≡ string (encode_upper (enc N (point_of self.now)))) }
+        ensures found { IfOk result (λ json. view json ≡ string (encode_upper (encoding N (point_of self.now)))) }
         ensures kind { IfErr result (λ e. e ≡ Memory) }
     {
         Ok(Value::String(self.to_upper_hex(alloc)?))
@@ -136,7 +136,7 @@ impl<const N: usize, const L: usize> FromStr for EncodedPoint<N, L> {
 
 /// Prints the encoding in hexadecimal, with the letters A to F. A width is ignored.
 impl<const N: usize, const L: usize> fmt::Display for EncodedPoint<N, L> {
-    ghost output = { λ point. Some (encode_upper (enc N (point_of point))) };
+    ghost output = { λ point. Some (encode_upper (encoding N (point_of point))) };
 
     fn fmt<W: fmt::Write>(&self, f: &mut fmt::Formatter<W>) -> fmt::Result {
         let bytes = self.as_bytes();

@@ -1,7 +1,7 @@
 //! Where the parts of a key stand: each is found from the end of the bytes, by the lengths of the fields behind it.
 ghost use Rattle.std.specs.Prelude.{◌≡◌, length};
 ghost use Rattle.std.specs.Option.{option_map};
-ghost use Rattle.sec1.specs.Keys.{IsKeyOf, HasRoom, NameCurve, bytes_of, parameters_field, public_key_field};
+ghost use Rattle.sec1.specs.Keys.{IsKeyOf, PublicKeyFits, IsNamedCurve, bytes_of, parameters_field, public_key_field};
 ghost use Rattle.sec1.specs.Parameters.{curve_of};
 ghost use Rattle.sec1_c.specs.KeyPlaces.{ArePartsOf, AreWithin, GiveAgain, content_len};
 
@@ -49,7 +49,7 @@ fn bytes_len(bytes: Option<&[u8]>) -> Option<usize>
 /// Returns the length in bytes of the field `[0]`.
 #[tactic(auto, using(crate::proofs::FieldLemmas::parameters_counted))]
 fn parameters_field_len(parameters: &Option<EcParameters>) -> usize
-    requires { NameCurve (option_map curve_of parameters.now) }
+    requires { IsNamedCurve (option_map curve_of parameters.now) }
     ensures { result ≡ length (bytes_of (parameters_field (option_map curve_of parameters.now))) }
 {
     match der::context_specific_len(0, parameters) {
@@ -61,7 +61,7 @@ fn parameters_field_len(parameters: &Option<EcParameters>) -> usize
 /// Returns the length in bytes of the field `[1]`.
 #[tactic(auto, using(crate::proofs::FieldLemmas::public_key_counted, crate::proofs::FieldLemmas::bits_fit))]
 fn public_key_field_len(public_key: Option<&[u8]>) -> usize
-    requires { HasRoom (option_map (λ bytes. bytes.now) public_key) }
+    requires { PublicKeyFits (option_map (λ bytes. bytes.now) public_key) }
     ensures { result ≡ length (bytes_of (public_key_field (option_map (λ bytes. bytes.now) public_key.entry))) }
 {
     let Some(bytes) = public_key else {

@@ -1,9 +1,9 @@
 //! The functions on points at field elements of N bytes, where L is 2N + 1.
 ghost use Rattle.std.specs.Prelude.{◌≡◌, ◌≢◌, ◌<◌};
 ghost use Rattle.std.specs.Option.{option_map};
-ghost use Rattle.sec1_der.specs.Numbers.{num};
+ghost use Rattle.sec1_der.specs.Numbers.{number_of};
 ghost use Rattle.sec1.specs.EncodedPoints.{point_of};
-ghost use Rattle.sec1.specs.Points.{Point, IsEncoding, Fits, compressed_point, enc, hybrid_point};
+ghost use Rattle.sec1.specs.Points.{Point, IsEncoding, Fits, compressed_point, encoding, hybrid_point};
 ghost use Rattle.sec1_c.specs.FieldLengths.{Encodes, EncodesBoth};
 ghost use Rattle.sec1_c.specs.Outputs.{Writes, WritesNothing};
 ghost use Rattle.sec1_c.specs.PointPlaces.{ArePointPartsOf, IsOrderOf, order_number};
@@ -66,7 +66,7 @@ fn places<const N: usize, const L: usize>(bytes: &[u8], point: &EncodedPoint<N, 
 
 /// Returns the length in bytes of a coordinate.
 fn coordinate_len<const N: usize>(coordinate: Option<&[u8; N]>) -> Option<usize>
-    ensures { result ≡ option_map (λ _. N) (option_map (λ bytes. num bytes.now) coordinate.entry) }
+    ensures { result ≡ option_map (λ _. N) (option_map (λ bytes. number_of bytes.now) coordinate.entry) }
 {
     match coordinate {
         None => None,
@@ -83,7 +83,7 @@ pub fn compress<const N: usize, const L: usize>(
     requires fits { Fits N L }
     requires small { L < 134 }
     ensures point { (p : Point) → Encodes N p bytes.now
-        → Writes (enc N (compressed_point p)) out.old out.new result len.new }
+        → Writes (encoding N (compressed_point p)) out.old out.new result len.new }
     ensures no_point { ¬ IsEncoding N bytes.now
         → WritesNothing (error_number Error.PointEncoding) out.old out.new result len.old len.new }
 {
@@ -102,7 +102,7 @@ pub fn to_hybrid<const N: usize, const L: usize>(
     requires fits { Fits N L }
     requires small { L < 134 }
     ensures point { (p : Point) → Encodes N p bytes.now
-        → Writes (enc N (hybrid_point p)) out.old out.new result len.new }
+        → Writes (encoding N (hybrid_point p)) out.old out.new result len.new }
     ensures no_point { ¬ IsEncoding N bytes.now
         → WritesNothing (error_number Error.PointEncoding) out.old out.new result len.old len.new }
 {

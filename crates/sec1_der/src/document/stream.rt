@@ -5,7 +5,7 @@ ghost use Rattle.std.specs.Io.KnownBytes.{Appends, Consumes, IsAtEnd};
 ghost use Rattle.std.specs.List.{All};
 ghost use Rattle.sec1_der.specs.Elements.{IsElement};
 ghost use Rattle.sec1_der.specs.Faults.{IsIoOrMemory, Refuses};
-ghost use Rattle.sec1_der.specs.ReadsDocument.{IsElementFault, ReadsElement, RefusesElement, ReadsHeader, RefusesContent};
+ghost use Rattle.sec1_der.specs.ReadsDocument.{IsElementFault, ConsumesElement, RefusesElement, ReadsHeader, RefusesContent};
 ghost use Rattle.sec1_der.specs.Refusals.{document_fault};
 ghost use Rattle.sec1_der.specs.Streams.{AppendsBeginning, ReadsOnto, TakesFewer};
 ghost use Rattle.sec1_der.specs.declared.error.ErrorKind.TheVariants.{Io};
@@ -35,7 +35,7 @@ impl SecretDocument {
         // Io comes exactly where a read failed.
         ensures io { Refuses result Io ↔ IsTrue (R.failed reader.new) }
         // The document is all that the reader had left.
-        ensures found { IfOk result (ReadsElement (R.left reader.old) (R.left reader.new)) }
+        ensures found { IfOk result (ConsumesElement (R.left reader.old) (R.left reader.new)) }
         // The kind of a refusal says what was taken.
         ensures refused { IfErr result (λ error. RefusesElement error.kind (R.left reader.old) (R.left reader.new)) }
         // One element that is all there is, is read, unless a read failed or a growth was refused.
@@ -99,7 +99,7 @@ impl SecretDocument {
 fn read_element<R: Read>(alloc: Global, reader: &mut R) -> Result<SecretDocument>
     requires { R.failed reader.old ≡ false }
     ensures io { Refuses result Io ↔ IsTrue (R.failed reader.new) }
-    ensures found { IfOk result (ReadsElement (R.left reader.old) (R.left reader.new)) }
+    ensures found { IfOk result (ConsumesElement (R.left reader.old) (R.left reader.new)) }
     ensures refused { IfErr result (λ error. RefusesElement error.kind (R.left reader.old) (R.left reader.new)) }
 {
     let header = read_header(reader)?;

@@ -1,21 +1,21 @@
 use Rattle.std.proofs.Common.{refl, lit≤}
-use Rattle.sec1_der.specs.Elements.{len}
-use Rattle.sec1_der.specs.IdentifierLaws.{is_identifier-tells}
+use Rattle.sec1_der.specs.Elements.{length_octets}
+use Rattle.sec1_der.specs.IdentifierLaws.{is_identifier-true}
 use Rattle.sec1_der.specs.Trees.{IsTreeOf}
 use Rattle.sec1.specs.Examples.{p_256_key, p_256_bytes}
-use Rattle.sec1.specs.Keys.{key_tree, NameCurve, HasRoom}
+use Rattle.sec1.specs.Keys.{key_tree, IsNamedCurve, PublicKeyFits}
 use Rattle.sec1.proofs.KeyTrees.{fields_are_trees, sequence}
 use Rattle.sec1.proofs.laws.spelled_key.Goals as goal
 
-curve : NameCurve p_256_key.parameters
-curve = is_identifier-tells _ refl
+curve : IsNamedCurve p_256_key.parameters
+curve = is_identifier-true _ refl
 
-room : HasRoom p_256_key.public_key
-unfolding len
+room : PublicKeyFits p_256_key.public_key
+unfolding length_octets
 room = lit≤ tt
 
 tree : IsTreeOf (key_tree p_256_key) p_256_bytes
-unfolding len
+unfolding length_octets
 tree = record { tree = (sequence.0, sequence.1, lit≤ tt, fields_are_trees p_256_key (lit≤ tt) curve room); whole = refl }
 
 pub returns : goal.returns

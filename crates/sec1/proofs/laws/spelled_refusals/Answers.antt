@@ -1,10 +1,10 @@
 use Rattle.std.proofs.Common.{refl}
-use Rattle.sec1_der.specs.Elements.{len}
+use Rattle.sec1_der.specs.Elements.{length_octets}
 use Rattle.sec1.specs.KeyRefusals.{key_fault}
 use Rattle.sec1.proofs.laws.spelled_refusals.Goals as goal
 
 pub returns : goal.returns
-unfolding len key_fault
+unfolding length_octets key_fault
 returns c = record {
   no_byte = refl;
   tag_before_length = refl;

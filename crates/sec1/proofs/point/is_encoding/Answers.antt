@@ -1,8 +1,8 @@
 use Rattle.std.proofs.Common.{◌∙◌, ◌≡◌, ◌∷◌, ◌%◌, length, refl, arith, sym, ap}
 use Rattle.std.proofs.lemmas.Bool.{eqb-true, eq-eqb}
 use Rattle.sec1.specs.Points.{IsEncoding, meaning}
-use Rattle.sec1.specs.Tags.{byte_of, tag_of}
-use Rattle.sec1.proofs.PointLemmas.{Passes, encoding_passes, passing_encoding, encoding_tag, encoding_some}
+use Rattle.sec1.specs.Tags.{byte_of, point_tag}
+use Rattle.sec1.proofs.PointLemmas.{Skips, encoding_passes, passing_encoding, encoding_tag, encoding_some}
 use Rattle.sec1.proofs.point.is_encoding.Goals as goal
 use Rattle.sec1.proofs.point.is_encoding.Goals.{After-message_len}
 
@@ -12,17 +12,17 @@ returns-in_default c = (λ h. absurd cc, λ h. absurd (encoding_some c.args.n c.
 pub returns-in_default-from_u8 : goal.returns-in_default-from_u8
 returns-in_default-from_u8 c = (
   λ h. absurd cc,
-  λ h. absurd (c.in_default-from_u8.ensures.none (tag_of (meaning c.args.n c.args.input.now)) (encoding_tag c.args.n c.in-Some.first.now c.in-Some.rest.now c.args.input.now c.in-Some.ensures.cases.0 h)),
+  λ h. absurd (c.in_default-from_u8.ensures.none (point_tag (meaning c.args.n c.args.input.now)) (encoding_tag c.args.n c.in-Some.first.now c.in-Some.rest.now c.args.input.now c.in-Some.ensures.cases.0 h)),
 )
 
 -- the input is the tag's byte and the rest
 parts : (c : After-message_len) → c.args.input.now ≡ byte_of c.in-Ok.tag ∷ c.in-Some.rest.now
 parts c = c.in-Some.ensures.cases.0 ∙ ap (λ b. b ∷ c.in-Some.rest.now) (sym c.in-Ok.ensures.found)
 
-passing : (c : After-message_len) → Passes c.args.n c.in-Ok.tag c.in-Some.rest.now → IsEncoding c.args.n c.args.input.now
+passing : (c : After-message_len) → Skips c.args.n c.in-Ok.tag c.in-Some.rest.now → IsEncoding c.args.n c.args.input.now
 passing c p = passing_encoding c.args.n c.in-Ok.tag c.in-Some.rest.now c.args.input.now c.requires.positive (λ i. omega (arith, c.type_inv.input i)) (parts c) p
 
-passes : (c : After-message_len) → IsEncoding c.args.n c.args.input.now → Passes c.args.n c.in-Ok.tag c.in-Some.rest.now
+passes : (c : After-message_len) → IsEncoding c.args.n c.args.input.now → Skips c.args.n c.in-Ok.tag c.in-Some.rest.now
 passes c e = encoding_passes c.args.n c.in-Ok.tag c.in-Some.rest.now c.args.input.now c.requires.positive (parts c) e
 
 pub returns-then-input-message_len : goal.returns-then-input-message_len

@@ -1,6 +1,6 @@
 use Rattle.std.proofs.Common.{◌∙◌, arith, ◌≡◌, ◌≤◌, ◌/◌, ℕ, List, length, drop, replicate, refl, rules}
 use Rattle.std.proofs.lemmas.List.{take_at, length-take, length-replicate}
-use Rattle.sec1.specs.Points.{Point, Fits, enc}
+use Rattle.sec1.specs.Points.{Point, Fits, encoding}
 use Rattle.sec1.specs.HexTexts.{IsHexOf}
 use Rattle.sec1.proofs.PointLemmas.{IsBytes-enc, length-enc-le}
 use Rattle.sec1.proofs.HexLemmas.{text_len}
@@ -8,9 +8,9 @@ use Rattle.sec1.proofs.point.EncodedPoint.from_digits.Goals as goal
 use Rattle.sec1.proofs.point.EncodedPoint.from_digits.Goals.{then-len-via-then-len, then-len-via-else-len+then-not-decode_digits}
 
 -- a text of an encoding is at most twice as long as the buffer
-sized : (n l : ℕ) (p : Point) (text : List ℕ) → Fits n l → IsHexOf text (enc n p) → length text / 2 ≤ l
+sized : (n l : ℕ) (p : Point) (text : List ℕ) → Fits n l → IsHexOf text (encoding n p) → length text / 2 ≤ l
 sized n l p text fit h =
-    let len = text_len text (enc n p) h in
+    let len = text_len text (encoding n p) h in
     let short = length-enc-le n p in
     omega (arith, fit.1)
 
@@ -21,7 +21,7 @@ returns-then-len g c = record {
       elim c.then-len.branch [
         | then-len-via-then-len w ↦ absurd (omega (arith, sized g.row.N g.row.L p c.args.text.now fit spelled, w.if-len.true))
         | then-len-via-else-len+then-not-decode_digits w ↦
-            absurd (cc ((w.decode_digits.ensures.only (enc g.row.N p) (IsBytes-enc g.row.N p) spelled).0, w.if-not-decode_digits.true))
+            absurd (cc ((w.decode_digits.ensures.only (encoding g.row.N p) (IsBytes-enc g.row.N p) spelled).0, w.if-not-decode_digits.true))
       ];
   kind = refl;
 }
@@ -35,6 +35,6 @@ returns g c =
     let front = take_at out (drop half buffer) half len in
     record {
       found = search rules;
-      only = λ p fit fits spelled. c.from_bytes.ensures.only p fit fits (front ∙ (c.decode_digits.ensures.only (enc g.row.N p) (IsBytes-enc g.row.N p) spelled).1);
+      only = λ p fit fits spelled. c.from_bytes.ensures.only p fit fits (front ∙ (c.decode_digits.ensures.only (encoding g.row.N p) (IsBytes-enc g.row.N p) spelled).1);
       kind = c.from_bytes.ensures.kind;
     }

@@ -1,5 +1,5 @@
 use Rattle.std.proofs.Common.{arith, rules}
-use Rattle.sec1_der.specs.Numbers.{num}
+use Rattle.sec1_der.specs.Numbers.{number_of}
 use Rattle.sec1.specs.Points.{uncompressed}
 use Rattle.sec1.proofs.Buffers.{means, spelled, halves_fit, halves_front}
 use Rattle.sec1.proofs.point.EncodedPoint.from_halves.Goals as goal
@@ -11,7 +11,7 @@ invariant_of-result g c =
     record {
       sizes = c.requires.sizes;
       room = omega arith;
-      encoded = spelled g.row.N _ (uncompressed (num x) (num y))
+      encoded = spelled g.row.N _ (uncompressed (number_of x) (number_of y))
           (halves_fit g.row.N x y c.requires.x_len c.requires.y_len (λ i. omega (arith, c.type_inv.x i)) (λ i. omega (arith, c.type_inv.y i)))
           (halves_front g.row.N g.row.L _ c.from.result c.as_mut_slice-buffer.result.now c.copy_from_slice.new.self c.copy_from_slice-2.new.self x y
           c.requires.sizes.1 (search rules) c.from.ensures c.copy_from_slice.ensures.after c.copy_from_slice-2.ensures.after
@@ -22,7 +22,7 @@ pub returns : goal.returns
 returns g c =
     let x = c.args.x.now in
     let y = c.args.y.now in
-    means g.row.N _ (uncompressed (num x) (num y))
+    means g.row.N _ (uncompressed (number_of x) (number_of y))
     (halves_fit g.row.N x y c.requires.x_len c.requires.y_len (λ i. omega (arith, c.type_inv.x i)) (λ i. omega (arith, c.type_inv.y i)))
     (halves_front g.row.N g.row.L _ c.from.result c.as_mut_slice-buffer.result.now c.copy_from_slice.new.self c.copy_from_slice-2.new.self x y
     c.requires.sizes.1 (search rules) c.from.ensures c.copy_from_slice.ensures.after c.copy_from_slice-2.ensures.after

@@ -2,9 +2,9 @@ use Rattle.std.proofs.Common.{rules}
 use Rattle.sec1.proofs.WriteLemmas.{key_written, key_found}
 use Rattle.sec1.proofs.private_key.EcPrivateKey.document_ref.Goals as goal
 
-pub returns-in_err-encode_msg-clause-some : goal.returns-in_err-encode_msg-clause-some
-returns-in_err-encode_msg-clause-some c bytes is =
-    let refused = c.in_err-encode_msg.ensures.some bytes (key_written c.args.self.now bytes is) in
+pub returns-in_err-encode_msg-clause-only : goal.returns-in_err-encode_msg-clause-only
+returns-in_err-encode_msg-clause-only c bytes is =
+    let refused = c.in_err-encode_msg.ensures.only bytes (key_written c.args.self.now bytes is) in
     search rules
 
 pub returns-clause-found : goal.returns-clause-found

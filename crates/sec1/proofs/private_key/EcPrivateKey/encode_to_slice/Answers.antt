@@ -6,9 +6,9 @@ pub returns-in_err-encode_to_slice-clause-fits : goal.returns-in_err-encode_to_s
 returns-in_err-encode_to_slice-clause-fits c bytes is room =
     absurd (cc ((c.in_err-encode_to_slice.ensures.fits bytes (key_written c.args.self.now bytes is) room).0))
 
-pub returns-in_err-encode_to_slice-clause-full : goal.returns-in_err-encode_to_slice-clause-full
-returns-in_err-encode_to_slice-clause-full c bytes is short =
-    let refused = c.in_err-encode_to_slice.ensures.full bytes (key_written c.args.self.now bytes is) short in
+pub returns-in_err-encode_to_slice-clause-buffer : goal.returns-in_err-encode_to_slice-clause-buffer
+returns-in_err-encode_to_slice-clause-buffer c bytes is short =
+    let refused = c.in_err-encode_to_slice.ensures.buffer bytes (key_written c.args.self.now bytes is) short in
     search rules
 
 pub returns-clause-found : goal.returns-clause-found

@@ -1,7 +1,7 @@
 use Rattle.std.proofs.Common.{◌≡◌, ◌+◌, length, arith, ap, subst, sym, ◌∙◌, length-append}
 use Rattle.std.proofs.lemmas.Bool.{false≢true}
 use Rattle.sec1_der.specs.BackWriters.{end_of, PutsInFront}
-use Rattle.sec1_der.proofs.ElementLemmas.{element_of_tells, length-element}
+use Rattle.sec1_der.proofs.ElementLemmas.{element_of-some, length-element}
 use Rattle.sec1_der.specs.Elements.{header, element_of}
 use Rattle.sec1_der.proofs.WriterLemmas.{puts_both}
 use Rattle.sec1_der.proofs.back_writer.BackWriter.put_field.Goals as goal
@@ -9,7 +9,7 @@ use Rattle.sec1_der.proofs.back_writer.BackWriter.put_field.Goals as goal
 pub returns-in_err-put_element-clause-fits : goal.returns-in_err-put_element-clause-fits
 returns-in_err-put_element-clause-fits g c bytes e fits =
     let tag = 0xA0 + c.args.number in
-    let held = element_of_tells tag (element_of g.T.FixedTag.number (g.T.ValueContent.content c.in-Some.value)) bytes (rw c.in-Some.is at e) in
+    let held = element_of-some tag (element_of g.T.FixedTag.tag_byte (g.T.ValueContent.content c.in-Some.value)) bytes (rw c.in-Some.is at e) in
     let size = length-element tag held.inside in
     let whole = ap length held.at.spelled in
     absurd (false≢true (c.in_err-put_element.ensures.fits held.inside held.same (omega arith)).0)
@@ -17,7 +17,7 @@ returns-in_err-put_element-clause-fits g c bytes e fits =
 pub returns-clause-fits : goal.returns-clause-fits
 returns-clause-fits g c bytes e fits =
     let tag = 0xA0 + c.args.number in
-    let held = element_of_tells tag (element_of g.T.FixedTag.number (g.T.ValueContent.content c.in-Some.value)) bytes (rw c.in-Some.is at e) in
+    let held = element_of-some tag (element_of g.T.FixedTag.tag_byte (g.T.ValueContent.content c.in-Some.value)) bytes (rw c.in-Some.is at e) in
     let inside = held.inside in
     let size = length-element tag inside in
     let whole = ap length held.at.spelled in

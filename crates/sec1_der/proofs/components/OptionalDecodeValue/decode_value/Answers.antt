@@ -7,16 +7,16 @@ use Rattle.sec1_der.proofs.components.OptionalDecodeValue.decode_value.Goals as 
 
 pub returns-in_err-first-clause-kind : goal.returns-in_err-first-clause-kind
 returns-in_err-first-clause-kind g c fresh =
-    let kind : field_fault g.N.ExplicitTag.at g.A.FixedTag.number g.A.ValueContent.checked_late g.A.ValueContent.fault no_fault c.args.reader.now.unread
+    let kind : field_fault g.N.ExplicitTag.at g.A.FixedTag.tag_byte g.A.ValueContent.checked_late g.A.ValueContent.fault no_fault c.args.reader.now.unread
     ≡ Some c.in_err-first.field-0.0.kind = rw c.number.ensures.value at (c.in_err-first.ensures.kind fresh) in
-    let told = refused_field g.N.ExplicitTag.at g.A.FixedTag.number g.A.ValueContent.checked_late g.A.ValueContent.fault g.R.ValueContent.fault
+    let told = refused_field g.N.ExplicitTag.at g.A.FixedTag.tag_byte g.A.ValueContent.checked_late g.A.ValueContent.fault g.R.ValueContent.fault
     c.args.reader.now.unread c.in_err-first.field-0.0.kind kind in
     let refusal = err_from_is_err_and c.from_residual.result c.from_residual.ensures.1 in
     rw (refusal.1, refusal.2) told
 
 pub returns-in_err-rest-clause-kind : goal.returns-in_err-rest-clause-kind
 returns-in_err-rest-clause-kind g c fresh =
-    let first = passes_field c.number.result g.A.FixedTag.number g.A.ValueContent.checked_late g.A.ValueContent.fault c.in_ok-first.first
+    let first = passes_field c.number.result g.A.FixedTag.tag_byte g.A.ValueContent.checked_late g.A.ValueContent.fault c.in_ok-first.first
     g.A.ValueContent.content g.A.ValueContent.is_content (λ inside. length inside ≤ max_length) c.args.reader.now c.decode_explicit.new.reader fresh
     c.in_ok-first.ensures.found c.in_ok-first.ensures.missing (c.in_ok-first.ensures.kind fresh) in
     let next = rw c.number.ensures.value at (first.next g.R.ValueContent.fault) in
@@ -26,7 +26,7 @@ returns-in_err-rest-clause-kind g c fresh =
 
 pub returns-clause-kind : goal.returns-clause-kind
 returns-clause-kind g c fresh =
-    let first = passes_field c.number.result g.A.FixedTag.number g.A.ValueContent.checked_late g.A.ValueContent.fault c.in_ok-first.first
+    let first = passes_field c.number.result g.A.FixedTag.tag_byte g.A.ValueContent.checked_late g.A.ValueContent.fault c.in_ok-first.first
     g.A.ValueContent.content g.A.ValueContent.is_content (λ inside. length inside ≤ max_length) c.args.reader.now c.decode_explicit.new.reader fresh
     c.in_ok-first.ensures.found c.in_ok-first.ensures.missing (c.in_ok-first.ensures.kind fresh) in
     let next = rw c.number.ensures.value at (first.next g.R.ValueContent.fault) in

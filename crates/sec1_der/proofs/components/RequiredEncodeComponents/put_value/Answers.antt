@@ -7,7 +7,7 @@ use Rattle.sec1_der.proofs.components.RequiredEncodeComponents.put_value.Goals a
 
 pub returns-clause-fits : goal.returns-clause-fits
 returns-clause-fits g c bytes e fits room =
-    let all = parted (element_of g.A.FixedTag.number (g.A.ValueContent.content c.args.self.now.first)) (g.R.ValueContent.content c.args.self.now.rest) bytes e in
+    let all = parted (element_of g.A.FixedTag.tag_byte (g.A.ValueContent.content c.args.self.now.first)) (g.R.ValueContent.content c.args.self.now.rest) bytes e in
     let one = c.put_value.ensures.fits all.back all.second_there (omega (arith, all.total)) (omega (arith, all.total)) in
     let two = c.put_element.ensures.fits all.front all.first_there (omega (arith, all.total, one.1.front)) in
     let both = puts_both _ _ _ all.back all.front one.1 two.1 in

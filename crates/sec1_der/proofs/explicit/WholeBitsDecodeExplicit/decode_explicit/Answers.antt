@@ -11,7 +11,7 @@ returns-in-Some-as_bytes-clause-found c =
     let bits = c.in-Some.bits in
     let bytes = c.in-Some-as_bytes.bytes.now in
     let found = rw c.in-Some.is at c.in_ok-bits.ensures.found in
-    let unused : bits.unused ≡ 0 = c.in-Some-as_bytes.ensures.some.0 refl in
+    let unused : bits.unused ≡ 0 = c.in-Some-as_bytes.ensures.within.0 refl in
     let same : bytes ≡ bits.bytes.now = c.in-Some-as_bytes.ensures.bytes in
     let content : bits.unused ∷ bits.bytes.now ≡ 0 ∷ bytes = ap (λ n. n ∷ bits.bytes.now) unused ∙ ap (λ (xs : List ℕ). 0 ∷ xs) (sym same) in (
       (bytes, refl),
@@ -29,7 +29,7 @@ pub returns-in-Some-as_bytes-clause-kind : goal.returns-in-Some-as_bytes-clause-
 returns-in-Some-as_bytes-clause-kind c fresh =
     let bits = c.in-Some.bits in
     let found = rw c.in-Some.is at c.in_ok-bits.ensures.found in
-    let unused : bits.unused ≡ 0 = c.in-Some-as_bytes.ensures.some.0 refl in
+    let unused : bits.unused ≡ 0 = c.in-Some-as_bytes.ensures.within.0 refl in
     bits_told c.args.number (bits.unused ∷ bits.bytes.now) c.args.reader.now c.context_specific.new.self found.1 found.2 (c.in_ok-bits.ensures.kind fresh)
     ∙ rw (eq-eqb bits.unused 0 unused) refl
 
@@ -37,6 +37,6 @@ pub returns-in-None-clause-kind : goal.returns-in-None-clause-kind
 returns-in-None-clause-kind c fresh =
     let bits = c.in-Some.bits in
     let found = rw c.in-Some.is at c.in_ok-bits.ensures.found in
-    let unused : (bits.unused == 0) ≡ false = ne_eqb bits.unused 0 (λ zero. false≢true (c.in-None.ensures.some.1 zero)) in
+    let unused : (bits.unused == 0) ≡ false = ne_eqb bits.unused 0 (λ zero. false≢true (c.in-None.ensures.within.1 zero)) in
     bits_told c.args.number (bits.unused ∷ bits.bytes.now) c.args.reader.now c.context_specific.new.self found.1 found.2 (c.in_ok-bits.ensures.kind fresh)
     ∙ rw (unused, c.fail.ensures.error) refl

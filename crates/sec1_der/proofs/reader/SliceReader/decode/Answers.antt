@@ -10,7 +10,7 @@ returns-in-Ok-clause-kind g c fresh =
     let inside = c.in_ok-content.content.unread in
     let told : g.T.ValueContent.fault inside ≡ None = c.in-Ok.ensures.kind (ap (λ (r : Reader). r.failed) found.0) in
     let read = subst (λ tag. HasReadElement tag inside c.args.self.now c.open.new.self) c.fixed_tag.ensures found.1 in
-    read_element g.T.ValueContent.fault no_fault g.T.FixedTag.number inside c.args.self.now c.open.new.self read ∙ rw told refl
+    read_element g.T.ValueContent.fault no_fault g.T.FixedTag.tag_byte inside c.args.self.now c.open.new.self read ∙ rw told refl
 
 pub returns-in-Err-clause-kind : goal.returns-in-Err-clause-kind
 returns-in-Err-clause-kind g c fresh =
@@ -18,4 +18,4 @@ returns-in-Err-clause-kind g c fresh =
     let inside = c.in_ok-content.content.unread in
     let told : g.T.ValueContent.fault inside ≡ Some c.in-Err.e.kind = c.in-Err.ensures.kind (ap (λ (r : Reader). r.failed) found.0) in
     let read = subst (λ tag. HasReadElement tag inside c.args.self.now c.open.new.self) c.fixed_tag.ensures found.1 in
-    read_element g.T.ValueContent.fault no_fault g.T.FixedTag.number inside c.args.self.now c.open.new.self read ∙ rw (told, c.fail.ensures.error) refl
+    read_element g.T.ValueContent.fault no_fault g.T.FixedTag.tag_byte inside c.args.self.now c.open.new.self read ∙ rw (told, c.fail.ensures.error) refl

@@ -1,6 +1,6 @@
 use Rattle.std.proofs.Common.{◌≡◌, ◌++◌, ◌+◌, length, arith, ap, subst, sym, ◌∙◌}
 use Rattle.std.proofs.lemmas.Bool.{false≢true}
-use Rattle.sec1_der.proofs.ElementLemmas.{element_of_tells, length-element}
+use Rattle.sec1_der.proofs.ElementLemmas.{element_of-some, length-element}
 use Rattle.sec1_der.specs.Elements.{header, element_of}
 use Rattle.sec1_der.specs.SliceWriters.{Appends}
 use Rattle.sec1_der.proofs.WriterLemmas.{appends_both}
@@ -9,15 +9,15 @@ use Rattle.sec1_der.proofs.slice_writer.SliceWriter.context_specific.Goals as go
 
 pub returns-in_err-field_header-clause-fits : goal.returns-in_err-field_header-clause-fits
 returns-in_err-field_header-clause-fits g c bytes e fits =
-    let held = element_of_tells (0xA0 + c.args.number) (element_of g.T.FixedTag.number (g.T.ValueContent.content c.in-Some.value)) bytes (rw c.in-Some.is at e) in
-    absurd (cc (c.in_err-field_header.ensures.some held.inside held.same held.at.within))
+    let held = element_of-some (0xA0 + c.args.number) (element_of g.T.FixedTag.tag_byte (g.T.ValueContent.content c.in-Some.value)) bytes (rw c.in-Some.is at e) in
+    absurd (cc (c.in_err-field_header.ensures.only held.inside held.same held.at.within))
 
 pub returns-in_err-encode-clause-fits : goal.returns-in_err-encode-clause-fits
 returns-in_err-encode-clause-fits g c bytes e fits =
     let tag = 0xA0 + c.args.number in
-    let held = element_of_tells tag (element_of g.T.FixedTag.number (g.T.ValueContent.content c.in-Some.value)) bytes (rw c.in-Some.is at e) in
+    let held = element_of-some tag (element_of g.T.FixedTag.tag_byte (g.T.ValueContent.content c.in-Some.value)) bytes (rw c.in-Some.is at e) in
     let inside = held.inside in
-    let same : c.in_ok-field_header.field-0 ≡ record { tag = tag; length = length inside } = cc (c.in_ok-field_header.ensures.some inside held.same held.at.within) in
+    let same : c.in_ok-field_header.field-0 ≡ record { tag = tag; length = length inside } = cc (c.in_ok-field_header.ensures.only inside held.same held.at.within) in
     let spelled = ap (λ (h : Header). header h.tag h.length) same in
     let size = length-element tag inside in
     let whole = ap length held.at.spelled in
@@ -26,10 +26,10 @@ returns-in_err-encode-clause-fits g c bytes e fits =
 pub returns-clause-fits : goal.returns-clause-fits
 returns-clause-fits g c bytes e fits =
     let tag = 0xA0 + c.args.number in
-    let held = element_of_tells tag (element_of g.T.FixedTag.number (g.T.ValueContent.content c.in-Some.value)) bytes (rw c.in-Some.is at e) in
+    let held = element_of-some tag (element_of g.T.FixedTag.tag_byte (g.T.ValueContent.content c.in-Some.value)) bytes (rw c.in-Some.is at e) in
     let inside = held.inside in
     let first = c.in_ok-field_header.field-0 in
-    let same : first ≡ record { tag = tag; length = length inside } = cc (c.in_ok-field_header.ensures.some inside held.same held.at.within) in
+    let same : first ≡ record { tag = tag; length = length inside } = cc (c.in_ok-field_header.ensures.only inside held.same held.at.within) in
     let spelled = ap (λ (h : Header). header h.tag h.length) same in
     let size = length-element tag inside in
     let whole = ap length held.at.spelled in

@@ -1,5 +1,5 @@
 use Rattle.std.proofs.Common.{◌≡◌, ◌++◌, length, arith, ap, subst, sym, ◌∙◌}
-use Rattle.sec1_der.proofs.ElementLemmas.{element_of_tells, length-element}
+use Rattle.sec1_der.proofs.ElementLemmas.{element_of-some, length-element}
 use Rattle.sec1_der.specs.Elements.{header}
 use Rattle.sec1_der.specs.SliceWriters.{Appends}
 use Rattle.sec1_der.proofs.WriterLemmas.{appends_both}
@@ -8,11 +8,11 @@ use Rattle.sec1_der.proofs.slice_writer.SliceWriter.element.Goals as goal
 
 pub returns-clause-fits : goal.returns-clause-fits
 returns-clause-fits g c bytes e fits =
-    let tag = g.T.FixedTag.number in
-    let held = element_of_tells tag (g.T.ValueContent.content c.args.value.now) bytes e in
+    let tag = g.T.FixedTag.tag_byte in
+    let held = element_of-some tag (g.T.ValueContent.content c.args.value.now) bytes e in
     let inside = held.inside in
     let first = c.in_ok-element_header.field-0 in
-    let same : first ≡ record { tag = tag; length = length inside } = cc (c.in_ok-element_header.ensures.some inside held.same held.at.within) in
+    let same : first ≡ record { tag = tag; length = length inside } = cc (c.in_ok-element_header.ensures.only inside held.same held.at.within) in
     let spelled = ap (λ (h : Header). header h.tag h.length) same in
     let size = length-element tag inside in
     let whole = ap length held.at.spelled in

@@ -1,7 +1,7 @@
 use Rattle.std.proofs.Common.{◌≡◌, ◌⊎◌, ◌+◌, ◌-◌, ◌∷◌, length, take, drop, sym, ap, ◌∙◌, arith, inl, inr, refl, subst}
 use Rattle.std.proofs.lemmas.Bool.{false≢true}
 use Rattle.sec1_der.specs.Elements.{IsConstructed}
-use Rattle.sec1_der.specs.Walks.{innermost, Passes}
+use Rattle.sec1_der.specs.Walks.{innermost, Skips}
 use Rattle.sec1_der.proofs.EnterLemmas.{tree_element, stands_before, begins_element, IsInFront, inside_within, opens_at, passes_at}
 use Rattle.sec1_der.proofs.tree.OpenNodes.enter.Goals as goal
 use Rattle.sec1_der.proofs.tree.OpenNodes.enter.Goals.{else-length-gt0-via-then-length-gt0+else-is_constructed, else-length-gt0-via-else-length-gt0}
@@ -60,7 +60,7 @@ returns-else-length-gt0-clause-found c =
     ] in
     let passes = passes_at c.args.self.now c.args.rest.now c.in-Ok.found.1.now c.in-Ok.found.0.tag c.in-Ok.found.0.length c.end-end.result c.end-end.ensures front which in
     let start = length c.args.rest.now - c.end-end.result - length c.in-Ok.found.1.now in
-    inl (subst (λ n. Passes c.args.self.now c.args.rest.now (take (length c.args.rest.now - (start + n)) (drop (start + n) c.args.rest.now))) (sym c.get-length.ensures.value) passes, refl)
+    inl (subst (λ n. Skips c.args.self.now c.args.rest.now (take (length c.args.rest.now - (start + n)) (drop (start + n) c.args.rest.now))) (sym c.get-length.ensures.value) passes, refl)
 
 pub returns-else-length-gt0-clause-short : goal.returns-else-length-gt0-clause-short
 returns-else-length-gt0-clause-short c t p short empty =
