@@ -42,7 +42,8 @@ counted first second m n p q = record {
 }
 
 -- a count that is answered is that of bytes that are there, where only a content that fits an element is answered
-pub measured_within : (piece : Option (List ℕ)) (count : ℕ) → (IsOverlong piece → ⊥) → ((bytes : List ℕ) → piece ≡ Some bytes → length bytes ≤ max_length → ◌≡◌ {A = Result ℕ Error} (Ok count) (Ok (length bytes))) → IsMeasured piece count
+pub measured_within : (piece : Option (List ℕ)) (count : ℕ) → (IsOverlong piece → ⊥)
+    → ((bytes : List ℕ) → piece ≡ Some bytes → length bytes ≤ max_length → ◌≡◌ {A = Result ℕ Error} (Ok count) (Ok (length bytes))) → IsMeasured piece count
 measured_within None count none some = absurd (none tt)
 measured_within (Some bytes) count none some = by (nat_le (length bytes) max_length) refl
   where

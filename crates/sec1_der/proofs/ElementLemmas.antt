@@ -48,7 +48,8 @@ element_of-some tag (Some inside) bytes e =
     record { inside = inside; same = refl; at = record { within = leb-true (length inside) max_length h.0; spelled = sym h.1 } }
 
 -- a content that an element can hold has its element
-pub element_of-within : (tag : ℕ) (content : Option (List ℕ)) (inside : List ℕ) → content ≡ Some inside → length inside ≤ max_length → element_of tag content ≡ Some (element tag inside)
+pub element_of-within : (tag : ℕ) (content : Option (List ℕ)) (inside : List ℕ) → content ≡ Some inside → length inside ≤ max_length
+    → element_of tag content ≡ Some (element tag inside)
 element_of-within tag content inside e within = rw (e, le-leb (length inside) max_length within) refl
 
 -- what has no element has no content that an element can hold

@@ -18,7 +18,8 @@ appends_both old between new xs ys p q =
     record {
       written = q.written ∙ (ap (λ bytes. bytes ++ ys) p.written ∙ append_assoc (written_by old) xs ys);
       room = omega (arith, p.room, q.room);
-      unchanged = q.unchanged ∙ (ap (drop (length ys)) p.unchanged ∙ (drop-drop (length ys) (length xs) (room_of old) ∙ ap (λ n. drop n (room_of old)) (sym sum)));
+      unchanged = q.unchanged ∙ (ap (drop (length ys)) p.unchanged ∙ (drop-drop (length ys) (length xs) (room_of old)
+          ∙ ap (λ n. drop n (room_of old)) (sym sum)));
     }
 
 -- bytes, and then more in front of them
@@ -29,7 +30,8 @@ puts_both old between new xs ys p q =
     record {
       written = q.written ∙ (ap (λ bytes. ys ++ bytes) p.written ∙ sym (append_assoc ys xs (end_of old)));
       front = omega (arith, p.front, q.front);
-      unchanged = q.unchanged ∙ (ap (take (length (front_of new))) p.unchanged ∙ take-take (length (front_of new)) (length (front_of between)) (front_of old) fewer);
+      unchanged = q.unchanged ∙ (ap (take (length (front_of new))) p.unchanged
+          ∙ take-take (length (front_of new)) (length (front_of between)) (front_of old) fewer);
     }
 
 -- there are bytes, and so many
@@ -39,17 +41,20 @@ pub record IsMeasured (piece : Option (List ℕ)) (count : ℕ) : Type 0 where
   pub counted : count ≡ length bytes
 
 -- a count that is answered is that of bytes that are there
-pub measured : (piece : Option (List ℕ)) (count : ℕ) → (piece ≡ None → ⊥) → ((bytes : List ℕ) → piece ≡ Some bytes → ◌≡◌ {A = Result ℕ Error} (Ok count) (Ok (length bytes))) → IsMeasured piece count
+pub measured : (piece : Option (List ℕ)) (count : ℕ) → (piece ≡ None → ⊥)
+    → ((bytes : List ℕ) → piece ≡ Some bytes → ◌≡◌ {A = Result ℕ Error} (Ok count) (Ok (length bytes))) → IsMeasured piece count
 measured None count none some = absurd (none refl)
 measured (Some bytes) count none some = record { bytes = bytes; there = refl; counted = cc (some bytes refl) }
 
 -- a count that is refused is that of no bytes
-pub unmeasured : (piece : Option (List ℕ)) (error : Error) → ((bytes : List ℕ) → piece ≡ Some bytes → ◌≡◌ {A = Result ℕ Error} (Err error) (Ok (length bytes))) → piece ≡ None
+pub unmeasured : (piece : Option (List ℕ)) (error : Error) → ((bytes : List ℕ) → piece ≡ Some bytes → ◌≡◌ {A = Result ℕ Error} (Err error) (Ok (length bytes)))
+    → piece ≡ None
 unmeasured None error some = refl
 unmeasured (Some bytes) error some = absurd (cc (some bytes refl))
 
 -- a number above the limit is refused
-pub refused_above : (result : Result ℕ Error) (n : ℕ) → OkIff result (n ≤ max_length) n → IfErr result (λ (e : Error). e.kind ≡ Overlength) → max_length < n → Refuses result Overlength
+pub refused_above : (result : Result ℕ Error) (n : ℕ) → OkIff result (n ≤ max_length) n → IfErr result (λ (e : Error). e.kind ≡ Overlength) → max_length < n
+    → Refuses result Overlength
 refused_above (Ok m) n within kind over = absurd (omega (arith, within.0))
 refused_above (Err e) n within kind over = kind
 

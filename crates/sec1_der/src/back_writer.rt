@@ -9,8 +9,9 @@ use crate::{
 
 /// A writer that fills a slice from its end, so that a content is written before its header.
 ///
-/// On an error nothing is written. The bytes of the slice in front of what was written are never changed. [`put_element`](BackWriter::put_element) and [`put_field`](BackWriter::put_field) promise neither if
-/// there is no room, which their caller tests.
+/// On an error nothing is written. The bytes of the slice in front of what was written are never changed.
+/// [`put_element`](BackWriter::put_element) and [`put_field`](BackWriter::put_field) promise neither if there is no room,
+/// which their caller tests.
 #[derive(Drop)]
 pub struct BackWriter<'b> {
     buffer: &'b mut [u8],

@@ -84,7 +84,7 @@ impl Header {
     }
 
     /// Returns the bytes of the header, followed by zeros, and their number.
-    #[tactic(auto, using(crate::proofs::LengthLemmas::len_1, crate::proofs::LengthLemmas::len_2, crate::proofs::LengthLemmas::len_3, crate::proofs::LengthLemmas::len_4, crate::proofs::LengthLemmas::len_5))]
+    #[tactic(auto, using(crate::proofs::LengthLemmas::spellings))]
     pub(crate) fn octets(&self) -> ([u8; 6], usize)
         ensures bytes { take result.1 result.0 ≡ header self.now.tag self.now.length }
         ensures count { result.1 ≡ length (header self.now.tag self.now.length) }

@@ -6,7 +6,8 @@ use Rattle.sec1_der.proofs.codec.context_specific_len.Goals as goal
 
 pub returns-in_err-outside-clause-only : goal.returns-in_err-outside-clause-only
 returns-in_err-outside-clause-only g c bytes e =
-    let held = element_of-some (0xA0 + c.args.number) (element_of g.T.FixedTag.tag_byte (g.T.ValueContent.content c.in-Some.value)) bytes (rw c.in-Some.is at e) in
+    let held = element_of-some (0xA0 + c.args.number) (element_of g.T.FixedTag.tag_byte (g.T.ValueContent.content c.in-Some.value)) bytes
+    (rw c.in-Some.is at e) in
     absurd (cc (c.in_err-outside.ensures.only held.inside held.same held.at.within))
 
 pub returns-clause-only : goal.returns-clause-only

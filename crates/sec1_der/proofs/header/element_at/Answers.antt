@@ -11,17 +11,11 @@ returns-in-Err-clause-short c tag content h short = ⊎_elim
     (λ lacks. ap Err (c.in-Err.ensures.kind ∙ lacks))
     (header_front tag (length content) c.args.input.now short.more content h (sym short.split))
 
-pub returns-then-inside-get-clause-only : goal.returns-then-inside-get-clause-only
-returns-then-inside-get-clause-only c tag content rest h e =
-    let f = c.in-Ok.ensures.found in
-    let apart = header_apart c.in-Ok.found.0.tag c.in-Ok.found.0.length tag (length content) c.in-Ok.found.1.now (content ++ rest) (sym f.1 ∙ (e ∙ append_assoc (header tag (length content)) content rest)) in
-    let lengths = ap length apart.2 ∙ length-append content rest in
-    absurd (omega (arith, lengths, apart.1, c.get.ensures.value))
-
 pub returns-clause-short : goal.returns-clause-short
 returns-clause-short c tag content h short =
     let f = c.in-Ok.ensures.found in
-    let apart = header_apart tag (length content) c.in-Ok.found.0.tag c.in-Ok.found.0.length content (c.in-Ok.found.1.now ++ short.more) (short.split ∙ (ap (λ xs. xs ++ short.more) f.1 ∙ append_assoc (header c.in-Ok.found.0.tag c.in-Ok.found.0.length) c.in-Ok.found.1.now short.more)) in
+    let apart = header_apart tag (length content) c.in-Ok.found.0.tag c.in-Ok.found.0.length content (c.in-Ok.found.1.now ++ short.more)
+    (short.split ∙ (ap (λ xs. xs ++ short.more) f.1 ∙ append_assoc (header c.in-Ok.found.0.tag c.in-Ok.found.0.length) c.in-Ok.found.1.now short.more)) in
     let lengths = ap length apart.2 ∙ length-append c.in-Ok.found.1.now short.more in
     absurd (omega (arith, lengths, apart.1, some_length short.more short.some, c.get.ensures.value, c.if-inside-get.false))
 

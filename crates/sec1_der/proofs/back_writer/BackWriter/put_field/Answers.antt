@@ -23,7 +23,8 @@ returns-clause-fits g c bytes e fits =
     let whole = ap length held.at.spelled in
     let behind = c.put_element.ensures.fits inside held.same (omega arith) in
     let since : c.written-since.result ≡ length (end_of c.args.self.now) = c.written-since.ensures in
-    let count : length (end_of c.put_element.new.self) ≡ length inside + c.written-since.result = ap length behind.1.written ∙ (length-append inside (end_of c.args.self.now) ∙ ap (λ n. length inside + n) (sym since)) in
+    let count : length (end_of c.put_element.new.self) ≡ length inside + c.written-since.result =
+    ap length behind.1.written ∙ (length-append inside (end_of c.args.self.now) ∙ ap (λ n. length inside + n) (sym since)) in
     let context : c.context.result ≡ tag = c.context.ensures in
     let front = rw context at c.header.ensures.fits in
     let put = front (length inside) count held.at.within (omega (arith, behind.1.front)) in

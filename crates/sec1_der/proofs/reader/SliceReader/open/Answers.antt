@@ -8,7 +8,8 @@ tagged tag byte content same is within = record { tag_byte = subst IsTag same is
 
 pub returns-in_err-any-clause-short : goal.returns-in_err-any-clause-short
 returns-in_err-any-clause-short c content within fresh short =
-    let refusal = c.in_err-any.ensures.short c.args.tag content (tagged c.args.tag c.byte.result content c.byte.ensures.value c.byte.ensures.tag within) fresh short in
+    let refusal = c.in_err-any.ensures.short c.args.tag content (tagged c.args.tag c.byte.result content c.byte.ensures.value c.byte.ensures.tag within) fresh
+    short in
     search rules
 
 pub returns-clause-short : goal.returns-clause-short

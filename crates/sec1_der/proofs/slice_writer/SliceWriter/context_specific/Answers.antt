@@ -9,7 +9,8 @@ use Rattle.sec1_der.proofs.slice_writer.SliceWriter.context_specific.Goals as go
 
 pub returns-in_err-field_header-clause-fits : goal.returns-in_err-field_header-clause-fits
 returns-in_err-field_header-clause-fits g c bytes e fits =
-    let held = element_of-some (0xA0 + c.args.number) (element_of g.T.FixedTag.tag_byte (g.T.ValueContent.content c.in-Some.value)) bytes (rw c.in-Some.is at e) in
+    let held = element_of-some (0xA0 + c.args.number) (element_of g.T.FixedTag.tag_byte (g.T.ValueContent.content c.in-Some.value)) bytes
+    (rw c.in-Some.is at e) in
     absurd (cc (c.in_err-field_header.ensures.only held.inside held.same held.at.within))
 
 pub returns-in_err-encode-clause-fits : goal.returns-in_err-encode-clause-fits
@@ -17,7 +18,8 @@ returns-in_err-encode-clause-fits g c bytes e fits =
     let tag = 0xA0 + c.args.number in
     let held = element_of-some tag (element_of g.T.FixedTag.tag_byte (g.T.ValueContent.content c.in-Some.value)) bytes (rw c.in-Some.is at e) in
     let inside = held.inside in
-    let same : c.in_ok-field_header.field-0 ≡ record { tag = tag; length = length inside } = cc (c.in_ok-field_header.ensures.only inside held.same held.at.within) in
+    let same : c.in_ok-field_header.field-0 ≡ record { tag = tag; length = length inside } =
+    cc (c.in_ok-field_header.ensures.only inside held.same held.at.within) in
     let spelled = ap (λ (h : Header). header h.tag h.length) same in
     let size = length-element tag inside in
     let whole = ap length held.at.spelled in

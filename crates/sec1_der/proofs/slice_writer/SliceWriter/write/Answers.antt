@@ -13,10 +13,12 @@ returns-clause-fits c = λ fits.
     let long : length part ≡ count = ap length same in
     let inside : position ≤ length slice = c.args.self.now.in_range in
     let left : length (drop position slice) ≡ length slice - position = length-drop position slice in
-    let behind = drop-put_mid position (position + count - position) slice part (position + count) (omega arith) inside (omega arith) ∙ sym (drop-drop count position slice) in (
+    let behind = drop-put_mid position (position + count - position) slice part (position + count) (omega arith) inside (omega arith)
+    ∙ sym (drop-drop count position slice) in (
       refl,
       record {
-        written = take-put_mid position (position + count - position) slice part (position + count) (omega arith) inside ∙ ap (λ bytes. take position slice ++ bytes) same;
+        written = take-put_mid position (position + count - position) slice part (position + count) (omega arith) inside
+            ∙ ap (λ bytes. take position slice ++ bytes) same;
         room = omega (arith, ap length behind, length-drop count (drop position slice));
         unchanged = behind;
       },
