@@ -1,11 +1,10 @@
 -- What the content of a SEQUENCE says of its components.
-use Rattle.std.proofs.Common.{◌<◌, ◌≡◌, ◌≤◌, ◌+◌, [], ◌++◌, ℕ, Bool, false, List, length, Option, Some, None, refl, ap, sym, ◌∙◌, arith, length-append}
-use Rattle.std.specs.Prelude.{◌≢◌, slice_get, true, nat_le, Result, Ok}
+use Rattle.std.proofs.Common.{◌≡◌, ◌≤◌, ◌+◌, [], ◌++◌, ℕ, Bool, false, List, length, Option, Some, None, refl, ap, ◌∙◌, arith, length-append}
+use Rattle.std.specs.Prelude.{true, nat_le, Result, Ok}
 use Rattle.std.proofs.lemmas.Bool.{leb-true, leb-false}
 use Rattle.std.proofs.lemmas.List.{append-nil}
 use Rattle.sec1_der.specs.declared.error.Error.{Error}
-use Rattle.sec1_der.proofs.ElementLemmas.{element_of-some}
-use Rattle.sec1_der.specs.Elements.{max_length, element, element_of, field_of, IsOverlong}
+use Rattle.sec1_der.specs.Elements.{max_length, IsOverlong}
 use Rattle.sec1_der.proofs.WriterLemmas.{IsMeasured}
 use Rattle.sec1_der.specs.Components.{join}
 

@@ -1,6 +1,6 @@
 -- What the bytes of a row of components never begin with. Members of traits cite these facts.
 use Rattle.std.specs.Prelude.{◌≡◌, ◌≢◌, ◌<◌, ◌+◌, ◌++◌, ℕ, Bool, true, false, List, [], length, nat_le, Option, Some, None, slice_get, if◌then◌else◌, refl}
-use Rattle.std.proofs.Common.{ap, sym, ◌∙◌, arith}
+use Rattle.std.proofs.Common.{sym, ◌∙◌, arith}
 use Rattle.sec1_der.specs.Elements.{max_length, element, element_of, field_of, explicit_tag}
 use Rattle.sec1_der.specs.Components.{join}
 

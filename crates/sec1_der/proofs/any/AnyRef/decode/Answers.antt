@@ -1,10 +1,8 @@
-use Rattle.std.proofs.Common.{◌<◌, ◌++◌, length, refl, sym, ap, ◌∙◌, arith, rules, ⊎_elim}
-use Rattle.std.proofs.lemmas.List.{append_assoc, length-append}
+use Rattle.std.proofs.Common.{◌<◌, length, refl, sym, ap, arith, rules, ⊎_elim}
 use Rattle.std.proofs.lemmas.Bool.{cases_lt}
-use Rattle.sec1_der.specs.Elements.{header}
 use Rattle.sec1_der.specs.Readers.{Reader}
 use Rattle.sec1_der.specs.Refusals.{no_fault}
-use Rattle.sec1_der.proofs.HeaderLemmas.{header_front, header_apart, some_length}
+use Rattle.sec1_der.proofs.HeaderLemmas.{header_front, cut_short}
 use Rattle.sec1_der.proofs.RefusalLemmas.{any_short, any_room, reader_at}
 use Rattle.sec1_der.proofs.any.AnyRef.decode.Goals as goal
 
@@ -27,13 +25,10 @@ returns-in_err-value-clause-kind c fresh =
 
 pub returns-clause-short : goal.returns-clause-short
 returns-clause-short c tag content h fresh short =
-    let old = c.in_ok-header.header in
-    let unread = ap (λ (r : Reader). r.unread) c.in_ok-header.ensures.found.1.was_whole in
-    let inside = ap (λ (r : Reader). r.unread) c.in_ok-value.ensures.found.1.was_whole in
-    let apart = header_apart tag (length content) old.tag old.length content (c.decode.new.reader.unread ++ short.more)
-    (short.split ∙ (ap (λ xs. xs ++ short.more) unread ∙ append_assoc (header old.tag old.length) c.decode.new.reader.unread short.more)) in
-    let lengths = ap length (apart.2 ∙ ap (λ xs. xs ++ short.more) inside) in
-    absurd (omega (arith, simp length-append at lengths, apart.1, some_length short.more short.some, c.in_ok-value.ensures.found.0))
+    let header = c.in_ok-header.header in
+    let read = c.in_ok-header.ensures.found.1 in
+    let few = cut_short tag content c.args.reader.now.unread header.tag header.length c.decode.new.reader.unread short (ap (λ (r : Reader). r.unread) read.was_whole) in
+    absurd (omega (arith, (c.in_ok-value.ensures.within (ap (λ (r : Reader). r.failed) read.is_whole)).0 refl))
 
 pub returns-clause-kind : goal.returns-clause-kind
 returns-clause-kind c fresh =
