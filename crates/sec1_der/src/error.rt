@@ -2,7 +2,7 @@ ghost use Rattle.std.specs.Prelude.{◌≡◌};
 ghost use Rattle.sec1_der.specs.declared.error.ErrorKind.TheVariants.{Io, Memory};
 
 use crate::IoFault;
-use std::alloc::{AllocError, AllocFailed};
+use std::alloc::AllocError;
 
 /// The reason of an [`Error`].
 #[derive(Clone, Copy, Debug, PartialEq, Eq, thiserror::Error)]
@@ -73,9 +73,7 @@ impl From<IoFault> for Error {
     ghost from_gives = { λ _ e. e ≡ record { kind = Io } };
 
     fn from(_: IoFault) -> Error {
-        Error {
-            kind: ErrorKind::Io,
-        }
+        ErrorKind::Io.into()
     }
 }
 
@@ -84,20 +82,7 @@ impl From<AllocError> for Error {
     ghost from_gives = { λ _ e. e ≡ record { kind = Memory } };
 
     fn from(_: AllocError) -> Error {
-        Error {
-            kind: ErrorKind::Memory,
-        }
-    }
-}
-
-/// A failed allocation becomes Memory.
-impl<T: Drop> From<AllocFailed<T>> for Error {
-    ghost from_gives = { λ _ e. e ≡ record { kind = Memory } };
-
-    fn from(_: AllocFailed<T>) -> Error {
-        Error {
-            kind: ErrorKind::Memory,
-        }
+        ErrorKind::Memory.into()
     }
 }
 
