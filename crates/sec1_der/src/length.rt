@@ -1,4 +1,4 @@
-ghost use Rattle.std.specs.Prelude.{◌≡◌, ◌≤◌, ◌<◌, ◌↔◌, OkIff, IfErr};
+ghost use Rattle.std.specs.Prelude.{◌≡◌, ◌≤◌, ◌<◌, ◌↔◌, OkIff, IfErr, ℕ};
 ghost use Rattle.sec1_der.specs.Elements.{max_length};
 
 use crate::{ErrorKind, Result};
@@ -11,9 +11,6 @@ pub struct Length {
 }
 
 impl Model for Length {
-    ghost use Rattle.std.specs.Prelude.{ℕ, ◌≤◌};
-    ghost use Rattle.sec1_der.specs.Elements.{max_length};
-
     ghost Value = { ℕ };
 
     ghost view = { λ l. l.bytes };

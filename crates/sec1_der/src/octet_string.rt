@@ -1,4 +1,7 @@
-ghost use Rattle.std.specs.Prelude.{◌≡◌};
+ghost use Rattle.std.specs.Prelude.{◌≡◌, ◌≤◌, ◌↔◌, length, IsOk, IfOk, IfErr, Some, ⊤};
+ghost use Rattle.sec1_der.specs.Elements.{max_length};
+ghost use Rattle.sec1_der.specs.Refusals.{no_fault};
+ghost use Rattle.sec1_der.specs.Values.{octets_of};
 
 use crate::{
     BackWriter, DecodeValue, EncodeValue, ErrorKind, FixedTag, Length, Result, SliceReader,
@@ -12,10 +15,6 @@ pub struct OctetStringRef<'a> {
 }
 
 impl<'a> OctetStringRef<'a> {
-    ghost use Rattle.std.specs.Prelude.{◌≤◌, ◌↔◌, length, IsOk, IfOk, IfErr};
-    ghost use Rattle.sec1_der.specs.Elements.{max_length};
-    ghost use Rattle.sec1_der.specs.Values.{octets_of};
-
     /// Returns an octet string of these bytes.
     ///
     /// # Errors
@@ -51,10 +50,6 @@ impl FixedTag for OctetStringRef<'_> {
 }
 
 impl ValueContent for OctetStringRef<'_> {
-    ghost use Rattle.std.specs.Prelude.{Some, ⊤};
-    ghost use Rattle.sec1_der.specs.Refusals.{no_fault};
-    ghost use Rattle.sec1_der.specs.Values.{octets_of};
-
     ghost content = { λ octets. Some (octets_of octets) };
 
     ghost is_content = { λ _. ⊤ };

@@ -2,7 +2,7 @@ ghost use Rattle.std.specs.Prelude.{◌≡◌, ◌≢◌, ◌↔◌, ◌+◌, �
 ghost use Rattle.std.specs.Prelude.{IsOkAnd, IsErr, IfErr, OnOk, OnErr, IfSome, IfNone, IsSomeAnd};
 ghost use Rattle.sec1_der.specs.Elements.{max_length, element, IsProperBeginning, explicit_tag};
 ghost use Rattle.sec1_der.specs.Faults.{Refuses, IsReadingFault};
-ghost use Rattle.sec1_der.specs.Readers.{reader_over, refused, HasRead, HasReadElement};
+ghost use Rattle.sec1_der.specs.Readers.{reader_over, refused, HasRead, HasReadElement, Reader};
 ghost use Rattle.sec1_der.specs.Refusals.{HasFault, element_fault, end_fault, field_fault, never_late, no_fault};
 
 use crate::{AnyRef, DecodeValue, Error, ErrorKind, FixedTag, Length, Result, Tag};
@@ -19,8 +19,6 @@ pub struct SliceReader<'a> {
 }
 
 impl<'a> Model for SliceReader<'a> {
-    ghost use Rattle.sec1_der.specs.Readers.{Reader};
-
     ghost Value = { Reader };
 
     ghost view = { λ r. record { unread = r.unread.now; failed = r.failed } };

@@ -1,5 +1,6 @@
 //! A struct of one's own that is read and written as a SEQUENCE.
-ghost use Rattle.std.specs.Prelude.{◌≡◌};
+ghost use Rattle.std.proofs.Common.{lit<};
+ghost use Rattle.std.specs.Prelude.{◌≡◌, refl};
 
 use crate::codec::check_room;
 use crate::{
@@ -41,8 +42,6 @@ impl<T: Record> FixedTag for T {
 }
 
 impl<T: Record> UniversalTag for T {
-    ghost use Rattle.std.proofs.Common.{lit<};
-
     ghost universal = { lit< tt };
 }
 
@@ -96,7 +95,5 @@ impl<'a, T: Record> Sequence<'a> for T
 where
     T::Components: DecodeValue<'a> + EncodeComponents + Drop,
 {
-    ghost use Rattle.std.specs.Prelude.{refl};
-
     ghost is_sequence = { refl };
 }

@@ -1,4 +1,4 @@
-ghost use Rattle.std.specs.Prelude.{◌≡◌, ◌+◌, ◌≤◌, ◌↔◌, OkIff, IfErr, IsTrue};
+ghost use Rattle.std.specs.Prelude.{◌≡◌, ◌+◌, ◌≤◌, ◌↔◌, OkIff, IfErr, IsTrue, ℕ};
 ghost use Rattle.sec1_der.specs.Elements.{IsTag, IsConstructed, explicit_tag};
 
 use crate::{ErrorKind, Result};
@@ -11,9 +11,6 @@ pub struct Tag {
 }
 
 impl Model for Tag {
-    ghost use Rattle.std.specs.Prelude.{ℕ};
-    ghost use Rattle.sec1_der.specs.Elements.{IsTag};
-
     ghost Value = { ℕ };
 
     ghost view = { λ t. t.byte };

@@ -1,4 +1,5 @@
-ghost use Rattle.std.specs.Prelude.{◌≡◌};
+ghost use Rattle.std.specs.Prelude.{◌≡◌, Some, [], ◌∷◌};
+ghost use Rattle.sec1_der.specs.Contents.{IsVersionOne, byte_fault, only_one};
 
 use crate::{
     BackWriter, DecodeValue, EncodeValue, ErrorKind, FixedTag, Length, Result, SliceReader,
@@ -23,9 +24,6 @@ impl FixedTag for VersionOne {
 }
 
 impl ValueContent for VersionOne {
-    ghost use Rattle.std.specs.Prelude.{Some, [], ◌∷◌};
-    ghost use Rattle.sec1_der.specs.Contents.{IsVersionOne, byte_fault, only_one};
-
     ghost content = { λ _. Some (1 ∷ []) };
 
     ghost is_content = { IsVersionOne };
