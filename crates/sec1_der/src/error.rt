@@ -2,7 +2,7 @@ ghost use Rattle.std.specs.Prelude.{◌≡◌};
 ghost use Rattle.sec1_der.specs.declared.error.ErrorKind.TheVariants.{Io, Memory};
 
 use crate::IoFault;
-use std::alloc::AllocError;
+use std::alloc::{AllocError, AllocFailed};
 
 /// The reason of an [`Error`].
 #[derive(Clone, Copy, Debug, PartialEq, Eq, thiserror::Error)]
@@ -82,6 +82,15 @@ impl From<AllocError> for Error {
     ghost from_gives = { λ _ e. e ≡ record { kind = Memory } };
 
     fn from(_: AllocError) -> Error {
+        ErrorKind::Memory.into()
+    }
+}
+
+/// A failed allocation becomes Memory.
+impl<T: Drop> From<AllocFailed<T>> for Error {
+    ghost from_gives = { λ _ e. e ≡ record { kind = Memory } };
+
+    fn from(_: AllocFailed<T>) -> Error {
         ErrorKind::Memory.into()
     }
 }

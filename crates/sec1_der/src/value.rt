@@ -17,7 +17,7 @@ pub trait FixedTag {
     /// The number of the tag byte.
     ghost tag_byte: { ℕ };
 
-    /// Returns `Self::TAG`. A contract knows its number.
+    /// Returns `Self::TAG`. A contract sees its byte.
     fn fixed_tag() -> Tag
         ensures { result ≡ tag_byte };
 }
