@@ -3,7 +3,7 @@ use Rattle.std.proofs.lemmas.Bool.{eq-eqb, ne_eqb, false≢true}
 use Rattle.std.proofs.lemmas.Result.{err_from_is_err_and}
 use Rattle.sec1_der.specs.Elements.{max_length, element}
 use Rattle.sec1_der.specs.Readers.{HasReadElement}
-use Rattle.sec1_der.proofs.ContentRefusals.{bits_refused, bits_told}
+use Rattle.sec1_der.proofs.ContentRefusals.{bits_refused, bits_field}
 use Rattle.sec1_der.proofs.explicit.WholeBitsDecodeExplicit.decode_explicit.Goals as goal
 
 pub returns-in-Some-as_bytes-clause-found : goal.returns-in-Some-as_bytes-clause-found
@@ -30,7 +30,7 @@ returns-in-Some-as_bytes-clause-kind c fresh =
     let bits = c.in-Some.bits in
     let found = rw c.in-Some.is at c.in_ok-bits.ensures.found in
     let unused : bits.unused ≡ 0 = c.in-Some-as_bytes.ensures.some.0 refl in
-    bits_told c.args.number (bits.unused ∷ bits.bytes.now) c.args.reader.now c.context_specific.new.self found.1 found.2 (c.in_ok-bits.ensures.kind fresh)
+    bits_field c.args.number (bits.unused ∷ bits.bytes.now) c.args.reader.now c.context_specific.new.self found.1 found.2 (c.in_ok-bits.ensures.kind fresh)
     ∙ rw (eq-eqb bits.unused 0 unused) refl
 
 pub returns-in-None-clause-kind : goal.returns-in-None-clause-kind
@@ -38,5 +38,5 @@ returns-in-None-clause-kind c fresh =
     let bits = c.in-Some.bits in
     let found = rw c.in-Some.is at c.in_ok-bits.ensures.found in
     let unused : (bits.unused == 0) ≡ false = ne_eqb bits.unused 0 (λ zero. false≢true (c.in-None.ensures.some.1 zero)) in
-    bits_told c.args.number (bits.unused ∷ bits.bytes.now) c.args.reader.now c.context_specific.new.self found.1 found.2 (c.in_ok-bits.ensures.kind fresh)
+    bits_field c.args.number (bits.unused ∷ bits.bytes.now) c.args.reader.now c.context_specific.new.self found.1 found.2 (c.in_ok-bits.ensures.kind fresh)
     ∙ rw (unused, c.fail.ensures.error) refl
