@@ -13,6 +13,5 @@ pub mod ArcLemmas
 pub mod DottedLemmas
 pub mod DisplayLemmas
 pub mod StreamLemmas
-pub mod OneElement
 pub mod StreamRefusals
 pub mod UniqueLemmas
