@@ -4,13 +4,13 @@ use Rattle.std.proofs.Common.{length, take, drop, get_or, Option, Some, None, Is
 use Rattle.std.proofs.Common.{arith}
 use Rattle.std.proofs.Math.Seq.{take-append_seam, drop-append_seam}
 use Rattle.std.proofs.lemmas.Bool.{le-ltb, le-leb, lt-leb, leb-true, eq-eqb, ne_eqb, eqb-false, not-true, and_parts, cond_both, cases_Bool}
-use Rattle.std.proofs.lemmas.List.{take_at, length-append, length-drop, append_assoc, take-append-drop, drop_all}
+use Rattle.std.proofs.lemmas.List.{take_at, length-append, length-drop, append_assoc, append-nil, take-append-drop, drop_all}
 use Rattle.std.proofs.lemmas.Slice.Eq.{bytes_eq-Decides}
 use Rattle.std.proofs.lemmas.Int.Digits.{number_digits_of}
 use Rattle.std.specs.Int.Digits.{digits_of}
 use Rattle.std.specs.Option.{option_or}
 use Rattle.std.specs.Str.{bytes_eq}
-use Rattle.sec1_der.specs.Elements.{max_length, len, header, element, IsTag, IsHeader, LacksHeader}
+use Rattle.sec1_der.specs.Elements.{max_length, len, header, element, IsTag, IsHeader, IsElement, LacksHeader}
 use Rattle.sec1_der.specs.Faults.{is_tag, length_fault, header_fault}
 use Rattle.sec1_der.specs.Readers.{Reader, before, HasReadElement}
 use Rattle.sec1_der.specs.Refusals.{Fault, no_fault, end_fault, number_at, length_at, within, parts_fault, element_fault, is_next, inside_fault}
@@ -166,6 +166,11 @@ reader_at r bytes unread whole = rw (← unread, ← whole) refl
 pub end_told : (bytes : List ℕ) → (bytes ≡ [] → ⊥) → end_fault bytes ≡ Some TrailingData
 end_told [] some = absurd (some refl)
 end_told (byte ∷ bytes) some = refl
+
+-- an element isn't refused
+pub document_element : (bytes : List ℕ) → IsElement bytes → document_fault bytes ≡ None
+document_element bytes is =
+    any_at (λ _. no_fault) end_fault is.tag is.content bytes [] is.is_header (is.spelled ∙ sym (append-nil (element is.tag is.content)))
 
 -- one element of any tag, and no byte behind it
 pub document_whole : (tag n : ℕ) (bytes inside : List ℕ) → IsHeader tag n → bytes ≡ header tag n ++ inside → n ≡ length inside → document_fault bytes ≡ None

@@ -13,12 +13,7 @@ use Rattle.sec1_der.specs.Refusals.{no_fault, end_fault, document_fault}
 use Rattle.sec1_der.specs.declared.error.ErrorKind.{ErrorKind}
 use Rattle.sec1_der.specs.declared.error.ErrorKind.TheVariants.{Truncated, Tag, Length, TrailingData, Io, Memory}
 use Rattle.sec1_der.proofs.HeaderLemmas.{header_front}
-use Rattle.sec1_der.proofs.RefusalLemmas.{any_at, any_headless, any_short, tag_from_test}
-
--- an element isn't refused
-element_fault_none : (bytes : List ℕ) → IsElement bytes → document_fault bytes ≡ None
-element_fault_none bytes is =
-    any_at (λ _. no_fault) end_fault is.tag is.content bytes [] is.is_header (is.spelled ∙ sym (append-nil (element is.tag is.content)))
+use Rattle.sec1_der.proofs.RefusalLemmas.{document_element, any_at, any_headless, any_short, tag_from_test}
 
 -- bytes that end inside an element
 cut_fault : (bytes : List ℕ) → get_or bytes 0 0 < 256 → IsCutShort bytes → document_fault bytes ≡ Some Truncated
@@ -61,7 +56,7 @@ longer_fault bytes more longer =
 pub read_fault : (old new : Option (List ℕ)) (bytes : List ℕ) → ReadsElement old new bytes → IfSome old (λ left. document_fault left ≡ None)
 read_fault None new bytes r = tt
 read_fault (Some all) None bytes r = absurd r.consumed
-read_fault (Some all) (Some left) bytes r = rw (r.consumed, r.at_end, append-nil bytes) (element_fault_none bytes r.is_element)
+read_fault (Some all) (Some left) bytes r = rw (r.consumed, r.at_end, append-nil bytes) (document_element bytes r.is_element)
 
 -- a refusal by a kind that says something of the bytes is the fault of them all
 refused_fault : (kind : ErrorKind) (old new : Option (List ℕ)) → RefusesElement kind old new
@@ -92,4 +87,4 @@ pub refused_none : (kind : ErrorKind) (old new : Option (List ℕ)) → RefusesE
 refused_none kind old new r = ⊎_elim (λ other. inl other) (λ fault. inr (IfSome_then old fault apart)) (refused_fault kind old new r)
   where
     apart : (left : List ℕ) → (get_or left 0 0 < 256 → document_fault left ≡ Some kind) → ¬ (IsElement left)
-    apart left fault is = cc (element_fault_none left is, fault (rw is.spelled is.is_header.tag_byte.byte))
+    apart left fault is = cc (document_element left is, fault (rw is.spelled is.is_header.tag_byte.byte))
