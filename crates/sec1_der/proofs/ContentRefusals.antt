@@ -1,5 +1,5 @@
 -- What the contents of identifiers and of bit strings are refused by.
-use Rattle.std.proofs.Common.{◌≡◌, ◌==◌, ℕ, ◌+◌, true, false, ◌&&◌, if◌then◌else◌, ◌≤◌, List, [], ◌∷◌, length, append-nil, Some, None}
+use Rattle.std.proofs.Common.{◌≡◌, ℕ, ◌+◌, true, false, ◌&&◌, if◌then◌else◌, ◌≤◌, List, [], ◌∷◌, length, append-nil, Some, None}
 use Rattle.std.proofs.Common.{refl, sym, ap, ◌∙◌, subst, arith, ⊎_elim}
 use Rattle.std.proofs.lemmas.Bool.{eq-eqb, ne_eqb, and_parts, cond_both, cases_Bool}
 use Rattle.std.proofs.lemmas.Slice.Eq.{bytes_eq-Decides}
@@ -62,7 +62,8 @@ bits_refused number bytes k = refused_field number (inside_fault 0x03 (λ _. fal
     no_fault bytes k (λ content e. inside_whole content ∙ rw (sym (inside_at_once 0x03 bit_string_fault content) ∙ e) refl)
 
 -- the unused bits are the fault of a field around a bit string
-pub bits_field : (number : ℕ) (content : List ℕ) (old new : Reader) → length content ≤ max_length → HasReadElement (0xA0 + number) (element 0x03 content) old new
+pub bits_field : (number : ℕ) (content : List ℕ) (old new : Reader) → length content ≤ max_length
+    → HasReadElement (0xA0 + number) (element 0x03 content) old new
     → field_fault number 0x03 (λ _. false) bit_string_fault no_fault old.unread ≡ None
     → field_fault number 0x03 is_bit_string whole_bits_fault no_fault old.unread ≡ whole_bits_fault content
 bits_field number content old new fits h none =

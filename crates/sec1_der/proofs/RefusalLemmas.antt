@@ -116,7 +116,8 @@ read_element f g tag content old new h =
     element_at f g tag content old.unread new.unread h.within (ap (λ (r : Reader). r.unread) h.read.was_whole)
 
 -- two elements are refused alike where their parts are
-element_alike : (Alike : Option ErrorKind → Option ErrorKind → Type 0) (f g h k : Fault) (tag : ℕ) (bytes : List ℕ) → ((kind : ErrorKind) → Alike (Some kind) (Some kind))
+element_alike : (Alike : Option ErrorKind → Option ErrorKind → Type 0) (f g h k : Fault) (tag : ℕ) (bytes : List ℕ)
+    → ((kind : ErrorKind) → Alike (Some kind) (Some kind))
     → ((content behind : List ℕ) → Alike (option_or (f content) (g behind)) (option_or (h content) (k behind)))
     → Alike (element_fault tag f g bytes) (element_fault tag h k bytes)
 element_alike Alike f g h k tag [] same parts = same Truncated
@@ -128,35 +129,40 @@ element_alike Alike f g h k tag (byte ∷ bytes) same parts = by (byte == tag) (
     by true (Err kind) = same kind
     by true (Ok x) = parts x.0 x.1
 
--- what is refused stays so where more is tested
-pub refused_more : (f h g : Fault) (tag : ℕ) (bytes : List ℕ) (k : ErrorKind) → ((content : List ℕ) → f content ≡ Some k → h content ≡ Some k)
-    → element_fault tag f no_fault bytes ≡ Some k → element_fault tag h g bytes ≡ Some k
-refused_more f h g tag bytes k more =
-    element_alike (λ a b. a ≡ Some k → b ≡ Some k) f no_fault h g tag bytes (λ kind e. e) (λ content behind. either (f content) (h content) (g behind) (more content))
-  where
-    either : (a b c : Option ErrorKind) → (a ≡ Some k → b ≡ Some k) → option_or a None ≡ Some k → option_or b c ≡ Some k
-    either None b c more e = absurd (cc e)
-    either (Some j) b c more e = rw (more e) refl
-
 -- a fault with nothing behind it
 pub alone : (o : Option ErrorKind) → option_or o None ≡ o
 alone None = refl
 alone (Some k) = refl
 
--- an element was read, of which nothing is refused: the bytes behind it are next
-pub record ReadsOn (tag : ℕ) (f : Fault) (old new : Reader) : Type 0 where
-  pub whole : new.failed ≡ false
-  pub next : (g : Fault) → element_fault tag f g old.unread ≡ g new.unread
+-- what is refused stays so where more is tested
+refused_more : (f h g : Fault) (tag : ℕ) (bytes : List ℕ) (k : ErrorKind) → ((content : List ℕ) → f content ≡ Some k → h content ≡ Some k)
+    → element_fault tag f no_fault bytes ≡ Some k → element_fault tag h g bytes ≡ Some k
+refused_more f h g tag bytes k more =
+    element_alike (λ a b. a ≡ Some k → b ≡ Some k) f no_fault h g tag bytes (λ kind e. e)
+    (λ content behind e. rw (more content (sym (alone (f content)) ∙ e)) refl)
 
+-- what was read isn't refused: what is refused then is what the bytes behind it are
+pub record GoesOn (fault : Fault → Fault) (old new : Reader) : Type 0 where
+  pub whole : new.failed ≡ false
+  pub next : (g : Fault) → fault g old.unread ≡ g new.unread
+
+goes_on : (fault : Fault → Fault) (found : Option ErrorKind) (tag : ℕ) (content : List ℕ) (old new : Reader) → HasReadElement tag content old new
+    → ((g : Fault) → fault g old.unread ≡ option_or found (g new.unread)) → fault no_fault old.unread ≡ None → GoesOn fault old new
+goes_on fault found tag content old new h read none =
+    let first : found ≡ None = sym (alone found) ∙ (sym (read no_fault) ∙ none) in
+    record { whole = ap (λ (r : Reader). r.failed) h.read.is_whole; next = λ g. read g ∙ rw first refl }
+
+some_and : {T : Type 0} {P : T → Type 0} (o : Option T) → IsSomeAnd o P → (x : T) × P x
+some_and None h = absurd h
+some_and (Some x) h = (x, h)
+
+-- an element was read, of which nothing is refused
 pub reads_on : (f : Fault) (tag : ℕ) (content : Option (List ℕ)) (P : List ℕ → Type 0) (old new : Reader)
-    → IsSomeAnd content (λ inside. P inside × HasReadElement tag inside old new) → element_fault tag f no_fault old.unread ≡ None → ReadsOn tag f old new
-reads_on f tag None P old new h none = absurd h
-reads_on f tag (Some content) P old new h none =
-    let first : f content ≡ None = sym (alone (f content)) ∙ (sym (read_element f no_fault tag content old new h.1) ∙ none) in
-    record {
-      whole = ap (λ (r : Reader). r.failed) h.1.read.is_whole;
-      next = λ g. read_element f g tag content old new h.1 ∙ rw first refl;
-    }
+    → IsSomeAnd content (λ inside. P inside × HasReadElement tag inside old new) → element_fault tag f no_fault old.unread ≡ None
+    → GoesOn (element_fault tag f) old new
+reads_on f tag content P old new h none =
+    let (inside, is) = some_and content h in
+    goes_on (element_fault tag f) (f inside) tag inside old new is.1 (λ g. read_element f g tag inside old new is.1) none
 
 -- a reader that hasn't refused, by its bytes
 pub reader_at : (r : Reader) (bytes : List ℕ) → r.unread ≡ bytes → r.failed ≡ false → r ≡ before bytes
@@ -215,34 +221,21 @@ pub read_field : (number : ℕ) (f g : Fault) (content : List ℕ) (old new : Re
 read_field number f g content old new h =
     rw (next_first (0xA0 + number) old.unread (ap (λ (r : Reader). slice_get r.unread 0) h.read.was_whole)) (read_element f g (0xA0 + number) content old new h)
 
--- a field was read, or none is next: the bytes behind it are next
-pub record PassesField (number : ℕ) (f : Fault) (old new : Reader) : Type 0 where
-  pub whole : new.failed ≡ false
-  pub next : (g : Fault) → field_at number f g old.unread ≡ g new.unread
-
+-- a field was read of which nothing is refused, or none is next
 pub passes_field : {A : Type 0} (number tag : ℕ) (f : Fault) (field : Option A) (content : A → Option (List ℕ)) (P : List ℕ → Type 0) (old new : Reader)
     → old.failed ≡ false
     → IfSome field (λ value. IsSomeAnd (content value) (λ inside.
-      P inside × (length inside ≤ max_length) × HasReadElement (0xA0 + number) (element tag inside) old new))
+    P inside × (length inside ≤ max_length) × HasReadElement (0xA0 + number) (element tag inside) old new))
     → IfNone field ((new ≡ old) × (slice_get old.unread 0 ≡ Some (0xA0 + number) → ⊥))
-    → field_at number f no_fault old.unread ≡ None → PassesField number f old new
-passes_field number tag f None content P old new whole some none e =
-    record {
-      whole = ap (λ (r : Reader). r.failed) none.0 ∙ whole;
-      next = λ g. rw (other_first (0xA0 + number) old.unread none.1) (ap (λ (r : Reader). g r.unread) (sym none.0));
-    }
-passes_field number tag f (Some value) content P old new whole some none e = by (content value) some
-  where
-    by : (o : Option (List ℕ)) → IsSomeAnd o (λ inside. P inside × (length inside ≤ max_length) × HasReadElement (0xA0 + number) (element tag inside) old new)
-        → PassesField number f old new
-    by None h = absurd h
-    by (Some inside) h =
-        let first : f (element tag inside) ≡ None =
-        sym (alone (f (element tag inside))) ∙ (sym (read_field number f no_fault (element tag inside) old new h.2) ∙ e) in
-        record {
-          whole = ap (λ (r : Reader). r.failed) h.2.read.is_whole;
-          next = λ g. read_field number f g (element tag inside) old new h.2 ∙ rw first refl;
-        }
+    → field_at number f no_fault old.unread ≡ None → GoesOn (field_at number f) old new
+passes_field number tag f None content P old new whole some none e = record {
+  whole = ap (λ (r : Reader). r.failed) none.0 ∙ whole;
+  next = λ g. rw (other_first (0xA0 + number) old.unread none.1) (ap (λ (r : Reader). g r.unread) (sym none.0));
+}
+passes_field number tag f (Some value) content P old new whole some none e =
+    let (inside, is) = some_and (content value) some in
+    let bytes = element tag inside in
+    goes_on (field_at number f) (f bytes) (0xA0 + number) bytes old new is.2 (λ g. read_field number f g bytes old new is.2) e
 
 -- in a field of which nothing is checked late, the fault is that of the one element
 pub inside_at_once : (tag : ℕ) (f : Fault) (bytes : List ℕ) → inside_fault tag (λ _. false) f bytes ≡ element_fault tag f end_fault bytes

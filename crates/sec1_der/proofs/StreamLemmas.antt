@@ -1,6 +1,6 @@
 -- Reading one element from a stream: what was taken, step by step.
-use Rattle.std.proofs.Common.{◌≡◌, ◌≢◌, ℕ, ◌+◌, ◌-◌, ◌<◌, ◌≤◌, List, [], ◌∷◌, ◌++◌, length, take, get_or, Option, ◌⊎◌, inl, inr, ⊎_elim, arith, refl, sym, ap}
-use Rattle.std.proofs.Common.{subst, ◌∙◌, append-nil, append_assoc, length-append}
+use Rattle.std.proofs.Common.{◌≡◌, ℕ, ◌+◌, ◌<◌, ◌≤◌, List, [], ◌∷◌, ◌++◌, length, take, get_or, Option, ◌⊎◌, inl, inr, ⊎_elim, arith, refl, sym, ap}
+use Rattle.std.proofs.Common.{◌∙◌, append-nil, append_assoc, length-append}
 use Rattle.std.specs.Io.KnownBytes.{Consumes, IsAtEnd, Keeps}
 use Rattle.std.proofs.KnownBytes.{Consumes-trans, Consumes-kept}
 use Rattle.std.proofs.Math.Seq.{take-append-add}
@@ -39,13 +39,13 @@ take_byte buf n one most some =
     rw all (take_more buf 0 0 (omega arith))
 
 -- bytes, and then more of them
-pub reads_more : (old mid new : Option (List ℕ)) (start middle end : List ℕ) (n m : ℕ) → ReadsOnto old mid start middle n → ReadsOnto mid new middle end m
-    → ReadsOnto old new start end (n + m)
-reads_more old mid new start middle end n m p q = record {
-  bytes = p.bytes ++ q.bytes;
-  consumed = Consumes-trans old mid new p.bytes q.bytes p.consumed q.consumed;
-  appended = q.appended ∙ (ap (λ xs. xs ++ q.bytes) p.appended ∙ append_assoc start p.bytes q.bytes);
-  count = length-append p.bytes q.bytes ∙ omega (arith, p.count, q.count);
+pub reads_more : (old mid new : Option (List ℕ)) (start middle end part : List ℕ) (n m : ℕ) → ReadsOnto old mid start middle n → Consumes mid new part
+    → end ≡ middle ++ part → length part ≡ m → ReadsOnto old new start end (n + m)
+reads_more old mid new start middle end part n m read consumed joined size = record {
+  bytes = read.bytes ++ part;
+  consumed = Consumes-trans old mid new read.bytes part read.consumed consumed;
+  appended = joined ∙ (ap (λ xs. xs ++ part) read.appended ∙ append_assoc start read.bytes part);
+  count = length-append read.bytes part ∙ omega (arith, read.count, size);
 }
 
 -- ---- the header

@@ -1,13 +1,13 @@
 -- What the kind by which a stream's element is refused says of all the bytes that the stream had left.
-use Rattle.std.proofs.Common.{◌≡◌, ℕ, ◌-◌, ◌<◌, ◌≤◌, true, false, ◌&&◌, if◌then◌else◌, nat_lt, nat_le, List, [], ◌∷◌, ◌++◌, length, get_or}
-use Rattle.std.proofs.Common.{Option, Some, None, IfSome, ◌⊎◌, inl, inr, ⊎_elim, refl, ap, sym, ◌∙◌, subst, arith, append-nil}
+use Rattle.std.proofs.Common.{◌≡◌, ℕ, ◌<◌, List, [], ◌∷◌, ◌++◌, get_or}
+use Rattle.std.proofs.Common.{Option, Some, None, IfSome, ◌⊎◌, inl, inr, ⊎_elim, refl, ap, ◌∙◌, arith, append-nil}
 use Rattle.std.proofs.lemmas.Bool.{false_from_ne_true}
 use Rattle.std.proofs.lemmas.Bool.Decides.{nat_tests}
 use Rattle.std.proofs.lemmas.List.{append_assoc, length-append}
 use Rattle.std.proofs.lemmas.Option.{IfSome_then}
 use Rattle.std.specs.List.{All}
-use Rattle.sec1_der.specs.Elements.{LacksHeader, IsElement, element}
-use Rattle.sec1_der.specs.Faults.{is_tag, lacks_digits, length_fault, header_fault, IsIoOrMemory}
+use Rattle.sec1_der.specs.Elements.{IsElement}
+use Rattle.sec1_der.specs.Faults.{is_tag, header_fault, IsIoOrMemory}
 use Rattle.sec1_der.specs.ReadsDocument.{IsCutShort, IsBadTag, IsBadLength, IsElementAndByte, ReadsElement, RefusesElement}
 use Rattle.sec1_der.specs.Refusals.{no_fault, end_fault, document_fault}
 use Rattle.sec1_der.specs.declared.error.ErrorKind.{ErrorKind}
@@ -36,21 +36,18 @@ length_stays (byte ∷ first ∷ digits) more e = grind (arith, nat_tests, lengt
 -- bytes that begin with a bad length
 bad_length_fault : (bytes more : List ℕ) → get_or (bytes ++ more) 0 0 < 256 → IsBadLength bytes → document_fault (bytes ++ more) ≡ Some Length
 bad_length_fault bytes more small bad =
-    any_headless (λ _. no_fault) end_fault (bytes ++ more) small none ∙ ap (λ kind. Some kind) (length_stays bytes more bad.bad.told)
-  where
-    none : LacksHeader (bytes ++ more)
-    none tag n rest is e = ⊎_elim
-        (λ longer. bad.bad.none tag n longer.after is longer.front)
-        (λ cut. cc (cut, bad.bad.told))
-        (header_front tag n bytes more rest is e)
+    any_headless (λ _. no_fault) end_fault (bytes ++ more) small (λ tag n rest is e. ⊎_elim
+    (λ longer. bad.bad.none tag n longer.after is longer.front)
+    (λ cut. cc (cut, bad.bad.told))
+    (header_front tag n bytes more rest is e))
+    ∙ ap (λ kind. Some kind) (length_stays bytes more bad.bad.told)
 
 -- an element and a byte more
 longer_fault : (bytes more : List ℕ) → IsElementAndByte bytes → document_fault (bytes ++ more) ≡ Some TrailingData
 longer_fault bytes more longer =
     let whole = longer.is_element in
-    let joined : bytes ++ more ≡ element whole.tag whole.content ++ (longer.byte ∷ more) =
-    ap (λ xs. xs ++ more) longer.joined ∙ (append_assoc longer.front (longer.byte ∷ []) more ∙ ap (λ xs. xs ++ (longer.byte ∷ more)) whole.spelled) in
-    any_at (λ _. no_fault) end_fault whole.tag whole.content (bytes ++ more) (longer.byte ∷ more) whole.is_header joined
+    any_at (λ _. no_fault) end_fault whole.tag whole.content (bytes ++ more) (longer.byte ∷ more) whole.is_header
+    (rw (longer.joined, append_assoc longer.front (longer.byte ∷ []) more, whole.spelled) refl)
 
 -- what is read isn't refused
 pub read_fault : (old new : Option (List ℕ)) (bytes : List ℕ) → ReadsElement old new bytes → IfSome old (λ left. document_fault left ≡ None)
@@ -66,8 +63,7 @@ refused_fault Memory old new r = inl (inr refl)
 refused_fault kind None new r = inr tt
 refused_fault kind (Some all) None r = absurd r.consumed
 refused_fault Truncated (Some all) (Some left) r =
-    let whole : all ≡ r.taken = r.consumed ∙ (ap (λ xs. r.taken ++ xs) (r.at_end refl) ∙ append-nil r.taken) in
-    inr (λ small. cut_fault all small (subst IsCutShort (sym whole) r.by_kind))
+    rw (r.consumed, r.at_end refl, append-nil r.taken) (inr (λ small. cut_fault r.taken small r.by_kind))
 refused_fault Tag (Some all) (Some left) r = rw r.consumed (inr (λ small. bad_tag_fault r.taken left small r.by_kind))
 refused_fault Length (Some all) (Some left) r = rw r.consumed (inr (λ small. bad_length_fault r.taken left small r.by_kind))
 refused_fault TrailingData (Some all) (Some left) r = rw r.consumed (inr (λ small. longer_fault r.taken left r.by_kind))
@@ -76,7 +72,10 @@ refused_fault kind (Some all) (Some left) r = absurd r.by_kind
 -- the kind of a refusal is the fault of all the bytes, if it says something of them
 pub refused_kind : (kind : ErrorKind) (old new : Option (List ℕ)) → RefusesElement kind old new
     → IsIoOrMemory kind ⊎ IfSome old (λ left. All (λ byte. byte < 256) left → document_fault left ≡ Some kind)
-refused_kind kind old new r = ⊎_elim (λ other. inl other) (λ fault. inr (IfSome_then old fault (λ left f all. f (first left all)))) (refused_fault kind old new r)
+refused_kind kind old new r = ⊎_elim
+    (λ other. inl other)
+    (λ fault. inr (IfSome_then old fault (λ left f all. f (first left all))))
+    (refused_fault kind old new r)
   where
     first : (bytes : List ℕ) → All (λ byte. byte < 256) bytes → get_or bytes 0 0 < 256
     first [] all = omega arith
@@ -84,7 +83,7 @@ refused_kind kind old new r = ⊎_elim (λ other. inl other) (λ fault. inr (IfS
 
 -- what is refused by such a kind is no element
 pub refused_none : (kind : ErrorKind) (old new : Option (List ℕ)) → RefusesElement kind old new → IsIoOrMemory kind ⊎ IfSome old (λ left. ¬ (IsElement left))
-refused_none kind old new r = ⊎_elim (λ other. inl other) (λ fault. inr (IfSome_then old fault apart)) (refused_fault kind old new r)
-  where
-    apart : (left : List ℕ) → (get_or left 0 0 < 256 → document_fault left ≡ Some kind) → ¬ (IsElement left)
-    apart left fault is = cc (document_element left is, fault (rw is.spelled is.is_header.tag_byte.byte))
+refused_none kind old new r = ⊎_elim
+    (λ other. inl other)
+    (λ fault. inr (IfSome_then old fault (λ left f is. cc (document_element left is, f (rw is.spelled is.is_header.tag_byte.byte)))))
+    (refused_fault kind old new r)

@@ -6,7 +6,7 @@ use Rattle.std.proofs.lemmas.Bool.{lt-ltb, le-ltb, ne_eqb, eq-eqb, cond_both, ca
 use Rattle.std.proofs.lemmas.List.{take_all, length-append, length-take, length-take-le, length-drop, append_assoc, take-append-drop}
 use Rattle.std.specs.Option.{option_or}
 use Rattle.std.specs.Str.{bytes_eq}
-use Rattle.sec1_der.specs.Elements.{max_length, len, header, element, IsConstructed, IsHeader}
+use Rattle.sec1_der.specs.Elements.{max_length, len, element, IsHeader}
 use Rattle.sec1_der.specs.Faults.{is_tag, length_fault}
 use Rattle.sec1_der.specs.Refusals.{Fault, no_fault, end_fault, number_at, length_at, within, parts_fault, any_fault, nested_fault, row_fault, tree_fault}
 use Rattle.sec1_der.specs.Trees.{Tree, leaf, branch, none, first, bytes, size}
@@ -173,8 +173,8 @@ node_opened ends rest after end o =
     let content = take n after in
     let count : length content ≡ o.n = omega (arith, length-take-le n after (omega arith), o.opening.ends) in
     let is : IsHeader o.tag (length content) = record { tag_byte = o.opening.tag_byte; within = omega (arith, count, o.opening.within) } in
-    let whole : rest ≡ element o.tag content ++ drop n after = o.opening.row ∙ (ap (λ m. header o.tag m ++ after) (sym count)
-    ∙ (ap (λ xs. header o.tag (length content) ++ xs) (sym (take-append-drop n after)) ∙ sym (append_assoc (header o.tag (length content)) content (drop n after)))) in
+    let whole : rest ≡ element o.tag content ++ drop n after =
+    rw (append_assoc (len (length content)) content (drop n after), take-append-drop n after, count) o.opening.row in
     next_element ends rest (drop n after) o.tag content is whole (omega (arith, length-drop n after, o.opening.ends, o.fits))
     ∙ rw (ne_eqb (bit_and o.tag 0x20) 0 o.opening.constructed) refl
 
