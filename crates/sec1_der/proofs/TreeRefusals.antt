@@ -149,22 +149,17 @@ node_closed (end ∷ ends) ends' rest some is e =
 element_passed : (ends rest after : List ℕ) → Passes ends rest after → next_fault ends rest ≡ open_fault ends after
 element_passed ends rest after p = by p.tree p.single p.row
   where
-    positive : (t : Tree) → 0 < size t
-    positive (leaf tag content) = omega arith
-    positive (branch tag children) = omega arith
-
-    next : (tag : ℕ) (content : List ℕ) → IsHeader tag (length content) → rest ≡ element tag content ++ after
-        → nested_fault (row_at (length ends + 2)) tag content ≡ None → next_fault ends rest ≡ open_fault ends after
-    next tag content h is passes = next_element ends rest after tag content h is p.fits ∙ rw passes refl
-
     by : (t : Tree) → IsSingle t → rest ≡ bytes t ++ after → next_fault ends rest ≡ open_fault ends after
-    by (leaf tag content) single is = next tag content (record { tag_byte = single.tree.0; within = single.tree.2 }) is (⊎_elim
+    by (leaf tag content) single is =
+        next_element ends rest after tag content (record { tag_byte = single.tree.0; within = single.tree.2 }) is p.fits ∙ ⊎_elim
         (λ zero. rw (eq-eqb (bit_and tag 0x20) 0 zero) refl)
         (λ constructed. absurd (single.tree.1 constructed))
-        (cases_eq (bit_and tag 0x20) 0))
-    by (branch tag none) single is = next tag [] (record { tag_byte = single.tree.0; within = single.tree.2 }) is
-        (cond_both (not (bit_and tag 0x20 == 0)) (row_at (length ends + 2) []) None (λ fault. fault ≡ None) (λ _. row_none 0 (length ends + 2)) (λ _. refl))
-    by (branch tag (first t f)) single is = absurd (omega (arith, single.alone, positive t))
+        (cases_eq (bit_and tag 0x20) 0)
+    by (branch tag none) single is =
+        next_element ends rest after tag [] (record { tag_byte = single.tree.0; within = single.tree.2 }) is p.fits
+        ∙ ap (λ fault. option_or fault (open_fault ends after)) (cond_both (not (bit_and tag 0x20 == 0)) None None (λ fault. fault ≡ None) (λ _. refl) (λ _. refl))
+    by (branch tag (first (leaf tag' content) children)) single is = absurd (omega (arith, single.alone))
+    by (branch tag (first (branch tag' inside) children)) single is = absurd (omega (arith, single.alone))
 
 -- a node with a content was opened
 node_opened : (ends rest after : List ℕ) (end : ℕ) → Opens ends rest end after → next_fault ends rest ≡ open_fault (end ∷ ends) after

@@ -15,48 +15,25 @@ use Rattle.sec1_der.proofs.TreeLemmas.{element_apart}
 abbrev pub IsUnique : {A : Type 0} → (A → Option (List ℕ)) → Type 0
 IsUnique {A} content = (a b : A) (bytes : List ℕ) → content a ≡ Some bytes → content b ≡ Some bytes → a ≡ b
 
--- two first components with one content, and the rests behind them with one content
-record AreSame (x y a b : Option (List ℕ)) : Type 0 where
-  first : List ℕ
-  rest : List ℕ
-  x_there : x ≡ Some first
-  y_there : y ≡ Some first
-  a_there : a ≡ Some rest
-  b_there : b ≡ Some rest
-
--- two rows with one content, which begin with an element of one tag
-same : (tag : ℕ) (x y a b : Option (List ℕ)) (bytes : List ℕ) → join (element_of tag x) a ≡ Some bytes → join (element_of tag y) b ≡ Some bytes
-    → AreSame x y a b
-same tag x y a b bytes e f =
-    let p = parted (element_of tag x) a bytes e in
-    let q = parted (element_of tag y) b bytes f in
-    let s = element_of_tells tag x p.front p.first_there in
-    let t = element_of_tells tag y q.front q.first_there in
-    let left : bytes ≡ element tag s.inside ++ p.back = p.joined ∙ ap (λ xs. xs ++ p.back) s.at.spelled in
-    let right : bytes ≡ element tag t.inside ++ q.back = q.joined ∙ ap (λ xs. xs ++ q.back) t.at.spelled in
-    let apart = element_apart tag tag s.inside t.inside p.back q.back (sym left ∙ right) in
-    record {
-      first = s.inside;
-      rest = p.back;
-      x_there = s.same;
-      y_there = rw apart.1 t.same;
-      a_there = p.second_there;
-      b_there = rw apart.2 q.second_there;
-    }
-
--- values with one content have elements that differ
-pub unique_inside : (tag : ℕ) {A : Type 0} (content : A → Option (List ℕ)) → IsUnique content → IsUnique (λ a. element_of tag (content a))
-unique_inside tag content one a b bytes e f =
-    let both = same tag (content a) (content b) (Some []) (Some []) (bytes ++ []) (rw e refl) (rw f refl) in
-    one a b both.first both.x_there both.y_there
-
--- a row with one content, where a component stands first
+-- two rows with one content, where an element of one tag stands first
 pub unique_required : (tag : ℕ) {A R : Type 0} (content : A → Option (List ℕ)) (rest : R → Option (List ℕ)) → IsUnique content → IsUnique rest
     → (x y : A) (a b : R) (bytes : List ℕ) → join (element_of tag (content x)) (rest a) ≡ Some bytes
     → join (element_of tag (content y)) (rest b) ≡ Some bytes → (x ≡ y) × (a ≡ b)
 unique_required tag content rest one two x y a b bytes e f =
-    let both = same tag (content x) (content y) (rest a) (rest b) bytes e f in
-    (one x y both.first both.x_there both.y_there, two a b both.rest both.a_there both.b_there)
+    let p = parted (element_of tag (content x)) (rest a) bytes e in
+    let q = parted (element_of tag (content y)) (rest b) bytes f in
+    let s = element_of_tells tag (content x) p.front p.first_there in
+    let t = element_of_tells tag (content y) q.front q.first_there in
+    let left : bytes ≡ element tag s.inside ++ p.back = p.joined ∙ ap (λ xs. xs ++ p.back) s.at.spelled in
+    let right : bytes ≡ element tag t.inside ++ q.back = q.joined ∙ ap (λ xs. xs ++ q.back) t.at.spelled in
+    let apart = element_apart tag tag s.inside t.inside p.back q.back (sym left ∙ right) in
+    (one x y s.inside s.same (rw apart.1 t.same), two a b p.back p.second_there (rw apart.2 q.second_there))
+
+-- two elements with one content
+pub unique_inside : (tag : ℕ) {A : Type 0} (content : A → Option (List ℕ)) → IsUnique content → IsUnique (λ a. element_of tag (content a))
+unique_inside tag content one a b bytes e f =
+    let alone : IsUnique (λ (end : Unit {0}). Some []) = λ x y empty p q. refl in
+    (unique_required tag content (λ (end : Unit {0}). Some []) one alone a b tt tt (bytes ++ []) (rw e refl) (rw f refl)).0
 
 -- a row without its OPTIONAL component is the rest
 without : (rest : Option (List ℕ)) (bytes : List ℕ) → join (Some []) rest ≡ Some bytes → rest ≡ Some bytes
@@ -70,7 +47,7 @@ begins n tag x rest bytes e =
     let s = element_of_tells (0xA0 + n) (element_of tag x) p.front p.first_there in
     rw (p.joined, s.at.spelled) refl
 
--- a row with one content, where an OPTIONAL component stands first
+-- two rows with one content, where an OPTIONAL component stands first
 pub unique_optional : (n tag : ℕ) {A R : Type 0} (content : A → Option (List ℕ)) (rest : R → Option (List ℕ)) → IsUnique content → IsUnique rest
     → ((a : R) (bytes : List ℕ) → rest a ≡ Some bytes → slice_get bytes 0 ≢ Some (0xA0 + n))
     → (x y : Option A) (a b : R) (bytes : List ℕ) → join (field_of n tag (option_map content x)) (rest a) ≡ Some bytes

@@ -22,9 +22,9 @@ returns-in_err-front-clause-some g c bytes e fits =
     absurd (cc (rw (← c.number.ensures.value, none) at e))
 
 -- the count of the field and of the row behind it
-whole : (g : Over) (c : After-new g) → IsMeasured
-    (join (field_of g.N.ExplicitTag.at g.A.FixedTag.number (option_map g.A.ValueContent.content c.args.self.now.first)) (g.R.ValueContent.content c.args.self.now.rest))
-    (c.in_ok-front.front + c.in_ok-back.back)
+whole : (g : Over) (c : After-new g)
+    → let front = field_of g.N.ExplicitTag.at g.A.FixedTag.number (option_map g.A.ValueContent.content c.args.self.now.first) in
+    IsMeasured (join front (g.R.ValueContent.content c.args.self.now.rest)) (c.in_ok-front.front + c.in_ok-back.back)
 whole g c = rw (sym c.number.ensures.value) (counted _ _ c.in_ok-front.front c.in_ok-back.back
     (measured _ c.in_ok-front.front c.in_ok-front.ensures.none c.in_ok-front.ensures.some)
     (measured_within _ c.in_ok-back.back c.in_ok-back.ensures.none c.in_ok-back.ensures.some))
