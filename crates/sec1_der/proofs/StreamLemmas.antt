@@ -130,27 +130,29 @@ refused_growth old new tag n h = record {
 }
 
 -- the header and the content were read, and stand in the vector
-pub both_read : (old mid new : Option (List ℕ)) (tag n : ℕ) (bytes after : List ℕ) → ReadsHeader old mid tag n → bytes ≡ header tag n
-    → ReadsOnto mid new bytes after n → Consumes old new after × IsElement after
-both_read old mid new tag n bytes after h spelled r =
+both_read : (old mid next : Option (List ℕ)) (tag n : ℕ) (bytes after : List ℕ) → ReadsHeader old mid tag n → bytes ≡ header tag n
+    → ReadsOnto mid next bytes after n → Consumes old next after × IsElement after
+both_read old mid next tag n bytes after h spelled r =
     let joined : after ≡ header tag n ++ r.bytes = r.appended ∙ ap (λ xs. xs ++ r.bytes) spelled in
-    rw joined (Consumes-trans old mid new (header tag n) r.bytes h.consumed r.consumed, whole_element tag n r.bytes h.is_header r.count)
+    rw joined (Consumes-trans old mid next (header tag n) r.bytes h.consumed r.consumed, whole_element tag n r.bytes h.is_header r.count)
 
 -- a failed read behind an element
-pub refused_behind : (old mid new : Option (List ℕ)) (bytes : List ℕ) → Consumes old mid bytes → IsElement bytes → Keeps mid new → RefusesElement Io old new
-refused_behind old mid new bytes consumed is kept = record {
-  taken = bytes;
-  consumed = Consumes-kept old mid new bytes consumed kept;
-  by_kind = inr is;
-  at_end = λ e. absurd (cc e);
-}
+pub refused_behind : (old mid next new : Option (List ℕ)) (tag n : ℕ) (bytes after : List ℕ) → ReadsHeader old mid tag n → bytes ≡ header tag n
+    → ReadsOnto mid next bytes after n → Keeps next new → RefusesElement Io old new
+refused_behind old mid next new tag n bytes after h spelled r kept =
+    let both = both_read old mid next tag n bytes after h spelled r in
+    record { taken = after; consumed = Consumes-kept old next new after both.0 kept; by_kind = inr both.1; at_end = λ e. absurd (cc e) }
 
 -- a byte behind an element
-pub byte_behind : (old mid new : Option (List ℕ)) (bytes buf : List ℕ) (n : ℕ) → Consumes old mid bytes → IsElement bytes → Consumes mid new (take n buf)
-    → length buf ≡ 1 → n ≤ length buf → 0 < n → RefusesElement TrailingData old new
-byte_behind old mid new bytes buf n consumed is next one most some = record {
-  taken = bytes ++ take n buf;
-  consumed = Consumes-trans old mid new bytes (take n buf) consumed next;
-  by_kind = record { front = bytes; byte = get_or buf 0 0; is_element = is; joined = ap (λ xs. bytes ++ xs) (take_byte buf n one most some) };
-  at_end = λ e. absurd (cc e);
-}
+pub byte_behind : (old mid next new : Option (List ℕ)) (tag n : ℕ) (bytes after buf : List ℕ) (count : ℕ) → ReadsHeader old mid tag n
+    → bytes ≡ header tag n → ReadsOnto mid next bytes after n → Consumes next new (take count buf) → length buf ≡ 1 → count ≤ length buf
+    → 0 < count → RefusesElement TrailingData old new
+byte_behind old mid next new tag n bytes after buf count h spelled r more one most some =
+    let both = both_read old mid next tag n bytes after h spelled r in
+    let byte = take_byte buf count one most some in
+    record {
+      taken = after ++ take count buf;
+      consumed = Consumes-trans old next new after (take count buf) both.0 more;
+      by_kind = record { front = after; byte = get_or buf 0 0; is_element = both.1; joined = ap (λ xs. after ++ xs) byte };
+      at_end = λ e. absurd (cc e);
+    }
