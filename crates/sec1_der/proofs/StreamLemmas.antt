@@ -130,25 +130,24 @@ refused_growth old new tag n h = record {
 }
 
 -- the header and the content were read, and stand in the vector
-both_read : (old mid next : Option (List ℕ)) (tag n : ℕ) (bytes after : List ℕ) → ReadsHeader old mid tag n → bytes ≡ header tag n
-    → ReadsOnto mid next bytes after n → Consumes old next after × IsElement after
-both_read old mid next tag n bytes after h spelled r =
-    let joined : after ≡ header tag n ++ r.bytes = r.appended ∙ ap (λ xs. xs ++ r.bytes) spelled in
-    rw joined (Consumes-trans old mid next (header tag n) r.bytes h.consumed r.consumed, whole_element tag n r.bytes h.is_header r.count)
+both_read : (old mid next : Option (List ℕ)) (tag n : ℕ) (after : List ℕ) → ReadsHeader old mid tag n → ReadsOnto mid next (header tag n) after n
+    → Consumes old next after × IsElement after
+both_read old mid next tag n after h r =
+    rw r.appended (Consumes-trans old mid next (header tag n) r.bytes h.consumed r.consumed, whole_element tag n r.bytes h.is_header r.count)
 
 -- a failed read behind an element
-pub refused_behind : (old mid next new : Option (List ℕ)) (tag n : ℕ) (bytes after : List ℕ) → ReadsHeader old mid tag n → bytes ≡ header tag n
-    → ReadsOnto mid next bytes after n → Keeps next new → RefusesElement Io old new
-refused_behind old mid next new tag n bytes after h spelled r kept =
-    let both = both_read old mid next tag n bytes after h spelled r in
+pub refused_behind : (old mid next new : Option (List ℕ)) (tag n : ℕ) (after : List ℕ) → ReadsHeader old mid tag n
+    → ReadsOnto mid next (header tag n) after n → Keeps next new → RefusesElement Io old new
+refused_behind old mid next new tag n after h r kept =
+    let both = both_read old mid next tag n after h r in
     record { taken = after; consumed = Consumes-kept old next new after both.0 kept; by_kind = inr both.1; at_end = λ e. absurd (cc e) }
 
 -- a byte behind an element
-pub byte_behind : (old mid next new : Option (List ℕ)) (tag n : ℕ) (bytes after buf : List ℕ) (count : ℕ) → ReadsHeader old mid tag n
-    → bytes ≡ header tag n → ReadsOnto mid next bytes after n → Consumes next new (take count buf) → length buf ≡ 1 → count ≤ length buf
-    → 0 < count → RefusesElement TrailingData old new
-byte_behind old mid next new tag n bytes after buf count h spelled r more one most some =
-    let both = both_read old mid next tag n bytes after h spelled r in
+pub byte_behind : (old mid next new : Option (List ℕ)) (tag n : ℕ) (after buf : List ℕ) (count : ℕ) → ReadsHeader old mid tag n
+    → ReadsOnto mid next (header tag n) after n → Consumes next new (take count buf) → length buf ≡ 1 → count ≤ length buf → 0 < count
+    → RefusesElement TrailingData old new
+byte_behind old mid next new tag n after buf count h r more one most some =
+    let both = both_read old mid next tag n after h r in
     let byte = take_byte buf count one most some in
     record {
       taken = after ++ take count buf;
