@@ -9,7 +9,7 @@ use Rattle.std.proofs.lemmas.Bool.Decides.{nat_tests}
 use Rattle.std.proofs.lemmas.List.{length-take-le, nil_from_length, take_more, take-append-le}
 use Rattle.sec1_der.specs.declared.error.ErrorKind.{ErrorKind}
 use Rattle.sec1_der.specs.declared.error.ErrorKind.TheVariants.{Truncated, TrailingData, Io, Memory}
-use Rattle.sec1_der.specs.Elements.{IsElement, IsHeader, header}
+use Rattle.sec1_der.specs.Elements.{IsElement, IsHeader, LacksHeader, header}
 use Rattle.sec1_der.specs.Faults.{header_fault, IsIoOrMemory}
 use Rattle.sec1_der.specs.ReadsDocument.{HasHeaderFault, IsCutContent, RefusesElement, ReadsHeader, RefusesContent}
 use Rattle.sec1_der.specs.Streams.{ReadsOnto}
@@ -61,14 +61,26 @@ pub record IsLonger (bytes : List ℕ) : Type 0 where
 abbrev pub IsReachable : List ℕ → Type 0
 IsReachable bytes = (bytes ≡ []) ⊎ IsLonger bytes
 
--- a header that came with its last byte stands alone
-pub header_alone : (tag n : ℕ) (bytes rest : List ℕ) → IsHeader tag n → bytes ≡ header tag n ++ rest → IsReachable bytes → bytes ≡ header tag n
-header_alone tag n bytes rest is split (inl empty) = absurd (cc (empty, split))
-header_alone tag n bytes rest is split (inr one) =
+-- one byte behind a header that was cut short
+pub one_more : (start k : ℕ) (slice part : List ℕ) → start ≤ length slice → header_fault (take start slice) ≡ Truncated → LacksHeader (take start slice)
+    → length part ≡ 1 → IsReachable (take (start + 1) (put_mid start k slice part))
+one_more start k slice part inside told none size = inr (record {
+  before = take start slice;
+  last = get_or part 0 0;
+  joined = take_part start k slice part 1 inside (omega arith) ∙ ap (λ xs. take start slice ++ xs) (take_byte part 1 size (omega arith) (omega arith));
+  cut = record { told = told; none = none };
+})
+
+-- a header that came with its last byte is all that was read
+pub read_alone : (old new : Option (List ℕ)) (tag n : ℕ) (bytes rest : List ℕ) → IsHeader tag n → bytes ≡ header tag n ++ rest → IsReachable bytes
+    → Consumes old new bytes → ReadsHeader old new tag n
+read_alone old new tag n bytes rest is split (inl empty) consumed = absurd (cc (empty, split))
+read_alone old new tag n bytes rest is split (inr one) consumed =
     let lengths : length one.before + 1 ≡ length (header tag n) + length rest =
     sym (length-append one.before (one.last ∷ [])) ∙ (ap length (sym one.joined ∙ split) ∙ length-append (header tag n) rest) in
     ⊎_elim
-    (λ short. split ∙ (ap (λ xs. header tag n ++ xs) (nil_from_length rest (omega (arith, short, lengths))) ∙ append-nil (header tag n)))
+    (λ short. let none = nil_from_length rest (omega (arith, short, lengths)) in
+    record { is_header = is; consumed = rw (split, none, append-nil (header tag n)) at consumed })
     (λ within. let c = longer one.before (header tag n) (one.last ∷ []) rest (sym one.joined ∙ split) within in
     absurd (one.cut.none tag n c.after is c.front))
     (cases_lt (length one.before) (length (header tag n)))

@@ -176,6 +176,7 @@ pub(crate) fn read_content<R: Read>(
 /// # Errors
 ///
 /// [`IoFault`] exactly if a read failed; fewer bytes than the slice has are read then.
+#[tactic(auto, using(crate::proofs::StreamLemmas::reads_part))]
 fn fill<R: Read>(reader: &mut R, buf: &mut [u8]) -> std::result::Result<usize, IoFault>
     requires { R.failed reader.old ≡ false }
     ensures io { IsErr result ↔ IsTrue (R.failed reader.new) }
