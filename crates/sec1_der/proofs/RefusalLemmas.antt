@@ -22,7 +22,7 @@ use Rattle.sec1_der.proofs.HeaderLemmas.{is_tag-true}
 
 -- ---- lengths
 
--- the number that a length spells
+-- what a length spells is its number
 number_spelled : (n : ℕ) (rest : List ℕ) → number_at (len n ++ rest) ≡ n
 unfolding len
 number_spelled n rest =
@@ -32,13 +32,13 @@ number_spelled n rest =
     (λ e. rw e refl)
     (λ e. rw (le-ltb k 0x80 (omega arith), take_at digits rest (k - 0x80) (omega arith), number_digits_of 256 n (omega arith)) refl)
 
--- a length that the bytes begin with is found, and what stands behind it
+-- the length that the bytes begin with is found, and what stands behind it
 length_at_spelled : (n : ℕ) (rest : List ℕ) → n ≤ max_length → length_at (len n ++ rest) ≡ Ok (n, rest)
 length_at_spelled n rest fits =
     let same = (bytes_eq-Decides (take (length (len n)) (len n ++ rest)) (len n)).1 (take-append_seam (len n) rest) in
     rw (number_spelled n rest, le-leb n max_length fits, same, drop-append_seam (len n) rest) refl
 
--- bytes that begin with no length
+-- bytes that begin with no length are refused by the fault of their length
 length_at_lacks : (bytes : List ℕ) → ((n : ℕ) (rest : List ℕ) → n ≤ max_length → bytes ≡ len n ++ rest → ⊥) → length_at bytes ≡ Err (length_fault bytes)
 length_at_lacks bytes lacks =
     let n = number_at bytes in
@@ -52,25 +52,34 @@ length_at_lacks bytes lacks =
 
 -- ---- elements
 
--- the bytes of a content, and those behind it
-within_at : (content rest : List ℕ) → within (Ok (length content, content ++ rest)) ≡ Ok (content, rest)
-within_at content rest =
-    let room : length content ≤ length (content ++ rest) = omega (arith, length-append content rest) in
-    rw (le-leb (length content) (length (content ++ rest)) room, take-append_seam content rest, drop-append_seam content rest) refl
+-- a header with less behind it than it announces is cut short
+pub any_short : (f : ℕ → Fault) (g : Fault) (tag n : ℕ) (bytes inside : List ℕ) → IsHeader tag n → bytes ≡ header tag n ++ inside → length inside < n
+    → any_fault f g bytes ≡ Some Truncated
+any_short f g tag n bytes inside h e few =
+    rw (e, is_tag-true tag h.tag_byte, length_at_spelled n inside h.within, lt-leb n (length inside) few) refl
 
--- an element of any tag, and what stands behind it
+-- where a header has room for its content, the fault is that of the content, or else of the bytes behind it
+pub any_room : (f : ℕ → Fault) (g : Fault) (tag n : ℕ) (bytes inside : List ℕ) → IsHeader tag n → bytes ≡ header tag n ++ inside → n ≤ length inside
+    → any_fault f g bytes ≡ option_or (f tag (take n inside)) (g (drop n inside))
+any_room f g tag n bytes inside h e fits =
+    rw (e, is_tag-true tag h.tag_byte, length_at_spelled n inside h.within, le-leb n (length inside) fits) refl
+
+-- the fault of an element of any tag is that of its content, or else of the bytes behind it
 pub any_at : (f : ℕ → Fault) (g : Fault) (tag : ℕ) (content bytes rest : List ℕ) → IsHeader tag (length content) → bytes ≡ element tag content ++ rest
     → any_fault f g bytes ≡ option_or (f tag content) (g rest)
 any_at f g tag content bytes rest h e =
     let n = length content in
-    rw (e ∙ append_assoc (header tag n) content rest, is_tag-true tag h.tag_byte, length_at_spelled n (content ++ rest) h.within, within_at content rest) refl
+    any_room f g tag n bytes (content ++ rest) h (e ∙ append_assoc (header tag n) content rest) (omega (arith, length-append content rest))
+    ∙ rw (take-append_seam content rest, drop-append_seam content rest) refl
 
--- an element with this tag, and what stands behind it
+-- the same of an element with this tag
 pub element_at : (f g : Fault) (tag : ℕ) (content bytes rest : List ℕ) → length content ≤ max_length → bytes ≡ element tag content ++ rest
     → element_fault tag f g bytes ≡ option_or (f content) (g rest)
 element_at f g tag content bytes rest fits e =
     let n = length content in
-    rw (e ∙ append_assoc (header tag n) content rest, eq-eqb tag tag refl, length_at_spelled n (content ++ rest) fits, within_at content rest) refl
+    let room = le-leb n (length (content ++ rest)) (omega (arith, length-append content rest)) in
+    rw (e ∙ append_assoc (header tag n) content rest, eq-eqb tag tag refl, length_at_spelled n (content ++ rest) fits)
+    (rw (room, take-append_seam content rest, drop-append_seam content rest) refl)
 
 -- a byte that passes the test is a tag
 pub tag_from_test : (byte : ℕ) → byte < 256 → is_tag byte ≡ true → IsTag byte
@@ -81,7 +90,7 @@ tag_from_test byte small e =
       not_high = eqb-false (byte % 32) 31 (not-true (byte % 32 == 31) parts.1);
     }
 
--- bytes that begin with no header, the first of which is a byte
+-- bytes that begin with no header are refused by the fault of their header, if the first is a byte
 pub any_headless : (f : ℕ → Fault) (g : Fault) (bytes : List ℕ) → get_or bytes 0 0 < 256 → LacksHeader bytes → any_fault f g bytes ≡ Some (header_fault bytes)
 any_headless f g [] small lacks = refl
 any_headless f g (byte ∷ bytes) small lacks = ⊎_elim
@@ -91,31 +100,19 @@ any_headless f g (byte ∷ bytes) small lacks = ⊎_elim
     (λ e. rw e refl)
     (cases_Bool (is_tag byte))
 
--- bytes that begin with no header
+-- the same, where each is a byte
 pub any_lacks : (f : ℕ → Fault) (g : Fault) (bytes : List ℕ) → IsBytes bytes → LacksHeader bytes → any_fault f g bytes ≡ Some (header_fault bytes)
 any_lacks f g bytes all lacks = any_headless f g bytes (all 0) lacks
 
--- a header, and less behind it than it announces
-pub any_short : (f : ℕ → Fault) (g : Fault) (tag n : ℕ) (bytes inside : List ℕ) → IsHeader tag n → bytes ≡ header tag n ++ inside → length inside < n
-    → any_fault f g bytes ≡ Some Truncated
-any_short f g tag n bytes inside h e few =
-    rw (e, is_tag-true tag h.tag_byte, length_at_spelled n inside h.within, lt-leb n (length inside) few) refl
-
--- an element of any tag, with room for its content
-pub any_room : (f : ℕ → Fault) (g : Fault) (tag n : ℕ) (bytes inside : List ℕ) → IsHeader tag n → bytes ≡ header tag n ++ inside → n ≤ length inside
-    → any_fault f g bytes ≡ option_or (f tag (take n inside)) (g (drop n inside))
-any_room f g tag n bytes inside h e fits =
-    rw (e, is_tag-true tag h.tag_byte, length_at_spelled n inside h.within, le-leb n (length inside) fits) refl
-
 -- ---- one element after another
 
--- the element that a reader read, and what is left behind it
+-- the fault of an element that a reader read is that of its content, or else of the bytes behind it
 pub read_element : (f g : Fault) (tag : ℕ) (content : List ℕ) (old new : Reader) → HasReadElement tag content old new
     → element_fault tag f g old.unread ≡ option_or (f content) (g new.unread)
 read_element f g tag content old new h =
     element_at f g tag content old.unread new.unread h.within (ap (λ (r : Reader). r.unread) h.read.was_whole)
 
--- two elements are refused alike where their parts are
+-- two faults of an element are alike if those of its parts are
 element_alike : (Alike : Option ErrorKind → Option ErrorKind → Type 0) (f g h k : Fault) (tag : ℕ) (bytes : List ℕ)
     → ((kind : ErrorKind) → Alike (Some kind) (Some kind))
     → ((content behind : List ℕ) → Alike (option_or (f content) (g behind)) (option_or (h content) (k behind)))
@@ -129,7 +126,7 @@ element_alike Alike f g h k tag (byte ∷ bytes) same parts = by (byte == tag) (
     by true (Err kind) = same kind
     by true (Ok x) = parts x.0 x.1
 
--- a fault with nothing behind it
+-- a fault with none behind it is the fault
 pub alone : (o : Option ErrorKind) → option_or o None ≡ o
 alone None = refl
 alone (Some k) = refl
@@ -141,22 +138,24 @@ refused_more f h g tag bytes k more =
     element_alike (λ a b. a ≡ Some k → b ≡ Some k) f no_fault h g tag bytes (λ kind e. e)
     (λ content behind e. rw (more content (sym (alone (f content)) ∙ e)) refl)
 
--- what was read isn't refused: what is refused then is what the bytes behind it are
+-- the reader goes on: the fault of the bytes that it had is that of the bytes that it has
 pub record GoesOn (fault : Fault → Fault) (old new : Reader) : Type 0 where
   pub whole : new.failed ≡ false
   pub next : (g : Fault) → fault g old.unread ≡ g new.unread
 
+-- a reader goes on behind an element of which nothing is refused
 goes_on : (fault : Fault → Fault) (found : Option ErrorKind) (tag : ℕ) (content : List ℕ) (old new : Reader) → HasReadElement tag content old new
     → ((g : Fault) → fault g old.unread ≡ option_or found (g new.unread)) → fault no_fault old.unread ≡ None → GoesOn fault old new
 goes_on fault found tag content old new h read none =
     let first : found ≡ None = sym (alone found) ∙ (sym (read no_fault) ∙ none) in
     record { whole = ap (λ (r : Reader). r.failed) h.read.is_whole; next = λ g. read g ∙ rw first refl }
 
+-- an option that is there, with what holds of its value
 some_and : {T : Type 0} {P : T → Type 0} (o : Option T) → IsSomeAnd o P → (x : T) × P x
 some_and None h = absurd h
 some_and (Some x) h = (x, h)
 
--- an element was read, of which nothing is refused
+-- a reader goes on behind an element that was read
 pub reads_on : (f : Fault) (tag : ℕ) (content : Option (List ℕ)) (P : List ℕ → Type 0) (old new : Reader)
     → IsSomeAnd content (λ inside. P inside × HasReadElement tag inside old new) → element_fault tag f no_fault old.unread ≡ None
     → GoesOn (element_fault tag f) old new
@@ -164,11 +163,11 @@ reads_on f tag content P old new h none =
     let (inside, is) = some_and content h in
     goes_on (element_fault tag f) (f inside) tag inside old new is.1 (λ g. read_element f g tag inside old new is.1) none
 
--- a reader that hasn't refused, by its bytes
+-- a reader that hasn't refused is known by its bytes
 pub reader_at : (r : Reader) (bytes : List ℕ) → r.unread ≡ bytes → r.failed ≡ false → r ≡ before bytes
 reader_at r bytes unread whole = rw (← unread, ← whole) refl
 
--- bytes behind the end are refused
+-- bytes behind the end are refused as trailing data
 pub end_told : (bytes : List ℕ) → (bytes ≡ [] → ⊥) → end_fault bytes ≡ Some TrailingData
 end_told [] some = absurd (some refl)
 end_told (byte ∷ bytes) some = refl
@@ -178,12 +177,12 @@ pub document_element : (bytes : List ℕ) → IsElement bytes → document_fault
 document_element bytes is =
     any_at (λ _. no_fault) end_fault is.tag is.content bytes [] is.is_header (is.spelled ∙ sym (append-nil (element is.tag is.content)))
 
--- one element of any tag, and no byte behind it
+-- a header and just the content that it announces aren't refused
 pub document_whole : (tag n : ℕ) (bytes inside : List ℕ) → IsHeader tag n → bytes ≡ header tag n ++ inside → n ≡ length inside → document_fault bytes ≡ None
 document_whole tag n bytes inside h e same =
     any_room (λ _. no_fault) end_fault tag n bytes inside h e (omega arith) ∙ ap end_fault (drop_all n inside (omega arith))
 
--- one element of any tag, and bytes behind it
+-- a header and more than the content that it announces are refused as trailing data
 pub document_long : (tag n : ℕ) (bytes inside : List ℕ) → IsHeader tag n → bytes ≡ header tag n ++ inside → n < length inside
     → document_fault bytes ≡ Some TrailingData
 document_long tag n bytes inside h e more =
@@ -192,20 +191,21 @@ document_long tag n bytes inside h e more =
 
 -- ---- explicit fields
 
--- a field [number] with these faults inside it, where one is next, and what follows it
+-- an explicit field [number], where one is next, with this fault of its content, and what follows it
 abbrev pub field_at : ℕ → Fault → Fault → Fault
 field_at number inside behind bytes = if is_next (0xA0 + number) bytes then element_fault (0xA0 + number) inside behind bytes else behind bytes
 
--- the first byte is the one that is next
-pub next_first : (tag : ℕ) (bytes : List ℕ) → slice_get bytes 0 ≡ Some tag → is_next tag bytes ≡ true
-next_first tag [] e = absurd (cc e)
-next_first tag (byte ∷ bytes) e = eq-eqb byte tag (cc e)
+-- a tag is next where it is the first byte
+is_next_first : (tag : ℕ) (bytes : List ℕ) → slice_get bytes 0 ≡ Some tag → is_next tag bytes ≡ true
+is_next_first tag [] e = absurd (cc e)
+is_next_first tag (byte ∷ bytes) e = eq-eqb byte tag (cc e)
 
-other_first : (tag : ℕ) (bytes : List ℕ) → (slice_get bytes 0 ≡ Some tag → ⊥) → is_next tag bytes ≡ false
-other_first tag [] other = refl
-other_first tag (byte ∷ bytes) other = ne_eqb byte tag (λ same. other (ap (λ n. Some n) same))
+-- a tag isn't next where it isn't the first byte
+is_next_other : (tag : ℕ) (bytes : List ℕ) → (slice_get bytes 0 ≡ Some tag → ⊥) → is_next tag bytes ≡ false
+is_next_other tag [] other = refl
+is_next_other tag (byte ∷ bytes) other = ne_eqb byte tag (λ same. other (ap (λ n. Some n) same))
 
--- a field that is refused stays so where more is tested inside it, whatever stands behind it
+-- a field that is refused stays so where more is tested of its content, and of the bytes behind it
 pub refused_field : (number : ℕ) (f h g : Fault) (bytes : List ℕ) (k : ErrorKind) → ((content : List ℕ) → f content ≡ Some k → h content ≡ Some k)
     → field_at number f no_fault bytes ≡ Some k → field_at number h g bytes ≡ Some k
 refused_field number f h g bytes k more = by (is_next (0xA0 + number) bytes)
@@ -215,13 +215,14 @@ refused_field number f h g bytes k more = by (is_next (0xA0 + number) bytes)
     by false e = absurd (cc e)
     by true e = refused_more f h g (0xA0 + number) bytes k more e
 
--- what a field that was read is refused by, with what stands behind it
+-- the fault of a field that was read is that of its content, or else of the bytes behind it
 pub read_field : (number : ℕ) (f g : Fault) (content : List ℕ) (old new : Reader) → HasReadElement (0xA0 + number) content old new
     → field_at number f g old.unread ≡ option_or (f content) (g new.unread)
 read_field number f g content old new h =
-    rw (next_first (0xA0 + number) old.unread (ap (λ (r : Reader). slice_get r.unread 0) h.read.was_whole)) (read_element f g (0xA0 + number) content old new h)
+    let next = is_next_first (0xA0 + number) old.unread (ap (λ (r : Reader). slice_get r.unread 0) h.read.was_whole) in
+    rw next (read_element f g (0xA0 + number) content old new h)
 
--- a field was read of which nothing is refused, or none is next
+-- a reader goes on behind a field that was read, and where none is next
 pub passes_field : {A : Type 0} (number tag : ℕ) (f : Fault) (field : Option A) (content : A → Option (List ℕ)) (P : List ℕ → Type 0) (old new : Reader)
     → old.failed ≡ false
     → IfSome field (λ value. IsSomeAnd (content value) (λ inside.
@@ -230,14 +231,14 @@ pub passes_field : {A : Type 0} (number tag : ℕ) (f : Fault) (field : Option A
     → field_at number f no_fault old.unread ≡ None → GoesOn (field_at number f) old new
 passes_field number tag f None content P old new whole some none e = record {
   whole = ap (λ (r : Reader). r.failed) none.0 ∙ whole;
-  next = λ g. rw (other_first (0xA0 + number) old.unread none.1) (ap (λ (r : Reader). g r.unread) (sym none.0));
+  next = λ g. rw (is_next_other (0xA0 + number) old.unread none.1) (ap (λ (r : Reader). g r.unread) (sym none.0));
 }
 passes_field number tag f (Some value) content P old new whole some none e =
     let (inside, is) = some_and (content value) some in
     let bytes = element tag inside in
     goes_on (field_at number f) (f bytes) (0xA0 + number) bytes old new is.2 (λ g. read_field number f g bytes old new is.2) e
 
--- in a field of which nothing is checked late, the fault is that of the one element
+-- where nothing is checked late, the fault of a field's content is that of the one element
 pub inside_at_once : (tag : ℕ) (f : Fault) (bytes : List ℕ) → inside_fault tag (λ _. false) f bytes ≡ element_fault tag f end_fault bytes
 inside_at_once tag f bytes =
     element_alike (λ a b. option_or a b ≡ a) f end_fault f no_fault tag bytes (λ kind. refl) (λ content behind. twice (f content) (end_fault behind))
@@ -247,7 +248,7 @@ inside_at_once tag f bytes =
     twice None (Some k) = refl
     twice (Some j) b = refl
 
--- what a field is refused by of which nothing is checked late: what its content is
+-- where nothing is checked late, the fault of a field that was read is that of the one element in it
 pub field_told : (number tag : ℕ) (f : Fault) (content : List ℕ) (old new : Reader) → HasReadElement (0xA0 + number) content old new
     → field_fault number tag (λ _. false) f no_fault old.unread ≡ element_fault tag f end_fault content
 field_told number tag f content old new h =

@@ -167,3 +167,6 @@ byte_behind old mid next new tag n after buf count h r more one most some =
       by_kind = record { front = after; byte = get_or buf 0 0; is_element = both.1; joined = ap (λ xs. after ++ xs) byte };
       at_end = λ e. absurd (cc e);
     }
+
+-- how reading an element is refused behind its header
+pub ruleset element_refusals = (refused_growth, refused_content, refused_behind, byte_behind)

@@ -157,7 +157,8 @@ element_passed ends rest after p = by p.tree p.single p.row
         (cases_eq (bit_and tag 0x20) 0)
     by (branch tag none) single is =
         next_element ends rest after tag [] (record { tag_byte = single.tree.0; within = single.tree.2 }) is p.fits
-        ∙ ap (λ fault. option_or fault (open_fault ends after)) (cond_both (not (bit_and tag 0x20 == 0)) None None (λ fault. fault ≡ None) (λ _. refl) (λ _. refl))
+        ∙ ap (λ fault. option_or fault (open_fault ends after))
+        (cond_both (not (bit_and tag 0x20 == 0)) None None (λ fault. fault ≡ None) (λ _. refl) (λ _. refl))
     by (branch tag (first (leaf tag' content) children)) single is = absurd (omega (arith, single.alone))
     by (branch tag (first (branch tag' inside) children)) single is = absurd (omega (arith, single.alone))
 

@@ -97,7 +97,7 @@ impl SecretDocument {
 }
 
 /// Reads one element up to the end of the input.
-#[tactic(auto, using(crate::proofs::StreamLemmas::refused_growth, crate::proofs::StreamLemmas::refused_content, crate::proofs::StreamLemmas::refused_behind, crate::proofs::StreamLemmas::byte_behind))]
+#[tactic(auto, using(crate::proofs::StreamLemmas::element_refusals))]
 fn read_element<R: Read>(alloc: Global, reader: &mut R) -> Result<SecretDocument>
     requires { R.failed reader.old ≡ false }
     ensures io { Refuses result Io ↔ IsTrue (R.failed reader.new) }
