@@ -1,8 +1,0 @@
-use Rattle.sec1_der.proofs.UniqueLemmas.{unique_required}
-use Rattle.sec1_der.proofs.unique.RequiredUniqueContent.one.Goals as goal
-
-pub returns : goal.returns
-returns g c a b bytes e f =
-    let both = unique_required g.A.FixedTag.number g.A.ValueContent.content g.R.ValueContent.content c.one.ensures c.one-2.ensures
-    a.first b.first a.rest b.rest bytes e f in
-    λ i. record { first = both.0 i; rest = both.1 i }
