@@ -24,7 +24,7 @@ identifier_taken arcs content h =
     let spelled = (bytes_eq-Decides (content_of arcs) content).1 (sym h.spells.spelled) in
     rw (same, is_identifier-holds arcs content h, spelled) refl
 
--- any other is
+-- a content of no identifier is refused as Value
 pub identifier_refused : (content : List ℕ) → ((arcs : List ℕ) → IsIdentifier arcs content → ⊥) → identifier_fault content ≡ Some Value
 identifier_refused content none =
     let arcs = arcs_of content in
@@ -39,7 +39,7 @@ whole_are_bits : (bytes : List ℕ) → are_bits 0 bytes ≡ true
 whole_are_bits [] = refl
 whole_are_bits (byte ∷ bytes) = eq-eqb _ 0 (omega arith)
 
--- what isn't checked late of a content without unused bits is the fault of any bit string
+-- where any bit string is left for later, a content is refused by the fault of a bit string
 early_fault : (content : List ℕ) → (if is_bit_string content then None else whole_bits_fault content) ≡ bit_string_fault content
 early_fault [] = refl
 early_fault (unused ∷ bytes) = ⊎_elim
@@ -47,7 +47,7 @@ early_fault (unused ∷ bytes) = ⊎_elim
     (λ e. rw (e, ne_eqb unused 0 (λ zero. cc (e, zero, whole_are_bits bytes))) refl)
     (cases_Bool (are_bits unused bytes))
 
--- a field around a content without unused bits: the fault of any bit string first
+-- the fault inside a field of whole bits is that of a bit string, or else that of its unused bits
 inside_whole : (bytes : List ℕ) → inside_fault 0x03 is_bit_string whole_bits_fault bytes ≡ option_or (element_fault 0x03 bit_string_fault end_fault bytes)
     (element_fault 0x03 whole_bits_fault no_fault bytes)
 inside_whole bytes =
@@ -55,13 +55,13 @@ inside_whole bytes =
     λ i. λ content. early_fault content i in
     ap (λ (f : Fault). option_or (element_fault 0x03 f end_fault bytes) (element_fault 0x03 whole_bits_fault no_fault bytes)) early
 
--- a field that is refused around a bit string is refused
+-- a field that is refused as that of a bit string is refused as one of whole bits
 pub bits_refused : (number : ℕ) (bytes : List ℕ) (k : ErrorKind) → field_fault number 0x03 (λ _. false) bit_string_fault no_fault bytes ≡ Some k
     → field_fault number 0x03 is_bit_string whole_bits_fault no_fault bytes ≡ Some k
 bits_refused number bytes k = refused_field number (inside_fault 0x03 (λ _. false) bit_string_fault) (inside_fault 0x03 is_bit_string whole_bits_fault)
     no_fault bytes k (λ content e. inside_whole content ∙ rw (sym (inside_at_once 0x03 bit_string_fault content) ∙ e) refl)
 
--- the unused bits are the fault of a field around a bit string
+-- where the field of a bit string isn't refused, the fault of one of whole bits is that of its unused bits
 pub bits_field : (number : ℕ) (content : List ℕ) (old new : Reader) → length content ≤ max_length
     → HasReadElement (0xA0 + number) (element 0x03 content) old new
     → field_fault number 0x03 (λ _. false) bit_string_fault no_fault old.unread ≡ None

@@ -18,7 +18,7 @@ use Rattle.sec1_der.proofs.HeaderLemmas.{longer}
 
 -- ---- bytes that were read
 
--- what stood before a part of a slice, and the first n bytes of the part
+-- a slice into a part of which was written begins with what stood before the part, and the first bytes of the part
 pub take_part : (start k : ℕ) (slice part : List ℕ) (n : ℕ) → start ≤ length slice → n ≤ length part
     → take (start + n) (put_mid start k slice part) ≡ take start slice ++ take n part
 take_part start k slice part n inside few =
@@ -26,19 +26,19 @@ take_part start k slice part n inside few =
     ∙ (take-append-add (take start slice) (part ++ post_of start k slice) n
     ∙ ap (λ xs. take start slice ++ xs) (take-append-le n part (post_of start k slice) few))
 
--- the beginning of a slice was read, and then the first n bytes of the part behind it
+-- what was read into the beginning of a slice, and then into the part behind it, was read into both
 pub reads_part : (old mid new : Option (List ℕ)) (start k : ℕ) (slice part : List ℕ) (n : ℕ) → start ≤ length slice → n ≤ length part
     → Consumes old mid (take start slice) → Consumes mid new (take n part) → Consumes old new (take (start + n) (put_mid start k slice part))
 reads_part old mid new start k slice part n inside few first next =
     rw (take_part start k slice part n inside few) (Consumes-trans old mid new (take start slice) (take n part) first next)
 
--- what was read of a buffer of one byte
+-- what was read into a buffer of one byte is this byte
 pub take_byte : (buf : List ℕ) (n : ℕ) → length buf ≡ 1 → n ≤ length buf → 0 < n → take n buf ≡ get_or buf 0 0 ∷ []
 take_byte buf n one most some =
     let all : n ≡ 1 = omega arith in
     rw all (take_more buf 0 0 (omega arith))
 
--- bytes, and then more of them
+-- what was read onto bytes, and then more, was read onto them together
 pub reads_more : (old mid new : Option (List ℕ)) (start middle end part : List ℕ) (n m : ℕ) → ReadsOnto old mid start middle n → Consumes mid new part
     → end ≡ middle ++ part → length part ≡ m → ReadsOnto old new start end (n + m)
 reads_more old mid new start middle end part n m read consumed joined size = record {
@@ -61,14 +61,14 @@ pub record IsLonger (bytes : List ℕ) : Type 0 where
 abbrev pub IsReachable : List ℕ → Type 0
 IsReachable bytes = (bytes ≡ []) ⊎ IsLonger bytes
 
--- one byte behind a header that was cut short
+-- one byte was read behind a header that was cut short
 pub one_more : (start k : ℕ) (slice part : List ℕ) → start ≤ length slice → header_fault (take start slice) ≡ Truncated → LacksHeader (take start slice)
     → length part ≡ 1 → IsReachable (take (start + 1) (put_mid start k slice part))
-one_more start k slice part inside told none size = inr (record {
+one_more start k slice part inside short none size = inr (record {
   before = take start slice;
   last = get_or part 0 0;
   joined = take_part start k slice part 1 inside (omega arith) ∙ ap (λ xs. take start slice ++ xs) (take_byte part 1 size (omega arith) (omega arith));
-  cut = record { told = told; none = none };
+  cut = record { told = short; none = none };
 })
 
 -- a header that came with its last byte is all that was read
@@ -85,7 +85,7 @@ read_alone old new tag n bytes rest is split (inr one) consumed =
     absurd (one.cut.none tag n c.after is c.front))
     (cases_lt (length one.before) (length (header tag n)))
 
--- a header that was cut short has less than the most bytes
+-- a header that was cut short has at most five bytes
 pub cut_is_short : (bytes : List ℕ) → header_fault bytes ≡ Truncated → length bytes ≤ 5
 cut_is_short [] e = omega arith
 cut_is_short (byte ∷ []) e = omega arith
@@ -93,7 +93,7 @@ cut_is_short (byte ∷ first ∷ digits) e = grind (arith, nat_tests)
 
 -- ---- the content
 
--- a part of a content, and then less than what is missing, is refused
+-- a content is refused of which a part was read, and then less than was missing
 pub refused_part : (kind : ErrorKind) (old mid new : Option (List ℕ)) (start middle part : List ℕ) (n missing announced : ℕ)
     → ReadsOnto old mid start middle n → n + missing ≡ announced → Consumes mid new part → length part < missing
     → (kind ≡ Truncated) ⊎ IsIoOrMemory kind → (kind ≡ Truncated → IsAtEnd new) → RefusesContent kind announced old new
@@ -109,15 +109,15 @@ refused_part kind old mid new start middle part n missing announced read sum con
 
 -- ---- the element
 
--- a header and a part of the content that it announces
+-- a header and a part of the content that it announces are a cut content
 cut_content : (tag n : ℕ) (content : List ℕ) → IsHeader tag n → length content < n → IsCutContent (header tag n ++ content)
 cut_content tag n content is few = record { tag = tag; announced = n; content = content; is_header = is; few = few; joined = refl }
 
--- a header and the content that it announces
+-- a header and the content that it announces are an element
 whole_element : (tag n : ℕ) (content : List ℕ) → IsHeader tag n → length content ≡ n → IsElement (header tag n ++ content)
 whole_element tag n content is count = record { tag = tag; content = content; is_header = rw count is; spelled = rw count refl }
 
--- a content that was refused
+-- where a content is refused, so is the element
 pub refused_content : (kind : ErrorKind) (old mid new : Option (List ℕ)) (tag n : ℕ) → ReadsHeader old mid tag n → RefusesContent kind n mid new
     → RefusesElement kind old new
 refused_content kind old mid new tag n h r =
@@ -129,7 +129,7 @@ refused_content kind old mid new tag n h r =
       at_end = r.at_end;
     }
 
--- a growth that was refused behind a header
+-- where the memory for a content is refused, so is the element
 pub refused_growth : (old new : Option (List ℕ)) (tag n : ℕ) → ReadsHeader old new tag n → RefusesElement Memory old new
 refused_growth old new tag n h = record {
   taken = header tag n ++ [];
@@ -141,20 +141,20 @@ refused_growth old new tag n h = record {
   at_end = λ e. absurd (cc e);
 }
 
--- the header and the content were read, and stand in the vector
+-- a header that was read, and the content that was read onto it, are an element
 both_read : (old mid next : Option (List ℕ)) (tag n : ℕ) (after : List ℕ) → ReadsHeader old mid tag n → ReadsOnto mid next (header tag n) after n
     → Consumes old next after × IsElement after
 both_read old mid next tag n after h r =
     rw r.appended (Consumes-trans old mid next (header tag n) r.bytes h.consumed r.consumed, whole_element tag n r.bytes h.is_header r.count)
 
--- a failed read behind an element
+-- an element behind which a read failed is refused as Io
 pub refused_behind : (old mid next new : Option (List ℕ)) (tag n : ℕ) (after : List ℕ) → ReadsHeader old mid tag n
     → ReadsOnto mid next (header tag n) after n → Keeps next new → RefusesElement Io old new
 refused_behind old mid next new tag n after h r kept =
     let both = both_read old mid next tag n after h r in
     record { taken = after; consumed = Consumes-kept old next new after both.0 kept; by_kind = inr both.1; at_end = λ e. absurd (cc e) }
 
--- a byte behind an element
+-- an element behind which a byte was read is refused as TrailingData
 pub byte_behind : (old mid next new : Option (List ℕ)) (tag n : ℕ) (after buf : List ℕ) (count : ℕ) → ReadsHeader old mid tag n
     → ReadsOnto mid next (header tag n) after n → Consumes next new (take count buf) → length buf ≡ 1 → count ≤ length buf → 0 < count
     → RefusesElement TrailingData old new
@@ -168,5 +168,5 @@ byte_behind old mid next new tag n after buf count h r more one most some =
       at_end = λ e. absurd (cc e);
     }
 
--- how reading an element is refused behind its header
+-- the ways in which an element is refused behind its header
 pub ruleset element_refusals = (refused_growth, refused_content, refused_behind, byte_behind)

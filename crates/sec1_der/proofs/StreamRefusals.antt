@@ -15,25 +15,25 @@ use Rattle.sec1_der.specs.declared.error.ErrorKind.TheVariants.{Truncated, Tag, 
 use Rattle.sec1_der.proofs.HeaderLemmas.{header_front}
 use Rattle.sec1_der.proofs.RefusalLemmas.{document_element, any_at, any_headless, any_short, tag_from_test}
 
--- bytes that end inside an element
+-- bytes that end inside an element are refused as Truncated
 cut_fault : (bytes : List ℕ) → get_or bytes 0 0 < 256 → IsCutShort bytes → document_fault bytes ≡ Some Truncated
 cut_fault bytes small (inl lacks) = any_headless (λ _. no_fault) end_fault bytes small lacks.none ∙ ap (λ kind. Some kind) lacks.told
 cut_fault bytes small (inr cut) = any_short (λ _. no_fault) end_fault cut.tag cut.announced bytes cut.content cut.is_header cut.joined cut.few
 
--- bytes that begin with no tag
+-- bytes that begin with no tag are refused as Tag
 bad_tag_fault : (bytes more : List ℕ) → get_or (bytes ++ more) 0 0 < 256 → IsBadTag bytes → document_fault (bytes ++ more) ≡ Some Tag
 bad_tag_fault bytes more small bad =
     let joined : bytes ++ more ≡ bad.byte ∷ more = ap (λ xs. xs ++ more) bad.alone in
     let byte : bad.byte < 256 = rw joined at small in
     rw (joined, false_from_ne_true (is_tag bad.byte) (λ e. bad.bad (tag_from_test bad.byte byte e))) refl
 
--- a bad length is one whatever stands behind it
+-- a bad length stays one whatever stands behind it
 length_stays : (bytes more : List ℕ) → header_fault bytes ≡ Length → header_fault (bytes ++ more) ≡ Length
 length_stays [] more e = absurd (cc e)
 length_stays (byte ∷ []) more e = grind (arith, nat_tests)
 length_stays (byte ∷ first ∷ digits) more e = grind (arith, nat_tests, length-append)
 
--- bytes that begin with a bad length
+-- bytes that begin with a bad length are refused as Length
 bad_length_fault : (bytes more : List ℕ) → get_or (bytes ++ more) 0 0 < 256 → IsBadLength bytes → document_fault (bytes ++ more) ≡ Some Length
 bad_length_fault bytes more small bad =
     any_headless (λ _. no_fault) end_fault (bytes ++ more) small (λ tag n rest is e. ⊎_elim
@@ -42,7 +42,7 @@ bad_length_fault bytes more small bad =
     (header_front tag n bytes more rest is e))
     ∙ ap (λ kind. Some kind) (length_stays bytes more bad.bad.told)
 
--- an element and a byte more
+-- an element and a byte more are refused as TrailingData
 longer_fault : (bytes more : List ℕ) → IsElementAndByte bytes → document_fault (bytes ++ more) ≡ Some TrailingData
 longer_fault bytes more longer =
     let whole = longer.is_element in
@@ -55,7 +55,7 @@ read_fault None new bytes r = tt
 read_fault (Some all) None bytes r = absurd r.consumed
 read_fault (Some all) (Some left) bytes r = rw (r.consumed, r.at_end, append-nil bytes) (document_element bytes r.is_element)
 
--- a refusal by a kind that says something of the bytes is the fault of them all
+-- a kind that says something of the bytes is the fault of them all, if the first is a byte
 refused_fault : (kind : ErrorKind) (old new : Option (List ℕ)) → RefusesElement kind old new
     → IsIoOrMemory kind ⊎ IfSome old (λ left. get_or left 0 0 < 256 → document_fault left ≡ Some kind)
 refused_fault Io old new r = inl (inl refl)
@@ -69,7 +69,7 @@ refused_fault Length (Some all) (Some left) r = rw r.consumed (inr (λ small. ba
 refused_fault TrailingData (Some all) (Some left) r = rw r.consumed (inr (λ small. longer_fault r.taken left r.by_kind))
 refused_fault kind (Some all) (Some left) r = absurd r.by_kind
 
--- the kind of a refusal is the fault of all the bytes, if it says something of them
+-- the same, where each is a byte
 pub refused_kind : (kind : ErrorKind) (old new : Option (List ℕ)) → RefusesElement kind old new
     → IsIoOrMemory kind ⊎ IfSome old (λ left. All (λ byte. byte < 256) left → document_fault left ≡ Some kind)
 refused_kind kind old new r = ⊎_elim
@@ -81,7 +81,7 @@ refused_kind kind old new r = ⊎_elim
     first [] all = omega arith
     first (byte ∷ bytes) all = all 0 0 (omega arith)
 
--- what is refused by such a kind is no element
+-- bytes that are refused by such a kind are no element
 pub refused_none : (kind : ErrorKind) (old new : Option (List ℕ)) → RefusesElement kind old new → IsIoOrMemory kind ⊎ IfSome old (λ left. ¬ (IsElement left))
 refused_none kind old new r = ⊎_elim
     (λ other. inl other)

@@ -9,7 +9,7 @@ use Rattle.std.specs.Str.{bytes_eq}
 use Rattle.sec1_der.specs.Elements.{max_length, len, element, IsHeader}
 use Rattle.sec1_der.specs.Faults.{is_tag, length_fault}
 use Rattle.sec1_der.specs.Refusals.{Fault, no_fault, end_fault, number_at, length_at, within, parts_fault, any_fault, nested_fault, row_fault, tree_fault}
-use Rattle.sec1_der.specs.Trees.{Tree, leaf, branch, none, first, bytes, size}
+use Rattle.sec1_der.specs.Trees.{Tree, leaf, branch, none, first, bytes}
 use Rattle.sec1_der.specs.Walks.{IsSingle, innermost, Passes, Opens, Enters, IsTooDeep}
 use Rattle.sec1_der.specs.declared.error.ErrorKind.{ErrorKind}
 use Rattle.sec1_der.specs.declared.error.ErrorKind.TheVariants.{Truncated, Tag, Depth}
@@ -37,7 +37,7 @@ parts_within bytes =
     (λ _. tt))
     (λ _. tt)
 
--- two elements whose content and what follows are refused alike, as far as they have fewer bytes, are refused alike
+-- two faults of an element are the same if they agree on fewer bytes, inside it and behind it
 nested_alike : (f g h k : Fault) (bytes : List ℕ) → ((content : List ℕ) → length content < length bytes → f content ≡ h content)
     → ((behind : List ℕ) → length behind < length bytes → g behind ≡ k behind) → any_fault (nested_fault f) g bytes ≡ any_fault (nested_fault h) k bytes
 nested_alike f g h k [] inside behind = refl
@@ -49,6 +49,7 @@ nested_alike f g h k (tag ∷ bytes) inside behind =
     by (Err kind) few = refl
     by (Ok x) few = rw (inside x.0 (omega arith), behind x.1 (omega arith)) refl
 
+-- a row without bytes isn't refused
 row_none : (m level : ℕ) → row_fault m level [] ≡ None
 row_none zero level = refl
 row_none (suc m) level = refl
@@ -112,11 +113,12 @@ open_parts : (ends rest : List ℕ)
 open_parts [] rest = rw (take_all (length rest - 0) rest (omega arith)) (alone (end_fault rest))
 open_parts (end ∷ ends) rest = refl
 
+-- the first of three faults, however they are grouped
 or_assoc : (a b c : Option ErrorKind) → option_or (option_or a b) c ≡ option_or a (option_or b c)
 or_assoc None b c = refl
 or_assoc (Some k) b c = refl
 
--- an element is next, and ends within the innermost node
+-- where an element is next, the fault is that of its content, or else of the bytes behind it
 next_element : (ends rest after : List ℕ) (tag : ℕ) (content : List ℕ) → IsHeader tag (length content) → rest ≡ element tag content ++ after
     → innermost ends ≤ length after → next_fault ends rest ≡ option_or (nested_fault (row_at (length ends + 2)) tag content) (open_fault ends after)
 next_element ends rest after tag content h is fits =
@@ -130,7 +132,7 @@ next_element ends rest after tag content h is fits =
 
 -- ---- the steps of the walk
 
--- the root is next
+-- in all of the input the root is next
 tree_next : (input : List ℕ) → tree_fault input ≡ next_fault [] input
 tree_next input =
     nested_alike (row_fault (length input) 2) end_fault (row_at 2) end_fault input
@@ -138,14 +140,14 @@ tree_next input =
     (λ behind few. refl)
     ∙ rw (take_all (length input - 0) input (omega arith)) (sym (alone (any_fault (nested_fault (row_at 2)) end_fault input)))
 
--- a node has ended
+-- where the innermost node has ended, the bytes are those behind it
 node_closed : (ends ends' rest : List ℕ) → ends ≢ [] → ends' ≡ drop 1 ends → length rest ≡ innermost ends → open_fault ends rest ≡ open_fault ends' rest
 node_closed [] ends' rest some is e = absurd (some refl)
 node_closed (end ∷ ends) ends' rest some is e =
     let none : length rest - end ≡ 0 = omega arith in
     rw (none, is) refl
 
--- an element without children was passed
+-- where an element without children was passed, the fault is that of the bytes behind it
 element_passed : (ends rest after : List ℕ) → Passes ends rest after → next_fault ends rest ≡ open_fault ends after
 element_passed ends rest after p = by p.tree p.single p.row
   where
@@ -162,7 +164,7 @@ element_passed ends rest after p = by p.tree p.single p.row
     by (branch tag (first (leaf tag' content) children)) single is = absurd (omega (arith, single.alone))
     by (branch tag (first (branch tag' inside) children)) single is = absurd (omega (arith, single.alone))
 
--- a node with a content was opened
+-- where a node with a content was opened, the fault is that of the bytes inside it and behind it
 node_opened : (ends rest after : List ℕ) (end : ℕ) → Opens ends rest end after → next_fault ends rest ≡ open_fault (end ∷ ends) after
 node_opened ends rest after end o =
     let n = length after - end in
@@ -174,14 +176,14 @@ node_opened ends rest after end o =
     next_element ends rest (drop n after) o.tag content is whole (omega (arith, length-drop n after, o.opening.ends, o.fits))
     ∙ rw (ne_eqb (bit_and o.tag 0x20) 0 o.opening.constructed) refl
 
--- what stands first was passed or opened
+-- where an element was passed or opened, the fault is that of the bytes that are left
 next_passed : (ends ends' rest after : List ℕ) → Enters ends rest ends' after → next_fault ends rest ≡ open_fault ends' after
 next_passed ends ends' rest after e = ⊎_elim
     (λ p. element_passed ends rest after p.0 ∙ ap (λ es. open_fault es after) (sym p.1))
     (λ o. node_opened ends rest after o.0 o.1 ∙ ap (λ es. open_fault es after) (sym o.2))
     e
 
--- a further node with a content is next, where 63 are open
+-- where 63 nodes are open, a further one with a content is refused as too deep
 next_deep : (ends rest : List ℕ) → IsTooDeep ends rest → next_fault ends rest ≡ Some Depth
 next_deep ends rest d =
     let full = d.full in
@@ -191,7 +193,7 @@ next_deep ends rest d =
     let count = length-take-le n d.after (omega arith) in
     node_opened ends rest d.after d.end d.opens ∙ rw (row_deep (length ends + 2) (take n d.after) (omega arith) (omega arith)) refl
 
--- what is next is refused, by either
+-- what is next is refused as too deep, or by its own bytes
 next_refused : (ends rest : List ℕ) (k : ErrorKind) → (k ≡ Depth → IsTooDeep ends rest)
     → (k ≡ Depth) ⊎ ((content : ℕ → Fault) (behind : Fault) → any_fault content behind (take (length rest - innermost ends) rest) ≡ Some k)
     → next_fault ends rest ≡ Some k
@@ -205,21 +207,21 @@ pub record Walks (input ends rest : List ℕ) (count : ℕ) : Type 0 where
   pub at : IsAt input ends rest count
   pub told : tree_fault input ≡ open_fault ends rest
 
--- the root was entered
+-- the walk starts where the root was entered
 pub walk_started : (input old ends rest : List ℕ) → old ≡ [] → Enters old input ends rest → Walks input ends rest 1
 walk_started input old ends rest empty e = record {
   at = started input old ends rest empty e;
   told = tree_next input ∙ (ap (λ es. next_fault es input) (sym empty) ∙ next_passed old ends input rest e);
 }
 
--- the root is refused
+-- where the root is refused, so is the input
 pub walk_unstarted : (input old : List ℕ) (k : ErrorKind) → old ≡ [] → (k ≡ Depth → IsTooDeep old input)
     → (k ≡ Depth) ⊎ ((content : ℕ → Fault) (behind : Fault) → any_fault content behind (take (length input - innermost old) input) ≡ Some k)
     → tree_fault input ≡ Some k
 walk_unstarted input old k empty deep kinds =
     tree_next input ∙ (ap (λ es. next_fault es input) (sym empty) ∙ next_refused old input k deep kinds)
 
--- a node has ended
+-- the walk goes on where a node has ended
 pub walk_closed : (input ends ends' rest : List ℕ) (count : ℕ) → ends ≢ [] → ends' ≡ drop 1 ends → length rest ≡ innermost ends
     → Walks input ends rest count → Walks input ends' rest count
 walk_closed input ends ends' rest count some is e w = record {
@@ -239,7 +241,7 @@ walk_inside input (end ∷ ends) rest count some apart w =
     let level : length (end ∷ ends) + 2 ≡ length ends + 2 + 1 = omega arith in
     w.told ∙ rw (level, row_some (length ends + 2) front (omega arith) (omega arith)) refl
 
--- an element was passed or opened
+-- the walk goes on where an element was passed or opened
 pub walk_entered : (input ends rest ends' after : List ℕ) (count : ℕ) → ends ≢ [] → length rest ≢ innermost ends → Enters ends rest ends' after
     → Walks input ends rest count → Walks input ends' after (count + 1)
 walk_entered input ends rest ends' after count some apart e w = record {
@@ -247,7 +249,7 @@ walk_entered input ends rest ends' after count some apart e w = record {
   told = walk_inside input ends rest count some apart w ∙ next_passed ends ends' rest after e;
 }
 
--- an element is refused
+-- where an element is refused, so is the input
 pub walk_refused : (input ends rest : List ℕ) (count : ℕ) (k : ErrorKind) → ends ≢ [] → length rest ≢ innermost ends → Walks input ends rest count
     → (k ≡ Depth → IsTooDeep ends rest)
     → (k ≡ Depth) ⊎ ((content : ℕ → Fault) (behind : Fault) → any_fault content behind (take (length rest - innermost ends) rest) ≡ Some k)

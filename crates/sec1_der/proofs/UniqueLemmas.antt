@@ -15,7 +15,7 @@ use Rattle.sec1_der.proofs.TreeLemmas.{element_apart}
 abbrev pub IsUnique : {A : Type 0} → (A → Option (List ℕ)) → Type 0
 IsUnique {A} content = (a b : A) (bytes : List ℕ) → content a ≡ Some bytes → content b ≡ Some bytes → a ≡ b
 
--- two rows with one content, where an element of one tag stands first
+-- two rows that begin with an element of one tag, and have one content, are the same
 pub unique_required : (tag : ℕ) {A R : Type 0} (content : A → Option (List ℕ)) (rest : R → Option (List ℕ)) → IsUnique content → IsUnique rest
     → (x y : A) (a b : R) (bytes : List ℕ) → join (element_of tag (content x)) (rest a) ≡ Some bytes
     → join (element_of tag (content y)) (rest b) ≡ Some bytes → (x ≡ y) × (a ≡ b)
@@ -29,7 +29,7 @@ unique_required tag content rest one two x y a b bytes e f =
     let apart = element_apart tag tag s.inside t.inside p.back q.back (sym left ∙ right) in
     (one x y s.inside s.same (rw apart.1 t.same), two a b p.back p.second_there (rw apart.2 q.second_there))
 
--- two elements with one content
+-- two elements of one tag that have one content are the same
 pub unique_inside : (tag : ℕ) {A : Type 0} (content : A → Option (List ℕ)) → IsUnique content → IsUnique (λ a. element_of tag (content a))
 unique_inside tag content one a b bytes e f =
     let alone : IsUnique (λ (end : Unit {0}). Some []) = λ x y empty p q. refl in
@@ -47,7 +47,7 @@ begins n tag x rest bytes e =
     let s = element_of_tells (0xA0 + n) (element_of tag x) p.front p.first_there in
     rw (p.joined, s.at.spelled) refl
 
--- two rows with one content, where an OPTIONAL component stands first
+-- two rows that begin with an OPTIONAL component, and have one content, are the same
 pub unique_optional : (n tag : ℕ) {A R : Type 0} (content : A → Option (List ℕ)) (rest : R → Option (List ℕ)) → IsUnique content → IsUnique rest
     → ((a : R) (bytes : List ℕ) → rest a ≡ Some bytes → slice_get bytes 0 ≢ Some (0xA0 + n))
     → (x y : Option A) (a b : R) (bytes : List ℕ) → join (field_of n tag (option_map content x)) (rest a) ≡ Some bytes

@@ -1,4 +1,4 @@
-use Rattle.std.proofs.Common.{◌≡◌, ◌≤◌, ◌+◌, ◌-◌, ◌∙◌, length, take, drop, arith, rules, sym}
+use Rattle.std.proofs.Common.{◌≡◌, ◌≤◌, ◌+◌, ◌-◌, ◌∙◌, length, take, arith, rules, sym}
 use Rattle.std.proofs.lemmas.Grind.{common_steps}
 use Rattle.sec1_der.proofs.StreamLemmas.{cut_is_short, one_more, read_alone, reads_part}
 use Rattle.sec1_der.proofs.document.stream.read_header.Goals as goal
@@ -13,14 +13,14 @@ loop-header-preserved g c =
     let count = c.loop-header.count in
     let octets = c.loop-header.octets in
     let fault = c.in-Err-Truncated.ensures in
-    let told = sym (sym c.in-Err-Truncated.field-0-is ∙ fault.kind) in
-    let few : length (take count octets) ≤ 5 = cut_is_short (take count octets) told in
+    let short = sym (sym c.in-Err-Truncated.field-0-is ∙ fault.kind) in
+    let few : length (take count octets) ≤ 5 = cut_is_short (take count octets) short in
     let inside : count ≤ 5 = grind (arith, common_steps) in
     let size : length c.read.new.buf ≡ 1 = grind (arith, common_steps) in
     let room : count ≤ length octets = omega (arith, inside, c.loop-header.array_long) in
     record {
       consumed = grind (arith, common_steps, reads_part);
-      reached = one_more count (count + 1 - count) octets c.read.new.buf room told (λ tag n rest is e. fault.only tag n rest is e) size;
+      reached = one_more count (count + 1 - count) octets c.read.new.buf room short (λ tag n rest is e. fault.only tag n rest is e) size;
       few = omega (arith, inside);
       unfailed = search rules;
     }
