@@ -1,6 +1,6 @@
 -- Which contents are identifiers', and what their arcs are.
 use Rattle.std.proofs.Common.{◌≡◌, ◌≢◌, ℕ, zero, suc, ◌+◌, ◌-◌, ◌*◌, ◌/◌, ◌%◌, ◌^◌, ◌<◌, ◌≤◌, Bool, true, false, cond, ◌&&◌, eqb, ltb, List, [], ◌∷◌, ◌++◌, length, get_or, take, drop, replicate, ◌↔◌, refl, ap, sym, ◌∙◌, subst, arith, ⊎_elim}
-use Rattle.std.proofs.lemmas.List.{append_assoc, map-append, length-append, drop_more, take_at}
+use Rattle.std.proofs.lemmas.List.{append_assoc, append-nil, flat_map_more, map-append, length-append, drop_more, take_at}
 use Rattle.std.proofs.lemmas.Nat.{div-mul-add, mod-mul-add}
 use Rattle.std.proofs.lemmas.Bool.{lt-ltb, le-ltb, eqb-true, eq-eqb, ne_eqb, and_left, and_right, cases_lt, cond-true, cond-false, false≢true, cases_eq, false_from_ne_true}
 use Rattle.std.proofs.lemmas.Int.Digits.{number_digits_of, first_digits_of, all_below_base_digits_of, number_after_ge, digits_of_step}
@@ -10,6 +10,7 @@ use Rattle.sec1_der.specs.Numbers.{base128, marked}
 use Rattle.sec1_der.specs.ArcsOf.{padded, numbers_after, arcs_of_numbers, arcs_of}
 use Rattle.sec1_der.specs.Elements.{IsOverlong}
 use Rattle.sec1_der.specs.Identifiers.{AreArcs, subidentifiers, Spells, IsIdentifier, identifier_content}
+use Rattle.sec1_der.specs.declared.object_identifier.TheConstants.{MAX_CONTENT}
 use Rattle.sec1_der.specs.IdentifierLaws.{identifier_content-holds}
 use Rattle.sec1_der.proofs.DigitLemmas.{IsBytes, digits_of-push}
 
@@ -20,6 +21,10 @@ goes_on high (b ∷ bs) = cond (eqb high 0 && eqb b 128) false (cond (ltb high (
 
 abbrev pub AreSmall : List ℕ → Type 0
 AreSmall ns = AllByRecursion (λ n. n < 2 ^ 32) ns
+
+pub small_push : (ns : List ℕ) (n : ℕ) → AreSmall ns → n < 2 ^ 32 → AreSmall (ns ++ n ∷ [])
+small_push [] n s h = (h, tt)
+small_push (m ∷ ns) n s h = (s.0, small_push ns n s.1 h)
 
 -- ---- one byte
 
@@ -220,9 +225,9 @@ stops_lead high content i l none lead =
 -- ---- the stored form
 
 pub take-padded : (content bytes : List ℕ) → bytes ≡ padded content → take (length content) bytes ≡ content
-take-padded content bytes e = ap (take (length content)) e ∙ take_at content (replicate (39 - length content) 0) (length content) refl
+take-padded content bytes e = ap (take (length content)) e ∙ take_at content (replicate (MAX_CONTENT - length content) 0) (length content) refl
 
-pub identifier_from_spells : (content : List ℕ) → length content ≤ 39 → ((arcs : List ℕ) × Spells arcs content) → IsIdentifier (arcs_of content) content
+pub identifier_from_spells : (content : List ℕ) → length content ≤ MAX_CONTENT → ((arcs : List ℕ) × Spells arcs content) → IsIdentifier (arcs_of content) content
 identifier_from_spells content short s =
     let same = (goes_on_from_spells s.0 content s.1).1 in
     record { spells = subst (λ arcs. Spells arcs content) (sym same) s.1; short = short }
@@ -240,3 +245,29 @@ pub identifier_fits : (arcs content : List ℕ) → IsIdentifier arcs content �
 identifier_fits arcs content is none =
     let over = subst IsOverlong (identifier_content-holds arcs content is) none in
     omega (arith, over, is.short)
+
+-- ---- building
+
+-- a content that was made of arcs is that of its own arcs, which are these
+pub record IsContentOf (content arcs : List ℕ) : Type 0 where
+  pub arcs_are : arcs_of content ≡ arcs
+  pub spells : Spells (arcs_of content) content
+
+spelled : (arcs content : List ℕ) → Spells arcs content → IsContentOf content arcs
+spelled arcs content s =
+    let same = (goes_on_from_spells arcs content s).1 in
+    record { arcs_are = same; spells = rw same s }
+
+pub first_two : (a b n : ℕ) (content : List ℕ) → AreArcs (a ∷ b ∷ []) → n ≡ 40 * a + b → content ≡ [] ++ base128 n → IsContentOf content (a ∷ b ∷ [])
+first_two a b n content allowed shared is =
+    spelled (a ∷ b ∷ []) content (record { allowed = allowed; spelled = is ∙ (ap base128 shared ∙ sym (append-nil (base128 (40 * a + b)))) })
+
+pub one_more_arc : (arcs content : List ℕ) (n : ℕ) (more : List ℕ) → Spells arcs content → n < 2 ^ 32 → more ≡ content ++ base128 n → IsContentOf more (arcs ++ n ∷ [])
+one_more_arc [] content n more s small is = absurd s.allowed
+one_more_arc (a ∷ []) content n more s small is = absurd s.allowed
+one_more_arc (a ∷ b ∷ cs) content n more s small is =
+    let allowed = s.allowed in
+    spelled (a ∷ b ∷ (cs ++ n ∷ [])) more (record {
+      allowed = (allowed.0, allowed.1, allowed.2, small_push cs n allowed.3 small);
+      spelled = is ∙ (ap (λ xs. xs ++ base128 n) s.spelled ∙ flat_map_more base128 (base128 (40 * a + b)) cs n);
+    })
