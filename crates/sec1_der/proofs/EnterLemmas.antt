@@ -1,41 +1,11 @@
 -- What stands first of a slice whose last bytes are set aside.
-use Rattle.std.proofs.Common.{◌≡◌, ℕ, zero, suc, ◌+◌, ◌-◌, ◌<◌, ◌≤◌, List, [], ◌∷◌, ◌++◌, length, take, drop, ◌⊎◌, refl, ap, sym, ◌∙◌, subst, arith, ⊎_elim}
+use Rattle.std.proofs.Common.{◌≡◌, ℕ, ◌+◌, ◌-◌, ◌<◌, ◌≤◌, List, ◌++◌, length, take, drop, ◌⊎◌, refl, ap, sym, ◌∙◌, subst, arith, ⊎_elim}
 use Rattle.std.proofs.lemmas.Bool.{cases_eq}
-use Rattle.std.proofs.lemmas.List.{append_assoc, length-append, length-drop, length-take-le, take-append-drop, take_all, take_rest, drop_at, nil_from_length}
+use Rattle.std.proofs.lemmas.List.{append_assoc, length-append, length-drop, length-take-le, take-append-drop, take_rest, drop_at, nil_from_length}
 use Rattle.std.specs.Prelude.{bit_and}
-use Rattle.sec1_der.specs.Elements.{IsConstructed, IsHeader, IsProperBeginning, header, element}
-use Rattle.sec1_der.specs.Trees.{Tree, leaf, branch, none, bytes, joined, IsTree}
+use Rattle.sec1_der.specs.Elements.{IsConstructed, IsHeader, header, element}
+use Rattle.sec1_der.specs.Trees.{leaf, branch, none}
 use Rattle.sec1_der.specs.Walks.{innermost, Passes, Opens}
-
--- a tree is an element
-pub record HasElement (t : Tree) : Type 0 where
-  pub tag : ℕ
-  pub content : List ℕ
-  pub fits : IsHeader tag (length content)
-  pub is : bytes t ≡ element tag content
-
-pub tree_element : (t : Tree) → IsTree t → HasElement t
-tree_element (leaf tag content) p = record { tag = tag; content = content; fits = record { tag_byte = p.0; within = p.2 }; is = refl }
-tree_element (branch tag f) p = record { tag = tag; content = joined f; fits = record { tag_byte = p.0; within = p.2 }; is = refl }
-
-take_past : (xs ys : List ℕ) (n : ℕ) → length xs ≤ n → take n (xs ++ ys) ≡ xs ++ take (n - length xs) ys
-take_past [] ys n l = ap (λ m. take m ys) (omega arith)
-take_past (x ∷ xs) ys zero l = absurd (omega arith)
-take_past (x ∷ xs) ys (suc n) l = ap (λ ws. x ∷ ws) (take_past xs ys n (omega arith) ∙ ap (λ m. xs ++ take m ys) (omega arith))
-
--- a tree that stands before the end is an element there
-pub stands_before : (t : Tree) (tail rest : List ℕ) (end : ℕ) (el : HasElement t) → rest ≡ bytes t ++ tail → end ≤ length tail → (after : List ℕ) × (take (length rest - end) rest ≡ element el.tag el.content ++ after)
-stands_before t tail rest end el e l =
-    let room = length rest - end in
-    let lengths = ap length e ∙ length-append (bytes t) tail in
-    let after = take (room - length (bytes t)) tail in
-    (after, ap (take room) e ∙ (take_past (bytes t) tail room (omega arith) ∙ ap (λ xs. xs ++ after) el.is))
-
--- a proper beginning of a tree's bytes is one of an element's
-pub begins_element : (t : Tree) (rest : List ℕ) (end : ℕ) (el : HasElement t) → IsProperBeginning rest (bytes t) → end ≡ 0 → IsProperBeginning (take (length rest - end) rest) (element el.tag el.content)
-begins_element t rest end el short is =
-    let all : take (length rest - end) rest ≡ rest = take_all (length rest - end) rest (omega arith) in
-    record { more = short.more; some = short.some; split = sym el.is ∙ (short.split ∙ ap (λ xs. xs ++ short.more) (sym all)) }
 
 -- the header of an element, and what is inside and behind it before the end
 pub record IsInFront (rest inside : List ℕ) (tag n end : ℕ) : Type 0 where

@@ -8,6 +8,7 @@ pub mod EnterLemmas
 pub mod WalkLemmas
 pub mod CheckLemmas
 pub mod TreeRefusals
+pub mod TreeFaults
 pub mod IdentifierLemmas
 pub mod ArcLemmas
 pub mod DottedLemmas

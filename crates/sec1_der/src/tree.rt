@@ -36,6 +36,16 @@ pub fn check_tree(input: &[u8]) -> Result<usize>
     // Whether the input is refused, and by which kind, is a function of its bytes.
     ensures kind { HasFault result (tree_fault input.now) }
 {
+    count_elements(input)
+}
+
+/// Walks over the elements of a tree, and counts them.
+fn count_elements(input: &[u8]) -> Result<usize>
+    ensures found { IfOk result (λ n. (t : Tree) × IsTreeOf t input.now × (depth t ≤ MAX_DEPTH)
+        × (size t ≡ n)) }
+    ensures kinds { IfErr result (λ e. IsTreeFault e.kind) }
+    ensures kind { HasFault result (tree_fault input.now) }
+{
     let mut nodes = OpenNodes::new();
     let mut rest = nodes.enter(input)?;
     let mut count = 1;
@@ -136,12 +146,7 @@ impl OpenNodes {
     fn enter<'a>(&mut self, rest: &'a [u8]) -> Result<&'a [u8]>
         requires { innermost self.old ≤ length rest.now }
         ensures found { IfOk result (λ after. Enters self.old rest.now self.new after.now) }
-        ensures only { (t : Tree) (tail : List ℕ) → IsTree t → rest.now ≡ bytes t ++ tail
-            → innermost self.old ≤ length tail
-            → IfErr result (λ e. e.kind ≡ ErrorKind.Depth) }
         ensures deep { Refuses result ErrorKind.Depth → IsTooDeep self.old rest.now }
-        ensures short { (t : Tree) → IsTree t → IsProperBeginning rest.now (bytes t) → self.old ≡ []
-            → Refuses result ErrorKind.Truncated }
         ensures kinds { IfErr result (λ e. (e.kind ≡ ErrorKind.Depth) ⊎ IsHeaderFault e.kind) }
         ensures refusal { IfErr result (λ e. (e.kind ≡ ErrorKind.Depth)
             ⊎ ((content : ℕ → Fault) (behind : Fault) → any_fault content behind

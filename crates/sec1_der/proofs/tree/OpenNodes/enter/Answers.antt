@@ -1,22 +1,10 @@
 use Rattle.std.proofs.Common.{◌≡◌, ◌⊎◌, ◌+◌, ◌-◌, ◌∷◌, length, take, drop, sym, ap, ◌∙◌, arith, inl, inr, refl, subst}
 use Rattle.std.proofs.lemmas.Bool.{false≢true}
 use Rattle.sec1_der.specs.Elements.{IsConstructed}
-use Rattle.sec1_der.specs.Walks.{innermost, Passes}
-use Rattle.sec1_der.proofs.EnterLemmas.{tree_element, stands_before, begins_element, IsInFront, inside_within, opens_at, passes_at}
+use Rattle.sec1_der.specs.Walks.{Passes}
+use Rattle.sec1_der.proofs.EnterLemmas.{IsInFront, inside_within, opens_at, passes_at}
 use Rattle.sec1_der.proofs.tree.OpenNodes.enter.Goals as goal
 use Rattle.sec1_der.proofs.tree.OpenNodes.enter.Goals.{else-length-gt0-via-then-length-gt0+else-is_constructed, else-length-gt0-via-else-length-gt0}
-
-pub returns-in-Err-clause-only : goal.returns-in-Err-clause-only
-returns-in-Err-clause-only c t tail p e l =
-    let el = tree_element t p in
-    let front = stands_before t tail c.args.rest.now c.end-end.result el e (omega (arith, c.end-end.ensures)) in
-    absurd (c.in-Err.ensures.only el.tag el.content front.0 el.fits front.1)
-
-pub returns-in-Err-clause-short : goal.returns-in-Err-clause-short
-returns-in-Err-clause-short c t p short empty =
-    let el = tree_element t p in
-    let kind = c.in-Err.ensures.short el.tag el.content el.fits (begins_element t c.args.rest.now c.end-end.result el short (c.end-end.ensures ∙ ap innermost empty)) in
-    cc (kind, c.into.ensures)
 
 pub overflow_sub-start : goal.overflow_sub-start
 overflow_sub-start c = inside_within c.args.rest.now c.in-Ok.found.1.now c.in-Ok.found.0.tag c.in-Ok.found.0.length c.end-end.result (record { end_within = omega (arith, c.requires, c.end-end.ensures); fits = c.in-Ok.ensures.found.0; front = c.in-Ok.ensures.found.1; room = c.in-Ok.ensures.found.2 })
@@ -44,12 +32,6 @@ returns-in_ok-open-clause-found c =
     let opens = opens_at c.args.self.now c.args.rest.now c.in-Ok.found.1.now c.in-Ok.found.0.tag c.in-Ok.found.0.length c.end-end.result c.end-end.ensures front (omega (arith, c.if-length-gt0.true, c.get-length.ensures.value)) (c.if-is_constructed.ensures.0 refl) in
     inr (_, opens, opened.1 ∙ ap (λ n. (c.end-end.result + length c.in-Ok.found.1.now - n) ∷ c.args.self.now) c.get-length.ensures.value, opened.0)
 
-pub returns-in_ok-open-clause-short : goal.returns-in_ok-open-clause-short
-returns-in_ok-open-clause-short c t p short empty =
-    let el = tree_element t p in
-    let refusal = c.in-Ok.ensures.short el.tag el.content el.fits (begins_element t c.args.rest.now c.end-end.result el short (c.end-end.ensures ∙ ap innermost empty)) in
-    absurd (cc)
-
 pub returns-else-length-gt0-clause-found : goal.returns-else-length-gt0-clause-found
 returns-else-length-gt0-clause-found c =
     let front : IsInFront c.args.rest.now c.in-Ok.found.1.now c.in-Ok.found.0.tag c.in-Ok.found.0.length c.end-end.result = record { end_within = omega (arith, c.requires, c.end-end.ensures); fits = c.in-Ok.ensures.found.0; front = c.in-Ok.ensures.found.1; room = c.in-Ok.ensures.found.2 } in
@@ -61,9 +43,3 @@ returns-else-length-gt0-clause-found c =
     let passes = passes_at c.args.self.now c.args.rest.now c.in-Ok.found.1.now c.in-Ok.found.0.tag c.in-Ok.found.0.length c.end-end.result c.end-end.ensures front which in
     let start = length c.args.rest.now - c.end-end.result - length c.in-Ok.found.1.now in
     inl (subst (λ n. Passes c.args.self.now c.args.rest.now (take (length c.args.rest.now - (start + n)) (drop (start + n) c.args.rest.now))) (sym c.get-length.ensures.value) passes, refl)
-
-pub returns-else-length-gt0-clause-short : goal.returns-else-length-gt0-clause-short
-returns-else-length-gt0-clause-short c t p short empty =
-    let el = tree_element t p in
-    let refusal = c.in-Ok.ensures.short el.tag el.content el.fits (begins_element t c.args.rest.now c.end-end.result el short (c.end-end.ensures ∙ ap innermost empty)) in
-    absurd (cc)

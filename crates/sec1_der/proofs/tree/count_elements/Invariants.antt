@@ -1,6 +1,6 @@
 use Rattle.sec1_der.proofs.CheckLemmas.{measure}
 use Rattle.sec1_der.proofs.TreeRefusals.{Walks}
-use Rattle.sec1_der.proofs.tree.check_tree.Given as goal
+use Rattle.sec1_der.proofs.tree.count_elements.Given as goal
 
 abbrev pub invariant-loop-nodes : goal.invariant-loop-nodes
 invariant-loop-nodes l = Walks l.input l.nodes l.rest l.count
