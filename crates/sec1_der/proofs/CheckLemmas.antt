@@ -168,10 +168,6 @@ next_closed input (end ∷ ends) ends' rest count some is e a = rw is (record {
 abbrev pub measure : List ℕ → List ℕ → ℕ
 measure ends rest = 64 * length rest + length ends
 
-pub fewer : (ends ends' rest : List ℕ) → ends ≢ [] → ends' ≡ drop 1 ends → measure ends' rest < measure ends rest
-fewer [] ends' rest some e = absurd (some refl)
-fewer (end ∷ ends) ends' rest some e = let lengths : length ends' ≡ length ends = ap length e in omega arith
-
 pub shorter : (ends rest ends' after : List ℕ) → Enters ends rest ends' after → measure ends' after < measure ends rest
 shorter ends rest ends' after e = let less = after_shorter ends rest ends' after e in omega arith
 

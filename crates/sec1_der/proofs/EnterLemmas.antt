@@ -1,7 +1,7 @@
 -- What stands first of a slice whose last bytes are set aside.
 use Rattle.std.proofs.Common.{◌≡◌, ℕ, ◌+◌, ◌-◌, ◌<◌, ◌≤◌, List, ◌++◌, length, take, drop, ◌⊎◌, refl, ap, sym, ◌∙◌, arith, ⊎_elim}
 use Rattle.std.proofs.lemmas.Bool.{cases_eq}
-use Rattle.std.proofs.lemmas.List.{append_assoc, length-append, length-drop, length-take-le, take-append-drop, take_rest, drop_at, nil_from_length}
+use Rattle.std.proofs.lemmas.List.{append_assoc, length-append, length-drop, length-take, length-take-le, take-append-drop, take_rest, drop_at, nil_from_length}
 use Rattle.std.specs.Prelude.{bit_and}
 use Rattle.sec1_der.specs.Elements.{IsConstructed, IsHeader, header, element}
 use Rattle.sec1_der.specs.Trees.{Tree, leaf, branch, none, bytes}
@@ -79,3 +79,7 @@ passes_at {rest = rest} {inside = inside} {tag = tag} {n = n} {end = end} ends m
       row = row ∙ ap (λ xs. xs ++ behind) (sym t.2);
       fits = omega (arith, f.ends, length-append (drop n inside) f.behind);
     })
+
+-- what is inside is no longer than all before the end
+pub inside_within : (rest front inside : List ℕ) (room : ℕ) → take room rest ≡ front ++ inside → length inside ≤ room
+inside_within rest front inside room e = omega (arith, ap length e, length-append front inside, length-take room rest)

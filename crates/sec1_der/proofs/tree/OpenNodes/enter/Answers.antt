@@ -1,14 +1,9 @@
-use Rattle.std.proofs.Common.{◌≡◌, ◌⊎◌, ◌+◌, ◌-◌, ◌∷◌, length, sym, ap, ◌∙◌, arith, inl, inr, refl}
+use Rattle.std.proofs.Common.{◌≡◌, ◌⊎◌, sym, ◌∙◌, arith, inl, inr, refl}
 use Rattle.std.proofs.lemmas.Bool.{false≢true}
 use Rattle.sec1_der.specs.Elements.{IsConstructed}
 use Rattle.sec1_der.proofs.EnterLemmas.{in_front, opens_at, passes_at}
 use Rattle.sec1_der.proofs.tree.OpenNodes.enter.Goals as goal
 use Rattle.sec1_der.proofs.tree.OpenNodes.enter.Goals.{else-length-gt0-via-then-length-gt0+else-is_constructed, else-length-gt0-via-else-length-gt0}
-
-pub overflow_sub-start : goal.overflow_sub-start
-overflow_sub-start c =
-    let front = in_front c.args.rest.now c.in-Ok.found.1.now c.in-Ok.found.0.tag c.in-Ok.found.0.length c.end-end.result (omega (arith, c.requires)) c.in-Ok.ensures.found in
-    omega arith
 
 pub returns-in_err-open-clause-deep : goal.returns-in_err-open-clause-deep
 returns-in_err-open-clause-deep c _ =
@@ -26,16 +21,6 @@ returns-in_ok-open-clause-found c =
     let opened = c.in_ok-open.ensures.opened in
     let opens = opens_at c.args.self.now _ front c.end-end.ensures c.get-length.ensures.value (omega (arith, c.if-length-gt0.true, c.get-length.ensures.value)) (c.if-is_constructed.ensures.0 refl) in
     inr (_, opens, opened.1, opened.0)
-
-pub slice_bounds-result-count-else-length-gt0 : goal.slice_bounds-result-count-else-length-gt0
-slice_bounds-result-count-else-length-gt0 c =
-    let front = in_front c.args.rest.now c.in-Ok.found.1.now c.in-Ok.found.0.tag c.in-Ok.found.0.length c.end-end.result (omega (arith, c.requires)) c.in-Ok.ensures.found in
-    omega arith
-
-pub slice_bounds-result-start-else-length-gt0 : goal.slice_bounds-result-start-else-length-gt0
-slice_bounds-result-start-else-length-gt0 c =
-    let front = in_front c.args.rest.now c.in-Ok.found.1.now c.in-Ok.found.0.tag c.in-Ok.found.0.length c.end-end.result (omega (arith, c.requires)) c.in-Ok.ensures.found in
-    omega arith
 
 pub returns-else-length-gt0-clause-found : goal.returns-else-length-gt0-clause-found
 returns-else-length-gt0-clause-found c =
