@@ -235,14 +235,17 @@ impl<'a> DecodeValue<'a> for ObjectIdentifier {
 }
 
 impl EncodeValue for ObjectIdentifier {
+    #[tactic(auto, using(crate::proofs::IdentifierLemmas::identifier_fits))]
     fn value_len(&self) -> Result<Length> {
         Length::new(self.as_bytes().len())
     }
 
+    #[tactic(auto, using(crate::proofs::IdentifierLemmas::identifier_fits))]
     fn encode_value(&self, writer: &mut SliceWriter) -> Result<()> {
         writer.write(self.as_bytes())
     }
 
+    #[tactic(auto, using(crate::proofs::IdentifierLemmas::identifier_fits))]
     fn encode_back(&self, writer: &mut BackWriter) -> Result<()> {
         writer.write(self.as_bytes())
     }
