@@ -1,6 +1,6 @@
 -- Which contents are identifiers', and what their arcs are.
 use Rattle.std.proofs.Common.{◌≡◌, ℕ, zero, suc, ◌+◌, ◌-◌, ◌*◌, ◌/◌, ◌%◌, ◌^◌, ◌<◌, ◌≤◌, Bool, true, false, cond, ◌&&◌, eqb, ltb, List, [], ◌∷◌, ◌++◌}
-use Rattle.std.proofs.Common.{length, get_or, take, drop, replicate, ◌↔◌, refl, ap, sym, ◌∙◌, arith, ⊎_elim}
+use Rattle.std.proofs.Common.{Some, length, get_or, take, drop, replicate, ◌↔◌, refl, ap, sym, ◌∙◌, arith, ⊎_elim}
 use Rattle.std.proofs.lemmas.Bool.{eqb-true, cases_lt, false≢true}
 use Rattle.std.proofs.lemmas.Bool.Decides.{nat_tests}
 use Rattle.std.proofs.lemmas.List.{append_assoc, append-nil, flat_map_more, map-append, length-append, drop_more, take_at}
@@ -10,7 +10,6 @@ use Rattle.std.specs.Int.Digits.{digits_of}
 use Rattle.std.specs.List.{flat_map, AllByRecursion}
 use Rattle.sec1_der.specs.Numbers.{base128, marked}
 use Rattle.sec1_der.specs.ArcsOf.{padded, numbers_after, arcs_of_numbers, arcs_of}
-use Rattle.sec1_der.specs.Elements.{IsOverlong}
 use Rattle.sec1_der.specs.Identifiers.{AreArcs, subidentifiers, Spells, IsIdentifier, identifier_content}
 use Rattle.sec1_der.specs.IdentifierLaws.{identifier_content-holds}
 use Rattle.sec1_der.specs.declared.object_identifier.TheConstants.{MAX_CONTENT}
@@ -181,9 +180,9 @@ take-padded content bytes e = rw e (take_at content (replicate (MAX_CONTENT - le
 pub length-marked_step : (n : ℕ) → 0 < n → length (marked (digits_of 128 n)) ≡ length (marked (digits_of 128 (n / 128))) + 1
 length-marked_step n some = ap length (marked_step n some) ∙ length-append (marked (digits_of 128 (n / 128))) ((128 + n % 128) ∷ [])
 
--- an element can hold the content of an identifier
-pub identifier_fits : (arcs content : List ℕ) → IsIdentifier arcs content → IsOverlong (identifier_content arcs) → ⊥
-identifier_fits arcs content is none = omega (arith, rw (identifier_content-holds arcs content is) at none, is.short)
+-- an identifier has this content, and an element can hold it
+pub identifier_fits : (arcs content : List ℕ) → IsIdentifier arcs content → (identifier_content arcs ≡ Some content) × (length content ≤ MAX_CONTENT)
+identifier_fits arcs content is = (identifier_content-holds arcs content is, is.short)
 
 -- ---- building
 
