@@ -122,6 +122,7 @@ impl ObjectIdentifier {
 }
 
 /// Returns `true` if the bytes are one or more subidentifiers, each below 2^32 (X.690 section 8.19.2).
+#[tactic(auto, using(crate::proofs::IdentifierLemmas::stops_large, crate::proofs::IdentifierLemmas::stops_lead, crate::proofs::IdentifierLemmas::not_spelled))]
 fn is_content(content: &[u8]) -> bool
     ensures { IsTrue result ↔ ((arcs : List ℕ) × Spells arcs content.now) }
 {
@@ -157,6 +158,7 @@ fn stored(content: &[u8]) -> [u8; MAX_CONTENT]
 impl fmt::Display for ObjectIdentifier {
     ghost output = { λ arcs. Some (dotted arcs) };
 
+    #[tactic(auto, using(crate::proofs::IdentifierLemmas::stops_large))]
     fn fmt<W: fmt::Write>(&self, f: &mut fmt::Formatter<W>) -> fmt::Result {
         let content = self.as_bytes();
         let mut first = true;

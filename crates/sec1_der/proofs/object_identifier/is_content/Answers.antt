@@ -2,14 +2,8 @@ use Rattle.std.proofs.Common.{◌≡◌, true, length, eqb, sym, ap, ◌∙◌, 
 use Rattle.std.proofs.lemmas.Bool.{eqb-false}
 use Rattle.std.proofs.lemmas.List.{drop_all}
 use Rattle.sec1_der.specs.Identifiers.{Spells}
-use Rattle.sec1_der.proofs.IdentifierLemmas.{goes_on, stops_large, stops_lead, not_spelled, goes_on-decides}
+use Rattle.sec1_der.proofs.IdentifierLemmas.{goes_on, goes_on-decides}
 use Rattle.sec1_der.proofs.object_identifier.is_content.Goals as goal
-
-pub returns-then-high : goal.returns-then-high
-returns-then-high c = not_spelled c.args.content.now (sym c.loop-b.invariant ∙ stops_large c.loop-b.high c.args.content.now c.loop-b.b-index c.loop-b-test.true c.if-high.true)
-
-pub returns-then-b : goal.returns-then-b
-returns-then-b c = not_spelled c.args.content.now (sym c.loop-b.invariant ∙ stops_lead c.loop-b.high c.args.content.now c.loop-b.b-index c.loop-b-test.true c.if-high-eq0.true c.if-b.true)
 
 pub returns : goal.returns
 returns c =
