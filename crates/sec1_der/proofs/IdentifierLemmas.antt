@@ -177,8 +177,8 @@ take-padded content bytes e = rw e (take_at content (replicate (MAX_CONTENT - le
 
 -- ---- writing
 
-pub length-marked_step : (n : ℕ) → 0 < n → length (marked (digits_of 128 n)) ≡ length (marked (digits_of 128 (n / 128))) + 1
-length-marked_step n some = ap length (marked_step n some) ∙ length-append (marked (digits_of 128 (n / 128))) ((128 + n % 128) ∷ [])
+pub marked_step_length : (n : ℕ) → 0 < n → length (marked (digits_of 128 n)) ≡ length (marked (digits_of 128 (n / 128))) + 1
+marked_step_length n some = ap length (marked_step n some) ∙ length-append (marked (digits_of 128 (n / 128))) ((128 + n % 128) ∷ [])
 
 -- an identifier has this content, and an element can hold it
 pub identifier_fits : (arcs content : List ℕ) → IsIdentifier arcs content → (identifier_content arcs ≡ Some content) × (length content ≤ MAX_CONTENT)

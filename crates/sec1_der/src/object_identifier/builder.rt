@@ -95,6 +95,7 @@ fn shared_number(a: u32, b: u32) -> Option<u32>
 }
 
 /// Parses an arc: decimal digits without a sign or a leading zero.
+#[tactic(auto, using(crate::proofs::ArcLemmas::not_empty, crate::proofs::ArcLemmas::not_there, crate::proofs::ArcLemmas::no_zero, crate::proofs::ArcLemmas::arc_found, crate::proofs::ArcLemmas::arc_none))]
 pub(crate) fn arc(text: &str) -> Option<u32>
     ensures found { IfSome result (λ n. (n < 2 ^ 32) × (text.now ≡ decimal n)) }
     ensures none { IfNone result ((n : ℕ) → n < 2 ^ 32 → text.now ≡ decimal n → ⊥) }
@@ -166,6 +167,7 @@ impl Content {
     }
 
     /// Appends the base 128 digits of a number, none for 0, each with bit 80 (hexadecimal) set.
+    #[tactic(auto, using(crate::proofs::IdentifierLemmas::marked_step, crate::proofs::IdentifierLemmas::marked_step_length))]
     fn push_marked(&mut self, n: u32) -> Result<()>
         ensures ok { OnOk result (self.new ≡ self.old ++ marked (digits_of 128 n)) }
         ensures err { IsErr result → MAX_CONTENT < length self.old + length (marked (digits_of 128 n)) }
