@@ -78,7 +78,8 @@ passed_first ends rest after more room p left = record {
 opened_first : (ends rest after : List ℕ) (end more : ℕ) → Opens ends rest end after → Left (end ∷ ends) after more → HasFirst ends rest more
 opened_first ends rest after end more o left =
     let opening = o.opening in
-    let length_is : length (joined left.children) ≡ o.n = omega (arith, opening.ends, left.ends, ap length left.row, length-append (joined left.children) left.tail) in
+    let lengths = length-append (joined left.children) left.tail in
+    let length_is : length (joined left.children) ≡ o.n = omega (arith, opening.ends, left.ends, ap length left.row, lengths) in
     record {
       tree = branch o.tag left.children;
       tail = left.tail;
@@ -116,9 +117,12 @@ entered input ends rest ends' after count room counted nested completed e =
 -- the root was entered
 pub started : (input old ends rest : List ℕ) → old ≡ [] → Enters old input ends rest → IsAt input ends rest 1
 started input (end ∷ old) ends rest empty e = absurd (cc empty)
-started input [] ends rest empty e = entered input [] input ends rest 0 (omega arith) (omega arith) tt
-    (λ more f. (f.tree, record { tree = f.is; whole = f.row ∙ rw (f.outside.0) (append-nil (bytes f.tree)) }, omega (arith, f.shallow), omega (arith, f.counts, f.outside.1)))
-    e
+started input [] ends rest empty e = entered input [] input ends rest 0 (omega arith) (omega arith) tt (λ more f. (
+  f.tree,
+  record { tree = f.is; whole = f.row ∙ rw (f.outside.0) (append-nil (bytes f.tree)) },
+  omega (arith, f.shallow),
+  omega (arith, f.counts, f.outside.1),
+)) e
 
 with_first : (end : ℕ) (ends rest : List ℕ) (more : ℕ) → HasFirst (end ∷ ends) rest more → Left (end ∷ ends) rest (suc more)
 with_first end ends rest more f =
@@ -136,14 +140,16 @@ with_first end ends rest more f =
     }
 
 -- a further element was entered
-pub next_entered : (input ends rest ends' after : List ℕ) (count : ℕ) → ends ≢ [] → Enters ends rest ends' after → IsAt input ends rest count → IsAt input ends' after (count + 1)
+pub next_entered : (input ends rest ends' after : List ℕ) (count : ℕ) → ends ≢ [] → Enters ends rest ends' after → IsAt input ends rest count
+    → IsAt input ends' after (count + 1)
 next_entered input [] rest ends' after count some e a = absurd (some refl)
 next_entered input (end ∷ ends) rest ends' after count some e a =
     entered input (end ∷ ends) rest ends' after count a.room a.counted a.nested (λ more f. a.completed (suc more) (with_first end ends rest more f)) e
 
 -- ---- a node has ended
 
-pub next_closed : (input ends ends' rest : List ℕ) (count : ℕ) → ends ≢ [] → ends' ≡ drop 1 ends → length rest ≡ innermost ends → IsAt input ends rest count → IsAt input ends' rest count
+pub next_closed : (input ends ends' rest : List ℕ) (count : ℕ) → ends ≢ [] → ends' ≡ drop 1 ends → length rest ≡ innermost ends
+    → IsAt input ends rest count → IsAt input ends' rest count
 next_closed input [] ends' rest count some is e a = absurd (some refl)
 next_closed input (end ∷ ends) ends' rest count some is e a = rw is (record {
   room = omega (arith, a.room);

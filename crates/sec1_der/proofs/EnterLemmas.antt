@@ -16,8 +16,9 @@ pub record IsInFront (rest inside : List ℕ) (tag n end : ℕ) : Type 0 where
   pub ends : length behind ≡ end
   pub lengths : length (header tag n) + length inside + end ≡ length rest
 
-pub in_front : (rest inside : List ℕ) (tag n end : ℕ) → end ≤ length rest → IsHeader tag n × (take (length rest - end) rest ≡ header tag n ++ inside) × (n ≤ length inside)
-    → IsInFront rest inside tag n end
+-- what a header's bytes are cut from, where all before the end begin with it
+pub in_front : (rest inside : List ℕ) (tag n end : ℕ) → end ≤ length rest
+    → IsHeader tag n × (take (length rest - end) rest ≡ header tag n ++ inside) × (n ≤ length inside) → IsInFront rest inside tag n end
 in_front rest inside tag n end within h =
     let room = length rest - end in
     let taken : length (take room rest) ≡ room = length-take-le room rest (omega arith) in
@@ -35,7 +36,8 @@ from_start : (rest front after : List ℕ) (start : ℕ) → rest ≡ front ++ a
 from_start rest front after start e l = take_rest rest start ∙ (ap (drop start) e ∙ drop_at front after start (sym l))
 
 -- the header of a node with a content
-pub opens_at : {rest inside : List ℕ} {tag n end : ℕ} (ends : List ℕ) (m : ℕ) → IsInFront rest inside tag n end → end ≡ innermost ends → m ≡ n → 0 < n → IsConstructed tag
+pub opens_at : {rest inside : List ℕ} {tag n end : ℕ} (ends : List ℕ) (m : ℕ) → IsInFront rest inside tag n end → end ≡ innermost ends → m ≡ n
+    → 0 < n → IsConstructed tag
     → Opens ends rest (end + length inside - m) (take (length rest - (length rest - end - length inside)) (drop (length rest - end - length inside) rest))
 opens_at {rest = rest} {inside = inside} {tag = tag} {n = n} {end = end} ends m f is same some constructed =
     rw (from_start rest (header tag n) (inside ++ f.behind) (length rest - end - length inside) f.row (omega (arith, f.lengths))) (record {
@@ -52,18 +54,24 @@ opens_at {rest = rest} {inside = inside} {tag = tag} {n = n} {end = end} ends m 
       fits = omega (arith, f.room);
     })
 
--- a leaf or an empty node
-single_tree : (tag : ℕ) (content : List ℕ) → IsHeader tag (length content) → ¬ IsConstructed tag ⊎ (length content ≡ 0) → (t : Tree) × IsSingle t × (bytes t ≡ element tag content)
-single_tree tag content h which = ⊎_elim as_leaf (λ empty. ⊎_elim (λ plain. as_leaf (λ set. set plain)) (λ set. as_node set empty) (cases_eq (bit_and tag 32) 0)) which
+-- a leaf or an empty node with these bytes
+abbrev HasSingle : ℕ → List ℕ → Type 0
+HasSingle tag content = (t : Tree) × IsSingle t × (bytes t ≡ element tag content)
+
+single_tree : (tag : ℕ) (content : List ℕ) → IsHeader tag (length content) → ¬ IsConstructed tag ⊎ (length content ≡ 0) → HasSingle tag content
+single_tree tag content h which = ⊎_elim as_leaf (λ empty. ⊎_elim (λ plain. as_leaf (λ set. set plain)) (as_node empty) (cases_eq (bit_and tag 32) 0)) which
   where
-    as_leaf : ¬ IsConstructed tag → (t : Tree) × IsSingle t × (bytes t ≡ element tag content)
+    as_leaf : ¬ IsConstructed tag → HasSingle tag content
     as_leaf plain = (leaf tag content, record { tree = (h.tag_byte, plain, h.within); alone = refl; shallow = refl }, refl)
 
-    as_node : IsConstructed tag → length content ≡ 0 → (t : Tree) × IsSingle t × (bytes t ≡ element tag content)
-    as_node set empty = (branch tag none, record { tree = (h.tag_byte, set, omega arith, tt); alone = refl; shallow = refl }, rw (nil_from_length content empty) refl)
+    as_node : length content ≡ 0 → IsConstructed tag → HasSingle tag content
+    as_node empty set =
+        let single : IsSingle (branch tag none) = record { tree = (h.tag_byte, set, omega arith, tt); alone = refl; shallow = refl } in
+        (branch tag none, single, rw (nil_from_length content empty) refl)
 
 -- an element without children
-pub passes_at : {rest inside : List ℕ} {tag n end : ℕ} (ends : List ℕ) (m : ℕ) → IsInFront rest inside tag n end → end ≡ innermost ends → m ≡ n → ¬ IsConstructed tag ⊎ (n ≡ 0)
+pub passes_at : {rest inside : List ℕ} {tag n end : ℕ} (ends : List ℕ) (m : ℕ) → IsInFront rest inside tag n end → end ≡ innermost ends → m ≡ n
+    → ¬ IsConstructed tag ⊎ (n ≡ 0)
     → Passes ends rest (take (length rest - (length rest - end - length inside + m)) (drop (length rest - end - length inside + m) rest))
 passes_at {rest = rest} {inside = inside} {tag = tag} {n = n} {end = end} ends m f is same which =
     let content = take n inside in

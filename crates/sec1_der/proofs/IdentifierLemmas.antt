@@ -59,7 +59,8 @@ spelled_end high b bs ns small l s =
     let low : b % 128 ≡ b = omega arith in
     record { row = rw (low, div-mul-add high 128 b l, mod-mul-add high 128 b l, append_assoc, ← s.row) refl; small = (omega arith, s.small) }
 
-spelled_more : (high b : ℕ) (bs ns : List ℕ) → (high ≡ 0 → b ≡ 128 → ⊥) → 128 ≤ b → b < 256 → IsSpelled (high * 128 + b % 128) bs ns → IsSpelled high (b ∷ bs) ns
+spelled_more : (high b : ℕ) (bs ns : List ℕ) → (high ≡ 0 → b ≡ 128 → ⊥) → 128 ≤ b → b < 256 → IsSpelled (high * 128 + b % 128) bs ns
+    → IsSpelled high (b ∷ bs) ns
 spelled_more high b bs ns lead l byte s =
     let mark : 128 + b % 128 ≡ b = omega arith in
     let some : 0 < high * 128 + b % 128 = grind arith in
@@ -69,7 +70,8 @@ spelled_more high b bs ns lead l byte s =
 spelled_after : (high : ℕ) (bs : List ℕ) → IsBytes bs → goes_on high bs ≡ true → IsSpelled high bs (numbers_after high bs)
 spelled_after high [] h e = rw (eqb-true high 0 e) (record { row = refl; small = tt })
 spelled_after high (b ∷ bs) h e = ⊎_elim
-    (λ l. rw (numbers_end high b bs l) (spelled_end high b bs (numbers_after 0 bs) small l (spelled_after 0 bs (λ i. h (suc i)) (sym (goes_end high b bs small l) ∙ e))))
+    (λ l. let rest = spelled_after 0 bs (λ i. h (suc i)) (sym (goes_end high b bs small l) ∙ e) in
+    rw (numbers_end high b bs l) (spelled_end high b bs (numbers_after 0 bs) small l rest))
     (λ l. let next = high * 128 + b % 128 in
     rw (numbers_more high b bs l)
     (spelled_more high b bs (numbers_after next bs) lead l (h 0) (spelled_after next bs (λ i. h (suc i)) (sym (goes_more high b bs lead small l) ∙ e))))
@@ -107,7 +109,8 @@ read_marked (suc most) (suc n) rest l small =
     let last = read_digit (suc n) rest (omega arith) small in
     rw (marked_step (suc n) (omega arith), append_assoc) (front.0 ∙ last.0, front.1 ∙ last.1)
 
-read_one : (n : ℕ) (rest : List ℕ) → n < 2 ^ 32 → (numbers_after 0 (base128 n ++ rest) ≡ n ∷ numbers_after 0 rest) × (goes_on 0 (base128 n ++ rest) ≡ goes_on 0 rest)
+read_one : (n : ℕ) (rest : List ℕ) → n < 2 ^ 32
+    → (numbers_after 0 (base128 n ++ rest) ≡ n ∷ numbers_after 0 rest) × (goes_on 0 (base128 n ++ rest) ≡ goes_on 0 rest)
 read_one n rest small =
     let front = read_marked (n / 128) (n / 128) (n % 128 ∷ rest) (omega arith) (omega arith) in
     let whole : n / 128 * 128 + n % 128 % 128 ≡ n = omega arith in
@@ -201,7 +204,8 @@ pub first_two : (a b n : ℕ) (content : List ℕ) → AreArcs (a ∷ b ∷ []) 
 first_two a b n content allowed shared is =
     content_of_arcs (a ∷ b ∷ []) content (record { allowed = allowed; spelled = is ∙ rw (shared, append-nil) refl })
 
-pub one_more_arc : (arcs content : List ℕ) (n : ℕ) (more : List ℕ) → Spells arcs content → n < 2 ^ 32 → more ≡ content ++ base128 n → IsContentOf more (arcs ++ n ∷ [])
+pub one_more_arc : (arcs content : List ℕ) (n : ℕ) (more : List ℕ) → Spells arcs content → n < 2 ^ 32 → more ≡ content ++ base128 n
+    → IsContentOf more (arcs ++ n ∷ [])
 one_more_arc [] content n more s small is = absurd s.allowed
 one_more_arc (a ∷ []) content n more s small is = absurd s.allowed
 one_more_arc (a ∷ b ∷ cs) content n more s small is =

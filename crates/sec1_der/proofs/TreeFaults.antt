@@ -1,5 +1,6 @@
 -- What the bytes of trees are refused by.
-use Rattle.std.proofs.Common.{◌≡◌, ℕ, zero, suc, ◌+◌, ◌<◌, ◌≤◌, max, nat_lt, if◌then◌else◌, List, [], ◌∷◌, ◌++◌, length, Option, Some, None, Result, Ok, Err, IfOk, bit_and, refl, ap, sym, ◌∙◌, arith, ⊎_elim}
+use Rattle.std.proofs.Common.{◌≡◌, ℕ, zero, suc, ◌+◌, ◌<◌, ◌≤◌, max, nat_lt, if◌then◌else◌, List, [], ◌∷◌, ◌++◌}
+use Rattle.std.proofs.Common.{length, Option, Some, None, Result, Ok, Err, IfOk, bit_and, refl, ap, sym, ◌∙◌, arith, ⊎_elim}
 use Rattle.std.proofs.lemmas.Bool.{lt-ltb, le-ltb, ne_eqb, eq-eqb, cases_eq, cases_lt}
 use Rattle.std.proofs.lemmas.Bool.Decides.{nat_tests}
 use Rattle.std.proofs.lemmas.List.{append_assoc, append-nil, length-append}
@@ -28,8 +29,8 @@ deep_or a b = grind (arith, nat_tests)
 leaf_passes : (f : Fault) (tag : ℕ) (content : List ℕ) → ¬ IsConstructed tag → nested_fault f tag content ≡ None
 leaf_passes f tag content plain = ⊎_elim (λ e. rw (eq-eqb (bit_and tag 0x20) 0 e) refl) (λ set. absurd (plain set)) (cases_eq (bit_and tag 0x20) 0)
 
-row_next : (most level : ℕ) (bs : List ℕ) → 0 < length bs
-    → row_fault (suc most) level bs ≡ (if nat_lt MAX_DEPTH level then Some Depth else any_fault (nested_fault (row_fault most (level + 1))) (row_fault most level) bs)
+row_next : (most level : ℕ) (bs : List ℕ) → 0 < length bs → row_fault (suc most) level bs ≡
+    (if nat_lt MAX_DEPTH level then Some Depth else any_fault (nested_fault (row_fault most (level + 1))) (row_fault most level) bs)
 row_next most level [] some = absurd (omega arith)
 row_next most level (b ∷ bs) some = refl
 
@@ -45,12 +46,14 @@ mutual
       any_at _ behind tag content bs rest (record { tag_byte = is.0; within = is.2 }) e
       ∙ rw (leaf_passes (row_fault most (above + 1 + 1)) tag content is.1, le-ltb MAX_DEPTH (above + 1) (omega arith)) refl
   tree_at (branch tag f) most above behind bs rest is e small fits =
+      let lengths = length-append (header tag (length (joined f))) (joined f) in
       any_at _ behind tag (joined f) bs rest (record { tag_byte = is.0; within = is.2 }) e
-      ∙ rw (ne_eqb (bit_and tag 0x20) 0 is.1, row_at f most (above + 1) is.3 (omega (arith, length-append (header tag (length (joined f))) (joined f))) (omega arith))
+      ∙ rw (ne_eqb (bit_and tag 0x20) 0 is.1, row_at f most (above + 1) is.3 (omega arith) (omega arith))
       (ap (λ n. option_or (deep_fault n) (behind rest)) (omega arith))
 
   -- trees in a row, below so many levels
-  row_at : (f : Forest) (most above : ℕ) → AreTrees f → length (joined f) ≤ most → above ≤ MAX_DEPTH → row_fault most (above + 1) (joined f) ≡ deep_fault (above + max_depth f)
+  row_at : (f : Forest) (most above : ℕ) → AreTrees f → length (joined f) ≤ most → above ≤ MAX_DEPTH
+      → row_fault most (above + 1) (joined f) ≡ deep_fault (above + max_depth f)
   row_at none zero above are small fits = rw (le-ltb MAX_DEPTH (above + 0) (omega arith)) refl
   row_at none (suc most) above are small fits = rw (le-ltb MAX_DEPTH (above + 0) (omega arith)) refl
   row_at (first t f) zero above are small fits = absurd (omega (arith, length-append (bytes t) (joined f), some_bytes t))
@@ -58,7 +61,8 @@ mutual
       let lengths = length-append (bytes t) (joined f) in
       let some = some_bytes t in
       row_next most (above + 1) (bytes t ++ joined f) (omega arith) ∙ ⊎_elim
-      (λ l. rw (le-ltb MAX_DEPTH (above + 1) (omega arith)) (tree_at t most above (row_fault most (above + 1)) (bytes t ++ joined f) (joined f) are.0 refl (omega arith) l
+      (λ l. rw (le-ltb MAX_DEPTH (above + 1) (omega arith))
+      (tree_at t most above (row_fault most (above + 1)) (bytes t ++ joined f) (joined f) are.0 refl (omega arith) l
       ∙ (ap (option_or (deep_fault (above + depth t))) (row_at f most above are.1 (omega arith) fits)
       ∙ (deep_or (above + depth t) (above + max_depth f) ∙ ap deep_fault (omega arith)))))
       (λ l. rw (lt-ltb MAX_DEPTH (above + 1) (omega arith), lt-ltb MAX_DEPTH (above + max (depth t) (max_depth f)) (omega arith)) refl)
@@ -78,8 +82,8 @@ pub shallow_tree : (t : Tree) (input rest : List ℕ) → IsTree t → depth t �
 shallow_tree t input rest is shallow e = tree_faults t input rest is e ∙ rw (le-ltb MAX_DEPTH (depth t) shallow) refl
 
 -- an element that is cut short
-element_cut : (f : ℕ → Fault) (g : Fault) (tag : ℕ) (content input : List ℕ) → IsBytes input → IsHeader tag (length content) → IsProperBeginning input (element tag content)
-    → any_fault f g input ≡ Some Truncated
+element_cut : (f : ℕ → Fault) (g : Fault) (tag : ℕ) (content input : List ℕ) → IsBytes input → IsHeader tag (length content)
+    → IsProperBeginning input (element tag content) → any_fault f g input ≡ Some Truncated
 element_cut f g tag content input all h cut =
     let n = length content in
     let split = sym cut.split in
@@ -108,12 +112,14 @@ cut_tree (branch tag f) input all is cut = element_cut _ end_fault tag (joined f
 -- ---- a result with the fault of its input
 
 -- a refusal by this kind
-pub refuses : {T : Type 0} (result : Result T Error) (fault : Option ErrorKind) (kind : ErrorKind) → HasFault result fault → fault ≡ Some kind → Refuses result kind
+pub refuses : {T : Type 0} (result : Result T Error) (fault : Option ErrorKind) (kind : ErrorKind) → HasFault result fault → fault ≡ Some kind
+    → Refuses result kind
 refuses (Ok x) fault kind h e = absurd (cc (h, e))
 refuses (Err error) fault kind h e = cc (h, e)
 
 -- a count of a tree's elements
-pub counted : (result : Result ℕ Error) (input : List ℕ) (t : Tree) → IfOk result (IsCounted input) → HasFault result (tree_fault input) → IsTreeOf t input → depth t ≤ MAX_DEPTH → result ≡ Ok (size t)
+pub counted : (result : Result ℕ Error) (input : List ℕ) (t : Tree) → IfOk result (IsCounted input) → HasFault result (tree_fault input)
+    → IsTreeOf t input → depth t ≤ MAX_DEPTH → result ≡ Ok (size t)
 counted (Ok n) input t found h is shallow =
     let same = (tree_apart found.0 t [] [] found.1.tree is.tree (ap (λ xs. xs ++ []) (sym found.1.whole ∙ is.whole))).0 in
     ap Ok (sym found.3 ∙ ap size same)

@@ -15,7 +15,8 @@ open_ends-set (suc level) at end table l =
     ap (λ x. x ∷ open_ends level (set table at end)) same ∙ ap (λ xs. get_or table (suc level) 0 ∷ xs) (open_ends-set level at end table (omega arith))
 
 -- the end of one more node is set
-pub open_ends-opened : (level end : ℕ) (table : List ℕ) → suc level < length table → open_ends (suc level) (set table (suc level) end) ≡ end ∷ open_ends level table
+pub open_ends-opened : (level end : ℕ) (table : List ℕ) → suc level < length table
+    → open_ends (suc level) (set table (suc level) end) ≡ end ∷ open_ends level table
 open_ends-opened level end table room =
     ap (λ x. x ∷ open_ends level (set table (suc level) end)) (get_or-set_same table (suc level) end 0 room)
     ∙ ap (λ xs. end ∷ xs) (open_ends-set level (suc level) end table (omega arith))

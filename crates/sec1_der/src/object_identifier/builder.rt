@@ -95,7 +95,7 @@ fn shared_number(a: u32, b: u32) -> Option<u32>
 }
 
 /// Parses an arc: decimal digits without a sign or a leading zero.
-#[tactic(auto, using(crate::proofs::ArcLemmas::not_empty, crate::proofs::ArcLemmas::not_there, crate::proofs::ArcLemmas::no_zero, crate::proofs::ArcLemmas::arc_found, crate::proofs::ArcLemmas::arc_none))]
+#[tactic(auto, using(crate::proofs::ArcLemmas::not_empty, crate::proofs::ArcLemmas::no_zero, crate::proofs::ArcLemmas::arc_none))]
 pub(crate) fn arc(text: &str) -> Option<u32>
     ensures found { IfSome result (λ n. (n < 2 ^ 32) × (text.now ≡ decimal n)) }
     ensures none { IfNone result ((n : ℕ) → n < 2 ^ 32 → text.now ≡ decimal n → ⊥) }

@@ -6,7 +6,8 @@ use Rattle.sec1_der.specs.Identifiers.{dotted}
 use Rattle.sec1_der.proofs.IdentifierLemmas.{goes_on, goes_on_from_spells, goes_lead, goes_small, goes_end, goes_more}
 use Rattle.sec1_der.proofs.DisplayLemmas.{text_more, text_first, text_next}
 use Rattle.sec1_der.proofs.object_identifier.ObjectIdentifierDisplay.fmt.Goals as goal
-use Rattle.sec1_der.proofs.object_identifier.ObjectIdentifierDisplay.fmt.Goals.{then-b-ge128, else-b-ge128+then-first+in_ok-write, else-b-ge128+else-first+in_ok-write-2}
+use Rattle.sec1_der.proofs.object_identifier.ObjectIdentifierDisplay.fmt.Goals.{then-b-ge128, else-b-ge128+then-first+in_ok-write}
+use Rattle.sec1_der.proofs.object_identifier.ObjectIdentifierDisplay.fmt.Goals.{else-b-ge128+else-first+in_ok-write-2}
 
 pub loop-b-init : goal.loop-b-init
 loop-b-init g c =
@@ -35,14 +36,20 @@ loop-b-preserved g c =
           let text = text_first high b a.0 a.1 behind w.if-b-ge128.false (λ ns. rw (← low) (w.first_arcs-arcs.ensures ns)) in
           rw (w.f-is, w.first-is, w.high-is) (record {
             goes = rw (← goes_end high b behind small w.if-b-ge128.false) goes;
-            shows = λ plain. let s = c.loop-b.invariant.shows plain in
-                (s.0 ++ (decimal a.0 ++ (46 ∷ decimal a.1)), has_written_append _ _ _ _ _ _ s.1 (search rules), rw (append_assoc, ← text) (rw (w.if-first.true, here) at s.2));
+            shows = λ plain. let s = c.loop-b.invariant.shows plain in (
+              s.0 ++ (decimal a.0 ++ (46 ∷ decimal a.1)),
+              has_written_append _ _ _ _ _ _ s.1 (search rules),
+              rw (append_assoc, ← text) (rw (w.if-first.true, here) at s.2),
+            );
           })
       | else-b-ge128+else-first+in_ok-write-2 w ↦
           let text = text_next high b behind w.if-b-ge128.false in
           rw (w.f-is, w.first-is, w.high-is, w.if-first.false) (record {
             goes = rw (← goes_end high b behind small w.if-b-ge128.false) goes;
-            shows = λ plain. let s = c.loop-b.invariant.shows plain in
-                (s.0 ++ (46 ∷ decimal (high * 128 + c.from.result)), has_written_append _ _ _ _ _ _ s.1 (search rules), rw (append_assoc, low, ← text) (rw (w.if-first.false, here) at s.2));
+            shows = λ plain. let s = c.loop-b.invariant.shows plain in (
+              s.0 ++ (46 ∷ decimal (high * 128 + c.from.result)),
+              has_written_append _ _ _ _ _ _ s.1 (search rules),
+              rw (append_assoc, low, ← text) (rw (w.if-first.false, here) at s.2),
+            );
           })
     ]

@@ -6,7 +6,8 @@ use Rattle.sec1_der.proofs.object_identifier.builder.Builder.add.Goals.{In_ok-wi
 two : (c : In_ok-with_number-in-One) → IsContentOf c.in_ok-with_number-in-One.field-0 (c.args.self ++ c.args.arc ∷ [])
 two c =
     let shared = rw c.in_ok-number-in-One.ensures.ok_part at c.shared_number.ensures.found in
-    let content = first_two c.in-One.first c.args.arc c.in_ok-number-in-One.number _ shared.1 shared.0 (c.in_ok-with_number-in-One.ensures.ok ∙ rw c.new.ensures) in
+    let is = c.in_ok-with_number-in-One.ensures.ok ∙ rw c.new.ensures in
+    let content = first_two c.in-One.first c.args.arc c.in_ok-number-in-One.number _ shared.1 shared.0 is in
     rw (← rw c.in-One.is at c.self.view_is) content
 
 more : (c : In_ok-with_number-in-Several) → IsContentOf c.in_ok-with_number-in-Several.field-0 (c.args.self ++ c.args.arc ∷ [])
