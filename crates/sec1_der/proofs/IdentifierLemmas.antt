@@ -175,8 +175,8 @@ stops_lead high content i l none lead = rw (drop_more content i 0 l) (grind (ari
 
 -- ---- the stored form
 
-pub take-padded : (content bytes : List ℕ) → bytes ≡ padded content → take (length content) bytes ≡ content
-take-padded content bytes e = rw e (take_at content (replicate (MAX_CONTENT - length content) 0) (length content) refl)
+pub take_padded : (content bytes : List ℕ) → bytes ≡ padded content → take (length content) bytes ≡ content
+take_padded content bytes e = rw e (take_at content (replicate (MAX_CONTENT - length content) 0) (length content) refl)
 
 -- ---- writing
 

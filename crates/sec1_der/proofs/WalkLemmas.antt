@@ -3,9 +3,9 @@ use Rattle.std.proofs.Common.{◌≡◌, ℕ, zero, suc, ◌<◌, List, ◌∷�
 use Rattle.std.proofs.lemmas.List.{get_or-set_same, get_or-set_other}
 use Rattle.sec1_der.specs.Walks.{open_ends}
 
-pub length-open_ends : (level : ℕ) (table : List ℕ) → length (open_ends level table) ≡ level
-length-open_ends zero table = refl
-length-open_ends (suc level) table = ap suc (length-open_ends level table)
+pub length_open_ends : (level : ℕ) (table : List ℕ) → length (open_ends level table) ≡ level
+length_open_ends zero table = refl
+length_open_ends (suc level) table = ap suc (length_open_ends level table)
 
 -- an end that is set further out is none of these
 pub open_ends-set : (level at end : ℕ) (table : List ℕ) → level < at → open_ends level (set table at end) ≡ open_ends level table
@@ -15,8 +15,8 @@ open_ends-set (suc level) at end table l =
     ap (λ x. x ∷ open_ends level (set table at end)) same ∙ ap (λ xs. get_or table (suc level) 0 ∷ xs) (open_ends-set level at end table (omega arith))
 
 -- the end of one more node is set
-pub open_ends-opened : (level end : ℕ) (table : List ℕ) → suc level < length table
+pub open_ends_opened : (level end : ℕ) (table : List ℕ) → suc level < length table
     → open_ends (suc level) (set table (suc level) end) ≡ end ∷ open_ends level table
-open_ends-opened level end table room =
+open_ends_opened level end table room =
     ap (λ x. x ∷ open_ends level (set table (suc level) end)) (get_or-set_same table (suc level) end 0 room)
     ∙ ap (λ xs. end ∷ xs) (open_ends-set level (suc level) end table (omega arith))

@@ -121,6 +121,7 @@ impl OpenNodes {
     /// # Errors
     ///
     /// Depth if that is level 64.
+    #[tactic(auto, using(crate::proofs::WalkLemmas::open_ends_opened, crate::proofs::WalkLemmas::length_open_ends))]
     fn open(&mut self, end: usize) -> Result<()>
         ensures opened { OnOk result ((length self.old < MAX_DEPTH - 1) × (self.new ≡ end ∷ self.old)) }
         ensures full { OnErr result (length self.old ≡ MAX_DEPTH - 1) }
