@@ -41,6 +41,7 @@ pub record IsAt (input ends rest : List ℕ) (count : ℕ) : Type 0 where
 
 -- ---- an element was entered
 
+-- a tree has bytes
 length-bytes : (t : Tree) → 0 < length (bytes t)
 length-bytes (leaf tag content) = omega arith
 length-bytes (branch tag children) = omega arith
@@ -63,6 +64,7 @@ record HasFirst (ends rest : List ℕ) (more : ℕ) : Type 0 where
   pub counts : suc more ≡ size tree + outer_count
   pub outside : Left ends tail outer_count
 
+-- an element without children is such a tree
 passed_first : (ends rest after : List ℕ) (more : ℕ) → length ends ≤ MAX_DEPTH - 1 → Passes ends rest after → Left ends after more → HasFirst ends rest more
 passed_first ends rest after more room p left = record {
   tree = p.tree;
@@ -75,6 +77,7 @@ passed_first ends rest after more room p left = record {
   outside = left;
 }
 
+-- so is a node, with the trees that end it
 opened_first : (ends rest after : List ℕ) (end more : ℕ) → Opens ends rest end after → Left (end ∷ ends) after more → HasFirst ends rest more
 opened_first ends rest after end more o left =
     let opening = o.opening in
@@ -91,6 +94,7 @@ opened_first ends rest after end more o left =
       outside = left.outside;
     }
 
+-- after an element the walk is at a state again
 entered : (input ends rest ends' after : List ℕ) (count : ℕ) → length ends ≤ MAX_DEPTH - 1 → count + length rest ≤ length input → Nested (length rest) ends
     → ((more : ℕ) → HasFirst ends rest more → IsCounted input (count + suc more)) → Enters ends rest ends' after → IsAt input ends' after (count + 1)
 entered input ends rest ends' after count room counted nested completed e =
@@ -124,6 +128,7 @@ started input [] ends rest empty e = entered input [] input ends rest 0 (omega a
   omega (arith, f.counts, f.outside.1),
 )) e
 
+-- the tree that stands first is one more of the innermost node
 with_first : (end : ℕ) (ends rest : List ℕ) (more : ℕ) → HasFirst (end ∷ ends) rest more → Left (end ∷ ends) rest (suc more)
 with_first end ends rest more f =
     let o = f.outside in
@@ -148,6 +153,7 @@ next_entered input (end ∷ ends) rest ends' after count some e a =
 
 -- ---- a node has ended
 
+-- a node has ended
 pub next_closed : (input ends ends' rest : List ℕ) (count : ℕ) → ends ≢ [] → ends' ≡ drop 1 ends → length rest ≡ innermost ends
     → IsAt input ends rest count → IsAt input ends' rest count
 next_closed input [] ends' rest count some is e a = absurd (some refl)
@@ -172,8 +178,9 @@ next_closed input (end ∷ ends) ends' rest count some is e a = rw is (record {
 
 -- how far the walk still is from its end
 abbrev pub measure : List ℕ → List ℕ → ℕ
-measure ends rest = 64 * length rest + length ends
+measure ends rest = 2 * length rest + length ends
 
+-- an element brings the end nearer
 pub shorter : (ends rest ends' after : List ℕ) → Enters ends rest ends' after → measure ends' after < measure ends rest
 shorter ends rest ends' after e = let less = after_shorter ends rest ends' after e in omega arith
 

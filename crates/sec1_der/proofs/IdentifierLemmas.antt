@@ -23,18 +23,21 @@ goes_on high (b ∷ bs) = cond (eqb high 0 && eqb b 128) false (cond (ltb high (
 abbrev pub AreSmall : List ℕ → Type 0
 AreSmall ns = AllByRecursion (λ n. n < 2 ^ 32) ns
 
+-- one more small number
 pub small_push : (ns : List ℕ) (n : ℕ) → AreSmall ns → n < 2 ^ 32 → AreSmall (ns ++ n ∷ [])
 small_push [] n s h = (h, tt)
 small_push (m ∷ ns) n s h = (s.0, small_push ns n s.1 h)
 
 -- ---- one byte
 
+-- a byte below 80 ends a number, any other goes on
 pub numbers_end : (high b : ℕ) (bs : List ℕ) → b < 128 → numbers_after high (b ∷ bs) ≡ (high * 128 + b % 128) ∷ numbers_after 0 bs
 numbers_end high b bs l = grind (arith, nat_tests)
 
 pub numbers_more : (high b : ℕ) (bs : List ℕ) → 128 ≤ b → numbers_after high (b ∷ bs) ≡ numbers_after (high * 128 + b % 128) bs
 numbers_more high b bs l = grind (arith, nat_tests)
 
+-- the same of the test
 pub goes_end : (high b : ℕ) (bs : List ℕ) → high < 2 ^ 25 → b < 128 → goes_on high (b ∷ bs) ≡ goes_on 0 bs
 goes_end high b bs small l = grind (arith, nat_tests)
 
@@ -50,10 +53,12 @@ goes_small high b bs e = grind (arith, nat_tests)
 
 -- ---- what goes on is spelled so
 
+-- behind the digits so far the bytes spell these numbers
 record IsSpelled (high : ℕ) (bs ns : List ℕ) : Type 0 where
   pub row : marked (digits_of 128 high) ++ bs ≡ flat_map base128 ns
   pub small : AreSmall ns
 
+-- a byte that ends a number, and one that goes on
 spelled_end : (high b : ℕ) (bs ns : List ℕ) → high < 2 ^ 25 → b < 128 → IsSpelled 0 bs ns → IsSpelled high (b ∷ bs) ((high * 128 + b % 128) ∷ ns)
 spelled_end high b bs ns small l s =
     let low : b % 128 ≡ b = omega arith in
@@ -67,6 +72,7 @@ spelled_more high b bs ns lead l byte s =
     let digits = digits_of-push 128 high (b % 128) (omega arith) (omega arith) some in
     record { row = rw (digits, map-append, mark, append_assoc) at s.row; small = s.small }
 
+-- bytes that pass the test spell the numbers that are read of them
 spelled_after : (high : ℕ) (bs : List ℕ) → IsBytes bs → goes_on high bs ≡ true → IsSpelled high bs (numbers_after high bs)
 spelled_after high [] h e = rw (eqb-true high 0 e) (record { row = refl; small = tt })
 spelled_after high (b ∷ bs) h e = ⊎_elim
@@ -93,6 +99,7 @@ marked_step n some = ap marked (digits_of_step 128 n (omega arith) some) ∙ map
 abbrev IsRead : ℕ → List ℕ → ℕ → List ℕ → Type 0
 IsRead high bs next rest = (numbers_after high bs ≡ numbers_after next rest) × (goes_on high bs ≡ goes_on next rest)
 
+-- one digit is read
 read_digit : (n : ℕ) (rest : List ℕ) → 0 < n → n < 2 ^ 32 → IsRead (n / 128) ((128 + n % 128) ∷ rest) n rest
 read_digit n rest some small =
     let whole : n / 128 * 128 + (128 + n % 128) % 128 ≡ n = omega arith in (
@@ -100,6 +107,7 @@ read_digit n rest some small =
       goes_more (n / 128) (128 + n % 128) rest (λ p q. omega arith) (omega arith) (omega arith) ∙ ap (λ m. goes_on m rest) whole,
     )
 
+-- all digits but the last are read
 read_marked : (most n : ℕ) (rest : List ℕ) → n ≤ most → n < 2 ^ 32 → IsRead 0 (marked (digits_of 128 n) ++ rest) n rest
 read_marked most zero rest l small = (refl, refl)
 read_marked zero (suc n) rest l small = absurd (omega arith)
@@ -109,6 +117,7 @@ read_marked (suc most) (suc n) rest l small =
     let last = read_digit (suc n) rest (omega arith) small in
     rw (marked_step (suc n) (omega arith), append_assoc) (front.0 ∙ last.0, front.1 ∙ last.1)
 
+-- a number is read
 read_one : (n : ℕ) (rest : List ℕ) → n < 2 ^ 32
     → (numbers_after 0 (base128 n ++ rest) ≡ n ∷ numbers_after 0 rest) × (goes_on 0 (base128 n ++ rest) ≡ goes_on 0 rest)
 read_one n rest small =
@@ -119,6 +128,7 @@ read_one n rest small =
       front.1 ∙ goes_end (n / 128) (n % 128) rest (omega arith) (omega arith),
     )
 
+-- the numbers that are spelled are read
 read_all : (ns : List ℕ) → AreSmall ns → (numbers_after 0 (flat_map base128 ns) ≡ ns) × (goes_on 0 (flat_map base128 ns) ≡ true)
 read_all [] small = (refl, refl)
 read_all (n ∷ ns) small =
@@ -128,17 +138,21 @@ read_all (n ∷ ns) small =
 
 -- ---- arcs
 
+-- two arcs are those of the number that they share
 two_arcs_again : (a b : ℕ) (cs : List ℕ) → a ≤ 2 → (a < 2 → b < 40) → arcs_of_numbers ((40 * a + b) ∷ cs) ≡ a ∷ b ∷ cs
 two_arcs_again a b cs h l = grind (arith, nat_tests)
 
+-- arcs are those of their numbers
 arcs_again : (arcs : List ℕ) → AreArcs arcs → (arcs_of_numbers (subidentifiers arcs) ≡ arcs) × AreSmall (subidentifiers arcs)
 arcs_again [] h = absurd h
 arcs_again (a ∷ []) h = absurd h
 arcs_again (a ∷ b ∷ cs) h = (two_arcs_again a b cs h.0 h.1, (h.2, h.3))
 
+-- small numbers are those of arcs
 allowed_arcs : (s : ℕ) (ns : List ℕ) → s < 2 ^ 32 → AreSmall ns → AreArcs (arcs_of_numbers (s ∷ ns))
 allowed_arcs s ns small all = grind (arith, nat_tests)
 
+-- numbers are those of their arcs
 numbers_again : (s : ℕ) (ns : List ℕ) → subidentifiers (arcs_of_numbers (s ∷ ns)) ≡ s ∷ ns
 numbers_again s ns = grind (arith, nat_tests)
 
@@ -159,10 +173,12 @@ goes_on_from_spells arcs content s =
     let read = read_all (subidentifiers arcs) again.1 in
     rw s.spelled (read.1, ap arcs_of_numbers read.0 ∙ again.0)
 
+-- the test decides whether bytes spell arcs
 pub goes_on-decides : (content : List ℕ) → IsBytes content → 0 < length content → (goes_on 0 content ≡ true) ↔ ((arcs : List ℕ) × Spells arcs content)
 goes_on-decides content h some =
     (λ e. (arcs_of content, spells_from_goes_on content h some e), λ s. (goes_on_from_spells s.0 content s.1).0)
 
+-- bytes that fail the test spell none
 pub not_spelled : (content : List ℕ) → goes_on 0 content ≡ false → (false ≡ true) ↔ ((arcs : List ℕ) × Spells arcs content)
 not_spelled content e = (λ h. absurd (false≢true h), λ s. sym e ∙ (goes_on_from_spells s.0 content s.1).0)
 
@@ -175,11 +191,13 @@ stops_lead high content i l none lead = rw (drop_more content i 0 l) (grind (ari
 
 -- ---- the stored form
 
+-- the content stands in front
 pub take_padded : (content bytes : List ℕ) → bytes ≡ padded content → take (length content) bytes ≡ content
 take_padded content bytes e = rw e (take_at content (replicate (MAX_CONTENT - length content) 0) (length content) refl)
 
 -- ---- writing
 
+-- one digit more than the high ones
 pub marked_step_length : (n : ℕ) → 0 < n → length (marked (digits_of 128 n)) ≡ length (marked (digits_of 128 (n / 128))) + 1
 marked_step_length n some = ap length (marked_step n some) ∙ length-append (marked (digits_of 128 (n / 128))) ((128 + n % 128) ∷ [])
 
@@ -194,6 +212,7 @@ pub record IsContentOf (content arcs : List ℕ) : Type 0 where
   pub arcs_are : arcs_of content ≡ arcs
   pub spells : Spells (arcs_of content) content
 
+-- a content of arcs is that of its own
 content_of_arcs : (arcs content : List ℕ) → Spells arcs content → IsContentOf content arcs
 content_of_arcs arcs content s =
     let same = (goes_on_from_spells arcs content s).1 in

@@ -23,17 +23,21 @@ use Rattle.sec1_der.proofs.RefusalLemmas.{any_at, any_lacks, any_short}
 abbrev deep_fault : ℕ → Option ErrorKind
 deep_fault level = if nat_lt MAX_DEPTH level then Some Depth else None
 
+-- of two levels the deeper one counts
 deep_or : (a b : ℕ) → option_or (deep_fault a) (deep_fault b) ≡ deep_fault (max a b)
 deep_or a b = grind (arith, nat_tests)
 
+-- the content of a leaf is not refused
 leaf_passes : (f : Fault) (tag : ℕ) (content : List ℕ) → ¬ IsConstructed tag → nested_fault f tag content ≡ None
 leaf_passes f tag content plain = ⊎_elim (λ e. rw (eq-eqb (bit_and tag 0x20) 0 e) refl) (λ set. absurd (plain set)) (cases_eq (bit_and tag 0x20) 0)
 
+-- a row with bytes begins with an element
 row_next : (most level : ℕ) (bs : List ℕ) → 0 < length bs → row_fault (suc most) level bs ≡
     (if nat_lt MAX_DEPTH level then Some Depth else any_fault (nested_fault (row_fault most (level + 1))) (row_fault most level) bs)
 row_next most level [] some = absurd (omega arith)
 row_next most level (b ∷ bs) some = refl
 
+-- a tree has bytes, and a level
 some_bytes : (t : Tree) → (0 < length (bytes t)) × (0 < depth t)
 some_bytes (leaf tag content) = (omega arith, omega arith)
 some_bytes (branch tag children) = (omega arith, omega arith)
@@ -68,6 +72,7 @@ mutual
       (λ l. rw (lt-ltb MAX_DEPTH (above + 1) (omega arith), lt-ltb MAX_DEPTH (above + max (depth t) (max_depth f)) (omega arith)) refl)
       (cases_lt above MAX_DEPTH)
 
+-- the fault of a tree and of what stands behind it
 tree_faults : (t : Tree) (input rest : List ℕ) → IsTree t → input ≡ bytes t ++ rest → tree_fault input ≡ option_or (deep_fault (depth t)) (end_fault rest)
 tree_faults t input rest is e =
     tree_at t (length input) 0 end_fault input rest is e (omega (arith, ap length e, length-append (bytes t) rest)) (omega arith)

@@ -3,6 +3,7 @@ use Rattle.std.proofs.Common.{◌≡◌, ℕ, zero, suc, ◌<◌, List, ◌∷�
 use Rattle.std.proofs.lemmas.List.{get_or-set_same, get_or-set_other}
 use Rattle.sec1_der.specs.Walks.{open_ends}
 
+-- there are as many ends as levels
 pub length_open_ends : (level : ℕ) (table : List ℕ) → length (open_ends level table) ≡ level
 length_open_ends zero table = refl
 length_open_ends (suc level) table = ap suc (length_open_ends level table)
