@@ -2,9 +2,10 @@
 use Rattle.std.proofs.Common.{◌≡◌, ◌≢◌, ℕ, suc, ◌+◌, ◌-◌, ◌*◌, ◌<◌, ◌≤◌, List, [], ◌∷◌, ◌++◌, length, drop, refl, ap, sym, ◌∙◌, subst, arith, ⊎_elim}
 use Rattle.std.proofs.lemmas.List.{append_assoc, append-nil, length-append}
 use Rattle.sec1_der.specs.Elements.{header}
-use Rattle.sec1_der.specs.Trees.{Tree, leaf, branch, Forest, none, first, bytes, joined, IsTree, AreTrees, IsTreeOf, size, total_size, depth, max_depth}
+use Rattle.sec1_der.specs.Trees.{Tree, branch, Forest, none, first, bytes, joined, IsTree, AreTrees, IsTreeOf, size, total_size, depth, max_depth}
 use Rattle.sec1_der.specs.Walks.{innermost, Passes, Opens, Enters}
 use Rattle.sec1_der.specs.declared.tree.TheConstants.{MAX_DEPTH}
+use Rattle.sec1_der.proofs.TreeLemmas.{some_bytes}
 
 -- the input is a tree of so many elements
 abbrev pub IsCounted : List ℕ → ℕ → Type 0
@@ -41,15 +42,10 @@ pub record IsAt (input ends rest : List ℕ) (count : ℕ) : Type 0 where
 
 -- ---- an element was entered
 
--- a tree has bytes
-length-bytes : (t : Tree) → 0 < length (bytes t)
-length-bytes (leaf tag content) = omega arith
-length-bytes (branch tag children) = omega arith
-
 -- fewer bytes are left, and at most one more node is open
 after_shorter : (ends rest ends' after : List ℕ) → Enters ends rest ends' after → (length after < length rest) × (length ends' ≤ suc (length ends))
 after_shorter ends rest ends' after e = ⊎_elim
-    (λ p. (omega (arith, ap length p.0.row, length-append (bytes p.0.tree) after, length-bytes p.0.tree), omega (arith, ap length p.1)))
+    (λ p. (omega (arith, ap length p.0.row, length-append (bytes p.0.tree) after, some_bytes p.0.tree), omega (arith, ap length p.1)))
     (λ o. (omega (arith, ap length o.1.opening.row, length-append (header o.1.tag o.1.n) after), omega (arith, ap length o.2)))
     e
 
@@ -161,17 +157,10 @@ next_closed input (end ∷ ends) ends' rest count some is e a = rw is (record {
   room = omega (arith, a.room);
   counted = a.counted;
   nested = rw e a.nested.1;
-  completed = λ more left. a.completed more (record {
-    children = none;
-    tail = rest;
-    outer_count = more;
-    trees = tt;
-    shallow = omega (arith, a.room);
-    row = refl;
-    ends = e;
-    counts = omega arith;
-    outside = left;
-  });
+  completed = λ more left.
+      let room = a.room in
+      a.completed more
+      (record { children = none; tail = rest; outer_count = more; trees = tt; shallow = omega arith; row = refl; ends = e; counts = omega arith; outside = left });
 })
 
 -- ---- the end comes nearer

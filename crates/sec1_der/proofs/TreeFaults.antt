@@ -13,7 +13,7 @@ use Rattle.sec1_der.specs.declared.error.Error.{Error}
 use Rattle.sec1_der.specs.declared.error.ErrorKind.{ErrorKind}
 use Rattle.sec1_der.specs.declared.error.ErrorKind.TheVariants.{Truncated, Depth}
 use Rattle.sec1_der.specs.declared.tree.TheConstants.{MAX_DEPTH}
-use Rattle.sec1_der.proofs.TreeLemmas.{tree_apart}
+use Rattle.sec1_der.proofs.TreeLemmas.{some_bytes, tree_apart}
 use Rattle.sec1_der.proofs.CheckLemmas.{IsCounted}
 use Rattle.sec1_der.proofs.DigitLemmas.{IsBytes}
 use Rattle.sec1_der.proofs.HeaderLemmas.{longer, header_front, header_apart, some_length}
@@ -36,11 +36,6 @@ row_next : (most level : ℕ) (bs : List ℕ) → 0 < length bs → row_fault (s
     (if nat_lt MAX_DEPTH level then Some Depth else any_fault (nested_fault (row_fault most (level + 1))) (row_fault most level) bs)
 row_next most level [] some = absurd (omega arith)
 row_next most level (b ∷ bs) some = refl
-
--- a tree has bytes, and a level
-some_bytes : (t : Tree) → (0 < length (bytes t)) × (0 < depth t)
-some_bytes (leaf tag content) = (omega arith, omega arith)
-some_bytes (branch tag children) = (omega arith, omega arith)
 
 mutual
   -- a tree below so many levels, and what stands behind it
