@@ -159,8 +159,17 @@ next_closed input (end ∷ ends) ends' rest count some is e a = rw is (record {
   nested = rw e a.nested.1;
   completed = λ more left.
       let room = a.room in
-      a.completed more
-      (record { children = none; tail = rest; outer_count = more; trees = tt; shallow = omega arith; row = refl; ends = e; counts = omega arith; outside = left });
+      a.completed more (record {
+        children = none;
+        tail = rest;
+        outer_count = more;
+        trees = tt;
+        shallow = omega arith;
+        row = refl;
+        ends = e;
+        counts = omega arith;
+        outside = left;
+      });
 })
 
 -- ---- the end comes nearer
