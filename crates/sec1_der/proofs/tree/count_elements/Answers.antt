@@ -30,15 +30,15 @@ returns-clause-found c = tree_read c.args.input.now c.loop-nodes.nodes c.loop-no
 
 pub returns-in_err-rest-clause-kind : goal.returns-in_err-rest-clause-kind
 returns-in_err-rest-clause-kind c =
-    let told = walk_unstarted c.args.input.now c.new-nodes.result c.in_err-rest.field-0.0.kind c.new-nodes.ensures c.in_err-rest.ensures.deep
+    let fault = walk_unstarted c.args.input.now c.new-nodes.result c.in_err-rest.field-0.0.kind c.new-nodes.ensures c.in_err-rest.ensures.deep
     c.in_err-rest.ensures.refusal in
     let refusal = err_from_is_err_and c.from_residual.result c.from_residual.ensures.1 in
-    rw (refusal.1, refusal.2) told
+    rw (refusal.1, refusal.2) fault
 
 pub returns-in_err-rest-2-clause-kind : goal.returns-in_err-rest-2-clause-kind
 returns-in_err-rest-2-clause-kind c =
     let apart = λ (same : length c.loop-nodes.rest.now ≡ innermost c.loop-nodes.nodes). c.if-rest-end.false (same ∙ sym c.end.ensures) in
-    let told = walk_refused c.args.input.now c.loop-nodes.nodes c.loop-nodes.rest.now c.loop-nodes.count c.in_err-rest-2.field-0.0.kind
+    let fault = walk_refused c.args.input.now c.loop-nodes.nodes c.loop-nodes.rest.now c.loop-nodes.count c.in_err-rest-2.field-0.0.kind
     (λ empty. false≢true (c.loop-nodes-test.ensures.1 empty)) apart c.loop-nodes.invariant c.in_err-rest-2.ensures.deep c.in_err-rest-2.ensures.refusal in
     let refusal = err_from_is_err_and c.from_residual-in_err-rest-2.result c.from_residual-in_err-rest-2.ensures.1 in
-    rw (refusal.1, refusal.2) told
+    rw (refusal.1, refusal.2) fault
