@@ -62,16 +62,9 @@ record HasFirst (ends rest : List ℕ) (more : ℕ) : Type 0 where
 
 -- an element without children is such a tree
 passed_first : (ends rest after : List ℕ) (more : ℕ) → length ends ≤ MAX_DEPTH - 1 → Passes ends rest after → Left ends after more → HasFirst ends rest more
-passed_first ends rest after more room p left = record {
-  tree = p.tree;
-  tail = after;
-  outer_count = more;
-  is = p.single.tree;
-  row = p.row;
-  shallow = omega (arith, p.single.shallow);
-  counts = omega (arith, p.single.alone);
-  outside = left;
-}
+passed_first ends rest after more room p left =
+    let single = p.single in
+    record { tree = p.tree; tail = after; outer_count = more; is = single.tree; row = p.row; shallow = omega arith; counts = omega arith; outside = left }
 
 -- so is a node, with the trees that end it
 opened_first : (ends rest after : List ℕ) (end more : ℕ) → Opens ends rest end after → Left (end ∷ ends) after more → HasFirst ends rest more
@@ -157,20 +150,13 @@ next_closed input (end ∷ ends) ends' rest count some is e a = rw is (record {
   room = omega (arith, a.room);
   counted = a.counted;
   nested = rw e a.nested.1;
-  completed = λ more left.
-      let room = a.room in
-      a.completed more (record {
-        children = none;
-        tail = rest;
-        outer_count = more;
-        trees = tt;
-        shallow = omega arith;
-        row = refl;
-        ends = e;
-        counts = omega arith;
-        outside = left;
-      });
+  completed = λ more left. a.completed more (none_left more left);
 })
+  where
+    none_left : (more : ℕ) → Left ends rest more → Left (end ∷ ends) rest more
+    none_left more left =
+        let room = a.room in
+        record { children = none; tail = rest; outer_count = more; trees = tt; shallow = omega arith; row = refl; ends = e; counts = omega arith; outside = left }
 
 -- ---- the end comes nearer
 

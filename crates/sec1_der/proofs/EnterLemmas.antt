@@ -40,17 +40,11 @@ pub opens_at : {rest inside : List ℕ} {tag n end : ℕ} (ends : List ℕ) (m :
     → 0 < n → IsConstructed tag
     → Opens ends rest (end + length inside - m) (take (length rest - (length rest - end - length inside)) (drop (length rest - end - length inside) rest))
 opens_at {rest = rest} {inside = inside} {tag = tag} {n = n} {end = end} ends m f is same some constructed =
+    let behind : end + length inside - m + n ≡ length (inside ++ f.behind) = omega (arith, f.ends, f.room, length-append inside f.behind) in
     rw (from_start rest (header tag n) (inside ++ f.behind) (length rest - end - length inside) f.row (omega (arith, f.lengths))) (record {
       tag = tag;
       n = n;
-      opening = record {
-        tag_byte = f.fits.tag_byte;
-        constructed = constructed;
-        some = some;
-        within = f.fits.within;
-        row = f.row;
-        ends = omega (arith, f.ends, f.room, length-append inside f.behind);
-      };
+      opening = record { tag_byte = f.fits.tag_byte; constructed = constructed; some = some; within = f.fits.within; row = f.row; ends = behind };
       fits = omega (arith, f.room);
     })
 

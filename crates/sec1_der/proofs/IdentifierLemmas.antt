@@ -158,14 +158,6 @@ numbers_again s ns = grind (arith, nat_tests)
 
 -- ---- contents
 
--- a content that goes on is that of its arcs
-spells_from_goes_on : (content : List ℕ) → IsBytes content → 0 < length content → goes_on 0 content ≡ true → Spells (arcs_of content) content
-spells_from_goes_on content h some e = by (numbers_after 0 content) (spelled_after 0 content h e)
-  where
-    by : (ns : List ℕ) → IsSpelled 0 content ns → Spells (arcs_of_numbers ns) content
-    by [] s = absurd (omega (arith, ap length s.row))
-    by (n ∷ ns) s = record { allowed = allowed_arcs n ns s.small.0 s.small.1; spelled = s.row ∙ ap (flat_map base128) (sym (numbers_again n ns)) }
-
 -- a content of arcs goes on, and the arcs are its own
 pub goes_on_from_spells : (arcs content : List ℕ) → Spells arcs content → (goes_on 0 content ≡ true) × (arcs_of content ≡ arcs)
 goes_on_from_spells arcs content s =
@@ -176,7 +168,11 @@ goes_on_from_spells arcs content s =
 -- the test decides whether bytes spell arcs
 pub goes_on-decides : (content : List ℕ) → IsBytes content → 0 < length content → (goes_on 0 content ≡ true) ↔ ((arcs : List ℕ) × Spells arcs content)
 goes_on-decides content h some =
-    (λ e. (arcs_of content, spells_from_goes_on content h some e), λ s. (goes_on_from_spells s.0 content s.1).0)
+    (λ e. (arcs_of content, by (numbers_after 0 content) (spelled_after 0 content h e)), λ s. (goes_on_from_spells s.0 content s.1).0)
+  where
+    by : (ns : List ℕ) → IsSpelled 0 content ns → Spells (arcs_of_numbers ns) content
+    by [] s = absurd (omega (arith, ap length s.row))
+    by (n ∷ ns) s = record { allowed = allowed_arcs n ns s.small.0 s.small.1; spelled = s.row ∙ ap (flat_map base128) (sym (numbers_again n ns)) }
 
 -- bytes that fail the test spell none
 pub not_spelled : (content : List ℕ) → goes_on 0 content ≡ false → (false ≡ true) ↔ ((arcs : List ℕ) × Spells arcs content)
