@@ -153,10 +153,10 @@ next_closed input (end ∷ ends) ends' rest count some is e a = rw is (record {
   completed = λ more left. a.completed more (none_left more left);
 })
   where
-    none_left : (more : ℕ) → Left ends rest more → Left (end ∷ ends) rest more
-    none_left more left =
+    none_left : (n : ℕ) → Left ends rest n → Left (end ∷ ends) rest n
+    none_left n left =
         let room = a.room in
-        record { children = none; tail = rest; outer_count = more; trees = tt; shallow = omega arith; row = refl; ends = e; counts = omega arith; outside = left }
+        record { children = none; tail = rest; outer_count = n; trees = tt; shallow = omega arith; row = refl; ends = e; counts = omega arith; outside = left }
 
 -- ---- the end comes nearer
 
