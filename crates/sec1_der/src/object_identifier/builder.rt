@@ -18,7 +18,7 @@ pub(crate) struct Builder {
 /// The arcs that were added.
 #[derive(Drop)]
 enum Arcs {
-    None,
+    Empty,
     /// The first, until the second is added, which shares a number with it.
     One(u32),
     /// Two or more, by their content.
@@ -40,7 +40,7 @@ impl Builder {
     pub(crate) fn new() -> Builder
         ensures { result ≡ [] }
     {
-        Builder { arcs: Arcs::None }
+        Builder { arcs: Arcs::Empty }
     }
 
     /// Appends an arc.
@@ -55,7 +55,7 @@ impl Builder {
         ensures kind { IfErr result (λ e. e.kind ≡ ErrorKind.Value) }
     {
         match self.arcs {
-            Arcs::None => Ok(Builder {
+            Arcs::Empty => Ok(Builder {
                 arcs: Arcs::One(arc),
             }),
             Arcs::One(first) => {
@@ -77,7 +77,7 @@ impl Builder {
     {
         match &self.arcs {
             Arcs::Several(content) => Some(content.as_bytes()),
-            _ => None,
+            Arcs::Empty | Arcs::One(_) => None,
         }
     }
 }
