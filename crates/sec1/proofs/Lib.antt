@@ -1,10 +1,11 @@
-pub mod KeyTrees
 pub mod KeyLemmas
+pub mod KeyTreeLemmas
 pub mod ReadLemmas
-pub mod Digits
+pub mod DigitLemmas
 pub mod PointLemmas
-pub mod Comparisons
-pub mod Buffers
+pub mod PointOrderLemmas
+pub mod ByteOrderLemmas
+pub mod EncodedPointLemmas
 pub mod HexLemmas
 pub mod WriteLemmas
-pub mod Firsts
+pub mod CoordinateLemmas

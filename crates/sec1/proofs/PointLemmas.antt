@@ -10,7 +10,7 @@ use Rattle.sec1.specs.Points.{Point, identity, compact, compressed, uncompressed
 use Rattle.sec1.specs.Tags.{byte_of, tag_of, message_len, is_hybrid}
 use Rattle.sec1.specs.declared.point.tag.Tag.{Tag}
 use Rattle.sec1.specs.declared.point.tag.Tag.TheVariants as tags
-use Rattle.sec1.proofs.Digits.{IsBytes-nil, IsBytes-cons, IsBytes-tail, IsBytes-append, IsBytes-take, IsBytes-drop, length-fixed_width, IsBytes-fixed_width, num-below, num-fixed_width, fixed_width-num, parity_of_last}
+use Rattle.sec1.proofs.DigitLemmas.{IsBytes-nil, IsBytes-cons, IsBytes-tail, IsBytes-append, IsBytes-take, IsBytes-drop, length-fixed_width, IsBytes-fixed_width, num-below, num-fixed_width, fixed_width-num, parity_of_last}
 
 -- ---- tags
 

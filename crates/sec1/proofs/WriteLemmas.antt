@@ -10,7 +10,7 @@ use Rattle.sec1_der.specs.Identifiers.{IsIdentifier, content_of, identifier_cont
 use Rattle.sec1_der.specs.IdentifierLaws.{identifier_content-tells, identifier_content-holds}
 use Rattle.sec1.specs.Keys.{Key, parameters_field, public_key_field, NameCurve, HasRoom, bytes_of, fields_of, IsKeyOf, HasNoBytes, HasBytesWith, IsContentOf, key_content}
 use Rattle.sec1.proofs.KeyLemmas.{field_bytes, fields_parts}
-use Rattle.sec1.proofs.KeyTrees.{private_key_fits, public_key_fits, fields_are_trees, sequence}
+use Rattle.sec1.proofs.KeyTreeLemmas.{private_key_fits, public_key_fits, fields_are_trees, sequence}
 
 abbrev parameters_piece : Option (List ℕ) → Option (List ℕ)
 parameters_piece parameters = field_of 0 0x06 (option_map identifier_content parameters)

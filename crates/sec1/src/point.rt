@@ -254,7 +254,7 @@ impl<const N: usize, const L: usize> EncodedPoint<N, L> {
     }
 
     /// Borrows the x-coordinate; `None` for the identity.
-    #[tactic(auto, using(crate::proofs::Firsts::lent_whole))]
+    #[tactic(auto, using(crate::proofs::CoordinateLemmas::lent_whole))]
     pub fn x(&self) -> Option<&[u8; N]>
         ensures number { option_map (λ x. num x.now) result ≡ x_of (point_of self.now) }
         ensures len { IfSome result (λ x. length x.now ≡ N) }
@@ -269,7 +269,7 @@ impl<const N: usize, const L: usize> EncodedPoint<N, L> {
     }
 
     /// Borrows the y-coordinate, if the point is uncompressed or hybrid.
-    #[tactic(auto, using(crate::proofs::Firsts::lent_whole))]
+    #[tactic(auto, using(crate::proofs::CoordinateLemmas::lent_whole))]
     pub fn y(&self) -> Option<&[u8; N]>
         ensures number { option_map (λ y. num y.now) result ≡ y_of (point_of self.now) }
         ensures len { IfSome result (λ y. length y.now ≡ N) }

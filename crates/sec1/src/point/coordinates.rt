@@ -24,7 +24,7 @@ pub enum Coordinates<'a, const N: usize> {
 
 impl<const N: usize> Coordinates<'_, N> {
     /// Returns the tag of the encoding.
-    #[tactic(auto, using(crate::proofs::Firsts::lent_parity, crate::proofs::Firsts::lent_none))]
+    #[tactic(auto, using(crate::proofs::CoordinateLemmas::lent_parity, crate::proofs::CoordinateLemmas::lent_none))]
     pub fn tag(&self) -> Tag
         ensures { result ≡ tag_of (lent_point self.now) }
     {
@@ -56,7 +56,7 @@ struct Coordinate<'a, const N: usize>(&'a [u8; N]);
 
 impl<const N: usize> Coordinate<'_, N> {
     /// Returns `true` if the bytes are the same.
-    #[tactic(auto, using(crate::proofs::Firsts::first_none, crate::proofs::Firsts::first_more, crate::proofs::Firsts::first_same, crate::proofs::Firsts::first_apart))]
+    #[tactic(auto, using(crate::proofs::CoordinateLemmas::first_none, crate::proofs::CoordinateLemmas::first_more, crate::proofs::CoordinateLemmas::first_same, crate::proofs::CoordinateLemmas::first_apart))]
     fn is(self, other: Self) -> bool
         ensures { result ≡ bytes_eq (first_bytes N self.entry.0.now) (first_bytes N other.entry.0.now) }
     {
@@ -82,14 +82,15 @@ impl<const N: usize> fmt::Debug for Coordinate<'_, N> {
 
 /// Two are equal if the variant, the flag and each byte are the same.
 impl<const N: usize> PartialEq for Coordinates<'_, N> {
-    ghost use Rattle.sec1.specs.Coordinates.{same_parts, same_parts_equiv};
+    ghost use Rattle.sec1.specs.Coordinates.{same_parts};
+    ghost use Rattle.sec1.specs.CoordinateLaws.{same_parts_equiv};
     ghost use Rattle.std.specs.Cmp.{partial_equiv_from_equiv};
 
     ghost eq = { same_parts };
 
     ghost laws = { partial_equiv_from_equiv same_parts_equiv };
 
-    #[tactic(auto, using(crate::proofs::Firsts::eq_first))]
+    #[tactic(auto, using(crate::proofs::CoordinateLemmas::eq_first))]
     fn eq(&self, other: &Self) -> bool {
         match (*self, *other) {
             (Coordinates::Identity, Coordinates::Identity) => true,
@@ -123,7 +124,7 @@ impl<const N: usize> PartialEq for Coordinates<'_, N> {
 }
 
 impl<const N: usize> Eq for Coordinates<'_, N> {
-    ghost use Rattle.sec1.specs.Coordinates.{same_parts_equiv};
+    ghost use Rattle.sec1.specs.CoordinateLaws.{same_parts_equiv};
 
     ghost laws = { same_parts_equiv };
 }

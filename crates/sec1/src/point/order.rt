@@ -6,7 +6,8 @@ ghost use Rattle.std.specs.Cmp.Lexicographic.{slice_cmp};
 ghost use Rattle.std.specs.Ordering.{nat_cmp};
 ghost use Rattle.sec1.specs.EncodedPoints.{point_of};
 ghost use Rattle.sec1.specs.Points.{enc};
-ghost use Rattle.sec1.specs.PointOrder.{point_cmp, point_cmp_total, same_point, same_point_equiv, IsBelow};
+ghost use Rattle.sec1.specs.PointOrder.{point_cmp, same_point, IsBelow};
+ghost use Rattle.sec1.specs.PointOrderLaws.{point_cmp_total, same_point_equiv};
 
 use super::EncodedPoint;
 use std::cmp::Ordering;
@@ -92,7 +93,7 @@ impl<const N: usize, const L: usize> Hash for EncodedPoint<N, L> {
     ghost use Rattle.std.proofs.Common.{ap};
     ghost use Rattle.std.specs.Hash as fed;
     ghost use Rattle.sec1.specs.Points.{Point};
-    ghost use Rattle.sec1.specs.PointOrder.{same_point-true};
+    ghost use Rattle.sec1.specs.PointOrderLaws.{same_point-true};
 
     // What the slice of the encoding feeds.
     ghost hash_input = { λ p. fed.slice fed.u8 (enc N (point_of p)) };

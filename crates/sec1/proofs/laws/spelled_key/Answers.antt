@@ -4,7 +4,7 @@ use Rattle.sec1_der.specs.IdentifierLaws.{is_identifier-tells}
 use Rattle.sec1_der.specs.Trees.{IsTreeOf}
 use Rattle.sec1.specs.Examples.{p_256_key, p_256_bytes}
 use Rattle.sec1.specs.Keys.{key_tree, NameCurve, HasRoom}
-use Rattle.sec1.proofs.KeyTrees.{fields_are_trees, sequence}
+use Rattle.sec1.proofs.KeyTreeLemmas.{fields_are_trees, sequence}
 use Rattle.sec1.proofs.laws.spelled_key.Goals as goal
 
 curve : NameCurve p_256_key.parameters

@@ -4,9 +4,9 @@ use Rattle.sec1.specs.EncodedPoints.{point_of}
 use Rattle.sec1.specs.Tags.{byte_of}
 use Rattle.sec1.specs.declared.point.tag.Tag.{Tag}
 use Rattle.sec1.specs.declared.point.tag.Tag.TheVariants as tags
-use Rattle.sec1.proofs.Buffers.{made_of_halves}
+use Rattle.sec1.proofs.EncodedPointLemmas.{made_of_halves}
 use Rattle.sec1.specs.Coordinates.{lent_number}
-use Rattle.sec1.proofs.Firsts.{lent_whole}
+use Rattle.sec1.proofs.CoordinateLemmas.{lent_whole}
 use Rattle.sec1.proofs.point.EncodedPoint.coordinates.Goals as goal
 use Rattle.sec1.proofs.point.EncodedPoint.coordinates.Goals.{After-tag}
 
@@ -14,9 +14,8 @@ use Rattle.sec1.proofs.point.EncodedPoint.coordinates.Goals.{After-tag}
 made : (g : _) (c : After-tag g) (tag : Tag) → tag ≡ c.tag.result
     → point_from (byte_of tag) (lent_number g.row.N c.halves.result.0.now) (lent_number g.row.N c.halves.result.1.now) ≡ point_of c.args.self.now
 made g c tag e =
-    let self = c.args.self.now in
-    rw (lent_whole g.row.N c.halves.result.0.now c.halves.ensures.x_len, lent_whole g.row.N c.halves.result.1.now c.halves.ensures.y_len)
-    (made_of_halves g.row.N self.len self.bytes self.encoded c.halves.result.0.now c.halves.result.1.now tag (e ∙ c.tag.ensures.point) c.halves.ensures.x c.halves.ensures.y)
+    rw (lent_whole g.row.N c.halves.result.0.now c.halves.ensures.x_len, lent_whole g.row.N c.halves.result.1.now c.halves.ensures.y_len, e, c.tag.ensures.point)
+    (made_of_halves c.args.self.now c.halves.result.0.now c.halves.result.1.now c.halves.ensures.x c.halves.ensures.y)
 
 pub returns-in-CompressedEvenY-clause-point : goal.returns-in-CompressedEvenY-clause-point
 returns-in-CompressedEvenY-clause-point g c = made g (goal.at.returns-in-CompressedEvenY-clause-point g c).After-tag tags.CompressedEvenY (sym c.in-CompressedEvenY.is)

@@ -2,7 +2,7 @@ use Rattle.std.proofs.Common.{◌∙◌, ◌≡◌, ◌++◌, arith, length, tak
 use Rattle.std.proofs.lemmas.List.{take_at}
 use Rattle.sec1_der.specs.Elements.{IsProperBeginning}
 use Rattle.sec1.specs.Points.{enc, meaning}
-use Rattle.sec1.proofs.Buffers.{means}
+use Rattle.sec1.proofs.EncodedPointLemmas.{holds}
 use Rattle.sec1.proofs.PointLemmas.{length-enc-le, encoding_spelled, meaning-fits, no_beginning}
 use Rattle.sec1.proofs.point.EncodedPoint.from_bytes.Goals as goal
 use Rattle.sec1.proofs.point.EncodedPoint.from_bytes.Goals.{After-copy_from_slice, After-is_encoding}
@@ -36,7 +36,7 @@ returns g c =
             meaning-fits g.row.N c.args.input.now (λ i. omega (arith, c.type_inv.input i)),
             sym (encoding_spelled g.row.N c.args.input.now e),
           );
-      only = λ p _ fits spelled. ap (meaning g.row.N) (front g (goal.at.returns g c).After-copy_from_slice) ∙ means g.row.N c.args.input.now p fits spelled;
+      only = λ p _ fits spelled. ap (meaning g.row.N) (front g (goal.at.returns g c).After-copy_from_slice) ∙ (holds g.row.N c.args.input.now p fits spelled).means;
       kind = tt;
       begins_none = λ other _ begins. no_beginning g.row.N e.of other (subst (λ xs. IsProperBeginning xs (enc g.row.N other)) e.spelled begins);
       begun_by_none = λ other _ begun. no_beginning g.row.N other e.of (subst (IsProperBeginning (enc g.row.N other)) e.spelled begun);

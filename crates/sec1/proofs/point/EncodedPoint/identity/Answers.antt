@@ -1,14 +1,9 @@
 use Rattle.std.proofs.Common.{arith}
-use Rattle.sec1.specs.Points.{identity}
-use Rattle.sec1.proofs.Buffers.{means, spelled, identity_front}
+use Rattle.sec1.proofs.EncodedPointLemmas.{identity_holds}
 use Rattle.sec1.proofs.point.EncodedPoint.identity.Goals as goal
 
-pub invariant_of-result : goal.invariant_of-result
-invariant_of-result g c = record {
-  sizes = c.requires;
-  room = omega arith;
-  encoded = spelled g.row.N _ identity tt (identity_front g.row.N g.row.L (omega arith));
-}
+pub invariant_of-result-clause-encoded : goal.invariant_of-result-clause-encoded
+invariant_of-result-clause-encoded g c = (identity_holds g.row.N g.row.L (omega arith)).encoded
 
 pub returns-clause-point : goal.returns-clause-point
-returns-clause-point g c = means g.row.N _ identity tt (identity_front g.row.N g.row.L (omega arith))
+returns-clause-point g c = (identity_holds g.row.N g.row.L (omega arith)).means

@@ -1,6 +1,6 @@
 use Rattle.std.proofs.Common.{◌∙◌, refl, arith}
-use Rattle.sec1.proofs.Comparisons.{word_settles, word_passed}
-use Rattle.sec1.proofs.Digits.{IsBytes-drop}
+use Rattle.sec1.proofs.ByteOrderLemmas.{word_settles, word_passed}
+use Rattle.sec1.proofs.DigitLemmas.{IsBytes-drop}
 use Rattle.sec1.proofs.point.order.words_cmp.Goals as goal
 
 pub loop-word-init : goal.loop-word-init

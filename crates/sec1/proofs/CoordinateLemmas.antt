@@ -6,7 +6,7 @@ use Rattle.std.proofs.lemmas.List.{take_more, take_all, length-append, get_or_ap
 use Rattle.std.proofs.lemmas.Slice.Eq.{bytes_eq-Decides}
 use Rattle.sec1_der.specs.Numbers.{num}
 use Rattle.sec1.specs.Coordinates.{first_bytes, lent_number}
-use Rattle.sec1.proofs.Digits.{parity_of_last}
+use Rattle.sec1.proofs.DigitLemmas.{parity_of_last}
 
 pub first_none : (xs : List ℕ) → first_bytes 0 xs ≡ []
 unfolding first_bytes
