@@ -1,8 +1,8 @@
--- The first bytes of a list: all of it at its length, their parity, and a comparison of two.
+-- The first bytes of a borrowed coordinate: all of it at its length, their parity, and a comparison of two.
 use Rattle.std.proofs.Common.{◌≡◌, ◌≢◌, ℕ, zero, suc, ◌+◌, ◌-◌, ◌%◌, ◌<◌, ◌≤◌, Bool, true, false, ◌&&◌, List, [], ◌∷◌, ◌++◌, length, get_or, take}
 use Rattle.std.proofs.Common.{nat_eq, bytes_eq, refl, sym, ap, ◌∙◌, arith, inl, inr}
-use Rattle.std.proofs.lemmas.Bool.{cases_lt, cases_Bool}
-use Rattle.std.proofs.lemmas.List.{take_more, take_all, length-append, get_or_append_left, get_or-append_right}
+use Rattle.std.proofs.lemmas.Bool.{cases_lt}
+use Rattle.std.proofs.lemmas.List.{take_more, take_all, length-append, length_push, get_or_append_left, get_or_push}
 use Rattle.std.proofs.lemmas.Slice.Eq.{bytes_eq-Decides}
 use Rattle.sec1_der.specs.Numbers.{num}
 use Rattle.sec1.specs.Coordinates.{first_bytes, lent_number}
@@ -14,24 +14,23 @@ first_none xs = refl
 
 pub first_more : (n : ℕ) (xs : List ℕ) → first_bytes (n + 1) xs ≡ first_bytes n xs ++ get_or xs n 0 ∷ []
 unfolding first_bytes
-first_more n xs = let step : n + 1 ≡ suc n = omega arith in ap (λ (k : ℕ). first_bytes k xs) step
+first_more n xs = let step : n + 1 ≡ suc n = omega arith in rw step refl
 
 first_take : (n : ℕ) (xs : List ℕ) → n ≤ length xs → first_bytes n xs ≡ take n xs
 unfolding first_bytes
 first_take zero xs h = refl
 first_take (suc n) xs h =
     let step : n + 1 ≡ suc n = omega arith in
-    ap (λ (bs : List ℕ). bs ++ get_or xs n 0 ∷ []) (first_take n xs (omega arith))
-    ∙ sym (take_more xs n 0 (omega arith)) ∙ ap (λ (k : ℕ). take k xs) step
+    rw (first_take n xs (omega arith)) (rw step at (sym (take_more xs n 0 (omega arith))))
 
--- a lent array whose length is told has the number of all its bytes
+-- A borrowed array has the number of all its bytes, where its length is known.
 pub lent_whole : (n : ℕ) (xs : List ℕ) → length xs ≡ n → lent_number n xs ≡ num xs
 lent_whole n xs e = ap num (first_take n xs (omega arith) ∙ take_all n xs (omega arith))
 
 length-first : (n : ℕ) (xs : List ℕ) → length (first_bytes n xs) ≡ n
 unfolding first_bytes
 length-first zero xs = refl
-length-first (suc n) xs = omega (arith, length-first n xs, length-append (first_bytes n xs) (get_or xs n 0 ∷ []))
+length-first (suc n) xs = omega (arith, length-first n xs, length_push (first_bytes n xs) (get_or xs n 0))
 
 get_or-first : (n i : ℕ) (xs : List ℕ) → i < n → get_or (first_bytes n xs) i 0 ≡ get_or xs i 0
 unfolding first_bytes
@@ -40,38 +39,31 @@ get_or-first (suc n) i xs h =
     let len = length-first n xs in
     elim (cases_lt i n) [
       | inl less ↦ get_or_append_left (first_bytes n xs) (get_or xs n 0 ∷ []) 0 i (omega arith) ∙ get_or-first n i xs less
-      | inr least ↦
-          let at : i ≡ n = omega arith in
-          let last : i - n ≡ 0 = omega arith in
-          get_or-append_right (first_bytes n xs) (get_or xs n 0 ∷ []) n i 0 len least
-          ∙ ap (λ (k : ℕ). get_or (get_or xs n 0 ∷ []) k 0) last ∙ ap (λ (k : ℕ). get_or xs k 0) (sym at)
+      | inr least ↦ let last : n ≡ i = omega arith in get_or_push (first_bytes n xs) (get_or xs n 0) 0 i (omega arith) ∙ (rw last refl)
     ]
 
--- the number of a lent array has the parity of its last byte
+-- The number of a borrowed array has the parity of its last byte.
 pub lent_parity : (n : ℕ) (xs : List ℕ) → 0 < n → lent_number n xs % 2 ≡ get_or xs (n - 1) 0 % 2
-lent_parity n xs h =
-    let len = length-first n xs in
-    parity_of_last (first_bytes n xs) (omega arith)
-    ∙ ap (λ (k : ℕ). get_or (first_bytes n xs) (k - 1) 0 % 2) len ∙ ap (λ (b : ℕ). b % 2) (get_or-first n (n - 1) xs (omega arith))
+lent_parity n xs h = rw (← get_or-first n (n - 1) xs (omega arith)) (rw (length-first n xs) at (parity_of_last (first_bytes n xs) (omega (arith, length-first n xs))))
 
--- no bytes spell 0
+-- No bytes spell 0.
 pub lent_none : (n : ℕ) (xs : List ℕ) → n ≡ 0 → lent_number n xs ≡ 0
-lent_none n xs e = ap (λ (k : ℕ). lent_number k xs) e ∙ ap num (first_none xs)
+lent_none n xs e = rw (e, first_none xs) refl
 
 -- ---- comparison
 
 pub first_same : (n : ℕ) (xs ys : List ℕ) → first_bytes n xs ≡ first_bytes n ys → true ≡ bytes_eq (first_bytes n xs) (first_bytes n ys)
 first_same n xs ys e = sym ((bytes_eq-Decides (first_bytes n xs) (first_bytes n ys)).1 e)
 
--- one byte differs
+false_unless : (b : Bool) → (b ≡ true → ⊥) → false ≡ b
+false_unless true h = absurd (h refl)
+false_unless false h = refl
+
+-- One byte differs.
 pub first_apart : (n i : ℕ) (xs ys : List ℕ) → i < n → get_or xs i 0 ≢ get_or ys i 0 → false ≡ bytes_eq (first_bytes n xs) (first_bytes n ys)
 first_apart n i xs ys h apart =
-    elim (cases_Bool (bytes_eq (first_bytes n xs) (first_bytes n ys))) [
-      | inl equal ↦
-          let same = (bytes_eq-Decides (first_bytes n xs) (first_bytes n ys)).0 equal in
-          absurd (apart (sym (get_or-first n i xs h) ∙ ap (λ (bs : List ℕ). get_or bs i 0) same ∙ get_or-first n i ys h))
-      | inr unequal ↦ sym unequal
-    ]
+    false_unless (bytes_eq (first_bytes n xs) (first_bytes n ys))
+    (λ equal. apart (sym (get_or-first n i xs h) ∙ (rw ((bytes_eq-Decides (first_bytes n xs) (first_bytes n ys)).0 equal) (get_or-first n i ys h))))
 
 and_first : (b s t u : Bool) → s ≡ (t && u) → (b && s) ≡ ((b && t) && u)
 and_first true s t u e = e
@@ -79,11 +71,10 @@ and_first false s t u e = refl
 
 eq_append : (xs ys us vs : List ℕ) → length xs ≡ length ys → bytes_eq (xs ++ us) (ys ++ vs) ≡ (bytes_eq xs ys && bytes_eq us vs)
 eq_append [] [] us vs e = refl
-eq_append [] (y ∷ ys) us vs e = absurd (omega arith)
-eq_append (x ∷ xs) [] us vs e = absurd (omega arith)
 eq_append (x ∷ xs) (y ∷ ys) us vs e = and_first (nat_eq x y) _ (bytes_eq xs ys) (bytes_eq us vs) (eq_append xs ys us vs (omega arith))
+eq_append xs ys us vs e = absurd (omega arith)
 
--- two coordinates are compared one after the other
+-- Two coordinates are compared one after the other.
 pub eq_first : (n : ℕ) (xs ys us vs : List ℕ)
     → bytes_eq (first_bytes n xs ++ us) (first_bytes n ys ++ vs) ≡ (bytes_eq (first_bytes n xs) (first_bytes n ys) && bytes_eq us vs)
 eq_first n xs ys us vs = eq_append (first_bytes n xs) (first_bytes n ys) us vs (length-first n xs ∙ sym (length-first n ys))

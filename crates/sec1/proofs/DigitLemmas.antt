@@ -1,11 +1,10 @@
 -- Bytes, the numbers that they spell and the digits that spell a number.
-use Rattle.std.proofs.Common.{◌≡◌, ℕ, zero, suc, ◌+◌, ◌-◌, ◌*◌, ◌/◌, ◌%◌, ◌^◌, ◌<◌, ◌≤◌, List, [], ◌∷◌, ◌++◌, length, get_or, take, drop, refl, ap, sym, ◌∙◌, arith, inl, inr}
+use Rattle.std.proofs.Common.{◌≡◌, ℕ, zero, suc, ◌+◌, ◌-◌, ◌*◌, ◌/◌, ◌%◌, ◌^◌, ◌<◌, ◌≤◌, List, [], ◌∷◌, ◌++◌, length, get_or, take, drop, refl, ap, sym, ◌∙◌, arith}
 use Rattle.std.proofs.Math.Nat.{pow-suc}
 use Rattle.std.specs.Int.Digits.{AllBelowBase}
 use Rattle.std.proofs.lemmas.Int.Digits.{number_push, number_more, number_lt}
 use Rattle.std.proofs.lemmas.Nat.{div-add-mod'}
-use Rattle.std.proofs.lemmas.Bool.{cases_lt}
-use Rattle.std.proofs.lemmas.List.{length-append, length-take, get_or-drop, get_or-take, get_or_past, take_more, take_all, nil_from_length}
+use Rattle.std.proofs.lemmas.List.{length-append, get_or-drop, take_more, take_all, nil_from_length}
 use Rattle.hex.specs.Hex.{IsBytes}
 use Rattle.sec1_der.specs.Numbers.{num}
 use Rattle.sec1.specs.Points.{fixed_width}
@@ -30,11 +29,9 @@ pub IsBytes-drop : (n : ℕ) (bs : List ℕ) → IsBytes bs → IsBytes (drop n 
 IsBytes-drop n bs h i = rw get_or-drop (h (n + i))
 
 pub IsBytes-take : (n : ℕ) (bs : List ℕ) → IsBytes bs → IsBytes (take n bs)
-IsBytes-take n bs h i =
-    elim (cases_lt i n) [
-      | inl lt ↦ rw (get_or-take n bs i 0 lt) (h i)
-      | inr le ↦ rw (get_or_past (take n bs) i 0 (omega (arith, length-take n bs))) (omega arith)
-    ]
+IsBytes-take zero bs h = IsBytes-nil
+IsBytes-take (suc n) [] h = h
+IsBytes-take (suc n) (b ∷ bs) h = IsBytes-cons b (take n bs) (h 0) (IsBytes-take n bs (IsBytes-tail b bs h))
 
 IsBytes-below : (bs : List ℕ) → IsBytes bs → AllBelowBase 256 bs
 IsBytes-below [] h = tt
@@ -45,9 +42,7 @@ IsBytes-below (b ∷ bs) h = (h 0, IsBytes-below bs (IsBytes-tail b bs h))
 pub length-fixed_width : (width n : ℕ) → length (fixed_width width n) ≡ width
 unfolding fixed_width
 length-fixed_width zero n = refl
-length-fixed_width (suc width) n =
-    let h = length-fixed_width width (n / 256) in
-    omega (arith, h, length-append (fixed_width width (n / 256)) (n % 256 ∷ []))
+length-fixed_width (suc width) n = omega (arith, length-fixed_width width (n / 256), length-append (fixed_width width (n / 256)) (n % 256 ∷ []))
 
 pub IsBytes-fixed_width : (width n : ℕ) → IsBytes (fixed_width width n)
 unfolding fixed_width
@@ -58,14 +53,13 @@ IsBytes-fixed_width (suc width) n =
 pub num-below : (bs : List ℕ) → IsBytes bs → num bs < 256 ^ length bs
 num-below bs h = number_lt 256 bs (IsBytes-below bs h)
 
--- a number below 256 ^ width is spelled by that many digits
+-- A number below 256 ^ width is spelled by that many digits.
 pub num-fixed_width : (width n : ℕ) → n < 256 ^ width → num (fixed_width width n) ≡ n
 unfolding fixed_width
 num-fixed_width zero n h = let none : n < 1 = h in omega arith
 num-fixed_width (suc width) n h =
     let wide : n < 256 ^ width * 256 = rw pow-suc at h in
-    let front = num-fixed_width width (n / 256) (omega arith) in
-    number_push 256 (fixed_width width (n / 256)) (n % 256) ∙ ap (λ (k : ℕ). k * 256 + n % 256) front ∙ div-add-mod' n 256
+    omega (arith, num-fixed_width width (n / 256) (omega arith), number_push 256 (fixed_width width (n / 256)) (n % 256))
 
 fixed_width-front : (bs : List ℕ) → IsBytes bs → (i : ℕ) → i ≤ length bs → fixed_width i (num (take i bs)) ≡ take i bs
 unfolding fixed_width
@@ -73,24 +67,20 @@ fixed_width-front bs h zero le = refl
 fixed_width-front bs h (suc i) le =
     let byte : get_or bs i 0 < 256 = h i in
     let next : i + 1 ≡ suc i = omega arith in
-    let more : num (take (suc i) bs) ≡ num (take i bs) * 256 + get_or bs i 0 =
-    ap (λ (k : ℕ). num (take k bs)) (sym next) ∙ number_more 256 bs i (omega arith) in
+    let more : num (take (suc i) bs) ≡ num (take i bs) * 256 + get_or bs i 0 = rw next at (number_more 256 bs i (omega arith)) in
     let front : num (take (suc i) bs) / 256 ≡ num (take i bs) = omega arith in
     let last : num (take (suc i) bs) % 256 ≡ get_or bs i 0 = omega arith in
-    rw (front, last, fixed_width-front bs h i (omega arith)) (sym (take_more bs i 0 (omega arith)) ∙ ap (λ (k : ℕ). take k bs) next)
+    rw (front, last, fixed_width-front bs h i (omega arith)) (rw next at (sym (take_more bs i 0 (omega arith))))
 
--- n bytes are the digits of the number that they spell
+-- Bytes are the digits of the number that they spell.
 pub fixed_width-num : (n : ℕ) (bs : List ℕ) → IsBytes bs → length bs ≡ n → fixed_width n (num bs) ≡ bs
-fixed_width-num n bs h e =
-    let all = take_all n bs (omega arith) in
-    ap (λ (xs : List ℕ). fixed_width n (num xs)) (sym all) ∙ fixed_width-front bs h n (omega arith) ∙ all
+fixed_width-num n bs h e = rw (take_all n bs (omega arith)) at (fixed_width-front bs h n (omega arith))
 
--- the last byte has the number's parity
+-- The last byte has the number's parity.
 pub parity_of_last : (bs : List ℕ) → 0 < length bs → num bs % 2 ≡ get_or bs (length bs - 1) 0 % 2
 parity_of_last bs some =
-    let more = number_more 256 bs (length bs - 1) (omega arith) in
-    let all : num (take (length bs - 1 + 1) bs) ≡ num bs = ap num (take_all (length bs - 1 + 1) bs (omega arith)) in
-    omega arith
+    let all = take_all (length bs - 1 + 1) bs (omega arith) in
+    omega (arith, rw all at (number_more 256 bs (length bs - 1) (omega arith)))
 
 pub num_of_none : (bs : List ℕ) → length bs ≡ 0 → num bs ≡ 0
 num_of_none bs e = ap num (nil_from_length bs e)
