@@ -22,19 +22,6 @@ then-Equal : (o : Ordering) → ordering_then o Equal ≡ o
 then-Equal Less = refl
 then-Equal o = refl
 
-then-assoc : (o p q : Ordering) → ordering_then (ordering_then o p) q ≡ ordering_then o (ordering_then p q)
-then-assoc Less p q = refl
-then-assoc o p q = refl
-
--- The second step counts only where the first ties.
-then-same : (o a b : Ordering) → (o ≡ Equal → a ≡ b) → ordering_then o a ≡ ordering_then o b
-then-same Equal a b h = h refl
-then-same o a b h = refl
-
-then-first : (o p : Ordering) → (o ≡ Equal → ⊥) → ordering_then o p ≡ o
-then-first Equal p h = absurd (h refl)
-then-first o p h = refl
-
 -- One digit more decides only at a tie.
 digit_decides : (a b x y : ℕ) → x < 256 → y < 256 → nat_cmp (a * 256 + x) (b * 256 + y) ≡ ordering_then (nat_cmp a b) (nat_cmp x y)
 digit_decides a b x y hx hy = grind arith
@@ -45,8 +32,8 @@ slice_cmp-after : (a b : ℕ) (xs ys : List ℕ) → IsBytes xs → IsBytes ys �
     → ordering_then (nat_cmp a b) (slice_cmp nat_cmp xs ys) ≡ nat_cmp (number_from_digits_after 256 a xs) (number_from_digits_after 256 b ys)
 slice_cmp-after a b [] [] hx hy e = then-Equal (nat_cmp a b)
 slice_cmp-after a b (x ∷ xs) (y ∷ ys) hx hy e =
-    sym (then-assoc (nat_cmp a b) (nat_cmp x y) (slice_cmp nat_cmp xs ys))
-    ∙ rw (← digit_decides a b x y (hx 0) (hy 0)) (slice_cmp-after (a * 256 + x) (b * 256 + y) xs ys (IsBytes-tail x xs hx) (IsBytes-tail y ys hy) (omega arith))
+    let behind = slice_cmp-after (a * 256 + x) (b * 256 + y) xs ys (IsBytes-tail x xs hx) (IsBytes-tail y ys hy) (omega arith) in
+    grind (arith, digit_decides a b x y (hx 0) (hy 0), behind)
 slice_cmp-after a b xs ys hx hy e = absurd (omega arith)
 
 -- Bytes of one length are ordered as their numbers.
@@ -62,7 +49,7 @@ slice_cmp-digits n x y hx hy =
 slice_cmp-append : (a b c d : List ℕ) → length a ≡ length c
     → slice_cmp nat_cmp (a ++ b) (c ++ d) ≡ ordering_then (slice_cmp nat_cmp a c) (slice_cmp nat_cmp b d)
 slice_cmp-append [] b [] d e = refl
-slice_cmp-append (x ∷ a) b (y ∷ c) d e = rw (slice_cmp-append a b c d (omega arith)) (sym (then-assoc (nat_cmp x y) (slice_cmp nat_cmp a c) (slice_cmp nat_cmp b d)))
+slice_cmp-append (x ∷ a) b (y ∷ c) d e = grind (arith, slice_cmp-append a b c d (omega arith))
 slice_cmp-append a b c d e = absurd (omega arith)
 
 -- ---- eight bytes as one number
@@ -86,7 +73,7 @@ module _ (xs ys w v r s : List ℕ) (n m : ℕ) (hx : IsBytes xs) (hy : IsBytes 
 
   -- Two that differ settle the order, and two that are the same leave it to the rest.
   pub word_settles : n ≢ m → nat_cmp n m ≡ slice_cmp nat_cmp xs ys
-  word_settles apart = sym (word_decides ∙ then-first (nat_cmp n m) (slice_cmp nat_cmp r s) (λ tie. apart ((nat_cmp-Equal n m).0 tie)))
+  word_settles apart = grind (arith, word_decides)
 
   pub word_passed : n ≡ m → slice_cmp nat_cmp r s ≡ slice_cmp nat_cmp xs ys
   word_passed same = rw ((nat_cmp-Equal n m).1 same) at (sym word_decides)
@@ -123,5 +110,4 @@ same_tag n p q h k e =
 pub slice_cmp-enc : (n : ℕ) (p q : Point) → IsPoint n p → IsPoint n q → slice_cmp nat_cmp (enc n p) (enc n q) ≡ point_cmp p q
 unfolding enc point_cmp
 slice_cmp-enc n p q h k =
-    then-same (nat_cmp (tag_byte p) (tag_byte q)) (slice_cmp nat_cmp (coordinate_bytes n p) (coordinate_bytes n q)) (coordinates_cmp p q)
-    (λ e. same_tag n p q h k ((nat_cmp-Equal (tag_byte p) (tag_byte q)).0 e))
+    grind (arith, same_tag n p q h k, nat_cmp-Equal (tag_byte p) (tag_byte q))

@@ -37,10 +37,7 @@ unfolding first_bytes
 get_or-first zero i xs h = absurd (omega arith)
 get_or-first (suc n) i xs h =
     let len = length-first n xs in
-    elim (cases_lt i n) [
-      | inl less ↦ get_or_append_left (first_bytes n xs) (get_or xs n 0 ∷ []) 0 i (omega arith) ∙ get_or-first n i xs less
-      | inr least ↦ let last : n ≡ i = omega arith in get_or_push (first_bytes n xs) (get_or xs n 0) 0 i (omega arith) ∙ (rw last refl)
-    ]
+    grind (arith, get_or_append_left (first_bytes n xs) (get_or xs n 0 ∷ []) 0 i, get_or_push (first_bytes n xs) (get_or xs n 0) 0 i, get_or-first n i xs)
 
 -- The number of a borrowed array has the parity of its last byte.
 pub lent_parity : (n : ℕ) (xs : List ℕ) → 0 < n → lent_number n xs % 2 ≡ get_or xs (n - 1) 0 % 2
@@ -55,23 +52,13 @@ lent_none n xs e = rw (e, first_none xs) refl
 pub first_same : (n : ℕ) (xs ys : List ℕ) → first_bytes n xs ≡ first_bytes n ys → true ≡ bytes_eq (first_bytes n xs) (first_bytes n ys)
 first_same n xs ys e = sym ((bytes_eq-Decides (first_bytes n xs) (first_bytes n ys)).1 e)
 
-false_unless : (b : Bool) → (b ≡ true → ⊥) → false ≡ b
-false_unless true h = absurd (h refl)
-false_unless false h = refl
-
 -- One byte differs.
 pub first_apart : (n i : ℕ) (xs ys : List ℕ) → i < n → get_or xs i 0 ≢ get_or ys i 0 → false ≡ bytes_eq (first_bytes n xs) (first_bytes n ys)
-first_apart n i xs ys h apart =
-    false_unless (bytes_eq (first_bytes n xs) (first_bytes n ys))
-    (λ equal. apart (sym (get_or-first n i xs h) ∙ (rw ((bytes_eq-Decides (first_bytes n xs) (first_bytes n ys)).0 equal) (get_or-first n i ys h))))
-
-and_first : (b s t u : Bool) → s ≡ (t && u) → (b && s) ≡ ((b && t) && u)
-and_first true s t u e = e
-and_first false s t u e = refl
+first_apart n i xs ys h apart = grind (arith, get_or-first n i xs h, get_or-first n i ys h, bytes_eq-Decides (first_bytes n xs) (first_bytes n ys))
 
 eq_append : (xs ys us vs : List ℕ) → length xs ≡ length ys → bytes_eq (xs ++ us) (ys ++ vs) ≡ (bytes_eq xs ys && bytes_eq us vs)
 eq_append [] [] us vs e = refl
-eq_append (x ∷ xs) (y ∷ ys) us vs e = and_first (nat_eq x y) _ (bytes_eq xs ys) (bytes_eq us vs) (eq_append xs ys us vs (omega arith))
+eq_append (x ∷ xs) (y ∷ ys) us vs e = grind (arith, eq_append xs ys us vs (omega arith))
 eq_append xs ys us vs e = absurd (omega arith)
 
 -- Two coordinates are compared one after the other.

@@ -43,25 +43,15 @@ nat_cmp-Less a b = (λ h. grind arith, λ h. grind arith)
 pub nat_cmp-Equal : (a b : ℕ) → (nat_cmp a b ≡ Equal) ↔ (a ≡ b)
 nat_cmp-Equal a b = (λ h. grind arith, λ h. grind arith)
 
--- An order of two steps is less where the first is, or where the first ties and the second is.
-then-Less : (o p : Ordering) → (ordering_then o p ≡ Less) ↔ ((o ≡ Less) ⊎ ((o ≡ Equal) × (p ≡ Less)))
-then-Less Less p = (λ h. inl refl, λ h. refl)
-then-Less Equal p = (λ h. inr (refl, h), λ h. elim h [ inl e ↦ absurd cc | inr e ↦ e.1 ])
-then-Less Greater p = (λ h. absurd cc, λ h. elim h [ inl e ↦ absurd cc | inr e ↦ absurd cc ])
-
 pub less_below : (p q : Point) → (point_cmp p q ≡ Less) ↔ IsBelow p q
 unfolding point_cmp
 less_below p q = (
-  λ h. grind (arith, then-Less, nat_cmp-Less, nat_cmp-Equal, has_x, has_y, IsLess-numbers, same_numbers),
-  λ h. grind (arith, then-Less, nat_cmp-Less, nat_cmp-Equal, has_x, has_y, IsLess-numbers, same_numbers),
+  λ h. grind (arith, nat_cmp-Less, nat_cmp-Equal, has_x, has_y, IsLess-numbers, same_numbers),
+  λ h. grind (arith, nat_cmp-Less, nat_cmp-Equal, has_x, has_y, IsLess-numbers, same_numbers),
 )
 
-reversed : (o p : Ordering) → o ≡ ordering_reverse p → (o ≡ Greater) ↔ (p ≡ Less)
-reversed o Less h = (λ e. refl, λ e. h)
-reversed o p h = (λ e. absurd cc, λ e. absurd cc)
-
 pub greater_below : (p q : Point) → (point_cmp p q ≡ Greater) ↔ IsBelow q p
-greater_below p q =
-    let turned = reversed (point_cmp p q) (point_cmp q p) (point_cmp_total.antisymm p q) in
-    let below = less_below q p in
-    (λ h. below.0 (turned.0 h), λ h. turned.1 (below.1 h))
+greater_below p q = (
+  λ h. (less_below q p).0 (grind (arith, point_cmp_total.antisymm p q)),
+  λ h. let below = (less_below q p).1 h in grind (arith, point_cmp_total.antisymm p q),
+)
