@@ -1,5 +1,3 @@
-pub mod KeyLemmas
-pub mod KeyTreeLemmas
 pub mod ReadLemmas
 pub mod DigitLemmas
 pub mod PointLemmas
@@ -7,5 +5,6 @@ pub mod PointOrderLemmas
 pub mod ByteOrderLemmas
 pub mod EncodedPointLemmas
 pub mod HexLemmas
-pub mod WriteLemmas
+pub mod SpelledTreeLemmas
+pub mod KeyLemmas
 pub mod CoordinateLemmas

@@ -6,28 +6,19 @@ use Rattle.sec1_der.specs.TreeLaws.{BytesDetermineTree}
 use Rattle.sec1_der.specs.Trees.{Tree, IsTreeOf}
 use Rattle.sec1_der.specs.declared.error.Error.{Error as DerError}
 use Rattle.sec1_der.specs.declared.error.ErrorKind.{ErrorKind}
-use Rattle.sec1_der.specs.declared.error.ErrorKind.TheVariants.{Truncated, Tag, Length, TrailingData, Value, Overlength, Buffer, Failed, Io, Depth, Memory as WantOfMemory}
+use Rattle.sec1_der.specs.declared.error.ErrorKind.TheVariants.{Truncated, TrailingData, Memory as WantOfMemory}
 use Rattle.sec1.specs.declared.error.Error.{Error}
 use Rattle.sec1.specs.declared.error.Error.TheVariants.{Asn1}
 use Rattle.sec1.specs.Errors.{error_by, error_of}
-use Rattle.sec1.specs.Keys.{Key, key_tree, IsKeyOf, fields_of, key_content}
+use Rattle.sec1.specs.Keys.{Key, key_tree, IsKeyOf, fields_of}
 use Rattle.sec1.specs.KeyRefusals.{key_fault}
 use Rattle.sec1.specs.ReadsKey.{ReadsKey}
-use Rattle.sec1.proofs.WriteLemmas.{content_of_key, key_content-holds, key_written, key_found}
+use Rattle.sec1.proofs.KeyLemmas.{key_content, content_spelled, key_written, key_found}
 
 -- a reading fault stays an error of DER
 asn1 : (kind : ErrorKind) (cause : DerError) → IsReadingFault kind → error_by kind cause ≡ Asn1 cause
-asn1 Truncated cause fault = refl
-asn1 Tag cause fault = refl
-asn1 Length cause fault = refl
-asn1 TrailingData cause fault = refl
-asn1 Value cause fault = refl
-asn1 Overlength cause fault = absurd fault
-asn1 Buffer cause fault = absurd fault
-asn1 Failed cause fault = absurd fault
-asn1 Io cause fault = absurd fault
-asn1 Depth cause fault = absurd fault
 asn1 WantOfMemory cause fault = absurd fault
+asn1 kind cause fault = refl
 
 -- a refused element is a refused key
 pub key_refused : (input : List ℕ) (cause : DerError) → ((key : Key) → element_of 0x30 (key_content key) ≡ Some input → ⊥)
@@ -65,7 +56,7 @@ key_read input key trees one is only short long told =
       found = found;
       one_tree = one_tree key input trees found;
       only = λ other at.
-          let there = key_content-holds other (fields_of other) (content_of_key other input at) in
+          let there = (content_spelled other).bytes_there at.curve at.tree.tree.3 in
           ap Ok (one key other (fields_of other) (only other (key_written other input at) ∙ there) there);
       kinds = tt;
       kind = told;

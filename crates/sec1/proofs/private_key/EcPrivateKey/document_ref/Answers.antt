@@ -1,5 +1,5 @@
 use Rattle.std.proofs.Common.{rules}
-use Rattle.sec1.proofs.WriteLemmas.{key_written, key_found}
+use Rattle.sec1.proofs.KeyLemmas.{key_written, key_found}
 use Rattle.sec1.proofs.private_key.EcPrivateKey.document_ref.Goals as goal
 
 pub returns-in_err-encode_msg-clause-some : goal.returns-in_err-encode_msg-clause-some

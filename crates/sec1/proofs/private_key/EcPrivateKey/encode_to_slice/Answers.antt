@@ -1,5 +1,5 @@
 use Rattle.std.proofs.Common.{rules}
-use Rattle.sec1.proofs.WriteLemmas.{key_written, key_found_with}
+use Rattle.sec1.proofs.KeyLemmas.{key_written, key_found_with}
 use Rattle.sec1.proofs.private_key.EcPrivateKey.encode_to_slice.Goals as goal
 
 pub returns-in_err-encode_to_slice-clause-fits : goal.returns-in_err-encode_to_slice-clause-fits

@@ -1,4 +1,4 @@
-use Rattle.sec1.proofs.WriteLemmas.{key_written, key_found_with}
+use Rattle.sec1.proofs.KeyLemmas.{key_written, key_found_with}
 use Rattle.sec1.proofs.private_key.EcPrivateKey.encoded_len.Goals as goal
 
 pub returns-in_err-encoded_len-clause-some : goal.returns-in_err-encoded_len-clause-some
