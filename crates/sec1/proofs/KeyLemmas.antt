@@ -1,5 +1,5 @@
 -- The content of a key, component by component, and the key's bytes.
-use Rattle.std.proofs.Common.{◌≡◌, ◌≢◌, ◌<◌, ◌%◌, ◌∷◌, [], ◌++◌, ℕ, List, Option, Some, None, refl, ap, sym, ◌∙◌, arith, lit<}
+use Rattle.std.proofs.Common.{◌≡◌, ◌≢◌, ◌<◌, ◌%◌, ◌∷◌, [], ◌++◌, ℕ, List, Option, Some, None, refl, ap, sym, ◌∙◌, arith, lit<, rules}
 use Rattle.std.specs.Prelude.{IsSomeAnd}
 use Rattle.std.specs.Option.{option_map}
 use Rattle.sec1_der.specs.Components.{join}
@@ -9,7 +9,7 @@ use Rattle.sec1_der.specs.Identifiers.{IsIdentifier, content_of, identifier_cont
 use Rattle.sec1_der.specs.IdentifierLaws.{identifier_content-tells, identifier_content-holds}
 use Rattle.sec1_der.specs.Trees.{leaf, node}
 use Rattle.sec1.specs.Keys.{Key, key_tree, key_fields, parameters_field, public_key_field, NameCurve, IsKeyOf, HasNoBytes, HasBytesWith}
-use Rattle.sec1.proofs.SpelledTreeLemmas.{SpellsTree, SpellsTrees, leaf_spelled, node_spelled, none_spelled, first_spelled}
+use Rattle.sec1.proofs.SpelledTreeLemmas.{SpellsTree, SpellsTrees, leaf_spelled, node_spelled, none_spelled, first_spelled, field_spelled}
 
 abbrev parameters_piece : Option (List ℕ) → Option (List ℕ)
 parameters_piece parameters = field_of 0 0x06 (option_map identifier_content parameters)
@@ -24,32 +24,19 @@ key_content key =
     (join (element_of 0x04 (Some key.private_key))
     (join (parameters_piece key.parameters) (public_key_piece key.public_key)))
 
--- A tag byte, by its number: these facts are computed where it is given.
-tag_of : (tag : ℕ) → tag < 256 → tag ≢ 0 → tag % 32 ≢ 31 → IsTag tag
-tag_of tag byte some low = record { byte = byte; not_end_of_contents = some; not_high = low }
-
 -- Bytes in a primitive element.
 bytes_spelled : (tag : ℕ) (content : List ℕ) → IsTag tag → ¬ IsConstructed tag → SpellsTree (Unit {0}) (leaf tag content) (element_of tag (Some content))
-bytes_spelled tag content is_tag primitive = leaf_spelled tag (Unit {0}) content (Some content) is_tag primitive (λ q. refl) (λ there e. (tt, cc (e)))
-
--- An element alone in an explicit field.
-field_spelled : (tag inner : ℕ) (Q : Type 0) (content : List ℕ) (piece : Option (List ℕ)) → IsTag tag → IsConstructed tag
-    → SpellsTree Q (leaf inner content) (element_of inner piece) → SpellsTree Q (node tag (leaf inner content ∷ [])) (element_of tag (element_of inner piece))
-field_spelled tag inner Q content piece is_tag constructed of =
-    let inside = first_spelled Q (Unit {0}) Q (leaf inner content) [] (element_of inner piece) (Some []) (λ q. (q, tt)) (λ q u. q) of none_spelled in
-    node_spelled tag Q (leaf inner content ∷ []) (element_of inner piece) is_tag constructed (rw alone at inside)
+bytes_spelled tag content is_tag primitive = leaf_spelled tag is_tag primitive (λ q. refl) (λ there e. (tt, cc (e)))
 
 public_key_spelled : (public_key : Option (List ℕ)) → SpellsTrees (Unit {0}) (public_key_field public_key) (public_key_piece public_key)
 public_key_spelled None = none_spelled
 public_key_spelled (Some bytes) =
-    let inside = bytes_spelled 0x03 (0 ∷ bytes) (tag_of 0x03 (lit< tt) (λ e. cc) (λ e. cc)) (λ set. set refl) in
-    let field = field_spelled 0xA1 0x03 (Unit {0}) (0 ∷ bytes) (Some (0 ∷ bytes)) (tag_of 0xA1 (lit< tt) (λ e. cc) (λ e. cc)) (λ e. cc) inside in
-    first_spelled (Unit {0}) (Unit {0}) (Unit {0}) _ [] _ (Some []) (λ q. (tt, tt)) (λ q u. tt) field none_spelled
+    let inside = bytes_spelled 0x03 (0 ∷ bytes) (search rules) (search rules) in
+    first_spelled (λ q. (tt, tt)) (λ q u. tt) (field_spelled 0xA1 (search rules) (search rules) inside) none_spelled
 
 curve_spelled : (arcs : List ℕ) → SpellsTree (IsIdentifier arcs (content_of arcs)) (leaf 0x06 (content_of arcs)) (element_of 0x06 (identifier_content arcs))
 curve_spelled arcs =
-    leaf_spelled 0x06 (IsIdentifier arcs (content_of arcs)) (content_of arcs) (identifier_content arcs) (tag_of 0x06 (lit< tt) (λ e. cc) (λ e. cc)) (λ set. set refl)
-    (λ is. identifier_content-holds arcs (content_of arcs) is)
+    leaf_spelled 0x06 (search rules) (search rules) (λ is. identifier_content-holds arcs (content_of arcs) is)
     (λ there e. let is = identifier_content-tells arcs there e in (rw (is.spells.spelled) at is, is.spells.spelled))
 
 behind_none : (rest : Option (List ℕ)) → join (Some []) rest ≡ rest
@@ -60,20 +47,18 @@ options_spelled : (parameters public_key : Option (List ℕ))
     → SpellsTrees (NameCurve parameters) (parameters_field parameters ++ public_key_field public_key) (join (parameters_piece parameters) (public_key_piece public_key))
 options_spelled None public_key = rw (behind_none (public_key_piece public_key)) (public_key_spelled public_key)
 options_spelled (Some arcs) public_key =
-    let field = field_spelled 0xA0 0x06 (IsIdentifier arcs (content_of arcs)) (content_of arcs) (identifier_content arcs) (tag_of 0xA0 (lit< tt) (λ e. cc) (λ e. cc)) (λ e. cc) (curve_spelled arcs) in
-    first_spelled _ (Unit {0}) _ _ (public_key_field public_key) _ (public_key_piece public_key) (λ q. (q, tt)) (λ q u. q) field (public_key_spelled public_key)
+    first_spelled (λ q. (q, tt)) (λ q u. q) (field_spelled 0xA0 (search rules) (search rules) (curve_spelled arcs)) (public_key_spelled public_key)
 
 -- The content of a key is the bytes of its fields.
 pub content_spelled : (key : Key) → SpellsTrees (NameCurve key.parameters) (key_fields key) (key_content key)
 content_spelled key =
-    let version = bytes_spelled 0x02 (1 ∷ []) (tag_of 0x02 (lit< tt) (λ e. cc) (λ e. cc)) (λ set. set refl) in
-    let private_key = bytes_spelled 0x04 key.private_key (tag_of 0x04 (lit< tt) (λ e. cc) (λ e. cc)) (λ set. set refl) in
+    let version = bytes_spelled 0x02 (1 ∷ []) (search rules) (search rules) in
+    let private_key = bytes_spelled 0x04 key.private_key (search rules) (search rules) in
     let options = options_spelled key.parameters key.public_key in
-    first_spelled (Unit {0}) _ _ _ _ _ _ (λ q. (tt, q)) (λ u q. q) version (first_spelled (Unit {0}) _ _ _ _ _ _ (λ q. (tt, q)) (λ u q. q) private_key options)
+    first_spelled (λ q. (tt, q)) (λ u q. q) version (first_spelled (λ q. (tt, q)) (λ u q. q) private_key options)
 
 key_spelled : (key : Key) → SpellsTree (NameCurve key.parameters) (key_tree key) (element_of 0x30 (key_content key))
-key_spelled key =
-    node_spelled 0x30 (NameCurve key.parameters) (key_fields key) (key_content key) (tag_of 0x30 (lit< tt) (λ e. cc) (λ e. cc)) (λ e. cc) (content_spelled key)
+key_spelled key = node_spelled 0x30 (search rules) (search rules) (content_spelled key)
 
 -- A key that has bytes has an element.
 pub key_written : (key : Key) (bytes : List ℕ) → IsKeyOf key bytes → element_of 0x30 (key_content key) ≡ Some bytes
