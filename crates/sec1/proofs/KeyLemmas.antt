@@ -70,12 +70,12 @@ key_found key bytes e =
     let is = (key_spelled key).tree_there bytes e in
     record { curve = is.0; tree = record { tree = is.1; whole = cc (e, (key_spelled key).bytes_there is.0 is.1) } }
 
+found_with : (key : Key) (P : List ℕ → Type 0) (piece : Option (List ℕ)) → element_of 0x30 (key_content key) ≡ piece → IsSomeAnd piece P → HasBytesWith key P
+found_with key P None e h = absurd h
+found_with key P (Some bytes) e h = record { bytes = bytes; of_key = key_found key bytes e; holds = h }
+
 pub key_found_with : (key : Key) (P : List ℕ → Type 0) → IsSomeAnd (element_of 0x30 (key_content key)) P → HasBytesWith key P
-key_found_with key P = found (element_of 0x30 (key_content key)) refl
-  where
-    found : (piece : Option (List ℕ)) → element_of 0x30 (key_content key) ≡ piece → IsSomeAnd piece P → HasBytesWith key P
-    found None e h = absurd h
-    found (Some bytes) e h = record { bytes = bytes; of_key = key_found key bytes e; holds = h }
+key_found_with key P h = found_with key P (element_of 0x30 (key_content key)) refl h
 
 -- A key without an element has no bytes.
 pub key_without : (key : Key) → element_of 0x30 (key_content key) ≡ None → HasNoBytes key
@@ -83,8 +83,4 @@ key_without key none bytes is = absurd (cc (none, key_written key bytes is))
 
 -- A key that has none has no element.
 pub key_lacks : (key : Key) → HasNoBytes key → element_of 0x30 (key_content key) ≡ None
-key_lacks key none = lacking (element_of 0x30 (key_content key)) refl
-  where
-    lacking : (piece : Option (List ℕ)) → element_of 0x30 (key_content key) ≡ piece → piece ≡ None
-    lacking None e = refl
-    lacking (Some bytes) e = absurd (none bytes (key_found key bytes e))
+key_lacks key none = grind (arith, key_found key)
