@@ -58,25 +58,29 @@ word_num : (bs : List ℕ) → length bs ≡ 8 → from_be_bytes w64 bs ≡ num 
 word_num (a ∷ b ∷ c ∷ d ∷ e ∷ f ∷ g ∷ h ∷ []) l = omega arith
 word_num bs l = absurd (omega arith)
 
--- The first eight bytes of two lists, the numbers that they spell, and what stands behind them.
-module _ (xs ys w v r s : List ℕ) (n m : ℕ) (hx : IsBytes xs) (hy : IsBytes ys) (lx : 8 ≤ length xs) (ly : 8 ≤ length ys)
-    (front : w ≡ take 8 xs) (back : r ≡ drop 8 xs) (other_front : v ≡ take 8 ys) (other_back : s ≡ drop 8 ys)
-    (number : n ≡ from_be_bytes w64 w) (other : m ≡ from_be_bytes w64 v) where
-  word_decides : slice_cmp nat_cmp xs ys ≡ ordering_then (nat_cmp n m) (slice_cmp nat_cmp r s)
-  word_decides =
-      let len : length (take 8 xs) ≡ 8 = omega (arith, length-take 8 xs) in
-      let other_len : length (take 8 ys) ≡ 8 = omega (arith, length-take 8 ys) in
-      let words = slice_cmp-num (take 8 xs) (take 8 ys) (IsBytes-take 8 xs hx) (IsBytes-take 8 ys hy) (len ∙ sym other_len) in
-      let parts = slice_cmp-append (take 8 xs) (drop 8 xs) (take 8 ys) (drop 8 ys) (len ∙ sym other_len) in
-      let whole = rw (take-append-drop 8 xs, take-append-drop 8 ys, words, ← word_num (take 8 xs) len, ← word_num (take 8 ys) other_len) at parts in
-      cc
+-- A list begins with eight bytes, which spell a number, and the rest stands behind them.
+pub record HasWord (xs word rest : List ℕ) (number : ℕ) : Type 0 where
+  pub parts : (word ≡ take 8 xs) × (rest ≡ drop 8 xs) × (length rest + 8 ≡ length xs)
+  pub spelled : number ≡ from_be_bytes w64 word
 
-  -- Two that differ settle the order, and two that are the same leave it to the rest.
-  pub word_settles : n ≢ m → nat_cmp n m ≡ slice_cmp nat_cmp xs ys
-  word_settles apart = grind (arith, word_decides)
+word_decides : {xs ys word other_word rest other_rest : List ℕ} {n m : ℕ} → IsBytes xs → IsBytes ys → HasWord xs word rest n → HasWord ys other_word other_rest m
+    → slice_cmp nat_cmp xs ys ≡ ordering_then (nat_cmp n m) (slice_cmp nat_cmp rest other_rest)
+word_decides {xs} {ys} hx hy has other =
+    let len : length (take 8 xs) ≡ 8 = omega (arith, length-take 8 xs, has.parts.2) in
+    let other_len : length (take 8 ys) ≡ 8 = omega (arith, length-take 8 ys, other.parts.2) in
+    let words = slice_cmp-num (take 8 xs) (take 8 ys) (IsBytes-take 8 xs hx) (IsBytes-take 8 ys hy) (len ∙ sym other_len) in
+    let parts = slice_cmp-append (take 8 xs) (drop 8 xs) (take 8 ys) (drop 8 ys) (len ∙ sym other_len) in
+    let whole = rw (take-append-drop 8 xs, take-append-drop 8 ys, words, ← word_num (take 8 xs) len, ← word_num (take 8 ys) other_len) at parts in
+    cc
 
-  pub word_passed : n ≡ m → slice_cmp nat_cmp r s ≡ slice_cmp nat_cmp xs ys
-  word_passed same = rw ((nat_cmp-Equal n m).1 same) at (sym word_decides)
+-- Two words that differ settle the order, and two that are the same leave it to the rest.
+pub word_settles : {xs ys word other_word rest other_rest : List ℕ} {n m : ℕ} → IsBytes xs → IsBytes ys → HasWord xs word rest n → HasWord ys other_word other_rest m
+    → n ≢ m → nat_cmp n m ≡ slice_cmp nat_cmp xs ys
+word_settles hx hy has other apart = grind (arith, word_decides hx hy has other)
+
+pub word_passed : {xs ys word other_word rest other_rest : List ℕ} {n m : ℕ} → IsBytes xs → IsBytes ys → HasWord xs word rest n → HasWord ys other_word other_rest m
+    → n ≡ m → slice_cmp nat_cmp rest other_rest ≡ slice_cmp nat_cmp xs ys
+word_passed {n} {m} hx hy has other same = rw ((nat_cmp-Equal n m).1 same) at (sym (word_decides hx hy has other))
 
 -- ---- encodings
 
