@@ -1,6 +1,7 @@
 -- Points, tags and encodings.
 use Rattle.std.proofs.Common.{◌≡◌, ℕ, suc, ◌+◌, ◌-◌, ◌*◌, ◌%◌, ◌^◌, ◌<◌, ◌≤◌, ◌==◌, ◌||◌, Bool, true, false, cond, List, [], ◌∷◌, ◌++◌, length, get_or, take, drop, refl, sym, ap, ◌∙◌, arith}
 use Rattle.std.proofs.Common.{append_assoc, append-nil}
+use Rattle.std.specs.Prelude.{◌↔◌}
 use Rattle.std.proofs.Math.Nat.{pow-le-pow_right}
 use Rattle.std.proofs.lemmas.List.{take_at, drop_at, take_all, length-drop, get_or-drop, length-append, nil_from_length, length-take, take-append-drop}
 use Rattle.hex.specs.Hex.{IsBytes}
@@ -109,9 +110,8 @@ meaning-fits n (tag ∷ rest) h =
 -- ---- the tests of a reader
 
 -- What follows the tag has the right length, and of a hybrid point the right parity.
-pub record Passes (n : ℕ) (tag : Tag) (rest : List ℕ) : Type 0 where
-  pub long : suc (length rest) ≡ message_len tag n
-  pub parity : is_hybrid tag ≡ true → get_or rest (length rest - 1) 0 % 2 ≡ byte_of tag % 2
+abbrev pub Passes : ℕ → Tag → List ℕ → Type 0
+Passes n tag rest = (suc (length rest) ≡ message_len tag n) × (is_hybrid tag ≡ true → get_or rest (length rest - 1) 0 % 2 ≡ byte_of tag % 2)
 
 spelled_x : (n : ℕ) (rest : List ℕ) → IsBytes rest → length rest ≡ n → fixed_width n (num (take n rest)) ≡ rest
 spelled_x n rest h e = rw (take_all n rest (omega arith)) (fixed_width-num n rest h e)
@@ -138,17 +138,17 @@ parity_rest n rest some e =
 passes_spelled : (n : ℕ) (tag : Tag) (rest : List ℕ) → 1 ≤ n → IsBytes rest → Passes n tag rest
     → enc n (meaning n (byte_of tag ∷ rest)) ≡ byte_of tag ∷ rest
 unfolding enc meaning
-passes_spelled n tags.Identity rest some h p = rw (nil_from_length rest (omega (arith, p.long))) refl
-passes_spelled n tags.Uncompressed rest some h p = rw (spelled_xy n rest h (omega (arith, p.long))) refl
+passes_spelled n tags.Identity rest some h p = rw (nil_from_length rest (omega (arith, p.0))) refl
+passes_spelled n tags.Uncompressed rest some h p = rw (spelled_xy n rest h (omega (arith, p.0))) refl
 passes_spelled n tags.HybridEvenY rest some h p =
-    let long : length rest ≡ 2 * n = omega (arith, p.long) in
-    let even : is_odd (num (take n (drop n rest))) ≡ false = grind (arith, parity_rest n rest some long, p.parity refl) in
+    let long : length rest ≡ 2 * n = omega (arith, p.0) in
+    let even : is_odd (num (take n (drop n rest))) ≡ false = grind (arith, parity_rest n rest some long, p.1 refl) in
     rw (even, spelled_xy n rest h long) refl
 passes_spelled n tags.HybridOddY rest some h p =
-    let long : length rest ≡ 2 * n = omega (arith, p.long) in
-    let odd : is_odd (num (take n (drop n rest))) ≡ true = grind (arith, parity_rest n rest some long, p.parity refl) in
+    let long : length rest ≡ 2 * n = omega (arith, p.0) in
+    let odd : is_odd (num (take n (drop n rest))) ≡ true = grind (arith, parity_rest n rest some long, p.1 refl) in
     rw (odd, spelled_xy n rest h long) refl
-passes_spelled n tag rest some h p = rw (spelled_x n rest h (omega (arith, p.long))) refl
+passes_spelled n tag rest some h p = rw (spelled_x n rest h (omega (arith, p.0))) refl
 
 hybrid_parity : (n x y : ℕ) → 1 ≤ n → y < 256 ^ n
     → get_or (fixed_width n x ++ fixed_width n y) (length (fixed_width n x ++ fixed_width n y) - 1) 0 % 2 ≡ cond (is_odd y) 7 6 % 2
@@ -162,35 +162,34 @@ enc_parity : (n : ℕ) (p : Point) → 1 ≤ n → IsPoint n p → is_hybrid (ta
 enc_parity n (hybrid x y) some h t = hybrid_parity n x y some h.1
 enc_parity n p some h t = grind arith
 
--- An encoding passes.
-pub encoding_passes : (n : ℕ) (tag : Tag) (rest input : List ℕ) → 1 ≤ n → input ≡ byte_of tag ∷ rest → IsEncoding n input → Passes n tag rest
+encoding_passes : (n : ℕ) (tag : Tag) (rest : List ℕ) → 1 ≤ n → IsEncoding n (byte_of tag ∷ rest) → Passes n tag rest
 unfolding enc
-encoding_passes n tag rest input some is e =
+encoding_passes n tag rest some e =
     let p = e.of in
-    let whole : byte_of tag ∷ rest ≡ enc n p = sym is ∙ e.spelled in
-    let byte : byte_of tag ≡ tag_byte p = cc in
-    let others : rest ≡ coordinate_bytes n p = cc in
-    rw (tag_of-byte tag p byte, others) (record {
-      long = length-enc n p;
-      parity = λ h. rw (byte_of-tag_of p) (enc_parity n p some e.fits h);
-    })
+    let byte : byte_of tag ≡ tag_byte p = cc (e.spelled) in
+    let others : rest ≡ coordinate_bytes n p = cc (e.spelled) in
+    rw (tag_of-byte tag p byte, others) (length-enc n p, λ h. rw (byte_of-tag_of p) (enc_parity n p some e.fits h))
 
 -- An encoding is that of its meaning.
 pub encoding_spelled : (n : ℕ) (bs : List ℕ) → IsEncoding n bs → enc n (meaning n bs) ≡ bs
 encoding_spelled n bs e = rw e.spelled (ap (enc n) (meaning-enc n e.of e.fits))
 
--- What passes is an encoding.
-pub passing_encoding : (n : ℕ) (tag : Tag) (rest input : List ℕ) → 1 ≤ n → IsBytes input → input ≡ byte_of tag ∷ rest → Passes n tag rest → IsEncoding n input
-passing_encoding n tag rest input some h is p =
-    let bytes : IsBytes (byte_of tag ∷ rest) = rw is at h in
-    let spelled = passes_spelled n tag rest some (IsBytes-tail (byte_of tag) rest bytes) p in
-    record { of = meaning n input; fits = meaning-fits n input h; spelled = rw is (sym spelled) }
+-- The bytes behind a tag pass exactly where both are an encoding.
+pub passing_encodings : (n : ℕ) (tag : Tag) (rest input : List ℕ) → 1 ≤ n → IsBytes input → input ≡ byte_of tag ∷ rest → Passes n tag rest ↔ IsEncoding n input
+passing_encodings n tag rest input some h is =
+    let bytes : IsBytes (byte_of tag ∷ rest) = rw is at h in (
+      λ p. record {
+        of = meaning n input;
+        fits = meaning-fits n input h;
+        spelled = rw is (sym (passes_spelled n tag rest some (IsBytes-tail (byte_of tag) rest bytes) p));
+      },
+      λ e. encoding_passes n tag rest some (rw is at e),
+    )
 
 -- The first byte of an encoding is some tag's, and there is one.
 pub encoding_tag : (n first : ℕ) (rest input : List ℕ) → input ≡ first ∷ rest → IsEncoding n input → byte_of (tag_of (meaning n input)) ≡ first
 unfolding enc
-encoding_tag n first rest input is e =
-    byte_of-tag_of (meaning n input) ∙ ap (λ (bs : List ℕ). get_or bs 0 0) (encoding_spelled n input e ∙ is)
+encoding_tag n first rest input is e = byte_of-tag_of (meaning n input) ∙ cc (encoding_spelled n input e ∙ is)
 
 pub encoding_some : (n : ℕ) (input : List ℕ) → length input ≡ 0 → IsEncoding n input → ⊥
 unfolding enc
