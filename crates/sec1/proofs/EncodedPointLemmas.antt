@@ -1,6 +1,6 @@
 -- What the bytes of an encoded point mean: the encoding stands at the beginning of a buffer.
 use Rattle.std.proofs.Common.{◌≡◌, ℕ, zero, suc, ◌+◌, ◌-◌, ◌*◌, ◌^◌, ◌<◌, ◌≤◌, cond, List, [], ◌∷◌, ◌++◌, length, get_or, take, drop, set, replicate, refl, sym, ap, ◌∙◌, arith}
-use Rattle.std.proofs.Common.{append_assoc, add-one, Bool, Some}
+use Rattle.std.proofs.Common.{append_assoc, add-one, subst, Bool, Some, Ok}
 use Rattle.std.specs.Cmp.Lexicographic.{slice_cmp}
 use Rattle.std.specs.Ordering.{nat_cmp}
 use Rattle.std.specs.Prelude.{◌↔◌, IsTrue}
@@ -11,15 +11,16 @@ use Rattle.std.proofs.lemmas.Slice.{take-put_mid}
 use borrow.Rule.Slice.PartMut.{put_mid}
 use Rattle.hex.specs.Hex.{IsBytes}
 use Rattle.sec1_der.specs.Numbers.{num}
-use Rattle.sec1.specs.Points.{Point, identity, compact, uncompressed, hybrid, is_odd, IsPoint, fixed_width, tag_byte, enc, meaning, point_from, compressed_point, hybrid_point, x_of, y_of}
+use Rattle.sec1_der.specs.Elements.{IsProperBeginning}
+use Rattle.sec1.specs.Points.{Point, identity, compact, uncompressed, hybrid, is_odd, IsPoint, IsEncoding, Fits, fixed_width, tag_byte, enc, meaning, point_from, compressed_point, hybrid_point, x_of, y_of}
 use Rattle.sec1.specs.PointOrder.{point_cmp, IsBelow}
 use Rattle.sec1.specs.PointOrderLaws.{point_cmp-Equal}
 use Rattle.sec1.specs.Tags.{byte_of, tag_of}
-use Rattle.sec1.specs.EncodedPoints.{point_of}
+use Rattle.sec1.specs.EncodedPoints.{point_of, ReadsBytes}
 use Rattle.sec1.specs.declared.point.tag.Tag.{Tag}
 use Rattle.sec1.specs.declared.point.EncodedPoint.{EncodedPoint}
 use Rattle.sec1.proofs.DigitLemmas.{length-fixed_width, num-below, fixed_width-num}
-use Rattle.sec1.proofs.PointLemmas.{meaning-enc, meaning-enc-append, meaning-fits, IsBytes-enc, byte_of-tag_of}
+use Rattle.sec1.proofs.PointLemmas.{meaning-enc, meaning-enc-append, meaning-fits, IsBytes-enc, byte_of-tag_of, length-enc-le, no_beginning}
 use Rattle.sec1.proofs.PointOrderLemmas.{less_below, greater_below, Equal-point_cmp}
 use Rattle.sec1.proofs.ByteOrderLemmas.{slice_cmp-enc}
 
@@ -183,3 +184,19 @@ halves_hold n l k tag (b ∷ buffer) written_x written_y x y el eb et wx wy ex e
         ∙ ap (λ (front : List ℕ). front ++ written_y) (take-put_mid 1 (n + 1 - 1) tagged written_x (n + 1) (omega arith) (omega arith))
         ∙ (rw (et, wx, wy, fixed_width-num n x hx ex, fixed_width-num n y hy ey) refl) in
     holds n _ (uncompressed (num x) (num y)) (number_fits n x ex hx, number_fits n y ey hy) front
+
+-- ---- reading bytes
+
+-- An encoding is no longer than the buffer.
+pub encoding_room : (n l : ℕ) (input : List ℕ) → Fits n l → IsEncoding n input → length input ≤ l
+encoding_room n l input fits e = omega (arith, length-enc-le n e.of, ap length e.spelled, fits.1)
+
+-- A value whose encoding is the input was read from it.
+pub read_bytes : {N L : ℕ} (input : List ℕ) (point : EncodedPoint N L) → take point.len point.bytes ≡ input → IsEncoding N input → ReadsBytes input (Ok point)
+read_bytes {N} input point front e = record {
+  found = (point.sizes, point_fits point, sym (point.encoded ∙ front));
+  only = λ p _ fits spelled. rw front (holds N input p fits spelled).means;
+  kind = tt;
+  begins_none = λ other _ begins. no_beginning N e.of other (subst (λ xs. IsProperBeginning xs (enc N other)) e.spelled begins);
+  begun_by_none = λ other _ begun. no_beginning N other e.of (subst (IsProperBeginning (enc N other)) e.spelled begun);
+}
