@@ -180,9 +180,9 @@ halves_hold n l k tag (b ∷ buffer) written_x written_y x y el eb et wx wy ex e
     let with_x = put_mid 1 (n + 1 - 1) tagged written_x in
     let whole : length with_x ≡ l = omega (arith, length-append written_x (drop (n + 1 - 1) buffer), length-drop (n + 1 - 1) buffer) in
     let front =
-        take-put_mid (n + 1) k with_x written_y l (omega arith) (omega arith)
-        ∙ ap (λ (front : List ℕ). front ++ written_y) (take-put_mid 1 (n + 1 - 1) tagged written_x (n + 1) (omega arith) (omega arith))
-        ∙ (rw (et, wx, wy, fixed_width-num n x hx ex, fixed_width-num n y hy ey) refl) in
+    take-put_mid (n + 1) k with_x written_y l (omega arith) (omega arith)
+    ∙ ap (λ (front : List ℕ). front ++ written_y) (take-put_mid 1 (n + 1 - 1) tagged written_x (n + 1) (omega arith) (omega arith))
+    ∙ (rw (et, wx, wy, fixed_width-num n x hx ex, fixed_width-num n y hy ey) refl) in
     holds n _ (uncompressed (num x) (num y)) (number_fits n x ex hx, number_fits n y ey hy) front
 
 -- ---- reading bytes

@@ -225,15 +225,7 @@ impl<const N: usize, const L: usize> EncodedPoint<N, L> {
         ensures whole { AreWhole result }
     {
         let (x, y) = self.halves();
-        match self.tag() {
-            Tag::Identity => Coordinates::Identity,
-            Tag::CompressedEvenY => Coordinates::Compressed { x, y_is_odd: false },
-            Tag::CompressedOddY => Coordinates::Compressed { x, y_is_odd: true },
-            Tag::Uncompressed => Coordinates::Uncompressed { x, y },
-            Tag::Compact => Coordinates::Compact { x },
-            Tag::HybridEvenY => Coordinates::Hybrid { x, y },
-            Tag::HybridOddY => Coordinates::Hybrid { x, y },
-        }
+        Coordinates::behind(self.tag(), x, y)
     }
 
     /// Borrows the N bytes after the tag, and the N bytes after these, whether or not they belong to the encoding.

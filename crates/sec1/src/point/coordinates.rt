@@ -1,8 +1,10 @@
 //! The coordinates of a point, by the form of its encoding.
 
-ghost use Rattle.std.specs.Prelude.{◌≡◌, bytes_eq};
-ghost use Rattle.sec1.specs.Tags.{tag_of};
-ghost use Rattle.sec1.specs.Coordinates.{first_bytes, lent_point};
+ghost use Rattle.std.specs.Prelude.{◌≡◌, length, bytes_eq};
+ghost use Rattle.sec1_der.specs.Numbers.{num};
+ghost use Rattle.sec1.specs.Points.{point_from};
+ghost use Rattle.sec1.specs.Tags.{byte_of, tag_of};
+ghost use Rattle.sec1.specs.Coordinates.{AreWhole, first_bytes, lent_point};
 
 use super::Tag;
 use std::fmt;
@@ -22,7 +24,25 @@ pub enum Coordinates<'a, const N: usize> {
     Hybrid { x: &'a [u8; N], y: &'a [u8; N] },
 }
 
-impl<const N: usize> Coordinates<'_, N> {
+impl<'a, const N: usize> Coordinates<'a, N> {
+    /// Returns the coordinates behind this tag: x, y, both or neither.
+    #[tactic(auto, using(crate::proofs::CoordinateLemmas::lent_whole))]
+    pub(super) fn behind(tag: Tag, x: &'a [u8; N], y: &'a [u8; N]) -> Self
+        requires x_len { length x.now ≡ N }
+        requires y_len { length y.now ≡ N }
+        ensures point { lent_point result ≡ point_from (byte_of tag) (num x.now) (num y.now) }
+        ensures whole { AreWhole result }
+    {
+        match tag {
+            Tag::Identity => Coordinates::Identity,
+            Tag::CompressedEvenY => Coordinates::Compressed { x, y_is_odd: false },
+            Tag::CompressedOddY => Coordinates::Compressed { x, y_is_odd: true },
+            Tag::Uncompressed => Coordinates::Uncompressed { x, y },
+            Tag::Compact => Coordinates::Compact { x },
+            Tag::HybridEvenY | Tag::HybridOddY => Coordinates::Hybrid { x, y },
+        }
+    }
+
     /// Returns the tag of the encoding.
     #[tactic(auto, using(crate::proofs::CoordinateLemmas::lent_parity, crate::proofs::CoordinateLemmas::lent_none))]
     pub fn tag(&self) -> Tag

@@ -24,7 +24,7 @@ loop-word-preserved c =
     let other = c.in-Some-split_first_chunk.ensures.cases in
     record {
       order = word_passed inv.bytes inv.other_bytes (record { parts = one; spelled = c.from_be_bytes-number.ensures })
-    (record { parts = other; spelled = c.from_be_bytes-other_number.ensures }) c.if-number-other_number.false ∙ inv.order;
+          (record { parts = other; spelled = c.from_be_bytes-other_number.ensures }) c.if-number-other_number.false ∙ inv.order;
       bytes = rw one.1 (IsBytes-drop 8 c.loop-word.rest.now inv.bytes);
       other_bytes = rw other.1 (IsBytes-drop 8 c.loop-word.other_rest.now inv.other_bytes);
     }
