@@ -194,3 +194,5 @@ encoding_tag n first rest input is e = byte_of-tag_of (meaning n input) ∙ cc (
 pub encoding_some : (n : ℕ) (input : List ℕ) → length input ≡ 0 → IsEncoding n input → ⊥
 unfolding enc
 encoding_some n input none e = absurd (omega (arith, ap length e.spelled))
+
+pub ruleset tag_facts = (byte_of-injective, byte_of-tag_of, length-enc)

@@ -63,6 +63,7 @@ impl<const N: usize, const L: usize> EncodedPoint<N, L> {
     /// # Errors
     ///
     /// PointEncoding if the input isn't the encoding of a point, or if N and L don't [fit](EncodedPoint::fits).
+    #[tactic(auto, using(crate::proofs::EncodedPointLemmas::encoding_room))]
     pub fn from_bytes(input: &[u8]) -> Result<Self>
         ensures { ReadsBytes input.now result }
     {
@@ -117,6 +118,7 @@ impl<const N: usize, const L: usize> EncodedPoint<N, L> {
     /// Returns the identity, the point at infinity.
     ///
     /// Requires that N and L [fit](EncodedPoint::fits).
+    #[tactic(auto, using(crate::proofs::EncodedPointLemmas::identity_holds))]
     pub fn identity() -> Self
         requires { Fits N L }
         ensures point { point_of result ≡ identity }
@@ -208,6 +210,7 @@ impl<const N: usize, const L: usize> EncodedPoint<N, L> {
     }
 
     /// Returns the tag, the first byte of the encoding. The length of the encoding is that of its tag.
+    #[tactic(auto, using(crate::proofs::EncodedPointLemmas::first_byte, crate::proofs::PointLemmas::tag_facts), unfolding(crate::specs::Points::enc))]
     pub fn tag(&self) -> Tag
         ensures point { result ≡ tag_of (point_of self.now) }
         ensures first { byte_of result ≡ slice_index (enc N (point_of self.now)) 0 }

@@ -5,11 +5,6 @@ use Rattle.sec1.proofs.PointLemmas.{encoding_spelled}
 use Rattle.sec1.proofs.point.EncodedPoint.from_bytes.Goals as goal
 use Rattle.sec1.proofs.point.EncodedPoint.from_bytes.Goals.{After-copy_from_slice}
 
-pub whole_as_front-copy_from_slice : goal.whole_as_front-copy_from_slice
-whole_as_front-copy_from_slice g c =
-    let encoding = c.is_encoding.ensures.0 c.if-not-is_encoding.false in
-    (omega (arith, encoding_room g.row.N g.row.L c.args.input.now (c.fits.ensures.0 c.if-not-fits.false) encoding), omega arith)
-
 -- The buffer begins with the input.
 front : (g : _) (c : After-copy_from_slice g)
     → take (length c.args.input.now) (c.copy_from_slice.new.self ++ drop (length c.args.input.now) (replicate {A = ℕ} g.row.L 0)) ≡ c.args.input.now
