@@ -35,6 +35,8 @@ byte_of-tag_of p = grind arith
 pub tag_of-byte : (tag : Tag) (p : Point) → byte_of tag ≡ tag_byte p → tag ≡ tag_of p
 tag_of-byte tag p e = byte_of-injective tag (tag_of p) (e ∙ sym (byte_of-tag_of p))
 
+pub ruleset tag_facts = (byte_of-injective, byte_of-tag_of)
+
 -- ---- encodings
 
 length-both : (n x y : ℕ) → length (fixed_width n x ++ fixed_width n y) ≡ 2 * n
@@ -194,5 +196,3 @@ encoding_tag n first rest input is e = byte_of-tag_of (meaning n input) ∙ cc (
 pub encoding_some : (n : ℕ) (input : List ℕ) → length input ≡ 0 → IsEncoding n input → ⊥
 unfolding enc
 encoding_some n input none e = absurd (omega (arith, ap length e.spelled))
-
-pub ruleset tag_facts = (byte_of-injective, byte_of-tag_of, length-enc)
