@@ -3,9 +3,6 @@ use Rattle.sec1.proofs.ByteOrderLemmas.{word_settles, word_passed}
 use Rattle.sec1.proofs.DigitLemmas.{IsBytes-drop}
 use Rattle.sec1.proofs.point.order.words_cmp.Goals as goal
 
-pub loop-word-init : goal.loop-word-init
-loop-word-init c = record { order = refl; bytes = λ i. omega (arith, c.type_inv.a i); other_bytes = λ i. omega (arith, c.type_inv.b i) }
-
 pub returns-then-number-other_number : goal.returns-then-number-other_number
 returns-then-number-other_number c =
     let inv = c.loop-word.invariant in
@@ -13,9 +10,6 @@ returns-then-number-other_number c =
     let other = c.in-Some-split_first_chunk.ensures.cases in
     c.cmp.ensures ∙ word_settles inv.bytes inv.other_bytes (record { parts = one; spelled = c.from_be_bytes-number.ensures })
     (record { parts = other; spelled = c.from_be_bytes-other_number.ensures }) c.if-number-other_number.true ∙ inv.order
-
-pub loop-word-smaller : goal.loop-word-smaller
-loop-word-smaller c = let behind = c.in-Some.ensures.cases.2 in omega (arith, behind)
 
 pub loop-word-preserved : goal.loop-word-preserved
 loop-word-preserved c =
@@ -28,6 +22,3 @@ loop-word-preserved c =
       bytes = rw one.1 (IsBytes-drop 8 c.loop-word.rest.now inv.bytes);
       other_bytes = rw other.1 (IsBytes-drop 8 c.loop-word.other_rest.now inv.other_bytes);
     }
-
-pub returns : goal.returns
-returns c = c.cmp-2.ensures ∙ c.loop-word.invariant.order
