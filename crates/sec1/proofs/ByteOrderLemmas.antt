@@ -1,7 +1,7 @@
 -- Bytes of one length are ordered as the numbers that they spell, and encodings as their points.
-use Rattle.std.proofs.Common.{◌≡◌, ◌≢◌, ℕ, ◌+◌, ◌*◌, ◌^◌, ◌<◌, ◌≤◌, take, drop, w64, true, false, List, [], ◌∷◌, ◌++◌, length, refl, sym, ap, subst, ◌∙◌, arith}
+use Rattle.std.proofs.Common.{◌≡◌, ◌≢◌, ℕ, ◌+◌, ◌*◌, ◌^◌, ◌<◌, take, drop, w64, true, false, List, [], ◌∷◌, ◌++◌, length, refl, sym, subst, ◌∙◌, arith}
 use Rattle.std.specs.declared.cmp.Ordering.{Ordering}
-use Rattle.std.specs.declared.cmp.Ordering.TheVariants.{Less, Equal, Greater}
+use Rattle.std.specs.declared.cmp.Ordering.TheVariants.{Less, Equal}
 use Rattle.std.specs.Int.{from_be_bytes}
 use Rattle.std.specs.Int.Digits.{number_from_digits_after}
 use Rattle.std.specs.Ordering.{nat_cmp, ordering_then}
@@ -9,7 +9,7 @@ use Rattle.std.specs.Cmp.Lexicographic.{slice_cmp}
 use Rattle.std.proofs.lemmas.List.{take-append-drop, length-take}
 use Rattle.hex.specs.Hex.{IsBytes}
 use Rattle.sec1_der.specs.Numbers.{num}
-use Rattle.sec1.specs.Points.{Point, identity, compact, compressed, uncompressed, hybrid, is_odd, IsPoint, fixed_width, tag_byte, coordinate_bytes, x_of, y_of, enc, point_from}
+use Rattle.sec1.specs.Points.{Point, identity, compact, compressed, uncompressed, hybrid, IsPoint, fixed_width, tag_byte, coordinate_bytes, x_of, y_of, enc, point_from}
 use Rattle.sec1.specs.PointOrder.{or_zero, coordinates_cmp, point_cmp}
 use Rattle.sec1.specs.PointOrderLaws.{point_from-parts}
 use Rattle.sec1.proofs.DigitLemmas.{IsBytes-tail, IsBytes-take, IsBytes-fixed_width, length-fixed_width, num-fixed_width}

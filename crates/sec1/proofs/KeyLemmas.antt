@@ -1,13 +1,12 @@
 -- The content of a key, component by component, and the key's bytes.
-use Rattle.std.proofs.Common.{◌≡◌, ◌≢◌, ◌<◌, ◌%◌, ◌∷◌, [], ◌++◌, ℕ, List, Option, Some, None, refl, ap, sym, ◌∙◌, arith, lit<, rules}
+use Rattle.std.proofs.Common.{◌≡◌, ◌∷◌, [], ◌++◌, ℕ, List, Option, Some, None, refl, ap, sym, ◌∙◌, arith, rules}
 use Rattle.std.specs.Prelude.{IsSomeAnd}
 use Rattle.std.specs.Option.{option_map}
 use Rattle.sec1_der.specs.Components.{join}
-use Rattle.sec1_der.specs.ComponentLaws.{alone}
 use Rattle.sec1_der.specs.Elements.{IsTag, IsConstructed, element_of, field_of}
 use Rattle.sec1_der.specs.Identifiers.{IsIdentifier, content_of, identifier_content}
 use Rattle.sec1_der.specs.IdentifierLaws.{identifier_content-tells, identifier_content-holds}
-use Rattle.sec1_der.specs.Trees.{leaf, node}
+use Rattle.sec1_der.specs.Trees.{leaf}
 use Rattle.sec1.specs.Keys.{Key, key_tree, key_fields, parameters_field, public_key_field, NameCurve, IsKeyOf, HasNoBytes, HasBytesWith}
 use Rattle.sec1.proofs.SpelledTreeLemmas.{SpellsTree, SpellsTrees, leaf_spelled, node_spelled, none_spelled, first_spelled, field_spelled}
 

@@ -1,13 +1,12 @@
 -- Which points tie, and which are less than others.
-use Rattle.std.proofs.Common.{◌≡◌, ℕ, ◌<◌, ◌==◌, ◌||◌, ◌⊎◌, Bool, true, false, Option, Some, None, is_some, refl, sym, ap, ◌∙◌, arith, inl, inr}
+use Rattle.std.proofs.Common.{◌≡◌, ℕ, ◌<◌, ◌==◌, ◌||◌, Bool, true, false, Option, None, is_some, refl, arith}
 use Rattle.std.specs.Prelude.{nat_lt, ◌↔◌}
-use Rattle.std.specs.declared.cmp.Ordering.{Ordering}
 use Rattle.std.specs.declared.cmp.Ordering.TheVariants.{Less, Equal, Greater}
-use Rattle.std.specs.Ordering.{nat_cmp, ordering_then, ordering_reverse}
+use Rattle.std.specs.Ordering.{nat_cmp}
 use Rattle.std.proofs.lemmas.Cmp.{tied_itself}
 use Rattle.sec1.specs.Points.{Point, identity, tag_byte, x_of, y_of}
-use Rattle.sec1.specs.PointOrder.{IsLess, IsBelow, or_zero, coordinates_cmp, point_cmp, same_point}
-use Rattle.sec1.specs.PointOrderLaws.{point_cmp_total, point_cmp-Equal, same_point-true}
+use Rattle.sec1.specs.PointOrder.{IsLess, IsBelow, or_zero, point_cmp, same_point}
+use Rattle.sec1.specs.PointOrderLaws.{point_cmp_total, same_point-true}
 
 -- The same point ties.
 pub Equal-point_cmp : (p q : Point) → p ≡ q → point_cmp p q ≡ Equal

@@ -1,5 +1,5 @@
 -- Trees that are there exactly where the content of an element, put together from its components, has bytes.
-use Rattle.std.proofs.Common.{◌≡◌, ◌≤◌, [], ◌∷◌, ℕ, List, length, Option, Some, None, refl, ap, subst, sym, ◌∙◌}
+use Rattle.std.proofs.Common.{◌≡◌, ◌≤◌, [], ◌∷◌, ℕ, List, length, Option, Some, refl, subst}
 use Rattle.sec1_der.specs.Components.{join}
 use Rattle.sec1_der.specs.ComponentLaws.{parted, joined, alone}
 use Rattle.sec1_der.specs.ElementLaws.{element_of_tells, element_of_holds}

@@ -1,7 +1,7 @@
-use Rattle.std.proofs.Common.{◌∙◌, ◌≡◌, ◌∷◌, ◌%◌, length, refl, arith, sym, ap}
+use Rattle.std.proofs.Common.{arith}
 use Rattle.std.specs.Prelude.{◌↔◌}
 use Rattle.sec1.specs.Points.{IsEncoding, meaning}
-use Rattle.sec1.specs.Tags.{byte_of, tag_of}
+use Rattle.sec1.specs.Tags.{tag_of}
 use Rattle.sec1.proofs.PointLemmas.{Passes, passing_encodings, encoding_tag, encoding_some}
 use Rattle.sec1.proofs.point.is_encoding.Goals as goal
 use Rattle.sec1.proofs.point.is_encoding.Goals.{After-message_len}

@@ -1,4 +1,4 @@
-use Rattle.std.proofs.Common.{◌∙◌, ◌≡◌, ◌++◌, arith, length, take, drop, replicate, ap, ℕ}
+use Rattle.std.proofs.Common.{◌∙◌, ◌≡◌, ◌++◌, length, take, drop, replicate, ap, ℕ}
 use Rattle.std.proofs.lemmas.List.{take_at}
 use Rattle.sec1.proofs.EncodedPointLemmas.{encoding_room, read_bytes}
 use Rattle.sec1.proofs.PointLemmas.{encoding_spelled}

@@ -1,5 +1,5 @@
 use Rattle.std.proofs.Common.{arith, rules}
-use Rattle.sec1.proofs.EncodedPointLemmas.{Holds, halves_hold}
+use Rattle.sec1.proofs.EncodedPointLemmas.{halves_hold}
 use Rattle.sec1.proofs.point.EncodedPoint.from_halves.Goals as goal
 
 pub invariant_of-result-clause-encoded : goal.invariant_of-result-clause-encoded

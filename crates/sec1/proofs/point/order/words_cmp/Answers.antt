@@ -1,4 +1,4 @@
-use Rattle.std.proofs.Common.{◌∙◌, refl, arith}
+use Rattle.std.proofs.Common.{◌∙◌}
 use Rattle.sec1.proofs.ByteOrderLemmas.{word_settles, word_passed}
 use Rattle.sec1.proofs.DigitLemmas.{IsBytes-drop}
 use Rattle.sec1.proofs.point.order.words_cmp.Goals as goal
