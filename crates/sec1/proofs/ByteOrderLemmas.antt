@@ -9,10 +9,12 @@ use Rattle.std.specs.Cmp.Lexicographic.{slice_cmp}
 use Rattle.std.proofs.lemmas.List.{take-append-drop, length-take}
 use Rattle.hex.specs.Hex.{IsBytes}
 use Rattle.sec1_der.specs.Numbers.{num}
-use Rattle.sec1.specs.Points.{Point, identity, compact, compressed, uncompressed, hybrid, IsPoint, fixed_width, tag_byte, coordinate_bytes, x_of, y_of, enc, point_from}
+use Rattle.sec1_der.proofs.DigitLemmas.{IsBytes-take}
+use Rattle.sec1.specs.Points.{Point, identity, compact, compressed, uncompressed, hybrid, IsPoint, fixed_width, tag_byte, coordinate_bytes, x_of, y_of, enc}
+use Rattle.sec1.specs.Points.{point_from}
 use Rattle.sec1.specs.PointOrder.{or_zero, coordinates_cmp, point_cmp}
 use Rattle.sec1.specs.PointOrderLaws.{point_from-parts}
-use Rattle.sec1.proofs.DigitLemmas.{IsBytes-tail, IsBytes-take, IsBytes-fixed_width, length-fixed_width, num-fixed_width}
+use Rattle.sec1.proofs.DigitLemmas.{IsBytes-tail, IsBytes-fixed_width, length-fixed_width, num-fixed_width}
 use Rattle.sec1.proofs.PointOrderLemmas.{nat_cmp-Equal}
 
 -- ---- steps of an order
@@ -42,8 +44,8 @@ slice_cmp-num xs ys hx hy e = slice_cmp-after 0 0 xs ys hx hy e
 
 slice_cmp-digits : (n x y : ℕ) → x < 256 ^ n → y < 256 ^ n → slice_cmp nat_cmp (fixed_width n x) (fixed_width n y) ≡ nat_cmp x y
 slice_cmp-digits n x y hx hy =
-    slice_cmp-num (fixed_width n x) (fixed_width n y) (IsBytes-fixed_width n x) (IsBytes-fixed_width n y) (length-fixed_width n x ∙ sym (length-fixed_width n y))
-    ∙ (rw (num-fixed_width n x hx, num-fixed_width n y hy) refl)
+    let len = length-fixed_width n x ∙ sym (length-fixed_width n y) in
+    slice_cmp-num (fixed_width n x) (fixed_width n y) (IsBytes-fixed_width n x) (IsBytes-fixed_width n y) len ∙ (rw (num-fixed_width n x hx, num-fixed_width n y hy) refl)
 
 -- Fronts of one length are compared first.
 slice_cmp-append : (a b c d : List ℕ) → length a ≡ length c
@@ -63,8 +65,8 @@ pub record HasWord (xs word rest : List ℕ) (number : ℕ) : Type 0 where
   pub parts : (word ≡ take 8 xs) × (rest ≡ drop 8 xs) × (length rest + 8 ≡ length xs)
   pub spelled : number ≡ from_be_bytes w64 word
 
-word_decides : {xs ys word other_word rest other_rest : List ℕ} {n m : ℕ} → IsBytes xs → IsBytes ys → HasWord xs word rest n → HasWord ys other_word other_rest m
-    → slice_cmp nat_cmp xs ys ≡ ordering_then (nat_cmp n m) (slice_cmp nat_cmp rest other_rest)
+word_decides : {xs ys word other_word rest other_rest : List ℕ} {n m : ℕ} → IsBytes xs → IsBytes ys
+    → HasWord xs word rest n → HasWord ys other_word other_rest m → slice_cmp nat_cmp xs ys ≡ ordering_then (nat_cmp n m) (slice_cmp nat_cmp rest other_rest)
 word_decides {xs} {ys} hx hy has other =
     let len : length (take 8 xs) ≡ 8 = omega (arith, length-take 8 xs, has.parts.2) in
     let other_len : length (take 8 ys) ≡ 8 = omega (arith, length-take 8 ys, other.parts.2) in
@@ -74,12 +76,12 @@ word_decides {xs} {ys} hx hy has other =
     cc
 
 -- Two words that differ settle the order, and two that are the same leave it to the rest.
-pub word_settles : {xs ys word other_word rest other_rest : List ℕ} {n m : ℕ} → IsBytes xs → IsBytes ys → HasWord xs word rest n → HasWord ys other_word other_rest m
-    → n ≢ m → nat_cmp n m ≡ slice_cmp nat_cmp xs ys
+pub word_settles : {xs ys word other_word rest other_rest : List ℕ} {n m : ℕ} → IsBytes xs → IsBytes ys
+    → HasWord xs word rest n → HasWord ys other_word other_rest m → n ≢ m → nat_cmp n m ≡ slice_cmp nat_cmp xs ys
 word_settles hx hy has other apart = grind (arith, word_decides hx hy has other)
 
-pub word_passed : {xs ys word other_word rest other_rest : List ℕ} {n m : ℕ} → IsBytes xs → IsBytes ys → HasWord xs word rest n → HasWord ys other_word other_rest m
-    → n ≡ m → slice_cmp nat_cmp rest other_rest ≡ slice_cmp nat_cmp xs ys
+pub word_passed : {xs ys word other_word rest other_rest : List ℕ} {n m : ℕ} → IsBytes xs → IsBytes ys
+    → HasWord xs word rest n → HasWord ys other_word other_rest m → n ≡ m → slice_cmp nat_cmp rest other_rest ≡ slice_cmp nat_cmp xs ys
 word_passed {n} {m} hx hy has other same = rw ((nat_cmp-Equal n m).1 same) at (sym (word_decides hx hy has other))
 
 -- ---- encodings

@@ -40,7 +40,9 @@ get_or-first (suc n) i xs h =
 
 -- The number of a borrowed array has the parity of its last byte.
 pub lent_parity : (n : ℕ) (xs : List ℕ) → 0 < n → lent_number n xs % 2 ≡ get_or xs (n - 1) 0 % 2
-lent_parity n xs h = rw (← get_or-first n (n - 1) xs (omega arith)) (rw (length-first n xs) at (parity_of_last (first_bytes n xs) (omega (arith, length-first n xs))))
+lent_parity n xs h =
+    let len = length-first n xs in
+    rw (← get_or-first n (n - 1) xs (omega arith)) (rw len at (parity_of_last (first_bytes n xs) (omega arith)))
 
 -- No bytes spell 0.
 pub lent_none : (n : ℕ) (xs : List ℕ) → n ≡ 0 → lent_number n xs ≡ 0
@@ -59,6 +61,9 @@ eq_append : (xs ys us vs : List ℕ) → length xs ≡ length ys → bytes_eq (x
 eq_append [] [] us vs e = refl
 eq_append (x ∷ xs) (y ∷ ys) us vs e = grind (arith, eq_append xs ys us vs (omega arith))
 eq_append xs ys us vs e = absurd (omega arith)
+
+-- What a comparison byte by byte has seen so far.
+pub ruleset compared_bytes = (first_none, first_more, first_same, first_apart)
 
 -- Two coordinates are compared one after the other.
 pub eq_first : (n : ℕ) (xs ys us vs : List ℕ)

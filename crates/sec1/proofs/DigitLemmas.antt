@@ -1,11 +1,11 @@
 -- Bytes, the numbers that they spell and the digits that spell a number.
 use Rattle.std.proofs.Common.{◌≡◌, ℕ, zero, suc, ◌+◌, ◌-◌, ◌*◌, ◌/◌, ◌%◌, ◌^◌, ◌<◌, ◌≤◌, List, [], ◌∷◌, ◌++◌, length, get_or, take, drop, refl, ap, sym, arith}
 use Rattle.std.proofs.Math.Nat.{pow-suc}
-use Rattle.std.specs.Int.Digits.{AllBelowBase}
 use Rattle.std.proofs.lemmas.Int.Digits.{number_push, number_more, number_lt}
 use Rattle.std.proofs.lemmas.List.{length-append, get_or-drop, take_more, take_all, nil_from_length}
 use Rattle.hex.specs.Hex.{IsBytes}
 use Rattle.sec1_der.specs.Numbers.{num}
+use Rattle.sec1_der.proofs.DigitLemmas.{IsBytes-below}
 use Rattle.sec1.specs.Points.{fixed_width}
 
 -- ---- lists of bytes
@@ -26,15 +26,6 @@ IsBytes-append (x ∷ xs) ys hx hy = IsBytes-cons x (xs ++ ys) (hx 0) (IsBytes-a
 
 pub IsBytes-drop : (n : ℕ) (bs : List ℕ) → IsBytes bs → IsBytes (drop n bs)
 IsBytes-drop n bs h i = rw get_or-drop (h (n + i))
-
-pub IsBytes-take : (n : ℕ) (bs : List ℕ) → IsBytes bs → IsBytes (take n bs)
-IsBytes-take zero bs h = IsBytes-nil
-IsBytes-take (suc n) [] h = h
-IsBytes-take (suc n) (b ∷ bs) h = IsBytes-cons b (take n bs) (h 0) (IsBytes-take n bs (IsBytes-tail b bs h))
-
-IsBytes-below : (bs : List ℕ) → IsBytes bs → AllBelowBase 256 bs
-IsBytes-below [] h = tt
-IsBytes-below (b ∷ bs) h = (h 0, IsBytes-below bs (IsBytes-tail b bs h))
 
 -- ---- numbers and digits
 

@@ -1,5 +1,6 @@
 -- What the bytes of an encoded point mean: the encoding stands at the beginning of a buffer.
-use Rattle.std.proofs.Common.{◌≡◌, ℕ, zero, suc, ◌+◌, ◌-◌, ◌*◌, ◌^◌, ◌<◌, ◌≤◌, cond, List, [], ◌∷◌, ◌++◌, length, get_or, take, drop, set, replicate, refl, sym, ap, ◌∙◌, arith}
+use Rattle.std.proofs.Common.{◌≡◌, ℕ, zero, suc, ◌+◌, ◌-◌, ◌*◌, ◌^◌, ◌<◌, ◌≤◌, cond, List, [], ◌∷◌, ◌++◌, length, get_or, take, drop, set, replicate, refl}
+use Rattle.std.proofs.Common.{sym, ap, ◌∙◌, arith}
 use Rattle.std.proofs.Common.{append_assoc, add-one, subst, Some, Ok}
 use Rattle.std.specs.Cmp.Lexicographic.{slice_cmp}
 use Rattle.std.specs.Ordering.{nat_cmp}
@@ -12,7 +13,8 @@ use borrow.Rule.Slice.PartMut.{put_mid}
 use Rattle.hex.specs.Hex.{IsBytes}
 use Rattle.sec1_der.specs.Numbers.{num}
 use Rattle.sec1_der.specs.Elements.{IsProperBeginning}
-use Rattle.sec1.specs.Points.{Point, identity, uncompressed, hybrid, is_odd, IsPoint, IsEncoding, Fits, fixed_width, tag_byte, enc, meaning, point_from, compressed_point, hybrid_point, x_of, y_of}
+use Rattle.sec1.specs.Points.{Point, identity, uncompressed, hybrid, is_odd, IsPoint, IsEncoding, Fits, fixed_width, tag_byte, enc, meaning, point_from}
+use Rattle.sec1.specs.Points.{compressed_point, hybrid_point, x_of, y_of}
 use Rattle.sec1.specs.PointOrder.{point_cmp, IsBelow}
 use Rattle.sec1.specs.PointOrderLaws.{point_cmp-Equal}
 use Rattle.sec1.specs.Tags.{byte_of, tag_of}
@@ -126,7 +128,8 @@ hybrid_fits : (n : ℕ) (p : Point) → IsPoint n p → IsPoint n (hybrid_point 
 hybrid_fits n identity h = h
 hybrid_fits n p h = h
 
-pub compressed_holds : {N L : ℕ} (p : EncodedPoint N L) (front : List ℕ) → front ≡ enc N (compressed_point (point_of p)) → Holds N front (compressed_point (point_of p))
+pub compressed_holds : {N L : ℕ} (p : EncodedPoint N L) (front : List ℕ) → front ≡ enc N (compressed_point (point_of p))
+    → Holds N front (compressed_point (point_of p))
 compressed_holds {N} p front e = holds N front (compressed_point (point_of p)) (compressed_fits N (point_of p) (point_fits p)) e
 
 x_front : (n x y tag : ℕ) (rest : List ℕ) → take (n + 1) (tag ∷ (fixed_width n x ++ fixed_width n y) ++ rest) ≡ tag ∷ fixed_width n x
@@ -166,23 +169,17 @@ number_fits : (n : ℕ) (x : List ℕ) → length x ≡ n → IsBytes x → num 
 number_fits n x e h = rw (← e) (num-below x h)
 
 -- The tag, x and y, written into a buffer one after the other, are the uncompressed point.
-pub halves_hold : (n l k tag : ℕ) (buffer written_x written_y x y : List ℕ) → l ≡ 2 * n + 1 → length buffer ≡ l → tag ≡ 4
-    → written_x ≡ x → written_y ≡ y → length x ≡ n → length y ≡ n → IsBytes x → IsBytes y
-    → Holds n (take l (put_mid (n + 1) k (put_mid 1 (n + 1 - 1) (set buffer 0 tag) written_x) written_y)) (uncompressed (num x) (num y))
+pub halves_hold : (n l k : ℕ) (buffer x y : List ℕ) → l ≡ 2 * n + 1 → length buffer ≡ l → length x ≡ n → length y ≡ n → IsBytes x → IsBytes y
+    → Holds n (take l (put_mid (n + 1) k (put_mid 1 (n + 1 - 1) (set buffer 0 4) x) y)) (uncompressed (num x) (num y))
 unfolding enc
-halves_hold n l k tag [] written_x written_y x y el eb et wx wy ex ey hx hy = absurd (omega arith)
-halves_hold n l k tag (b ∷ buffer) written_x written_y x y el eb et wx wy ex ey hx hy =
-    let tagged = set (b ∷ buffer) 0 tag in
-    let long : length tagged ≡ l = eb in
-    let long_x : length written_x ≡ n = ap length wx ∙ ex in
-    let long_y : length written_y ≡ n = ap length wy ∙ ey in
-    let with_x = put_mid 1 (n + 1 - 1) tagged written_x in
-    let whole : length with_x ≡ l = omega (arith, length-append written_x (drop (n + 1 - 1) buffer), length-drop (n + 1 - 1) buffer) in
-    let front =
-    take-put_mid (n + 1) k with_x written_y l (omega arith) (omega arith)
-    ∙ ap (λ (front : List ℕ). front ++ written_y) (take-put_mid 1 (n + 1 - 1) tagged written_x (n + 1) (omega arith) (omega arith))
-    ∙ (rw (et, wx, wy, fixed_width-num n x hx ex, fixed_width-num n y hy ey) refl) in
-    holds n _ (uncompressed (num x) (num y)) (number_fits n x ex hx, number_fits n y ey hy) front
+halves_hold n l k [] x y el eb ex ey hx hy = absurd (omega arith)
+halves_hold n l k (b ∷ buffer) x y el eb ex ey hx hy =
+    let with_x = put_mid 1 (n + 1 - 1) (4 ∷ buffer) x in
+    let whole : length with_x ≡ l = omega (arith, length-append x (drop (n + 1 - 1) buffer), length-drop (n + 1 - 1) buffer) in
+    let front : take (n + 1) with_x ≡ 4 ∷ x = take-put_mid 1 (n + 1 - 1) (4 ∷ buffer) x (n + 1) (omega arith) (omega arith) in
+    let all = take-put_mid (n + 1) k with_x y l (omega arith) (omega arith) in
+    let written = all ∙ rw (front, fixed_width-num n x hx ex, fixed_width-num n y hy ey) refl in
+    holds n _ (uncompressed (num x) (num y)) (number_fits n x ex hx, number_fits n y ey hy) written
 
 -- ---- reading bytes
 

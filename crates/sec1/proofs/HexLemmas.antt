@@ -1,5 +1,6 @@
 -- Texts of digits whose letters are of one case.
-use Rattle.std.proofs.Common.{◌≡◌, ℕ, zero, suc, ◌+◌, ◌*◌, ◌/◌, ◌%◌, ◌<◌, Bool, true, false, not, cond, List, [], ◌∷◌, ◌++◌, length, get_or, take, Option, Some, Result, Ok, Err}
+use Rattle.std.proofs.Common.{◌≡◌, ℕ, zero, suc, ◌+◌, ◌*◌, ◌/◌, ◌%◌, ◌<◌, Bool, true, false, not, cond, List, [], ◌∷◌, ◌++◌, length, get_or, take, Option}
+use Rattle.std.proofs.Common.{Some, Result, Ok, Err}
 use Rattle.std.proofs.Common.{refl, sym, ap, ◌∙◌, arith, inl, inr, slice_index}
 use Rattle.std.specs.Prelude.{is_ok, MatchResult}
 use Rattle.std.specs.Char.{is_ascii_uppercase, is_ascii_lowercase}
@@ -8,9 +9,11 @@ use Rattle.std.specs.List.{list_any}
 use Rattle.std.proofs.lemmas.Bool.{cases_Bool}
 use Rattle.std.proofs.lemmas.List.{take_more}
 use Rattle.std.proofs.lemmas.List.FromFn.{get_or-map-range_with_len}
-use Rattle.hex.specs.Hex.{IsBytes, encode_with, encode_upper, upper_digits, lower_digits, hex_digit_value, decode_of, decode_pairs, decode_sized, digit_or_error, ◌>>=◌}
+use Rattle.hex.specs.Hex.{IsBytes, encode_with, encode_upper, upper_digits, lower_digits, hex_digit_value, decode_of, decode_pairs, decode_sized}
+use Rattle.hex.specs.Hex.{digit_or_error, ◌>>=◌}
 use Rattle.hex.specs.declared.error.FromHexError.{FromHexError}
-use Rattle.hex.proofs.HexLemmas.{length-encode_with, decode_of-encode_upper, decode_of-encode_lower, decode_of-ok, decode_of-even, decode_sized-twice, decode_sized-ok}
+use Rattle.hex.proofs.HexLemmas.{length-encode_with, decode_of-encode_upper, decode_of-encode_lower, decode_of-ok, decode_of-even, decode_sized-twice}
+use Rattle.hex.proofs.HexLemmas.{decode_sized-ok}
 use Rattle.sec1.specs.HexTexts.{IsHexOf, is_one_case}
 
 -- ---- the digits of a case
@@ -114,14 +117,18 @@ decodes text new bytes n r k h f v =
 
 -- ---- writing a text byte by byte
 
-encode_push : (table xs : List ℕ) (v : ℕ) → encode_with table (xs ++ v ∷ []) ≡ encode_with table xs ++ slice_index table (v / 16) ∷ slice_index table (v % 16) ∷ []
+encode_push : (table xs : List ℕ) (v : ℕ)
+    → encode_with table (xs ++ v ∷ []) ≡ encode_with table xs ++ slice_index table (v / 16) ∷ slice_index table (v % 16) ∷ []
 unfolding encode_with
 encode_push table [] v = refl
 encode_push table (x ∷ xs) v = rw (encode_push table xs v) refl
 
 -- One byte more.
 pub encode_more : (bytes : List ℕ) (i : ℕ) → i < length bytes → get_or bytes i 0 < 256
-    → encode_upper (take i bytes) ++ (digit_glyph true (get_or bytes i 0 / 16) ∷ digit_glyph true (get_or bytes i 0 % 16) ∷ []) ≡ encode_upper (take (i + 1) bytes)
+    → encode_upper (take i bytes) ++ (digit_glyph true (get_or bytes i 0 / 16) ∷ digit_glyph true (get_or bytes i 0 % 16) ∷ [])
+    ≡ encode_upper (take (i + 1) bytes)
 encode_more bytes i h small =
     let b = get_or bytes i 0 in
-    rw (take_more bytes i 0 h, encode_push upper_digits (take i bytes) b, digits_of-at false (b / 16) (omega arith), digits_of-at false (b % 16) (omega arith)) refl
+    let high = digits_of-at false (b / 16) (omega arith) in
+    let low = digits_of-at false (b % 16) (omega arith) in
+    rw (take_more bytes i 0 h, encode_push upper_digits (take i bytes) b, high, low) refl

@@ -43,7 +43,8 @@ behind_none None = refl
 behind_none (Some bytes) = refl
 
 options_spelled : (parameters public_key : Option (List ℕ))
-    → SpellsTrees (NameCurve parameters) (parameters_field parameters ++ public_key_field public_key) (join (parameters_piece parameters) (public_key_piece public_key))
+    → SpellsTrees (NameCurve parameters) (parameters_field parameters ++ public_key_field public_key)
+    (join (parameters_piece parameters) (public_key_piece public_key))
 options_spelled None public_key = rw (behind_none (public_key_piece public_key)) (public_key_spelled public_key)
 options_spelled (Some arcs) public_key =
     first_spelled (λ q. (q, tt)) (λ q u. q) (field_spelled 0xA0 (search rules) (search rules) (curve_spelled arcs)) (public_key_spelled public_key)
@@ -83,3 +84,8 @@ key_without key none bytes is = absurd (cc (none, key_written key bytes is))
 -- A key that has none has no element.
 pub key_lacks : (key : Key) → HasNoBytes key → element_of 0x30 (key_content key) ≡ None
 key_lacks key none = grind (arith, key_found key)
+
+-- What the keys have to do with what is written, and with its length.
+pub ruleset written_keys = (key_written, key_lacks, key_found, key_without)
+
+pub ruleset counted_keys = (key_written, key_lacks, key_found_with, key_without)

@@ -1,24 +1,29 @@
 -- Points, tags and encodings.
-use Rattle.std.proofs.Common.{◌≡◌, ℕ, suc, ◌+◌, ◌-◌, ◌*◌, ◌%◌, ◌^◌, ◌<◌, ◌≤◌, true, false, cond, List, [], ◌∷◌, ◌++◌, length, get_or, take, drop, refl, sym, ap, ◌∙◌, arith}
+use Rattle.std.proofs.Common.{◌≡◌, ℕ, suc, ◌+◌, ◌-◌, ◌*◌, ◌%◌, ◌^◌, ◌<◌, ◌≤◌, true, false, cond, List, [], ◌∷◌, ◌++◌, length, get_or, take, drop, refl, sym}
+use Rattle.std.proofs.Common.{ap, ◌∙◌, arith}
 use Rattle.std.proofs.Common.{append_assoc, append-nil}
 use Rattle.std.specs.Prelude.{◌↔◌}
 use Rattle.std.proofs.Math.Nat.{pow-le-pow_right}
 use Rattle.std.proofs.lemmas.List.{take_at, drop_at, take_all, length-drop, get_or-drop, length-append, nil_from_length, length-take, take-append-drop}
 use Rattle.hex.specs.Hex.{IsBytes}
 use Rattle.sec1_der.specs.Numbers.{num}
+use Rattle.sec1_der.proofs.DigitLemmas.{IsBytes-take}
 use Rattle.sec1_der.specs.Elements.{IsProperBeginning}
-use Rattle.sec1.specs.Points.{Point, identity, compact, compressed, uncompressed, hybrid, is_odd, IsPoint, IsEncoding, fixed_width, tag_byte, coordinate_bytes, enc, meaning}
+use Rattle.sec1.specs.Points.{Point, identity, compact, compressed, uncompressed, hybrid, is_odd, IsPoint, IsEncoding, fixed_width, tag_byte}
+use Rattle.sec1.specs.Points.{coordinate_bytes, enc, meaning}
 use Rattle.sec1.specs.Tags.{byte_of, tag_of, message_len, is_hybrid}
 use Rattle.sec1.specs.declared.point.tag.Tag.{Tag}
 use Rattle.sec1.specs.declared.point.tag.Tag.TheVariants as tags
-use Rattle.sec1.proofs.DigitLemmas.{IsBytes-nil, IsBytes-cons, IsBytes-tail, IsBytes-append, IsBytes-take, IsBytes-drop, length-fixed_width, IsBytes-fixed_width, num-below, num-fixed_width, fixed_width-num, parity_of_last}
+use Rattle.sec1.proofs.DigitLemmas.{IsBytes-nil, IsBytes-cons, IsBytes-tail, IsBytes-append, IsBytes-drop, length-fixed_width}
+use Rattle.sec1.proofs.DigitLemmas.{IsBytes-fixed_width, num-below, num-fixed_width, fixed_width-num, parity_of_last}
 
 -- ---- tags
 
 -- The tag of a byte that has one.
 abbrev tag_at : ℕ → Tag
 tag_at b =
-    get_or (tags.Identity ∷ tags.Identity ∷ tags.CompressedEvenY ∷ tags.CompressedOddY ∷ tags.Uncompressed ∷ tags.Compact ∷ tags.HybridEvenY ∷ []) b tags.HybridOddY
+    let even = tags.Compact ∷ tags.HybridEvenY ∷ [] in
+    get_or (tags.Identity ∷ tags.Identity ∷ tags.CompressedEvenY ∷ tags.CompressedOddY ∷ tags.Uncompressed ∷ even) b tags.HybridOddY
 
 tag_at-byte_of : (tag : Tag) → tag_at (byte_of tag) ≡ tag
 tag_at-byte_of tags.Identity = refl
@@ -84,7 +89,9 @@ num_first : (n x : ℕ) (r : List ℕ) → x < 256 ^ n → num (take n (fixed_wi
 num_first n x r h = rw (take_at (fixed_width n x) r n (length-fixed_width n x)) (num-fixed_width n x h)
 
 num_second : (n x y : ℕ) (r : List ℕ) → y < 256 ^ n → num (take n (drop n (fixed_width n x ++ fixed_width n y ++ r))) ≡ y
-num_second n x y r h = rw (append_assoc (fixed_width n x) (fixed_width n y) r, drop_at (fixed_width n x) (fixed_width n y ++ r) n (length-fixed_width n x)) (num_first n y r h)
+num_second n x y r h =
+    let behind = drop_at (fixed_width n x) (fixed_width n y ++ r) n (length-fixed_width n x) in
+    rw (append_assoc (fixed_width n x) (fixed_width n y) r, behind) (num_first n y r h)
 
 -- An encoding means its point, whatever follows it.
 pub meaning-enc-append : (n : ℕ) (p : Point) (r : List ℕ) → IsPoint n p → meaning n (enc n p ++ r) ≡ p

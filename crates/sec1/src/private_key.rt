@@ -82,7 +82,7 @@ impl<'a> EcPrivateKey<'a> {
     /// # Errors
     ///
     /// [`Error::Asn1`] of Overlength if the content of an element would be longer than 268,435,455 bytes.
-    #[tactic(auto, using(crate::proofs::KeyLemmas::key_written, crate::proofs::KeyLemmas::key_lacks, crate::proofs::KeyLemmas::key_found_with, crate::proofs::KeyLemmas::key_without))]
+    #[tactic(auto, using(crate::proofs::KeyLemmas::counted_keys))]
     pub fn encoded_len(&self) -> Result<usize>
         ensures none { HasNoBytes self.now → RefusesAsn1 result ErrorKind.Overlength }
         ensures some { (bytes : List ℕ) → IsKeyOf self.now bytes → result ≡ Ok (length bytes) }
@@ -100,7 +100,7 @@ impl<'a> EcPrivateKey<'a> {
     ///
     /// Those of [`encoded_len`](EcPrivateKey::encoded_len), then [`Error::Asn1`] of Buffer if the slice is too short. The
     /// whole slice is unchanged then.
-    #[tactic(auto, using(crate::proofs::KeyLemmas::key_written, crate::proofs::KeyLemmas::key_lacks, crate::proofs::KeyLemmas::key_found_with, crate::proofs::KeyLemmas::key_without))]
+    #[tactic(auto, using(crate::proofs::KeyLemmas::counted_keys))]
     pub fn encode_to_slice(&self, buffer: &mut [u8]) -> Result<usize>
         ensures none { HasNoBytes self.now → RefusesAsn1 result ErrorKind.Overlength
             × (buffer.new ≡ buffer.old) }
@@ -124,7 +124,7 @@ impl<'a> EcPrivateKey<'a> {
     /// # Errors
     ///
     /// Those of [`encoded_len`](EcPrivateKey::encoded_len), then [`Error::Memory`] if the allocation fails.
-    #[tactic(auto, using(crate::proofs::KeyLemmas::key_written, crate::proofs::KeyLemmas::key_lacks, crate::proofs::KeyLemmas::key_found, crate::proofs::KeyLemmas::key_without))]
+    #[tactic(auto, using(crate::proofs::KeyLemmas::written_keys))]
     pub fn to_der(&self, alloc: Global) -> Result<Vec<u8>>
         ensures none { HasNoBytes self.now → RefusesAsn1 result ErrorKind.Overlength }
         ensures some { (bytes : List ℕ) → IsKeyOf self.now bytes
@@ -157,7 +157,7 @@ impl<'a> EcPrivateKey<'a> {
     /// # Errors
     ///
     /// Those of [`to_der`](EcPrivateKey::to_der).
-    #[tactic(auto, using(crate::proofs::KeyLemmas::key_written, crate::proofs::KeyLemmas::key_lacks, crate::proofs::KeyLemmas::key_found, crate::proofs::KeyLemmas::key_without))]
+    #[tactic(auto, using(crate::proofs::KeyLemmas::written_keys))]
     pub fn document_ref(&self, alloc: Global) -> Result<SecretDocument>
         ensures none { HasNoBytes self.now → RefusesAsn1 result ErrorKind.Overlength }
         ensures some { (bytes : List ℕ) → IsKeyOf self.now bytes

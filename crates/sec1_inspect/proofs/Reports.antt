@@ -1,5 +1,6 @@
 -- What was read and written is the report on the whole input.
-use Rattle.std.proofs.Common.{◌≡◌, ◌+◌, ◌⊎◌, ℕ, inl, inr, List, ◌++◌, length, Option, Some, None, IfSome, Result, Ok, Err, IfOk, OnOk, arith, sym, ap, subst, ◌∙◌, append-nil, length-append}
+use Rattle.std.proofs.Common.{◌≡◌, ◌+◌, ◌⊎◌, ℕ, inl, inr, List, ◌++◌, length, Option, Some, None, IfSome, Result, Ok, Err, IfOk, OnOk, arith, sym, ap}
+use Rattle.std.proofs.Common.{subst, ◌∙◌, append-nil, length-append}
 use Rattle.std.specs.Io.KnownBytes.{Appends, Consumes, IsAtEnd}
 use Rattle.sec1_inspect.specs.declared.Fault.{Fault}
 use Rattle.sec1_inspect.specs.Report.{IsReportUnlessLong, limit}

@@ -76,7 +76,7 @@ struct Coordinate<'a, const N: usize>(&'a [u8; N]);
 
 impl<const N: usize> Coordinate<'_, N> {
     /// Returns `true` if the bytes are the same.
-    #[tactic(auto, using(crate::proofs::CoordinateLemmas::first_none, crate::proofs::CoordinateLemmas::first_more, crate::proofs::CoordinateLemmas::first_same, crate::proofs::CoordinateLemmas::first_apart))]
+    #[tactic(auto, using(crate::proofs::CoordinateLemmas::compared_bytes))]
     fn is(self, other: Self) -> bool
         ensures { result ≡ bytes_eq (first_bytes N self.entry.0.now) (first_bytes N other.entry.0.now) }
     {

@@ -34,7 +34,8 @@ impl<const N: usize, const L: usize> Eq for EncodedPoint<N, L> {
 impl<const N: usize, const L: usize> PartialOrd for EncodedPoint<N, L> {
     ghost partial_cmp = { λ p q. Some (point_cmp (point_of p) (point_of q)) };
 
-    ghost laws = { partial_order_from_agreeing_total (λ p q. point_cmp (point_of p) (point_of q)) (on_total (λ p. point_of p) point_cmp_total) (λ p q. refl) (λ p q. refl) };
+    ghost laws = { partial_order_from_agreeing_total (λ p q. point_cmp (point_of p) (point_of q))
+        (on_total (λ p. point_of p) point_cmp_total) (λ p q. refl) (λ p q. refl) };
 
     fn partial_cmp(&self, other: &Self) -> Option<Ordering> {
         Some(self.cmp(other))

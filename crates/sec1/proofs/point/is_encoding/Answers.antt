@@ -12,7 +12,9 @@ returns-in_default c = (λ h. absurd cc, λ h. absurd (encoding_some c.args.n c.
 pub returns-in_default-from_u8 : goal.returns-in_default-from_u8
 returns-in_default-from_u8 c = (
   λ h. absurd cc,
-  λ h. absurd (c.in_default-from_u8.ensures.none (tag_of (meaning c.args.n c.args.input.now)) (encoding_tag c.args.n c.in-Some.first.now c.in-Some.rest.now c.args.input.now c.in-Some.ensures.cases.0 h)),
+  λ h.
+      let is = encoding_tag c.args.n c.in-Some.first.now c.in-Some.rest.now c.args.input.now c.in-Some.ensures.cases.0 h in
+      absurd (c.in_default-from_u8.ensures.none (tag_of (meaning c.args.n c.args.input.now)) is),
 )
 
 passes : (c : After-message_len) → Passes c.args.n c.in-Ok.tag c.in-Some.rest.now ↔ IsEncoding c.args.n c.args.input.now

@@ -26,6 +26,8 @@ returns g c =
     let front = take_at out (drop half buffer) half len in
     record {
       found = search rules;
-      only = λ p fit fits spelled. c.from_bytes.ensures.only p fit fits (front ∙ (c.decode_digits.ensures.only (enc g.row.N p) (IsBytes-enc g.row.N p) spelled).1);
+      only = λ p fit fits spelled.
+          let decoded = c.decode_digits.ensures.only (enc g.row.N p) (IsBytes-enc g.row.N p) spelled in
+          c.from_bytes.ensures.only p fit fits (front ∙ decoded.1);
       kind = c.from_bytes.ensures.kind;
     }

@@ -6,7 +6,8 @@ use Rattle.sec1.proofs.EncodedPointLemmas.{Holds, hybrid_holds}
 use Rattle.sec1.proofs.point.EncodedPoint.to_hybrid.Goals as goal
 use Rattle.sec1.proofs.point.EncodedPoint.to_hybrid.Goals.{After-from}
 
-new_front : (g : _) (c : After-from g) → Holds g.row.N (take c.args.self.now.len (set c.args.self.now.bytes 0 c.from.result)) (hybrid_point (point_of c.args.self.now))
+new_front : (g : _) (c : After-from g)
+    → Holds g.row.N (take c.args.self.now.len (set c.args.self.now.bytes 0 c.from.result)) (hybrid_point (point_of c.args.self.now))
 new_front g c =
     let tag = rw (← lent_whole g.row.N c.in-Uncompressed.y.now c.in-Uncompressed.ensures.whole.1) at (c.from.ensures ∙ c.hybrid_y-tag.ensures) in
     hybrid_holds c.args.self.now _ _ c.from.result (omega (arith, c.args.self.now.room)) c.in-Uncompressed.ensures.point tag

@@ -9,7 +9,8 @@ returns-then-is_one_case-clause-decoded c = λ h.
 
 pub returns-then-is_one_case-clause-only : goal.returns-then-is_one_case-clause-only
 returns-then-is_one_case-clause-only c = λ bytes f h.
-    let d = decodes c.args.text.now c.decode_to_slice.new.out bytes (length c.args.out.now) c.decode_to_slice.result c.requires h f c.decode_to_slice.ensures.value in
+    let out = c.decode_to_slice.new.out in
+    let d = decodes c.args.text.now out bytes (length c.args.out.now) c.decode_to_slice.result c.requires h f c.decode_to_slice.ensures.value in
     (c.is_ok.ensures.value ∙ d.0, d.1)
 
 pub returns-else-is_one_case-clause-only : goal.returns-else-is_one_case-clause-only
