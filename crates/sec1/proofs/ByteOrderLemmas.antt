@@ -45,7 +45,8 @@ slice_cmp-num xs ys hx hy e = slice_cmp-after 0 0 xs ys hx hy e
 slice_cmp-digits : (n x y : ℕ) → x < 256 ^ n → y < 256 ^ n → slice_cmp nat_cmp (fixed_width n x) (fixed_width n y) ≡ nat_cmp x y
 slice_cmp-digits n x y hx hy =
     let len = length-fixed_width n x ∙ sym (length-fixed_width n y) in
-    slice_cmp-num (fixed_width n x) (fixed_width n y) (IsBytes-fixed_width n x) (IsBytes-fixed_width n y) len ∙ (rw (num-fixed_width n x hx, num-fixed_width n y hy) refl)
+    slice_cmp-num (fixed_width n x) (fixed_width n y) (IsBytes-fixed_width n x) (IsBytes-fixed_width n y) len
+    ∙ (rw (num-fixed_width n x hx, num-fixed_width n y hy) refl)
 
 -- Fronts of one length are compared first.
 slice_cmp-append : (a b c d : List ℕ) → length a ≡ length c

@@ -1,5 +1,6 @@
 //! Laws of the definitions, of the constants and of `==`, for callers to cite. Each law is the contract of a function,
 //! which does nothing else.
+
 ghost use Rattle.std.specs.Prelude.{◌≡◌, ◌⊎◌, ◌↔◌, List, [], ◌∷◌, ℕ, Some, false, IsTrue};
 ghost use Rattle.sec1.specs.Examples.{p_256_bytes, p_256_key, p_256_point, p_256_base, p_256_base_compressed};
 ghost use Rattle.sec1.specs.Coordinates.{lent_bytes};

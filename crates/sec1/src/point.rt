@@ -2,16 +2,17 @@
 //!
 //! No call here tests that a point lies on a curve, or that a coordinate is below a field's modulus.
 
-ghost use Rattle.std.specs.Prelude.{◌≡◌, ◌+◌, ◌*◌, ◌<◌, ◌≤◌, ◌^◌, ◌↔◌, if◌then◌else◌, length, slice_index, take, drop, set, IsTrue, IfSome};
-ghost use Rattle.std.specs.Option.{option_map};
-ghost use Rattle.sec1_der.specs.Numbers.{num};
-ghost use Rattle.sec1.specs.Points.{identity, uncompressed, IsEncoding, meaning, enc, Fits, compressed_point, hybrid_point, x_of, y_of};
-
 mod coordinates;
 mod order;
 mod select;
 mod tag;
 mod text;
+
+// What speaks of `EncodedPoint` is imported in the blocks below, since its ghost fields come before that.
+ghost use Rattle.std.specs.Prelude.{◌≡◌, ◌+◌, ◌*◌, ◌<◌, ◌≤◌, ◌^◌, ◌↔◌, if◌then◌else◌, length, slice_index, take, drop, set, IsTrue, IfSome};
+ghost use Rattle.std.specs.Option.{option_map};
+ghost use Rattle.sec1_der.specs.Numbers.{num};
+ghost use Rattle.sec1.specs.Points.{identity, uncompressed, IsEncoding, meaning, enc, Fits, compressed_point, hybrid_point, x_of, y_of};
 
 use crate::error::{Error, Result};
 pub use coordinates::Coordinates;

@@ -4,7 +4,9 @@ ghost use Rattle.std.specs.Prelude.{◌≡◌, length, bytes_eq};
 ghost use Rattle.sec1_der.specs.Numbers.{num};
 ghost use Rattle.sec1.specs.Points.{point_from};
 ghost use Rattle.sec1.specs.Tags.{byte_of, tag_of};
-ghost use Rattle.sec1.specs.Coordinates.{AreWhole, first_bytes, lent_point};
+ghost use Rattle.sec1.specs.Coordinates.{AreWhole, first_bytes, lent_point, same_parts};
+ghost use Rattle.sec1.specs.CoordinateLaws.{same_parts_equiv};
+ghost use Rattle.std.specs.Cmp.{partial_equiv_from_equiv};
 
 use super::Tag;
 use std::fmt;
@@ -102,10 +104,6 @@ impl<const N: usize> fmt::Debug for Coordinate<'_, N> {
 
 /// Two are equal if the variant, the flag and each byte are the same.
 impl<const N: usize> PartialEq for Coordinates<'_, N> {
-    ghost use Rattle.sec1.specs.Coordinates.{same_parts};
-    ghost use Rattle.sec1.specs.CoordinateLaws.{same_parts_equiv};
-    ghost use Rattle.std.specs.Cmp.{partial_equiv_from_equiv};
-
     ghost eq = { same_parts };
 
     ghost laws = { partial_equiv_from_equiv same_parts_equiv };
@@ -144,8 +142,6 @@ impl<const N: usize> PartialEq for Coordinates<'_, N> {
 }
 
 impl<const N: usize> Eq for Coordinates<'_, N> {
-    ghost use Rattle.sec1.specs.CoordinateLaws.{same_parts_equiv};
-
     ghost laws = { same_parts_equiv };
 }
 
