@@ -10,7 +10,6 @@ use Rattle.sec1_c.specs.KeyPlaces.{ArePartsOf, AreWithin, GiveAgain}
 use Rattle.sec1_c.specs.Places.{IsPart, IsWithin, bytes_at}
 use Rattle.sec1_c.specs.declared.part.Part.{Part}
 use Rattle.sec1_c.specs.declared.key.KeyParts.{KeyParts}
-use Rattle.sec1_c.proofs.TextLemmas.{length-base128}
 
 pub given_is : (key : Key) (private content public : List ℕ) (has : ℕ) (parameters public_key : Option (List ℕ))
     → IsGiven key private content public has → key.parameters ≡ parameters → public_key ≡ public_key_if has public
@@ -24,10 +23,8 @@ content_some : (arcs content : List ℕ) → IsIdentifier arcs content → conte
 content_some [] content is none = absurd is.spells.allowed
 content_some (a ∷ []) content is none = absurd is.spells.allowed
 content_some (a ∷ b ∷ further) content is none =
-    let whole = length-append (base128 (40 * a + b)) (flat_map base128 further) in
-    let size = length-base128 (40 * a + b) in
-    let empty = ap length (sym is.spells.spelled ∙ none) in
-    absurd (omega (arith, whole, size, empty))
+    let empty = simp length-append at (ap length (sym is.spells.spelled ∙ none)) in
+    absurd (omega (arith, empty))
 
 -- no content gives no curve
 pub no_curve : (content : List ℕ) (parameters : Option (List ℕ)) → IsCurveOf content parameters → content ≡ [] → parameters ≡ None

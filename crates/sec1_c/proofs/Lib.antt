@@ -3,5 +3,4 @@ pub mod PlaceLemmas
 pub mod PointLemmas
 pub mod StatusLemmas
 pub mod GivenLemmas
-pub mod DigitLemmas
 pub mod TextLemmas

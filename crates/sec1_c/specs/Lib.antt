@@ -6,5 +6,4 @@ pub mod GivenKeys
 pub mod FieldLengths
 pub mod PointPlaces
 pub mod IdentifierTexts
-pub mod BinaryNumbers
 pub mod Documents
