@@ -1,6 +1,6 @@
 pub mod FieldLemmas
+pub mod GivenLemmas
+pub mod PartLemmas
 pub mod PlaceLemmas
 pub mod PointLemmas
-pub mod StatusLemmas
-pub mod GivenLemmas
 pub mod TextLemmas

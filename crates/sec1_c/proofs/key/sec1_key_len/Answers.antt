@@ -2,12 +2,6 @@ use Rattle.std.proofs.Common.{◌≡◌, subst}
 use Rattle.sec1.specs.Keys.{Key, IsKeyOf}
 use Rattle.sec1_c.proofs.key.sec1_key_len.Goals as goal
 
-pub returns-clause-no_curve : goal.returns-clause-no_curve
-returns-clause-no_curve c lacks = absurd (lacks _ c.in-Some.ensures.found.curve_is)
-
-pub returns-clause-too_long : goal.returns-clause-too_long
-returns-clause-too_long c long = c.store_len.ensures.none (long.no_bytes _ c.in-Some.ensures.found)
-
 pub returns-clause-key : goal.returns-clause-key
 returns-clause-key c key bytes given is =
     let found = c.in-Some.ensures.only key given in
