@@ -40,19 +40,24 @@ public_stands input front (Some bytes) split = field_stands 0xA1 0x03 (0 ∷ [])
 
 -- ---- all of it
 
+-- the bytes of the fields [0] and [1]
 abbrev curve_field : Key → List ℕ
 curve_field key = bytes_of (parameters_field key.parameters)
 
 abbrev public_field : Key → List ℕ
 public_field key = bytes_of (public_key_field key.public_key)
 
+-- where the field [0] ends, and where the private key does
+abbrev curve_end : Key → List ℕ → ℕ
+curve_end key input = length input - length (public_field key)
+
 abbrev private_key_end : Key → List ℕ → ℕ
-private_key_end key input = length input - length (public_field key) - length (curve_field key)
+private_key_end key input = curve_end key input - length (curve_field key)
 
 -- each part of the key stands before the fields behind it
 pub record Stand (key : Key) (input : List ℕ) : Type 0 where
   pub private_key : StandsAt input (part_before (private_key_end key input) (Some (length key.private_key))) key.private_key
-  pub curve : IsPart input (part_before (length input - length (public_field key)) (option_map content_len key.parameters)) (option_map content_of key.parameters)
+  pub curve : IsPart input (part_before (curve_end key input) (option_map content_len key.parameters)) (option_map content_of key.parameters)
   pub public_key : IsPart input (part_before (length input) (option_map (λ bytes. length bytes) key.public_key)) key.public_key
 
 stand_behind : (key : Key) (input front : List ℕ) → input ≡ front ++ (key.private_key ++ (curve_field key ++ public_field key)) → Stand key input

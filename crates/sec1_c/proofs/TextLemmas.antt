@@ -15,13 +15,14 @@ use Rattle.std.specs.Str.{IsAscii, IsUtf8}
 use Rattle.sec1_der.specs.ArcsOf.{arcs_of_numbers, numbers_after}
 use Rattle.sec1_der.specs.Identifiers.{IsIdentifier, dotted}
 use Rattle.sec1_der.specs.Numbers.{base128, marked}
-use Rattle.sec1_c.specs.IdentifierTexts.{IsTextOf, NumbersFit, further_text}
+use Rattle.sec1_c.specs.IdentifierTexts.{IsTextOf, further_text}
+use Rattle.sec1_c.specs.Subidentifiers.{SubidentifiersFit}
 
 -- ---- the numbers
 
 -- the bytes spell these numbers, where the digits before them spell `high`
 record Spell (high : ℕ) (bytes numbers : List ℕ) : Type 0 where
-  fit : NumbersFit high bytes
+  fit : SubidentifiersFit high bytes
   are : numbers_after high bytes ≡ numbers
 
 digits_spell : (high n : ℕ) (digits rest ns : List ℕ) → AllBelowBase 128 digits → number_from_digits_after 128 high digits ≡ n / 128 → n < 2 ^ 32
@@ -85,7 +86,7 @@ dotted_text a b further = joined_text (decimal a) (b ∷ further) ∙ sym (appen
 
 -- what the content of an identifier gives: its numbers fit, its arcs are read of them, and its text has room
 pub record IsRead (arcs content : List ℕ) : Type 0 where
-  pub fit : NumbersFit 0 content
+  pub fit : SubidentifiersFit 0 content
   pub arcs_are : arcs_of_numbers (numbers_after 0 content) ≡ arcs
   pub room : length (dotted arcs) < 158
 

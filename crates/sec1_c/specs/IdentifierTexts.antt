@@ -1,5 +1,5 @@
 -- Identifiers by their dotted texts.
-use Rattle.std.specs.Prelude.{◌≡◌, ◌+◌, ◌*◌, ◌%◌, ◌^◌, ◌<◌, nat_lt, if◌then◌else◌, ⊤, ℕ, List, [], ◌∷◌, ◌++◌}
+use Rattle.std.specs.Prelude.{◌≡◌, ℕ, List, [], ◌∷◌, ◌++◌}
 use Rattle.std.specs.Fmt.{decimal}
 use Rattle.std.specs.List.{flat_map}
 use Rattle.sec1_der.specs.Identifiers.{IsIdentifier, content_of, dotted}
@@ -20,9 +20,3 @@ IsIdentifierText text = (arcs : List ℕ) × IsTextOf arcs text
 -- the text of further arcs, a full stop in front of each
 abbrev pub further_text : List ℕ → List ℕ
 further_text arcs = flat_map (λ arc. 46 ∷ decimal arc) arcs
-
--- Each number that the digits spell in base 128 (X.690 section 8.19.2) is below 2^32, where those before them spell `high`.
-abbrev pub NumbersFit : ℕ → List ℕ → Type 0
-NumbersFit high [] = ⊤
-NumbersFit high (b ∷ bs) =
-    let n = high * 128 + b % 128 in (n < 2 ^ 32) × NumbersFit (if nat_lt b 128 then 0 else n) bs

@@ -3,7 +3,8 @@ ghost use Rattle.std.specs.Prelude.{◌≡◌, ◌<◌, ◌+◌, ℕ, List, ◌�
 ghost use Rattle.std.specs.Fmt.{decimal};
 ghost use Rattle.sec1_der.specs.ArcsOf.{arcs_of_numbers, numbers_after};
 ghost use Rattle.sec1_der.specs.Identifiers.{dotted};
-ghost use Rattle.sec1_c.specs.IdentifierTexts.{NumbersFit, further_text};
+ghost use Rattle.sec1_c.specs.IdentifierTexts.{further_text};
+ghost use Rattle.sec1_c.specs.Subidentifiers.{SubidentifiersFit};
 
 use arrayvec::ArrayString;
 use itoa::Buffer;
@@ -23,11 +24,11 @@ pub fn dotted(identifier: &ObjectIdentifier) -> Text
     first_text(0, identifier.as_bytes())
 }
 
-/// Returns the dotted text of the identifier whose numbers these bytes spell (X.690 section 8.19.2), where the digits
-/// before them spell `high`.
+/// Returns the dotted text of the identifier whose subidentifiers these bytes spell (X.690 section 8.19.2), where the
+/// digits before them spell `high`.
 #[tactic(auto, using(crate::proofs::TextLemmas::dotted_text))]
 fn first_text(high: u32, bytes: &[u8]) -> Text
-    requires fit { NumbersFit high bytes.now }
+    requires fit { SubidentifiersFit high bytes.now }
     requires room { length (dotted (arcs_of_numbers (numbers_after high bytes.now))) < 158 }
     ensures { result.bytes ≡ dotted (arcs_of_numbers (numbers_after high bytes.now)) }
 {
@@ -46,7 +47,7 @@ fn first_text(high: u32, bytes: &[u8]) -> Text
     text
 }
 
-/// Returns the two arcs in the first number of an identifier (X.690 section 8.19.4).
+/// Returns the two arcs in the first subidentifier (X.690 section 8.19.4).
 fn first_arcs(number: u32) -> (u32, u32)
     ensures { (further : List ℕ) → arcs_of_numbers (number ∷ further) ≡ result.0 ∷ result.1 ∷ further }
 {
@@ -61,7 +62,7 @@ fn first_arcs(number: u32) -> (u32, u32)
 
 /// Appends the arcs that these bytes spell, a full stop in front of each, where the digits before them spell `high`.
 fn push_arcs(text: &mut Text, high: u32, bytes: &[u8])
-    requires fit { NumbersFit high bytes.now }
+    requires fit { SubidentifiersFit high bytes.now }
     requires room { length text.old.bytes + length (further_text (numbers_after high bytes.now)) < 158 }
     ensures { text.new.bytes ≡ text.old.bytes ++ further_text (numbers_after high bytes.now) }
 {

@@ -6,7 +6,8 @@ ghost use Rattle.sec1.specs.EncodedPoints.{point_of};
 ghost use Rattle.sec1.specs.Points.{Point, IsEncoding, Fits, compressed_point, enc, hybrid_point};
 ghost use Rattle.sec1_c.specs.FieldLengths.{Encodes, EncodesBoth};
 ghost use Rattle.sec1_c.specs.Outputs.{Writes, WritesNothing};
-ghost use Rattle.sec1_c.specs.PointPlaces.{ArePointPartsOf, IsOrderOf};
+ghost use Rattle.sec1_c.specs.PointOrders.{IsOrderOf};
+ghost use Rattle.sec1_c.specs.PointPlaces.{ArePointPartsOf};
 ghost use Rattle.sec1_c.specs.Statuses.{error_number};
 
 use super::PointParts;
