@@ -4,8 +4,8 @@ use Rattle.std.specs.Option.{option_map}
 use Rattle.sec1_der.specs.Identifiers.{IsIdentifier, content_of}
 use Rattle.sec1.specs.Keys.{Key, IsKeyOf, NameCurve}
 use Rattle.sec1_c.specs.GivenKeys.{IsCurveOf, public_key_if}
-use Rattle.sec1_c.specs.KeyPlaces.{ArePartsOf, GiveAgain}
-use Rattle.sec1_c.specs.Places.{IsPart, bytes_at}
+use Rattle.sec1_c.specs.KeyPlaces.{ArePartsOf, AreWithin, GiveAgain}
+use Rattle.sec1_c.specs.Places.{IsPart, IsWithin, bytes_at}
 use Rattle.sec1_c.specs.declared.part.Part.{Part}
 use Rattle.sec1_c.specs.declared.key.KeyParts.{KeyParts}
 
@@ -27,6 +27,17 @@ pub curve_is : (arcs content : List ℕ) → IsIdentifier arcs content → IsCur
 curve_is arcs content is = record { content_is = is.spells.spelled; names = subst (IsIdentifier arcs) is.spells.spelled is }
 
 -- ---- the parts that were read
+
+part_within : (input : List ℕ) (part : Part) (bytes : Option (List ℕ)) → IsPart input part bytes → IsWithin input part
+part_within input part None is = let offset = is.offset in let len = is.len in omega (arith, offset, len)
+part_within input part (Some bytes) is = is.within
+
+pub parts_within : (key : Key) (input : List ℕ) (parts : KeyParts) → ArePartsOf key input parts → AreWithin input parts
+parts_within key input parts are = record {
+  private_key = are.private_key.within;
+  curve = part_within input parts.curve _ are.curve;
+  public_key = part_within input parts.public_key _ are.public_key;
+}
 
 curve_again : (input : List ℕ) (part : Part) (parameters : Option (List ℕ)) → NameCurve parameters
     → IsPart input part (option_map content_of parameters) → IsCurveOf (bytes_at input part) parameters

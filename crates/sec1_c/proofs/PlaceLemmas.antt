@@ -1,5 +1,5 @@
 -- Where the parts of a key stand.
-use Rattle.std.proofs.Common.{◌≡◌, ◌+◌, ◌-◌, ◌++◌, ◌∷◌, [], ℕ, List, length, Option, Some, None, refl, ap, ◌∙◌, arith, length-append, append_assoc}
+use Rattle.std.proofs.Common.{◌≡◌, ◌+◌, ◌++◌, ◌∷◌, [], ℕ, List, length, Option, Some, None, refl, ap, ◌∙◌, arith, length-append, append_assoc}
 use Rattle.std.proofs.lemmas.List.{append-nil}
 use Rattle.std.specs.Option.{option_map}
 use Rattle.sec1_der.specs.Elements.{element, header}
@@ -7,7 +7,7 @@ use Rattle.sec1_der.specs.Identifiers.{content_of}
 use Rattle.sec1_der.specs.Trees.{Tree, leaf, node}
 use Rattle.sec1.specs.Keys.{Key, IsKeyOf, fields_of, parameters_field, public_key_field, bytes_of}
 use Rattle.sec1_c.specs.Places.{StandsAt, IsPart, part_before}
-use Rattle.sec1_c.specs.KeyPlaces.{content_len}
+use Rattle.sec1_c.specs.KeyPlaces.{ArePartsOf, content_len, key_places}
 use Rattle.sec1_c.proofs.FieldLemmas.{field_bytes}
 use Rattle.sec1_c.proofs.PartLemmas.{stands_before}
 
@@ -40,31 +40,13 @@ public_stands input front (Some bytes) split = field_stands 0xA1 0x03 (0 ∷ [])
 
 -- ---- all of it
 
--- the bytes of the fields [0] and [1]
-abbrev curve_field : Key → List ℕ
-curve_field key = bytes_of (parameters_field key.parameters)
-
-abbrev public_field : Key → List ℕ
-public_field key = bytes_of (public_key_field key.public_key)
-
--- where the field [0] ends, and where the private key does
-abbrev curve_end : Key → List ℕ → ℕ
-curve_end key input = length input - length (public_field key)
-
-abbrev private_key_end : Key → List ℕ → ℕ
-private_key_end key input = curve_end key input - length (curve_field key)
-
--- each part of the key stands before the fields behind it
-pub record Stand (key : Key) (input : List ℕ) : Type 0 where
-  pub private_key : StandsAt input (part_before (private_key_end key input) (Some (length key.private_key))) key.private_key
-  pub curve : IsPart input (part_before (curve_end key input) (option_map content_len key.parameters)) (option_map content_of key.parameters)
-  pub public_key : IsPart input (part_before (length input) (option_map (λ bytes. length bytes) key.public_key)) key.public_key
-
-stand_behind : (key : Key) (input front : List ℕ) → input ≡ front ++ (key.private_key ++ (curve_field key ++ public_field key)) → Stand key input
-stand_behind key input front split =
+parts_behind : (key : Key) (input front : List ℕ)
+    → input ≡ front ++ (key.private_key ++ (bytes_of (parameters_field key.parameters) ++ bytes_of (public_key_field key.public_key)))
+    → ArePartsOf key input (key_places key input)
+parts_behind key input front split =
     let p = key.private_key in
-    let c = curve_field key in
-    let q = public_field key in
+    let c = bytes_of (parameters_field key.parameters) in
+    let q = bytes_of (public_key_field key.public_key) in
     let lengths = simp length-append at (ap length split) in
     record {
       private_key = stands_before input front p (c ++ q) _ split (simp length-append (omega (arith, lengths)));
@@ -79,11 +61,13 @@ bytes_of-append (t ∷ ts) us = simp (bytes_of-append ts us, append_assoc)
 regroup : (h v o p rest : List ℕ) → h ++ (v ++ ((o ++ p) ++ rest)) ≡ (h ++ (v ++ o)) ++ (p ++ rest)
 regroup h v o p rest = simp append_assoc
 
-pub parts_stand : (key : Key) (input : List ℕ) → IsKeyOf key input → Stand key input
-parts_stand key input is =
+-- the parts of a key are at its places
+pub are_parts : (key : Key) (input : List ℕ) → IsKeyOf key input → ArePartsOf key input (key_places key input)
+are_parts key input is =
+    let p = key.private_key in
     let h = header 0x30 (length (fields_of key)) in
     let v = element 0x02 (1 ∷ []) in
-    let o = header 0x04 (length key.private_key) in
+    let o = header 0x04 (length p) in
     let options = bytes_of-append (parameters_field key.parameters) (public_key_field key.public_key) in
-    let whole = is.tree.whole ∙ ap (λ bytes. h ++ (v ++ ((o ++ key.private_key) ++ bytes))) options in
-    stand_behind key input (h ++ (v ++ o)) (whole ∙ regroup h v o key.private_key (curve_field key ++ public_field key))
+    let whole = is.tree.whole ∙ ap (λ bytes. h ++ (v ++ ((o ++ p) ++ bytes))) options in
+    parts_behind key input (h ++ (v ++ o)) (whole ∙ regroup h v o p _)

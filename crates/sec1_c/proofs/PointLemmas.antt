@@ -4,6 +4,8 @@ use Rattle.std.proofs.lemmas.List.{append-nil}
 use Rattle.std.specs.Option.{option_map}
 use Rattle.sec1.specs.Points.{Point, identity, compact, compressed, uncompressed, hybrid, tag_byte, x_of, y_of, fixed_width, enc}
 use Rattle.sec1_c.specs.FieldLengths.{Encodes}
+use Rattle.sec1_c.specs.declared.point.PointParts.{PointParts}
+use Rattle.sec1_c.specs.PointPlaces.{ArePointPartsOf, point_places}
 use Rattle.sec1_c.specs.Places.{StandsAt, IsPart, part_from}
 use Rattle.sec1_c.proofs.PartLemmas.{stands}
 
@@ -22,7 +24,7 @@ y_at n tag x y input split =
     let x_len = length-fixed_width n x in
     stands input (tag ∷ fixed_width n x) (fixed_width n y) [] (1 + n) n (split ∙ simp append-nil) (omega (arith, x_len)) (length-fixed_width n y)
 
-pub x_stands : (n : ℕ) (p : Point) (input : List ℕ) → Encodes n p input
+x_stands : (n : ℕ) (p : Point) (input : List ℕ) → Encodes n p input
     → IsPart input (part_from 1 (option_map (λ (_ : ℕ). n) (x_of p))) (option_map (fixed_width n) (x_of p))
 unfolding enc
 x_stands n identity input e = record { present = refl; offset = refl; len = refl }
@@ -31,7 +33,7 @@ x_stands n (compressed x odd) input e = x_at n (tag_byte (compressed x odd)) x i
 x_stands n (uncompressed x y) input e = x_at n _ x input _ e.spelled
 x_stands n (hybrid x y) input e = x_at n _ x input _ e.spelled
 
-pub y_stands : (n : ℕ) (p : Point) (input : List ℕ) → Encodes n p input
+y_stands : (n : ℕ) (p : Point) (input : List ℕ) → Encodes n p input
     → IsPart input (part_from (1 + n) (option_map (λ (_ : ℕ). n) (y_of p))) (option_map (fixed_width n) (y_of p))
 unfolding enc
 y_stands n identity input e = record { present = refl; offset = refl; len = refl }
@@ -39,3 +41,8 @@ y_stands n (compact x) input e = record { present = refl; offset = refl; len = r
 y_stands n (compressed x odd) input e = record { present = refl; offset = refl; len = refl }
 y_stands n (uncompressed x y) input e = y_at n _ x y input e.spelled
 y_stands n (hybrid x y) input e = y_at n _ x y input e.spelled
+
+-- the tag and the coordinates of a point are at its places
+pub are_point_parts : (n : ℕ) (p : Point) (input : List ℕ) (parts : PointParts) → Encodes n p input → parts ≡ point_places n p
+    → ArePointPartsOf n p input parts
+are_point_parts n p input parts e is = rw is (record { tag = refl; x = x_stands n p input e; y = y_stands n p input e })

@@ -6,8 +6,8 @@ use sec1_der::{
 };
 use std::test::Fail;
 
-fn kind_of<T: Drop>(result: sec1_der::Result<T>) -> Option<ErrorKind> {
-    match result {
+fn kind_of<T: Drop>(outcome: sec1_der::Result<T>) -> Option<ErrorKind> {
+    match outcome {
         Ok(_) => None,
         Err(e) => Some(e.kind()),
     }

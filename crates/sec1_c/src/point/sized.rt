@@ -7,7 +7,7 @@ ghost use Rattle.sec1.specs.Points.{Point, IsEncoding, Fits, compressed_point, e
 ghost use Rattle.sec1_c.specs.FieldLengths.{Encodes, EncodesBoth};
 ghost use Rattle.sec1_c.specs.Outputs.{Writes, WritesNothing};
 ghost use Rattle.sec1_c.specs.PointOrders.{IsOrderOf};
-ghost use Rattle.sec1_c.specs.PointPlaces.{ArePointPartsOf};
+ghost use Rattle.sec1_c.specs.PointPlaces.{ArePointPartsOf, point_places};
 ghost use Rattle.sec1_c.specs.Statuses.{error_number};
 
 use super::PointParts;
@@ -44,7 +44,7 @@ pub fn read<const N: usize, const L: usize>(bytes: &[u8], parts: &mut PointParts
 {
     match EncodedPoint::<N, L>::from_bytes(bytes) {
         Ok(point) => {
-            *parts = places(bytes, &point);
+            *parts = places(&point);
             OK
         }
         Err(e) => error_number(&e),
@@ -52,11 +52,11 @@ pub fn read<const N: usize, const L: usize>(bytes: &[u8], parts: &mut PointParts
 }
 
 /// Returns the tag of the point, and where its coordinates stand in its encoding.
-fn places<const N: usize, const L: usize>(bytes: &[u8], point: &EncodedPoint<N, L>) -> PointParts
+#[tactic(auto, unfolding(sec1::specs::Points::enc))]
+fn places<const N: usize, const L: usize>(point: &EncodedPoint<N, L>) -> PointParts
     requires fits { Fits N L }
     requires small { L < 134 }
-    requires encodes { Encodes N (point_of point.now) bytes.now }
-    ensures { ArePointPartsOf N (point_of point.now) bytes.now result }
+    ensures { result ≡ point_places N (point_of point.now) }
 {
     PointParts {
         tag: usize::from(u8::from(point.tag())),
