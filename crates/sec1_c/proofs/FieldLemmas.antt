@@ -11,10 +11,11 @@ use Rattle.sec1.specs.declared.parameters.EcParameters.{EcParameters}
 use Rattle.sec1.specs.Keys.{parameters_field, public_key_field, NameCurve, HasRoom, bytes_of}
 use Rattle.sec1.specs.Parameters.{curve_of}
 
+-- the bytes of a field are those of the element around its own
 pub field_bytes : (outer inner : ℕ) (content : List ℕ) → bytes_of (node outer (leaf inner content ∷ []) ∷ []) ≡ element outer (element inner content)
 field_bytes outer inner content = append-nil (element outer (element inner content ++ [])) ∙ ap (element outer) (append-nil (element inner content))
 
--- a field around an element is the tree of both
+-- a field around an element has the bytes of the tree of both
 counted : (number tag : ℕ) (content : List ℕ) → length (element tag content) ≤ max_length
     → field_of number tag (Some (Some content)) ≡ Some (bytes_of (node (0xA0 + number) (leaf tag content ∷ []) ∷ []))
 counted number tag content room =
@@ -23,6 +24,7 @@ counted number tag content room =
     let around = element_of_holds (0xA0 + number) (element_of tag (Some content)) (element tag content) inside room in
     around ∙ ap (λ bytes. Some bytes) (sym (field_bytes (0xA0 + number) tag content))
 
+-- the parameters have the field [0]
 pub parameters_counted : (parameters : Option EcParameters) → NameCurve (option_map curve_of parameters)
     → field_of 0 0x06 (option_map (λ p. identifier_content (curve_of p)) parameters) ≡ Some (bytes_of (parameters_field (option_map curve_of parameters)))
 parameters_counted None curve = refl
@@ -36,6 +38,7 @@ parameters_counted (Some p) curve =
 pub bits_fit : (bytes : List ℕ) → HasRoom (Some bytes) → length bytes < max_length
 bits_fit bytes room = let size = length-element 0x03 (0 ∷ bytes) in omega (arith, room)
 
+-- the public key has the field [1]
 pub public_key_counted : (bytes : List ℕ) → HasRoom (Some bytes)
     → field_of 1 0x03 (Some (Some (0 ∷ bytes))) ≡ Some (bytes_of (public_key_field (Some bytes)))
 public_key_counted bytes room = counted 1 0x03 (0 ∷ bytes) room

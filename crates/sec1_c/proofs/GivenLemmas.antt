@@ -1,4 +1,4 @@
--- The key of given parts is one.
+-- Keys that are given by their parts.
 use Rattle.std.proofs.Common.{◌≡◌, ◌≢◌, ℕ, List, [], ◌∷◌, length, Option, Some, None, refl, ap, sym, subst, ◌∙◌, arith, length-append}
 use Rattle.std.specs.Option.{option_map}
 use Rattle.sec1_der.specs.Identifiers.{IsIdentifier, content_of}
@@ -28,10 +28,12 @@ curve_is arcs content is = record { content_is = is.spells.spelled; names = subs
 
 -- ---- the parts that were read
 
+-- the place of a part is within the input
 part_within : (input : List ℕ) (part : Part) (bytes : Option (List ℕ)) → IsPart input part bytes → IsWithin input part
 part_within input part None is = let offset = is.offset in let len = is.len in omega (arith, offset, len)
 part_within input part (Some bytes) is = is.within
 
+-- the places of a key's parts are within the input
 pub parts_within : (key : Key) (input : List ℕ) (parts : KeyParts) → ArePartsOf key input parts → AreWithin input parts
 parts_within key input parts are = record {
   private_key = are.private_key.within;
@@ -39,11 +41,13 @@ parts_within key input parts are = record {
   public_key = part_within input parts.public_key _ are.public_key;
 }
 
+-- the bytes at the place of the curve give the parameters again
 curve_again : (input : List ℕ) (part : Part) (parameters : Option (List ℕ)) → NameCurve parameters
     → IsPart input part (option_map content_of parameters) → IsCurveOf (bytes_at input part) parameters
 curve_again input part None names is = record { content_is = rw is.len refl; names = names }
 curve_again input part (Some arcs) names is = record { content_is = is.bytes_are; names = names }
 
+-- the bytes at the place of the public key give it again
 public_again : (input : List ℕ) (part : Part) (public_key : Option (List ℕ)) → IsPart input part public_key
     → public_key ≡ public_key_if part.present (bytes_at input part)
 public_again input part None is = rw is.present refl

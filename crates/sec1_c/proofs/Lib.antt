@@ -3,4 +3,5 @@ pub mod GivenLemmas
 pub mod PartLemmas
 pub mod PlaceLemmas
 pub mod PointLemmas
+pub mod SubidentifierLemmas
 pub mod TextLemmas

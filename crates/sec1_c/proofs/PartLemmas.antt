@@ -1,7 +1,11 @@
 -- Where a part of some bytes stands.
 use Rattle.std.proofs.Common.{◌≡◌, ◌+◌, ◌-◌, ◌++◌, ℕ, List, length, take, drop, refl, ap, ◌∙◌, arith, length-append}
 use Rattle.std.proofs.lemmas.List.{take_at, drop_at}
-use Rattle.sec1_c.specs.Places.{StandsAt}
+use Rattle.sec1_c.specs.Places.{IsMissing, StandsAt}
+
+-- a part whose three numbers are 0 is missing
+pub absent : IsMissing (record { offset = 0; len = 0; present = 0 })
+absent = record { present = refl; offset = refl; len = refl }
 
 -- what stands between a front and a rest
 pub stands : (input front part rest : List ℕ) (start len : ℕ) → input ≡ front ++ (part ++ rest) → length front ≡ start → length part ≡ len

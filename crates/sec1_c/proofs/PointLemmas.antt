@@ -7,8 +7,9 @@ use Rattle.sec1_c.specs.FieldLengths.{Encodes}
 use Rattle.sec1_c.specs.declared.point.PointParts.{PointParts}
 use Rattle.sec1_c.specs.PointPlaces.{ArePointPartsOf, point_places}
 use Rattle.sec1_c.specs.Places.{StandsAt, IsPart, part_from}
-use Rattle.sec1_c.proofs.PartLemmas.{stands}
+use Rattle.sec1_c.proofs.PartLemmas.{absent, stands}
 
+-- a number of a fixed width has that many bytes
 length-fixed_width : (width n : ℕ) → length (fixed_width width n) ≡ width
 unfolding fixed_width
 length-fixed_width zero n = refl
@@ -24,21 +25,23 @@ y_at n tag x y input split =
     let x_len = length-fixed_width n x in
     stands input (tag ∷ fixed_width n x) (fixed_width n y) [] (1 + n) n (split ∙ simp append-nil) (omega (arith, x_len)) (length-fixed_width n y)
 
+-- x is at its place, where the point has one
 x_stands : (n : ℕ) (p : Point) (input : List ℕ) → Encodes n p input
     → IsPart input (part_from 1 (option_map (λ (_ : ℕ). n) (x_of p))) (option_map (fixed_width n) (x_of p))
 unfolding enc
-x_stands n identity input e = record { present = refl; offset = refl; len = refl }
+x_stands n identity input e = absent
 x_stands n (compact x) input e = x_at n 5 x input [] (e.spelled ∙ simp append-nil)
 x_stands n (compressed x odd) input e = x_at n (tag_byte (compressed x odd)) x input [] (e.spelled ∙ simp append-nil)
 x_stands n (uncompressed x y) input e = x_at n _ x input _ e.spelled
 x_stands n (hybrid x y) input e = x_at n _ x input _ e.spelled
 
+-- y is at its place, where the encoding has one
 y_stands : (n : ℕ) (p : Point) (input : List ℕ) → Encodes n p input
     → IsPart input (part_from (1 + n) (option_map (λ (_ : ℕ). n) (y_of p))) (option_map (fixed_width n) (y_of p))
 unfolding enc
-y_stands n identity input e = record { present = refl; offset = refl; len = refl }
-y_stands n (compact x) input e = record { present = refl; offset = refl; len = refl }
-y_stands n (compressed x odd) input e = record { present = refl; offset = refl; len = refl }
+y_stands n identity input e = absent
+y_stands n (compact x) input e = absent
+y_stands n (compressed x odd) input e = absent
 y_stands n (uncompressed x y) input e = y_at n _ x y input e.spelled
 y_stands n (hybrid x y) input e = y_at n _ x y input e.spelled
 

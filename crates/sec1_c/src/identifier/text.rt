@@ -17,6 +17,7 @@ const MAX: usize = 158;
 pub type Text = ArrayString<MAX>;
 
 /// Returns the dotted text of an identifier: its arcs in decimal digits, joined by full stops.
+#[tactic(auto, using(crate::proofs::SubidentifierLemmas::content_fits, crate::proofs::SubidentifierLemmas::content_arcs, crate::proofs::TextLemmas::text_room))]
 pub fn dotted(identifier: &ObjectIdentifier) -> Text
     ensures text { result.bytes ≡ dotted identifier.now }
     ensures room { length result.bytes < 158 }
@@ -26,7 +27,7 @@ pub fn dotted(identifier: &ObjectIdentifier) -> Text
 
 /// Returns the dotted text of the identifier whose subidentifiers these bytes spell (X.690 section 8.19.2), where the
 /// digits before them spell `high`.
-#[tactic(auto, using(crate::proofs::TextLemmas::dotted_text))]
+#[tactic(auto, using(crate::proofs::TextLemmas::dotted_text, crate::proofs::TextLemmas::joined_length))]
 fn first_text(high: u32, bytes: &[u8]) -> Text
     requires fit { SubidentifiersFit high bytes.now }
     requires room { length (dotted (arcs_of_numbers (numbers_after high bytes.now))) < 158 }
