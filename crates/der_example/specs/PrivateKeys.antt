@@ -1,5 +1,5 @@
 -- RFC 5208 section 5: the private key container of PKCS #8.
-use Rattle.std.specs.Prelude.{◌≡◌, ℕ, List, [], ◌∷◌, Option, Some}
+use Rattle.std.specs.Prelude.{ℕ, List, [], ◌∷◌, Option, Some}
 use Rattle.sec1.specs.Der.{join, element_of}
 use Rattle.der_example.specs.PublicKeys.{algorithm_content}
 use Rattle.der_example.specs.declared.algorithm.AlgorithmIdentifier.{AlgorithmIdentifier}

@@ -1,5 +1,5 @@
 -- RFC 5280 section 4.1 and RFC 5480 section 2.1: the public key of a certificate.
-use Rattle.std.specs.Prelude.{◌≡◌, ℕ, List, [], ◌∷◌, Option, Some}
+use Rattle.std.specs.Prelude.{ℕ, List, [], ◌∷◌, Option, Some}
 use Rattle.sec1.specs.Der.{join, element_of, identifier_content}
 use Rattle.der_example.specs.declared.algorithm.AlgorithmIdentifier.{AlgorithmIdentifier}
 

@@ -2,7 +2,8 @@
 //!
 //! All of it is proved from the contracts of `sec1` alone, in the words that `sec1` passes on.
 ghost use Rattle.std.specs.Prelude.{◌≡◌, ◌⊎◌, ◌↔◌, ◌≤◌, ◌++◌, ℕ, List, length, Some, IsOk, IfOk, IfErr, IsOkAnd, MatchResult};
-ghost use Rattle.sec1.specs.Der.{max_length, element, element_of, octets_of, tag_of, value_of, header_fault, IsElementOf, IsHeader, IsHeaderFault, LacksHeader, Refuses};
+ghost use Rattle.sec1.specs.Der.{max_length, element, element_of, octets_of, tag_of, value_of, header_fault};
+ghost use Rattle.sec1.specs.Der.{IsElementOf, IsHeader, IsHeaderFault, LacksHeader, Refuses};
 ghost use Rattle.sec1.specs.Errors.{IsAsn1ReadingFault};
 ghost use Rattle.sec1.specs.Keys.{Key, IsKeyOf};
 

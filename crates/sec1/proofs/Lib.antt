@@ -1,10 +1,10 @@
-pub mod KeyTrees
-pub mod KeyLemmas
 pub mod ReadLemmas
-pub mod Digits
+pub mod DigitLemmas
 pub mod PointLemmas
-pub mod Comparisons
-pub mod Buffers
+pub mod PointOrderLemmas
+pub mod ByteOrderLemmas
+pub mod EncodedPointLemmas
 pub mod HexLemmas
-pub mod WriteLemmas
-pub mod Firsts
+pub mod SpelledTreeLemmas
+pub mod KeyLemmas
+pub mod CoordinateLemmas

@@ -1,7 +1,5 @@
 -- Coordinates borrowed as arrays of bytes.
 use Rattle.std.specs.Prelude.{◌≡◌, ℕ, zero, suc, List, [], ◌∷◌, ◌++◌, Bool, if◌then◌else◌, length, ⊤, get_or, bytes_eq}
-use Rattle.std.specs.Cmp.{IsEquivalence}
-use Rattle.std.specs.Cmp.Lexicographic.{on_texts_equal}
 use Rattle.sec1_der.specs.Numbers.{number_of}
 use Rattle.sec1.specs.Points.{Point, identity, compact, compressed, uncompressed, hybrid}
 use Rattle.sec1.specs.declared.point.coordinates.Coordinates.{Coordinates}
@@ -43,6 +41,3 @@ coordinates_bytes {N} (parts.Hybrid x y) = 5 ∷ (first_bytes N x.now ++ first_b
 -- the same variant, flag and bytes
 abbrev pub same_parts : {N : ℕ} → Coordinates N → Coordinates N → Bool
 same_parts c d = bytes_eq (coordinates_bytes c) (coordinates_bytes d)
-
-pub same_parts_equiv : {N : ℕ} → IsEquivalence (same_parts {N = N})
-same_parts_equiv {N} = on_texts_equal (coordinates_bytes {N = N})

@@ -1,10 +1,8 @@
 -- RFC 5915 section 3 (SEC1 v2.0 Appendix C.4): an ECPrivateKey and its tree.
-use Rattle.std.specs.Prelude.{◌≡◌, ℕ, ◌≤◌, List, [], ◌∷◌, ◌++◌, length, Option, Some, None, IfSome}
-use Rattle.std.specs.Option.{option_map}
-use Rattle.sec1_der.specs.Components.{join}
-use Rattle.sec1_der.specs.Elements.{max_length, element, element_of, field_of}
-use Rattle.sec1_der.specs.Identifiers.{IsIdentifier, content_of, identifier_content}
-use Rattle.sec1_der.specs.Trees.{Tree, leaf, node, row, joined, AreTrees, IsTreeOf}
+use Rattle.std.specs.Prelude.{ℕ, ◌≤◌, List, [], ◌∷◌, ◌++◌, length, Option, Some, None, IfSome}
+use Rattle.sec1_der.specs.Elements.{max_length, element}
+use Rattle.sec1_der.specs.Identifiers.{IsIdentifier, content_of}
+use Rattle.sec1_der.specs.Trees.{Tree, leaf, node, row, joined, IsTreeOf}
 
 -- What a key is made of: the bytes of the private key, and where they are there the arcs of the curve's
 -- identifier and the bytes of the public key.
@@ -62,17 +60,3 @@ bytes_of trees = joined (row trees)
 -- the content of a key, where its parts stand within the limits
 abbrev pub fields_of : Key → List ℕ
 fields_of key = bytes_of (key_fields key)
-
--- the bytes are the content of the key with these parts
-pub record IsKeyContentOf (key : Key) (content : List ℕ) : Type 0 where
-  pub curve : IsNamedCurve key.parameters
-  pub fields : AreTrees (row (key_fields key))
-  pub spelled : content ≡ fields_of key
-
--- SEC1 v2.0 Appendix C.4: the content of a key; one of which a part is beyond the limits has none
-abbrev pub key_content : Key → Option (List ℕ)
-key_content key =
-    join (element_of 0x02 (Some (1 ∷ [])))
-    (join (element_of 0x04 (Some key.private_key))
-    (join (field_of 0 0x06 (option_map identifier_content key.parameters))
-    (join (field_of 1 0x03 (option_map (λ bytes. Some (0 ∷ bytes)) key.public_key)) (Some []))))

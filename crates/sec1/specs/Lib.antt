@@ -8,7 +8,9 @@ pub mod Traits
 pub mod Examples
 pub mod Points
 pub mod PointOrder
+pub mod PointOrderLaws
 pub mod Tags
 pub mod Coordinates
+pub mod CoordinateLaws
 pub mod EncodedPoints
 pub mod HexTexts

@@ -1,5 +1,6 @@
 -- Points of elliptic curves over prime fields, as whole numbers, and their encodings (SEC1 v2.0 section 2.3.3).
-use Rattle.std.specs.Prelude.{◌≡◌, ℕ, zero, suc, ◌+◌, ◌*◌, ◌/◌, ◌%◌, ◌^◌, ◌<◌, ◌≤◌, ◌==◌, ◌||◌, Bool, true, false, if◌then◌else◌, List, [], ◌∷◌, ◌++◌, take, drop, ⊤, Option, Some, None}
+use Rattle.std.specs.Prelude.{◌≡◌, ℕ, zero, suc, ◌+◌, ◌*◌, ◌/◌, ◌%◌, ◌^◌, ◌<◌, ◌≤◌, ◌==◌, ◌||◌, Bool, true, false, if◌then◌else◌, List, [], ◌∷◌, ◌++◌, take}
+use Rattle.std.specs.Prelude.{drop, ⊤, Option, Some, None}
 use Rattle.sec1_der.specs.Numbers.{number_of}
 
 -- a point as its encoding gives it. Compact has x alone and nothing of y; hybrid has y, and its tag y's parity

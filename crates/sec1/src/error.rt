@@ -1,3 +1,6 @@
+ghost use Rattle.std.specs.Prelude.{◌≡◌};
+ghost use Rattle.sec1.specs.Errors.{error_of};
+
 use sec1_der as der;
 
 /// The error type of this crate.
@@ -30,9 +33,6 @@ pub type Result<T> = std::result::Result<T, Error>;
 
 /// A failed allocation becomes [`Error::Memory`], and every other error [`Error::Asn1`].
 impl From<der::Error> for Error {
-    ghost use Rattle.std.specs.Prelude.{◌≡◌};
-    ghost use Rattle.sec1.specs.Errors.{error_of};
-
     ghost from_gives = { λ cause error. error ≡ error_of cause };
 
     fn from(cause: der::Error) -> Error {

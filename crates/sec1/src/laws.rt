@@ -1,5 +1,6 @@
 //! Laws of the definitions, of the constants and of `==`, for callers to cite. Each law is the contract of a function,
 //! which does nothing else.
+
 ghost use Rattle.std.specs.Prelude.{◌≡◌, ◌⊎◌, ◌↔◌, List, [], ◌∷◌, ℕ, Some, false, IsTrue};
 ghost use Rattle.sec1.specs.Examples.{p_256_bytes, p_256_key, p_256_point, p_256_base, p_256_base_compressed};
 ghost use Rattle.sec1.specs.Coordinates.{coordinates_bytes};
@@ -77,11 +78,13 @@ pub fn bytes_or_none(key: &EcPrivateKey)
 }
 
 /// A key on P-256 and its bytes (RFC 5915 section 3).
+#[tactic(auto, using(crate::proofs::KeyLemmas::key_found), unfolding(sec1_der::specs::Elements::length_octets))]
 pub fn spelled_key()
     ensures { IsKeyOf p_256_key p_256_bytes }
 {}
 
 /// Bytes that are refused as a key, and by which kind (RFC 5915 section 3).
+#[tactic(auto, unfolding(sec1_der::specs::Elements::length_octets, crate::specs::KeyRefusals::key_fault))]
 pub fn spelled_refusals()
     ensures no_byte { key_fault [] ≡ Some ErrorKind.Truncated }
     ensures tag_before_length { key_fault (0x31 ∷ 0x80 ∷ []) ≡ Some ErrorKind.Tag }

@@ -1,7 +1,9 @@
 ghost use Rattle.std.specs.Prelude.{◌≡◌, Some};
 ghost use Rattle.sec1.specs.Parameters.{curve_of};
 ghost use Rattle.sec1_der.specs.Contents.{identifier_fault};
-ghost use Rattle.sec1_der.specs.Identifiers.{identifier_content, IsIdentifierContent};
+ghost use Rattle.sec1_der.specs.Identifiers.{identifier_content, IsIdentifierContent, IsIdentifier};
+ghost use Rattle.sec1_der.specs.Values.{tag_of, value_of};
+ghost use Rattle.sec1_der.specs.IdentifierLaws.{identifier_content-some};
 
 use sec1_der as der;
 use sec1_der::{
@@ -38,9 +40,6 @@ impl From<ObjectIdentifier> for EcParameters {
 
 /// Returns the element of the curve's identifier, whose content is borrowed.
 impl<'a> From<&'a EcParameters> for AnyRef<'a> {
-    ghost use Rattle.sec1_der.specs.Identifiers.{IsIdentifier};
-    ghost use Rattle.sec1_der.specs.Values.{tag_of, value_of};
-
     ghost from_gives = { λ parameters any. (tag_of any ≡ 0x06)
         × IsIdentifier (curve_of parameters.now) (value_of any) };
 
@@ -64,8 +63,6 @@ impl FixedTag for EcParameters {
 }
 
 impl ValueContent for EcParameters {
-    ghost use Rattle.sec1_der.specs.IdentifierLaws.{identifier_content-some};
-
     ghost content = { λ parameters. identifier_content (curve_of parameters) };
 
     ghost is_content = { IsIdentifierContent };

@@ -2,16 +2,17 @@
 //!
 //! No call here tests that a point lies on a curve, or that a coordinate is below a field's modulus.
 
-ghost use Rattle.std.specs.Prelude.{◌≡◌, ◌+◌, ◌*◌, ◌<◌, ◌≤◌, ◌^◌, ◌↔◌, if◌then◌else◌, length, slice_index, take, drop, set, IsTrue, IfSome};
-ghost use Rattle.std.specs.Option.{option_map};
-ghost use Rattle.sec1_der.specs.Numbers.{number_of};
-ghost use Rattle.sec1.specs.Points.{identity, uncompressed, IsEncoding, meaning, encoding, Fits, compressed_point, hybrid_point, x_of, y_of};
-
 mod coordinates;
 mod order;
 mod select;
 mod tag;
 mod text;
+
+// What speaks of `EncodedPoint` is imported in the blocks below, since its ghost fields come before that.
+ghost use Rattle.std.specs.Prelude.{◌≡◌, ◌+◌, ◌*◌, ◌<◌, ◌≤◌, ◌^◌, ◌↔◌, if◌then◌else◌, length, slice_index, take, drop, set, IsTrue, IfSome};
+ghost use Rattle.std.specs.Option.{option_map};
+ghost use Rattle.sec1_der.specs.Numbers.{number_of};
+ghost use Rattle.sec1.specs.Points.{identity, uncompressed, IsEncoding, meaning, encoding, Fits, compressed_point, hybrid_point, x_of, y_of};
 
 use crate::error::{Error, Result};
 pub use coordinates::Coordinates;
@@ -63,6 +64,7 @@ impl<const N: usize, const L: usize> EncodedPoint<N, L> {
     /// # Errors
     ///
     /// PointEncoding if the input isn't the encoding of a point, or if N and L don't [fit](EncodedPoint::fits).
+    #[tactic(auto, using(crate::proofs::EncodedPointLemmas::encoding_room))]
     pub fn from_bytes(input: &[u8]) -> Result<Self>
         ensures { ReadsBytes input.now result }
     {
@@ -117,6 +119,7 @@ impl<const N: usize, const L: usize> EncodedPoint<N, L> {
     /// Returns the identity, the point at infinity.
     ///
     /// Requires that N and L [fit](EncodedPoint::fits).
+    #[tactic(auto, using(crate::proofs::EncodedPointLemmas::identity_holds))]
     pub fn identity() -> Self
         requires { Fits N L }
         ensures point { point_of result ≡ identity }
@@ -208,6 +211,7 @@ impl<const N: usize, const L: usize> EncodedPoint<N, L> {
     }
 
     /// Returns the tag, the first byte of the encoding. The length of the encoding is that of its tag.
+    #[tactic(auto, using(crate::proofs::EncodedPointLemmas::first_byte, crate::proofs::PointLemmas::tag_facts), unfolding(crate::specs::Points::encoding))]
     pub fn tag(&self) -> Tag
         ensures point { result ≡ point_tag (point_of self.now) }
         ensures first { byte_of result ≡ slice_index (encoding N (point_of self.now)) 0 }
@@ -225,15 +229,7 @@ impl<const N: usize, const L: usize> EncodedPoint<N, L> {
         ensures whole { AreWhole result }
     {
         let (x, y) = self.halves();
-        match self.tag() {
-            Tag::Identity => Coordinates::Identity,
-            Tag::CompressedEvenY => Coordinates::Compressed { x, y_is_odd: false },
-            Tag::CompressedOddY => Coordinates::Compressed { x, y_is_odd: true },
-            Tag::Uncompressed => Coordinates::Uncompressed { x, y },
-            Tag::Compact => Coordinates::Compact { x },
-            Tag::HybridEvenY => Coordinates::Hybrid { x, y },
-            Tag::HybridOddY => Coordinates::Hybrid { x, y },
-        }
+        Coordinates::behind(self.tag(), x, y)
     }
 
     /// Borrows the N bytes after the tag, and the N bytes after these, whether or not they belong to the encoding.
@@ -254,7 +250,7 @@ impl<const N: usize, const L: usize> EncodedPoint<N, L> {
     }
 
     /// Borrows the x-coordinate; `None` for the identity.
-    #[tactic(auto, using(crate::proofs::Firsts::coordinates_whole))]
+    #[tactic(auto, using(crate::proofs::CoordinateLemmas::coordinates_whole))]
     pub fn x(&self) -> Option<&[u8; N]>
         ensures number { option_map (λ x. number_of x.now) result ≡ x_of (point_of self.now) }
         ensures len { IfSome result (λ x. length x.now ≡ N) }
@@ -269,7 +265,7 @@ impl<const N: usize, const L: usize> EncodedPoint<N, L> {
     }
 
     /// Borrows the y-coordinate, if the point is uncompressed or hybrid.
-    #[tactic(auto, using(crate::proofs::Firsts::coordinates_whole))]
+    #[tactic(auto, using(crate::proofs::CoordinateLemmas::coordinates_whole))]
     pub fn y(&self) -> Option<&[u8; N]>
         ensures number { option_map (λ y. number_of y.now) result ≡ y_of (point_of self.now) }
         ensures len { IfSome result (λ y. length y.now ≡ N) }

@@ -1,4 +1,9 @@
-ghost use Rattle.std.specs.Prelude.{◌≡◌, ◌<◌, ◌≤◌, ◌++◌, ℕ, List, length, Ok};
+ghost use Rattle.std.specs.Prelude.{◌≡◌, ◌<◌, ◌≤◌, ◌++◌, ℕ, List, length, Ok, drop, MatchResult, IfOk, IfErr, OnErr, ◌⊎◌, refl};
+ghost use Rattle.std.specs.Option.{option_map};
+ghost use Rattle.sec1.specs.Keys.{Key, IsKeyOf, HasNoEncoding, HasEncodingWith};
+ghost use Rattle.sec1.specs.Parameters.{curve_of};
+ghost use Rattle.sec1.specs.ReadsKey.{ReadsKey};
+ghost use Rattle.sec1.specs.Errors.{IsAsn1, RefusesAsn1};
 
 use crate::{EcParameters, Error, Result, laws};
 use sec1_der as der;
@@ -36,10 +41,6 @@ pub struct EcPrivateKey<'a> {
 }
 
 impl<'a> Model for EcPrivateKey<'a> {
-    ghost use Rattle.std.specs.Option.{option_map};
-    ghost use Rattle.sec1.specs.Keys.{Key};
-    ghost use Rattle.sec1.specs.Parameters.{curve_of};
-
     ghost Value = { Key };
 
     ghost view = { λ key. record {
@@ -61,8 +62,6 @@ impl<'a> Model for EcPrivateKey<'a> {
 impl<'a> TryFrom<&'a [u8]> for EcPrivateKey<'a> {
     type Error = Error;
 
-    ghost use Rattle.sec1.specs.ReadsKey.{ReadsKey};
-
     ghost try_from_gives = { λ bytes result. ReadsKey bytes.now result };
 
     fn try_from(bytes: &'a [u8]) -> Result<EcPrivateKey<'a>> {
@@ -73,22 +72,18 @@ impl<'a> TryFrom<&'a [u8]> for EcPrivateKey<'a> {
 }
 
 impl<'a> EcPrivateKey<'a> {
-    ghost use Rattle.std.specs.Prelude.{drop, MatchResult, IfOk, IfErr, OnErr, ◌⊎◌};
-    ghost use Rattle.sec1.specs.Errors.{IsAsn1, RefusesAsn1};
-    ghost use Rattle.sec1.specs.Keys.{IsKeyOf, HasNoEncoding, HasEncodingWith};
-
     /// Returns the length of the key's DER encoding in bytes.
     ///
     /// # Errors
     ///
     /// [`Error::Asn1`] of Overlength if the content of an element would be longer than 268,435,455 bytes.
-    #[tactic(auto, using(crate::proofs::WriteLemmas::key_written, crate::proofs::WriteLemmas::key_lacks, crate::proofs::WriteLemmas::key_found_with, crate::proofs::WriteLemmas::key_without))]
+    #[tactic(auto, using(crate::proofs::KeyLemmas::counted_keys))]
     pub fn encoded_len(&self) -> Result<usize>
-        ensures overlength { HasNoEncoding self.now → RefusesAsn1 result ErrorKind.Overlength }
-        ensures only { (bytes : List ℕ) → IsKeyOf self.now bytes → result ≡ Ok (length bytes) }
         ensures found { IfOk result (λ n. HasEncodingWith self.now (λ bytes. n ≡ length bytes)) }
-        ensures kind { IfErr result (IsAsn1 ErrorKind.Overlength) }
+        ensures only { (bytes : List ℕ) → IsKeyOf self.now bytes → result ≡ Ok (length bytes) }
+        ensures overlength { HasNoEncoding self.now → RefusesAsn1 result ErrorKind.Overlength }
         ensures lacks { OnErr result (HasNoEncoding self.now) }
+        ensures kind { IfErr result (IsAsn1 ErrorKind.Overlength) }
     {
         Ok(der::encoded_len(self)?)
     }
@@ -100,21 +95,21 @@ impl<'a> EcPrivateKey<'a> {
     ///
     /// Those of [`encoded_len`](EcPrivateKey::encoded_len), then [`Error::Asn1`] of Buffer if the slice is too short. The
     /// whole slice is unchanged then.
-    #[tactic(auto, using(crate::proofs::WriteLemmas::key_written, crate::proofs::WriteLemmas::key_lacks, crate::proofs::WriteLemmas::key_found_with, crate::proofs::WriteLemmas::key_without))]
+    #[tactic(auto, using(crate::proofs::KeyLemmas::counted_keys))]
     pub fn encode_to_slice(&self, buffer: &mut [u8]) -> Result<usize>
+        // What was written are the key's bytes.
+        ensures found { IfOk result (λ n. HasEncodingWith self.now (λ bytes.
+            (n ≡ length bytes) × (buffer.new ≡ bytes ++ drop n buffer.old))) }
         ensures overlength { HasNoEncoding self.now → RefusesAsn1 result ErrorKind.Overlength
             × (buffer.new ≡ buffer.old) }
         ensures fits { (bytes : List ℕ) → IsKeyOf self.now bytes → length bytes ≤ length buffer.old
             → (result ≡ Ok (length bytes)) × (buffer.new ≡ bytes ++ drop (length bytes) buffer.old) }
         ensures buffer { (bytes : List ℕ) → IsKeyOf self.now bytes → length buffer.old < length bytes
             → RefusesAsn1 result ErrorKind.Buffer × (buffer.new ≡ buffer.old) }
-        // What was written are the key's bytes, and they stand within the slice.
-        ensures found { IfOk result (λ n. HasEncodingWith self.now (λ bytes.
-            (n ≡ length bytes) × (buffer.new ≡ bytes ++ drop n buffer.old))) }
         ensures within { IfOk result (λ n. n ≤ length buffer.new) }
+        ensures unchanged { OnErr result (buffer.new ≡ buffer.old) }
         ensures kinds { IfErr result (λ e. (IsAsn1 ErrorKind.Overlength e × HasNoEncoding self.now)
             ⊎ IsAsn1 ErrorKind.Buffer e) }
-        ensures unchanged { OnErr result (buffer.new ≡ buffer.old) }
     {
         Ok(der::encode_to_slice(self, buffer)?)
     }
@@ -124,12 +119,12 @@ impl<'a> EcPrivateKey<'a> {
     /// # Errors
     ///
     /// Those of [`encoded_len`](EcPrivateKey::encoded_len), then [`Error::Memory`] if the allocation fails.
-    #[tactic(auto, using(crate::proofs::WriteLemmas::key_written, crate::proofs::WriteLemmas::key_lacks, crate::proofs::WriteLemmas::key_found, crate::proofs::WriteLemmas::key_without))]
+    #[tactic(auto, using(crate::proofs::KeyLemmas::written_keys))]
     pub fn to_der(&self, alloc: Global) -> Result<Vec<u8>>
-        ensures overlength { HasNoEncoding self.now → RefusesAsn1 result ErrorKind.Overlength }
+        ensures found { IfOk result (λ der. IsKeyOf self.now der.items) }
         ensures only { (bytes : List ℕ) → IsKeyOf self.now bytes
             → MatchResult result (λ der. der.items ≡ bytes) (λ e. e ≡ Error.Memory) }
-        ensures found { IfOk result (λ der. IsKeyOf self.now der.items) }
+        ensures overlength { HasNoEncoding self.now → RefusesAsn1 result ErrorKind.Overlength }
         ensures kinds { IfErr result (λ e. (IsAsn1 ErrorKind.Overlength e × HasNoEncoding self.now)
             ⊎ (e ≡ Error.Memory)) }
     {
@@ -142,10 +137,10 @@ impl<'a> EcPrivateKey<'a> {
     ///
     /// Those of [`to_der`](EcPrivateKey::to_der).
     pub fn document(self, alloc: Global) -> Result<SecretDocument>
-        ensures overlength { HasNoEncoding self.entry → RefusesAsn1 result ErrorKind.Overlength }
+        ensures found { IfOk result (IsKeyOf self.entry) }
         ensures only { (bytes : List ℕ) → IsKeyOf self.entry bytes
             → MatchResult result (λ document. document ≡ bytes) (λ e. e ≡ Error.Memory) }
-        ensures found { IfOk result (IsKeyOf self.entry) }
+        ensures overlength { HasNoEncoding self.entry → RefusesAsn1 result ErrorKind.Overlength }
         ensures kinds { IfErr result (λ e. (IsAsn1 ErrorKind.Overlength e × HasNoEncoding self.entry)
             ⊎ (e ≡ Error.Memory)) }
     {
@@ -157,12 +152,12 @@ impl<'a> EcPrivateKey<'a> {
     /// # Errors
     ///
     /// Those of [`to_der`](EcPrivateKey::to_der).
-    #[tactic(auto, using(crate::proofs::WriteLemmas::key_written, crate::proofs::WriteLemmas::key_lacks, crate::proofs::WriteLemmas::key_found, crate::proofs::WriteLemmas::key_without))]
+    #[tactic(auto, using(crate::proofs::KeyLemmas::written_keys))]
     pub fn document_ref(&self, alloc: Global) -> Result<SecretDocument>
-        ensures overlength { HasNoEncoding self.now → RefusesAsn1 result ErrorKind.Overlength }
+        ensures found { IfOk result (IsKeyOf self.now) }
         ensures only { (bytes : List ℕ) → IsKeyOf self.now bytes
             → MatchResult result (λ document. document ≡ bytes) (λ e. e ≡ Error.Memory) }
-        ensures found { IfOk result (IsKeyOf self.now) }
+        ensures overlength { HasNoEncoding self.now → RefusesAsn1 result ErrorKind.Overlength }
         ensures kinds { IfErr result (λ e. (IsAsn1 ErrorKind.Overlength e × HasNoEncoding self.now)
             ⊎ (e ≡ Error.Memory)) }
     {
@@ -233,8 +228,6 @@ impl<'a> Record for EcPrivateKey<'a> {
 }
 
 impl<'a> UniqueRecord for EcPrivateKey<'a> {
-    ghost use Rattle.std.specs.Prelude.{refl};
-
     ghost of_parts = { λ row. record {
       private_key = row.rest.first;
       parameters = row.rest.rest.first;

@@ -1,8 +1,10 @@
 //! Key types that are read from and written in the DER of an EC private key. A key type says which bytes are read as
 //! which key, which bytes a key is written as, and what is an error.
+
 ghost use Rattle.std.specs.Prelude.{ℕ, List, false, ◌≡◌, ◌⊎◌, IsTrue, IfOk, IfErr, OnOk, OnErr};
 ghost use Rattle.sec1.specs.Errors.{IsAsn1, RefusesAsn1};
-ghost use Rattle.sec1.specs.Traits.{IsDocumentError, IsElementWith, IsMemoryOr, ConsumesElementWith, RefusesDocument, RefusesKey, WritesKey, WritesKeyBeginning};
+ghost use Rattle.sec1.specs.Traits.{IsDocumentError, IsElementWith, IsMemoryOr, ConsumesElementWith, RefusesDocument, RefusesKey, WritesKey};
+ghost use Rattle.sec1.specs.Traits.{WritesKeyBeginning};
 ghost use Rattle.sec1.specs.declared.error.Error.{Error};
 ghost use Rattle.sec1_der.specs.declared.error.ErrorKind.TheVariants.{Io};
 
@@ -38,10 +40,10 @@ pub trait DecodeEcPrivateKey: Sized {
         requires { R.failed reader.old ≡ false }
         ensures found { IfOk result (λ key.
             ConsumesElementWith (λ bytes. reads bytes key) (R.left reader.old) (R.left reader.new)) }
+        ensures io { IsTrue (R.failed reader.new) → RefusesAsn1 result Io }
         ensures refused { IfErr result (λ error.
             RefusesDocument (R.left reader.old) (R.left reader.new) (R.failed reader.new) error
             ⊎ RefusesKey refuses (R.left reader.old) (R.left reader.new) (R.failed reader.new) error) }
-        ensures io { IsTrue (R.failed reader.new) → RefusesAsn1 result Io }
     {
         let document = SecretDocument::read_der_from(alloc, reader)?;
         Self::from_sec1_der(alloc, document.as_bytes())
@@ -88,12 +90,12 @@ pub trait EncodeEcPrivateKey {
     fn write_sec1_der_to<W: Write>(&self, alloc: Global, writer: &mut W) -> Result<()>
         requires { W.failed writer.old ≡ false }
         ensures all { OnOk result (WritesKey writes self.now (W.written writer.old) (W.written writer.new)) }
-        ensures io { IsTrue (W.failed writer.new) → RefusesAsn1 result Io }
         ensures beginning { IsTrue (W.failed writer.new)
             → WritesKeyBeginning writes self.now (W.written writer.old) (W.written writer.new) }
-        ensures refused { W.failed writer.new ≡ false → IfErr result (IsMemoryOr (refuses self.now)) }
         ensures nothing { W.failed writer.new ≡ false
             → OnErr result (W.written writer.new ≡ W.written writer.old) }
+        ensures io { IsTrue (W.failed writer.new) → RefusesAsn1 result Io }
+        ensures refused { W.failed writer.new ≡ false → IfErr result (IsMemoryOr (refuses self.now)) }
     {
         let document = self.to_sec1_der(alloc)?;
         document.write_der_to(writer)?;

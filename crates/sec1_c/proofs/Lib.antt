@@ -1,7 +1,7 @@
 pub mod FieldLemmas
+pub mod GivenLemmas
+pub mod PartLemmas
 pub mod PlaceLemmas
 pub mod PointLemmas
-pub mod StatusLemmas
-pub mod GivenLemmas
-pub mod DigitLemmas
+pub mod SubidentifierLemmas
 pub mod TextLemmas

@@ -1,5 +1,7 @@
 -- Identifiers by their dotted texts.
 use Rattle.std.specs.Prelude.{◌≡◌, ℕ, List, [], ◌∷◌, ◌++◌}
+use Rattle.std.specs.Fmt.{decimal}
+use Rattle.std.specs.List.{flat_map}
 use Rattle.sec1_der.specs.Identifiers.{IsIdentifier, content_of, dotted}
 
 -- the dotted text of these arcs, and the byte 0 that ends a text in C
@@ -14,3 +16,7 @@ pub record IsTextOf (arcs text : List ℕ) : Type 0 where
 -- the text is the dotted text of some identifier
 abbrev pub IsIdentifierText : List ℕ → Type 0
 IsIdentifierText text = (arcs : List ℕ) × IsTextOf arcs text
+
+-- the text of further arcs, a full stop in front of each
+abbrev pub further_text : List ℕ → List ℕ
+further_text arcs = flat_map (λ arc. 46 ∷ decimal arc) arcs

@@ -1,10 +1,10 @@
 -- Where the parts of a key stand in its bytes (RFC 5915 section 3).
-use Rattle.std.specs.Prelude.{ℕ, List, length}
+use Rattle.std.specs.Prelude.{ℕ, ◌-◌, List, length, Some}
 use Rattle.std.specs.Option.{option_map}
 use Rattle.sec1_der.specs.Identifiers.{content_of}
-use Rattle.sec1.specs.Keys.{Key, IsKeyOf}
+use Rattle.sec1.specs.Keys.{Key, IsKeyOf, bytes_of, parameters_field, public_key_field}
 use Rattle.sec1_c.specs.GivenKeys.{IsGiven}
-use Rattle.sec1_c.specs.Places.{IsPart, IsWithin, StandsAt, bytes_at}
+use Rattle.sec1_c.specs.Places.{IsPart, IsWithin, StandsAt, bytes_at, part_before}
 use Rattle.sec1_c.specs.declared.key.KeyParts.{KeyParts}
 
 -- the bytes are those of some key
@@ -31,3 +31,18 @@ GiveAgain key input parts =
 -- the length of the content of the identifier with these arcs
 abbrev pub content_len : List ℕ → ℕ
 content_len arcs = length (content_of arcs)
+
+-- where the field [0] ends, and where the private key does
+abbrev pub parameters_end : Key → List ℕ → ℕ
+parameters_end key input = length input - length (bytes_of (public_key_field key.public_key))
+
+abbrev pub private_key_end : Key → List ℕ → ℕ
+private_key_end key input = parameters_end key input - length (bytes_of (parameters_field key.parameters))
+
+-- the places of the parts, counted from the end of the input by the lengths of the fields
+abbrev pub key_places : Key → List ℕ → KeyParts
+key_places key input = record {
+  private_key = part_before (private_key_end key input) (Some (length key.private_key));
+  curve = part_before (parameters_end key input) (option_map content_len key.parameters);
+  public_key = part_before (length input) (option_map (λ bytes. length bytes) key.public_key);
+}

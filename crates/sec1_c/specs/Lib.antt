@@ -5,6 +5,7 @@ pub mod KeyPlaces
 pub mod GivenKeys
 pub mod FieldLengths
 pub mod PointPlaces
+pub mod PointOrders
 pub mod IdentifierTexts
-pub mod BinaryNumbers
+pub mod Subidentifiers
 pub mod Documents

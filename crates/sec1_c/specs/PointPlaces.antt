@@ -1,11 +1,8 @@
--- Where the coordinates of a point stand in its encoding (SEC1 v2.0 section 2.3.3), and the order of points.
-use Rattle.std.specs.Prelude.{◌≡◌, ◌↔◌, ℕ, ℤ, pos, negsuc, List}
+-- Where the coordinates of a point stand in its encoding (SEC1 v2.0 section 2.3.3).
+use Rattle.std.specs.Prelude.{◌≡◌, ◌+◌, ℕ, List}
 use Rattle.std.specs.Option.{option_map}
-use Rattle.std.specs.declared.cmp.Ordering.{Ordering}
-use Rattle.std.specs.declared.cmp.Ordering.TheVariants.{Less, Equal, Greater}
 use Rattle.sec1.specs.Points.{Point, tag_byte, x_of, y_of, fixed_width}
-use Rattle.sec1.specs.PointOrder.{IsBelow}
-use Rattle.sec1_c.specs.Places.{IsPart}
+use Rattle.sec1_c.specs.Places.{IsPart, part_from}
 use Rattle.sec1_c.specs.declared.point.PointParts.{PointParts}
 
 -- the tag of the point, and its coordinates in n bytes each, where its encoding has them
@@ -14,14 +11,10 @@ pub record ArePointPartsOf (n : ℕ) (p : Point) (input : List ℕ) (parts : Poi
   pub x : IsPart input parts.x (option_map (fixed_width n) (x_of p))
   pub y : IsPart input parts.y (option_map (fixed_width n) (y_of p))
 
--- the number of an ordering
-abbrev pub order_number : Ordering → ℤ
-order_number Less = negsuc 0
-order_number Equal = pos 0
-order_number Greater = pos 1
-
--- -1 where the first point stands below the second, 1 where it stands above, 0 where they are the same
-pub record IsOrderOf (p q : Point) (order : ℤ) : Type 0 where
-  pub below : (order ≡ negsuc 0) ↔ IsBelow p q
-  pub above : (order ≡ pos 1) ↔ IsBelow q p
-  pub same : (order ≡ pos 0) ↔ (p ≡ q)
+-- the tag of the point, and the places of its coordinates in n bytes each
+abbrev pub point_places : ℕ → Point → PointParts
+point_places n p = record {
+  tag = tag_byte p;
+  x = part_from 1 (option_map (λ (_ : ℕ). n) (x_of p));
+  y = part_from (1 + n) (option_map (λ (_ : ℕ). n) (y_of p));
+}

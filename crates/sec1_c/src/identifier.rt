@@ -5,13 +5,12 @@ ghost use Rattle.sec1_c.specs.IdentifierTexts.{IsIdentifierText, IsTextOf, c_tex
 ghost use Rattle.sec1_c.specs.Outputs.{Writes, WritesNothing};
 ghost use Rattle.sec1_c.specs.Statuses.{kind_number};
 
-mod digits;
 mod text;
 
 use crate::buffer::write_bytes;
 use crate::status::kind_number;
 use sec1::der::{ErrorKind, ObjectIdentifier};
-use text::Text;
+use text::dotted;
 
 /// Writes the dotted text of the identifier with this content, and a byte 0 behind it, at the beginning of `text`,
 /// and stores how many bytes they are together, at most 158. The rest of `text` is unchanged.
@@ -29,9 +28,9 @@ pub extern "C" fn sec1_identifier_to_text(content: &[u8], text: &mut [u8], len: 
 {
     match ObjectIdentifier::from_bytes(content) {
         Ok(identifier) => {
-            let mut dotted = Text::dotted(&identifier);
-            dotted.push(0);
-            write_bytes(dotted.as_bytes(), text, len)
+            let mut dotted = dotted(&identifier);
+            dotted.push_str("\0");
+            write_bytes(dotted.as_str().as_bytes(), text, len)
         }
         Err(e) => kind_number(e.kind),
     }

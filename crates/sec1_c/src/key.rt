@@ -1,5 +1,5 @@
 //! Private keys (RFC 5915 section 3): `sec1_key_read`, `sec1_key_len` and `sec1_key_write`.
-ghost use Rattle.std.specs.Prelude.{◌≡◌, ◌≢◌, List, ℕ};
+ghost use Rattle.std.specs.Prelude.{◌≡◌, ◌≢◌, List, ℕ, length};
 ghost use Rattle.sec1.specs.Keys.{HasNoEncoding, Key, IsKeyOf};
 ghost use Rattle.sec1_der.specs.Elements.{IsProperBeginning};
 ghost use Rattle.sec1_c.specs.GivenKeys.{IsGiven, IsNoCurve, IsTooLong};
@@ -39,6 +39,7 @@ pub struct KeyParts {
 /// or the element around a part, end too early; Tag where another tag is expected; Length where a length isn't DER's;
 /// Value where a content isn't one of its tag; TrailingData where bytes follow the last part.
 #[unsafe(no_mangle)]
+#[tactic(auto, using(crate::proofs::PlaceLemmas::are_parts, crate::proofs::GivenLemmas::parts_within, crate::proofs::GivenLemmas::parts_again))]
 pub extern "C" fn sec1_key_read(bytes: &[u8], parts: &mut KeyParts) -> u32
     ensures accepted { (key : Key) → IsKeyOf key bytes.now → result ≡ 0 }
     ensures parts { (key : Key) → IsKeyOf key bytes.now → ArePartsOf key bytes.now parts.new }
@@ -92,7 +93,8 @@ pub extern "C" fn sec1_key_len(
 
 /// Stores the length in bytes of the key's DER encoding. Returns the number of Overlength where it has none.
 fn store_len(key: &EcPrivateKey, len: &mut usize) -> u32
-    ensures key { (bytes : List ℕ) → IsKeyOf key.now bytes → StoresLength bytes result len.new }
+    ensures number { (bytes : List ℕ) → IsKeyOf key.now bytes → result ≡ 0 }
+    ensures len { (bytes : List ℕ) → IsKeyOf key.now bytes → len.new ≡ length bytes }
     ensures overlength { HasNoEncoding key.now
         → (result ≡ kind_number ErrorKind.Overlength) × (len.new ≡ len.old) }
 {

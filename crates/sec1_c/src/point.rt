@@ -4,7 +4,8 @@ ghost use Rattle.std.specs.Prelude.{◌≡◌, ◌≢◌};
 ghost use Rattle.sec1.specs.Points.{Point, IsEncoding, compressed_point, encoding, hybrid_point};
 ghost use Rattle.sec1_c.specs.FieldLengths.{Encodes, EncodesBoth, IsFieldLength};
 ghost use Rattle.sec1_c.specs.Outputs.{Writes, WritesNothing};
-ghost use Rattle.sec1_c.specs.PointPlaces.{ArePointPartsOf, IsOrderOf};
+ghost use Rattle.sec1_c.specs.PointOrders.{IsOrderOf};
+ghost use Rattle.sec1_c.specs.PointPlaces.{ArePointPartsOf};
 ghost use Rattle.sec1_c.specs.Statuses.{error_number, field_length_number};
 
 mod sized;

@@ -1,5 +1,6 @@
 //! The numbers that the exported functions return.
 ghost use Rattle.std.specs.Prelude.{◌≡◌};
+ghost use Rattle.sec1.specs.Errors.{IsAsn1};
 ghost use Rattle.sec1_c.specs.Statuses.{error_number, field_length_number, kind_number};
 
 use sec1::Error;
@@ -29,7 +30,8 @@ pub fn kind_number(kind: ErrorKind) -> u32
 
 /// Returns the number of an error.
 pub fn error_number(error: &Error) -> u32
-    ensures { result ≡ error_number error.now }
+    ensures number { result ≡ error_number error.now }
+    ensures kind { (kind : ErrorKind) → IsAsn1 kind error.now → result ≡ kind_number kind }
 {
     match error {
         Error::Asn1(cause) => kind_number(cause.kind),

@@ -1,127 +1,87 @@
 -- What stands first of a slice whose last bytes are set aside.
-use Rattle.std.proofs.Common.{◌≡◌, ℕ, zero, suc, ◌+◌, ◌-◌, ◌<◌, ◌≤◌, List, [], ◌∷◌, ◌++◌, length, take, drop, ◌⊎◌, refl, ap, sym, ◌∙◌, subst, arith, ⊎_elim}
+use Rattle.std.proofs.Common.{◌≡◌, ℕ, ◌+◌, ◌-◌, ◌<◌, ◌≤◌, List, ◌++◌, length, take, drop, ◌⊎◌, refl, ap, sym, ◌∙◌, arith, ⊎_elim}
 use Rattle.std.proofs.lemmas.Bool.{cases_eq}
-use Rattle.std.proofs.lemmas.List.{append_assoc, length-append, length-drop, length-take-le, take-append-drop, take_all, take_rest, drop_at, nil_from_length}
+use Rattle.std.proofs.lemmas.List.{append_assoc, length-append, length-drop, length-take, length-take-le, take-append-drop, take_rest, drop_at, nil_from_length}
 use Rattle.std.specs.Prelude.{bit_and}
-use Rattle.sec1_der.specs.Elements.{IsConstructed, IsHeader, IsProperBeginning, header, element}
-use Rattle.sec1_der.specs.Trees.{Tree, leaf, branch, none, bytes, joined, IsTree}
-use Rattle.sec1_der.specs.Walks.{innermost, Skips, Opens}
+use Rattle.sec1_der.specs.Elements.{IsConstructed, IsHeader, header, element}
+use Rattle.sec1_der.specs.Trees.{Tree, leaf, branch, none, bytes}
+use Rattle.sec1_der.specs.Walks.{IsSingle, innermost, Skips, Opens}
 
--- a tree is an element
-pub record FoundContent (t : Tree) : Type 0 where
-  pub tag : ℕ
-  pub content : List ℕ
-  pub fits : IsHeader tag (length content)
-  pub is : bytes t ≡ element tag content
-
-pub tree_element : (t : Tree) → IsTree t → FoundContent t
-tree_element (leaf tag content) p = record { tag = tag; content = content; fits = record { tag_byte = p.0; within = p.2 }; is = refl }
-tree_element (branch tag f) p = record { tag = tag; content = joined f; fits = record { tag_byte = p.0; within = p.2 }; is = refl }
-
-take_past : (xs ys : List ℕ) (n : ℕ) → length xs ≤ n → take n (xs ++ ys) ≡ xs ++ take (n - length xs) ys
-take_past [] ys n l = ap (λ m. take m ys) (omega arith)
-take_past (x ∷ xs) ys zero l = absurd (omega arith)
-take_past (x ∷ xs) ys (suc n) l = ap (λ ws. x ∷ ws) (take_past xs ys n (omega arith) ∙ ap (λ m. xs ++ take m ys) (omega arith))
-
--- a tree that stands before the end is an element there
-pub stands_before : (t : Tree) (tail rest : List ℕ) (end : ℕ) (el : FoundContent t) → rest ≡ bytes t ++ tail → end ≤ length tail → (after : List ℕ) × (take (length rest - end) rest ≡ element el.tag el.content ++ after)
-stands_before t tail rest end el e l =
-    let room = length rest - end in
-    let lengths = ap length e ∙ length-append (bytes t) tail in
-    let after = take (room - length (bytes t)) tail in
-    (after, ap (take room) e ∙ (take_past (bytes t) tail room (omega arith) ∙ ap (λ xs. xs ++ after) el.is))
-
--- a proper beginning of a tree's bytes is one of an element's
-pub begins_element : (t : Tree) (rest : List ℕ) (end : ℕ) (el : FoundContent t) → IsProperBeginning rest (bytes t) → end ≡ 0 → IsProperBeginning (take (length rest - end) rest) (element el.tag el.content)
-begins_element t rest end el short is =
-    let all : take (length rest - end) rest ≡ rest = take_all (length rest - end) rest (omega arith) in
-    record { more = short.more; some = short.some; split = sym el.is ∙ (short.split ∙ ap (λ xs. xs ++ short.more) (sym all)) }
-
--- the header of an element, and what is inside and behind it before the end
+-- A header stands first, then bytes with room for its content, then those that are set aside.
 pub record IsInFront (rest inside : List ℕ) (tag n end : ℕ) : Type 0 where
-  pub end_within : end ≤ length rest
   pub fits : IsHeader tag n
-  pub front : take (length rest - end) rest ≡ header tag n ++ inside
   pub room : n ≤ length inside
-
--- the slice, with the header in front
-record IsSplit (rest inside front : List ℕ) (end : ℕ) : Type 0 where
   pub behind : List ℕ
-  pub whole : rest ≡ front ++ (inside ++ behind)
+  pub row : rest ≡ header tag n ++ (inside ++ behind)
   pub ends : length behind ≡ end
-  pub start : length front ≡ length rest - end - length inside
-  pub inside_within : length inside ≤ length rest - end
+  pub lengths : length (header tag n) + length inside + end ≡ length rest
 
-split_at_end : (rest inside : List ℕ) (tag n end : ℕ) → IsInFront rest inside tag n end → IsSplit rest inside (header tag n) end
-split_at_end rest inside tag n end f =
+-- what a header's bytes are cut from, where all before the end begin with it
+pub in_front : (rest inside : List ℕ) (tag n end : ℕ) → end ≤ length rest
+    → IsHeader tag n × (take (length rest - end) rest ≡ header tag n ++ inside) × (n ≤ length inside) → IsInFront rest inside tag n end
+in_front rest inside tag n end within h =
     let room = length rest - end in
-    let end_within = f.end_within in
-    let lengths : length (take room rest) ≡ length (header tag n) + length inside = ap length f.front ∙ length-append (header tag n) inside in
     let taken : length (take room rest) ≡ room = length-take-le room rest (omega arith) in
     record {
+      fits = h.0;
+      room = h.2;
       behind = drop room rest;
-      whole = sym (take-append-drop room rest) ∙ (ap (λ xs. xs ++ drop room rest) f.front ∙ append_assoc (header tag n) inside (drop room rest));
+      row = sym (take-append-drop room rest) ∙ (ap (λ xs. xs ++ drop room rest) h.1 ∙ append_assoc (header tag n) inside (drop room rest));
       ends = omega (arith, length-drop room rest);
-      start = omega arith;
-      inside_within = omega arith;
+      lengths = omega (arith, ap length h.1, length-append (header tag n) inside);
     }
-
-pub inside_within : (rest inside : List ℕ) (tag n end : ℕ) → IsInFront rest inside tag n end → length inside ≤ length rest - end
-inside_within rest inside tag n end f = (split_at_end rest inside tag n end f).inside_within
 
 -- the slice from a start on
-from_start : (rest front after : List ℕ) (start : ℕ) → rest ≡ front ++ after → length front ≡ start → take (length rest - start) (drop start rest) ≡ after
-from_start rest front after start e l = take_rest rest start ∙ (ap (drop start) e ∙ drop_at front after start l)
+from_start : (rest front after : List ℕ) (start : ℕ) → rest ≡ front ++ after → start ≡ length front → take (length rest - start) (drop start rest) ≡ after
+from_start rest front after start e l = take_rest rest start ∙ (ap (drop start) e ∙ drop_at front after start (sym l))
 
--- the header of a node with a content is behind its start
-pub opens_at : (ends rest inside : List ℕ) (tag n end : ℕ) → end ≡ innermost ends → IsInFront rest inside tag n end → 0 < n → IsConstructed tag → Opens ends rest (end + length inside - n) (take (length rest - (length rest - end - length inside)) (drop (length rest - end - length inside) rest))
-opens_at ends rest inside tag n end is f some constructed =
-    let s = split_at_end rest inside tag n end f in
-    let after = from_start rest (header tag n) (inside ++ s.behind) (length rest - end - length inside) s.whole s.start in
-    let behind = s.ends in
-    let room = f.room in
-    subst (Opens ends rest (end + length inside - n)) (sym after)
-    (record {
+-- the header of a node with a content
+pub opens_at : {rest inside : List ℕ} {tag n end : ℕ} (ends : List ℕ) (m : ℕ) → IsInFront rest inside tag n end → end ≡ innermost ends → m ≡ n
+    → 0 < n → IsConstructed tag
+    → Opens ends rest (end + length inside - m) (take (length rest - (length rest - end - length inside)) (drop (length rest - end - length inside) rest))
+opens_at {rest = rest} {inside = inside} {tag = tag} {n = n} {end = end} ends m f is same some constructed =
+    let behind : end + length inside - m + n ≡ length (inside ++ f.behind) = omega (arith, f.ends, f.room, length-append inside f.behind) in
+    rw (from_start rest (header tag n) (inside ++ f.behind) (length rest - end - length inside) f.row (omega (arith, f.lengths))) (record {
       tag = tag;
       n = n;
-      opening = record { tag_byte = f.fits.tag_byte; constructed = constructed; some = some; within = f.fits.within; row = s.whole; ends = omega (arith, length-append inside s.behind) };
-      fits = omega arith;
+      opening = record { tag_byte = f.fits.tag_byte; constructed = constructed; some = some; within = f.fits.within; row = f.row; ends = behind };
+      fits = omega (arith, f.room);
     })
 
--- an element without children is behind its content
-pub passes_at : (ends rest inside : List ℕ) (tag n end : ℕ) → end ≡ innermost ends → IsInFront rest inside tag n end → ¬ IsConstructed tag ⊎ (n ≡ 0) → Skips ends rest (take (length rest - (length rest - end - length inside + n)) (drop (length rest - end - length inside + n) rest))
-passes_at ends rest inside tag n end is f which =
-    let s = split_at_end rest inside tag n end f in
-    let start = length rest - end - length inside in
-    let content = take n inside in
-    let behind = drop n inside ++ s.behind in
-    let size : length content ≡ n = length-take-le n inside f.room in
-    let split : inside ++ s.behind ≡ content ++ behind = ap (λ xs. xs ++ s.behind) (sym (take-append-drop n inside)) ∙ append_assoc content (drop n inside) s.behind in
-    let whole : rest ≡ element tag content ++ behind =
-    s.whole ∙ (ap (λ xs. header tag n ++ xs) split ∙ (ap (λ m. header tag m ++ (content ++ behind)) (sym size) ∙ sym (append_assoc (header tag (length content)) content behind))) in
-    let past : length (element tag content) ≡ start + n = length-append (header tag (length content)) content ∙ (ap (λ m. length (header tag m) + length content) size ∙ omega (arith, s.start)) in
-    let after = from_start rest (element tag content) behind (start + n) whole past in
-    let end_is = s.ends in
-    let ends_before : innermost ends ≤ length behind = omega (arith, length-append (drop n inside) s.behind) in
-    subst (Skips ends rest) (sym after) (choose behind whole ends_before size)
-  where
-    as_leaf : ¬ IsConstructed tag → (behind : List ℕ) → rest ≡ element tag (take n inside) ++ behind → innermost ends ≤ length behind → length (take n inside) ≡ n → Skips ends rest behind
-    as_leaf apart behind whole ends_before size = record {
-      tree = leaf tag (take n inside);
-      single = record { tree = (f.fits.tag_byte, apart, omega (arith, f.fits.within)); alone = refl; shallow = refl };
-      row = whole;
-      fits = ends_before;
-    }
+-- a leaf or an empty node with these bytes
+abbrev HasSingle : ℕ → List ℕ → Type 0
+HasSingle tag content = (t : Tree) × IsSingle t × (bytes t ≡ element tag content)
 
-    choose : (behind : List ℕ) → rest ≡ element tag (take n inside) ++ behind → innermost ends ≤ length behind → length (take n inside) ≡ n → Skips ends rest behind
-    choose behind whole ends_before size = ⊎_elim (λ apart. as_leaf apart behind whole ends_before size)
-        (λ nothing. ⊎_elim
-        (λ zero_bit. as_leaf (λ set_bit. set_bit zero_bit) behind whole ends_before size)
-        (λ set_bit. record {
-          tree = branch tag none;
-          single = record { tree = (f.fits.tag_byte, set_bit, omega arith, tt); alone = refl; shallow = refl };
-          row = whole ∙ ap (λ xs. element tag xs ++ behind) (nil_from_length (take n inside) (size ∙ nothing));
-          fits = ends_before;
-        })
-        (cases_eq (bit_and tag 32) 0))
-        which
+single_tree : (tag : ℕ) (content : List ℕ) → IsHeader tag (length content) → ¬ IsConstructed tag ⊎ (length content ≡ 0) → HasSingle tag content
+single_tree tag content h which = ⊎_elim as_leaf (λ empty. ⊎_elim (λ plain. as_leaf (λ set. set plain)) (as_node empty) (cases_eq (bit_and tag 32) 0)) which
+  where
+    as_leaf : ¬ IsConstructed tag → HasSingle tag content
+    as_leaf plain = (leaf tag content, record { tree = (h.tag_byte, plain, h.within); alone = refl; shallow = refl }, refl)
+
+    as_node : length content ≡ 0 → IsConstructed tag → HasSingle tag content
+    as_node empty set =
+        let single : IsSingle (branch tag none) = record { tree = (h.tag_byte, set, omega arith, tt); alone = refl; shallow = refl } in
+        (branch tag none, single, rw (nil_from_length content empty) refl)
+
+-- an element without children
+pub passes_at : {rest inside : List ℕ} {tag n end : ℕ} (ends : List ℕ) (m : ℕ) → IsInFront rest inside tag n end → end ≡ innermost ends → m ≡ n
+    → ¬ IsConstructed tag ⊎ (n ≡ 0)
+    → Skips ends rest (take (length rest - (length rest - end - length inside + m)) (drop (length rest - end - length inside + m) rest))
+passes_at {rest = rest} {inside = inside} {tag = tag} {n = n} {end = end} ends m f is same which =
+    let content = take n inside in
+    let behind = drop n inside ++ f.behind in
+    let size : length content ≡ n = length-take-le n inside f.room in
+    let t = single_tree tag content (rw size f.fits) (rw size which) in
+    let split : content ++ behind ≡ inside ++ f.behind = rw (← append_assoc, take-append-drop) refl in
+    let row : rest ≡ element tag content ++ behind = f.row ∙ rw (← split, size) (sym (append_assoc (header tag n) content behind)) in
+    let past : length (element tag content) ≡ length (header tag n) + n = length-append (header tag (length content)) content ∙ rw size refl in
+    rw (from_start rest (element tag content) behind (length rest - end - length inside + m) row (omega (arith, f.lengths))) (record {
+      tree = t.0;
+      single = t.1;
+      row = row ∙ ap (λ xs. xs ++ behind) (sym t.2);
+      fits = omega (arith, f.ends, length-append (drop n inside) f.behind);
+    })
+
+-- what is inside is no longer than all before the end
+pub inside_within : (rest front inside : List ℕ) (room : ℕ) → take room rest ≡ front ++ inside → length inside ≤ room
+inside_within rest front inside room e = omega (arith, ap length e, length-append front inside, length-take room rest)

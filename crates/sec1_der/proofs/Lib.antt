@@ -11,11 +11,11 @@ pub mod EnterLemmas
 pub mod WalkLemmas
 pub mod CheckLemmas
 pub mod TreeRefusals
+pub mod TreeFaults
 pub mod IdentifierLemmas
 pub mod ArcLemmas
 pub mod DottedLemmas
 pub mod DisplayLemmas
 pub mod StreamLemmas
-pub mod OneElement
 pub mod StreamRefusals
 pub mod UniqueLemmas

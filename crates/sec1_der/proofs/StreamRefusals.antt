@@ -1,117 +1,89 @@
 -- What the kind by which a stream's element is refused says of all the bytes that the stream had left.
-use Rattle.std.proofs.Common.{◌≡◌, ℕ, zero, suc, ◌-◌, ◌<◌, ◌≤◌, Bool, true, false, ◌&&◌, if◌then◌else◌, nat_lt, nat_le, List, [], ◌∷◌, ◌++◌, length, get_or}
-use Rattle.std.proofs.Common.{Option, Some, None, IfSome, ◌⊎◌, inl, inr, ⊎_elim, refl, ap, sym, ◌∙◌, subst, arith, append-nil}
-use Rattle.std.proofs.lemmas.Bool.{ltb-true, ltb-false, le-ltb}
+use Rattle.std.proofs.Common.{◌≡◌, ℕ, ◌<◌, List, [], ◌∷◌, ◌++◌, get_or}
+use Rattle.std.proofs.Common.{Option, Some, None, IfSome, ◌⊎◌, inl, inr, ⊎_elim, refl, ap, ◌∙◌, arith, append-nil}
+use Rattle.std.proofs.lemmas.Bool.{false_from_ne_true}
+use Rattle.std.proofs.lemmas.Bool.Decides.{nat_tests}
 use Rattle.std.proofs.lemmas.List.{append_assoc, length-append}
-use Rattle.std.proofs.lemmas.List.Elements.{All-get_or}
+use Rattle.std.proofs.lemmas.Option.{IfSome_then}
 use Rattle.std.specs.List.{All}
-use Rattle.sec1_der.specs.Elements.{LacksHeader, element}
-use Rattle.sec1_der.specs.Faults.{is_tag, lacks_digits, length_fault, header_fault, IsIoOrMemory}
+use Rattle.sec1_der.specs.Elements.{IsElement}
+use Rattle.sec1_der.specs.Faults.{is_tag, header_fault, IsIoOrMemory}
 use Rattle.sec1_der.specs.ReadsDocument.{IsCutShort, IsBadTag, IsBadLength, IsElementAndByte, ConsumesElement, RefusesElement}
 use Rattle.sec1_der.specs.Refusals.{no_fault, end_fault, document_fault}
 use Rattle.sec1_der.specs.declared.error.ErrorKind.{ErrorKind}
-use Rattle.sec1_der.specs.declared.error.ErrorKind.TheVariants.{Truncated, Tag, Length, TrailingData, Value, Overlength, Buffer, Failed, Io, Depth, Memory}
-use Rattle.sec1_der.proofs.DigitLemmas.{IsBytes}
+use Rattle.sec1_der.specs.declared.error.ErrorKind.TheVariants.{Truncated, Tag, Length, TrailingData, Io, Memory}
 use Rattle.sec1_der.proofs.HeaderLemmas.{header_front}
-use Rattle.sec1_der.proofs.RefusalLemmas.{any_at, any_lacks, any_short, tag_from_test}
+use Rattle.sec1_der.proofs.RefusalLemmas.{document_element, any_at, any_headless, any_short, tag_from_test}
 
-are_bytes : (bytes : List ℕ) → All (λ byte. byte < 256) bytes → IsBytes bytes
-are_bytes bytes all i = by (nat_lt i (length bytes)) refl
-  where
-    past : (xs : List ℕ) (j : ℕ) → length xs ≤ j → get_or xs j 0 < 256
-    past [] j beyond = omega arith
-    past (x ∷ xs) zero beyond = absurd (omega arith)
-    past (x ∷ xs) (suc j) beyond = past xs j (omega arith)
+-- bytes that end inside an element are refused as Truncated
+cut_fault : (bytes : List ℕ) → get_or bytes 0 0 < 256 → IsCutShort bytes → document_fault bytes ≡ Some Truncated
+cut_fault bytes small (inl lacks) = any_headless (λ _. no_fault) end_fault bytes small lacks.none ∙ ap (λ kind. Some kind) lacks.fault_is
+cut_fault bytes small (inr cut) = any_short (λ _. no_fault) end_fault cut.tag cut.announced bytes cut.content cut.is_header cut.joined cut.few
 
-    by : (b : Bool) → nat_lt i (length bytes) ≡ b → get_or bytes i 0 < 256
-    by true e = All-get_or (λ byte. byte < 256) bytes i 0 (ltb-true i (length bytes) e) all
-    by false e = past bytes i (ltb-false i (length bytes) e)
-
-cut_told : (bytes : List ℕ) → IsBytes bytes → IsCutShort bytes → document_fault bytes ≡ Some Truncated
-cut_told bytes all (inl lacks) = any_lacks (λ _. no_fault) end_fault bytes all lacks.none ∙ ap (λ kind. Some kind) lacks.told
-cut_told bytes all (inr cut) = any_short (λ _. no_fault) end_fault cut.tag cut.announced bytes cut.content cut.is_header cut.joined cut.few
-
-bad_tag_told : (bytes more : List ℕ) → IsBytes (bytes ++ more) → IsBadTag bytes → document_fault (bytes ++ more) ≡ Some Tag
-bad_tag_told bytes more all bad =
+-- bytes that begin with no tag are refused as Tag
+bad_tag_fault : (bytes more : List ℕ) → get_or (bytes ++ more) 0 0 < 256 → IsBadTag bytes → document_fault (bytes ++ more) ≡ Some Tag
+bad_tag_fault bytes more small bad =
     let joined : bytes ++ more ≡ bad.byte ∷ more = ap (λ xs. xs ++ more) bad.alone in
-    ap document_fault joined ∙ by (is_tag bad.byte) refl
-  where
-    by : (b : Bool) → is_tag bad.byte ≡ b → document_fault (bad.byte ∷ more) ≡ Some Tag
-    by false e = rw e refl
-    by true e = absurd (bad.bad (tag_from_test bad.byte (subst (λ xs. get_or xs 0 0 < 256) (ap (λ xs. xs ++ more) bad.alone) (all 0)) e))
+    let byte : bad.byte < 256 = rw joined at small in
+    rw (joined, false_from_ne_true (is_tag bad.byte) (λ e. bad.bad (tag_from_test bad.byte byte e))) refl
 
--- digits that are there are there among more
-digits_there : (first : ℕ) (digits more : List ℕ) → lacks_digits first digits ≡ false → lacks_digits first (digits ++ more) ≡ false
-digits_there first digits more e = by (nat_lt 0x80 first && nat_le first 0x84) e
-  where
-    fewer : (b : Bool) → nat_lt (length digits) (first - 0x80) ≡ b → b ≡ false → nat_lt (length (digits ++ more)) (first - 0x80) ≡ false
-    fewer b e none = le-ltb (length (digits ++ more)) (first - 0x80)
-        (omega (arith, length-append digits more, ltb-false (length digits) (first - 0x80) (e ∙ none)))
-
-    by : (b : Bool) → (b && nat_lt (length digits) (first - 0x80)) ≡ false → (b && nat_lt (length (digits ++ more)) (first - 0x80)) ≡ false
-    by false none = refl
-    by true none = fewer (nat_lt (length digits) (first - 0x80)) refl none
-
-length_stays : (bytes more : List ℕ) → length_fault bytes ≡ Length → length_fault (bytes ++ more) ≡ Length
+-- a bad length stays one whatever stands behind it
+length_stays : (bytes more : List ℕ) → header_fault bytes ≡ Length → header_fault (bytes ++ more) ≡ Length
 length_stays [] more e = absurd (cc e)
-length_stays (first ∷ digits) more e = by (lacks_digits first digits) refl e
-  where
-    by : (b : Bool) → lacks_digits first digits ≡ b → (if b then Truncated else Length) ≡ Length → length_fault (first ∷ (digits ++ more)) ≡ Length
-    by true e f = absurd (cc f)
-    by false e f = rw (digits_there first digits more e) refl
+length_stays (byte ∷ []) more e = grind (arith, nat_tests)
+length_stays (byte ∷ first ∷ digits) more e = grind (arith, nat_tests, length-append)
 
-header_stays : (bytes more : List ℕ) → header_fault bytes ≡ Length → header_fault (bytes ++ more) ≡ Length
-header_stays [] more e = absurd (cc e)
-header_stays (byte ∷ bytes) more e = by (is_tag byte) e
-  where
-    by : (b : Bool) → (if b then length_fault bytes else Tag) ≡ Length → (if b then length_fault (bytes ++ more) else Tag) ≡ Length
-    by true e = length_stays bytes more e
-    by false e = e
+-- bytes that begin with a bad length are refused as Length
+bad_length_fault : (bytes more : List ℕ) → get_or (bytes ++ more) 0 0 < 256 → IsBadLength bytes → document_fault (bytes ++ more) ≡ Some Length
+bad_length_fault bytes more small bad =
+    any_headless (λ _. no_fault) end_fault (bytes ++ more) small (λ tag n rest is e. ⊎_elim
+    (λ longer. bad.bad.none tag n longer.after is longer.front)
+    (λ cut. cc (cut, bad.bad.fault_is))
+    (header_front tag n bytes more rest is e))
+    ∙ ap (λ kind. Some kind) (length_stays bytes more bad.bad.fault_is)
 
-bad_length_told : (bytes more : List ℕ) → IsBytes (bytes ++ more) → IsBadLength bytes → document_fault (bytes ++ more) ≡ Some Length
-bad_length_told bytes more all bad =
-    any_lacks (λ _. no_fault) end_fault (bytes ++ more) all none ∙ ap (λ kind. Some kind) (header_stays bytes more bad.bad.told)
-  where
-    none : LacksHeader (bytes ++ more)
-    none tag n rest is e = ⊎_elim
-        (λ longer. bad.bad.none tag n longer.after is longer.front)
-        (λ cut. cc (cut, bad.bad.told))
-        (header_front tag n bytes more rest is e)
-
-longer_told : (bytes more : List ℕ) → IsElementAndByte bytes → document_fault (bytes ++ more) ≡ Some TrailingData
-longer_told bytes more longer =
+-- an element and a byte more are refused as TrailingData
+longer_fault : (bytes more : List ℕ) → IsElementAndByte bytes → document_fault (bytes ++ more) ≡ Some TrailingData
+longer_fault bytes more longer =
     let whole = longer.is_element in
-    let joined : bytes ++ more ≡ element whole.tag whole.content ++ (longer.byte ∷ more) =
-    ap (λ xs. xs ++ more) longer.joined ∙ (append_assoc longer.front (longer.byte ∷ []) more ∙ ap (λ xs. xs ++ (longer.byte ∷ more)) whole.spelled) in
-    any_at (λ _. no_fault) end_fault whole.tag whole.content (bytes ++ more) (longer.byte ∷ more) whole.is_header joined
+    any_at (λ _. no_fault) end_fault whole.tag whole.content (bytes ++ more) (longer.byte ∷ more) whole.is_header
+    (rw (longer.joined, append_assoc longer.front (longer.byte ∷ []) more, whole.spelled) refl)
 
 -- what is read isn't refused
-pub read_told : (old new : Option (List ℕ)) (bytes : List ℕ) → ConsumesElement old new bytes → IfSome old (λ left. document_fault left ≡ None)
-read_told None new bytes r = tt
-read_told (Some all) None bytes r = absurd r.consumed
-read_told (Some all) (Some left) bytes r =
-    let whole = r.is_element in
-    let same : all ≡ element whole.tag whole.content ++ [] =
-    r.consumed ∙ (ap (λ xs. bytes ++ xs) r.at_end ∙ ap (λ xs. xs ++ []) whole.spelled) in
-    any_at (λ _. no_fault) end_fault whole.tag whole.content all [] whole.is_header same
+pub read_fault : (old new : Option (List ℕ)) (bytes : List ℕ) → ConsumesElement old new bytes → IfSome old (λ left. document_fault left ≡ None)
+read_fault None new bytes r = tt
+read_fault (Some all) None bytes r = absurd r.consumed
+read_fault (Some all) (Some left) bytes r = rw (r.consumed, r.at_end, append-nil bytes) (document_element bytes r.is_element)
 
--- a refusal by a kind that says something of the bytes is the fault of them all
-pub refused_told : (kind : ErrorKind) (old new : Option (List ℕ)) → RefusesElement kind old new
+-- a kind that says something of the bytes is the fault of them all, if the first is a byte
+refused_fault : (kind : ErrorKind) (old new : Option (List ℕ)) → RefusesElement kind old new
+    → IsIoOrMemory kind ⊎ IfSome old (λ left. get_or left 0 0 < 256 → document_fault left ≡ Some kind)
+refused_fault Io old new r = inl (inl refl)
+refused_fault Memory old new r = inl (inr refl)
+refused_fault kind None new r = inr tt
+refused_fault kind (Some all) None r = absurd r.consumed
+refused_fault Truncated (Some all) (Some left) r =
+    rw (r.consumed, r.at_end refl, append-nil r.taken) (inr (λ small. cut_fault r.taken small r.by_kind))
+refused_fault Tag (Some all) (Some left) r = rw r.consumed (inr (λ small. bad_tag_fault r.taken left small r.by_kind))
+refused_fault Length (Some all) (Some left) r = rw r.consumed (inr (λ small. bad_length_fault r.taken left small r.by_kind))
+refused_fault TrailingData (Some all) (Some left) r = rw r.consumed (inr (λ small. longer_fault r.taken left r.by_kind))
+refused_fault kind (Some all) (Some left) r = absurd r.by_kind
+
+-- the same, where each is a byte
+pub refused_kind : (kind : ErrorKind) (old new : Option (List ℕ)) → RefusesElement kind old new
     → IsIoOrMemory kind ⊎ IfSome old (λ left. All (λ byte. byte < 256) left → document_fault left ≡ Some kind)
-refused_told Io old new r = inl (inl refl)
-refused_told Memory old new r = inl (inr refl)
-refused_told kind None new r = inr tt
-refused_told kind (Some all) None r = absurd r.consumed
-refused_told Truncated (Some all) (Some left) r =
-    let whole : all ≡ r.taken = r.consumed ∙ (ap (λ xs. r.taken ++ xs) (r.at_end refl) ∙ append-nil r.taken) in
-    inr (λ small. cut_told all (are_bytes all small) (subst IsCutShort (sym whole) r.by_kind))
-refused_told Tag (Some all) (Some left) r =
-    inr (λ small. ap document_fault r.consumed ∙ bad_tag_told r.taken left (subst IsBytes r.consumed (are_bytes all small)) r.by_kind)
-refused_told Length (Some all) (Some left) r =
-    inr (λ small. ap document_fault r.consumed ∙ bad_length_told r.taken left (subst IsBytes r.consumed (are_bytes all small)) r.by_kind)
-refused_told TrailingData (Some all) (Some left) r = inr (λ small. ap document_fault r.consumed ∙ longer_told r.taken left r.by_kind)
-refused_told Value (Some all) (Some left) r = absurd r.by_kind
-refused_told Overlength (Some all) (Some left) r = absurd r.by_kind
-refused_told Buffer (Some all) (Some left) r = absurd r.by_kind
-refused_told Failed (Some all) (Some left) r = absurd r.by_kind
-refused_told Depth (Some all) (Some left) r = absurd r.by_kind
+refused_kind kind old new r = ⊎_elim
+    (λ other. inl other)
+    (λ fault. inr (IfSome_then old fault (λ left f all. f (first left all))))
+    (refused_fault kind old new r)
+  where
+    first : (bytes : List ℕ) → All (λ byte. byte < 256) bytes → get_or bytes 0 0 < 256
+    first [] all = omega arith
+    first (byte ∷ bytes) all = all 0 0 (omega arith)
+
+-- bytes that are refused by such a kind are no element
+pub refused_none : (kind : ErrorKind) (old new : Option (List ℕ)) → RefusesElement kind old new → IsIoOrMemory kind ⊎ IfSome old (λ left. ¬ (IsElement left))
+refused_none kind old new r = ⊎_elim
+    (λ other. inl other)
+    (λ fault. inr (IfSome_then old fault (λ left f is. cc (document_element left is, f (rw is.spelled is.is_header.tag_byte.byte)))))
+    (refused_fault kind old new r)

@@ -1,8 +1,7 @@
 -- The components of two values with one content are the same.
 use Rattle.std.proofs.Common.{◌≡◌, ◌+◌, [], ◌++◌, ℕ, List, Option, Some, None, ap, sym, ◌∙◌, refl}
 use Rattle.std.specs.Option.{option_map}
-use Rattle.std.specs.Prelude.{◌≢◌, slice_get, Result, Ok, Err, IsOkAnd}
-use Rattle.sec1_der.specs.declared.error.Error.{Error}
+use Rattle.std.specs.Prelude.{◌≢◌, slice_get}
 use Rattle.sec1_der.proofs.ComponentLemmas.{parted}
 use Rattle.sec1_der.specs.Components.{join}
 use Rattle.sec1_der.proofs.ElementLemmas.{element_of-some}
@@ -16,47 +15,25 @@ use Rattle.sec1_der.proofs.TreeLemmas.{element_apart}
 abbrev pub IsUnique : {A : Type 0} → (A → Option (List ℕ)) → Type 0
 IsUnique {A} content = (a b : A) (bytes : List ℕ) → content a ≡ Some bytes → content b ≡ Some bytes → a ≡ b
 
--- two first components with one content, and the rests behind them with one content
-record AreSame (x y a b : Option (List ℕ)) : Type 0 where
-  first : List ℕ
-  rest : List ℕ
-  x_there : x ≡ Some first
-  y_there : y ≡ Some first
-  a_there : a ≡ Some rest
-  b_there : b ≡ Some rest
-
-same : (tag : ℕ) (x y a b : Option (List ℕ)) (bytes : List ℕ) → join (element_of tag x) a ≡ Some bytes → join (element_of tag y) b ≡ Some bytes → AreSame x y a b
-same tag x y a b bytes e f =
-    let p = parted (element_of tag x) a bytes e in
-    let q = parted (element_of tag y) b bytes f in
-    let s = element_of-some tag x p.front p.first_there in
-    let t = element_of-some tag y q.front q.first_there in
+-- two rows that begin with an element of one tag, and have one content, are the same
+pub unique_required : (tag : ℕ) {A R : Type 0} (content : A → Option (List ℕ)) (rest : R → Option (List ℕ)) → IsUnique content → IsUnique rest
+    → (x y : A) (a b : R) (bytes : List ℕ) → join (element_of tag (content x)) (rest a) ≡ Some bytes
+    → join (element_of tag (content y)) (rest b) ≡ Some bytes → (x ≡ y) × (a ≡ b)
+unique_required tag content rest one two x y a b bytes e f =
+    let p = parted (element_of tag (content x)) (rest a) bytes e in
+    let q = parted (element_of tag (content y)) (rest b) bytes f in
+    let s = element_of-some tag (content x) p.front p.first_there in
+    let t = element_of-some tag (content y) q.front q.first_there in
     let left : bytes ≡ element tag s.inside ++ p.back = p.joined ∙ ap (λ xs. xs ++ p.back) s.at.spelled in
     let right : bytes ≡ element tag t.inside ++ q.back = q.joined ∙ ap (λ xs. xs ++ q.back) t.at.spelled in
     let apart = element_apart tag tag s.inside t.inside p.back q.back (sym left ∙ right) in
-    record {
-      first = s.inside;
-      rest = p.back;
-      x_there = s.same;
-      y_there = t.same ∙ ap (λ xs. Some xs) (sym apart.1);
-      a_there = p.second_there;
-      b_there = q.second_there ∙ ap (λ xs. Some xs) (sym apart.2);
-    }
+    (one x y s.inside s.same (rw apart.1 t.same), two a b p.back p.second_there (rw apart.2 q.second_there))
 
--- elements with the same bytes have the same content
-same_inside : (tag : ℕ) (x y : Option (List ℕ)) (bytes : List ℕ) → element_of tag x ≡ Some bytes → element_of tag y ≡ Some bytes → AreSame x y (Some []) (Some [])
-same_inside tag x y bytes e f = same tag x y (Some []) (Some []) (bytes ++ []) (rw e refl) (rw f refl)
-
+-- two elements of one tag that have one content are the same
 pub unique_inside : (tag : ℕ) {A : Type 0} (content : A → Option (List ℕ)) → IsUnique content → IsUnique (λ a. element_of tag (content a))
 unique_inside tag content one a b bytes e f =
-    let both = same_inside tag (content a) (content b) bytes e f in
-    one a b both.first both.x_there both.y_there
-
-pub unique_required : (tag : ℕ) {A R : Type 0} (content : A → Option (List ℕ)) (rest : R → Option (List ℕ)) → IsUnique content → IsUnique rest
-    → (x y : A) (a b : R) (bytes : List ℕ) → join (element_of tag (content x)) (rest a) ≡ Some bytes → join (element_of tag (content y)) (rest b) ≡ Some bytes → (x ≡ y) × (a ≡ b)
-unique_required tag content rest one two x y a b bytes e f =
-    let both = same tag (content x) (content y) (rest a) (rest b) bytes e f in
-    (one x y both.first both.x_there both.y_there, two a b both.rest both.a_there both.b_there)
+    let alone : IsUnique (λ (end : Unit {0}). Some []) = λ x y empty p q. refl in
+    (unique_required tag content (λ (end : Unit {0}). Some []) one alone a b tt tt (bytes ++ []) (rw e refl) (rw f refl)).0
 
 -- a row without its OPTIONAL component is the rest
 without : (rest : Option (List ℕ)) (bytes : List ℕ) → join (Some []) rest ≡ Some bytes → rest ≡ Some bytes
@@ -68,8 +45,9 @@ begins : (n tag : ℕ) (x rest : Option (List ℕ)) (bytes : List ℕ) → join 
 begins n tag x rest bytes e =
     let p = parted (field_of n tag (Some x)) rest bytes e in
     let s = element_of-some (0xA0 + n) (element_of tag x) p.front p.first_there in
-    ap (λ xs. slice_get xs 0) (p.joined ∙ ap (λ xs. xs ++ p.back) s.at.spelled)
+    rw (p.joined, s.at.spelled) refl
 
+-- two rows that begin with an OPTIONAL component, and have one content, are the same
 pub unique_optional : (n tag : ℕ) {A R : Type 0} (content : A → Option (List ℕ)) (rest : R → Option (List ℕ)) → IsUnique content → IsUnique rest
     → ((a : R) (bytes : List ℕ) → rest a ≡ Some bytes → slice_get bytes 0 ≢ Some (0xA0 + n))
     → (x y : Option A) (a b : R) (bytes : List ℕ) → join (field_of n tag (option_map content x)) (rest a) ≡ Some bytes
@@ -80,18 +58,8 @@ unique_optional n tag content rest one two none None (Some y) a b bytes e f =
 unique_optional n tag content rest one two none (Some x) None a b bytes e f =
     absurd (none b bytes (without (rest b) bytes f) (begins n tag (content x) (rest a) bytes e))
 unique_optional n tag content rest one two none (Some x) (Some y) a b bytes e f =
-    let both = same (0xA0 + n) (element_of tag (content x)) (element_of tag (content y)) (rest a) (rest b) bytes e f in (
-      ap (λ v. Some v) (unique_inside tag content one x y both.first both.x_there both.y_there),
-      two a b both.rest both.a_there both.b_there,
-    )
-
--- what is read from the bytes of a value is the value
-pub unique_read : (tag : ℕ) {A : Type 0} (content : A → Option (List ℕ)) → IsUnique content → (result : Result A Error) (value : A) (input : List ℕ)
-    → element_of tag (content value) ≡ Some input → IsOkAnd result (λ found. content found ≡ content value) → result ≡ Ok value
-unique_read tag content one (Ok found) value input e is =
-    let held = element_of-some tag (content value) input e in
-    ap Ok (one found value held.inside (is ∙ held.same) held.same)
-unique_read tag content one (Err cause) value input e is = absurd is
+    let inside = unique_required (0xA0 + n) (λ v. element_of tag (content v)) rest (unique_inside tag content one) two x y a b bytes e f in
+    (ap (λ v. Some v) inside.0, inside.1)
 
 -- two lists of arcs with one content are the same
 pub unique_identifier : IsUnique identifier_content

@@ -1,5 +1,6 @@
 -- The way back, from the content of an identifier to its arcs.
 use Rattle.std.specs.Prelude.{ℕ, ◌+◌, ◌-◌, ◌*◌, ◌%◌, nat_lt, if◌then◌else◌, List, [], ◌∷◌, ◌++◌, length, replicate}
+use Rattle.sec1_der.specs.declared.object_identifier.TheConstants.{MAX_CONTENT}
 
 -- X.690 section 8.19.2: the numbers that stand in a row in base 128, where the digits of the first that are
 -- already read spell `high`.
@@ -17,6 +18,6 @@ arcs_of_numbers (s ∷ further) =
 abbrev pub arcs_of : List ℕ → List ℕ
 arcs_of content = arcs_of_numbers (numbers_after 0 content)
 
--- 39 bytes that begin with the content, zeros behind it
+-- MAX_CONTENT bytes that begin with the content, zeros behind it
 abbrev pub padded : List ℕ → List ℕ
-padded content = content ++ replicate (39 - length content) 0
+padded content = content ++ replicate (MAX_CONTENT - length content) 0

@@ -16,7 +16,7 @@ IsHeaderFault Tag = Unit {0}
 IsHeaderFault Length = Unit {0}
 IsHeaderFault _ = ⊥
 
--- the kinds by which bytes are refused that aren't those of a tree of at most 64 levels
+-- the kinds by which bytes are refused that aren't those of a tree of at most MAX_DEPTH levels
 abbrev pub IsTreeFault : ErrorKind → Type 0
 IsTreeFault kind = IsHeaderFault kind ⊎ (kind ≡ TrailingData) ⊎ (kind ≡ Depth)
 

@@ -1,58 +1,45 @@
--- The test for the arcs of an identifier tells what it should, so an identifier has its content and a list that
+-- The test for the arcs of an identifier passes these and no others, so an identifier has its content and a list that
 -- is no identifier's has none.
-use Rattle.std.specs.Prelude.{◌≡◌, ℕ, ◌+◌, ◌*◌, ◌^◌, ◌<◌, ◌≤◌, Bool, true, false, ◌&&◌, ◌||◌, nat_lt, nat_le, List, [], ◌∷◌, length, Some, None, if◌then◌else◌, refl}
+use Rattle.std.specs.Prelude.{◌≡◌, ℕ, ◌+◌, ◌*◌, ◌^◌, ◌<◌, ◌≤◌, Bool, true, false, ◌&&◌, ◌||◌, nat_lt, nat_le}
+use Rattle.std.specs.Prelude.{List, [], ◌∷◌, length, Some, None, if◌then◌else◌, refl}
 use Rattle.std.proofs.Common.{arith}
-use Rattle.std.proofs.lemmas.Bool.{le-leb, lt-ltb, leb-true, ltb-true}
 use Rattle.std.proofs.lemmas.Bool.Decides.{nat_tests}
+use Rattle.std.specs.Bool.{Decides}
 use Rattle.std.specs.List.{AllByRecursion, list_all}
 use Rattle.sec1_der.specs.Identifiers.{AreArcs, content_of, IsIdentifier, are_arcs, is_identifier, identifier_content}
+use Rattle.sec1_der.specs.declared.object_identifier.TheConstants.{MAX_CONTENT}
 
-both : (a b : Bool) → (a && b) ≡ true → (a ≡ true) × (b ≡ true)
-both true b e = (refl, e)
-both false b e = absurd (cc e)
+one_below : (n : ℕ) (rest : Bool) (P : Type 0) → Decides rest P → Decides (nat_lt n (2 ^ 32) && rest) ((n < 2 ^ 32) × P)
+one_below n rest P d = grind (arith, nat_tests)
 
-second-true : (a b : ℕ) → (nat_le 2 a || nat_lt b 40) ≡ true → a < 2 → b < 40
-second-true a b e l = grind (arith, nat_tests)
+all_below : (ns : List ℕ) → Decides (list_all (λ arc. nat_lt arc (2 ^ 32)) ns) (AllByRecursion (λ arc. arc < 2 ^ 32) ns)
+all_below [] = (λ _. tt, λ _. refl)
+all_below (n ∷ ns) = one_below n _ _ (all_below ns)
 
-second_holds : (a b : ℕ) → (a < 2 → b < 40) → (nat_le 2 a || nat_lt b 40) ≡ true
-second_holds a b h = grind (arith, nat_tests)
+two_arcs : (a b : ℕ) (rest : Bool) (P : Type 0) → Decides rest P
+    → Decides (nat_le a 2 && ((nat_le 2 a || nat_lt b 40) && (nat_lt (40 * a + b) (2 ^ 32) && rest))) ((a ≤ 2) × (a < 2 → b < 40) × (40 * a + b < 2 ^ 32) × P)
+two_arcs a b rest P d = grind (arith, nat_tests)
 
-below_all : (ns : List ℕ) → list_all (λ arc. nat_lt arc (2 ^ 32)) ns ≡ true → AllByRecursion (λ arc. arc < 2 ^ 32) ns
-below_all [] e = tt
-below_all (n ∷ ns) e =
-    let h = both (nat_lt n (2 ^ 32)) (list_all (λ arc. nat_lt arc (2 ^ 32)) ns) e in
-    (ltb-true n (2 ^ 32) h.0, below_all ns h.1)
+are_arcs-decides : (arcs : List ℕ) → Decides (are_arcs arcs) (AreArcs arcs)
+are_arcs-decides [] = (λ e. absurd (cc e), λ h. absurd h)
+are_arcs-decides (a ∷ []) = (λ e. absurd (cc e), λ h. absurd h)
+are_arcs-decides (a ∷ b ∷ further) = two_arcs a b _ _ (all_below further)
 
-all_below : (ns : List ℕ) → AllByRecursion (λ arc. arc < 2 ^ 32) ns → list_all (λ arc. nat_lt arc (2 ^ 32)) ns ≡ true
-all_below [] h = refl
-all_below (n ∷ ns) h = rw (lt-ltb n (2 ^ 32) h.0, all_below ns h.1) refl
+short_too : (b : Bool) (n : ℕ) (P : Type 0) → Decides b P → Decides (b && nat_le n MAX_CONTENT) (P × (n ≤ MAX_CONTENT))
+short_too b n P d = grind (arith, nat_tests)
 
-are_arcs-true : (arcs : List ℕ) → are_arcs arcs ≡ true → AreArcs arcs
-are_arcs-true [] e = absurd (cc e)
-are_arcs-true (a ∷ []) e = absurd (cc e)
-are_arcs-true (a ∷ b ∷ further) e =
-    let p = both (nat_le a 2) _ e in
-    let q = both (nat_le 2 a || nat_lt b 40) _ p.1 in
-    let r = both (nat_lt (40 * a + b) (2 ^ 32)) _ q.1 in
-    (leb-true a 2 p.0, second-true a b q.0, ltb-true (40 * a + b) (2 ^ 32) r.0, below_all further r.1)
-
-are_arcs-valid : (arcs : List ℕ) → AreArcs arcs → are_arcs arcs ≡ true
-are_arcs-valid [] h = absurd h
-are_arcs-valid (a ∷ []) h = absurd h
-are_arcs-valid (a ∷ b ∷ further) h =
-    rw (le-leb a 2 h.0, second_holds a b h.1, lt-ltb (40 * a + b) (2 ^ 32) h.2, all_below further h.3) refl
+is_identifier-decides : (arcs : List ℕ) → Decides (is_identifier arcs) (AreArcs arcs × (length (content_of arcs) ≤ MAX_CONTENT))
+is_identifier-decides arcs = short_too (are_arcs arcs) (length (content_of arcs)) _ (are_arcs-decides arcs)
 
 -- what passes the test is an identifier
 pub is_identifier-true : (arcs : List ℕ) → is_identifier arcs ≡ true → IsIdentifier arcs (content_of arcs)
 is_identifier-true arcs e =
-    let h = both (are_arcs arcs) (nat_le (length (content_of arcs)) 39) e in
-    record { spells = record { allowed = are_arcs-true arcs h.0; spelled = refl }; short = leb-true (length (content_of arcs)) 39 h.1 }
+    let h = (is_identifier-decides arcs).0 e in
+    record { spells = record { allowed = h.0; spelled = refl }; short = h.1 }
 
 -- an identifier passes the test
 pub is_identifier-valid : (arcs content : List ℕ) → IsIdentifier arcs content → is_identifier arcs ≡ true
-is_identifier-valid arcs content h =
-    let short : length (content_of arcs) ≤ 39 = rw (← h.spells.spelled) h.short in
-    rw (are_arcs-valid arcs h.spells.allowed, le-leb (length (content_of arcs)) 39 short) refl
+is_identifier-valid arcs content h = (is_identifier-decides arcs).1 (h.spells.allowed, rw (← h.spells.spelled) h.short)
 
 chosen : (b : Bool) (v c : List ℕ) → (if b then Some v else None) ≡ Some c → (b ≡ true) × (v ≡ c)
 chosen true v c e = (refl, cc)

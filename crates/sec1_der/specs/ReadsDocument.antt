@@ -28,7 +28,7 @@ IsElementFault Memory = Unit {0}
 
 -- no header begins the bytes, and they tell this kind
 pub record HasHeaderFault (kind : ErrorKind) (bytes : List ℕ) : Type 0 where
-  pub told : header_fault bytes ≡ kind
+  pub fault_is : header_fault bytes ≡ kind
   pub none : LacksHeader bytes
 
 -- a header, and fewer bytes than it announces
@@ -50,7 +50,7 @@ pub record IsBadTag (bytes : List ℕ) : Type 0 where
   pub alone : bytes ≡ byte ∷ []
   pub bad : ¬ (IsTag byte)
 
--- a header whose length is bad, up to the byte that tells it: the bytes before that one left it open
+-- a header whose length is bad, up to the byte that makes it so: the bytes before that one left it open
 pub record IsBadLength (bytes : List ℕ) : Type 0 where
   pub before : List ℕ
   pub last : ℕ

@@ -7,6 +7,7 @@ use Rattle.sec1_der.specs.Elements.{max_length, length_octets, explicit_tag}
 use Rattle.sec1_der.specs.Faults.{is_tag, length_fault}
 use Rattle.sec1_der.specs.Numbers.{number_of}
 use Rattle.sec1_der.specs.declared.header.TheConstants.{LONG_FORM}
+use Rattle.sec1_der.specs.declared.tree.TheConstants.{MAX_DEPTH}
 use Rattle.sec1_der.specs.declared.error.Error.{Error}
 use Rattle.sec1_der.specs.declared.error.ErrorKind.{ErrorKind}
 use Rattle.sec1_der.specs.declared.error.ErrorKind.TheVariants.{Truncated, Tag, TrailingData, Depth}
@@ -94,9 +95,9 @@ abbrev pub row_fault : ℕ → ℕ → Fault
 row_fault zero level bytes = None
 row_fault (suc most) level [] = None
 row_fault (suc most) level (byte ∷ bytes) =
-    if nat_lt 64 level then Some Depth
+    if nat_lt MAX_DEPTH level then Some Depth
     else any_fault (nested_fault (row_fault most (level + 1))) (row_fault most level) (byte ∷ bytes)
 
--- one tree of at most 64 levels
+-- one tree of at most MAX_DEPTH levels
 abbrev pub tree_fault : Fault
 tree_fault bytes = any_fault (nested_fault (row_fault (length bytes) 2)) end_fault bytes

@@ -1,7 +1,8 @@
 -- One step of a walk over the bytes of a tree. The open nodes are known by how many bytes are left where each
 -- ends, the innermost first.
-use Rattle.std.specs.Prelude.{◌≡◌, ℕ, zero, suc, ◌+◌, ◌<◌, ◌≤◌, ◌⊎◌, List, [], ◌∷◌, ◌++◌, length, get_or}
+use Rattle.std.specs.Prelude.{◌≡◌, ℕ, zero, suc, ◌+◌, ◌-◌, ◌<◌, ◌≤◌, ◌⊎◌, List, [], ◌∷◌, ◌++◌, length, get_or}
 use Rattle.sec1_der.specs.Elements.{header, IsTag, IsConstructed, max_length}
+use Rattle.sec1_der.specs.declared.tree.TheConstants.{MAX_DEPTH}
 use Rattle.sec1_der.specs.Trees.{Tree, IsTree, bytes, size, depth}
 
 -- a leaf or an empty node
@@ -38,17 +39,17 @@ pub record Opens (ends rest : List ℕ) (end : ℕ) (after : List ℕ) : Type 0 
   pub opening : IsOpening tag n end rest after
   pub fits : innermost ends ≤ end
 
--- what stands first is passed, or is opened where fewer than 63 nodes were
+-- what stands first is passed, or is opened where there is room for one more
 abbrev pub Enters : List ℕ → List ℕ → List ℕ → List ℕ → Type 0
 Enters ends rest ends' after =
-    (Skips ends rest after × (ends' ≡ ends)) ⊎ ((end : ℕ) × Opens ends rest end after × (ends' ≡ end ∷ ends) × (length ends < 63))
+    (Skips ends rest after × (ends' ≡ ends)) ⊎ ((end : ℕ) × Opens ends rest end after × (ends' ≡ end ∷ ends) × (length ends < MAX_DEPTH - 1))
 
--- 63 nodes are open, and a further one with a content stands first
+-- as many nodes are open as can be, and a further one with a content stands first
 pub record IsTooDeep (ends rest : List ℕ) : Type 0 where
   pub end : ℕ
   pub after : List ℕ
   pub opens : Opens ends rest end after
-  pub full : length ends ≡ 63
+  pub full : length ends ≡ MAX_DEPTH - 1
 
 -- the ends of so many open nodes, from a table that has the outermost at 1
 abbrev pub open_ends : ℕ → List ℕ → List ℕ

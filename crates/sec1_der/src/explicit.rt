@@ -1,6 +1,7 @@
 //! Explicit tags (X.690 section 8.14), and which components may begin with them.
 ghost use Rattle.std.proofs.Common.{lit<};
-ghost use Rattle.std.specs.Prelude.{◌≡◌, ◌≢◌, ◌≤◌, ◌<◌, ◌+◌, ◌++◌, ℕ, List, Some, None, Ok, true, false, length, slice_get, IfOk, IfErr, IfSome, IfNone, IsOkAnd, IsSomeAnd, OnErr};
+ghost use Rattle.std.specs.Prelude.{◌≡◌, ◌≢◌, ◌≤◌, ◌<◌, ◌+◌, ◌++◌, ℕ, List, Some, None, Ok, true, false, length, slice_get};
+ghost use Rattle.std.specs.Prelude.{IfOk, IfErr, IfSome, IfNone, IsOkAnd, IsSomeAnd, OnErr};
 ghost use Rattle.sec1_der.specs.Elements.{max_length, element, explicit_tag};
 ghost use Rattle.sec1_der.specs.Faults.{Refuses, IsReadingFault};
 ghost use Rattle.sec1_der.specs.Readers.{reader_over, HasReadElement};

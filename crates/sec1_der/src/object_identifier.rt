@@ -13,7 +13,7 @@ use std::fmt;
 use std::marker::Model;
 
 /// The greatest length of a content in bytes.
-const MAX: usize = 39;
+const MAX_CONTENT: usize = 39;
 
 /// An OBJECT IDENTIFIER (X.690 section 8.19): two or more arcs, whose content has 1 to 39 bytes. A contract sees
 /// the arcs.
@@ -22,7 +22,7 @@ const MAX: usize = 39;
 /// further arc is at most 4,294,967,295.
 #[derive(Clone, Copy, PartialEq, Eq)]
 pub struct ObjectIdentifier {
-    bytes: [u8; MAX],
+    bytes: [u8; MAX_CONTENT],
     len: usize,
 }
 
@@ -78,12 +78,12 @@ impl ObjectIdentifier {
             let Some(n) = arc(piece) else {
                 return Err(ErrorKind::Value.into());
             };
-            builder.add(n)?;
+            builder = builder.add(n)?;
         }
-        if builder.seen < 2 {
-            return Err(ErrorKind::Value.into());
+        match builder.content() {
+            Some(content) => Ok(ObjectIdentifier::of_content(content)),
+            None => Err(ErrorKind::Value.into()),
         }
-        ObjectIdentifier::from_bytes(builder.content.as_bytes())
     }
 
     /// Returns the identifier with this content (X.690 section 8.19).
@@ -96,13 +96,21 @@ impl ObjectIdentifier {
         ensures only { (arcs : List ℕ) → IsIdentifier arcs content.now → result ≡ Ok arcs }
         ensures value { IfErr result (λ e. e.kind ≡ ErrorKind.Value) }
     {
-        if content.len() > MAX || !is_content(content) {
+        if content.len() > MAX_CONTENT || !is_content(content) {
             return Err(ErrorKind::Value.into());
         }
-        Ok(ObjectIdentifier {
+        Ok(ObjectIdentifier::of_content(content))
+    }
+
+    /// Returns the identifier with this content.
+    fn of_content(content: &[u8]) -> ObjectIdentifier
+        requires { IsIdentifierContent content.now }
+        ensures { (arcs : List ℕ) → IsIdentifier arcs content.now → result ≡ arcs }
+    {
+        ObjectIdentifier {
             bytes: stored(content),
             len: content.len(),
-        })
+        }
     }
 
     /// Borrows the content, 1 to 39 bytes.
@@ -114,6 +122,7 @@ impl ObjectIdentifier {
 }
 
 /// Returns `true` if the bytes are one or more subidentifiers, each below 2^32 (X.690 section 8.19.2).
+#[tactic(auto, using(crate::proofs::IdentifierLemmas::stops_large, crate::proofs::IdentifierLemmas::stops_lead, crate::proofs::IdentifierLemmas::not_spelled))]
 fn is_content(content: &[u8]) -> bool
     ensures { IsTrue result ↔ ((arcs : List ℕ) × Spells arcs content.now) }
 {
@@ -136,11 +145,11 @@ fn is_content(content: &[u8]) -> bool
 }
 
 /// Returns the content, followed by zeros.
-fn stored(content: &[u8]) -> [u8; MAX]
-    requires { length content.now ≤ 39 }
+fn stored(content: &[u8]) -> [u8; MAX_CONTENT]
+    requires { length content.now ≤ MAX_CONTENT }
     ensures { result ≡ padded content.now }
 {
-    let mut bytes = [0; MAX];
+    let mut bytes = [0; MAX_CONTENT];
     bytes[..content.len()].copy_from_slice(content);
     bytes
 }
@@ -149,6 +158,7 @@ fn stored(content: &[u8]) -> [u8; MAX]
 impl fmt::Display for ObjectIdentifier {
     ghost output = { λ arcs. Some (dotted arcs) };
 
+    #[tactic(auto, using(crate::proofs::IdentifierLemmas::stops_large))]
     fn fmt<W: fmt::Write>(&self, f: &mut fmt::Formatter<W>) -> fmt::Result {
         let content = self.as_bytes();
         let mut first = true;
@@ -218,6 +228,7 @@ impl ValueContent for ObjectIdentifier {
 }
 
 impl<'a> DecodeValue<'a> for ObjectIdentifier {
+    #[tactic(auto, using(crate::proofs::ContentRefusals::identifier_taken, crate::proofs::ContentRefusals::identifier_refused))]
     fn decode_value(reader: &mut SliceReader<'a>) -> Result<Self> {
         match ObjectIdentifier::from_bytes(reader.read_rest()?) {
             Ok(identifier) => Ok(identifier),
@@ -227,14 +238,17 @@ impl<'a> DecodeValue<'a> for ObjectIdentifier {
 }
 
 impl EncodeValue for ObjectIdentifier {
+    #[tactic(auto, using(crate::proofs::IdentifierLemmas::identifier_fits))]
     fn value_len(&self) -> Result<Length> {
         Length::new(self.as_bytes().len())
     }
 
+    #[tactic(auto, using(crate::proofs::IdentifierLemmas::identifier_fits))]
     fn encode_value(&self, writer: &mut SliceWriter) -> Result<()> {
         writer.write(self.as_bytes())
     }
 
+    #[tactic(auto, using(crate::proofs::IdentifierLemmas::identifier_fits))]
     fn encode_back(&self, writer: &mut BackWriter) -> Result<()> {
         writer.write(self.as_bytes())
     }

@@ -21,19 +21,29 @@ const MAX_DEPTH: usize = 64;
 /// read; TrailingData if bytes follow the tree.
 pub fn check_tree(input: &[u8]) -> Result<usize>
     // What is counted is a tree, and these are its bytes.
-    ensures found { IfOk result (λ n. (t : Tree) × IsTreeOf t input.now × (depth t ≤ 64)
+    ensures found { IfOk result (λ n. (t : Tree) × IsTreeOf t input.now × (depth t ≤ MAX_DEPTH)
         × (size t ≡ n)) }
     // Where they are the bytes of such a tree, it is counted.
-    ensures only { (t : Tree) → IsTreeOf t input.now → depth t ≤ 64 → result ≡ Ok (size t) }
-    ensures deeper { (t : Tree) → IsTreeOf t input.now → 64 < depth t → Refuses result ErrorKind.Depth }
+    ensures only { (t : Tree) → IsTreeOf t input.now → depth t ≤ MAX_DEPTH → result ≡ Ok (size t) }
+    ensures deeper { (t : Tree) → IsTreeOf t input.now → MAX_DEPTH < depth t → Refuses result ErrorKind.Depth }
 
     // The bytes end inside those of a tree of any depth, or go on behind those of a tree.
     ensures short { (t : Tree) → IsTree t → IsProperBeginning input.now (bytes t)
         → Refuses result ErrorKind.Truncated }
-    ensures long { (t : Tree) → IsTree t → depth t ≤ 64 → IsProperBeginning (bytes t) input.now
+    ensures long { (t : Tree) → IsTree t → depth t ≤ MAX_DEPTH → IsProperBeginning (bytes t) input.now
         → Refuses result ErrorKind.TrailingData }
     ensures kinds { IfErr result (λ e. IsTreeFault e.kind) }
     // Whether the input is refused, and by which kind, is a function of its bytes.
+    ensures kind { HasFault result (tree_fault input.now) }
+{
+    count_elements(input)
+}
+
+/// Walks over the elements of a tree, and counts them.
+fn count_elements(input: &[u8]) -> Result<usize>
+    ensures found { IfOk result (λ n. (t : Tree) × IsTreeOf t input.now × (depth t ≤ MAX_DEPTH)
+        × (size t ≡ n)) }
+    ensures kinds { IfErr result (λ e. IsTreeFault e.kind) }
     ensures kind { HasFault result (tree_fault input.now) }
 {
     let mut nodes = OpenNodes::new();
@@ -65,14 +75,15 @@ struct OpenNodes {
 }
 
 impl Model for OpenNodes {
-    ghost use Rattle.std.specs.Prelude.{◌≡◌, ◌≤◌, List, ℕ, get_or};
+    ghost use Rattle.std.specs.Prelude.{◌≡◌, ◌<◌, List, ℕ, get_or};
+    ghost use Rattle.sec1_der.specs.declared.tree.TheConstants.{MAX_DEPTH};
     ghost use Rattle.sec1_der.specs.Walks.{open_ends};
 
     ghost Value = { List ℕ };
 
     ghost view = { λ nodes. open_ends nodes.level nodes.ends };
 
-    ghost invariant = { λ nodes. (nodes.level ≤ 63) × (get_or nodes.ends 0 0 ≡ 0) };
+    ghost invariant = { λ nodes. (nodes.level < MAX_DEPTH) × (get_or nodes.ends 0 0 ≡ 0) };
 }
 
 impl OpenNodes {
@@ -110,9 +121,10 @@ impl OpenNodes {
     /// # Errors
     ///
     /// Depth if that is level 64.
+    #[tactic(auto, using(crate::proofs::WalkLemmas::open_ends_opened, crate::proofs::WalkLemmas::length_open_ends))]
     fn open(&mut self, end: usize) -> Result<()>
-        ensures opened { OnOk result ((length self.old < 63) × (self.new ≡ end ∷ self.old)) }
-        ensures full { OnErr result (length self.old ≡ 63) }
+        ensures opened { OnOk result ((length self.old < MAX_DEPTH - 1) × (self.new ≡ end ∷ self.old)) }
+        ensures full { OnErr result (length self.old ≡ MAX_DEPTH - 1) }
         ensures kind { IfErr result (λ e. e.kind ≡ ErrorKind.Depth) }
     {
         if self.level == MAX_DEPTH - 1 {
@@ -132,15 +144,11 @@ impl OpenNodes {
 
     /// Skips the next element, or opens it if it contains elements. Returns the bytes after the element, or after its header.
     #[inline(always)]
+    #[tactic(auto, using(crate::proofs::EnterLemmas::inside_within))]
     fn enter<'a>(&mut self, rest: &'a [u8]) -> Result<&'a [u8]>
         requires { innermost self.old ≤ length rest.now }
         ensures found { IfOk result (λ after. Enters self.old rest.now self.new after.now) }
-        ensures only { (t : Tree) (tail : List ℕ) → IsTree t → rest.now ≡ bytes t ++ tail
-            → innermost self.old ≤ length tail
-            → IfErr result (λ e. e.kind ≡ ErrorKind.Depth) }
         ensures deep { Refuses result ErrorKind.Depth → IsTooDeep self.old rest.now }
-        ensures short { (t : Tree) → IsTree t → IsProperBeginning rest.now (bytes t) → self.old ≡ []
-            → Refuses result ErrorKind.Truncated }
         ensures kinds { IfErr result (λ e. (e.kind ≡ ErrorKind.Depth) ⊎ IsHeaderFault e.kind) }
         ensures refusal { IfErr result (λ e. (e.kind ≡ ErrorKind.Depth)
             ⊎ ((content : ℕ → Fault) (behind : Fault) → any_fault content behind

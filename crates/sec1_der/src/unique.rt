@@ -39,6 +39,7 @@ impl UniqueContent for WholeBits<'_> {
 }
 
 impl UniqueContent for ObjectIdentifier {
+    #[tactic(auto, using(crate::proofs::UniqueLemmas::unique_identifier))]
     fn one() {}
 }
 
@@ -47,6 +48,7 @@ impl UniqueContent for End {
 }
 
 impl<A: UniqueContent + FixedTag, R: UniqueContent> UniqueContent for Required<A, R> {
+    #[tactic(auto, using(crate::proofs::UniqueLemmas::unique_required))]
     fn one() {
         A::one();
         R::one();
@@ -55,6 +57,7 @@ impl<A: UniqueContent + FixedTag, R: UniqueContent> UniqueContent for Required<A
 
 impl<N: ExplicitTag, A: UniqueContent + FixedTag, R: UniqueContent + NoField<N>> UniqueContent
     for Optional<N, A, R> {
+    #[tactic(auto, using(crate::proofs::UniqueLemmas::unique_optional))]
     fn one() {
         A::one();
         R::one();
@@ -62,6 +65,7 @@ impl<N: ExplicitTag, A: UniqueContent + FixedTag, R: UniqueContent + NoField<N>>
 }
 
 impl<T: UniqueContent + FixedTag> UniqueContent for Containing<T> {
+    #[tactic(auto, using(crate::proofs::UniqueLemmas::unique_inside))]
     fn one() {
         T::one();
     }

@@ -48,7 +48,7 @@ impl io::Read for Uneven<'_> {
 }
 
 #[test]
-fn large_documents_are_read(rt: HostRuntime) -> Result<(), Fail> {
+fn reads_large_documents(rt: HostRuntime) -> Result<(), Fail> {
     let alloc = rt.alloc();
     for &(header, length) in HEADERS.iter() {
         let bytes = element(alloc, header, length)?;
@@ -64,7 +64,7 @@ fn large_documents_are_read(rt: HostRuntime) -> Result<(), Fail> {
 }
 
 #[test]
-fn large_values_are_written(rt: HostRuntime) -> Result<(), Fail> {
+fn writes_large_values(rt: HostRuntime) -> Result<(), Fail> {
     let alloc = rt.alloc();
     for &(header, length) in HEADERS.iter() {
         let bytes = element(alloc, header, length)?;
@@ -97,7 +97,7 @@ fn path(rt: &HostRuntime, name: &str) -> Result<String, Fail> {
 }
 
 #[test]
-fn large_documents_are_kept_in_files(rt: HostRuntime) -> Result<(), Fail> {
+fn keeps_large_documents_in_files(rt: HostRuntime) -> Result<(), Fail> {
     let alloc = rt.alloc();
     let path = path(&rt, "large")?;
     for &(header, length) in HEADERS.iter() {
@@ -124,7 +124,7 @@ static NO_DOCUMENTS: [(&[u8], ErrorKind); 5] = [
 ];
 
 #[test]
-fn other_files_are_refused(rt: HostRuntime) -> Result<(), Fail> {
+fn refuses_other_files(rt: HostRuntime) -> Result<(), Fail> {
     let path = path(&rt, "other")?;
     for &(bytes, kind) in NO_DOCUMENTS.iter() {
         fs::write(&rt, &path, bytes)?;
@@ -142,7 +142,7 @@ fn other_files_are_refused(rt: HostRuntime) -> Result<(), Fail> {
 }
 
 #[test]
-fn a_full_file_is_a_fault(rt: HostRuntime) -> Result<(), Fail> {
+fn refuses_a_full_file(rt: HostRuntime) -> Result<(), Fail> {
     let document = SecretDocument::from_der(rt.alloc(), KEY)?;
     let full = document.write_der_file(&rt, "/dev/full");
     assert_eq!(rt; full.err().map(|error| error.kind), Some(ErrorKind::Io));
@@ -150,7 +150,7 @@ fn a_full_file_is_a_fault(rt: HostRuntime) -> Result<(), Fail> {
 }
 
 #[test]
-fn a_write_of_no_bytes_is_no_fault(rt: HostRuntime) {
+fn writes_no_bytes_without_a_fault(rt: HostRuntime) {
     let mut writer = StdWriter::new(Vec::new(rt.alloc()));
     assert_eq!(rt; writer.write(&[]), Ok(0));
     assert!(rt; !writer.has_failed());

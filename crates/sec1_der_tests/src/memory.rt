@@ -2,6 +2,9 @@
 //!
 //! They are refused by `tests/refuse.c`, an allocator that is laid under the built tests. A test speaks to it by
 //! requests of sizes that no allocator grants. Without it nothing is refused, and each call is made once.
+//!
+//! The functions that speak to it stand once in each crate that has such tests: a library of them would be proved and
+//! exported for tests alone.
 use super::streams::KEY;
 use sec1_der::{
     ErrorKind, OctetStringRef, Read, SecretDocument, StdReader, StdWriter, check_tree,
@@ -113,7 +116,7 @@ fn needs_no_memory<F: FnMut() -> bool>(
 }
 
 #[test]
-fn requests_of_writing_calls_are_refused(rt: HostRuntime) -> Result<(), Fail> {
+fn reports_memory_from_writing_calls(rt: HostRuntime) -> Result<(), Fail> {
     let alloc = rt.alloc();
     let octets = OctetStringRef::new(&[0xAA; 300])?;
     let header = b"\x04\x82\x01\x2C".as_slice();
@@ -151,7 +154,7 @@ fn read_outcome(alloc: Global, bytes: &[u8]) -> Outcome {
 }
 
 #[test]
-fn requests_of_reading_calls_are_refused(rt: HostRuntime) -> Result<(), Fail> {
+fn reports_memory_from_reading_calls(rt: HostRuntime) -> Result<(), Fail> {
     let alloc = rt.alloc();
     assert!(rt;
         is_refused_in_turn(&rt, alloc, "SecretDocument::from_der", || {
@@ -181,7 +184,7 @@ fn requests_of_reading_calls_are_refused(rt: HostRuntime) -> Result<(), Fail> {
 
 /// What the opening of a file takes is refused as a failed read.
 #[test]
-fn requests_of_calls_on_files_are_refused(rt: HostRuntime) -> Result<(), Fail> {
+fn reports_memory_from_calls_on_files(rt: HostRuntime) -> Result<(), Fail> {
     let alloc = rt.alloc();
     let folder = std::env::temp_dir(&rt)?;
     let path = format!(in alloc;
@@ -226,7 +229,7 @@ impl io::Read for Endless {
 }
 
 #[test]
-fn a_document_grows_by_what_is_asked_for(rt: HostRuntime) -> Result<(), Fail> {
+fn grows_documents_by_4096_bytes(rt: HostRuntime) -> Result<(), Fail> {
     let alloc = rt.alloc();
     let is_refusing = refuse(alloc, u16::MAX);
     let mut reader = StdReader::new(Endless {
@@ -244,7 +247,7 @@ fn a_document_grows_by_what_is_asked_for(rt: HostRuntime) -> Result<(), Fail> {
 }
 
 #[test]
-fn calls_without_an_allocator_take_no_memory(rt: HostRuntime) -> Result<(), Fail> {
+fn takes_no_memory_without_an_allocator(rt: HostRuntime) -> Result<(), Fail> {
     let alloc = rt.alloc();
     let document = SecretDocument::from_der(alloc, KEY)?;
     assert!(rt;

@@ -1,4 +1,4 @@
-//! What is read, by examples with known answers.
+//! What is read, by examples with known results.
 use sec1_der::{
     AnyRef, BitStringRef, Error, ErrorKind, Header, ID_EC_PUBLIC_KEY, Length, ObjectIdentifier,
     OctetStringRef, SliceReader, Tag, VersionOne, from_der,
@@ -23,7 +23,7 @@ static TEXTS: [(ErrorKind, &str); 11] = [
 ];
 
 #[test]
-fn errors_have_the_texts_of_their_kinds(rt: HostRuntime) -> Result<(), Fail> {
+fn prints_errors_by_their_kinds(rt: HostRuntime) -> Result<(), Fail> {
     for &(kind, text) in TEXTS.iter() {
         let error = Error::from(kind);
         assert_eq!(rt; error.kind(), kind);
@@ -33,7 +33,7 @@ fn errors_have_the_texts_of_their_kinds(rt: HostRuntime) -> Result<(), Fail> {
 }
 
 #[test]
-fn lengths_have_a_limit(rt: HostRuntime) -> Result<(), Fail> {
+fn refuses_lengths_above_the_limit(rt: HostRuntime) -> Result<(), Fail> {
     assert_eq!(rt; Length::new(Length::MAX)?.get(), 268_435_455);
     assert_eq!(rt;
         Length::new(268_435_456).map_err(|e| e.kind),
@@ -69,7 +69,7 @@ static HEADERS: [(&[u8], Result<(u8, usize), ErrorKind>); 15] = [
 ];
 
 #[test]
-fn headers_are_read(rt: HostRuntime) {
+fn reads_headers(rt: HostRuntime) {
     for &(bytes, ref want) in HEADERS.iter() {
         assert_eq!(rt; header(bytes), *want, "of {bytes:?}");
     }
@@ -85,7 +85,7 @@ static OCTET_STRINGS: [(&[u8], Result<&[u8], ErrorKind>); 6] = [
 ];
 
 #[test]
-fn octet_strings_are_read(rt: HostRuntime) {
+fn reads_octet_strings(rt: HostRuntime) {
     for &(bytes, ref want) in OCTET_STRINGS.iter() {
         let read = from_der::<OctetStringRef>(bytes).map_err(|e| e.kind);
         assert_eq!(rt; read.map(|octets| octets.as_bytes()), *want, "of {bytes:?}");
@@ -93,7 +93,7 @@ fn octet_strings_are_read(rt: HostRuntime) {
 }
 
 #[test]
-fn bit_strings_are_read(rt: HostRuntime) -> Result<(), Fail> {
+fn reads_bit_strings(rt: HostRuntime) -> Result<(), Fail> {
     let bits = from_der::<BitStringRef>(b"\x03\x02\x04\xF0")?;
     assert_eq!(rt; bits.unused_bits(), 4);
     assert_eq!(rt; bits.raw_bytes(), b"\xF0".as_slice());
@@ -108,7 +108,7 @@ fn bit_strings_are_read(rt: HostRuntime) -> Result<(), Fail> {
 }
 
 #[test]
-fn bit_strings_are_made(rt: HostRuntime) -> Result<(), Fail> {
+fn makes_bit_strings(rt: HostRuntime) -> Result<(), Fail> {
     assert_eq!(rt; BitStringRef::new(1, b"\x00")?.as_bytes(), None);
     assert_eq!(rt;
         BitStringRef::from_bytes(b"\x01")?.as_bytes(),
@@ -122,7 +122,7 @@ fn bit_strings_are_made(rt: HostRuntime) -> Result<(), Fail> {
 }
 
 #[test]
-fn versions_are_one(rt: HostRuntime) -> Result<(), Fail> {
+fn reads_version_one(rt: HostRuntime) -> Result<(), Fail> {
     assert_eq!(rt; from_der::<VersionOne>(b"\x02\x01\x01")?, VersionOne);
     assert_eq!(rt;
         from_der::<VersionOne>(b"\x02\x01\x02").map_err(|e| e.kind),
@@ -132,7 +132,7 @@ fn versions_are_one(rt: HostRuntime) -> Result<(), Fail> {
 }
 
 #[test]
-fn elements_of_any_tag_are_read(rt: HostRuntime) -> Result<(), Fail> {
+fn reads_elements_of_any_tag(rt: HostRuntime) -> Result<(), Fail> {
     let mut reader = SliceReader::new(b"\x30\x02\xAA\xBB\x05");
     let Ok(any) = AnyRef::decode(&mut reader) else {
         return Err("refused")?;
@@ -145,7 +145,7 @@ fn elements_of_any_tag_are_read(rt: HostRuntime) -> Result<(), Fail> {
 }
 
 #[test]
-fn context_fields_are_read(rt: HostRuntime) -> Result<(), Fail> {
+fn reads_context_fields(rt: HostRuntime) -> Result<(), Fail> {
     let mut other = SliceReader::new(b"\xA1\x03\x03\x01\x00");
     assert_eq!(rt; other.context_specific::<OctetStringRef>(0)?, None);
     assert_eq!(rt; other.remaining_len(), 5);
@@ -176,7 +176,7 @@ static IDENTIFIERS: [(&str, &[u8]); 9] = [
 ];
 
 #[test]
-fn identifiers_are_read_and_printed(rt: HostRuntime) -> Result<(), Fail> {
+fn reads_and_prints_identifiers(rt: HostRuntime) -> Result<(), Fail> {
     for &(text, content) in IDENTIFIERS.iter() {
         let identifier = ObjectIdentifier::new(text)?;
         assert_eq!(rt; identifier.as_bytes(), content, "{text}");
@@ -220,7 +220,7 @@ static REFUSED_CONTENTS: [&[u8]; 6] = [
 ];
 
 #[test]
-fn other_identifiers_are_refused(rt: HostRuntime) {
+fn refuses_other_identifiers(rt: HostRuntime) {
     for &text in REFUSED_TEXTS.iter() {
         let refused = ObjectIdentifier::new(text).map_err(|e| e.kind);
         assert!(rt; refused == Err(ErrorKind::Value), "{text}");
@@ -232,7 +232,7 @@ fn other_identifiers_are_refused(rt: HostRuntime) {
 }
 
 #[test]
-fn identifiers_have_at_most_39_bytes(rt: HostRuntime) -> Result<(), Fail> {
+fn refuses_identifiers_above_39_bytes(rt: HostRuntime) -> Result<(), Fail> {
     let mut text = "1.2".to_string(rt.alloc())?;
     for _ in 0..38 {
         text.push_str(".1")?;

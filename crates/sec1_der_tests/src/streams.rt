@@ -5,8 +5,16 @@ use std::test::Fail;
 use std::{fs, io};
 
 /// A key on P-256 with all its fields, 121 bytes.
-pub const KEY: &[u8] =
-    b"\x30\x77\x02\x01\x01\x04\x20\x69\x62\x41\x71\x56\x1A\x63\x34\x0D\xE0\xE7\xD8\x69\xF2\xA0\x54\x92\x55\x8E\x1A\x04\x86\x8B\x6A\x9F\x85\x4A\x86\x67\x88\x18\x8D\xA0\x0A\x06\x08\x2A\x86\x48\xCE\x3D\x03\x01\x07\xA1\x44\x03\x42\x00\x04\x1C\xAC\xFF\xB5\x5F\x2F\x2C\xEF\xD8\x9D\x89\xEB\x37\x4B\x26\x81\x15\x24\x52\x80\x2D\xEE\xA0\x99\x16\x06\x81\x37\xD8\x39\xCF\x7F\xC4\x81\xA4\x44\x92\x30\x4D\x7E\xF6\x6A\xC1\x17\xBE\xFE\x83\xA8\xD0\x8F\x15\x5F\x2B\x52\xF9\xF6\x18\xDD\x44\x70\x29\x04\x8E\x0F";
+pub const KEY: &[u8] = &[
+    0x30, 0x77, 0x02, 0x01, 0x01, 0x04, 0x20, 0x69, 0x62, 0x41, 0x71, 0x56, 0x1A, 0x63, 0x34, 0x0D,
+    0xE0, 0xE7, 0xD8, 0x69, 0xF2, 0xA0, 0x54, 0x92, 0x55, 0x8E, 0x1A, 0x04, 0x86, 0x8B, 0x6A, 0x9F,
+    0x85, 0x4A, 0x86, 0x67, 0x88, 0x18, 0x8D, 0xA0, 0x0A, 0x06, 0x08, 0x2A, 0x86, 0x48, 0xCE, 0x3D,
+    0x03, 0x01, 0x07, 0xA1, 0x44, 0x03, 0x42, 0x00, 0x04, 0x1C, 0xAC, 0xFF, 0xB5, 0x5F, 0x2F, 0x2C,
+    0xEF, 0xD8, 0x9D, 0x89, 0xEB, 0x37, 0x4B, 0x26, 0x81, 0x15, 0x24, 0x52, 0x80, 0x2D, 0xEE, 0xA0,
+    0x99, 0x16, 0x06, 0x81, 0x37, 0xD8, 0x39, 0xCF, 0x7F, 0xC4, 0x81, 0xA4, 0x44, 0x92, 0x30, 0x4D,
+    0x7E, 0xF6, 0x6A, 0xC1, 0x17, 0xBE, 0xFE, 0x83, 0xA8, 0xD0, 0x8F, 0x15, 0x5F, 0x2B, 0x52, 0xF9,
+    0xF6, 0x18, 0xDD, 0x44, 0x70, 0x29, 0x04, 0x8E, 0x0F,
+];
 
 /// What a reader does behind its bytes.
 #[derive(Clone, Copy)]
@@ -105,7 +113,7 @@ static READS: [(&[u8], usize, usize, Then, Option<ErrorKind>, usize); 12] = [
 ];
 
 #[test]
-fn documents_are_read(rt: HostRuntime) {
+fn reads_documents_in_pieces(rt: HostRuntime) {
     for (row, &(bytes, given, step, then, want, taken)) in READS.iter().enumerate() {
         let mut reader = StdReader::new(Pieces {
             rest: bytes.get(..given).unwrap_or_default(),
@@ -129,7 +137,7 @@ fn documents_are_read(rt: HostRuntime) {
 }
 
 #[test]
-fn each_read_fails_in_turn(rt: HostRuntime) {
+fn reports_failed_reads_in_turn(rt: HostRuntime) {
     for given in 0..=KEY.len() {
         let mut reader = StdReader::new(Pieces {
             rest: KEY.get(..given).unwrap_or_default(),
@@ -185,7 +193,7 @@ static WRITES: [(usize, usize, bool, Option<ErrorKind>, usize); 5] = [
 ];
 
 #[test]
-fn documents_are_written(rt: HostRuntime) -> Result<(), Fail> {
+fn writes_documents_in_pieces(rt: HostRuntime) -> Result<(), Fail> {
     let document = SecretDocument::read_der_from(rt.alloc(), &mut StdReader::new(KEY))?;
     for &(step, room, fails, want, written) in WRITES.iter() {
         let mut writer = StdWriter::new(Narrow {
@@ -211,7 +219,7 @@ fn documents_are_written(rt: HostRuntime) -> Result<(), Fail> {
 }
 
 #[test]
-fn each_write_fails_in_turn(rt: HostRuntime) -> Result<(), Fail> {
+fn reports_failed_writes_in_turn(rt: HostRuntime) -> Result<(), Fail> {
     let document = SecretDocument::from_der(rt.alloc(), KEY)?;
     for room in 0..KEY.len() {
         for fails in [true, false] {
@@ -235,7 +243,7 @@ fn each_write_fails_in_turn(rt: HostRuntime) -> Result<(), Fail> {
 }
 
 #[test]
-fn documents_are_kept_in_files(rt: HostRuntime) -> Result<(), Fail> {
+fn keeps_documents_in_files(rt: HostRuntime) -> Result<(), Fail> {
     let folder = std::env::temp_dir(&rt)?;
     let path = format!(in rt.alloc();
         "{}/sec1_der_{}",

@@ -1,24 +1,12 @@
 //! `check_tree` on trees of known size, and beside a plain recursive reader.
+use super::streams::KEY;
 use sec1_der::{ErrorKind, check_tree};
 use std::alloc::{AllocError, Global};
 use std::test::Fail;
 
 /// Trees, and how many leaves and nodes they have.
 static TREES: [(&[u8], usize); 8] = [
-    (
-        &[
-            0x30, 0x77, 0x02, 0x01, 0x01, 0x04, 0x20, 0x69, 0x62, 0x41, 0x71, 0x56, 0x1A, 0x63,
-            0x34, 0x0D, 0xE0, 0xE7, 0xD8, 0x69, 0xF2, 0xA0, 0x54, 0x92, 0x55, 0x8E, 0x1A, 0x04,
-            0x86, 0x8B, 0x6A, 0x9F, 0x85, 0x4A, 0x86, 0x67, 0x88, 0x18, 0x8D, 0xA0, 0x0A, 0x06,
-            0x08, 0x2A, 0x86, 0x48, 0xCE, 0x3D, 0x03, 0x01, 0x07, 0xA1, 0x44, 0x03, 0x42, 0x00,
-            0x04, 0x1C, 0xAC, 0xFF, 0xB5, 0x5F, 0x2F, 0x2C, 0xEF, 0xD8, 0x9D, 0x89, 0xEB, 0x37,
-            0x4B, 0x26, 0x81, 0x15, 0x24, 0x52, 0x80, 0x2D, 0xEE, 0xA0, 0x99, 0x16, 0x06, 0x81,
-            0x37, 0xD8, 0x39, 0xCF, 0x7F, 0xC4, 0x81, 0xA4, 0x44, 0x92, 0x30, 0x4D, 0x7E, 0xF6,
-            0x6A, 0xC1, 0x17, 0xBE, 0xFE, 0x83, 0xA8, 0xD0, 0x8F, 0x15, 0x5F, 0x2B, 0x52, 0xF9,
-            0xF6, 0x18, 0xDD, 0x44, 0x70, 0x29, 0x04, 0x8E, 0x0F,
-        ],
-        7,
-    ),
+    (KEY, 7),
     (
         &[
             0x30, 0x6B, 0x02, 0x01, 0x01, 0x04, 0x20, 0x69, 0x62, 0x41, 0x71, 0x56, 0x1A, 0x63,
@@ -60,7 +48,7 @@ static REFUSED: [(&[u8], ErrorKind); 6] = [
 ];
 
 #[test]
-fn known_trees_are_counted(rt: HostRuntime) -> Result<(), Fail> {
+fn counts_known_trees(rt: HostRuntime) -> Result<(), Fail> {
     for &(input, size) in TREES.iter() {
         assert_eq!(rt; check_tree(input)?, size, "{input:?}");
     }
@@ -68,15 +56,15 @@ fn known_trees_are_counted(rt: HostRuntime) -> Result<(), Fail> {
 }
 
 #[test]
-fn other_bytes_are_refused(rt: HostRuntime) {
+fn refuses_other_bytes(rt: HostRuntime) {
     for &(input, kind) in REFUSED.iter() {
-        assert_eq!(rt; answer(input), Err(kind), "{input:?}");
+        assert_eq!(rt; counted(input), Err(kind), "{input:?}");
     }
 }
 
 /// 64 elements inside one another are counted, 65 are too deep.
 #[test]
-fn sixty_four_levels_are_read(rt: HostRuntime) -> Result<(), Fail> {
+fn reads_64_levels(rt: HostRuntime) -> Result<(), Fail> {
     let alloc = rt.alloc();
     for (innermost, length) in [
         (vec![in alloc; 0x30, 0x00]?, 128),
@@ -89,14 +77,14 @@ fn sixty_four_levels_are_read(rt: HostRuntime) -> Result<(), Fail> {
         assert_eq!(rt; tree.len(), length);
         assert_eq!(rt; check_tree(&tree)?, 64);
         let deeper = node(alloc, 0x30, &tree)?;
-        assert_eq!(rt; answer(&deeper), Err(ErrorKind::Depth));
+        assert_eq!(rt; counted(&deeper), Err(ErrorKind::Depth));
     }
     Ok(())
 }
 
 /// Each list of up to three bytes.
 #[test]
-fn short_inputs_agree(rt: HostRuntime) {
+fn agrees_on_short_inputs(rt: HostRuntime) {
     assert!(rt; agrees(&[]));
     for a in 0..=255u8 {
         assert!(rt; agrees(&[a]), "{a}");
@@ -111,7 +99,7 @@ fn short_inputs_agree(rt: HostRuntime) {
 
 /// Trees of many shapes, and each with a byte changed, cut off and added.
 #[test]
-fn made_trees_agree(rt: HostRuntime) -> Result<(), Fail> {
+fn agrees_on_made_trees(rt: HostRuntime) -> Result<(), Fail> {
     let alloc = rt.alloc();
     let mut numbers = Numbers { state: 1 };
     for _ in 0..2_000 {
@@ -121,7 +109,7 @@ fn made_trees_agree(rt: HostRuntime) -> Result<(), Fail> {
         } else {
             Err(ErrorKind::Depth)
         };
-        assert_eq!(rt; answer(&made.bytes), want, "{:?}", made.bytes);
+        assert_eq!(rt; counted(&made.bytes), want, "{:?}", made.bytes);
         for _ in 0..8 {
             let mut bytes = made.bytes.clone()?;
             let at = numbers.next() % bytes.len().max(1);
@@ -139,8 +127,8 @@ fn made_trees_agree(rt: HostRuntime) -> Result<(), Fail> {
     Ok(())
 }
 
-/// What `check_tree` answers, as a value that can be compared.
-fn answer(input: &[u8]) -> Result<usize, ErrorKind> {
+/// What `check_tree` returns, as a value that can be compared.
+fn counted(input: &[u8]) -> Result<usize, ErrorKind> {
     match check_tree(input) {
         Ok(size) => Ok(size),
         Err(e) => Err(e.kind),
@@ -148,11 +136,11 @@ fn answer(input: &[u8]) -> Result<usize, ErrorKind> {
 }
 
 fn agrees(input: &[u8]) -> bool {
-    answer(input) == plain_answer(input)
+    counted(input) == counted_by_recursion(input)
 }
 
 /// The size of the one tree with these bytes, by recursion.
-fn plain_answer(input: &[u8]) -> Result<usize, ErrorKind> {
+fn counted_by_recursion(input: &[u8]) -> Result<usize, ErrorKind> {
     let (size, rest) = tree_at(input, 64)?;
     if !rest.is_empty() {
         return Err(ErrorKind::TrailingData);

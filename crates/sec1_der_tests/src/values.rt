@@ -1,4 +1,4 @@
-//! Values and calls of the reader that no other test makes, by examples with known answers.
+//! Values and calls of the reader that no other test makes, by examples with known results.
 use sec1_der::{
     BitStringRef, Containing, EncodeValue, ErrorKind, FixedTag, ID_EC_PUBLIC_KEY, Length,
     ObjectIdentifier, Octets, SliceReader, SliceWriter, SmallInteger, Tag, VersionOne, WholeBits,
@@ -7,7 +7,7 @@ use sec1_der::{
 use std::test::Fail;
 
 #[test]
-fn component_values_have_their_tags(rt: HostRuntime) {
+fn has_tags_of_component_values(rt: HostRuntime) {
     assert_eq!(rt; SmallInteger::<0>::TAG.byte(), 0x02);
     assert_eq!(rt; WholeBits::TAG.byte(), 0x03);
     assert_eq!(rt; Octets::TAG.byte(), 0x04);
@@ -15,7 +15,7 @@ fn component_values_have_their_tags(rt: HostRuntime) {
 }
 
 #[test]
-fn contents_are_written(rt: HostRuntime) -> Result<(), Fail> {
+fn writes_contents(rt: HostRuntime) -> Result<(), Fail> {
     let mut room = [0xAA; 11];
     let mut writer = SliceWriter::new(&mut room);
     ID_EC_PUBLIC_KEY.encode_value(&mut writer)?;
@@ -32,7 +32,7 @@ fn contents_are_written(rt: HostRuntime) -> Result<(), Fail> {
 }
 
 #[test]
-fn elements_of_identifiers_are_read(rt: HostRuntime) -> Result<(), Fail> {
+fn reads_elements_of_identifiers(rt: HostRuntime) -> Result<(), Fail> {
     let identifier = from_der::<ObjectIdentifier>(b"\x06\x02\x88\x37")?;
     assert_eq!(rt; identifier.as_bytes(), [0x88, 0x37].as_slice());
     assert_eq!(rt; format!(in rt.alloc(); "{identifier}")?.as_str(), "2.999");
@@ -49,7 +49,7 @@ fn elements_of_identifiers_are_read(rt: HostRuntime) -> Result<(), Fail> {
 
 /// The content of a version is whole, so any other is refused as Value, whatever its length.
 #[test]
-fn other_versions_are_other_values(rt: HostRuntime) {
+fn refuses_other_versions(rt: HostRuntime) {
     for bytes in [
         b"\x02\x00".as_slice(),
         b"\x02\x01\x00",
@@ -65,7 +65,7 @@ fn other_versions_are_other_values(rt: HostRuntime) {
 }
 
 #[test]
-fn tags_are_bytes(rt: HostRuntime) -> Result<(), Fail> {
+fn reads_tags_from_bytes(rt: HostRuntime) -> Result<(), Fail> {
     for (byte, is_constructed) in [(0x01, false), (0x04, false), (0x30, true), (0xBE, true)] {
         let tag = Tag::from_byte(byte)?;
         assert_eq!(rt; tag.byte(), byte);
@@ -83,7 +83,7 @@ fn tags_are_bytes(rt: HostRuntime) -> Result<(), Fail> {
 }
 
 #[test]
-fn parts_of_a_slice_are_read(rt: HostRuntime) -> Result<(), Fail> {
+fn reads_parts_of_a_slice(rt: HostRuntime) -> Result<(), Fail> {
     let mut reader = SliceReader::new(b"\x01\x02\x03\x04\x05");
     assert_eq!(rt; reader.read_slice(Length::new(2)?)?, b"\x01\x02".as_slice());
     assert_eq!(rt; reader.remaining_len(), 3);

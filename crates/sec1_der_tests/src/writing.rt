@@ -1,4 +1,4 @@
-//! What is written, by examples with known answers.
+//! What is written, by examples with known results.
 use sec1_der::{
     AnyRef, BackWriter, BitStringRef, EncodeValue, ErrorKind, Header, ID_EC_PUBLIC_KEY, Length,
     ObjectIdentifier, OctetStringRef, SecretDocument, SliceReader, SliceWriter, Tag, VersionOne,
@@ -6,8 +6,8 @@ use sec1_der::{
 };
 use std::test::Fail;
 
-fn kind_of<T: Drop>(answer: sec1_der::Result<T>) -> Option<ErrorKind> {
-    match answer {
+fn kind_of<T: Drop>(outcome: sec1_der::Result<T>) -> Option<ErrorKind> {
+    match outcome {
         Ok(_) => None,
         Err(e) => Some(e.kind()),
     }
@@ -160,7 +160,7 @@ fn writes_elements_and_fields(rt: HostRuntime) -> Result<(), Fail> {
 }
 
 #[test]
-fn lends_identifiers(rt: HostRuntime) -> Result<(), Fail> {
+fn makes_any_of_an_identifier(rt: HostRuntime) -> Result<(), Fail> {
     let identifier = ObjectIdentifier::new("1.3.132.0.34")?;
     let any = AnyRef::from(&identifier);
     assert_eq!(rt; any.tag(), Tag::OBJECT_IDENTIFIER);

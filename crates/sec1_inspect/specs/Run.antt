@@ -49,7 +49,7 @@ pub record HasStatus (IsReport : List ℕ → List ℕ → ℕ → Type 0) (inpu
   pub text : List ℕ
   pub report : IfSome input (λ bytes. IsReport bytes text status)
 
--- the line that tells why there is no report
+-- the line that says why there is no report
 abbrev pub line_of : Failure → List ℕ
 line_of (Run Input) = codes "sec1_inspect: input failed"
 line_of (Run Output) = codes "sec1_inspect: output failed"

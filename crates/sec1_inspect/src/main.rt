@@ -1,7 +1,12 @@
 //! Inspects an EC private key: hexadecimal text on standard input, or DER in the file named by the one argument.
 #![tactic(auto)]
 
-ghost use Rattle.std.specs.Prelude.{◌≡◌, ◌≢◌, ◌<◌, ◌≤◌, ℕ, List, false, ◌↔◌, ◌⊎◌, IsTrue, IfOk, IfErr, OnOk, OnErr, IsErrOf, MatchOption, MatchResult, Ok, Err, string_bytes};
+mod report;
+#[cfg(test)]
+mod tests;
+
+ghost use Rattle.std.specs.Prelude.{◌≡◌, ◌≢◌, ◌<◌, ◌≤◌, ℕ, List, false, ◌↔◌, ◌⊎◌, IsTrue, IfOk, IfErr, OnOk, OnErr, IsErrOf, MatchOption, MatchResult, Ok};
+ghost use Rattle.std.specs.Prelude.{Err, string_bytes};
 ghost use Rattle.std.specs.Io.KnownBytes.{Appends, IsAtEnd};
 ghost use Rattle.sec1.specs.Der.{AppendsBeginning};
 ghost use Rattle.sec1_inspect.specs.declared.Failure.TheVariants.{Run, Paths};
@@ -9,10 +14,6 @@ ghost use Rattle.sec1_inspect.specs.declared.Fault.TheVariants.{Input, Output, M
 ghost use Rattle.sec1_inspect.specs.declared.Source.TheVariants.{StandardInput, File};
 ghost use Rattle.sec1_inspect.specs.Report.{IsDerReport, IsReport};
 ghost use Rattle.sec1_inspect.specs.Run.{HasStatus, ReadsInput, ReadsOnto, Takes, WritesBeginning, WritesReport, line_of, report_in};
-
-mod report;
-#[cfg(test)]
-mod tests;
 
 use crate::report::{LIMIT, Report, report_on_der, report_on_text};
 use sec1::der::{Read, StdReader, StdWriter, Write};

@@ -1,6 +1,8 @@
 //! The report on an input: its lines, and the status that the program ends with.
+
 ghost use Rattle.std.specs.Prelude.{◌≡◌, ◌<◌, ◌^◌, IfOk, MatchOption, string_bytes};
-ghost use Rattle.sec1_inspect.specs.Report.{IsDerReport, IsKeyReport, IsNoKeyReport, IsPointText, IsPublicPointText, IsRefusal, IsReport, IsReportOnBytes, IsTreeText, parameters_words, public_key_words, stripped, tag_words};
+ghost use Rattle.sec1_inspect.specs.Report.{IsDerReport, IsKeyReport, IsNoKeyReport, IsPointText, IsPublicPointText, IsRefusal, IsReport, IsReportOnBytes};
+ghost use Rattle.sec1_inspect.specs.Report.{IsTreeText, parameters_words, public_key_words, stripped, tag_words};
 ghost use Rattle.sec1.specs.Points.{Fits, IsEncoding};
 
 use hex::{FromHexError, ToHex};

@@ -1,15 +1,10 @@
 //! Keys in files: large ones, refused ones, long paths, and files that can't be written.
-use super::reading::KEY;
-use super::traits::Copied;
-use der::ErrorKind;
-use sec1::{DecodeEcPrivateKey, EncodeEcPrivateKey, Error, der};
+use super::reading::whole_key;
+use super::traits::{Copied, asn1};
+use sec1::der::ErrorKind;
+use sec1::{DecodeEcPrivateKey, EncodeEcPrivateKey};
 use std::fs;
 use std::test::Fail;
-
-/// The error of this kind.
-fn asn1(kind: ErrorKind) -> Option<Error> {
-    Some(Error::Asn1(der::Error::from(kind)))
-}
 
 /// Returns a path in the folder for temporary files that is this test's own.
 fn path(rt: &HostRuntime, name: &str) -> Result<String, Fail> {
@@ -83,7 +78,7 @@ fn files_that_cannot_be_written_are_faults(rt: HostRuntime) -> Result<(), Fail> 
 #[test]
 fn long_paths_are_paths(rt: HostRuntime) -> Result<(), Fail> {
     let key = Copied {
-        bytes: hex::decode(rt.alloc(), KEY)?,
+        bytes: whole_key(rt.alloc())?,
     };
     let top = path(&rt, "long")?;
     let mut folder = top.clone()?;

@@ -2,9 +2,9 @@
 //!
 //! They are refused by `tests/refuse.c`, an allocator that is laid under the built tests. A test speaks to it by
 //! requests of sizes that no allocator grants. Without it nothing is refused, and each call is made once.
-use super::reading::KEY;
-use super::traits::Copied;
-use sec1::der::{self, ErrorKind, Read, StdReader, StdWriter, Write, check_tree};
+use super::reading::whole_key;
+use super::traits::{Copied, asn1};
+use sec1::der::{ErrorKind, Read, StdReader, StdWriter, Write, check_tree};
 use sec1::point::{EncodedPoint, EncodedPoint32};
 use sec1::{DecodeEcPrivateKey, EcPrivateKey, EncodeEcPrivateKey, Error};
 use serde_json::Value;
@@ -118,7 +118,7 @@ fn needs_no_memory<F: FnMut() -> bool>(
 #[test]
 fn requests_of_writing_calls_are_refused(rt: HostRuntime) -> std::result::Result<(), Fail> {
     let alloc = rt.alloc();
-    let bytes = hex::decode(alloc, KEY)?;
+    let bytes = whole_key(alloc)?;
     let der = bytes.as_slice();
     let key = EcPrivateKey::try_from(der)?;
     assert!(rt;
@@ -181,7 +181,7 @@ fn written_outcome(alloc: Global, key: &Copied) -> Outcome {
 #[test]
 fn requests_of_the_traits_are_refused(rt: HostRuntime) -> std::result::Result<(), Fail> {
     let alloc = rt.alloc();
-    let whole = hex::decode(alloc, KEY)?;
+    let whole = whole_key(alloc)?;
     // of a short key there is room for the document before there is for its copy
     for bytes in [whole.as_slice(), b"\x04\x01\xAA".as_slice()] {
         let key = Copied::from_sec1_der(alloc, bytes)?;
@@ -207,10 +207,7 @@ fn requests_of_the_traits_are_refused(rt: HostRuntime) -> std::result::Result<()
 
 /// What the opening or the making of a file takes is refused as a failed read or write.
 fn is_memory_or_io(error: Error) -> bool {
-    let io = Error::Asn1(der::Error {
-        kind: ErrorKind::Io,
-    });
-    error == Error::Memory || error == io
+    error == Error::Memory || Some(error) == asn1(ErrorKind::Io)
 }
 
 #[test]
@@ -289,7 +286,7 @@ fn requests_for_texts_of_points_are_refused(rt: HostRuntime) -> std::result::Res
 #[test]
 fn keys_take_no_memory(rt: HostRuntime) -> std::result::Result<(), Fail> {
     let alloc = rt.alloc();
-    let bytes = hex::decode(alloc, KEY)?;
+    let bytes = whole_key(alloc)?;
     assert!(rt;
         needs_no_memory(
             &rt,

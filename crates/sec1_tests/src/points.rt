@@ -460,6 +460,11 @@ fn writes_texts(rt: HostRuntime) -> Result<(), Fail> {
         Point1::from_str("070103")?.as_bytes(),
         [7, 1, 3].as_slice()
     );
+    Ok(())
+}
+
+#[test]
+fn refuses_other_texts(rt: HostRuntime) {
     for &text in NO_TEXT.iter() {
         assert_eq!(rt;
             Point1::from_str(text).err(),
@@ -475,6 +480,11 @@ fn writes_texts(rt: HostRuntime) -> Result<(), Fail> {
         Point1::from_json(&Value::from(0.5)).err(),
         Some(Error::PointEncoding)
     );
+}
+
+#[test]
+fn prints_the_coordinates(rt: HostRuntime) -> Result<(), Fail> {
+    let alloc = rt.alloc();
     let point = Point1::from_bytes(&[2, 0xAF])?;
     assert_eq!(rt;
         format!(in alloc; "{point:?}")?.as_str(),

@@ -11,13 +11,19 @@ static PRIVATE_KEY: &str = "69624171561A63340DE0E7D869F2A05492558E1A04868B6A9F85
 static PUBLIC_KEY: &str =
     "041CACFFB55F2F2CEFD89D89EB374B2681152452802DEEA09916068137D839CF7FC481A44492304D7EF66AC117BEFE83A8D08F155F2B52F9F618DD447029048E0F";
 
-/// The key with all its fields, 121 bytes.
-pub static KEY: &str =
-    "3077020101042069624171561A63340DE0E7D869F2A05492558E1A04868B6A9F854A866788188DA00A06082A8648CE3D030107A144034200041CACFFB55F2F2CEFD89D89EB374B2681152452802DEEA09916068137D839CF7FC481A44492304D7EF66AC117BEFE83A8D08F155F2B52F9F618DD447029048E0F";
+/// Returns the key with all its fields, 121 bytes.
+pub fn whole_key(alloc: Global) -> std::result::Result<Vec<u8>, Fail> {
+    let parameters = "A00A06082A8648CE3D030107";
+    key_with(alloc, "3077", parameters)
+}
 
-/// The key without parameters, as it stands inside PKCS#8, 109 bytes.
-static KEY_OF_KNOWN_CURVE: &str =
-    "306B020101042069624171561A63340DE0E7D869F2A05492558E1A04868B6A9F854A866788188DA144034200041CACFFB55F2F2CEFD89D89EB374B2681152452802DEEA09916068137D839CF7FC481A44492304D7EF66AC117BEFE83A8D08F155F2B52F9F618DD447029048E0F";
+/// Returns the key with this header and these parameters.
+fn key_with(alloc: Global, header: &str, parameters: &str) -> std::result::Result<Vec<u8>, Fail> {
+    let text = format!(in alloc;
+        "{header}0201010420{PRIVATE_KEY}{parameters}A144034200{PUBLIC_KEY}"
+    )?;
+    Ok(hex::decode(alloc, text.as_str())?)
+}
 
 /// The kind by which the bytes are refused as a key; None where they are one, or the refusal has no kind.
 fn refusal(bytes: &[u8]) -> Option<ErrorKind> {
@@ -38,13 +44,14 @@ fn whole_keys_are_read(rt: HostRuntime) -> std::result::Result<(), Fail> {
     let public_key = hex::decode(rt.alloc(), PUBLIC_KEY)?;
     let p_256 = ObjectIdentifier::new("1.2.840.10045.3.1.7")?;
 
-    let bytes = hex::decode(rt.alloc(), KEY)?;
+    let bytes = whole_key(rt.alloc())?;
     let key = EcPrivateKey::try_from(bytes.as_slice())?;
     assert_eq!(rt; key.private_key, private_key.as_slice());
     assert!(rt; key.parameters == Some(EcParameters::from(p_256)));
     assert_eq!(rt; key.public_key, Some(public_key.as_slice()));
 
-    let bytes = hex::decode(rt.alloc(), KEY_OF_KNOWN_CURVE)?;
+    // without parameters, as it stands inside PKCS#8
+    let bytes = key_with(rt.alloc(), "306B", "")?;
     let key = EcPrivateKey::try_from(bytes.as_slice())?;
     assert_eq!(rt; key.private_key, private_key.as_slice());
     assert!(rt; key.parameters.is_none());
@@ -173,7 +180,8 @@ static REFUSED: [(&str, ErrorKind); 35] = [
     ("308180", ErrorKind::Truncated),
     // 64 elements inside one another
     (
-        "307E307C307A30783076307430723070306E306C306A30683066306430623060305E305C305A30583056305430523050304E304C304A30483046304430423040303E303C303A30383036303430323030302E302C302A30283026302430223020301E301C301A30183016301430123010300E300C300A30083006300430023000",
+        "307E307C307A30783076307430723070306E306C306A30683066306430623060305E305C305A30583056305430523050304E304C304A30483046304430423040\
+         303E303C303A30383036303430323030302E302C302A30283026302430223020301E301C301A30183016301430123010300E300C300A30083006300430023000",
         ErrorKind::Tag,
     ),
 ];
@@ -189,7 +197,7 @@ fn other_bytes_are_refused(rt: HostRuntime) -> std::result::Result<(), Fail> {
 
 #[test]
 fn parts_of_a_key_are_refused(rt: HostRuntime) -> std::result::Result<(), Fail> {
-    let mut bytes = hex::decode(rt.alloc(), KEY)?;
+    let mut bytes = whole_key(rt.alloc())?;
     for count in 0..bytes.len() {
         let part = bytes.get(..count).ok_or("too short")?;
         assert_eq!(rt; refusal(part), Some(ErrorKind::Truncated), "{count} bytes");
@@ -278,7 +286,7 @@ fn a_debug_text_shows_no_private_key(rt: HostRuntime) -> std::result::Result<(),
 
 #[test]
 fn keys_and_curves_are_copied(rt: HostRuntime) -> std::result::Result<(), Fail> {
-    let bytes = hex::decode(rt.alloc(), KEY)?;
+    let bytes = whole_key(rt.alloc())?;
     let key = EcPrivateKey::try_from(bytes.as_slice())?;
     let copy = key.clone()?;
     assert_eq!(rt; copy.private_key, key.private_key);

@@ -1,8 +1,8 @@
 //! Keys over readers and writers that fail, at each read and each write once.
-use super::reading::KEY;
-use super::traits::Copied;
-use sec1::der::{self, ErrorKind, Read, StdReader, StdWriter, Write};
-use sec1::{DecodeEcPrivateKey, EncodeEcPrivateKey, Error};
+use super::reading::whole_key;
+use super::traits::{Copied, asn1};
+use sec1::der::{ErrorKind, Read, StdReader, StdWriter, Write};
+use sec1::{DecodeEcPrivateKey, EncodeEcPrivateKey};
 use std::io;
 use std::test::Fail;
 
@@ -49,21 +49,14 @@ impl io::Write for Narrow {
     }
 }
 
-/// The error of a read or write that failed.
-fn fault() -> Option<Error> {
-    Some(Error::Asn1(der::Error {
-        kind: ErrorKind::Io,
-    }))
-}
-
 #[test]
 fn each_read_fails_in_turn(rt: HostRuntime) -> Result<(), Fail> {
-    let bytes = hex::decode(rt.alloc(), KEY)?;
+    let bytes = whole_key(rt.alloc())?;
     for given in 0..=bytes.len() {
         let rest = bytes.get(..given).ok_or("too short")?;
         let mut reader = StdReader::new(Broken { rest });
         let refused = Copied::read_sec1_der_from(rt.alloc(), &mut reader);
-        assert_eq!(rt; refused.err(), fault(), "after {given}");
+        assert_eq!(rt; refused.err(), asn1(ErrorKind::Io), "after {given}");
         assert!(rt; reader.has_failed() && reader.into_inner().rest.is_empty());
     }
     println!(&rt; "read_sec1_der_from: each of its 122 reads fails")?;
@@ -73,14 +66,14 @@ fn each_read_fails_in_turn(rt: HostRuntime) -> Result<(), Fail> {
 #[test]
 fn each_write_fails_in_turn(rt: HostRuntime) -> Result<(), Fail> {
     let key = Copied {
-        bytes: hex::decode(rt.alloc(), KEY)?,
+        bytes: whole_key(rt.alloc())?,
     };
     for room in 0..key.bytes.len() {
         for fails in [true, false] {
             let taken = Vec::new(rt.alloc());
             let mut writer = StdWriter::new(Narrow { taken, room, fails });
             let refused = key.write_sec1_der_to(rt.alloc(), &mut writer);
-            assert_eq!(rt; refused.err(), fault(), "after {room}");
+            assert_eq!(rt; refused.err(), asn1(ErrorKind::Io), "after {room}");
             assert!(rt; writer.has_failed());
             assert_eq!(rt;
                 Some(writer.into_inner().taken.as_slice()),

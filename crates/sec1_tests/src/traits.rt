@@ -1,5 +1,7 @@
 //! The two traits, by a key type that copies its bytes unread.
-use super::reading::KEY;
+ghost use Rattle.std.specs.Prelude.{◌≡◌, ⊤};
+
+use super::reading::whole_key;
 use der::{ErrorKind, SecretDocument, StdReader, StdWriter};
 use sec1::{DecodeEcPrivateKey, EncodeEcPrivateKey, Error, Result, der};
 use std::alloc::Global;
@@ -13,8 +15,6 @@ pub struct Copied {
 }
 
 impl DecodeEcPrivateKey for Copied {
-    ghost use Rattle.std.specs.Prelude.{◌≡◌};
-
     ghost reads = { λ bytes key. key.bytes.items ≡ bytes };
 
     ghost refuses = { λ _ _. ⊥ };
@@ -28,8 +28,6 @@ impl DecodeEcPrivateKey for Copied {
 }
 
 impl EncodeEcPrivateKey for Copied {
-    ghost use Rattle.std.specs.Prelude.{◌≡◌, ⊤};
-
     ghost writes = { λ key bytes. key.bytes.items ≡ bytes };
 
     ghost refuses = { λ _ _. ⊤ };
@@ -48,7 +46,7 @@ static BYTES: [(&[u8], bool); 4] = [
 ];
 
 /// The error of this kind.
-fn asn1(kind: ErrorKind) -> Option<Error> {
+pub fn asn1(kind: ErrorKind) -> Option<Error> {
     Some(Error::Asn1(der::Error::from(kind)))
 }
 
@@ -63,7 +61,7 @@ fn keys_are_read(rt: HostRuntime) -> std::result::Result<(), Fail> {
         let read = Copied::read_sec1_der_from(alloc, &mut StdReader::new(bytes));
         assert_eq!(rt; read.is_ok(), is_element, "of {bytes:?}");
     }
-    let bytes = hex::decode(alloc, KEY)?;
+    let bytes = whole_key(alloc)?;
     let key = Copied::read_sec1_der_from(alloc, &mut StdReader::new(bytes.as_slice()))?;
     assert_eq!(rt; key.bytes.as_slice(), bytes.as_slice());
 
@@ -97,7 +95,7 @@ impl io::Write for SevenBytes {
 fn keys_are_written(rt: HostRuntime) -> std::result::Result<(), Fail> {
     let alloc = rt.alloc();
     let key = Copied {
-        bytes: hex::decode(alloc, KEY)?,
+        bytes: whole_key(alloc)?,
     };
     let mut writer = StdWriter::new(Vec::new(alloc));
     key.write_sec1_der_to(alloc, &mut writer)?;
@@ -138,7 +136,7 @@ fn keys_are_kept_in_files(rt: HostRuntime) -> std::result::Result<(), Fail> {
     let missing = Copied::read_sec1_der_file(&rt, alloc, &path);
     assert_eq!(rt; missing.err(), asn1(ErrorKind::Io));
 
-    let bytes = hex::decode(alloc, KEY)?;
+    let bytes = whole_key(alloc)?;
     fs::write(&rt, &path, &bytes)?;
     let key = Copied::read_sec1_der_file(&rt, alloc, &path)?;
     assert_eq!(rt; key.bytes.as_slice(), bytes.as_slice());

@@ -1,8 +1,12 @@
 //! The coordinates of a point, by the form of its encoding.
 
-ghost use Rattle.std.specs.Prelude.{◌≡◌, bytes_eq};
-ghost use Rattle.sec1.specs.Tags.{point_tag};
-ghost use Rattle.sec1.specs.Coordinates.{first_bytes, coordinates_point};
+ghost use Rattle.std.specs.Prelude.{◌≡◌, length, bytes_eq};
+ghost use Rattle.sec1_der.specs.Numbers.{number_of};
+ghost use Rattle.sec1.specs.Points.{point_from};
+ghost use Rattle.sec1.specs.Tags.{byte_of, point_tag};
+ghost use Rattle.sec1.specs.Coordinates.{AreWhole, first_bytes, coordinates_point, same_parts};
+ghost use Rattle.sec1.specs.CoordinateLaws.{same_parts_equiv};
+ghost use Rattle.std.specs.Cmp.{partial_equiv_from_equiv};
 
 use super::Tag;
 use std::fmt;
@@ -22,9 +26,27 @@ pub enum Coordinates<'a, const N: usize> {
     Hybrid { x: &'a [u8; N], y: &'a [u8; N] },
 }
 
-impl<const N: usize> Coordinates<'_, N> {
+impl<'a, const N: usize> Coordinates<'a, N> {
+    /// Returns the coordinates behind this tag: x, y, both or neither.
+    #[tactic(auto, using(crate::proofs::CoordinateLemmas::coordinates_whole))]
+    pub(super) fn behind(tag: Tag, x: &'a [u8; N], y: &'a [u8; N]) -> Self
+        requires x_len { length x.now ≡ N }
+        requires y_len { length y.now ≡ N }
+        ensures point { coordinates_point result ≡ point_from (byte_of tag) (number_of x.now) (number_of y.now) }
+        ensures whole { AreWhole result }
+    {
+        match tag {
+            Tag::Identity => Coordinates::Identity,
+            Tag::CompressedEvenY => Coordinates::Compressed { x, y_is_odd: false },
+            Tag::CompressedOddY => Coordinates::Compressed { x, y_is_odd: true },
+            Tag::Uncompressed => Coordinates::Uncompressed { x, y },
+            Tag::Compact => Coordinates::Compact { x },
+            Tag::HybridEvenY | Tag::HybridOddY => Coordinates::Hybrid { x, y },
+        }
+    }
+
     /// Returns the tag of the encoding.
-    #[tactic(auto, using(crate::proofs::Firsts::coordinates_parity, crate::proofs::Firsts::coordinates_none))]
+    #[tactic(auto, using(crate::proofs::CoordinateLemmas::coordinates_parity, crate::proofs::CoordinateLemmas::coordinates_none))]
     pub fn tag(&self) -> Tag
         ensures { result ≡ point_tag (coordinates_point self.now) }
     {
@@ -56,7 +78,7 @@ struct Coordinate<'a, const N: usize>(&'a [u8; N]);
 
 impl<const N: usize> Coordinate<'_, N> {
     /// Returns `true` if the bytes are the same.
-    #[tactic(auto, using(crate::proofs::Firsts::first_none, crate::proofs::Firsts::first_more, crate::proofs::Firsts::first_same, crate::proofs::Firsts::first_apart))]
+    #[tactic(auto, using(crate::proofs::CoordinateLemmas::compared_bytes))]
     fn is(self, other: Self) -> bool
         ensures { result ≡ bytes_eq (first_bytes N self.entry.0.now) (first_bytes N other.entry.0.now) }
     {
@@ -82,14 +104,11 @@ impl<const N: usize> fmt::Debug for Coordinate<'_, N> {
 
 /// Two are equal if the variant, the flag and each byte are the same.
 impl<const N: usize> PartialEq for Coordinates<'_, N> {
-    ghost use Rattle.sec1.specs.Coordinates.{same_parts, same_parts_equiv};
-    ghost use Rattle.std.specs.Cmp.{partial_equiv_from_equiv};
-
     ghost eq = { same_parts };
 
     ghost laws = { partial_equiv_from_equiv same_parts_equiv };
 
-    #[tactic(auto, using(crate::proofs::Firsts::eq_first))]
+    #[tactic(auto, using(crate::proofs::CoordinateLemmas::eq_first))]
     fn eq(&self, other: &Self) -> bool {
         match (*self, *other) {
             (Coordinates::Identity, Coordinates::Identity) => true,
@@ -123,8 +142,6 @@ impl<const N: usize> PartialEq for Coordinates<'_, N> {
 }
 
 impl<const N: usize> Eq for Coordinates<'_, N> {
-    ghost use Rattle.sec1.specs.Coordinates.{same_parts_equiv};
-
     ghost laws = { same_parts_equiv };
 }
 

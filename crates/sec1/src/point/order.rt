@@ -5,8 +5,12 @@ ghost use Rattle.std.specs.Cmp.{on_per, on_equiv, on_total, partial_equiv_from_e
 ghost use Rattle.std.specs.Cmp.Lexicographic.{slice_cmp};
 ghost use Rattle.std.specs.Ordering.{nat_cmp};
 ghost use Rattle.sec1.specs.EncodedPoints.{point_of};
-ghost use Rattle.sec1.specs.Points.{encoding};
-ghost use Rattle.sec1.specs.PointOrder.{point_cmp, point_cmp_total, same_point, same_point_equiv, IsBelow};
+ghost use Rattle.sec1.specs.Points.{encoding, Point};
+ghost use Rattle.sec1.specs.PointOrder.{point_cmp, same_point, IsBelow};
+ghost use Rattle.sec1.specs.PointOrderLaws.{point_cmp_total, same_point_equiv, same_point-true};
+ghost use Rattle.std.specs.declared.cmp.Ordering.TheVariants.{Less, Equal, Greater};
+ghost use Rattle.std.proofs.Common.{ap};
+ghost use Rattle.std.specs.Hash as fed;
 
 use super::EncodedPoint;
 use std::cmp::Ordering;
@@ -33,7 +37,8 @@ impl<const N: usize, const L: usize> Eq for EncodedPoint<N, L> {
 impl<const N: usize, const L: usize> PartialOrd for EncodedPoint<N, L> {
     ghost partial_cmp = { λ p q. Some (point_cmp (point_of p) (point_of q)) };
 
-    ghost laws = { partial_order_from_agreeing_total (λ p q. point_cmp (point_of p) (point_of q)) (on_total (λ p. point_of p) point_cmp_total) (λ p q. refl) (λ p q. refl) };
+    ghost laws = { partial_order_from_agreeing_total (λ p q. point_cmp (point_of p) (point_of q))
+        (on_total (λ p. point_of p) point_cmp_total) (λ p q. refl) (λ p q. refl) };
 
     fn partial_cmp(&self, other: &Self) -> Option<Ordering> {
         Some(self.cmp(other))
@@ -41,8 +46,6 @@ impl<const N: usize, const L: usize> PartialOrd for EncodedPoint<N, L> {
 }
 
 impl<const N: usize, const L: usize> Ord for EncodedPoint<N, L> {
-    ghost use Rattle.std.specs.declared.cmp.Ordering.TheVariants.{Less, Equal, Greater};
-
     ghost cmp = { λ p q. point_cmp (point_of p) (point_of q) };
 
     ghost total = { on_total (λ p. point_of p) point_cmp_total };
@@ -89,11 +92,6 @@ fn words_cmp(a: &[u8], b: &[u8]) -> Ordering
 }
 
 impl<const N: usize, const L: usize> Hash for EncodedPoint<N, L> {
-    ghost use Rattle.std.proofs.Common.{ap};
-    ghost use Rattle.std.specs.Hash as fed;
-    ghost use Rattle.sec1.specs.Points.{Point};
-    ghost use Rattle.sec1.specs.PointOrder.{same_point-true};
-
     // What the slice of the encoding feeds.
     ghost hash_input = { λ p. fed.slice fed.u8 (encoding N (point_of p)) };
 

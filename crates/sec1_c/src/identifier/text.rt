@@ -1,95 +1,96 @@
-//! A text in memory of a fixed size.
-ghost use Rattle.std.specs.Prelude.{◌≡◌, ◌≤◌, ◌<◌, ◌+◌, [], ◌∷◌, ◌++◌, length};
+//! The dotted text of an identifier, in memory of a fixed size.
+ghost use Rattle.std.specs.Prelude.{◌≡◌, ◌<◌, ◌+◌, ℕ, List, ◌∷◌, ◌++◌, length};
 ghost use Rattle.std.specs.Fmt.{decimal};
+ghost use Rattle.sec1_der.specs.ArcsOf.{arcs_of_numbers, numbers_after};
 ghost use Rattle.sec1_der.specs.Identifiers.{dotted};
+ghost use Rattle.sec1_c.specs.IdentifierTexts.{further_text};
+ghost use Rattle.sec1_c.specs.Subidentifiers.{SubidentifiersFit};
 
-use super::digits::{first_arcs, number_after};
+use arrayvec::ArrayString;
+use itoa::Buffer;
 use sec1::der::ObjectIdentifier;
-use std::marker::Model;
 
 /// The most bytes of a text: the longest dotted text of an identifier, and a byte 0 behind it.
 const MAX: usize = 158;
 
-/// A text of at most 158 bytes. A contract sees the bytes.
-#[derive(Drop)]
-pub struct Text {
-    bytes: [u8; MAX],
-    len: usize,
+/// A text of at most 158 bytes.
+pub type Text = ArrayString<MAX>;
+
+/// Returns the dotted text of an identifier: its arcs in decimal digits, joined by full stops.
+#[tactic(auto, using(crate::proofs::SubidentifierLemmas::content_fits, crate::proofs::SubidentifierLemmas::content_arcs, crate::proofs::TextLemmas::text_room))]
+pub fn dotted(identifier: &ObjectIdentifier) -> Text
+    ensures text { result.bytes ≡ dotted identifier.now }
+    ensures room { length result.bytes < 158 }
+{
+    first_text(0, identifier.as_bytes())
 }
 
-impl Model for Text {
-    ghost use Rattle.std.specs.Prelude.{List, ℕ, ◌≤◌, take};
-
-    ghost Value = { List ℕ };
-
-    ghost view = { λ text. take text.len text.bytes };
-
-    ghost invariant = { λ text. text.len ≤ 158 };
+/// Returns the dotted text of the identifier whose subidentifiers these bytes spell (X.690 section 8.19.2), where the
+/// digits before them spell `high`.
+#[tactic(auto, using(crate::proofs::TextLemmas::dotted_text, crate::proofs::TextLemmas::joined_length))]
+fn first_text(high: u32, bytes: &[u8]) -> Text
+    requires fit { SubidentifiersFit high bytes.now }
+    requires room { length (dotted (arcs_of_numbers (numbers_after high bytes.now))) < 158 }
+    ensures { result.bytes ≡ dotted (arcs_of_numbers (numbers_after high bytes.now)) }
+{
+    let mut text = Text::new();
+    let Some((byte, rest)) = bytes.split_first() else {
+        return text;
+    };
+    let number = high * 128 + u32::from(*byte % 128);
+    if *byte >= 128 {
+        return first_text(number, rest);
+    }
+    let (first, second) = first_arcs(number);
+    push_number(&mut text, first);
+    push_arc(&mut text, second);
+    push_arcs(&mut text, 0, rest);
+    text
 }
 
-impl Text {
-    /// Returns the dotted text of an identifier: its arcs in decimal digits, joined by full stops.
-    pub fn dotted(identifier: &ObjectIdentifier) -> Text
-        ensures text { result ≡ dotted identifier.now }
-        ensures room { length result < 158 }
-    {
-        let (shared, mut rest) = number_after(0, identifier.as_bytes());
-        let (first, second) = first_arcs(shared);
-        let mut text = Text::new();
-        text.push_number(first);
-        text.push_arc(second);
-        while !rest.is_empty() {
-            let (arc, behind) = number_after(0, rest);
-            text.push_arc(arc);
-            rest = behind;
-        }
-        text
+/// Returns the two arcs in the first subidentifier (X.690 section 8.19.4).
+fn first_arcs(number: u32) -> (u32, u32)
+    ensures { (further : List ℕ) → arcs_of_numbers (number ∷ further) ≡ result.0 ∷ result.1 ∷ further }
+{
+    if number < 40 {
+        (0, number)
+    } else if number < 80 {
+        (1, number - 40)
+    } else {
+        (2, number - 80)
     }
+}
 
-    /// Returns the empty text.
-    fn new() -> Text
-        ensures { result ≡ [] }
-    {
-        Text {
-            bytes: [0; MAX],
-            len: 0,
-        }
+/// Appends the arcs that these bytes spell, a full stop in front of each, where the digits before them spell `high`.
+fn push_arcs(text: &mut Text, high: u32, bytes: &[u8])
+    requires fit { SubidentifiersFit high bytes.now }
+    requires room { length text.old.bytes + length (further_text (numbers_after high bytes.now)) < 158 }
+    ensures { text.new.bytes ≡ text.old.bytes ++ further_text (numbers_after high bytes.now) }
+{
+    let Some((byte, rest)) = bytes.split_first() else {
+        return;
+    };
+    let number = high * 128 + u32::from(*byte % 128);
+    if *byte >= 128 {
+        return push_arcs(text, number, rest);
     }
+    push_arc(text, number);
+    push_arcs(text, 0, rest);
+}
 
-    /// Borrows the bytes of the text.
-    pub fn as_bytes(&self) -> &[u8]
-        ensures { result.now ≡ self.now }
-    {
-        &self.bytes[..self.len]
-    }
+/// Appends a full stop and the number in decimal digits.
+fn push_arc(text: &mut Text, arc: u32)
+    requires { length text.old.bytes + (1 + length (decimal arc)) < 158 }
+    ensures { text.new.bytes ≡ text.old.bytes ++ 46 ∷ decimal arc }
+{
+    text.push_str(".");
+    push_number(text, arc);
+}
 
-    /// Appends one byte.
-    pub fn push(&mut self, byte: u8)
-        requires { length self.old < 158 }
-        ensures { self.new ≡ self.old ++ byte ∷ [] }
-    {
-        self.bytes[self.len] = byte;
-        self.len += 1;
-    }
-
-    /// Appends a full stop and the number in decimal digits.
-    fn push_arc(&mut self, arc: u32)
-        requires { length self.old + (1 + length (decimal arc)) < 158 }
-        ensures { self.new ≡ self.old ++ 46 ∷ decimal arc }
-    {
-        self.push(b'.');
-        self.push_number(arc);
-    }
-
-    /// Appends the number in decimal digits.
-    fn push_number(&mut self, number: u32)
-        requires { length self.old + length (decimal number) < 158 }
-        ensures { self.new ≡ self.old ++ decimal number }
-    {
-        if number < 10 {
-            return self.push(b'0' + number as u8);
-        }
-        self.push_number(number / 10);
-        self.push(b'0' + (number % 10) as u8);
-    }
+/// Appends the number in decimal digits.
+fn push_number(text: &mut Text, number: u32)
+    requires { length text.old.bytes + length (decimal number) < 158 }
+    ensures { text.new.bytes ≡ text.old.bytes ++ decimal number }
+{
+    text.push_str(Buffer::new().format(number));
 }

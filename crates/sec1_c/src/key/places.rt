@@ -3,7 +3,7 @@ ghost use Rattle.std.specs.Prelude.{◌≡◌, length};
 ghost use Rattle.std.specs.Option.{option_map};
 ghost use Rattle.sec1.specs.Keys.{IsKeyOf, PublicKeyFits, IsNamedCurve, bytes_of, parameters_field, public_key_field};
 ghost use Rattle.sec1.specs.Parameters.{curve_of};
-ghost use Rattle.sec1_c.specs.KeyPlaces.{ArePartsOf, AreWithin, GiveAgain, content_len};
+ghost use Rattle.sec1_c.specs.KeyPlaces.{content_len, key_places};
 
 use super::KeyParts;
 use crate::part::Part;
@@ -13,9 +13,7 @@ use sec1::{EcParameters, EcPrivateKey, der};
 /// Returns where the parts of the key stand in its bytes.
 pub fn places(bytes: &[u8], key: &EcPrivateKey) -> KeyParts
     requires { IsKeyOf key.now bytes.now }
-    ensures parts { ArePartsOf key.now bytes.now result }
-    ensures within { AreWithin bytes.now result }
-    ensures again { GiveAgain key.now bytes.now result }
+    ensures { result ≡ key_places key.now bytes.now }
 {
     let parameters_end = bytes.len() - public_key_field_len(key.public_key);
     let private_key_end = parameters_end - parameters_field_len(&key.parameters);

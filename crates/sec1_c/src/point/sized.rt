@@ -1,12 +1,13 @@
 //! The functions on points at field elements of N bytes, where L is 2N + 1.
-ghost use Rattle.std.specs.Prelude.{◌≡◌, ◌≢◌, ◌<◌};
+ghost use Rattle.std.specs.Prelude.{ℕ, ◌≡◌, ◌≢◌, ◌<◌};
 ghost use Rattle.std.specs.Option.{option_map};
 ghost use Rattle.sec1_der.specs.Numbers.{number_of};
 ghost use Rattle.sec1.specs.EncodedPoints.{point_of};
 ghost use Rattle.sec1.specs.Points.{Point, IsEncoding, Fits, compressed_point, encoding, hybrid_point};
 ghost use Rattle.sec1_c.specs.FieldLengths.{Encodes, EncodesBoth};
 ghost use Rattle.sec1_c.specs.Outputs.{Writes, WritesNothing};
-ghost use Rattle.sec1_c.specs.PointPlaces.{ArePointPartsOf, IsOrderOf, order_number};
+ghost use Rattle.sec1_c.specs.PointOrders.{IsOrderOf};
+ghost use Rattle.sec1_c.specs.PointPlaces.{ArePointPartsOf, point_places};
 ghost use Rattle.sec1_c.specs.Statuses.{error_number};
 
 use super::PointParts;
@@ -43,7 +44,7 @@ pub fn read<const N: usize, const L: usize>(bytes: &[u8], parts: &mut PointParts
 {
     match EncodedPoint::<N, L>::from_bytes(bytes) {
         Ok(point) => {
-            *parts = places(bytes, &point);
+            *parts = places(&point);
             OK
         }
         Err(e) => error_number(&e),
@@ -51,11 +52,11 @@ pub fn read<const N: usize, const L: usize>(bytes: &[u8], parts: &mut PointParts
 }
 
 /// Returns the tag of the point, and where its coordinates stand in its encoding.
-fn places<const N: usize, const L: usize>(bytes: &[u8], point: &EncodedPoint<N, L>) -> PointParts
+#[tactic(auto, unfolding(sec1::specs::Points::encoding))]
+fn places<const N: usize, const L: usize>(point: &EncodedPoint<N, L>) -> PointParts
     requires fits { Fits N L }
     requires small { L < 134 }
-    requires encodes { Encodes N (point_of point.now) bytes.now }
-    ensures { ArePointPartsOf N (point_of point.now) bytes.now result }
+    ensures { result ≡ point_places N (point_of point.now) }
 {
     PointParts {
         tag: usize::from(u8::from(point.tag())),
@@ -116,8 +117,10 @@ pub fn to_hybrid<const N: usize, const L: usize>(
 pub fn compare<const N: usize, const L: usize>(first: &[u8], second: &[u8], order: &mut i32) -> u32
     requires fits { Fits N L }
     requires small { L < 134 }
-    ensures points { (p q : Point) → EncodesBoth N p q first.now second.now → result ≡ 0 }
-    ensures order { (p q : Point) → EncodesBoth N p q first.now second.now → IsOrderOf p q order.new }
+    ensures points { (n : ℕ) (p q : Point) → n ≡ N → EncodesBoth n p q first.now second.now
+        → result ≡ 0 }
+    ensures order { (n : ℕ) (p q : Point) → n ≡ N → EncodesBoth n p q first.now second.now
+        → IsOrderOf p q order.new }
     ensures first { ¬ IsEncoding N first.now → result ≡ error_number Error.PointEncoding }
     ensures second { ¬ IsEncoding N second.now → result ≡ error_number Error.PointEncoding }
     ensures unchanged { result ≢ 0 → order.new ≡ order.old }
@@ -130,15 +133,18 @@ pub fn compare<const N: usize, const L: usize>(first: &[u8], second: &[u8], orde
         Ok(point) => point,
         Err(e) => return error_number(&e),
     };
-    *order = order_number(first.cmp(&second));
+    *order = order_number(&first, &second);
     OK
 }
 
-/// Returns -1, 0 or 1 for Less, Equal or Greater.
-fn order_number(order: Ordering) -> i32
-    ensures { result ≡ order_number order }
+/// Returns -1, 0 or 1: whether the first point stands below the second, is the same, or stands above it.
+fn order_number<const N: usize, const L: usize>(
+    first: &EncodedPoint<N, L>,
+    second: &EncodedPoint<N, L>,
+) -> i32
+    ensures { IsOrderOf (point_of first.now) (point_of second.now) result }
 {
-    match order {
+    match first.cmp(second) {
         Ordering::Less => -1,
         Ordering::Equal => 0,
         Ordering::Greater => 1,

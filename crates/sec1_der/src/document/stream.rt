@@ -30,6 +30,7 @@ impl SecretDocument {
     /// Tag if the first byte is no tag; Length at the first byte of the header that can't be in a length of DER (X.690
     /// sections 8.1.3 and 10.1); Truncated if the input ends inside the element; TrailingData if one byte follows it;
     /// Io if a read failed; Memory if an allocation failed.
+    #[tactic(auto, using(crate::proofs::StreamRefusals::refused_kind, crate::proofs::StreamRefusals::refused_none, crate::proofs::StreamRefusals::read_fault))]
     pub fn read_der_from<R: Read>(alloc: Global, reader: &mut R) -> Result<SecretDocument>
         requires { R.failed reader.old ≡ false }
         // Io comes exactly where a read failed.
@@ -41,7 +42,7 @@ impl SecretDocument {
         // One element that is all there is, is read, unless a read failed or a growth was refused.
         ensures only { IfErr result (λ error. IsIoOrMemory error.kind
             ⊎ IfSome (R.left reader.old) (λ left. ¬ (IsElement left))) }
-        // What the reader had left tells whether it is refused, and by which kind, as of a slice.
+        // Whether it is refused, and by which kind, is a function of what the reader had left, as of a slice.
         ensures kind { MatchResult result
             (λ _. IfSome (R.left reader.old) (λ left. document_fault left ≡ None))
             (λ error. IsIoOrMemory error.kind ⊎ IfSome (R.left reader.old) (λ left.
@@ -96,6 +97,7 @@ impl SecretDocument {
 }
 
 /// Reads one element up to the end of the input.
+#[tactic(auto, using(crate::proofs::StreamLemmas::element_refusals))]
 fn read_element<R: Read>(alloc: Global, reader: &mut R) -> Result<SecretDocument>
     requires { R.failed reader.old ≡ false }
     ensures io { Refuses result Io ↔ IsTrue (R.failed reader.new) }
@@ -174,6 +176,7 @@ pub(crate) fn read_content<R: Read>(
 /// # Errors
 ///
 /// [`IoFault`] exactly if a read failed; fewer bytes than the slice has are read then.
+#[tactic(auto, using(crate::proofs::StreamLemmas::reads_part))]
 fn fill<R: Read>(reader: &mut R, buf: &mut [u8]) -> std::result::Result<usize, IoFault>
     requires { R.failed reader.old ≡ false }
     ensures io { IsErr result ↔ IsTrue (R.failed reader.new) }

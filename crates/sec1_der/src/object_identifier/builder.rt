@@ -1,33 +1,46 @@
 //! Builds an identifier from the arcs of its text.
-ghost use Rattle.std.specs.Prelude.{◌≡◌, ℕ, ◌<◌, ◌≤◌, ◌+◌, ◌*◌, ◌^◌, List, [], ◌∷◌, ◌++◌, length, IsErr, OnOk, IfErr, IfSome, IfNone};
+ghost use Rattle.std.specs.Prelude.{◌≡◌, ℕ, ◌<◌, ◌≤◌, ◌+◌, ◌*◌, ◌^◌, List, [], ◌∷◌, ◌++◌, length, IsErr, IfOk, OnOk, IfErr, IfSome, IfNone};
 ghost use Rattle.std.specs.Fmt.{decimal};
 ghost use Rattle.std.specs.Int.Digits.{digits_of};
-ghost use Rattle.sec1_der.specs.Building.{Built};
 ghost use Rattle.sec1_der.specs.Identifiers.{AreArcs, IsIdentifier, content_of};
 ghost use Rattle.sec1_der.specs.Numbers.{base128, marked};
 
+use super::MAX_CONTENT;
 use crate::{ErrorKind, Result};
 use std::marker::Model;
 
-/// An identifier to which arcs are added one by one.
+/// An identifier to which arcs are added one by one. A contract sees the arcs.
 #[derive(Drop)]
 pub(crate) struct Builder {
-    pub(crate) content: Content,
-    /// The first arc, until the second is added.
-    pub(crate) first: u32,
-    /// The number of arcs added; 2 stands for 2 or more.
-    pub(crate) seen: u8,
+    arcs: Arcs,
+}
+
+/// The arcs that were added.
+#[derive(Drop)]
+enum Arcs {
+    Empty,
+    /// The first, until the second is added, which shares a number with it.
+    One(u32),
+    /// Two or more, by their content.
+    Several(Content),
+}
+
+impl Model for Builder {
+    ghost use Rattle.std.specs.Prelude.{List, ℕ};
+    ghost use Rattle.sec1_der.specs.Building.{arcs_added, AreAdded};
+
+    ghost Value = { List ℕ };
+
+    ghost view = { λ builder. arcs_added builder.arcs };
+
+    ghost invariant = { λ builder. AreAdded builder.arcs };
 }
 
 impl Builder {
     pub(crate) fn new() -> Builder
-        ensures { Built result.seen result.first result.content [] }
+        ensures { result ≡ [] }
     {
-        Builder {
-            content: Content::new(),
-            first: 0,
-            seen: 0,
-        }
+        Builder { arcs: Arcs::Empty }
     }
 
     /// Appends an arc.
@@ -35,28 +48,36 @@ impl Builder {
     /// # Errors
     ///
     /// Value if no identifier begins with these arcs.
-    pub(crate) fn add(&mut self, arc: u32) -> Result<()>
-        ensures ok { OnOk result ((arcs : List ℕ)
-            → Built self.old.seen self.old.first self.old.content arcs
-            → Built self.new.seen self.new.first self.new.content (arcs ++ arc ∷ [])) }
-        ensures err { IsErr result → (arcs more : List ℕ)
-            → Built self.old.seen self.old.first self.old.content arcs
-            → IsIdentifier (arcs ++ arc ∷ more) (content_of (arcs ++ arc ∷ more)) → ⊥ }
+    pub(crate) fn add(self, arc: u32) -> Result<Builder>
+        ensures ok { IfOk result (λ builder. builder ≡ self ++ arc ∷ []) }
+        ensures err { IsErr result → (further : List ℕ)
+            → IsIdentifier (self ++ arc ∷ further) (content_of (self ++ arc ∷ further)) → ⊥ }
         ensures kind { IfErr result (λ e. e.kind ≡ ErrorKind.Value) }
     {
-        match self.seen {
-            0 => {
-                self.first = arc;
-                self.seen = 1;
-                Ok(())
+        match self.arcs {
+            Arcs::Empty => Ok(Builder {
+                arcs: Arcs::One(arc),
+            }),
+            Arcs::One(first) => {
+                let number = shared_number(first, arc).ok_or(ErrorKind::Value)?;
+                Ok(Builder {
+                    arcs: Arcs::Several(Content::new().with_number(number)?),
+                })
             }
-            1 => {
-                let number = shared_number(self.first, arc).ok_or(ErrorKind::Value)?;
-                self.content.push_number(number)?;
-                self.seen = 2;
-                Ok(())
-            }
-            _ => self.content.push_number(arc),
+            Arcs::Several(content) => Ok(Builder {
+                arcs: Arcs::Several(content.with_number(arc)?),
+            }),
+        }
+    }
+
+    /// Returns the content of the identifier; `None` if it has fewer than two arcs.
+    pub(crate) fn content(&self) -> Option<&[u8]>
+        ensures found { IfSome result (λ content. IsIdentifier self.now content.now) }
+        ensures none { IfNone result (length self.now < 2) }
+    {
+        match &self.arcs {
+            Arcs::Several(content) => Some(content.as_bytes()),
+            Arcs::Empty | Arcs::One(_) => None,
         }
     }
 }
@@ -74,6 +95,7 @@ fn shared_number(a: u32, b: u32) -> Option<u32>
 }
 
 /// Parses an arc: decimal digits without a sign or a leading zero.
+#[tactic(auto, using(crate::proofs::ArcLemmas::not_empty, crate::proofs::ArcLemmas::no_zero, crate::proofs::ArcLemmas::arc_none))]
 pub(crate) fn arc(text: &str) -> Option<u32>
     ensures found { IfSome result (λ n. (n < 2 ^ 32) × (text.now ≡ decimal n)) }
     ensures none { IfNone result ((n : ℕ) → n < 2 ^ 32 → text.now ≡ decimal n → ⊥) }
@@ -94,21 +116,22 @@ pub(crate) fn arc(text: &str) -> Option<u32>
     }
 }
 
-/// The content of an identifier, at most 39 bytes.
+/// The content of an identifier.
 #[derive(Drop)]
-pub(crate) struct Content {
-    bytes: [u8; 39],
+struct Content {
+    bytes: [u8; MAX_CONTENT],
     len: usize,
 }
 
 impl Model for Content {
     ghost use Rattle.std.specs.Prelude.{List, ℕ, ◌≤◌, take};
+    ghost use Rattle.sec1_der.specs.declared.object_identifier.TheConstants.{MAX_CONTENT};
 
     ghost Value = { List ℕ };
 
     ghost view = { λ c. take c.len c.bytes };
 
-    ghost invariant = { λ c. c.len ≤ 39 };
+    ghost invariant = { λ c. c.len ≤ MAX_CONTENT };
 }
 
 impl Content {
@@ -116,13 +139,14 @@ impl Content {
         ensures { result ≡ [] }
     {
         Content {
-            bytes: [0; 39],
+            bytes: [0; MAX_CONTENT],
             len: 0,
         }
     }
 
-    pub(crate) fn as_bytes(&self) -> &[u8]
-        ensures { result.now ≡ self.now }
+    fn as_bytes(&self) -> &[u8]
+        ensures whole { result.now ≡ self.now }
+        ensures short { length result.now ≤ MAX_CONTENT }
     {
         &self.bytes[..self.len]
     }
@@ -132,19 +156,21 @@ impl Content {
     /// # Errors
     ///
     /// Value if it has no room.
-    fn push_number(&mut self, n: u32) -> Result<()>
-        ensures ok { OnOk result (self.new ≡ self.old ++ base128 n) }
-        ensures err { IsErr result → 39 < length self.old + length (base128 n) }
+    fn with_number(mut self, n: u32) -> Result<Content>
+        ensures ok { IfOk result (λ content. content ≡ self ++ base128 n) }
+        ensures err { IsErr result → MAX_CONTENT < length self + length (base128 n) }
         ensures kind { IfErr result (λ e. e.kind ≡ ErrorKind.Value) }
     {
         self.push_marked(n / 128)?;
-        self.push((n % 128) as u8)
+        self.push((n % 128) as u8)?;
+        Ok(self)
     }
 
     /// Appends the base 128 digits of a number, none for 0, each with bit 80 (hexadecimal) set.
+    #[tactic(auto, using(crate::proofs::IdentifierLemmas::marked_step, crate::proofs::IdentifierLemmas::marked_step_length))]
     fn push_marked(&mut self, n: u32) -> Result<()>
         ensures ok { OnOk result (self.new ≡ self.old ++ marked (digits_of 128 n)) }
-        ensures err { IsErr result → 39 < length self.old + length (marked (digits_of 128 n)) }
+        ensures err { IsErr result → MAX_CONTENT < length self.old + length (marked (digits_of 128 n)) }
         ensures kind { IfErr result (λ e. e.kind ≡ ErrorKind.Value) }
     {
         if n == 0 {
@@ -156,10 +182,10 @@ impl Content {
 
     fn push(&mut self, byte: u8) -> Result<()>
         ensures ok { OnOk result (self.new ≡ self.old ++ byte ∷ []) }
-        ensures err { IsErr result → 39 ≤ length self.old }
+        ensures err { IsErr result → MAX_CONTENT ≤ length self.old }
         ensures kind { IfErr result (λ e. e.kind ≡ ErrorKind.Value) }
     {
-        if self.len == 39 {
+        if self.len == MAX_CONTENT {
             return Err(ErrorKind::Value.into());
         }
         self.bytes[self.len] = byte;

@@ -1,6 +1,6 @@
 use Rattle.std.proofs.Common.{rules, string_bytes}
 use Rattle.sec1_inspect.specs.Report.{IsReport, IsReportOnDigits, stripped}
-use Rattle.sec1_inspect.proofs.Reports.{report_on_input}
+use Rattle.sec1_inspect.proofs.ReportLemmas.{report_on_input}
 use Rattle.sec1_inspect.proofs.run.Goals as goal
 
 pub returns-clause-beginning : goal.returns-clause-beginning

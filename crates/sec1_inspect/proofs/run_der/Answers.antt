@@ -1,6 +1,6 @@
 use Rattle.std.proofs.Common.{rules, string_bytes}
 use Rattle.sec1_inspect.specs.Report.{IsDerReport, IsReportOnBytes}
-use Rattle.sec1_inspect.proofs.Reports.{report_on_input, whole_report}
+use Rattle.sec1_inspect.proofs.ReportLemmas.{report_on_input, whole_report}
 use Rattle.sec1_inspect.proofs.run_der.Goals as goal
 
 pub returns-clause-report : goal.returns-clause-report

@@ -1,6 +1,7 @@
 use Rattle.std.proofs.Common.{◌≡◌, Bool, true, false, sym, refl}
 use Rattle.sec1.specs.EncodedPoints.{point_of}
-use Rattle.sec1.specs.PointOrder.{same_point, same_point-true}
+use Rattle.sec1.specs.PointOrder.{same_point}
+use Rattle.sec1.specs.PointOrderLaws.{same_point-true}
 use Rattle.der_example.specs.KeyStores.{kept}
 use Rattle.der_example.proofs.key_store.keep.Goals as goal
 

@@ -1,6 +1,3 @@
-use Rattle.std.proofs.Common.{refl}
-use Rattle.sec1_der.specs.declared.error.ErrorKind.TheVariants.{Truncated, TrailingData}
-use Rattle.sec1_c.proofs.StatusLemmas.{number_of}
 use Rattle.sec1_c.proofs.key.sec1_key_read.Goals as goal
 
 pub returns-in-Ok-clause-short : goal.returns-in-Ok-clause-short
@@ -10,9 +7,7 @@ pub returns-in-Ok-clause-long : goal.returns-in-Ok-clause-long
 returns-in-Ok-clause-long c key whole is begins = absurd (c.in-Ok.ensures.long key whole is begins)
 
 pub returns-in-Err-clause-short : goal.returns-in-Err-clause-short
-returns-in-Err-clause-short c key whole is begins =
-    rw (c.error_number.ensures, number_of c.in-Err.e Truncated (c.in-Err.ensures.short key whole is begins)) refl
+returns-in-Err-clause-short c key whole is begins = c.error_number.ensures.kind _ (c.in-Err.ensures.short key whole is begins)
 
 pub returns-in-Err-clause-long : goal.returns-in-Err-clause-long
-returns-in-Err-clause-long c key whole is begins =
-    rw (c.error_number.ensures, number_of c.in-Err.e TrailingData (c.in-Err.ensures.long key whole is begins)) refl
+returns-in-Err-clause-long c key whole is begins = c.error_number.ensures.kind _ (c.in-Err.ensures.long key whole is begins)

@@ -1,19 +1,12 @@
-use Rattle.std.proofs.Common.{◌≡◌, true, length, eqb, sym, ap, ◌∙◌, arith, subst, ◌↔◌, List, ℕ, drop, []}
+use Rattle.std.proofs.Common.{length, sym, arith}
 use Rattle.std.proofs.lemmas.Bool.{eqb-false}
 use Rattle.std.proofs.lemmas.List.{drop_all}
-use Rattle.sec1_der.specs.Identifiers.{Spells}
-use Rattle.sec1_der.proofs.IdentifierLemmas.{goes_on, stops_large, stops_lead, not_spelled, goes_on-tells}
+use Rattle.sec1_der.proofs.IdentifierLemmas.{goes_on-decides}
 use Rattle.sec1_der.proofs.object_identifier.is_content.Goals as goal
-
-pub returns-then-high : goal.returns-then-high
-returns-then-high c = not_spelled c.args.content.now (sym c.loop-b.invariant ∙ stops_large c.loop-b.high c.args.content.now c.loop-b.b-index c.loop-b-test.true c.if-high.true)
-
-pub returns-then-b : goal.returns-then-b
-returns-then-b c = not_spelled c.args.content.now (sym c.loop-b.invariant ∙ stops_lead c.loop-b.high c.args.content.now c.loop-b.b-index c.loop-b-test.true c.if-high-eq0.true c.if-b.true)
 
 pub returns : goal.returns
 returns c =
-    let tells = goes_on-tells c.args.content.now (λ i. omega (arith, c.type_inv.content i)) (omega (arith, eqb-false (length c.args.content.now) 0 (sym c.if-is_empty.ensures))) in
-    let rest : drop c.loop-b.b-index c.args.content.now ≡ [] = drop_all c.loop-b.b-index c.args.content.now c.loop-b-test.false in
-    let same : eqb c.loop-b.high 0 ≡ goes_on 0 c.args.content.now = sym (ap (goes_on c.loop-b.high) rest) ∙ c.loop-b.invariant in
-    subst (λ b. (b ≡ true) ↔ ((arcs : List ℕ) × Spells arcs c.args.content.now)) (sym same) tells
+    let content = c.args.content.now in
+    let some = eqb-false (length content) 0 (sym c.if-is_empty.ensures) in
+    let same = rw (drop_all c.loop-b.b-index content c.loop-b-test.false) at c.loop-b.invariant in
+    rw same (goes_on-decides content (λ i. omega (arith, c.type_inv.content i)) (omega arith))

@@ -1,43 +1,24 @@
-use Rattle.std.proofs.Common.{◌∙◌, ◌≡◌, ◌++◌, arith, length, take, drop, replicate, ap, subst, sym, ℕ}
+use Rattle.std.proofs.Common.{◌∙◌, ◌≡◌, ◌++◌, length, take, drop, replicate, ap, ℕ}
 use Rattle.std.proofs.lemmas.List.{take_at}
-use Rattle.sec1_der.specs.Elements.{IsProperBeginning}
-use Rattle.sec1.specs.Points.{encoding, meaning}
-use Rattle.sec1.proofs.Buffers.{means}
-use Rattle.sec1.proofs.PointLemmas.{length-enc-le, encoding_spelled, meaning-fits, no_beginning}
+use Rattle.sec1.proofs.EncodedPointLemmas.{encoding_room, read_bytes}
+use Rattle.sec1.proofs.PointLemmas.{encoding_spelled}
 use Rattle.sec1.proofs.point.EncodedPoint.from_bytes.Goals as goal
-use Rattle.sec1.proofs.point.EncodedPoint.from_bytes.Goals.{After-copy_from_slice, After-is_encoding}
+use Rattle.sec1.proofs.point.EncodedPoint.from_bytes.Goals.{After-copy_from_slice}
 
-pub whole_as_front-copy_from_slice : goal.whole_as_front-copy_from_slice
-whole_as_front-copy_from_slice g c =
-    let e = c.is_encoding.ensures.0 c.if-not-is_encoding.false in
-    (omega (arith, length-enc-le g.row.N e.of, ap length e.spelled, (c.fits.ensures.0 c.if-not-fits.false).1), omega arith)
-
--- the buffer begins with the input
-front : (g : _) (c : After-copy_from_slice g) → take (length c.args.input.now) (c.copy_from_slice.new.self ++ drop (length c.args.input.now) (replicate {A = ℕ} g.row.L 0)) ≡ c.args.input.now
+-- The buffer begins with the input.
+front : (g : _) (c : After-copy_from_slice g)
+    → take (length c.args.input.now) (c.copy_from_slice.new.self ++ drop (length c.args.input.now) (replicate {A = ℕ} g.row.L 0)) ≡ c.args.input.now
 front g c = take_at _ _ (length c.args.input.now) (ap length c.copy_from_slice.ensures.after) ∙ c.copy_from_slice.ensures.after
 
 pub invariant_of-result : goal.invariant_of-result
 invariant_of-result g c =
-    let e = c.is_encoding.ensures.0 c.if-not-is_encoding.false in
-    let fit = c.fits.ensures.0 c.if-not-fits.false in
+    let encoding = c.is_encoding.ensures.0 c.if-not-is_encoding.false in
+    let fits = c.fits.ensures.0 c.if-not-fits.false in
     record {
-      sizes = fit;
-      room = omega (arith, length-enc-le g.row.N e.of, ap length e.spelled, fit.1);
-      encoded = rw (front g (goal.at.invariant_of-result g c).After-copy_from_slice) (encoding_spelled g.row.N c.args.input.now e);
+      sizes = fits;
+      room = encoding_room g.row.N g.row.L c.args.input.now fits encoding;
+      encoded = rw (front g (goal.at.invariant_of-result g c).After-copy_from_slice) (encoding_spelled g.row.N c.args.input.now encoding);
     }
 
 pub returns : goal.returns
-returns g c =
-    let e = c.is_encoding.ensures.0 c.if-not-is_encoding.false in
-    record {
-      found =
-          rw (front g (goal.at.returns g c).After-copy_from_slice) (
-            c.fits.ensures.0 c.if-not-fits.false,
-            meaning-fits g.row.N c.args.input.now (λ i. omega (arith, c.type_inv.input i)),
-            sym (encoding_spelled g.row.N c.args.input.now e),
-          );
-      only = λ p _ fits spelled. ap (meaning g.row.N) (front g (goal.at.returns g c).After-copy_from_slice) ∙ means g.row.N c.args.input.now p fits spelled;
-      kind = tt;
-      begins_none = λ other _ begins. no_beginning g.row.N e.of other (subst (λ xs. IsProperBeginning xs (encoding g.row.N other)) e.spelled begins);
-      begun_by_none = λ other _ begun. no_beginning g.row.N other e.of (subst (IsProperBeginning (encoding g.row.N other)) e.spelled begun);
-    }
+returns g c = read_bytes c.args.input.now _ (front g (goal.at.returns g c).After-copy_from_slice) (c.is_encoding.ensures.0 c.if-not-is_encoding.false)

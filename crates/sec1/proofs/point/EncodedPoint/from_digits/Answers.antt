@@ -5,24 +5,15 @@ use Rattle.sec1.specs.HexTexts.{IsHexOf}
 use Rattle.sec1.proofs.PointLemmas.{IsBytes-enc, length-enc-le}
 use Rattle.sec1.proofs.HexLemmas.{text_len}
 use Rattle.sec1.proofs.point.EncodedPoint.from_digits.Goals as goal
-use Rattle.sec1.proofs.point.EncodedPoint.from_digits.Goals.{then-len-via-then-len, then-len-via-else-len+then-not-decode_digits}
 
--- a text of an encoding is at most twice as long as the buffer
+-- A text of an encoding is at most twice as long as the buffer.
 sized : (n l : ℕ) (p : Point) (text : List ℕ) → Fits n l → IsHexOf text (encoding n p) → length text / 2 ≤ l
-sized n l p text fit h =
-    let len = text_len text (encoding n p) h in
-    let short = length-enc-le n p in
-    omega (arith, fit.1)
+sized n l p text fit h = omega (arith, fit.1, text_len text (encoding n p) h, length-enc-le n p)
 
 pub returns-then-len : goal.returns-then-len
 returns-then-len g c = record {
   found = tt;
-  only = λ p fit _ spelled.
-      elim c.then-len.branch [
-        | then-len-via-then-len w ↦ absurd (omega (arith, sized g.row.N g.row.L p c.args.text.now fit spelled, w.if-len.true))
-        | then-len-via-else-len+then-not-decode_digits w ↦
-            absurd (cc ((w.decode_digits.ensures.only (encoding g.row.N p) (IsBytes-enc g.row.N p) spelled).0, w.if-not-decode_digits.true))
-      ];
+  only = λ p fit _ spelled. grind (arith, sized g.row.N g.row.L p c.args.text.now fit spelled, IsBytes-enc g.row.N p, spelled);
   kind = refl;
 }
 
@@ -35,6 +26,8 @@ returns g c =
     let front = take_at out (drop half buffer) half len in
     record {
       found = search rules;
-      only = λ p fit fits spelled. c.from_bytes.ensures.only p fit fits (front ∙ (c.decode_digits.ensures.only (encoding g.row.N p) (IsBytes-enc g.row.N p) spelled).1);
+      only = λ p fit fits spelled.
+          let decoded = c.decode_digits.ensures.only (encoding g.row.N p) (IsBytes-enc g.row.N p) spelled in
+          c.from_bytes.ensures.only p fit fits (front ∙ decoded.1);
       kind = c.from_bytes.ensures.kind;
     }

@@ -1,29 +1,15 @@
-use Rattle.std.proofs.Common.{◌∙◌, refl, arith}
-use Rattle.sec1.proofs.Comparisons.{word_settles, word_passed}
-use Rattle.sec1.proofs.Digits.{IsBytes-drop}
+use Rattle.std.proofs.Common.{◌∙◌}
+use Rattle.sec1.proofs.ByteOrderLemmas.{word_settles, word_passed}
+use Rattle.sec1.proofs.DigitLemmas.{IsBytes-drop}
 use Rattle.sec1.proofs.point.order.words_cmp.Goals as goal
-
-pub loop-word-init : goal.loop-word-init
-loop-word-init c = record {
-  order = refl;
-  bytes = λ i. omega (arith, c.type_inv.a i);
-  other_bytes = λ i. omega (arith, c.type_inv.b i);
-}
 
 pub returns-then-number-other_number : goal.returns-then-number-other_number
 returns-then-number-other_number c =
     let inv = c.loop-word.invariant in
     let one = c.in-Some.ensures.cases in
     let other = c.in-Some-split_first_chunk.ensures.cases in
-    c.cmp.ensures
-    ∙ word_settles c.loop-word.rest.now c.loop-word.other_rest.now c.in-Some.word.now c.in-Some-split_first_chunk.other_word.now
-    c.in-Some.behind.now c.in-Some-split_first_chunk.other_behind.now c.from_be_bytes-number.result c.from_be_bytes-other_number.result
-    inv.bytes inv.other_bytes (omega (arith, one.2)) (omega (arith, other.2)) one.0 one.1 other.0 other.1
-    c.from_be_bytes-number.ensures c.from_be_bytes-other_number.ensures c.if-number-other_number.true
-    ∙ inv.order
-
-pub loop-word-smaller : goal.loop-word-smaller
-loop-word-smaller c = let behind = c.in-Some.ensures.cases.2 in omega (arith, behind)
+    c.cmp.ensures ∙ word_settles inv.bytes inv.other_bytes (record { parts = one; spelled = c.from_be_bytes-number.ensures })
+    (record { parts = other; spelled = c.from_be_bytes-other_number.ensures }) c.if-number-other_number.true ∙ inv.order
 
 pub loop-word-preserved : goal.loop-word-preserved
 loop-word-preserved c =
@@ -31,15 +17,8 @@ loop-word-preserved c =
     let one = c.in-Some.ensures.cases in
     let other = c.in-Some-split_first_chunk.ensures.cases in
     record {
-      order =
-          word_passed c.loop-word.rest.now c.loop-word.other_rest.now c.in-Some.word.now c.in-Some-split_first_chunk.other_word.now
-          c.in-Some.behind.now c.in-Some-split_first_chunk.other_behind.now c.from_be_bytes-number.result c.from_be_bytes-other_number.result
-          inv.bytes inv.other_bytes (omega (arith, one.2)) (omega (arith, other.2)) one.0 one.1 other.0 other.1
-          c.from_be_bytes-number.ensures c.from_be_bytes-other_number.ensures c.if-number-other_number.false
-          ∙ inv.order;
+      order = word_passed inv.bytes inv.other_bytes (record { parts = one; spelled = c.from_be_bytes-number.ensures })
+          (record { parts = other; spelled = c.from_be_bytes-other_number.ensures }) c.if-number-other_number.false ∙ inv.order;
       bytes = rw one.1 (IsBytes-drop 8 c.loop-word.rest.now inv.bytes);
       other_bytes = rw other.1 (IsBytes-drop 8 c.loop-word.other_rest.now inv.other_bytes);
     }
-
-pub returns : goal.returns
-returns c = c.cmp-2.ensures ∙ c.loop-word.invariant.order

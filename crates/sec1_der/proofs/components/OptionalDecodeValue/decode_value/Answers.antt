@@ -1,33 +1,27 @@
-use Rattle.std.proofs.Common.{◌≡◌, ◌≤◌, ◌∙◌, length, Some}
+use Rattle.std.proofs.Common.{◌∙◌}
 use Rattle.std.proofs.lemmas.Result.{err_from_is_err_and}
-use Rattle.sec1_der.specs.Elements.{max_length}
-use Rattle.sec1_der.specs.Refusals.{no_fault, field_fault}
+use Rattle.sec1_der.specs.Refusals.{inside_fault}
 use Rattle.sec1_der.proofs.RefusalLemmas.{passes_field, refused_field}
 use Rattle.sec1_der.proofs.components.OptionalDecodeValue.decode_value.Goals as goal
 
 pub returns-in_err-first-clause-kind : goal.returns-in_err-first-clause-kind
 returns-in_err-first-clause-kind g c fresh =
-    let kind : field_fault g.N.ExplicitTag.at g.A.FixedTag.tag_byte g.A.ValueContent.checked_late g.A.ValueContent.fault no_fault c.args.reader.now.unread
-    ≡ Some c.in_err-first.field-0.0.kind = rw c.number.ensures.value at (c.in_err-first.ensures.kind fresh) in
-    let told = refused_field g.N.ExplicitTag.at g.A.FixedTag.tag_byte g.A.ValueContent.checked_late g.A.ValueContent.fault g.R.ValueContent.fault
-    c.args.reader.now.unread c.in_err-first.field-0.0.kind kind in
+    let inside = inside_fault g.A.FixedTag.tag_byte g.A.ValueContent.checked_late g.A.ValueContent.fault in
     let refusal = err_from_is_err_and c.from_residual.result c.from_residual.ensures.1 in
-    rw (refusal.1, refusal.2) told
+    rw (refusal.1, refusal.2, ← c.number.ensures.value) (refused_field c.number.result inside inside g.R.ValueContent.fault c.args.reader.now.unread
+    c.in_err-first.field-0.0.kind (λ content same. same) (c.in_err-first.ensures.kind fresh))
 
 pub returns-in_err-rest-clause-kind : goal.returns-in_err-rest-clause-kind
 returns-in_err-rest-clause-kind g c fresh =
-    let first = passes_field c.number.result g.A.FixedTag.tag_byte g.A.ValueContent.checked_late g.A.ValueContent.fault c.in_ok-first.first
-    g.A.ValueContent.content g.A.ValueContent.is_content (λ inside. length inside ≤ max_length) c.args.reader.now c.decode_explicit.new.reader fresh
-    c.in_ok-first.ensures.found c.in_ok-first.ensures.missing (c.in_ok-first.ensures.kind fresh) in
-    let next = rw c.number.ensures.value at (first.next g.R.ValueContent.fault) in
-    let told = next ∙ c.in_err-rest.ensures.kind first.whole in
+    let inside = inside_fault g.A.FixedTag.tag_byte g.A.ValueContent.checked_late g.A.ValueContent.fault in
+    let first = passes_field c.number.result g.A.FixedTag.tag_byte inside c.in_ok-first.first g.A.ValueContent.content g.A.ValueContent.is_content
+    c.args.reader.now c.decode_explicit.new.reader fresh c.in_ok-first.ensures.found c.in_ok-first.ensures.missing (c.in_ok-first.ensures.kind fresh) in
     let refusal = err_from_is_err_and c.from_residual-in_err-rest.result c.from_residual-in_err-rest.ensures.1 in
-    rw (refusal.1, refusal.2) told
+    rw (refusal.1, refusal.2, ← c.number.ensures.value) (first.next g.R.ValueContent.fault ∙ c.in_err-rest.ensures.kind first.whole)
 
 pub returns-clause-kind : goal.returns-clause-kind
 returns-clause-kind g c fresh =
-    let first = passes_field c.number.result g.A.FixedTag.tag_byte g.A.ValueContent.checked_late g.A.ValueContent.fault c.in_ok-first.first
-    g.A.ValueContent.content g.A.ValueContent.is_content (λ inside. length inside ≤ max_length) c.args.reader.now c.decode_explicit.new.reader fresh
-    c.in_ok-first.ensures.found c.in_ok-first.ensures.missing (c.in_ok-first.ensures.kind fresh) in
-    let next = rw c.number.ensures.value at (first.next g.R.ValueContent.fault) in
-    next ∙ c.in_ok-rest.ensures.kind first.whole
+    let inside = inside_fault g.A.FixedTag.tag_byte g.A.ValueContent.checked_late g.A.ValueContent.fault in
+    let first = passes_field c.number.result g.A.FixedTag.tag_byte inside c.in_ok-first.first g.A.ValueContent.content g.A.ValueContent.is_content
+    c.args.reader.now c.decode_explicit.new.reader fresh c.in_ok-first.ensures.found c.in_ok-first.ensures.missing (c.in_ok-first.ensures.kind fresh) in
+    rw (← c.number.ensures.value) (first.next g.R.ValueContent.fault ∙ c.in_ok-rest.ensures.kind first.whole)

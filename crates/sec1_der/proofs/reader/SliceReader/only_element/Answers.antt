@@ -6,7 +6,7 @@ use Rattle.sec1_der.specs.Elements.{element}
 use Rattle.sec1_der.specs.Readers.{Reader, reader_over}
 use Rattle.sec1_der.specs.Refusals.{element_fault, end_fault}
 use Rattle.sec1_der.specs.declared.error.ErrorKind.TheVariants.{TrailingData}
-use Rattle.sec1_der.proofs.RefusalLemmas.{reads_on, end_told, reader_at}
+use Rattle.sec1_der.proofs.RefusalLemmas.{reads_on, trailing_fault, reader_at}
 use Rattle.sec1_der.proofs.reader.SliceReader.only_element.Goals as goal
 
 pub returns-in_err-value-clause-only : goal.returns-in_err-value-clause-only
@@ -24,10 +24,10 @@ returns-in_err-finish-clause-kind g c fresh =
     c.args.self.now c.decode.new.self c.in_ok-value.ensures.found (c.in_ok-value.ensures.kind fresh) in
     let more = λ (none : c.decode.new.self.unread ≡ []). false≢true (c.in_err-finish.ensures.only (reader_at c.decode.new.self [] none first.whole)) in
     let kind : c.in_err-finish.field-0.0.kind ≡ TrailingData = c.in_err-finish.ensures.kind first.whole refl in
-    let told : element_fault g.T.FixedTag.tag_byte g.T.ValueContent.fault end_fault c.args.self.now.unread ≡ Some c.in_err-finish.field-0.0.kind =
-    first.next end_fault ∙ (end_told c.decode.new.self.unread more ∙ ap (λ k. Some k) (sym kind)) in
+    let fault_is : element_fault g.T.FixedTag.tag_byte g.T.ValueContent.fault end_fault c.args.self.now.unread ≡ Some c.in_err-finish.field-0.0.kind =
+    first.next end_fault ∙ (trailing_fault c.decode.new.self.unread more ∙ ap (λ k. Some k) (sym kind)) in
     let refusal = err_from_is_err_and c.from_residual-in_err-finish.result c.from_residual-in_err-finish.ensures.1 in
-    rw (refusal.1, refusal.2) told
+    rw (refusal.1, refusal.2) fault_is
 
 pub returns-clause-kind : goal.returns-clause-kind
 returns-clause-kind g c fresh =

@@ -1,4 +1,4 @@
-use Rattle.sec1.proofs.Comparisons.{decides_same}
+use Rattle.sec1.proofs.PointOrderLemmas.{decides_same}
 use Rattle.sec1.proofs.point.order.EncodedPointPartialEq.eq.Goals as goal
 
 pub returns-clause-value : goal.returns-clause-value

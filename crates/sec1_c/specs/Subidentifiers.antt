@@ -1,0 +1,8 @@
+-- X.690 section 8.19.2: the subidentifiers that stand in the content of an identifier.
+use Rattle.std.specs.Prelude.{ℕ, ◌+◌, ◌*◌, ◌%◌, ◌^◌, ◌<◌, nat_lt, if◌then◌else◌, ⊤, List, [], ◌∷◌}
+
+-- Each subidentifier is below 2^32, and so is what its digits so far spell. Those of the first that are already read spell `high`.
+abbrev pub SubidentifiersFit : ℕ → List ℕ → Type 0
+SubidentifiersFit high [] = ⊤
+SubidentifiersFit high (b ∷ bs) =
+    let n = high * 128 + b % 128 in (n < 2 ^ 32) × SubidentifiersFit (if nat_lt b 128 then 0 else n) bs

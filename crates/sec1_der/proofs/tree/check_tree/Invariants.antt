@@ -1,9 +1,0 @@
-use Rattle.sec1_der.proofs.CheckLemmas.{measure}
-use Rattle.sec1_der.proofs.TreeRefusals.{Walks}
-use Rattle.sec1_der.proofs.tree.check_tree.Given as goal
-
-abbrev pub invariant-loop-nodes : goal.invariant-loop-nodes
-invariant-loop-nodes l = Walks l.input l.nodes l.rest l.count
-
-abbrev pub decreases-loop-nodes : goal.decreases-loop-nodes
-decreases-loop-nodes l = measure l.nodes l.rest

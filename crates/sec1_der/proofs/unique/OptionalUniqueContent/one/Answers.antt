@@ -1,8 +1,0 @@
-use Rattle.std.proofs.Common.{ap, ◌∙◌}
-use Rattle.sec1_der.proofs.UniqueLemmas.{unique_optional}
-use Rattle.sec1_der.proofs.unique.OptionalUniqueContent.one.Goals as goal
-
-pub returns : goal.returns
-returns g c a b bytes e f =
-    let both = unique_optional g.N.ExplicitTag.at g.A.FixedTag.tag_byte g.A.ValueContent.content g.R.ValueContent.content c.one.ensures c.one-2.ensures g.met.R.NoField.none a.first b.first a.rest b.rest bytes e f in
-    ap (λ x. record { first = x; rest = a.rest; tag = a.tag }) both.0 ∙ ap (λ x. record { first = b.first; rest = x; tag = a.tag }) both.1
