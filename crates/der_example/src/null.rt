@@ -1,5 +1,6 @@
 //! A DER type of one's own without elements inside: NULL.
-ghost use Rattle.std.specs.Prelude.{◌≡◌};
+ghost use Rattle.std.specs.Prelude.{◌≡◌, ◌==◌, [], Some, length};
+ghost use Rattle.sec1.specs.Der.{value_unless};
 
 use sec1::der::{
     BackWriter, DecodeValue, EncodeValue, ErrorKind, FixedTag, Length, Result, SliceReader,
@@ -23,9 +24,6 @@ impl FixedTag for Null {
 }
 
 impl ValueContent for Null {
-    ghost use Rattle.std.specs.Prelude.{◌≡◌, ◌==◌, [], Some, length};
-    ghost use Rattle.sec1.specs.Der.{value_unless};
-
     ghost content = { λ _. Some [] };
 
     ghost is_content = { λ bytes. Some [] ≡ Some bytes };

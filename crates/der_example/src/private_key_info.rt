@@ -1,3 +1,6 @@
+ghost use Rattle.std.specs.Prelude.{refl};
+ghost use Rattle.der_example.specs.PrivateKeys.{PrivateKey};
+
 use crate::AlgorithmIdentifier;
 use sec1::der::{End, Octets, Record, Required, SmallInteger, UniqueRecord};
 use std::marker::Model;
@@ -13,8 +16,6 @@ pub struct PrivateKeyInfo<'a> {
 }
 
 impl<'a> Model for PrivateKeyInfo<'a> {
-    ghost use Rattle.der_example.specs.PrivateKeys.{PrivateKey};
-
     ghost Value = { PrivateKey };
 
     ghost view = { λ info. record { algorithm = info.algorithm; bytes = info.private_key.now } };
@@ -49,8 +50,6 @@ impl<'a> Record for PrivateKeyInfo<'a> {
 }
 
 impl<'a> UniqueRecord for PrivateKeyInfo<'a> {
-    ghost use Rattle.std.specs.Prelude.{refl};
-
     ghost of_parts = { λ row. record { algorithm = row.rest.first; bytes = row.rest.rest.first } };
 
     ghost same = { λ _. refl };

@@ -1,3 +1,6 @@
+ghost use Rattle.std.specs.Prelude.{refl};
+ghost use Rattle.der_example.specs.PublicKeys.{PublicKey};
+
 use crate::AlgorithmIdentifier;
 use sec1::der::{End, Record, Required, UniqueRecord, WholeBits};
 use std::marker::Model;
@@ -12,8 +15,6 @@ pub struct SubjectPublicKeyInfo<'a> {
 }
 
 impl<'a> Model for SubjectPublicKeyInfo<'a> {
-    ghost use Rattle.der_example.specs.PublicKeys.{PublicKey};
-
     ghost Value = { PublicKey };
 
     ghost view = { λ info. record { algorithm = info.algorithm; bytes = info.public_key.now } };
@@ -41,8 +42,6 @@ impl<'a> Record for SubjectPublicKeyInfo<'a> {
 }
 
 impl<'a> UniqueRecord for SubjectPublicKeyInfo<'a> {
-    ghost use Rattle.std.specs.Prelude.{refl};
-
     ghost of_parts = { λ row. record { algorithm = row.first; bytes = row.rest.first } };
 
     ghost same = { λ _. refl };

@@ -10,7 +10,8 @@ use Rattle.std.proofs.lemmas.List.{take-append-drop, length-take}
 use Rattle.hex.specs.Hex.{IsBytes}
 use Rattle.sec1_der.specs.Numbers.{number_of}
 use Rattle.sec1_der.proofs.DigitLemmas.{IsBytes-take}
-use Rattle.sec1.specs.Points.{Point, identity, compact, compressed, uncompressed, hybrid, IsPoint, fixed_width, tag_byte, coordinate_bytes, x_of, y_of, encoding}
+use Rattle.sec1.specs.Points.{Point, identity, compact, compressed, uncompressed, hybrid, IsPoint, fixed_width, tag_byte, coordinate_bytes, x_of}
+use Rattle.sec1.specs.Points.{y_of, encoding}
 use Rattle.sec1.specs.Points.{point_from}
 use Rattle.sec1.specs.PointOrder.{or_zero, coordinates_cmp, point_cmp}
 use Rattle.sec1.specs.PointOrderLaws.{point_from-parts}

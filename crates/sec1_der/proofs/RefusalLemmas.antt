@@ -39,7 +39,8 @@ length_at_spelled n rest fits =
     rw (number_spelled n rest, le-leb n max_length fits, same, drop-append_seam (length_octets n) rest) refl
 
 -- bytes that begin with no length are refused by the fault of their length
-pub length_at_lacks : (bytes : List ℕ) → ((n : ℕ) (rest : List ℕ) → n ≤ max_length → bytes ≡ length_octets n ++ rest → ⊥) → length_at bytes ≡ Err (length_fault bytes)
+pub length_at_lacks : (bytes : List ℕ) → ((n : ℕ) (rest : List ℕ) → n ≤ max_length → bytes ≡ length_octets n ++ rest → ⊥)
+    → length_at bytes ≡ Err (length_fault bytes)
 length_at_lacks bytes lacks =
     let n = number_at bytes in
     let front = take (length (length_octets n)) bytes in

@@ -70,8 +70,6 @@ pub struct Octets<'a> {
 }
 
 impl<'a> Model for Octets<'a> {
-    ghost use Rattle.std.specs.Prelude.{ℕ, List};
-
     ghost Value = { List ℕ };
 
     ghost view = { λ octets. octets.bytes.now };
@@ -129,8 +127,6 @@ pub struct WholeBits<'a> {
 }
 
 impl<'a> Model for WholeBits<'a> {
-    ghost use Rattle.std.specs.Prelude.{ℕ, List};
-
     ghost Value = { List ℕ };
 
     ghost view = { λ bits. bits.bytes.now };

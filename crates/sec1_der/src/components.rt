@@ -1,7 +1,8 @@
 //! The components of a SEQUENCE (X.690 section 8.9): [`Required`] and [`Optional`] ones, and the [`End`].
-ghost use Rattle.std.specs.Prelude.{◌≡◌, ◌≤◌, ◌+◌, ℕ, List, [], length, Option, Some, IsOk};
 ghost use Rattle.std.specs.Option.{option_map};
+ghost use Rattle.std.specs.Prelude.{◌≡◌, ◌≤◌, ◌+◌, ℕ, List, [], length, Option, Some, IsOk};
 ghost use Rattle.sec1_der.specs.BackWriters.{end_of, front_of, KeepsEnd, PutsInFront};
+ghost use Rattle.sec1_der.specs.Beginnings.{end_apart, required_apart, optional_apart};
 ghost use Rattle.sec1_der.specs.Components.{join};
 ghost use Rattle.sec1_der.specs.Elements.{max_length, element_of, field_of, IsOverlong};
 ghost use Rattle.sec1_der.specs.Faults.{Refuses};
@@ -71,8 +72,6 @@ impl EncodeComponents for End {
 }
 
 impl<N: ExplicitTag> NoField<N> for End {
-    ghost use Rattle.sec1_der.specs.Beginnings.{end_apart};
-
     ghost none = { λ _ bytes same. end_apart N.at bytes same };
 }
 
@@ -129,8 +128,6 @@ impl<A: EncodeValue + FixedTag, R: EncodeComponents> EncodeComponents for Requir
 
 impl<N: ExplicitTag, A: ValueContent + UniversalTag, R: ValueContent> NoField<N>
     for Required<A, R> {
-    ghost use Rattle.sec1_der.specs.Beginnings.{required_apart};
-
     ghost none = { λ row bytes same. required_apart N.at A.tag_byte A.universal (A.content row.first)
         (R.content row.rest) bytes same };
 }
@@ -196,8 +193,6 @@ impl<N: ExplicitTag, A: EncodeValue + FixedTag, R: EncodeComponents> EncodeCompo
 
 impl<N: ExplicitTag, M: OtherThan<N>, A: ValueContent + FixedTag, R: NoField<N>> NoField<N>
     for Optional<M, A, R> {
-    ghost use Rattle.sec1_der.specs.Beginnings.{optional_apart};
-
     ghost none = { λ row bytes same. optional_apart M.at N.at M.other A.tag_byte (option_map A.content row.first)
         (R.content row.rest) bytes same (R.none row.rest) };
 }

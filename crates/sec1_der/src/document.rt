@@ -21,9 +21,6 @@ pub struct SecretDocument {
 }
 
 impl Model for SecretDocument {
-    ghost use Rattle.std.specs.Prelude.{List, ℕ};
-    ghost use Rattle.sec1_der.specs.Elements.{IsElement};
-
     ghost Value = { List ℕ };
 
     ghost view = { λ document. document.bytes.items };

@@ -1,6 +1,9 @@
 ghost use Rattle.std.specs.Prelude.{◌≡◌, ℕ, ◌<◌, ◌≤◌, ◌↔◌, List, length, IsTrue, IfOk, IfErr, Some, ◌∷◌};
 ghost use Rattle.sec1_der.specs.ArcsOf.{padded, arcs_of_numbers};
-ghost use Rattle.sec1_der.specs.Identifiers.{IsIdentifier, IsIdentifierContent, Spells, content_of, dotted};
+ghost use Rattle.sec1_der.specs.Contents.{identifier_fault};
+ghost use Rattle.sec1_der.specs.IdentifierLaws.{identifier_content-some};
+ghost use Rattle.sec1_der.specs.Identifiers.{IsIdentifier, IsIdentifierContent, Spells, content_of, dotted, identifier_content};
+ghost use Rattle.sec1_der.specs.Stored.{arcs_stored, IsStored, store, store_arcs_stored};
 
 mod builder;
 
@@ -45,11 +48,7 @@ pub const SECP256R1: ObjectIdentifier = ObjectIdentifier {
 };
 
 impl Model for ObjectIdentifier {
-    ghost use Rattle.std.specs.Prelude.{List, ℕ, length};
-
     ghost Value = { List ℕ };
-
-    ghost use Rattle.sec1_der.specs.Stored.{arcs_stored, IsStored, store, store_arcs_stored};
 
     ghost view = { arcs_stored };
 
@@ -214,10 +213,6 @@ impl FixedTag for ObjectIdentifier {
 }
 
 impl ValueContent for ObjectIdentifier {
-    ghost use Rattle.sec1_der.specs.Contents.{identifier_fault};
-    ghost use Rattle.sec1_der.specs.Identifiers.{identifier_content};
-    ghost use Rattle.sec1_der.specs.IdentifierLaws.{identifier_content-some};
-
     ghost content = { identifier_content };
 
     ghost is_content = { IsIdentifierContent };

@@ -1,8 +1,11 @@
-ghost use Rattle.std.specs.Prelude.{◌≡◌, ◌<◌, ◌≤◌, IfOk, IfErr};
+ghost use Rattle.std.specs.Prelude.{◌≡◌, ◌<◌, ◌≤◌, IfOk, IfErr, List, ℕ, get_or, ◌≢◌, ◌-◌, ◌⊎◌, ◌↔◌, ◌++◌, [], ◌∷◌, Some, take, drop, length, IsTrue};
+ghost use Rattle.std.specs.Prelude.{OnOk, OnErr};
 ghost use Rattle.sec1_der.specs.Elements.{IsProperBeginning};
-ghost use Rattle.sec1_der.specs.Faults.{Refuses, IsTreeFault};
-ghost use Rattle.sec1_der.specs.Refusals.{HasFault, tree_fault};
+ghost use Rattle.sec1_der.specs.Faults.{Refuses, IsTreeFault, IsHeaderFault};
+ghost use Rattle.sec1_der.specs.Refusals.{HasFault, tree_fault, Fault, any_fault};
 ghost use Rattle.sec1_der.specs.Trees.{Tree, IsTree, IsTreeOf, bytes, size, depth};
+ghost use Rattle.sec1_der.specs.Walks.{open_ends, innermost, Enters, IsTooDeep};
+ghost use Rattle.sec1_der.specs.declared.tree.TheConstants.{MAX_DEPTH};
 
 use crate::header::element_at;
 use crate::{ErrorKind, Result};
@@ -75,10 +78,6 @@ struct OpenNodes {
 }
 
 impl Model for OpenNodes {
-    ghost use Rattle.std.specs.Prelude.{◌≡◌, ◌<◌, List, ℕ, get_or};
-    ghost use Rattle.sec1_der.specs.declared.tree.TheConstants.{MAX_DEPTH};
-    ghost use Rattle.sec1_der.specs.Walks.{open_ends};
-
     ghost Value = { List ℕ };
 
     ghost view = { λ nodes. open_ends nodes.level nodes.ends };
@@ -87,13 +86,6 @@ impl Model for OpenNodes {
 }
 
 impl OpenNodes {
-    ghost use Rattle.std.specs.Prelude.{◌≡◌, ◌≢◌, ◌<◌, ◌≤◌, ◌-◌, ◌⊎◌, ◌↔◌, ◌++◌, ℕ, List, [], ◌∷◌, Some, take, drop, length, IsTrue, IfOk, IfErr, OnOk, OnErr};
-    ghost use Rattle.sec1_der.specs.Elements.{IsProperBeginning};
-    ghost use Rattle.sec1_der.specs.Faults.{Refuses, IsHeaderFault};
-    ghost use Rattle.sec1_der.specs.Refusals.{Fault, any_fault};
-    ghost use Rattle.sec1_der.specs.Trees.{Tree, IsTree, bytes};
-    ghost use Rattle.sec1_der.specs.Walks.{innermost, Enters, IsTooDeep};
-
     fn new() -> OpenNodes
         ensures { result ≡ [] }
     {

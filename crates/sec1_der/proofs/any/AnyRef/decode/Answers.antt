@@ -27,7 +27,8 @@ pub returns-clause-short : goal.returns-clause-short
 returns-clause-short c tag content h fresh short =
     let header = c.in_ok-header.header in
     let read = c.in_ok-header.ensures.found.1 in
-    let few = cut_short tag content c.args.reader.now.unread header.tag header.length c.decode.new.reader.unread short (ap (λ (r : Reader). r.unread) read.was_whole) in
+    let few = cut_short tag content c.args.reader.now.unread header.tag header.length c.decode.new.reader.unread short
+    (ap (λ (r : Reader). r.unread) read.was_whole) in
     absurd (omega (arith, (c.in_ok-value.ensures.within (ap (λ (r : Reader). r.failed) read.is_whole)).0 refl))
 
 pub returns-clause-kind : goal.returns-clause-kind

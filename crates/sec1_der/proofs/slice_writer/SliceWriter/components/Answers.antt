@@ -11,11 +11,13 @@ returns-clause-fits g c bytes e fits room =
     let left : length (drop position slice) ≡ length slice - position = length-drop position slice in
     let count : c.get-count.result ≡ length bytes = cc (c.get-count.ensures.value, c.in_ok-value_len.ensures.only bytes e fits) in
     let step = position + c.get-count.result - position in
-    let old : length (take step (drop position slice)) ≡ length bytes = length-take-le step (drop position slice) (omega (arith, count, room)) ∙ omega (arith, count) in
+    let old : length (take step (drop position slice)) ≡ length bytes =
+    length-take-le step (drop position slice) (omega (arith, count, room)) ∙ omega (arith, count) in
     let same = (c.fill_components.ensures bytes e fits old).1 in
     let part = c.fill_components.new.buffer in
     let long : length part ≡ length bytes = ap length same in
-    let behind = drop-put_mid position step slice part (position + c.get-count.result) (omega arith) inside (omega arith) ∙ sym (drop-drop c.get-count.result position slice) in
+    let behind = drop-put_mid position step slice part (position + c.get-count.result) (omega arith) inside (omega arith)
+    ∙ sym (drop-drop c.get-count.result position slice) in
     let behind_bytes = behind ∙ ap (λ n. drop n (drop position slice)) count in (
       refl,
       record {
