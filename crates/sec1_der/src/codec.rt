@@ -82,6 +82,10 @@ pub fn context_specific_len<T: EncodeValue + FixedTag>(
     ensures only { (bytes : List ℕ)
         → field_of number T.tag_byte (option_map T.content field.now) ≡ Some bytes
         → result ≡ Ok (length bytes) }
+    ensures found { IfOk result (λ n. IsSomeAnd (field_of number T.tag_byte (option_map T.content field.now)) (λ bytes.
+        n ≡ length bytes)) }
+    ensures kind { IfErr result (λ e. (e.kind ≡ ErrorKind.Overlength)
+        × (field_of number T.tag_byte (option_map T.content field.now) ≡ None)) }
     ensures most { IfOk result (λ n. n ≤ max_length + 6) }
 {
     let Some(value) = field else {
@@ -199,6 +203,10 @@ pub(crate) fn field_header<T: EncodeValue + FixedTag>(number: u8, value: &T) -> 
     ensures only { (inside : List ℕ) → element_of T.tag_byte (T.content value.now) ≡ Some inside
         → length inside ≤ max_length
         → result ≡ Ok (record { tag = explicit_tag number; length = length inside }) }
+    ensures found { IfOk result (λ header. (header.tag ≡ explicit_tag number)
+        × IsSomeAnd (element_of T.tag_byte (T.content value.now)) (λ inside. header.length ≡ length inside)) }
+    ensures kind { IfErr result (λ e. (e.kind ≡ ErrorKind.Overlength)
+        × (field_of number T.tag_byte (Some (T.content value.now)) ≡ None)) }
 {
     Ok(Header {
         tag: Tag::context(number),
