@@ -1,5 +1,5 @@
 -- What two calls of a writer do, one after the other; what a count of bytes says, and what its limit does.
-use Rattle.std.specs.Prelude.{◌≡◌, ℕ, ◌<◌, ◌≤◌, List, ◌++◌, length, take, drop, Option, Some, None, Result, Ok, Err, OkIff, IfErr, refl}
+use Rattle.std.specs.Prelude.{◌≡◌, ℕ, ◌<◌, ◌≤◌, List, ◌++◌, length, take, drop, Option, Some, None, IsSomeAnd, Result, Ok, Err, IsOk, OkIff, IfErr, refl}
 use Rattle.std.proofs.Common.{arith, sym, ap, ◌∙◌, append_assoc, length-append}
 use Rattle.std.proofs.lemmas.List.{drop-drop, take-take}
 use Rattle.sec1_der.specs.BackWriters.{end_of, front_of, PutsInFront}
@@ -62,3 +62,10 @@ refused_above (Err e) n within kind over = kind
 pub result_within : (result : Result ℕ Error) (n m : ℕ) → OkIff result (n ≤ max_length) n → n ≡ m → m ≤ max_length → result ≡ Ok m
 result_within (Ok k) n m ok same fits = ap Ok (ok.1 ∙ same)
 result_within (Err e) n m ok same fits = absurd (ok (omega arith))
+
+-- where bytes are there and have room, they are what was written
+pub filled : (piece : Option (List ℕ)) (old new : List ℕ) (result : Result Unit Error)
+    → ((bytes : List ℕ) → piece ≡ Some bytes → length old ≡ length bytes → IsOk result × (new ≡ bytes))
+    → IsSomeAnd piece (λ bytes. length old ≡ length bytes) → IsOk result × (piece ≡ Some new)
+filled None old new result fits held = absurd held
+filled (Some bytes) old new result fits held = let written = fits bytes refl held in (written.0, ap (λ xs. Some xs) (sym written.1))

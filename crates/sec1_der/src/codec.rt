@@ -165,9 +165,11 @@ pub(crate) fn check_room(count: usize, room: usize) -> Result<()>
 
 /// Writes the value's element into a slice of its length.
 fn fill<T: EncodeValue + FixedTag>(value: &T, buffer: &mut [u8]) -> Result<()>
-    ensures { (bytes : List ℕ) → element_of T.tag_byte (T.content value.now) ≡ Some bytes
+    ensures fits { (bytes : List ℕ) → element_of T.tag_byte (T.content value.now) ≡ Some bytes
         → length buffer.old ≡ length bytes
         → IsOk result × (buffer.new ≡ bytes) }
+    ensures found { IsSomeAnd (element_of T.tag_byte (T.content value.now)) (λ bytes. length buffer.old ≡ length bytes)
+        → IsOk result × (element_of T.tag_byte (T.content value.now) ≡ Some buffer.new) }
 {
     BackWriter::new(buffer).put_element(value)
 }
