@@ -11,6 +11,7 @@ use Rattle.sec1_der.specs.Faults.{is_tag, length_fault}
 use Rattle.sec1_der.specs.Refusals.{Fault, no_fault, end_fault, number_at, length_at, within, parts_fault, any_fault, nested_fault, row_fault, tree_fault}
 use Rattle.sec1_der.specs.Trees.{Tree, leaf, branch, none, first, bytes}
 use Rattle.sec1_der.specs.Walks.{IsSingle, innermost, Skips, Opens, Enters, IsTooDeep}
+use Rattle.sec1_der.specs.declared.tree.TheConstants.{MAX_DEPTH}
 use Rattle.sec1_der.specs.declared.error.ErrorKind.{ErrorKind}
 use Rattle.sec1_der.specs.declared.error.ErrorKind.TheVariants.{Truncated, Tag, Depth}
 use Rattle.sec1_der.proofs.RefusalLemmas.{alone, any_at}
@@ -60,7 +61,7 @@ row_bound m n level [] l r = row_none m level ∙ sym (row_none n level)
 row_bound zero n level (b ∷ bs) l r = absurd (omega arith)
 row_bound (suc m) zero level (b ∷ bs) l r = absurd (omega arith)
 row_bound (suc m) (suc n) level (b ∷ bs) l r =
-    ap (λ fault. if nat_lt 64 level then Some Depth else fault)
+    ap (λ fault. if nat_lt MAX_DEPTH level then Some Depth else fault)
     (nested_alike (row_fault m (level + 1)) (row_fault m level) (row_fault n (level + 1)) (row_fault n level) (b ∷ bs)
     (λ content few. row_bound m n (level + 1) content (omega arith) (omega arith))
     (λ behind few. row_bound m n level behind (omega arith) (omega arith)))
@@ -69,12 +70,12 @@ row_bound (suc m) (suc n) level (b ∷ bs) l r =
 abbrev pub row_at : ℕ → Fault
 row_at level bytes = row_fault (length bytes) level bytes
 
--- a row within 64 levels is its first element, and a row
-row_some : (level : ℕ) (bytes : List ℕ) → 0 < length bytes → level ≤ 64
+-- a row within the greatest depth is its first element, and a row
+row_some : (level : ℕ) (bytes : List ℕ) → 0 < length bytes → level ≤ MAX_DEPTH
     → row_at level bytes ≡ any_fault (nested_fault (row_at (level + 1))) (row_at level) bytes
 row_some level [] some fits = absurd (omega arith)
 row_some level (b ∷ bs) some fits =
-    rw (le-ltb 64 level fits)
+    rw (le-ltb MAX_DEPTH level fits)
     (nested_alike (row_fault (length bs) (level + 1)) (row_fault (length bs) level) (row_at (level + 1)) (row_at level) (b ∷ bs)
     (λ content few. row_bound (length bs) (length content) (level + 1) content (omega arith) (omega arith))
     (λ behind few. row_bound (length bs) (length behind) level behind (omega arith) (omega arith)))
@@ -82,7 +83,7 @@ row_some level (b ∷ bs) some fits =
 -- a row at level 65 is too deep
 row_deep : (level : ℕ) (bytes : List ℕ) → 0 < length bytes → level ≡ 65 → row_at level bytes ≡ Some Depth
 row_deep level [] some deep = absurd (omega arith)
-row_deep level (b ∷ bs) some deep = rw (lt-ltb 64 level (omega arith)) refl
+row_deep level (b ∷ bs) some deep = rw (lt-ltb MAX_DEPTH level (omega arith)) refl
 
 -- ---- what is left, where elements are open
 
@@ -183,7 +184,7 @@ next_passed ends ends' rest after e = ⊎_elim
     (λ o. node_opened ends rest after o.0 o.1 ∙ ap (λ es. open_fault es after) (sym o.2))
     e
 
--- where 63 nodes are open, a further one with a content is refused as too deep
+-- where as many nodes are open as may be, a further one with a content is refused as too deep
 next_deep : (ends rest : List ℕ) → IsTooDeep ends rest → next_fault ends rest ≡ Some Depth
 next_deep ends rest d =
     let full = d.full in
