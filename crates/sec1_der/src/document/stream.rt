@@ -111,9 +111,7 @@ fn read_element<R: Read>(alloc: Global, reader: &mut R) -> Result<SecretDocument
     bytes.extend_from_slice(&octets[..count])?;
     read_content(reader, &mut bytes, announced)?;
     if reader.read(&mut [0])? > 0 {
-        return Err(Error {
-            kind: ErrorKind::TrailingData,
-        });
+        return Err(ErrorKind::TrailingData.into());
     }
     Ok(SecretDocument { bytes })
 }
@@ -131,12 +129,10 @@ fn read_header<R: Read>(reader: &mut R) -> Result<Header>
         match header_at(&octets[..count]) {
             Ok((header, _)) => return Ok(header),
             Err(ErrorKind::Truncated) => {}
-            Err(kind) => return Err(Error { kind }),
+            Err(kind) => return Err(kind.into()),
         }
         if reader.read(&mut octets[count..count + 1])? == 0 {
-            return Err(Error {
-                kind: ErrorKind::Truncated,
-            });
+            return Err(ErrorKind::Truncated.into());
         }
         count += 1;
     }
@@ -162,9 +158,7 @@ pub(crate) fn read_content<R: Read>(
         bytes.reserve_exact(step)?;
         bytes.resize(held + step, 0)?;
         if fill(reader, &mut bytes[held..])? < step {
-            return Err(Error {
-                kind: ErrorKind::Truncated,
-            });
+            return Err(ErrorKind::Truncated.into());
         }
         missing -= step;
     }

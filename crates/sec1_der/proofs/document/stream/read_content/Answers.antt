@@ -22,7 +22,8 @@ returns-then-branch-step-clause-refused g c =
     let front = take c.in_ok-fill.field-0 c.fill.new.buf in
     let size : length c.fill.new.buf ≡ c.min-step.result = grind (arith, common_steps) in
     let few : length front < c.loop-missing.missing = grind (arith, common_steps) in
-    refused_part Truncated _ _ _ _ _ front _ _ _ read sum fill.bytes few (inl refl) (λ _. fill.end (omega (arith, size, c.if-branch-step.true)))
+    rw c.into.ensures (refused_part Truncated _ _ _ _ _ front _ _ _ read sum fill.bytes few (inl refl)
+    (λ _. fill.end (omega (arith, size, c.if-branch-step.true))))
 
 pub loop-missing-preserved : goal.loop-missing-preserved
 loop-missing-preserved g c =
