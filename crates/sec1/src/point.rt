@@ -185,7 +185,7 @@ impl<const N: usize, const L: usize> EncodedPoint<N, L> {
         EncodedPoint { bytes, len }
     }
 
-    // The tag byte and the length of the compressed form, whose other bytes are those of this one.
+    /// Returns the tag byte and the length of the compressed form, whose other bytes are those of this one.
     fn compressed_front(&self) -> (u8, usize)
         ensures room { result.1 ≤ L }
         ensures front { take result.1 (set self.now.bytes 0 result.0)

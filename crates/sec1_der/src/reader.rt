@@ -236,12 +236,14 @@ impl<'a> SliceReader<'a> {
         Ok(())
     }
 
+    /// Borrows the remaining input.
     pub(crate) fn unread(&self) -> &'a [u8]
         ensures { result.now ≡ self.now.unread }
     {
         self.unread
     }
 
+    /// Sets the remaining input.
     pub(crate) fn set_unread(&mut self, rest: &'a [u8])
         ensures { self.new ≡ record self.old { unread = rest.now } }
     {

@@ -86,6 +86,7 @@ impl Model for OpenNodes {
 }
 
 impl OpenNodes {
+    /// Returns no open nodes.
     fn new() -> OpenNodes
         ensures { result ≡ [] }
     {
@@ -95,6 +96,7 @@ impl OpenNodes {
         }
     }
 
+    /// Returns `true` if no node is open.
     fn is_empty(&self) -> bool
         ensures { IsTrue result ↔ (self.now ≡ []) }
     {
@@ -127,6 +129,7 @@ impl OpenNodes {
         Ok(())
     }
 
+    /// Closes the innermost node.
     fn close(&mut self)
         requires { self.old ≢ [] }
         ensures { self.new ≡ drop 1 self.old }

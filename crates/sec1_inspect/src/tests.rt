@@ -232,7 +232,7 @@ static EMPTY_KEY_REPORT: &[u8] =
     b"private_key: 0 bytes\nparameters: none\npublic_key: none\npoint: none\n";
 
 #[test]
-fn each_read_fails_in_turn(rt: HostRuntime) {
+fn reports_failed_reads_in_turn(rt: HostRuntime) {
     for given in 0..=EMPTY_KEY.len() {
         let rest = EMPTY_KEY.get(..given).unwrap_or_default();
         for is_der in [false, true] {
@@ -251,7 +251,7 @@ fn each_read_fails_in_turn(rt: HostRuntime) {
 }
 
 #[test]
-fn each_write_fails_in_turn(rt: HostRuntime) -> Result<(), Fail> {
+fn reports_failed_writes_in_turn(rt: HostRuntime) -> Result<(), Fail> {
     let der = hex::decode(rt.alloc(), EMPTY_KEY)?;
     for room in 0..EMPTY_KEY_REPORT.len() {
         for (step, fails) in [(1, true), (1, false), (3, true), (100, true)] {

@@ -25,7 +25,7 @@ static HEADERS: [(&[u8], usize); 4] = [
 ];
 
 #[test]
-fn large_keys_are_kept(rt: HostRuntime) -> Result<(), Fail> {
+fn keeps_large_keys(rt: HostRuntime) -> Result<(), Fail> {
     let path = path(&rt, "large")?;
     for &(header, length) in HEADERS.iter() {
         let mut bytes = header.to_vec(rt.alloc())?;
@@ -47,7 +47,7 @@ fn large_keys_are_kept(rt: HostRuntime) -> Result<(), Fail> {
 
 /// A key that isn't written leaves the file as it was, and makes none.
 #[test]
-fn refused_keys_touch_no_file(rt: HostRuntime) -> Result<(), Fail> {
+fn touches_no_file_for_refused_keys(rt: HostRuntime) -> Result<(), Fail> {
     let path = path(&rt, "refused")?;
     let refused_key = Copied::from_sec1_der(rt.alloc(), b"\x04\x02\xAA")?;
     for is_there in [false, true] {
@@ -64,7 +64,7 @@ fn refused_keys_touch_no_file(rt: HostRuntime) -> Result<(), Fail> {
 }
 
 #[test]
-fn files_that_cannot_be_written_are_faults(rt: HostRuntime) -> Result<(), Fail> {
+fn reports_files_that_cannot_be_written(rt: HostRuntime) -> Result<(), Fail> {
     let key = Copied::from_sec1_der(rt.alloc(), b"\x04\x01\xAA")?;
     let nowhere = format!(in rt.alloc(); "{}/none", path(&rt, "nowhere")?)?;
     for path in ["/dev/full", "/", "", nowhere.as_str()] {
@@ -76,7 +76,7 @@ fn files_that_cannot_be_written_are_faults(rt: HostRuntime) -> Result<(), Fail> 
 
 /// Folders inside one another, so that the path to the file has some 3,000 bytes.
 #[test]
-fn long_paths_are_paths(rt: HostRuntime) -> Result<(), Fail> {
+fn opens_long_paths(rt: HostRuntime) -> Result<(), Fail> {
     let key = Copied {
         bytes: whole_key(rt.alloc())?,
     };
@@ -108,7 +108,7 @@ static NO_KEYS: [(&[u8], ErrorKind); 5] = [
 ];
 
 #[test]
-fn other_files_are_refused(rt: HostRuntime) -> Result<(), Fail> {
+fn refuses_other_files(rt: HostRuntime) -> Result<(), Fail> {
     let path = path(&rt, "other")?;
     for &(bytes, kind) in NO_KEYS.iter() {
         fs::write(&rt, &path, bytes)?;

@@ -116,7 +116,7 @@ fn needs_no_memory<F: FnMut() -> bool>(
 }
 
 #[test]
-fn requests_of_writing_calls_are_refused(rt: HostRuntime) -> std::result::Result<(), Fail> {
+fn reports_memory_from_writing_calls(rt: HostRuntime) -> std::result::Result<(), Fail> {
     let alloc = rt.alloc();
     let bytes = whole_key(alloc)?;
     let der = bytes.as_slice();
@@ -179,7 +179,7 @@ fn written_outcome(alloc: Global, key: &Copied) -> Outcome {
 }
 
 #[test]
-fn requests_of_the_traits_are_refused(rt: HostRuntime) -> std::result::Result<(), Fail> {
+fn reports_memory_from_the_traits(rt: HostRuntime) -> std::result::Result<(), Fail> {
     let alloc = rt.alloc();
     let whole = whole_key(alloc)?;
     // of a short key there is room for the document before there is for its copy
@@ -211,7 +211,7 @@ fn is_memory_or_io(error: Error) -> bool {
 }
 
 #[test]
-fn requests_of_calls_on_files_are_refused(rt: HostRuntime) -> std::result::Result<(), Fail> {
+fn reports_memory_from_calls_on_files(rt: HostRuntime) -> std::result::Result<(), Fail> {
     let alloc = rt.alloc();
     let folder = std::env::temp_dir(&rt)?;
     let path = format!(in alloc;
@@ -242,7 +242,7 @@ fn requests_of_calls_on_files_are_refused(rt: HostRuntime) -> std::result::Resul
 }
 
 #[test]
-fn requests_for_texts_of_points_are_refused(rt: HostRuntime) -> std::result::Result<(), Fail> {
+fn reports_memory_from_texts_of_points(rt: HostRuntime) -> std::result::Result<(), Fail> {
     let alloc = rt.alloc();
     let point = EncodedPoint32::from_str(COMPRESSED)?;
     let json = Value::from(String::from_str(alloc, COMPRESSED)?);
@@ -284,7 +284,7 @@ fn requests_for_texts_of_points_are_refused(rt: HostRuntime) -> std::result::Res
 }
 
 #[test]
-fn keys_take_no_memory(rt: HostRuntime) -> std::result::Result<(), Fail> {
+fn takes_no_memory_for_keys(rt: HostRuntime) -> std::result::Result<(), Fail> {
     let alloc = rt.alloc();
     let bytes = whole_key(alloc)?;
     assert!(rt;
@@ -315,7 +315,7 @@ static ORDERED: [(&[u8], &[u8]); 3] = [
 ];
 
 #[test]
-fn points_take_no_memory(rt: HostRuntime) -> std::result::Result<(), Fail> {
+fn takes_no_memory_for_points(rt: HostRuntime) -> std::result::Result<(), Fail> {
     let alloc = rt.alloc();
     assert!(rt;
         needs_no_memory(&rt, alloc, "from_bytes, cmp, compress", || {
@@ -338,7 +338,7 @@ fn points_take_no_memory(rt: HostRuntime) -> std::result::Result<(), Fail> {
 }
 
 #[test]
-fn texts_of_points_take_no_memory(rt: HostRuntime) -> std::result::Result<(), Fail> {
+fn takes_no_memory_for_texts_of_points(rt: HostRuntime) -> std::result::Result<(), Fail> {
     let alloc = rt.alloc();
     let json = Value::from(String::from_str(alloc, "02AF")?);
     let number = Value::from(2u8);

@@ -34,12 +34,12 @@ fn refusal(bytes: &[u8]) -> Option<ErrorKind> {
 }
 
 #[test]
-fn a_key_is_a_sequence(rt: HostRuntime) {
+fn has_the_tag_of_a_sequence(rt: HostRuntime) {
     assert_eq!(rt; EcPrivateKey::TAG.byte(), 0x30);
 }
 
 #[test]
-fn whole_keys_are_read(rt: HostRuntime) -> std::result::Result<(), Fail> {
+fn reads_whole_keys(rt: HostRuntime) -> std::result::Result<(), Fail> {
     let private_key = hex::decode(rt.alloc(), PRIVATE_KEY)?;
     let public_key = hex::decode(rt.alloc(), PUBLIC_KEY)?;
     let p_256 = ObjectIdentifier::new("1.2.840.10045.3.1.7")?;
@@ -92,7 +92,7 @@ fn curve(alloc: Global, key: &EcPrivateKey) -> std::result::Result<Option<String
 }
 
 #[test]
-fn optional_fields_are_read_and_written(rt: HostRuntime) -> std::result::Result<(), Fail> {
+fn reads_and_writes_optional_fields(rt: HostRuntime) -> std::result::Result<(), Fail> {
     for &(text, named, public_key) in KEYS.iter() {
         let bytes = hex::decode(rt.alloc(), text)?;
         let key = EcPrivateKey::try_from(bytes.as_slice())?;
@@ -187,7 +187,7 @@ static REFUSED: [(&str, ErrorKind); 35] = [
 ];
 
 #[test]
-fn other_bytes_are_refused(rt: HostRuntime) -> std::result::Result<(), Fail> {
+fn refuses_bytes_of_no_key(rt: HostRuntime) -> std::result::Result<(), Fail> {
     for &(text, kind) in REFUSED.iter() {
         let bytes = hex::decode(rt.alloc(), text)?;
         assert_eq!(rt; refusal(bytes.as_slice()), Some(kind), "{text}");
@@ -196,7 +196,7 @@ fn other_bytes_are_refused(rt: HostRuntime) -> std::result::Result<(), Fail> {
 }
 
 #[test]
-fn parts_of_a_key_are_refused(rt: HostRuntime) -> std::result::Result<(), Fail> {
+fn refuses_wrong_parts_of_a_key(rt: HostRuntime) -> std::result::Result<(), Fail> {
     let mut bytes = whole_key(rt.alloc())?;
     for count in 0..bytes.len() {
         let part = bytes.get(..count).ok_or("too short")?;
@@ -214,7 +214,7 @@ fn private_key_len(bytes: &[u8]) -> Result<usize> {
 }
 
 #[test]
-fn callers_hand_refusals_on(rt: HostRuntime) -> std::result::Result<(), Fail> {
+fn hands_refusals_on(rt: HostRuntime) -> std::result::Result<(), Fail> {
     assert_eq!(rt; private_key_len(b"\x30\x06\x02\x01\x01\x04\x01\x07")?, 1);
     let refused = private_key_len(b"\x31\x80");
     assert!(rt; refused == Err(Error::from(der::Error::from(ErrorKind::Tag))));
@@ -241,7 +241,7 @@ static TEXTS: [(Error, &str); 6] = [
 ];
 
 #[test]
-fn errors_have_their_texts(rt: HostRuntime) -> std::result::Result<(), Fail> {
+fn prints_errors(rt: HostRuntime) -> std::result::Result<(), Fail> {
     for (error, text) in TEXTS.iter() {
         assert_eq!(rt; format!(in rt.alloc(); "{error}")?.as_str(), *text);
     }
@@ -271,7 +271,7 @@ static DEBUG_TEXTS: [(&[u8], &str); 4] = [
 ];
 
 #[test]
-fn a_debug_text_shows_no_private_key(rt: HostRuntime) -> std::result::Result<(), Fail> {
+fn shows_no_private_key_in_debug_texts(rt: HostRuntime) -> std::result::Result<(), Fail> {
     for &(bytes, text) in DEBUG_TEXTS.iter() {
         let key = EcPrivateKey::try_from(bytes)?;
         assert_eq!(rt; format!(in rt.alloc(); "{key:?}")?.as_str(), text);
@@ -285,7 +285,7 @@ fn a_debug_text_shows_no_private_key(rt: HostRuntime) -> std::result::Result<(),
 }
 
 #[test]
-fn keys_and_curves_are_copied(rt: HostRuntime) -> std::result::Result<(), Fail> {
+fn copies_keys_and_curves(rt: HostRuntime) -> std::result::Result<(), Fail> {
     let bytes = whole_key(rt.alloc())?;
     let key = EcPrivateKey::try_from(bytes.as_slice())?;
     let copy = key.clone()?;

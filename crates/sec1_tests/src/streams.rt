@@ -50,7 +50,7 @@ impl io::Write for Narrow {
 }
 
 #[test]
-fn each_read_fails_in_turn(rt: HostRuntime) -> Result<(), Fail> {
+fn reports_failed_reads_in_turn(rt: HostRuntime) -> Result<(), Fail> {
     let bytes = whole_key(rt.alloc())?;
     for given in 0..=bytes.len() {
         let rest = bytes.get(..given).ok_or("too short")?;
@@ -64,7 +64,7 @@ fn each_read_fails_in_turn(rt: HostRuntime) -> Result<(), Fail> {
 }
 
 #[test]
-fn each_write_fails_in_turn(rt: HostRuntime) -> Result<(), Fail> {
+fn reports_failed_writes_in_turn(rt: HostRuntime) -> Result<(), Fail> {
     let key = Copied {
         bytes: whole_key(rt.alloc())?,
     };

@@ -51,7 +51,7 @@ pub fn asn1(kind: ErrorKind) -> Option<Error> {
 }
 
 #[test]
-fn keys_are_read(rt: HostRuntime) -> std::result::Result<(), Fail> {
+fn reads_keys(rt: HostRuntime) -> std::result::Result<(), Fail> {
     let alloc = rt.alloc();
     for &(bytes, is_element) in BYTES.iter() {
         assert_eq!(rt;
@@ -92,7 +92,7 @@ impl io::Write for SevenBytes {
 }
 
 #[test]
-fn keys_are_written(rt: HostRuntime) -> std::result::Result<(), Fail> {
+fn writes_keys(rt: HostRuntime) -> std::result::Result<(), Fail> {
     let alloc = rt.alloc();
     let key = Copied {
         bytes: whole_key(alloc)?,
@@ -114,7 +114,7 @@ fn keys_are_written(rt: HostRuntime) -> std::result::Result<(), Fail> {
 }
 
 #[test]
-fn refused_keys_write_nothing(rt: HostRuntime) -> std::result::Result<(), Fail> {
+fn writes_nothing_of_refused_keys(rt: HostRuntime) -> std::result::Result<(), Fail> {
     let alloc = rt.alloc();
     let key = Copied::from_sec1_der(alloc, b"\x04\x02\xAA")?;
     let mut writer = StdWriter::new(Vec::new(alloc));
@@ -125,7 +125,7 @@ fn refused_keys_write_nothing(rt: HostRuntime) -> std::result::Result<(), Fail> 
 }
 
 #[test]
-fn keys_are_kept_in_files(rt: HostRuntime) -> std::result::Result<(), Fail> {
+fn keeps_keys_in_files(rt: HostRuntime) -> std::result::Result<(), Fail> {
     let alloc = rt.alloc();
     let folder = std::env::temp_dir(&rt)?;
     let path = format!(in alloc;

@@ -29,7 +29,7 @@ fn writes_all_parts(rt: HostRuntime) -> Result<(), Fail> {
 }
 
 #[test]
-fn documents_hold_the_encoding(rt: HostRuntime) -> Result<(), Fail> {
+fn holds_the_encoding_in_documents(rt: HostRuntime) -> Result<(), Fail> {
     let key = EcPrivateKey::try_from(EMPTY_KEY.as_slice())?;
     assert_eq!(rt;
         key.document_ref(rt.alloc())?.as_bytes(),

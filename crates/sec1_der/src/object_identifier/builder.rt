@@ -18,6 +18,7 @@ pub(crate) struct Builder {
 /// The arcs that were added.
 #[derive(Drop)]
 enum Arcs {
+    /// None.
     Empty,
     /// The first, until the second is added, which shares a number with it.
     One(u32),
@@ -37,6 +38,7 @@ impl Model for Builder {
 }
 
 impl Builder {
+    /// Creates a builder with no arc.
     pub(crate) fn new() -> Builder
         ensures { result ≡ [] }
     {
@@ -135,6 +137,7 @@ impl Model for Content {
 }
 
 impl Content {
+    /// Creates an empty content.
     fn new() -> Content
         ensures { result ≡ [] }
     {
@@ -144,6 +147,7 @@ impl Content {
         }
     }
 
+    /// Borrows the bytes.
     fn as_bytes(&self) -> &[u8]
         ensures whole { result.now ≡ self.now }
         ensures short { length result.now ≤ MAX_CONTENT }
@@ -180,6 +184,11 @@ impl Content {
         self.push((128 + n % 128) as u8)
     }
 
+    /// Appends one byte.
+    ///
+    /// # Errors
+    ///
+    /// Value if the content is full.
     fn push(&mut self, byte: u8) -> Result<()>
         ensures ok { OnOk result (self.new ≡ self.old ++ byte ∷ []) }
         ensures err { IsErr result → MAX_CONTENT ≤ length self.old }

@@ -113,7 +113,7 @@ fn run_outcome(alloc: Global, input: &[u8], is_der: bool) -> Outcome {
 }
 
 #[test]
-fn requests_of_runs_are_refused(rt: HostRuntime) -> Result<(), Fail> {
+fn reports_memory_from_runs(rt: HostRuntime) -> Result<(), Fail> {
     let alloc = rt.alloc();
     let der = hex::decode(alloc, KEY)?;
     assert!(rt;
