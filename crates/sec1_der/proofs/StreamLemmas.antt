@@ -1,7 +1,7 @@
 -- Reading one element from a stream: what was taken, step by step.
 use Rattle.std.proofs.Common.{◌≡◌, ℕ, ◌+◌, ◌<◌, ◌≤◌, List, [], ◌∷◌, ◌++◌, length, take, get_or, Option, ◌⊎◌, inl, inr, ⊎_elim, arith, refl, sym, ap}
 use Rattle.std.proofs.Common.{◌∙◌, append-nil, append_assoc, length-append}
-use Rattle.std.specs.Io.KnownBytes.{Consumes, IsAtEnd, Keeps}
+use Rattle.std.specs.Io.KnownBytes.{Consumes, Keeps}
 use Rattle.std.proofs.KnownBytes.{Consumes-trans, Consumes-kept}
 use Rattle.std.proofs.Math.Seq.{take-append-add}
 use Rattle.std.proofs.lemmas.Bool.{cases_lt}
@@ -10,7 +10,7 @@ use Rattle.std.proofs.lemmas.List.{length-take-le, nil_from_length, take_more, t
 use Rattle.sec1_der.specs.declared.error.ErrorKind.{ErrorKind}
 use Rattle.sec1_der.specs.declared.error.ErrorKind.TheVariants.{Truncated, TrailingData, Io, Memory}
 use Rattle.sec1_der.specs.Elements.{IsElement, IsHeader, LacksHeader, header}
-use Rattle.sec1_der.specs.Faults.{header_fault, IsIoOrMemory}
+use Rattle.sec1_der.specs.Faults.{header_fault}
 use Rattle.sec1_der.specs.ReadsDocument.{HasHeaderFault, IsCutContent, RefusesElement, ReadsHeader, RefusesContent}
 use Rattle.sec1_der.specs.Streams.{ReadsOnto}
 use borrow.Rule.Slice.PartMut.{put_mid, post_of}
@@ -39,13 +39,13 @@ take_byte buf n one most some =
     rw all (take_more buf 0 0 (omega arith))
 
 -- what was read onto bytes, and then more, was read onto them together
-pub reads_more : (old mid new : Option (List ℕ)) (start middle end part : List ℕ) (n m : ℕ) → ReadsOnto old mid start middle n → Consumes mid new part
-    → end ≡ middle ++ part → length part ≡ m → ReadsOnto old new start end (n + m)
-reads_more old mid new start middle end part n m read consumed joined size = record {
-  bytes = read.bytes ++ part;
-  consumed = Consumes-trans old mid new read.bytes part read.consumed consumed;
-  appended = joined ∙ (ap (λ xs. xs ++ part) read.appended ∙ append_assoc start read.bytes part);
-  count = length-append read.bytes part ∙ omega (arith, read.count, size);
+pub reads_more : (old mid new : Option (List ℕ)) (start middle end : List ℕ) (n m : ℕ) → ReadsOnto old mid start middle n → ReadsOnto mid new middle end m
+    → ReadsOnto old new start end (n + m)
+reads_more old mid new start middle end n m read more = record {
+  bytes = read.bytes ++ more.bytes;
+  consumed = Consumes-trans old mid new read.bytes more.bytes read.consumed more.consumed;
+  appended = more.appended ∙ (ap (λ xs. xs ++ more.bytes) read.appended ∙ append_assoc start read.bytes more.bytes);
+  count = length-append read.bytes more.bytes ∙ omega (arith, read.count, more.count);
 }
 
 -- ---- the header
@@ -93,19 +93,16 @@ cut_is_short (byte ∷ first ∷ digits) e = grind (arith, nat_tests)
 
 -- ---- the content
 
--- a content is refused of which a part was read, and then less than was missing
-pub refused_part : (kind : ErrorKind) (old mid new : Option (List ℕ)) (start middle part : List ℕ) (n missing announced : ℕ)
-    → ReadsOnto old mid start middle n → n + missing ≡ announced → Consumes mid new part → length part < missing
-    → (kind ≡ Truncated) ⊎ IsIoOrMemory kind → (kind ≡ Truncated → IsAtEnd new) → RefusesContent kind announced old new
-refused_part kind old mid new start middle part n missing announced read sum consumed few kinds ended =
-    let both = length-append read.bytes part in
-    record {
-      taken = read.bytes ++ part;
-      consumed = Consumes-trans old mid new read.bytes part read.consumed consumed;
-      few = omega (arith, both, read.count);
-      kinds = kinds;
-      at_end = ended;
-    }
+-- a content of which a part was read is refused where what is missing is
+pub refused_part : (kind : ErrorKind) (old mid new : Option (List ℕ)) (start middle : List ℕ) (n missing announced : ℕ)
+    → ReadsOnto old mid start middle n → n + missing ≡ announced → RefusesContent kind missing mid new → RefusesContent kind announced old new
+refused_part kind old mid new start middle n missing announced read sum refused = record {
+  taken = read.bytes ++ refused.taken;
+  consumed = Consumes-trans old mid new read.bytes refused.taken read.consumed refused.consumed;
+  few = omega (arith, length-append read.bytes refused.taken, read.count, refused.few);
+  kinds = refused.kinds;
+  at_end = refused.at_end;
+}
 
 -- ---- the element
 

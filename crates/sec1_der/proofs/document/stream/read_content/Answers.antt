@@ -13,7 +13,8 @@ returns-in_err-fill-clause-refused g c =
     let size : length c.fill.new.buf ≡ c.min-step.result = grind (arith, common_steps) in
     let few : length fewer.bytes < c.loop-missing.missing = omega (arith, fewer.few, size, c.fill.auto.buf, c.min-step.ensures) in
     let p = err_from_is_err_and c.from_residual-in_err-fill.result c.from_residual-in_err-fill.ensures.1 in
-    rw (p.1, p.2) (refused_part Io _ _ _ _ _ fewer.bytes _ _ _ read sum fewer.consumed few (inr (inl refl)) (λ e. absurd (cc e)))
+    rw (p.1, p.2) (refused_part Io _ _ _ _ _ _ _ _ read sum
+    (record { taken = fewer.bytes; consumed = fewer.consumed; few = few; kinds = inr (inl refl); at_end = λ e. absurd (cc e) }))
 
 pub returns-then-branch-step-clause-refused : goal.returns-then-branch-step-clause-refused
 returns-then-branch-step-clause-refused g c =
@@ -22,8 +23,8 @@ returns-then-branch-step-clause-refused g c =
     let front = take c.in_ok-fill.field-0 c.fill.new.buf in
     let size : length c.fill.new.buf ≡ c.min-step.result = grind (arith, common_steps) in
     let few : length front < c.loop-missing.missing = grind (arith, common_steps) in
-    rw c.into.ensures (refused_part Truncated _ _ _ _ _ front _ _ _ read sum fill.bytes few (inl refl)
-    (λ _. fill.end (omega (arith, size, c.if-branch-step.true))))
+    rw c.into.ensures (refused_part Truncated _ _ _ _ _ _ _ _ read sum
+    (record { taken = front; consumed = fill.bytes; few = few; kinds = inl refl; at_end = λ _. fill.end (omega (arith, size, c.if-branch-step.true)) }))
 
 pub loop-missing-preserved : goal.loop-missing-preserved
 loop-missing-preserved g c =
@@ -33,7 +34,8 @@ loop-missing-preserved g c =
     let front : take c.len-held.result c.deref_mut.result.now ≡ c.loop-missing.bytes.items = grind (arith, common_steps) in
     let all = take_all c.in_ok-fill.field-0 part (omega (arith, size, c.if-branch-step.false)) in (
       count + c.min-step.result,
-      reads_more _ _ _ _ _ _ part _ _ read (rw all at c.in_ok-fill.ensures.bytes) (grind (arith, common_steps)) size,
+      reads_more _ _ _ _ _ _ _ _ read
+          (record { bytes = part; consumed = rw all at c.in_ok-fill.ensures.bytes; appended = grind (arith, common_steps); count = size }),
       omega (arith, sum, c.min-step.ensures),
       search rules,
     )
