@@ -102,6 +102,7 @@ impl ObjectIdentifier {
     }
 
     /// Returns the identifier with this content.
+    #[inline(always)]
     fn of_content(content: &[u8]) -> ObjectIdentifier
         requires { IsIdentifierContent content.now }
         ensures { (arcs : List ℕ) → IsIdentifier arcs content.now → result ≡ arcs }
