@@ -9,6 +9,8 @@ use Rattle.std.proofs.lemmas.Int.Digits.{digits_of_step}
 use Rattle.std.specs.Int.Digits.{digits_of}
 use Rattle.std.specs.List.{flat_map, AllByRecursion}
 use Rattle.sec1_der.specs.Numbers.{base128, marked}
+use Rattle.sec1_der.specs.Stored.{arcs_stored, IsStored}
+use Rattle.sec1_der.specs.declared.object_identifier.ObjectIdentifier.TheInside.{Inside}
 use Rattle.sec1_der.specs.ArcsOf.{padded, numbers_after, arcs_of_numbers, arcs_of}
 use Rattle.sec1_der.specs.Identifiers.{AreArcs, subidentifiers, Spells, IsIdentifier, identifier_content}
 use Rattle.sec1_der.specs.IdentifierLaws.{identifier_content-valid}
@@ -191,6 +193,13 @@ stops_lead high content i l none lead = rw (drop_more content i 0 l) (grind (ari
 pub take_padded : (content bytes : List ℕ) → bytes ≡ padded content → take (length content) bytes ≡ content
 take_padded content bytes e = rw e (take_at content (replicate (MAX_CONTENT - length content) 0) (length content) refl)
 
+-- the content of an identifier in front, zeros behind it, and its length hold the identifier
+pub content_is_stored : (arcs content : List ℕ) (o : Inside) → IsIdentifier arcs content → o.bytes ≡ padded content → o.len ≡ length content → IsStored o × (arcs_stored o ≡ arcs)
+content_is_stored arcs content o is all count =
+    let kept : take o.len o.bytes ≡ content = rw count (take_padded content o.bytes all) in
+    let own : arcs_stored o ≡ arcs = ap arcs_of kept ∙ (goes_on_from_spells arcs content is.spells).1 in
+    (record { identifier = rw (own, kept) is; length_kept = ap length kept ∙ sym count; zeros = all ∙ ap padded (sym kept) }, own)
+
 -- ---- writing
 
 -- one digit more than the high ones
@@ -204,23 +213,23 @@ identifier_fits arcs content is = (identifier_content-valid arcs content is, is.
 -- ---- building
 
 -- a content that was made of arcs is that of its own arcs, which are these
-pub record IsKeyContentOf (content arcs : List ℕ) : Type 0 where
+pub record IsContentOfArcs (content arcs : List ℕ) : Type 0 where
   pub arcs_are : arcs_of content ≡ arcs
   pub spells : Spells (arcs_of content) content
 
 -- a content of arcs is that of its own
-content_of_arcs : (arcs content : List ℕ) → Spells arcs content → IsKeyContentOf content arcs
+content_of_arcs : (arcs content : List ℕ) → Spells arcs content → IsContentOfArcs content arcs
 content_of_arcs arcs content s =
     let same = (goes_on_from_spells arcs content s).1 in
     record { arcs_are = same; spells = rw same s }
 
 -- two arcs, and one more
-pub first_two : (a b n : ℕ) (content : List ℕ) → AreArcs (a ∷ b ∷ []) → n ≡ 40 * a + b → content ≡ base128 n → IsKeyContentOf content (a ∷ b ∷ [])
+pub first_two : (a b n : ℕ) (content : List ℕ) → AreArcs (a ∷ b ∷ []) → n ≡ 40 * a + b → content ≡ base128 n → IsContentOfArcs content (a ∷ b ∷ [])
 first_two a b n content allowed shared is =
     content_of_arcs (a ∷ b ∷ []) content (record { allowed = allowed; spelled = is ∙ rw (shared, append-nil) refl })
 
 pub one_more_arc : (arcs content : List ℕ) (n : ℕ) (more : List ℕ) → Spells arcs content → n < 2 ^ 32 → more ≡ content ++ base128 n
-    → IsKeyContentOf more (arcs ++ n ∷ [])
+    → IsContentOfArcs more (arcs ++ n ∷ [])
 one_more_arc [] content n more s small is = absurd s.allowed
 one_more_arc (a ∷ []) content n more s small is = absurd s.allowed
 one_more_arc (a ∷ b ∷ cs) content n more s small is =

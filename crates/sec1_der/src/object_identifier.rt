@@ -102,13 +102,14 @@ impl ObjectIdentifier {
     }
 
     /// Returns the identifier with this content.
-    #[inline(always)]
     fn of_content(content: &[u8]) -> ObjectIdentifier
         requires { IsIdentifierContent content.now }
         ensures { (arcs : List ℕ) → IsIdentifier arcs content.now → result ≡ arcs }
     {
+        let mut bytes = [0; MAX_CONTENT];
+        bytes[..content.len()].copy_from_slice(content);
         ObjectIdentifier {
-            bytes: stored(content),
+            bytes,
             len: content.len(),
         }
     }
@@ -142,16 +143,6 @@ fn is_content(content: &[u8]) -> bool
         high = if *b < 128 { 0 } else { n };
     }
     high == 0
-}
-
-/// Returns the content, followed by zeros.
-fn stored(content: &[u8]) -> [u8; MAX_CONTENT]
-    requires { length content.now ≤ MAX_CONTENT }
-    ensures { result ≡ padded content.now }
-{
-    let mut bytes = [0; MAX_CONTENT];
-    bytes[..content.len()].copy_from_slice(content);
-    bytes
 }
 
 /// Prints the arcs in decimal digits, joined by full stops.

@@ -1,16 +1,16 @@
 use Rattle.std.proofs.Common.{[], ◌++◌, ◌∷◌, ◌∙◌}
-use Rattle.sec1_der.proofs.IdentifierLemmas.{first_two, one_more_arc, IsKeyContentOf}
+use Rattle.sec1_der.proofs.IdentifierLemmas.{first_two, one_more_arc, IsContentOfArcs}
 use Rattle.sec1_der.proofs.object_identifier.builder.Builder.add.Goals as goal
 use Rattle.sec1_der.proofs.object_identifier.builder.Builder.add.Goals.{In_ok-with_number-in-One, In_ok-with_number-in-Several}
 
-two : (c : In_ok-with_number-in-One) → IsKeyContentOf c.in_ok-with_number-in-One.field-0 (c.args.self ++ c.args.arc ∷ [])
+two : (c : In_ok-with_number-in-One) → IsContentOfArcs c.in_ok-with_number-in-One.field-0 (c.args.self ++ c.args.arc ∷ [])
 two c =
     let shared = rw c.in_ok-number-in-One.ensures.ok_part at c.shared_number.ensures.found in
     let is = c.in_ok-with_number-in-One.ensures.ok ∙ rw c.new.ensures in
     let content = first_two c.in-One.first c.args.arc c.in_ok-number-in-One.number _ shared.1 shared.0 is in
     rw (← rw c.in-One.is at c.self.view_is) content
 
-more : (c : In_ok-with_number-in-Several) → IsKeyContentOf c.in_ok-with_number-in-Several.field-0 (c.args.self ++ c.args.arc ∷ [])
+more : (c : In_ok-with_number-in-Several) → IsContentOfArcs c.in_ok-with_number-in-Several.field-0 (c.args.self ++ c.args.arc ∷ [])
 more c =
     let own = rw (rw c.in-Several.is at c.self.view_is) at rw c.in-Several.is at c.self.invariant in
     one_more_arc c.args.self c.in-Several.content c.args.arc _ own c.ranges.arc.fits (rw c.in-Several.is at c.in_ok-with_number-in-Several.ensures.ok)
