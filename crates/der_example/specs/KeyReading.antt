@@ -1,4 +1,4 @@
--- What the public key of a certificate and a private key container hold.
+-- The keys in the public key of a certificate and in a private key container.
 use Rattle.std.specs.Prelude.{◌≡◌, ℕ, List, [], ◌∷◌, Some, None}
 use Rattle.sec1.specs.Keys.{Key}
 use Rattle.sec1.specs.Points.{Point, IsPoint, encoding}

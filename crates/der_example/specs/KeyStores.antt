@@ -7,6 +7,6 @@ use Rattle.sec1.specs.PointOrder.{same_point}
 use Rattle.sec1.specs.Points.{Point}
 use Rattle.sec1.specs.declared.point.EncodedPoint.{EncodedPoint}
 
--- what the map has for a point: the value of the entry whose key means this point
+-- the value of the entry whose key is this point
 abbrev pub kept : {V : Type 0} → BTreeMap (EncodedPoint 32 65) V → Point → Option V
 kept store point = lookup (λ key. same_point point (point_of key)) store.entries

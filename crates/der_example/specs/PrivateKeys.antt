@@ -4,7 +4,7 @@ use Rattle.sec1.specs.Der.{join, element_of}
 use Rattle.der_example.specs.PublicKeys.{algorithm_content}
 use Rattle.der_example.specs.declared.algorithm.AlgorithmIdentifier.{AlgorithmIdentifier}
 
--- what a PrivateKeyInfo is made of: the algorithm and the curve, and the bytes of the private key
+-- the parts of a PrivateKeyInfo: the algorithm and the curve, and the bytes of the private key
 pub record PrivateKey : Type 0 where
   pub algorithm : AlgorithmIdentifier
   pub bytes : List ℕ

@@ -10,7 +10,7 @@ algorithm_content value =
     join (element_of 0x06 (identifier_content value.algorithm))
     (join (element_of 0x06 (identifier_content value.parameters)) (Some []))
 
--- what a SubjectPublicKeyInfo is made of: the algorithm and the curve, and the bytes of the public key
+-- the parts of a SubjectPublicKeyInfo: the algorithm and the curve, and the bytes of the public key
 pub record PublicKey : Type 0 where
   pub algorithm : AlgorithmIdentifier
   pub bytes : List ℕ

@@ -1,6 +1,6 @@
-//! What a program does with keys and with values of DER, each with the contract that it wants of it.
+//! What a program does with keys and with values of DER, each with the contract that it needs.
 //!
-//! All of it is proved from the contracts of `sec1` alone, in the words that `sec1` passes on.
+//! All of it is proved from the contracts of `sec1` alone, with the definitions that `sec1` re-exports.
 ghost use Rattle.std.specs.Prelude.{◌≡◌, ◌⊎◌, ◌↔◌, ◌≤◌, ◌++◌, ℕ, List, length, Some, IsOk, IfOk, IfErr, IsOkAnd, MatchResult};
 ghost use Rattle.sec1.specs.Der.{max_length, element, element_of, octets_of, tag_of, value_of, header_fault};
 ghost use Rattle.sec1.specs.Der.{IsElementOf, IsHeader, IsHeaderFault, LacksHeader, Refuses};

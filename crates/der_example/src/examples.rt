@@ -19,7 +19,7 @@ use std::alloc::Global;
 use std::boxed::BoxedSlice;
 use std::str::FromStr;
 
-/// Returns the curve of a key, where the key names one.
+/// Returns the curve of a key, if present.
 pub fn curve(bytes: &[u8]) -> Result<Option<EcParameters>>
     ensures found { IfOk result (λ c. (key : Key) × IsKeyOf key bytes.now × (option_map curve_of c ≡ key.parameters)) }
     ensures only { (key : Key) → IsKeyOf key bytes.now → IsOkAnd result (λ c. option_map curve_of c ≡ key.parameters) }
@@ -52,7 +52,7 @@ pub fn compressed(alloc: Global, bytes: &[u8], text: &str) -> Result<(bool, Valu
     Ok((point == other, point.to_json(alloc)?))
 }
 
-/// Returns why the bytes aren't a key's, or None where they are.
+/// Returns the reason why the bytes aren't a key's, or `None` if they are.
 pub fn refusal(bytes: &[u8]) -> Option<ErrorKind>
     ensures found { IfNone result ((key : Key) × IsKeyOf key bytes.now) }
     ensures only { (key : Key) → IsKeyOf key bytes.now → result ≡ None }

@@ -1,4 +1,4 @@
-//! Private keys, found by their public keys: by any value of the point, whatever its buffer holds after the encoding.
+//! Private keys, found by their public keys: by any value of the point, whatever is in its buffer after the encoding.
 ghost use Rattle.std.specs.Prelude.{◌≡◌, ◌≢◌, Some, OnOk, OnErr, IfErr, IsOkAnd};
 ghost use Rattle.std.specs.Option.{option_map};
 ghost use Rattle.sec1.specs.EncodedPoints.{point_of};
@@ -22,7 +22,7 @@ pub type KeyStore = BTreeMap<EncodedPoint32, SecretDocument>;
 ///
 /// Memory if the allocation of an entry fails. The store is unchanged then.
 pub fn keep(store: &mut KeyStore, point: EncodedPoint32, document: SecretDocument) -> Result<()>
-    // The document is found by any value that means the point, and what other points have stays.
+    // The document is found by any value of the point, and those of other points are unchanged.
     ensures same { (again : EncodedPoint 32 65) → point_of again ≡ point_of point
         → OnOk result (kept store.new (point_of again) ≡ Some document) }
     ensures others { (other : EncodedPoint 32 65) → point_of other ≢ point_of point

@@ -28,13 +28,13 @@ fn is_p_256(algorithm: &AlgorithmIdentifier) -> bool
 }
 
 /// Returns the public key of a certificate, from the bytes of its SubjectPublicKeyInfo (RFC 5280 section 4.1): a point
-/// for id-ecPublicKey on the curve P-256, in any form of encoding that [`EncodedPoint32::from_bytes`] reads. Whether the
-/// point lies on the curve isn't tested.
+/// for id-ecPublicKey on the curve P-256, in any form of encoding that [`EncodedPoint32::from_bytes`] reads. It isn't
+/// tested that the point lies on the curve.
 ///
 /// # Errors
 ///
-/// Asn1 where the bytes aren't a SubjectPublicKeyInfo whose algorithm has an identifier as its parameters, and whose
-/// bit string has no unused bits; Crypto where the algorithm or the curve is another one; PointEncoding where the
+/// Asn1 if the bytes aren't a SubjectPublicKeyInfo whose algorithm has an identifier as its parameters, and whose
+/// bit string has no unused bits; Crypto if the algorithm or the curve is another one; PointEncoding if the
 /// bytes of the public key aren't the encoding of a point.
 pub fn read_public_key(bytes: &[u8]) -> Result<EncodedPoint32>
     // What is read is the public key in these bytes, and the public key in these bytes is read.
@@ -61,12 +61,12 @@ pub fn read_public_key(bytes: &[u8]) -> Result<EncodedPoint32>
 }
 
 /// Returns the private key in a container of PKCS #8 (RFC 5208 section 5) whose algorithm is id-ecPublicKey with a
-/// named curve. Whether the key names the same curve isn't tested.
+/// named curve. It isn't tested that the key names the same curve.
 ///
 /// # Errors
 ///
-/// Asn1 where the bytes aren't such a container, have attributes, or hold no EC private key (RFC 5915 section 3);
-/// Crypto where the algorithm is another one.
+/// Asn1 if the bytes aren't such a container, have attributes, or contain no EC private key (RFC 5915 section 3);
+/// Crypto if the algorithm is another one.
 pub fn read_private_key(bytes: &[u8]) -> Result<EcPrivateKey<'_>>
     // What is read is the private key in these bytes, and the private key in these bytes is read.
     ensures found { IfOk result (λ key. (info : PrivateKey) × IsPrivateKeyOf info bytes.now

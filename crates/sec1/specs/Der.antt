@@ -1,4 +1,4 @@
--- The words of `sec1_der` that contracts speak of, for a crate that depends on `sec1` alone.
+-- The definitions of `sec1_der` that contracts use, for a crate that depends on `sec1` alone.
 pub use Rattle.sec1_der.specs.BackWriters.{end_of, front_of, IsOverEnd, KeepsEnd, PutsNothing, PutsInFront}
 pub use Rattle.sec1_der.specs.Components.{join}
 pub use Rattle.sec1_der.specs.Contents.{IsVersionOne, AreBits, IsBitString}

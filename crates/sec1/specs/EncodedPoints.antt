@@ -9,11 +9,11 @@ use Rattle.sec1.specs.declared.error.Error.{Error}
 use Rattle.sec1.specs.declared.error.Error.TheVariants.{PointEncoding}
 use Rattle.sec1.specs.declared.point.EncodedPoint.{EncodedPoint}
 
--- the point of a value; the bytes past its length count for nothing
+-- the point of a value; the bytes after its encoding are ignored
 abbrev pub point_of : {N L : ℕ} → EncodedPoint N L → Point
 point_of {N} p = meaning N (take p.len p.bytes)
 
--- each byte of the value's buffer is 00, also those past the length of its encoding
+-- each byte of the value's buffer is 00, also those after its encoding
 abbrev pub IsWiped : {N L : ℕ} → EncodedPoint N L → Type 0
 IsWiped p = All (λ byte. byte ≡ 0) p.bytes
 

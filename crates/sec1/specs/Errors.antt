@@ -1,4 +1,4 @@
--- What an error of this crate says.
+-- The errors of this crate.
 use Rattle.std.specs.Prelude.{◌≡◌, Option, Some, None, Result, IsErrAnd, MatchResult}
 use Rattle.sec1.specs.declared.error.Error.{Error}
 use Rattle.sec1.specs.declared.error.Error.TheVariants.{Asn1, Crypto, PointEncoding, Version, Memory}
@@ -7,7 +7,7 @@ use Rattle.sec1_der.specs.declared.error.Error.{Error as DerError}
 use Rattle.sec1_der.specs.declared.error.ErrorKind.{ErrorKind}
 use Rattle.sec1_der.specs.declared.error.ErrorKind.TheVariants.{Memory as DerMemory}
 
--- what becomes of an error of DER, by its kind
+-- the error of this crate for an error of DER, by its kind
 abbrev pub error_of_kind : ErrorKind → DerError → Error
 error_of_kind DerMemory cause = Memory
 error_of_kind _ cause = Asn1 cause
@@ -23,7 +23,7 @@ IsAsn1 kind PointEncoding = ⊥
 IsAsn1 kind Version = ⊥
 IsAsn1 kind Memory = ⊥
 
--- the call refused by an error of DER of this kind
+-- the call failed with an error of DER of this kind
 abbrev pub RefusesAsn1 : {T : Type 0} → Result T Error → ErrorKind → Type 0
 RefusesAsn1 result kind = IsErrAnd result (IsAsn1 kind)
 
@@ -43,6 +43,6 @@ IsAsn1Fault fault PointEncoding = ⊥
 IsAsn1Fault fault Version = ⊥
 IsAsn1Fault fault Memory = ⊥
 
--- the call refuses by an error of DER of this kind, and succeeds if there is none
+-- the call fails with an error of DER of this kind, or succeeds if there is none
 abbrev pub HasAsn1Fault : {T : Type 0} → Result T Error → Option ErrorKind → Type 0
 HasAsn1Fault result fault = MatchResult result (λ _. fault ≡ None) (IsAsn1Fault fault)

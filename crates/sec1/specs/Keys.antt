@@ -4,19 +4,19 @@ use Rattle.sec1_der.specs.Elements.{max_length, element}
 use Rattle.sec1_der.specs.Identifiers.{IsIdentifier, content_of}
 use Rattle.sec1_der.specs.Trees.{Tree, leaf, node, row, joined, IsTreeOf}
 
--- What a key is made of: the bytes of the private key, and where they are there the arcs of the curve's
--- identifier and the bytes of the public key.
+-- The parts of a key: the bytes of the private key and, if present, the arcs of the curve's identifier and the bytes of
+-- the public key.
 pub record Key : Type 0 where
   pub private_key : List ℕ
   pub parameters : Option (List ℕ)
   pub public_key : Option (List ℕ)
 
--- [0] around the curve's identifier, where there is one
+-- [0] around the curve's identifier, if present
 abbrev pub parameters_field : Option (List ℕ) → List Tree
 parameters_field None = []
 parameters_field (Some arcs) = node 0xA0 (leaf 0x06 (content_of arcs) ∷ []) ∷ []
 
--- [1] around the public key, a bit string without unused bits, where there is one
+-- [1] around the public key, a bit string without unused bits, if present
 abbrev pub public_key_field : Option (List ℕ) → List Tree
 public_key_field None = []
 public_key_field (Some bytes) = node 0xA1 (leaf 0x03 (0 ∷ bytes) ∷ []) ∷ []
@@ -30,11 +30,11 @@ key_fields key =
 abbrev pub key_tree : Key → Tree
 key_tree key = node 0x30 (key_fields key)
 
--- parameters that are there name a curve by an identifier
+-- the parameters, if present, are the arcs of an identifier
 abbrev pub IsNamedCurve : Option (List ℕ) → Type 0
 IsNamedCurve parameters = IfSome parameters (λ arcs. IsIdentifier arcs (content_of arcs))
 
--- a public key that is there has room in its field
+-- the public key, if present, isn't too long for its field
 abbrev pub PublicKeyFits : Option (List ℕ) → Type 0
 PublicKeyFits public_key = IfSome public_key (λ bytes. length (element 0x03 (0 ∷ bytes)) ≤ max_length)
 
@@ -43,11 +43,11 @@ pub record IsKeyOf (key : Key) (input : List ℕ) : Type 0 where
   pub curve : IsNamedCurve key.parameters
   pub tree : IsTreeOf (key_tree key) input
 
--- no bytes are those of the key: a part of it is beyond the limits
+-- the key has no encoding: a part of it is beyond the limits
 abbrev pub HasNoEncoding : Key → Type 0
 HasNoEncoding key = (bytes : List ℕ) → IsKeyOf key bytes → ⊥
 
--- some bytes are those of the key, and this holds of them
+-- the key has an encoding, and this holds for it
 pub record HasEncodingWith (key : Key) (P : List ℕ → Type 0) : Type 0 where
   pub bytes : List ℕ
   pub of_key : IsKeyOf key bytes
@@ -57,6 +57,6 @@ pub record HasEncodingWith (key : Key) (P : List ℕ → Type 0) : Type 0 where
 abbrev pub bytes_of : List Tree → List ℕ
 bytes_of trees = joined (row trees)
 
--- the content of a key, where its parts stand within the limits
+-- the content of a key, if its parts are within the limits
 abbrev pub fields_of : Key → List ℕ
 fields_of key = bytes_of (key_fields key)

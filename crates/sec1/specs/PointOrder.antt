@@ -4,19 +4,19 @@ use Rattle.std.specs.declared.cmp.Ordering.{Ordering}
 use Rattle.std.specs.Ordering.{nat_cmp, ordering_then, is_eq}
 use Rattle.sec1.specs.Points.{Point, tag_byte, x_of, y_of}
 
--- both are there, and the first is smaller
+-- both are present, and the first is smaller
 abbrev pub IsLess : Option ℕ → Option ℕ → Type 0
 IsLess (Some a) (Some b) = a < b
 IsLess (Some a) None = ⊥
 IsLess None b = ⊥
 
--- p stands below q: by the tag; at one tag by x; at one tag and one x by y
+-- p is less than q: by the tag; at one tag by x; at one tag and one x by y
 abbrev pub IsBelow : Point → Point → Type 0
 IsBelow p q = (tag_byte p < tag_byte q)
     ⊎ ((tag_byte p ≡ tag_byte q) × IsLess (x_of p) (x_of q))
     ⊎ ((tag_byte p ≡ tag_byte q) × (x_of p ≡ x_of q) × IsLess (y_of p) (y_of q))
 
--- the number, or 0 where there is none
+-- the number, or 0 if there is none
 abbrev pub or_zero : Option ℕ → ℕ
 or_zero None = 0
 or_zero (Some n) = n

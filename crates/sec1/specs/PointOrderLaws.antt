@@ -21,7 +21,7 @@ pub point_from-parts : (p : Point) → point_from (tag_byte p) (or_zero (x_of p)
 point_from-parts identity = refl
 point_from-parts p = grind arith
 
--- Numbers that are compared one pair after the other tie only where each pair is the same.
+-- Numbers that are compared one pair after the other tie only if each pair is the same.
 three_tie : (a b c d e f : ℕ) → ordering_then (nat_cmp a b) (ordering_then (nat_cmp c d) (nat_cmp e f)) ≡ Equal → (a ≡ b) × (c ≡ d) × (e ≡ f)
 three_tie a b c d e f h = (grind arith, grind arith, grind arith)
 

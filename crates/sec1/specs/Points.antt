@@ -3,7 +3,7 @@ use Rattle.std.specs.Prelude.{◌≡◌, ℕ, zero, suc, ◌+◌, ◌*◌, ◌/�
 use Rattle.std.specs.Prelude.{drop, ⊤, Option, Some, None}
 use Rattle.sec1_der.specs.Numbers.{number_of}
 
--- a point as its encoding gives it. Compact has x alone and nothing of y; hybrid has y, and its tag y's parity
+-- A point in the form of its encoding. Compact has x alone and nothing of y; hybrid has y, and its tag the parity of y.
 pub data Point : Type 0 where
   identity : Point
   compact : (x : ℕ) → Point
@@ -11,7 +11,7 @@ pub data Point : Type 0 where
   uncompressed : (x y : ℕ) → Point
   hybrid : (x y : ℕ) → Point
 
--- whether y leaves 1 when divided by 2
+-- whether y is odd
 abbrev pub is_odd : ℕ → Bool
 is_odd y = y % 2 == 1
 
@@ -23,7 +23,7 @@ IsPoint n (compressed x y_is_odd) = x < 256 ^ n
 IsPoint n (uncompressed x y) = (x < 256 ^ n) × (y < 256 ^ n)
 IsPoint n (hybrid x y) = (x < 256 ^ n) × (y < 256 ^ n)
 
--- x, which the identity alone lacks
+-- x, except for the identity
 abbrev pub x_of : Point → Option ℕ
 x_of identity = None
 x_of (compact x) = Some x
@@ -31,13 +31,13 @@ x_of (compressed x y_is_odd) = Some x
 x_of (uncompressed x y) = Some x
 x_of (hybrid x y) = Some x
 
--- y, where the encoding has it
+-- y, if the encoding has it
 abbrev pub y_of : Point → Option ℕ
 y_of (uncompressed x y) = Some y
 y_of (hybrid x y) = Some y
 y_of p = None
 
--- y is dropped, and its parity kept
+-- the compressed form of an uncompressed or hybrid point: y is dropped, and its parity kept
 abbrev pub compressed_point : Point → Point
 compressed_point (uncompressed x y) = compressed x (is_odd y)
 compressed_point (hybrid x y) = compressed x (is_odd y)
@@ -92,7 +92,7 @@ point_from tag x y =
     else if tag == 6 || tag == 7 then hybrid x y
     else identity
 
--- the point that an encoding means; it is read only where the bytes are one
+-- the point with this encoding; contracts use it only for encodings
 unfoldable pub meaning : ℕ → List ℕ → Point
 meaning n [] = identity
 meaning n (tag ∷ rest) = point_from tag (number_of (take n rest)) (number_of (take n (drop n rest)))

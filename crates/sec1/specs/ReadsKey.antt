@@ -8,11 +8,11 @@ use Rattle.sec1_der.specs.Elements.{IsProperBeginning}
 use Rattle.sec1_der.specs.Trees.{Tree, IsTreeOf}
 use Rattle.sec1_der.specs.declared.error.ErrorKind.TheVariants.{Truncated, TrailingData}
 
--- A key is read exactly where the bytes are those of a key, and then it is that key.
+-- A key is read exactly if the bytes are those of a key, and then it is that key.
 pub record ReadsKey (input : List ℕ) (result : Result Key Error) : Type 0 where
   -- what is read is a key, and these are its bytes
   pub found : IfOk result (λ key. IsKeyOf key input)
-  -- where they are the bytes of a key, it is read
+  -- if they are the bytes of a key, it is read
   pub only : (key : Key) → IsKeyOf key input → result ≡ Ok key
   -- every tree with the bytes of the key that is read, of any shape and depth, is the key's
   pub one_tree : IfOk result (λ key. (t : Tree) → IsTreeOf t input → t ≡ key_tree key)
@@ -20,7 +20,7 @@ pub record ReadsKey (input : List ℕ) (result : Result Key Error) : Type 0 wher
   pub kinds : IfErr result IsAsn1ReadingFault
   -- whether the bytes are refused, and by which kind, is a function of them
   pub kind : HasAsn1Fault result (key_fault input)
-  -- a proper beginning of a key's bytes ends too early
+  -- a proper beginning of a key's bytes is refused as Truncated
   pub short : (key : Key) (bytes : List ℕ) → IsKeyOf key bytes → IsProperBeginning input bytes → RefusesAsn1 result Truncated
-  -- bytes after a key's are too many
+  -- bytes after a key's are refused as TrailingData
   pub long : (key : Key) (bytes : List ℕ) → IsKeyOf key bytes → IsProperBeginning bytes input → RefusesAsn1 result TrailingData

@@ -1,4 +1,4 @@
--- The tags in front of encodings.
+-- The tags of points, the first bytes of their encodings.
 use Rattle.std.specs.Prelude.{◌≡◌, ◌≢◌, ℕ, ◌+◌, ◌*◌, Bool, true, false, if◌then◌else◌, Result, IfOk, IfErr, OnErr}
 use Rattle.sec1.specs.Points.{Point, identity, compact, compressed, uncompressed, hybrid, is_odd}
 use Rattle.sec1.specs.declared.error.Error.{Error}
@@ -22,7 +22,7 @@ pub record ReadsTag (byte : ℕ) (result : Result Tag Error) : Type 0 where
   pub none : OnErr result ((tag : Tag) → byte_of tag ≢ byte)
   pub kind : IfErr result (λ e. e ≡ PointEncoding)
 
--- how long an encoding with this tag is, at field elements of n bytes
+-- the length of an encoding with this tag, at field elements of n bytes
 abbrev pub message_len : Tag → ℕ → ℕ
 message_len tags.Identity n = 1
 message_len tags.CompressedEvenY n = n + 1

@@ -1,4 +1,4 @@
--- What a key type makes of the one element of a stream, and what it writes to one.
+-- What a key type reads from a stream, and what it writes to one.
 use Rattle.std.specs.Prelude.{◌≡◌, ◌⊎◌, ◌↔◌, ℕ, List, Option, Bool, false, IsTrue, IfSome}
 use Rattle.std.specs.Io.KnownBytes.{Appends}
 use Rattle.sec1.specs.Errors.{error_of}
@@ -11,23 +11,23 @@ use Rattle.sec1_der.specs.Streams.{AppendsBeginning}
 use Rattle.sec1_der.specs.declared.error.Error.{Error as DerError}
 use Rattle.sec1_der.specs.declared.error.ErrorKind.TheVariants.{Io}
 
--- an element of which this holds
+-- an element for which this holds
 pub record IsElementWith (P : List ℕ → Type 0) : Type 0 where
   pub bytes : List ℕ
   pub is_element : IsElement bytes
   pub holds : P bytes
 
--- one element was read of which this holds, and nothing is left behind it
+-- one element for which this holds was read, and no input remains
 pub record ConsumesElementWith (P : List ℕ → Type 0) (old new : Option (List ℕ)) : Type 0 where
   pub bytes : List ℕ
   pub read : ConsumesElement old new bytes
   pub holds : P bytes
 
--- Want of memory, or what a key type refuses by.
+-- an allocation failed, or the key type refused
 abbrev pub IsMemoryOr : (Error → Type 0) → Error → Type 0
 IsMemoryOr refuses error = (error ≡ Memory) ⊎ refuses error
 
--- There was no element to be read as a key: what was left isn't one, a read failed or a growth was refused.
+-- No element was read: the remaining input isn't one, a read failed, or an allocation failed.
 pub record RefusesDocument (old new : Option (List ℕ)) (failed : Bool) (error : Error) : Type 0 where
   pub cause : DerError
   pub is : error ≡ error_of cause
@@ -35,7 +35,7 @@ pub record RefusesDocument (old new : Option (List ℕ)) (failed : Bool) (error 
   pub only : IsIoOrMemory cause.kind ⊎ IfSome old (λ left. ¬ (IsElement left))
   pub io : cause.kind ≡ Io ↔ IsTrue failed
 
--- The one element there was refused as a key, and no read failed.
+-- One element was read and refused as a key, and no read failed.
 pub record RefusesKey (refuses : List ℕ → Error → Type 0) (old new : Option (List ℕ)) (failed : Bool) (error : Error) : Type 0 where
   pub of_element : ConsumesElementWith (λ bytes. IsMemoryOr (refuses bytes) error) old new
   pub unfailed : failed ≡ false

@@ -8,7 +8,7 @@ mod select;
 mod tag;
 mod text;
 
-// What speaks of `EncodedPoint` is imported in the blocks below, since its ghost fields come before that.
+// Definitions that cite `EncodedPoint` are imported in the blocks below: its ghost fields come before them.
 ghost use Rattle.std.specs.Prelude.{◌≡◌, ◌+◌, ◌*◌, ◌<◌, ◌≤◌, ◌^◌, ◌↔◌, if◌then◌else◌, length, slice_index, take, drop, set, IsTrue, IfSome};
 ghost use Rattle.std.specs.Option.{option_map};
 ghost use Rattle.sec1_der.specs.Numbers.{number_of};

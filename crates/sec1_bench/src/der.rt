@@ -6,7 +6,7 @@ use sec1::der::{Header, IoFault, ObjectIdentifier, Read, SecretDocument, SliceRe
 use std::alloc::Global;
 use std::str::from_utf8;
 
-/// Reads headers, one behind the other, to the end. Returns the sum of the lengths that they announce.
+/// Reads headers, one after the other, to the end. Returns the sum of the lengths that they announce.
 #[unsafe(no_mangle)]
 pub extern "C" fn sec1_headers_read(input: &[u8]) -> usize {
     let mut reader = SliceReader::new(input);

@@ -1,12 +1,12 @@
 //! The calls of `sec1` as a benchmark makes them: exports over slices, each with one number that sums up what the call
-//! did, so that the same job by other code can be compared. Where a call refuses, the number is 0.
+//! did, so that the same job by other code can be compared. If a call fails, the number is 0.
 #![tactic(auto)]
 
 mod der;
 mod keys;
 mod points;
 
-/// The length of the bytes and the last of them, added up; 0 where there are none.
+/// The length of the bytes and the last of them, added up; 0 if there are none.
 fn length_and_last(bytes: &[u8]) -> usize {
     match bytes.last() {
         Some(last) => bytes.len().wrapping_add(usize::from(*last)),

@@ -60,7 +60,7 @@ pub extern "C" fn sec1_point_text(alloc: Global, input: &[u8]) -> usize {
     }
 }
 
-/// The points whose encodings stand one behind the other; the identity where one isn't there.
+/// The points with these encodings, one after the other; the identity if one is missing.
 fn points(input: &[u8]) -> [EncodedPoint32; COUNT] {
     let mut points = [EncodedPoint32::identity(); COUNT];
     let mut rest = input;

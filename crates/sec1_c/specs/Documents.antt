@@ -1,12 +1,12 @@
--- What the header in front of some bytes announces (X.690 sections 8.1.2 and 8.1.3).
+-- What the header at the beginning of some bytes announces (X.690 sections 8.1.2 and 8.1.3).
 use Rattle.std.specs.Prelude.{◌≡◌, ℕ, ◌+◌, List, ◌++◌, length}
 use Rattle.sec1_der.specs.Elements.{IsHeader, header}
 
--- the bytes begin with a header, which announces so many bytes of content, and go on with these
+-- the bytes are a header, which announces a content of this length, and these bytes after it
 pub record Announces (bytes inside : List ℕ) (announced : ℕ) (tag : ℕ) : Type 0 where
   pub is_header : IsHeader tag announced
   pub split : bytes ≡ header tag announced ++ inside
 
--- the length of an element with this tag and so many bytes of content
+-- the length of an element with this tag and a content of this length
 abbrev pub element_len : ℕ → ℕ → ℕ
 element_len tag announced = length (header tag announced) + announced

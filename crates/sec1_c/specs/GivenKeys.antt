@@ -3,12 +3,12 @@ use Rattle.std.specs.Prelude.{◌≡◌, ◌==◌, ℕ, List, [], Option, Some, 
 use Rattle.sec1_der.specs.Identifiers.{content_of}
 use Rattle.sec1.specs.Keys.{Key, HasNoEncoding, IsNamedCurve}
 
--- the content of the identifier that names the curve; no bytes where there is none
+-- the content of the identifier that names the curve; no bytes if there is none
 abbrev pub curve_content : Option (List ℕ) → List ℕ
 curve_content None = []
 curve_content (Some arcs) = content_of arcs
 
--- the content gives these parameters
+-- these are the parameters for the content
 pub record IsCurveOf (content : List ℕ) (parameters : Option (List ℕ)) : Type 0 where
   pub content_is : content ≡ curve_content parameters
   pub names : IsNamedCurve parameters
@@ -17,7 +17,7 @@ pub record IsCurveOf (content : List ℕ) (parameters : Option (List ℕ)) : Typ
 abbrev pub IsNoCurve : List ℕ → Type 0
 IsNoCurve content = (parameters : Option (List ℕ)) → IsCurveOf content parameters → ⊥
 
--- the public key with these bytes, or none where the number is 0
+-- the public key with these bytes, or none if the number is 0
 abbrev pub public_key_if : ℕ → List ℕ → Option (List ℕ)
 public_key_if has_public_key bytes = if has_public_key == 0 then None else Some bytes
 
@@ -27,7 +27,7 @@ pub record IsGiven (key : Key) (private_key curve public_key : List ℕ) (has_pu
   pub curve_is : IsCurveOf curve key.parameters
   pub public : key.public_key ≡ public_key_if has_public_key public_key
 
--- The content names a curve or is empty, but the key with these parts has no bytes: one of them is too long.
+-- The content names a curve or is empty, but the key with these parts has no encoding: one of them is too long.
 pub record IsTooLong (private_key curve public_key : List ℕ) (has_public_key : ℕ) : Type 0 where
   pub parameters : Option (List ℕ)
   pub curve_is : IsCurveOf curve parameters

@@ -1,4 +1,4 @@
--- Identifiers by their dotted texts.
+-- The dotted texts of identifiers.
 use Rattle.std.specs.Prelude.{◌≡◌, ℕ, List, [], ◌∷◌, ◌++◌}
 use Rattle.std.specs.Fmt.{decimal}
 use Rattle.std.specs.List.{flat_map}

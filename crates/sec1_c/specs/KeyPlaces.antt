@@ -1,4 +1,4 @@
--- Where the parts of a key stand in its bytes (RFC 5915 section 3).
+-- The places of a key's parts in its bytes (RFC 5915 section 3).
 use Rattle.std.specs.Prelude.{ℕ, ◌-◌, List, length, Some}
 use Rattle.std.specs.Option.{option_map}
 use Rattle.sec1_der.specs.Identifiers.{content_of}
@@ -23,7 +23,7 @@ pub record AreWithin (input : List ℕ) (parts : KeyParts) : Type 0 where
   pub curve : IsWithin input parts.curve
   pub public_key : IsWithin input parts.public_key
 
--- The bytes at the places of the parts give the key again.
+-- The bytes at the places of the parts are the parts of the key.
 abbrev pub GiveAgain : Key → List ℕ → KeyParts → Type 0
 GiveAgain key input parts =
     IsGiven key (bytes_at input parts.private_key) (bytes_at input parts.curve) (bytes_at input parts.public_key) parts.public_key.present
@@ -32,7 +32,7 @@ GiveAgain key input parts =
 abbrev pub content_len : List ℕ → ℕ
 content_len arcs = length (content_of arcs)
 
--- where the field [0] ends, and where the private key does
+-- the end of the field [0], and that of the private key
 abbrev pub parameters_end : Key → List ℕ → ℕ
 parameters_end key input = length input - length (bytes_of (public_key_field key.public_key))
 

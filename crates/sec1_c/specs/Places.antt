@@ -1,4 +1,4 @@
--- Where a part stands in the bytes that it was read from.
+-- The place of a part in the bytes that it was read from.
 use Rattle.std.specs.Prelude.{◌≡◌, ℕ, ◌+◌, ◌-◌, ◌≤◌, List, length, take, drop, Option, Some, None}
 use Rattle.sec1_c.specs.declared.part.Part.{Part}
 
@@ -10,13 +10,13 @@ bytes_at input part = take part.len (drop part.offset input)
 abbrev pub IsWithin : List ℕ → Part → Type 0
 IsWithin input part = part.offset + part.len ≤ length input
 
--- the part is there, and these are its bytes
+-- the part is present, and these are its bytes
 pub record StandsAt (input : List ℕ) (part : Part) (bytes : List ℕ) : Type 0 where
   pub present : part.present ≡ 1
   pub within : IsWithin input part
   pub bytes_are : bytes_at input part ≡ bytes
 
--- the part isn't there
+-- the part is absent
 pub record IsMissing (part : Part) : Type 0 where
   pub present : part.present ≡ 0
   pub offset : part.offset ≡ 0
@@ -27,12 +27,12 @@ abbrev pub IsPart : List ℕ → Part → Option (List ℕ) → Type 0
 IsPart input part None = IsMissing part
 IsPart input part (Some bytes) = StandsAt input part bytes
 
--- the part of this length that ends there, or none
+-- the part of this length that ends at this index, or none
 abbrev pub part_before : ℕ → Option ℕ → Part
 part_before end None = record { offset = 0; len = 0; present = 0 }
 part_before end (Some len) = record { offset = end - len; len = len; present = 1 }
 
--- the part of this length that begins there, or none
+-- the part of this length that begins at this index, or none
 abbrev pub part_from : ℕ → Option ℕ → Part
 part_from start None = record { offset = 0; len = 0; present = 0 }
 part_from start (Some len) = record { offset = start; len = len; present = 1 }

@@ -1,4 +1,4 @@
--- The numbers that the calls return: 0 where a call did what its name says, else the reason of the refusal.
+-- The numbers that the calls return: 0 for success, otherwise the reason of the refusal.
 use Rattle.std.specs.Prelude.{◌≡◌, ◌⊎◌, ℕ}
 use Rattle.sec1.specs.declared.error.Error.{Error}
 use Rattle.sec1.specs.declared.error.Error.TheVariants.{Asn1, Crypto, PointEncoding, Version, Memory}

@@ -1,7 +1,8 @@
--- X.690 section 8.19.2: the subidentifiers that stand in the content of an identifier.
+-- X.690 section 8.19.2: the subidentifiers in the content of an identifier.
 use Rattle.std.specs.Prelude.{ℕ, ◌+◌, ◌*◌, ◌%◌, ◌^◌, ◌<◌, nat_lt, if◌then◌else◌, ⊤, List, [], ◌∷◌}
 
--- Each subidentifier is below 2^32, and so is what its digits so far spell. Those of the first that are already read spell `high`.
+-- Each subidentifier is below 2^32, and so is the number in its digits so far. `high` is that of the digits of the first one
+-- that were read before.
 abbrev pub SubidentifiersFit : ℕ → List ℕ → Type 0
 SubidentifiersFit high [] = ⊤
 SubidentifiersFit high (b ∷ bs) =

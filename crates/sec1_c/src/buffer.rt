@@ -8,7 +8,7 @@ use sec1::der::ErrorKind;
 ///
 /// # Errors
 ///
-/// Returns the number of Buffer where the buffer is shorter than the bytes. It is unchanged then.
+/// Returns the number of Buffer if the buffer is shorter than the bytes. It is unchanged then.
 pub fn write_bytes(bytes: &[u8], buffer: &mut [u8], len: &mut usize) -> u32
     ensures { Writes bytes.now buffer.old buffer.new result len.new }
 {

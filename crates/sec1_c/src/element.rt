@@ -10,14 +10,14 @@ use crate::status::{OK, kind_number};
 use sec1::der::{self, ErrorKind, Header, SliceReader};
 use std::cmp::Ordering;
 
-/// Checks that all of `input` is a tree of DER elements of depth at most 64, and stores how many elements it has. An
-/// element whose tag is constructed holds elements and nothing else.
+/// Checks that all of `input` is a tree of DER elements of depth at most 64, and stores the number of elements. The
+/// content of an element with a constructed tag is elements again, and nothing else.
 ///
 /// # Errors
 ///
-/// Returns the number of the first fault from left to right, and leaves `elements` unchanged: Tag or Length where an
-/// element has no header of DER; Truncated where the input ends inside an element, or an element ends beyond the one
-/// around it; Depth where an element at level 64 has elements inside; TrailingData where bytes follow the tree.
+/// Returns the number of the first fault from left to right, and leaves `elements` unchanged: Tag or Length if an
+/// element has no header of DER; Truncated if the input ends inside an element, or an element ends after the one
+/// around it; Depth if an element at level 64 contains elements; TrailingData if bytes follow the tree.
 #[unsafe(no_mangle)]
 pub extern "C" fn sec1_check_tree(input: &[u8], elements: &mut usize) -> u32
     ensures tree { (t : Tree) → IsTreeOf t input.now → depth t ≤ 64
@@ -41,13 +41,13 @@ pub extern "C" fn sec1_check_tree(input: &[u8], elements: &mut usize) -> u32
     }
 }
 
-/// Checks that all of `input` is one element, whatever its content is, and stores the length that its header
-/// announces for it, header and content together; 0 where no whole header begins the input.
+/// Checks that all of `input` is one element, with any content, and stores the length that its header announces,
+/// header and content together; 0 if the input doesn't begin with a whole header.
 ///
 /// # Errors
 ///
-/// Returns the number of Truncated where the input ends inside the header or the content; of Tag or Length where no
-/// header of DER begins the input; of TrailingData where bytes follow the element.
+/// Returns the number of Truncated if the input ends inside the header or the content; of Tag or Length if the input
+/// doesn't begin with a header of DER; of TrailingData if bytes follow the element.
 #[unsafe(no_mangle)]
 pub extern "C" fn sec1_document_len(input: &[u8], len: &mut usize) -> u32
     ensures announced { (tag announced : ℕ) (inside : List ℕ) → Announces input.now inside announced tag

@@ -12,12 +12,12 @@ use crate::status::kind_number;
 use sec1::der::{ErrorKind, ObjectIdentifier};
 use text::dotted;
 
-/// Writes the dotted text of the identifier with this content, and a byte 0 behind it, at the beginning of `text`,
-/// and stores how many bytes they are together, at most 158. The rest of `text` is unchanged.
+/// Writes the dotted text of the identifier with this content, followed by a byte 0, at the beginning of `text`, and
+/// stores their length in bytes, at most 158. The rest of `text` is unchanged.
 ///
 /// # Errors
 ///
-/// Returns the number of Buffer where `text` is too short, and stores the length; or that of Value where `content`
+/// Returns the number of Buffer if `text` is too short, and stores the length; or that of Value if `content`
 /// isn't the content of an identifier, and leaves `len` unchanged. `text` is unchanged in both cases.
 #[unsafe(no_mangle)]
 pub extern "C" fn sec1_identifier_to_text(content: &[u8], text: &mut [u8], len: &mut usize) -> u32
@@ -41,7 +41,7 @@ pub extern "C" fn sec1_identifier_to_text(content: &[u8], text: &mut [u8], len: 
 ///
 /// # Errors
 ///
-/// Returns the number of Buffer where `content` is too short, and stores the length; or that of Value where `text`
+/// Returns the number of Buffer if `content` is too short, and stores the length; or that of Value if `text`
 /// isn't the text of an identifier, and leaves `len` unchanged. `content` is unchanged in both cases.
 #[unsafe(no_mangle)]
 pub extern "C" fn sec1_identifier_from_text(text: &[u8], content: &mut [u8], len: &mut usize) -> u32

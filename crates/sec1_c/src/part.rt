@@ -1,18 +1,18 @@
-//! Where a part stands in the bytes that it was read from.
+//! The place of a part in the bytes that it was read from.
 ghost use Rattle.std.specs.Prelude.{◌≡◌, ◌≤◌, ◌+◌, ◌<◌, ◌^◌, IfSome};
 ghost use Rattle.sec1_c.specs.Places.{part_before, part_from};
 
-/// A part of some bytes, by its place. All three numbers are 0 where the part is absent.
+/// A part of some bytes, by its place. All three numbers are 0 if the part is absent.
 #[repr(C)]
 #[derive(Clone, Copy)]
 pub struct Part {
     /// The index of the part's first byte.
     pub offset: usize,
 
-    /// The count of the part's bytes, which may be 0.
+    /// The number of the part's bytes, which may be 0.
     pub len: usize,
 
-    /// 1 where the part is present, also with no bytes, and 0 where it is absent.
+    /// 1 if the part is present, also without bytes, and 0 if it is absent.
     pub present: usize,
 }
 

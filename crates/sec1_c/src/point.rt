@@ -14,7 +14,7 @@ use crate::part::Part;
 use crate::status::field_length_number;
 use sec1::Error;
 
-/// The tag of a point, and where its coordinates stand in its encoding.
+/// The tag of a point, and the places of its coordinates in its encoding.
 #[repr(C)]
 #[derive(Clone, Copy)]
 pub struct PointParts {
@@ -22,10 +22,10 @@ pub struct PointParts {
     /// 5 compact, 6 and 7 hybrid with an even and an odd y.
     pub tag: usize,
 
-    /// The x-coordinate, which the identity alone lacks.
+    /// The x-coordinate, absent only for the identity.
     pub x: Part,
 
-    /// The y-coordinate, which uncompressed and hybrid points have.
+    /// The y-coordinate, present for uncompressed and hybrid points.
     pub y: Part,
 }
 
@@ -33,7 +33,7 @@ pub struct PointParts {
 ///
 /// # Errors
 ///
-/// Returns the number of PointEncoding where it isn't, and another one where the field length isn't supported.
+/// Returns the number of PointEncoding if it isn't, and another one if the field length isn't supported.
 #[unsafe(no_mangle)]
 pub extern "C" fn sec1_point_check(bytes: &[u8], field_len: usize) -> u32
     ensures point { (p : Point) → IsFieldLength field_len → Encodes field_len p bytes.now → result ≡ 0 }
@@ -51,11 +51,11 @@ pub extern "C" fn sec1_point_check(bytes: &[u8], field_len: usize) -> u32
     }
 }
 
-/// Reads a point from its encoding, which is all of `bytes`, and stores its tag and where its coordinates stand.
+/// Reads a point from its encoding, which is all of `bytes`, and stores its tag and the places of its coordinates.
 ///
 /// # Errors
 ///
-/// Refuses as `sec1_point_check` does, and leaves `parts` unchanged.
+/// Returns the numbers of `sec1_point_check`, and leaves `parts` unchanged.
 #[unsafe(no_mangle)]
 pub extern "C" fn sec1_point_read(bytes: &[u8], field_len: usize, parts: &mut PointParts) -> u32
     ensures point { (p : Point) → IsFieldLength field_len → Encodes field_len p bytes.now → result ≡ 0 }
@@ -81,8 +81,8 @@ pub extern "C" fn sec1_point_read(bytes: &[u8], field_len: usize, parts: &mut Po
 ///
 /// # Errors
 ///
-/// Returns the number of Buffer where `out` is too short, and stores the length. Refuses as `sec1_point_check` does
-/// otherwise, and leaves `len` unchanged then. `out` is unchanged in each case.
+/// Returns the number of Buffer if `out` is too short, and stores the length; otherwise those of `sec1_point_check`, and
+/// leaves `len` unchanged. `out` is unchanged in each case.
 #[unsafe(no_mangle)]
 pub extern "C" fn sec1_point_compress(
     bytes: &[u8],
@@ -111,8 +111,8 @@ pub extern "C" fn sec1_point_compress(
 ///
 /// # Errors
 ///
-/// Returns the number of Buffer where `out` is too short, and stores the length. Refuses as `sec1_point_check` does
-/// otherwise, and leaves `len` unchanged then. `out` is unchanged in each case.
+/// Returns the number of Buffer if `out` is too short, and stores the length; otherwise those of `sec1_point_check`, and
+/// leaves `len` unchanged. `out` is unchanged in each case.
 #[unsafe(no_mangle)]
 pub extern "C" fn sec1_point_to_hybrid(
     bytes: &[u8],
@@ -136,12 +136,12 @@ pub extern "C" fn sec1_point_to_hybrid(
     }
 }
 
-/// Compares two points by tag, then by coordinates as whole numbers, and stores -1, 0 or 1: whether the first stands
-/// below the second, is the same, or stands above it.
+/// Compares two points by tag, then by coordinates as whole numbers, and stores -1, 0 or 1: whether the first is
+/// less than the second, the same, or greater.
 ///
 /// # Errors
 ///
-/// Refuses as `sec1_point_check` does, where it refuses either point, and leaves `order` unchanged.
+/// Returns the numbers of `sec1_point_check` for either point, and leaves `order` unchanged.
 #[unsafe(no_mangle)]
 pub extern "C" fn sec1_point_compare(
     first: &[u8],

@@ -2,14 +2,14 @@
 use Rattle.std.specs.Prelude.{ℕ, ◌+◌, ◌-◌, ◌*◌, ◌%◌, nat_lt, if◌then◌else◌, List, [], ◌∷◌, ◌++◌, length, replicate}
 use Rattle.sec1_der.specs.declared.object_identifier.TheConstants.{MAX_CONTENT}
 
--- X.690 section 8.19.2: the numbers that stand in a row in base 128, where the digits of the first that are
--- already read spell `high`.
+-- X.690 section 8.19.2: the subidentifiers in these bytes; `high` is the number in the digits of the first one that were
+-- read before.
 abbrev pub numbers_after : ℕ → List ℕ → List ℕ
 numbers_after high [] = []
 numbers_after high (b ∷ bs) =
     let n = high * 128 + b % 128 in if nat_lt b 128 then n ∷ numbers_after 0 bs else numbers_after n bs
 
--- X.690 section 8.19.4: the first number is that of two arcs.
+-- X.690 section 8.19.4: the first subidentifier encodes the first two arcs, each further one is an arc.
 abbrev pub arcs_of_numbers : List ℕ → List ℕ
 arcs_of_numbers [] = []
 arcs_of_numbers (s ∷ further) =
@@ -18,6 +18,6 @@ arcs_of_numbers (s ∷ further) =
 abbrev pub arcs_of : List ℕ → List ℕ
 arcs_of content = arcs_of_numbers (numbers_after 0 content)
 
--- MAX_CONTENT bytes that begin with the content, zeros behind it
+-- the content, followed by zeros, MAX_CONTENT bytes in all
 abbrev pub padded : List ℕ → List ℕ
 padded content = content ++ replicate (MAX_CONTENT - length content) 0

@@ -1,4 +1,4 @@
--- What a writer that fills a slice from its end holds, and what its calls do.
+-- The state of a writer that fills a slice from its end, and what its calls change.
 use Rattle.std.specs.Prelude.{◌≡◌, ℕ, ◌+◌, List, ◌++◌, length, take, drop}
 use Rattle.std.specs.Borrow.{MutBor}
 use Rattle.sec1_der.specs.declared.back_writer.BackWriter.{BackWriter}
@@ -24,7 +24,7 @@ pub record PutsNothing (old new : BackWriter) : Type 0 where
   pub written : end_of new ≡ end_of old
   pub front : front_of new ≡ front_of old
 
--- these bytes were put in front of what was written, and those before them are as they were
+-- these bytes were prepended to what was written, and the bytes in front of them are unchanged
 pub record PutsInFront (old new : BackWriter) (bytes : List ℕ) : Type 0 where
   pub written : end_of new ≡ bytes ++ end_of old
   pub front : length (front_of old) ≡ length (front_of new) + length bytes

@@ -12,23 +12,23 @@ use Rattle.sec1_der.specs.declared.error.ErrorKind.TheVariants.{Value}
 abbrev pub IsVersionOne : List ℕ → Type 0
 IsVersionOne content = content ≡ 1 ∷ []
 
--- X.690 sections 8.6 and 11.2.1: a count of unused bits. It is 0 where there are no bytes, and the unused bits,
+-- X.690 sections 8.6 and 11.2.1: a number of unused bits. It is 0 if there are no bytes, and the unused bits,
 -- the lowest of the last byte, are zero.
 pub record AreBits (unused : ℕ) (bytes : List ℕ) : Type 0 where
   pub count : unused ≤ 7
   pub empty : length bytes ≡ 0 → unused ≡ 0
   pub zeros : 0 < length bytes → slice_index bytes (length bytes - 1) % 2 ^ unused ≡ 0
 
--- X.690 section 8.6.2: the content of a bit string is the count of unused bits, and the bytes.
+-- X.690 section 8.6.2: the content of a bit string is the number of unused bits, and the bytes.
 abbrev pub IsBitString : List ℕ → Type 0
 IsBitString [] = ⊥
 IsBitString (unused ∷ bytes) = AreBits unused bytes
 
--- the one content of a version
+-- a version has no other content
 pub only_one : (bytes : List ℕ) → Some (1 ∷ []) ≡ Some bytes → IsVersionOne bytes
 only_one bytes same = cc
 
--- the content of a bit string is one
+-- a bit string has the content of a bit string
 pub bits_are_one : (unused : ℕ) (bytes content : List ℕ) → AreBits unused bytes → Some (unused ∷ bytes) ≡ Some content → IsBitString content
 bits_are_one unused bytes [] bits same = absurd (cc same)
 bits_are_one unused bytes (count ∷ rest) bits same =
@@ -36,15 +36,15 @@ bits_are_one unused bytes (count ∷ rest) bits same =
     let rests : bytes ≡ rest = cc in
     rw (← counts, ← rests) bits
 
--- refused as Value where the test fails
+-- Value if the test fails
 abbrev pub value_unless : Bool → Option ErrorKind
 value_unless passes = if passes then None else Some Value
 
--- any content but this one byte
+-- Any content other than this one byte is refused.
 abbrev pub byte_fault : ℕ → Fault
 byte_fault n content = value_unless (bytes_eq content (n ∷ []))
 
--- the test for a count of unused bits
+-- the test for a number of unused bits
 abbrev pub are_bits : ℕ → List ℕ → Bool
 are_bits unused [] = unused == 0
 are_bits unused (byte ∷ bytes) = nat_le unused 7 && slice_index (byte ∷ bytes) (length bytes) % 2 ^ unused == 0
@@ -53,7 +53,8 @@ abbrev pub is_bit_string : List ℕ → Bool
 is_bit_string [] = false
 is_bit_string (unused ∷ bytes) = are_bits unused bytes
 
--- X.690 sections 8.6 and 11.2.1: any content but that of a bit string, and but that of one without unused bits
+-- X.690 sections 8.6 and 11.2.1: Any content other than that of a bit string is refused; any other than that of one without
+-- unused bits.
 abbrev pub bit_string_fault : Fault
 bit_string_fault content = value_unless (is_bit_string content)
 
@@ -61,6 +62,6 @@ abbrev pub whole_bits_fault : Fault
 whole_bits_fault [] = Some Value
 whole_bits_fault (unused ∷ bytes) = value_unless (unused == 0)
 
--- X.690 section 8.19: any content but that of an identifier
+-- X.690 section 8.19: Any content other than that of an identifier is refused.
 abbrev pub identifier_fault : Fault
 identifier_fault content = value_unless (is_identifier (arcs_of content) && bytes_eq (content_of (arcs_of content)) content)

@@ -6,11 +6,11 @@ use Rattle.sec1_der.specs.declared.header.TheConstants.{LONG_FORM}
 use Rattle.sec1_der.specs.declared.tag.TheConstants.{EXPLICIT}
 use Rattle.sec1_der.specs.declared.length.TheConstants.Length.{MAX}
 
--- the most bytes that a content may have
+-- the greatest length of a content in bytes
 abbrev pub max_length : ℕ
 max_length = MAX
 
--- X.690 section 8.1.2: a tag byte. It isn't 00, which is kept for end-of-contents, and its low five bits
+-- X.690 section 8.1.2: a tag byte. It isn't 00, which is reserved for end-of-contents, and its low five bits
 -- aren't all ones, which begin a high tag number.
 pub record IsTag (tag : ℕ) : Type 0 where
   pub byte : tag < 256
@@ -25,8 +25,8 @@ IsConstructed tag = IsBitSet tag 5
 abbrev pub explicit_tag : ℕ → ℕ
 explicit_tag number = EXPLICIT + number
 
--- X.690 sections 8.1.3 and 10.1: the one spelling of a length. It is the number itself below 128, else the
--- count of its base 256 digits plus 80 (hexadecimal), and the digits.
+-- X.690 sections 8.1.3 and 10.1: the one encoding of a length: the number itself below 128, otherwise the
+-- number of its base 256 digits plus 80 (hexadecimal), and the digits.
 unfoldable pub length_octets : ℕ → List ℕ
 length_octets n = let digits = digits_of 256 n in if nat_lt n LONG_FORM then n ∷ [] else (LONG_FORM + length digits) ∷ digits
 
@@ -34,7 +34,7 @@ length_octets n = let digits = digits_of 256 n in if nat_lt n LONG_FORM then n �
 abbrev pub header : ℕ → ℕ → List ℕ
 header tag n = tag ∷ length_octets n
 
--- what may stand in a header
+-- a tag byte, and a length that isn't above the limit
 pub record IsHeader (tag n : ℕ) : Type 0 where
   pub tag_byte : IsTag tag
   pub within : n ≤ max_length
@@ -55,28 +55,28 @@ pub record IsElement (bytes : List ℕ) : Type 0 where
   pub is_header : IsHeader tag (length content)
   pub spelled : bytes ≡ element tag content
 
--- no header begins the bytes
+-- the bytes don't begin with a header
 abbrev pub LacksHeader : List ℕ → Type 0
 LacksHeader bytes = (tag n : ℕ) (rest : List ℕ) → IsHeader tag n → bytes ≡ header tag n ++ rest → ⊥
 
--- the bytes begin another list, which has more
+-- the bytes are the beginning of others, which are more
 pub record IsProperBeginning (bytes whole : List ℕ) : Type 0 where
   pub more : List ℕ
   pub some : more ≢ []
   pub split : whole ≡ bytes ++ more
 
--- there is no content, or one that no element can hold
+-- there is no content, or it is too long for an element
 abbrev pub IsOverlong : Option (List ℕ) → Type 0
 IsOverlong None = ⊤
 IsOverlong (Some content) = max_length < length content
 
--- the element with this tag around a content, where there is one that an element can hold
+-- the element with this tag and content, if there is a content that isn't too long
 abbrev pub element_of : ℕ → Option (List ℕ) → Option (List ℕ)
 element_of tag None = None
 element_of tag (Some content) = if nat_le (length content) max_length then Some (element tag content) else None
 
--- X.690 section 8.14: the bytes of an explicit field [number] around the element with this tag; no bytes where
--- no value is there
+-- X.690 section 8.14: the bytes of an explicit field [number] around the element with this tag; no bytes if the value
+-- is absent
 abbrev pub field_of : ℕ → ℕ → Option (Option (List ℕ)) → Option (List ℕ)
 field_of number tag None = Some []
 field_of number tag (Some content) = element_of (explicit_tag number) (element_of tag content)

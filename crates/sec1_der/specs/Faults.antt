@@ -1,15 +1,15 @@
--- What a refusal says.
+-- The kinds of refusals.
 use Rattle.std.specs.Prelude.{◌≡◌, ◌⊎◌, ℕ, ◌-◌, ◌%◌, Bool, ◌&&◌, not, ◌==◌, nat_lt, nat_le, if◌then◌else◌, List, [], ◌∷◌, length, Result, IsErrAnd}
 use Rattle.sec1_der.specs.declared.header.TheConstants.{LONG_FORM}
 use Rattle.sec1_der.specs.declared.error.Error.{Error}
 use Rattle.sec1_der.specs.declared.error.ErrorKind.{ErrorKind}
 use Rattle.sec1_der.specs.declared.error.ErrorKind.TheVariants.{Truncated, Tag, Length, TrailingData, Value, Overlength, Buffer, Failed, Io, Depth, Memory}
 
--- the call refused, with this kind
+-- the call failed with an error of this kind
 abbrev pub Refuses : {T : Type 0} → Result T Error → ErrorKind → Type 0
 Refuses result kind = IsErrAnd result (λ e. e.kind ≡ kind)
 
--- the kinds by which a header is refused, or the room behind it
+-- the kinds by which a header is refused, or an element that ends inside its content
 abbrev pub IsHeaderFault : ErrorKind → Type 0
 IsHeaderFault Truncated = Unit {0}
 IsHeaderFault Tag = Unit {0}
@@ -38,7 +38,7 @@ IsReadingFault Memory = ⊥
 abbrev pub lacks_digits : ℕ → List ℕ → Bool
 lacks_digits first digits = nat_lt LONG_FORM first && nat_le first 0x84 && nat_lt (length digits) (first - LONG_FORM)
 
--- The kind, where no length begins the bytes: they end inside one, or spell none.
+-- The kind, if the bytes don't begin with a length: they end inside one, or encode none.
 abbrev pub length_fault : List ℕ → ErrorKind
 length_fault [] = Truncated
 length_fault (first ∷ digits) = if lacks_digits first digits then Truncated else Length
@@ -47,11 +47,11 @@ length_fault (first ∷ digits) = if lacks_digits first digits then Truncated el
 abbrev pub is_tag : ℕ → Bool
 is_tag byte = not (byte == 0) && not (byte % 32 == 31)
 
--- The kind, where no header begins the bytes. The tag is checked before the length.
+-- The kind, if the bytes don't begin with a header. The tag is checked before the length.
 abbrev pub header_fault : List ℕ → ErrorKind
 header_fault [] = Truncated
 header_fault (byte ∷ rest) = if is_tag byte then length_fault rest else Tag
 
--- the kinds that say nothing of the bytes
+-- the kinds that don't depend on the bytes
 abbrev pub IsIoOrMemory : ErrorKind → Type 0
 IsIoOrMemory kind = (kind ≡ Io) ⊎ (kind ≡ Memory)

@@ -1,5 +1,4 @@
--- The test for the arcs of an identifier passes these and no others, so an identifier has its content and a list that
--- is no identifier's has none.
+-- The test for the arcs of an identifier is exact: an identifier has its content, and any other list of numbers has none.
 use Rattle.std.specs.Prelude.{◌≡◌, ℕ, ◌+◌, ◌*◌, ◌^◌, ◌<◌, ◌≤◌, Bool, true, false, ◌&&◌, ◌||◌, nat_lt, nat_le}
 use Rattle.std.specs.Prelude.{List, [], ◌∷◌, length, Some, None, if◌then◌else◌, refl}
 use Rattle.std.proofs.Common.{arith}
@@ -31,13 +30,13 @@ short_too b n P d = grind (arith, nat_tests)
 is_identifier-decides : (arcs : List ℕ) → Decides (is_identifier arcs) (AreArcs arcs × (length (content_of arcs) ≤ MAX_CONTENT))
 is_identifier-decides arcs = short_too (are_arcs arcs) (length (content_of arcs)) _ (are_arcs-decides arcs)
 
--- what passes the test is an identifier
+-- if the test succeeds, the arcs are an identifier's
 pub is_identifier-true : (arcs : List ℕ) → is_identifier arcs ≡ true → IsIdentifier arcs (content_of arcs)
 is_identifier-true arcs e =
     let h = (is_identifier-decides arcs).0 e in
     record { spells = record { allowed = h.0; spelled = refl }; short = h.1 }
 
--- an identifier passes the test
+-- the test succeeds for the arcs of an identifier
 pub is_identifier-valid : (arcs content : List ℕ) → IsIdentifier arcs content → is_identifier arcs ≡ true
 is_identifier-valid arcs content h = (is_identifier-decides arcs).1 (h.spells.allowed, rw (← h.spells.spelled) h.short)
 
@@ -45,7 +44,7 @@ chosen : (b : Bool) (v c : List ℕ) → (if b then Some v else None) ≡ Some c
 chosen true v c e = (refl, cc)
 chosen false v c e = absurd (cc e)
 
--- what has a content is an identifier
+-- arcs that have a content are an identifier's
 pub identifier_content-some : (arcs content : List ℕ) → identifier_content arcs ≡ Some content → IsIdentifier arcs content
 identifier_content-some arcs content e =
     let h = chosen (is_identifier arcs) (content_of arcs) content e in

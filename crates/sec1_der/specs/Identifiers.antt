@@ -20,11 +20,11 @@ subidentifiers [] = []
 subidentifiers (a ∷ []) = []
 subidentifiers (a ∷ b ∷ further) = (40 * a + b) ∷ further
 
--- X.690 section 8.19.2: the base 128 spellings of these numbers, one after the other.
+-- X.690 section 8.19.2: the base 128 encodings of the subidentifiers, one after the other.
 abbrev pub content_of : List ℕ → List ℕ
 content_of arcs = flat_map base128 (subidentifiers arcs)
 
--- the bytes spell these arcs, however many they are
+-- the bytes are the encoding of these arcs, of any length
 pub record Spells (arcs content : List ℕ) : Type 0 where
   pub allowed : AreArcs arcs
   pub spelled : content ≡ content_of arcs

@@ -6,7 +6,7 @@ use Rattle.sec1_der.specs.Faults.{header_fault, IsIoOrMemory}
 use Rattle.sec1_der.specs.declared.error.ErrorKind.{ErrorKind}
 use Rattle.sec1_der.specs.declared.error.ErrorKind.TheVariants.{Truncated, Tag, Length, TrailingData, Value, Overlength, Buffer, Failed, Io, Depth, Memory}
 
--- one element was read, and nothing is left behind it
+-- one element was read, and no input remains
 pub record ConsumesElement (old new : Option (List ℕ)) (bytes : List ℕ) : Type 0 where
   pub is_element : IsElement bytes
   pub consumed : Consumes old new bytes
@@ -26,7 +26,7 @@ IsElementFault Io = Unit {0}
 IsElementFault Depth = ⊥
 IsElementFault Memory = Unit {0}
 
--- no header begins the bytes, and they tell this kind
+-- the bytes don't begin with a header, and are refused by this kind
 pub record HasHeaderFault (kind : ErrorKind) (bytes : List ℕ) : Type 0 where
   pub fault_is : header_fault bytes ≡ kind
   pub none : LacksHeader bytes
@@ -50,7 +50,7 @@ pub record IsBadTag (bytes : List ℕ) : Type 0 where
   pub alone : bytes ≡ byte ∷ []
   pub bad : ¬ (IsTag byte)
 
--- a header whose length is bad, up to the byte that makes it so: the bytes before that one left it open
+-- a tag and the beginning of a length, up to the first byte that no length of DER has there
 pub record IsBadLength (bytes : List ℕ) : Type 0 where
   pub before : List ℕ
   pub last : ℕ
@@ -65,11 +65,11 @@ pub record IsElementAndByte (bytes : List ℕ) : Type 0 where
   pub is_element : IsElement front
   pub joined : bytes ≡ front ++ byte ∷ []
 
--- no more than an element
+-- at most one element
 abbrev pub IsUpToElement : List ℕ → Type 0
 IsUpToElement bytes = IsCutShort bytes ⊎ IsElement bytes
 
--- the bytes that were taken where an element is refused by this kind
+-- the bytes that were read before an element is refused by this kind
 abbrev pub TakenBeforeRefusal : ErrorKind → List ℕ → Type 0
 TakenBeforeRefusal Truncated taken = IsCutShort taken
 TakenBeforeRefusal Tag taken = IsBadTag taken
@@ -83,7 +83,7 @@ TakenBeforeRefusal Io taken = IsUpToElement taken
 TakenBeforeRefusal Depth taken = ⊥
 TakenBeforeRefusal Memory taken = IsUpToElement taken
 
--- an element is refused by this kind, and these bytes were taken; what is cut short was the last of the input
+-- an element was refused by this kind after these bytes were read; if it was Truncated, no input remains
 pub record RefusesElement (kind : ErrorKind) (old new : Option (List ℕ)) : Type 0 where
   pub taken : List ℕ
   pub consumed : Consumes old new taken
@@ -95,7 +95,7 @@ pub record ReadsHeader (old new : Option (List ℕ)) (tag announced : ℕ) : Typ
   pub is_header : IsHeader tag announced
   pub consumed : Consumes old new (header tag announced)
 
--- so many bytes are refused by this kind, after fewer of them
+-- reading so many bytes failed with this kind, after fewer of them
 pub record RefusesContent (kind : ErrorKind) (announced : ℕ) (old new : Option (List ℕ)) : Type 0 where
   pub taken : List ℕ
   pub consumed : Consumes old new taken

@@ -1,4 +1,4 @@
--- Which refusal: what bytes are refused by, as a function of the bytes. It is the first fault from left to right.
+-- The kind of a refusal as a function of the bytes: the first fault from left to right.
 use Rattle.std.specs.Prelude.{◌≡◌, ◌==◌, ℕ, zero, suc, ◌+◌, ◌-◌, Bool, false, ◌&&◌, not, nat_lt, nat_le, if◌then◌else◌, bit_and}
 use Rattle.std.specs.Prelude.{List, [], ◌∷◌, length, take, drop, Option, Some, None, Result, Ok, Err, MatchResult}
 use Rattle.std.specs.Option.{option_or}
@@ -12,15 +12,15 @@ use Rattle.sec1_der.specs.declared.error.Error.{Error}
 use Rattle.sec1_der.specs.declared.error.ErrorKind.{ErrorKind}
 use Rattle.sec1_der.specs.declared.error.ErrorKind.TheVariants.{Truncated, Tag, TrailingData, Depth}
 
--- What bytes are refused by: a kind, or None where they aren't refused.
+-- The kind by which bytes are refused, or None if they aren't.
 abbrev pub Fault : Type 0
 Fault = List ℕ → Option ErrorKind
 
--- the call refuses by this kind, and succeeds if there is none
+-- the call fails with this kind, or succeeds if there is none
 abbrev pub HasFault : {T : Type 0} → Result T Error → Option ErrorKind → Type 0
 HasFault result fault = MatchResult result (λ _. fault ≡ None) (λ e. fault ≡ Some e.kind)
 
--- bytes that are never refused; and the end, after which there are no bytes
+-- refuses no bytes; and the end, which refuses any further byte as TrailingData
 abbrev pub no_fault : Fault
 no_fault bytes = None
 
@@ -28,24 +28,24 @@ abbrev pub end_fault : Fault
 end_fault [] = None
 end_fault (byte ∷ bytes) = Some TrailingData
 
--- X.690 sections 8.1.3 and 10.1: the number whose spelling begins the bytes, where one does
+-- X.690 sections 8.1.3 and 10.1: the length at the beginning of the bytes, if there is one
 abbrev pub number_at : List ℕ → ℕ
 number_at [] = 0
 number_at (first ∷ digits) = if nat_lt first LONG_FORM then first else number_of (take (first - LONG_FORM) digits)
 
--- the length that begins the bytes, and the bytes behind it
+-- the length at the beginning of the bytes, and the bytes after it
 abbrev pub length_at : List ℕ → Result (ℕ × List ℕ) ErrorKind
 length_at bytes =
     let n = number_at bytes in
     let spelled = length_octets n in
     if nat_le n max_length && bytes_eq (take (length spelled) bytes) spelled then Ok (n, drop (length spelled) bytes) else Err (length_fault bytes)
 
--- X.690 section 8.1.4: as many bytes as the length says, and the bytes behind them
+-- X.690 section 8.1.4: as many bytes as the length says, and the bytes after them
 abbrev pub within : Result (ℕ × List ℕ) ErrorKind → Result (List ℕ × List ℕ) ErrorKind
 within (Err kind) = Err kind
 within (Ok x) = if nat_le x.0 (length x.1) then Ok (take x.0 x.1, drop x.0 x.1) else Err Truncated
 
--- the fault of the length, of the content, or of the bytes behind it, in this order
+-- the fault of the length, of the content, or of the bytes after it, in this order
 abbrev pub parts_fault : Fault → Fault → Result (List ℕ × List ℕ) ErrorKind → Option ErrorKind
 parts_fault content behind (Err kind) = Some kind
 parts_fault content behind (Ok x) = option_or (content x.0) (behind x.1)
@@ -71,7 +71,7 @@ abbrev pub inside_fault : ℕ → (List ℕ → Bool) → Fault → Fault
 inside_fault tag late content bytes =
     option_or (element_fault tag (λ inside. if late inside then None else content inside) end_fault bytes) (element_fault tag content no_fault bytes)
 
--- X.690 section 8.14: where its tag is next, an explicit field [number] around an element with this tag
+-- X.690 section 8.14: an explicit field [number] around an element with this tag, if its tag is next; and what follows it
 abbrev pub field_fault : ℕ → ℕ → (List ℕ → Bool) → Fault → Fault → Fault
 field_fault number tag late content behind bytes =
     if is_next (explicit_tag number) bytes then element_fault (explicit_tag number) (inside_fault tag late content) behind bytes else behind bytes

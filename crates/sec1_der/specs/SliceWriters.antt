@@ -1,4 +1,4 @@
--- What a writer that fills a slice from its beginning holds, and what its calls do.
+-- The state of a writer that fills a slice from its beginning, and what its calls change.
 use Rattle.std.specs.Prelude.{◌≡◌, ℕ, ◌+◌, List, ◌++◌, length, take, drop}
 use Rattle.std.specs.Borrow.{MutBor}
 use Rattle.sec1_der.specs.declared.slice_writer.SliceWriter.{SliceWriter}
@@ -7,7 +7,7 @@ use Rattle.sec1_der.specs.declared.slice_writer.SliceWriter.{SliceWriter}
 abbrev pub written_by : SliceWriter → List ℕ
 written_by writer = take writer.position writer.buffer.now
 
--- the bytes of the slice behind them
+-- the bytes of the slice after them
 abbrev pub room_of : SliceWriter → List ℕ
 room_of writer = drop writer.position writer.buffer.now
 
@@ -24,7 +24,7 @@ pub record AppendsNothing (old new : SliceWriter) : Type 0 where
   pub written : written_by new ≡ written_by old
   pub room : room_of new ≡ room_of old
 
--- these bytes were written, and those behind them are as they were
+-- these bytes were appended to what was written, and the bytes after them are unchanged
 pub record Appends (old new : SliceWriter) (bytes : List ℕ) : Type 0 where
   pub written : written_by new ≡ written_by old ++ bytes
   pub room : length (room_of old) ≡ length bytes + length (room_of new)

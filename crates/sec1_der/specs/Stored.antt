@@ -9,7 +9,7 @@ use Rattle.sec1_der.specs.declared.object_identifier.ObjectIdentifier.TheInside.
 abbrev pub arcs_stored : Inside → List ℕ
 arcs_stored o = arcs_of (take o.len o.bytes)
 
--- the content stands in front, and zeros behind it
+-- the content, followed by zeros
 pub record IsStored (o : Inside) : Type 0 where
   pub identifier : IsIdentifier (arcs_stored o) (take o.len o.bytes)
   pub length_kept : length (take o.len o.bytes) ≡ o.len

@@ -1,8 +1,8 @@
--- What calls over readers and writers do to the bytes that are left to read, and to those that were written.
+-- What calls over readers and writers do to the remaining input, and to the bytes written.
 use Rattle.std.specs.Prelude.{◌≡◌, ◌<◌, ℕ, List, ◌++◌, Option, length}
 use Rattle.std.specs.Io.KnownBytes.{Appends, Consumes}
 
--- n bytes were read, and stand after the bytes before
+-- n bytes were read, and appended to those that were there
 pub record ReadsOnto (old new : Option (List ℕ)) (before after : List ℕ) (n : ℕ) : Type 0 where
   pub bytes : List ℕ
   pub consumed : Consumes old new bytes

@@ -1,4 +1,4 @@
--- What the values that lend bytes show.
+-- What a contract sees of the values that borrow bytes.
 use Rattle.std.specs.Prelude.{ℕ, List}
 use Rattle.sec1_der.specs.declared.octet_string.OctetStringRef.{OctetStringRef}
 use Rattle.sec1_der.specs.declared.bit_string.BitStringRef.{BitStringRef}
@@ -8,7 +8,7 @@ use Rattle.sec1_der.specs.declared.any.AnyRef.{AnyRef}
 abbrev pub octets_of : OctetStringRef → List ℕ
 octets_of octets = octets.bytes.now
 
--- the count of unused bits of a bit string
+-- the number of unused bits of a bit string
 abbrev pub unused_bits_of : BitStringRef → ℕ
 unused_bits_of bits = bits.unused
 

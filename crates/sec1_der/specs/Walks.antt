@@ -11,7 +11,7 @@ pub record IsSingle (t : Tree) : Type 0 where
   pub alone : size t ≡ 1
   pub shallow : depth t ≡ 1
 
--- the front is the header of a node with a content
+-- the bytes begin with the header of a node with a content
 pub record IsOpening (tag n end : ℕ) (rest after : List ℕ) : Type 0 where
   pub tag_byte : IsTag tag
   pub constructed : IsConstructed tag
@@ -20,31 +20,31 @@ pub record IsOpening (tag n end : ℕ) (rest after : List ℕ) : Type 0 where
   pub row : rest ≡ header tag n ++ after
   pub ends : end + n ≡ length after
 
--- where the innermost node ends, else the input
+-- the number of bytes left at the end of the innermost node, or of the input
 abbrev pub innermost : List ℕ → ℕ
 innermost [] = 0
 innermost (end ∷ ends) = end
 
--- an element without children stands first, within the innermost node
+-- the next element has no children, and ends within the innermost node
 pub record Skips (ends rest after : List ℕ) : Type 0 where
   pub tree : Tree
   pub single : IsSingle tree
   pub row : rest ≡ bytes tree ++ after
   pub fits : innermost ends ≤ length after
 
--- the header of a node with this end stands first, and the node ends within the innermost
+-- the next element is a node with this end, within the innermost node
 pub record Opens (ends rest : List ℕ) (end : ℕ) (after : List ℕ) : Type 0 where
   pub tag : ℕ
   pub n : ℕ
   pub opening : IsOpening tag n end rest after
   pub fits : innermost ends ≤ end
 
--- what stands first is passed, or is opened where there is room for one more
+-- the next element is skipped, or is opened if one more node may be open
 abbrev pub Enters : List ℕ → List ℕ → List ℕ → List ℕ → Type 0
 Enters ends rest ends' after =
     (Skips ends rest after × (ends' ≡ ends)) ⊎ ((end : ℕ) × Opens ends rest end after × (ends' ≡ end ∷ ends) × (length ends < MAX_DEPTH - 1))
 
--- as many nodes are open as can be, and a further one with a content stands first
+-- as many nodes are open as can be, and the next element is one more with a content
 pub record IsTooDeep (ends rest : List ℕ) : Type 0 where
   pub end : ℕ
   pub after : List ℕ

@@ -6,7 +6,7 @@ use crate::{
 };
 
 /// An element of any tag, which borrows its content unread.
-// The tag stands as its byte: a value that holds both a reference and a type with a `Model` can't be passed by `?`.
+// The tag is held as its byte: a value that holds both a reference and a type with a `Model` can't be passed by `?`.
 #[derive(Clone, Copy, PartialEq, Eq, Debug)]
 pub struct AnyRef<'a> {
     tag: u8,

@@ -110,7 +110,7 @@ pub fn encode_to_slice<T: EncodeValue + FixedTag>(value: &T, buffer: &mut [u8]) 
     ensures buffer { (bytes : List ℕ) → element_of T.tag_byte (T.content value.now) ≡ Some bytes
         → length buffer.old < length bytes
         → Refuses result ErrorKind.Buffer × (buffer.new ≡ buffer.old) }
-    // What was written is the element, and it stands within the slice.
+    // What was written is the element, and it fits into the slice.
     ensures found { IfOk result (λ n. IsSomeAnd (element_of T.tag_byte (T.content value.now)) (λ bytes.
         (n ≡ length bytes) × (buffer.new ≡ bytes ++ drop n buffer.old))) }
     ensures within { IfOk result (λ n. n ≤ length buffer.new) }

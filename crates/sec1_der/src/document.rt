@@ -49,7 +49,7 @@ impl SecretDocument {
             → Refuses result ErrorKind.TrailingData }
         ensures kinds { IfErr result (λ e. IsHeaderFault e.kind ⊎ (e.kind ≡ ErrorKind.TrailingData)
             ⊎ ((e.kind ≡ ErrorKind.Memory) × IsElement bytes.now)) }
-        // The bytes tell whether they are refused, and by which kind; where they aren't, memory may be.
+        // Whether the input is refused, and by which kind, is a function of its bytes; otherwise the allocation may fail.
         ensures kind { MatchResult result (λ _. document_fault bytes.now ≡ None) (λ e.
             (document_fault bytes.now ≡ Some e.kind)
             ⊎ ((e.kind ≡ ErrorKind.Memory) × (document_fault bytes.now ≡ None))) }

@@ -39,10 +39,10 @@ impl Header {
         ensures only { (tag n : ℕ) (rest : List ℕ) → IsHeader tag n
             → reader.old ≡ reader_over (header tag n ++ rest)
             → (result ≡ Ok (record { tag = tag; length = n })) × (reader.new ≡ reader_over rest) }
-        // Where they begin with none, the bytes tell the kind.
+        // Where they begin with none, the kind is a function of the bytes.
         ensures kind { reader.old.failed ≡ false → IsErr result
             → Refuses result (header_fault reader.old.unread) }
-        // By the same kind an element of any tag is refused there.
+        // An element of any tag is refused there by the same kind.
         ensures element { reader.old.failed ≡ false → IfErr result (λ e. (content : ℕ → Fault) (behind : Fault)
             → any_fault content behind reader.old.unread ≡ Some e.kind) }
         ensures failed { reader.old.failed ≡ true → Refuses result ErrorKind.Failed }
@@ -107,7 +107,7 @@ impl Header {
     }
 }
 
-/// Returns the header at the beginning of the bytes, and the bytes after it, which have room for the content.
+/// Returns the header at the beginning of the bytes, and the bytes after it, which are at least as many as it announces.
 #[tactic(auto, using(crate::proofs::HeaderLemmas::header_fault_kinds))]
 pub(crate) fn element_at(input: &[u8]) -> First<'_, Header>
     ensures kinds { IfErr result IsHeaderFault }

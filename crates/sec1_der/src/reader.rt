@@ -173,7 +173,7 @@ impl<'a> SliceReader<'a> {
             × (self.new ≡ reader_over rest) }
 
         ensures kinds { self.old.failed ≡ false → IfErr result (λ e. IsReadingFault e.kind) }
-        // The unread bytes tell which kind.
+        // The kind of a refusal is a function of the remaining input.
         ensures kind { self.old.failed ≡ false
             → HasFault result (field_fault number T.tag_byte never_late T.fault no_fault self.old.unread) }
         ensures failed { self.old.failed ≡ true → Refuses result ErrorKind.Failed

@@ -4,7 +4,7 @@ ghost use Rattle.sec1_der.specs.Elements.{IsTag, IsConstructed, explicit_tag};
 use crate::{ErrorKind, Result};
 use std::marker::Model;
 
-/// The tag byte of an element (X.690 section 8.1.2). A contract sees the number.
+/// The tag byte of an element (X.690 section 8.1.2). A contract sees its number.
 #[derive(Clone, Copy, Debug, PartialEq, Eq)]
 pub struct Tag {
     byte: u8,

@@ -19,7 +19,7 @@ static HEADERS: [(&[u8], usize); 10] = [
     (b"\x04\x83\x10\x00\x00", 1_048_576),
 ];
 
-/// Returns the header, and so many bytes behind it.
+/// Returns the header, and so many bytes after it.
 fn element(alloc: Global, header: &[u8], length: usize) -> Result<Vec<u8>, AllocError> {
     let mut bytes = header.to_vec(alloc)?;
     for place in 0..length {
@@ -114,7 +114,7 @@ fn keeps_large_documents_in_files(rt: HostRuntime) -> Result<(), Fail> {
     Ok(())
 }
 
-/// What files hold that hold no document, and how they are refused.
+/// Contents of files that aren't documents, and how they are refused.
 static NO_DOCUMENTS: [(&[u8], ErrorKind); 5] = [
     (b"", ErrorKind::Truncated),
     (b"\x04\x02\xAA", ErrorKind::Truncated),

@@ -1,7 +1,7 @@
 //! Tests of `sec1_der` by its public calls: what its contracts can't say, on streams, files and memory, and values from
 //! outside.
 //!
-//! They stand in a crate of their own, so that `sec1_der` is proved once.
+//! They are in a crate of their own, so that `sec1_der` is proved once.
 #![tactic(auto)]
 
 #[cfg(test)]

@@ -1,10 +1,10 @@
 //! What is returned while requests for memory are refused, one by one.
 //!
-//! They are refused by `tests/refuse.c`, an allocator that is laid under the built tests. A test speaks to it by
+//! They are refused by `tests/refuse.c`, an allocator that replaces the C library's in the built tests. A test controls it by
 //! requests of sizes that no allocator grants. Without it nothing is refused, and each call is made once.
 //!
-//! The functions that speak to it stand once in each crate that has such tests: a library of them would be proved and
-//! exported for tests alone.
+//! The functions that control it are in each crate that has such tests: a library of them would be proved and exported
+//! only for tests.
 use super::streams::KEY;
 use sec1_der::{
     ErrorKind, OctetStringRef, Read, SecretDocument, StdReader, StdWriter, check_tree,
@@ -19,7 +19,7 @@ use std::{fs, io};
 enum Outcome {
     /// It returned what it returns with memory to spare.
     Right,
-    /// It was refused for memory, and left all as it promises.
+    /// It returned Memory, and left everything as promised.
     Refused,
     /// Anything else.
     Wrong,
@@ -48,7 +48,7 @@ fn signal(alloc: Global, more: u32) -> bool {
     Vec::<u8>::with_capacity(alloc, (1 << 62) + more as usize).is_ok()
 }
 
-/// Has the request of this number refused, the first from now on being 1. Returns whether there is who refuses it.
+/// Has the request of this number refused, the first from now on being 1. Returns whether the allocator of the tests is there.
 fn refuse(alloc: Global, number: u16) -> bool {
     signal(alloc, u32::from(number))
 }
@@ -69,7 +69,7 @@ fn one_was_refused(alloc: Global) -> bool {
 }
 
 /// Makes the call with its first request refused, with its second, and so on until it makes no more, and prints how
-/// many it makes. Returns whether each of these calls was refused, or right after it had asked for less memory.
+/// many it makes. Returns whether each of these calls was refused, or succeeded after a request for less memory.
 fn is_refused_in_turn<F: FnMut() -> Outcome>(
     rt: &impl Print,
     alloc: Global,
@@ -139,7 +139,7 @@ fn reports_memory_from_writing_calls(rt: HostRuntime) -> Result<(), Fail> {
     Ok(())
 }
 
-/// Returns the outcome of reading a document from these bytes. A refusal leaves the reader behind the bytes it gave.
+/// Returns the outcome of reading a document from these bytes. On an error the reader is after the bytes it gave.
 fn read_outcome(alloc: Global, bytes: &[u8]) -> Outcome {
     let mut reader = StdReader::new(bytes);
     let result = SecretDocument::read_der_from(alloc, &mut reader);
@@ -182,7 +182,7 @@ fn reports_memory_from_reading_calls(rt: HostRuntime) -> Result<(), Fail> {
     Ok(())
 }
 
-/// What the opening of a file takes is refused as a failed read.
+/// A request of opening a file is refused as a failed read.
 #[test]
 fn reports_memory_from_calls_on_files(rt: HostRuntime) -> Result<(), Fail> {
     let alloc = rt.alloc();

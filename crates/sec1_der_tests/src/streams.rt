@@ -16,7 +16,7 @@ pub const KEY: &[u8] = &[
     0xF6, 0x18, 0xDD, 0x44, 0x70, 0x29, 0x04, 0x8E, 0x0F,
 ];
 
-/// What a reader does behind its bytes.
+/// What a reader does after its bytes.
 #[derive(Clone, Copy)]
 enum Then {
     End,
@@ -25,7 +25,7 @@ enum Then {
     Fill(u8, u32),
 }
 
-/// A reader that gives its bytes, at most so many a call, and keeps count of what is asked for and taken.
+/// A reader that gives its bytes, at most so many a call, and counts what is asked for and read.
 #[derive(Drop)]
 struct Pieces<'a> {
     rest: &'a [u8],
@@ -60,7 +60,7 @@ impl io::Read for Pieces<'_> {
 }
 
 /// The reader's bytes, how many of them it gives, at most so many a call, and what it does then; why no document
-/// is read, and how many bytes are taken.
+/// is read, and how many bytes are read.
 static READS: [(&[u8], usize, usize, Then, Option<ErrorKind>, usize); 12] = [
     (KEY, 121, 1, Then::End, None, 121),
     (KEY, 121, 7, Then::End, None, 121),

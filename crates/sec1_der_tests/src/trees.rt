@@ -4,7 +4,7 @@ use sec1_der::{ErrorKind, check_tree};
 use std::alloc::{AllocError, Global};
 use std::test::Fail;
 
-/// Trees, and how many leaves and nodes they have.
+/// Trees, and the number of their leaves and nodes.
 static TREES: [(&[u8], usize); 8] = [
     (KEY, 7),
     (
@@ -34,7 +34,7 @@ static TREES: [(&[u8], usize); 8] = [
     (&[0x04, 0x03, 0x30, 0x80, 0xFF], 1),
 ];
 
-/// Bytes that no tree has, and how they are refused.
+/// Bytes that aren't a tree's, and how they are refused.
 static REFUSED: [(&[u8], ErrorKind); 6] = [
     (&[], ErrorKind::Truncated),
     (&[0x00, 0x00], ErrorKind::Tag),
@@ -62,7 +62,7 @@ fn refuses_other_bytes(rt: HostRuntime) {
     }
 }
 
-/// 64 elements inside one another are counted, 65 are too deep.
+/// 64 nested elements are counted, 65 are too deep.
 #[test]
 fn reads_64_levels(rt: HostRuntime) -> Result<(), Fail> {
     let alloc = rt.alloc();
@@ -197,7 +197,7 @@ fn length_at(bytes: &[u8]) -> Result<(usize, &[u8]), ErrorKind> {
     for digit in digits {
         length = length << 8 | usize::from(*digit);
     }
-    // what fewer digits can spell is spelled by fewer
+    // a number has as few digits as possible
     let least = [0x80, 0x100, 0x1_0000, 0x100_0000][count - 1];
     if length < least || length > 268_435_455 {
         return Err(ErrorKind::Length);
@@ -247,7 +247,7 @@ struct Row {
     depth: usize,
 }
 
-/// One tree, grown from a leaf: a leaf goes behind the row or before it, the row is written twice, or a
+/// One tree, grown from a leaf: a leaf goes after the row or before it, the row is written twice, or a
 /// node goes around it.
 fn made_tree(alloc: Global, numbers: &mut Numbers) -> Result<Row, AllocError> {
     let mut row = Row {

@@ -50,7 +50,7 @@ fn writes_from_the_front(rt: HostRuntime) -> Result<(), Fail> {
     Ok(())
 }
 
-/// X.690 section 8.1.3: lengths and their spellings.
+/// X.690 section 8.1.3: lengths and their encodings.
 static LENGTHS: [(usize, [u8; 6], usize); 8] = [
     (0, [0x04, 0x00, 0, 0, 0, 0], 2),
     (127, [0x04, 0x7F, 0, 0, 0, 0], 2),

@@ -9,7 +9,7 @@ use Rattle.sec1.specs.Tags.{point_tag}
 use Rattle.sec1.specs.declared.point.tag.Tag.{Tag}
 use Rattle.sec1.specs.declared.point.tag.Tag.TheVariants.{Identity, CompressedEvenY, CompressedOddY, Uncompressed, Compact, HybridEvenY, HybridOddY}
 
--- the most bytes that an input may have
+-- the greatest length of an input in bytes
 abbrev pub limit : ℕ
 limit = 1048576
 
@@ -21,12 +21,12 @@ is_blank byte = byte == 0x20 || byte == 0x09 || byte == 0x0D || byte == 0x0A
 abbrev pub stripped : List ℕ → List ℕ
 stripped input = filter (λ byte. not (is_blank byte)) input
 
--- the dotted text of the curve's identifier, where there is one
+-- the dotted text of the curve's identifier, if present
 abbrev pub parameters_words : Option (List ℕ) → List ℕ
 parameters_words None = codes "none"
 parameters_words (Some arcs) = dotted arcs
 
--- the upper hexadecimal of the public key, where there is one with any bytes
+-- the upper hexadecimal of the public key, if present and not empty
 abbrev pub public_key_words : Option (List ℕ) → List ℕ
 public_key_words None = codes "none"
 public_key_words (Some []) = codes "empty"
@@ -49,13 +49,13 @@ pub record IsPointText (size : ℕ) (bytes text : List ℕ) : Type 0 where
   pub encoded : bytes ≡ encoding size point
   pub words : text ≡ tag_words size (point_tag point)
 
--- the words for the point that these bytes encode at the first of these sizes at which they encode any, else `none`
+-- the words for the point that these bytes encode at the first of these sizes at which they encode one, otherwise `none`
 abbrev pub IsFirstPointText : List ℕ → List ℕ → List ℕ → Type 0
 IsFirstPointText [] bytes text = text ≡ codes "none"
 IsFirstPointText (size ∷ sizes) bytes text =
     IsPointText size bytes text ⊎ ((IsEncoding size bytes → ⊥) × IsFirstPointText sizes bytes text)
 
--- the words for the point that the public key is, where there is one
+-- the words for the point of the public key, if present
 abbrev pub IsPublicPointText : Option (List ℕ) → List ℕ → Type 0
 IsPublicPointText None text = text ≡ codes "none"
 IsPublicPointText (Some bytes) text = IsFirstPointText (28 ∷ 32 ∷ 48 ∷ 66 ∷ []) bytes text
@@ -80,37 +80,37 @@ pub record HasTree (bytes : List ℕ) (tree : Tree) : Type 0 where
   pub whole : IsTreeOf tree bytes
   pub shallow : depth tree ≤ 64
 
--- how many elements the tree with these bytes has, else `no`
+-- the number of elements of the tree with these bytes, otherwise `no`
 abbrev pub IsTreeText : List ℕ → List ℕ → Type 0
 IsTreeText bytes text =
     ((tree : Tree) × HasTree bytes tree × (text ≡ decimal (size tree) ++ codes " elements"))
     ⊎ (((tree : Tree) → ¬ (HasTree bytes tree)) × (text ≡ codes "no"))
 
--- the report on what is refused for this reason, with these words for its tree
+-- the report on an input that is refused for this reason, with these words for its tree
 pub record IsRefusal (reason tree text : List ℕ) (status : ℕ) : Type 0 where
   pub lines : text ≡ (codes "refused: " ++ (reason ++ codes "\n")) ++ (codes "tree: " ++ (tree ++ codes "\n"))
   pub refused : status ≡ 1
 
--- the report on bytes that are no key's
+-- the report on bytes that aren't a key's
 pub record IsNoKeyReport (bytes text : List ℕ) (status : ℕ) : Type 0 where
   pub tree : List ℕ
   pub tree_text : IsTreeText bytes tree
   pub refusal : IsRefusal (codes "not an EC private key in DER") tree text status
 
--- the report on bytes: on the key that has them, else a refusal
+-- the report on bytes: on the key with these bytes, otherwise a refusal
 abbrev pub IsReportOnBytes : List ℕ → List ℕ → ℕ → Type 0
 IsReportOnBytes bytes text status =
     ((key : Key) × IsKeyOf key bytes × IsKeyReport key text status)
     ⊎ (((key : Key) → ¬ (IsKeyOf key bytes)) × IsNoKeyReport bytes text status)
 
--- the report on digits: on the bytes that they spell, else a refusal
+-- the report on digits: on the bytes that they encode, otherwise a refusal
 abbrev pub IsReportOnDigits : List ℕ → List ℕ → ℕ → Type 0
 IsReportOnDigits digits text status =
     MatchResult (decode_of digits)
     (λ bytes. IsReportOnBytes bytes text status)
     (λ _. IsRefusal (codes "not hexadecimal") (codes "no") text status)
 
--- the report on an input: a refusal where it is too long, else this report on it
+-- the report on an input: a refusal if it is too long, otherwise this report on it
 abbrev pub IsReportUnlessLong : (List ℕ → List ℕ → ℕ → Type 0) → List ℕ → List ℕ → ℕ → Type 0
 IsReportUnlessLong IsReportOn input text status =
     ((limit < length input) × IsRefusal (codes "input too long") (codes "no") text status)

@@ -1,4 +1,4 @@
--- What a run reads and writes, and what the program makes of it.
+-- What a run reads and writes, and the status of the program.
 use Rattle.std.specs.Prelude.{◌≡◌, ℕ, ◌+◌, ◌≤◌, ◌⊎◌, List, ◌++◌, Option, IfSome, length, codes}
 use Rattle.std.specs.Io.KnownBytes.{Appends, Consumes, IsAtEnd}
 use Rattle.sec1.specs.Der.{AppendsBeginning}
@@ -9,14 +9,14 @@ use Rattle.sec1_inspect.specs.declared.Form.{Form}
 use Rattle.sec1_inspect.specs.declared.Form.TheVariants.{Text, Der}
 use Rattle.sec1_inspect.specs.Report.{IsDerReport, IsReport, limit}
 
--- n bytes were read, and stand after the bytes before
+-- n bytes were read, and appended to those that were there
 pub record ReadsOnto (old new : Option (List ℕ)) (before after : List ℕ) (n : ℕ) : Type 0 where
   pub bytes : List ℕ
   pub consumed : Consumes old new bytes
   pub appended : after ≡ before ++ bytes
   pub count : length bytes ≡ n
 
--- these bytes were read: all that was left, or one byte more than an input may have
+-- these bytes were read: all of the input, or one byte more than an input may have
 pub record Takes (old new : Option (List ℕ)) (taken : List ℕ) : Type 0 where
   pub consumed : Consumes old new taken
   pub bounded : length taken ≤ limit + 1
@@ -49,7 +49,7 @@ pub record HasStatus (IsReport : List ℕ → List ℕ → ℕ → Type 0) (inpu
   pub text : List ℕ
   pub report : IfSome input (λ bytes. IsReport bytes text status)
 
--- the line that says why there is no report
+-- the line that is printed if there is no report
 abbrev pub line_of : Failure → List ℕ
 line_of (Run Input) = codes "sec1_inspect: input failed"
 line_of (Run Output) = codes "sec1_inspect: output failed"

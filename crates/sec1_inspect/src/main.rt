@@ -253,7 +253,7 @@ fn chosen_source(path: Option<String>, other: Option<String>) -> Result<Source, 
     }
 }
 
-/// Returns the status that the program ends with: the report's, else 2.
+/// Returns the status that the program ends with: the report's, otherwise 2.
 fn status(outcome: &Result<u8, Failure>) -> u8
     ensures { MatchResult outcome.now (λ status. result ≡ status) (λ _. result ≡ 2) }
 {

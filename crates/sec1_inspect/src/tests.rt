@@ -1,4 +1,4 @@
-//! Runs whose answers are known, and runs over readers and writers that fail.
+//! Runs with known results, and runs over readers and writers that fail.
 mod large;
 mod memory;
 
@@ -31,7 +31,7 @@ static KEYS: [(&str, &str); 11] = [
         " 3\t0 0\r\n9 020101 04 04 aB\nCd 0 1 2 3\n",
         "private_key: 4 bytes\nparameters: none\npublic_key: none\npoint: none\n",
     ),
-    // a public key that is there and empty
+    // a public key that is present and empty
     (
         "300A 020101 0400 A103 030100",
         "private_key: 0 bytes\nparameters: none\npublic_key: empty\npoint: none\n",
@@ -88,7 +88,7 @@ static KEYS: [(&str, &str); 11] = [
 
 /// What is refused: the input and the lines.
 static REFUSALS: [(&str, &str); 6] = [
-    // an odd count of digits
+    // an odd number of digits
     ("300", "refused: not hexadecimal\ntree: no\n"),
     // a letter that is no digit
     ("30 0g", "refused: not hexadecimal\ntree: no\n"),
@@ -104,21 +104,21 @@ static REFUSALS: [(&str, &str); 6] = [
         "30 81 05 02 01 01 04 00",
         "refused: not an EC private key in DER\ntree: no\n",
     ),
-    // a curve that stands twice
+    // a curve that occurs twice
     (
         "3011 020101 0400 A004 06022A03 A004 06022A03",
         "refused: not an EC private key in DER\ntree: 7 elements\n",
     ),
 ];
 
-/// What a run over the input answers, and what it writes.
+/// The result of a run over the input, and what it writes.
 fn outcome(alloc: Global, input: &[u8]) -> (Result<u8, Fault>, Vec<u8>) {
     let mut writer = StdWriter::new(Vec::new(alloc));
     let result = run(alloc, &mut StdReader::new(input), &mut writer);
     (result, writer.into_inner())
 }
 
-/// What a run over the input in DER answers, and what it writes.
+/// The result of a run over the input in DER, and what it writes.
 fn der_outcome(alloc: Global, input: &[u8]) -> (Result<u8, Fault>, Vec<u8>) {
     let mut writer = StdWriter::new(Vec::new(alloc));
     let result = run_der(alloc, &mut StdReader::new(input), &mut writer);

@@ -8,7 +8,7 @@ use std::alloc::{AllocError, Global};
 use std::io;
 use std::io::{BufRead, BufReader};
 
-/// Returns the hexadecimal digits of the bytes, or `-` where there are none.
+/// Returns the hexadecimal digits of the bytes, or `-` if there are none.
 fn digits(alloc: Global, bytes: &[u8]) -> Result<String, AllocError> {
     if bytes.is_empty() {
         return "-".to_string(alloc);

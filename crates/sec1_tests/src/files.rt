@@ -45,7 +45,7 @@ fn keeps_large_keys(rt: HostRuntime) -> Result<(), Fail> {
     Ok(())
 }
 
-/// A key that isn't written leaves the file as it was, and makes none.
+/// A key that isn't written leaves the file unchanged, and creates none.
 #[test]
 fn touches_no_file_for_refused_keys(rt: HostRuntime) -> Result<(), Fail> {
     let path = path(&rt, "refused")?;
@@ -74,7 +74,7 @@ fn reports_files_that_cannot_be_written(rt: HostRuntime) -> Result<(), Fail> {
     Ok(())
 }
 
-/// Folders inside one another, so that the path to the file has some 3,000 bytes.
+/// Nested folders, so that the path to the file has some 3,000 bytes.
 #[test]
 fn opens_long_paths(rt: HostRuntime) -> Result<(), Fail> {
     let key = Copied {
@@ -98,7 +98,7 @@ fn opens_long_paths(rt: HostRuntime) -> Result<(), Fail> {
     Ok(())
 }
 
-/// What files hold that hold no key, and how they are refused.
+/// Contents of files that aren't keys, and how they are refused.
 static NO_KEYS: [(&[u8], ErrorKind); 5] = [
     (b"", ErrorKind::Truncated),
     (b"\x04\x02\xAA", ErrorKind::Truncated),

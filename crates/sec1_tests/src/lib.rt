@@ -1,7 +1,7 @@
 //! Tests of `sec1` by its public calls: what its contracts can't say, on streams, files, memory and texts, and keys and
 //! points from outside.
 //!
-//! They stand in a crate of their own, so that `sec1` is proved once.
+//! They are in a crate of their own, so that `sec1` is proved once.
 #![tactic(auto)]
 
 #[cfg(test)]

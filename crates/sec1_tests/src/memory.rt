@@ -1,6 +1,6 @@
 //! What is returned while requests for memory are refused, one by one.
 //!
-//! They are refused by `tests/refuse.c`, an allocator that is laid under the built tests. A test speaks to it by
+//! They are refused by `tests/refuse.c`, an allocator that replaces the C library's in the built tests. A test controls it by
 //! requests of sizes that no allocator grants. Without it nothing is refused, and each call is made once.
 use super::reading::whole_key;
 use super::traits::{Copied, asn1};
@@ -24,7 +24,7 @@ static COMPRESSED: &str = "02111111111111111111111111111111111111111111111111111
 enum Outcome {
     /// It returned what it returns with memory to spare.
     Right,
-    /// It was refused for memory, and left all as it promises.
+    /// It returned Memory, and left everything as promised.
     Refused,
     /// Anything else.
     Wrong,
@@ -53,7 +53,7 @@ fn signal(alloc: Global, more: u32) -> bool {
     Vec::<u8>::with_capacity(alloc, (1 << 62) + more as usize).is_ok()
 }
 
-/// Has the request of this number refused, the first from now on being 1. Returns whether there is who refuses it.
+/// Has the request of this number refused, the first from now on being 1. Returns whether the allocator of the tests is there.
 fn refuse(alloc: Global, number: u16) -> bool {
     signal(alloc, u32::from(number))
 }
@@ -69,7 +69,7 @@ fn one_was_refused(alloc: Global) -> bool {
 }
 
 /// Makes the call with its first request refused, with its second, and so on until it makes no more, and prints how
-/// many it makes. Returns whether each of these calls was refused, or right after it had asked for less memory.
+/// many it makes. Returns whether each of these calls was refused, or succeeded after a request for less memory.
 fn is_refused_in_turn<F: FnMut() -> Outcome>(
     rt: &impl Print,
     alloc: Global,
@@ -154,7 +154,7 @@ fn reports_memory_from_writing_calls(rt: HostRuntime) -> std::result::Result<(),
     Ok(())
 }
 
-/// Returns the outcome of reading these bytes off a reader. A refusal leaves the reader behind the bytes it gave.
+/// Returns the outcome of reading these bytes from a reader. On an error the reader is after the bytes it gave.
 fn read_outcome(alloc: Global, bytes: &[u8]) -> Outcome {
     let mut reader = StdReader::new(bytes);
     let result = Copied::read_sec1_der_from(alloc, &mut reader);
@@ -166,7 +166,7 @@ fn read_outcome(alloc: Global, bytes: &[u8]) -> Outcome {
     }
 }
 
-/// Returns the outcome of writing the key. A refusal has written nothing.
+/// Returns the outcome of writing the key. On an error nothing is written.
 fn written_outcome(alloc: Global, key: &Copied) -> Outcome {
     let mut room = [0u8; 121];
     let mut writer = StdWriter::new(room.as_mut_slice());
@@ -182,7 +182,7 @@ fn written_outcome(alloc: Global, key: &Copied) -> Outcome {
 fn reports_memory_from_the_traits(rt: HostRuntime) -> std::result::Result<(), Fail> {
     let alloc = rt.alloc();
     let whole = whole_key(alloc)?;
-    // of a short key there is room for the document before there is for its copy
+    // the document of a short key fits before its copy does
     for bytes in [whole.as_slice(), b"\x04\x01\xAA".as_slice()] {
         let key = Copied::from_sec1_der(alloc, bytes)?;
         assert!(rt;
@@ -205,7 +205,7 @@ fn reports_memory_from_the_traits(rt: HostRuntime) -> std::result::Result<(), Fa
     Ok(())
 }
 
-/// What the opening or the making of a file takes is refused as a failed read or write.
+/// A request of opening or creating a file is refused as a failed read or write.
 fn is_memory_or_io(error: Error) -> bool {
     error == Error::Memory || Some(error) == asn1(ErrorKind::Io)
 }

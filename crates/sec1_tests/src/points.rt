@@ -1,4 +1,4 @@
-//! Points from outside, what is printed of them, and the calls that take memory.
+//! Points from outside, what is printed of them, and the calls that allocate.
 
 ghost use Rattle.std.specs.Prelude.{◌+◌, ◌*◌, ◌%◌, ◌^◌, fold};
 
@@ -46,7 +46,7 @@ static HYBRID: [(&[u8], &[u8]); 4] = [
 
 static NO_ENCODING: [&[u8]; 6] = [&[], &[1], &[5, 7, 0], &[7, 1, 2], &[6, 1, 3], &[8, 1]];
 
-// Each encoding is below the next.
+// Each encoding is less than the next.
 static ORDERED: [&[u8]; 8] = [
     &[0],
     &[2, 0xFF],
@@ -332,7 +332,7 @@ fn orders_points(rt: HostRuntime) -> Result<(), Fail> {
     Ok(())
 }
 
-// The bytes that were fed, up to 15 of them, as the digits behind the first one, 1, of a number in base 256.
+// The bytes that were fed, up to 15 of them, as the digits after the first one, 1, of a number in base 256.
 #[derive(Drop)]
 struct Recorder(u128);
 

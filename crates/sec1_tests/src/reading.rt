@@ -1,4 +1,4 @@
-//! Keys that are read and bytes that are refused, by examples with known answers.
+//! Keys that are read and bytes that are refused, by examples with known results.
 use der::{ErrorKind, FixedTag, ObjectIdentifier};
 use sec1::{ALGORITHM_OID, EcParameters, EcPrivateKey, Error, Result, der};
 use std::alloc::Global;
@@ -25,7 +25,7 @@ fn key_with(alloc: Global, header: &str, parameters: &str) -> std::result::Resul
     Ok(hex::decode(alloc, text.as_str())?)
 }
 
-/// The kind by which the bytes are refused as a key; None where they are one, or the refusal has no kind.
+/// The kind by which the bytes are refused as a key; `None` if they are one, or the error has no kind.
 fn refusal(bytes: &[u8]) -> Option<ErrorKind> {
     match EcPrivateKey::try_from(bytes) {
         Err(Error::Asn1(cause)) => Some(cause.kind),
@@ -50,7 +50,7 @@ fn reads_whole_keys(rt: HostRuntime) -> std::result::Result<(), Fail> {
     assert!(rt; key.parameters == Some(EcParameters::from(p_256)));
     assert_eq!(rt; key.public_key, Some(public_key.as_slice()));
 
-    // without parameters, as it stands inside PKCS#8
+    // without parameters, as inside PKCS#8
     let bytes = key_with(rt.alloc(), "306B", "")?;
     let key = EcPrivateKey::try_from(bytes.as_slice())?;
     assert_eq!(rt; key.private_key, private_key.as_slice());
@@ -129,7 +129,7 @@ static REFUSED: [(&str, ErrorKind); 35] = [
     ("3180", ErrorKind::Tag),
     // a public key with an unused bit
     ("300B0201010400A10403020100", ErrorKind::Value),
-    // a field that stands twice, or in the wrong place
+    // a field that occurs twice, or in the wrong place
     (
         "30110201010400A00406022A03A00406022A03",
         ErrorKind::TrailingData,
@@ -149,18 +149,18 @@ static REFUSED: [(&str, ErrorKind); 35] = [
     ("300C0201010400A00506032A8001", ErrorKind::Value),
     // bytes after the bit string are refused before its unused bits
     ("300D0201010400A106030201000500", ErrorKind::TrailingData),
-    // but after a content that no bit string has
+    // but after a content that isn't a bit string's
     ("300D0201010400A106030201010500", ErrorKind::Value),
     // less than the outer element announces
     ("30840FFFFFFF020101", ErrorKind::Truncated),
-    // a private key that ends behind the outer element
+    // a private key that ends after the outer element
     ("30050201010401AA", ErrorKind::Truncated),
     // fields in another order
     ("30050400020101", ErrorKind::Tag),
     ("30050201011F00", ErrorKind::Tag),
     // bytes after the identifier
     ("300E0201010400A00706022A0306012A", ErrorKind::TrailingData),
-    // an identifier that ends behind its field
+    // an identifier that ends after its field
     ("300B0201010400A00306022A03", ErrorKind::Truncated),
     // identifiers that end too early
     ("30090201010400A0020600", ErrorKind::Value),
@@ -178,7 +178,7 @@ static REFUSED: [(&str, ErrorKind); 35] = [
     ("30FF", ErrorKind::Length),
     ("308201", ErrorKind::Truncated),
     ("308180", ErrorKind::Truncated),
-    // 64 elements inside one another
+    // 64 nested elements
     (
         "307E307C307A30783076307430723070306E306C306A30683066306430623060305E305C305A30583056305430523050304E304C304A30483046304430423040\
          303E303C303A30383036303430323030302E302C302A30283026302430223020301E301C301A30183016301430123010300E300C300A30083006300430023000",

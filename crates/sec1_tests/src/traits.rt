@@ -8,7 +8,7 @@ use std::alloc::Global;
 use std::test::Fail;
 use std::{fs, io};
 
-/// A key that is any bytes. It is written where they are one element.
+/// A key that is any bytes. It is written if they are one element.
 #[derive(Debug, PartialEq, Drop)]
 pub struct Copied {
     pub bytes: Vec<u8>,

@@ -1,4 +1,4 @@
-//! Keys that are written, by examples with known answers.
+//! Keys that are written, by examples with known results.
 use super::reading::whole_key;
 use sec1::der::{self, AnyRef, EncodeValue, ErrorKind, ObjectIdentifier, SliceWriter, Tag};
 use sec1::{EcParameters, EcPrivateKey, Error};
@@ -39,7 +39,7 @@ fn holds_the_encoding_in_documents(rt: HostRuntime) -> Result<(), Fail> {
     Ok(())
 }
 
-/// From a content of 128 bytes on the length has two bytes. The private key, and what stands before it.
+/// From a content of 128 bytes on the length has two bytes. The private key, and the bytes before it.
 static LONG_FORMS: [(usize, &[u8]); 2] = [
     (122, &[0x30, 0x7F, 0x02, 0x01, 0x01, 0x04, 0x7A]),
     (123, &[0x30, 0x81, 0x80, 0x02, 0x01, 0x01, 0x04, 0x7B]),

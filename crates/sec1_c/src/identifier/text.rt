@@ -10,7 +10,7 @@ use arrayvec::ArrayString;
 use itoa::Buffer;
 use sec1::der::ObjectIdentifier;
 
-/// The most bytes of a text: the longest dotted text of an identifier, and a byte 0 behind it.
+/// The greatest length of a text in bytes: that of the longest dotted text of an identifier, and a byte 0.
 const MAX: usize = 158;
 
 /// A text of at most 158 bytes.
@@ -25,8 +25,8 @@ pub fn dotted(identifier: &ObjectIdentifier) -> Text
     first_text(0, identifier.as_bytes())
 }
 
-/// Returns the dotted text of the identifier whose subidentifiers these bytes spell (X.690 section 8.19.2), where the
-/// digits before them spell `high`.
+/// Returns the dotted text of the identifier with these subidentifiers (X.690 section 8.19.2); `high` is the number in the
+/// digits before them.
 #[tactic(auto, using(crate::proofs::TextLemmas::dotted_text, crate::proofs::TextLemmas::joined_length))]
 fn first_text(high: u32, bytes: &[u8]) -> Text
     requires fit { SubidentifiersFit high bytes.now }
@@ -61,7 +61,7 @@ fn first_arcs(number: u32) -> (u32, u32)
     }
 }
 
-/// Appends the arcs that these bytes spell, a full stop in front of each, where the digits before them spell `high`.
+/// Appends the arcs in these bytes, a full stop in front of each; `high` is the number in the digits before them.
 fn push_arcs(text: &mut Text, high: u32, bytes: &[u8])
     requires fit { SubidentifiersFit high bytes.now }
     requires room { length text.old.bytes + length (further_text (numbers_after high bytes.now)) < 158 }

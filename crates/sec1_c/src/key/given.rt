@@ -8,7 +8,7 @@ ghost use Rattle.sec1_c.specs.GivenKeys.{IsCurveOf, IsGiven, public_key_if};
 use sec1::der::ObjectIdentifier;
 use sec1::{EcParameters, EcPrivateKey};
 
-/// Returns the key with these parts. Returns None where `curve` isn't empty, and isn't the content of an identifier.
+/// Returns the key with these parts; `None` if `curve` isn't empty, and isn't the content of an identifier.
 pub fn key_given<'a>(
     private_key: &'a [u8],
     curve: &[u8],
@@ -28,8 +28,7 @@ pub fn key_given<'a>(
     })
 }
 
-/// Returns the parameters that this content names, none where it is empty. Returns None where it isn't the content
-/// of an identifier.
+/// Returns the parameters with this content, none if it is empty; `None` if it isn't the content of an identifier.
 #[tactic(auto, using(crate::proofs::GivenLemmas::no_curve, crate::proofs::GivenLemmas::curve_is))]
 fn curve_given(content: &[u8]) -> Option<Option<EcParameters>>
     ensures found { IfSome result (λ parameters. IsCurveOf content.now (option_map curve_of parameters)) }
@@ -45,7 +44,7 @@ fn curve_given(content: &[u8]) -> Option<Option<EcParameters>>
     }
 }
 
-/// Borrows the bytes of the public key, where `has_public_key` isn't 0.
+/// Borrows the bytes of the public key, if `has_public_key` isn't 0.
 fn public_key_given(bytes: &[u8], has_public_key: usize) -> Option<&[u8]>
     ensures { option_map (λ bytes. bytes.now) result ≡ public_key_if has_public_key bytes.now }
 {

@@ -1,4 +1,4 @@
-//! Where the parts of a key stand: each is found from the end of the bytes, by the lengths of the fields behind it.
+//! The places of a key's parts: each is found from the end of the bytes, by the lengths of the fields after it.
 ghost use Rattle.std.specs.Prelude.{◌≡◌, length};
 ghost use Rattle.std.specs.Option.{option_map};
 ghost use Rattle.sec1.specs.Keys.{IsKeyOf, PublicKeyFits, IsNamedCurve, bytes_of, parameters_field, public_key_field};
@@ -10,7 +10,7 @@ use crate::part::Part;
 use sec1::der::BitStringRef;
 use sec1::{EcParameters, EcPrivateKey, der};
 
-/// Returns where the parts of the key stand in its bytes.
+/// Returns the places of the key's parts in its bytes.
 pub fn places(bytes: &[u8], key: &EcPrivateKey) -> KeyParts
     requires { IsKeyOf key.now bytes.now }
     ensures { result ≡ key_places key.now bytes.now }
@@ -34,7 +34,7 @@ fn curve_len(parameters: &Option<EcParameters>) -> Option<usize>
     }
 }
 
-/// Returns how many bytes these are.
+/// Returns the number of bytes.
 fn bytes_len(bytes: Option<&[u8]>) -> Option<usize>
     ensures { result ≡ option_map (λ bytes. length bytes) (option_map (λ bytes. bytes.now) bytes.entry) }
 {

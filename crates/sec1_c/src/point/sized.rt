@@ -31,7 +31,7 @@ pub fn check<const N: usize, const L: usize>(bytes: &[u8]) -> u32
     }
 }
 
-/// Reads a point, and stores its tag and where its coordinates stand.
+/// Reads a point, and stores its tag and the places of its coordinates.
 pub fn read<const N: usize, const L: usize>(bytes: &[u8], parts: &mut PointParts) -> u32
     requires fits { Fits N L }
     requires small { L < 134 }
@@ -51,7 +51,7 @@ pub fn read<const N: usize, const L: usize>(bytes: &[u8], parts: &mut PointParts
     }
 }
 
-/// Returns the tag of the point, and where its coordinates stand in its encoding.
+/// Returns the tag of the point, and the places of its coordinates in its encoding.
 #[tactic(auto, unfolding(sec1::specs::Points::encoding))]
 fn places<const N: usize, const L: usize>(point: &EncodedPoint<N, L>) -> PointParts
     requires fits { Fits N L }
@@ -137,7 +137,7 @@ pub fn compare<const N: usize, const L: usize>(first: &[u8], second: &[u8], orde
     OK
 }
 
-/// Returns -1, 0 or 1: whether the first point stands below the second, is the same, or stands above it.
+/// Returns -1, 0 or 1: whether the first point is less than the second, the same, or greater.
 fn order_number<const N: usize, const L: usize>(
     first: &EncodedPoint<N, L>,
     second: &EncodedPoint<N, L>,

@@ -8,7 +8,7 @@ use std::alloc::{AllocError, Global};
 use std::io;
 use std::test::Fail;
 
-/// What stands before the private key of keys that have no other part, how many bytes it has, and the report.
+/// The bytes before the private key of keys that have no other part, its length, and the report.
 static KEYS: [(&[u8], usize, &str); 5] = [
     (
         b"\x30\x82\x13\x8F\x02\x01\x01\x04\x82\x13\x88",
@@ -37,7 +37,7 @@ static KEYS: [(&[u8], usize, &str); 5] = [
     ),
 ];
 
-/// Returns these bytes, and so many behind them.
+/// Returns these bytes, followed by so many more.
 fn longer(alloc: Global, front: &[u8], count: usize) -> Result<Vec<u8>, AllocError> {
     let mut bytes = front.to_vec(alloc)?;
     for place in 0..count {

@@ -1,6 +1,6 @@
 //! What a run returns while its requests for memory are refused, one by one.
 //!
-//! They are refused by `tests/refuse.c`, an allocator that is laid under the built tests. A test speaks to it by
+//! They are refused by `tests/refuse.c`, an allocator that replaces the C library's in the built tests. A test controls it by
 //! requests of sizes that no allocator grants. Without it nothing is refused, and each call is made once.
 use super::{KEY, KEY_REPORT};
 use crate::{Fault, run, run_der};
@@ -13,7 +13,7 @@ use std::test::Fail;
 enum Outcome {
     /// It returned what it returns with memory to spare.
     Right,
-    /// It was refused for memory, and left all as it promises.
+    /// It returned Memory, and left everything as promised.
     Refused,
     /// Anything else.
     Wrong,
@@ -42,7 +42,7 @@ fn signal(alloc: Global, more: u32) -> bool {
     Vec::<u8>::with_capacity(alloc, (1 << 62) + more as usize).is_ok()
 }
 
-/// Has the request of this number refused, the first from now on being 1. Returns whether there is who refuses it.
+/// Has the request of this number refused, the first from now on being 1. Returns whether the allocator of the tests is there.
 fn refuse(alloc: Global, number: u16) -> bool {
     signal(alloc, u32::from(number))
 }
@@ -58,7 +58,7 @@ fn one_was_refused(alloc: Global) -> bool {
 }
 
 /// Makes the call with its first request refused, with its second, and so on until it makes no more, and prints how
-/// many it makes. Returns whether each of these calls was refused, or right after it had asked for less memory.
+/// many it makes. Returns whether each of these calls was refused, or succeeded after a request for less memory.
 fn is_refused_in_turn<F: FnMut() -> Outcome>(
     rt: &impl Print,
     alloc: Global,
@@ -87,7 +87,7 @@ fn is_refused_in_turn<F: FnMut() -> Outcome>(
     false
 }
 
-/// Returns the outcome of a run over the key. A refusal has written nothing, and leaves the reader behind the bytes
+/// Returns the outcome of a run over the key. On an error nothing is written, and the reader is after the bytes
 /// it gave.
 fn run_outcome(alloc: Global, input: &[u8], is_der: bool) -> Outcome {
     let mut room = [0u8; 220];
