@@ -1,5 +1,5 @@
 //! Reading and writing values of any type, by their whole DER encoding.
-ghost use Rattle.std.specs.Prelude.{◌≡◌, ◌≢◌, ◌<◌, ◌≤◌, ◌+◌, ◌⊎◌, [], ◌++◌, ℕ, List, length, drop, Option, Some, None, slice_get, IsOk, IfOk};
+ghost use Rattle.std.specs.Prelude.{◌≡◌, ◌≢◌, ◌<◌, ◌≤◌, ◌+◌, ◌⊎◌, ◌↔◌, [], ◌++◌, ℕ, List, length, drop, Option, Some, None, slice_get, IsOk, IfOk};
 ghost use Rattle.std.specs.Prelude.{IsOkAnd, IfErr, OnOk, OnErr, IsSomeAnd, MatchResult};
 ghost use Rattle.std.specs.Option.{option_map};
 ghost use Rattle.sec1_der.specs.Elements.{max_length, element, element_of, field_of, IsTag, IsElementOf, IsProperBeginning, explicit_tag};
@@ -153,8 +153,7 @@ pub fn to_der<T: EncodeValue + FixedTag>(alloc: Global, value: &T) -> Result<Vec
 ///
 /// Buffer if they don't.
 pub(crate) fn check_room(count: usize, room: usize) -> Result<()>
-    ensures fits { OnOk result (count ≤ room) }
-    ensures full { OnErr result (room < count) }
+    ensures within { IsOk result ↔ (count ≤ room) }
     ensures kind { IfErr result (λ e. e.kind ≡ ErrorKind.Buffer) }
 {
     if room < count {

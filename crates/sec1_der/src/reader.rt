@@ -226,8 +226,7 @@ impl<'a> SliceReader<'a> {
     ///
     /// Failed if it has.
     pub(crate) fn check(&self) -> Result<()>
-        ensures whole { OnOk result (self.now.failed ≡ false) }
-        ensures failed { IsErr result → self.now.failed ≡ true }
+        ensures within { IsOk result ↔ (self.now.failed ≡ false) }
         ensures kind { IfErr result (λ e. e.kind ≡ ErrorKind.Failed) }
     {
         if self.failed {
