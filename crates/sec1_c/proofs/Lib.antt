@@ -1,6 +1,5 @@
 pub mod FieldLemmas
 pub mod GivenLemmas
-pub mod PartLemmas
 pub mod PlaceLemmas
 pub mod PointLemmas
 pub mod SubidentifierLemmas
