@@ -18,9 +18,9 @@ parameters_counted None curve = refl
 parameters_counted (Some p) curve =
     let content = content_of (curve_of p) in
     let few = length-header 0x06 (length content) (omega (arith, curve.short)) in
-    rw (identifier_content-valid (curve_of p) content curve) (grind (arith, nat_tests, length-append {A = ℕ}, append-nil {A = ℕ}, curve.short))
+    rw (identifier_content-valid (curve_of p) content curve) (grind (arith, nat_tests, length-append, append-nil, curve.short))
 
 -- the public key has the field [1]
 pub public_key_counted : (bytes : List ℕ) → PublicKeyFits (Some bytes)
     → field_of 1 0x03 (Some (Some (0 ∷ bytes))) ≡ Some (bytes_of (public_key_field (Some bytes)))
-public_key_counted bytes room = grind (arith, nat_tests, length-append {A = ℕ}, append-nil {A = ℕ})
+public_key_counted bytes room = grind (arith, nat_tests, length-append, append-nil)

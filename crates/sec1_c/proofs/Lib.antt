@@ -1,5 +1,4 @@
 pub mod FieldLemmas
-pub mod GivenLemmas
 pub mod PlaceLemmas
 pub mod PointLemmas
 pub mod SubidentifierLemmas

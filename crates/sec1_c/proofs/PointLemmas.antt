@@ -17,4 +17,4 @@ pub are_point_parts : (n : ℕ) (p : Point) (input : List ℕ) → Encodes n p i
 unfolding encoding
 are_point_parts n p input e =
     let behind = drop-append-add (tag_byte p ∷ []) (coordinate_bytes n p) n in
-    grind (arith, take_at {A = ℕ}, drop_at {A = ℕ}, take_all {A = ℕ}, length-append {A = ℕ}, length-fixed_width)
+    grind (arith, take_at, drop_at, take_all, length-append, length-fixed_width)

@@ -6,7 +6,7 @@ use Rattle.sec1_der.specs.ArcsOf.{arcs_of}
 use Rattle.sec1_der.specs.Identifiers.{IsIdentifier}
 use Rattle.sec1_c.specs.Subidentifiers.{SubidentifiersFit}
 
--- bytes that go on a spelling fit
+-- the subidentifiers of bytes that go on a spelling fit
 goes_on-fit : (high : ℕ) (bytes : List ℕ) → goes_on high bytes ≡ true → SubidentifiersFit high bytes
 goes_on-fit high [] goes = tt
 goes_on-fit high (b ∷ bs) goes = grind (arith, nat_tests, goes_on-fit 0 bs, goes_on-fit (high * 128 + b % 128) bs)

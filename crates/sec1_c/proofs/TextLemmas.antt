@@ -6,7 +6,7 @@ use Rattle.std.proofs.lemmas.List.{append-nil, length-map}
 use Rattle.std.proofs.lemmas.Str.{IsAscii-append, IsUtf8-from_ascii}
 use Rattle.std.proofs.lemmas.Str.Ascii.{IsAscii-cons}
 use Rattle.std.specs.Fmt.{decimal}
-use Rattle.std.specs.Int.Digits.{digits_of, number_from_digits, AllBelowBase}
+use Rattle.std.specs.Int.Digits.{number_from_digits, AllBelowBase}
 use Rattle.std.specs.List.{AllByRecursion, flat_map}
 use Rattle.std.specs.Str.{IsAscii, IsUtf8}
 use Rattle.sec1_der.specs.Identifiers.{AreArcs, IsIdentifier, dotted}
@@ -23,11 +23,10 @@ pub ruleset text_pieces = (dotted_text, length-append, append_assoc)
 
 -- ---- the room that a text takes
 
--- a full stop and an arc are at most four times as long as the number that spells the arc, or a larger one
+-- a full stop and the digits of m are at most four times as many as the base 128 digits of n, where m isn't larger
 arc_room : (m n : ℕ) → m ≤ n → n < 2 ^ 32 → 1 + length (decimal m) ≤ 4 * length (base128 n)
 arc_room m n le fits =
-    let digits = digits_of 128 (n / 128) in
-    simp (length-append, length-map) (few digits (all_below_base_digits_of 128 (n / 128) (omega arith)) (number_digits_of 128 (n / 128) (omega arith)))
+    simp (length-append, length-map) (few _ (all_below_base_digits_of 128 (n / 128) (omega arith)) (number_digits_of 128 (n / 128) (omega arith)))
   where
     few : (digits : List ℕ) → AllBelowBase 128 digits → number_from_digits 128 digits ≡ n / 128 → 1 + length (decimal m) ≤ 4 * (length digits + 1)
     few [] below whole = omega (arith, length-decimal-le 3 m)
@@ -35,20 +34,19 @@ arc_room m n le fits =
     few (d ∷ e ∷ []) below whole = omega (arith, length-decimal-le 7 m)
     few (d ∷ e ∷ f ∷ ds) below whole = omega (arith, length-decimal-le 10 m)
 
--- the text of further arcs is at most four times as long as their content
+-- the text of m and further arcs is at most four times as long as the content of n and these, where m isn't larger
 further_room : (m n : ℕ) (ns : List ℕ) → m ≤ n → AllByRecursion (λ n. n < 2 ^ 32) (n ∷ ns)
     → length (further_text (m ∷ ns)) ≤ 4 * length (flat_map base128 (n ∷ ns))
-further_room m n [] le small = grind (arith, append-nil {A = ℕ}, arc_room m n le small.0)
-further_room m n (k ∷ ks) le small = grind (arith, length-append {A = ℕ}, arc_room m n le small.0, further_room k k ks (omega arith) small.1)
+further_room m n [] le small = grind (arith, append-nil, arc_room m n le small.0)
+further_room m n (k ∷ ks) le small = grind (arith, length-append, arc_room m n le small.0, further_room k k ks (omega arith) small.1)
 
 -- the text of an identifier is shorter than 158 bytes
 pub text_room : (arcs content : List ℕ) → IsIdentifier arcs content → length (dotted arcs) < 158
 text_room (a ∷ b ∷ further) content is =
     let allowed = is.spells.allowed in
-    let first = length-decimal-le 1 a (omega arith) (omega (arith, allowed.0)) (omega (arith, allowed.0)) in
     let others = further_room b (40 * a + b) further (omega arith) (allowed.2, allowed.3) in
     let short = rw is.spells.spelled at is.short in
-    rw (dotted_text a (b ∷ further), length-append) (omega arith)
+    rw (dotted_text a (b ∷ further), length-append) (omega (arith, allowed.0, length-decimal-le 1 a))
 text_room arcs content is = absurd is.spells.allowed
 
 -- ---- the text is UTF-8

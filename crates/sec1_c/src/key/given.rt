@@ -30,7 +30,6 @@ pub fn key_given<'a>(
 
 /// Returns the parameters that this content names, none where it is empty. Returns None where it isn't the content
 /// of an identifier.
-#[tactic(auto, using(crate::proofs::GivenLemmas::no_curve, crate::proofs::GivenLemmas::curve_is))]
 fn curve_given(content: &[u8]) -> Option<Option<EcParameters>>
     ensures found { IfSome result (λ parameters. IsCurveOf content.now (option_map curve_of parameters)) }
     ensures only { (parameters : Option (List ℕ)) → IsCurveOf content.now parameters
