@@ -1,5 +1,5 @@
--- The fields of a key, as they are counted.
-use Rattle.std.proofs.Common.{◌≡◌, ◌∷◌, ℕ, List, length, Option, Some, None, refl, arith, length-append}
+-- The field of the parameters of a key, as it is counted.
+use Rattle.std.proofs.Common.{◌≡◌, length, Option, Some, None, refl, arith, length-append}
 use Rattle.std.proofs.lemmas.Bool.Decides.{nat_tests}
 use Rattle.std.proofs.lemmas.List.{append-nil}
 use Rattle.std.specs.Option.{option_map}
@@ -8,10 +8,10 @@ use Rattle.sec1_der.specs.Elements.{field_of}
 use Rattle.sec1_der.specs.Identifiers.{content_of, identifier_content}
 use Rattle.sec1_der.specs.IdentifierLaws.{identifier_content-valid}
 use Rattle.sec1.specs.declared.parameters.EcParameters.{EcParameters}
-use Rattle.sec1.specs.Keys.{parameters_field, public_key_field, IsNamedCurve, PublicKeyFits, bytes_of}
+use Rattle.sec1.specs.Keys.{parameters_field, IsNamedCurve, bytes_of}
 use Rattle.sec1.specs.Parameters.{curve_of}
 
--- the parameters have the field [0]
+-- parameters that name a curve have the field [0]
 pub parameters_counted : (parameters : Option EcParameters) → IsNamedCurve (option_map curve_of parameters)
     → field_of 0 0x06 (option_map (λ p. identifier_content (curve_of p)) parameters) ≡ Some (bytes_of (parameters_field (option_map curve_of parameters)))
 parameters_counted None curve = refl
@@ -19,8 +19,3 @@ parameters_counted (Some p) curve =
     let content = content_of (curve_of p) in
     let few = length-header 0x06 (length content) (omega (arith, curve.short)) in
     rw (identifier_content-valid (curve_of p) content curve) (grind (arith, nat_tests, length-append, append-nil, curve.short))
-
--- the public key has the field [1]
-pub public_key_counted : (bytes : List ℕ) → PublicKeyFits (Some bytes)
-    → field_of 1 0x03 (Some (Some (0 ∷ bytes))) ≡ Some (bytes_of (public_key_field (Some bytes)))
-public_key_counted bytes room = grind (arith, nat_tests, length-append, append-nil)
