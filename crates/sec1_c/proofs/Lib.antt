@@ -1,6 +1,4 @@
 pub mod FieldLemmas
-pub mod GivenLemmas
-pub mod PartLemmas
 pub mod PlaceLemmas
 pub mod PointLemmas
 pub mod SubidentifierLemmas

@@ -44,6 +44,7 @@ pub extern "C" fn sec1_identifier_to_text(content: &[u8], text: &mut [u8], len: 
 /// Returns the number of Buffer if `content` is too short, and stores the length; or that of Value if `text`
 /// isn't the text of an identifier, and leaves `len` unchanged. `content` is unchanged in both cases.
 #[unsafe(no_mangle)]
+#[tactic(auto, using(crate::proofs::TextLemmas::dotted_utf8))]
 pub extern "C" fn sec1_identifier_from_text(text: &[u8], content: &mut [u8], len: &mut usize) -> u32
     ensures identifier { (arcs : List ℕ) → IsTextOf arcs text.now
         → Writes (content_of arcs) content.old content.new result len.new }

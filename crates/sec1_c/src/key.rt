@@ -39,7 +39,7 @@ pub struct KeyParts {
 /// or the element around a part, end too early; Tag if another tag is expected; Length if a length isn't in the form of
 /// DER; Value if a content isn't valid for its tag; TrailingData if bytes follow the last part.
 #[unsafe(no_mangle)]
-#[tactic(auto, using(crate::proofs::PlaceLemmas::are_parts, crate::proofs::GivenLemmas::parts_within, crate::proofs::GivenLemmas::parts_again))]
+#[tactic(auto, using(crate::proofs::PlaceLemmas::are_parts, crate::proofs::PlaceLemmas::parts_within))]
 pub extern "C" fn sec1_key_read(bytes: &[u8], parts: &mut KeyParts) -> u32
     ensures accepted { (key : Key) → IsKeyOf key bytes.now → result ≡ 0 }
     ensures parts { (key : Key) → IsKeyOf key bytes.now → ArePartsOf key bytes.now parts.new }

@@ -27,7 +27,7 @@ pub fn dotted(identifier: &ObjectIdentifier) -> Text
 
 /// Returns the dotted text of the identifier with these subidentifiers (X.690 section 8.19.2); `high` is the number in the
 /// digits before them.
-#[tactic(auto, using(crate::proofs::TextLemmas::dotted_text, crate::proofs::TextLemmas::joined_length))]
+#[tactic(auto, using(crate::proofs::TextLemmas::text_pieces))]
 fn first_text(high: u32, bytes: &[u8]) -> Text
     requires fit { SubidentifiersFit high bytes.now }
     requires room { length (dotted (arcs_of_numbers (numbers_after high bytes.now))) < 158 }

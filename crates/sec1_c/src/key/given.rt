@@ -29,7 +29,6 @@ pub fn key_given<'a>(
 }
 
 /// Returns the parameters with this content, none if it is empty; `None` if it isn't the content of an identifier.
-#[tactic(auto, using(crate::proofs::GivenLemmas::no_curve, crate::proofs::GivenLemmas::curve_is))]
 fn curve_given(content: &[u8]) -> Option<Option<EcParameters>>
     ensures found { IfSome result (λ parameters. IsCurveOf content.now (option_map curve_of parameters)) }
     ensures only { (parameters : Option (List ℕ)) → IsCurveOf content.now parameters

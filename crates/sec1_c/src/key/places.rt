@@ -57,7 +57,6 @@ fn parameters_field_len(parameters: &Option<EcParameters>) -> usize
 }
 
 /// Returns the length in bytes of the field `[1]`.
-#[tactic(auto, using(crate::proofs::FieldLemmas::public_key_counted, crate::proofs::FieldLemmas::bits_fit))]
 fn public_key_field_len(public_key: Option<&[u8]>) -> usize
     requires { PublicKeyFits (option_map (λ bytes. bytes.now) public_key) }
     ensures { result ≡ length (bytes_of (public_key_field (option_map (λ bytes. bytes.now) public_key.entry))) }
