@@ -24,9 +24,7 @@ unique_required tag content rest one two x y a b bytes e f =
     let q = parted (element_of tag (content y)) (rest b) bytes f in
     let s = element_of-some tag (content x) p.front p.first_there in
     let t = element_of-some tag (content y) q.front q.first_there in
-    let left : bytes ≡ element tag s.inside ++ p.back = p.joined ∙ ap (λ xs. xs ++ p.back) s.at.spelled in
-    let right : bytes ≡ element tag t.inside ++ q.back = q.joined ∙ ap (λ xs. xs ++ q.back) t.at.spelled in
-    let apart = element_apart tag tag s.inside t.inside p.back q.back (sym left ∙ right) in
+    let apart = element_apart tag tag s.inside t.inside p.back q.back (cc (p.joined, q.joined, s.at.spelled, t.at.spelled)) in
     (one x y s.inside s.same (rw apart.1 t.same), two a b p.back p.second_there (rw apart.2 q.second_there))
 
 -- two elements of one tag that have one content are the same

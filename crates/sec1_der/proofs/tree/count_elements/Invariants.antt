@@ -1,5 +1,4 @@
-use Rattle.sec1_der.proofs.CheckLemmas.{measure}
-use Rattle.sec1_der.proofs.TreeRefusals.{Walks}
+use Rattle.sec1_der.proofs.CheckLemmas.{Walks, measure}
 use Rattle.sec1_der.proofs.tree.count_elements.Given as goal
 
 abbrev pub invariant-loop-nodes : goal.invariant-loop-nodes
