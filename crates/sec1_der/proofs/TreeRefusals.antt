@@ -2,10 +2,11 @@
 use Rattle.std.proofs.Common.{◌≡◌, ℕ, zero, suc, ◌+◌, ◌-◌, ◌<◌, ◌≤◌, if◌then◌else◌, nat_lt, bit_and, List, [], ◌∷◌, ◌++◌, length, take, drop}
 use Rattle.std.proofs.Common.{Option, Some, None, ◌⊎◌, ⊎_elim, refl, ap, sym, ◌∙◌, arith}
 use Rattle.std.proofs.Math.Seq.{take-append-add, drop-append-add}
-use Rattle.std.proofs.lemmas.Bool.{lt-ltb, le-ltb, ne_eqb, eq-eqb, cases_eq}
+use Rattle.std.proofs.lemmas.Bool.{lt-ltb, le-ltb, ne_eqb}
+use Rattle.std.proofs.lemmas.Bool.Decides.{nat_tests}
 use Rattle.std.proofs.lemmas.List.{take_all, length-append, length-take, length-take-le, length-drop, append_assoc, take-append-drop}
 use Rattle.std.specs.Option.{option_or}
-use Rattle.sec1_der.specs.Elements.{length_octets, element, IsHeader}
+use Rattle.sec1_der.specs.Elements.{length_octets, element, IsConstructed, IsHeader}
 use Rattle.sec1_der.specs.Refusals.{Fault, end_fault, any_fault, nested_fault, row_fault, tree_fault}
 use Rattle.sec1_der.specs.Trees.{Tree, leaf, branch, none, first, bytes}
 use Rattle.sec1_der.specs.Walks.{IsSingle, innermost, Skips, Opens, IsTooDeep}
@@ -13,6 +14,10 @@ use Rattle.sec1_der.specs.declared.tree.TheConstants.{MAX_DEPTH}
 use Rattle.sec1_der.specs.declared.error.ErrorKind.{ErrorKind}
 use Rattle.sec1_der.specs.declared.error.ErrorKind.TheVariants.{Depth}
 use Rattle.sec1_der.proofs.RefusalLemmas.{any_at}
+
+-- the content of a leaf isn't refused
+pub leaf_passes : (f : Fault) (tag : ℕ) (content : List ℕ) → ¬ IsConstructed tag → nested_fault f tag content ≡ None
+leaf_passes f tag content plain = grind (arith, nat_tests)
 
 -- ---- a bound on the recursion
 
@@ -98,10 +103,8 @@ element_passed ends rest after p = by p.tree p.single p.row
   where
     by : (t : Tree) → IsSingle t → rest ≡ bytes t ++ after → next_fault ends rest ≡ open_fault ends after
     by (leaf tag content) single is =
-        next_element ends rest after tag content (record { tag_byte = single.tree.0; within = single.tree.2 }) is p.fits ∙ ⊎_elim
-        (λ zero. rw (eq-eqb (bit_and tag 0x20) 0 zero) refl)
-        (λ constructed. absurd (single.tree.1 constructed))
-        (cases_eq (bit_and tag 0x20) 0)
+        next_element ends rest after tag content (record { tag_byte = single.tree.0; within = single.tree.2 }) is p.fits
+        ∙ rw (leaf_passes (row_at (length ends + 2)) tag content single.tree.1) refl
     by (branch tag none) single is =
         next_element ends rest after tag [] (record { tag_byte = single.tree.0; within = single.tree.2 }) is p.fits
         ∙ rw (ne_eqb (bit_and tag 0x20) 0 single.tree.1) refl
