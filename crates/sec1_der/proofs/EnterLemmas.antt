@@ -11,32 +11,35 @@ use Rattle.sec1_der.specs.Walks.{IsSingle, innermost, Skips, Opens}
 abbrev pub IsInFront : List ℕ → List ℕ → ℕ → ℕ → ℕ → Type 0
 IsInFront rest inside tag n end = IsHeader tag n × (take (length rest - end) rest ≡ header tag n ++ inside) × (n ≤ length inside)
 
--- the slice from a start on is what stands behind the front, where the bytes before the end begin with that
-from_start : (rest front inside : List ℕ) (room start : ℕ) → take room rest ≡ front ++ inside → start ≡ length front
-    → rest ≡ front ++ take (length rest - start) (drop start rest)
-from_start rest front inside room start e l =
+-- what is inside is no longer than all before the end
+pub inside_within : (rest front inside : List ℕ) (room : ℕ) → take room rest ≡ front ++ inside → length inside ≤ room
+inside_within rest front inside room e = omega (arith, ap length e, length-append front inside, length-take room rest)
+
+-- the slice from a start on stands behind the front, where the bytes before the end begin with that, and goes on to the end
+from_start : (rest front inside : List ℕ) (end start : ℕ) → end ≤ length rest → take (length rest - end) rest ≡ front ++ inside
+    → start + length inside ≡ length rest - end
+    → (rest ≡ front ++ take (length rest - start) (drop start rest)) × (length (take (length rest - start) (drop start rest)) ≡ length inside + end)
+from_start rest front inside end start within e l =
+    let room = length rest - end in
     let row : rest ≡ front ++ (inside ++ drop room rest) =
     sym (take-append-drop room rest) ∙ (ap (λ xs. xs ++ drop room rest) e ∙ append_assoc front inside (drop room rest)) in
-    row ∙ ap (λ xs. front ++ xs) (sym (take_rest rest start ∙ (ap (drop start) row ∙ drop_at front (inside ++ drop room rest) start (sym l))))
-
--- the bytes before the end are the front and what is inside
-pub front_lengths : (rest front inside : List ℕ) (room : ℕ) → take room rest ≡ front ++ inside → room ≤ length rest → length inside + length front ≡ room
-front_lengths rest front inside room e fits = omega (arith, ap length e, length-append front inside, length-take-le room rest fits)
+    let count : length front ≡ start = omega (arith, ap length e, length-append front inside, length-take-le room rest (omega arith)) in
+    (row ∙ ap (λ xs. front ++ xs) (sym (take_rest rest start ∙ (ap (drop start) row ∙ drop_at front (inside ++ drop room rest) start count))),
+    omega (arith, length-take (length rest - start) (drop start rest), length-drop start rest))
 
 -- the header of a node with a content
 pub opens_at : (rest inside ends : List ℕ) (tag n end m : ℕ) → IsInFront rest inside tag n end → end ≤ length rest → end ≡ innermost ends → m ≡ n
     → 0 < n → IsConstructed tag
     → Opens ends rest (end + length inside - m) (take (length rest - (length rest - end - length inside)) (drop (length rest - end - length inside) rest))
 opens_at rest inside ends tag n end m f within is same some constructed =
-    let start = length rest - end - length inside in
-    let front = front_lengths rest (header tag n) inside (length rest - end) f.1 (omega arith) in
-    let row = from_start rest (header tag n) inside (length rest - end) start f.1 (omega arith) in
-    let behind = length-append (header tag n) (take (length rest - start) (drop start rest)) in
-    let ends_at : end + length inside - m + n ≡ length (take (length rest - start) (drop start rest)) = omega (arith, f.2, ap length row) in
+    let few = inside_within rest (header tag n) inside (length rest - end) f.1 in
+    let (row, behind) = from_start rest (header tag n) inside end (length rest - end - length inside) within f.1 (omega arith) in
     record {
       tag = tag;
       n = n;
-      opening = record { tag_byte = f.0.tag_byte; constructed = constructed; some = some; within = f.0.within; row = row; ends = ends_at };
+      opening = record {
+        tag_byte = f.0.tag_byte; constructed = constructed; some = some; within = f.0.within; row = row; ends = omega (arith, f.2, behind)
+      };
       fits = omega (arith, f.2);
     }
 
@@ -59,18 +62,12 @@ pub passes_at : (rest inside ends : List ℕ) (tag n end m : ℕ) → IsInFront 
     → ¬ IsConstructed tag ⊎ (n ≡ 0)
     → Skips ends rest (take (length rest - (length rest - end - length inside + m)) (drop (length rest - end - length inside + m) rest))
 passes_at rest inside ends tag n end m f within is same which =
-    let start = length rest - end - length inside + m in
     let content = take n inside in
     let size : length content ≡ n = length-take-le n inside f.2 in
     let t = single_tree tag content (rw size f.0) (rw size which) in
     let split : header tag n ++ inside ≡ element tag content ++ drop n inside =
     rw (size, append_assoc (header tag n) content (drop n inside), take-append-drop n inside) refl in
-    let front = front_lengths rest (header tag n) inside (length rest - end) f.1 (omega arith) in
-    let all = front_lengths rest (element tag content) (drop n inside) (length rest - end) (f.1 ∙ split) (omega arith) in
-    let row = from_start rest (element tag content) (drop n inside) (length rest - end) start (f.1 ∙ split) (omega (arith, f.2, length-drop n inside)) in
-    record {
-      tree = t.0;
-      single = t.1;
-      row = rw (t.2) row;
-      fits = omega (arith, f.2, ap length row, length-append (element tag content) (take (length rest - start) (drop start rest)), length-drop n inside);
-    }
+    let few = inside_within rest (header tag n) inside (length rest - end) f.1 in
+    let (row, behind) = from_start rest (element tag content) (drop n inside) end (length rest - end - length inside + m) within (f.1 ∙ split)
+        (omega (arith, f.2, length-drop n inside)) in
+    record { tree = t.0; single = t.1; row = rw (t.2) row; fits = omega (arith, behind) }

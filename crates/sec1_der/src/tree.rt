@@ -139,7 +139,7 @@ impl OpenNodes {
 
     /// Skips the next element, or opens it if it contains elements. Returns the bytes after the element, or after its header.
     #[inline(always)]
-    #[tactic(auto, using(crate::proofs::EnterLemmas::front_lengths))]
+    #[tactic(auto, using(crate::proofs::EnterLemmas::inside_within))]
     fn enter<'a>(&mut self, rest: &'a [u8]) -> Result<&'a [u8]>
         requires { innermost self.old ≤ length rest.now }
         ensures found { IfOk result (λ after. Enters self.old rest.now self.new after.now) }
