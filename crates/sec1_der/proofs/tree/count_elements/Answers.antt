@@ -2,7 +2,8 @@ use Rattle.std.proofs.Common.{◌≡◌, ◌∙◌, sym, refl, [], length}
 use Rattle.std.proofs.lemmas.Bool.{false≢true, eqb-true}
 use Rattle.std.proofs.lemmas.Result.{err_from_is_err_and}
 use Rattle.std.proofs.lemmas.List.{nil_from_length}
-use Rattle.sec1_der.proofs.CheckLemmas.{root_next, child_next, entered, refused, closed, tree_read, shorter}
+use Rattle.sec1_der.proofs.CheckLemmas.{root_next, child_next, entered, closed, tree_read}
+use Rattle.sec1_der.proofs.TreeRefusals.{next_refused}
 use Rattle.sec1_der.proofs.tree.count_elements.Goals as goal
 
 pub loop-nodes-init : goal.loop-nodes-init
@@ -11,9 +12,6 @@ loop-nodes-init c = entered (root_next c.args.input.now c.new-nodes.result c.new
 pub loop-nodes-preserved-then-rest-end : goal.loop-nodes-preserved-then-rest-end
 loop-nodes-preserved-then-rest-end c =
     closed c.loop-nodes.invariant (λ empty. false≢true (c.loop-nodes-test.ensures.1 empty)) c.close.ensures (c.if-rest-end.true ∙ c.end.ensures)
-
-pub loop-nodes-smaller : goal.loop-nodes-smaller
-loop-nodes-smaller c = shorter c.loop-nodes.nodes c.loop-nodes.rest.now c.enter-else-rest-end.new.self c.in_ok-rest-2.rest.now c.in_ok-rest-2.ensures.found
 
 pub loop-nodes-preserved : goal.loop-nodes-preserved
 loop-nodes-preserved c =
@@ -28,11 +26,11 @@ pub returns-in_err-rest-clause-kind : goal.returns-in_err-rest-clause-kind
 returns-in_err-rest-clause-kind c =
     let next = root_next c.args.input.now c.new-nodes.result c.new-nodes.ensures in
     let refusal = err_from_is_err_and c.from_residual.result c.from_residual.ensures.1 in
-    rw (refusal.1, refusal.2) (refused c.in_err-rest.field-0.0.kind next c.in_err-rest.ensures.deep c.in_err-rest.ensures.refusal)
+    rw (refusal.1, refusal.2) (next.fault_is ∙ next_refused _ _ c.in_err-rest.field-0.0.kind c.in_err-rest.ensures.deep c.in_err-rest.ensures.refusal)
 
 pub returns-in_err-rest-2-clause-kind : goal.returns-in_err-rest-2-clause-kind
 returns-in_err-rest-2-clause-kind c =
     let some = λ (empty : c.loop-nodes.nodes ≡ []). false≢true (c.loop-nodes-test.ensures.1 empty) in
     let next = child_next c.loop-nodes.invariant some (λ same. c.if-rest-end.false (same ∙ sym c.end.ensures)) in
     let refusal = err_from_is_err_and c.from_residual-in_err-rest-2.result c.from_residual-in_err-rest-2.ensures.1 in
-    rw (refusal.1, refusal.2) (refused c.in_err-rest-2.field-0.0.kind next c.in_err-rest-2.ensures.deep c.in_err-rest-2.ensures.refusal)
+    rw (refusal.1, refusal.2) (next.fault_is ∙ next_refused _ _ c.in_err-rest-2.field-0.0.kind c.in_err-rest-2.ensures.deep c.in_err-rest-2.ensures.refusal)
