@@ -1,10 +1,8 @@
 -- The lengths of headers and elements, and what the elements and fields of values are.
-use Rattle.std.specs.Prelude.{◌≡◌, ℕ, ◌+◌, ◌≤◌, Bool, true, false, nat_lt, nat_le, List, ◌∷◌, length, Option, Some, None, if◌then◌else◌, refl}
-use Rattle.std.specs.Int.Digits.{digits_of}
-use Rattle.std.proofs.Common.{arith, [], length-append, ⊎_elim}
+use Rattle.std.proofs.Common.{◌≡◌, ℕ, ◌+◌, ◌≤◌, nat_lt, List, [], ◌∷◌, length, Option, Some, None, refl, arith, length-append, ⊎_elim}
 use Rattle.std.proofs.lemmas.Bool.{le-leb, lt-leb, cond_both, cases_lt}
 use Rattle.std.proofs.lemmas.Int.Digits.{length-digits_of-le}
-use Rattle.sec1_der.specs.Elements.{max_length, length_octets, header, element, IsElementOf, IsOverlong, element_of}
+use Rattle.sec1_der.specs.Elements.{max_length, length_octets, header, element, IsElementOf, element_of}
 
 -- a length is spelled in at most five bytes
 pub length-len : (n : ℕ) → n ≤ max_length → length (length_octets n) ≤ 5

@@ -1,7 +1,6 @@
 -- The components of two values with one content are the same.
-use Rattle.std.proofs.Common.{◌≡◌, ◌+◌, [], ◌++◌, ℕ, List, Option, Some, None, ap, sym, ◌∙◌, refl}
+use Rattle.std.proofs.Common.{◌≡◌, ◌≢◌, ◌+◌, [], ◌++◌, ℕ, List, Option, Some, None, slice_get, ap, refl, arith}
 use Rattle.std.specs.Option.{option_map}
-use Rattle.std.specs.Prelude.{◌≢◌, slice_get}
 use Rattle.sec1_der.proofs.ComponentLemmas.{parted}
 use Rattle.sec1_der.specs.Components.{join}
 use Rattle.sec1_der.proofs.ElementLemmas.{element_of-some}
@@ -35,8 +34,7 @@ unique_inside tag content one a b bytes e f =
 
 -- a row without its OPTIONAL component is the rest
 without : (rest : Option (List ℕ)) (bytes : List ℕ) → join (Some []) rest ≡ Some bytes → rest ≡ Some bytes
-without None bytes e = absurd (cc e)
-without (Some xs) bytes e = e
+without rest bytes e = grind arith
 
 -- a row with its OPTIONAL component begins with its tag
 begins : (n tag : ℕ) (x rest : Option (List ℕ)) (bytes : List ℕ) → join (field_of n tag (Some x)) rest ≡ Some bytes → slice_get bytes 0 ≡ Some (0xA0 + n)
