@@ -1,13 +1,11 @@
 -- The states of the walk over a tree's bytes, and its steps.
-use Rattle.std.proofs.Common.{◌≡◌, ◌≢◌, ℕ, suc, ◌+◌, ◌-◌, ◌*◌, ◌<◌, ◌≤◌, List, [], ◌∷◌, ◌++◌, length, take, drop, Some, ◌⊎◌, refl, ap, sym, ◌∙◌}
+use Rattle.std.proofs.Common.{◌≡◌, ◌≢◌, ℕ, suc, ◌+◌, ◌-◌, ◌<◌, ◌≤◌, List, [], ◌∷◌, ◌++◌, length, take, drop, refl, ap, sym, ◌∙◌}
 use Rattle.std.proofs.Common.{subst, arith, ⊎_elim}
 use Rattle.std.proofs.lemmas.List.{append_assoc, append-nil, length-append, length-take-le}
 use Rattle.sec1_der.specs.Elements.{header}
-use Rattle.sec1_der.specs.Refusals.{Fault, any_fault, tree_fault}
+use Rattle.sec1_der.specs.Refusals.{tree_fault}
 use Rattle.sec1_der.specs.Trees.{Tree, branch, Forest, none, first, bytes, joined, IsTree, AreTrees, IsTreeOf, size, total_size, depth, max_depth}
 use Rattle.sec1_der.specs.Walks.{innermost, Skips, Opens, Enters}
-use Rattle.sec1_der.specs.declared.error.ErrorKind.{ErrorKind}
-use Rattle.sec1_der.specs.declared.error.ErrorKind.TheVariants.{Depth}
 use Rattle.sec1_der.specs.declared.tree.TheConstants.{MAX_DEPTH}
 use Rattle.sec1_der.proofs.TreeLemmas.{some_bytes}
 use Rattle.sec1_der.proofs.TreeRefusals.{row_some, tree_next, open_fault, next_fault, element_passed, node_opened}
