@@ -1,8 +1,6 @@
-use Rattle.std.proofs.Common.{◌≡◌, ◌∙◌, sym, refl, [], length}
-use Rattle.std.proofs.lemmas.Bool.{false≢true, eqb-true}
-use Rattle.std.proofs.lemmas.Result.{err_from_is_err_and}
-use Rattle.std.proofs.lemmas.List.{nil_from_length}
-use Rattle.sec1_der.proofs.CheckLemmas.{root_next, child_next, entered, closed, tree_read}
+use Rattle.std.proofs.Common.{◌≡◌, ◌∙◌, sym, [], arith}
+use Rattle.std.proofs.lemmas.Bool.{false≢true}
+use Rattle.sec1_der.proofs.CheckLemmas.{root_next, child_next, entered, closed}
 use Rattle.sec1_der.proofs.TreeRefusals.{next_refused}
 use Rattle.sec1_der.proofs.tree.count_elements.Goals as goal
 
@@ -15,22 +13,18 @@ loop-nodes-preserved-then-rest-end c =
 
 pub loop-nodes-preserved : goal.loop-nodes-preserved
 loop-nodes-preserved c =
-    entered (child_next c.loop-nodes.invariant (λ empty. false≢true (c.loop-nodes-test.ensures.1 empty)) (λ same. c.if-rest-end.false (same ∙ sym c.end.ensures)))
-    c.in_ok-rest-2.ensures.found
-
-pub returns-clause-found : goal.returns-clause-found
-returns-clause-found c = tree_read c.loop-nodes.invariant (c.loop-nodes-test.ensures.0 refl)
-    (nil_from_length c.loop-nodes.rest.now (eqb-true (length c.loop-nodes.rest.now) 0 (sym c.if-not-is_empty.ensures)))
+    let some = λ (empty : c.loop-nodes.nodes ≡ []). false≢true (c.loop-nodes-test.ensures.1 empty) in
+    entered (child_next c.loop-nodes.invariant some (λ same. c.if-rest-end.false (same ∙ sym c.end.ensures))) c.in_ok-rest-2.ensures.found
 
 pub returns-in_err-rest-clause-kind : goal.returns-in_err-rest-clause-kind
 returns-in_err-rest-clause-kind c =
     let next = root_next c.args.input.now c.new-nodes.result c.new-nodes.ensures in
-    let refusal = err_from_is_err_and c.from_residual.result c.from_residual.ensures.1 in
-    rw (refusal.1, refusal.2) (next.fault_is ∙ next_refused _ _ c.in_err-rest.field-0.0.kind c.in_err-rest.ensures.deep c.in_err-rest.ensures.refusal)
+    let fault = next.fault_is ∙ next_refused _ _ c.in_err-rest.field-0.0.kind c.in_err-rest.ensures.deep c.in_err-rest.ensures.refusal in
+    grind arith
 
 pub returns-in_err-rest-2-clause-kind : goal.returns-in_err-rest-2-clause-kind
 returns-in_err-rest-2-clause-kind c =
     let some = λ (empty : c.loop-nodes.nodes ≡ []). false≢true (c.loop-nodes-test.ensures.1 empty) in
     let next = child_next c.loop-nodes.invariant some (λ same. c.if-rest-end.false (same ∙ sym c.end.ensures)) in
-    let refusal = err_from_is_err_and c.from_residual-in_err-rest-2.result c.from_residual-in_err-rest-2.ensures.1 in
-    rw (refusal.1, refusal.2) (next.fault_is ∙ next_refused _ _ c.in_err-rest-2.field-0.0.kind c.in_err-rest-2.ensures.deep c.in_err-rest-2.ensures.refusal)
+    let fault = next.fault_is ∙ next_refused _ _ c.in_err-rest-2.field-0.0.kind c.in_err-rest-2.ensures.deep c.in_err-rest-2.ensures.refusal in
+    grind arith
