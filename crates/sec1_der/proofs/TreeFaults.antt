@@ -24,9 +24,9 @@ use Rattle.sec1_der.proofs.TreeRefusals.{leaf_passes, row_at, row_some, row_deep
 abbrev deep_fault : ℕ → Option ErrorKind
 deep_fault level = if nat_lt MAX_DEPTH level then Some Depth else None
 
--- of two levels the deeper one counts
-deep_or : (a b : ℕ) → option_or (deep_fault a) (deep_fault b) ≡ deep_fault (max a b)
-deep_or a b = grind (arith, nat_tests)
+-- of two depths below a level the greater one counts
+deep_or : (above a b : ℕ) → option_or (deep_fault (above + a)) (deep_fault (above + b)) ≡ deep_fault (above + max a b)
+deep_or above a b = grind (arith, nat_tests)
 
 mutual
   -- a tree below so many levels, and what stands behind it
@@ -48,10 +48,8 @@ mutual
       let some = some_bytes t in
       let lengths = length-append (bytes t) (joined f) in
       ⊎_elim
-      (λ l. row_some (above + 1) row (omega arith) (omega arith)
-      ∙ (tree_at t above (row_at (above + 1)) row (joined f) are.0 refl l
-      ∙ (ap (option_or (deep_fault (above + depth t))) (forest_at f above are.1 fits)
-      ∙ (deep_or (above + depth t) (above + max_depth f) ∙ ap deep_fault (omega arith)))))
+      (λ l. row_some (above + 1) row (omega arith) (omega arith) ∙ (tree_at t above (row_at (above + 1)) row (joined f) are.0 refl l
+      ∙ rw (forest_at f above are.1 fits) (deep_or above (depth t) (max_depth f))))
       (λ l. row_deep (above + 1) row (omega arith) (omega arith) ∙ rw (lt-ltb MAX_DEPTH (above + max (depth t) (max_depth f)) (omega arith)) refl)
       (cases_lt above MAX_DEPTH)
 

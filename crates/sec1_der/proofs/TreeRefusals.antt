@@ -37,8 +37,7 @@ row_bound zero n level (b ∷ bs) l r = absurd (omega arith)
 row_bound (suc m) zero level (b ∷ bs) l r = absurd (omega arith)
 row_bound (suc m) (suc n) level (b ∷ bs) l r =
     ap (λ fault. if nat_lt MAX_DEPTH level then Some Depth else fault)
-    (nested_alike (row_fault m (level + 1)) (row_fault m level) (row_fault n (level + 1)) (row_fault n level) b bs
-    (λ content few. row_bound m n (level + 1) content (omega arith) (omega arith))
+    (nested_alike _ _ _ _ b bs (λ content few. row_bound m n (level + 1) content (omega arith) (omega arith))
     (λ behind few. row_bound m n level behind (omega arith) (omega arith)))
 
 -- the elements in a row at this level
@@ -51,8 +50,7 @@ pub row_some : (level : ℕ) (bytes : List ℕ) → 0 < length bytes → level �
 row_some level [] some fits = absurd (omega arith)
 row_some level (b ∷ bs) some fits =
     rw (le-ltb MAX_DEPTH level fits)
-    (nested_alike (row_fault (length bs) (level + 1)) (row_fault (length bs) level) (row_at (level + 1)) (row_at level) b bs
-    (λ content few. row_bound (length bs) (length content) (level + 1) content (omega arith) (omega arith))
+    (nested_alike _ _ _ _ b bs (λ content few. row_bound (length bs) (length content) (level + 1) content (omega arith) (omega arith))
     (λ behind few. row_bound (length bs) (length behind) level behind (omega arith) (omega arith)))
 
 -- a row at level 65 is too deep
@@ -63,7 +61,7 @@ row_deep level (b ∷ bs) some deep = rw (lt-ltb MAX_DEPTH level (omega arith)) 
 -- the input is a tree, whose children are a row at level 2
 pub tree_next : (input : List ℕ) → tree_fault input ≡ any_fault (nested_fault (row_at 2)) end_fault input
 tree_next [] = refl
-tree_next (b ∷ bs) = nested_alike (row_fault (suc (length bs)) 2) end_fault (row_at 2) end_fault b bs
+tree_next (b ∷ bs) = nested_alike _ end_fault _ end_fault b bs
     (λ content few. row_bound (suc (length bs)) (length content) 2 content (omega arith) (omega arith)) (λ behind few. refl)
 
 -- ---- what a walk has left

@@ -8,4 +8,4 @@ returns-clause-fits g c bytes e fits room =
     let all = parted _ _ bytes e in
     let one = c.put_value.ensures.fits all.back all.second_there (omega (arith, all.total)) (omega (arith, all.total)) in
     let two = c.put_element.ensures.fits all.front all.first_there (omega (arith, all.total, one.1.front)) in
-    (two.0, rw all.joined (puts_both _ _ _ _ _ one.1 two.1))
+    (two.0, rw all.joined (puts_both _ _ _ all.back all.front one.1 two.1))

@@ -1,6 +1,5 @@
-use Rattle.std.proofs.Common.{◌≡◌, ◌==◌, ◌∷◌, false, ◌∙◌, refl}
+use Rattle.std.proofs.Common.{◌≡◌, ◌==◌, ◌∷◌, false, ◌∙◌, refl, arith}
 use Rattle.std.proofs.lemmas.Bool.{ne_eqb, false≢true}
-use Rattle.std.proofs.lemmas.Result.{err_from_is_err_and}
 use Rattle.sec1_der.proofs.ContentRefusals.{bits_refused, bits_field}
 use Rattle.sec1_der.proofs.explicit.WholeBitsDecodeExplicit.decode_explicit.Goals as goal
 
@@ -12,8 +11,8 @@ returns-in-Some-as_bytes-clause-found c =
 
 pub returns-in_err-bits-clause-kind : goal.returns-in_err-bits-clause-kind
 returns-in_err-bits-clause-kind c fresh =
-    let refusal = err_from_is_err_and c.from_residual.result c.from_residual.ensures.1 in
-    rw (refusal.1, refusal.2) (bits_refused c.args.number c.args.reader.now.unread _ (c.in_err-bits.ensures.kind fresh))
+    let fault = bits_refused c.args.number c.args.reader.now.unread _ (c.in_err-bits.ensures.kind fresh) in
+    grind arith
 
 pub returns-in-Some-as_bytes-clause-kind : goal.returns-in-Some-as_bytes-clause-kind
 returns-in-Some-as_bytes-clause-kind c fresh =
