@@ -24,8 +24,8 @@ from_start rest front inside end start within e l =
     let row : rest ≡ front ++ (inside ++ drop room rest) =
     sym (take-append-drop room rest) ∙ (ap (λ xs. xs ++ drop room rest) e ∙ append_assoc front inside (drop room rest)) in
     let count : length front ≡ start = omega (arith, ap length e, length-append front inside, length-take-le room rest (omega arith)) in
-    (row ∙ ap (λ xs. front ++ xs) (sym (take_rest rest start ∙ (ap (drop start) row ∙ drop_at front (inside ++ drop room rest) start count))),
-    omega (arith, length-take (length rest - start) (drop start rest), length-drop start rest))
+    let behind = take_rest rest start ∙ (ap (drop start) row ∙ drop_at front (inside ++ drop room rest) start count) in
+    (row ∙ ap (λ xs. front ++ xs) (sym behind), omega (arith, length-take (length rest - start) (drop start rest), length-drop start rest))
 
 -- the header of a node with a content
 pub opens_at : (rest inside ends : List ℕ) (tag n end m : ℕ) → IsInFront rest inside tag n end → end ≤ length rest → end ≡ innermost ends → m ≡ n
@@ -37,24 +37,17 @@ opens_at rest inside ends tag n end m f within is same some constructed =
     record {
       tag = tag;
       n = n;
-      opening = record {
-        tag_byte = f.0.tag_byte; constructed = constructed; some = some; within = f.0.within; row = row; ends = omega (arith, f.2, behind)
-      };
-      fits = omega (arith, f.2);
+      opening = record { tag_byte = f.0.tag_byte; constructed = constructed; some = some; within = f.0.within; row = row; ends = omega arith };
+      fits = omega arith;
     }
 
 -- a leaf or an empty node with these bytes
 single_tree : (tag : ℕ) (content : List ℕ) → IsHeader tag (length content) → ¬ IsConstructed tag ⊎ (length content ≡ 0)
     → (t : Tree) × IsSingle t × (bytes t ≡ element tag content)
 single_tree tag content h which = ⊎_elim
-    (λ (plain : bit_and tag 32 ≡ 0). (
-    leaf tag content,
-    record { tree = (h.tag_byte, λ set. set plain, h.within); alone = refl; shallow = refl },
-    refl))
-    (λ set. (
-    branch tag none,
-    record { tree = (h.tag_byte, set, omega arith, tt); alone = refl; shallow = refl },
-    rw (nil_from_length content (⊎_elim (λ plain. absurd (plain set)) (λ empty. empty) which)) refl))
+    (λ (plain : bit_and tag 32 ≡ 0). (leaf tag content, record { tree = (h.tag_byte, λ set. set plain, h.within); alone = refl; shallow = refl }, refl))
+    (λ set. let empty = nil_from_length content (⊎_elim (λ plain. absurd (plain set)) (λ none. none) which) in
+    (branch tag none, record { tree = (h.tag_byte, set, omega arith, tt); alone = refl; shallow = refl }, rw empty refl))
     (cases_eq (bit_and tag 32) 0)
 
 -- an element without children
@@ -69,5 +62,5 @@ passes_at rest inside ends tag n end m f within is same which =
     rw (size, append_assoc (header tag n) content (drop n inside), take-append-drop n inside) refl in
     let few = inside_within rest (header tag n) inside (length rest - end) f.1 in
     let (row, behind) = from_start rest (element tag content) (drop n inside) end (length rest - end - length inside + m) within (f.1 ∙ split)
-        (omega (arith, f.2, length-drop n inside)) in
+    (omega (arith, length-drop n inside)) in
     record { tree = t.0; single = t.1; row = rw (t.2) row; fits = omega (arith, behind) }

@@ -73,9 +73,9 @@ element_cut f g tag content input all h cut =
     let n = length content in
     let split = sym cut.split in
     let lacks : length input < length (header tag n) → LacksHeader input = λ l tag' n' rest h' e.
-        let joined = sym (append_assoc (header tag' n') rest cut.more) ∙ (ap (λ xs. xs ++ cut.more) (sym e) ∙ split) in
-        let same = header_apart tag' n' tag n (rest ++ cut.more) content joined in
-        omega (arith, ap length e, length-append (header tag' n') rest, ap (λ m. length (header tag' m)) same.1) in
+    let joined = sym (append_assoc (header tag' n') rest cut.more) ∙ (ap (λ xs. xs ++ cut.more) (sym e) ∙ split) in
+    let same = header_apart tag' n' tag n (rest ++ cut.more) content joined in
+    omega (arith, ap length e, length-append (header tag' n') rest, ap (λ m. length (header tag' m)) same.1) in
     ⊎_elim
     (λ l. any_lacks f g input all (lacks l) ∙ ⊎_elim
     (λ c. absurd (omega (arith, ap length c.front, length-append (header tag n) c.after)))

@@ -17,7 +17,7 @@ returns-in_err-open-clause-deep c _ = record {
 pub returns-in_ok-open-clause-found : goal.returns-in_ok-open-clause-found
 returns-in_ok-open-clause-found c =
     let opens = opens_at c.args.rest.now c.in-Ok.found.1.now c.args.self.now _ _ _ _ c.in-Ok.ensures.found (omega (arith, c.requires)) c.end-end.ensures c.get-length.ensures.value
-        (omega (arith, c.if-length-gt0.true, c.get-length.ensures.value)) (c.if-is_constructed.ensures.0 refl) in
+    (omega (arith, c.if-length-gt0.true, c.get-length.ensures.value)) (c.if-is_constructed.ensures.0 refl) in
     let opened = c.in_ok-open.ensures.opened in
     inr (_, opens, opened.1, opened.0)
 
