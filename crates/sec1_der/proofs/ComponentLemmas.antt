@@ -12,6 +12,7 @@ pub record AreJoined (first second : Option (List ℕ)) (bytes : List ℕ) : Typ
   pub joined : bytes ≡ front ++ back
   pub total : length bytes ≡ length front + length back
 
+-- a row that has bytes has those of its first component, and those of the rest
 pub parted : (first second : Option (List ℕ)) (bytes : List ℕ) → join first second ≡ Some bytes → AreJoined first second bytes
 parted None second bytes e = absurd (cc e)
 parted (Some xs) None bytes e = absurd (cc e)
@@ -19,6 +20,7 @@ parted (Some xs) (Some ys) bytes e =
     let joined : bytes ≡ xs ++ ys = cc in
     record { front = xs; back = ys; first_there = refl; second_there = refl; joined = joined; total = ap length joined ∙ length-append xs ys }
 
+-- a row whose parts have bytes has both, one behind the other
 pub joined : (first second : Option (List ℕ)) (xs ys : List ℕ) → first ≡ Some xs → second ≡ Some ys → join first second ≡ Some (xs ++ ys)
 joined first second xs ys e f = rw (e, f) refl
 

@@ -6,7 +6,6 @@ use Rattle.std.proofs.lemmas.Bool.Decides.{nat_tests}
 use Rattle.std.proofs.lemmas.List.{append_assoc, append-nil, length-append}
 use Rattle.std.specs.Option.{option_or}
 use Rattle.sec1_der.specs.Elements.{IsHeader, IsProperBeginning, LacksHeader, header, element}
-use Rattle.sec1_der.specs.Faults.{Refuses}
 use Rattle.sec1_der.specs.Refusals.{Fault, HasFault, end_fault, any_fault, nested_fault, tree_fault}
 use Rattle.sec1_der.specs.Trees.{Tree, leaf, branch, Forest, none, first, bytes, joined, IsTree, AreTrees, IsTreeOf, size, depth, max_depth}
 use Rattle.sec1_der.specs.declared.error.Error.{Error}
@@ -89,13 +88,6 @@ element_cut f g tag content input all h cut =
 pub cut_tree : (t : Tree) (input : List ℕ) → IsBytes input → IsTree t → IsProperBeginning input (bytes t) → tree_fault input ≡ Some Truncated
 cut_tree (leaf tag content) input all is cut = element_cut _ end_fault tag content input all (record { tag_byte = is.0; within = is.2 }) cut
 cut_tree (branch tag f) input all is cut = element_cut _ end_fault tag (joined f) input all (record { tag_byte = is.0; within = is.2 }) cut
-
--- ---- a result with the fault of its input
-
--- a refusal by this kind
-pub refuses : {T : Type 0} (result : Result T Error) (fault : Option ErrorKind) (kind : ErrorKind) → HasFault result fault → fault ≡ Some kind
-    → Refuses result kind
-refuses result fault kind h e = grind arith
 
 -- a count of a tree's elements
 pub counted : (result : Result ℕ Error) (input : List ℕ) (t : Tree) → IfOk result (IsCounted input) → HasFault result (tree_fault input)
