@@ -105,10 +105,7 @@ opened input ends rest after end count next o room =
 -- the walk goes on where an element was passed or opened
 pub entered : {input ends rest ends' after : List ℕ} {count : ℕ} → IsNext input ends rest count → Enters ends rest ends' after
     → Walks input ends' after (count + 1)
-entered {input = input} {ends = ends} {rest = rest} {after = after} {count = count} next e = ⊎_elim
-    (λ p. rw (p.1) (passed input ends rest after count next p.0))
-    (λ o. rw (o.2) (opened input ends rest after o.0 count next o.1 o.3))
-    e
+entered next e = ⊎_elim (λ p. rw (p.1) (passed _ _ _ _ _ next p.0)) (λ o. rw (o.2) (opened _ _ _ _ _ _ next o.1 o.3)) e
 
 -- the walk goes on where a node has ended
 pub closed : {input ends ends' rest : List ℕ} {count : ℕ} → Walks input ends rest count → ends ≢ [] → ends' ≡ drop 1 ends → length rest ≡ innermost ends

@@ -5,7 +5,7 @@ use Rattle.std.proofs.lemmas.Int.Digits.{length-digits_of-le}
 use Rattle.sec1_der.specs.Elements.{max_length, length_octets, header, element, IsElementOf, element_of}
 
 -- a length is spelled in at most five bytes
-pub length-len : (n : ℕ) → n ≤ max_length → length (length_octets n) ≤ 5
+length-len : (n : ℕ) → n ≤ max_length → length (length_octets n) ≤ 5
 unfolding length_octets
 length-len n within =
     let digits = length-digits_of-le 256 4 n (omega arith) (omega arith) in

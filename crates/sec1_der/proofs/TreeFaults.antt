@@ -68,21 +68,20 @@ shallow_tree t input rest is shallow e = tree_faults t input rest is e ∙ rw (l
 -- an element that is cut short
 element_cut : (f : ℕ → Fault) (g : Fault) (tag : ℕ) (content input : List ℕ) → IsBytes input → IsHeader tag (length content)
     → IsProperBeginning input (element tag content) → any_fault f g input ≡ Some Truncated
-element_cut f g tag content input all h cut =
-    let n = length content in
-    let split = sym cut.split in
-    let lacks : length input < length (header tag n) → LacksHeader input = λ l tag' n' rest h' e.
-    let joined = sym (append_assoc (header tag' n') rest cut.more) ∙ (ap (λ xs. xs ++ cut.more) (sym e) ∙ split) in
-    let same = header_apart tag' n' tag n (rest ++ cut.more) content joined in
-    omega (arith, ap length e, length-append (header tag' n') rest, ap (λ m. length (header tag' m)) same.1) in
-    ⊎_elim
+element_cut f g tag content input all h cut = ⊎_elim
     (λ l. any_lacks f g input all (lacks l) ∙ ⊎_elim
-    (λ c. absurd (omega (arith, ap length c.front, length-append (header tag n) c.after)))
+    (λ c. absurd (omega (arith, ap length c.front, length-append (header tag (length content)) c.after)))
     (λ k. ap Some k)
-    (header_front tag n input cut.more content h split))
-    (λ l. let c = longer input (header tag n) cut.more content split l in
-    any_short f g tag n input c.after h c.front (cut_short tag content input tag n c.after cut c.front))
-    (cases_lt (length input) (length (header tag n)))
+    (header_front tag (length content) input cut.more content h (sym cut.split)))
+    (λ l. let c = longer input (header tag (length content)) cut.more content (sym cut.split) l in
+    any_short f g tag (length content) input c.after h c.front (cut_short tag content input tag (length content) c.after cut c.front))
+    (cases_lt (length input) (length (header tag (length content))))
+  where
+    lacks : length input < length (header tag (length content)) → LacksHeader input
+    lacks l tag' n rest h' e =
+        let joined = sym (append_assoc (header tag' n) rest cut.more) ∙ (ap (λ xs. xs ++ cut.more) (sym e) ∙ sym cut.split) in
+        let same = header_apart tag' n tag (length content) (rest ++ cut.more) content joined in
+        omega (arith, ap length e, length-append (header tag' n) rest, ap (λ m. length (header tag' m)) same.1)
 
 -- a tree that is cut short
 pub cut_tree : (t : Tree) (input : List ℕ) → IsBytes input → IsTree t → IsProperBeginning input (bytes t) → tree_fault input ≡ Some Truncated

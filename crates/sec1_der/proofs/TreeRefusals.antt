@@ -58,7 +58,7 @@ pub row_deep : (level : ℕ) (bytes : List ℕ) → 0 < length bytes → level �
 row_deep level [] some deep = absurd (omega arith)
 row_deep level (b ∷ bs) some deep = rw (lt-ltb MAX_DEPTH level (omega arith)) refl
 
--- the input is a tree, whose children are a row at level 2
+-- the fault of the input is that of an element whose content is a row at level 2
 pub tree_next : (input : List ℕ) → tree_fault input ≡ any_fault (nested_fault (row_at 2)) end_fault input
 tree_next [] = refl
 tree_next (b ∷ bs) = nested_alike _ end_fault _ end_fault b bs

@@ -1,12 +1,12 @@
 -- The components of two values with one content are the same.
 use Rattle.std.proofs.Common.{◌≡◌, ◌≢◌, ◌+◌, [], ◌++◌, ℕ, List, Option, Some, None, slice_get, ap, refl, arith}
 use Rattle.std.specs.Option.{option_map}
-use Rattle.sec1_der.proofs.ComponentLemmas.{parted}
 use Rattle.sec1_der.specs.Components.{join}
-use Rattle.sec1_der.proofs.ElementLemmas.{element_of-some}
 use Rattle.sec1_der.specs.Elements.{element_of, field_of}
 use Rattle.sec1_der.specs.IdentifierLaws.{identifier_content-some}
 use Rattle.sec1_der.specs.Identifiers.{identifier_content}
+use Rattle.sec1_der.proofs.ComponentLemmas.{parted}
+use Rattle.sec1_der.proofs.ElementLemmas.{element_of-some}
 use Rattle.sec1_der.proofs.DottedLemmas.{same_arcs}
 use Rattle.sec1_der.proofs.TreeLemmas.{element_apart}
 

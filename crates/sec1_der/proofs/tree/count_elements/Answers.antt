@@ -1,5 +1,5 @@
-use Rattle.std.proofs.Common.{◌≡◌, ◌∙◌, sym, [], arith}
-use Rattle.std.proofs.lemmas.Bool.{false≢true}
+use Rattle.std.proofs.Common.{◌∙◌, sym, refl, arith}
+use Rattle.std.proofs.lemmas.Bool.{iff_false}
 use Rattle.sec1_der.proofs.CheckLemmas.{root_next, child_next, entered, closed}
 use Rattle.sec1_der.proofs.TreeRefusals.{next_refused}
 use Rattle.sec1_der.proofs.tree.count_elements.Goals as goal
@@ -9,12 +9,12 @@ loop-nodes-init c = entered (root_next c.args.input.now c.new-nodes.result c.new
 
 pub loop-nodes-preserved-then-rest-end : goal.loop-nodes-preserved-then-rest-end
 loop-nodes-preserved-then-rest-end c =
-    closed c.loop-nodes.invariant (λ empty. false≢true (c.loop-nodes-test.ensures.1 empty)) c.close.ensures (c.if-rest-end.true ∙ c.end.ensures)
+    closed c.loop-nodes.invariant (iff_false c.loop-nodes-test.ensures refl) c.close.ensures (c.if-rest-end.true ∙ c.end.ensures)
 
 pub loop-nodes-preserved : goal.loop-nodes-preserved
 loop-nodes-preserved c =
-    let some = λ (empty : c.loop-nodes.nodes ≡ []). false≢true (c.loop-nodes-test.ensures.1 empty) in
-    entered (child_next c.loop-nodes.invariant some (λ same. c.if-rest-end.false (same ∙ sym c.end.ensures))) c.in_ok-rest-2.ensures.found
+    entered (child_next c.loop-nodes.invariant (iff_false c.loop-nodes-test.ensures refl) (λ same. c.if-rest-end.false (same ∙ sym c.end.ensures)))
+    c.in_ok-rest-2.ensures.found
 
 pub returns-in_err-rest-clause-kind : goal.returns-in_err-rest-clause-kind
 returns-in_err-rest-clause-kind c =
@@ -24,7 +24,6 @@ returns-in_err-rest-clause-kind c =
 
 pub returns-in_err-rest-2-clause-kind : goal.returns-in_err-rest-2-clause-kind
 returns-in_err-rest-2-clause-kind c =
-    let some = λ (empty : c.loop-nodes.nodes ≡ []). false≢true (c.loop-nodes-test.ensures.1 empty) in
-    let next = child_next c.loop-nodes.invariant some (λ same. c.if-rest-end.false (same ∙ sym c.end.ensures)) in
+    let next = child_next c.loop-nodes.invariant (iff_false c.loop-nodes-test.ensures refl) (λ same. c.if-rest-end.false (same ∙ sym c.end.ensures)) in
     let fault = next.fault_is ∙ next_refused _ _ c.in_err-rest-2.field-0.0.kind c.in_err-rest-2.ensures.deep c.in_err-rest-2.ensures.refusal in
     grind arith

@@ -1,5 +1,5 @@
 use Rattle.std.proofs.Common.{◌≡◌, ◌==◌, ◌∷◌, false, ◌∙◌, refl, arith}
-use Rattle.std.proofs.lemmas.Bool.{ne_eqb, false≢true}
+use Rattle.std.proofs.lemmas.Bool.{ne_eqb, iff_false}
 use Rattle.sec1_der.proofs.ContentRefusals.{bits_refused, bits_field}
 use Rattle.sec1_der.proofs.explicit.WholeBitsDecodeExplicit.decode_explicit.Goals as goal
 
@@ -24,6 +24,6 @@ pub returns-in-None-clause-kind : goal.returns-in-None-clause-kind
 returns-in-None-clause-kind c fresh =
     let bits = c.in-Some.bits in
     let found = rw c.in-Some.is at c.in_ok-bits.ensures.found in
-    let unused : (bits.unused == 0) ≡ false = ne_eqb bits.unused 0 (λ zero. false≢true (c.in-None.ensures.within.1 zero)) in
+    let unused : (bits.unused == 0) ≡ false = ne_eqb bits.unused 0 (iff_false c.in-None.ensures.within refl) in
     bits_field c.args.number (bits.unused ∷ bits.bytes.now) c.args.reader.now c.context_specific.new.self found.1 found.2 (c.in_ok-bits.ensures.kind fresh)
     ∙ rw (unused, c.fail.ensures.error) refl

@@ -1,5 +1,5 @@
-use Rattle.std.proofs.Common.{◌≡◌, ◌⊎◌, sym, ◌∙◌, arith, inl, inr, refl}
-use Rattle.std.proofs.lemmas.Bool.{false≢true}
+use Rattle.std.proofs.Common.{◌≡◌, ◌⊎◌, arith, inl, inr, refl}
+use Rattle.std.proofs.lemmas.Bool.{iff_false}
 use Rattle.sec1_der.specs.Elements.{IsConstructed}
 use Rattle.sec1_der.proofs.EnterLemmas.{opens_at, passes_at}
 use Rattle.sec1_der.proofs.tree.OpenNodes.enter.Goals as goal
@@ -25,7 +25,7 @@ pub returns-else-length-gt0-clause-found : goal.returns-else-length-gt0-clause-f
 returns-else-length-gt0-clause-found c =
     let which : ¬ IsConstructed c.in-Ok.found.0.tag ⊎ (c.in-Ok.found.0.length ≡ 0) =
     elim c.else-length-gt0.branch [
-      | else-length-gt0-via-then-length-gt0+else-is_constructed w ↦ inl (λ h. false≢true (sym w.if-is_constructed.false ∙ w.is_constructed.ensures.1 h))
+      | else-length-gt0-via-then-length-gt0+else-is_constructed w ↦ inl (iff_false w.is_constructed.ensures w.if-is_constructed.false)
       | else-length-gt0-via-else-length-gt0 w ↦ inr (omega (arith, w.if-length-gt0.false, c.get-length.ensures.value))
     ] in
     inl (passes_at _ _ _ _ _ _ _ c.in-Ok.ensures.found (omega (arith, c.requires)) c.end-end.ensures c.get-length.ensures.value which, refl)
