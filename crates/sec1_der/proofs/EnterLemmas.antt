@@ -1,8 +1,7 @@
 -- What stands first of a slice whose last bytes are set aside.
-use Rattle.std.proofs.Common.{◌≡◌, ℕ, ◌+◌, ◌-◌, ◌<◌, ◌≤◌, List, ◌++◌, length, take, drop, ◌⊎◌, refl, ap, sym, ◌∙◌, arith, ⊎_elim}
+use Rattle.std.proofs.Common.{◌≡◌, ℕ, ◌+◌, ◌-◌, ◌<◌, ◌≤◌, List, ◌++◌, length, take, drop, bit_and, ◌⊎◌, refl, ap, sym, ◌∙◌, arith, ⊎_elim}
 use Rattle.std.proofs.lemmas.Bool.{cases_eq}
 use Rattle.std.proofs.lemmas.List.{append_assoc, length-append, length-drop, length-take, length-take-le, take-append-drop, take_rest, drop_at, nil_from_length}
-use Rattle.std.specs.Prelude.{bit_and}
 use Rattle.sec1_der.specs.Elements.{IsConstructed, IsHeader, header, element}
 use Rattle.sec1_der.specs.Trees.{Tree, leaf, branch, none, bytes}
 use Rattle.sec1_der.specs.Walks.{IsSingle, innermost, Skips, Opens}
