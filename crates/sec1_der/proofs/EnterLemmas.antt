@@ -27,11 +27,12 @@ from_start rest front inside end start within e l =
     (row ∙ ap (λ xs. front ++ xs) (sym behind), omega (arith, length-take (length rest - start) (drop start rest), length-drop start rest))
 
 -- the header of a node with a content
-pub opens_at : (rest inside ends : List ℕ) (tag n end m : ℕ) → IsInFront rest inside tag n end → end ≤ length rest → end ≡ innermost ends → m ≡ n
-    → 0 < n → IsConstructed tag
+pub opens_at : (rest inside ends : List ℕ) (tag n end m : ℕ) → IsInFront rest inside tag n end → end ≡ innermost ends → m ≡ n → 0 < n
+    → IsConstructed tag
     → Opens ends rest (end + length inside - m) (take (length rest - (length rest - end - length inside)) (drop (length rest - end - length inside) rest))
-opens_at rest inside ends tag n end m f within is same some constructed =
+opens_at rest inside ends tag n end m f is same some constructed =
     let few = inside_within rest (header tag n) inside (length rest - end) f.1 in
+    let within : end ≤ length rest = omega (arith, ap length f.1, length-take (length rest - end) rest) in
     let (row, behind) = from_start rest (header tag n) inside end (length rest - end - length inside) within f.1 (omega arith) in
     record {
       tag = tag;
@@ -50,16 +51,17 @@ single_tree tag content h which = ⊎_elim
     (cases_eq (bit_and tag 32) 0)
 
 -- an element without children
-pub passes_at : (rest inside ends : List ℕ) (tag n end m : ℕ) → IsInFront rest inside tag n end → end ≤ length rest → end ≡ innermost ends → m ≡ n
+pub passes_at : (rest inside ends : List ℕ) (tag n end m : ℕ) → IsInFront rest inside tag n end → end ≡ innermost ends → m ≡ n
     → ¬ IsConstructed tag ⊎ (n ≡ 0)
     → Skips ends rest (take (length rest - (length rest - end - length inside + m)) (drop (length rest - end - length inside + m) rest))
-passes_at rest inside ends tag n end m f within is same which =
+passes_at rest inside ends tag n end m f is same which =
     let content = take n inside in
     let size : length content ≡ n = length-take-le n inside f.2 in
     let t = single_tree tag content (rw size f.0) (rw size which) in
     let split : header tag n ++ inside ≡ element tag content ++ drop n inside =
     rw (size, append_assoc (header tag n) content (drop n inside), take-append-drop n inside) refl in
     let few = inside_within rest (header tag n) inside (length rest - end) f.1 in
+    let within : end ≤ length rest = omega (arith, ap length f.1, length-take (length rest - end) rest) in
     let (row, behind) = from_start rest (element tag content) (drop n inside) end (length rest - end - length inside + m) within (f.1 ∙ split)
     (omega (arith, length-drop n inside)) in
     record { tree = t.0; single = t.1; row = rw (t.2) row; fits = omega (arith, behind) }
