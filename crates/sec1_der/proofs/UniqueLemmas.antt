@@ -1,13 +1,12 @@
 -- The components of two values with one content are the same.
-use Rattle.std.proofs.Common.{◌≡◌, ◌+◌, [], ◌++◌, ℕ, List, Option, Some, None, ap, sym, ◌∙◌, refl}
+use Rattle.std.proofs.Common.{◌≡◌, ◌≢◌, ◌+◌, [], ◌++◌, ℕ, List, Option, Some, None, slice_get, ap, refl, arith}
 use Rattle.std.specs.Option.{option_map}
-use Rattle.std.specs.Prelude.{◌≢◌, slice_get}
-use Rattle.sec1_der.proofs.ComponentLemmas.{parted}
 use Rattle.sec1_der.specs.Components.{join}
-use Rattle.sec1_der.proofs.ElementLemmas.{element_of-some}
-use Rattle.sec1_der.specs.Elements.{element, element_of, field_of}
+use Rattle.sec1_der.specs.Elements.{element_of, field_of}
 use Rattle.sec1_der.specs.IdentifierLaws.{identifier_content-some}
 use Rattle.sec1_der.specs.Identifiers.{identifier_content}
+use Rattle.sec1_der.proofs.ComponentLemmas.{parted}
+use Rattle.sec1_der.proofs.ElementLemmas.{element_of-some}
 use Rattle.sec1_der.proofs.DottedLemmas.{same_arcs}
 use Rattle.sec1_der.proofs.TreeLemmas.{element_apart}
 
@@ -24,9 +23,7 @@ unique_required tag content rest one two x y a b bytes e f =
     let q = parted (element_of tag (content y)) (rest b) bytes f in
     let s = element_of-some tag (content x) p.front p.first_there in
     let t = element_of-some tag (content y) q.front q.first_there in
-    let left : bytes ≡ element tag s.inside ++ p.back = p.joined ∙ ap (λ xs. xs ++ p.back) s.at.spelled in
-    let right : bytes ≡ element tag t.inside ++ q.back = q.joined ∙ ap (λ xs. xs ++ q.back) t.at.spelled in
-    let apart = element_apart tag tag s.inside t.inside p.back q.back (sym left ∙ right) in
+    let apart = element_apart tag tag s.inside t.inside p.back q.back (cc (p.joined, q.joined, s.at.spelled, t.at.spelled)) in
     (one x y s.inside s.same (rw apart.1 t.same), two a b p.back p.second_there (rw apart.2 q.second_there))
 
 -- two elements of one tag that have one content are the same
@@ -37,8 +34,7 @@ unique_inside tag content one a b bytes e f =
 
 -- a row without its OPTIONAL component is the rest
 without : (rest : Option (List ℕ)) (bytes : List ℕ) → join (Some []) rest ≡ Some bytes → rest ≡ Some bytes
-without None bytes e = absurd (cc e)
-without (Some xs) bytes e = e
+without rest bytes e = grind arith
 
 -- a row with its OPTIONAL component begins with its tag
 begins : (n tag : ℕ) (x rest : Option (List ℕ)) (bytes : List ℕ) → join (field_of n tag (Some x)) rest ≡ Some bytes → slice_get bytes 0 ≡ Some (0xA0 + n)

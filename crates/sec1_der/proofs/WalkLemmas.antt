@@ -1,5 +1,5 @@
 -- The table of the ends of open nodes.
-use Rattle.std.proofs.Common.{◌≡◌, ℕ, zero, suc, ◌<◌, List, ◌∷◌, length, get_or, set, refl, ap, ◌∙◌, arith}
+use Rattle.std.proofs.Common.{◌≡◌, ℕ, zero, suc, ◌<◌, List, ◌∷◌, length, set, refl, ap, arith}
 use Rattle.std.proofs.lemmas.List.{get_or-set_same, get_or-set_other}
 use Rattle.sec1_der.specs.Walks.{open_ends}
 
@@ -9,15 +9,13 @@ length_open_ends zero table = refl
 length_open_ends (suc level) table = ap suc (length_open_ends level table)
 
 -- an end that is set further out is none of these
-pub open_ends-set : (level at end : ℕ) (table : List ℕ) → level < at → open_ends level (set table at end) ≡ open_ends level table
+open_ends-set : (level at end : ℕ) (table : List ℕ) → level < at → open_ends level (set table at end) ≡ open_ends level table
 open_ends-set zero at end table l = refl
 open_ends-set (suc level) at end table l =
-    let same : get_or (set table at end) (suc level) 0 ≡ get_or table (suc level) 0 = get_or-set_other table at (suc level) end 0 (omega arith) in
-    ap (λ x. x ∷ open_ends level (set table at end)) same ∙ ap (λ xs. get_or table (suc level) 0 ∷ xs) (open_ends-set level at end table (omega arith))
+    cc (get_or-set_other table at (suc level) end 0 (omega arith), open_ends-set level at end table (omega arith))
 
 -- the end of one more node is set
 pub open_ends_opened : (level end : ℕ) (table : List ℕ) → suc level < length table
     → open_ends (suc level) (set table (suc level) end) ≡ end ∷ open_ends level table
 open_ends_opened level end table room =
-    ap (λ x. x ∷ open_ends level (set table (suc level) end)) (get_or-set_same table (suc level) end 0 room)
-    ∙ ap (λ xs. end ∷ xs) (open_ends-set level (suc level) end table (omega arith))
+    cc (get_or-set_same table (suc level) end 0 room, open_ends-set level (suc level) end table (omega arith))

@@ -17,16 +17,19 @@ use crate::{
 };
 
 /// A tree is determined by its bytes, whatever follows them.
+#[tactic(auto, using(crate::proofs::TreeLemmas::tree_apart))]
 pub fn trees_unique()
     ensures { BytesDetermineTree }
 {}
 
 /// A row of trees is determined by its bytes.
+#[tactic(auto, using(crate::proofs::TreeLemmas::forest_apart))]
 pub fn rows_unique()
     ensures { BytesDetermineRow }
 {}
 
 /// No tree's bytes are a proper beginning of another's.
+#[tactic(auto, using(crate::proofs::TreeLemmas::tree_ends))]
 pub fn trees_prefix_free()
     ensures { NoTreeBeginsAnother }
 {}
@@ -56,6 +59,7 @@ pub fn one_bit_string()
 {}
 
 /// Two identifiers with one content have the same arcs.
+#[tactic(auto, using(crate::proofs::UniqueLemmas::unique_identifier))]
 pub fn one_identifier()
     ensures { (a b bytes : List ℕ) → ⟦<ObjectIdentifier as ValueContent>⟧.content a ≡ Some bytes
         → ⟦<ObjectIdentifier as ValueContent>⟧.content b ≡ Some bytes

@@ -43,6 +43,7 @@ pub fn check_tree(input: &[u8]) -> Result<usize>
 }
 
 /// Walks over the elements of a tree, and counts them.
+#[tactic(auto, using(crate::proofs::CheckLemmas::tree_read))]
 fn count_elements(input: &[u8]) -> Result<usize>
     ensures found { IfOk result (λ n. (t : Tree) × IsTreeOf t input.now × (depth t ≤ MAX_DEPTH)
         × (size t ≡ n)) }

@@ -1,17 +1,17 @@
 use Rattle.std.proofs.Common.{◌∙◌, arith}
 use Rattle.sec1_der.proofs.RefusalLemmas.{trailing_fault}
-use Rattle.sec1_der.proofs.TreeFaults.{deep_tree, shallow_tree, cut_tree, refuses, counted}
+use Rattle.sec1_der.proofs.TreeFaults.{deep_tree, shallow_tree, cut_tree, counted}
 use Rattle.sec1_der.proofs.tree.check_tree.Goals as goal
 
 pub returns-clause-only : goal.returns-clause-only
 returns-clause-only c t p shallow = let r = c.count_elements in counted r.result c.args.input.now t r.ensures.found r.ensures.kind p shallow
 
 pub returns-clause-deeper : goal.returns-clause-deeper
-returns-clause-deeper c t p deep = refuses _ _ _ c.count_elements.ensures.kind (deep_tree t c.args.input.now p deep)
+returns-clause-deeper c t p deep = let fault = deep_tree t c.args.input.now p deep in grind arith
 
 pub returns-clause-short : goal.returns-clause-short
-returns-clause-short c t p short = refuses _ _ _ c.count_elements.ensures.kind (cut_tree t c.args.input.now (λ i. omega (arith, c.type_inv.input i)) p short)
+returns-clause-short c t p short = let fault = cut_tree t c.args.input.now (λ i. omega (arith, c.type_inv.input i)) p short in grind arith
 
 pub returns-clause-long : goal.returns-clause-long
 returns-clause-long c t p shallow long =
-    refuses _ _ _ c.count_elements.ensures.kind (shallow_tree t c.args.input.now long.more p shallow long.split ∙ trailing_fault long.more long.some)
+    let fault = shallow_tree t c.args.input.now long.more p shallow long.split ∙ trailing_fault long.more long.some in grind arith

@@ -1,9 +1,9 @@
-use Rattle.sec1_der.proofs.CheckLemmas.{measure}
-use Rattle.sec1_der.proofs.TreeRefusals.{Walks}
+use Rattle.std.proofs.Common.{◌+◌, ◌-◌, ◌*◌, length}
+use Rattle.sec1_der.proofs.CheckLemmas.{Walks}
 use Rattle.sec1_der.proofs.tree.count_elements.Given as goal
 
 abbrev pub invariant-loop-nodes : goal.invariant-loop-nodes
 invariant-loop-nodes l = Walks l.input l.nodes l.rest l.count
 
 abbrev pub decreases-loop-nodes : goal.decreases-loop-nodes
-decreases-loop-nodes l = measure l.nodes l.rest
+decreases-loop-nodes l = 2 * (length l.input - l.count) + length l.nodes

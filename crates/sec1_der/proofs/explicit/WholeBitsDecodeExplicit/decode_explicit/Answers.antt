@@ -1,6 +1,5 @@
-use Rattle.std.proofs.Common.{◌≡◌, ◌==◌, ◌∷◌, false, ◌∙◌, refl}
-use Rattle.std.proofs.lemmas.Bool.{ne_eqb, false≢true}
-use Rattle.std.proofs.lemmas.Result.{err_from_is_err_and}
+use Rattle.std.proofs.Common.{◌≡◌, ◌==◌, ◌∷◌, false, ◌∙◌, refl, arith}
+use Rattle.std.proofs.lemmas.Bool.{ne_eqb, iff_false}
 use Rattle.sec1_der.proofs.ContentRefusals.{bits_refused, bits_field}
 use Rattle.sec1_der.proofs.explicit.WholeBitsDecodeExplicit.decode_explicit.Goals as goal
 
@@ -12,8 +11,8 @@ returns-in-Some-as_bytes-clause-found c =
 
 pub returns-in_err-bits-clause-kind : goal.returns-in_err-bits-clause-kind
 returns-in_err-bits-clause-kind c fresh =
-    let refusal = err_from_is_err_and c.from_residual.result c.from_residual.ensures.1 in
-    rw (refusal.1, refusal.2) (bits_refused c.args.number c.args.reader.now.unread _ (c.in_err-bits.ensures.kind fresh))
+    let fault = bits_refused c.args.number c.args.reader.now.unread _ (c.in_err-bits.ensures.kind fresh) in
+    grind arith
 
 pub returns-in-Some-as_bytes-clause-kind : goal.returns-in-Some-as_bytes-clause-kind
 returns-in-Some-as_bytes-clause-kind c fresh =
@@ -25,6 +24,6 @@ pub returns-in-None-clause-kind : goal.returns-in-None-clause-kind
 returns-in-None-clause-kind c fresh =
     let bits = c.in-Some.bits in
     let found = rw c.in-Some.is at c.in_ok-bits.ensures.found in
-    let unused : (bits.unused == 0) ≡ false = ne_eqb bits.unused 0 (λ zero. false≢true (c.in-None.ensures.within.1 zero)) in
+    let unused : (bits.unused == 0) ≡ false = ne_eqb bits.unused 0 (iff_false c.in-None.ensures.within refl) in
     bits_field c.args.number (bits.unused ∷ bits.bytes.now) c.args.reader.now c.context_specific.new.self found.1 found.2 (c.in_ok-bits.ensures.kind fresh)
     ∙ rw (unused, c.fail.ensures.error) refl
