@@ -60,36 +60,21 @@ record IsSpelled (high : ℕ) (bs ns : List ℕ) : Type 0 where
   pub row : marked (digits_of 128 high) ++ bs ≡ flat_map base128 ns
   pub small : AreSmall ns
 
--- a byte that ends a number, and one that goes on
-spelled_end : (high b : ℕ) (bs ns : List ℕ) → high < 2 ^ 25 → b < 128 → IsSpelled 0 bs ns → IsSpelled high (b ∷ bs) ((high * 128 + b % 128) ∷ ns)
-spelled_end high b bs ns small l s =
-    let low : b % 128 ≡ b = omega arith in
-    record { row = rw (low, div-mul-add high 128 b l, mod-mul-add high 128 b l, append_assoc, ← s.row) refl; small = (omega arith, s.small) }
-
-spelled_more : (high b : ℕ) (bs ns : List ℕ) → (high ≡ 0 → b ≡ 128 → ⊥) → 128 ≤ b → b < 256 → IsSpelled (high * 128 + b % 128) bs ns
-    → IsSpelled high (b ∷ bs) ns
-spelled_more high b bs ns lead l byte s =
-    let mark : 128 + b % 128 ≡ b = omega arith in
-    let some : 0 < high * 128 + b % 128 = grind arith in
-    let digits = digits_of-push 128 high (b % 128) (omega arith) (omega arith) some in
-    record { row = rw (digits, map-append, mark, append_assoc) at s.row; small = s.small }
-
 -- bytes that pass the test spell the numbers that are read of them
 spelled_after : (high : ℕ) (bs : List ℕ) → IsBytes bs → goes_on high bs ≡ true → IsSpelled high bs (numbers_after high bs)
 spelled_after high [] h e = rw (eqb-true high 0 e) (record { row = refl; small = tt })
 spelled_after high (b ∷ bs) h e = ⊎_elim
-    (λ l. let rest = spelled_after 0 bs (λ i. h (suc i)) (sym (goes_end high b bs small l) ∙ e) in
-    rw (numbers_end high b bs l) (spelled_end high b bs (numbers_after 0 bs) small l rest))
-    (λ l. let next = high * 128 + b % 128 in
-    rw (numbers_more high b bs l)
-    (spelled_more high b bs (numbers_after next bs) lead l (h 0) (spelled_after next bs (λ i. h (suc i)) (sym (goes_more high b bs lead small l) ∙ e))))
+    (λ l. let rest = spelled_after 0 bs (λ i. h (suc i)) (grind (arith, nat_tests)) in
+    let low : b % 128 ≡ b = omega arith in
+    rw (numbers_end high b bs l) (record {
+      row = rw (low, div-mul-add high 128 b l, mod-mul-add high 128 b l, append_assoc, ← rest.row) refl;
+      small = (omega (arith, goes_small high b bs e), rest.small);
+    }))
+    (λ l. let rest = spelled_after (high * 128 + b % 128) bs (λ i. h (suc i)) (grind (arith, nat_tests)) in
+    let mark : 128 + b % 128 ≡ b = omega (arith, h 0) in
+    let digits = digits_of-push 128 high (b % 128) (omega arith) (omega arith) (grind (arith, goes_lead high b bs e)) in
+    rw (numbers_more high b bs l) (record { row = rw (digits, map-append, mark, append_assoc) at rest.row; small = rest.small }))
     (cases_lt b 128)
-  where
-    small : high < 2 ^ 25
-    small = goes_small high b bs e
-
-    lead : high ≡ 0 → b ≡ 128 → ⊥
-    lead = goes_lead high b bs e
 
 -- ---- what is spelled goes on
 
@@ -98,45 +83,32 @@ pub marked_step : (n : ℕ) → 0 < n → marked (digits_of 128 n) ≡ marked (d
 marked_step n some = ap marked (digits_of_step 128 n (omega arith) some) ∙ map-append (λ digit. 128 + digit) (digits_of 128 (n / 128)) (n % 128 ∷ [])
 
 -- from the high digits the bytes are read as behind them all
-abbrev IsRead : ℕ → List ℕ → ℕ → List ℕ → Type 0
+abbrev pub IsRead : ℕ → List ℕ → ℕ → List ℕ → Type 0
 IsRead high bs next rest = (numbers_after high bs ≡ numbers_after next rest) × (goes_on high bs ≡ goes_on next rest)
 
 -- one digit is read
 read_digit : (n : ℕ) (rest : List ℕ) → 0 < n → n < 2 ^ 32 → IsRead (n / 128) ((128 + n % 128) ∷ rest) n rest
-read_digit n rest some small =
-    let whole : n / 128 * 128 + (128 + n % 128) % 128 ≡ n = omega arith in (
-      numbers_more (n / 128) (128 + n % 128) rest (omega arith) ∙ ap (λ m. numbers_after m rest) whole,
-      goes_more (n / 128) (128 + n % 128) rest (λ p q. omega arith) (omega arith) (omega arith) ∙ ap (λ m. goes_on m rest) whole,
-    )
+read_digit n rest some small = grind (arith, nat_tests)
 
 -- all digits but the last are read
 read_marked : (most n : ℕ) (rest : List ℕ) → n ≤ most → n < 2 ^ 32 → IsRead 0 (marked (digits_of 128 n) ++ rest) n rest
 read_marked most zero rest l small = (refl, refl)
 read_marked zero (suc n) rest l small = absurd (omega arith)
 read_marked (suc most) (suc n) rest l small =
-    let high = suc n / 128 in
-    let front = read_marked most high ((128 + suc n % 128) ∷ rest) (omega arith) (omega arith) in
-    let last = read_digit (suc n) rest (omega arith) small in
-    rw (marked_step (suc n) (omega arith), append_assoc) (front.0 ∙ last.0, front.1 ∙ last.1)
+    let front = read_marked most (suc n / 128) ((128 + suc n % 128) ∷ rest) (omega arith) (omega arith) in
+    rw (marked_step (suc n) (omega arith), append_assoc) (grind (arith, front, read_digit (suc n) rest))
 
 -- a number is read
 read_one : (n : ℕ) (rest : List ℕ) → n < 2 ^ 32
     → (numbers_after 0 (base128 n ++ rest) ≡ n ∷ numbers_after 0 rest) × (goes_on 0 (base128 n ++ rest) ≡ goes_on 0 rest)
 read_one n rest small =
     let front = read_marked (n / 128) (n / 128) (n % 128 ∷ rest) (omega arith) (omega arith) in
-    let whole : n / 128 * 128 + n % 128 % 128 ≡ n = omega arith in
-    rw append_assoc (
-      front.0 ∙ (numbers_end (n / 128) (n % 128) rest (omega arith) ∙ ap (λ m. m ∷ numbers_after 0 rest) whole),
-      front.1 ∙ goes_end (n / 128) (n % 128) rest (omega arith) (omega arith),
-    )
+    rw append_assoc (grind (arith, front, nat_tests))
 
 -- the numbers that are spelled are read
 read_all : (ns : List ℕ) → AreSmall ns → (numbers_after 0 (flat_map base128 ns) ≡ ns) × (goes_on 0 (flat_map base128 ns) ≡ true)
 read_all [] small = (refl, refl)
-read_all (n ∷ ns) small =
-    let one = read_one n (flat_map base128 ns) small.0 in
-    let rest = read_all ns small.1 in
-    (one.0 ∙ ap (λ xs. n ∷ xs) rest.0, one.1 ∙ rest.1)
+read_all (n ∷ ns) small = grind (arith, read_one n (flat_map base128 ns) small.0, read_all ns small.1)
 
 -- ---- arcs
 
