@@ -63,18 +63,10 @@ record IsSpelled (high : ℕ) (bs ns : List ℕ) : Type 0 where
 -- bytes that pass the test spell the numbers that are read of them
 spelled_after : (high : ℕ) (bs : List ℕ) → IsBytes bs → goes_on high bs ≡ true → IsSpelled high bs (numbers_after high bs)
 spelled_after high [] h e = rw (eqb-true high 0 e) (record { row = refl; small = tt })
-spelled_after high (b ∷ bs) h e = ⊎_elim
-    (λ l. let rest = spelled_after 0 bs (λ i. h (suc i)) (grind (arith, nat_tests)) in
-    let low : b % 128 ≡ b = omega arith in
-    rw (numbers_end high b bs l) (record {
-      row = rw (low, div-mul-add high 128 b l, mod-mul-add high 128 b l, append_assoc, ← rest.row) refl;
-      small = (omega (arith, goes_small high b bs e), rest.small);
-    }))
-    (λ l. let rest = spelled_after (high * 128 + b % 128) bs (λ i. h (suc i)) (grind (arith, nat_tests)) in
-    let mark : 128 + b % 128 ≡ b = omega (arith, h 0) in
-    let digits = digits_of-push 128 high (b % 128) (omega arith) (omega arith) (grind (arith, goes_lead high b bs e)) in
-    rw (numbers_more high b bs l) (record { row = rw (digits, map-append, mark, append_assoc) at rest.row; small = rest.small }))
-    (cases_lt b 128)
+spelled_after high (b ∷ bs) h e =
+    let n = high * 128 + b % 128 in
+    let tail = λ (i : ℕ). h (suc i) in
+    grind (arith, nat_tests, h 0, spelled_after 0 bs tail, spelled_after n bs tail, digits_of-push 128 high (b % 128), div-mul-add, mod-mul-add, map-append, append_assoc)
 
 -- ---- what is spelled goes on
 
@@ -86,29 +78,20 @@ marked_step n some = ap marked (digits_of_step 128 n (omega arith) some) ∙ map
 abbrev pub IsRead : ℕ → List ℕ → ℕ → List ℕ → Type 0
 IsRead high bs next rest = (numbers_after high bs ≡ numbers_after next rest) × (goes_on high bs ≡ goes_on next rest)
 
--- one digit is read
-read_digit : (n : ℕ) (rest : List ℕ) → 0 < n → n < 2 ^ 32 → IsRead (n / 128) ((128 + n % 128) ∷ rest) n rest
-read_digit n rest some small = grind (arith, nat_tests)
-
 -- all digits but the last are read
 read_marked : (most n : ℕ) (rest : List ℕ) → n ≤ most → n < 2 ^ 32 → IsRead 0 (marked (digits_of 128 n) ++ rest) n rest
 read_marked most zero rest l small = (refl, refl)
 read_marked zero (suc n) rest l small = absurd (omega arith)
 read_marked (suc most) (suc n) rest l small =
     let front = read_marked most (suc n / 128) ((128 + suc n % 128) ∷ rest) (omega arith) (omega arith) in
-    rw (marked_step (suc n) (omega arith), append_assoc) (grind (arith, front, read_digit (suc n) rest))
-
--- a number is read
-read_one : (n : ℕ) (rest : List ℕ) → n < 2 ^ 32
-    → (numbers_after 0 (base128 n ++ rest) ≡ n ∷ numbers_after 0 rest) × (goes_on 0 (base128 n ++ rest) ≡ goes_on 0 rest)
-read_one n rest small =
-    let front = read_marked (n / 128) (n / 128) (n % 128 ∷ rest) (omega arith) (omega arith) in
-    rw append_assoc (grind (arith, front, nat_tests))
+    rw (marked_step (suc n) (omega arith), append_assoc) (grind (arith, nat_tests, front))
 
 -- the numbers that are spelled are read
 read_all : (ns : List ℕ) → AreSmall ns → (numbers_after 0 (flat_map base128 ns) ≡ ns) × (goes_on 0 (flat_map base128 ns) ≡ true)
 read_all [] small = (refl, refl)
-read_all (n ∷ ns) small = grind (arith, read_one n (flat_map base128 ns) small.0, read_all ns small.1)
+read_all (n ∷ ns) small =
+    let rest = flat_map base128 ns in
+    rw append_assoc (grind (arith, nat_tests, read_marked (n / 128) (n / 128) (n % 128 ∷ rest), read_all ns small.1))
 
 -- ---- arcs
 
