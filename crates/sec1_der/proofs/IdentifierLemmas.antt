@@ -74,6 +74,9 @@ spelled_after high (b ∷ bs) h e =
 pub marked_step : (n : ℕ) → 0 < n → marked (digits_of 128 n) ≡ marked (digits_of 128 (n / 128)) ++ (128 + n % 128) ∷ []
 marked_step n some = ap marked (digits_of_step 128 n (omega arith) some) ∙ map-append (λ digit. 128 + digit) (digits_of 128 (n / 128)) (n % 128 ∷ [])
 
+-- that, and what goes with it, for the function that writes the digits
+pub ruleset marked_steps = (marked_step, append_assoc, length-append)
+
 -- from the high digits the bytes are read as behind them all
 abbrev pub IsRead : ℕ → List ℕ → ℕ → List ℕ → Type 0
 IsRead high bs next rest = (numbers_after high bs ≡ numbers_after next rest) × (goes_on high bs ≡ goes_on next rest)
@@ -93,43 +96,24 @@ read_all (n ∷ ns) small =
     let rest = flat_map base128 ns in
     rw append_assoc (grind (arith, nat_tests, read_marked (n / 128) (n / 128) (n % 128 ∷ rest), read_all ns small.1))
 
--- ---- arcs
-
--- two arcs are those of the number that they share
-two_arcs_again : (a b : ℕ) (cs : List ℕ) → a ≤ 2 → (a < 2 → b < 40) → arcs_of_numbers ((40 * a + b) ∷ cs) ≡ a ∷ b ∷ cs
-two_arcs_again a b cs h l = grind (arith, nat_tests)
-
--- arcs are those of their numbers
-arcs_again : (arcs : List ℕ) → AreArcs arcs → (arcs_of_numbers (subidentifiers arcs) ≡ arcs) × AreSmall (subidentifiers arcs)
-arcs_again [] h = absurd h
-arcs_again (a ∷ []) h = absurd h
-arcs_again (a ∷ b ∷ cs) h = (two_arcs_again a b cs h.0 h.1, (h.2, h.3))
-
--- small numbers are those of arcs
-allowed_arcs : (s : ℕ) (ns : List ℕ) → s < 2 ^ 32 → AreSmall ns → AreArcs (arcs_of_numbers (s ∷ ns))
-allowed_arcs s ns small all = grind (arith, nat_tests)
-
--- numbers are those of their arcs
-numbers_again : (s : ℕ) (ns : List ℕ) → subidentifiers (arcs_of_numbers (s ∷ ns)) ≡ s ∷ ns
-numbers_again s ns = grind (arith, nat_tests)
-
 -- ---- contents
 
 -- a content of arcs goes on, and the arcs are its own
 pub goes_on_from_spells : (arcs content : List ℕ) → Spells arcs content → (goes_on 0 content ≡ true) × (arcs_of content ≡ arcs)
-goes_on_from_spells arcs content s =
-    let again = arcs_again arcs s.allowed in
-    let read = read_all (subidentifiers arcs) again.1 in
-    rw s.spelled (read.1, ap arcs_of_numbers read.0 ∙ again.0)
+goes_on_from_spells [] content s = absurd s.allowed
+goes_on_from_spells (a ∷ []) content s = absurd s.allowed
+goes_on_from_spells (a ∷ b ∷ cs) content s = rw s.spelled (grind (arith, nat_tests, read_all ((40 * a + b) ∷ cs) (s.allowed.2, s.allowed.3)))
+
+-- numbers that are spelled are those of arcs
+spells_arcs : (content ns : List ℕ) → 0 < length content → IsSpelled 0 content ns → Spells (arcs_of_numbers ns) content
+spells_arcs content [] some s = absurd (omega (arith, ap length s.row))
+spells_arcs content (n ∷ ns) some s = grind (arith, nat_tests)
 
 -- the test decides whether bytes spell arcs
 pub goes_on-decides : (content : List ℕ) → IsBytes content → 0 < length content → (goes_on 0 content ≡ true) ↔ ((arcs : List ℕ) × Spells arcs content)
 goes_on-decides content h some =
-    (λ e. (arcs_of content, by (numbers_after 0 content) (spelled_after 0 content h e)), λ s. (goes_on_from_spells s.0 content s.1).0)
-  where
-    by : (ns : List ℕ) → IsSpelled 0 content ns → Spells (arcs_of_numbers ns) content
-    by [] s = absurd (omega (arith, ap length s.row))
-    by (n ∷ ns) s = record { allowed = allowed_arcs n ns s.small.0 s.small.1; spelled = s.row ∙ ap (flat_map base128) (sym (numbers_again n ns)) }
+    (λ e. (arcs_of content, spells_arcs content (numbers_after 0 content) some (spelled_after 0 content h e)),
+    λ s. (goes_on_from_spells s.0 content s.1).0)
 
 -- bytes that fail the test spell none
 pub not_spelled : (content : List ℕ) → goes_on 0 content ≡ false → (false ≡ true) ↔ ((arcs : List ℕ) × Spells arcs content)
@@ -144,22 +128,13 @@ stops_lead high content i l none lead = rw (drop_more content i 0 l) (grind (ari
 
 -- ---- the stored form
 
--- the content stands in front
-pub take_padded : (content bytes : List ℕ) → bytes ≡ padded content → take (length content) bytes ≡ content
-take_padded content bytes e = rw e (take_at content (replicate (MAX_CONTENT - length content) 0) (length content) refl)
-
 -- the content of an identifier in front, zeros behind it, and its length hold the identifier
-pub content_is_stored : (arcs content : List ℕ) (o : Inside) → IsIdentifier arcs content → o.bytes ≡ padded content → o.len ≡ length content → IsStored o × (arcs_stored o ≡ arcs)
+pub content_is_stored : (arcs content : List ℕ) (o : Inside) → IsIdentifier arcs content → o.bytes ≡ padded content → o.len ≡ length content
+    → IsStored o × (arcs_stored o ≡ arcs)
 content_is_stored arcs content o is all count =
-    let kept : take o.len o.bytes ≡ content = rw count (take_padded content o.bytes all) in
-    let own : arcs_stored o ≡ arcs = ap arcs_of kept ∙ (goes_on_from_spells arcs content is.spells).1 in
-    (record { identifier = rw (own, kept) is; length_kept = ap length kept ∙ sym count; zeros = all ∙ ap padded (sym kept) }, own)
+    grind (arith, goes_on_from_spells arcs content is.spells, take_at content (replicate (MAX_CONTENT - length content) 0))
 
 -- ---- writing
-
--- one digit more than the high ones
-pub marked_step_length : (n : ℕ) → 0 < n → length (marked (digits_of 128 n)) ≡ length (marked (digits_of 128 (n / 128))) + 1
-marked_step_length n some = ap length (marked_step n some) ∙ length-append (marked (digits_of 128 (n / 128))) ((128 + n % 128) ∷ [])
 
 -- an identifier has this content, and an element can hold it
 pub identifier_fits : (arcs content : List ℕ) → IsIdentifier arcs content → (identifier_content arcs ≡ Some content) × (length content ≤ MAX_CONTENT)
