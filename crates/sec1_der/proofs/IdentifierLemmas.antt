@@ -32,26 +32,10 @@ small_push (m ∷ ns) n s h = (s.0, small_push ns n s.1 h)
 
 -- ---- one byte
 
--- a byte below 80 ends a number, any other goes on
-pub numbers_end : (high b : ℕ) (bs : List ℕ) → b < 128 → numbers_after high (b ∷ bs) ≡ (high * 128 + b % 128) ∷ numbers_after 0 bs
-numbers_end high b bs l = grind (arith, nat_tests)
-
-pub numbers_more : (high b : ℕ) (bs : List ℕ) → 128 ≤ b → numbers_after high (b ∷ bs) ≡ numbers_after (high * 128 + b % 128) bs
-numbers_more high b bs l = grind (arith, nat_tests)
-
--- the same of the test
-pub goes_end : (high b : ℕ) (bs : List ℕ) → high < 2 ^ 25 → b < 128 → goes_on high (b ∷ bs) ≡ goes_on 0 bs
-goes_end high b bs small l = grind (arith, nat_tests)
-
-pub goes_more : (high b : ℕ) (bs : List ℕ) → (high ≡ 0 → b ≡ 128 → ⊥) → high < 2 ^ 25 → 128 ≤ b → goes_on high (b ∷ bs) ≡ goes_on (high * 128 + b % 128) bs
-goes_more high b bs lead small l = grind (arith, nat_tests)
-
--- no leading 80, and digits with room for one more
-pub goes_lead : (high b : ℕ) (bs : List ℕ) → goes_on high (b ∷ bs) ≡ true → high ≡ 0 → b ≡ 128 → ⊥
-goes_lead high b bs e p q = grind (arith, nat_tests)
-
-pub goes_small : (high b : ℕ) (bs : List ℕ) → goes_on high (b ∷ bs) ≡ true → high < 2 ^ 25
-goes_small high b bs e = grind (arith, nat_tests)
+-- where the bytes go on, the digits so far have room for one more, and the bytes behind the first go on
+pub goes_past : (high b : ℕ) (bs : List ℕ) → goes_on high (b ∷ bs) ≡ true
+    → (high < 2 ^ 25) × (goes_on (cond (ltb b 128) 0 (high * 128 + b % 128)) bs ≡ true)
+goes_past high b bs e = grind (arith, nat_tests)
 
 -- ---- what goes on is spelled so
 

@@ -1,8 +1,8 @@
-use Rattle.std.proofs.Common.{Ok, ap, ◌∙◌, refl, lit<}
+use Rattle.std.proofs.Common.{Ok, ap, ◌∙◌, refl, lit<, arith}
 use Rattle.std.proofs.lemmas.List.{length_push}
 use Rattle.std.proofs.lemmas.Iterator.Splits.{YieldsList-from_str_split}
 use Rattle.std.proofs.lemmas.Iterator.Consumers.{YieldsList-turn, YieldsList-end}
-use Rattle.sec1_der.proofs.DottedLemmas.{next_piece, no_piece, read_arc, piece_is_arc, identifier_goes_on, all_read, text_is_dotted, few_arcs}
+use Rattle.sec1_der.proofs.DottedLemmas.{next_piece, no_piece, read_arc, piece_is_arc, identifier_goes_on, all_read, text_is_dotted, arcs_small}
 use Rattle.sec1_der.proofs.object_identifier.ObjectIdentifier.new.Goals as goal
 
 pub returns-in_default-clause-only : goal.returns-in_default-clause-only
@@ -47,4 +47,4 @@ returns-in-None-content-clause-only c arcs id e =
     let split = YieldsList-from_str_split {s = c.into_iter-piece-iterator.result} 46 c.args.text.now (lit< tt) (cc) (cc) (cc) in
     let t = YieldsList-end split c.loop-piece.yielded _ c.loop-piece.yielded_by _ _ c.in-None.is c.next.ensures.steps in
     let all = all_read arcs (no_piece c.loop-piece.invariant t.1) id.spells.allowed e in
-    absurd (few_arcs arcs id.spells.allowed (rw all at c.in-None-content.ensures.none))
+    absurd (omega (arith, (arcs_small arcs id.spells.allowed).1, rw all at c.in-None-content.ensures.none))
