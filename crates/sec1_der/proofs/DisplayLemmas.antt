@@ -1,9 +1,11 @@
 -- The dotted text of the numbers that are left.
-use Rattle.std.proofs.Common.{◌≡◌, ℕ, ◌+◌, ◌*◌, ◌%◌, ◌<◌, ◌≤◌, Bool, true, false, List, [], ◌∷◌, ◌++◌, map, refl, ap, sym, ◌∙◌, arith}
+use Rattle.std.proofs.Common.{◌≡◌, ℕ, ◌+◌, ◌*◌, ◌%◌, ◌<◌, ◌≤◌, Bool, true, false, List, [], ◌∷◌, ◌++◌, map, refl, ap, sym, ◌∙◌, arith, rules}
 use Rattle.std.proofs.lemmas.List.{append_assoc, append-nil}
 use Rattle.std.proofs.lemmas.Bool.Decides.{nat_tests}
 use Rattle.std.specs.List.{flat_map, join_with_byte}
-use Rattle.std.specs.Fmt.{decimal}
+use Rattle.std.specs.Fmt.{decimal, HasWritten, IsPlainFormatter}
+use Rattle.std.proofs.Output.{has_written_append}
+use Rattle.std.specs.declared.fmt.Formatter.{Formatter}
 use Rattle.sec1_der.specs.ArcsOf.{numbers_after, arcs_of_numbers}
 use Rattle.sec1_der.specs.Identifiers.{dotted}
 
@@ -18,6 +20,22 @@ text_after false high bs = further_text (numbers_after high bs)
 joined_text : (x : List ℕ) (ns : List ℕ) → join_with_byte 46 (x ∷ map decimal ns) ≡ x ++ further_text ns
 joined_text x [] = sym (append-nil x)
 joined_text x (n ∷ ns) = ap (λ xs. x ++ (46 ∷ xs)) (joined_text (decimal n) ns)
+
+-- all of a text but the rest was written
+pub record IsShown {W : Type 0} (took : W → List ℕ → W → Type 0) (f g : Formatter W) (rest all : List ℕ) : Type 0 where
+  pub written : List ℕ
+  pub wrote : HasWritten took f written g
+  pub row : written ++ rest ≡ all
+
+-- at the beginning all is left
+pub shown_none : {W : Type 0} (took : W → List ℕ → W → Type 0) (f : Formatter W) (all : List ℕ) → IsPlainFormatter f → IsShown took f f all all
+shown_none took f all plain = record { written = []; wrote = search rules; row = refl }
+
+-- a further piece is written
+pub shown_more : {W : Type 0} (took : W → List ℕ → W → Type 0) (e f g : Formatter W) (text piece rest all : List ℕ) → IsShown took e f text all
+    → HasWritten took f piece g → text ≡ piece ++ rest → IsShown took e g rest all
+shown_more took e f g text piece rest all s wrote parts =
+    record { written = s.written ++ piece; wrote = has_written_append _ _ _ _ _ _ s.wrote wrote; row = grind (arith, append_assoc, s.row) }
 
 -- a byte that goes on adds no text
 pub text_more : (first : Bool) (high b : ℕ) (bs : List ℕ) → 128 ≤ b → text_after first high (b ∷ bs) ≡ text_after first (high * 128 + b % 128) bs
