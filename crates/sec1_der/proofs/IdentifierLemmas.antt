@@ -30,13 +30,6 @@ pub small_push : (ns : List ℕ) (n : ℕ) → AreSmall ns → n < 2 ^ 32 → Ar
 small_push [] n s h = (h, tt)
 small_push (m ∷ ns) n s h = (s.0, small_push ns n s.1 h)
 
--- ---- one byte
-
--- where the bytes go on, the digits so far have room for one more, and the bytes behind the first go on
-pub goes_past : (high b : ℕ) (bs : List ℕ) → goes_on high (b ∷ bs) ≡ true
-    → (high < 2 ^ 25) × (goes_on (cond (ltb b 128) 0 (high * 128 + b % 128)) bs ≡ true)
-goes_past high b bs e = grind (arith, nat_tests)
-
 -- ---- what goes on is spelled so
 
 -- behind the digits so far the bytes spell these numbers

@@ -1,7 +1,7 @@
 use Rattle.std.proofs.Common.{◌+◌, drop, get_or, arith}
 use Rattle.std.proofs.lemmas.Bool.Decides.{nat_tests}
 use Rattle.std.proofs.lemmas.List.{drop_more}
-use Rattle.sec1_der.proofs.IdentifierLemmas.{goes_on_from_spells, goes_past}
+use Rattle.sec1_der.proofs.IdentifierLemmas.{goes_on_from_spells}
 use Rattle.sec1_der.proofs.DisplayLemmas.{shown_none, shown_more, text_more, text_first, text_next}
 use Rattle.sec1_der.proofs.object_identifier.ObjectIdentifierDisplay.fmt.Goals as goal
 
@@ -15,5 +15,5 @@ loop-b-preserved g c =
     let b = get_or content c.loop-b.b-index 0 in
     let behind = drop (c.loop-b.b-index + 1) content in
     let here = drop_more content c.loop-b.b-index 0 c.loop-b-test.true in
-    let goes = goes_past high b behind (rw here at c.loop-b.invariant.goes) in
+    let goes = rw here at c.loop-b.invariant.goes in
     grind (arith, nat_tests, shown_more, text_more c.loop-b.first high b behind, text_next high b behind, text_first high b)
