@@ -1,12 +1,11 @@
 -- The dotted text of the numbers that are left.
 use Rattle.std.proofs.Common.{◌≡◌, ℕ, ◌+◌, ◌*◌, ◌%◌, ◌<◌, ◌≤◌, Bool, cond, List, [], ◌∷◌, ◌++◌, map, refl, ap, sym, ◌∙◌, arith, rules}
 use Rattle.std.proofs.lemmas.List.{append_assoc, append-nil}
-use Rattle.std.proofs.lemmas.Bool.Decides.{nat_tests}
 use Rattle.std.specs.List.{flat_map, join_with_byte}
 use Rattle.std.specs.Fmt.{decimal, HasWritten, IsPlainFormatter}
 use Rattle.std.proofs.Output.{has_written_append}
 use Rattle.std.specs.declared.fmt.Formatter.{Formatter}
-use Rattle.sec1_der.specs.ArcsOf.{numbers_after, arcs_of_numbers}
+use Rattle.sec1_der.specs.ArcsOf.{arcs_of_numbers}
 use Rattle.sec1_der.specs.Identifiers.{dotted}
 
 abbrev pub further_text : List ℕ → List ℕ

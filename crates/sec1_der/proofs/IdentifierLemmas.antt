@@ -96,12 +96,13 @@ goes_on-decides content h some =
 pub not_spelled : (content : List ℕ) → goes_on 0 content ≡ false → (false ≡ true) ↔ ((arcs : List ℕ) × Spells arcs content)
 not_spelled content e = (λ h. absurd (false≢true h), λ s. sym e ∙ (goes_on_from_spells s.0 content s.1).0)
 
--- a byte that stops the reading
-pub stops_large : (high : ℕ) (content : List ℕ) (i : ℕ) → i < length content → 2 ^ 25 ≤ high → goes_on high (drop i content) ≡ false
-stops_large high content i l large = rw (drop_more content i 0 l) (grind (arith, nat_tests))
+-- one byte is read
+pub read_byte : (high i : ℕ) (content : List ℕ) → i < length content → (goes_on high (drop i content) ≡ goes_on high (get_or content i 0 ∷ drop (i + 1) content))
+    × (numbers_after high (drop i content) ≡ numbers_after high (get_or content i 0 ∷ drop (i + 1) content))
+read_byte high i content l = rw (drop_more content i 0 l) (refl, refl)
 
-pub stops_lead : (high : ℕ) (content : List ℕ) (i : ℕ) → i < length content → high ≡ 0 → get_or content i 0 ≡ 128 → goes_on high (drop i content) ≡ false
-stops_lead high content i l none lead = rw (drop_more content i 0 l) (grind (arith, nat_tests))
+-- that, for the loops over a content
+pub ruleset content_steps = (nat_tests, read_byte)
 
 -- ---- the stored form
 
