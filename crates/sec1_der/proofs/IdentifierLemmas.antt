@@ -107,9 +107,9 @@ pub ruleset content_steps = (nat_tests, read_byte)
 -- ---- the stored form
 
 -- the content of an identifier in front, zeros behind it, and its length hold the identifier
-pub content_is_stored : (arcs content : List ℕ) (o : Inside) → IsIdentifier arcs content → o.bytes ≡ padded content → o.len ≡ length content
-    → IsStored o × (arcs_stored o ≡ arcs)
-content_is_stored arcs content o is all count =
+pub content_is_stored : (arcs content : List ℕ) → IsIdentifier arcs content → let o : Inside = record { bytes = padded content; len = length content } in
+    IsStored o × (arcs_stored o ≡ arcs)
+content_is_stored arcs content is =
     grind (arith, goes_on_from_spells arcs content is.spells, take_at content (replicate (MAX_CONTENT - length content) 0))
 
 -- ---- writing
