@@ -215,7 +215,7 @@ impl ValueContent for ObjectIdentifier {
 }
 
 impl<'a> DecodeValue<'a> for ObjectIdentifier {
-    #[tactic(auto, using(crate::proofs::ContentRefusals::identifier_taken, crate::proofs::ContentRefusals::identifier_refused))]
+    #[tactic(auto, using(crate::proofs::ContentRefusals::identifier_taken, crate::proofs::ContentRefusals::identifier_refused, crate::proofs::IdentifierLemmas::identifier_fits))]
     fn decode_value(reader: &mut SliceReader<'a>) -> Result<Self> {
         match ObjectIdentifier::from_bytes(reader.read_rest()?) {
             Ok(identifier) => Ok(identifier),
