@@ -120,29 +120,15 @@ identifier_fits arcs content is = (identifier_content-valid arcs content is, is.
 
 -- ---- building
 
--- a content that was made of arcs is that of its own arcs, which are these
-pub record IsContentOfArcs (content arcs : List ℕ) : Type 0 where
-  pub arcs_are : arcs_of content ≡ arcs
-  pub spells : Spells (arcs_of content) content
+-- two arcs: a content that was made of them is theirs
+pub first_two : (a b n : ℕ) (content : List ℕ) → AreArcs (a ∷ b ∷ []) → n ≡ 40 * a + b → content ≡ base128 n
+    → Spells (arcs_of content) content × (arcs_of content ≡ a ∷ b ∷ [])
+first_two a b n content allowed shared is = grind (arith, goes_on_from_spells (a ∷ b ∷ []) content, append-nil)
 
--- a content of arcs is that of its own
-content_of_arcs : (arcs content : List ℕ) → Spells arcs content → IsContentOfArcs content arcs
-content_of_arcs arcs content s =
-    let same = (goes_on_from_spells arcs content s).1 in
-    record { arcs_are = same; spells = rw same s }
-
--- two arcs, and one more
-pub first_two : (a b n : ℕ) (content : List ℕ) → AreArcs (a ∷ b ∷ []) → n ≡ 40 * a + b → content ≡ base128 n → IsContentOfArcs content (a ∷ b ∷ [])
-first_two a b n content allowed shared is =
-    content_of_arcs (a ∷ b ∷ []) content (record { allowed = allowed; spelled = is ∙ rw (shared, append-nil) refl })
-
+-- the same of one more arc
 pub one_more_arc : (arcs content : List ℕ) (n : ℕ) (more : List ℕ) → Spells arcs content → n < 2 ^ 32 → more ≡ content ++ base128 n
-    → IsContentOfArcs more (arcs ++ n ∷ [])
+    → Spells (arcs_of more) more × (arcs_of more ≡ arcs ++ n ∷ [])
 one_more_arc [] content n more s small is = absurd s.allowed
 one_more_arc (a ∷ []) content n more s small is = absurd s.allowed
 one_more_arc (a ∷ b ∷ cs) content n more s small is =
-    let h = s.allowed in
-    content_of_arcs (a ∷ b ∷ (cs ++ n ∷ [])) more (record {
-      allowed = (h.0, h.1, h.2, small_push cs n h.3 small);
-      spelled = is ∙ rw s.spelled (flat_map_more base128 (base128 (40 * a + b)) cs n);
-    })
+    grind (arith, goes_on_from_spells (a ∷ b ∷ (cs ++ n ∷ [])) more, small_push cs n s.allowed.3 small, flat_map_more base128 (base128 (40 * a + b)) cs n)
