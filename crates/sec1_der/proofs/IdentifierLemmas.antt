@@ -43,28 +43,25 @@ spelled_after high [] h e = rw (eqb-true high 0 e) (record { row = refl; small =
 spelled_after high (b ∷ bs) h e =
     let n = high * 128 + b % 128 in
     let tail = λ (i : ℕ). h (suc i) in
-    grind (arith, nat_tests, h 0, spelled_after 0 bs tail, spelled_after n bs tail, digits_of-push 128 high (b % 128), div-mul-add, mod-mul-add, map-append, append_assoc)
+    let digits = digits_of-push 128 high (b % 128) in
+    grind (arith, nat_tests, h 0, spelled_after 0 bs tail, spelled_after n bs tail, digits, div-mul-add, mod-mul-add, map-append, append_assoc)
 
 -- ---- what is spelled goes on
 
 -- the digits of a number, without the last
 pub marked_step : (n : ℕ) → 0 < n → marked (digits_of 128 n) ≡ marked (digits_of 128 (n / 128)) ++ (128 + n % 128) ∷ []
-marked_step n some = ap marked (digits_of_step 128 n (omega arith) some) ∙ map-append (λ digit. 128 + digit) (digits_of 128 (n / 128)) (n % 128 ∷ [])
+marked_step n some = grind (arith, digits_of_step 128 n, map-append)
 
 -- that, and what goes with it, for the function that writes the digits
 pub ruleset marked_steps = (marked_step, append_assoc, length-append)
 
--- from the high digits the bytes are read as behind them all
-abbrev pub IsRead : ℕ → List ℕ → ℕ → List ℕ → Type 0
-IsRead high bs next rest = (numbers_after high bs ≡ numbers_after next rest) × (goes_on high bs ≡ goes_on next rest)
-
 -- all digits but the last are read
-read_marked : (most n : ℕ) (rest : List ℕ) → n ≤ most → n < 2 ^ 32 → IsRead 0 (marked (digits_of 128 n) ++ rest) n rest
+read_marked : (most n : ℕ) (rest : List ℕ) → n ≤ most → n < 2 ^ 32 → let bytes = marked (digits_of 128 n) ++ rest in
+    (numbers_after 0 bytes ≡ numbers_after n rest) × (goes_on 0 bytes ≡ goes_on n rest)
 read_marked most zero rest l small = (refl, refl)
 read_marked zero (suc n) rest l small = absurd (omega arith)
 read_marked (suc most) (suc n) rest l small =
-    let front = read_marked most (suc n / 128) ((128 + suc n % 128) ∷ rest) (omega arith) (omega arith) in
-    rw (marked_step (suc n) (omega arith), append_assoc) (grind (arith, nat_tests, front))
+    rw (marked_step (suc n) (omega arith), append_assoc) (grind (arith, nat_tests, read_marked most (suc n / 128) ((128 + suc n % 128) ∷ rest)))
 
 -- the numbers that are spelled are read
 read_all : (ns : List ℕ) → AreSmall ns → (numbers_after 0 (flat_map base128 ns) ≡ ns) × (goes_on 0 (flat_map base128 ns) ≡ true)
@@ -88,13 +85,10 @@ spells_arcs content (n ∷ ns) some s = grind (arith, nat_tests)
 
 -- the test decides whether bytes spell arcs
 pub goes_on-decides : (content : List ℕ) → IsBytes content → 0 < length content → (goes_on 0 content ≡ true) ↔ ((arcs : List ℕ) × Spells arcs content)
-goes_on-decides content h some =
-    (λ e. (arcs_of content, spells_arcs content (numbers_after 0 content) some (spelled_after 0 content h e)),
-    λ s. (goes_on_from_spells s.0 content s.1).0)
-
--- bytes that fail the test spell none
-pub not_spelled : (content : List ℕ) → goes_on 0 content ≡ false → (false ≡ true) ↔ ((arcs : List ℕ) × Spells arcs content)
-not_spelled content e = (λ h. absurd (false≢true h), λ s. sym e ∙ (goes_on_from_spells s.0 content s.1).0)
+goes_on-decides content h some = (
+  λ e. (arcs_of content, spells_arcs content (numbers_after 0 content) some (spelled_after 0 content h e)),
+  λ s. (goes_on_from_spells s.0 content s.1).0,
+)
 
 -- one byte is read
 pub read_byte : (high i : ℕ) (content : List ℕ) → i < length content → (goes_on high (drop i content) ≡ goes_on high (get_or content i 0 ∷ drop (i + 1) content))

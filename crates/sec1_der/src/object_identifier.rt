@@ -123,7 +123,7 @@ impl ObjectIdentifier {
 }
 
 /// Returns `true` if the bytes are one or more subidentifiers, each below 2^32 (X.690 section 8.19.2).
-#[tactic(auto, using(crate::proofs::IdentifierLemmas::content_steps, crate::proofs::IdentifierLemmas::not_spelled))]
+#[tactic(auto, using(crate::proofs::IdentifierLemmas::content_steps, crate::proofs::IdentifierLemmas::goes_on_from_spells))]
 fn is_content(content: &[u8]) -> bool
     ensures { IsTrue result ↔ ((arcs : List ℕ) × Spells arcs content.now) }
 {
@@ -215,7 +215,7 @@ impl ValueContent for ObjectIdentifier {
 }
 
 impl<'a> DecodeValue<'a> for ObjectIdentifier {
-    #[tactic(auto, using(crate::proofs::ContentRefusals::identifier_taken, crate::proofs::ContentRefusals::identifier_refused, crate::proofs::IdentifierLemmas::identifier_fits))]
+    #[tactic(auto, using(crate::proofs::ContentRefusals::identifier_taken, crate::proofs::ContentRefusals::identifier_refused))]
     fn decode_value(reader: &mut SliceReader<'a>) -> Result<Self> {
         match ObjectIdentifier::from_bytes(reader.read_rest()?) {
             Ok(identifier) => Ok(identifier),
