@@ -1,7 +1,7 @@
 -- Which contents are identifiers', and what their arcs are.
 use Rattle.std.proofs.Common.{◌≡◌, ℕ, zero, suc, ◌+◌, ◌-◌, ◌*◌, ◌/◌, ◌%◌, ◌^◌, ◌<◌, ◌≤◌, Bool, true, false, cond, ◌&&◌, eqb, ltb, List, [], ◌∷◌, ◌++◌}
 use Rattle.std.proofs.Common.{Some, length, get_or, take, drop, replicate, ◌↔◌, refl, ap, sym, ◌∙◌, arith, ⊎_elim}
-use Rattle.std.proofs.lemmas.Bool.{eqb-true, cases_lt, false≢true}
+use Rattle.std.proofs.lemmas.Bool.{eqb-true}
 use Rattle.std.proofs.lemmas.Bool.Decides.{nat_tests}
 use Rattle.std.proofs.lemmas.List.{append_assoc, append-nil, flat_map_more, map-append, length-append, drop_more, take_at}
 use Rattle.std.proofs.lemmas.Nat.{div-mul-add, mod-mul-add}
@@ -12,7 +12,7 @@ use Rattle.sec1_der.specs.Numbers.{base128, marked}
 use Rattle.sec1_der.specs.Stored.{arcs_stored, IsStored}
 use Rattle.sec1_der.specs.declared.object_identifier.ObjectIdentifier.TheInside.{Inside}
 use Rattle.sec1_der.specs.ArcsOf.{padded, numbers_after, arcs_of_numbers, arcs_of}
-use Rattle.sec1_der.specs.Identifiers.{AreArcs, subidentifiers, Spells, IsIdentifier, identifier_content}
+use Rattle.sec1_der.specs.Identifiers.{AreArcs, Spells, IsIdentifier, identifier_content}
 use Rattle.sec1_der.specs.IdentifierLaws.{identifier_content-valid}
 use Rattle.sec1_der.specs.declared.object_identifier.TheConstants.{MAX_CONTENT}
 use Rattle.sec1_der.proofs.DigitLemmas.{IsBytes, digits_of-push}
@@ -91,7 +91,8 @@ goes_on-decides content h some = (
 )
 
 -- one byte is read
-pub read_byte : (high i : ℕ) (content : List ℕ) → i < length content → (goes_on high (drop i content) ≡ goes_on high (get_or content i 0 ∷ drop (i + 1) content))
+pub read_byte : (high i : ℕ) (content : List ℕ) → i < length content
+    → (goes_on high (drop i content) ≡ goes_on high (get_or content i 0 ∷ drop (i + 1) content))
     × (numbers_after high (drop i content) ≡ numbers_after high (get_or content i 0 ∷ drop (i + 1) content))
 read_byte high i content l = rw (drop_more content i 0 l) (refl, refl)
 
