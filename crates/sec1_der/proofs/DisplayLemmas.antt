@@ -8,6 +8,7 @@ use Rattle.std.specs.declared.fmt.Formatter.{Formatter}
 use Rattle.sec1_der.specs.ArcsOf.{arcs_of_numbers}
 use Rattle.sec1_der.specs.Identifiers.{dotted}
 
+-- each number behind a full stop
 abbrev pub further_text : List ℕ → List ℕ
 further_text ns = flat_map (λ n. 46 ∷ decimal n) ns
 

@@ -1,7 +1,6 @@
 -- Which contents are identifiers', and what their arcs are.
 use Rattle.std.proofs.Common.{◌≡◌, ℕ, zero, suc, ◌+◌, ◌-◌, ◌*◌, ◌/◌, ◌%◌, ◌^◌, ◌<◌, ◌≤◌, Bool, true, false, cond, ◌&&◌, eqb, ltb, List, [], ◌∷◌, ◌++◌}
-use Rattle.std.proofs.Common.{Some, length, get_or, take, drop, replicate, ◌↔◌, refl, ap, sym, ◌∙◌, arith, ⊎_elim}
-use Rattle.std.proofs.lemmas.Bool.{eqb-true}
+use Rattle.std.proofs.Common.{Some, length, get_or, drop, ◌↔◌, refl, ap, arith}
 use Rattle.std.proofs.lemmas.Bool.Decides.{nat_tests}
 use Rattle.std.proofs.lemmas.List.{append_assoc, append-nil, flat_map_more, map-append, length-append, drop_more, take_at}
 use Rattle.std.proofs.lemmas.Nat.{div-mul-add, mod-mul-add}
@@ -22,6 +21,7 @@ abbrev pub goes_on : ℕ → List ℕ → Bool
 goes_on high [] = eqb high 0
 goes_on high (b ∷ bs) = cond (eqb high 0 && eqb b 128) false (cond (ltb high (2 ^ 25)) (goes_on (cond (ltb b 128) 0 (high * 128 + b % 128)) bs) false)
 
+-- each number is below 2^32
 abbrev pub AreSmall : List ℕ → Type 0
 AreSmall ns = AllByRecursion (λ n. n < 2 ^ 32) ns
 
@@ -39,7 +39,7 @@ record IsSpelled (high : ℕ) (bs ns : List ℕ) : Type 0 where
 
 -- bytes that pass the test spell the numbers that are read of them
 spelled_after : (high : ℕ) (bs : List ℕ) → IsBytes bs → goes_on high bs ≡ true → IsSpelled high bs (numbers_after high bs)
-spelled_after high [] h e = rw (eqb-true high 0 e) (record { row = refl; small = tt })
+spelled_after high [] h e = grind (arith, nat_tests)
 spelled_after high (b ∷ bs) h e =
     let n = high * 128 + b % 128 in
     let tail = λ (i : ℕ). h (suc i) in
@@ -52,7 +52,7 @@ spelled_after high (b ∷ bs) h e =
 pub marked_step : (n : ℕ) → 0 < n → marked (digits_of 128 n) ≡ marked (digits_of 128 (n / 128)) ++ (128 + n % 128) ∷ []
 marked_step n some = grind (arith, digits_of_step 128 n, map-append)
 
--- that, and what goes with it, for the function that writes the digits
+-- what the function that writes the digits takes
 pub ruleset marked_steps = (marked_step, append_assoc, length-append)
 
 -- all digits but the last are read
@@ -96,7 +96,7 @@ pub read_byte : (high i : ℕ) (content : List ℕ) → i < length content
     × (numbers_after high (drop i content) ≡ numbers_after high (get_or content i 0 ∷ drop (i + 1) content))
 read_byte high i content l = rw (drop_more content i 0 l) (refl, refl)
 
--- that, for the loops over a content
+-- what the loops over a content take
 pub ruleset content_steps = (nat_tests, read_byte)
 
 -- ---- the stored form
@@ -104,8 +104,7 @@ pub ruleset content_steps = (nat_tests, read_byte)
 -- the content of an identifier in front, zeros behind it, and its length hold the identifier
 pub content_is_stored : (arcs content : List ℕ) → IsIdentifier arcs content → let o : Inside = record { bytes = padded content; len = length content } in
     IsStored o × (arcs_stored o ≡ arcs)
-content_is_stored arcs content is =
-    grind (arith, goes_on_from_spells arcs content is.spells, take_at content (replicate (MAX_CONTENT - length content) 0))
+content_is_stored arcs content is = grind (arith, goes_on_from_spells arcs content is.spells, take_at)
 
 -- ---- writing
 

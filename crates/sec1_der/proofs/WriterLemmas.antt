@@ -8,7 +8,7 @@ use Rattle.sec1_der.specs.declared.back_writer.BackWriter.{BackWriter}
 use Rattle.sec1_der.specs.declared.error.Error.{Error}
 use Rattle.sec1_der.specs.declared.slice_writer.SliceWriter.{SliceWriter}
 
--- an element that is there: its content, and its length
+-- what the writers of elements take: the content of an element that is there, and lengths
 pub ruleset element_parts = (element_of-some, length-append)
 
 -- bytes, and then more behind them
