@@ -1,6 +1,5 @@
 -- The dotted text of the numbers that are left.
-use Rattle.std.proofs.Common.{◌≡◌, ℕ, Bool, cond, List, [], ◌∷◌, ◌++◌, map, refl, ap, sym, arith, rules}
-use Rattle.std.proofs.lemmas.List.{append_assoc, append-nil}
+use Rattle.std.proofs.Common.{◌≡◌, ℕ, Bool, cond, List, [], ◌∷◌, ◌++◌, map, refl, ap, sym, arith, rules, append_assoc, append-nil}
 use Rattle.std.specs.List.{flat_map, join_with_byte}
 use Rattle.std.specs.Fmt.{decimal, HasWritten, IsPlainFormatter}
 use Rattle.std.proofs.Output.{has_written_append}

@@ -1,6 +1,6 @@
 -- What two calls of a writer do, one after the other; what is written where bytes are there; a count of bytes.
-use Rattle.std.proofs.Common.{◌≡◌, ℕ, List, ◌++◌, length, Option, Some, None, IsSomeAnd, Result, IsOk, refl, arith}
-use Rattle.std.proofs.lemmas.List.{append_assoc, length-append, drop-drop, take-take}
+use Rattle.std.proofs.Common.{◌≡◌, ℕ, List, ◌++◌, length, Option, Some, None, IsSomeAnd, Result, IsOk, refl, arith, append_assoc, length-append}
+use Rattle.std.proofs.lemmas.List.{drop-drop, take-take}
 use Rattle.sec1_der.proofs.ElementLemmas.{element_of-some}
 use Rattle.sec1_der.specs.BackWriters.{PutsInFront}
 use Rattle.sec1_der.specs.SliceWriters.{Appends}
