@@ -114,12 +114,12 @@ identifier_fits arcs content is = (identifier_content-valid arcs content is, is.
 
 -- ---- building
 
--- two arcs: a content that was made of them is theirs
+-- a content that was made of two arcs is that of its own arcs, which are these
 pub first_two : (a b n : ℕ) (content : List ℕ) → AreArcs (a ∷ b ∷ []) → n ≡ 40 * a + b → content ≡ base128 n
     → Spells (arcs_of content) content × (arcs_of content ≡ a ∷ b ∷ [])
 first_two a b n content allowed shared is = grind (arith, goes_on_from_spells (a ∷ b ∷ []) content, append-nil)
 
--- the same of one more arc
+-- the same of a content with one more arc behind it
 pub one_more_arc : (arcs content : List ℕ) (n : ℕ) (more : List ℕ) → Spells arcs content → n < 2 ^ 32 → more ≡ content ++ base128 n
     → Spells (arcs_of more) more × (arcs_of more ≡ arcs ++ n ∷ [])
 one_more_arc [] content n more s small is = absurd s.allowed
