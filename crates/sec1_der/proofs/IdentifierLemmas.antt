@@ -1,7 +1,6 @@
 -- Which contents are identifiers', and what their arcs are.
-use Rattle.std.proofs.Common.{◌≡◌, ℕ, zero, suc, ◌+◌, ◌-◌, ◌*◌, ◌/◌, ◌%◌, ◌^◌, ◌<◌, ◌≤◌, Bool, true, false, cond, ◌&&◌, eqb, ltb, List, [], ◌∷◌, ◌++◌}
-use Rattle.std.proofs.Common.{Some, length, get_or, take, drop, replicate, ◌↔◌, refl, ap, sym, ◌∙◌, arith, ⊎_elim}
-use Rattle.std.proofs.lemmas.Bool.{eqb-true, cases_lt, false≢true}
+use Rattle.std.proofs.Common.{◌≡◌, ℕ, zero, suc, ◌+◌, ◌*◌, ◌/◌, ◌%◌, ◌^◌, ◌<◌, ◌≤◌, Bool, true, false, cond, ◌&&◌, eqb, ltb, List, [], ◌∷◌, ◌++◌}
+use Rattle.std.proofs.Common.{Some, length, get_or, drop, ◌↔◌, refl, ap, arith}
 use Rattle.std.proofs.lemmas.Bool.Decides.{nat_tests}
 use Rattle.std.proofs.lemmas.List.{append_assoc, append-nil, flat_map_more, map-append, length-append, drop_more, take_at}
 use Rattle.std.proofs.lemmas.Nat.{div-mul-add, mod-mul-add}
@@ -12,7 +11,7 @@ use Rattle.sec1_der.specs.Numbers.{base128, marked}
 use Rattle.sec1_der.specs.Stored.{arcs_stored, IsStored}
 use Rattle.sec1_der.specs.declared.object_identifier.ObjectIdentifier.TheInside.{Inside}
 use Rattle.sec1_der.specs.ArcsOf.{padded, numbers_after, arcs_of_numbers, arcs_of}
-use Rattle.sec1_der.specs.Identifiers.{AreArcs, subidentifiers, Spells, IsIdentifier, identifier_content}
+use Rattle.sec1_der.specs.Identifiers.{AreArcs, Spells, IsIdentifier, identifier_content}
 use Rattle.sec1_der.specs.IdentifierLaws.{identifier_content-valid}
 use Rattle.sec1_der.specs.declared.object_identifier.TheConstants.{MAX_CONTENT}
 use Rattle.sec1_der.proofs.DigitLemmas.{IsBytes, digits_of-push}
@@ -22,6 +21,7 @@ abbrev pub goes_on : ℕ → List ℕ → Bool
 goes_on high [] = eqb high 0
 goes_on high (b ∷ bs) = cond (eqb high 0 && eqb b 128) false (cond (ltb high (2 ^ 25)) (goes_on (cond (ltb b 128) 0 (high * 128 + b % 128)) bs) false)
 
+-- each number is below 2^32
 abbrev pub AreSmall : List ℕ → Type 0
 AreSmall ns = AllByRecursion (λ n. n < 2 ^ 32) ns
 
@@ -30,29 +30,6 @@ pub small_push : (ns : List ℕ) (n : ℕ) → AreSmall ns → n < 2 ^ 32 → Ar
 small_push [] n s h = (h, tt)
 small_push (m ∷ ns) n s h = (s.0, small_push ns n s.1 h)
 
--- ---- one byte
-
--- a byte below 80 ends a number, any other goes on
-pub numbers_end : (high b : ℕ) (bs : List ℕ) → b < 128 → numbers_after high (b ∷ bs) ≡ (high * 128 + b % 128) ∷ numbers_after 0 bs
-numbers_end high b bs l = grind (arith, nat_tests)
-
-pub numbers_more : (high b : ℕ) (bs : List ℕ) → 128 ≤ b → numbers_after high (b ∷ bs) ≡ numbers_after (high * 128 + b % 128) bs
-numbers_more high b bs l = grind (arith, nat_tests)
-
--- the same of the test
-pub goes_end : (high b : ℕ) (bs : List ℕ) → high < 2 ^ 25 → b < 128 → goes_on high (b ∷ bs) ≡ goes_on 0 bs
-goes_end high b bs small l = grind (arith, nat_tests)
-
-pub goes_more : (high b : ℕ) (bs : List ℕ) → (high ≡ 0 → b ≡ 128 → ⊥) → high < 2 ^ 25 → 128 ≤ b → goes_on high (b ∷ bs) ≡ goes_on (high * 128 + b % 128) bs
-goes_more high b bs lead small l = grind (arith, nat_tests)
-
--- no leading 80, and digits with room for one more
-pub goes_lead : (high b : ℕ) (bs : List ℕ) → goes_on high (b ∷ bs) ≡ true → high ≡ 0 → b ≡ 128 → ⊥
-goes_lead high b bs e p q = grind (arith, nat_tests)
-
-pub goes_small : (high b : ℕ) (bs : List ℕ) → goes_on high (b ∷ bs) ≡ true → high < 2 ^ 25
-goes_small high b bs e = grind (arith, nat_tests)
-
 -- ---- what goes on is spelled so
 
 -- behind the digits so far the bytes spell these numbers
@@ -60,151 +37,76 @@ record IsSpelled (high : ℕ) (bs ns : List ℕ) : Type 0 where
   pub row : marked (digits_of 128 high) ++ bs ≡ flat_map base128 ns
   pub small : AreSmall ns
 
--- a byte that ends a number, and one that goes on
-spelled_end : (high b : ℕ) (bs ns : List ℕ) → high < 2 ^ 25 → b < 128 → IsSpelled 0 bs ns → IsSpelled high (b ∷ bs) ((high * 128 + b % 128) ∷ ns)
-spelled_end high b bs ns small l s =
-    let low : b % 128 ≡ b = omega arith in
-    record { row = rw (low, div-mul-add high 128 b l, mod-mul-add high 128 b l, append_assoc, ← s.row) refl; small = (omega arith, s.small) }
-
-spelled_more : (high b : ℕ) (bs ns : List ℕ) → (high ≡ 0 → b ≡ 128 → ⊥) → 128 ≤ b → b < 256 → IsSpelled (high * 128 + b % 128) bs ns
-    → IsSpelled high (b ∷ bs) ns
-spelled_more high b bs ns lead l byte s =
-    let mark : 128 + b % 128 ≡ b = omega arith in
-    let some : 0 < high * 128 + b % 128 = grind arith in
-    let digits = digits_of-push 128 high (b % 128) (omega arith) (omega arith) some in
-    record { row = rw (digits, map-append, mark, append_assoc) at s.row; small = s.small }
-
 -- bytes that pass the test spell the numbers that are read of them
 spelled_after : (high : ℕ) (bs : List ℕ) → IsBytes bs → goes_on high bs ≡ true → IsSpelled high bs (numbers_after high bs)
-spelled_after high [] h e = rw (eqb-true high 0 e) (record { row = refl; small = tt })
-spelled_after high (b ∷ bs) h e = ⊎_elim
-    (λ l. let rest = spelled_after 0 bs (λ i. h (suc i)) (sym (goes_end high b bs small l) ∙ e) in
-    rw (numbers_end high b bs l) (spelled_end high b bs (numbers_after 0 bs) small l rest))
-    (λ l. let next = high * 128 + b % 128 in
-    rw (numbers_more high b bs l)
-    (spelled_more high b bs (numbers_after next bs) lead l (h 0) (spelled_after next bs (λ i. h (suc i)) (sym (goes_more high b bs lead small l) ∙ e))))
-    (cases_lt b 128)
-  where
-    small : high < 2 ^ 25
-    small = goes_small high b bs e
-
-    lead : high ≡ 0 → b ≡ 128 → ⊥
-    lead = goes_lead high b bs e
+spelled_after high [] h e = grind (arith, nat_tests)
+spelled_after high (b ∷ bs) h e =
+    let n = high * 128 + b % 128 in
+    let tail = λ (i : ℕ). h (suc i) in
+    let digits = digits_of-push 128 high (b % 128) in
+    grind (arith, nat_tests, h 0, spelled_after 0 bs tail, spelled_after n bs tail, digits, div-mul-add, mod-mul-add, map-append, append_assoc)
 
 -- ---- what is spelled goes on
 
 -- the digits of a number, without the last
 pub marked_step : (n : ℕ) → 0 < n → marked (digits_of 128 n) ≡ marked (digits_of 128 (n / 128)) ++ (128 + n % 128) ∷ []
-marked_step n some = ap marked (digits_of_step 128 n (omega arith) some) ∙ map-append (λ digit. 128 + digit) (digits_of 128 (n / 128)) (n % 128 ∷ [])
+marked_step n some = grind (arith, digits_of_step 128 n, map-append)
 
--- from the high digits the bytes are read as behind them all
-abbrev IsRead : ℕ → List ℕ → ℕ → List ℕ → Type 0
-IsRead high bs next rest = (numbers_after high bs ≡ numbers_after next rest) × (goes_on high bs ≡ goes_on next rest)
-
--- one digit is read
-read_digit : (n : ℕ) (rest : List ℕ) → 0 < n → n < 2 ^ 32 → IsRead (n / 128) ((128 + n % 128) ∷ rest) n rest
-read_digit n rest some small =
-    let whole : n / 128 * 128 + (128 + n % 128) % 128 ≡ n = omega arith in (
-      numbers_more (n / 128) (128 + n % 128) rest (omega arith) ∙ ap (λ m. numbers_after m rest) whole,
-      goes_more (n / 128) (128 + n % 128) rest (λ p q. omega arith) (omega arith) (omega arith) ∙ ap (λ m. goes_on m rest) whole,
-    )
+-- what the function that writes the digits takes
+pub ruleset marked_steps = (marked_step, append_assoc, length-append)
 
 -- all digits but the last are read
-read_marked : (most n : ℕ) (rest : List ℕ) → n ≤ most → n < 2 ^ 32 → IsRead 0 (marked (digits_of 128 n) ++ rest) n rest
+read_marked : (most n : ℕ) (rest : List ℕ) → n ≤ most → n < 2 ^ 32 → let bytes = marked (digits_of 128 n) ++ rest in
+    (numbers_after 0 bytes ≡ numbers_after n rest) × (goes_on 0 bytes ≡ goes_on n rest)
 read_marked most zero rest l small = (refl, refl)
 read_marked zero (suc n) rest l small = absurd (omega arith)
 read_marked (suc most) (suc n) rest l small =
-    let high = suc n / 128 in
-    let front = read_marked most high ((128 + suc n % 128) ∷ rest) (omega arith) (omega arith) in
-    let last = read_digit (suc n) rest (omega arith) small in
-    rw (marked_step (suc n) (omega arith), append_assoc) (front.0 ∙ last.0, front.1 ∙ last.1)
-
--- a number is read
-read_one : (n : ℕ) (rest : List ℕ) → n < 2 ^ 32
-    → (numbers_after 0 (base128 n ++ rest) ≡ n ∷ numbers_after 0 rest) × (goes_on 0 (base128 n ++ rest) ≡ goes_on 0 rest)
-read_one n rest small =
-    let front = read_marked (n / 128) (n / 128) (n % 128 ∷ rest) (omega arith) (omega arith) in
-    let whole : n / 128 * 128 + n % 128 % 128 ≡ n = omega arith in
-    rw append_assoc (
-      front.0 ∙ (numbers_end (n / 128) (n % 128) rest (omega arith) ∙ ap (λ m. m ∷ numbers_after 0 rest) whole),
-      front.1 ∙ goes_end (n / 128) (n % 128) rest (omega arith) (omega arith),
-    )
+    rw (marked_step (suc n) (omega arith), append_assoc) (grind (arith, nat_tests, read_marked most (suc n / 128) ((128 + suc n % 128) ∷ rest)))
 
 -- the numbers that are spelled are read
 read_all : (ns : List ℕ) → AreSmall ns → (numbers_after 0 (flat_map base128 ns) ≡ ns) × (goes_on 0 (flat_map base128 ns) ≡ true)
 read_all [] small = (refl, refl)
 read_all (n ∷ ns) small =
-    let one = read_one n (flat_map base128 ns) small.0 in
-    let rest = read_all ns small.1 in
-    (one.0 ∙ ap (λ xs. n ∷ xs) rest.0, one.1 ∙ rest.1)
-
--- ---- arcs
-
--- two arcs are those of the number that they share
-two_arcs_again : (a b : ℕ) (cs : List ℕ) → a ≤ 2 → (a < 2 → b < 40) → arcs_of_numbers ((40 * a + b) ∷ cs) ≡ a ∷ b ∷ cs
-two_arcs_again a b cs h l = grind (arith, nat_tests)
-
--- arcs are those of their numbers
-arcs_again : (arcs : List ℕ) → AreArcs arcs → (arcs_of_numbers (subidentifiers arcs) ≡ arcs) × AreSmall (subidentifiers arcs)
-arcs_again [] h = absurd h
-arcs_again (a ∷ []) h = absurd h
-arcs_again (a ∷ b ∷ cs) h = (two_arcs_again a b cs h.0 h.1, (h.2, h.3))
-
--- small numbers are those of arcs
-allowed_arcs : (s : ℕ) (ns : List ℕ) → s < 2 ^ 32 → AreSmall ns → AreArcs (arcs_of_numbers (s ∷ ns))
-allowed_arcs s ns small all = grind (arith, nat_tests)
-
--- numbers are those of their arcs
-numbers_again : (s : ℕ) (ns : List ℕ) → subidentifiers (arcs_of_numbers (s ∷ ns)) ≡ s ∷ ns
-numbers_again s ns = grind (arith, nat_tests)
+    let rest = flat_map base128 ns in
+    rw append_assoc (grind (arith, nat_tests, read_marked (n / 128) (n / 128) (n % 128 ∷ rest), read_all ns small.1))
 
 -- ---- contents
 
 -- a content of arcs goes on, and the arcs are its own
 pub goes_on_from_spells : (arcs content : List ℕ) → Spells arcs content → (goes_on 0 content ≡ true) × (arcs_of content ≡ arcs)
-goes_on_from_spells arcs content s =
-    let again = arcs_again arcs s.allowed in
-    let read = read_all (subidentifiers arcs) again.1 in
-    rw s.spelled (read.1, ap arcs_of_numbers read.0 ∙ again.0)
+goes_on_from_spells [] content s = absurd s.allowed
+goes_on_from_spells (a ∷ []) content s = absurd s.allowed
+goes_on_from_spells (a ∷ b ∷ cs) content s = rw s.spelled (grind (arith, nat_tests, read_all ((40 * a + b) ∷ cs) (s.allowed.2, s.allowed.3)))
+
+-- numbers that are spelled are those of arcs
+spells_arcs : (content ns : List ℕ) → 0 < length content → IsSpelled 0 content ns → Spells (arcs_of_numbers ns) content
+spells_arcs content [] some s = absurd (omega (arith, ap length s.row))
+spells_arcs content (n ∷ ns) some s = grind (arith, nat_tests)
 
 -- the test decides whether bytes spell arcs
 pub goes_on-decides : (content : List ℕ) → IsBytes content → 0 < length content → (goes_on 0 content ≡ true) ↔ ((arcs : List ℕ) × Spells arcs content)
-goes_on-decides content h some =
-    (λ e. (arcs_of content, by (numbers_after 0 content) (spelled_after 0 content h e)), λ s. (goes_on_from_spells s.0 content s.1).0)
-  where
-    by : (ns : List ℕ) → IsSpelled 0 content ns → Spells (arcs_of_numbers ns) content
-    by [] s = absurd (omega (arith, ap length s.row))
-    by (n ∷ ns) s = record { allowed = allowed_arcs n ns s.small.0 s.small.1; spelled = s.row ∙ ap (flat_map base128) (sym (numbers_again n ns)) }
+goes_on-decides content h some = (
+  λ e. (arcs_of content, spells_arcs content (numbers_after 0 content) some (spelled_after 0 content h e)),
+  λ s. (goes_on_from_spells s.0 content s.1).0,
+)
 
--- bytes that fail the test spell none
-pub not_spelled : (content : List ℕ) → goes_on 0 content ≡ false → (false ≡ true) ↔ ((arcs : List ℕ) × Spells arcs content)
-not_spelled content e = (λ h. absurd (false≢true h), λ s. sym e ∙ (goes_on_from_spells s.0 content s.1).0)
+-- one byte is read
+pub read_byte : (high i : ℕ) (content : List ℕ) → i < length content
+    → (goes_on high (drop i content) ≡ goes_on high (get_or content i 0 ∷ drop (i + 1) content))
+    × (numbers_after high (drop i content) ≡ numbers_after high (get_or content i 0 ∷ drop (i + 1) content))
+read_byte high i content l = rw (drop_more content i 0 l) (refl, refl)
 
--- a byte that stops the reading
-pub stops_large : (high : ℕ) (content : List ℕ) (i : ℕ) → i < length content → 2 ^ 25 ≤ high → goes_on high (drop i content) ≡ false
-stops_large high content i l large = rw (drop_more content i 0 l) (grind (arith, nat_tests))
-
-pub stops_lead : (high : ℕ) (content : List ℕ) (i : ℕ) → i < length content → high ≡ 0 → get_or content i 0 ≡ 128 → goes_on high (drop i content) ≡ false
-stops_lead high content i l none lead = rw (drop_more content i 0 l) (grind (arith, nat_tests))
+-- what the loops over a content take
+pub ruleset content_steps = (nat_tests, read_byte)
 
 -- ---- the stored form
 
--- the content stands in front
-pub take_padded : (content bytes : List ℕ) → bytes ≡ padded content → take (length content) bytes ≡ content
-take_padded content bytes e = rw e (take_at content (replicate (MAX_CONTENT - length content) 0) (length content) refl)
-
 -- the content of an identifier in front, zeros behind it, and its length hold the identifier
-pub content_is_stored : (arcs content : List ℕ) (o : Inside) → IsIdentifier arcs content → o.bytes ≡ padded content → o.len ≡ length content → IsStored o × (arcs_stored o ≡ arcs)
-content_is_stored arcs content o is all count =
-    let kept : take o.len o.bytes ≡ content = rw count (take_padded content o.bytes all) in
-    let own : arcs_stored o ≡ arcs = ap arcs_of kept ∙ (goes_on_from_spells arcs content is.spells).1 in
-    (record { identifier = rw (own, kept) is; length_kept = ap length kept ∙ sym count; zeros = all ∙ ap padded (sym kept) }, own)
+pub content_is_stored : (arcs content : List ℕ) → IsIdentifier arcs content → let o : Inside = record { bytes = padded content; len = length content } in
+    IsStored o × (arcs_stored o ≡ arcs)
+content_is_stored arcs content is = grind (arith, goes_on_from_spells arcs content is.spells, take_at)
 
 -- ---- writing
-
--- one digit more than the high ones
-pub marked_step_length : (n : ℕ) → 0 < n → length (marked (digits_of 128 n)) ≡ length (marked (digits_of 128 (n / 128))) + 1
-marked_step_length n some = ap length (marked_step n some) ∙ length-append (marked (digits_of 128 (n / 128))) ((128 + n % 128) ∷ [])
 
 -- an identifier has this content, and an element can hold it
 pub identifier_fits : (arcs content : List ℕ) → IsIdentifier arcs content → (identifier_content arcs ≡ Some content) × (length content ≤ MAX_CONTENT)
@@ -212,29 +114,15 @@ identifier_fits arcs content is = (identifier_content-valid arcs content is, is.
 
 -- ---- building
 
--- a content that was made of arcs is that of its own arcs, which are these
-pub record IsContentOfArcs (content arcs : List ℕ) : Type 0 where
-  pub arcs_are : arcs_of content ≡ arcs
-  pub spells : Spells (arcs_of content) content
+-- a content that was made of two arcs is that of its own arcs, which are these
+pub first_two : (a b n : ℕ) (content : List ℕ) → AreArcs (a ∷ b ∷ []) → n ≡ 40 * a + b → content ≡ base128 n
+    → Spells (arcs_of content) content × (arcs_of content ≡ a ∷ b ∷ [])
+first_two a b n content allowed shared is = grind (arith, goes_on_from_spells (a ∷ b ∷ []) content, append-nil)
 
--- a content of arcs is that of its own
-content_of_arcs : (arcs content : List ℕ) → Spells arcs content → IsContentOfArcs content arcs
-content_of_arcs arcs content s =
-    let same = (goes_on_from_spells arcs content s).1 in
-    record { arcs_are = same; spells = rw same s }
-
--- two arcs, and one more
-pub first_two : (a b n : ℕ) (content : List ℕ) → AreArcs (a ∷ b ∷ []) → n ≡ 40 * a + b → content ≡ base128 n → IsContentOfArcs content (a ∷ b ∷ [])
-first_two a b n content allowed shared is =
-    content_of_arcs (a ∷ b ∷ []) content (record { allowed = allowed; spelled = is ∙ rw (shared, append-nil) refl })
-
+-- the same of a content with one more arc behind it
 pub one_more_arc : (arcs content : List ℕ) (n : ℕ) (more : List ℕ) → Spells arcs content → n < 2 ^ 32 → more ≡ content ++ base128 n
-    → IsContentOfArcs more (arcs ++ n ∷ [])
+    → Spells (arcs_of more) more × (arcs_of more ≡ arcs ++ n ∷ [])
 one_more_arc [] content n more s small is = absurd s.allowed
 one_more_arc (a ∷ []) content n more s small is = absurd s.allowed
 one_more_arc (a ∷ b ∷ cs) content n more s small is =
-    let h = s.allowed in
-    content_of_arcs (a ∷ b ∷ (cs ++ n ∷ [])) more (record {
-      allowed = (h.0, h.1, h.2, small_push cs n h.3 small);
-      spelled = is ∙ rw s.spelled (flat_map_more base128 (base128 (40 * a + b)) cs n);
-    })
+    grind (arith, goes_on_from_spells (a ∷ b ∷ (cs ++ n ∷ [])) more, small_push cs n s.allowed.3 small, flat_map_more base128 (base128 (40 * a + b)) cs n)

@@ -123,7 +123,7 @@ impl ObjectIdentifier {
 }
 
 /// Returns `true` if the bytes are one or more subidentifiers, each below 2^32 (X.690 section 8.19.2).
-#[tactic(auto, using(crate::proofs::IdentifierLemmas::stops_large, crate::proofs::IdentifierLemmas::stops_lead, crate::proofs::IdentifierLemmas::not_spelled))]
+#[tactic(auto, using(crate::proofs::IdentifierLemmas::content_steps, crate::proofs::IdentifierLemmas::goes_on_from_spells))]
 fn is_content(content: &[u8]) -> bool
     ensures { IsTrue result ↔ ((arcs : List ℕ) × Spells arcs content.now) }
 {
@@ -149,7 +149,7 @@ fn is_content(content: &[u8]) -> bool
 impl fmt::Display for ObjectIdentifier {
     ghost output = { λ arcs. Some (dotted arcs) };
 
-    #[tactic(auto, using(crate::proofs::IdentifierLemmas::stops_large))]
+    #[tactic(auto, using(crate::proofs::IdentifierLemmas::content_steps))]
     fn fmt<W: fmt::Write>(&self, f: &mut fmt::Formatter<W>) -> fmt::Result {
         let content = self.as_bytes();
         let mut first = true;

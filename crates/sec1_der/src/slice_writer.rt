@@ -68,6 +68,7 @@ impl<'b> SliceWriter<'b> {
     /// # Errors
     ///
     /// Buffer if the slice has less room.
+    #[tactic(auto, using(std::proofs::lemmas::Slice::overwrites))]
     pub fn write(&mut self, bytes: &[u8]) -> Result<()>
         ensures slice { KeepsSlice self.old self.new }
         ensures fits { length bytes.now ≤ length (room_of self.old) → IsOk result
@@ -87,6 +88,7 @@ impl<'b> SliceWriter<'b> {
     /// # Errors
     ///
     /// Those of [`EncodeComponents::value_len`], then Buffer if the content has no room.
+    #[tactic(auto, using(std::proofs::lemmas::Slice::overwrites))]
     pub(crate) fn components<R: EncodeComponents>(&mut self, row: &R) -> Result<()>
         ensures slice { KeepsSlice self.old self.new }
         ensures overlength { IsOverlong (R.content row.now) → Refuses result ErrorKind.Overlength
@@ -133,6 +135,7 @@ impl<'b> SliceWriter<'b> {
     /// # Errors
     ///
     /// Those of [`context_specific_len`], then Buffer if the field has no room.
+    #[tactic(auto, using(crate::proofs::WriterLemmas::element_parts))]
     pub fn context_specific<T: EncodeValue + FixedTag>(
         &mut self,
         number: u8,

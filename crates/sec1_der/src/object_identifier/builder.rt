@@ -171,7 +171,7 @@ impl Content {
     }
 
     /// Appends the base 128 digits of a number, none for 0, each with bit 80 (hexadecimal) set.
-    #[tactic(auto, using(crate::proofs::IdentifierLemmas::marked_step, crate::proofs::IdentifierLemmas::marked_step_length))]
+    #[tactic(auto, using(crate::proofs::IdentifierLemmas::marked_steps))]
     fn push_marked(&mut self, n: u32) -> Result<()>
         ensures ok { OnOk result (self.new ≡ self.old ++ marked (digits_of 128 n)) }
         ensures err { IsErr result → MAX_CONTENT < length self.old + length (marked (digits_of 128 n)) }

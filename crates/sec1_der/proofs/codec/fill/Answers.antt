@@ -2,8 +2,5 @@ use Rattle.std.proofs.Common.{rules}
 use Rattle.sec1_der.proofs.WriterLemmas.{filled}
 use Rattle.sec1_der.proofs.codec.fill.Goals as goal
 
-pub returns-clause-fits : goal.returns-clause-fits
-returns-clause-fits g c = search rules
-
 pub returns-clause-found : goal.returns-clause-found
-returns-clause-found g c = filled _ _ _ _ (returns-clause-fits g c)
+returns-clause-found g c = filled _ _ _ _ (search rules)
