@@ -229,7 +229,7 @@ impl<const N: usize, const L: usize> EncodedPoint<N, L> {
         ensures whole { AreWhole result }
     {
         let (x, y) = self.halves();
-        Coordinates::behind(self.tag(), x, y)
+        Coordinates::with_tag(self.tag(), x, y)
     }
 
     /// Borrows the N bytes after the tag, and the N bytes after these, whether or not they belong to the encoding.

@@ -28,7 +28,7 @@ pub trait DecodeEcPrivateKey: Sized {
     /// Those of the key type, or [`Error::Memory`] if an allocation fails.
     fn from_sec1_der(alloc: Global, bytes: &[u8]) -> Result<Self>
         ensures found { IfOk result (reads bytes.now) }
-        ensures refused { IfErr result (IsMemoryOr (refuses bytes.now)) };
+        ensures kinds { IfErr result (IsMemoryOr (refuses bytes.now)) };
 
     /// Reads a key from a reader up to the end of the input.
     ///
@@ -56,7 +56,7 @@ pub trait DecodeEcPrivateKey: Sized {
     /// Those of [`SecretDocument::read_der_file`], then those of [`from_sec1_der`](DecodeEcPrivateKey::from_sec1_der).
     fn read_sec1_der_file<F: Files>(rt: &F, alloc: Global, path: &str) -> Result<Self>
         ensures found { IfOk result (λ key. IsElementWith (λ bytes. reads bytes key)) }
-        ensures refused { IfErr result (λ error. IsDocumentError error
+        ensures kinds { IfErr result (λ error. IsDocumentError error
             ⊎ IsElementWith (λ bytes. IsMemoryOr (refuses bytes) error)) }
     {
         let document = SecretDocument::read_der_file(rt, alloc, path)?;
@@ -79,7 +79,7 @@ pub trait EncodeEcPrivateKey {
     /// Those of the key type, or [`Error::Memory`] if an allocation fails.
     fn to_sec1_der(&self, alloc: Global) -> Result<SecretDocument>
         ensures found { IfOk result (writes self.now) }
-        ensures refused { IfErr result (IsMemoryOr (refuses self.now)) };
+        ensures kinds { IfErr result (IsMemoryOr (refuses self.now)) };
 
     /// Writes the key's DER encoding.
     ///
@@ -95,7 +95,7 @@ pub trait EncodeEcPrivateKey {
         ensures nothing { W.failed writer.new ≡ false
             → OnErr result (W.written writer.new ≡ W.written writer.old) }
         ensures io { IsTrue (W.failed writer.new) → RefusesAsn1 result Io }
-        ensures refused { W.failed writer.new ≡ false → IfErr result (IsMemoryOr (refuses self.now)) }
+        ensures kinds { W.failed writer.new ≡ false → IfErr result (IsMemoryOr (refuses self.now)) }
     {
         let document = self.to_sec1_der(alloc)?;
         document.write_der_to(writer)?;
@@ -110,7 +110,7 @@ pub trait EncodeEcPrivateKey {
     /// [`SecretDocument::write_der_file`].
     fn write_sec1_der_file<F: Files>(&self, rt: &F, alloc: Global, path: &str) -> Result<()>
         ensures written { OnOk result (IsElementWith (writes self.now)) }
-        ensures refused { IfErr result (λ error. IsAsn1 Io error ⊎ IsMemoryOr (refuses self.now) error) }
+        ensures kinds { IfErr result (λ error. IsAsn1 Io error ⊎ IsMemoryOr (refuses self.now) error) }
     {
         let document = self.to_sec1_der(alloc)?;
         document.write_der_file(rt, path)?;

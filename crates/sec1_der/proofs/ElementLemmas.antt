@@ -1,5 +1,5 @@
 -- The lengths of headers and elements, and what the elements and fields of values are.
-use Rattle.std.proofs.Common.{◌≡◌, ℕ, ◌+◌, ◌≤◌, nat_lt, List, [], ◌∷◌, length, Option, Some, None, refl, arith, length-append, ⊎_elim}
+use Rattle.std.proofs.Common.{◌≡◌, ℕ, ◌≤◌, nat_lt, List, [], ◌∷◌, length, Option, Some, None, refl, arith, ⊎_elim}
 use Rattle.std.proofs.lemmas.Bool.{le-leb, lt-leb, cond_both, cases_lt}
 use Rattle.std.proofs.lemmas.Int.Digits.{length-digits_of-le}
 use Rattle.sec1_der.specs.Elements.{max_length, length_octets, header, element, IsElementOf, element_of}
@@ -10,10 +10,6 @@ unfolding length_octets
 length-len n within =
     let digits = length-digits_of-le 256 4 n (omega arith) (omega arith) in
     cond_both (nat_lt n 0x80) (n ∷ []) _ (λ spelled. length spelled ≤ 5) (λ _. omega arith) (λ _. omega arith)
-
--- an element is as long as its header and its content
-pub length-element : (tag : ℕ) (content : List ℕ) → length (element tag content) ≡ length (header tag (length content)) + length content
-length-element tag content = length-append (header tag (length content)) content
 
 -- a header has at most six bytes
 pub length-header : (tag n : ℕ) → n ≤ max_length → length (header tag n) ≤ 6

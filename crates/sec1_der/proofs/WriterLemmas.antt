@@ -19,12 +19,6 @@ appends_both old between new xs ys p q = grind (arith, append_assoc, length-appe
 pub puts_both : (old between new : BackWriter) (xs ys : List ℕ) → PutsInFront old between xs → PutsInFront between new ys → PutsInFront old new (ys ++ xs)
 puts_both old between new xs ys p q = grind (arith, append_assoc, length-append, take-take)
 
--- there are bytes, and so many
-pub record IsMeasured (piece : Option (List ℕ)) (count : ℕ) : Type 0 where
-  pub bytes : List ℕ
-  pub there : piece ≡ Some bytes
-  pub counted : count ≡ length bytes
-
 -- where bytes are there and have room, they are what was written
 pub filled : (piece : Option (List ℕ)) (old new : List ℕ) (result : Result Unit Error)
     → ((bytes : List ℕ) → piece ≡ Some bytes → length old ≡ length bytes → IsOk result × (new ≡ bytes))

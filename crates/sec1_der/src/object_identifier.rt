@@ -70,7 +70,7 @@ impl ObjectIdentifier {
             × (text.now ≡ dotted arcs)) }
         ensures only { (arcs : List ℕ) → IsIdentifier arcs (content_of arcs) → text.now ≡ dotted arcs
             → result ≡ Ok arcs }
-        ensures value { IfErr result (λ e. e.kind ≡ ErrorKind.Value) }
+        ensures kind { IfErr result (λ e. e.kind ≡ ErrorKind.Value) }
     {
         let mut builder = Builder::new();
         for piece in text.split('.') {
@@ -93,7 +93,7 @@ impl ObjectIdentifier {
     pub fn from_bytes(content: &[u8]) -> Result<ObjectIdentifier>
         ensures found { IfOk result (λ arcs. IsIdentifier arcs content.now) }
         ensures only { (arcs : List ℕ) → IsIdentifier arcs content.now → result ≡ Ok arcs }
-        ensures value { IfErr result (λ e. e.kind ≡ ErrorKind.Value) }
+        ensures kind { IfErr result (λ e. e.kind ≡ ErrorKind.Value) }
     {
         if content.len() > MAX_CONTENT || !is_content(content) {
             return Err(ErrorKind::Value.into());

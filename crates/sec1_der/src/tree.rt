@@ -39,6 +39,7 @@ pub fn check_tree(input: &[u8]) -> Result<usize>
     // Whether the input is refused, and by which kind, is a function of its bytes.
     ensures kind { HasFault result (tree_fault input.now) }
 {
+    // A function of its own: the clauses above follow from its three.
     count_elements(input)
 }
 
@@ -118,8 +119,8 @@ impl OpenNodes {
     /// Depth if that is level 64.
     #[tactic(auto, using(crate::proofs::WalkLemmas::open_ends_opened, crate::proofs::WalkLemmas::length_open_ends))]
     fn open(&mut self, end: usize) -> Result<()>
-        ensures opened { OnOk result ((length self.old < MAX_DEPTH - 1) × (self.new ≡ end ∷ self.old)) }
-        ensures full { OnErr result (length self.old ≡ MAX_DEPTH - 1) }
+        ensures found { OnOk result ((length self.old < MAX_DEPTH - 1) × (self.new ≡ end ∷ self.old)) }
+        ensures only { OnErr result (length self.old ≡ MAX_DEPTH - 1) }
         ensures kind { IfErr result (λ e. e.kind ≡ ErrorKind.Depth) }
     {
         if self.level == MAX_DEPTH - 1 {

@@ -27,9 +27,9 @@ pub enum Coordinates<'a, const N: usize> {
 }
 
 impl<'a, const N: usize> Coordinates<'a, N> {
-    /// Returns the coordinates behind this tag: x, y, both or neither.
+    /// Returns the coordinates with this tag: x, y, both or neither.
     #[tactic(auto, using(crate::proofs::CoordinateLemmas::coordinates_whole))]
-    pub(super) fn behind(tag: Tag, x: &'a [u8; N], y: &'a [u8; N]) -> Self
+    pub(super) fn with_tag(tag: Tag, x: &'a [u8; N], y: &'a [u8; N]) -> Self
         requires x_len { length x.now ≡ N }
         requires y_len { length y.now ≡ N }
         ensures point { coordinates_point result ≡ point_from (byte_of tag) (number_of x.now) (number_of y.now) }

@@ -51,8 +51,8 @@ impl Builder {
     ///
     /// Value if no identifier begins with these arcs.
     pub(crate) fn add(self, arc: u32) -> Result<Builder>
-        ensures ok { IfOk result (λ builder. builder ≡ self ++ arc ∷ []) }
-        ensures err { IsErr result → (further : List ℕ)
+        ensures found { IfOk result (λ builder. builder ≡ self ++ arc ∷ []) }
+        ensures only { IsErr result → (further : List ℕ)
             → IsIdentifier (self ++ arc ∷ further) (content_of (self ++ arc ∷ further)) → ⊥ }
         ensures kind { IfErr result (λ e. e.kind ≡ ErrorKind.Value) }
     {
@@ -161,8 +161,8 @@ impl Content {
     ///
     /// Value if it has no room.
     fn with_number(mut self, n: u32) -> Result<Content>
-        ensures ok { IfOk result (λ content. content ≡ self ++ base128 n) }
-        ensures err { IsErr result → MAX_CONTENT < length self + length (base128 n) }
+        ensures found { IfOk result (λ content. content ≡ self ++ base128 n) }
+        ensures only { IsErr result → MAX_CONTENT < length self + length (base128 n) }
         ensures kind { IfErr result (λ e. e.kind ≡ ErrorKind.Value) }
     {
         self.push_marked(n / 128)?;
@@ -173,8 +173,8 @@ impl Content {
     /// Appends the base 128 digits of a number, none for 0, each with bit 80 (hexadecimal) set.
     #[tactic(auto, using(crate::proofs::IdentifierLemmas::marked_steps))]
     fn push_marked(&mut self, n: u32) -> Result<()>
-        ensures ok { OnOk result (self.new ≡ self.old ++ marked (digits_of 128 n)) }
-        ensures err { IsErr result → MAX_CONTENT < length self.old + length (marked (digits_of 128 n)) }
+        ensures found { OnOk result (self.new ≡ self.old ++ marked (digits_of 128 n)) }
+        ensures only { IsErr result → MAX_CONTENT < length self.old + length (marked (digits_of 128 n)) }
         ensures kind { IfErr result (λ e. e.kind ≡ ErrorKind.Value) }
     {
         if n == 0 {
@@ -190,8 +190,8 @@ impl Content {
     ///
     /// Value if the content is full.
     fn push(&mut self, byte: u8) -> Result<()>
-        ensures ok { OnOk result (self.new ≡ self.old ++ byte ∷ []) }
-        ensures err { IsErr result → MAX_CONTENT ≤ length self.old }
+        ensures found { OnOk result (self.new ≡ self.old ++ byte ∷ []) }
+        ensures only { IsErr result → MAX_CONTENT ≤ length self.old }
         ensures kind { IfErr result (λ e. e.kind ≡ ErrorKind.Value) }
     {
         if self.len == MAX_CONTENT {

@@ -15,7 +15,7 @@ pub returns-in_err-builder-clause-only : goal.returns-in_err-builder-clause-only
 returns-in_err-builder-clause-only c arcs id e =
     let split = YieldsList-from_str_split {s = c.into_iter-piece-iterator.result} 46 c.args.text.now (lit< tt) (cc) (cc) (cc) in
     let next = next_piece c.loop-piece.invariant (YieldsList-turn split _ _ c.loop-piece.yielded_by _ _ _ c.in-Some.is c.next.ensures.steps) in
-    grind (arith, identifier_goes_on c.in-Some-arc.n arcs next, c.in_err-builder.ensures.err refl)
+    grind (arith, identifier_goes_on c.in-Some-arc.n arcs next, c.in_err-builder.ensures.only refl)
 
 pub loop-piece-preserved : goal.loop-piece-preserved
 loop-piece-preserved c =
