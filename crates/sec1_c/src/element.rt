@@ -3,6 +3,7 @@ ghost use Rattle.std.specs.Prelude.{◌≡◌, ◌≢◌, ◌≤◌, ◌<◌, �
 ghost use Rattle.sec1_der.specs.Elements.{IsElement, IsProperBeginning, LacksHeader};
 ghost use Rattle.sec1_der.specs.Faults.{header_fault};
 ghost use Rattle.sec1_der.specs.Trees.{Tree, IsTree, IsTreeOf, bytes, depth, size};
+ghost use Rattle.sec1_der.specs.declared.tree.TheConstants.{MAX_DEPTH};
 ghost use Rattle.sec1_c.specs.Documents.{Announces, element_len};
 ghost use Rattle.sec1_c.specs.Statuses.{IsReadingNumber, kind_number};
 
@@ -20,16 +21,16 @@ use std::cmp::Ordering;
 /// around it; Depth if an element at level 64 contains elements; TrailingData if bytes follow the tree.
 #[unsafe(no_mangle)]
 pub extern "C" fn sec1_check_tree(input: &[u8], elements: &mut usize) -> u32
-    ensures tree { (t : Tree) → IsTreeOf t input.now → depth t ≤ 64
+    ensures found { result ≡ 0 → (t : Tree) × IsTreeOf t input.now × (depth t ≤ MAX_DEPTH) }
+    ensures only { (t : Tree) → IsTreeOf t input.now → depth t ≤ MAX_DEPTH
         → (result ≡ 0) × (elements.new ≡ size t) }
-    ensures only { result ≡ 0 → (t : Tree) × IsTreeOf t input.now × (depth t ≤ 64) }
-    ensures deeper { (t : Tree) → IsTreeOf t input.now → 64 < depth t
+    ensures deeper { (t : Tree) → IsTreeOf t input.now → MAX_DEPTH < depth t
         → result ≡ kind_number ErrorKind.Depth }
     ensures short { (t : Tree) → IsTree t → IsProperBeginning input.now (bytes t)
         → result ≡ kind_number ErrorKind.Truncated }
-    ensures long { (t : Tree) → IsTree t → depth t ≤ 64 → IsProperBeginning (bytes t) input.now
+    ensures long { (t : Tree) → IsTree t → depth t ≤ MAX_DEPTH → IsProperBeginning (bytes t) input.now
         → result ≡ kind_number ErrorKind.TrailingData }
-    ensures refused { result ≢ 0 → (result ≡ kind_number ErrorKind.Depth) ⊎ IsReadingNumber result }
+    ensures kinds { result ≢ 0 → (result ≡ kind_number ErrorKind.Depth) ⊎ IsReadingNumber result }
     ensures unchanged { result ≢ 0 → elements.new ≡ elements.old }
 {
     match der::check_tree(input) {
@@ -50,9 +51,10 @@ pub extern "C" fn sec1_check_tree(input: &[u8], elements: &mut usize) -> u32
 /// doesn't begin with a header of DER; of TrailingData if bytes follow the element.
 #[unsafe(no_mangle)]
 pub extern "C" fn sec1_document_len(input: &[u8], len: &mut usize) -> u32
+    ensures found { result ≡ 0 → IsElement input.now }
     ensures announced { (tag announced : ℕ) (inside : List ℕ) → Announces input.now inside announced tag
         → len.new ≡ element_len tag announced }
-    ensures whole { (tag announced : ℕ) (inside : List ℕ) → Announces input.now inside announced tag
+    ensures only { (tag announced : ℕ) (inside : List ℕ) → Announces input.now inside announced tag
         → length inside ≡ announced → result ≡ 0 }
     ensures short { (tag announced : ℕ) (inside : List ℕ) → Announces input.now inside announced tag
         → length inside < announced → result ≡ kind_number ErrorKind.Truncated }
@@ -60,7 +62,6 @@ pub extern "C" fn sec1_document_len(input: &[u8], len: &mut usize) -> u32
         → announced < length inside → result ≡ kind_number ErrorKind.TrailingData }
     ensures no_header { LacksHeader input.now
         → (result ≡ kind_number (header_fault input.now)) × (len.new ≡ 0) }
-    ensures only { result ≡ 0 → IsElement input.now }
 {
     let mut reader = SliceReader::new(input);
     match Header::decode(&mut reader) {

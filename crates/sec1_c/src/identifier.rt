@@ -23,7 +23,7 @@ use text::dotted;
 pub extern "C" fn sec1_identifier_to_text(content: &[u8], text: &mut [u8], len: &mut usize) -> u32
     ensures identifier { (arcs : List ℕ) → IsIdentifier arcs content.now
         → Writes (c_text arcs) text.old text.new result len.new }
-    ensures none { ¬ IsIdentifierContent content.now
+    ensures no_identifier { ¬ IsIdentifierContent content.now
         → WritesNothing (kind_number ErrorKind.Value) text.old text.new result len.old len.new }
 {
     match ObjectIdentifier::from_bytes(content) {
@@ -48,7 +48,7 @@ pub extern "C" fn sec1_identifier_to_text(content: &[u8], text: &mut [u8], len: 
 pub extern "C" fn sec1_identifier_from_text(text: &[u8], content: &mut [u8], len: &mut usize) -> u32
     ensures identifier { (arcs : List ℕ) → IsTextOf arcs text.now
         → Writes (content_of arcs) content.old content.new result len.new }
-    ensures none { ¬ IsIdentifierText text.now
+    ensures no_identifier { ¬ IsIdentifierText text.now
         → WritesNothing (kind_number ErrorKind.Value) content.old content.new result len.old len.new }
 {
     let Ok(text) = str::from_utf8(text) else {

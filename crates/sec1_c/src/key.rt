@@ -41,12 +41,12 @@ pub struct KeyParts {
 #[unsafe(no_mangle)]
 #[tactic(auto, using(crate::proofs::PlaceLemmas::are_parts, crate::proofs::PlaceLemmas::parts_within))]
 pub extern "C" fn sec1_key_read(bytes: &[u8], parts: &mut KeyParts) -> u32
-    ensures accepted { (key : Key) → IsKeyOf key bytes.now → result ≡ 0 }
+    ensures found { result ≡ 0 → IsKey bytes.now }
+    ensures only { (key : Key) → IsKeyOf key bytes.now → result ≡ 0 }
     ensures parts { (key : Key) → IsKeyOf key bytes.now → ArePartsOf key bytes.now parts.new }
     ensures within { result ≡ 0 → AreWithin bytes.now parts.new }
     ensures again { (key : Key) → IsKeyOf key bytes.now → GiveAgain key bytes.now parts.new }
-    ensures only { result ≡ 0 → IsKey bytes.now }
-    ensures refused { result ≢ 0 → IsReadingNumber result }
+    ensures kinds { result ≢ 0 → IsReadingNumber result }
     ensures unchanged { result ≢ 0 → parts.new ≡ parts.old }
     ensures short { (key : Key) (whole : List ℕ) → IsKeyOf key whole
         → IsProperBeginning bytes.now whole → result ≡ kind_number ErrorKind.Truncated }

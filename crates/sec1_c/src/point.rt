@@ -36,8 +36,8 @@ pub struct PointParts {
 /// Returns the number of PointEncoding if it isn't, and another one if the field length isn't supported.
 #[unsafe(no_mangle)]
 pub extern "C" fn sec1_point_check(bytes: &[u8], field_len: usize) -> u32
-    ensures point { (p : Point) → IsFieldLength field_len → Encodes field_len p bytes.now → result ≡ 0 }
-    ensures only { result ≡ 0 → IsFieldLength field_len × IsEncoding field_len bytes.now }
+    ensures found { result ≡ 0 → IsFieldLength field_len × IsEncoding field_len bytes.now }
+    ensures only { (p : Point) → IsFieldLength field_len → Encodes field_len p bytes.now → result ≡ 0 }
     ensures no_point { IsFieldLength field_len → ¬ IsEncoding field_len bytes.now
         → result ≡ error_number Error.PointEncoding }
     ensures other_field { ¬ IsFieldLength field_len → result ≡ field_length_number }
@@ -58,10 +58,10 @@ pub extern "C" fn sec1_point_check(bytes: &[u8], field_len: usize) -> u32
 /// Returns the numbers of `sec1_point_check`, and leaves `parts` unchanged.
 #[unsafe(no_mangle)]
 pub extern "C" fn sec1_point_read(bytes: &[u8], field_len: usize, parts: &mut PointParts) -> u32
-    ensures point { (p : Point) → IsFieldLength field_len → Encodes field_len p bytes.now → result ≡ 0 }
+    ensures found { result ≡ 0 → IsFieldLength field_len × IsEncoding field_len bytes.now }
+    ensures only { (p : Point) → IsFieldLength field_len → Encodes field_len p bytes.now → result ≡ 0 }
     ensures parts { (p : Point) → IsFieldLength field_len → Encodes field_len p bytes.now
         → ArePointPartsOf field_len p bytes.now parts.new }
-    ensures only { result ≡ 0 → IsFieldLength field_len × IsEncoding field_len bytes.now }
     ensures no_point { IsFieldLength field_len → ¬ IsEncoding field_len bytes.now
         → result ≡ error_number Error.PointEncoding }
     ensures other_field { ¬ IsFieldLength field_len → result ≡ field_length_number }

@@ -21,8 +21,8 @@ use std::cmp::Ordering;
 pub fn check<const N: usize, const L: usize>(bytes: &[u8]) -> u32
     requires fits { Fits N L }
     requires small { L < 134 }
-    ensures point { (p : Point) → Encodes N p bytes.now → result ≡ 0 }
-    ensures only { result ≡ 0 → IsEncoding N bytes.now }
+    ensures found { result ≡ 0 → IsEncoding N bytes.now }
+    ensures only { (p : Point) → Encodes N p bytes.now → result ≡ 0 }
     ensures kind { result ≢ 0 → result ≡ error_number Error.PointEncoding }
 {
     match EncodedPoint::<N, L>::from_bytes(bytes) {
@@ -35,10 +35,10 @@ pub fn check<const N: usize, const L: usize>(bytes: &[u8]) -> u32
 pub fn read<const N: usize, const L: usize>(bytes: &[u8], parts: &mut PointParts) -> u32
     requires fits { Fits N L }
     requires small { L < 134 }
-    ensures point { (p : Point) → Encodes N p bytes.now → result ≡ 0 }
+    ensures found { result ≡ 0 → IsEncoding N bytes.now }
+    ensures only { (p : Point) → Encodes N p bytes.now → result ≡ 0 }
     ensures parts { (p : Point) → Encodes N p bytes.now
         → ArePointPartsOf N p bytes.now parts.new }
-    ensures only { result ≡ 0 → IsEncoding N bytes.now }
     ensures kind { result ≢ 0 → result ≡ error_number Error.PointEncoding }
     ensures unchanged { result ≢ 0 → parts.new ≡ parts.old }
 {
