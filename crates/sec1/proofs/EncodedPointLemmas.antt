@@ -16,13 +16,11 @@ use Rattle.sec1_der.specs.Elements.{IsProperBeginning}
 use Rattle.sec1.specs.Points.{Point, identity, uncompressed, hybrid, is_odd, IsPoint, IsEncoding, Fits, fixed_width, tag_byte, encoding, meaning, point_from}
 use Rattle.sec1.specs.Points.{compressed_point, hybrid_point, x_of, y_of}
 use Rattle.sec1.specs.PointOrder.{point_cmp, IsBelow}
-use Rattle.sec1.specs.PointOrderLaws.{point_cmp-Equal}
 use Rattle.sec1.specs.Tags.{byte_of, point_tag}
 use Rattle.sec1.specs.EncodedPoints.{point_of, ReadsBytes}
 use Rattle.sec1.specs.declared.point.EncodedPoint.{EncodedPoint}
 use Rattle.sec1.proofs.DigitLemmas.{length-fixed_width, num-below, fixed_width-num}
 use Rattle.sec1.proofs.PointLemmas.{meaning-enc, meaning-enc-append, meaning-fits, IsBytes-enc, byte_of-tag_of, length-enc-le, no_beginning}
-use Rattle.sec1.proofs.PointOrderLemmas.{less_below, greater_below, Equal-point_cmp}
 use Rattle.sec1.proofs.ByteOrderLemmas.{slice_cmp-enc}
 
 -- ---- the beginning of a buffer
@@ -81,22 +79,9 @@ filled p full = sym (p.encoded ∙ take_all p.len p.bytes full)
 pub same_encodings : {N L : ℕ} (p q : EncodedPoint N L) → (encoding N (point_of p) ≡ encoding N (point_of q)) ↔ (point_of p ≡ point_of q)
 same_encodings {N} p q = (λ h. ap (meaning N) (sym p.encoded ∙ h ∙ q.encoded), λ h. ap (encoding N) h)
 
--- What the order of two values says of their points.
-pub record Ordered {N L : ℕ} (o : Ordering) (p q : EncodedPoint N L) : Type 0 where
-  pub value : o ≡ point_cmp (point_of p) (point_of q)
-  pub less : (o ≡ Less) ↔ IsBelow (point_of p) (point_of q)
-  pub greater : (o ≡ Greater) ↔ IsBelow (point_of q) (point_of p)
-  pub equal : (o ≡ Equal) ↔ (point_of p ≡ point_of q)
-
-pub ordered : {N L : ℕ} (o : Ordering) (p q : EncodedPoint N L) → o ≡ slice_cmp nat_cmp (encoding N (point_of p)) (encoding N (point_of q)) → Ordered o p q
-ordered {N} o p q e =
-    let value = e ∙ slice_cmp-enc N (point_of p) (point_of q) (point_fits p) (point_fits q) in
-    rw value (record {
-      value = refl;
-      less = less_below (point_of p) (point_of q);
-      greater = greater_below (point_of p) (point_of q);
-      equal = (point_cmp-Equal (point_of p) (point_of q), Equal-point_cmp (point_of p) (point_of q));
-    })
+-- The encodings of two values are ordered as their points.
+pub point_order : {N L : ℕ} (p q : EncodedPoint N L) → slice_cmp nat_cmp (encoding N (point_of p)) (encoding N (point_of q)) ≡ point_cmp (point_of p) (point_of q)
+point_order {N} p q = slice_cmp-enc N (point_of p) (point_of q) (point_fits p) (point_fits q)
 
 -- Two buffers are the same where their first bytes and both halves are.
 joined : (n : ℕ) (xs : List ℕ) → length xs ≡ 2 * n → take n xs ++ take n (drop n xs) ≡ xs

@@ -6,7 +6,7 @@ use Rattle.std.specs.Ordering.{nat_cmp}
 use Rattle.std.proofs.lemmas.Cmp.{tied_itself}
 use Rattle.sec1.specs.Points.{Point, identity, tag_byte, x_of, y_of}
 use Rattle.sec1.specs.PointOrder.{IsLess, IsBelow, or_zero, point_cmp, same_point}
-use Rattle.sec1.specs.PointOrderLaws.{point_cmp_total, same_point-true}
+use Rattle.sec1.specs.PointOrderLaws.{point_cmp_total, same_point-true, point_cmp-Equal}
 
 -- The same point ties.
 pub Equal-point_cmp : (p q : Point) → p ≡ q → point_cmp p q ≡ Equal
@@ -54,3 +54,6 @@ greater_below p q = (
   λ h. (less_below q p).0 (grind (arith, point_cmp_total.antisymm p q)),
   λ h. let below = (less_below q p).1 h in grind (arith, point_cmp_total.antisymm p q),
 )
+
+-- What the order of two points says.
+pub ruleset orders = (less_below, greater_below, point_cmp-Equal, Equal-point_cmp)
