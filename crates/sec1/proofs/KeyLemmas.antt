@@ -70,18 +70,14 @@ found_with key P (Some bytes) e h = record { bytes = bytes; of_key = key_found k
 pub key_found_with : (key : Key) (P : List ℕ → Type 0) → IsSomeAnd (element_of 0x30 (key_content key)) P → HasEncodingWith key P
 key_found_with key P h = found_with key P (element_of 0x30 (key_content key)) refl h
 
--- A key without an element has no bytes.
-pub key_without : (key : Key) → element_of 0x30 (key_content key) ≡ None → HasNoEncoding key
-key_without key none bytes is = absurd (cc (none, key_written key bytes is))
-
 -- A key that has none has no element.
 pub key_lacks : (key : Key) → HasNoEncoding key → element_of 0x30 (key_content key) ≡ None
 key_lacks key none = grind (arith, key_found key)
 
 -- What the keys have to do with what is written, and with its length.
-pub ruleset written_keys = (key_written, key_lacks, key_found, key_without)
+pub ruleset written_keys = (key_written, key_found)
 
-pub ruleset counted_keys = (key_written, key_lacks, key_found_with, key_without)
+pub ruleset counted_keys = (key_written, key_lacks, key_found_with)
 
 -- A fault of reading stays an error of DER.
 pub asn1 : (kind : ErrorKind) (cause : DerError) → IsReadingFault kind → error_of_kind kind cause ≡ Asn1 cause
