@@ -1,5 +1,5 @@
 -- Points, tags and encodings.
-use Rattle.std.proofs.Common.{◌≡◌, ℕ, suc, ◌+◌, ◌-◌, ◌*◌, ◌%◌, ◌^◌, ◌<◌, ◌≤◌, true, false, cond, List, [], ◌∷◌, ◌++◌, length, get_or, take, drop, refl, sym}
+use Rattle.std.proofs.Common.{◌≡◌, ℕ, zero, suc, rules, ◌+◌, ◌-◌, ◌*◌, ◌%◌, ◌^◌, ◌<◌, ◌≤◌, true, false, cond, List, [], ◌∷◌, ◌++◌, length, get_or, take, drop, refl, sym}
 use Rattle.std.proofs.Common.{ap, ◌∙◌, arith}
 use Rattle.std.proofs.Common.{append_assoc, append-nil}
 use Rattle.std.specs.Prelude.{◌↔◌}
@@ -19,21 +19,10 @@ use Rattle.sec1.proofs.DigitLemmas.{IsBytes-fixed_width, num-below, num-fixed_wi
 
 -- ---- tags
 
--- The tag of a byte that has one.
-abbrev tag_at : ℕ → Tag
-tag_at b =
-    let even = tags.Compact ∷ tags.HybridEvenY ∷ [] in
-    get_or (tags.Identity ∷ tags.Identity ∷ tags.CompressedEvenY ∷ tags.CompressedOddY ∷ tags.Uncompressed ∷ even) b tags.HybridOddY
-
-tag_at-byte_of : (tag : Tag) → tag_at (byte_of tag) ≡ tag
-tag_at-byte_of tags.Identity = refl
-tag_at-byte_of tag = refl
-
 pub byte_of-injective : (t u : Tag) → byte_of t ≡ byte_of u → t ≡ u
-byte_of-injective t u e = sym (tag_at-byte_of t) ∙ ap tag_at e ∙ tag_at-byte_of u
+byte_of-injective t u e = grind arith
 
 pub byte_of-tag_of : (p : Point) → byte_of (point_tag p) ≡ tag_byte p
-byte_of-tag_of identity = refl
 byte_of-tag_of p = grind arith
 
 -- A point's tag is the one with its byte.
@@ -52,27 +41,14 @@ unfolding encoding
 length-enc n identity = refl
 length-enc n p = grind (arith, length-both, length-fixed_width)
 
-message_len-le : (tag : Tag) (n : ℕ) → message_len tag n ≤ 2 * n + 1
-message_len-le tags.Identity n = omega arith
-message_len-le tag n = omega arith
-
 pub length-enc-le : (n : ℕ) (p : Point) → length (encoding n p) ≤ 2 * n + 1
-length-enc-le n p = omega (arith, length-enc n p, message_len-le (point_tag p) n)
-
-tag_byte-small : (p : Point) → tag_byte p < 256
-tag_byte-small identity = omega arith
-tag_byte-small p = grind arith
-
-IsBytes-coordinates : (n : ℕ) (p : Point) → IsBytes (coordinate_bytes n p)
-IsBytes-coordinates n identity = IsBytes-nil
-IsBytes-coordinates n (compact x) = IsBytes-fixed_width n x
-IsBytes-coordinates n (compressed x odd) = IsBytes-fixed_width n x
-IsBytes-coordinates n (uncompressed x y) = IsBytes-append (fixed_width n x) (fixed_width n y) (IsBytes-fixed_width n x) (IsBytes-fixed_width n y)
-IsBytes-coordinates n (hybrid x y) = IsBytes-append (fixed_width n x) (fixed_width n y) (IsBytes-fixed_width n x) (IsBytes-fixed_width n y)
+length-enc-le n p = rw (length-enc n p) (grind arith)
 
 pub IsBytes-enc : (n : ℕ) (p : Point) → IsBytes (encoding n p)
 unfolding encoding
-IsBytes-enc n p = IsBytes-cons (tag_byte p) (coordinate_bytes n p) (tag_byte-small p) (IsBytes-coordinates n p)
+IsBytes-enc n p zero = grind arith
+IsBytes-enc n identity (suc i) = omega arith
+IsBytes-enc n p (suc i) = search (rules, IsBytes-fixed_width, IsBytes-append)
 
 -- No encoding begins another.
 pub no_beginning : (n : ℕ) (p q : Point) → IsProperBeginning (encoding n p) (encoding n q) → ⊥
@@ -148,40 +124,19 @@ passes_spelled : (n : ℕ) (tag : Tag) (rest : List ℕ) → 1 ≤ n → IsBytes
     → encoding n (meaning n (byte_of tag ∷ rest)) ≡ byte_of tag ∷ rest
 unfolding encoding meaning
 passes_spelled n tags.Identity rest some h p = rw (nil_from_length rest (omega (arith, p.0))) refl
-passes_spelled n tags.Uncompressed rest some h p = rw (spelled_xy n rest h (omega (arith, p.0))) refl
-passes_spelled n tags.HybridEvenY rest some h p =
-    let long : length rest ≡ 2 * n = omega (arith, p.0) in
-    let even : is_odd (number_of (take n (drop n rest))) ≡ false = grind (arith, parity_rest n rest some long, p.1 refl) in
-    rw (even, spelled_xy n rest h long) refl
-passes_spelled n tags.HybridOddY rest some h p =
-    let long : length rest ≡ 2 * n = omega (arith, p.0) in
-    let odd : is_odd (number_of (take n (drop n rest))) ≡ true = grind (arith, parity_rest n rest some long, p.1 refl) in
-    rw (odd, spelled_xy n rest h long) refl
-passes_spelled n tag rest some h p = rw (spelled_x n rest h (omega (arith, p.0))) refl
-
-hybrid_parity : (n x y : ℕ) → 1 ≤ n → y < 256 ^ n
-    → get_or (fixed_width n x ++ fixed_width n y) (length (fixed_width n x ++ fixed_width n y) - 1) 0 % 2 ≡ cond (is_odd y) 7 6 % 2
-hybrid_parity n x y some h =
-    let number = rw append-nil at (num_second n x y [] h) in
-    let parity : y % 2 ≡ cond (is_odd y) 7 6 % 2 = grind arith in
-    parity_rest n (fixed_width n x ++ fixed_width n y) some (length-both n x y) ∙ rw number parity
-
-enc_parity : (n : ℕ) (p : Point) → 1 ≤ n → IsPoint n p → is_hybrid (point_tag p) ≡ true
-    → get_or (coordinate_bytes n p) (length (coordinate_bytes n p) - 1) 0 % 2 ≡ tag_byte p % 2
-enc_parity n (hybrid x y) some h t = hybrid_parity n x y some h.1
-enc_parity n p some h t = grind arith
-
-encoding_passes : (n : ℕ) (tag : Tag) (rest : List ℕ) → 1 ≤ n → IsEncoding n (byte_of tag ∷ rest) → Skips n tag rest
-unfolding encoding
-encoding_passes n tag rest some e =
-    let p = e.of in
-    let byte : byte_of tag ≡ tag_byte p = cc (e.spelled) in
-    let others : rest ≡ coordinate_bytes n p = cc (e.spelled) in
-    rw (tag_of-byte tag p byte, others) (length-enc n p, λ h. rw (byte_of-tag_of p) (enc_parity n p some e.fits h))
+passes_spelled n tag rest some h p = grind (arith, spelled_x n rest h, spelled_xy n rest h, parity_rest n rest some)
 
 -- An encoding is that of its meaning.
 pub encoding_spelled : (n : ℕ) (bs : List ℕ) → IsEncoding n bs → encoding n (meaning n bs) ≡ bs
 encoding_spelled n bs e = rw e.spelled (ap (encoding n) (meaning-enc n e.of e.fits))
+
+encoding_passes : (n : ℕ) (tag : Tag) (rest : List ℕ) → 1 ≤ n → IsEncoding n (byte_of tag ∷ rest) → Skips n tag rest
+unfolding encoding meaning
+encoding_passes n tag rest some e =
+    let byte : byte_of tag ≡ tag_byte e.of = cc (e.spelled) in
+    let len : suc (length rest) ≡ message_len tag n = rw (tag_of-byte tag e.of byte) (ap length e.spelled ∙ length-enc n e.of) in
+    let same = encoding_spelled n (byte_of tag ∷ rest) e in
+    (len, λ h. grind (arith, parity_rest n rest some))
 
 -- The bytes behind a tag pass exactly where both are an encoding.
 pub passing_encodings : (n : ℕ) (tag : Tag) (rest input : List ℕ) → 1 ≤ n → IsBytes input → input ≡ byte_of tag ∷ rest → Skips n tag rest ↔ IsEncoding n input
