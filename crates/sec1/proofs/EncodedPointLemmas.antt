@@ -20,7 +20,7 @@ use Rattle.sec1.specs.Tags.{byte_of, point_tag}
 use Rattle.sec1.specs.EncodedPoints.{point_of, ReadsBytes}
 use Rattle.sec1.specs.declared.point.EncodedPoint.{EncodedPoint}
 use Rattle.sec1.proofs.DigitLemmas.{length-fixed_width, num-below, fixed_width-num}
-use Rattle.sec1.proofs.PointLemmas.{meaning-enc, meaning-enc-append, meaning-fits, IsBytes-enc, byte_of-tag_of, length-enc-le, no_beginning}
+use Rattle.sec1.proofs.PointLemmas.{half, meaning-enc, meaning-enc-append, meaning-fits, IsBytes-enc, byte_of-tag_of, length-enc-le, no_beginning}
 use Rattle.sec1.proofs.ByteOrderLemmas.{slice_cmp-enc}
 
 -- ---- the beginning of a buffer
@@ -84,14 +84,10 @@ pub point_order : {N L : ℕ} (p q : EncodedPoint N L) → slice_cmp nat_cmp (en
 point_order {N} p q = slice_cmp-enc N (point_of p) (point_of q) (point_fits p) (point_fits q)
 
 -- Two buffers are the same where their first bytes and both halves are.
-joined : (n : ℕ) (xs : List ℕ) → length xs ≡ 2 * n → take n xs ++ take n (drop n xs) ≡ xs
-joined n xs e = rw (take_all n (drop n xs) (omega (arith, length-drop n xs))) (take-append-drop n xs)
-
 pub halves_same : (n : ℕ) (xs ys : List ℕ) → length xs ≡ 2 * n + 1 → length ys ≡ 2 * n + 1 → get_or xs 0 0 ≡ get_or ys 0 0
     → take n (drop 1 xs) ≡ take n (drop 1 ys) → take n (drop n (drop 1 xs)) ≡ take n (drop n (drop 1 ys)) → xs ≡ ys
 halves_same n (a ∷ xs) (b ∷ ys) long other_long first front back =
-    let rest : xs ≡ ys = sym (joined n xs (omega arith)) ∙ rw (front, back) (joined n ys (omega arith)) in
-    rw (first, rest) refl
+    grind (arith, half n xs, half n ys, take-append-drop n xs, take-append-drop n ys)
 halves_same n xs ys long other_long first front back = absurd (omega arith)
 
 -- ---- another tag in the first byte
@@ -150,9 +146,6 @@ hybrid_holds {N} p x y tag room h k =
 
 -- ---- a buffer made of coordinates
 
-number_fits : (n : ℕ) (x : List ℕ) → length x ≡ n → IsBytes x → number_of x < 256 ^ n
-number_fits n x e h = rw (← e) (num-below x h)
-
 -- The tag, x and y, written into a buffer one after the other, are the uncompressed point.
 pub halves_hold : (n l k : ℕ) (buffer x y : List ℕ) → l ≡ 2 * n + 1 → length buffer ≡ l → length x ≡ n → length y ≡ n → IsBytes x → IsBytes y
     → Holds n (take l (put_mid (n + 1) k (put_mid 1 (n + 1 - 1) (set buffer 0 4) x) y)) (uncompressed (number_of x) (number_of y))
@@ -164,7 +157,7 @@ halves_hold n l k (b ∷ buffer) x y el eb ex ey hx hy =
     let front : take (n + 1) with_x ≡ 4 ∷ x = take-put_mid 1 (n + 1 - 1) (4 ∷ buffer) x (n + 1) (omega arith) (omega arith) in
     let all = take-put_mid (n + 1) k with_x y l (omega arith) (omega arith) in
     let written = all ∙ rw (front, fixed_width-num n x hx ex, fixed_width-num n y hy ey) refl in
-    holds n _ (uncompressed (number_of x) (number_of y)) (number_fits n x ex hx, number_fits n y ey hy) written
+    holds n _ (uncompressed (number_of x) (number_of y)) (num-below n x hx (omega arith), num-below n y hy (omega arith)) written
 
 -- ---- reading bytes
 

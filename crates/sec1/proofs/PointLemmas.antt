@@ -3,7 +3,6 @@ use Rattle.std.proofs.Common.{◌≡◌, ℕ, zero, suc, rules, ◌+◌, ◌-◌
 use Rattle.std.proofs.Common.{ap, ◌∙◌, arith}
 use Rattle.std.proofs.Common.{append_assoc, append-nil}
 use Rattle.std.specs.Prelude.{◌↔◌}
-use Rattle.std.proofs.Math.Nat.{pow-le-pow_right}
 use Rattle.std.proofs.lemmas.List.{take_at, drop_at, take_all, length-drop, get_or-drop, length-append, nil_from_length, length-take, take-append-drop}
 use Rattle.hex.specs.Hex.{IsBytes}
 use Rattle.sec1_der.specs.Numbers.{number_of}
@@ -14,7 +13,7 @@ use Rattle.sec1.specs.Points.{coordinate_bytes, encoding, meaning}
 use Rattle.sec1.specs.Tags.{byte_of, point_tag, message_len, is_hybrid}
 use Rattle.sec1.specs.declared.point.tag.Tag.{Tag}
 use Rattle.sec1.specs.declared.point.tag.Tag.TheVariants as tags
-use Rattle.sec1.proofs.DigitLemmas.{IsBytes-nil, IsBytes-cons, IsBytes-tail, IsBytes-append, IsBytes-drop, length-fixed_width}
+use Rattle.sec1.proofs.DigitLemmas.{IsBytes-append, IsBytes-drop, length-fixed_width}
 use Rattle.sec1.proofs.DigitLemmas.{IsBytes-fixed_width, num-below, num-fixed_width, fixed_width-num, parity_of_last}
 
 -- ---- tags
@@ -78,18 +77,13 @@ meaning-enc-append n p r h = grind (arith, num_first, num_second, append_assoc {
 pub meaning-enc : (n : ℕ) (p : Point) → IsPoint n p → meaning n (encoding n p) ≡ p
 meaning-enc n p h = rw append-nil at (meaning-enc-append n p [] h)
 
-num-take-fits : (n : ℕ) (bs : List ℕ) → IsBytes bs → number_of (take n bs) < 256 ^ n
-num-take-fits n bs h =
-    let wide : 256 ^ length (take n bs) ≤ 256 ^ n = pow-le-pow_right (omega arith) (omega (arith, length-take n bs)) in
-    omega (arith, num-below (take n bs) (IsBytes-take n bs h))
-
 -- Bytes mean a point of their size.
 pub meaning-fits : (n : ℕ) (bs : List ℕ) → IsBytes bs → IsPoint n (meaning n bs)
 unfolding meaning
 meaning-fits n [] h = tt
 meaning-fits n (tag ∷ rest) h =
-    let x = num-take-fits n rest (IsBytes-tail tag rest h) in
-    let y = num-take-fits n (drop n rest) (IsBytes-drop n rest (IsBytes-tail tag rest h)) in
+    let x = num-below n (take n rest) (IsBytes-take n rest (λ i. h (suc i))) (omega (arith, length-take {A = ℕ})) in
+    let y = num-below n (take n (drop n rest)) (IsBytes-take n (drop n rest) (IsBytes-drop n rest (λ i. h (suc i)))) (omega (arith, length-take {A = ℕ})) in
     grind (arith, x, y)
 
 -- ---- the tests of a reader
@@ -98,11 +92,8 @@ meaning-fits n (tag ∷ rest) h =
 abbrev pub Skips : ℕ → Tag → List ℕ → Type 0
 Skips n tag rest = (suc (length rest) ≡ message_len tag n) × (is_hybrid tag ≡ true → get_or rest (length rest - 1) 0 % 2 ≡ byte_of tag % 2)
 
-spelled_x : (n : ℕ) (rest : List ℕ) → IsBytes rest → length rest ≡ n → fixed_width n (number_of (take n rest)) ≡ rest
-spelled_x n rest h e = rw (take_all n rest (omega arith)) (fixed_width-num n rest h e)
-
 -- Behind the first half is the second.
-half : (n : ℕ) (rest : List ℕ) → length rest ≡ 2 * n → take n (drop n rest) ≡ drop n rest
+pub half : (n : ℕ) (rest : List ℕ) → length rest ≡ 2 * n → take n (drop n rest) ≡ drop n rest
 half n rest e = take_all n (drop n rest) (omega (arith, length-drop n rest))
 
 spelled_xy : (n : ℕ) (rest : List ℕ) → IsBytes rest → length rest ≡ 2 * n
@@ -114,17 +105,14 @@ spelled_xy n rest h e =
 
 -- The last byte has the parity of the second half.
 parity_rest : (n : ℕ) (rest : List ℕ) → 1 ≤ n → length rest ≡ 2 * n → get_or rest (length rest - 1) 0 % 2 ≡ number_of (take n (drop n rest)) % 2
-parity_rest n rest some e =
-    let len = length-drop n rest in
-    let at : n + (length (drop n rest) - 1) ≡ length rest - 1 = omega arith in
-    rw (half n rest e, parity_of_last (drop n rest) (omega arith), get_or-drop, at) refl
+parity_rest n rest some e = grind (arith, half n rest e, parity_of_last (drop n rest), get_or-drop {A = ℕ}, length-drop n rest)
 
 -- What passes is spelled so.
 passes_spelled : (n : ℕ) (tag : Tag) (rest : List ℕ) → 1 ≤ n → IsBytes rest → Skips n tag rest
     → encoding n (meaning n (byte_of tag ∷ rest)) ≡ byte_of tag ∷ rest
 unfolding encoding meaning
 passes_spelled n tags.Identity rest some h p = rw (nil_from_length rest (omega (arith, p.0))) refl
-passes_spelled n tag rest some h p = grind (arith, spelled_x n rest h, spelled_xy n rest h, parity_rest n rest some)
+passes_spelled n tag rest some h p = grind (arith, take_all n rest, fixed_width-num n rest h, spelled_xy n rest h, parity_rest n rest some)
 
 -- An encoding is that of its meaning.
 pub encoding_spelled : (n : ℕ) (bs : List ℕ) → IsEncoding n bs → encoding n (meaning n bs) ≡ bs
@@ -145,7 +133,7 @@ passing_encodings n tag rest input some h is =
       λ p. record {
         of = meaning n input;
         fits = meaning-fits n input h;
-        spelled = rw is (sym (passes_spelled n tag rest some (IsBytes-tail (byte_of tag) rest bytes) p));
+        spelled = rw is (sym (passes_spelled n tag rest some (λ i. bytes (suc i)) p));
       },
       λ e. encoding_passes n tag rest some (rw is at e),
     )
