@@ -82,8 +82,7 @@ decoded text bytes n e c =
     (one_case text bytes all c, (decode_of-ok text bytes all).3)
 
 pub text_len : (text bytes : List ℕ) → IsHexOf text bytes → length text ≡ 2 * length bytes
-text_len text bytes (inl e) = ap length e ∙ length-encode_with upper_digits bytes
-text_len text bytes (inr e) = ap length e ∙ length-encode_with lower_digits bytes
+text_len text bytes h = grind (arith, length-encode_with)
 
 -- What a text spells is decoded.
 pub decodes : (text bytes : List ℕ) (n : ℕ) → n ≡ length text / 2 → IsHexOf text bytes → IsBytes bytes → decode_sized text n ≡ Ok bytes

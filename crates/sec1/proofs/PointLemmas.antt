@@ -137,12 +137,3 @@ passing_encodings n tag rest input some h is =
       },
       λ e. encoding_passes n tag rest some (rw is at e),
     )
-
--- The first byte of an encoding is some tag's, and there is one.
-pub encoding_tag : (n first : ℕ) (rest input : List ℕ) → input ≡ first ∷ rest → IsEncoding n input → byte_of (point_tag (meaning n input)) ≡ first
-unfolding encoding
-encoding_tag n first rest input is e = byte_of-tag_of (meaning n input) ∙ cc (encoding_spelled n input e ∙ is)
-
-pub encoding_some : (n : ℕ) (input : List ℕ) → length input ≡ 0 → IsEncoding n input → ⊥
-unfolding encoding
-encoding_some n input none e = absurd (omega (arith, ap length e.spelled))

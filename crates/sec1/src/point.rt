@@ -279,6 +279,7 @@ impl<const N: usize, const L: usize> EncodedPoint<N, L> {
 }
 
 /// Returns `true` if the input is the encoding of a point for field elements of n bytes.
+#[tactic(auto, using(crate::proofs::PointLemmas::passing_encodings))]
 fn is_encoding(input: &[u8], n: usize) -> bool
     requires positive { 1 ≤ n }
     requires fits { 2 * n + 1 < 2 ^ 64 }
