@@ -97,14 +97,6 @@ compressed_fits n (uncompressed x y) h = h.0
 compressed_fits n (hybrid x y) h = h.0
 compressed_fits n p h = h
 
-pub x_of-compressed_point : (p : Point) → x_of (compressed_point p) ≡ x_of p
-x_of-compressed_point identity = refl
-x_of-compressed_point p = refl
-
-pub compressed_point-twice : (p : Point) → compressed_point (compressed_point p) ≡ compressed_point p
-compressed_point-twice identity = refl
-compressed_point-twice p = refl
-
 hybrid_fits : (n : ℕ) (p : Point) → IsPoint n p → IsPoint n (hybrid_point p)
 hybrid_fits n identity h = h
 hybrid_fits n p h = h

@@ -102,6 +102,7 @@ impl<const N: usize, const L: usize> EncodedPoint<N, L> {
     }
 
     /// Returns the uncompressed point with these coordinates, of N bytes each.
+    #[tactic(auto, using(crate::proofs::EncodedPointLemmas::halves_hold))]
     fn from_halves(x: &[u8], y: &[u8]) -> Self
         requires sizes { Fits N L }
         requires x_len { length x.now ≡ N }
@@ -198,6 +199,7 @@ impl<const N: usize, const L: usize> EncodedPoint<N, L> {
     }
 
     /// Returns the hybrid form of an uncompressed point. Any other point is returned as it is.
+    #[tactic(auto, using(crate::proofs::EncodedPointLemmas::hybrid_holds, crate::proofs::CoordinateLemmas::coordinates_whole))]
     pub fn to_hybrid(&self) -> Self
         ensures { point_of result ≡ hybrid_point (point_of self.now) }
     {
