@@ -13,7 +13,7 @@ use borrow.Rule.Slice.PartMut.{put_mid}
 use Rattle.hex.specs.Hex.{IsBytes}
 use Rattle.sec1_der.specs.Numbers.{number_of}
 use Rattle.sec1_der.specs.Elements.{IsProperBeginning}
-use Rattle.sec1.specs.Points.{Point, identity, uncompressed, hybrid, is_odd, IsPoint, IsEncoding, Fits, fixed_width, tag_byte, encoding, meaning, point_from}
+use Rattle.sec1.specs.Points.{Point, identity, uncompressed, hybrid, is_odd, coordinate_bytes, IsPoint, IsEncoding, Fits, fixed_width, tag_byte, encoding, meaning, point_from}
 use Rattle.sec1.specs.Points.{compressed_point, hybrid_point, x_of, y_of}
 use Rattle.sec1.specs.PointOrder.{point_cmp, IsBelow}
 use Rattle.sec1.specs.Tags.{byte_of, point_tag}
@@ -50,13 +50,10 @@ point_fits {N} p = meaning-fits N (take p.len p.bytes) (rw (← p.encoded) (IsBy
 begins : {N L : ℕ} (p : EncodedPoint N L) → p.bytes ≡ encoding N (point_of p) ++ drop p.len p.bytes
 begins p = rw (p.encoded) (sym (take-append-drop p.len p.bytes))
 
-first_of : (n : ℕ) (p : Point) (rest : List ℕ) → get_or (encoding n p ++ rest) 0 0 ≡ tag_byte p
-unfolding encoding
-first_of n p rest = refl
-
 -- Its first byte is the tag's.
 pub first_byte : {N L : ℕ} (p : EncodedPoint N L) → get_or p.bytes 0 0 ≡ byte_of (point_tag (point_of p))
-first_byte {N} p = ap (λ (xs : List ℕ). get_or xs 0 0) (begins p) ∙ first_of N (point_of p) (drop p.len p.bytes) ∙ sym (byte_of-tag_of (point_of p))
+unfolding encoding
+first_byte p = ap (λ (xs : List ℕ). get_or xs 0 0) (begins p) ∙ sym (byte_of-tag_of (point_of p))
 
 -- The tag and the two halves behind it make the point.
 made_of : (n : ℕ) (p : Point) (rest : List ℕ) → IsPoint n p
@@ -93,9 +90,8 @@ halves_same n xs ys long other_long first front back = absurd (omega arith)
 -- ---- another tag in the first byte
 
 compressed_fits : (n : ℕ) (p : Point) → IsPoint n p → IsPoint n (compressed_point p)
-compressed_fits n (uncompressed x y) h = h.0
-compressed_fits n (hybrid x y) h = h.0
-compressed_fits n p h = h
+compressed_fits n identity h = h
+compressed_fits n p h = grind arith
 
 hybrid_fits : (n : ℕ) (p : Point) → IsPoint n p → IsPoint n (hybrid_point p)
 hybrid_fits n identity h = h
@@ -112,28 +108,26 @@ x_front n x y tag rest =
 compress_of : (n : ℕ) (p : Point) (rest : List ℕ) (y tag : ℕ) → Some y ≡ y_of p → tag ≡ cond (is_odd y) 3 2
     → take (n + 1) (set (encoding n p ++ rest) 0 tag) ≡ encoding n (compressed_point p)
 unfolding encoding
-compress_of n (uncompressed u v) rest y tag h e = let same : y ≡ v = cc in x_front n u v tag rest ∙ (rw (e, same) refl)
-compress_of n (hybrid u v) rest y tag h e = let same : y ≡ v = cc in x_front n u v tag rest ∙ (rw (e, same) refl)
-compress_of n p rest y tag h e = absurd cc
+compress_of n identity rest y tag h e = absurd cc
+compress_of n p rest y tag h e = grind (arith, x_front)
 
 -- With the tag of y's parity in front, the tag and x are the compressed form.
 pub compress_front : {N L : ℕ} (p : EncodedPoint N L) (y tag : ℕ) → Some y ≡ y_of (point_of p) → tag ≡ cond (is_odd y) 3 2
     → take (N + 1) (set p.bytes 0 tag) ≡ encoding N (compressed_point (point_of p))
 compress_front {N} p y tag h e = ap (λ (xs : List ℕ). take (N + 1) (set xs 0 tag)) (begins p) ∙ compress_of N (point_of p) (drop p.len p.bytes) y tag h e
 
-hybrid_of : (n : ℕ) (p : Point) (rest : List ℕ) (x y tag : ℕ) → uncompressed x y ≡ p → tag ≡ cond (is_odd y) 7 6
+hybrid_of : (n : ℕ) (p : Point) (rest : List ℕ) (tag : ℕ) → tag ≡ tag_byte (hybrid_point p)
     → take (length (encoding n p)) (set (encoding n p ++ rest) 0 tag) ≡ encoding n (hybrid_point p)
 unfolding encoding
-hybrid_of n p rest x y tag h k =
-    let digits = fixed_width n x ++ fixed_width n y in
-    rw (← h, k, take_at digits rest (length digits) refl) refl
+hybrid_of n identity rest tag e = grind arith
+hybrid_of n p rest tag e = rw (e, take_at (coordinate_bytes n p) rest (length (coordinate_bytes n p)) refl) refl
 
--- An uncompressed point with the tag of y's parity in front is the hybrid form.
-pub hybrid_holds : {N L : ℕ} (p : EncodedPoint N L) (x y tag : ℕ) → p.len ≤ length p.bytes → uncompressed x y ≡ point_of p → tag ≡ cond (is_odd y) 7 6
+-- With the hybrid form's tag in front, the encoding is that form's.
+pub hybrid_holds : {N L : ℕ} (p : EncodedPoint N L) (tag : ℕ) → p.len ≤ length p.bytes → tag ≡ tag_byte (hybrid_point (point_of p))
     → Holds N (take p.len (set p.bytes 0 tag)) (hybrid_point (point_of p))
-hybrid_holds {N} p x y tag room h k =
+hybrid_holds {N} p tag room h =
     let len : length (encoding N (point_of p)) ≡ p.len = ap length p.encoded ∙ omega (arith, length-take p.len p.bytes) in
-    let front = ap (λ (xs : List ℕ). take p.len (set xs 0 tag)) (begins p) ∙ rw len at (hybrid_of N (point_of p) (drop p.len p.bytes) x y tag h k) in
+    let front = ap (λ (xs : List ℕ). take p.len (set xs 0 tag)) (begins p) ∙ rw len at (hybrid_of N (point_of p) (drop p.len p.bytes) tag h) in
     holds N (take p.len (set p.bytes 0 tag)) (hybrid_point (point_of p)) (hybrid_fits N (point_of p) (point_fits p)) front
 
 -- ---- a buffer made of coordinates

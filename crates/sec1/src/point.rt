@@ -199,7 +199,6 @@ impl<const N: usize, const L: usize> EncodedPoint<N, L> {
     }
 
     /// Returns the hybrid form of an uncompressed point. Any other point is returned as it is.
-    #[tactic(auto, using(crate::proofs::EncodedPointLemmas::hybrid_holds, crate::proofs::CoordinateLemmas::coordinates_whole))]
     pub fn to_hybrid(&self) -> Self
         ensures { point_of result ≡ hybrid_point (point_of self.now) }
     {
