@@ -28,8 +28,6 @@ byte_of-tag_of p = grind arith
 pub tag_of-byte : (tag : Tag) (p : Point) → byte_of tag ≡ tag_byte p → tag ≡ point_tag p
 tag_of-byte tag p e = byte_of-injective tag (point_tag p) (e ∙ sym (byte_of-tag_of p))
 
-pub ruleset tag_facts = (byte_of-injective, byte_of-tag_of)
-
 -- ---- encodings
 
 length-both : (n x y : ℕ) → length (fixed_width n x ++ fixed_width n y) ≡ 2 * n
@@ -39,6 +37,8 @@ pub length-enc : (n : ℕ) (p : Point) → length (encoding n p) ≡ message_len
 unfolding encoding
 length-enc n identity = refl
 length-enc n p = grind (arith, length-both, length-fixed_width)
+
+pub ruleset tag_facts = (byte_of-injective, byte_of-tag_of, length-enc)
 
 pub length-enc-le : (n : ℕ) (p : Point) → length (encoding n p) ≤ 2 * n + 1
 length-enc-le n p = rw (length-enc n p) (grind arith)

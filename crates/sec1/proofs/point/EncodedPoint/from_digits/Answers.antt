@@ -6,14 +6,13 @@ use Rattle.sec1.proofs.PointLemmas.{IsBytes-enc, length-enc-le}
 use Rattle.sec1.proofs.HexLemmas.{text_len}
 use Rattle.sec1.proofs.point.EncodedPoint.from_digits.Goals as goal
 
--- A text of an encoding is at most twice as long as the buffer.
-sized : (n l : ℕ) (p : Point) (text : List ℕ) → Fits n l → IsHexOf text (encoding n p) → length text / 2 ≤ l
-sized n l p text fit h = omega (arith, fit.1, text_len text (encoding n p) h, length-enc-le n p)
-
 pub returns-then-len : goal.returns-then-len
 returns-then-len g c = record {
   found = tt;
-  only = λ p fit _ spelled. grind (arith, sized g.row.N g.row.L p c.args.text.now fit spelled, IsBytes-enc g.row.N p, spelled);
+  only = λ p fit _ spelled.
+      let bytes = encoding g.row.N p in
+      let room : length c.args.text.now / 2 ≤ g.row.L = omega (arith, fit.1, text_len c.args.text.now bytes spelled, length-enc-le g.row.N p) in
+      grind (arith, IsBytes-enc g.row.N p, spelled);
   kind = refl;
 }
 

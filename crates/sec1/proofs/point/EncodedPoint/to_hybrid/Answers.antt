@@ -7,4 +7,4 @@ pub invariant_of-point-clause-encoded : goal.invariant_of-point-clause-encoded
 invariant_of-point-clause-encoded g c = grind (arith, coordinates_whole, hybrid_holds c.args.self.now c.from.result, c.in-Uncompressed.ensures)
 
 pub returns : goal.returns
-returns g c = (hybrid_holds c.args.self.now c.from.result (omega (arith, c.args.self.now.room)) (grind (arith, coordinates_whole, c.in-Uncompressed.ensures))).means
+returns g c = grind (arith, coordinates_whole, hybrid_holds c.args.self.now c.from.result, c.in-Uncompressed.ensures)
