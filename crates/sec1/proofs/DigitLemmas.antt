@@ -1,9 +1,10 @@
 -- Bytes, the numbers that they spell and the digits that spell a number.
 use Rattle.std.proofs.Common.{◌≡◌, ℕ, zero, suc, ◌+◌, ◌-◌, ◌*◌, ◌/◌, ◌%◌, ◌^◌, ◌<◌, ◌≤◌, List, [], ◌∷◌, ◌++◌, length, get_or, take, drop, refl, ap, sym, arith}
-use Rattle.std.proofs.Math.Nat.{pow-suc, pow-le-pow_right}
+use Rattle.std.proofs.Common.{pow-suc, length-append, get_or-drop, take_all}
+use Rattle.std.proofs.Math.Nat.{pow-le-pow_right}
 use Rattle.std.proofs.lemmas.Grind.{elements}
 use Rattle.std.proofs.lemmas.Int.Digits.{number_push, number_more, number_lt}
-use Rattle.std.proofs.lemmas.List.{length-append, get_or-drop, take_more, take_all, nil_from_length}
+use Rattle.std.proofs.lemmas.List.{take_more, nil_from_length}
 use Rattle.hex.specs.Hex.{IsBytes}
 use Rattle.sec1_der.specs.Numbers.{number_of}
 use Rattle.sec1_der.proofs.DigitLemmas.{IsBytes-below}

@@ -1,20 +1,14 @@
 -- What the bytes of an encoded point mean: the encoding stands at the beginning of a buffer.
-use Rattle.std.proofs.Common.{◌≡◌, ℕ, zero, suc, ◌+◌, ◌-◌, ◌*◌, ◌^◌, ◌<◌, ◌≤◌, cond, List, [], ◌∷◌, ◌++◌, length, get_or, take, drop, set, replicate, refl}
-use Rattle.std.proofs.Common.{sym, ap, ◌∙◌, arith}
-use Rattle.std.proofs.Common.{append_assoc, add-one, subst, Some, Ok}
+use Rattle.std.proofs.Common.{◌≡◌, ℕ, zero, suc, ◌+◌, ◌-◌, ◌*◌, ◌^◌, ◌<◌, ◌≤◌, cond, List, [], ◌∷◌, ◌++◌, length, get_or, take, drop, set, replicate, refl, sym}
+use Rattle.std.proofs.Common.{ap, ◌∙◌, arith, append_assoc, add-one, subst, Some, Ok, nat_cmp, ◌↔◌, Ordering, Less, Equal, Greater, take_at, take_all}
+use Rattle.std.proofs.Common.{take-append-drop, length-append, length-drop, length-take}
 use Rattle.std.specs.Cmp.Lexicographic.{slice_cmp}
-use Rattle.std.specs.Ordering.{nat_cmp}
-use Rattle.std.specs.Prelude.{◌↔◌}
-use Rattle.std.specs.declared.cmp.Ordering.{Ordering}
-use Rattle.std.specs.declared.cmp.Ordering.TheVariants.{Less, Equal, Greater}
-use Rattle.std.proofs.lemmas.List.{take_at, take_all, take-append-drop, length-append, length-drop, length-take}
 use Rattle.std.proofs.lemmas.Slice.{take-put_mid}
 use borrow.Rule.Slice.PartMut.{put_mid}
 use Rattle.hex.specs.Hex.{IsBytes}
-use Rattle.sec1_der.specs.Numbers.{number_of}
-use Rattle.sec1_der.specs.Elements.{IsProperBeginning}
-use Rattle.sec1.specs.Points.{Point, identity, uncompressed, hybrid, is_odd, coordinate_bytes, IsPoint, IsEncoding, Fits, fixed_width, tag_byte, encoding, meaning, point_from}
-use Rattle.sec1.specs.Points.{compressed_point, hybrid_point, x_of, y_of}
+use Rattle.sec1.specs.Der.{number_of, IsProperBeginning}
+use Rattle.sec1.specs.Points.{Point, identity, uncompressed, hybrid, is_odd, coordinate_bytes, IsPoint, IsEncoding, Fits, fixed_width, tag_byte, encoding}
+use Rattle.sec1.specs.Points.{meaning, point_from, compressed_point, hybrid_point, x_of, y_of}
 use Rattle.sec1.specs.PointOrder.{point_cmp, IsBelow}
 use Rattle.sec1.specs.Tags.{byte_of, point_tag}
 use Rattle.sec1.specs.EncodedPoints.{point_of, ReadsBytes}

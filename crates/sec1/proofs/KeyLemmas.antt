@@ -1,12 +1,9 @@
 -- The content of a key, and the key's bytes.
 use Rattle.std.proofs.Common.{◌≡◌, ◌∷◌, [], ◌↔◌, ℕ, List, Option, Some, None, option_map, IsSomeAnd, refl, ap, append-nil, arith}
 use Rattle.sec1_der.proofs.ElementLemmas.{element_of-within}
-use Rattle.sec1_der.specs.Components.{join}
-use Rattle.sec1_der.specs.Elements.{element_of, field_of}
+use Rattle.sec1.specs.Der.{join, element_of, field_of, IsTreeOf, IsReadingFault}
 use Rattle.sec1_der.specs.Identifiers.{content_of, identifier_content, is_identifier}
 use Rattle.sec1_der.specs.IdentifierLaws.{is_identifier-true, identifier_content-valid}
-use Rattle.sec1_der.specs.Trees.{IsTreeOf}
-use Rattle.sec1_der.specs.Faults.{IsReadingFault}
 use Rattle.sec1_der.specs.declared.error.Error.{Error as DerError}
 use Rattle.sec1_der.specs.declared.error.ErrorKind.{ErrorKind}
 use Rattle.sec1_der.specs.declared.error.ErrorKind.TheVariants.{Memory as DerMemory}

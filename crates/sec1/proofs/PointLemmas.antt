@@ -1,20 +1,18 @@
 -- Points, tags and encodings.
-use Rattle.std.proofs.Common.{◌≡◌, ℕ, zero, suc, rules, ◌+◌, ◌-◌, ◌*◌, ◌%◌, ◌^◌, ◌<◌, ◌≤◌, true, false, cond, List, [], ◌∷◌, ◌++◌, length, get_or, take, drop, refl, sym}
-use Rattle.std.proofs.Common.{ap, ◌∙◌, arith}
-use Rattle.std.proofs.Common.{append_assoc, append-nil}
-use Rattle.std.specs.Prelude.{◌↔◌}
-use Rattle.std.proofs.lemmas.List.{take_at, drop_at, take_all, length-drop, get_or-drop, length-append, nil_from_length, length-take, take-append-drop}
+use Rattle.std.proofs.Common.{◌≡◌, ℕ, zero, suc, rules, ◌+◌, ◌-◌, ◌*◌, ◌%◌, ◌^◌, ◌<◌, ◌≤◌, true, false, cond, List, [], ◌∷◌, ◌++◌, length, get_or, take, drop}
+use Rattle.std.proofs.Common.{refl, sym, ap, ◌∙◌, arith, append_assoc, append-nil, ◌↔◌, take_at, drop_at, take_all, length-drop, get_or-drop, length-append}
+use Rattle.std.proofs.Common.{length-take, take-append-drop}
+use Rattle.std.proofs.lemmas.List.{nil_from_length}
 use Rattle.hex.specs.Hex.{IsBytes}
-use Rattle.sec1_der.specs.Numbers.{number_of}
+use Rattle.sec1.specs.Der.{number_of, IsProperBeginning}
 use Rattle.sec1_der.proofs.DigitLemmas.{IsBytes-take}
-use Rattle.sec1_der.specs.Elements.{IsProperBeginning}
-use Rattle.sec1.specs.Points.{Point, identity, compact, compressed, uncompressed, hybrid, is_odd, IsPoint, IsEncoding, fixed_width, tag_byte}
-use Rattle.sec1.specs.Points.{coordinate_bytes, encoding, meaning}
+use Rattle.sec1.specs.Points.{Point, identity, compact, compressed, uncompressed, hybrid, is_odd, IsPoint, IsEncoding, fixed_width, tag_byte, coordinate_bytes}
+use Rattle.sec1.specs.Points.{encoding, meaning}
 use Rattle.sec1.specs.Tags.{byte_of, point_tag, message_len, is_hybrid}
 use Rattle.sec1.specs.declared.point.tag.Tag.{Tag}
 use Rattle.sec1.specs.declared.point.tag.Tag.TheVariants as tags
-use Rattle.sec1.proofs.DigitLemmas.{IsBytes-append, IsBytes-drop, length-fixed_width}
-use Rattle.sec1.proofs.DigitLemmas.{IsBytes-fixed_width, num-below, num-fixed_width, fixed_width-num, parity_of_last}
+use Rattle.sec1.proofs.DigitLemmas.{IsBytes-append, IsBytes-drop, length-fixed_width, IsBytes-fixed_width, num-below, num-fixed_width, fixed_width-num}
+use Rattle.sec1.proofs.DigitLemmas.{parity_of_last}
 
 -- ---- tags
 

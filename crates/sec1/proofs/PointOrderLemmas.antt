@@ -1,8 +1,5 @@
 -- Which points tie, and which are less than others.
-use Rattle.std.proofs.Common.{◌≡◌, ℕ, ◌<◌, ◌==◌, ◌||◌, Bool, true, false, Option, None, is_some, refl, arith}
-use Rattle.std.specs.Prelude.{nat_lt, ◌↔◌}
-use Rattle.std.specs.declared.cmp.Ordering.TheVariants.{Less, Equal, Greater}
-use Rattle.std.specs.Ordering.{nat_cmp}
+use Rattle.std.proofs.Common.{◌≡◌, ℕ, ◌<◌, ◌==◌, ◌||◌, Bool, true, false, Option, None, is_some, refl, arith, nat_lt, ◌↔◌, Less, Equal, Greater, nat_cmp}
 use Rattle.std.proofs.lemmas.Cmp.{tied_itself}
 use Rattle.sec1.specs.Points.{Point, identity, tag_byte, x_of, y_of}
 use Rattle.sec1.specs.PointOrder.{IsLess, IsBelow, or_zero, point_cmp, same_point}

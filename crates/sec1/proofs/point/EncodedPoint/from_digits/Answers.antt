@@ -1,5 +1,5 @@
-use Rattle.std.proofs.Common.{◌∙◌, arith, ◌≡◌, ◌≤◌, ◌/◌, ℕ, List, length, drop, replicate, refl, rules}
-use Rattle.std.proofs.lemmas.List.{take_at, length-take, length-replicate}
+use Rattle.std.proofs.Common.{◌∙◌, arith, ◌≡◌, ◌≤◌, ◌/◌, ℕ, List, length, drop, replicate, refl, rules, take_at, length-take}
+use Rattle.std.proofs.lemmas.List.{length-replicate}
 use Rattle.sec1.specs.Points.{Point, Fits, encoding}
 use Rattle.sec1.specs.HexTexts.{IsHexOf}
 use Rattle.sec1.proofs.PointLemmas.{IsBytes-enc, length-enc-le}
