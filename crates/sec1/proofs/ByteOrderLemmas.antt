@@ -1,6 +1,6 @@
 -- Bytes of one length are ordered as the numbers that they spell, and encodings as their points.
-use Rattle.std.proofs.Common.{◌≡◌, ◌≢◌, ℕ, suc, ◌+◌, ◌*◌, ◌^◌, ◌<◌, ◌≤◌, take, drop, w64, true, false, List, [], ◌∷◌, ◌++◌, length, refl, sym, subst, ◌∙◌}
-use Rattle.std.proofs.Common.{arith, Ordering, Less, Equal, nat_cmp, take-append-drop, length-take-le}
+use Rattle.std.proofs.Common.{◌≡◌, ℕ, suc, ◌+◌, ◌*◌, ◌^◌, ◌<◌, ◌≤◌, take, drop, w64, List, [], ◌∷◌, ◌++◌, length, refl, sym, ◌∙◌, arith, Ordering, Less, Equal}
+use Rattle.std.proofs.Common.{nat_cmp, take-append-drop, length-take-le}
 use Rattle.std.specs.Int.{from_be_bytes}
 use Rattle.std.specs.Int.Digits.{number_from_digits_after}
 use Rattle.std.specs.Ordering.{ordering_then}
@@ -8,10 +8,8 @@ use Rattle.std.specs.Cmp.Lexicographic.{slice_cmp}
 use Rattle.hex.specs.Hex.{IsBytes}
 use Rattle.sec1_der.specs.Numbers.{number_of}
 use Rattle.sec1_der.proofs.DigitLemmas.{IsBytes-take}
-use Rattle.sec1.specs.Points.{Point, identity, compact, compressed, uncompressed, hybrid, IsPoint, fixed_width, tag_byte, coordinate_bytes, x_of, y_of}
-use Rattle.sec1.specs.Points.{encoding, point_from}
-use Rattle.sec1.specs.PointOrder.{or_zero, coordinates_cmp, point_cmp}
-use Rattle.sec1.specs.PointOrderLaws.{point_from-parts}
+use Rattle.sec1.specs.Points.{Point, IsPoint, fixed_width, encoding}
+use Rattle.sec1.specs.PointOrder.{point_cmp}
 use Rattle.sec1.proofs.DigitLemmas.{IsBytes-fixed_width, length-fixed_width, num-fixed_width}
 use Rattle.sec1.proofs.PointOrderLemmas.{nat_cmp-Equal}
 

@@ -1,15 +1,15 @@
 -- What the bytes of an encoded point mean: the encoding stands at the beginning of a buffer.
-use Rattle.std.proofs.Common.{◌≡◌, ℕ, zero, suc, ◌+◌, ◌-◌, ◌*◌, ◌^◌, ◌<◌, ◌≤◌, cond, List, [], ◌∷◌, ◌++◌, length, get_or, take, drop, set, replicate, refl, sym}
-use Rattle.std.proofs.Common.{ap, ◌∙◌, arith, append_assoc, add-one, subst, Some, Ok, nat_cmp, ◌↔◌, Ordering, Less, Equal, Greater, take_at, take_all}
-use Rattle.std.proofs.Common.{take-append-drop, length-append, length-drop, length-take}
+use Rattle.std.proofs.Common.{◌≡◌, ℕ, zero, suc, ◌+◌, ◌-◌, ◌*◌, ◌≤◌, cond, List, [], ◌∷◌, ◌++◌, length, get_or, take, drop, set, replicate, refl, sym, ap, ◌∙◌}
+use Rattle.std.proofs.Common.{arith, append_assoc, add-one, subst, Some, Ok, nat_cmp, ◌↔◌, take_at, take_all, take-append-drop, length-append, length-drop}
+use Rattle.std.proofs.Common.{length-take}
 use Rattle.std.specs.Cmp.Lexicographic.{slice_cmp}
 use Rattle.std.proofs.lemmas.Slice.{take-put_mid}
 use borrow.Rule.Slice.PartMut.{put_mid}
 use Rattle.hex.specs.Hex.{IsBytes}
 use Rattle.sec1.specs.Der.{number_of, IsProperBeginning}
-use Rattle.sec1.specs.Points.{Point, identity, uncompressed, hybrid, is_odd, coordinate_bytes, IsPoint, IsEncoding, Fits, fixed_width, tag_byte, encoding}
-use Rattle.sec1.specs.Points.{meaning, point_from, compressed_point, hybrid_point, x_of, y_of}
-use Rattle.sec1.specs.PointOrder.{point_cmp, IsBelow}
+use Rattle.sec1.specs.Points.{Point, identity, uncompressed, is_odd, coordinate_bytes, IsPoint, IsEncoding, Fits, fixed_width, tag_byte, encoding, meaning}
+use Rattle.sec1.specs.Points.{point_from, compressed_point, hybrid_point, y_of}
+use Rattle.sec1.specs.PointOrder.{point_cmp}
 use Rattle.sec1.specs.Tags.{byte_of, point_tag}
 use Rattle.sec1.specs.EncodedPoints.{point_of, ReadsBytes}
 use Rattle.sec1.specs.declared.point.EncodedPoint.{EncodedPoint}

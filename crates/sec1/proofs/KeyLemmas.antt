@@ -1,8 +1,8 @@
 -- The content of a key, and the key's bytes.
-use Rattle.std.proofs.Common.{◌≡◌, ◌∷◌, [], ◌↔◌, ℕ, List, Option, Some, None, option_map, IsSomeAnd, refl, ap, append-nil, arith}
+use Rattle.std.proofs.Common.{◌≡◌, ◌∷◌, [], ℕ, List, Option, Some, None, option_map, IsSomeAnd, refl, ap, append-nil, arith}
 use Rattle.sec1_der.proofs.ElementLemmas.{element_of-within}
 use Rattle.sec1.specs.Der.{join, element_of, field_of, IsTreeOf, IsReadingFault}
-use Rattle.sec1_der.specs.Identifiers.{content_of, identifier_content, is_identifier}
+use Rattle.sec1_der.specs.Identifiers.{content_of, identifier_content}
 use Rattle.sec1_der.specs.IdentifierLaws.{is_identifier-true, identifier_content-valid}
 use Rattle.sec1_der.specs.declared.error.Error.{Error as DerError}
 use Rattle.sec1_der.specs.declared.error.ErrorKind.{ErrorKind}

@@ -1,7 +1,6 @@
-use Rattle.std.proofs.Common.{◌∙◌, arith, ◌≡◌, ◌≤◌, ◌/◌, ℕ, List, length, drop, replicate, refl, rules, take_at, length-take}
+use Rattle.std.proofs.Common.{◌∙◌, arith, ◌≡◌, ◌≤◌, ◌/◌, ℕ, length, drop, replicate, refl, rules, take_at, length-take}
 use Rattle.std.proofs.lemmas.List.{length-replicate}
-use Rattle.sec1.specs.Points.{Point, Fits, encoding}
-use Rattle.sec1.specs.HexTexts.{IsHexOf}
+use Rattle.sec1.specs.Points.{encoding}
 use Rattle.sec1.proofs.PointLemmas.{IsBytes-enc, length-enc-le}
 use Rattle.sec1.proofs.HexLemmas.{text_len}
 use Rattle.sec1.proofs.point.EncodedPoint.from_digits.Goals as goal
