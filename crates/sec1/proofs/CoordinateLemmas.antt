@@ -1,6 +1,6 @@
 -- The first bytes of a borrowed coordinate: all of it at its length, their parity, and a comparison of two.
 use Rattle.std.proofs.Common.{◌≡◌, ◌≢◌, add-one, ℕ, zero, suc, ◌+◌, ◌-◌, ◌%◌, ◌<◌, ◌≤◌, false, ◌&&◌, List, [], ◌∷◌, ◌++◌, length, get_or, take, bytes_eq, refl}
-use Rattle.std.proofs.Common.{sym, ap, ◌∙◌, arith, take_all}
+use Rattle.std.proofs.Common.{ap, ◌∙◌, arith, take_all}
 use Rattle.std.proofs.lemmas.List.{take_more, length_push}
 use Rattle.std.proofs.lemmas.Grind.{elements}
 use Rattle.std.proofs.lemmas.Slice.Eq.{bytes_eq-Decides}
@@ -25,7 +25,7 @@ first_take (suc n) xs h = grind (arith, take_more xs n 0, first_take n xs)
 pub coordinates_whole : (n : ℕ) (xs : List ℕ) → length xs ≡ n → coordinate_number n xs ≡ number_of xs
 coordinates_whole n xs e = ap number_of (first_take n xs (omega arith) ∙ take_all n xs (omega arith))
 
-length-first : (n : ℕ) (xs : List ℕ) → length (first_bytes n xs) ≡ n
+pub length-first : (n : ℕ) (xs : List ℕ) → length (first_bytes n xs) ≡ n
 unfolding first_bytes
 length-first zero xs = refl
 length-first (suc n) xs = omega (arith, length-first n xs, length_push {X = ℕ})
@@ -49,7 +49,8 @@ coordinates_none n xs e = rw (e, first_none xs) refl
 pub first_apart : (n i : ℕ) (xs ys : List ℕ) → i < n → get_or xs i 0 ≢ get_or ys i 0 → false ≡ bytes_eq (first_bytes n xs) (first_bytes n ys)
 first_apart n i xs ys h apart = grind (arith, get_or-first n i xs h, get_or-first n i ys h, bytes_eq-Decides (first_bytes n xs) (first_bytes n ys))
 
-eq_append : (xs ys us vs : List ℕ) → length xs ≡ length ys → bytes_eq (xs ++ us) (ys ++ vs) ≡ (bytes_eq xs ys && bytes_eq us vs)
+-- Fronts of one length are compared first.
+pub eq_append : (xs ys us vs : List ℕ) → length xs ≡ length ys → bytes_eq (xs ++ us) (ys ++ vs) ≡ (bytes_eq xs ys && bytes_eq us vs)
 eq_append [] [] us vs e = refl
 eq_append (x ∷ xs) (y ∷ ys) us vs e = grind (arith, eq_append xs ys us vs (omega arith))
 eq_append xs ys us vs e = absurd (omega arith)
@@ -58,6 +59,4 @@ eq_append xs ys us vs e = absurd (omega arith)
 pub ruleset compared_bytes = (first_none, first_more, first_apart, bytes_eq-Decides)
 
 -- Two coordinates are compared one after the other.
-pub eq_first : (n : ℕ) (xs ys us vs : List ℕ)
-    → bytes_eq (first_bytes n xs ++ us) (first_bytes n ys ++ vs) ≡ (bytes_eq (first_bytes n xs) (first_bytes n ys) && bytes_eq us vs)
-eq_first n xs ys us vs = eq_append (first_bytes n xs) (first_bytes n ys) us vs (length-first n xs ∙ sym (length-first n ys))
+pub ruleset compared_coordinates = (eq_append, length-first)

@@ -54,6 +54,3 @@ fixed_width-num n bs h e = rw (take_all n bs (omega arith)) at (fixed_width-fron
 -- The last byte has the number's parity.
 pub parity_of_last : (bs : List ℕ) → 0 < length bs → number_of bs % 2 ≡ get_or bs (length bs - 1) 0 % 2
 parity_of_last bs some = grind (arith, take_all, number_more 256 bs (length bs - 1))
-
-pub num_of_none : (bs : List ℕ) → length bs ≡ 0 → number_of bs ≡ 0
-num_of_none bs e = ap number_of (nil_from_length bs e)

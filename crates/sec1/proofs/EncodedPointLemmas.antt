@@ -1,7 +1,7 @@
 -- What the bytes of an encoded point mean: the encoding stands at the beginning of a buffer.
 use Rattle.std.proofs.Common.{◌≡◌, ℕ, zero, suc, ◌+◌, ◌-◌, ◌*◌, ◌≤◌, cond, List, [], ◌∷◌, ◌++◌, length, get_or, take, drop, set, replicate, refl, sym, ap, ◌∙◌}
 use Rattle.std.proofs.Common.{arith, append_assoc, add-one, subst, Some, Ok, nat_cmp, ◌↔◌, take_at, take_all, take-append-drop, length-append, length-drop}
-use Rattle.std.proofs.Common.{length-take}
+use Rattle.std.proofs.Common.{length-take, le_of_eq}
 use Rattle.std.specs.Cmp.Lexicographic.{slice_cmp}
 use Rattle.std.proofs.lemmas.Slice.{take-put_mid}
 use borrow.Rule.Slice.PartMut.{put_mid}
@@ -84,12 +84,10 @@ halves_same n xs ys long other_long first front back = absurd (omega arith)
 -- ---- another tag in the first byte
 
 compressed_fits : (n : ℕ) (p : Point) → IsPoint n p → IsPoint n (compressed_point p)
-compressed_fits n identity h = h
 compressed_fits n p h = grind arith
 
 hybrid_fits : (n : ℕ) (p : Point) → IsPoint n p → IsPoint n (hybrid_point p)
-hybrid_fits n identity h = h
-hybrid_fits n p h = h
+hybrid_fits n p h = grind arith
 
 pub compressed_holds : {N L : ℕ} (p : EncodedPoint N L) (front : List ℕ) → front ≡ encoding N (compressed_point (point_of p))
     → Holds N front (compressed_point (point_of p))
@@ -113,8 +111,7 @@ compress_front {N} p y tag h e = ap (λ (xs : List ℕ). take (N + 1) (set xs 0 
 hybrid_of : (n : ℕ) (p : Point) (rest : List ℕ) (tag : ℕ) → tag ≡ tag_byte (hybrid_point p)
     → take (length (encoding n p)) (set (encoding n p ++ rest) 0 tag) ≡ encoding n (hybrid_point p)
 unfolding encoding
-hybrid_of n identity rest tag e = grind arith
-hybrid_of n p rest tag e = rw (e, take_at (coordinate_bytes n p) rest (length (coordinate_bytes n p)) refl) refl
+hybrid_of n p rest tag e = grind (arith, take_at (coordinate_bytes n p) rest)
 
 -- With the hybrid form's tag in front, the encoding is that form's.
 pub hybrid_holds : {N L : ℕ} (p : EncodedPoint N L) (tag : ℕ) → p.len ≤ length p.bytes → tag ≡ tag_byte (hybrid_point (point_of p))
@@ -137,7 +134,7 @@ halves_hold n l k (b ∷ buffer) x y el eb ex ey hx hy =
     let front : take (n + 1) with_x ≡ 4 ∷ x = take-put_mid 1 (n + 1 - 1) (4 ∷ buffer) x (n + 1) (omega arith) (omega arith) in
     let all = take-put_mid (n + 1) k with_x y l (omega arith) (omega arith) in
     let written = all ∙ rw (front, fixed_width-num n x hx ex, fixed_width-num n y hy ey) refl in
-    holds n _ (uncompressed (number_of x) (number_of y)) (num-below n x hx (omega arith), num-below n y hy (omega arith)) written
+    holds n _ (uncompressed (number_of x) (number_of y)) (num-below n x hx (le_of_eq ex), num-below n y hy (le_of_eq ey)) written
 
 -- ---- reading bytes
 

@@ -1,14 +1,9 @@
 -- The content of a key, and the key's bytes.
 use Rattle.std.proofs.Common.{◌≡◌, ◌∷◌, [], ℕ, List, Option, Some, None, option_map, IsSomeAnd, refl, ap, append-nil, arith}
 use Rattle.sec1_der.proofs.ElementLemmas.{element_of-within}
-use Rattle.sec1.specs.Der.{join, element_of, field_of, IsTreeOf, IsReadingFault}
+use Rattle.sec1.specs.Der.{join, element_of, field_of, IsTreeOf}
 use Rattle.sec1_der.specs.Identifiers.{content_of, identifier_content}
 use Rattle.sec1_der.specs.IdentifierLaws.{is_identifier-true, identifier_content-valid}
-use Rattle.sec1_der.specs.declared.error.Error.{Error as DerError}
-use Rattle.sec1_der.specs.declared.error.ErrorKind.{ErrorKind}
-use Rattle.sec1_der.specs.declared.error.ErrorKind.TheVariants.{Memory as DerMemory}
-use Rattle.sec1.specs.declared.error.Error.TheVariants.{Asn1}
-use Rattle.sec1.specs.Errors.{error_of_kind}
 use Rattle.sec1.specs.Keys.{Key, key_tree, IsNamedCurve, IsKeyOf, HasNoEncoding, HasEncodingWith}
 
 -- the content of a key with this content of the identifier of its curve
@@ -29,8 +24,7 @@ made private_key parameters public_key = record { private_key = private_key; par
 -- Whether or not the arcs are an identifier's, their content makes the bytes of the key's tree.
 there : (private_key : List ℕ) (parameters public_key : Option (List ℕ)) (bytes : List ℕ) → IsTreeOf (key_tree (made private_key parameters public_key)) bytes
     → element_of 0x30 (content_with (option_map (λ arcs. Some (content_of arcs)) parameters) (made private_key parameters public_key)) ≡ Some bytes
-there key None public_key bytes is = grind (arith, element_of-within, append-nil {A = ℕ}, is.tree, is.whole)
-there key (Some arcs) public_key bytes is = grind (arith, element_of-within, append-nil {A = ℕ}, is.tree, is.whole)
+there key parameters public_key bytes is = grind (arith, element_of-within, append-nil {A = ℕ}, is.tree, is.whole)
 
 back : (private_key : List ℕ) (parameters public_key : Option (List ℕ)) (bytes : List ℕ)
     → element_of 0x30 (content_with (option_map (λ arcs. Some (content_of arcs)) parameters) (made private_key parameters public_key)) ≡ Some bytes
@@ -75,8 +69,3 @@ key_lacks key none = grind (arith, key_found key)
 pub ruleset written_keys = (key_written, key_found)
 
 pub ruleset counted_keys = (key_written, key_lacks, key_found_with)
-
--- A fault of reading stays an error of DER.
-pub asn1 : (kind : ErrorKind) (cause : DerError) → IsReadingFault kind → error_of_kind kind cause ≡ Asn1 cause
-asn1 DerMemory cause fault = absurd fault
-asn1 kind cause fault = refl

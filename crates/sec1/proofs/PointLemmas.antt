@@ -44,16 +44,15 @@ pub IsBytes-enc : (n : ℕ) (p : Point) → IsBytes (encoding n p)
 unfolding encoding
 IsBytes-enc n p zero = grind arith
 IsBytes-enc n identity (suc i) = omega arith
-IsBytes-enc n p (suc i) = search (rules, IsBytes-fixed_width, IsBytes-append)
+IsBytes-enc n p (suc i) = grind (arith, IsBytes-fixed_width, IsBytes-append)
 
 -- No encoding begins another.
 pub no_beginning : (n : ℕ) (p q : Point) → IsProperBeginning (encoding n p) (encoding n q) → ⊥
 unfolding encoding
 no_beginning n p q begins =
-    let rest = begins.more in
     let byte : tag_byte q ≡ tag_byte p = ap (λ (bs : List ℕ). get_or bs 0 0) begins.split in
-    let same : message_len (point_tag q) n ≡ message_len (point_tag p) n = rw (tag_of-byte (point_tag q) p (byte_of-tag_of q ∙ byte)) refl in
-    begins.some (nil_from_length rest (omega (arith, ap length begins.split, length-append (encoding n p) rest, length-enc n p, length-enc n q)))
+    let len = rw (tag_of-byte (point_tag q) p (byte_of-tag_of q ∙ byte)) at (length-enc n q) in
+    begins.some (nil_from_length begins.more (omega (arith, ap length begins.split, length-append (encoding n p) begins.more, length-enc n p)))
 
 -- ---- what encodings mean
 

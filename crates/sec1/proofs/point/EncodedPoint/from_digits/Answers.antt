@@ -19,13 +19,11 @@ pub returns : goal.returns
 returns g c =
     let half = length c.args.text.now / 2 in
     let buffer = replicate {A = ℕ} g.row.L 0 in
-    let out = c.decode_digits.new.out in
-    let len : length out ≡ half = omega (arith, length-take half buffer, length-replicate {A = ℕ} g.row.L 0) in
-    let front = take_at out (drop half buffer) half len in
+    let len : length c.decode_digits.new.out ≡ half = omega (arith, length-take half buffer, length-replicate {A = ℕ} g.row.L 0) in
+    let front = take_at c.decode_digits.new.out (drop half buffer) half len in
     record {
       found = search rules;
       only = λ p fit fits spelled.
-          let decoded = c.decode_digits.ensures.only (encoding g.row.N p) (IsBytes-enc g.row.N p) spelled in
-          c.from_bytes.ensures.only p fit fits (front ∙ decoded.1);
+          c.from_bytes.ensures.only p fit fits (front ∙ (c.decode_digits.ensures.only (encoding g.row.N p) (IsBytes-enc g.row.N p) spelled).1);
       kind = c.from_bytes.ensures.kind;
     }

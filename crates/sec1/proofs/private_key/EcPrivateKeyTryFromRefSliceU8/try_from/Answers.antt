@@ -1,11 +1,21 @@
-use Rattle.std.proofs.Common.{Ok, [], ◌++◌, sym, ap, subst, ◌∙◌}
+use Rattle.std.proofs.Common.{◌≡◌, Ok, refl, [], ◌++◌, sym, ap, subst, ◌∙◌}
 use Rattle.std.proofs.lemmas.Result.{err_from_is_err_and}
-use Rattle.sec1_der.specs.Elements.{IsProperBeginning}
+use Rattle.sec1_der.specs.declared.error.Error.{Error as DerError}
+use Rattle.sec1_der.specs.declared.error.ErrorKind.{ErrorKind}
+use Rattle.sec1_der.specs.declared.error.ErrorKind.TheVariants.{Memory as DerMemory}
+use Rattle.sec1.specs.Der.{IsProperBeginning, IsReadingFault}
+use Rattle.sec1.specs.Errors.{error_of_kind}
+use Rattle.sec1.specs.declared.error.Error.TheVariants.{Asn1}
 use Rattle.sec1_der.proofs.ElementLemmas.{element_of-some}
 use Rattle.sec1.specs.KeyRefusals.{key_fault}
 use Rattle.sec1.specs.Keys.{key_tree, fields_of}
-use Rattle.sec1.proofs.KeyLemmas.{asn1, key_content, key_found, key_written}
+use Rattle.sec1.proofs.KeyLemmas.{key_content, key_found, key_written}
 use Rattle.sec1.proofs.private_key.EcPrivateKeyTryFromRefSliceU8.try_from.Goals as goal
+
+-- A fault of reading stays an error of DER.
+asn1 : (kind : ErrorKind) (cause : DerError) → IsReadingFault kind → error_of_kind kind cause ≡ Asn1 cause
+asn1 DerMemory cause fault = absurd fault
+asn1 kind cause fault = refl
 
 pub returns-in_err-from_der : goal.returns-in_err-from_der
 unfolding key_fault
