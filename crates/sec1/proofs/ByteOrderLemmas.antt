@@ -56,11 +56,9 @@ pub words_decide : (xs ys : List ℕ) → IsBytes xs → IsBytes ys → 8 ≤ le
     → slice_cmp nat_cmp xs ys
     ≡ ordering_then (nat_cmp (from_be_bytes w64 (take 8 xs)) (from_be_bytes w64 (take 8 ys))) (slice_cmp nat_cmp (drop 8 xs) (drop 8 ys))
 words_decide xs ys hx hy long other_long =
-    let len = length-take-le 8 xs long in
-    let other_len = length-take-le 8 ys other_long in
-    let words = slice_cmp-after 0 0 (take 8 xs) (take 8 ys) (IsBytes-take 8 xs hx) (IsBytes-take 8 ys hy) (len ∙ sym other_len) in
-    let parts = slice_cmp-append (take 8 xs) (drop 8 xs) (take 8 ys) (drop 8 ys) (len ∙ sym other_len) in
-    rw (word_num (take 8 xs) len, word_num (take 8 ys) other_len) (rw (take-append-drop 8 xs, take-append-drop 8 ys, words) at parts)
+    let words = slice_cmp-after 0 0 (take 8 xs) (take 8 ys) (IsBytes-take 8 xs hx) (IsBytes-take 8 ys hy) in
+    let parts = slice_cmp-append (take 8 xs) (drop 8 xs) (take 8 ys) (drop 8 ys) in
+    grind (arith, words, parts, word_num (take 8 xs), word_num (take 8 ys), length-take-le {A = ℕ}, take-append-drop 8 xs, take-append-drop 8 ys)
 
 -- What decides a comparison of eight bytes at a time.
 pub ruleset word_steps = (words_decide, nat_cmp-Equal)

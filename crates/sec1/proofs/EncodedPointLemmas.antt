@@ -93,15 +93,11 @@ pub compressed_holds : {N L : ℕ} (p : EncodedPoint N L) (front : List ℕ) →
     → Holds N front (compressed_point (point_of p))
 compressed_holds {N} p front e = holds N front (compressed_point (point_of p)) (compressed_fits N (point_of p) (point_fits p)) e
 
-x_front : (n x y tag : ℕ) (rest : List ℕ) → take (n + 1) (tag ∷ (fixed_width n x ++ fixed_width n y) ++ rest) ≡ tag ∷ fixed_width n x
-x_front n x y tag rest =
-    rw (add-one n, append_assoc (fixed_width n x) (fixed_width n y) rest, take_at (fixed_width n x) (fixed_width n y ++ rest) n (length-fixed_width n x)) refl
-
 compress_of : (n : ℕ) (p : Point) (rest : List ℕ) (y tag : ℕ) → Some y ≡ y_of p → tag ≡ cond (is_odd y) 3 2
     → take (n + 1) (set (encoding n p ++ rest) 0 tag) ≡ encoding n (compressed_point p)
 unfolding encoding
 compress_of n identity rest y tag h e = absurd cc
-compress_of n p rest y tag h e = grind (arith, x_front)
+compress_of n p rest y tag h e = grind (arith, add-one, append_assoc {A = ℕ}, take_at {A = ℕ}, length-fixed_width)
 
 -- With the tag of y's parity in front, the tag and x are the compressed form.
 pub compress_front : {N L : ℕ} (p : EncodedPoint N L) (y tag : ℕ) → Some y ≡ y_of (point_of p) → tag ≡ cond (is_odd y) 3 2

@@ -6,6 +6,8 @@ use Rattle.std.specs.Fmt.{digit_glyph}
 use Rattle.std.specs.List.{list_any}
 use Rattle.std.proofs.lemmas.Bool.{cases_Bool}
 use Rattle.std.proofs.lemmas.List.{take_more}
+use Rattle.std.proofs.lemmas.List.Folds.{list_any_at}
+use Rattle.std.proofs.Math.ListN.{get_or-eq_default}
 use Rattle.std.proofs.lemmas.List.FromFn.{get_or-map-range_with_len}
 use Rattle.hex.specs.Hex.{IsBytes, encode_with, encode_upper, upper_digits, lower_digits, hex_digit_value, decode_of, decode_pairs, decode_sized}
 use Rattle.hex.specs.Hex.{digit_or_error, ◌>>=◌}
@@ -30,9 +32,7 @@ lower_at c v h n = (grind arith, get_or-map-range_with_len (digit_glyph false) 0
 -- ---- a text of one case has no letter of the other
 
 none_at : (f : ℕ → Bool) (xs : List ℕ) → list_any f xs ≡ false → f 0 ≡ false → (k : ℕ) → f (get_or xs k 0) ≡ false
-none_at f [] h z k = z
-none_at f (x ∷ xs) h z zero = grind arith
-none_at f (x ∷ xs) h z (suc k) = none_at f xs (grind arith) z k
+none_at f xs h z k = grind (arith, list_any_at f xs k 0, get_or-eq_default xs 0)
 
 none_encoded : (f : ℕ → Bool) (table xs : List ℕ) → list_any f table ≡ false → f 0 ≡ false → list_any f (encode_with table xs) ≡ false
 unfolding encode_with
@@ -63,21 +63,18 @@ module _ (table : List ℕ) (other : ℕ → Bool) (at : (c v : ℕ) → hex_dig
       respell_pair i a b rest bs (hex_digit_value a) (hex_digit_value b) (decode_pairs (i + 2) rest) refl refl (grind arith) (grind arith) h
       (λ rs e. respell (i + 2) rest rs e (grind arith))
 
-one_case : (text bytes : List ℕ) → decode_of text ≡ Ok bytes → is_one_case text ≡ true → IsHexOf text bytes
-one_case text bytes h c =
-    let pairs = sym (decode_of-even text (decode_of-ok text bytes h).0) ∙ h in
-    elim (cases_Bool (list_any is_ascii_uppercase text)) [
-      | inl upper ↦ inl (respell upper_digits is_ascii_lowercase upper_at 0 text bytes pairs (grind arith))
-      | inr none ↦ inr (respell lower_digits is_ascii_uppercase lower_at 0 text bytes pairs none)
-    ]
-
--- ---- decoding into room for half as many bytes
-
 -- What is decoded from a text of one case is spelled by it.
 pub decoded : (text bytes : List ℕ) (n : ℕ) → decode_sized text n ≡ Ok bytes → is_one_case text ≡ true → IsHexOf text bytes × IsBytes bytes
 decoded text bytes n e c =
     let all = sym (decode_sized-twice text n (decode_sized-ok text n bytes e)) ∙ e in
-    (one_case text bytes all c, (decode_of-ok text bytes all).3)
+    let ok = decode_of-ok text bytes all in
+    let pairs = sym (decode_of-even text ok.0) ∙ all in
+    elim (cases_Bool (list_any is_ascii_uppercase text)) [
+      | inl upper ↦ (inl (respell upper_digits is_ascii_lowercase upper_at 0 text bytes pairs (grind arith)), ok.3)
+      | inr none ↦ (inr (respell lower_digits is_ascii_uppercase lower_at 0 text bytes pairs none), ok.3)
+    ]
+
+-- ---- what a text spells is decoded
 
 pub text_len : (text bytes : List ℕ) → IsHexOf text bytes → length text ≡ 2 * length bytes
 text_len text bytes h = grind (arith, length-encode_with)

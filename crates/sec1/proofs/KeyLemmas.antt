@@ -21,17 +21,13 @@ key_content key = content_with (option_map identifier_content key.parameters) ke
 abbrev made : List ℕ → Option (List ℕ) → Option (List ℕ) → Key
 made private_key parameters public_key = record { private_key = private_key; parameters = parameters; public_key = public_key }
 
--- Whether or not the arcs are an identifier's, their content makes the bytes of the key's tree.
-there : (private_key : List ℕ) (parameters public_key : Option (List ℕ)) (bytes : List ℕ) → IsTreeOf (key_tree (made private_key parameters public_key)) bytes
-    → element_of 0x30 (content_with (option_map (λ arcs. Some (content_of arcs)) parameters) (made private_key parameters public_key)) ≡ Some bytes
-there key parameters public_key bytes is = grind (arith, element_of-within, append-nil {A = ℕ}, is.tree, is.whole)
-
-back : (private_key : List ℕ) (parameters public_key : Option (List ℕ)) (bytes : List ℕ)
+-- Whether or not the arcs are an identifier's, their content makes the bytes of a tree that is the key's.
+tree_found : (private_key : List ℕ) (parameters public_key : Option (List ℕ)) (bytes : List ℕ)
     → element_of 0x30 (content_with (option_map (λ arcs. Some (content_of arcs)) parameters) (made private_key parameters public_key)) ≡ Some bytes
     → IsTreeOf (key_tree (made private_key parameters public_key)) bytes
-back key None public_key bytes e = record { tree = grind (arith, append-nil {A = ℕ}); whole = grind (arith, append-nil {A = ℕ}) }
-back key (Some arcs) None bytes e = record { tree = grind (arith, append-nil {A = ℕ}); whole = grind (arith, append-nil {A = ℕ}) }
-back key (Some arcs) (Some public_key) bytes e = record { tree = grind (arith, append-nil {A = ℕ}); whole = grind (arith, append-nil {A = ℕ}) }
+tree_found key None public_key bytes e = record { tree = grind (arith, append-nil {A = ℕ}); whole = grind (arith, append-nil {A = ℕ}) }
+tree_found key (Some arcs) None bytes e = record { tree = grind (arith, append-nil {A = ℕ}); whole = grind (arith, append-nil {A = ℕ}) }
+tree_found key (Some arcs) (Some public_key) bytes e = record { tree = grind (arith, append-nil {A = ℕ}); whole = grind (arith, append-nil {A = ℕ}) }
 
 -- A curve that is named has the content of its identifier.
 curve_content : (parameters : Option (List ℕ)) → IsNamedCurve parameters → option_map identifier_content parameters ≡ option_map (λ arcs. Some (content_of arcs)) parameters
@@ -46,13 +42,14 @@ curve_named key (Some arcs) public_key bytes e = is_identifier-true arcs (grind 
 
 -- A key that has bytes has an element.
 pub key_written : (key : Key) (bytes : List ℕ) → IsKeyOf key bytes → element_of 0x30 (key_content key) ≡ Some bytes
-key_written key bytes is = rw (curve_content key.parameters is.curve) (there key.private_key key.parameters key.public_key bytes is.tree)
+key_written key bytes is =
+    rw (curve_content key.parameters is.curve) (grind (arith, element_of-within, append-nil {A = ℕ}, is.tree.tree, is.tree.whole))
 
 -- What is the element of a key is its bytes.
 pub key_found : (key : Key) (bytes : List ℕ) → element_of 0x30 (key_content key) ≡ Some bytes → IsKeyOf key bytes
 key_found key bytes e =
     let curve = curve_named key.private_key key.parameters key.public_key bytes e in
-    record { curve = curve; tree = back key.private_key key.parameters key.public_key bytes (rw (curve_content key.parameters curve) at e) }
+    record { curve = curve; tree = tree_found key.private_key key.parameters key.public_key bytes (rw (curve_content key.parameters curve) at e) }
 
 found_with : (key : Key) (P : List ℕ → Type 0) (piece : Option (List ℕ)) → element_of 0x30 (key_content key) ≡ piece → IsSomeAnd piece P → HasEncodingWith key P
 found_with key P None e h = absurd h
