@@ -21,7 +21,7 @@ key_content key = content_with (option_map identifier_content key.parameters) ke
 abbrev made : List ℕ → Option (List ℕ) → Option (List ℕ) → Key
 made private_key parameters public_key = record { private_key = private_key; parameters = parameters; public_key = public_key }
 
--- Whether or not the arcs are an identifier's, their content makes the bytes of a tree that is the key's.
+-- Bytes with the content of these arcs, whether or not they are an identifier's, are those of the key's tree.
 tree_found : (private_key : List ℕ) (parameters public_key : Option (List ℕ)) (bytes : List ℕ)
     → element_of 0x30 (content_with (option_map (λ arcs. Some (content_of arcs)) parameters) (made private_key parameters public_key)) ≡ Some bytes
     → IsTreeOf (key_tree (made private_key parameters public_key)) bytes
@@ -63,6 +63,6 @@ pub key_lacks : (key : Key) → HasNoEncoding key → element_of 0x30 (key_conte
 key_lacks key none = grind (arith, key_found key)
 
 -- What the keys have to do with what is written, and with its length.
-pub ruleset written_keys = (key_written, key_found)
+pub ruleset written_keys = (key_written, key_lacks, key_found)
 
 pub ruleset counted_keys = (key_written, key_lacks, key_found_with)

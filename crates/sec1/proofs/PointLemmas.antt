@@ -35,7 +35,7 @@ unfolding encoding
 length-enc n identity = refl
 length-enc n p = grind (arith, length-both, length-fixed_width)
 
-pub ruleset tag_facts = (byte_of-injective, byte_of-tag_of, length-enc)
+pub ruleset tag_facts = (byte_of-injective, byte_of-tag_of)
 
 pub length-enc-le : (n : ℕ) (p : Point) → length (encoding n p) ≤ 2 * n + 1
 length-enc-le n p = rw (length-enc n p) (grind arith)
