@@ -1,6 +1,6 @@
 -- Bytes of one length are ordered as the numbers that they spell, and encodings as their points.
-use Rattle.std.proofs.Common.{◌≡◌, ℕ, suc, ◌+◌, ◌*◌, ◌^◌, ◌<◌, ◌≤◌, take, drop, w64, List, [], ◌∷◌, ◌++◌, length, refl, sym, ◌∙◌, arith, Ordering, Less, Equal}
-use Rattle.std.proofs.Common.{nat_cmp, take-append-drop, length-take-le}
+use Rattle.std.proofs.Common.{◌≡◌, ℕ, suc, ◌+◌, ◌*◌, ◌^◌, ◌<◌, ◌≤◌, take, drop, w64, List, [], ◌∷◌, ◌++◌, length, refl, arith, Ordering, Less, Equal, nat_cmp}
+use Rattle.std.proofs.Common.{take-append-drop, length-take-le}
 use Rattle.std.specs.Int.{from_be_bytes}
 use Rattle.std.specs.Int.Digits.{number_from_digits_after}
 use Rattle.std.specs.Ordering.{ordering_then}

@@ -7,8 +7,8 @@ use Rattle.std.proofs.lemmas.Slice.{take-put_mid}
 use borrow.Rule.Slice.PartMut.{put_mid}
 use Rattle.hex.specs.Hex.{IsBytes}
 use Rattle.sec1.specs.Der.{number_of, IsProperBeginning}
-use Rattle.sec1.specs.Points.{Point, identity, uncompressed, is_odd, coordinate_bytes, IsPoint, IsEncoding, Fits, fixed_width, tag_byte, encoding, meaning}
-use Rattle.sec1.specs.Points.{point_from, compressed_point, hybrid_point, y_of}
+use Rattle.sec1.specs.Points.{Point, identity, uncompressed, is_odd, coordinate_bytes, IsPoint, IsEncoding, Fits, tag_byte, encoding, meaning, point_from}
+use Rattle.sec1.specs.Points.{compressed_point, hybrid_point, y_of}
 use Rattle.sec1.specs.PointOrder.{point_cmp}
 use Rattle.sec1.specs.Tags.{byte_of, point_tag}
 use Rattle.sec1.specs.EncodedPoints.{point_of, ReadsBytes}
@@ -71,7 +71,8 @@ pub same_encodings : {N L : ℕ} (p q : EncodedPoint N L) → (encoding N (point
 same_encodings {N} p q = (λ h. ap (meaning N) (sym p.encoded ∙ h ∙ q.encoded), λ h. ap (encoding N) h)
 
 -- The encodings of two values are ordered as their points.
-pub point_order : {N L : ℕ} (p q : EncodedPoint N L) → slice_cmp nat_cmp (encoding N (point_of p)) (encoding N (point_of q)) ≡ point_cmp (point_of p) (point_of q)
+pub point_order : {N L : ℕ} (p q : EncodedPoint N L)
+    → slice_cmp nat_cmp (encoding N (point_of p)) (encoding N (point_of q)) ≡ point_cmp (point_of p) (point_of q)
 point_order {N} p q = slice_cmp-enc N (point_of p) (point_of q) (point_fits p) (point_fits q)
 
 -- Two buffers are the same where their first bytes and both halves are.

@@ -30,7 +30,8 @@ tree_found key (Some arcs) None bytes e = record { tree = grind (arith, append-n
 tree_found key (Some arcs) (Some public_key) bytes e = record { tree = grind (arith, append-nil {A = ℕ}); whole = grind (arith, append-nil {A = ℕ}) }
 
 -- A curve that is named has the content of its identifier.
-curve_content : (parameters : Option (List ℕ)) → IsNamedCurve parameters → option_map identifier_content parameters ≡ option_map (λ arcs. Some (content_of arcs)) parameters
+curve_content : (parameters : Option (List ℕ)) → IsNamedCurve parameters
+    → option_map identifier_content parameters ≡ option_map (λ arcs. Some (content_of arcs)) parameters
 curve_content None is = refl
 curve_content (Some arcs) is = ap Some (identifier_content-valid arcs (content_of arcs) is)
 

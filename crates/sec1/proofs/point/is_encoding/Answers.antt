@@ -1,7 +1,7 @@
-use Rattle.std.proofs.Common.{◌↔◌, ◌∙◌, ap, length, arith}
-use Rattle.sec1.specs.Points.{IsEncoding, encoding}
+use Rattle.std.proofs.Common.{◌∙◌, ap, length, arith}
+use Rattle.sec1.specs.Points.{encoding}
 use Rattle.sec1.specs.Tags.{point_tag}
-use Rattle.sec1.proofs.PointLemmas.{Skips, byte_of-tag_of, passing_encodings}
+use Rattle.sec1.proofs.PointLemmas.{byte_of-tag_of, passing_encodings}
 use Rattle.sec1.proofs.point.is_encoding.Goals as goal
 use Rattle.sec1.proofs.point.is_encoding.Goals.{After-message_len}
 
@@ -16,13 +16,12 @@ returns-in_default-from_u8 c = (
   λ h. absurd (c.in_default-from_u8.ensures.none (point_tag h.of) (byte_of-tag_of h.of ∙ cc (h.spelled, c.in-Some.ensures.cases.0))),
 )
 
-passes : (c : After-message_len) → Skips c.args.n c.in-Ok.tag c.in-Some.rest.now ↔ IsEncoding c.args.n c.args.input.now
-passes c =
-    passing_encodings c.args.n c.in-Ok.tag c.in-Some.rest.now c.args.input.now c.requires.positive (λ i. omega (arith, c.type_inv.input i))
-    (rw c.in-Ok.ensures.found c.in-Some.ensures.cases.0)
-
 pub returns-then-input-message_len : goal.returns-then-input-message_len
-returns-then-input-message_len c = grind (arith, passes (goal.at.returns-then-input-message_len c).After-message_len, c.in-Some.ensures.cases)
+returns-then-input-message_len c =
+    let passes = passing_encodings c.args.n c.in-Ok.tag c.in-Some.rest.now c.args.input.now c.requires.positive in
+    grind (arith, passes, c.in-Some.ensures.cases)
 
 pub returns-else-not-is_hybrid : goal.returns-else-not-is_hybrid
-returns-else-not-is_hybrid c = grind (arith, passes (goal.at.returns-else-not-is_hybrid c).After-message_len, c.in-Some.ensures.cases)
+returns-else-not-is_hybrid c =
+    let passes = passing_encodings c.args.n c.in-Ok.tag c.in-Some.rest.now c.args.input.now c.requires.positive in
+    grind (arith, passes, c.in-Some.ensures.cases)
