@@ -26,14 +26,11 @@ pub record Holds (n : ℕ) (front : List ℕ) (p : Point) : Type 0 where
 
 -- A point's encoding means the point.
 pub holds : (n : ℕ) (front : List ℕ) (p : Point) → IsPoint n p → front ≡ encoding n p → Holds n front p
-holds n front p fits e =
-    let means : meaning n front ≡ p = rw e (meaning-enc n p fits) in
-    record { means = means; encoded = rw means (sym e) }
+holds n front p fits e = record { means = rw e (meaning-enc n p fits); encoded = grind (arith, meaning-enc n p fits) }
 
 pub identity_holds : (n l : ℕ) → 1 ≤ l → Holds n (take {A = ℕ} 1 (replicate {A = ℕ} l 0)) identity
-unfolding encoding
-identity_holds n zero some = absurd (omega arith)
-identity_holds n (suc l) some = holds n (0 ∷ []) identity tt refl
+unfolding encoding meaning
+identity_holds n l some = record { means = grind arith; encoded = grind arith }
 
 -- ---- the buffer of a value
 
@@ -84,26 +81,20 @@ halves_same n xs ys long other_long first front back = absurd (omega arith)
 
 -- ---- another tag in the first byte
 
-compressed_fits : (n : ℕ) (p : Point) → IsPoint n p → IsPoint n (compressed_point p)
-compressed_fits n p h = grind arith
-
-hybrid_fits : (n : ℕ) (p : Point) → IsPoint n p → IsPoint n (hybrid_point p)
-hybrid_fits n p h = grind arith
-
+-- The encoding of the compressed form means that form.
 pub compressed_holds : {N L : ℕ} (p : EncodedPoint N L) (front : List ℕ) → front ≡ encoding N (compressed_point (point_of p))
     → Holds N front (compressed_point (point_of p))
-compressed_holds {N} p front e = holds N front (compressed_point (point_of p)) (compressed_fits N (point_of p) (point_fits p)) e
+compressed_holds {N} p front e = holds N front (compressed_point (point_of p)) (grind (arith, point_fits p)) e
 
 compress_of : (n : ℕ) (p : Point) (rest : List ℕ) (y tag : ℕ) → Some y ≡ y_of p → tag ≡ cond (is_odd y) 3 2
     → take (n + 1) (set (encoding n p ++ rest) 0 tag) ≡ encoding n (compressed_point p)
 unfolding encoding
-compress_of n identity rest y tag h e = absurd cc
 compress_of n p rest y tag h e = grind (arith, add-one, append_assoc {A = ℕ}, take_at {A = ℕ}, length-fixed_width)
 
 -- With the tag of y's parity in front, the tag and x are the compressed form.
 pub compress_front : {N L : ℕ} (p : EncodedPoint N L) (y tag : ℕ) → Some y ≡ y_of (point_of p) → tag ≡ cond (is_odd y) 3 2
     → take (N + 1) (set p.bytes 0 tag) ≡ encoding N (compressed_point (point_of p))
-compress_front {N} p y tag h e = ap (λ (xs : List ℕ). take (N + 1) (set xs 0 tag)) (begins p) ∙ compress_of N (point_of p) (drop p.len p.bytes) y tag h e
+compress_front {N} p y tag h e = grind (arith, begins p, compress_of N (point_of p) (drop p.len p.bytes) y tag h e)
 
 hybrid_of : (n : ℕ) (p : Point) (rest : List ℕ) (tag : ℕ) → tag ≡ tag_byte (hybrid_point p)
     → take (length (encoding n p)) (set (encoding n p ++ rest) 0 tag) ≡ encoding n (hybrid_point p)
@@ -114,9 +105,8 @@ hybrid_of n p rest tag e = grind (arith, take_at (coordinate_bytes n p) rest)
 pub hybrid_holds : {N L : ℕ} (p : EncodedPoint N L) (tag : ℕ) → p.len ≤ length p.bytes → tag ≡ tag_byte (hybrid_point (point_of p))
     → Holds N (take p.len (set p.bytes 0 tag)) (hybrid_point (point_of p))
 hybrid_holds {N} p tag room h =
-    let len : length (encoding N (point_of p)) ≡ p.len = ap length p.encoded ∙ omega (arith, length-take p.len p.bytes) in
-    let front = ap (λ (xs : List ℕ). take p.len (set xs 0 tag)) (begins p) ∙ rw len at (hybrid_of N (point_of p) (drop p.len p.bytes) tag h) in
-    holds N (take p.len (set p.bytes 0 tag)) (hybrid_point (point_of p)) (hybrid_fits N (point_of p) (point_fits p)) front
+    holds N (take p.len (set p.bytes 0 tag)) (hybrid_point (point_of p)) (grind (arith, point_fits p))
+    (grind (arith, begins p, p.encoded, length-take {A = ℕ}, hybrid_of N (point_of p) (drop p.len p.bytes) tag h))
 
 -- ---- a buffer made of coordinates
 

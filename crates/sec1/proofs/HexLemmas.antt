@@ -31,13 +31,10 @@ lower_at c v h n = (grind arith, get_or-map-range_with_len (digit_glyph false) 0
 
 -- ---- a text of one case has no letter of the other
 
-none_at : (f : ℕ → Bool) (xs : List ℕ) → list_any f xs ≡ false → f 0 ≡ false → (k : ℕ) → f (get_or xs k 0) ≡ false
-none_at f xs h z k = grind (arith, list_any_at f xs k 0, get_or-eq_default xs 0)
-
 none_encoded : (f : ℕ → Bool) (table xs : List ℕ) → list_any f table ≡ false → f 0 ≡ false → list_any f (encode_with table xs) ≡ false
 unfolding encode_with
 none_encoded f table [] h z = refl
-none_encoded f table (x ∷ xs) h z = grind (arith, none_at f table h z (x / 16), none_at f table h z (x % 16), none_encoded f table xs h z)
+none_encoded f table (x ∷ xs) h z = grind (arith, list_any_at f table, get_or-eq_default table 0, none_encoded f table xs h z)
 
 pub hex_is_one_case : (text bytes : List ℕ) → IsHexOf text bytes → is_one_case text ≡ true
 hex_is_one_case text bytes (inl e) = grind (arith, none_encoded is_ascii_lowercase upper_digits bytes refl refl)

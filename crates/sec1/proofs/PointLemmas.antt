@@ -27,13 +27,9 @@ tag_of-byte tag p e = byte_of-injective tag (point_tag p) (e ∙ sym (byte_of-ta
 
 -- ---- encodings
 
-length-both : (n x y : ℕ) → length (fixed_width n x ++ fixed_width n y) ≡ 2 * n
-length-both n x y = omega (arith, length-append (fixed_width n x) (fixed_width n y), length-fixed_width n x, length-fixed_width n y)
-
 pub length-enc : (n : ℕ) (p : Point) → length (encoding n p) ≡ message_len (point_tag p) n
 unfolding encoding
-length-enc n identity = refl
-length-enc n p = grind (arith, length-both, length-fixed_width)
+length-enc n p = grind (arith, length-append {A = ℕ}, length-fixed_width)
 
 pub ruleset tag_facts = (byte_of-injective, byte_of-tag_of)
 
@@ -43,7 +39,6 @@ length-enc-le n p = rw (length-enc n p) (grind arith)
 pub IsBytes-enc : (n : ℕ) (p : Point) → IsBytes (encoding n p)
 unfolding encoding
 IsBytes-enc n p zero = grind arith
-IsBytes-enc n identity (suc i) = omega arith
 IsBytes-enc n p (suc i) = grind (arith, IsBytes-fixed_width, IsBytes-append)
 
 -- No encoding begins another.
@@ -56,19 +51,10 @@ no_beginning n p q begins =
 
 -- ---- what encodings mean
 
-num_first : (n x : ℕ) (r : List ℕ) → x < 256 ^ n → number_of (take n (fixed_width n x ++ r)) ≡ x
-num_first n x r h = rw (take_at (fixed_width n x) r n (length-fixed_width n x)) (num-fixed_width n x h)
-
-num_second : (n x y : ℕ) (r : List ℕ) → y < 256 ^ n → number_of (take n (drop n (fixed_width n x ++ fixed_width n y ++ r))) ≡ y
-num_second n x y r h =
-    let behind = drop_at (fixed_width n x) (fixed_width n y ++ r) n (length-fixed_width n x) in
-    rw (append_assoc (fixed_width n x) (fixed_width n y) r, behind) (num_first n y r h)
-
 -- An encoding means its point, whatever follows it.
 pub meaning-enc-append : (n : ℕ) (p : Point) (r : List ℕ) → IsPoint n p → meaning n (encoding n p ++ r) ≡ p
 unfolding encoding meaning
-meaning-enc-append n identity r h = refl
-meaning-enc-append n p r h = grind (arith, num_first, num_second, append_assoc {A = ℕ})
+meaning-enc-append n p r h = grind (arith, take_at {A = ℕ}, drop_at {A = ℕ}, append_assoc {A = ℕ}, length-fixed_width, num-fixed_width)
 
 pub meaning-enc : (n : ℕ) (p : Point) → IsPoint n p → meaning n (encoding n p) ≡ p
 meaning-enc n p h = rw append-nil at (meaning-enc-append n p [] h)
@@ -107,8 +93,8 @@ parity_rest n rest some e = grind (arith, half n rest e, parity_of_last (drop n 
 passes_spelled : (n : ℕ) (tag : Tag) (rest : List ℕ) → 1 ≤ n → IsBytes rest → Skips n tag rest
     → encoding n (meaning n (byte_of tag ∷ rest)) ≡ byte_of tag ∷ rest
 unfolding encoding meaning
-passes_spelled n tags.Identity rest some h p = rw (nil_from_length rest (omega (arith, p.0))) refl
-passes_spelled n tag rest some h p = grind (arith, take_all n rest, fixed_width-num n rest h, spelled_xy n rest h, parity_rest n rest some)
+passes_spelled n tag rest some h p =
+    grind (arith, nil_from_length rest, take_all n rest, fixed_width-num n rest h, spelled_xy n rest h, parity_rest n rest some)
 
 -- An encoding is that of its meaning.
 pub encoding_spelled : (n : ℕ) (bs : List ℕ) → IsEncoding n bs → encoding n (meaning n bs) ≡ bs

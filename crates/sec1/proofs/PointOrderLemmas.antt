@@ -14,20 +14,6 @@ pub decides_same : (r : Bool) (p q : Point) → ((r ≡ true) ↔ (p ≡ q)) →
 decides_same true p q h = grind (arith, Equal-point_cmp)
 decides_same false p q h = grind (arith, same_point-true)
 
--- Tag bytes say which coordinates there are.
-has_x : (p : Point) → is_some (x_of p) ≡ nat_lt 0 (tag_byte p)
-has_x p = grind arith
-
-has_y : (p : Point) → is_some (y_of p) ≡ (tag_byte p == 4 || nat_lt 5 (tag_byte p))
-has_y p = grind arith
-
--- Where both coordinates are there, or neither, they are compared as numbers.
-IsLess-numbers : (o u : Option ℕ) → is_some o ≡ is_some u → IsLess o u ↔ (or_zero o < or_zero u)
-IsLess-numbers o u h = (grind arith, grind arith)
-
-same_numbers : (o u : Option ℕ) → is_some o ≡ is_some u → or_zero o ≡ or_zero u → o ≡ u
-same_numbers o u h e = grind arith
-
 -- The order of numbers, as an equation.
 nat_cmp-Less : (a b : ℕ) → (nat_cmp a b ≡ Less) ↔ (a < b)
 nat_cmp-Less a b = (λ h. grind arith, λ h. grind arith)
@@ -37,7 +23,7 @@ nat_cmp-Equal a b = (λ h. grind arith, λ h. grind arith)
 
 pub less_below : (p q : Point) → (point_cmp p q ≡ Less) ↔ IsBelow p q
 unfolding point_cmp
-less_below p q = grind (arith, nat_cmp-Less, nat_cmp-Equal, has_x, has_y, IsLess-numbers, same_numbers)
+less_below p q = grind (arith, nat_cmp-Less, nat_cmp-Equal)
 
 pub greater_below : (p q : Point) → (point_cmp p q ≡ Greater) ↔ IsBelow q p
 greater_below p q = grind (arith, less_below q p, point_cmp_total.antisymm p q)
