@@ -1,12 +1,12 @@
 -- What the bytes of an encoded point mean: the encoding stands at the beginning of a buffer.
-use Rattle.std.proofs.Common.{◌≡◌, ℕ, zero, suc, ◌+◌, ◌-◌, ◌*◌, ◌≤◌, cond, List, [], ◌∷◌, ◌++◌, length, get_or, take, drop, set, replicate, refl, sym, ap, ◌∙◌}
-use Rattle.std.proofs.Common.{arith, append_assoc, add-one, subst, Some, Ok, nat_cmp, ◌↔◌, take_at, take_all, take-append-drop, length-append, length-drop}
-use Rattle.std.proofs.Common.{length-take, le_of_eq}
+use Rattle.std.proofs.Common.{◌≡◌, ℕ, ◌+◌, ◌-◌, ◌*◌, ◌≤◌, cond, List, [], ◌∷◌, ◌++◌, length, get_or, take, drop, set, replicate, sym, ap, ◌∙◌, arith}
+use Rattle.std.proofs.Common.{append_assoc, add-one, Some, Ok, nat_cmp, ◌↔◌, take_at, take_all, take-append-drop, length-append, length-drop, length-take}
+use Rattle.std.proofs.Common.{le_of_eq}
 use Rattle.std.specs.Cmp.Lexicographic.{slice_cmp}
 use Rattle.std.proofs.lemmas.Slice.{take-put_mid}
 use borrow.Rule.Slice.PartMut.{put_mid}
 use Rattle.hex.specs.Hex.{IsBytes}
-use Rattle.sec1.specs.Der.{number_of, IsProperBeginning}
+use Rattle.sec1.specs.Der.{number_of}
 use Rattle.sec1.specs.Points.{Point, identity, uncompressed, is_odd, coordinate_bytes, IsPoint, IsEncoding, Fits, tag_byte, encoding, meaning, point_from}
 use Rattle.sec1.specs.Points.{compressed_point, hybrid_point, y_of}
 use Rattle.sec1.specs.PointOrder.{point_cmp}
@@ -47,15 +47,10 @@ unfolding encoding
 first_byte p = ap (λ (xs : List ℕ). get_or xs 0 0) (begins p) ∙ sym (byte_of-tag_of (point_of p))
 
 -- The tag and the two halves behind it make the point.
-made_of : (n : ℕ) (p : Point) (rest : List ℕ) → IsPoint n p
-    → point_from (tag_byte p) (number_of (take n (drop 1 (encoding n p ++ rest)))) (number_of (take n (drop n (drop 1 (encoding n p ++ rest))))) ≡ p
-unfolding encoding meaning
-made_of n p rest fits = meaning-enc-append n p rest fits
-
 pub made_of_halves : {N L : ℕ} (p : EncodedPoint N L) (x y : List ℕ) → x ≡ take N (drop 1 p.bytes) → y ≡ take N (drop N (drop 1 p.bytes))
     → point_from (byte_of (point_tag (point_of p))) (number_of x) (number_of y) ≡ point_of p
-made_of_halves {N} p x y ex ey =
-    rw (ex, ey, byte_of-tag_of (point_of p)) (rw (← begins p) at (made_of N (point_of p) (drop p.len p.bytes) (point_fits p)))
+unfolding encoding meaning
+made_of_halves {N} p x y ex ey = grind (arith, begins p, meaning-enc-append N (point_of p) (drop p.len p.bytes) (point_fits p), byte_of-tag_of)
 
 -- A buffer that the encoding fills is the encoding.
 pub filled : {N L : ℕ} (p : EncodedPoint N L) → length p.bytes ≤ p.len → p.bytes ≡ encoding N (point_of p)
@@ -117,11 +112,10 @@ unfolding encoding
 halves_hold n l k [] x y el eb ex ey hx hy = absurd (omega arith)
 halves_hold n l k (b ∷ buffer) x y el eb ex ey hx hy =
     let with_x = put_mid 1 (n + 1 - 1) (4 ∷ buffer) x in
-    let whole : length with_x ≡ l = omega (arith, length-append x (drop (n + 1 - 1) buffer), length-drop (n + 1 - 1) buffer) in
-    let front : take (n + 1) with_x ≡ 4 ∷ x = take-put_mid 1 (n + 1 - 1) (4 ∷ buffer) x (n + 1) (omega arith) (omega arith) in
-    let all = take-put_mid (n + 1) k with_x y l (omega arith) (omega arith) in
-    let written = all ∙ rw (front, fixed_width-num n x hx ex, fixed_width-num n y hy ey) refl in
-    holds n _ (uncompressed (number_of x) (number_of y)) (num-below n x hx (le_of_eq ex), num-below n y hy (le_of_eq ey)) written
+    let front = take-put_mid 1 (n + 1 - 1) (4 ∷ buffer) x (n + 1) in
+    let whole = take-put_mid (n + 1) k with_x y l in
+    holds n (take l (put_mid (n + 1) k with_x y)) (uncompressed (number_of x) (number_of y)) (num-below n x hx (le_of_eq ex), num-below n y hy (le_of_eq ey))
+    (grind (arith, front, whole, fixed_width-num n x hx, fixed_width-num n y hy, length-append {A = ℕ}, length-drop {A = ℕ}))
 
 -- ---- reading bytes
 
@@ -135,6 +129,6 @@ read_bytes {N} input point front e = record {
   found = (point.sizes, point_fits point, sym (point.encoded ∙ front));
   only = λ p _ fits spelled. rw front (holds N input p fits spelled).means;
   kind = tt;
-  begins_none = λ other _ begins. no_beginning N e.of other (subst (λ xs. IsProperBeginning xs (encoding N other)) e.spelled begins);
-  begun_by_none = λ other _ begun. no_beginning N other e.of (subst (IsProperBeginning (encoding N other)) e.spelled begun);
+  begins_none = λ other _ begins. no_beginning N e.of other (rw e.spelled at begins);
+  begun_by_none = λ other _ begun. no_beginning N other e.of (rw e.spelled at begun);
 }

@@ -1,15 +1,13 @@
 -- Points, tags and encodings.
-use Rattle.std.proofs.Common.{◌≡◌, ℕ, zero, suc, ◌+◌, ◌-◌, ◌*◌, ◌%◌, ◌^◌, ◌<◌, ◌≤◌, true, List, [], ◌∷◌, ◌++◌, length, get_or, take, drop, refl, sym, ap, ◌∙◌}
-use Rattle.std.proofs.Common.{arith, append_assoc, append-nil, ◌↔◌, take_at, drop_at, take_all, length-drop, get_or-drop, length-append, length-take}
-use Rattle.std.proofs.Common.{take-append-drop}
+use Rattle.std.proofs.Common.{◌≡◌, ℕ, zero, suc, ◌+◌, ◌-◌, ◌*◌, ◌%◌, ◌≤◌, true, List, [], ◌∷◌, ◌++◌, length, get_or, take, drop, sym, ap, ◌∙◌, arith}
+use Rattle.std.proofs.Common.{append_assoc, append-nil, ◌↔◌, take_at, drop_at, take_all, length-drop, get_or-drop, length-append, length-take, take-append-drop}
 use Rattle.std.proofs.lemmas.List.{nil_from_length}
 use Rattle.hex.specs.Hex.{IsBytes}
 use Rattle.sec1.specs.Der.{number_of, IsProperBeginning}
 use Rattle.sec1_der.proofs.DigitLemmas.{IsBytes-take}
-use Rattle.sec1.specs.Points.{Point, identity, IsPoint, IsEncoding, fixed_width, tag_byte, encoding, meaning}
+use Rattle.sec1.specs.Points.{Point, IsPoint, IsEncoding, fixed_width, tag_byte, encoding, meaning}
 use Rattle.sec1.specs.Tags.{byte_of, point_tag, message_len, is_hybrid}
 use Rattle.sec1.specs.declared.point.tag.Tag.{Tag}
-use Rattle.sec1.specs.declared.point.tag.Tag.TheVariants as tags
 use Rattle.sec1.proofs.DigitLemmas.{IsBytes-append, IsBytes-drop, length-fixed_width, IsBytes-fixed_width, num-below, num-fixed_width, fixed_width-num}
 use Rattle.sec1.proofs.DigitLemmas.{parity_of_last}
 
@@ -45,9 +43,9 @@ IsBytes-enc n p (suc i) = grind (arith, IsBytes-fixed_width, IsBytes-append)
 pub no_beginning : (n : ℕ) (p q : Point) → IsProperBeginning (encoding n p) (encoding n q) → ⊥
 unfolding encoding
 no_beginning n p q begins =
-    let byte : tag_byte q ≡ tag_byte p = ap (λ (bs : List ℕ). get_or bs 0 0) begins.split in
-    let len = rw (tag_of-byte (point_tag q) p (byte_of-tag_of q ∙ byte)) at (length-enc n q) in
-    begins.some (nil_from_length begins.more (omega (arith, ap length begins.split, length-append (encoding n p) begins.more, length-enc n p)))
+    let same = tag_of-byte (point_tag q) p in
+    let end = nil_from_length begins.more in
+    grind (arith, begins.some, begins.split, same, byte_of-tag_of q, end, append-nil {A = ℕ}, length-append {A = ℕ}, length-enc n p, length-enc n q)
 
 -- ---- what encodings mean
 
@@ -81,9 +79,9 @@ half n rest e = take_all n (drop n rest) (omega (arith, length-drop n rest))
 spelled_xy : (n : ℕ) (rest : List ℕ) → IsBytes rest → length rest ≡ 2 * n
     → fixed_width n (number_of (take n rest)) ++ fixed_width n (number_of (take n (drop n rest))) ≡ rest
 spelled_xy n rest h e =
-    let x = fixed_width-num n (take n rest) (IsBytes-take n rest h) (omega (arith, length-take n rest)) in
-    let y = fixed_width-num n (drop n rest) (IsBytes-drop n rest h) (omega (arith, length-drop n rest)) in
-    rw (half n rest e, x, y) (take-append-drop n rest)
+    let x = fixed_width-num n (take n rest) (IsBytes-take n rest h) in
+    let y = fixed_width-num n (drop n rest) (IsBytes-drop n rest h) in
+    grind (arith, x, y, half n rest e, take-append-drop n rest, length-take {A = ℕ}, length-drop {A = ℕ})
 
 -- The last byte has the parity of the second half.
 parity_rest : (n : ℕ) (rest : List ℕ) → 1 ≤ n → length rest ≡ 2 * n → get_or rest (length rest - 1) 0 % 2 ≡ number_of (take n (drop n rest)) % 2
@@ -103,10 +101,7 @@ encoding_spelled n bs e = rw e.spelled (ap (encoding n) (meaning-enc n e.of e.fi
 encoding_passes : (n : ℕ) (tag : Tag) (rest : List ℕ) → 1 ≤ n → IsEncoding n (byte_of tag ∷ rest) → Skips n tag rest
 unfolding encoding meaning
 encoding_passes n tag rest some e =
-    let byte : byte_of tag ≡ tag_byte e.of = cc (e.spelled) in
-    let len : suc (length rest) ≡ message_len tag n = rw (tag_of-byte tag e.of byte) (ap length e.spelled ∙ length-enc n e.of) in
-    let same = encoding_spelled n (byte_of tag ∷ rest) e in
-    (len, λ h. grind (arith, parity_rest n rest some))
+    grind (arith, encoding_spelled n (byte_of tag ∷ rest) e, length-enc n e.of, tag_of-byte tag e.of, parity_rest n rest some, e.spelled)
 
 -- The bytes behind a tag pass exactly where both are an encoding.
 pub passing_encodings : (n : ℕ) (tag : Tag) (rest input : List ℕ) → 1 ≤ n → IsBytes input → input ≡ byte_of tag ∷ rest → Skips n tag rest ↔ IsEncoding n input

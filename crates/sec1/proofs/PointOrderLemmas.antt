@@ -1,8 +1,8 @@
 -- Which points tie, and which are less than others.
-use Rattle.std.proofs.Common.{◌≡◌, ℕ, ◌<◌, ◌==◌, ◌||◌, Bool, true, false, Option, is_some, arith, nat_lt, ◌↔◌, Less, Equal, Greater, nat_cmp}
+use Rattle.std.proofs.Common.{◌≡◌, ℕ, ◌<◌, Bool, true, false, arith, ◌↔◌, Less, Equal, Greater, nat_cmp}
 use Rattle.std.proofs.lemmas.Cmp.{tied_itself}
-use Rattle.sec1.specs.Points.{Point, tag_byte, x_of, y_of}
-use Rattle.sec1.specs.PointOrder.{IsLess, IsBelow, or_zero, point_cmp, same_point}
+use Rattle.sec1.specs.Points.{Point}
+use Rattle.sec1.specs.PointOrder.{IsBelow, point_cmp, same_point}
 use Rattle.sec1.specs.PointOrderLaws.{point_cmp_total, same_point-true, point_cmp-Equal}
 
 -- The same point ties.

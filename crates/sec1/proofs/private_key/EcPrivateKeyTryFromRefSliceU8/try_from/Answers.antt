@@ -1,9 +1,9 @@
-use Rattle.std.proofs.Common.{◌≡◌, Ok, refl, [], ◌++◌, sym, ap, subst, ◌∙◌}
+use Rattle.std.proofs.Common.{◌≡◌, Ok, refl, [], ◌++◌, sym, ap, ◌∙◌}
 use Rattle.std.proofs.lemmas.Result.{err_from_is_err_and}
 use Rattle.sec1_der.specs.declared.error.Error.{Error as DerError}
 use Rattle.sec1_der.specs.declared.error.ErrorKind.{ErrorKind}
 use Rattle.sec1_der.specs.declared.error.ErrorKind.TheVariants.{Memory as DerMemory}
-use Rattle.sec1.specs.Der.{IsProperBeginning, IsReadingFault}
+use Rattle.sec1.specs.Der.{IsReadingFault}
 use Rattle.sec1.specs.Errors.{error_of_kind}
 use Rattle.sec1.specs.declared.error.Error.TheVariants.{Asn1}
 use Rattle.sec1_der.proofs.ElementLemmas.{element_of-some}
@@ -29,7 +29,7 @@ returns-in_err-from_der c =
       one_tree = tt;
       kinds = from_der.kinds;
       kind = from_der.kind;
-      short = λ key bytes is begins. from_der.short (fields_of key) is.tree.tree.2 (subst (IsProperBeginning c.args.bytes.now) is.tree.whole begins);
+      short = λ key bytes is begins. from_der.short (fields_of key) is.tree.tree.2 (rw is.tree.whole at begins);
       long = λ key bytes is begins. from_der.long_value key bytes (key_written key bytes is) begins;
     })
 
@@ -48,6 +48,6 @@ returns c =
       one_tree = λ t at. (c.trees_unique.ensures t (key_tree key) [] [] at.tree found.tree.tree (ap (λ xs. xs ++ []) (sym at.whole ∙ found.tree.whole))).0;
       kinds = tt;
       kind = from_der.kind;
-      short = λ other bytes at begins. absurd (from_der.short (fields_of other) at.tree.tree.2 (subst (IsProperBeginning input) at.tree.whole begins));
+      short = λ other bytes at begins. absurd (from_der.short (fields_of other) at.tree.tree.2 (rw at.tree.whole at begins));
       long = λ other bytes at begins. absurd (from_der.long_value other bytes (key_written other bytes at) begins);
     }
