@@ -1,6 +1,6 @@
 -- The first bytes of a borrowed coordinate: all of it at its length, their parity, and a comparison of two.
 use Rattle.std.proofs.Common.{◌≡◌, ◌≢◌, add-one, ℕ, zero, suc, ◌+◌, ◌-◌, ◌%◌, ◌<◌, ◌≤◌, false, ◌&&◌, List, [], ◌∷◌, ◌++◌, length, get_or, take, bytes_eq, refl}
-use Rattle.std.proofs.Common.{ap, ◌∙◌, arith, take_all}
+use Rattle.std.proofs.Common.{arith, take_all}
 use Rattle.std.proofs.lemmas.List.{take_more, length_push}
 use Rattle.std.proofs.lemmas.Grind.{elements}
 use Rattle.std.proofs.lemmas.Slice.Eq.{bytes_eq-Decides}
@@ -23,7 +23,7 @@ first_take (suc n) xs h = grind (arith, take_more xs n 0, first_take n xs)
 
 -- A borrowed array has the number of all its bytes, where its length is known.
 pub coordinates_whole : (n : ℕ) (xs : List ℕ) → length xs ≡ n → coordinate_number n xs ≡ number_of xs
-coordinates_whole n xs e = ap number_of (first_take n xs (omega arith) ∙ take_all n xs (omega arith))
+coordinates_whole n xs e = grind (arith, first_take n xs, take_all n xs)
 
 pub length-first : (n : ℕ) (xs : List ℕ) → length (first_bytes n xs) ≡ n
 unfolding first_bytes
@@ -47,7 +47,7 @@ coordinates_none n xs e = rw (e, first_none xs) refl
 
 -- One byte differs.
 pub first_apart : (n i : ℕ) (xs ys : List ℕ) → i < n → get_or xs i 0 ≢ get_or ys i 0 → false ≡ bytes_eq (first_bytes n xs) (first_bytes n ys)
-first_apart n i xs ys h apart = grind (arith, get_or-first n i xs h, get_or-first n i ys h, bytes_eq-Decides (first_bytes n xs) (first_bytes n ys))
+first_apart n i xs ys h apart = grind (arith, get_or-first n i, bytes_eq-Decides)
 
 -- Fronts of one length are compared first.
 pub eq_append : (xs ys us vs : List ℕ) → length xs ≡ length ys → bytes_eq (xs ++ us) (ys ++ vs) ≡ (bytes_eq xs ys && bytes_eq us vs)

@@ -1,5 +1,5 @@
 -- The content of a key, and the key's bytes.
-use Rattle.std.proofs.Common.{◌≡◌, ◌∷◌, [], ℕ, List, Option, Some, None, option_map, IsSomeAnd, refl, ap, append-nil, arith}
+use Rattle.std.proofs.Common.{◌≡◌, ◌∷◌, [], ℕ, List, Option, Some, None, option_map, IsSomeAnd, refl, append-nil, arith}
 use Rattle.sec1_der.proofs.ElementLemmas.{element_of-within}
 use Rattle.sec1.specs.Der.{join, element_of, field_of, IsTreeOf}
 use Rattle.sec1_der.specs.Identifiers.{content_of, identifier_content}
@@ -32,8 +32,7 @@ tree_found key (Some arcs) (Some public_key) bytes e = record { tree = grind (ar
 -- A curve that is named has the content of its identifier.
 curve_content : (parameters : Option (List ℕ)) → IsNamedCurve parameters
     → option_map identifier_content parameters ≡ option_map (λ arcs. Some (content_of arcs)) parameters
-curve_content None is = refl
-curve_content (Some arcs) is = ap Some (identifier_content-valid arcs (content_of arcs) is)
+curve_content parameters is = grind (arith, identifier_content-valid)
 
 -- What has a content names its curve.
 curve_named : (private_key : List ℕ) (parameters public_key : Option (List ℕ)) (bytes : List ℕ)

@@ -3,7 +3,6 @@ use Rattle.sec1.specs.Points.{encoding}
 use Rattle.sec1.specs.Tags.{point_tag}
 use Rattle.sec1.proofs.PointLemmas.{byte_of-tag_of, passing_encodings}
 use Rattle.sec1.proofs.point.is_encoding.Goals as goal
-use Rattle.sec1.proofs.point.is_encoding.Goals.{After-message_len}
 
 pub returns-in_default : goal.returns-in_default
 unfolding encoding
