@@ -8,10 +8,12 @@ use Rattle.sec1_der.specs.Numbers.{number_of}
 use Rattle.sec1.specs.Coordinates.{first_bytes, coordinate_number}
 use Rattle.sec1.proofs.DigitLemmas.{parity_of_last}
 
+-- Of no bytes, none are first.
 pub first_none : (xs : List ℕ) → first_bytes 0 xs ≡ []
 unfolding first_bytes
 first_none xs = refl
 
+-- One byte more.
 pub first_more : (n : ℕ) (xs : List ℕ) → first_bytes (n + 1) xs ≡ first_bytes n xs ++ get_or xs n 0 ∷ []
 unfolding first_bytes
 first_more n xs = rw (add-one n) refl
@@ -25,6 +27,7 @@ first_take (suc n) xs h = grind (arith, take_more xs n 0, first_take n xs)
 pub coordinates_whole : (n : ℕ) (xs : List ℕ) → length xs ≡ n → coordinate_number n xs ≡ number_of xs
 coordinates_whole n xs e = grind (arith, first_take n xs, take_all n xs)
 
+-- There are always n of them.
 pub length-first : (n : ℕ) (xs : List ℕ) → length (first_bytes n xs) ≡ n
 unfolding first_bytes
 length-first zero xs = refl

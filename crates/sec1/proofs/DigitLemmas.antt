@@ -12,19 +12,23 @@ use Rattle.sec1.specs.Points.{fixed_width}
 
 -- ---- lists of bytes
 
+-- Bytes and bytes behind them are bytes.
 pub IsBytes-append : (xs ys : List ℕ) → IsBytes xs → IsBytes ys → IsBytes (xs ++ ys)
 IsBytes-append xs ys hx hy i = grind (arith, elements, hx i, hy (i - length xs))
 
+-- What is left of bytes is bytes.
 pub IsBytes-drop : (n : ℕ) (bs : List ℕ) → IsBytes bs → IsBytes (drop n bs)
 IsBytes-drop n bs h i = rw get_or-drop (h (n + i))
 
 -- ---- numbers and digits
 
+-- There are exactly width digits.
 pub length-fixed_width : (width n : ℕ) → length (fixed_width width n) ≡ width
 unfolding fixed_width
 length-fixed_width zero n = refl
 length-fixed_width (suc width) n = omega (arith, length-fixed_width width (n / 256), length-append {A = ℕ})
 
+-- The digits are bytes.
 pub IsBytes-fixed_width : (width n : ℕ) → IsBytes (fixed_width width n)
 unfolding fixed_width
 IsBytes-fixed_width zero n i = omega arith

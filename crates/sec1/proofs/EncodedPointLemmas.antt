@@ -28,12 +28,14 @@ pub record Holds (n : ℕ) (front : List ℕ) (p : Point) : Type 0 where
 pub holds : (n : ℕ) (front : List ℕ) (p : Point) → IsPoint n p → front ≡ encoding n p → Holds n front p
 holds n front p fits e = record { means = rw e (meaning-enc n p fits); encoded = grind (arith, meaning-enc n p fits) }
 
+-- A byte 00 is the identity.
 pub identity_holds : (n l : ℕ) → 1 ≤ l → Holds n (take {A = ℕ} 1 (replicate {A = ℕ} l 0)) identity
 unfolding encoding meaning
 identity_holds n l some = record { means = grind arith; encoded = grind arith }
 
 -- ---- the buffer of a value
 
+-- The point of a value is one of its size.
 pub point_fits : {N L : ℕ} (p : EncodedPoint N L) → IsPoint N (point_of p)
 point_fits {N} p = meaning-fits N (take p.len p.bytes) (rw (← p.encoded) (IsBytes-enc N (point_of p)))
 

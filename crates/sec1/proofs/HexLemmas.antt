@@ -36,6 +36,7 @@ unfolding encode_with
 none_encoded f table [] h z = refl
 none_encoded f table (x ∷ xs) h z = grind (arith, list_any_at f table, get_or-eq_default table 0, none_encoded f table xs h z)
 
+-- The digits that spell bytes are of one case.
 pub hex_is_one_case : (text bytes : List ℕ) → IsHexOf text bytes → is_one_case text ≡ true
 hex_is_one_case text bytes (inl e) = grind (arith, none_encoded is_ascii_lowercase upper_digits bytes refl refl)
 hex_is_one_case text bytes (inr e) = grind (arith, none_encoded is_ascii_uppercase lower_digits bytes refl refl)
@@ -73,6 +74,7 @@ decoded text bytes n e c =
 
 -- ---- what a text spells is decoded
 
+-- A text has two digits for each byte.
 pub text_len : (text bytes : List ℕ) → IsHexOf text bytes → length text ≡ 2 * length bytes
 text_len text bytes h = grind (arith, length-encode_with)
 

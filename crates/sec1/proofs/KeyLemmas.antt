@@ -18,6 +18,7 @@ content_with curve key =
 abbrev pub key_content : Key → Option (List ℕ)
 key_content key = content_with (option_map identifier_content key.parameters) key
 
+-- the key of these parts
 abbrev made : List ℕ → Option (List ℕ) → Option (List ℕ) → Key
 made private_key parameters public_key = record { private_key = private_key; parameters = parameters; public_key = public_key }
 
@@ -25,9 +26,9 @@ made private_key parameters public_key = record { private_key = private_key; par
 tree_found : (private_key : List ℕ) (parameters public_key : Option (List ℕ)) (bytes : List ℕ)
     → element_of 0x30 (content_with (option_map (λ arcs. Some (content_of arcs)) parameters) (made private_key parameters public_key)) ≡ Some bytes
     → IsTreeOf (key_tree (made private_key parameters public_key)) bytes
-tree_found key None public_key bytes e = record { tree = grind (arith, append-nil {A = ℕ}); whole = grind (arith, append-nil {A = ℕ}) }
-tree_found key (Some arcs) None bytes e = record { tree = grind (arith, append-nil {A = ℕ}); whole = grind (arith, append-nil {A = ℕ}) }
-tree_found key (Some arcs) (Some public_key) bytes e = record { tree = grind (arith, append-nil {A = ℕ}); whole = grind (arith, append-nil {A = ℕ}) }
+tree_found private_key None public_key bytes e = record { tree = grind (arith, append-nil {A = ℕ}); whole = grind (arith, append-nil {A = ℕ}) }
+tree_found private_key (Some arcs) None bytes e = record { tree = grind (arith, append-nil {A = ℕ}); whole = grind (arith, append-nil {A = ℕ}) }
+tree_found private_key (Some arcs) (Some public_key) bytes e = record { tree = grind (arith, append-nil {A = ℕ}); whole = grind (arith, append-nil {A = ℕ}) }
 
 -- A curve that is named has the content of its identifier.
 curve_content : (parameters : Option (List ℕ)) → IsNamedCurve parameters
@@ -37,8 +38,8 @@ curve_content parameters is = grind (arith, identifier_content-valid)
 -- What has a content names its curve.
 curve_named : (private_key : List ℕ) (parameters public_key : Option (List ℕ)) (bytes : List ℕ)
     → element_of 0x30 (key_content (made private_key parameters public_key)) ≡ Some bytes → IsNamedCurve parameters
-curve_named key None public_key bytes e = tt
-curve_named key (Some arcs) public_key bytes e = is_identifier-true arcs (grind arith)
+curve_named private_key None public_key bytes e = tt
+curve_named private_key (Some arcs) public_key bytes e = is_identifier-true arcs (grind arith)
 
 -- A key that has bytes has an element.
 pub key_written : (key : Key) (bytes : List ℕ) → IsKeyOf key bytes → element_of 0x30 (key_content key) ≡ Some bytes
@@ -55,6 +56,7 @@ found_with : (key : Key) (P : List ℕ → Type 0) (piece : Option (List ℕ)) �
 found_with key P None e h = absurd h
 found_with key P (Some bytes) e h = record { bytes = bytes; of_key = key_found key bytes e; holds = h }
 
+-- What holds of the element of a key holds of its bytes.
 pub key_found_with : (key : Key) (P : List ℕ → Type 0) → IsSomeAnd (element_of 0x30 (key_content key)) P → HasEncodingWith key P
 key_found_with key P h = found_with key P (element_of 0x30 (key_content key)) refl h
 

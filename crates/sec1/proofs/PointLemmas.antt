@@ -13,9 +13,11 @@ use Rattle.sec1.proofs.DigitLemmas.{parity_of_last}
 
 -- ---- tags
 
+-- Tags with one byte are the same.
 pub byte_of-injective : (t u : Tag) → byte_of t ≡ byte_of u → t ≡ u
 byte_of-injective t u e = grind arith
 
+-- The byte of a point's tag is the first of its encoding.
 pub byte_of-tag_of : (p : Point) → byte_of (point_tag p) ≡ tag_byte p
 byte_of-tag_of p = grind arith
 
@@ -25,15 +27,18 @@ tag_of-byte tag p e = byte_of-injective tag (point_tag p) (e ∙ sym (byte_of-ta
 
 -- ---- encodings
 
+-- An encoding is as long as its tag says.
 pub length-enc : (n : ℕ) (p : Point) → length (encoding n p) ≡ message_len (point_tag p) n
 unfolding encoding
 length-enc n p = grind (arith, length-append {A = ℕ}, length-fixed_width)
 
 pub ruleset tag_facts = (byte_of-injective, byte_of-tag_of)
 
+-- No encoding is longer than that of both coordinates.
 pub length-enc-le : (n : ℕ) (p : Point) → length (encoding n p) ≤ 2 * n + 1
 length-enc-le n p = rw (length-enc n p) (grind arith)
 
+-- An encoding is bytes.
 pub IsBytes-enc : (n : ℕ) (p : Point) → IsBytes (encoding n p)
 unfolding encoding
 IsBytes-enc n p zero = grind arith
@@ -54,6 +59,7 @@ pub meaning-enc-append : (n : ℕ) (p : Point) (r : List ℕ) → IsPoint n p �
 unfolding encoding meaning
 meaning-enc-append n p r h = grind (arith, take_at {A = ℕ}, drop_at {A = ℕ}, append_assoc {A = ℕ}, length-fixed_width, num-fixed_width)
 
+-- An encoding means its point.
 pub meaning-enc : (n : ℕ) (p : Point) → IsPoint n p → meaning n (encoding n p) ≡ p
 meaning-enc n p h = rw append-nil at (meaning-enc-append n p [] h)
 

@@ -18,13 +18,16 @@ decides_same false p q h = grind (arith, same_point-true)
 nat_cmp-Less : (a b : ℕ) → (nat_cmp a b ≡ Less) ↔ (a < b)
 nat_cmp-Less a b = (λ h. grind arith, λ h. grind arith)
 
+-- Numbers tie only where they are the same.
 pub nat_cmp-Equal : (a b : ℕ) → (nat_cmp a b ≡ Equal) ↔ (a ≡ b)
 nat_cmp-Equal a b = (λ h. grind arith, λ h. grind arith)
 
+-- A point is less than those that it stands below.
 pub less_below : (p q : Point) → (point_cmp p q ≡ Less) ↔ IsBelow p q
 unfolding point_cmp
 less_below p q = grind (arith, nat_cmp-Less, nat_cmp-Equal)
 
+-- A point is greater than those that stand below it.
 pub greater_below : (p q : Point) → (point_cmp p q ≡ Greater) ↔ IsBelow q p
 greater_below p q = grind (arith, less_below q p, point_cmp_total.antisymm p q)
 
