@@ -1,48 +1,46 @@
 -- The first bytes of a borrowed coordinate: all of it at its length, their parity, and a comparison of two.
-use Rattle.std.proofs.Common.{◌≡◌, ◌≢◌, ℕ, zero, suc, ◌+◌, ◌-◌, ◌%◌, ◌<◌, ◌≤◌, true, false, ◌&&◌, List, [], ◌∷◌, ◌++◌, length, get_or, take}
-use Rattle.std.proofs.Common.{bytes_eq, refl, sym, ap, ◌∙◌, arith}
-use Rattle.std.proofs.lemmas.List.{take_more, take_all, length_push, get_or_append_left, get_or_push}
+use Rattle.std.proofs.Common.{◌≡◌, ◌≢◌, add-one, ℕ, zero, suc, ◌+◌, ◌-◌, ◌%◌, ◌<◌, ◌≤◌, false, ◌&&◌, List, [], ◌∷◌, ◌++◌, length, get_or, take, bytes_eq, refl}
+use Rattle.std.proofs.Common.{arith, take_all}
+use Rattle.std.proofs.lemmas.List.{take_more, length_push}
+use Rattle.std.proofs.lemmas.Grind.{elements}
 use Rattle.std.proofs.lemmas.Slice.Eq.{bytes_eq-Decides}
 use Rattle.sec1_der.specs.Numbers.{number_of}
 use Rattle.sec1.specs.Coordinates.{first_bytes, coordinate_number}
 use Rattle.sec1.proofs.DigitLemmas.{parity_of_last}
 
+-- Of no bytes, none are first.
 pub first_none : (xs : List ℕ) → first_bytes 0 xs ≡ []
 unfolding first_bytes
 first_none xs = refl
 
+-- One byte more.
 pub first_more : (n : ℕ) (xs : List ℕ) → first_bytes (n + 1) xs ≡ first_bytes n xs ++ get_or xs n 0 ∷ []
 unfolding first_bytes
-first_more n xs = let step : n + 1 ≡ suc n = omega arith in rw step refl
+first_more n xs = rw (add-one n) refl
 
 first_take : (n : ℕ) (xs : List ℕ) → n ≤ length xs → first_bytes n xs ≡ take n xs
 unfolding first_bytes
 first_take zero xs h = refl
-first_take (suc n) xs h =
-    let step : n + 1 ≡ suc n = omega arith in
-    rw (first_take n xs (omega arith)) (rw step at (sym (take_more xs n 0 (omega arith))))
+first_take (suc n) xs h = grind (arith, take_more xs n 0, first_take n xs)
 
 -- A borrowed array has the number of all its bytes, where its length is known.
 pub coordinates_whole : (n : ℕ) (xs : List ℕ) → length xs ≡ n → coordinate_number n xs ≡ number_of xs
-coordinates_whole n xs e = ap number_of (first_take n xs (omega arith) ∙ take_all n xs (omega arith))
+coordinates_whole n xs e = grind (arith, first_take n xs, take_all n xs)
 
-length-first : (n : ℕ) (xs : List ℕ) → length (first_bytes n xs) ≡ n
+-- There are always n of them.
+pub length-first : (n : ℕ) (xs : List ℕ) → length (first_bytes n xs) ≡ n
 unfolding first_bytes
 length-first zero xs = refl
-length-first (suc n) xs = omega (arith, length-first n xs, length_push (first_bytes n xs) (get_or xs n 0))
+length-first (suc n) xs = omega (arith, length-first n xs, length_push {X = ℕ})
 
 get_or-first : (n i : ℕ) (xs : List ℕ) → i < n → get_or (first_bytes n xs) i 0 ≡ get_or xs i 0
 unfolding first_bytes
 get_or-first zero i xs h = absurd (omega arith)
-get_or-first (suc n) i xs h =
-    let len = length-first n xs in
-    grind (arith, get_or_append_left (first_bytes n xs) (get_or xs n 0 ∷ []) 0 i, get_or_push (first_bytes n xs) (get_or xs n 0) 0 i, get_or-first n i xs)
+get_or-first (suc n) i xs h = grind (arith, elements, length-first n xs, get_or-first n i xs)
 
 -- The number of a borrowed array has the parity of its last byte.
 pub coordinates_parity : (n : ℕ) (xs : List ℕ) → 0 < n → coordinate_number n xs % 2 ≡ get_or xs (n - 1) 0 % 2
-coordinates_parity n xs h =
-    let len = length-first n xs in
-    rw (← get_or-first n (n - 1) xs (omega arith)) (rw len at (parity_of_last (first_bytes n xs) (omega arith)))
+coordinates_parity n xs h = grind (arith, length-first n xs, get_or-first n (n - 1) xs, parity_of_last (first_bytes n xs))
 
 -- No bytes spell 0.
 pub coordinates_none : (n : ℕ) (xs : List ℕ) → n ≡ 0 → coordinate_number n xs ≡ 0
@@ -50,22 +48,18 @@ coordinates_none n xs e = rw (e, first_none xs) refl
 
 -- ---- comparison
 
-pub first_same : (n : ℕ) (xs ys : List ℕ) → first_bytes n xs ≡ first_bytes n ys → true ≡ bytes_eq (first_bytes n xs) (first_bytes n ys)
-first_same n xs ys e = sym ((bytes_eq-Decides (first_bytes n xs) (first_bytes n ys)).1 e)
-
 -- One byte differs.
 pub first_apart : (n i : ℕ) (xs ys : List ℕ) → i < n → get_or xs i 0 ≢ get_or ys i 0 → false ≡ bytes_eq (first_bytes n xs) (first_bytes n ys)
-first_apart n i xs ys h apart = grind (arith, get_or-first n i xs h, get_or-first n i ys h, bytes_eq-Decides (first_bytes n xs) (first_bytes n ys))
+first_apart n i xs ys h apart = grind (arith, get_or-first n i, bytes_eq-Decides)
 
-eq_append : (xs ys us vs : List ℕ) → length xs ≡ length ys → bytes_eq (xs ++ us) (ys ++ vs) ≡ (bytes_eq xs ys && bytes_eq us vs)
+-- Fronts of one length are compared first.
+pub eq_append : (xs ys us vs : List ℕ) → length xs ≡ length ys → bytes_eq (xs ++ us) (ys ++ vs) ≡ (bytes_eq xs ys && bytes_eq us vs)
 eq_append [] [] us vs e = refl
 eq_append (x ∷ xs) (y ∷ ys) us vs e = grind (arith, eq_append xs ys us vs (omega arith))
 eq_append xs ys us vs e = absurd (omega arith)
 
 -- What a comparison byte by byte has seen so far.
-pub ruleset compared_bytes = (first_none, first_more, first_same, first_apart)
+pub ruleset compared_bytes = (first_none, first_more, first_apart, bytes_eq-Decides)
 
 -- Two coordinates are compared one after the other.
-pub eq_first : (n : ℕ) (xs ys us vs : List ℕ)
-    → bytes_eq (first_bytes n xs ++ us) (first_bytes n ys ++ vs) ≡ (bytes_eq (first_bytes n xs) (first_bytes n ys) && bytes_eq us vs)
-eq_first n xs ys us vs = eq_append (first_bytes n xs) (first_bytes n ys) us vs (length-first n xs ∙ sym (length-first n ys))
+pub ruleset compared_coordinates = (eq_append, length-first)

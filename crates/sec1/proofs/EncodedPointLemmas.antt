@@ -1,28 +1,20 @@
 -- What the bytes of an encoded point mean: the encoding stands at the beginning of a buffer.
-use Rattle.std.proofs.Common.{◌≡◌, ℕ, zero, suc, ◌+◌, ◌-◌, ◌*◌, ◌^◌, ◌<◌, ◌≤◌, cond, List, [], ◌∷◌, ◌++◌, length, get_or, take, drop, set, replicate, refl}
-use Rattle.std.proofs.Common.{sym, ap, ◌∙◌, arith}
-use Rattle.std.proofs.Common.{append_assoc, add-one, subst, Some, Ok}
+use Rattle.std.proofs.Common.{◌≡◌, ℕ, ◌+◌, ◌-◌, ◌*◌, ◌≤◌, cond, List, [], ◌∷◌, ◌++◌, length, get_or, take, drop, set, replicate, sym, ap, ◌∙◌, arith}
+use Rattle.std.proofs.Common.{append_assoc, add-one, Some, Ok, nat_cmp, ◌↔◌, take_at, take_all, take-append-drop, length-append, length-drop, length-take}
+use Rattle.std.proofs.Common.{le_of_eq}
 use Rattle.std.specs.Cmp.Lexicographic.{slice_cmp}
-use Rattle.std.specs.Ordering.{nat_cmp}
-use Rattle.std.specs.Prelude.{◌↔◌}
-use Rattle.std.specs.declared.cmp.Ordering.{Ordering}
-use Rattle.std.specs.declared.cmp.Ordering.TheVariants.{Less, Equal, Greater}
-use Rattle.std.proofs.lemmas.List.{take_at, take_all, take-append-drop, length-append, length-drop, length-take}
 use Rattle.std.proofs.lemmas.Slice.{take-put_mid}
 use borrow.Rule.Slice.PartMut.{put_mid}
 use Rattle.hex.specs.Hex.{IsBytes}
-use Rattle.sec1_der.specs.Numbers.{number_of}
-use Rattle.sec1_der.specs.Elements.{IsProperBeginning}
-use Rattle.sec1.specs.Points.{Point, identity, uncompressed, hybrid, is_odd, IsPoint, IsEncoding, Fits, fixed_width, tag_byte, encoding, meaning, point_from}
-use Rattle.sec1.specs.Points.{compressed_point, hybrid_point, x_of, y_of}
-use Rattle.sec1.specs.PointOrder.{point_cmp, IsBelow}
-use Rattle.sec1.specs.PointOrderLaws.{point_cmp-Equal}
+use Rattle.sec1.specs.Der.{number_of}
+use Rattle.sec1.specs.Points.{Point, identity, uncompressed, is_odd, coordinate_bytes, IsPoint, IsEncoding, Fits, tag_byte, encoding, meaning, point_from}
+use Rattle.sec1.specs.Points.{compressed_point, hybrid_point, y_of}
+use Rattle.sec1.specs.PointOrder.{point_cmp}
 use Rattle.sec1.specs.Tags.{byte_of, point_tag}
 use Rattle.sec1.specs.EncodedPoints.{point_of, ReadsBytes}
 use Rattle.sec1.specs.declared.point.EncodedPoint.{EncodedPoint}
 use Rattle.sec1.proofs.DigitLemmas.{length-fixed_width, num-below, fixed_width-num}
-use Rattle.sec1.proofs.PointLemmas.{meaning-enc, meaning-enc-append, meaning-fits, IsBytes-enc, byte_of-tag_of, length-enc-le, no_beginning}
-use Rattle.sec1.proofs.PointOrderLemmas.{less_below, greater_below, Equal-point_cmp}
+use Rattle.sec1.proofs.PointLemmas.{half, meaning-enc, meaning-enc-append, meaning-fits, IsBytes-enc, byte_of-tag_of, length-enc-le, no_beginning}
 use Rattle.sec1.proofs.ByteOrderLemmas.{slice_cmp-enc}
 
 -- ---- the beginning of a buffer
@@ -34,17 +26,16 @@ pub record Holds (n : ℕ) (front : List ℕ) (p : Point) : Type 0 where
 
 -- A point's encoding means the point.
 pub holds : (n : ℕ) (front : List ℕ) (p : Point) → IsPoint n p → front ≡ encoding n p → Holds n front p
-holds n front p fits e =
-    let means : meaning n front ≡ p = rw e (meaning-enc n p fits) in
-    record { means = means; encoded = rw means (sym e) }
+holds n front p fits e = record { means = rw e (meaning-enc n p fits); encoded = grind (arith, meaning-enc n p fits) }
 
+-- A byte 00 is the identity.
 pub identity_holds : (n l : ℕ) → 1 ≤ l → Holds n (take {A = ℕ} 1 (replicate {A = ℕ} l 0)) identity
-unfolding encoding
-identity_holds n zero some = absurd (omega arith)
-identity_holds n (suc l) some = holds n (0 ∷ []) identity tt refl
+unfolding encoding meaning
+identity_holds n l some = record { means = grind arith; encoded = grind arith }
 
 -- ---- the buffer of a value
 
+-- The point of a value is one of its size.
 pub point_fits : {N L : ℕ} (p : EncodedPoint N L) → IsPoint N (point_of p)
 point_fits {N} p = meaning-fits N (take p.len p.bytes) (rw (← p.encoded) (IsBytes-enc N (point_of p)))
 
@@ -52,24 +43,16 @@ point_fits {N} p = meaning-fits N (take p.len p.bytes) (rw (← p.encoded) (IsBy
 begins : {N L : ℕ} (p : EncodedPoint N L) → p.bytes ≡ encoding N (point_of p) ++ drop p.len p.bytes
 begins p = rw (p.encoded) (sym (take-append-drop p.len p.bytes))
 
-first_of : (n : ℕ) (p : Point) (rest : List ℕ) → get_or (encoding n p ++ rest) 0 0 ≡ tag_byte p
-unfolding encoding
-first_of n p rest = refl
-
 -- Its first byte is the tag's.
 pub first_byte : {N L : ℕ} (p : EncodedPoint N L) → get_or p.bytes 0 0 ≡ byte_of (point_tag (point_of p))
-first_byte {N} p = ap (λ (xs : List ℕ). get_or xs 0 0) (begins p) ∙ first_of N (point_of p) (drop p.len p.bytes) ∙ sym (byte_of-tag_of (point_of p))
+unfolding encoding
+first_byte p = ap (λ (xs : List ℕ). get_or xs 0 0) (begins p) ∙ sym (byte_of-tag_of (point_of p))
 
 -- The tag and the two halves behind it make the point.
-made_of : (n : ℕ) (p : Point) (rest : List ℕ) → IsPoint n p
-    → point_from (tag_byte p) (number_of (take n (drop 1 (encoding n p ++ rest)))) (number_of (take n (drop n (drop 1 (encoding n p ++ rest))))) ≡ p
-unfolding encoding meaning
-made_of n p rest fits = meaning-enc-append n p rest fits
-
 pub made_of_halves : {N L : ℕ} (p : EncodedPoint N L) (x y : List ℕ) → x ≡ take N (drop 1 p.bytes) → y ≡ take N (drop N (drop 1 p.bytes))
     → point_from (byte_of (point_tag (point_of p))) (number_of x) (number_of y) ≡ point_of p
-made_of_halves {N} p x y ex ey =
-    rw (ex, ey, byte_of-tag_of (point_of p)) (rw (← begins p) at (made_of N (point_of p) (drop p.len p.bytes) (point_fits p)))
+unfolding encoding meaning
+made_of_halves {N} p x y ex ey = grind (arith, begins p, meaning-enc-append N (point_of p) (drop p.len p.bytes) (point_fits p), byte_of-tag_of)
 
 -- A buffer that the encoding fills is the encoding.
 pub filled : {N L : ℕ} (p : EncodedPoint N L) → length p.bytes ≤ p.len → p.bytes ≡ encoding N (point_of p)
@@ -81,92 +64,48 @@ filled p full = sym (p.encoded ∙ take_all p.len p.bytes full)
 pub same_encodings : {N L : ℕ} (p q : EncodedPoint N L) → (encoding N (point_of p) ≡ encoding N (point_of q)) ↔ (point_of p ≡ point_of q)
 same_encodings {N} p q = (λ h. ap (meaning N) (sym p.encoded ∙ h ∙ q.encoded), λ h. ap (encoding N) h)
 
--- What the order of two values says of their points.
-pub record Ordered {N L : ℕ} (o : Ordering) (p q : EncodedPoint N L) : Type 0 where
-  pub value : o ≡ point_cmp (point_of p) (point_of q)
-  pub less : (o ≡ Less) ↔ IsBelow (point_of p) (point_of q)
-  pub greater : (o ≡ Greater) ↔ IsBelow (point_of q) (point_of p)
-  pub equal : (o ≡ Equal) ↔ (point_of p ≡ point_of q)
-
-pub ordered : {N L : ℕ} (o : Ordering) (p q : EncodedPoint N L) → o ≡ slice_cmp nat_cmp (encoding N (point_of p)) (encoding N (point_of q)) → Ordered o p q
-ordered {N} o p q e =
-    let value = e ∙ slice_cmp-enc N (point_of p) (point_of q) (point_fits p) (point_fits q) in
-    rw value (record {
-      value = refl;
-      less = less_below (point_of p) (point_of q);
-      greater = greater_below (point_of p) (point_of q);
-      equal = (point_cmp-Equal (point_of p) (point_of q), Equal-point_cmp (point_of p) (point_of q));
-    })
+-- The encodings of two values are ordered as their points.
+pub point_order : {N L : ℕ} (p q : EncodedPoint N L)
+    → slice_cmp nat_cmp (encoding N (point_of p)) (encoding N (point_of q)) ≡ point_cmp (point_of p) (point_of q)
+point_order {N} p q = slice_cmp-enc N (point_of p) (point_of q) (point_fits p) (point_fits q)
 
 -- Two buffers are the same where their first bytes and both halves are.
-joined : (n : ℕ) (xs : List ℕ) → length xs ≡ 2 * n → take n xs ++ take n (drop n xs) ≡ xs
-joined n xs e = rw (take_all n (drop n xs) (omega (arith, length-drop n xs))) (take-append-drop n xs)
-
 pub halves_same : (n : ℕ) (xs ys : List ℕ) → length xs ≡ 2 * n + 1 → length ys ≡ 2 * n + 1 → get_or xs 0 0 ≡ get_or ys 0 0
     → take n (drop 1 xs) ≡ take n (drop 1 ys) → take n (drop n (drop 1 xs)) ≡ take n (drop n (drop 1 ys)) → xs ≡ ys
 halves_same n (a ∷ xs) (b ∷ ys) long other_long first front back =
-    let rest : xs ≡ ys = sym (joined n xs (omega arith)) ∙ rw (front, back) (joined n ys (omega arith)) in
-    rw (first, rest) refl
+    grind (arith, half n xs, half n ys, take-append-drop n xs, take-append-drop n ys)
 halves_same n xs ys long other_long first front back = absurd (omega arith)
 
 -- ---- another tag in the first byte
 
-compressed_fits : (n : ℕ) (p : Point) → IsPoint n p → IsPoint n (compressed_point p)
-compressed_fits n (uncompressed x y) h = h.0
-compressed_fits n (hybrid x y) h = h.0
-compressed_fits n p h = h
-
-pub x_of-compressed_point : (p : Point) → x_of (compressed_point p) ≡ x_of p
-x_of-compressed_point identity = refl
-x_of-compressed_point p = refl
-
-pub compressed_point-twice : (p : Point) → compressed_point (compressed_point p) ≡ compressed_point p
-compressed_point-twice identity = refl
-compressed_point-twice p = refl
-
-hybrid_fits : (n : ℕ) (p : Point) → IsPoint n p → IsPoint n (hybrid_point p)
-hybrid_fits n identity h = h
-hybrid_fits n p h = h
-
+-- The encoding of the compressed form means that form.
 pub compressed_holds : {N L : ℕ} (p : EncodedPoint N L) (front : List ℕ) → front ≡ encoding N (compressed_point (point_of p))
     → Holds N front (compressed_point (point_of p))
-compressed_holds {N} p front e = holds N front (compressed_point (point_of p)) (compressed_fits N (point_of p) (point_fits p)) e
-
-x_front : (n x y tag : ℕ) (rest : List ℕ) → take (n + 1) (tag ∷ (fixed_width n x ++ fixed_width n y) ++ rest) ≡ tag ∷ fixed_width n x
-x_front n x y tag rest =
-    rw (add-one n, append_assoc (fixed_width n x) (fixed_width n y) rest, take_at (fixed_width n x) (fixed_width n y ++ rest) n (length-fixed_width n x)) refl
+compressed_holds {N} p front e = holds N front (compressed_point (point_of p)) (grind (arith, point_fits p)) e
 
 compress_of : (n : ℕ) (p : Point) (rest : List ℕ) (y tag : ℕ) → Some y ≡ y_of p → tag ≡ cond (is_odd y) 3 2
     → take (n + 1) (set (encoding n p ++ rest) 0 tag) ≡ encoding n (compressed_point p)
 unfolding encoding
-compress_of n (uncompressed u v) rest y tag h e = let same : y ≡ v = cc in x_front n u v tag rest ∙ (rw (e, same) refl)
-compress_of n (hybrid u v) rest y tag h e = let same : y ≡ v = cc in x_front n u v tag rest ∙ (rw (e, same) refl)
-compress_of n p rest y tag h e = absurd cc
+compress_of n p rest y tag h e = grind (arith, add-one, append_assoc {A = ℕ}, take_at {A = ℕ}, length-fixed_width)
 
 -- With the tag of y's parity in front, the tag and x are the compressed form.
 pub compress_front : {N L : ℕ} (p : EncodedPoint N L) (y tag : ℕ) → Some y ≡ y_of (point_of p) → tag ≡ cond (is_odd y) 3 2
     → take (N + 1) (set p.bytes 0 tag) ≡ encoding N (compressed_point (point_of p))
-compress_front {N} p y tag h e = ap (λ (xs : List ℕ). take (N + 1) (set xs 0 tag)) (begins p) ∙ compress_of N (point_of p) (drop p.len p.bytes) y tag h e
+compress_front {N} p y tag h e = grind (arith, begins p, compress_of N (point_of p) (drop p.len p.bytes) y tag h e)
 
-hybrid_of : (n : ℕ) (p : Point) (rest : List ℕ) (x y tag : ℕ) → uncompressed x y ≡ p → tag ≡ cond (is_odd y) 7 6
+hybrid_of : (n : ℕ) (p : Point) (rest : List ℕ) (tag : ℕ) → tag ≡ tag_byte (hybrid_point p)
     → take (length (encoding n p)) (set (encoding n p ++ rest) 0 tag) ≡ encoding n (hybrid_point p)
 unfolding encoding
-hybrid_of n p rest x y tag h k =
-    let digits = fixed_width n x ++ fixed_width n y in
-    rw (← h, k, take_at digits rest (length digits) refl) refl
+hybrid_of n p rest tag e = grind (arith, take_at (coordinate_bytes n p) rest)
 
--- An uncompressed point with the tag of y's parity in front is the hybrid form.
-pub hybrid_holds : {N L : ℕ} (p : EncodedPoint N L) (x y tag : ℕ) → p.len ≤ length p.bytes → uncompressed x y ≡ point_of p → tag ≡ cond (is_odd y) 7 6
+-- With the hybrid form's tag in front, the encoding is that form's.
+pub hybrid_holds : {N L : ℕ} (p : EncodedPoint N L) (tag : ℕ) → p.len ≤ length p.bytes → tag ≡ tag_byte (hybrid_point (point_of p))
     → Holds N (take p.len (set p.bytes 0 tag)) (hybrid_point (point_of p))
-hybrid_holds {N} p x y tag room h k =
-    let len : length (encoding N (point_of p)) ≡ p.len = ap length p.encoded ∙ omega (arith, length-take p.len p.bytes) in
-    let front = ap (λ (xs : List ℕ). take p.len (set xs 0 tag)) (begins p) ∙ rw len at (hybrid_of N (point_of p) (drop p.len p.bytes) x y tag h k) in
-    holds N (take p.len (set p.bytes 0 tag)) (hybrid_point (point_of p)) (hybrid_fits N (point_of p) (point_fits p)) front
+hybrid_holds {N} p tag room h =
+    holds N (take p.len (set p.bytes 0 tag)) (hybrid_point (point_of p)) (grind (arith, point_fits p))
+    (grind (arith, begins p, p.encoded, length-take {A = ℕ}, hybrid_of N (point_of p) (drop p.len p.bytes) tag h))
 
 -- ---- a buffer made of coordinates
-
-number_fits : (n : ℕ) (x : List ℕ) → length x ≡ n → IsBytes x → number_of x < 256 ^ n
-number_fits n x e h = rw (← e) (num-below x h)
 
 -- The tag, x and y, written into a buffer one after the other, are the uncompressed point.
 pub halves_hold : (n l k : ℕ) (buffer x y : List ℕ) → l ≡ 2 * n + 1 → length buffer ≡ l → length x ≡ n → length y ≡ n → IsBytes x → IsBytes y
@@ -175,11 +114,10 @@ unfolding encoding
 halves_hold n l k [] x y el eb ex ey hx hy = absurd (omega arith)
 halves_hold n l k (b ∷ buffer) x y el eb ex ey hx hy =
     let with_x = put_mid 1 (n + 1 - 1) (4 ∷ buffer) x in
-    let whole : length with_x ≡ l = omega (arith, length-append x (drop (n + 1 - 1) buffer), length-drop (n + 1 - 1) buffer) in
-    let front : take (n + 1) with_x ≡ 4 ∷ x = take-put_mid 1 (n + 1 - 1) (4 ∷ buffer) x (n + 1) (omega arith) (omega arith) in
-    let all = take-put_mid (n + 1) k with_x y l (omega arith) (omega arith) in
-    let written = all ∙ rw (front, fixed_width-num n x hx ex, fixed_width-num n y hy ey) refl in
-    holds n _ (uncompressed (number_of x) (number_of y)) (number_fits n x ex hx, number_fits n y ey hy) written
+    let front = take-put_mid 1 (n + 1 - 1) (4 ∷ buffer) x (n + 1) in
+    let whole = take-put_mid (n + 1) k with_x y l in
+    holds n (take l (put_mid (n + 1) k with_x y)) (uncompressed (number_of x) (number_of y)) (num-below n x hx (le_of_eq ex), num-below n y hy (le_of_eq ey))
+    (grind (arith, front, whole, fixed_width-num n x hx, fixed_width-num n y hy, length-append {A = ℕ}, length-drop {A = ℕ}))
 
 -- ---- reading bytes
 
@@ -193,6 +131,6 @@ read_bytes {N} input point front e = record {
   found = (point.sizes, point_fits point, sym (point.encoded ∙ front));
   only = λ p _ fits spelled. rw front (holds N input p fits spelled).means;
   kind = tt;
-  begins_none = λ other _ begins. no_beginning N e.of other (subst (λ xs. IsProperBeginning xs (encoding N other)) e.spelled begins);
-  begun_by_none = λ other _ begun. no_beginning N other e.of (subst (IsProperBeginning (encoding N other)) e.spelled begun);
+  begins_none = λ other _ begins. no_beginning N e.of other (rw e.spelled at begins);
+  begun_by_none = λ other _ begun. no_beginning N other e.of (rw e.spelled at begun);
 }

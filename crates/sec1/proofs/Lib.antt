@@ -1,10 +1,8 @@
-pub mod ReadLemmas
 pub mod DigitLemmas
 pub mod PointLemmas
 pub mod PointOrderLemmas
 pub mod ByteOrderLemmas
 pub mod EncodedPointLemmas
 pub mod HexLemmas
-pub mod SpelledTreeLemmas
 pub mod KeyLemmas
 pub mod CoordinateLemmas

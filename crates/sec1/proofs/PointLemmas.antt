@@ -1,119 +1,75 @@
 -- Points, tags and encodings.
-use Rattle.std.proofs.Common.{◌≡◌, ℕ, suc, ◌+◌, ◌-◌, ◌*◌, ◌%◌, ◌^◌, ◌<◌, ◌≤◌, true, false, cond, List, [], ◌∷◌, ◌++◌, length, get_or, take, drop, refl, sym}
-use Rattle.std.proofs.Common.{ap, ◌∙◌, arith}
-use Rattle.std.proofs.Common.{append_assoc, append-nil}
-use Rattle.std.specs.Prelude.{◌↔◌}
-use Rattle.std.proofs.Math.Nat.{pow-le-pow_right}
-use Rattle.std.proofs.lemmas.List.{take_at, drop_at, take_all, length-drop, get_or-drop, length-append, nil_from_length, length-take, take-append-drop}
+use Rattle.std.proofs.Common.{◌≡◌, ℕ, zero, suc, ◌+◌, ◌-◌, ◌*◌, ◌%◌, ◌≤◌, true, List, [], ◌∷◌, ◌++◌, length, get_or, take, drop, sym, ap, ◌∙◌, arith}
+use Rattle.std.proofs.Common.{append_assoc, append-nil, ◌↔◌, take_at, drop_at, take_all, length-drop, get_or-drop, length-append, length-take, take-append-drop}
+use Rattle.std.proofs.lemmas.List.{nil_from_length}
 use Rattle.hex.specs.Hex.{IsBytes}
-use Rattle.sec1_der.specs.Numbers.{number_of}
+use Rattle.sec1.specs.Der.{number_of, IsProperBeginning}
 use Rattle.sec1_der.proofs.DigitLemmas.{IsBytes-take}
-use Rattle.sec1_der.specs.Elements.{IsProperBeginning}
-use Rattle.sec1.specs.Points.{Point, identity, compact, compressed, uncompressed, hybrid, is_odd, IsPoint, IsEncoding, fixed_width, tag_byte}
-use Rattle.sec1.specs.Points.{coordinate_bytes, encoding, meaning}
+use Rattle.sec1.specs.Points.{Point, IsPoint, IsEncoding, fixed_width, tag_byte, encoding, meaning}
 use Rattle.sec1.specs.Tags.{byte_of, point_tag, message_len, is_hybrid}
 use Rattle.sec1.specs.declared.point.tag.Tag.{Tag}
-use Rattle.sec1.specs.declared.point.tag.Tag.TheVariants as tags
-use Rattle.sec1.proofs.DigitLemmas.{IsBytes-nil, IsBytes-cons, IsBytes-tail, IsBytes-append, IsBytes-drop, length-fixed_width}
-use Rattle.sec1.proofs.DigitLemmas.{IsBytes-fixed_width, num-below, num-fixed_width, fixed_width-num, parity_of_last}
+use Rattle.sec1.proofs.DigitLemmas.{IsBytes-append, IsBytes-drop, length-fixed_width, IsBytes-fixed_width, num-below, num-fixed_width, fixed_width-num}
+use Rattle.sec1.proofs.DigitLemmas.{parity_of_last}
 
 -- ---- tags
 
--- The tag of a byte that has one.
-abbrev tag_at : ℕ → Tag
-tag_at b =
-    let even = tags.Compact ∷ tags.HybridEvenY ∷ [] in
-    get_or (tags.Identity ∷ tags.Identity ∷ tags.CompressedEvenY ∷ tags.CompressedOddY ∷ tags.Uncompressed ∷ even) b tags.HybridOddY
-
-tag_at-byte_of : (tag : Tag) → tag_at (byte_of tag) ≡ tag
-tag_at-byte_of tags.Identity = refl
-tag_at-byte_of tag = refl
-
+-- Tags with one byte are the same.
 pub byte_of-injective : (t u : Tag) → byte_of t ≡ byte_of u → t ≡ u
-byte_of-injective t u e = sym (tag_at-byte_of t) ∙ ap tag_at e ∙ tag_at-byte_of u
+byte_of-injective t u e = grind arith
 
+-- The byte of a point's tag is the first of its encoding.
 pub byte_of-tag_of : (p : Point) → byte_of (point_tag p) ≡ tag_byte p
-byte_of-tag_of identity = refl
 byte_of-tag_of p = grind arith
 
 -- A point's tag is the one with its byte.
 pub tag_of-byte : (tag : Tag) (p : Point) → byte_of tag ≡ tag_byte p → tag ≡ point_tag p
 tag_of-byte tag p e = byte_of-injective tag (point_tag p) (e ∙ sym (byte_of-tag_of p))
 
-pub ruleset tag_facts = (byte_of-injective, byte_of-tag_of)
-
 -- ---- encodings
 
-length-both : (n x y : ℕ) → length (fixed_width n x ++ fixed_width n y) ≡ 2 * n
-length-both n x y = omega (arith, length-append (fixed_width n x) (fixed_width n y), length-fixed_width n x, length-fixed_width n y)
-
+-- An encoding is as long as its tag says.
 pub length-enc : (n : ℕ) (p : Point) → length (encoding n p) ≡ message_len (point_tag p) n
 unfolding encoding
-length-enc n identity = refl
-length-enc n p = grind (arith, length-both, length-fixed_width)
+length-enc n p = grind (arith, length-append {A = ℕ}, length-fixed_width)
 
-message_len-le : (tag : Tag) (n : ℕ) → message_len tag n ≤ 2 * n + 1
-message_len-le tags.Identity n = omega arith
-message_len-le tag n = omega arith
+pub ruleset tag_facts = (byte_of-injective, byte_of-tag_of)
 
+-- No encoding is longer than that of both coordinates.
 pub length-enc-le : (n : ℕ) (p : Point) → length (encoding n p) ≤ 2 * n + 1
-length-enc-le n p = omega (arith, length-enc n p, message_len-le (point_tag p) n)
+length-enc-le n p = rw (length-enc n p) (grind arith)
 
-tag_byte-small : (p : Point) → tag_byte p < 256
-tag_byte-small identity = omega arith
-tag_byte-small p = grind arith
-
-IsBytes-coordinates : (n : ℕ) (p : Point) → IsBytes (coordinate_bytes n p)
-IsBytes-coordinates n identity = IsBytes-nil
-IsBytes-coordinates n (compact x) = IsBytes-fixed_width n x
-IsBytes-coordinates n (compressed x odd) = IsBytes-fixed_width n x
-IsBytes-coordinates n (uncompressed x y) = IsBytes-append (fixed_width n x) (fixed_width n y) (IsBytes-fixed_width n x) (IsBytes-fixed_width n y)
-IsBytes-coordinates n (hybrid x y) = IsBytes-append (fixed_width n x) (fixed_width n y) (IsBytes-fixed_width n x) (IsBytes-fixed_width n y)
-
+-- An encoding is bytes.
 pub IsBytes-enc : (n : ℕ) (p : Point) → IsBytes (encoding n p)
 unfolding encoding
-IsBytes-enc n p = IsBytes-cons (tag_byte p) (coordinate_bytes n p) (tag_byte-small p) (IsBytes-coordinates n p)
+IsBytes-enc n p zero = grind arith
+IsBytes-enc n p (suc i) = grind (arith, IsBytes-fixed_width, IsBytes-append)
 
 -- No encoding begins another.
 pub no_beginning : (n : ℕ) (p q : Point) → IsProperBeginning (encoding n p) (encoding n q) → ⊥
 unfolding encoding
 no_beginning n p q begins =
-    let rest = begins.more in
-    let byte : tag_byte q ≡ tag_byte p = ap (λ (bs : List ℕ). get_or bs 0 0) begins.split in
-    let same : message_len (point_tag q) n ≡ message_len (point_tag p) n = rw (tag_of-byte (point_tag q) p (byte_of-tag_of q ∙ byte)) refl in
-    begins.some (nil_from_length rest (omega (arith, ap length begins.split, length-append (encoding n p) rest, length-enc n p, length-enc n q)))
+    let same = tag_of-byte (point_tag q) p in
+    let end = nil_from_length begins.more in
+    grind (arith, begins.some, begins.split, same, byte_of-tag_of q, end, append-nil {A = ℕ}, length-append {A = ℕ}, length-enc n p, length-enc n q)
 
 -- ---- what encodings mean
-
-num_first : (n x : ℕ) (r : List ℕ) → x < 256 ^ n → number_of (take n (fixed_width n x ++ r)) ≡ x
-num_first n x r h = rw (take_at (fixed_width n x) r n (length-fixed_width n x)) (num-fixed_width n x h)
-
-num_second : (n x y : ℕ) (r : List ℕ) → y < 256 ^ n → number_of (take n (drop n (fixed_width n x ++ fixed_width n y ++ r))) ≡ y
-num_second n x y r h =
-    let behind = drop_at (fixed_width n x) (fixed_width n y ++ r) n (length-fixed_width n x) in
-    rw (append_assoc (fixed_width n x) (fixed_width n y) r, behind) (num_first n y r h)
 
 -- An encoding means its point, whatever follows it.
 pub meaning-enc-append : (n : ℕ) (p : Point) (r : List ℕ) → IsPoint n p → meaning n (encoding n p ++ r) ≡ p
 unfolding encoding meaning
-meaning-enc-append n identity r h = refl
-meaning-enc-append n p r h = grind (arith, num_first, num_second, append_assoc {A = ℕ})
+meaning-enc-append n p r h = grind (arith, take_at {A = ℕ}, drop_at {A = ℕ}, append_assoc {A = ℕ}, length-fixed_width, num-fixed_width)
 
+-- An encoding means its point.
 pub meaning-enc : (n : ℕ) (p : Point) → IsPoint n p → meaning n (encoding n p) ≡ p
 meaning-enc n p h = rw append-nil at (meaning-enc-append n p [] h)
-
-num-take-fits : (n : ℕ) (bs : List ℕ) → IsBytes bs → number_of (take n bs) < 256 ^ n
-num-take-fits n bs h =
-    let wide : 256 ^ length (take n bs) ≤ 256 ^ n = pow-le-pow_right (omega arith) (omega (arith, length-take n bs)) in
-    omega (arith, num-below (take n bs) (IsBytes-take n bs h))
 
 -- Bytes mean a point of their size.
 pub meaning-fits : (n : ℕ) (bs : List ℕ) → IsBytes bs → IsPoint n (meaning n bs)
 unfolding meaning
 meaning-fits n [] h = tt
 meaning-fits n (tag ∷ rest) h =
-    let x = num-take-fits n rest (IsBytes-tail tag rest h) in
-    let y = num-take-fits n (drop n rest) (IsBytes-drop n rest (IsBytes-tail tag rest h)) in
+    let x = num-below n (take n rest) (IsBytes-take n rest (λ i. h (suc i))) (omega (arith, length-take {A = ℕ})) in
+    let y = num-below n (take n (drop n rest)) (IsBytes-take n (drop n rest) (IsBytes-drop n rest (λ i. h (suc i)))) (omega (arith, length-take {A = ℕ})) in
     grind (arith, x, y)
 
 -- ---- the tests of a reader
@@ -122,66 +78,36 @@ meaning-fits n (tag ∷ rest) h =
 abbrev pub Skips : ℕ → Tag → List ℕ → Type 0
 Skips n tag rest = (suc (length rest) ≡ message_len tag n) × (is_hybrid tag ≡ true → get_or rest (length rest - 1) 0 % 2 ≡ byte_of tag % 2)
 
-spelled_x : (n : ℕ) (rest : List ℕ) → IsBytes rest → length rest ≡ n → fixed_width n (number_of (take n rest)) ≡ rest
-spelled_x n rest h e = rw (take_all n rest (omega arith)) (fixed_width-num n rest h e)
-
 -- Behind the first half is the second.
-half : (n : ℕ) (rest : List ℕ) → length rest ≡ 2 * n → take n (drop n rest) ≡ drop n rest
+pub half : (n : ℕ) (rest : List ℕ) → length rest ≡ 2 * n → take n (drop n rest) ≡ drop n rest
 half n rest e = take_all n (drop n rest) (omega (arith, length-drop n rest))
 
 spelled_xy : (n : ℕ) (rest : List ℕ) → IsBytes rest → length rest ≡ 2 * n
     → fixed_width n (number_of (take n rest)) ++ fixed_width n (number_of (take n (drop n rest))) ≡ rest
 spelled_xy n rest h e =
-    let x = fixed_width-num n (take n rest) (IsBytes-take n rest h) (omega (arith, length-take n rest)) in
-    let y = fixed_width-num n (drop n rest) (IsBytes-drop n rest h) (omega (arith, length-drop n rest)) in
-    rw (half n rest e, x, y) (take-append-drop n rest)
+    let x = fixed_width-num n (take n rest) (IsBytes-take n rest h) in
+    let y = fixed_width-num n (drop n rest) (IsBytes-drop n rest h) in
+    grind (arith, x, y, half n rest e, take-append-drop n rest, length-take {A = ℕ}, length-drop {A = ℕ})
 
 -- The last byte has the parity of the second half.
 parity_rest : (n : ℕ) (rest : List ℕ) → 1 ≤ n → length rest ≡ 2 * n → get_or rest (length rest - 1) 0 % 2 ≡ number_of (take n (drop n rest)) % 2
-parity_rest n rest some e =
-    let len = length-drop n rest in
-    let at : n + (length (drop n rest) - 1) ≡ length rest - 1 = omega arith in
-    rw (half n rest e, parity_of_last (drop n rest) (omega arith), get_or-drop, at) refl
+parity_rest n rest some e = grind (arith, half n rest e, parity_of_last (drop n rest), get_or-drop {A = ℕ}, length-drop n rest)
 
 -- What passes is spelled so.
 passes_spelled : (n : ℕ) (tag : Tag) (rest : List ℕ) → 1 ≤ n → IsBytes rest → Skips n tag rest
     → encoding n (meaning n (byte_of tag ∷ rest)) ≡ byte_of tag ∷ rest
 unfolding encoding meaning
-passes_spelled n tags.Identity rest some h p = rw (nil_from_length rest (omega (arith, p.0))) refl
-passes_spelled n tags.Uncompressed rest some h p = rw (spelled_xy n rest h (omega (arith, p.0))) refl
-passes_spelled n tags.HybridEvenY rest some h p =
-    let long : length rest ≡ 2 * n = omega (arith, p.0) in
-    let even : is_odd (number_of (take n (drop n rest))) ≡ false = grind (arith, parity_rest n rest some long, p.1 refl) in
-    rw (even, spelled_xy n rest h long) refl
-passes_spelled n tags.HybridOddY rest some h p =
-    let long : length rest ≡ 2 * n = omega (arith, p.0) in
-    let odd : is_odd (number_of (take n (drop n rest))) ≡ true = grind (arith, parity_rest n rest some long, p.1 refl) in
-    rw (odd, spelled_xy n rest h long) refl
-passes_spelled n tag rest some h p = rw (spelled_x n rest h (omega (arith, p.0))) refl
-
-hybrid_parity : (n x y : ℕ) → 1 ≤ n → y < 256 ^ n
-    → get_or (fixed_width n x ++ fixed_width n y) (length (fixed_width n x ++ fixed_width n y) - 1) 0 % 2 ≡ cond (is_odd y) 7 6 % 2
-hybrid_parity n x y some h =
-    let number = rw append-nil at (num_second n x y [] h) in
-    let parity : y % 2 ≡ cond (is_odd y) 7 6 % 2 = grind arith in
-    parity_rest n (fixed_width n x ++ fixed_width n y) some (length-both n x y) ∙ rw number parity
-
-enc_parity : (n : ℕ) (p : Point) → 1 ≤ n → IsPoint n p → is_hybrid (point_tag p) ≡ true
-    → get_or (coordinate_bytes n p) (length (coordinate_bytes n p) - 1) 0 % 2 ≡ tag_byte p % 2
-enc_parity n (hybrid x y) some h t = hybrid_parity n x y some h.1
-enc_parity n p some h t = grind arith
-
-encoding_passes : (n : ℕ) (tag : Tag) (rest : List ℕ) → 1 ≤ n → IsEncoding n (byte_of tag ∷ rest) → Skips n tag rest
-unfolding encoding
-encoding_passes n tag rest some e =
-    let p = e.of in
-    let byte : byte_of tag ≡ tag_byte p = cc (e.spelled) in
-    let others : rest ≡ coordinate_bytes n p = cc (e.spelled) in
-    rw (tag_of-byte tag p byte, others) (length-enc n p, λ h. rw (byte_of-tag_of p) (enc_parity n p some e.fits h))
+passes_spelled n tag rest some h p =
+    grind (arith, nil_from_length rest, take_all n rest, fixed_width-num n rest h, spelled_xy n rest h, parity_rest n rest some)
 
 -- An encoding is that of its meaning.
 pub encoding_spelled : (n : ℕ) (bs : List ℕ) → IsEncoding n bs → encoding n (meaning n bs) ≡ bs
 encoding_spelled n bs e = rw e.spelled (ap (encoding n) (meaning-enc n e.of e.fits))
+
+encoding_passes : (n : ℕ) (tag : Tag) (rest : List ℕ) → 1 ≤ n → IsEncoding n (byte_of tag ∷ rest) → Skips n tag rest
+unfolding encoding meaning
+encoding_passes n tag rest some e =
+    grind (arith, encoding_spelled n (byte_of tag ∷ rest) e, length-enc n e.of, tag_of-byte tag e.of, parity_rest n rest some, e.spelled)
 
 -- The bytes behind a tag pass exactly where both are an encoding.
 pub passing_encodings : (n : ℕ) (tag : Tag) (rest input : List ℕ) → 1 ≤ n → IsBytes input → input ≡ byte_of tag ∷ rest → Skips n tag rest ↔ IsEncoding n input
@@ -190,16 +116,7 @@ passing_encodings n tag rest input some h is =
       λ p. record {
         of = meaning n input;
         fits = meaning-fits n input h;
-        spelled = rw is (sym (passes_spelled n tag rest some (IsBytes-tail (byte_of tag) rest bytes) p));
+        spelled = rw is (sym (passes_spelled n tag rest some (λ i. bytes (suc i)) p));
       },
       λ e. encoding_passes n tag rest some (rw is at e),
     )
-
--- The first byte of an encoding is some tag's, and there is one.
-pub encoding_tag : (n first : ℕ) (rest input : List ℕ) → input ≡ first ∷ rest → IsEncoding n input → byte_of (point_tag (meaning n input)) ≡ first
-unfolding encoding
-encoding_tag n first rest input is e = byte_of-tag_of (meaning n input) ∙ cc (encoding_spelled n input e ∙ is)
-
-pub encoding_some : (n : ℕ) (input : List ℕ) → length input ≡ 0 → IsEncoding n input → ⊥
-unfolding encoding
-encoding_some n input none e = absurd (omega (arith, ap length e.spelled))

@@ -1,12 +1,9 @@
 -- Which points tie, and which are less than others.
-use Rattle.std.proofs.Common.{◌≡◌, ℕ, ◌<◌, ◌==◌, ◌||◌, Bool, true, false, Option, None, is_some, refl, arith}
-use Rattle.std.specs.Prelude.{nat_lt, ◌↔◌}
-use Rattle.std.specs.declared.cmp.Ordering.TheVariants.{Less, Equal, Greater}
-use Rattle.std.specs.Ordering.{nat_cmp}
+use Rattle.std.proofs.Common.{◌≡◌, ℕ, ◌<◌, Bool, true, false, arith, ◌↔◌, Less, Equal, Greater, nat_cmp}
 use Rattle.std.proofs.lemmas.Cmp.{tied_itself}
-use Rattle.sec1.specs.Points.{Point, identity, tag_byte, x_of, y_of}
-use Rattle.sec1.specs.PointOrder.{IsLess, IsBelow, or_zero, point_cmp, same_point}
-use Rattle.sec1.specs.PointOrderLaws.{point_cmp_total, same_point-true}
+use Rattle.sec1.specs.Points.{Point}
+use Rattle.sec1.specs.PointOrder.{IsBelow, point_cmp, same_point}
+use Rattle.sec1.specs.PointOrderLaws.{point_cmp_total, same_point-true, point_cmp-Equal}
 
 -- The same point ties.
 pub Equal-point_cmp : (p q : Point) → p ≡ q → point_cmp p q ≡ Equal
@@ -17,40 +14,22 @@ pub decides_same : (r : Bool) (p q : Point) → ((r ≡ true) ↔ (p ≡ q)) →
 decides_same true p q h = grind (arith, Equal-point_cmp)
 decides_same false p q h = grind (arith, same_point-true)
 
--- Tag bytes say which coordinates there are.
-has_x : (p : Point) → is_some (x_of p) ≡ nat_lt 0 (tag_byte p)
-has_x identity = refl
-has_x p = grind arith
-
-has_y : (p : Point) → is_some (y_of p) ≡ (tag_byte p == 4 || nat_lt 5 (tag_byte p))
-has_y identity = refl
-has_y p = grind arith
-
--- Where both coordinates are there, or neither, they are compared as numbers.
-IsLess-numbers : (o u : Option ℕ) → is_some o ≡ is_some u → IsLess o u ↔ (or_zero o < or_zero u)
-IsLess-numbers None None h = (grind arith, grind arith)
-IsLess-numbers o u h = (grind arith, grind arith)
-
-same_numbers : (o u : Option ℕ) → is_some o ≡ is_some u → or_zero o ≡ or_zero u → o ≡ u
-same_numbers None None h e = refl
-same_numbers o u h e = grind arith
-
 -- The order of numbers, as an equation.
 nat_cmp-Less : (a b : ℕ) → (nat_cmp a b ≡ Less) ↔ (a < b)
 nat_cmp-Less a b = (λ h. grind arith, λ h. grind arith)
 
+-- Numbers tie only where they are the same.
 pub nat_cmp-Equal : (a b : ℕ) → (nat_cmp a b ≡ Equal) ↔ (a ≡ b)
 nat_cmp-Equal a b = (λ h. grind arith, λ h. grind arith)
 
+-- A point is less than those that it stands below.
 pub less_below : (p q : Point) → (point_cmp p q ≡ Less) ↔ IsBelow p q
 unfolding point_cmp
-less_below p q = (
-  λ h. grind (arith, nat_cmp-Less, nat_cmp-Equal, has_x, has_y, IsLess-numbers, same_numbers),
-  λ h. grind (arith, nat_cmp-Less, nat_cmp-Equal, has_x, has_y, IsLess-numbers, same_numbers),
-)
+less_below p q = grind (arith, nat_cmp-Less, nat_cmp-Equal)
 
+-- A point is greater than those that stand below it.
 pub greater_below : (p q : Point) → (point_cmp p q ≡ Greater) ↔ IsBelow q p
-greater_below p q = (
-  λ h. (less_below q p).0 (grind (arith, point_cmp_total.antisymm p q)),
-  λ h. let below = (less_below q p).1 h in grind (arith, point_cmp_total.antisymm p q),
-)
+greater_below p q = grind (arith, less_below q p, point_cmp_total.antisymm p q)
+
+-- What the order of two points says.
+pub ruleset orders = (less_below, greater_below, point_cmp-Equal, Equal-point_cmp)

@@ -102,6 +102,7 @@ impl<const N: usize, const L: usize> EncodedPoint<N, L> {
     }
 
     /// Returns the uncompressed point with these coordinates, of N bytes each.
+    #[tactic(auto, using(crate::proofs::EncodedPointLemmas::halves_hold))]
     fn from_halves(x: &[u8], y: &[u8]) -> Self
         requires sizes { Fits N L }
         requires x_len { length x.now ≡ N }
@@ -279,6 +280,7 @@ impl<const N: usize, const L: usize> EncodedPoint<N, L> {
 }
 
 /// Returns `true` if the input is the encoding of a point for field elements of n bytes.
+#[tactic(auto, using(crate::proofs::PointLemmas::passing_encodings))]
 fn is_encoding(input: &[u8], n: usize) -> bool
     requires positive { 1 ≤ n }
     requires fits { 2 * n + 1 < 2 ^ 64 }

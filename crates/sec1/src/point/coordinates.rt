@@ -108,7 +108,7 @@ impl<const N: usize> PartialEq for Coordinates<'_, N> {
 
     ghost laws = { partial_equiv_from_equiv same_parts_equiv };
 
-    #[tactic(auto, using(crate::proofs::CoordinateLemmas::eq_first))]
+    #[tactic(auto, using(crate::proofs::CoordinateLemmas::compared_coordinates))]
     fn eq(&self, other: &Self) -> bool {
         match (*self, *other) {
             (Coordinates::Identity, Coordinates::Identity) => true,

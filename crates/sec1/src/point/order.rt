@@ -71,6 +71,7 @@ impl<const N: usize, const L: usize> Ord for EncodedPoint<N, L> {
 }
 
 /// Compares the bytes, eight at a time.
+#[tactic(auto, using(crate::proofs::ByteOrderLemmas::word_steps))]
 fn words_cmp(a: &[u8], b: &[u8]) -> Ordering
     ensures { result ≡ slice_cmp nat_cmp a.now b.now }
 {

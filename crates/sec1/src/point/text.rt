@@ -96,6 +96,7 @@ impl<const N: usize, const L: usize> EncodedPoint<N, L> {
 }
 
 /// Decodes two hexadecimal digits for each byte, and returns `true` if they are digits with letters of one case.
+#[tactic(auto, using(crate::proofs::HexLemmas::decoded))]
 fn decode_digits(text: &[u8], out: &mut [u8]) -> bool
     requires { length out.old ≡ length text.now / 2 }
     ensures decoded { IsTrue result → IsHexOf text.now out.new × IsBytes out.new }

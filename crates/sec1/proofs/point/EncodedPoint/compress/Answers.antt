@@ -1,7 +1,5 @@
-use Rattle.std.proofs.Common.{◌∙◌, ap}
-use Rattle.sec1.specs.EncodedPoints.{point_of}
-use Rattle.sec1.specs.Points.{x_of}
-use Rattle.sec1.proofs.EncodedPointLemmas.{compressed_holds, x_of-compressed_point, compressed_point-twice}
+use Rattle.std.proofs.Common.{arith}
+use Rattle.sec1.proofs.EncodedPointLemmas.{compressed_holds}
 use Rattle.sec1.proofs.point.EncodedPoint.compress.Goals as goal
 
 pub invariant_of-result-clause-encoded : goal.invariant_of-result-clause-encoded
@@ -10,8 +8,4 @@ invariant_of-result-clause-encoded g c = (compressed_holds c.args.self.now _ c.c
 pub returns : goal.returns
 returns g c =
     let point = (compressed_holds c.args.self.now _ c.compressed_front-tag.ensures.front).means in
-    record {
-      point = point;
-      same_x = ap x_of point ∙ x_of-compressed_point (point_of c.args.self.now);
-      once = rw point (compressed_point-twice (point_of c.args.self.now));
-    }
+    record { point = point; same_x = grind arith; once = grind arith }

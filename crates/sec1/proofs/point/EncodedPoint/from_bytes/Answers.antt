@@ -1,24 +1,13 @@
-use Rattle.std.proofs.Common.{◌∙◌, ◌≡◌, ◌++◌, length, take, drop, replicate, ap, ℕ}
-use Rattle.std.proofs.lemmas.List.{take_at}
-use Rattle.sec1.proofs.EncodedPointLemmas.{encoding_room, read_bytes}
+use Rattle.std.proofs.Common.{ℕ, length, drop, replicate, ap, take_at, arith}
+use Rattle.sec1.proofs.EncodedPointLemmas.{read_bytes}
 use Rattle.sec1.proofs.PointLemmas.{encoding_spelled}
 use Rattle.sec1.proofs.point.EncodedPoint.from_bytes.Goals as goal
-use Rattle.sec1.proofs.point.EncodedPoint.from_bytes.Goals.{After-copy_from_slice}
 
--- The buffer begins with the input.
-front : (g : _) (c : After-copy_from_slice g)
-    → take (length c.args.input.now) (c.copy_from_slice.new.self ++ drop (length c.args.input.now) (replicate {A = ℕ} g.row.L 0)) ≡ c.args.input.now
-front g c = take_at _ _ (length c.args.input.now) (ap length c.copy_from_slice.ensures.after) ∙ c.copy_from_slice.ensures.after
-
-pub invariant_of-result : goal.invariant_of-result
-invariant_of-result g c =
-    let encoding = c.is_encoding.ensures.0 c.if-not-is_encoding.false in
-    let fits = c.fits.ensures.0 c.if-not-fits.false in
-    record {
-      sizes = fits;
-      room = encoding_room g.row.N g.row.L c.args.input.now fits encoding;
-      encoded = rw (front g (goal.at.invariant_of-result g c).After-copy_from_slice) (encoding_spelled g.row.N c.args.input.now encoding);
-    }
+pub invariant_of-result-clause-encoded : goal.invariant_of-result-clause-encoded
+invariant_of-result-clause-encoded g c =
+    let len = length c.args.input.now in
+    let front = take_at c.copy_from_slice.new.self (drop len (replicate {A = ℕ} g.row.L 0)) len (ap length c.copy_from_slice.ensures.after) in
+    rw (front, c.copy_from_slice.ensures.after) (encoding_spelled g.row.N c.args.input.now (c.is_encoding.ensures.0 c.if-not-is_encoding.false))
 
 pub returns : goal.returns
-returns g c = read_bytes c.args.input.now _ (front g (goal.at.returns g c).After-copy_from_slice) (c.is_encoding.ensures.0 c.if-not-is_encoding.false)
+returns g c = read_bytes c.args.input.now _ (grind (arith, take_at {A = ℕ})) (c.is_encoding.ensures.0 c.if-not-is_encoding.false)

@@ -1,19 +1,17 @@
-use Rattle.std.proofs.Common.{◌∙◌, arith, ◌≡◌, ◌≤◌, ◌/◌, ℕ, List, length, drop, replicate, refl, rules}
-use Rattle.std.proofs.lemmas.List.{take_at, length-take, length-replicate}
-use Rattle.sec1.specs.Points.{Point, Fits, encoding}
-use Rattle.sec1.specs.HexTexts.{IsHexOf}
+use Rattle.std.proofs.Common.{◌∙◌, arith, ◌≡◌, ◌≤◌, ◌/◌, ℕ, length, drop, replicate, refl, rules, take_at, length-take}
+use Rattle.std.proofs.lemmas.List.{length-replicate}
+use Rattle.sec1.specs.Points.{encoding}
 use Rattle.sec1.proofs.PointLemmas.{IsBytes-enc, length-enc-le}
 use Rattle.sec1.proofs.HexLemmas.{text_len}
 use Rattle.sec1.proofs.point.EncodedPoint.from_digits.Goals as goal
 
--- A text of an encoding is at most twice as long as the buffer.
-sized : (n l : ℕ) (p : Point) (text : List ℕ) → Fits n l → IsHexOf text (encoding n p) → length text / 2 ≤ l
-sized n l p text fit h = omega (arith, fit.1, text_len text (encoding n p) h, length-enc-le n p)
-
 pub returns-then-len : goal.returns-then-len
 returns-then-len g c = record {
   found = tt;
-  only = λ p fit _ spelled. grind (arith, sized g.row.N g.row.L p c.args.text.now fit spelled, IsBytes-enc g.row.N p, spelled);
+  only = λ p fit _ spelled.
+      let bytes = encoding g.row.N p in
+      let room : length c.args.text.now / 2 ≤ g.row.L = omega (arith, fit.1, text_len c.args.text.now bytes spelled, length-enc-le g.row.N p) in
+      grind (arith, IsBytes-enc g.row.N p, spelled);
   kind = refl;
 }
 
@@ -21,13 +19,11 @@ pub returns : goal.returns
 returns g c =
     let half = length c.args.text.now / 2 in
     let buffer = replicate {A = ℕ} g.row.L 0 in
-    let out = c.decode_digits.new.out in
-    let len : length out ≡ half = omega (arith, length-take half buffer, length-replicate {A = ℕ} g.row.L 0) in
-    let front = take_at out (drop half buffer) half len in
+    let len : length c.decode_digits.new.out ≡ half = omega (arith, length-take half buffer, length-replicate {A = ℕ} g.row.L 0) in
+    let front = take_at c.decode_digits.new.out (drop half buffer) half len in
     record {
       found = search rules;
       only = λ p fit fits spelled.
-          let decoded = c.decode_digits.ensures.only (encoding g.row.N p) (IsBytes-enc g.row.N p) spelled in
-          c.from_bytes.ensures.only p fit fits (front ∙ decoded.1);
+          c.from_bytes.ensures.only p fit fits (front ∙ (c.decode_digits.ensures.only (encoding g.row.N p) (IsBytes-enc g.row.N p) spelled).1);
       kind = c.from_bytes.ensures.kind;
     }

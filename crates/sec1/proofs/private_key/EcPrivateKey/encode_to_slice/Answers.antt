@@ -1,4 +1,4 @@
-use Rattle.sec1.proofs.KeyLemmas.{key_written, key_found_with}
+use Rattle.sec1.proofs.KeyLemmas.{key_found_with, key_written}
 use Rattle.sec1.proofs.private_key.EcPrivateKey.encode_to_slice.Goals as goal
 
 pub returns-in_err-encode_to_slice-clause-fits : goal.returns-in_err-encode_to_slice-clause-fits

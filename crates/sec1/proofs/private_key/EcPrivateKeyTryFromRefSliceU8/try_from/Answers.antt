@@ -1,19 +1,53 @@
+use Rattle.std.proofs.Common.{◌≡◌, Ok, refl, [], ◌++◌, sym, ap, ◌∙◌}
 use Rattle.std.proofs.lemmas.Result.{err_from_is_err_and}
+use Rattle.sec1_der.specs.declared.error.Error.{Error as DerError}
+use Rattle.sec1_der.specs.declared.error.ErrorKind.{ErrorKind}
+use Rattle.sec1_der.specs.declared.error.ErrorKind.TheVariants.{Memory as DerMemory}
+use Rattle.sec1.specs.Der.{IsReadingFault}
+use Rattle.sec1.specs.Errors.{error_of_kind}
+use Rattle.sec1.specs.declared.error.Error.TheVariants.{Asn1}
+use Rattle.sec1_der.proofs.ElementLemmas.{element_of-some}
 use Rattle.sec1.specs.KeyRefusals.{key_fault}
-use Rattle.sec1.proofs.ReadLemmas.{key_read, key_refused}
+use Rattle.sec1.specs.Keys.{key_tree, fields_of}
+use Rattle.sec1.proofs.KeyLemmas.{key_content, key_found, key_written}
 use Rattle.sec1.proofs.private_key.EcPrivateKeyTryFromRefSliceU8.try_from.Goals as goal
+
+-- A fault of reading stays an error of DER.
+asn1 : (kind : ErrorKind) (cause : DerError) → IsReadingFault kind → error_of_kind kind cause ≡ Asn1 cause
+asn1 DerMemory cause fault = absurd fault
+asn1 kind cause fault = refl
 
 pub returns-in_err-from_der : goal.returns-in_err-from_der
 unfolding key_fault
 returns-in_err-from_der c =
     let answered = err_from_is_err_and c.from_residual.result c.from_residual.ensures.1 in
     let from_der = c.in_err-from_der.ensures in
-    rw (answered.1, answered.2)
-    (key_refused c.args.bytes.now c.in_err-from_der.field-0.0 from_der.only_value from_der.short from_der.long_value from_der.kinds from_der.kind)
+    let cause = c.in_err-from_der.field-0.0 in
+    rw (answered.1, answered.2, asn1 cause.kind cause from_der.kinds) (record {
+      found = tt;
+      only = λ key is. absurd (from_der.only_value key (key_written key c.args.bytes.now is));
+      one_tree = tt;
+      kinds = from_der.kinds;
+      kind = from_der.kind;
+      short = λ key bytes is begins. from_der.short (fields_of key) is.tree.tree.2 (rw is.tree.whole at begins);
+      long = λ key bytes is begins. from_der.long_value key bytes (key_written key bytes is) begins;
+    })
 
 pub returns : goal.returns
 unfolding key_fault
 returns c =
+    let input = c.args.bytes.now in
+    let key = c.in_ok-from_der.field-0 in
     let from_der = c.in_ok-from_der.ensures in
-    key_read c.args.bytes.now c.in_ok-from_der.field-0 c.trees_unique.ensures c.one_key.ensures from_der.found_value from_der.only_value from_der.short
-    from_der.long_value from_der.kind
+    let found = key_found key input from_der.found_value in
+    record {
+      found = found;
+      only = λ other at.
+          let there = element_of-some 0x30 (key_content other) input (key_written other input at) in
+          ap Ok (c.one_key.ensures key other there.inside (from_der.only_value other (key_written other input at) ∙ there.same) there.same);
+      one_tree = λ t at. (c.trees_unique.ensures t (key_tree key) [] [] at.tree found.tree.tree (ap (λ xs. xs ++ []) (sym at.whole ∙ found.tree.whole))).0;
+      kinds = tt;
+      kind = from_der.kind;
+      short = λ other bytes at begins. absurd (from_der.short (fields_of other) at.tree.tree.2 (rw at.tree.whole at begins));
+      long = λ other bytes at begins. absurd (from_der.long_value other bytes (key_written other bytes at) begins);
+    }
