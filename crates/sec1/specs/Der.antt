@@ -4,7 +4,7 @@ pub use Rattle.sec1_der.specs.Components.{join}
 pub use Rattle.sec1_der.specs.Contents.{IsVersionOne, AreBits, IsBitString}
 pub use Rattle.sec1_der.specs.Contents.{byte_fault, identifier_fault, bit_string_fault, is_bit_string, whole_bits_fault, value_unless}
 pub use Rattle.sec1_der.specs.Elements.{max_length, IsTag, IsConstructed, length_octets, header, IsHeader, element, IsElementOf, IsElement, LacksHeader}
-pub use Rattle.sec1_der.specs.Elements.{IsProperBeginning, IsOverlong, element_of, field_of}
+pub use Rattle.sec1_der.specs.Elements.{IsProperBeginning, IsOverlong, explicit_tag, element_of, field_of}
 pub use Rattle.sec1_der.specs.Faults.{Refuses, IsReadingFault, IsHeaderFault, IsTreeFault, IsIoOrMemory, header_fault}
 pub use Rattle.sec1_der.specs.Identifiers.{IsIdentifier, IsIdentifierContent, content_of, identifier_content, dotted}
 pub use Rattle.sec1_der.specs.Numbers.{number_of}
@@ -16,4 +16,5 @@ pub use Rattle.sec1_der.specs.StdStreams.{reader_failed, reader_inner, writer_fa
 pub use Rattle.sec1_der.specs.Streams.{AppendsBeginning}
 pub use Rattle.sec1_der.specs.Trees.{Tree, Forest, leaf, node, bytes, IsTree, IsTreeOf, depth, size}
 pub use Rattle.sec1_der.specs.TreeLaws.{BytesDetermineTree, BytesDetermineRow, NoTreeBeginsAnother}
+pub use Rattle.sec1_der.specs.declared.tree.TheConstants.{MAX_DEPTH}
 pub use Rattle.sec1_der.specs.Values.{octets_of, unused_bits_of, bit_bytes_of, tag_of, value_of}

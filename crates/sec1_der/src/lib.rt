@@ -52,7 +52,7 @@ pub use slice_writer::SliceWriter;
 pub use std_stream::{StdReader, StdWriter};
 pub use stream::{IoFault, Read, Write};
 pub use tag::Tag;
-pub use tree::check_tree;
+pub use tree::{MAX_DEPTH, check_tree};
 pub use unique::{UniqueContent, UniqueRecord, read_der};
 pub use value::{DecodeValue, EncodeValue, FixedTag, Sequence, ValueContent};
 pub use version::VersionOne;

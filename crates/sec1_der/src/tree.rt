@@ -11,8 +11,8 @@ use crate::header::element_at;
 use crate::{ErrorKind, Result};
 use std::marker::Model;
 
-/// The greatest number of nested elements.
-const MAX_DEPTH: usize = 64;
+/// The greatest depth of a tree that [`check_tree`] accepts.
+pub const MAX_DEPTH: usize = 64;
 
 /// Checks that the input is one tree of elements with at most 64 levels, and returns their number. The content of an
 /// element with a constructed tag is elements again, and nothing else (X.690 section 8.1.2.5). Allocates no memory.
