@@ -19,18 +19,10 @@ use Rattle.sec1_der.specs.declared.error.ErrorKind.{ErrorKind}
 use Rattle.sec1_der.specs.declared.error.ErrorKind.TheVariants.{Truncated, Tag, TrailingData}
 use Rattle.sec1_der.proofs.DigitLemmas.{IsBytes}
 use Rattle.sec1_der.proofs.HeaderLemmas.{is_tag-true}
+use Rattle.sec1_der.proofs.LengthLemmas.{number_spelled}
+use Rattle.std.proofs.lemmas.Bool.Decides.{nat_tests}
 
 -- ---- lengths
-
--- what a length spells is its number
-number_spelled : (n : ℕ) (rest : List ℕ) → number_at (length_octets n ++ rest) ≡ n
-unfolding length_octets
-number_spelled n rest =
-    let digits = digits_of 256 n in
-    let k = 0x80 + length digits in
-    cond_both (nat_lt n 0x80) (n ∷ []) (k ∷ digits) (λ spelled. number_at (spelled ++ rest) ≡ n)
-    (λ e. rw e refl)
-    (λ e. rw (le-ltb k 0x80 (omega arith), take_at digits rest (k - 0x80) (omega arith), number_digits_of 256 n (omega arith)) refl)
 
 -- the length that the bytes begin with is found, and what stands behind it
 length_at_spelled : (n : ℕ) (rest : List ℕ) → n ≤ max_length → length_at (length_octets n ++ rest) ≡ Ok (n, rest)
@@ -43,13 +35,14 @@ pub length_at_lacks : (bytes : List ℕ) → ((n : ℕ) (rest : List ℕ) → n 
     → length_at bytes ≡ Err (length_fault bytes)
 length_at_lacks bytes lacks =
     let n = number_at bytes in
-    let front = take (length (length_octets n)) bytes in
-    let behind = drop (length (length_octets n)) bytes in
-    cond_both (nat_le n max_length && bytes_eq front (length_octets n)) (Ok (n, behind)) (Err (length_fault bytes)) (λ found. found ≡ Err (length_fault bytes))
+    let octets = length_octets n in
+    let behind = drop (length octets) bytes in
+    ⊎_elim
     (λ e. let parts = and_parts _ _ e in
-    let spelled = (bytes_eq-Decides front (length_octets n)).0 parts.1 in
-    absurd (lacks n behind (leb-true n max_length parts.0) (sym (take-append-drop (length (length_octets n)) bytes) ∙ ap (λ xs. xs ++ behind) spelled)))
-    (λ e. refl)
+    let spelled = (bytes_eq-Decides (take (length octets) bytes) octets).0 parts.1 in
+    absurd (lacks n behind (leb-true n max_length parts.0) (sym (take-append-drop (length octets) bytes) ∙ ap (λ xs. xs ++ behind) spelled)))
+    (λ e. rw e refl)
+    (cases_Bool (nat_le n max_length && bytes_eq (take (length octets) bytes) octets))
 
 -- ---- elements
 
@@ -65,31 +58,29 @@ pub any_room : (f : ℕ → Fault) (g : Fault) (tag n : ℕ) (bytes inside : Lis
 any_room f g tag n bytes inside h e fits =
     rw (e, is_tag-true tag h.tag_byte, length_at_spelled n inside h.within, le-leb n (length inside) fits) refl
 
+-- the fault behind the first byte of an element is that of its content, or else of the bytes behind it
+parts_at : (f g : Fault) (content rest : List ℕ) → length content ≤ max_length
+    → parts_fault f g (within (length_at ((length_octets (length content) ++ content) ++ rest))) ≡ option_or (f content) (g rest)
+parts_at f g content rest fits =
+    let n = length content in
+    let room = le-leb n (length (content ++ rest)) (omega (arith, length-append content rest)) in
+    rw (append_assoc (length_octets n) content rest, length_at_spelled n (content ++ rest) fits, room)
+    (rw (take-append_seam content rest, drop-append_seam content rest) refl)
+
 -- the fault of an element of any tag is that of its content, or else of the bytes behind it
 pub any_at : (f : ℕ → Fault) (g : Fault) (tag : ℕ) (content bytes rest : List ℕ) → IsHeader tag (length content) → bytes ≡ element tag content ++ rest
     → any_fault f g bytes ≡ option_or (f tag content) (g rest)
-any_at f g tag content bytes rest h e =
-    let n = length content in
-    any_room f g tag n bytes (content ++ rest) h (e ∙ append_assoc (header tag n) content rest) (omega (arith, length-append content rest))
-    ∙ rw (take-append_seam content rest, drop-append_seam content rest) refl
+any_at f g tag content bytes rest h e = rw (e, is_tag-true tag h.tag_byte) (parts_at (f tag) g content rest h.within)
 
 -- the same of an element with this tag
 pub element_at : (f g : Fault) (tag : ℕ) (content bytes rest : List ℕ) → length content ≤ max_length → bytes ≡ element tag content ++ rest
     → element_fault tag f g bytes ≡ option_or (f content) (g rest)
-element_at f g tag content bytes rest fits e =
-    let n = length content in
-    let room = le-leb n (length (content ++ rest)) (omega (arith, length-append content rest)) in
-    rw (e ∙ append_assoc (header tag n) content rest, eq-eqb tag tag refl, length_at_spelled n (content ++ rest) fits)
-    (rw (room, take-append_seam content rest, drop-append_seam content rest) refl)
+element_at f g tag content bytes rest fits e = rw (e, eq-eqb tag tag refl) (parts_at f g content rest fits)
 
 -- a byte that passes the test is a tag
 pub tag_from_test : (byte : ℕ) → byte < 256 → is_tag byte ≡ true → IsTag byte
 tag_from_test byte small e =
-    let parts = and_parts (not (byte == 0)) (not (byte % 32 == 31)) e in record {
-      byte = small;
-      not_end_of_contents = eqb-false byte 0 (not-true (byte == 0) parts.0);
-      not_high = eqb-false (byte % 32) 31 (not-true (byte % 32 == 31) parts.1);
-    }
+    record { byte = small; not_end_of_contents = λ zero. grind (arith, nat_tests); not_high = λ ones. grind (arith, nat_tests) }
 
 -- bytes that begin with no header are refused by the fault of their header, if the first is a byte
 pub any_headless : (f : ℕ → Fault) (g : Fault) (bytes : List ℕ) → get_or bytes 0 0 < 256 → LacksHeader bytes → any_fault f g bytes ≡ Some (header_fault bytes)
@@ -113,6 +104,18 @@ pub read_element : (f g : Fault) (tag : ℕ) (content : List ℕ) (old new : Rea
 read_element f g tag content old new h =
     element_at f g tag content old.unread new.unread h.within (ap (λ (r : Reader). r.unread) h.read.was_whole)
 
+-- a fault with none behind it is the fault
+pub alone : (o : Option ErrorKind) → option_or o None ≡ o
+alone None = refl
+alone (Some k) = refl
+
+-- where the content of an element was opened, the fault of the element is that of the content
+pub opened_element : (f : Fault) (tag opened : ℕ) (old new content : Reader) (found : Option ErrorKind)
+    → (content ≡ reader_over content.unread) × HasReadElement opened content.unread old new → opened ≡ tag
+    → (content.failed ≡ false → f content.unread ≡ found) → element_fault tag f no_fault old.unread ≡ found
+opened_element f tag opened old new content found is same kind =
+    read_element f no_fault tag content.unread old new (rw same at is.1) ∙ (alone _ ∙ kind (ap (λ (r : Reader). r.failed) is.0))
+
 -- two faults of an element are alike if those of its parts are
 element_alike : (Alike : Option ErrorKind → Option ErrorKind → Type 0) (f g h k : Fault) (tag : ℕ) (bytes : List ℕ)
     → ((kind : ErrorKind) → Alike (Some kind) (Some kind))
@@ -126,11 +129,6 @@ element_alike Alike f g h k tag (byte ∷ bytes) same parts = by (byte == tag) (
     by false found = same Tag
     by true (Err kind) = same kind
     by true (Ok x) = parts x.0 x.1
-
--- a fault with none behind it is the fault
-pub alone : (o : Option ErrorKind) → option_or o None ≡ o
-alone None = refl
-alone (Some k) = refl
 
 -- what is refused stays so where more is tested
 refused_more : (f h g : Fault) (tag : ℕ) (bytes : List ℕ) (k : ErrorKind) → ((content : List ℕ) → f content ≡ Some k → h content ≡ Some k)
@@ -196,11 +194,6 @@ document_long tag n bytes inside h e more =
 abbrev pub field_at : ℕ → Fault → Fault → Fault
 field_at number inside behind bytes = if is_next (0xA0 + number) bytes then element_fault (0xA0 + number) inside behind bytes else behind bytes
 
--- a tag is next where it is the first byte
-is_next_first : (tag : ℕ) (bytes : List ℕ) → slice_get bytes 0 ≡ Some tag → is_next tag bytes ≡ true
-is_next_first tag [] e = absurd (cc e)
-is_next_first tag (byte ∷ bytes) e = eq-eqb byte tag (cc e)
-
 -- a tag isn't next where it isn't the first byte
 is_next_other : (tag : ℕ) (bytes : List ℕ) → (slice_get bytes 0 ≡ Some tag → ⊥) → is_next tag bytes ≡ false
 is_next_other tag [] other = refl
@@ -209,19 +202,17 @@ is_next_other tag (byte ∷ bytes) other = ne_eqb byte tag (λ same. other (ap (
 -- a field that is refused stays so where more is tested of its content, and of the bytes behind it
 pub refused_field : (number : ℕ) (f h g : Fault) (bytes : List ℕ) (k : ErrorKind) → ((content : List ℕ) → f content ≡ Some k → h content ≡ Some k)
     → field_at number f no_fault bytes ≡ Some k → field_at number h g bytes ≡ Some k
-refused_field number f h g bytes k more = by (is_next (0xA0 + number) bytes)
-  where
-    by : (b : Bool) → (if b then element_fault (0xA0 + number) f no_fault bytes else None) ≡ Some k
-        → (if b then element_fault (0xA0 + number) h g bytes else g bytes) ≡ Some k
-    by false e = absurd (cc e)
-    by true e = refused_more f h g (0xA0 + number) bytes k more e
+refused_field number f h g bytes k more e = ⊎_elim
+    (λ next. rw next (refused_more f h g (0xA0 + number) bytes k more (rw next at e)))
+    (λ other. absurd (cc (rw other at e)))
+    (cases_Bool (is_next (0xA0 + number) bytes))
 
 -- the fault of a field that was read is that of its content, or else of the bytes behind it
 pub read_field : (number : ℕ) (f g : Fault) (content : List ℕ) (old new : Reader) → HasReadElement (0xA0 + number) content old new
     → field_at number f g old.unread ≡ option_or (f content) (g new.unread)
 read_field number f g content old new h =
-    let next = is_next_first (0xA0 + number) old.unread (ap (λ (r : Reader). slice_get r.unread 0) h.read.was_whole) in
-    rw next (read_element f g (0xA0 + number) content old new h)
+    let tag = 0xA0 + number in
+    rw (ap (λ (r : Reader). r.unread) h.read.was_whole, eq-eqb tag tag refl) (parts_at f g content new.unread h.within)
 
 -- a reader goes on behind a field that was read, and where none is next
 pub passes_field : {A : Type 0} (number tag : ℕ) (f : Fault) (field : Option A) (content : A → Option (List ℕ)) (P : List ℕ → Type 0) (old new : Reader)
@@ -254,3 +245,11 @@ pub read_field_whole : (number tag : ℕ) (f : Fault) (content : List ℕ) (old 
     → field_fault number tag (λ _. false) f no_fault old.unread ≡ element_fault tag f end_fault content
 read_field_whole number tag f content old new h =
     read_field number (inside_fault tag (λ _. false) f) no_fault content old new h ∙ (alone _ ∙ inside_at_once tag f content)
+
+-- where the content of a field was opened, the fault of the field is that of the one element in it
+pub opened_field : (number tag : ℕ) (f : Fault) (opened : ℕ) (old new content : Reader) (found : Option ErrorKind)
+    → (content ≡ reader_over content.unread) × HasReadElement opened content.unread old new → opened ≡ 0xA0 + number
+    → (content.failed ≡ false → element_fault tag f end_fault content.unread ≡ found)
+    → field_fault number tag (λ _. false) f no_fault old.unread ≡ found
+opened_field number tag f opened old new content found is same kind =
+    read_field_whole number tag f content.unread old new (rw same at is.1) ∙ kind (ap (λ (r : Reader). r.failed) is.0)

@@ -158,7 +158,7 @@ pub(crate) fn header_at(bytes: &[u8]) -> First<'_, Header>
 }
 
 /// Returns the length at the beginning of the bytes, and the bytes after it.
-#[tactic(auto, unfolding(crate::specs::Elements::length_octets))]
+#[tactic(auto, using(crate::proofs::LengthLemmas::len_shape), unfolding(crate::specs::Elements::length_octets))]
 fn length_at(bytes: &[u8]) -> First<'_, Length>
     ensures found { IfOk result (λ x. (x.0 ≤ max_length) × (bytes.now ≡ length_octets x.0 ++ x.1.now)) }
     ensures only { (n : ℕ) (rest : List ℕ) → n ≤ max_length → bytes.now ≡ length_octets n ++ rest → IsOk result }
