@@ -176,11 +176,6 @@ pub document_element : (bytes : List ℕ) → IsElement bytes → document_fault
 document_element bytes is =
     any_at (λ _. no_fault) end_fault is.tag is.content bytes [] is.is_header (is.spelled ∙ sym (append-nil (element is.tag is.content)))
 
--- a header and just the content that it announces aren't refused
-pub document_whole : (tag n : ℕ) (bytes inside : List ℕ) → IsHeader tag n → bytes ≡ header tag n ++ inside → n ≡ length inside → document_fault bytes ≡ None
-document_whole tag n bytes inside h e same =
-    any_room (λ _. no_fault) end_fault tag n bytes inside h e (omega arith) ∙ ap end_fault (drop_all n inside (omega arith))
-
 -- a header and more than the content that it announces are refused as trailing data
 pub document_long : (tag n : ℕ) (bytes inside : List ℕ) → IsHeader tag n → bytes ≡ header tag n ++ inside → n < length inside
     → document_fault bytes ≡ Some TrailingData

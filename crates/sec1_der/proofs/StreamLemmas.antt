@@ -1,9 +1,10 @@
 -- Reading one element from a stream: what was taken, step by step.
 use Rattle.std.proofs.Common.{◌≡◌, ℕ, ◌+◌, ◌<◌, ◌≤◌, List, [], ◌∷◌, ◌++◌, length, take, get_or, Option, ◌⊎◌, inl, inr, ⊎_elim, arith, refl, sym, ap}
 use Rattle.std.proofs.Common.{◌∙◌, append-nil, append_assoc, length-append}
-use Rattle.std.specs.Io.KnownBytes.{Consumes, Keeps}
-use Rattle.std.proofs.KnownBytes.{Consumes-trans, Consumes-kept}
+use Rattle.std.specs.Io.KnownBytes.{Consumes, Keeps, IsAtEnd}
+use Rattle.std.proofs.KnownBytes.{Consumes-nil, Consumes-trans, Consumes-kept}
 use Rattle.std.proofs.Math.Seq.{take-append-add}
+use Rattle.std.proofs.lemmas.Grind.{common_steps}
 use Rattle.std.proofs.lemmas.Bool.{cases_lt}
 use Rattle.std.proofs.lemmas.Bool.Decides.{nat_tests}
 use Rattle.std.proofs.lemmas.List.{length-take-le, nil_from_length, take_more, take-append-le}
@@ -11,7 +12,7 @@ use Rattle.sec1_der.specs.declared.error.ErrorKind.{ErrorKind}
 use Rattle.sec1_der.specs.declared.error.ErrorKind.TheVariants.{Truncated, TrailingData, Io, Memory}
 use Rattle.sec1_der.specs.Elements.{IsElement, IsHeader, LacksHeader, header}
 use Rattle.sec1_der.specs.Faults.{header_fault}
-use Rattle.sec1_der.specs.ReadsDocument.{HasHeaderFault, IsCutContent, RefusesElement, ReadsHeader, RefusesContent}
+use Rattle.sec1_der.specs.ReadsDocument.{HasHeaderFault, IsCutContent, TakenBeforeRefusal, RefusesElement, ReadsHeader, RefusesContent}
 use Rattle.sec1_der.specs.Streams.{ReadsOnto}
 use borrow.Rule.Slice.PartMut.{put_mid, post_of}
 use Rattle.sec1_der.proofs.HeaderLemmas.{longer}
@@ -19,12 +20,9 @@ use Rattle.sec1_der.proofs.HeaderLemmas.{longer}
 -- ---- bytes that were read
 
 -- a slice into a part of which was written begins with what stood before the part, and the first bytes of the part
-pub take_part : (start k : ℕ) (slice part : List ℕ) (n : ℕ) → start ≤ length slice → n ≤ length part
+take_part : (start k : ℕ) (slice part : List ℕ) (n : ℕ) → start ≤ length slice → n ≤ length part
     → take (start + n) (put_mid start k slice part) ≡ take start slice ++ take n part
-take_part start k slice part n inside few =
-    ap (λ m. take (m + n) (put_mid start k slice part)) (sym (length-take-le start slice inside))
-    ∙ (take-append-add (take start slice) (part ++ post_of start k slice) n
-    ∙ ap (λ xs. take start slice ++ xs) (take-append-le n part (post_of start k slice) few))
+take_part start k slice part n inside few = grind (arith, common_steps, take-append-add, take-append-le, length-take-le)
 
 -- what was read into the beginning of a slice, and then into the part behind it, was read into both
 pub reads_part : (old mid new : Option (List ℕ)) (start k : ℕ) (slice part : List ℕ) (n : ℕ) → start ≤ length slice → n ≤ length part
@@ -76,13 +74,11 @@ pub read_alone : (old new : Option (List ℕ)) (tag n : ℕ) (bytes rest : List 
     → Consumes old new bytes → ReadsHeader old new tag n
 read_alone old new tag n bytes rest is split (inl empty) consumed = absurd (cc (empty, split))
 read_alone old new tag n bytes rest is split (inr one) consumed =
-    let lengths : length one.before + 1 ≡ length (header tag n) + length rest =
-    sym (length-append one.before (one.last ∷ [])) ∙ (ap length (sym one.joined ∙ split) ∙ length-append (header tag n) rest) in
+    let joined = sym one.joined ∙ split in
     ⊎_elim
-    (λ short. let none = nil_from_length rest (omega (arith, short, lengths)) in
+    (λ short. let none = nil_from_length rest (omega (arith, simp length-append at (ap length joined))) in
     record { is_header = is; consumed = rw (split, none, append-nil (header tag n)) at consumed })
-    (λ within. let c = longer one.before (header tag n) (one.last ∷ []) rest (sym one.joined ∙ split) within in
-    absurd (one.cut.none tag n c.after is c.front))
+    (λ within. let c = longer one.before (header tag n) (one.last ∷ []) rest joined within in absurd (one.cut.none tag n c.after is c.front))
     (cases_lt (length one.before) (length (header tag n)))
 
 -- a header that was cut short has at most five bytes
@@ -114,56 +110,44 @@ cut_content tag n content is few = record { tag = tag; announced = n; content = 
 whole_element : (tag n : ℕ) (content : List ℕ) → IsHeader tag n → length content ≡ n → IsElement (header tag n ++ content)
 whole_element tag n content is count = record { tag = tag; content = content; is_header = rw count is; spelled = rw count refl }
 
+-- an element is refused by what was taken behind its header
+refused_after : (kind : ErrorKind) (old mid new : Option (List ℕ)) (tag n : ℕ) (taken : List ℕ) → ReadsHeader old mid tag n → Consumes mid new taken
+    → TakenBeforeRefusal kind (header tag n ++ taken) → (kind ≡ Truncated → IsAtEnd new) → RefusesElement kind old new
+refused_after kind old mid new tag n taken h consumed by_kind at_end =
+    record { taken = _; consumed = Consumes-trans old mid new (header tag n) taken h.consumed consumed; by_kind = by_kind; at_end = at_end }
+
 -- where a content is refused, so is the element
 pub refused_content : (kind : ErrorKind) (old mid new : Option (List ℕ)) (tag n : ℕ) → ReadsHeader old mid tag n → RefusesContent kind n mid new
     → RefusesElement kind old new
 refused_content kind old mid new tag n h r =
     let part = cut_content tag n r.taken h.is_header r.few in
-    record {
-      taken = header tag n ++ r.taken;
-      consumed = Consumes-trans old mid new (header tag n) r.taken h.consumed r.consumed;
-      by_kind = ⊎_elim (λ cut. rw cut (inr part)) (λ other. ⊎_elim (λ io. rw io (inl (inr part))) (λ memory. rw memory (inl (inr part))) other) r.kinds;
-      at_end = r.at_end;
-    }
+    refused_after kind old mid new tag n r.taken h r.consumed
+    (⊎_elim (λ cut. rw cut (inr part)) (⊎_elim (λ io. rw io (inl (inr part))) (λ memory. rw memory (inl (inr part)))) r.kinds) r.at_end
 
 -- where the memory for a content is refused, so is the element
 pub refused_growth : (old new : Option (List ℕ)) (tag n : ℕ) → ReadsHeader old new tag n → RefusesElement Memory old new
-refused_growth old new tag n h = record {
-  taken = header tag n ++ [];
-  consumed = rw (append-nil (header tag n)) h.consumed;
-  by_kind = ⊎_elim
-      (λ some. inl (inr (cut_content tag n [] h.is_header some)))
-      (λ none. inr (whole_element tag n [] h.is_header (omega arith)))
-      (cases_lt 0 n);
-  at_end = λ e. absurd (cc e);
-}
-
--- a header that was read, and the content that was read onto it, are an element
-both_read : (old mid next : Option (List ℕ)) (tag n : ℕ) (after : List ℕ) → ReadsHeader old mid tag n → ReadsOnto mid next (header tag n) after n
-    → Consumes old next after × IsElement after
-both_read old mid next tag n after h r =
-    rw r.appended (Consumes-trans old mid next (header tag n) r.bytes h.consumed r.consumed, whole_element tag n r.bytes h.is_header r.count)
+refused_growth old new tag n h =
+    let whole = λ (none : n ≤ 0). whole_element tag n [] h.is_header (omega arith) in
+    refused_after Memory old new new tag n [] h (Consumes-nil new)
+    (⊎_elim (λ some. inl (inr (cut_content tag n [] h.is_header some))) (λ none. inr (whole none)) (cases_lt 0 n)) (λ e. absurd (cc e))
 
 -- an element behind which a read failed is refused as Io
 pub refused_behind : (old mid next new : Option (List ℕ)) (tag n : ℕ) (after : List ℕ) → ReadsHeader old mid tag n
     → ReadsOnto mid next (header tag n) after n → Keeps next new → RefusesElement Io old new
 refused_behind old mid next new tag n after h r kept =
-    let both = both_read old mid next tag n after h r in
-    record { taken = after; consumed = Consumes-kept old next new after both.0 kept; by_kind = inr both.1; at_end = λ e. absurd (cc e) }
+    refused_after Io old mid new tag n r.bytes h (Consumes-kept mid next new r.bytes r.consumed kept)
+    (inr (whole_element tag n r.bytes h.is_header r.count)) (λ e. absurd (cc e))
 
 -- an element behind which a byte was read is refused as TrailingData
 pub byte_behind : (old mid next new : Option (List ℕ)) (tag n : ℕ) (after buf : List ℕ) (count : ℕ) → ReadsHeader old mid tag n
     → ReadsOnto mid next (header tag n) after n → Consumes next new (take count buf) → length buf ≡ 1 → count ≤ length buf → 0 < count
     → RefusesElement TrailingData old new
 byte_behind old mid next new tag n after buf count h r more one most some =
-    let both = both_read old mid next tag n after h r in
-    let byte = take_byte buf count one most some in
-    record {
-      taken = after ++ take count buf;
-      consumed = Consumes-trans old next new after (take count buf) both.0 more;
-      by_kind = record { front = after; byte = get_or buf 0 0; is_element = both.1; joined = ap (λ xs. after ++ xs) byte };
-      at_end = λ e. absurd (cc e);
-    }
+    let element = whole_element tag n r.bytes h.is_header r.count in
+    let joined = sym (append_assoc (header tag n) r.bytes (get_or buf 0 0 ∷ [])) in
+    let bytes = r.bytes ++ get_or buf 0 0 ∷ [] in
+    refused_after TrailingData old mid new tag n bytes h (Consumes-trans mid next new r.bytes _ r.consumed (rw (take_byte buf count one most some) at more))
+    (record { front = _; byte = _; is_element = element; joined = joined }) (λ e. absurd (cc e))
 
 -- the ways in which an element is refused behind its header
 pub ruleset element_refusals = (refused_growth, refused_content, refused_behind, byte_behind)
