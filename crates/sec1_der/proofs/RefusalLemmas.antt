@@ -142,25 +142,22 @@ pub record GoesOn (fault : Fault → Fault) (old new : Reader) : Type 0 where
   pub whole : new.failed ≡ false
   pub next : (g : Fault) → fault g old.unread ≡ g new.unread
 
--- a reader goes on behind an element of which nothing is refused
-goes_on : (fault : Fault → Fault) (found : Option ErrorKind) (tag : ℕ) (content : List ℕ) (old new : Reader) → HasReadElement tag content old new
-    → ((g : Fault) → fault g old.unread ≡ option_or found (g new.unread)) → fault no_fault old.unread ≡ None → GoesOn fault old new
-goes_on fault found tag content old new h read none =
-    let first : found ≡ None = sym (alone found) ∙ (sym (read no_fault) ∙ none) in
-    record { whole = ap (λ (r : Reader). r.failed) h.read.is_whole; next = λ g. read g ∙ rw first refl }
-
--- an option that is there, with what holds of its value
-some_and : {T : Type 0} {P : T → Type 0} (o : Option T) → IsSomeAnd o P → (x : T) × P x
-some_and None h = absurd h
-some_and (Some x) h = (x, h)
+-- a reader goes on behind an element that is there, and of which nothing is refused
+goes_on : (fault : Fault → Fault) (found : Fault) (content : Option (List ℕ)) (P : List ℕ → Type 0) (old new : Reader) → IsSomeAnd content P
+    → ((inside : List ℕ) → P inside → (new.failed ≡ false) × ((g : Fault) → fault g old.unread ≡ option_or (found inside) (g new.unread)))
+    → fault no_fault old.unread ≡ None → GoesOn fault old new
+goes_on fault found None P old new some read none = absurd some
+goes_on fault found (Some inside) P old new some read none =
+    let (whole, same) = read inside some in
+    let first : found inside ≡ None = sym (alone (found inside)) ∙ (sym (same no_fault) ∙ none) in
+    record { whole = whole; next = λ g. same g ∙ rw first refl }
 
 -- a reader goes on behind an element that was read
 pub reads_on : (f : Fault) (tag : ℕ) (content : Option (List ℕ)) (P : List ℕ → Type 0) (old new : Reader)
     → IsSomeAnd content (λ inside. P inside × HasReadElement tag inside old new) → element_fault tag f no_fault old.unread ≡ None
     → GoesOn (element_fault tag f) old new
-reads_on f tag content P old new h none =
-    let (inside, is) = some_and content h in
-    goes_on (element_fault tag f) (f inside) tag inside old new is.1 (λ g. read_element f g tag inside old new is.1) none
+reads_on f tag content P old new some none = goes_on (element_fault tag f) f content _ old new some
+    (λ inside is. (ap (λ (r : Reader). r.failed) is.1.read.is_whole, λ g. read_element f g tag inside old new is.1)) none
 
 -- a reader that hasn't refused is known by its bytes
 pub reader_at : (r : Reader) (bytes : List ℕ) → r.unread ≡ bytes → r.failed ≡ false → r ≡ reader_over bytes
@@ -221,9 +218,8 @@ passes_field number tag f None content P old new whole some none e = record {
   next = λ g. rw (is_next_other (0xA0 + number) old.unread none.1) (ap (λ (r : Reader). g r.unread) (sym none.0));
 }
 passes_field number tag f (Some value) content P old new whole some none e =
-    let (inside, is) = some_and (content value) some in
-    let bytes = element tag inside in
-    goes_on (field_at number f) (f bytes) (0xA0 + number) bytes old new is.2 (λ g. read_field number f g bytes old new is.2) e
+    goes_on (field_at number f) (λ inside. f (element tag inside)) (content value) _ old new some
+    (λ inside is. (ap (λ (r : Reader). r.failed) is.2.read.is_whole, λ g. read_field number f g (element tag inside) old new is.2)) e
 
 -- where nothing is checked late, the fault of a field's content is that of the one element
 pub inside_at_once : (tag : ℕ) (f : Fault) (bytes : List ℕ) → inside_fault tag (λ _. false) f bytes ≡ element_fault tag f end_fault bytes

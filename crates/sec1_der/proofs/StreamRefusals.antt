@@ -50,20 +50,18 @@ read_fault None new bytes r = tt
 read_fault (Some all) None bytes r = absurd r.consumed
 read_fault (Some all) (Some left) bytes r = rw (r.consumed, r.at_end, append-nil bytes) (document_element bytes r.is_element)
 
--- a kind that says something of the bytes is the fault of them all, if the first is a byte
-refused_fault : (kind : ErrorKind) (old new : Option (List ℕ)) → RefusesElement kind old new
-    → IsIoOrMemory kind ⊎ IfSome old (λ left. get_or left 0 0 < 256 → document_fault left ≡ Some kind)
-refused_fault kind None new r = inr tt
-refused_fault kind (Some all) None r = absurd r.consumed
-refused_fault kind (Some all) (Some left) r = rw r.consumed (taken_fault kind r.taken left r.at_end r.by_kind)
+-- a kind that says something of the bytes is the fault of them all, if the first is a byte, and then P holds of them
+refused_fault : (kind : ErrorKind) (P : List ℕ → Type 0) (old new : Option (List ℕ)) → RefusesElement kind old new
+    → ((left : List ℕ) → (get_or left 0 0 < 256 → document_fault left ≡ Some kind) → P left) → IsIoOrMemory kind ⊎ IfSome old P
+refused_fault kind P None new r from = inr tt
+refused_fault kind P (Some all) None r from = absurd r.consumed
+refused_fault kind P (Some all) (Some left) r from =
+    rw r.consumed (⊎_elim (λ other. inl other) (λ fault. inr (from (r.taken ++ left) fault)) (taken_fault kind r.taken left r.at_end r.by_kind))
 
--- the same, where each is a byte
+-- a kind that says something of the bytes is the fault of them all, where each is a byte
 pub refused_kind : (kind : ErrorKind) (old new : Option (List ℕ)) → RefusesElement kind old new
     → IsIoOrMemory kind ⊎ IfSome old (λ left. All (λ byte. byte < 256) left → document_fault left ≡ Some kind)
-refused_kind kind old new r = ⊎_elim
-    (λ other. inl other)
-    (λ fault. inr (IfSome_then old fault (λ left f all. f (first left all))))
-    (refused_fault kind old new r)
+refused_kind kind old new r = refused_fault kind _ old new r (λ left fault all. fault (first left all))
   where
     first : (bytes : List ℕ) → All (λ byte. byte < 256) bytes → get_or bytes 0 0 < 256
     first [] all = omega arith
@@ -71,7 +69,5 @@ refused_kind kind old new r = ⊎_elim
 
 -- bytes that are refused by such a kind are no element
 pub refused_none : (kind : ErrorKind) (old new : Option (List ℕ)) → RefusesElement kind old new → IsIoOrMemory kind ⊎ IfSome old (λ left. ¬ (IsElement left))
-refused_none kind old new r = ⊎_elim
-    (λ other. inl other)
-    (λ fault. inr (IfSome_then old fault (λ left f is. cc (document_element left is, f (rw is.spelled is.is_header.tag_byte.byte)))))
-    (refused_fault kind old new r)
+refused_none kind old new r =
+    refused_fault kind _ old new r (λ left fault is. cc (document_element left is, fault (rw is.spelled is.is_header.tag_byte.byte)))
