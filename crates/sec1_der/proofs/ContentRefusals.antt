@@ -1,7 +1,7 @@
 -- What the contents of identifiers and of bit strings are refused by.
-use Rattle.std.proofs.Common.{◌≡◌, ℕ, ◌+◌, true, false, ◌&&◌, if◌then◌else◌, ◌≤◌, List, [], ◌∷◌, length, append-nil, Some, None}
-use Rattle.std.proofs.Common.{refl, sym, ap, ◌∙◌, subst, arith, ⊎_elim}
-use Rattle.std.proofs.lemmas.Bool.{eq-eqb, ne_eqb, and_parts, cond_both, cases_Bool}
+use Rattle.std.proofs.Common.{◌≡◌, ℕ, ◌+◌, true, false, ◌&&◌, if◌then◌else◌, ◌≤◌, List, [], ◌∷◌, length, append-nil, Some, None, refl, sym, ap, ◌∙◌, arith}
+use Rattle.std.proofs.Common.{⊎_elim}
+use Rattle.std.proofs.lemmas.Bool.{eq-eqb, ne_eqb, and_parts, cases_Bool}
 use Rattle.std.proofs.lemmas.Slice.Eq.{bytes_eq-Decides}
 use Rattle.std.specs.Option.{option_or}
 use Rattle.std.specs.Str.{bytes_eq}
@@ -28,11 +28,11 @@ identifier_taken arcs content h =
 pub identifier_refused : (content : List ℕ) → ((arcs : List ℕ) → IsIdentifier arcs content → ⊥) → identifier_fault content ≡ Some Value
 identifier_refused content none =
     let arcs = arcs_of content in
-    cond_both (is_identifier arcs && bytes_eq (content_of arcs) content) None (Some Value) (λ fault. fault ≡ Some Value)
+    ⊎_elim
     (λ e. let parts = and_parts _ _ e in
-    let same = (bytes_eq-Decides (content_of arcs) content).0 parts.1 in
-    absurd (none arcs (subst (IsIdentifier arcs) same (is_identifier-true arcs parts.0))))
-    (λ e. refl)
+    absurd (none arcs (rw ((bytes_eq-Decides (content_of arcs) content).0 parts.1) at (is_identifier-true arcs parts.0))))
+    (λ e. rw e refl)
+    (cases_Bool (is_identifier arcs && bytes_eq (content_of arcs) content))
 
 -- without unused bits any bytes are a bit string
 whole_are_bits : (bytes : List ℕ) → are_bits 0 bytes ≡ true

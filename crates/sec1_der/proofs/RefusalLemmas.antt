@@ -1,20 +1,17 @@
 -- What the bytes of an element, and bytes that begin with none, are refused by.
-use Rattle.std.proofs.Common.{◌≡◌, ◌==◌, ℕ, ◌+◌, ◌-◌, ◌%◌, ◌<◌, ◌≤◌, Bool, true, false, ◌&&◌, not, if◌then◌else◌, nat_lt, nat_le, List, [], ◌∷◌, ◌++◌}
-use Rattle.std.proofs.Common.{length, take, drop, get_or, Option, Some, None, IsSomeAnd, IfSome, IfNone, slice_get, Result, Ok, Err, ⊎_elim, refl, ap, sym, ◌∙◌}
-use Rattle.std.proofs.Common.{arith}
+use Rattle.std.proofs.Common.{◌≡◌, ◌==◌, ℕ, ◌+◌, ◌-◌, ◌<◌, ◌≤◌, Bool, true, false, ◌&&◌, if◌then◌else◌, nat_le, List, [], ◌∷◌, ◌++◌, length, take, drop, get_or}
+use Rattle.std.proofs.Common.{Option, Some, None, IsSomeAnd, IfSome, IfNone, slice_get, Result, Ok, Err, ⊎_elim, refl, ap, sym, ◌∙◌, arith}
 use Rattle.std.proofs.Math.Seq.{take-append_seam, drop-append_seam}
-use Rattle.std.proofs.lemmas.Bool.{le-ltb, le-leb, lt-leb, leb-true, eq-eqb, ne_eqb, eqb-false, not-true, and_parts, cond_both, cases_Bool}
-use Rattle.std.proofs.lemmas.List.{take_at, length-append, length-drop, append_assoc, append-nil, take-append-drop, drop_all}
+use Rattle.std.proofs.lemmas.Bool.{le-leb, lt-leb, leb-true, eq-eqb, ne_eqb, and_parts, cases_Bool}
+use Rattle.std.proofs.lemmas.List.{length-append, length-drop, append_assoc, append-nil, take-append-drop}
 use Rattle.std.proofs.lemmas.Slice.Eq.{bytes_eq-Decides}
-use Rattle.std.proofs.lemmas.Int.Digits.{number_digits_of}
-use Rattle.std.specs.Int.Digits.{digits_of}
 use Rattle.std.specs.Option.{option_or}
 use Rattle.std.specs.Str.{bytes_eq}
 use Rattle.sec1_der.specs.Elements.{max_length, length_octets, header, element, IsTag, IsHeader, IsElement, LacksHeader}
 use Rattle.sec1_der.specs.Faults.{is_tag, length_fault, header_fault}
 use Rattle.sec1_der.specs.Readers.{Reader, reader_over, HasReadElement}
-use Rattle.sec1_der.specs.Refusals.{Fault, no_fault, end_fault, number_at, length_at, within, parts_fault, element_fault, is_next, inside_fault}
-use Rattle.sec1_der.specs.Refusals.{field_fault, any_fault, document_fault}
+use Rattle.sec1_der.specs.Refusals.{Fault, no_fault, end_fault, number_at, length_at, within, parts_fault, element_fault, is_next, inside_fault, field_fault}
+use Rattle.sec1_der.specs.Refusals.{any_fault, document_fault}
 use Rattle.sec1_der.specs.declared.error.ErrorKind.{ErrorKind}
 use Rattle.sec1_der.specs.declared.error.ErrorKind.TheVariants.{Truncated, Tag, TrailingData}
 use Rattle.sec1_der.proofs.DigitLemmas.{IsBytes}

@@ -1,6 +1,6 @@
 -- Reading one element from a stream: what was taken, step by step.
-use Rattle.std.proofs.Common.{◌≡◌, ℕ, ◌+◌, ◌<◌, ◌≤◌, List, [], ◌∷◌, ◌++◌, length, take, get_or, Option, ◌⊎◌, inl, inr, ⊎_elim, arith, refl, sym, ap}
-use Rattle.std.proofs.Common.{◌∙◌, append-nil, append_assoc, length-append}
+use Rattle.std.proofs.Common.{◌≡◌, ℕ, ◌+◌, ◌<◌, ◌≤◌, List, [], ◌∷◌, ◌++◌, length, take, get_or, Option, ◌⊎◌, inl, inr, ⊎_elim, arith, refl, sym, ap, ◌∙◌}
+use Rattle.std.proofs.Common.{append-nil, append_assoc, length-append}
 use Rattle.std.specs.Io.KnownBytes.{Consumes, Keeps, IsAtEnd}
 use Rattle.std.proofs.KnownBytes.{Consumes-nil, Consumes-trans, Consumes-kept}
 use Rattle.std.proofs.Math.Seq.{take-append-add}
@@ -14,7 +14,7 @@ use Rattle.sec1_der.specs.Elements.{IsElement, IsHeader, LacksHeader, header}
 use Rattle.sec1_der.specs.Faults.{header_fault}
 use Rattle.sec1_der.specs.ReadsDocument.{HasHeaderFault, IsCutContent, TakenBeforeRefusal, RefusesElement, ReadsHeader, RefusesContent}
 use Rattle.sec1_der.specs.Streams.{ReadsOnto}
-use borrow.Rule.Slice.PartMut.{put_mid, post_of}
+use borrow.Rule.Slice.PartMut.{put_mid}
 use Rattle.sec1_der.proofs.HeaderLemmas.{longer}
 
 -- ---- bytes that were read
@@ -32,9 +32,7 @@ reads_part old mid new start k slice part n inside few first next =
 
 -- what was read into a buffer of one byte is this byte
 pub take_byte : (buf : List ℕ) (n : ℕ) → length buf ≡ 1 → n ≤ length buf → 0 < n → take n buf ≡ get_or buf 0 0 ∷ []
-take_byte buf n one most some =
-    let all : n ≡ 1 = omega arith in
-    rw all (take_more buf 0 0 (omega arith))
+take_byte buf n one most some = grind (arith, common_steps, take_more)
 
 -- what was read onto bytes, and then more, was read onto them together
 pub reads_more : (old mid new : Option (List ℕ)) (start middle end : List ℕ) (n m : ℕ) → ReadsOnto old mid start middle n → ReadsOnto mid new middle end m
@@ -126,10 +124,9 @@ refused_content kind old mid new tag n h r =
 
 -- where the memory for a content is refused, so is the element
 pub refused_growth : (old new : Option (List ℕ)) (tag n : ℕ) → ReadsHeader old new tag n → RefusesElement Memory old new
-refused_growth old new tag n h =
-    let whole = λ (none : n ≤ 0). whole_element tag n [] h.is_header (omega arith) in
-    refused_after Memory old new new tag n [] h (Consumes-nil new)
-    (⊎_elim (λ some. inl (inr (cut_content tag n [] h.is_header some))) (λ none. inr (whole none)) (cases_lt 0 n)) (λ e. absurd (cc e))
+refused_growth old new tag n h = refused_after Memory old new new tag n [] h (Consumes-nil new)
+    (⊎_elim (λ some. inl (inr (cut_content tag n [] h.is_header some))) (λ (none : n ≤ 0). inr (whole_element tag n [] h.is_header (omega arith)))
+    (cases_lt 0 n)) (λ e. absurd (cc e))
 
 -- an element behind which a read failed is refused as Io
 pub refused_behind : (old mid next new : Option (List ℕ)) (tag n : ℕ) (after : List ℕ) → ReadsHeader old mid tag n
@@ -143,11 +140,11 @@ pub byte_behind : (old mid next new : Option (List ℕ)) (tag n : ℕ) (after bu
     → ReadsOnto mid next (header tag n) after n → Consumes next new (take count buf) → length buf ≡ 1 → count ≤ length buf → 0 < count
     → RefusesElement TrailingData old new
 byte_behind old mid next new tag n after buf count h r more one most some =
+    let byte = get_or buf 0 0 ∷ [] in
+    let more = rw (take_byte buf count one most some) at more in
     let element = whole_element tag n r.bytes h.is_header r.count in
-    let joined = sym (append_assoc (header tag n) r.bytes (get_or buf 0 0 ∷ [])) in
-    let bytes = r.bytes ++ get_or buf 0 0 ∷ [] in
-    refused_after TrailingData old mid new tag n bytes h (Consumes-trans mid next new r.bytes _ r.consumed (rw (take_byte buf count one most some) at more))
-    (record { front = _; byte = _; is_element = element; joined = joined }) (λ e. absurd (cc e))
+    refused_after TrailingData old mid new tag n (r.bytes ++ byte) h (Consumes-trans mid next new r.bytes byte r.consumed more)
+    (record { front = _; byte = _; is_element = element; joined = sym (append_assoc (header tag n) r.bytes byte) }) (λ e. absurd (cc e))
 
 -- the ways in which an element is refused behind its header
 pub ruleset element_refusals = (refused_growth, refused_content, refused_behind, byte_behind)

@@ -1,10 +1,8 @@
 -- What the kind by which a stream's element is refused says of all the bytes that the stream had left.
-use Rattle.std.proofs.Common.{◌≡◌, ℕ, ◌<◌, List, [], ◌∷◌, ◌++◌, get_or}
-use Rattle.std.proofs.Common.{Option, Some, None, IfSome, ◌⊎◌, inl, inr, ⊎_elim, refl, ap, ◌∙◌, arith, append-nil}
+use Rattle.std.proofs.Common.{◌≡◌, ℕ, ◌<◌, List, [], ◌∷◌, ◌++◌, get_or, Option, Some, None, IfSome, ◌⊎◌, inl, inr, ⊎_elim, refl, ap, ◌∙◌, arith, append-nil}
 use Rattle.std.proofs.lemmas.Bool.{false_from_ne_true}
 use Rattle.std.proofs.lemmas.Bool.Decides.{nat_tests}
 use Rattle.std.proofs.lemmas.List.{append_assoc, length-append}
-use Rattle.std.proofs.lemmas.Option.{IfSome_then}
 use Rattle.std.specs.List.{All}
 use Rattle.sec1_der.specs.Elements.{IsElement}
 use Rattle.sec1_der.specs.Faults.{is_tag, header_fault, IsIoOrMemory}
