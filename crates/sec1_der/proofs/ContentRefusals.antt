@@ -1,10 +1,9 @@
 -- What the contents of identifiers and of bit strings are refused by.
 use Rattle.std.proofs.Common.{◌≡◌, ℕ, ◌+◌, true, false, ◌&&◌, if◌then◌else◌, ◌≤◌, List, [], ◌∷◌, length, append-nil, Some, None, refl, sym, ap, ◌∙◌, arith}
-use Rattle.std.proofs.Common.{⊎_elim}
-use Rattle.std.proofs.lemmas.Bool.{eq-eqb, ne_eqb, and_parts, cases_Bool}
+use Rattle.std.proofs.Common.{⊎_elim, eq-eqb, ne_eqb, bytes_eq}
+use Rattle.std.proofs.lemmas.Bool.{and_parts, cases_Bool}
 use Rattle.std.proofs.lemmas.Slice.Eq.{bytes_eq-Decides}
 use Rattle.std.specs.Option.{option_or}
-use Rattle.std.specs.Str.{bytes_eq}
 use Rattle.sec1_der.specs.ArcsOf.{arcs_of}
 use Rattle.sec1_der.specs.Elements.{max_length, element}
 use Rattle.sec1_der.specs.Readers.{Reader, HasReadElement}

@@ -1,12 +1,11 @@
 -- What the bytes of an element, and bytes that begin with none, are refused by.
 use Rattle.std.proofs.Common.{◌≡◌, ◌==◌, ℕ, ◌+◌, ◌-◌, ◌<◌, ◌≤◌, Bool, true, false, ◌&&◌, if◌then◌else◌, nat_le, List, [], ◌∷◌, ◌++◌, length, take, drop, get_or}
-use Rattle.std.proofs.Common.{Option, Some, None, IsSomeAnd, IfSome, IfNone, slice_get, Result, Ok, Err, ⊎_elim, refl, ap, sym, ◌∙◌, arith}
+use Rattle.std.proofs.Common.{Option, Some, None, IsSomeAnd, IfSome, IfNone, slice_get, Result, Ok, Err, ⊎_elim, refl, ap, sym, ◌∙◌, arith, tests, le-leb}
+use Rattle.std.proofs.Common.{leb-true, eq-eqb, ne_eqb, length-append, length-drop, append_assoc, append-nil, take-append-drop, bytes_eq}
 use Rattle.std.proofs.Math.Seq.{take-append_seam, drop-append_seam}
-use Rattle.std.proofs.lemmas.Bool.{le-leb, lt-leb, leb-true, eq-eqb, ne_eqb, and_parts, cases_Bool}
-use Rattle.std.proofs.lemmas.List.{length-append, length-drop, append_assoc, append-nil, take-append-drop}
+use Rattle.std.proofs.lemmas.Bool.{lt-leb, and_parts, cases_Bool}
 use Rattle.std.proofs.lemmas.Slice.Eq.{bytes_eq-Decides}
 use Rattle.std.specs.Option.{option_or}
-use Rattle.std.specs.Str.{bytes_eq}
 use Rattle.sec1_der.specs.Elements.{max_length, length_octets, header, element, IsTag, IsHeader, IsElement, LacksHeader}
 use Rattle.sec1_der.specs.Faults.{is_tag, length_fault, header_fault}
 use Rattle.sec1_der.specs.Readers.{Reader, reader_over, HasReadElement}
@@ -17,7 +16,6 @@ use Rattle.sec1_der.specs.declared.error.ErrorKind.TheVariants.{Truncated, Tag, 
 use Rattle.sec1_der.proofs.DigitLemmas.{IsBytes}
 use Rattle.sec1_der.proofs.HeaderLemmas.{is_tag-true}
 use Rattle.sec1_der.proofs.LengthLemmas.{number_spelled}
-use Rattle.std.proofs.lemmas.Bool.Decides.{nat_tests}
 
 -- ---- lengths
 
@@ -77,7 +75,7 @@ element_at f g tag content bytes rest fits e = rw (e, eq-eqb tag tag refl) (part
 -- a byte that passes the test is a tag
 pub tag_from_test : (byte : ℕ) → byte < 256 → is_tag byte ≡ true → IsTag byte
 tag_from_test byte small e =
-    record { byte = small; not_end_of_contents = λ zero. grind (arith, nat_tests); not_high = λ ones. grind (arith, nat_tests) }
+    record { byte = small; not_end_of_contents = λ zero. grind (arith, tests); not_high = λ ones. grind (arith, tests) }
 
 -- bytes that begin with no header are refused by the fault of their header, if the first is a byte
 pub any_headless : (f : ℕ → Fault) (g : Fault) (bytes : List ℕ) → get_or bytes 0 0 < 256 → LacksHeader bytes → any_fault f g bytes ≡ Some (header_fault bytes)

@@ -1,13 +1,12 @@
 -- Reading one element from a stream: what was taken, step by step.
 use Rattle.std.proofs.Common.{◌≡◌, ℕ, ◌+◌, ◌<◌, ◌≤◌, List, [], ◌∷◌, ◌++◌, length, take, get_or, Option, ◌⊎◌, inl, inr, ⊎_elim, arith, refl, sym, ap, ◌∙◌}
-use Rattle.std.proofs.Common.{append-nil, append_assoc, length-append}
+use Rattle.std.proofs.Common.{append-nil, append_assoc, length-append, tests, length-take-le}
 use Rattle.std.specs.Io.KnownBytes.{Consumes, Keeps, IsAtEnd}
 use Rattle.std.proofs.KnownBytes.{Consumes-nil, Consumes-trans, Consumes-kept}
 use Rattle.std.proofs.Math.Seq.{take-append-add}
 use Rattle.std.proofs.lemmas.Grind.{common_steps}
 use Rattle.std.proofs.lemmas.Bool.{cases_lt}
-use Rattle.std.proofs.lemmas.Bool.Decides.{nat_tests}
-use Rattle.std.proofs.lemmas.List.{length-take-le, nil_from_length, take_more, take-append-le}
+use Rattle.std.proofs.lemmas.List.{nil_from_length, take_more, take-append-le}
 use Rattle.sec1_der.specs.declared.error.ErrorKind.{ErrorKind}
 use Rattle.sec1_der.specs.declared.error.ErrorKind.TheVariants.{Truncated, TrailingData, Io, Memory}
 use Rattle.sec1_der.specs.Elements.{IsElement, IsHeader, LacksHeader, header}
@@ -83,7 +82,7 @@ read_alone old new tag n bytes rest is split (inr one) consumed =
 pub cut_is_short : (bytes : List ℕ) → header_fault bytes ≡ Truncated → length bytes ≤ 5
 cut_is_short [] e = omega arith
 cut_is_short (byte ∷ []) e = omega arith
-cut_is_short (byte ∷ first ∷ digits) e = grind (arith, nat_tests)
+cut_is_short (byte ∷ first ∷ digits) e = grind (arith, tests)
 
 -- ---- the content
 

@@ -1,9 +1,7 @@
 -- What the kind by which a stream's element is refused says of all the bytes that the stream had left.
 use Rattle.std.proofs.Common.{◌≡◌, ℕ, ◌<◌, List, [], ◌∷◌, ◌++◌, get_or, Option, Some, None, IfSome, ◌⊎◌, inl, inr, ⊎_elim, refl, ap, ◌∙◌, arith, append-nil}
+use Rattle.std.proofs.Common.{tests, append_assoc, length-append, All}
 use Rattle.std.proofs.lemmas.Bool.{false_from_ne_true}
-use Rattle.std.proofs.lemmas.Bool.Decides.{nat_tests}
-use Rattle.std.proofs.lemmas.List.{append_assoc, length-append}
-use Rattle.std.specs.List.{All}
 use Rattle.sec1_der.specs.Elements.{IsElement}
 use Rattle.sec1_der.specs.Faults.{is_tag, header_fault, IsIoOrMemory}
 use Rattle.sec1_der.specs.ReadsDocument.{TakenBeforeRefusal, ConsumesElement, RefusesElement}
@@ -16,8 +14,8 @@ use Rattle.sec1_der.proofs.RefusalLemmas.{document_element, any_at, any_headless
 -- a bad length stays one whatever stands behind it
 length_stays : (bytes more : List ℕ) → header_fault bytes ≡ Length → header_fault (bytes ++ more) ≡ Length
 length_stays [] more e = absurd (cc e)
-length_stays (byte ∷ []) more e = grind (arith, nat_tests)
-length_stays (byte ∷ first ∷ digits) more e = grind (arith, nat_tests, length-append)
+length_stays (byte ∷ []) more e = grind (arith, tests)
+length_stays (byte ∷ first ∷ digits) more e = grind (arith, tests, length-append)
 
 -- what was taken tells by which kind all the bytes are refused, if the first is a byte
 taken_fault : (kind : ErrorKind) (bytes more : List ℕ) → (kind ≡ Truncated → more ≡ []) → TakenBeforeRefusal kind bytes

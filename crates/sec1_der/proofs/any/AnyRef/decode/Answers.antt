@@ -1,5 +1,4 @@
 use Rattle.std.proofs.Common.{◌<◌, length, refl, sym, ap, arith, rules, ⊎_elim}
-use Rattle.std.proofs.lemmas.Bool.{cases_lt}
 use Rattle.sec1_der.specs.Readers.{Reader}
 use Rattle.sec1_der.specs.Refusals.{no_fault}
 use Rattle.sec1_der.proofs.HeaderLemmas.{header_front, cut_short}
@@ -16,8 +15,7 @@ pub returns-in_err-value-clause-kind : goal.returns-in_err-value-clause-kind
 returns-in_err-value-clause-kind c fresh =
     let (is, read) = c.in_ok-header.ensures.found in
     let whole = ap (λ (r : Reader). r.failed) read.is_whole in
-    let few : length c.decode.new.reader.unread < c.in_ok-header.header.length =
-    ⊎_elim (λ few. few) (λ fits. absurd (cc ((c.in_err-value.ensures.within whole).1 fits))) (cases_lt _ _) in
+    let few : length c.decode.new.reader.unread < c.in_ok-header.header.length = grind (arith, (c.in_err-value.ensures.within whole).1) in
     let kind = any_short (λ _. no_fault) no_fault _ _ c.args.reader.now.unread _ is (ap (λ (r : Reader). r.unread) read.was_whole) few in
     let truncated = c.in_err-value.ensures.kind whole refl in
     search rules

@@ -1,6 +1,5 @@
-use Rattle.std.proofs.Common.{◌≡◌, ◌+◌, length, take, arith, rules, refl, inl, inr}
+use Rattle.std.proofs.Common.{◌≡◌, ◌+◌, length, take, arith, rules, refl, inl, inr, take_all}
 use Rattle.std.proofs.lemmas.Grind.{common_steps}
-use Rattle.std.proofs.lemmas.List.{take_all}
 use Rattle.std.proofs.lemmas.Result.{err_from_is_err_and}
 use Rattle.sec1_der.specs.declared.error.ErrorKind.TheVariants.{Truncated, Io}
 use Rattle.sec1_der.proofs.StreamLemmas.{reads_more, refused_part}

@@ -1,6 +1,5 @@
-use Rattle.std.proofs.Common.{[], refl, ap, sym, ◌∙◌}
+use Rattle.std.proofs.Common.{[], refl, ap, sym, ◌∙◌, append-nil}
 use Rattle.std.proofs.lemmas.Bool.{false≢true}
-use Rattle.std.proofs.lemmas.List.{append-nil}
 use Rattle.std.proofs.lemmas.Result.{err_from_is_err_and}
 use Rattle.sec1_der.specs.Elements.{element}
 use Rattle.sec1_der.specs.Readers.{Reader, reader_over}
