@@ -29,29 +29,26 @@ length_at_spelled n rest fits =
 pub length_at_lacks : (bytes : List ℕ) → ((n : ℕ) (rest : List ℕ) → n ≤ max_length → bytes ≡ length_octets n ++ rest → ⊥)
     → length_at bytes ≡ Err (length_fault bytes)
 length_at_lacks bytes lacks =
-    let n = number_at bytes in
-    let octets = length_octets n in
-    let behind = drop (length octets) bytes in
+    let octets = length_octets (number_at bytes) in
+    let front = take (length octets) bytes in
     ⊎_elim
-    (λ e. let parts = and_parts _ _ e in
-    let spelled = (bytes_eq-Decides (take (length octets) bytes) octets).0 parts.1 in
-    absurd (lacks n behind (leb-true n max_length parts.0) (sym (take-append-drop (length octets) bytes) ∙ ap (λ xs. xs ++ behind) spelled)))
+    (λ e. let (fits, same) = and_parts _ _ e in
+    let spelled = rw ((bytes_eq-Decides front octets).0 same) at (sym (take-append-drop (length octets) bytes)) in
+    absurd (lacks _ _ (leb-true (number_at bytes) max_length fits) spelled))
     (λ e. rw e refl)
-    (cases_Bool (nat_le n max_length && bytes_eq (take (length octets) bytes) octets))
+    (cases_Bool (nat_le (number_at bytes) max_length && bytes_eq front octets))
 
 -- ---- elements
 
 -- a header with less behind it than it announces is cut short
 pub any_short : (f : ℕ → Fault) (g : Fault) (tag n : ℕ) (bytes inside : List ℕ) → IsHeader tag n → bytes ≡ header tag n ++ inside → length inside < n
     → any_fault f g bytes ≡ Some Truncated
-any_short f g tag n bytes inside h e few =
-    rw (e, is_tag-true tag h.tag_byte, length_at_spelled n inside h.within, lt-leb n (length inside) few) refl
+any_short f g tag n bytes inside h e few = rw (e, is_tag-true tag h.tag_byte, length_at_spelled n inside h.within, lt-leb n (length inside) few) refl
 
 -- where a header has room for its content, the fault is that of the content, or else of the bytes behind it
 pub any_room : (f : ℕ → Fault) (g : Fault) (tag n : ℕ) (bytes inside : List ℕ) → IsHeader tag n → bytes ≡ header tag n ++ inside → n ≤ length inside
     → any_fault f g bytes ≡ option_or (f tag (take n inside)) (g (drop n inside))
-any_room f g tag n bytes inside h e fits =
-    rw (e, is_tag-true tag h.tag_byte, length_at_spelled n inside h.within, le-leb n (length inside) fits) refl
+any_room f g tag n bytes inside h e fits = rw (e, is_tag-true tag h.tag_byte, length_at_spelled n inside h.within, le-leb n (length inside) fits) refl
 
 -- the fault behind the first byte of an element is that of its content, or else of the bytes behind it
 parts_at : (f g : Fault) (content rest : List ℕ) → length content ≤ max_length
@@ -74,30 +71,28 @@ element_at f g tag content bytes rest fits e = rw (e, eq-eqb tag tag refl) (part
 
 -- a byte that passes the test is a tag
 pub tag_from_test : (byte : ℕ) → byte < 256 → is_tag byte ≡ true → IsTag byte
-tag_from_test byte small e =
-    record { byte = small; not_end_of_contents = λ zero. grind (arith, tests); not_high = λ ones. grind (arith, tests) }
+tag_from_test byte small e = record { byte = small; not_end_of_contents = λ zero. grind (arith, tests); not_high = λ ones. grind (arith, tests) }
 
 -- bytes that begin with no header are refused by the fault of their header, if the first is a byte
-pub any_headless : (f : ℕ → Fault) (g : Fault) (bytes : List ℕ) → get_or bytes 0 0 < 256 → LacksHeader bytes → any_fault f g bytes ≡ Some (header_fault bytes)
+pub any_headless : (f : ℕ → Fault) (g : Fault) (bytes : List ℕ) → (0 < length bytes → get_or bytes 0 0 < 256) → LacksHeader bytes
+    → any_fault f g bytes ≡ Some (header_fault bytes)
 any_headless f g [] small lacks = refl
 any_headless f g (byte ∷ bytes) small lacks = ⊎_elim
-    (λ e. let is : (n : ℕ) → n ≤ max_length → IsHeader byte n = λ n fits. record { tag_byte = tag_from_test byte small e; within = fits } in
-    let none = length_at_lacks bytes (λ n rest fits same. lacks byte n rest (is n fits) (ap (λ xs. byte ∷ xs) same)) in
-    rw (e, none) refl)
+    (λ e. let is : IsTag byte = tag_from_test byte (small (omega arith)) e in
+    rw (e, length_at_lacks bytes (λ n rest fits same. lacks byte n rest (record { tag_byte = is; within = fits }) (ap (λ xs. byte ∷ xs) same))) refl)
     (λ e. rw e refl)
     (cases_Bool (is_tag byte))
 
 -- the same, where each is a byte
 pub any_lacks : (f : ℕ → Fault) (g : Fault) (bytes : List ℕ) → IsBytes bytes → LacksHeader bytes → any_fault f g bytes ≡ Some (header_fault bytes)
-any_lacks f g bytes all lacks = any_headless f g bytes (all 0) lacks
+any_lacks f g bytes all lacks = any_headless f g bytes (λ _. all 0) lacks
 
 -- ---- one element after another
 
 -- the fault of an element that a reader read is that of its content, or else of the bytes behind it
 pub read_element : (f g : Fault) (tag : ℕ) (content : List ℕ) (old new : Reader) → HasReadElement tag content old new
     → element_fault tag f g old.unread ≡ option_or (f content) (g new.unread)
-read_element f g tag content old new h =
-    element_at f g tag content old.unread new.unread h.within (ap (λ (r : Reader). r.unread) h.read.was_whole)
+read_element f g tag content old new h = element_at f g tag content old.unread new.unread h.within (ap (λ (r : Reader). r.unread) h.read.was_whole)
 
 -- a fault with none behind it is the fault
 pub alone : (o : Option ErrorKind) → option_or o None ≡ o

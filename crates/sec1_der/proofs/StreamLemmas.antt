@@ -1,20 +1,22 @@
--- Reading one element from a stream: what was taken, step by step.
+-- Reading one element from a stream: what was taken, step by step, and what a refusal says of all the bytes that were left.
 use Rattle.std.proofs.Common.{◌≡◌, ℕ, ◌+◌, ◌<◌, ◌≤◌, List, [], ◌∷◌, ◌++◌, length, take, get_or, Option, ◌⊎◌, inl, inr, ⊎_elim, arith, refl, sym, ap, ◌∙◌}
-use Rattle.std.proofs.Common.{append-nil, append_assoc, length-append, tests, length-take-le}
+use Rattle.std.proofs.Common.{append-nil, append_assoc, length-append, tests, length-take-le, Some, None, IfSome, All}
 use Rattle.std.specs.Io.KnownBytes.{Consumes, Keeps, IsAtEnd}
 use Rattle.std.proofs.KnownBytes.{Consumes-nil, Consumes-trans, Consumes-kept}
 use Rattle.std.proofs.Math.Seq.{take-append-add}
 use Rattle.std.proofs.lemmas.Grind.{common_steps}
-use Rattle.std.proofs.lemmas.Bool.{cases_lt}
+use Rattle.std.proofs.lemmas.Bool.{cases_lt, false_from_ne_true}
 use Rattle.std.proofs.lemmas.List.{nil_from_length, take_more, take-append-le}
 use Rattle.sec1_der.specs.declared.error.ErrorKind.{ErrorKind}
-use Rattle.sec1_der.specs.declared.error.ErrorKind.TheVariants.{Truncated, TrailingData, Io, Memory}
+use Rattle.sec1_der.specs.declared.error.ErrorKind.TheVariants.{Truncated, TrailingData, Io, Memory, Tag, Length}
 use Rattle.sec1_der.specs.Elements.{IsElement, IsHeader, LacksHeader, header}
-use Rattle.sec1_der.specs.Faults.{header_fault}
-use Rattle.sec1_der.specs.ReadsDocument.{HasHeaderFault, IsCutContent, TakenBeforeRefusal, RefusesElement, ReadsHeader, RefusesContent}
+use Rattle.sec1_der.specs.Faults.{header_fault, is_tag, IsIoOrMemory}
+use Rattle.sec1_der.specs.ReadsDocument.{HasHeaderFault, IsCutContent, TakenBeforeRefusal, RefusesElement, ReadsHeader, RefusesContent, ConsumesElement}
 use Rattle.sec1_der.specs.Streams.{ReadsOnto}
 use borrow.Rule.Slice.PartMut.{put_mid}
-use Rattle.sec1_der.proofs.HeaderLemmas.{longer}
+use Rattle.sec1_der.proofs.HeaderLemmas.{longer, header_front}
+use Rattle.sec1_der.specs.Refusals.{no_fault, end_fault, document_fault}
+use Rattle.sec1_der.proofs.RefusalLemmas.{document_element, any_at, any_headless, any_short, tag_from_test}
 
 -- ---- bytes that were read
 
@@ -36,12 +38,10 @@ take_byte buf n one most some = grind (arith, common_steps, take_more)
 -- what was read onto bytes, and then more, was read onto them together
 pub reads_more : (old mid new : Option (List ℕ)) (start middle end : List ℕ) (n m : ℕ) → ReadsOnto old mid start middle n → ReadsOnto mid new middle end m
     → ReadsOnto old new start end (n + m)
-reads_more old mid new start middle end n m read more = record {
-  bytes = read.bytes ++ more.bytes;
-  consumed = Consumes-trans old mid new read.bytes more.bytes read.consumed more.consumed;
-  appended = more.appended ∙ (ap (λ xs. xs ++ more.bytes) read.appended ∙ append_assoc start read.bytes more.bytes);
-  count = length-append read.bytes more.bytes ∙ omega (arith, read.count, more.count);
-}
+reads_more old mid new start middle end n m read more =
+    let consumed = Consumes-trans old mid new read.bytes more.bytes read.consumed more.consumed in
+    let sum = length-append read.bytes more.bytes in
+    record { bytes = _; consumed = consumed; appended = rw (more.appended, read.appended) (append_assoc start _ _); count = omega arith }
 
 -- ---- the header
 
@@ -59,12 +59,10 @@ IsReachable bytes = (bytes ≡ []) ⊎ IsLonger bytes
 -- one byte was read behind a header that was cut short
 pub one_more : (start k : ℕ) (slice part : List ℕ) → start ≤ length slice → header_fault (take start slice) ≡ Truncated → LacksHeader (take start slice)
     → length part ≡ 1 → IsReachable (take (start + 1) (put_mid start k slice part))
-one_more start k slice part inside short none size = inr (record {
-  before = take start slice;
-  last = get_or part 0 0;
-  joined = take_part start k slice part 1 inside (omega arith) ∙ ap (λ xs. take start slice ++ xs) (take_byte part 1 size (omega arith) (omega arith));
-  cut = record { fault_is = short; none = none };
-})
+one_more start k slice part inside short none size =
+    let byte = ap (λ xs. take start slice ++ xs) (take_byte part 1 size (omega arith) (omega arith)) in
+    let joined = take_part start k slice part 1 inside (omega arith) ∙ byte in
+    inr (record { before = _; last = _; joined = joined; cut = record { fault_is = short; none = none } })
 
 -- a header that came with its last byte is all that was read
 pub read_alone : (old new : Option (List ℕ)) (tag n : ℕ) (bytes rest : List ℕ) → IsHeader tag n → bytes ≡ header tag n ++ rest → IsReachable bytes
@@ -89,13 +87,10 @@ cut_is_short (byte ∷ first ∷ digits) e = grind (arith, tests)
 -- a content of which a part was read is refused where what is missing is
 pub refused_part : (kind : ErrorKind) (old mid new : Option (List ℕ)) (start middle : List ℕ) (n missing announced : ℕ)
     → ReadsOnto old mid start middle n → n + missing ≡ announced → RefusesContent kind missing mid new → RefusesContent kind announced old new
-refused_part kind old mid new start middle n missing announced read sum refused = record {
-  taken = read.bytes ++ refused.taken;
-  consumed = Consumes-trans old mid new read.bytes refused.taken read.consumed refused.consumed;
-  few = omega (arith, length-append read.bytes refused.taken, read.count, refused.few);
-  kinds = refused.kinds;
-  at_end = refused.at_end;
-}
+refused_part kind old mid new start middle n missing announced read sum refused =
+    let consumed = Consumes-trans old mid new read.bytes refused.taken read.consumed refused.consumed in
+    let few : length (read.bytes ++ refused.taken) < announced = omega (arith, length-append read.bytes refused.taken) in
+    record { taken = _; consumed = consumed; few = few; kinds = refused.kinds; at_end = refused.at_end }
 
 -- ---- the element
 
@@ -147,3 +142,58 @@ byte_behind old mid next new tag n after buf count h r more one most some =
 
 -- the ways in which an element is refused behind its header
 pub ruleset element_refusals = (refused_growth, refused_content, refused_behind, byte_behind)
+
+-- ---- what a refusal says of all the bytes
+
+-- a bad length stays one whatever stands behind it
+length_stays : (bytes more : List ℕ) → header_fault bytes ≡ Length → header_fault (bytes ++ more) ≡ Length
+length_stays [] more e = absurd (cc e)
+length_stays (byte ∷ []) more e = grind (arith, tests)
+length_stays (byte ∷ first ∷ digits) more e = grind (arith, tests, length-append)
+
+-- what was taken tells by which kind all the bytes are refused, if the first is a byte
+taken_fault : (kind : ErrorKind) (bytes more : List ℕ) → (kind ≡ Truncated → more ≡ []) → TakenBeforeRefusal kind bytes
+    → IsIoOrMemory kind ⊎ ((0 < length (bytes ++ more) → get_or (bytes ++ more) 0 0 < 256) → document_fault (bytes ++ more) ≡ Some kind)
+taken_fault Io bytes more end taken = inl (inl refl)
+taken_fault Memory bytes more end taken = inl (inr refl)
+taken_fault Truncated bytes more end (inl lacks) = rw (end refl, append-nil bytes)
+    (inr (λ small. any_headless (λ _. no_fault) end_fault bytes small lacks.none ∙ ap (λ kind. Some kind) lacks.fault_is))
+taken_fault Truncated bytes more end (inr cut) = rw (end refl, append-nil bytes)
+    (inr (λ small. any_short (λ _. no_fault) end_fault cut.tag cut.announced bytes cut.content cut.is_header cut.joined cut.few))
+taken_fault Tag bytes more end bad =
+    inr (rw bad.alone (λ small. rw (false_from_ne_true (is_tag bad.byte) (λ e. bad.bad (tag_from_test bad.byte (small (omega arith)) e))) refl))
+taken_fault Length bytes more end bad = inr (λ small.
+    any_headless (λ _. no_fault) end_fault (bytes ++ more) small (λ tag n rest is e. ⊎_elim
+    (λ longer. bad.bad.none tag n longer.after is longer.front)
+    (λ cut. cc (cut, bad.bad.fault_is))
+    (header_front tag n bytes more rest is e))
+    ∙ ap (λ kind. Some kind) (length_stays bytes more bad.bad.fault_is))
+taken_fault TrailingData bytes more end longer = inr (λ small.
+    let whole = longer.is_element in
+    any_at (λ _. no_fault) end_fault whole.tag whole.content (bytes ++ more) (longer.byte ∷ more) whole.is_header
+    (rw (longer.joined, append_assoc longer.front (longer.byte ∷ []) more, whole.spelled) refl))
+taken_fault kind bytes more end taken = absurd taken
+
+-- what is read isn't refused
+pub read_fault : (old new : Option (List ℕ)) (bytes : List ℕ) → ConsumesElement old new bytes → IfSome old (λ left. document_fault left ≡ None)
+read_fault None new bytes r = tt
+read_fault (Some all) None bytes r = absurd r.consumed
+read_fault (Some all) (Some left) bytes r = rw (r.consumed, r.at_end, append-nil bytes) (document_element bytes r.is_element)
+
+-- a kind that says something of the bytes is the fault of them all, if the first is a byte, and then P holds of them
+refused_fault : (kind : ErrorKind) (P : List ℕ → Type 0) (old new : Option (List ℕ)) → RefusesElement kind old new
+    → ((left : List ℕ) → ((0 < length left → get_or left 0 0 < 256) → document_fault left ≡ Some kind) → P left) → IsIoOrMemory kind ⊎ IfSome old P
+refused_fault kind P None new r from = inr tt
+refused_fault kind P (Some all) None r from = absurd r.consumed
+refused_fault kind P (Some all) (Some left) r from =
+    rw r.consumed (⊎_elim (λ other. inl other) (λ fault. inr (from (r.taken ++ left) fault)) (taken_fault kind r.taken left r.at_end r.by_kind))
+
+-- a kind that says something of the bytes is the fault of them all, where each is a byte
+pub refused_kind : (kind : ErrorKind) (old new : Option (List ℕ)) → RefusesElement kind old new
+    → IsIoOrMemory kind ⊎ IfSome old (λ left. All (λ byte. byte < 256) left → document_fault left ≡ Some kind)
+refused_kind kind old new r = refused_fault kind _ old new r (λ left fault all. fault (all 0 0))
+
+-- bytes that are refused by such a kind are no element
+pub refused_none : (kind : ErrorKind) (old new : Option (List ℕ)) → RefusesElement kind old new → IsIoOrMemory kind ⊎ IfSome old (λ left. ¬ (IsElement left))
+refused_none kind old new r =
+    refused_fault kind _ old new r (λ left fault is. cc (document_element left is, fault (λ _. rw is.spelled is.is_header.tag_byte.byte)))

@@ -1,20 +1,17 @@
-use Rattle.std.proofs.Common.{[], refl, ap, sym, ◌∙◌, append-nil}
+use Rattle.std.proofs.Common.{[], refl, ap, ◌∙◌, append-nil}
 use Rattle.std.proofs.lemmas.Bool.{false≢true}
 use Rattle.std.proofs.lemmas.Result.{err_from_is_err_and}
-use Rattle.sec1_der.specs.Elements.{element}
-use Rattle.sec1_der.specs.Readers.{Reader, reader_over}
+use Rattle.sec1_der.specs.Readers.{Reader}
 use Rattle.sec1_der.specs.Refusals.{end_fault}
 use Rattle.sec1_der.proofs.RefusalLemmas.{reads_on, trailing_fault, reader_at}
 use Rattle.sec1_der.proofs.reader.SliceReader.only_element.Goals as goal
 
 pub returns-in_err-value-clause-only : goal.returns-in_err-value-clause-only
-returns-in_err-value-clause-only g c content is within e =
-    absurd ((c.in_err-value.ensures.only content [] is within (e ∙ ap reader_over (sym (append-nil (element g.T.FixedTag.tag_byte content))))).0)
+returns-in_err-value-clause-only g c content is within e = absurd (c.in_err-value.ensures.only content [] is within (rw append-nil e)).0
 
 pub returns-in_err-finish-clause-only : goal.returns-in_err-finish-clause-only
 returns-in_err-finish-clause-only g c content is within e =
-    let read = c.in_ok-value.ensures.only content [] is within (e ∙ ap reader_over (sym (append-nil (element g.T.FixedTag.tag_byte content)))) in
-    absurd (false≢true (c.in_err-finish.ensures.only read.1))
+    absurd (false≢true (c.in_err-finish.ensures.only (c.in_ok-value.ensures.only content [] is within (rw append-nil e)).1))
 
 pub returns-in_err-finish-clause-kind : goal.returns-in_err-finish-clause-kind
 returns-in_err-finish-clause-kind g c fresh =

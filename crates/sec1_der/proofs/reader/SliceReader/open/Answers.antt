@@ -8,5 +8,4 @@ returns-in_err-any-clause-short c content within fresh short =
 
 pub returns-clause-short : goal.returns-clause-short
 returns-clause-short c content within fresh short =
-    let is = rw c.byte.ensures.value at c.byte.ensures.tag in
-    c.in_ok-any.ensures.short c.args.tag content (record { tag_byte = is; within = within }) fresh short
+    c.in_ok-any.ensures.short _ content (record { tag_byte = rw c.byte.ensures.value at c.byte.ensures.tag; within = within }) fresh short
