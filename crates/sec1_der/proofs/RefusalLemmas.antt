@@ -203,10 +203,9 @@ pub passes_field : {A : Type 0} (number tag : ℕ) (f : Fault) (field : Option A
     P inside × (length inside ≤ max_length) × HasReadElement (0xA0 + number) (element tag inside) old new))
     → IfNone field ((new ≡ old) × (slice_get old.unread 0 ≡ Some (0xA0 + number) → ⊥))
     → field_at number f no_fault old.unread ≡ None → GoesOn (field_at number f) old new
-passes_field number tag f None content P old new whole some none e = record {
-  whole = ap (λ (r : Reader). r.failed) none.0 ∙ whole;
-  next = λ g. rw (is_next_other (0xA0 + number) old.unread none.1) (ap (λ (r : Reader). g r.unread) (sym none.0));
-}
+passes_field number tag f None content P old new whole some none e =
+    let other = is_next_other (0xA0 + number) old.unread none.1 in
+    record { whole = ap (λ (r : Reader). r.failed) none.0 ∙ whole; next = λ g. rw other (ap (λ (r : Reader). g r.unread) (sym none.0)) }
 passes_field number tag f (Some value) content P old new whole some none e =
     goes_on (field_at number f) (λ inside. f (element tag inside)) (content value) _ old new some
     (λ inside is. (ap (λ (r : Reader). r.failed) is.2.read.is_whole, λ g. read_field number f g (element tag inside) old new is.2)) e

@@ -25,6 +25,10 @@ loop-missing-preserved g c =
     let (count, read, sum, _) = c.loop-missing.invariant in
     let size : length c.fill.new.buf ≡ c.min-step.result = grind (arith, common_steps) in
     let front : take c.len-held.result c.deref_mut.result.now ≡ c.loop-missing.bytes.items = grind (arith, common_steps) in
-    let all = take_all c.in_ok-fill.field-0 c.fill.new.buf (omega arith) in
-    (count + c.min-step.result, reads_more _ _ _ _ _ _ _ _ read
-    (record { bytes = _; consumed = rw all at c.in_ok-fill.ensures.bytes; appended = grind (arith, common_steps); count = size }), omega arith, search rules)
+    let all = take_all c.in_ok-fill.field-0 c.fill.new.buf (omega arith) in (
+      count + c.min-step.result,
+      reads_more _ _ _ _ _ _ _ _ read
+          (record { bytes = _; consumed = rw all at c.in_ok-fill.ensures.bytes; appended = grind (arith, common_steps); count = size }),
+      omega arith,
+      search rules,
+    )
