@@ -36,11 +36,11 @@ pub take_byte : (buf : List ℕ) (n : ℕ) → length buf ≡ 1 → n ≤ length
 take_byte buf n one most some = grind (arith, common_steps, take_more)
 
 -- what was read onto bytes, and then more, was read onto them together
-pub reads_more : (old mid new : Option (List ℕ)) (start middle end : List ℕ) (n m : ℕ) → ReadsOnto old mid start middle n → ReadsOnto mid new middle end m
-    → ReadsOnto old new start end (n + m)
-reads_more old mid new start middle end n m read more =
+pub reads_more : (old mid new : Option (List ℕ)) (start middle end : List ℕ) (n m sum : ℕ) → ReadsOnto old mid start middle n → n + m ≡ sum
+    → ReadsOnto mid new middle end m → ReadsOnto old new start end sum
+reads_more old mid new start middle end n m sum read is more =
     let consumed = Consumes-trans old mid new read.bytes more.bytes read.consumed more.consumed in
-    let sum = length-append read.bytes more.bytes in
+    let lengths = length-append read.bytes more.bytes in
     record { bytes = _; consumed = consumed; appended = rw (more.appended, read.appended) (append_assoc start _ _); count = omega arith }
 
 -- ---- the header
