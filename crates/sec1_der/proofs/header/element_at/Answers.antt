@@ -1,5 +1,5 @@
 use Rattle.std.proofs.Common.{length, Err, sym, ap, ◌∙◌, arith, ⊎_elim}
-use Rattle.sec1_der.proofs.HeaderLemmas.{header_front, cut_short}
+use Rattle.sec1_der.proofs.HeaderLemmas.{header_front}
 use Rattle.sec1_der.proofs.RefusalLemmas.{any_short}
 use Rattle.sec1_der.proofs.header.element_at.Goals as goal
 
@@ -8,11 +8,6 @@ returns-in-Err-clause-short c tag content h short = ⊎_elim
     (λ whole. absurd (c.in-Err.ensures.only tag (length content) whole.after h whole.front))
     (λ lacks. ap Err (c.in-Err.ensures.kind ∙ lacks))
     (header_front tag (length content) c.args.input.now short.more content h (sym short.split))
-
-pub returns-clause-short : goal.returns-clause-short
-returns-clause-short c tag content h short =
-    let few = cut_short tag content c.args.input.now _ _ c.in-Ok.found.1.now short c.in-Ok.ensures.found.1 in
-    absurd (omega (arith, c.if-inside-get.false))
 
 pub returns-then-inside-get-clause-element : goal.returns-then-inside-get-clause-element
 returns-then-inside-get-clause-element c content behind =

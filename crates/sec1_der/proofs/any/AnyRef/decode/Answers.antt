@@ -1,7 +1,7 @@
 use Rattle.std.proofs.Common.{◌<◌, length, refl, sym, ap, arith, rules, ⊎_elim}
 use Rattle.sec1_der.specs.Readers.{Reader}
 use Rattle.sec1_der.specs.Refusals.{no_fault}
-use Rattle.sec1_der.proofs.HeaderLemmas.{header_front, cut_short}
+use Rattle.sec1_der.proofs.HeaderLemmas.{header_front}
 use Rattle.sec1_der.proofs.RefusalLemmas.{any_short, any_room, reader_at}
 use Rattle.sec1_der.proofs.any.AnyRef.decode.Goals as goal
 
@@ -19,12 +19,6 @@ returns-in_err-value-clause-kind c fresh =
     let kind = any_short (λ _. no_fault) no_fault _ _ c.args.reader.now.unread _ is (ap (λ (r : Reader). r.unread) read.was_whole) few in
     let truncated = c.in_err-value.ensures.kind whole refl in
     search rules
-
-pub returns-clause-short : goal.returns-clause-short
-returns-clause-short c tag content h fresh short =
-    let (is, read) = c.in_ok-header.ensures.found in
-    let few = cut_short tag content c.args.reader.now.unread _ _ c.decode.new.reader.unread short (ap (λ (r : Reader). r.unread) read.was_whole) in
-    absurd (omega (arith, (c.in_ok-value.ensures.within (ap (λ (r : Reader). r.failed) read.is_whole)).0 refl))
 
 pub returns-clause-kind : goal.returns-clause-kind
 returns-clause-kind c fresh =
