@@ -8,12 +8,12 @@ use Rattle.sec1_der.specs.ArcsOf.{arcs_of}
 use Rattle.sec1_der.specs.Elements.{max_length, element}
 use Rattle.sec1_der.specs.Readers.{Reader, HasReadElement}
 use Rattle.sec1_der.specs.Refusals.{Fault, no_fault, end_fault, element_fault, inside_fault, field_fault}
-use Rattle.sec1_der.proofs.RefusalLemmas.{alone, element_at, read_field, refused_field, inside_at_once, read_field_whole}
 use Rattle.sec1_der.specs.Contents.{are_bits, is_bit_string, bit_string_fault, whole_bits_fault, identifier_fault}
 use Rattle.sec1_der.specs.Identifiers.{IsIdentifier, is_identifier, content_of}
 use Rattle.sec1_der.specs.IdentifierLaws.{is_identifier-true, is_identifier-valid}
 use Rattle.sec1_der.specs.declared.error.ErrorKind.{ErrorKind}
 use Rattle.sec1_der.specs.declared.error.ErrorKind.TheVariants.{Value}
+use Rattle.sec1_der.proofs.RefusalLemmas.{alone, element_at, read_field, refused_field, inside_at_once, read_field_whole}
 use Rattle.sec1_der.proofs.IdentifierLemmas.{goes_on_from_spells}
 
 -- the content of an identifier isn't refused

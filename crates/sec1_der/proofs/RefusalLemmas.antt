@@ -1,5 +1,5 @@
 -- What the bytes of an element, and bytes that begin with none, are refused by.
-use Rattle.std.proofs.Common.{◌≡◌, ◌==◌, ℕ, ◌+◌, ◌-◌, ◌<◌, ◌≤◌, Bool, true, false, ◌&&◌, if◌then◌else◌, nat_le, List, [], ◌∷◌, ◌++◌, length, take, drop, get_or}
+use Rattle.std.proofs.Common.{◌≡◌, ◌==◌, ℕ, ◌+◌, ◌<◌, ◌≤◌, Bool, true, false, ◌&&◌, if◌then◌else◌, nat_le, List, [], ◌∷◌, ◌++◌, length, take, drop, get_or}
 use Rattle.std.proofs.Common.{Option, Some, None, IsSomeAnd, IfSome, IfNone, slice_get, Result, Ok, Err, ⊎_elim, refl, ap, sym, ◌∙◌, arith, tests, le-leb}
 use Rattle.std.proofs.Common.{leb-true, eq-eqb, ne_eqb, length-append, length-drop, append_assoc, append-nil, take-append-drop, bytes_eq}
 use Rattle.std.proofs.Math.Seq.{take-append_seam, drop-append_seam}

@@ -1,21 +1,21 @@
 -- Reading one element from a stream: what was taken, step by step, and what a refusal says of all the bytes that were left.
 use Rattle.std.proofs.Common.{◌≡◌, ℕ, ◌+◌, ◌<◌, ◌≤◌, List, [], ◌∷◌, ◌++◌, length, take, get_or, Option, ◌⊎◌, inl, inr, ⊎_elim, arith, refl, sym, ap, ◌∙◌}
 use Rattle.std.proofs.Common.{append-nil, append_assoc, length-append, tests, length-take-le, Some, None, IfSome, All}
-use Rattle.std.specs.Io.KnownBytes.{Consumes, Keeps, IsAtEnd}
 use Rattle.std.proofs.KnownBytes.{Consumes-nil, Consumes-trans, Consumes-kept}
 use Rattle.std.proofs.Math.Seq.{take-append-add}
 use Rattle.std.proofs.lemmas.Grind.{common_steps}
 use Rattle.std.proofs.lemmas.Bool.{cases_lt, false_from_ne_true}
 use Rattle.std.proofs.lemmas.List.{nil_from_length, take_more, take-append-le}
+use Rattle.std.specs.Io.KnownBytes.{Consumes, Keeps, IsAtEnd}
+use borrow.Rule.Slice.PartMut.{put_mid}
 use Rattle.sec1_der.specs.declared.error.ErrorKind.{ErrorKind}
 use Rattle.sec1_der.specs.declared.error.ErrorKind.TheVariants.{Truncated, TrailingData, Io, Memory, Tag, Length}
 use Rattle.sec1_der.specs.Elements.{IsElement, IsHeader, LacksHeader, header}
 use Rattle.sec1_der.specs.Faults.{header_fault, is_tag, IsIoOrMemory}
 use Rattle.sec1_der.specs.ReadsDocument.{HasHeaderFault, IsCutContent, TakenBeforeRefusal, RefusesElement, ReadsHeader, RefusesContent, ConsumesElement}
 use Rattle.sec1_der.specs.Streams.{ReadsOnto}
-use borrow.Rule.Slice.PartMut.{put_mid}
-use Rattle.sec1_der.proofs.HeaderLemmas.{longer, header_front}
 use Rattle.sec1_der.specs.Refusals.{no_fault, end_fault, document_fault}
+use Rattle.sec1_der.proofs.HeaderLemmas.{longer, header_front}
 use Rattle.sec1_der.proofs.RefusalLemmas.{document_element, any_at, any_headless, any_short, tag_from_test}
 
 -- ---- bytes that were read
