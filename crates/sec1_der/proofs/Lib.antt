@@ -17,5 +17,4 @@ pub mod ArcLemmas
 pub mod DottedLemmas
 pub mod DisplayLemmas
 pub mod StreamLemmas
-pub mod StreamRefusals
 pub mod UniqueLemmas

@@ -1,36 +1,23 @@
 -- What the bytes of an element, and bytes that begin with none, are refused by.
-use Rattle.std.proofs.Common.{◌≡◌, ◌==◌, ℕ, ◌+◌, ◌-◌, ◌%◌, ◌<◌, ◌≤◌, Bool, true, false, ◌&&◌, not, if◌then◌else◌, nat_lt, nat_le, List, [], ◌∷◌, ◌++◌}
-use Rattle.std.proofs.Common.{length, take, drop, get_or, Option, Some, None, IsSomeAnd, IfSome, IfNone, slice_get, Result, Ok, Err, ⊎_elim, refl, ap, sym, ◌∙◌}
-use Rattle.std.proofs.Common.{arith}
+use Rattle.std.proofs.Common.{◌≡◌, ◌==◌, ℕ, ◌+◌, ◌<◌, ◌≤◌, Bool, true, false, ◌&&◌, if◌then◌else◌, nat_le, List, [], ◌∷◌, ◌++◌, length, take, drop, get_or}
+use Rattle.std.proofs.Common.{Option, Some, None, IsSomeAnd, IfSome, IfNone, slice_get, Result, Ok, Err, ⊎_elim, refl, ap, sym, ◌∙◌, arith, tests, le-leb}
+use Rattle.std.proofs.Common.{leb-true, eq-eqb, ne_eqb, length-append, length-drop, append_assoc, append-nil, take-append-drop, bytes_eq}
 use Rattle.std.proofs.Math.Seq.{take-append_seam, drop-append_seam}
-use Rattle.std.proofs.lemmas.Bool.{le-ltb, le-leb, lt-leb, leb-true, eq-eqb, ne_eqb, eqb-false, not-true, and_parts, cond_both, cases_Bool}
-use Rattle.std.proofs.lemmas.List.{take_at, length-append, length-drop, append_assoc, append-nil, take-append-drop, drop_all}
+use Rattle.std.proofs.lemmas.Bool.{lt-leb, and_parts, cases_Bool}
 use Rattle.std.proofs.lemmas.Slice.Eq.{bytes_eq-Decides}
-use Rattle.std.proofs.lemmas.Int.Digits.{number_digits_of}
-use Rattle.std.specs.Int.Digits.{digits_of}
 use Rattle.std.specs.Option.{option_or}
-use Rattle.std.specs.Str.{bytes_eq}
 use Rattle.sec1_der.specs.Elements.{max_length, length_octets, header, element, IsTag, IsHeader, IsElement, LacksHeader}
 use Rattle.sec1_der.specs.Faults.{is_tag, length_fault, header_fault}
 use Rattle.sec1_der.specs.Readers.{Reader, reader_over, HasReadElement}
-use Rattle.sec1_der.specs.Refusals.{Fault, no_fault, end_fault, number_at, length_at, within, parts_fault, element_fault, is_next, inside_fault}
-use Rattle.sec1_der.specs.Refusals.{field_fault, any_fault, document_fault}
+use Rattle.sec1_der.specs.Refusals.{Fault, no_fault, end_fault, number_at, length_at, within, parts_fault, element_fault, is_next, inside_fault, field_fault}
+use Rattle.sec1_der.specs.Refusals.{any_fault, document_fault}
 use Rattle.sec1_der.specs.declared.error.ErrorKind.{ErrorKind}
 use Rattle.sec1_der.specs.declared.error.ErrorKind.TheVariants.{Truncated, Tag, TrailingData}
 use Rattle.sec1_der.proofs.DigitLemmas.{IsBytes}
 use Rattle.sec1_der.proofs.HeaderLemmas.{is_tag-true}
+use Rattle.sec1_der.proofs.LengthLemmas.{number_spelled}
 
 -- ---- lengths
-
--- what a length spells is its number
-number_spelled : (n : ℕ) (rest : List ℕ) → number_at (length_octets n ++ rest) ≡ n
-unfolding length_octets
-number_spelled n rest =
-    let digits = digits_of 256 n in
-    let k = 0x80 + length digits in
-    cond_both (nat_lt n 0x80) (n ∷ []) (k ∷ digits) (λ spelled. number_at (spelled ++ rest) ≡ n)
-    (λ e. rw e refl)
-    (λ e. rw (le-ltb k 0x80 (omega arith), take_at digits rest (k - 0x80) (omega arith), number_digits_of 256 n (omega arith)) refl)
 
 -- the length that the bytes begin with is found, and what stands behind it
 length_at_spelled : (n : ℕ) (rest : List ℕ) → n ≤ max_length → length_at (length_octets n ++ rest) ≡ Ok (n, rest)
@@ -42,76 +29,82 @@ length_at_spelled n rest fits =
 pub length_at_lacks : (bytes : List ℕ) → ((n : ℕ) (rest : List ℕ) → n ≤ max_length → bytes ≡ length_octets n ++ rest → ⊥)
     → length_at bytes ≡ Err (length_fault bytes)
 length_at_lacks bytes lacks =
-    let n = number_at bytes in
-    let front = take (length (length_octets n)) bytes in
-    let behind = drop (length (length_octets n)) bytes in
-    cond_both (nat_le n max_length && bytes_eq front (length_octets n)) (Ok (n, behind)) (Err (length_fault bytes)) (λ found. found ≡ Err (length_fault bytes))
-    (λ e. let parts = and_parts _ _ e in
-    let spelled = (bytes_eq-Decides front (length_octets n)).0 parts.1 in
-    absurd (lacks n behind (leb-true n max_length parts.0) (sym (take-append-drop (length (length_octets n)) bytes) ∙ ap (λ xs. xs ++ behind) spelled)))
-    (λ e. refl)
+    let octets = length_octets (number_at bytes) in
+    let front = take (length octets) bytes in
+    ⊎_elim
+    (λ e. let (fits, same) = and_parts _ _ e in
+    let spelled = rw ((bytes_eq-Decides front octets).0 same) at (sym (take-append-drop (length octets) bytes)) in
+    absurd (lacks _ _ (leb-true (number_at bytes) max_length fits) spelled))
+    (λ e. rw e refl)
+    (cases_Bool (nat_le (number_at bytes) max_length && bytes_eq front octets))
 
 -- ---- elements
 
 -- a header with less behind it than it announces is cut short
 pub any_short : (f : ℕ → Fault) (g : Fault) (tag n : ℕ) (bytes inside : List ℕ) → IsHeader tag n → bytes ≡ header tag n ++ inside → length inside < n
     → any_fault f g bytes ≡ Some Truncated
-any_short f g tag n bytes inside h e few =
-    rw (e, is_tag-true tag h.tag_byte, length_at_spelled n inside h.within, lt-leb n (length inside) few) refl
+any_short f g tag n bytes inside h e few = rw (e, is_tag-true tag h.tag_byte, length_at_spelled n inside h.within, lt-leb n (length inside) few) refl
 
 -- where a header has room for its content, the fault is that of the content, or else of the bytes behind it
 pub any_room : (f : ℕ → Fault) (g : Fault) (tag n : ℕ) (bytes inside : List ℕ) → IsHeader tag n → bytes ≡ header tag n ++ inside → n ≤ length inside
     → any_fault f g bytes ≡ option_or (f tag (take n inside)) (g (drop n inside))
-any_room f g tag n bytes inside h e fits =
-    rw (e, is_tag-true tag h.tag_byte, length_at_spelled n inside h.within, le-leb n (length inside) fits) refl
+any_room f g tag n bytes inside h e fits = rw (e, is_tag-true tag h.tag_byte, length_at_spelled n inside h.within, le-leb n (length inside) fits) refl
+
+-- the fault behind the first byte of an element is that of its content, or else of the bytes behind it
+parts_at : (f g : Fault) (content rest : List ℕ) → length content ≤ max_length
+    → parts_fault f g (within (length_at ((length_octets (length content) ++ content) ++ rest))) ≡ option_or (f content) (g rest)
+parts_at f g content rest fits =
+    let n = length content in
+    let room = le-leb n (length (content ++ rest)) (omega (arith, length-append content rest)) in
+    rw (append_assoc (length_octets n) content rest, length_at_spelled n (content ++ rest) fits, room)
+    (rw (take-append_seam content rest, drop-append_seam content rest) refl)
 
 -- the fault of an element of any tag is that of its content, or else of the bytes behind it
 pub any_at : (f : ℕ → Fault) (g : Fault) (tag : ℕ) (content bytes rest : List ℕ) → IsHeader tag (length content) → bytes ≡ element tag content ++ rest
     → any_fault f g bytes ≡ option_or (f tag content) (g rest)
-any_at f g tag content bytes rest h e =
-    let n = length content in
-    any_room f g tag n bytes (content ++ rest) h (e ∙ append_assoc (header tag n) content rest) (omega (arith, length-append content rest))
-    ∙ rw (take-append_seam content rest, drop-append_seam content rest) refl
+any_at f g tag content bytes rest h e = rw (e, is_tag-true tag h.tag_byte) (parts_at (f tag) g content rest h.within)
 
 -- the same of an element with this tag
 pub element_at : (f g : Fault) (tag : ℕ) (content bytes rest : List ℕ) → length content ≤ max_length → bytes ≡ element tag content ++ rest
     → element_fault tag f g bytes ≡ option_or (f content) (g rest)
-element_at f g tag content bytes rest fits e =
-    let n = length content in
-    let room = le-leb n (length (content ++ rest)) (omega (arith, length-append content rest)) in
-    rw (e ∙ append_assoc (header tag n) content rest, eq-eqb tag tag refl, length_at_spelled n (content ++ rest) fits)
-    (rw (room, take-append_seam content rest, drop-append_seam content rest) refl)
+element_at f g tag content bytes rest fits e = rw (e, eq-eqb tag tag refl) (parts_at f g content rest fits)
 
 -- a byte that passes the test is a tag
 pub tag_from_test : (byte : ℕ) → byte < 256 → is_tag byte ≡ true → IsTag byte
-tag_from_test byte small e =
-    let parts = and_parts (not (byte == 0)) (not (byte % 32 == 31)) e in record {
-      byte = small;
-      not_end_of_contents = eqb-false byte 0 (not-true (byte == 0) parts.0);
-      not_high = eqb-false (byte % 32) 31 (not-true (byte % 32 == 31) parts.1);
-    }
+tag_from_test byte small e = record { byte = small; not_end_of_contents = λ zero. grind (arith, tests); not_high = λ ones. grind (arith, tests) }
 
 -- bytes that begin with no header are refused by the fault of their header, if the first is a byte
-pub any_headless : (f : ℕ → Fault) (g : Fault) (bytes : List ℕ) → get_or bytes 0 0 < 256 → LacksHeader bytes → any_fault f g bytes ≡ Some (header_fault bytes)
+pub any_headless : (f : ℕ → Fault) (g : Fault) (bytes : List ℕ) → (0 < length bytes → get_or bytes 0 0 < 256) → LacksHeader bytes
+    → any_fault f g bytes ≡ Some (header_fault bytes)
 any_headless f g [] small lacks = refl
 any_headless f g (byte ∷ bytes) small lacks = ⊎_elim
-    (λ e. let is : (n : ℕ) → n ≤ max_length → IsHeader byte n = λ n fits. record { tag_byte = tag_from_test byte small e; within = fits } in
-    let none = length_at_lacks bytes (λ n rest fits same. lacks byte n rest (is n fits) (ap (λ xs. byte ∷ xs) same)) in
-    rw (e, none) refl)
+    (λ e. let is : IsTag byte = tag_from_test byte (small (omega arith)) e in
+    rw (e, length_at_lacks bytes (λ n rest fits same. lacks byte n rest (record { tag_byte = is; within = fits }) (ap (λ xs. byte ∷ xs) same))) refl)
     (λ e. rw e refl)
     (cases_Bool (is_tag byte))
 
 -- the same, where each is a byte
 pub any_lacks : (f : ℕ → Fault) (g : Fault) (bytes : List ℕ) → IsBytes bytes → LacksHeader bytes → any_fault f g bytes ≡ Some (header_fault bytes)
-any_lacks f g bytes all lacks = any_headless f g bytes (all 0) lacks
+any_lacks f g bytes all lacks = any_headless f g bytes (λ _. all 0) lacks
 
 -- ---- one element after another
 
 -- the fault of an element that a reader read is that of its content, or else of the bytes behind it
 pub read_element : (f g : Fault) (tag : ℕ) (content : List ℕ) (old new : Reader) → HasReadElement tag content old new
     → element_fault tag f g old.unread ≡ option_or (f content) (g new.unread)
-read_element f g tag content old new h =
-    element_at f g tag content old.unread new.unread h.within (ap (λ (r : Reader). r.unread) h.read.was_whole)
+read_element f g tag content old new h = element_at f g tag content old.unread new.unread h.within (ap (λ (r : Reader). r.unread) h.read.was_whole)
+
+-- a fault with none behind it is the fault
+pub alone : (o : Option ErrorKind) → option_or o None ≡ o
+alone None = refl
+alone (Some k) = refl
+
+-- where the content of an element was opened, the fault of the element is that of the content
+pub opened_element : (f : Fault) (tag opened : ℕ) (old new content : Reader) (found : Option ErrorKind)
+    → (content ≡ reader_over content.unread) × HasReadElement opened content.unread old new → opened ≡ tag
+    → (content.failed ≡ false → f content.unread ≡ found) → element_fault tag f no_fault old.unread ≡ found
+opened_element f tag opened old new content found is same kind =
+    read_element f no_fault tag content.unread old new (rw same at is.1) ∙ (alone _ ∙ kind (ap (λ (r : Reader). r.failed) is.0))
 
 -- two faults of an element are alike if those of its parts are
 element_alike : (Alike : Option ErrorKind → Option ErrorKind → Type 0) (f g h k : Fault) (tag : ℕ) (bytes : List ℕ)
@@ -127,11 +120,6 @@ element_alike Alike f g h k tag (byte ∷ bytes) same parts = by (byte == tag) (
     by true (Err kind) = same kind
     by true (Ok x) = parts x.0 x.1
 
--- a fault with none behind it is the fault
-pub alone : (o : Option ErrorKind) → option_or o None ≡ o
-alone None = refl
-alone (Some k) = refl
-
 -- what is refused stays so where more is tested
 refused_more : (f h g : Fault) (tag : ℕ) (bytes : List ℕ) (k : ErrorKind) → ((content : List ℕ) → f content ≡ Some k → h content ≡ Some k)
     → element_fault tag f no_fault bytes ≡ Some k → element_fault tag h g bytes ≡ Some k
@@ -144,25 +132,22 @@ pub record GoesOn (fault : Fault → Fault) (old new : Reader) : Type 0 where
   pub whole : new.failed ≡ false
   pub next : (g : Fault) → fault g old.unread ≡ g new.unread
 
--- a reader goes on behind an element of which nothing is refused
-goes_on : (fault : Fault → Fault) (found : Option ErrorKind) (tag : ℕ) (content : List ℕ) (old new : Reader) → HasReadElement tag content old new
-    → ((g : Fault) → fault g old.unread ≡ option_or found (g new.unread)) → fault no_fault old.unread ≡ None → GoesOn fault old new
-goes_on fault found tag content old new h read none =
-    let first : found ≡ None = sym (alone found) ∙ (sym (read no_fault) ∙ none) in
-    record { whole = ap (λ (r : Reader). r.failed) h.read.is_whole; next = λ g. read g ∙ rw first refl }
-
--- an option that is there, with what holds of its value
-some_and : {T : Type 0} {P : T → Type 0} (o : Option T) → IsSomeAnd o P → (x : T) × P x
-some_and None h = absurd h
-some_and (Some x) h = (x, h)
+-- a reader goes on behind an element that is there, and of which nothing is refused
+goes_on : (fault : Fault → Fault) (found : Fault) (content : Option (List ℕ)) (P : List ℕ → Type 0) (old new : Reader) → IsSomeAnd content P
+    → ((inside : List ℕ) → P inside → (new.failed ≡ false) × ((g : Fault) → fault g old.unread ≡ option_or (found inside) (g new.unread)))
+    → fault no_fault old.unread ≡ None → GoesOn fault old new
+goes_on fault found None P old new some read none = absurd some
+goes_on fault found (Some inside) P old new some read none =
+    let (whole, same) = read inside some in
+    let first : found inside ≡ None = sym (alone (found inside)) ∙ (sym (same no_fault) ∙ none) in
+    record { whole = whole; next = λ g. same g ∙ rw first refl }
 
 -- a reader goes on behind an element that was read
 pub reads_on : (f : Fault) (tag : ℕ) (content : Option (List ℕ)) (P : List ℕ → Type 0) (old new : Reader)
     → IsSomeAnd content (λ inside. P inside × HasReadElement tag inside old new) → element_fault tag f no_fault old.unread ≡ None
     → GoesOn (element_fault tag f) old new
-reads_on f tag content P old new h none =
-    let (inside, is) = some_and content h in
-    goes_on (element_fault tag f) (f inside) tag inside old new is.1 (λ g. read_element f g tag inside old new is.1) none
+reads_on f tag content P old new some none = goes_on (element_fault tag f) f content _ old new some
+    (λ inside is. (ap (λ (r : Reader). r.failed) is.1.read.is_whole, λ g. read_element f g tag inside old new is.1)) none
 
 -- a reader that hasn't refused is known by its bytes
 pub reader_at : (r : Reader) (bytes : List ℕ) → r.unread ≡ bytes → r.failed ≡ false → r ≡ reader_over bytes
@@ -178,11 +163,6 @@ pub document_element : (bytes : List ℕ) → IsElement bytes → document_fault
 document_element bytes is =
     any_at (λ _. no_fault) end_fault is.tag is.content bytes [] is.is_header (is.spelled ∙ sym (append-nil (element is.tag is.content)))
 
--- a header and just the content that it announces aren't refused
-pub document_whole : (tag n : ℕ) (bytes inside : List ℕ) → IsHeader tag n → bytes ≡ header tag n ++ inside → n ≡ length inside → document_fault bytes ≡ None
-document_whole tag n bytes inside h e same =
-    any_room (λ _. no_fault) end_fault tag n bytes inside h e (omega arith) ∙ ap end_fault (drop_all n inside (omega arith))
-
 -- a header and more than the content that it announces are refused as trailing data
 pub document_long : (tag n : ℕ) (bytes inside : List ℕ) → IsHeader tag n → bytes ≡ header tag n ++ inside → n < length inside
     → document_fault bytes ≡ Some TrailingData
@@ -196,11 +176,6 @@ document_long tag n bytes inside h e more =
 abbrev pub field_at : ℕ → Fault → Fault → Fault
 field_at number inside behind bytes = if is_next (0xA0 + number) bytes then element_fault (0xA0 + number) inside behind bytes else behind bytes
 
--- a tag is next where it is the first byte
-is_next_first : (tag : ℕ) (bytes : List ℕ) → slice_get bytes 0 ≡ Some tag → is_next tag bytes ≡ true
-is_next_first tag [] e = absurd (cc e)
-is_next_first tag (byte ∷ bytes) e = eq-eqb byte tag (cc e)
-
 -- a tag isn't next where it isn't the first byte
 is_next_other : (tag : ℕ) (bytes : List ℕ) → (slice_get bytes 0 ≡ Some tag → ⊥) → is_next tag bytes ≡ false
 is_next_other tag [] other = refl
@@ -209,19 +184,17 @@ is_next_other tag (byte ∷ bytes) other = ne_eqb byte tag (λ same. other (ap (
 -- a field that is refused stays so where more is tested of its content, and of the bytes behind it
 pub refused_field : (number : ℕ) (f h g : Fault) (bytes : List ℕ) (k : ErrorKind) → ((content : List ℕ) → f content ≡ Some k → h content ≡ Some k)
     → field_at number f no_fault bytes ≡ Some k → field_at number h g bytes ≡ Some k
-refused_field number f h g bytes k more = by (is_next (0xA0 + number) bytes)
-  where
-    by : (b : Bool) → (if b then element_fault (0xA0 + number) f no_fault bytes else None) ≡ Some k
-        → (if b then element_fault (0xA0 + number) h g bytes else g bytes) ≡ Some k
-    by false e = absurd (cc e)
-    by true e = refused_more f h g (0xA0 + number) bytes k more e
+refused_field number f h g bytes k more e = ⊎_elim
+    (λ next. rw next (refused_more f h g (0xA0 + number) bytes k more (rw next at e)))
+    (λ other. absurd (cc (rw other at e)))
+    (cases_Bool (is_next (0xA0 + number) bytes))
 
 -- the fault of a field that was read is that of its content, or else of the bytes behind it
 pub read_field : (number : ℕ) (f g : Fault) (content : List ℕ) (old new : Reader) → HasReadElement (0xA0 + number) content old new
     → field_at number f g old.unread ≡ option_or (f content) (g new.unread)
 read_field number f g content old new h =
-    let next = is_next_first (0xA0 + number) old.unread (ap (λ (r : Reader). slice_get r.unread 0) h.read.was_whole) in
-    rw next (read_element f g (0xA0 + number) content old new h)
+    let tag = 0xA0 + number in
+    rw (ap (λ (r : Reader). r.unread) h.read.was_whole, eq-eqb tag tag refl) (parts_at f g content new.unread h.within)
 
 -- a reader goes on behind a field that was read, and where none is next
 pub passes_field : {A : Type 0} (number tag : ℕ) (f : Fault) (field : Option A) (content : A → Option (List ℕ)) (P : List ℕ → Type 0) (old new : Reader)
@@ -230,14 +203,12 @@ pub passes_field : {A : Type 0} (number tag : ℕ) (f : Fault) (field : Option A
     P inside × (length inside ≤ max_length) × HasReadElement (0xA0 + number) (element tag inside) old new))
     → IfNone field ((new ≡ old) × (slice_get old.unread 0 ≡ Some (0xA0 + number) → ⊥))
     → field_at number f no_fault old.unread ≡ None → GoesOn (field_at number f) old new
-passes_field number tag f None content P old new whole some none e = record {
-  whole = ap (λ (r : Reader). r.failed) none.0 ∙ whole;
-  next = λ g. rw (is_next_other (0xA0 + number) old.unread none.1) (ap (λ (r : Reader). g r.unread) (sym none.0));
-}
+passes_field number tag f None content P old new whole some none e =
+    let other = is_next_other (0xA0 + number) old.unread none.1 in
+    record { whole = ap (λ (r : Reader). r.failed) none.0 ∙ whole; next = λ g. rw other (ap (λ (r : Reader). g r.unread) (sym none.0)) }
 passes_field number tag f (Some value) content P old new whole some none e =
-    let (inside, is) = some_and (content value) some in
-    let bytes = element tag inside in
-    goes_on (field_at number f) (f bytes) (0xA0 + number) bytes old new is.2 (λ g. read_field number f g bytes old new is.2) e
+    goes_on (field_at number f) (λ inside. f (element tag inside)) (content value) _ old new some
+    (λ inside is. (ap (λ (r : Reader). r.failed) is.2.read.is_whole, λ g. read_field number f g (element tag inside) old new is.2)) e
 
 -- where nothing is checked late, the fault of a field's content is that of the one element
 pub inside_at_once : (tag : ℕ) (f : Fault) (bytes : List ℕ) → inside_fault tag (λ _. false) f bytes ≡ element_fault tag f end_fault bytes
@@ -254,3 +225,11 @@ pub read_field_whole : (number tag : ℕ) (f : Fault) (content : List ℕ) (old 
     → field_fault number tag (λ _. false) f no_fault old.unread ≡ element_fault tag f end_fault content
 read_field_whole number tag f content old new h =
     read_field number (inside_fault tag (λ _. false) f) no_fault content old new h ∙ (alone _ ∙ inside_at_once tag f content)
+
+-- where the content of a field was opened, the fault of the field is that of the one element in it
+pub opened_field : (number tag : ℕ) (f : Fault) (opened : ℕ) (old new content : Reader) (found : Option ErrorKind)
+    → (content ≡ reader_over content.unread) × HasReadElement opened content.unread old new → opened ≡ 0xA0 + number
+    → (content.failed ≡ false → element_fault tag f end_fault content.unread ≡ found)
+    → field_fault number tag (λ _. false) f no_fault old.unread ≡ found
+opened_field number tag f opened old new content found is same kind =
+    read_field_whole number tag f content.unread old new (rw same at is.1) ∙ kind (ap (λ (r : Reader). r.failed) is.0)

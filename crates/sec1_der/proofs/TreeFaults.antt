@@ -14,7 +14,7 @@ use Rattle.sec1_der.specs.declared.error.ErrorKind.TheVariants.{Truncated, Depth
 use Rattle.sec1_der.specs.declared.tree.TheConstants.{MAX_DEPTH}
 use Rattle.sec1_der.proofs.CheckLemmas.{IsCounted}
 use Rattle.sec1_der.proofs.DigitLemmas.{IsBytes}
-use Rattle.sec1_der.proofs.HeaderLemmas.{longer, header_front, header_apart, cut_short}
+use Rattle.sec1_der.proofs.HeaderLemmas.{longer, header_front, header_apart, some_length}
 use Rattle.sec1_der.proofs.RefusalLemmas.{any_at, any_lacks, any_short}
 use Rattle.sec1_der.proofs.TreeLemmas.{some_bytes, tree_apart}
 use Rattle.sec1_der.proofs.TreeRefusals.{leaf_passes, row_at, row_some, row_deep, tree_next}
@@ -74,7 +74,8 @@ element_cut f g tag content input all h cut = ⊎_elim
     (λ k. ap Some k)
     (header_front tag (length content) input cut.more content h (sym cut.split)))
     (λ l. let c = longer input (header tag (length content)) cut.more content (sym cut.split) l in
-    any_short f g tag (length content) input c.after h c.front (cut_short tag content input tag (length content) c.after cut c.front))
+    any_short f g tag (length content) input c.after h c.front
+    (omega (arith, ap length c.back, length-append c.after cut.more, some_length cut.more cut.some)))
     (cases_lt (length input) (length (header tag (length content))))
   where
     lacks : length input < length (header tag (length content)) → LacksHeader input

@@ -46,6 +46,7 @@ impl<'a> AnyRef<'a> {
     ///
     /// Those of [`Header::decode`](crate::Header::decode), then Truncated if the input ends inside the content. The
     /// reader has failed then.
+    #[tactic(auto, using(crate::proofs::HeaderLemmas::fronts))]
     pub fn decode(reader: &mut SliceReader<'a>) -> Result<AnyRef<'a>>
         ensures found { IfOk result (λ any. IsHeader (tag_of any) (length (value_of any))
             × HasRead (element (tag_of any) (value_of any)) reader.old reader.new) }

@@ -35,7 +35,7 @@ impl SecretDocument {
     ///
     /// Those of [`Header::decode`](crate::Header::decode), then Truncated if the input ends inside the content,
     /// TrailingData if bytes follow it, and Memory if the allocation fails.
-    #[tactic(auto, using(crate::proofs::RefusalLemmas::document_long, crate::proofs::RefusalLemmas::document_whole))]
+    #[tactic(auto, using(crate::proofs::HeaderLemmas::fronts, crate::proofs::RefusalLemmas::document_element, crate::proofs::RefusalLemmas::document_long))]
     pub fn from_der(alloc: Global, bytes: &[u8]) -> Result<SecretDocument>
         ensures found { IfOk result (λ document. (document ≡ bytes.now) × IsElement bytes.now) }
         ensures only { IsElement bytes.now

@@ -108,7 +108,7 @@ impl Header {
 }
 
 /// Returns the header at the beginning of the bytes, and the bytes after it, which are at least as many as it announces.
-#[tactic(auto, using(crate::proofs::HeaderLemmas::header_fault_kinds))]
+#[tactic(auto, using(crate::proofs::HeaderLemmas::fronts, crate::proofs::HeaderLemmas::header_fault_kinds))]
 pub(crate) fn element_at(input: &[u8]) -> First<'_, Header>
     ensures kinds { IfErr result IsHeaderFault }
     ensures found { IfOk result (λ x. IsHeader x.0.tag x.0.length
@@ -135,6 +135,7 @@ pub(crate) fn element_at(input: &[u8]) -> First<'_, Header>
 }
 
 /// Returns the header at the beginning of the bytes, and the bytes after it.
+#[tactic(auto, using(crate::proofs::LengthLemmas::length_front))]
 pub(crate) fn header_at(bytes: &[u8]) -> First<'_, Header>
     ensures found { IfOk result (λ x. IsHeader x.0.tag x.0.length
         × (bytes.now ≡ header x.0.tag x.0.length ++ x.1.now)) }
@@ -158,7 +159,7 @@ pub(crate) fn header_at(bytes: &[u8]) -> First<'_, Header>
 }
 
 /// Returns the length at the beginning of the bytes, and the bytes after it.
-#[tactic(auto, unfolding(crate::specs::Elements::length_octets))]
+#[tactic(auto, using(crate::proofs::LengthLemmas::len_shape), unfolding(crate::specs::Elements::length_octets))]
 fn length_at(bytes: &[u8]) -> First<'_, Length>
     ensures found { IfOk result (λ x. (x.0 ≤ max_length) × (bytes.now ≡ length_octets x.0 ++ x.1.now)) }
     ensures only { (n : ℕ) (rest : List ℕ) → n ≤ max_length → bytes.now ≡ length_octets n ++ rest → IsOk result }

@@ -30,7 +30,7 @@ impl SecretDocument {
     /// Tag if the first byte is no tag; Length at the first byte of the header that can't be in a length of DER (X.690
     /// sections 8.1.3 and 10.1); Truncated if the input ends inside the element; TrailingData if one byte follows it;
     /// Io if a read failed; Memory if an allocation failed.
-    #[tactic(auto, using(crate::proofs::StreamRefusals::refused_kind, crate::proofs::StreamRefusals::refused_none, crate::proofs::StreamRefusals::read_fault))]
+    #[tactic(auto, using(crate::proofs::StreamLemmas::refused_kind, crate::proofs::StreamLemmas::refused_none, crate::proofs::StreamLemmas::read_fault))]
     pub fn read_der_from<R: Read>(alloc: Global, reader: &mut R) -> Result<SecretDocument>
         requires { R.failed reader.old ≡ false }
         // Io comes exactly where a read failed.

@@ -1,5 +1,5 @@
 use Rattle.std.proofs.Common.{length, Err, sym, ap, ◌∙◌, arith, ⊎_elim}
-use Rattle.sec1_der.proofs.HeaderLemmas.{header_front, cut_short}
+use Rattle.sec1_der.proofs.HeaderLemmas.{header_front}
 use Rattle.sec1_der.proofs.RefusalLemmas.{any_short}
 use Rattle.sec1_der.proofs.header.element_at.Goals as goal
 
@@ -9,13 +9,6 @@ returns-in-Err-clause-short c tag content h short = ⊎_elim
     (λ lacks. ap Err (c.in-Err.ensures.kind ∙ lacks))
     (header_front tag (length content) c.args.input.now short.more content h (sym short.split))
 
-pub returns-clause-short : goal.returns-clause-short
-returns-clause-short c tag content h short =
-    let few = cut_short tag content c.args.input.now c.in-Ok.found.0.tag c.in-Ok.found.0.length c.in-Ok.found.1.now short c.in-Ok.ensures.found.1 in
-    absurd (omega (arith, c.get.ensures.value, c.if-inside-get.false))
-
 pub returns-then-inside-get-clause-element : goal.returns-then-inside-get-clause-element
 returns-then-inside-get-clause-element c content behind =
-    let f = c.in-Ok.ensures.found in
-    any_short content behind c.in-Ok.found.0.tag c.in-Ok.found.0.length c.args.input.now c.in-Ok.found.1.now f.0 f.1
-    (omega (arith, c.if-inside-get.true, c.get.ensures.value))
+    let (is, read) = c.in-Ok.ensures.found in any_short content behind _ _ c.args.input.now _ is read (omega (arith, c.if-inside-get.true))

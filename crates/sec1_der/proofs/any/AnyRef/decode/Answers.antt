@@ -1,8 +1,7 @@
 use Rattle.std.proofs.Common.{◌<◌, length, refl, sym, ap, arith, rules, ⊎_elim}
-use Rattle.std.proofs.lemmas.Bool.{cases_lt}
 use Rattle.sec1_der.specs.Readers.{Reader}
 use Rattle.sec1_der.specs.Refusals.{no_fault}
-use Rattle.sec1_der.proofs.HeaderLemmas.{header_front, cut_short}
+use Rattle.sec1_der.proofs.HeaderLemmas.{header_front}
 use Rattle.sec1_der.proofs.RefusalLemmas.{any_short, any_room, reader_at}
 use Rattle.sec1_der.proofs.any.AnyRef.decode.Goals as goal
 
@@ -14,26 +13,15 @@ returns-in_err-header-clause-short c tag content h fresh short = ⊎_elim
 
 pub returns-in_err-value-clause-kind : goal.returns-in_err-value-clause-kind
 returns-in_err-value-clause-kind c fresh =
-    let unread = ap (λ (r : Reader). r.unread) c.in_ok-header.ensures.found.1.was_whole in
-    let whole = ap (λ (r : Reader). r.failed) c.in_ok-header.ensures.found.1.is_whole in
-    let few : length c.decode.new.reader.unread < c.in_ok-header.header.length =
-    ⊎_elim (λ few. few) (λ fits. absurd (cc ((c.in_err-value.ensures.within whole).1 fits))) (cases_lt _ _) in
-    let kind = any_short (λ _. no_fault) no_fault c.in_ok-header.header.tag c.in_ok-header.header.length c.args.reader.now.unread c.decode.new.reader.unread
-    c.in_ok-header.ensures.found.0 unread few in
+    let (is, read) = c.in_ok-header.ensures.found in
+    let whole = ap (λ (r : Reader). r.failed) read.is_whole in
+    let few : length c.decode.new.reader.unread < c.in_ok-header.header.length = grind (arith, (c.in_err-value.ensures.within whole).1) in
+    let kind = any_short (λ _. no_fault) no_fault _ _ c.args.reader.now.unread _ is (ap (λ (r : Reader). r.unread) read.was_whole) few in
     let truncated = c.in_err-value.ensures.kind whole refl in
     search rules
 
-pub returns-clause-short : goal.returns-clause-short
-returns-clause-short c tag content h fresh short =
-    let header = c.in_ok-header.header in
-    let read = c.in_ok-header.ensures.found.1 in
-    let few = cut_short tag content c.args.reader.now.unread header.tag header.length c.decode.new.reader.unread short
-    (ap (λ (r : Reader). r.unread) read.was_whole) in
-    absurd (omega (arith, (c.in_ok-value.ensures.within (ap (λ (r : Reader). r.failed) read.is_whole)).0 refl))
-
 pub returns-clause-kind : goal.returns-clause-kind
 returns-clause-kind c fresh =
-    let unread = ap (λ (r : Reader). r.unread) c.in_ok-header.ensures.found.1.was_whole in
-    any_room (λ _. no_fault) no_fault c.in_ok-header.header.tag c.in_ok-header.header.length c.args.reader.now.unread c.decode.new.reader.unread
-    c.in_ok-header.ensures.found.0 unread
-    ((c.in_ok-value.ensures.within (ap (λ (r : Reader). r.failed) c.in_ok-header.ensures.found.1.is_whole)).0 refl)
+    let (is, read) = c.in_ok-header.ensures.found in
+    any_room (λ _. no_fault) no_fault _ _ c.args.reader.now.unread _ is (ap (λ (r : Reader). r.unread) read.was_whole)
+    ((c.in_ok-value.ensures.within (ap (λ (r : Reader). r.failed) read.is_whole)).0 refl)

@@ -1,8 +1,8 @@
-use Rattle.std.proofs.Common.{ap, arith, inr}
+use Rattle.std.proofs.Common.{ap, rules, inr}
 use Rattle.std.proofs.lemmas.Result.{err_from_is_err_and}
 use Rattle.sec1_der.specs.Refusals.{no_fault, end_fault}
 use Rattle.sec1_der.specs.declared.error.Error.{Error}
-use Rattle.sec1_der.proofs.RefusalLemmas.{document_element, document_whole, document_long}
+use Rattle.sec1_der.proofs.RefusalLemmas.{document_element}
 use Rattle.sec1_der.proofs.document.SecretDocument.from_der.Goals as goal
 
 pub returns-in-Err-clause-only : goal.returns-in-Err-clause-only
@@ -11,24 +11,10 @@ returns-in-Err-clause-only c is = absurd (cc (c.in-Err.ensures.element (λ _. no
 pub returns-in-Err-clause-short : goal.returns-in-Err-clause-short
 returns-in-Err-clause-short c tag content allowed short = cc (c.in-Err.ensures.short tag content allowed short)
 
-pub returns-then-inside-get-clause-only : goal.returns-then-inside-get-clause-only
-returns-then-inside-get-clause-only c is =
-    let found = c.in-Ok.ensures.found in
-    let long = document_long _ _ c.args.bytes.now _ found.0 found.1 (omega (arith, c.get.ensures.value, c.if-inside-get.true)) in
-    absurd (cc (long, document_element c.args.bytes.now is))
-
-pub returns-then-inside-get-clause-short : goal.returns-then-inside-get-clause-short
-returns-then-inside-get-clause-short c tag content allowed short = absurd (cc (c.in-Ok.ensures.short tag content allowed short))
-
-pub returns-in_err-bytes-clause-short : goal.returns-in_err-bytes-clause-short
-returns-in_err-bytes-clause-short c tag content allowed short = absurd (cc (c.in-Ok.ensures.short tag content allowed short))
-
 pub returns-in_err-bytes-clause-kind : goal.returns-in_err-bytes-clause-kind
 returns-in_err-bytes-clause-kind c =
-    let found = c.in-Ok.ensures.found in
-    let none = document_whole _ _ c.args.bytes.now _ found.0 found.1 (omega (arith, c.get.ensures.value, c.if-inside-get.false, found.2)) in
     let refusal = err_from_is_err_and c.from_residual.result c.from_residual.ensures.1 in
-    rw refusal.1 (inr (ap (λ (e : Error). e.kind) refusal.2, none))
+    rw refusal.1 (inr (ap (λ (e : Error). e.kind) refusal.2, document_element c.args.bytes.now (search rules)))
 
-pub returns-clause-short : goal.returns-clause-short
-returns-clause-short c tag content allowed short = cc (c.in-Ok.ensures.short tag content allowed short)
+pub returns-clause-kind : goal.returns-clause-kind
+returns-clause-kind c = document_element c.args.bytes.now (search rules)

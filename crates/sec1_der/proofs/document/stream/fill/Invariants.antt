@@ -6,7 +6,6 @@ abbrev pub invariant-loop-count : goal.invariant-loop-count
 invariant-loop-count g l = record {
   consumed : Consumes (g.R.Read.left l.initial.reader) (g.R.Read.left l.reader) (take l.count l.buf);
   few : l.count ≤ length l.buf;
-  size : length l.buf ≡ length l.initial.buf;
   unfailed : g.R.Read.failed l.reader ≡ false;
 }
 

@@ -1,6 +1,5 @@
-use Rattle.std.proofs.Common.{◌≡◌, ◌<◌, ◌+◌, length, take, arith, rules, refl, inl, inr}
+use Rattle.std.proofs.Common.{◌≡◌, length, take, arith, rules, refl, inl, inr, take_all}
 use Rattle.std.proofs.lemmas.Grind.{common_steps}
-use Rattle.std.proofs.lemmas.List.{take_all}
 use Rattle.std.proofs.lemmas.Result.{err_from_is_err_and}
 use Rattle.sec1_der.specs.declared.error.ErrorKind.TheVariants.{Truncated, Io}
 use Rattle.sec1_der.proofs.StreamLemmas.{reads_more, refused_part}
@@ -8,34 +7,25 @@ use Rattle.sec1_der.proofs.document.stream.read_content.Goals as goal
 
 pub returns-in_err-fill-clause-refused : goal.returns-in_err-fill-clause-refused
 returns-in_err-fill-clause-refused g c =
-    let (count, read, sum, _) = c.loop-missing.invariant in
     let fewer = c.in_err-fill.ensures.few in
-    let size : length c.fill.new.buf ≡ c.min-step.result = grind (arith, common_steps) in
-    let few : length fewer.bytes < c.loop-missing.missing = omega (arith, fewer.few, size, c.fill.auto.buf, c.min-step.ensures) in
     let p = err_from_is_err_and c.from_residual-in_err-fill.result c.from_residual-in_err-fill.ensures.1 in
-    rw (p.1, p.2) (refused_part Io _ _ _ _ _ _ _ _ read sum
-    (record { taken = fewer.bytes; consumed = fewer.consumed; few = few; kinds = inr (inl refl); at_end = λ e. absurd (cc e) }))
+    rw (p.1, p.2) (refused_part Io _ _ _ _ _ _ c.loop-missing.missing _ c.loop-missing.invariant.read (omega arith)
+    (record { taken = fewer.bytes; consumed = fewer.consumed; few = grind (arith, common_steps); kinds = inr (inl refl); at_end = λ e. absurd (cc e) }))
 
 pub returns-then-branch-step-clause-refused : goal.returns-then-branch-step-clause-refused
 returns-then-branch-step-clause-refused g c =
-    let (count, read, sum, _) = c.loop-missing.invariant in
     let fill = c.in_ok-fill.ensures in
-    let front = take c.in_ok-fill.field-0 c.fill.new.buf in
-    let size : length c.fill.new.buf ≡ c.min-step.result = grind (arith, common_steps) in
-    let few : length front < c.loop-missing.missing = grind (arith, common_steps) in
-    rw c.into.ensures (refused_part Truncated _ _ _ _ _ _ _ _ read sum
-    (record { taken = front; consumed = fill.bytes; few = few; kinds = inl refl; at_end = λ _. fill.end (omega (arith, size, c.if-branch-step.true)) }))
+    rw c.into.ensures (refused_part Truncated _ _ _ _ _ _ c.loop-missing.missing _ c.loop-missing.invariant.read (omega arith)
+    (record { taken = _; consumed = fill.bytes; few = grind (arith, common_steps); kinds = inl refl; at_end = λ _. fill.end (grind (arith, common_steps)) }))
 
 pub loop-missing-preserved : goal.loop-missing-preserved
 loop-missing-preserved g c =
-    let (count, read, sum, _) = c.loop-missing.invariant in
-    let part = c.fill.new.buf in
-    let size : length part ≡ c.min-step.result = grind (arith, common_steps) in
+    let size : length c.fill.new.buf ≡ c.min-step.result = grind (arith, common_steps) in
     let front : take c.len-held.result c.deref_mut.result.now ≡ c.loop-missing.bytes.items = grind (arith, common_steps) in
-    let all = take_all c.in_ok-fill.field-0 part (omega (arith, size, c.if-branch-step.false)) in (
-      count + c.min-step.result,
-      reads_more _ _ _ _ _ _ _ _ read
-          (record { bytes = part; consumed = rw all at c.in_ok-fill.ensures.bytes; appended = grind (arith, common_steps); count = size }),
-      omega (arith, sum, c.min-step.ensures),
-      search rules,
-    )
+    let all = take_all c.in_ok-fill.field-0 c.fill.new.buf (omega arith) in
+    record {
+      read = reads_more _ _ _ _ _ _ _ _ _ c.loop-missing.invariant.read (omega arith)
+          (record { bytes = _; consumed = rw all at c.in_ok-fill.ensures.bytes; appended = grind (arith, common_steps); count = size });
+      few = omega arith;
+      unfailed = search rules;
+    }

@@ -1,36 +1,26 @@
-use Rattle.std.proofs.Common.{◌≡◌, [], Some, refl, ap, sym, ◌∙◌}
+use Rattle.std.proofs.Common.{[], refl, ap, ◌∙◌, append-nil}
 use Rattle.std.proofs.lemmas.Bool.{false≢true}
-use Rattle.std.proofs.lemmas.List.{append-nil}
 use Rattle.std.proofs.lemmas.Result.{err_from_is_err_and}
-use Rattle.sec1_der.specs.Elements.{element}
-use Rattle.sec1_der.specs.Readers.{Reader, reader_over}
-use Rattle.sec1_der.specs.Refusals.{element_fault, end_fault}
-use Rattle.sec1_der.specs.declared.error.ErrorKind.TheVariants.{TrailingData}
+use Rattle.sec1_der.specs.Readers.{Reader}
+use Rattle.sec1_der.specs.Refusals.{end_fault}
 use Rattle.sec1_der.proofs.RefusalLemmas.{reads_on, trailing_fault, reader_at}
 use Rattle.sec1_der.proofs.reader.SliceReader.only_element.Goals as goal
 
 pub returns-in_err-value-clause-only : goal.returns-in_err-value-clause-only
-returns-in_err-value-clause-only g c content is within e =
-    absurd ((c.in_err-value.ensures.only content [] is within (e ∙ ap reader_over (sym (append-nil (element g.T.FixedTag.tag_byte content))))).0)
+returns-in_err-value-clause-only g c content is within e = absurd (c.in_err-value.ensures.only content [] is within (rw append-nil e)).0
 
 pub returns-in_err-finish-clause-only : goal.returns-in_err-finish-clause-only
 returns-in_err-finish-clause-only g c content is within e =
-    let read = c.in_ok-value.ensures.only content [] is within (e ∙ ap reader_over (sym (append-nil (element g.T.FixedTag.tag_byte content)))) in
-    absurd (false≢true (c.in_err-finish.ensures.only read.1))
+    absurd (false≢true (c.in_err-finish.ensures.only (c.in_ok-value.ensures.only content [] is within (rw append-nil e)).1))
 
 pub returns-in_err-finish-clause-kind : goal.returns-in_err-finish-clause-kind
 returns-in_err-finish-clause-kind g c fresh =
-    let first = reads_on g.T.ValueContent.fault g.T.FixedTag.tag_byte (g.T.ValueContent.content c.in_ok-value.value) g.T.ValueContent.is_content
-    c.args.self.now c.decode.new.self c.in_ok-value.ensures.found (c.in_ok-value.ensures.kind fresh) in
-    let more = λ (none : c.decode.new.self.unread ≡ []). false≢true (c.in_err-finish.ensures.only (reader_at c.decode.new.self [] none first.whole)) in
-    let kind : c.in_err-finish.field-0.0.kind ≡ TrailingData = c.in_err-finish.ensures.kind first.whole refl in
-    let fault_is : element_fault g.T.FixedTag.tag_byte g.T.ValueContent.fault end_fault c.args.self.now.unread ≡ Some c.in_err-finish.field-0.0.kind =
-    first.next end_fault ∙ (trailing_fault c.decode.new.self.unread more ∙ ap (λ k. Some k) (sym kind)) in
+    let first = reads_on g.T.ValueContent.fault _ _ _ _ _ c.in_ok-value.ensures.found (c.in_ok-value.ensures.kind fresh) in
+    let more = trailing_fault c.decode.new.self.unread (λ none. false≢true (c.in_err-finish.ensures.only (reader_at _ [] none first.whole))) in
     let refusal = err_from_is_err_and c.from_residual-in_err-finish.result c.from_residual-in_err-finish.ensures.1 in
-    rw (refusal.1, refusal.2) fault_is
+    rw (refusal.1, refusal.2, c.in_err-finish.ensures.kind first.whole refl) (first.next end_fault ∙ more)
 
 pub returns-clause-kind : goal.returns-clause-kind
 returns-clause-kind g c fresh =
-    let first = reads_on g.T.ValueContent.fault g.T.FixedTag.tag_byte (g.T.ValueContent.content c.in_ok-value.value) g.T.ValueContent.is_content
-    c.args.self.now c.decode.new.self c.in_ok-value.ensures.found (c.in_ok-value.ensures.kind fresh) in
+    let first = reads_on g.T.ValueContent.fault _ _ _ _ _ c.in_ok-value.ensures.found (c.in_ok-value.ensures.kind fresh) in
     first.next end_fault ∙ ap (λ (r : Reader). end_fault r.unread) c.in_ok-finish.ensures.unchanged.0
