@@ -15,7 +15,7 @@ use Rattle.sec1.proofs.PointOrderLemmas.{nat_cmp-Equal}
 
 -- ---- steps of an order
 
--- A tie behind an order changes nothing.
+-- A tie after an order changes nothing.
 then-Equal : (o : Ordering) → ordering_then o Equal ≡ o
 then-Equal Less = refl
 then-Equal o = refl
@@ -26,7 +26,7 @@ then-Equal o = refl
 digit_decides : (a b x y : ℕ) → x < 256 → y < 256 → nat_cmp (a * 256 + x) (b * 256 + y) ≡ ordering_then (nat_cmp a b) (nat_cmp x y)
 digit_decides a b x y hx hy = grind arith
 
--- Bytes of one length, behind the digits of a and of b, are ordered as their numbers.
+-- Bytes of one length, after the digits of a and of b, are ordered as their numbers.
 slice_cmp-after : (a b : ℕ) (xs ys : List ℕ) → IsBytes xs → IsBytes ys → length xs ≡ length ys
     → ordering_then (nat_cmp a b) (slice_cmp nat_cmp xs ys) ≡ nat_cmp (number_from_digits_after 256 a xs) (number_from_digits_after 256 b ys)
 slice_cmp-after a b [] [] hx hy e = then-Equal (nat_cmp a b)
@@ -51,7 +51,7 @@ word_num : (bs : List ℕ) → length bs ≡ 8 → from_be_bytes w64 bs ≡ numb
 word_num (a ∷ b ∷ c ∷ d ∷ e ∷ f ∷ g ∷ h ∷ []) l = omega arith
 word_num bs l = absurd (omega arith)
 
--- Eight bytes are compared as one number, and where that ties the bytes behind them are.
+-- Eight bytes are compared as one number, and where that ties the bytes after them are.
 pub words_decide : (xs ys : List ℕ) → IsBytes xs → IsBytes ys → 8 ≤ length xs → 8 ≤ length ys
     → slice_cmp nat_cmp xs ys
     ≡ ordering_then (nat_cmp (from_be_bytes w64 (take 8 xs)) (from_be_bytes w64 (take 8 ys))) (slice_cmp nat_cmp (drop 8 xs) (drop 8 ys))

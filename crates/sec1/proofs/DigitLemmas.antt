@@ -12,7 +12,7 @@ use Rattle.sec1.specs.Points.{fixed_width}
 
 -- ---- lists of bytes
 
--- Bytes and bytes behind them are bytes.
+-- Bytes and bytes after them are bytes.
 pub IsBytes-append : (xs ys : List ℕ) → IsBytes xs → IsBytes ys → IsBytes (xs ++ ys)
 IsBytes-append xs ys hx hy i = grind (arith, elements, hx i, hy (i - length xs))
 

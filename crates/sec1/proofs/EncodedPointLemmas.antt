@@ -1,4 +1,4 @@
--- What the bytes of an encoded point mean: the encoding stands at the beginning of a buffer.
+-- The point of a buffer that begins with its encoding.
 use Rattle.std.proofs.Common.{◌≡◌, ℕ, ◌+◌, ◌-◌, ◌*◌, ◌≤◌, cond, List, [], ◌∷◌, ◌++◌, length, get_or, take, drop, set, replicate, sym, ap, ◌∙◌, arith}
 use Rattle.std.proofs.Common.{append_assoc, add-one, Some, Ok, nat_cmp, ◌↔◌, take_at, take_all, take-append-drop, length-append, length-drop, length-take}
 use Rattle.std.proofs.Common.{le_of_eq}
@@ -48,7 +48,7 @@ pub first_byte : {N L : ℕ} (p : EncodedPoint N L) → get_or p.bytes 0 0 ≡ b
 unfolding encoding
 first_byte p = ap (λ (xs : List ℕ). get_or xs 0 0) (begins p) ∙ sym (byte_of-tag_of (point_of p))
 
--- The tag and the two halves behind it make the point.
+-- The tag and the two halves after it make the point.
 pub made_of_halves : {N L : ℕ} (p : EncodedPoint N L) (x y : List ℕ) → x ≡ take N (drop 1 p.bytes) → y ≡ take N (drop N (drop 1 p.bytes))
     → point_from (byte_of (point_tag (point_of p))) (number_of x) (number_of y) ≡ point_of p
 unfolding encoding meaning

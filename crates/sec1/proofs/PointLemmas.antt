@@ -93,7 +93,7 @@ spelled_xy n rest h e =
 parity_rest : (n : ℕ) (rest : List ℕ) → 1 ≤ n → length rest ≡ 2 * n → get_or rest (length rest - 1) 0 % 2 ≡ number_of (take n (drop n rest)) % 2
 parity_rest n rest some e = grind (arith, half n rest e, parity_of_last (drop n rest), get_or-drop {A = ℕ}, length-drop n rest)
 
--- What passes is spelled so.
+-- What passes the test is an encoding.
 passes_spelled : (n : ℕ) (tag : Tag) (rest : List ℕ) → 1 ≤ n → IsBytes rest → Skips n tag rest
     → encoding n (meaning n (byte_of tag ∷ rest)) ≡ byte_of tag ∷ rest
 unfolding encoding meaning
@@ -109,7 +109,7 @@ unfolding encoding meaning
 encoding_passes n tag rest some e =
     grind (arith, encoding_spelled n (byte_of tag ∷ rest) e, length-enc n e.of, tag_of-byte tag e.of, parity_rest n rest some, e.spelled)
 
--- The bytes behind a tag pass exactly where both are an encoding.
+-- The bytes after a tag pass the test exactly if the tag and they are an encoding.
 pub passing_encodings : (n : ℕ) (tag : Tag) (rest input : List ℕ) → 1 ≤ n → IsBytes input → input ≡ byte_of tag ∷ rest → Skips n tag rest ↔ IsEncoding n input
 passing_encodings n tag rest input some h is =
     let bytes : IsBytes (byte_of tag ∷ rest) = rw is at h in (

@@ -22,12 +22,12 @@ nat_cmp-Less a b = (λ h. grind arith, λ h. grind arith)
 pub nat_cmp-Equal : (a b : ℕ) → (nat_cmp a b ≡ Equal) ↔ (a ≡ b)
 nat_cmp-Equal a b = (λ h. grind arith, λ h. grind arith)
 
--- A point is less than those that it stands below.
+-- The comparison of a point with a greater one is Less.
 pub less_below : (p q : Point) → (point_cmp p q ≡ Less) ↔ IsBelow p q
 unfolding point_cmp
 less_below p q = grind (arith, nat_cmp-Less, nat_cmp-Equal)
 
--- A point is greater than those that stand below it.
+-- The comparison of a point with a lesser one is Greater.
 pub greater_below : (p q : Point) → (point_cmp p q ≡ Greater) ↔ IsBelow q p
 greater_below p q = grind (arith, less_below q p, point_cmp_total.antisymm p q)
 

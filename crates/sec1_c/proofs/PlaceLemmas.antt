@@ -1,4 +1,4 @@
--- Where the parts of a key stand.
+-- The places of a key's parts.
 use Rattle.std.proofs.Common.{◌≡◌, ◌+◌, ◌++◌, ◌∷◌, [], ℕ, List, length, Option, Some, None, refl, arith, length-append, append_assoc}
 use Rattle.std.proofs.lemmas.List.{append-nil, take_at, drop_at}
 use Rattle.std.specs.Option.{option_map}
@@ -10,12 +10,12 @@ use Rattle.sec1_c.specs.Places.{StandsAt, IsPart, part_before}
 use Rattle.sec1_c.specs.KeyPlaces.{ArePartsOf, AreWithin, content_len, key_places}
 use Rattle.sec1_c.specs.declared.key.KeyParts.{KeyParts}
 
--- what stands between a front and a rest, by where the rest begins
+-- what is between a front and a rest, by where the rest begins
 stands_before : (input front part rest : List ℕ) (end : ℕ) → input ≡ front ++ (part ++ rest) → end + length rest ≡ length input
     → StandsAt input (part_before end (Some (length part))) part
 stands_before input front part rest end split ends = grind (arith, take_at, drop_at, length-append)
 
--- the end of the content of a field stands before the end of the field
+-- the content of a field ends before the end of the field
 field_stands : (outer inner : ℕ) (unused input front part rest : List ℕ) (end : ℕ)
     → input ≡ front ++ (bytes_of (node outer (leaf inner (unused ++ part) ∷ []) ∷ []) ++ rest) → end + length rest ≡ length input
     → StandsAt input (part_before end (Some (length part))) part
@@ -24,14 +24,14 @@ field_stands outer inner unused input front part rest end split ends =
     let headers = header outer (length (element inner content)) ++ (header inner (length content) ++ unused) in
     stands_before input (front ++ headers) part rest end (grind (arith, append_assoc, append-nil)) ends
 
--- the content of the curve's identifier stands before the end of the field [0], where there is one
+-- the content of the curve's identifier ends before the end of the field [0], if present
 curve_stands : (input front : List ℕ) (parameters : Option (List ℕ)) (rest : List ℕ) (end : ℕ)
     → input ≡ front ++ (bytes_of (parameters_field parameters) ++ rest) → end + length rest ≡ length input
     → IsPart input (part_before end (option_map content_len parameters)) (option_map content_of parameters)
 curve_stands input front None rest end split ends = record { present = refl; offset = refl; len = refl }
 curve_stands input front (Some arcs) rest end split ends = field_stands 0xA0 0x06 [] input front (content_of arcs) rest end split ends
 
--- the bytes of the public key stand before the end of the field [1], where there is one
+-- the bytes of the public key end before the end of the field [1], if present
 public_stands : (input front : List ℕ) (public_key : Option (List ℕ)) → input ≡ front ++ bytes_of (public_key_field public_key)
     → IsPart input (part_before (length input) (option_map (λ bytes. length bytes) public_key)) public_key
 public_stands input front None split = record { present = refl; offset = refl; len = refl }

@@ -1,4 +1,4 @@
--- Where the coordinates of a point stand in its encoding.
+-- The places of a point's coordinates in its encoding.
 use Rattle.std.proofs.Common.{ℕ, List, [], ◌∷◌, arith, length-append}
 use Rattle.std.proofs.Math.Seq.{drop-append-add}
 use Rattle.std.proofs.lemmas.List.{take_at, drop_at, take_all}

@@ -42,7 +42,7 @@ pub record Walks (input ends rest : List ℕ) (count : ℕ) : Type 0 where
   pub completes : Completes input ends rest count
   pub fault_is : tree_fault input ≡ open_fault ends rest
 
--- The same where an element has to be next: a tree that stands first, and what ends the open nodes, make the input a tree.
+-- The same if an element has to be next: with a tree next, and what ends the open nodes after it, the input is a tree.
 pub record IsNext (input ends rest : List ℕ) (count : ℕ) : Type 0 where
   pub at : IsAt input ends rest count
   pub completes : (t : Tree) (tail : List ℕ) → IsTree t → length ends + depth t ≤ MAX_DEPTH → rest ≡ bytes t ++ tail
@@ -73,7 +73,7 @@ child_next {input = input} {ends = end ∷ ends} {rest = rest} w some apart =
       fault_is = w.fault_is ∙ rw (row_some (length ends + 2) (take (length rest - end) rest) (omega arith) (omega arith)) refl;
     }
 
--- the walk goes on behind an element without children
+-- the walk goes on after an element without children
 passed : (input ends rest after : List ℕ) (count : ℕ) → IsNext input ends rest count → Skips ends rest after → Walks input ends after (count + 1)
 passed input ends rest after count next p =
     let at = next.at in
@@ -102,7 +102,7 @@ opened input ends rest after end count next o room =
       fault_is = next.fault_is ∙ node_opened ends rest after end o;
     }
 
--- the walk goes on where an element was passed or opened
+-- the walk goes on where an element was skipped or opened
 pub entered : {input ends rest ends' after : List ℕ} {count : ℕ} → IsNext input ends rest count → Enters ends rest ends' after
     → Walks input ends' after (count + 1)
 entered next e = ⊎_elim (λ p. rw (p.1) (passed _ _ _ _ _ next p.0)) (λ o. rw (o.2) (opened _ _ _ _ _ _ next o.1 o.3)) e
@@ -120,7 +120,7 @@ closed {input = input} {ends = end ∷ ends} {rest = rest} {count = count} w som
       fault_is = w.fault_is ∙ rw all refl;
     })
 
--- a tree was read, and nothing is behind it
+-- a tree was read, and nothing is after it
 pub tree_read : {input ends rest : List ℕ} {count : ℕ} → Walks input ends rest count → ends ≡ [] → rest ≡ [] → IsCounted input count
 tree_read {ends = []} w empty nothing = w.completes nothing
 tree_read {ends = end ∷ ends} w empty nothing = absurd (cc empty)

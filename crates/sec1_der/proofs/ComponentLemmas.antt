@@ -3,7 +3,7 @@ use Rattle.std.proofs.Common.{◌≡◌, ◌+◌, [], ◌++◌, ℕ, List, lengt
 use Rattle.std.proofs.lemmas.List.{append-nil}
 use Rattle.sec1_der.specs.Components.{join}
 
--- the bytes of both, one behind the other
+-- the bytes of both, one after the other
 pub record AreJoined (first second : Option (List ℕ)) (bytes : List ℕ) : Type 0 where
   pub front : List ℕ
   pub back : List ℕ
@@ -20,11 +20,11 @@ parted (Some xs) (Some ys) bytes e =
     let joined : bytes ≡ xs ++ ys = cc in
     record { front = xs; back = ys; first_there = refl; second_there = refl; joined = joined; total = ap length joined ∙ length-append xs ys }
 
--- a row whose parts have bytes has both, one behind the other
+-- a row whose parts have bytes has both, one after the other
 pub joined : (first second : Option (List ℕ)) (xs ys : List ℕ) → first ≡ Some xs → second ≡ Some ys → join first second ≡ Some (xs ++ ys)
 joined first second xs ys e f = rw (e, f) refl
 
--- a component with none behind it
+-- a component with none after it
 pub alone : (first : Option (List ℕ)) → join first (Some []) ≡ first
 alone None = refl
 alone (Some xs) = ap (λ bytes. Some bytes) (append-nil xs)

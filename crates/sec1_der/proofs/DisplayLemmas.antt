@@ -7,7 +7,7 @@ use Rattle.std.specs.declared.fmt.Formatter.{Formatter}
 use Rattle.sec1_der.specs.ArcsOf.{arcs_of_numbers}
 use Rattle.sec1_der.specs.Identifiers.{dotted}
 
--- each number behind a full stop
+-- each number after a full stop
 abbrev pub further_text : List ℕ → List ℕ
 further_text ns = flat_map (λ n. 46 ∷ decimal n) ns
 
@@ -15,7 +15,7 @@ further_text ns = flat_map (λ n. 46 ∷ decimal n) ns
 abbrev pub text_of : Bool → List ℕ → List ℕ
 text_of first ns = cond first (dotted (arcs_of_numbers ns)) (further_text ns)
 
--- each further number stands behind a full stop
+-- each further number is after a full stop
 pub joined_text : (x : List ℕ) (ns : List ℕ) → join_with_byte 46 (x ∷ map decimal ns) ≡ x ++ further_text ns
 joined_text x [] = sym (append-nil x)
 joined_text x (n ∷ ns) = ap (λ xs. x ++ (46 ∷ xs)) (joined_text (decimal n) ns)

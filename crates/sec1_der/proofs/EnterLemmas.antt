@@ -1,4 +1,4 @@
--- What stands first of a slice whose last bytes are set aside.
+-- The next element in a slice whose last bytes belong to outer nodes.
 use Rattle.std.proofs.Common.{◌≡◌, ℕ, ◌+◌, ◌-◌, ◌<◌, ◌≤◌, List, ◌++◌, length, take, drop, bit_and, ◌⊎◌, refl, ap, sym, ◌∙◌, arith, ⊎_elim}
 use Rattle.std.proofs.lemmas.Bool.{cases_eq}
 use Rattle.std.proofs.lemmas.List.{append_assoc, length-append, length-drop, length-take, length-take-le, take-append-drop, take_rest, drop_at, nil_from_length}
@@ -6,7 +6,7 @@ use Rattle.sec1_der.specs.Elements.{IsConstructed, IsHeader, header, element}
 use Rattle.sec1_der.specs.Trees.{Tree, leaf, branch, none, bytes}
 use Rattle.sec1_der.specs.Walks.{IsSingle, innermost, Skips, Opens}
 
--- A header stands first, then bytes with room for its content, then those that are set aside.
+-- The slice begins with a header, then bytes with room for its content, then the last bytes.
 abbrev pub IsInFront : List ℕ → List ℕ → ℕ → ℕ → ℕ → Type 0
 IsInFront rest inside tag n end = IsHeader tag n × (take (length rest - end) rest ≡ header tag n ++ inside) × (n ≤ length inside)
 
@@ -14,7 +14,7 @@ IsInFront rest inside tag n end = IsHeader tag n × (take (length rest - end) re
 pub inside_within : (rest front inside : List ℕ) (room : ℕ) → take room rest ≡ front ++ inside → length inside ≤ room
 inside_within rest front inside room e = omega (arith, ap length e, length-append front inside, length-take room rest)
 
--- the slice from a start on stands behind the front, where the bytes before the end begin with that, and goes on to the end
+-- if the bytes before the end begin with a front, the slice from its end on is the rest of them and what follows the end
 from_start : (rest front inside : List ℕ) (end start : ℕ) → end ≤ length rest → take (length rest - end) rest ≡ front ++ inside
     → start + length inside ≡ length rest - end
     → (rest ≡ front ++ take (length rest - start) (drop start rest)) × (length (take (length rest - start) (drop start rest)) ≡ length inside + end)

@@ -32,7 +32,7 @@ small_push (m ∷ ns) n s h = (s.0, small_push ns n s.1 h)
 
 -- ---- what goes on is spelled so
 
--- behind the digits so far the bytes spell these numbers
+-- after the digits so far the bytes spell these numbers
 record IsSpelled (high : ℕ) (bs ns : List ℕ) : Type 0 where
   pub row : marked (digits_of 128 high) ++ bs ≡ flat_map base128 ns
   pub small : AreSmall ns
@@ -101,7 +101,7 @@ pub ruleset content_steps = (nat_tests, read_byte)
 
 -- ---- the stored form
 
--- the content of an identifier in front, zeros behind it, and its length hold the identifier
+-- the content of an identifier in front, zeros after it, and its length hold the identifier
 pub content_is_stored : (arcs content : List ℕ) → IsIdentifier arcs content → let o : Inside = record { bytes = padded content; len = length content } in
     IsStored o × (arcs_stored o ≡ arcs)
 content_is_stored arcs content is = grind (arith, goes_on_from_spells arcs content is.spells, take_at)
@@ -119,7 +119,7 @@ pub first_two : (a b n : ℕ) (content : List ℕ) → AreArcs (a ∷ b ∷ []) 
     → Spells (arcs_of content) content × (arcs_of content ≡ a ∷ b ∷ [])
 first_two a b n content allowed shared is = grind (arith, goes_on_from_spells (a ∷ b ∷ []) content, append-nil)
 
--- the same of a content with one more arc behind it
+-- the same of a content with one more arc after it
 pub one_more_arc : (arcs content : List ℕ) (n : ℕ) (more : List ℕ) → Spells arcs content → n < 2 ^ 32 → more ≡ content ++ base128 n
     → Spells (arcs_of more) more × (arcs_of more ≡ arcs ++ n ∷ [])
 one_more_arc [] content n more s small is = absurd s.allowed

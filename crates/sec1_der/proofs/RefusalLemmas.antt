@@ -19,7 +19,7 @@ use Rattle.sec1_der.proofs.LengthLemmas.{number_spelled}
 
 -- ---- lengths
 
--- the length that the bytes begin with is found, and what stands behind it
+-- the length that the bytes begin with is found, and what follows it
 length_at_spelled : (n : ℕ) (rest : List ℕ) → n ≤ max_length → length_at (length_octets n ++ rest) ≡ Ok (n, rest)
 length_at_spelled n rest fits =
     let same = (bytes_eq-Decides (take (length (length_octets n)) (length_octets n ++ rest)) (length_octets n)).1 (take-append_seam (length_octets n) rest) in
@@ -40,17 +40,17 @@ length_at_lacks bytes lacks =
 
 -- ---- elements
 
--- a header with less behind it than it announces is cut short
+-- a header with less after it than it announces is cut short
 pub any_short : (f : ℕ → Fault) (g : Fault) (tag n : ℕ) (bytes inside : List ℕ) → IsHeader tag n → bytes ≡ header tag n ++ inside → length inside < n
     → any_fault f g bytes ≡ Some Truncated
 any_short f g tag n bytes inside h e few = rw (e, is_tag-true tag h.tag_byte, length_at_spelled n inside h.within, lt-leb n (length inside) few) refl
 
--- where a header has room for its content, the fault is that of the content, or else of the bytes behind it
+-- where a header has room for its content, the fault is that of the content, or else of the bytes after it
 pub any_room : (f : ℕ → Fault) (g : Fault) (tag n : ℕ) (bytes inside : List ℕ) → IsHeader tag n → bytes ≡ header tag n ++ inside → n ≤ length inside
     → any_fault f g bytes ≡ option_or (f tag (take n inside)) (g (drop n inside))
 any_room f g tag n bytes inside h e fits = rw (e, is_tag-true tag h.tag_byte, length_at_spelled n inside h.within, le-leb n (length inside) fits) refl
 
--- the fault behind the first byte of an element is that of its content, or else of the bytes behind it
+-- the fault after the first byte of an element is that of its content, or else of the bytes after it
 parts_at : (f g : Fault) (content rest : List ℕ) → length content ≤ max_length
     → parts_fault f g (within (length_at ((length_octets (length content) ++ content) ++ rest))) ≡ option_or (f content) (g rest)
 parts_at f g content rest fits =
@@ -59,7 +59,7 @@ parts_at f g content rest fits =
     rw (append_assoc (length_octets n) content rest, length_at_spelled n (content ++ rest) fits, room)
     (rw (take-append_seam content rest, drop-append_seam content rest) refl)
 
--- the fault of an element of any tag is that of its content, or else of the bytes behind it
+-- the fault of an element of any tag is that of its content, or else of the bytes after it
 pub any_at : (f : ℕ → Fault) (g : Fault) (tag : ℕ) (content bytes rest : List ℕ) → IsHeader tag (length content) → bytes ≡ element tag content ++ rest
     → any_fault f g bytes ≡ option_or (f tag content) (g rest)
 any_at f g tag content bytes rest h e = rw (e, is_tag-true tag h.tag_byte) (parts_at (f tag) g content rest h.within)
@@ -89,12 +89,12 @@ any_lacks f g bytes all lacks = any_headless f g bytes (λ _. all 0) lacks
 
 -- ---- one element after another
 
--- the fault of an element that a reader read is that of its content, or else of the bytes behind it
+-- the fault of an element that a reader read is that of its content, or else of the bytes after it
 pub read_element : (f g : Fault) (tag : ℕ) (content : List ℕ) (old new : Reader) → HasReadElement tag content old new
     → element_fault tag f g old.unread ≡ option_or (f content) (g new.unread)
 read_element f g tag content old new h = element_at f g tag content old.unread new.unread h.within (ap (λ (r : Reader). r.unread) h.read.was_whole)
 
--- a fault with none behind it is the fault
+-- a fault with none after it is the fault
 pub alone : (o : Option ErrorKind) → option_or o None ≡ o
 alone None = refl
 alone (Some k) = refl
@@ -132,7 +132,7 @@ pub record GoesOn (fault : Fault → Fault) (old new : Reader) : Type 0 where
   pub whole : new.failed ≡ false
   pub next : (g : Fault) → fault g old.unread ≡ g new.unread
 
--- a reader goes on behind an element that is there, and of which nothing is refused
+-- a reader goes on after an element that is there, and of which nothing is refused
 goes_on : (fault : Fault → Fault) (found : Fault) (content : Option (List ℕ)) (P : List ℕ → Type 0) (old new : Reader) → IsSomeAnd content P
     → ((inside : List ℕ) → P inside → (new.failed ≡ false) × ((g : Fault) → fault g old.unread ≡ option_or (found inside) (g new.unread)))
     → fault no_fault old.unread ≡ None → GoesOn fault old new
@@ -142,7 +142,7 @@ goes_on fault found (Some inside) P old new some read none =
     let first : found inside ≡ None = sym (alone (found inside)) ∙ (sym (same no_fault) ∙ none) in
     record { whole = whole; next = λ g. same g ∙ rw first refl }
 
--- a reader goes on behind an element that was read
+-- a reader goes on after an element that was read
 pub reads_on : (f : Fault) (tag : ℕ) (content : Option (List ℕ)) (P : List ℕ → Type 0) (old new : Reader)
     → IsSomeAnd content (λ inside. P inside × HasReadElement tag inside old new) → element_fault tag f no_fault old.unread ≡ None
     → GoesOn (element_fault tag f) old new
@@ -153,7 +153,7 @@ reads_on f tag content P old new some none = goes_on (element_fault tag f) f con
 pub reader_at : (r : Reader) (bytes : List ℕ) → r.unread ≡ bytes → r.failed ≡ false → r ≡ reader_over bytes
 reader_at r bytes unread whole = rw (← unread, ← whole) refl
 
--- bytes behind the end are refused as trailing data
+-- bytes after the end are refused as trailing data
 pub trailing_fault : (bytes : List ℕ) → (bytes ≡ [] → ⊥) → end_fault bytes ≡ Some TrailingData
 trailing_fault [] some = absurd (some refl)
 trailing_fault (byte ∷ bytes) some = refl
@@ -181,7 +181,7 @@ is_next_other : (tag : ℕ) (bytes : List ℕ) → (slice_get bytes 0 ≡ Some t
 is_next_other tag [] other = refl
 is_next_other tag (byte ∷ bytes) other = ne_eqb byte tag (λ same. other (ap (λ n. Some n) same))
 
--- a field that is refused stays so where more is tested of its content, and of the bytes behind it
+-- a field that is refused stays so where more is tested of its content, and of the bytes after it
 pub refused_field : (number : ℕ) (f h g : Fault) (bytes : List ℕ) (k : ErrorKind) → ((content : List ℕ) → f content ≡ Some k → h content ≡ Some k)
     → field_at number f no_fault bytes ≡ Some k → field_at number h g bytes ≡ Some k
 refused_field number f h g bytes k more e = ⊎_elim
@@ -189,14 +189,14 @@ refused_field number f h g bytes k more e = ⊎_elim
     (λ other. absurd (cc (rw other at e)))
     (cases_Bool (is_next (0xA0 + number) bytes))
 
--- the fault of a field that was read is that of its content, or else of the bytes behind it
+-- the fault of a field that was read is that of its content, or else of the bytes after it
 pub read_field : (number : ℕ) (f g : Fault) (content : List ℕ) (old new : Reader) → HasReadElement (0xA0 + number) content old new
     → field_at number f g old.unread ≡ option_or (f content) (g new.unread)
 read_field number f g content old new h =
     let tag = 0xA0 + number in
     rw (ap (λ (r : Reader). r.unread) h.read.was_whole, eq-eqb tag tag refl) (parts_at f g content new.unread h.within)
 
--- a reader goes on behind a field that was read, and where none is next
+-- a reader goes on after a field that was read, and where none is next
 pub passes_field : {A : Type 0} (number tag : ℕ) (f : Fault) (field : Option A) (content : A → Option (List ℕ)) (P : List ℕ → Type 0) (old new : Reader)
     → old.failed ≡ false
     → IfSome field (λ value. IsSomeAnd (content value) (λ inside.

@@ -25,7 +25,7 @@ take_part : (start k : ℕ) (slice part : List ℕ) (n : ℕ) → start ≤ leng
     → take (start + n) (put_mid start k slice part) ≡ take start slice ++ take n part
 take_part start k slice part n inside few = grind (arith, common_steps, take-append-add, take-append-le, length-take-le)
 
--- what was read into the beginning of a slice, and then into the part behind it, was read into both
+-- what was read into the beginning of a slice, and then into the part after it, was read into both
 pub reads_part : (old mid new : Option (List ℕ)) (start k : ℕ) (slice part : List ℕ) (n : ℕ) → start ≤ length slice → n ≤ length part
     → Consumes old mid (take start slice) → Consumes mid new (take n part) → Consumes old new (take (start + n) (put_mid start k slice part))
 reads_part old mid new start k slice part n inside few first next =
@@ -45,7 +45,7 @@ reads_more old mid new start middle end n m sum read is more =
 
 -- ---- the header
 
--- bytes, the last of which came behind a header that was cut short
+-- bytes, the last of which came after a header that was cut short
 pub record IsLonger (bytes : List ℕ) : Type 0 where
   pub before : List ℕ
   pub last : ℕ
@@ -56,7 +56,7 @@ pub record IsLonger (bytes : List ℕ) : Type 0 where
 abbrev pub IsReachable : List ℕ → Type 0
 IsReachable bytes = (bytes ≡ []) ⊎ IsLonger bytes
 
--- one byte was read behind a header that was cut short
+-- one byte was read after a header that was cut short
 pub one_more : (start k : ℕ) (slice part : List ℕ) → start ≤ length slice → header_fault (take start slice) ≡ Truncated → LacksHeader (take start slice)
     → length part ≡ 1 → IsReachable (take (start + 1) (put_mid start k slice part))
 one_more start k slice part inside short none size =
@@ -102,7 +102,7 @@ cut_content tag n content is few = record { tag = tag; announced = n; content = 
 whole_element : (tag n : ℕ) (content : List ℕ) → IsHeader tag n → length content ≡ n → IsElement (header tag n ++ content)
 whole_element tag n content is count = record { tag = tag; content = content; is_header = rw count is; spelled = rw count refl }
 
--- an element is refused by what was taken behind its header
+-- an element is refused by what was taken after its header
 refused_after : (kind : ErrorKind) (old mid new : Option (List ℕ)) (tag n : ℕ) (taken : List ℕ) → ReadsHeader old mid tag n → Consumes mid new taken
     → TakenBeforeRefusal kind (header tag n ++ taken) → (kind ≡ Truncated → IsAtEnd new) → RefusesElement kind old new
 refused_after kind old mid new tag n taken h consumed by_kind at_end =
@@ -122,14 +122,14 @@ refused_growth old new tag n h = refused_after Memory old new new tag n [] h (Co
     (⊎_elim (λ some. inl (inr (cut_content tag n [] h.is_header some))) (λ (none : n ≤ 0). inr (whole_element tag n [] h.is_header (omega arith)))
     (cases_lt 0 n)) (λ e. absurd (cc e))
 
--- an element behind which a read failed is refused as Io
+-- an element after which a read failed is refused as Io
 pub refused_behind : (old mid next new : Option (List ℕ)) (tag n : ℕ) (after : List ℕ) → ReadsHeader old mid tag n
     → ReadsOnto mid next (header tag n) after n → Keeps next new → RefusesElement Io old new
 refused_behind old mid next new tag n after h r kept =
     refused_after Io old mid new tag n r.bytes h (Consumes-kept mid next new r.bytes r.consumed kept)
     (inr (whole_element tag n r.bytes h.is_header r.count)) (λ e. absurd (cc e))
 
--- an element behind which a byte was read is refused as TrailingData
+-- an element after which a byte was read is refused as TrailingData
 pub byte_behind : (old mid next new : Option (List ℕ)) (tag n : ℕ) (after buf : List ℕ) (count : ℕ) → ReadsHeader old mid tag n
     → ReadsOnto mid next (header tag n) after n → Consumes next new (take count buf) → length buf ≡ 1 → count ≤ length buf → 0 < count
     → RefusesElement TrailingData old new
@@ -140,18 +140,18 @@ byte_behind old mid next new tag n after buf count h r more one most some =
     refused_after TrailingData old mid new tag n (r.bytes ++ byte) h (Consumes-trans mid next new r.bytes byte r.consumed more)
     (record { front = _; byte = _; is_element = element; joined = sym (append_assoc (header tag n) r.bytes byte) }) (λ e. absurd (cc e))
 
--- the ways in which an element is refused behind its header
+-- the ways in which an element is refused after its header
 pub ruleset element_refusals = (refused_growth, refused_content, refused_behind, byte_behind)
 
 -- ---- what a refusal says of all the bytes
 
--- a bad length stays one whatever stands behind it
+-- a bad length stays one whatever follows it
 length_stays : (bytes more : List ℕ) → header_fault bytes ≡ Length → header_fault (bytes ++ more) ≡ Length
 length_stays [] more e = absurd (cc e)
 length_stays (byte ∷ []) more e = grind (arith, tests)
 length_stays (byte ∷ first ∷ digits) more e = grind (arith, tests, length-append)
 
--- what was taken tells by which kind all the bytes are refused, if the first is a byte
+-- the kind by which all the bytes are refused is a function of what was read, if the first is a byte
 taken_fault : (kind : ErrorKind) (bytes more : List ℕ) → (kind ≡ Truncated → more ≡ []) → TakenBeforeRefusal kind bytes
     → IsIoOrMemory kind ⊎ ((0 < length (bytes ++ more) → get_or (bytes ++ more) 0 0 < 256) → document_fault (bytes ++ more) ≡ Some kind)
 taken_fault Io bytes more end taken = inl (inl refl)

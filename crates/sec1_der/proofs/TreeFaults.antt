@@ -28,7 +28,7 @@ deep_or : (above a b : ℕ) → option_or (deep_fault (above + a)) (deep_fault (
 deep_or above a b = grind (arith, nat_tests)
 
 mutual
-  -- a tree below so many levels, and what stands behind it
+  -- a tree below so many levels, and what follows it
   tree_at : (t : Tree) (above : ℕ) (behind : Fault) (bs rest : List ℕ) → IsTree t → bs ≡ bytes t ++ rest → above < MAX_DEPTH
       → any_fault (nested_fault (row_at (above + 1 + 1))) behind bs ≡ option_or (deep_fault (above + depth t)) (behind rest)
   tree_at (leaf tag content) above behind bs rest is e fits =
@@ -52,7 +52,7 @@ mutual
       (λ l. row_deep (above + 1) row (omega arith) (omega arith) ∙ rw (lt-ltb MAX_DEPTH (above + max (depth t) (max_depth f)) (omega arith)) refl)
       (cases_lt above MAX_DEPTH)
 
--- the fault of a tree and of what stands behind it
+-- the fault of a tree and of what follows it
 tree_faults : (t : Tree) (input rest : List ℕ) → IsTree t → input ≡ bytes t ++ rest → tree_fault input ≡ option_or (deep_fault (depth t)) (end_fault rest)
 tree_faults t input rest is e =
     tree_next input ∙ (tree_at t 0 end_fault input rest is e (omega arith) ∙ ap (λ n. option_or (deep_fault n) (end_fault rest)) (omega arith))
@@ -61,7 +61,7 @@ tree_faults t input rest is e =
 pub deep_tree : (t : Tree) (input : List ℕ) → IsTreeOf t input → MAX_DEPTH < depth t → tree_fault input ≡ Some Depth
 deep_tree t input h deep = tree_faults t input [] h.tree (h.whole ∙ sym (append-nil (bytes t))) ∙ rw (lt-ltb MAX_DEPTH (depth t) deep) refl
 
--- another tree, and what stands behind it
+-- another tree, and what follows it
 pub shallow_tree : (t : Tree) (input rest : List ℕ) → IsTree t → depth t ≤ MAX_DEPTH → input ≡ bytes t ++ rest → tree_fault input ≡ end_fault rest
 shallow_tree t input rest is shallow e = tree_faults t input rest is e ∙ rw (le-ltb MAX_DEPTH (depth t) shallow) refl
 

@@ -21,7 +21,7 @@ leaf_passes f tag content plain = grind (arith, nat_tests)
 
 -- ---- a bound on the recursion
 
--- two faults of an element are the same if they agree on fewer bytes, inside it and behind it
+-- two faults of an element are the same if they agree on fewer bytes, inside it and after it
 nested_alike : (f g h k : Fault) (tag : ℕ) (bytes : List ℕ) → ((content : List ℕ) → length content ≤ length bytes → f content ≡ h content)
     → ((behind : List ℕ) → length behind ≤ length bytes → g behind ≡ k behind)
     → any_fault (nested_fault f) g (tag ∷ bytes) ≡ any_fault (nested_fault h) k (tag ∷ bytes)
@@ -78,7 +78,7 @@ next_fault (end ∷ ends) rest =
     option_or (any_fault (nested_fault (row_at (length ends + 2 + 1))) (row_at (length ends + 2)) (take (length rest - end) rest))
     (open_fault ends (drop (length rest - end) rest))
 
--- where an element is next, the fault is that of its content, or else of the bytes behind it
+-- where an element is next, the fault is that of its content, or else of the bytes after it
 next_element : (ends rest after : List ℕ) (tag : ℕ) (content : List ℕ) → IsHeader tag (length content) → rest ≡ element tag content ++ after
     → innermost ends ≤ length after → next_fault ends rest ≡ option_or (nested_fault (row_at (length ends + 2)) tag content) (open_fault ends after)
 next_element [] rest after tag content h is fits = any_at (nested_fault (row_at 2)) end_fault tag content rest after h is
@@ -95,7 +95,7 @@ next_element (end ∷ ends) rest after tag content h is fits =
     or_assoc : (a b c : Option ErrorKind) → option_or (option_or a b) c ≡ option_or a (option_or b c)
     or_assoc a b c = grind arith
 
--- where an element without children was passed, the fault is that of the bytes behind it
+-- where an element without children was skipped, the fault is that of the bytes after it
 pub element_passed : (ends rest after : List ℕ) → Skips ends rest after → next_fault ends rest ≡ open_fault ends after
 element_passed ends rest after p = by p.tree p.single p.row
   where
@@ -109,7 +109,7 @@ element_passed ends rest after p = by p.tree p.single p.row
     by (branch tag (first (leaf tag' content) children)) single is = absurd (omega (arith, single.alone))
     by (branch tag (first (branch tag' inside) children)) single is = absurd (omega (arith, single.alone))
 
--- where a node with a content was opened, the fault is that of the bytes inside it and behind it
+-- where a node with a content was opened, the fault is that of the bytes inside it and after it
 pub node_opened : (ends rest after : List ℕ) (end : ℕ) → Opens ends rest end after → next_fault ends rest ≡ open_fault (end ∷ ends) after
 node_opened ends rest after end o =
     let n = length after - end in

@@ -1,4 +1,4 @@
--- What two calls of a writer do, one after the other; what is written where bytes are there; a count of bytes.
+-- What two calls of a writer do, one after the other, and what is written of a value that has bytes.
 use Rattle.std.proofs.Common.{◌≡◌, ℕ, List, ◌++◌, length, Option, Some, None, IsSomeAnd, Result, IsOk, refl, arith, append_assoc, length-append}
 use Rattle.std.proofs.lemmas.List.{drop-drop, take-take}
 use Rattle.sec1_der.proofs.ElementLemmas.{element_of-some}
@@ -11,7 +11,7 @@ use Rattle.sec1_der.specs.declared.slice_writer.SliceWriter.{SliceWriter}
 -- what the writers of elements take: the content of an element that is there, and lengths
 pub ruleset element_parts = (element_of-some, length-append)
 
--- bytes, and then more behind them
+-- bytes, and then more after them
 pub appends_both : (old between new : SliceWriter) (xs ys : List ℕ) → Appends old between xs → Appends between new ys → Appends old new (xs ++ ys)
 appends_both old between new xs ys p q = grind (arith, append_assoc, length-append, drop-drop)
 
