@@ -44,21 +44,21 @@ hex_is_one_case text bytes (inr e) = grind (arith, none_encoded is_ascii_upperca
 -- ---- what decodes in one case is spelled in that case
 
 module _ (table : List ℕ) (other : ℕ → Bool) (at : (c v : ℕ) → hex_digit_value c ≡ Some v → other c ≡ false → (v < 16) × (slice_index table v ≡ c)) where
-  respell_pair : (i a b : ℕ) (rest bs : List ℕ) (oa ob : Option ℕ) (r : Result (List ℕ) FromHexError) → hex_digit_value a ≡ oa → hex_digit_value b ≡ ob
-      → other a ≡ false → other b ≡ false
+  respell_pair : (i a b : ℕ) (rest bs : List ℕ) (oa ob : Option ℕ) (r : Result (List ℕ) FromHexError)
+      → (hex_digit_value a ≡ oa) × (other a ≡ false) → (hex_digit_value b ≡ ob) × (other b ≡ false)
       → ((digit_or_error a i oa >>= λ h. digit_or_error b (i + 1) ob >>= λ l. Ok (h * 16 + l)) >>= λ v. r >>= λ bytes. Ok (v ∷ bytes)) ≡ Ok bs
       → ((rs : List ℕ) → r ≡ Ok rs → rest ≡ encode_with table rs)
       → a ∷ b ∷ rest ≡ encode_with table bs
   unfolding encode_with
-  respell_pair i a b rest bs (Some x) (Some y) (Ok rs) ea eb na nb h more = grind (arith, at a x ea na, at b y eb nb, more rs refl)
-  respell_pair i a b rest bs oa ob r ea eb na nb h more = absurd cc
+  respell_pair i a b rest bs (Some x) (Some y) (Ok rs) first second h more = grind (arith, at a x first.0 first.1, at b y second.0 second.1, more rs refl)
+  respell_pair i a b rest bs oa ob r first second h more = absurd cc
 
   respell : (i : ℕ) (s bs : List ℕ) → decode_pairs i s ≡ Ok bs → list_any other s ≡ false → s ≡ encode_with table bs
   unfolding decode_pairs encode_with
   respell i [] bs h c = grind arith
   respell i (a ∷ []) bs h c = absurd cc
   respell i (a ∷ b ∷ rest) bs h c =
-      respell_pair i a b rest bs (hex_digit_value a) (hex_digit_value b) (decode_pairs (i + 2) rest) refl refl (grind arith) (grind arith) h
+      respell_pair i a b rest bs (hex_digit_value a) (hex_digit_value b) (decode_pairs (i + 2) rest) (refl, grind arith) (refl, grind arith) h
       (λ rs e. respell (i + 2) rest rs e (grind arith))
 
 -- What is decoded from a text of one case is spelled by it.

@@ -130,18 +130,17 @@ refused_behind old mid next new tag n after h r kept =
     (inr (whole_element tag n r.bytes h.is_header r.count)) (λ e. absurd (cc e))
 
 -- an element after which a byte was read is refused as TrailingData
-pub byte_behind : (old mid next new : Option (List ℕ)) (tag n : ℕ) (after buf : List ℕ) (count : ℕ) → ReadsHeader old mid tag n
-    → ReadsOnto mid next (header tag n) after n → Consumes next new (take count buf) → length buf ≡ 1 → count ≤ length buf → 0 < count
-    → RefusesElement TrailingData old new
-byte_behind old mid next new tag n after buf count h r more one most some =
-    let byte = get_or buf 0 0 ∷ [] in
-    let more = rw (take_byte buf count one most some) at more in
+pub byte_behind : (old mid next new : Option (List ℕ)) (tag n : ℕ) (after taken : List ℕ) → ReadsHeader old mid tag n
+    → ReadsOnto mid next (header tag n) after n → Consumes next new taken → length taken ≡ 1 → RefusesElement TrailingData old new
+byte_behind old mid next new tag n after [] h r more one = absurd (omega arith)
+byte_behind old mid next new tag n after (byte ∷ b ∷ bs) h r more one = absurd (omega arith)
+byte_behind old mid next new tag n after (byte ∷ []) h r more one =
     let element = whole_element tag n r.bytes h.is_header r.count in
-    refused_after TrailingData old mid new tag n (r.bytes ++ byte) h (Consumes-trans mid next new r.bytes byte r.consumed more)
-    (record { front = _; byte = _; is_element = element; joined = sym (append_assoc (header tag n) r.bytes byte) }) (λ e. absurd (cc e))
+    refused_after TrailingData old mid new tag n (r.bytes ++ byte ∷ []) h (Consumes-trans mid next new r.bytes (byte ∷ []) r.consumed more)
+    (record { front = _; byte = _; is_element = element; joined = sym (append_assoc (header tag n) r.bytes (byte ∷ [])) }) (λ e. absurd (cc e))
 
 -- the ways in which an element is refused after its header
-pub ruleset element_refusals = (refused_growth, refused_content, refused_behind, byte_behind)
+pub ruleset element_refusals = (refused_growth, refused_content, refused_behind, byte_behind, length-take-le)
 
 -- ---- what a refusal says of all the bytes
 

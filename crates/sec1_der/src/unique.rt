@@ -48,7 +48,6 @@ impl UniqueContent for End {
 }
 
 impl<A: UniqueContent + FixedTag, R: UniqueContent> UniqueContent for Required<A, R> {
-    #[tactic(auto, using(crate::proofs::UniqueLemmas::unique_required))]
     fn one() {
         A::one();
         R::one();
@@ -57,7 +56,6 @@ impl<A: UniqueContent + FixedTag, R: UniqueContent> UniqueContent for Required<A
 
 impl<N: ExplicitTag, A: UniqueContent + FixedTag, R: UniqueContent + NoField<N>> UniqueContent
     for Optional<N, A, R> {
-    #[tactic(auto, using(crate::proofs::UniqueLemmas::unique_optional))]
     fn one() {
         A::one();
         R::one();
