@@ -13,5 +13,4 @@ pub record PrivateKey : Type 0 where
 abbrev pub private_key_content : PrivateKey → Option (List ℕ)
 private_key_content value =
     join (element_of 0x02 (Some (0 ∷ [])))
-    (join (element_of 0x30 (algorithm_content value.algorithm))
-    (join (element_of 0x04 (Some value.bytes)) (Some [])))
+    (join (element_of 0x30 (algorithm_content value.algorithm)) (element_of 0x04 (Some value.bytes)))

@@ -1,5 +1,5 @@
 -- RFC 5280 section 4.1 and RFC 5480 section 2.1: the public key of a certificate.
-use Rattle.std.specs.Prelude.{ℕ, List, [], ◌∷◌, Option, Some}
+use Rattle.std.specs.Prelude.{ℕ, List, ◌∷◌, Option, Some}
 use Rattle.sec1.specs.Der.{join, element_of, identifier_content}
 use Rattle.der_example.specs.declared.algorithm.AlgorithmIdentifier.{AlgorithmIdentifier}
 
@@ -7,8 +7,7 @@ use Rattle.der_example.specs.declared.algorithm.AlgorithmIdentifier.{AlgorithmId
 -- the parameters, which names the curve (RFC 5480 section 2.1.1)
 abbrev pub algorithm_content : AlgorithmIdentifier → Option (List ℕ)
 algorithm_content value =
-    join (element_of 0x06 (identifier_content value.algorithm))
-    (join (element_of 0x06 (identifier_content value.parameters)) (Some []))
+    join (element_of 0x06 (identifier_content value.algorithm)) (element_of 0x06 (identifier_content value.parameters))
 
 -- the parts of a SubjectPublicKeyInfo: the algorithm and the curve, and the bytes of the public key
 pub record PublicKey : Type 0 where
@@ -18,5 +17,4 @@ pub record PublicKey : Type 0 where
 -- RFC 5280 section 4.1: SEQUENCE { algorithm AlgorithmIdentifier, subjectPublicKey BIT STRING }
 abbrev pub public_key_content : PublicKey → Option (List ℕ)
 public_key_content value =
-    join (element_of 0x30 (algorithm_content value.algorithm))
-    (join (element_of 0x03 (Some (0 ∷ value.bytes))) (Some []))
+    join (element_of 0x30 (algorithm_content value.algorithm)) (element_of 0x03 (Some (0 ∷ value.bytes)))

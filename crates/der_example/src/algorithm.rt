@@ -1,6 +1,6 @@
 ghost use Rattle.std.specs.Prelude.{refl};
 
-use sec1::der::{End, ObjectIdentifier, Record, Required, UniqueRecord};
+use sec1::der::{ObjectIdentifier, Record, Required};
 
 /// The algorithm of a public key, and the curve that is its parameter (RFC 5280 section 4.1.1.2, RFC 5480 section 2.1).
 #[derive(Clone, Copy, PartialEq, Eq, Debug)]
@@ -12,27 +12,25 @@ pub struct AlgorithmIdentifier {
 }
 
 impl Record for AlgorithmIdentifier {
-    type Components = Required<ObjectIdentifier, Required<ObjectIdentifier, End>>;
+    type Parts = (Required<ObjectIdentifier>, Required<ObjectIdentifier>);
 
-    ghost parts = { λ value. record {
-      first = value.algorithm;
-      rest = record { first = value.parameters; rest = record {} };
-    } };
+    ghost parts = { λ value. (value.algorithm, value.parameters) };
 
-    fn from_components(row: &Self::Components) -> Self {
+    ghost of_parts = { λ row. record { algorithm = row.0; parameters = row.1 } };
+
+    fn from_parts(row: Self::Parts) -> Self {
+        let (Required(algorithm), Required(parameters)) = row;
         AlgorithmIdentifier {
-            algorithm: row.first,
-            parameters: row.rest.first,
+            algorithm,
+            parameters,
         }
     }
 
-    fn to_components(&self) -> Self::Components {
-        Required::new(self.algorithm, Required::new(self.parameters, End))
+    fn to_parts(&self) -> Self::Parts {
+        (Required(self.algorithm), Required(self.parameters))
     }
-}
-
-impl UniqueRecord for AlgorithmIdentifier {
-    ghost of_parts = { λ row. record { algorithm = row.first; parameters = row.rest.first } };
 
     ghost same = { λ _. refl };
+
+    ghost apart = { refl };
 }

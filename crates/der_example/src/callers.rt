@@ -8,7 +8,7 @@ ghost use Rattle.sec1.specs.Errors.{IsAsn1ReadingFault};
 ghost use Rattle.sec1.specs.Keys.{Key, IsKeyOf};
 
 use sec1::der::{
-    self, AnyRef, EncodeValue, FixedTag, OctetStringRef, SecretDocument, SliceReader, Tag,
+    self, AnyRef, EncodeValue, OctetStringRef, SecretDocument, SliceReader, Tag, Tagged,
 };
 use sec1::{EcPrivateKey, Error, Result};
 use std::alloc::Global;
@@ -24,7 +24,7 @@ pub fn key_in<'b>(key: &EcPrivateKey, buffer: &'b mut [u8]) -> Result<&'b [u8]>
 }
 
 /// Writes a value at the beginning of a buffer and returns its bytes.
-pub fn element_in<'b, T: EncodeValue + FixedTag>(
+pub fn element_in<'b, T: EncodeValue + Tagged>(
     value: &T,
     buffer: &'b mut [u8],
 ) -> der::Result<&'b [u8]>

@@ -4,16 +4,14 @@ ghost use Rattle.sec1.specs.Der.{value_unless};
 
 use sec1::der::{
     BackWriter, DecodeValue, EncodeValue, ErrorKind, FixedTag, Length, Result, SliceReader,
-    SliceWriter, Tag, ValueContent,
+    SliceWriter, Tag, Tagged, ValueContent,
 };
 
 /// A NULL (X.690 section 8.8). Its content is empty, and any other content is refused as Value.
 #[derive(Clone, Copy, PartialEq, Eq, Debug)]
 pub struct Null;
 
-impl FixedTag for Null {
-    const TAG: Tag = Tag::NULL;
-
+impl Tagged for Null {
     ghost tag_byte = { 0x05 };
 
     fn fixed_tag() -> Tag
@@ -21,6 +19,10 @@ impl FixedTag for Null {
     {
         Self::TAG
     }
+}
+
+impl FixedTag for Null {
+    const TAG: Tag = Tag::NULL;
 }
 
 impl ValueContent for Null {

@@ -2,7 +2,7 @@ ghost use Rattle.std.specs.Prelude.{refl};
 ghost use Rattle.der_example.specs.PrivateKeys.{PrivateKey};
 
 use crate::AlgorithmIdentifier;
-use sec1::der::{End, Octets, Record, Required, SmallInteger, UniqueRecord};
+use sec1::der::{Octets, Record, Required, SmallInteger};
 use std::marker::Model;
 
 /// A private key container of PKCS #8, version 0 (RFC 5208 section 5), whose bytes are borrowed. Attributes are
@@ -22,35 +22,32 @@ impl<'a> Model for PrivateKeyInfo<'a> {
 }
 
 impl<'a> Record for PrivateKeyInfo<'a> {
-    type Components = Required<
-        SmallInteger<0>,
-        Required<AlgorithmIdentifier, Required<Octets<'a>, End>>,
-    >;
+    type Parts = (
+        Required<SmallInteger<0>>,
+        (Required<AlgorithmIdentifier>, Required<Octets<'a>>),
+    );
 
-    ghost parts = { λ info. record {
-      first = record {};
-      rest = record {
-        first = info.algorithm;
-        rest = record { first = info.bytes; rest = record {} };
-      };
-    } };
+    ghost parts = { λ info. (record {}, (info.algorithm, info.bytes)) };
 
-    fn from_components(row: &Self::Components) -> Self {
+    ghost of_parts = { λ row. record { algorithm = row.1.0; bytes = row.1.1 } };
+
+    fn from_parts(row: Self::Parts) -> Self {
+        let (_, (Required(algorithm), Required(octets))) = row;
         PrivateKeyInfo {
-            algorithm: row.rest.first,
-            private_key: row.rest.rest.first.bytes,
+            algorithm,
+            private_key: octets.bytes,
         }
     }
 
-    fn to_components(&self) -> Self::Components {
+    fn to_parts(&self) -> Self::Parts {
         let bytes = self.private_key;
-        let rest = Required::new(Octets { bytes }, End);
-        Required::new(SmallInteger, Required::new(self.algorithm, rest))
+        (
+            Required(SmallInteger),
+            (Required(self.algorithm), Required(Octets { bytes })),
+        )
     }
-}
-
-impl<'a> UniqueRecord for PrivateKeyInfo<'a> {
-    ghost of_parts = { λ row. record { algorithm = row.rest.first; bytes = row.rest.rest.first } };
 
     ghost same = { λ _. refl };
+
+    ghost apart = { refl };
 }

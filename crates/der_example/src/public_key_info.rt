@@ -2,7 +2,7 @@ ghost use Rattle.std.specs.Prelude.{refl};
 ghost use Rattle.der_example.specs.PublicKeys.{PublicKey};
 
 use crate::AlgorithmIdentifier;
-use sec1::der::{End, Record, Required, UniqueRecord, WholeBits};
+use sec1::der::{Record, Required, WholeBits};
 use std::marker::Model;
 
 /// The public key of a certificate, whose bytes are borrowed (RFC 5280 section 4.1). A contract sees the parts.
@@ -21,28 +21,26 @@ impl<'a> Model for SubjectPublicKeyInfo<'a> {
 }
 
 impl<'a> Record for SubjectPublicKeyInfo<'a> {
-    type Components = Required<AlgorithmIdentifier, Required<WholeBits<'a>, End>>;
+    type Parts = (Required<AlgorithmIdentifier>, Required<WholeBits<'a>>);
 
-    ghost parts = { λ info. record {
-      first = info.algorithm;
-      rest = record { first = info.bytes; rest = record {} };
-    } };
+    ghost parts = { λ info. (info.algorithm, info.bytes) };
 
-    fn from_components(row: &Self::Components) -> Self {
+    ghost of_parts = { λ row. record { algorithm = row.0; bytes = row.1 } };
+
+    fn from_parts(row: Self::Parts) -> Self {
+        let (Required(algorithm), Required(bits)) = row;
         SubjectPublicKeyInfo {
-            algorithm: row.first,
-            public_key: row.rest.first.bytes,
+            algorithm,
+            public_key: bits.bytes,
         }
     }
 
-    fn to_components(&self) -> Self::Components {
+    fn to_parts(&self) -> Self::Parts {
         let bytes = self.public_key;
-        Required::new(self.algorithm, Required::new(WholeBits { bytes }, End))
+        (Required(self.algorithm), Required(WholeBits { bytes }))
     }
-}
-
-impl<'a> UniqueRecord for SubjectPublicKeyInfo<'a> {
-    ghost of_parts = { λ row. record { algorithm = row.first; bytes = row.rest.first } };
 
     ghost same = { λ _. refl };
+
+    ghost apart = { refl };
 }

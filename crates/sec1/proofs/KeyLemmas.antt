@@ -1,22 +1,22 @@
 -- The content of a key, and the key's bytes.
 use Rattle.std.proofs.Common.{◌≡◌, ◌∷◌, [], ℕ, List, Option, Some, None, option_map, IsSomeAnd, refl, append-nil, arith}
 use Rattle.sec1_der.proofs.ElementLemmas.{element_of-within}
-use Rattle.sec1.specs.Der.{join, element_of, field_of, IsTreeOf}
+use Rattle.sec1.specs.Der.{join, element_of, optional_of, IsTreeOf}
 use Rattle.sec1_der.specs.Identifiers.{content_of, identifier_content}
 use Rattle.sec1_der.specs.IdentifierLaws.{is_identifier-true, identifier_content-valid}
 use Rattle.sec1.specs.Keys.{Key, key_tree, IsNamedCurve, IsKeyOf, HasNoEncoding, HasEncodingWith}
 
--- the content of a key with this content of the identifier of its curve
+-- the content of a key with this element of the identifier of its curve
 abbrev content_with : Option (Option (List ℕ)) → Key → Option (List ℕ)
 content_with curve key =
     join (element_of 0x02 (Some (1 ∷ [])))
     (join (element_of 0x04 (Some key.private_key))
-    (join (field_of 0 0x06 curve)
-    (join (field_of 1 0x03 (option_map (λ bytes. Some (0 ∷ bytes)) key.public_key)) (Some []))))
+    (join (optional_of 0xA0 curve)
+    (optional_of 0xA1 (option_map (λ bytes. element_of 0x03 (Some (0 ∷ bytes))) key.public_key))))
 
 -- SEC1 v2.0 Appendix C.4: the content of a key; one of which a part is beyond the limits has none.
 abbrev pub key_content : Key → Option (List ℕ)
-key_content key = content_with (option_map identifier_content key.parameters) key
+key_content key = content_with (option_map (λ arcs. element_of 0x06 (identifier_content arcs)) key.parameters) key
 
 -- the key of these parts
 abbrev made : List ℕ → Option (List ℕ) → Option (List ℕ) → Key
@@ -24,15 +24,16 @@ made private_key parameters public_key = record { private_key = private_key; par
 
 -- Bytes with the content of these arcs, whether or not they are an identifier's, are those of the key's tree.
 tree_found : (private_key : List ℕ) (parameters public_key : Option (List ℕ)) (bytes : List ℕ)
-    → element_of 0x30 (content_with (option_map (λ arcs. Some (content_of arcs)) parameters) (made private_key parameters public_key)) ≡ Some bytes
+    → element_of 0x30 (content_with (option_map (λ arcs. element_of 0x06 (Some (content_of arcs))) parameters) (made private_key parameters public_key)) ≡ Some bytes
     → IsTreeOf (key_tree (made private_key parameters public_key)) bytes
-tree_found private_key None public_key bytes e = record { tree = grind (arith, append-nil {A = ℕ}); whole = grind (arith, append-nil {A = ℕ}) }
+tree_found private_key None None bytes e = record { tree = grind (arith, append-nil {A = ℕ}); whole = grind (arith, append-nil {A = ℕ}) }
+tree_found private_key None (Some public_key) bytes e = record { tree = grind (arith, append-nil {A = ℕ}); whole = grind (arith, append-nil {A = ℕ}) }
 tree_found private_key (Some arcs) None bytes e = record { tree = grind (arith, append-nil {A = ℕ}); whole = grind (arith, append-nil {A = ℕ}) }
 tree_found private_key (Some arcs) (Some public_key) bytes e = record { tree = grind (arith, append-nil {A = ℕ}); whole = grind (arith, append-nil {A = ℕ}) }
 
 -- A curve that is named has the content of its identifier.
 curve_content : (parameters : Option (List ℕ)) → IsNamedCurve parameters
-    → option_map identifier_content parameters ≡ option_map (λ arcs. Some (content_of arcs)) parameters
+    → option_map (λ arcs. element_of 0x06 (identifier_content arcs)) parameters ≡ option_map (λ arcs. element_of 0x06 (Some (content_of arcs))) parameters
 curve_content parameters is = grind (arith, identifier_content-valid)
 
 -- What has a content names its curve.
@@ -63,6 +64,10 @@ key_found_with key P h = found_with key P (element_of 0x30 (key_content key)) re
 -- A key that has none has no element.
 pub key_lacks : (key : Key) → HasNoEncoding key → element_of 0x30 (key_content key) ≡ None
 key_lacks key none = grind (arith, key_found key)
+
+-- A key that has no element has no bytes.
+pub key_none : (key : Key) → element_of 0x30 (key_content key) ≡ None → HasNoEncoding key
+key_none key none bytes is = absurd (cc (key_written key bytes is, none))
 
 -- What the keys have to do with what is written, and with its length.
 pub ruleset written_keys = (key_written, key_lacks, key_found)

@@ -8,7 +8,7 @@ ghost use Rattle.sec1_der.specs.IdentifierLaws.{identifier_content-some};
 use sec1_der as der;
 use sec1_der::{
     AnyRef, BackWriter, DecodeValue, EncodeValue, FixedTag, Length, ObjectIdentifier, SliceReader,
-    SliceWriter, Tag, ValueContent,
+    SliceWriter, Tag, Tagged, ValueContent,
 };
 
 /// The curve of a key, named by an identifier (RFC 5480 section 2.1.1). Curves given by their parameters, or implicitly,
@@ -50,16 +50,16 @@ impl<'a> From<&'a EcParameters> for AnyRef<'a> {
     }
 }
 
-impl FixedTag for EcParameters {
-    const TAG: Tag = Tag::OBJECT_IDENTIFIER;
-
+impl Tagged for EcParameters {
     ghost tag_byte = { 0x06 };
 
-    fn fixed_tag() -> Tag
-        ensures { result ≡ 0x06 }
-    {
+    fn fixed_tag() -> Tag {
         Self::TAG
     }
+}
+
+impl FixedTag for EcParameters {
+    const TAG: Tag = Tag::OBJECT_IDENTIFIER;
 }
 
 impl ValueContent for EcParameters {

@@ -8,8 +8,8 @@ ghost use Rattle.sec1.specs.Errors.{IsAsn1, RefusesAsn1};
 use crate::{EcParameters, Error, Result, laws};
 use sec1_der as der;
 use sec1_der::{
-    End, ErrorKind, Explicit0, Explicit1, ObjectIdentifier, Octets, Optional, Record, Required,
-    SecretDocument, UniqueRecord, VersionOne, WholeBits,
+    Context0, ErrorKind, Explicit, ExplicitBits, ObjectIdentifier, Octets, Optional, Record,
+    Required, SecretDocument, VersionOne,
 };
 use std::alloc::Global;
 use std::fmt;
@@ -77,7 +77,7 @@ impl<'a> EcPrivateKey<'a> {
     /// # Errors
     ///
     /// [`Error::Asn1`] of Overlength if the content of an element would be longer than 268,435,455 bytes.
-    #[tactic(auto, using(crate::proofs::KeyLemmas::counted_keys))]
+    #[tactic(auto, using(crate::proofs::KeyLemmas::key_found_with))]
     pub fn encoded_len(&self) -> Result<usize>
         ensures found { IfOk result (λ n. HasEncodingWith self.now (λ bytes. n ≡ length bytes)) }
         ensures only { (bytes : List ℕ) → IsKeyOf self.now bytes → result ≡ Ok (length bytes) }
@@ -85,6 +85,7 @@ impl<'a> EcPrivateKey<'a> {
         ensures lacks { OnErr result (HasNoEncoding self.now) }
         ensures kind { IfErr result (IsAsn1 ErrorKind.Overlength) }
     {
+        laws::tree_is_element();
         Ok(der::encoded_len(self)?)
     }
 
@@ -95,7 +96,7 @@ impl<'a> EcPrivateKey<'a> {
     ///
     /// Those of [`encoded_len`](EcPrivateKey::encoded_len), then [`Error::Asn1`] of Buffer if the slice is too short. The
     /// whole slice is unchanged then.
-    #[tactic(auto, using(crate::proofs::KeyLemmas::counted_keys))]
+    #[tactic(auto, using(crate::proofs::KeyLemmas::key_found_with))]
     pub fn encode_to_slice(&self, buffer: &mut [u8]) -> Result<usize>
         // What was written are the key's bytes.
         ensures found { IfOk result (λ n. HasEncodingWith self.now (λ bytes.
@@ -111,6 +112,7 @@ impl<'a> EcPrivateKey<'a> {
         ensures kinds { IfErr result (λ e. (IsAsn1 ErrorKind.Overlength e × HasNoEncoding self.now)
             ⊎ IsAsn1 ErrorKind.Buffer e) }
     {
+        laws::tree_is_element();
         Ok(der::encode_to_slice(self, buffer)?)
     }
 
@@ -119,7 +121,6 @@ impl<'a> EcPrivateKey<'a> {
     /// # Errors
     ///
     /// Those of [`encoded_len`](EcPrivateKey::encoded_len), then [`Error::Memory`] if the allocation fails.
-    #[tactic(auto, using(crate::proofs::KeyLemmas::written_keys))]
     pub fn to_der(&self, alloc: Global) -> Result<Vec<u8>>
         ensures found { IfOk result (λ der. IsKeyOf self.now der.items) }
         ensures only { (bytes : List ℕ) → IsKeyOf self.now bytes
@@ -128,6 +129,7 @@ impl<'a> EcPrivateKey<'a> {
         ensures kinds { IfErr result (λ e. (IsAsn1 ErrorKind.Overlength e × HasNoEncoding self.now)
             ⊎ (e ≡ Error.Memory)) }
     {
+        laws::tree_is_element();
         Ok(der::to_der(alloc, self)?)
     }
 
@@ -152,7 +154,6 @@ impl<'a> EcPrivateKey<'a> {
     /// # Errors
     ///
     /// Those of [`to_der`](EcPrivateKey::to_der).
-    #[tactic(auto, using(crate::proofs::KeyLemmas::written_keys))]
     pub fn document_ref(&self, alloc: Global) -> Result<SecretDocument>
         ensures found { IfOk result (IsKeyOf self.now) }
         ensures only { (bytes : List ℕ) → IsKeyOf self.now bytes
@@ -161,6 +162,7 @@ impl<'a> EcPrivateKey<'a> {
         ensures kinds { IfErr result (λ e. (IsAsn1 ErrorKind.Overlength e × HasNoEncoding self.now)
             ⊎ (e ≡ Error.Memory)) }
     {
+        laws::tree_is_element();
         Ok(SecretDocument::encode_msg(alloc, self)?)
     }
 }
@@ -176,63 +178,60 @@ impl fmt::Debug for EcPrivateKey<'_> {
 }
 
 impl<'a> Record for EcPrivateKey<'a> {
-    type Components = Required<
-        VersionOne,
-        Required<
-            Octets<'a>,
-            Optional<Explicit0, ObjectIdentifier, Optional<Explicit1, WholeBits<'a>, End>>,
-        >,
-    >;
+    type Parts = (
+        Required<VersionOne>,
+        (
+            Required<Octets<'a>>,
+            (
+                Optional<Explicit<Context0, ObjectIdentifier>>,
+                Optional<ExplicitBits<'a>>,
+            ),
+        ),
+    );
 
-    ghost parts = { λ key. record {
-      first = record {};
-      rest = record {
-        first = key.private_key;
-        rest = record {
-          first = key.parameters;
-          rest = record { first = key.public_key; rest = record {}; tag = record {} };
-          tag = record {};
-        };
-      };
+    ghost parts = { λ key. (record {}, (key.private_key, (key.parameters, key.public_key))) };
+
+    ghost of_parts = { λ row. record {
+      private_key = row.1.0;
+      parameters = row.1.1.0;
+      public_key = row.1.1.1;
     } };
 
-    fn from_components(row: &Self::Components) -> Self {
-        let fields = &row.rest;
-        let options = &fields.rest;
+    fn from_parts(row: Self::Parts) -> Self {
+        let (_, (private_key, (curve, public_key))) = row;
         EcPrivateKey {
-            private_key: fields.first.bytes,
-            parameters: match options.first {
-                Some(curve) => Some(EcParameters::NamedCurve(curve)),
+            private_key: private_key.0.bytes,
+            parameters: match curve.0 {
+                Some(curve) => Some(EcParameters::NamedCurve(curve.value)),
                 None => None,
             },
-            public_key: match &options.rest.first {
+            public_key: match public_key.0 {
                 Some(bits) => Some(bits.bytes),
                 None => None,
             },
         }
     }
 
-    fn to_components(&self) -> Self::Components {
+    fn to_parts(&self) -> Self::Parts {
+        let bytes = self.private_key;
         let curve = match self.parameters {
-            Some(EcParameters::NamedCurve(curve)) => Some(curve),
+            Some(EcParameters::NamedCurve(curve)) => Some(Explicit::new(curve)),
             None => None,
         };
         let public_key = match self.public_key {
-            Some(bytes) => Some(WholeBits { bytes }),
+            Some(bytes) => Some(ExplicitBits { bytes }),
             None => None,
         };
-        let bytes = self.private_key;
-        let options = Optional::new(curve, Optional::new(public_key, End));
-        Required::new(VersionOne, Required::new(Octets { bytes }, options))
+        (
+            Required(VersionOne),
+            (
+                Required(Octets { bytes }),
+                (Optional(curve), Optional(public_key)),
+            ),
+        )
     }
-}
-
-impl<'a> UniqueRecord for EcPrivateKey<'a> {
-    ghost of_parts = { λ row. record {
-      private_key = row.rest.first;
-      parameters = row.rest.rest.first;
-      public_key = row.rest.rest.rest.first;
-    } };
 
     ghost same = { λ _. refl };
+
+    ghost apart = { refl };
 }

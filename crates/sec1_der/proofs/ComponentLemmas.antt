@@ -1,7 +1,7 @@
 -- What the content of a SEQUENCE says of its components.
 use Rattle.std.proofs.Common.{◌≡◌, ◌+◌, [], ◌++◌, ℕ, List, length, Option, Some, None, refl, ap, ◌∙◌, length-append}
 use Rattle.std.proofs.lemmas.List.{append-nil}
-use Rattle.sec1_der.specs.Components.{join}
+use Rattle.sec1_der.specs.Parts.{join}
 
 -- the bytes of both, one after the other
 pub record AreJoined (first second : Option (List ℕ)) (bytes : List ℕ) : Type 0 where

@@ -18,3 +18,4 @@ pub mod DottedLemmas
 pub mod DisplayLemmas
 pub mod StreamLemmas
 pub mod UniqueLemmas
+pub mod PartLemmas

@@ -1,7 +1,7 @@
 -- What the bytes of an element, and bytes that begin with none, are refused by.
-use Rattle.std.proofs.Common.{◌≡◌, ◌==◌, ℕ, ◌+◌, ◌<◌, ◌≤◌, Bool, true, false, ◌&&◌, if◌then◌else◌, nat_le, List, [], ◌∷◌, ◌++◌, length, take, drop, get_or}
-use Rattle.std.proofs.Common.{Option, Some, None, IsSomeAnd, IfSome, IfNone, slice_get, Result, Ok, Err, ⊎_elim, refl, ap, sym, ◌∙◌, arith, tests, le-leb}
-use Rattle.std.proofs.Common.{leb-true, eq-eqb, ne_eqb, length-append, length-drop, append_assoc, append-nil, take-append-drop, bytes_eq}
+use Rattle.std.proofs.Common.{◌≡◌, ℕ, ◌+◌, ◌<◌, ◌≤◌, true, false, ◌&&◌, nat_le, List, [], ◌∷◌, ◌++◌, length, take, drop, get_or}
+use Rattle.std.proofs.Common.{Option, Some, None, IsSomeAnd, Ok, Err, ⊎_elim, refl, ap, sym, ◌∙◌, arith, tests, le-leb}
+use Rattle.std.proofs.Common.{leb-true, eq-eqb, length-append, length-drop, append_assoc, append-nil, take-append-drop, bytes_eq}
 use Rattle.std.proofs.Math.Seq.{take-append_seam, drop-append_seam}
 use Rattle.std.proofs.lemmas.Bool.{lt-leb, and_parts, cases_Bool}
 use Rattle.std.proofs.lemmas.Slice.Eq.{bytes_eq-Decides}
@@ -9,10 +9,10 @@ use Rattle.std.specs.Option.{option_or}
 use Rattle.sec1_der.specs.Elements.{max_length, length_octets, header, element, IsTag, IsHeader, IsElement, LacksHeader}
 use Rattle.sec1_der.specs.Faults.{is_tag, length_fault, header_fault}
 use Rattle.sec1_der.specs.Readers.{Reader, reader_over, HasReadElement}
-use Rattle.sec1_der.specs.Refusals.{Fault, no_fault, end_fault, number_at, length_at, within, parts_fault, element_fault, is_next, inside_fault, field_fault}
+use Rattle.sec1_der.specs.Refusals.{Fault, no_fault, end_fault, number_at, length_at, within, parts_fault, element_fault, optional_fault, field_fault}
 use Rattle.sec1_der.specs.Refusals.{any_fault, document_fault}
 use Rattle.sec1_der.specs.declared.error.ErrorKind.{ErrorKind}
-use Rattle.sec1_der.specs.declared.error.ErrorKind.TheVariants.{Truncated, Tag, TrailingData}
+use Rattle.sec1_der.specs.declared.error.ErrorKind.TheVariants.{Truncated, TrailingData}
 use Rattle.sec1_der.proofs.DigitLemmas.{IsBytes}
 use Rattle.sec1_der.proofs.HeaderLemmas.{is_tag-true}
 use Rattle.sec1_der.proofs.LengthLemmas.{number_spelled}
@@ -106,27 +106,6 @@ pub opened_element : (f : Fault) (tag opened : ℕ) (old new content : Reader) (
 opened_element f tag opened old new content found is same kind =
     read_element f no_fault tag content.unread old new (rw same at is.1) ∙ (alone _ ∙ kind (ap (λ (r : Reader). r.failed) is.0))
 
--- two faults of an element are alike if those of its parts are
-element_alike : (Alike : Option ErrorKind → Option ErrorKind → Type 0) (f g h k : Fault) (tag : ℕ) (bytes : List ℕ)
-    → ((kind : ErrorKind) → Alike (Some kind) (Some kind))
-    → ((content behind : List ℕ) → Alike (option_or (f content) (g behind)) (option_or (h content) (k behind)))
-    → Alike (element_fault tag f g bytes) (element_fault tag h k bytes)
-element_alike Alike f g h k tag [] same parts = same Truncated
-element_alike Alike f g h k tag (byte ∷ bytes) same parts = by (byte == tag) (within (length_at bytes))
-  where
-    by : (b : Bool) (found : Result (List ℕ × List ℕ) ErrorKind)
-        → Alike (if b then parts_fault f g found else Some Tag) (if b then parts_fault h k found else Some Tag)
-    by false found = same Tag
-    by true (Err kind) = same kind
-    by true (Ok x) = parts x.0 x.1
-
--- what is refused stays so where more is tested
-refused_more : (f h g : Fault) (tag : ℕ) (bytes : List ℕ) (k : ErrorKind) → ((content : List ℕ) → f content ≡ Some k → h content ≡ Some k)
-    → element_fault tag f no_fault bytes ≡ Some k → element_fault tag h g bytes ≡ Some k
-refused_more f h g tag bytes k more =
-    element_alike (λ a b. a ≡ Some k → b ≡ Some k) f no_fault h g tag bytes (λ kind e. e)
-    (λ content behind e. rw (more content (sym (alone (f content)) ∙ e)) refl)
-
 -- the reader goes on: the fault of the bytes that it had is that of the bytes that it has
 pub record GoesOn (fault : Fault → Fault) (old new : Reader) : Type 0 where
   pub whole : new.failed ≡ false
@@ -172,64 +151,18 @@ document_long tag n bytes inside h e more =
 
 -- ---- explicit fields
 
--- an explicit field [number], where one is next, with this fault of its content, and what follows it
-abbrev pub field_at : ℕ → Fault → Fault → Fault
-field_at number inside behind bytes = if is_next (0xA0 + number) bytes then element_fault (0xA0 + number) inside behind bytes else behind bytes
-
--- a tag isn't next where it isn't the first byte
-is_next_other : (tag : ℕ) (bytes : List ℕ) → (slice_get bytes 0 ≡ Some tag → ⊥) → is_next tag bytes ≡ false
-is_next_other tag [] other = refl
-is_next_other tag (byte ∷ bytes) other = ne_eqb byte tag (λ same. other (ap (λ n. Some n) same))
-
--- a field that is refused stays so where more is tested of its content, and of the bytes after it
-pub refused_field : (number : ℕ) (f h g : Fault) (bytes : List ℕ) (k : ErrorKind) → ((content : List ℕ) → f content ≡ Some k → h content ≡ Some k)
-    → field_at number f no_fault bytes ≡ Some k → field_at number h g bytes ≡ Some k
-refused_field number f h g bytes k more e = ⊎_elim
-    (λ next. rw next (refused_more f h g (0xA0 + number) bytes k more (rw next at e)))
-    (λ other. absurd (cc (rw other at e)))
-    (cases_Bool (is_next (0xA0 + number) bytes))
-
 -- the fault of a field that was read is that of its content, or else of the bytes after it
-pub read_field : (number : ℕ) (f g : Fault) (content : List ℕ) (old new : Reader) → HasReadElement (0xA0 + number) content old new
-    → field_at number f g old.unread ≡ option_or (f content) (g new.unread)
+read_field : (number : ℕ) (f g : Fault) (content : List ℕ) (old new : Reader) → HasReadElement (0xA0 + number) content old new
+    → optional_fault (0xA0 + number) f g old.unread ≡ option_or (f content) (g new.unread)
 read_field number f g content old new h =
     let tag = 0xA0 + number in
     rw (ap (λ (r : Reader). r.unread) h.read.was_whole, eq-eqb tag tag refl) (parts_at f g content new.unread h.within)
-
--- a reader goes on after a field that was read, and where none is next
-pub passes_field : {A : Type 0} (number tag : ℕ) (f : Fault) (field : Option A) (content : A → Option (List ℕ)) (P : List ℕ → Type 0) (old new : Reader)
-    → old.failed ≡ false
-    → IfSome field (λ value. IsSomeAnd (content value) (λ inside.
-    P inside × (length inside ≤ max_length) × HasReadElement (0xA0 + number) (element tag inside) old new))
-    → IfNone field ((new ≡ old) × (slice_get old.unread 0 ≡ Some (0xA0 + number) → ⊥))
-    → field_at number f no_fault old.unread ≡ None → GoesOn (field_at number f) old new
-passes_field number tag f None content P old new whole some none e =
-    let other = is_next_other (0xA0 + number) old.unread none.1 in
-    record { whole = ap (λ (r : Reader). r.failed) none.0 ∙ whole; next = λ g. rw other (ap (λ (r : Reader). g r.unread) (sym none.0)) }
-passes_field number tag f (Some value) content P old new whole some none e =
-    goes_on (field_at number f) (λ inside. f (element tag inside)) (content value) _ old new some
-    (λ inside is. (ap (λ (r : Reader). r.failed) is.2.read.is_whole, λ g. read_field number f g (element tag inside) old new is.2)) e
-
--- where nothing is checked late, the fault of a field's content is that of the one element
-pub inside_at_once : (tag : ℕ) (f : Fault) (bytes : List ℕ) → inside_fault tag (λ _. false) f bytes ≡ element_fault tag f end_fault bytes
-inside_at_once tag f bytes =
-    element_alike (λ a b. option_or a b ≡ a) f end_fault f no_fault tag bytes (λ kind. refl) (λ content behind. twice (f content) (end_fault behind))
-  where
-    twice : (a b : Option ErrorKind) → option_or (option_or a b) (option_or a None) ≡ option_or a b
-    twice None None = refl
-    twice None (Some k) = refl
-    twice (Some j) b = refl
-
--- where nothing is checked late, the fault of a field that was read is that of the one element in it
-pub read_field_whole : (number tag : ℕ) (f : Fault) (content : List ℕ) (old new : Reader) → HasReadElement (0xA0 + number) content old new
-    → field_fault number tag (λ _. false) f no_fault old.unread ≡ element_fault tag f end_fault content
-read_field_whole number tag f content old new h =
-    read_field number (inside_fault tag (λ _. false) f) no_fault content old new h ∙ (alone _ ∙ inside_at_once tag f content)
 
 -- where the content of a field was opened, the fault of the field is that of the one element in it
 pub opened_field : (number tag : ℕ) (f : Fault) (opened : ℕ) (old new content : Reader) (found : Option ErrorKind)
     → (content ≡ reader_over content.unread) × HasReadElement opened content.unread old new → opened ≡ 0xA0 + number
     → (content.failed ≡ false → element_fault tag f end_fault content.unread ≡ found)
-    → field_fault number tag (λ _. false) f no_fault old.unread ≡ found
+    → field_fault number tag f no_fault old.unread ≡ found
 opened_field number tag f opened old new content found is same kind =
-    read_field_whole number tag f content.unread old new (rw same at is.1) ∙ kind (ap (λ (r : Reader). r.failed) is.0)
+    read_field number (element_fault tag f end_fault) no_fault content.unread old new (rw same at is.1)
+    ∙ (alone _ ∙ kind (ap (λ (r : Reader). r.failed) is.0))

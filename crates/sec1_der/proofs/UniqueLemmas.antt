@@ -1,8 +1,11 @@
--- The components of two values with one content are the same.
-use Rattle.std.proofs.Common.{◌≡◌, ◌≢◌, ◌+◌, [], ◌++◌, ℕ, List, Option, Some, None, slice_get, ap, refl, ap₂, arith}
+-- Parts that are apart, and values with one content, are the same.
+use Rattle.std.proofs.Common.{◌≡◌, [], ◌∷◌, ◌++◌, ◌∙◌, ℕ, List, Option, Some, None, true, ap, refl, sym, ap₂, append_assoc}
 use Rattle.std.specs.Option.{option_map}
-use Rattle.sec1_der.specs.Components.{join}
-use Rattle.sec1_der.specs.Elements.{element_of, field_of}
+use Rattle.std.proofs.lemmas.Bool.{and_parts}
+use Rattle.sec1_der.specs.Elements.{element_of}
+use Rattle.sec1_der.specs.Parts.{Tags, AreApart, Begins, MayFollow, join, one_tag, optional_tag, both_tags, optional_of}
+use Rattle.sec1_der.specs.PartLaws.{element_begins}
+use Rattle.sec1_der.proofs.PartLemmas.{next_first, next_second}
 use Rattle.sec1_der.specs.IdentifierLaws.{identifier_content-some}
 use Rattle.sec1_der.specs.Identifiers.{identifier_content}
 use Rattle.sec1_der.proofs.ComponentLemmas.{parted}
@@ -14,47 +17,71 @@ use Rattle.sec1_der.proofs.TreeLemmas.{element_apart}
 abbrev pub IsUnique : {A : Type 0} → (A → Option (List ℕ)) → Type 0
 IsUnique {A} content = (a b : A) (bytes : List ℕ) → content a ≡ Some bytes → content b ≡ Some bytes → a ≡ b
 
--- two rows that begin with an element of one tag, and have one content, are the same
-pub unique_required : (tag : ℕ) {A R : Type 0} (content : A → Option (List ℕ)) (rest : R → Option (List ℕ)) → IsUnique content → IsUnique rest
-    → IsUnique (λ (row : A × R). join (element_of tag (content row.0)) (rest row.1))
-unique_required tag content rest one two (x, a) (y, b) bytes e f =
-    let p = parted (element_of tag (content x)) (rest a) bytes e in
-    let q = parted (element_of tag (content y)) (rest b) bytes f in
-    let s = element_of-some tag (content x) p.front p.first_there in
-    let t = element_of-some tag (content y) q.front q.first_there in
-    let apart = element_apart tag tag s.inside t.inside p.back q.back (cc (p.joined, q.joined, s.at.spelled, t.at.spelled)) in
-    ap₂ (λ x a. (x, a)) (one x y s.inside s.same (rw apart.1 t.same)) (two a b p.back p.second_there (rw apart.2 q.second_there))
+-- where elements of one tag, and what follows them, have the same bytes, the values are the same, and so is what follows them
+same_values : (tag : ℕ) {A : Type 0} (content : A → Option (List ℕ)) → IsUnique content → (a b : A) (x y r s : List ℕ)
+    → element_of tag (content a) ≡ Some x → element_of tag (content b) ≡ Some y → x ++ r ≡ y ++ s → (a ≡ b) × (r ≡ s)
+same_values tag content one a b x y r s e f same =
+    let p = element_of-some tag (content a) x e in
+    let q = element_of-some tag (content b) y f in
+    let is = element_apart tag tag p.inside q.inside r s (cc (p.at.spelled, q.at.spelled, same)) in
+    (one a b p.inside p.same (rw is.1 q.same), is.2)
+
+-- elements of one tag are apart
+pub one_apart : (tag : ℕ) {A : Type 0} (content : A → Option (List ℕ)) → IsUnique content → AreApart (one_tag tag) (λ a. element_of tag (content a))
+one_apart tag content one a b x y r s apart e f before behind same = same_values tag content one a b x y r s e f same
 
 -- two elements of one tag that have one content are the same
 pub unique_inside : (tag : ℕ) {A : Type 0} (content : A → Option (List ℕ)) → IsUnique content → IsUnique (λ a. element_of tag (content a))
-unique_inside tag content one a b bytes e f =
-    let alone : IsUnique (λ (end : Unit {0}). Some []) = λ x y empty p q. refl in
-    ap (λ row. row.0) (unique_required tag content (λ (end : Unit {0}). Some []) one alone (a, tt) (b, tt) (bytes ++ []) (rw e refl) (rw f refl))
+unique_inside tag content one a b bytes e f = (same_values tag content one a b bytes bytes [] [] e f refl).0
 
--- a row without its OPTIONAL component is the rest
-without : (rest : Option (List ℕ)) (bytes : List ℕ) → join (Some []) rest ≡ Some bytes → rest ≡ Some bytes
-without rest bytes e = grind arith
+-- bits with one content are the same
+pub unique_bits : IsUnique (λ (bytes : List ℕ). element_of 0x03 (Some (0 ∷ bytes)))
+unique_bits = unique_inside 0x03 (λ (bytes : List ℕ). Some (0 ∷ bytes)) (λ a b bytes e f. cc (e, f))
 
--- a row with its OPTIONAL component begins with its tag
-begins : (n tag : ℕ) (x rest : Option (List ℕ)) (bytes : List ℕ) → join (field_of n tag (Some x)) rest ≡ Some bytes → slice_get bytes 0 ≡ Some (0xA0 + n)
-begins n tag x rest bytes e =
-    let p = parted (field_of n tag (Some x)) rest bytes e in
-    let s = element_of-some (0xA0 + n) (element_of tag x) p.front p.first_there in
-    rw (p.joined, s.at.spelled) refl
+-- what may follow an optional element doesn't begin with its tag
+not_present : (tag : ℕ) (content : Option (List ℕ)) (r y s : List ℕ) → element_of tag content ≡ Some y → MayFollow (optional_tag tag) r → r ≡ y ++ s → ⊥
+not_present tag content r y s e may same = by y (element_begins tag content y e) same
+  where
+    by : (y : List ℕ) → Begins (one_tag tag) y → r ≡ y ++ s → ⊥
+    by [] begins same = absurd (cc begins)
+    by (byte ∷ y) begins same = absurd (cc (begins, rw same at may))
 
--- two rows that begin with an OPTIONAL component, and have one content, are the same
-pub unique_optional : (n tag : ℕ) {A R : Type 0} (content : A → Option (List ℕ)) (rest : R → Option (List ℕ)) → IsUnique content → IsUnique rest
-    → ((a : R) (bytes : List ℕ) → rest a ≡ Some bytes → slice_get bytes 0 ≢ Some (0xA0 + n))
-    → IsUnique (λ (row : Option A × R). join (field_of n tag (option_map content row.0)) (rest row.1))
-unique_optional n tag content rest one two none (None, a) (None, b) bytes e f =
-    ap (λ a. (None, a)) (two a b bytes (without (rest a) bytes e) (without (rest b) bytes f))
-unique_optional n tag content rest one two none (None, a) (Some y, b) bytes e f =
-    absurd (none a bytes (without (rest a) bytes e) (begins n tag (content y) (rest b) bytes f))
-unique_optional n tag content rest one two none (Some x, a) (None, b) bytes e f =
-    absurd (none b bytes (without (rest b) bytes f) (begins n tag (content x) (rest a) bytes e))
-unique_optional n tag content rest one two none (Some x, a) (Some y, b) bytes e f =
-    ap (λ row. (Some row.0, row.1))
-    (unique_required (0xA0 + n) (λ v. element_of tag (content v)) rest (unique_inside tag content one) two (x, a) (y, b) bytes e f)
+-- optional elements of one tag are apart
+pub optional_apart : (tag : ℕ) {A : Type 0} (content : A → Option (List ℕ)) → IsUnique content
+    → AreApart (optional_tag tag) (λ (a : Option A). optional_of tag (option_map content a))
+optional_apart tag content one None None x y r s apart e f before behind same =
+    let front : x ≡ [] = cc (e) in
+    let back : y ≡ [] = cc (f) in
+    (refl, rw (front, back) at same)
+optional_apart tag content one None (Some b) x y r s apart e f before behind same =
+    let front : x ≡ [] = cc (e) in
+    absurd (not_present tag (content b) r y s f before (rw front at same))
+optional_apart tag content one (Some a) None x y r s apart e f before behind same =
+    let back : y ≡ [] = cc (f) in
+    absurd (not_present tag (content a) s x r e behind (sym (rw back at same)))
+optional_apart tag content one (Some a) (Some b) x y r s apart e f before behind same =
+    let is = same_values tag content one a b x y r s e f same in
+    (ap (λ v. Some v) is.0, is.1)
+
+-- parts that are apart are so one after the other
+pub pair_apart : (p q : Tags) {P Q : Type 0} (first : P → Option (List ℕ)) (second : Q → Option (List ℕ)) → AreApart p first → AreApart q second
+    → ((b : Q) (bytes : List ℕ) → second b ≡ Some bytes → Begins q bytes) → AreApart (both_tags p q) (λ (ab : P × Q). join (first ab.0) (second ab.1))
+pair_apart p q first second one two begins (a, c) (b, d) x y r s apart e f before behind same =
+    let x = parted (first a) (second c) x e in
+    let y = parted (first b) (second d) y f in
+    let tags = and_parts _ _ apart in
+    let more = and_parts _ _ tags.1 in
+    let split : x.front ++ (x.back ++ r) ≡ y.front ++ (y.back ++ s) =
+    sym (append_assoc x.front x.back r) ∙ (rw (x.joined, y.joined) at same ∙ append_assoc y.front y.back s) in
+    let front = one a b x.front y.front (x.back ++ r) (y.back ++ s) tags.0 x.first_there y.first_there
+    (next_first p q x.back r more.1 (begins c x.back x.second_there) before)
+    (next_first p q y.back s more.1 (begins d y.back y.second_there) behind) split in
+    let back = two c d x.back y.back r s more.0 x.second_there y.second_there (next_second p q r before) (next_second p q s behind) front.1 in
+    (ap₂ (λ a c. (a, c)) front.0 back.0, back.1)
+
+-- two values of one part that is all of their bytes are the same
+pub unique_parts : (tags : Tags) {A : Type 0} (bytes : A → Option (List ℕ)) → AreApart tags bytes → tags.apart ≡ true → IsUnique bytes
+unique_parts tags bytes one apart a b whole e f = (one a b whole whole [] [] apart e f tt tt refl).0
 
 -- two lists of arcs with one content are the same
 pub unique_identifier : IsUnique identifier_content

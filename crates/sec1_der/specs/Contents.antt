@@ -4,7 +4,8 @@ use Rattle.std.specs.Prelude.{Option, Some, None}
 use Rattle.std.specs.Str.{bytes_eq}
 use Rattle.sec1_der.specs.ArcsOf.{arcs_of}
 use Rattle.sec1_der.specs.Identifiers.{is_identifier, content_of}
-use Rattle.sec1_der.specs.Refusals.{Fault}
+use Rattle.std.specs.Option.{option_or}
+use Rattle.sec1_der.specs.Refusals.{Fault, no_fault, end_fault, element_fault}
 use Rattle.sec1_der.specs.declared.error.ErrorKind.{ErrorKind}
 use Rattle.sec1_der.specs.declared.error.ErrorKind.TheVariants.{Value}
 
@@ -61,6 +62,11 @@ bit_string_fault content = value_unless (is_bit_string content)
 abbrev pub whole_bits_fault : Fault
 whole_bits_fault [] = Some Value
 whole_bits_fault (unused ∷ bytes) = value_unless (unused == 0)
+
+-- X.690 section 8.14: the content of an explicit field around a bit string without unused bits: a bit string, and nothing
+-- after it; then that no bits are unused
+abbrev pub whole_bits_field_fault : Fault
+whole_bits_field_fault bytes = option_or (element_fault 0x03 bit_string_fault end_fault bytes) (element_fault 0x03 whole_bits_fault no_fault bytes)
 
 -- X.690 section 8.19: Any content other than that of an identifier is refused.
 abbrev pub identifier_fault : Fault

@@ -74,9 +74,3 @@ IsOverlong (Some content) = max_length < length content
 abbrev pub element_of : ℕ → Option (List ℕ) → Option (List ℕ)
 element_of tag None = None
 element_of tag (Some content) = if nat_le (length content) max_length then Some (element tag content) else None
-
--- X.690 section 8.14: the bytes of an explicit field [number] around the element with this tag; no bytes if the value
--- is absent
-abbrev pub field_of : ℕ → ℕ → Option (Option (List ℕ)) → Option (List ℕ)
-field_of number tag None = Some []
-field_of number tag (Some content) = element_of (explicit_tag number) (element_of tag content)

@@ -15,8 +15,8 @@ pub mod Values
 pub mod Readers
 pub mod SliceWriters
 pub mod BackWriters
-pub mod Components
-pub mod Beginnings
+pub mod Parts
+pub mod PartLaws
 pub mod Streams
 pub mod StdStreams
 pub mod ReadsDocument

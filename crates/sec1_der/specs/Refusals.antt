@@ -61,20 +61,13 @@ abbrev pub is_next : ℕ → List ℕ → Bool
 is_next tag [] = false
 is_next tag (byte ∷ bytes) = byte == tag
 
--- a type that refuses no content late
-abbrev pub never_late : List ℕ → Bool
-never_late content = false
-
--- the content of an explicit field: an element with this tag, and nothing after it. What is checked late of its content
--- is checked after that.
-abbrev pub inside_fault : ℕ → (List ℕ → Bool) → Fault → Fault
-inside_fault tag late content bytes =
-    option_or (element_fault tag (λ inside. if late inside then None else content inside) end_fault bytes) (element_fault tag content no_fault bytes)
+-- an element with this tag, if its tag is next; and what follows it
+abbrev pub optional_fault : ℕ → Fault → Fault → Fault
+optional_fault tag content behind bytes = if is_next tag bytes then element_fault tag content behind bytes else behind bytes
 
 -- X.690 section 8.14: an explicit field [number] around an element with this tag, if its tag is next; and what follows it
-abbrev pub field_fault : ℕ → ℕ → (List ℕ → Bool) → Fault → Fault → Fault
-field_fault number tag late content behind bytes =
-    if is_next (explicit_tag number) bytes then element_fault (explicit_tag number) (inside_fault tag late content) behind bytes else behind bytes
+abbrev pub field_fault : ℕ → ℕ → Fault → Fault → Fault
+field_fault number tag content behind = optional_fault (explicit_tag number) (element_fault tag content end_fault) behind
 
 -- an element of any tag, which decides how its content is checked, and what follows it
 abbrev pub any_fault : (ℕ → Fault) → Fault → Fault

@@ -2,16 +2,12 @@ ghost use Rattle.std.specs.Prelude.{◌≤◌, length};
 
 use crate::codec::check_room;
 use crate::header::LONG_FORM;
-use crate::{
-    EncodeValue, ErrorKind, FixedTag, Header, Length, Result, Tag, context_specific_len,
-    encoded_len,
-};
+use crate::{EncodeValue, ErrorKind, Header, Length, Result, Tag, Tagged, encoded_len};
 
 /// A writer that fills a slice from its end, so that a content is written before its header.
 ///
 /// On an error nothing is written. The bytes of the slice in front of what was written are never changed.
-/// [`put_element`](BackWriter::put_element) and [`put_field`](BackWriter::put_field) promise neither if there is no room,
-/// which their caller tests.
+/// [`put_element`](BackWriter::put_element) promises neither if there is no room, which its caller tests.
 #[derive(Drop)]
 pub struct BackWriter<'b> {
     buffer: &'b mut [u8],
@@ -21,9 +17,8 @@ pub struct BackWriter<'b> {
 
 impl<'b> BackWriter<'b> {
     ghost use Rattle.std.specs.Prelude.{◌≡◌, ℕ, ◌<◌, ◌+◌, ◌-◌, List, [], Some, None, IsOk};
-    ghost use Rattle.std.specs.Option.{option_map};
     ghost use Rattle.sec1_der.specs.BackWriters.{end_of, front_of, IsOverEnd, KeepsEnd, PutsNothing, PutsInFront};
-    ghost use Rattle.sec1_der.specs.Elements.{max_length, header, element_of, field_of};
+    ghost use Rattle.sec1_der.specs.Elements.{max_length, header, element_of};
     ghost use Rattle.sec1_der.specs.Faults.{Refuses};
 
     /// Creates a writer at the end of a slice.
@@ -102,7 +97,7 @@ impl<'b> BackWriter<'b> {
     /// # Errors
     ///
     /// Those of [`encoded_len`], then Buffer if the element has no room.
-    pub fn element<T: EncodeValue + FixedTag>(&mut self, value: &T) -> Result<()>
+    pub fn element<T: EncodeValue + Tagged>(&mut self, value: &T) -> Result<()>
         ensures slice { KeepsEnd self.old self.new }
         ensures grows { length (end_of self.old) ≤ length (end_of self.new) }
         ensures overlength { element_of T.tag_byte (T.content value.now) ≡ None
@@ -124,7 +119,7 @@ impl<'b> BackWriter<'b> {
     /// # Errors
     ///
     /// None if the element has room.
-    pub fn put_element<T: EncodeValue + FixedTag>(&mut self, value: &T) -> Result<()>
+    pub fn put_element<T: EncodeValue + Tagged>(&mut self, value: &T) -> Result<()>
         ensures slice { KeepsEnd self.old self.new }
         ensures grows { length (end_of self.old) ≤ length (end_of self.new) }
         ensures fits { (bytes : List ℕ) → element_of T.tag_byte (T.content value.now) ≡ Some bytes
@@ -134,62 +129,5 @@ impl<'b> BackWriter<'b> {
         let since = self.written();
         value.put_value(self)?;
         self.header(T::fixed_tag(), since)
-    }
-
-    /// Prepends an explicit field `[number]` around the element of a value, if present. The crate `der` has no such
-    /// call.
-    ///
-    /// # Errors
-    ///
-    /// Those of [`context_specific_len`], then Buffer if the field has no room.
-    pub fn context_specific<T: EncodeValue + FixedTag>(
-        &mut self,
-        number: u8,
-        field: &Option<T>,
-    ) -> Result<()>
-        requires { number ≤ 30 }
-        ensures slice { KeepsEnd self.old self.new }
-        ensures grows { length (end_of self.old) ≤ length (end_of self.new) }
-        ensures overlength { field_of number T.tag_byte (option_map T.content field.now) ≡ None
-            → Refuses result ErrorKind.Overlength × PutsNothing self.old self.new }
-        ensures fits { (bytes : List ℕ)
-            → field_of number T.tag_byte (option_map T.content field.now) ≡ Some bytes
-            → length bytes ≤ length (front_of self.old)
-            → IsOk result × PutsInFront self.old self.new bytes }
-        ensures buffer { (bytes : List ℕ)
-            → field_of number T.tag_byte (option_map T.content field.now) ≡ Some bytes
-            → length (front_of self.old) < length bytes
-            → Refuses result ErrorKind.Buffer × PutsNothing self.old self.new }
-    {
-        check_room(context_specific_len(number, field)?, self.remaining())?;
-        self.put_field(number, field)
-    }
-
-    /// Prepends an explicit field `[number]` around the element of a value, if present, without testing the room
-    /// first. If there is less room, or if the value has no encoding, any bytes may have been prepended. The crate
-    /// `der` has no such call.
-    ///
-    /// # Errors
-    ///
-    /// None if the field has room.
-    pub fn put_field<T: EncodeValue + FixedTag>(
-        &mut self,
-        number: u8,
-        field: &Option<T>,
-    ) -> Result<()>
-        requires { number ≤ 30 }
-        ensures slice { KeepsEnd self.old self.new }
-        ensures grows { length (end_of self.old) ≤ length (end_of self.new) }
-        ensures fits { (bytes : List ℕ)
-            → field_of number T.tag_byte (option_map T.content field.now) ≡ Some bytes
-            → length bytes ≤ length (front_of self.old)
-            → IsOk result × PutsInFront self.old self.new bytes }
-    {
-        let Some(value) = field else {
-            return Ok(());
-        };
-        let since = self.written();
-        self.put_element(value)?;
-        self.header(Tag::context(number), since)
     }
 }

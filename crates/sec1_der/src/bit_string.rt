@@ -4,7 +4,7 @@ ghost use Rattle.sec1_der.specs.Contents.{AreBits};
 use crate::codec::check_room;
 use crate::{
     BackWriter, DecodeValue, EncodeValue, ErrorKind, FixedTag, Length, Result, SliceReader,
-    SliceWriter, Tag, ValueContent,
+    SliceWriter, Tag, Tagged, ValueContent,
 };
 
 /// A BIT STRING, which borrows its bytes (X.690 section 8.6). Its content is the number of unused bits of the last byte,
@@ -96,9 +96,7 @@ fn are_bits(unused: u8, bytes: &[u8]) -> bool
     }
 }
 
-impl FixedTag for BitStringRef<'_> {
-    const TAG: Tag = Tag::BIT_STRING;
-
+impl Tagged for BitStringRef<'_> {
     ghost tag_byte = { 0x03 };
 
     fn fixed_tag() -> Tag
@@ -106,6 +104,10 @@ impl FixedTag for BitStringRef<'_> {
     {
         Self::TAG
     }
+}
+
+impl FixedTag for BitStringRef<'_> {
+    const TAG: Tag = Tag::BIT_STRING;
 }
 
 impl ValueContent for BitStringRef<'_> {

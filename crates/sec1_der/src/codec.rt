@@ -1,14 +1,13 @@
 //! Reading and writing values of any type, by their whole DER encoding.
 ghost use Rattle.std.specs.Prelude.{◌≡◌, ◌≢◌, ◌<◌, ◌≤◌, ◌+◌, ◌⊎◌, ◌↔◌, [], ◌++◌, ℕ, List, length, drop, Option, Some, None, slice_get, IsOk, IfOk};
 ghost use Rattle.std.specs.Prelude.{IsOkAnd, IfErr, OnOk, OnErr, IsSomeAnd, MatchResult};
-ghost use Rattle.std.specs.Option.{option_map};
-ghost use Rattle.sec1_der.specs.Elements.{max_length, element, element_of, field_of, IsTag, IsElementOf, IsProperBeginning, explicit_tag};
+ghost use Rattle.sec1_der.specs.Elements.{max_length, element, element_of, IsTag, IsElementOf, IsProperBeginning};
 ghost use Rattle.sec1_der.specs.Faults.{Refuses, IsReadingFault};
 ghost use Rattle.sec1_der.specs.Refusals.{HasFault, element_fault, end_fault};
 
 use crate::{
-    BackWriter, DecodeValue, EncodeComponents, EncodeValue, ErrorKind, FixedTag, Header, Length,
-    Result, SliceReader, Tag,
+    BackWriter, DecodeValue, EncodePart, EncodeValue, ErrorKind, Header, Result, SliceReader,
+    Tagged, UniqueContent,
 };
 use std::alloc::Global;
 
@@ -17,7 +16,7 @@ use std::alloc::Global;
 /// # Errors
 ///
 /// Those of [`SliceReader::decode`], then TrailingData if bytes follow the element.
-pub fn from_der<'a, T: DecodeValue<'a> + FixedTag + Drop>(input: &'a [u8]) -> Result<T>
+pub fn from_der<'a, T: DecodeValue<'a> + Tagged + Drop>(input: &'a [u8]) -> Result<T>
     ensures found { IfOk result (λ value. IsSomeAnd (T.content value) (λ content. T.is_content content
         × IsElementOf T.tag_byte content input.now)) }
     ensures only { (content : List ℕ) → T.is_content content → IsElementOf T.tag_byte content input.now
@@ -45,12 +44,30 @@ pub fn from_der<'a, T: DecodeValue<'a> + FixedTag + Drop>(input: &'a [u8]) -> Re
     SliceReader::new(input).only_element()
 }
 
+/// Reads a value from its whole DER encoding. The value is determined by its content.
+///
+/// # Errors
+///
+/// Those of [`from_der`].
+pub fn read_der<'a, T: DecodeValue<'a> + Tagged + UniqueContent + Drop>(
+    input: &'a [u8],
+) -> Result<T>
+    // What is read has these bytes, and a value with these bytes is read.
+    ensures found { IfOk result (λ value. element_of T.tag_byte (T.content value) ≡ Some input.now) }
+    ensures only { (value : T) → element_of T.tag_byte (T.content value) ≡ Some input.now → result ≡ Ok value }
+    ensures kinds { IfErr result (λ e. IsReadingFault e.kind) }
+    ensures kind { HasFault result (element_fault T.tag_byte T.fault end_fault input.now) }
+{
+    T::one();
+    from_der(input)
+}
+
 /// Returns the length of the value's DER encoding in bytes.
 ///
 /// # Errors
 ///
 /// Overlength if the value has no content, or one that is longer than 268,435,455 bytes.
-pub fn encoded_len<T: EncodeValue + FixedTag>(value: &T) -> Result<usize>
+pub fn encoded_len<T: EncodeValue + Tagged>(value: &T) -> Result<usize>
     ensures overlength { element_of T.tag_byte (T.content value.now) ≡ None
         → Refuses result ErrorKind.Overlength }
     ensures only { (bytes : List ℕ) → element_of T.tag_byte (T.content value.now) ≡ Some bytes
@@ -66,42 +83,13 @@ pub fn encoded_len<T: EncodeValue + FixedTag>(value: &T) -> Result<usize>
     Ok(header.encoded_len() + header.length.get())
 }
 
-/// Returns the length in bytes of an explicit field `[number]` around the element of a value, if present, and otherwise 0.
-/// The crate `der` has no such call.
-///
-/// # Errors
-///
-/// Overlength if the value has no content, or if that or its element is longer than 268,435,455 bytes.
-pub fn context_specific_len<T: EncodeValue + FixedTag>(
-    number: u8,
-    field: &Option<T>,
-) -> Result<usize>
-    requires { number ≤ 30 }
-    ensures overlength { field_of number T.tag_byte (option_map T.content field.now) ≡ None
-        → Refuses result ErrorKind.Overlength }
-    ensures only { (bytes : List ℕ)
-        → field_of number T.tag_byte (option_map T.content field.now) ≡ Some bytes
-        → result ≡ Ok (length bytes) }
-    ensures found { IfOk result (λ n. IsSomeAnd (field_of number T.tag_byte (option_map T.content field.now)) (λ bytes.
-        n ≡ length bytes)) }
-    ensures kind { IfErr result (λ e. (e.kind ≡ ErrorKind.Overlength)
-        × (field_of number T.tag_byte (option_map T.content field.now) ≡ None)) }
-    ensures most { IfOk result (λ n. n ≤ max_length + 6) }
-{
-    let Some(value) = field else {
-        return Ok(0);
-    };
-    let outside = field_header(number, value)?;
-    Ok(outside.encoded_len() + outside.length.get())
-}
-
 /// Writes the value's DER encoding at the beginning of the slice, and returns the number of bytes written. The rest of the
 /// slice is unchanged.
 ///
 /// # Errors
 ///
 /// Those of [`encoded_len`], then Buffer if the slice is too short. The whole slice is unchanged then.
-pub fn encode_to_slice<T: EncodeValue + FixedTag>(value: &T, buffer: &mut [u8]) -> Result<usize>
+pub fn encode_to_slice<T: EncodeValue + Tagged>(value: &T, buffer: &mut [u8]) -> Result<usize>
     ensures overlength { element_of T.tag_byte (T.content value.now) ≡ None
         → Refuses result ErrorKind.Overlength × (buffer.new ≡ buffer.old) }
     ensures fits { (bytes : List ℕ) → element_of T.tag_byte (T.content value.now) ≡ Some bytes
@@ -130,7 +118,7 @@ pub fn encode_to_slice<T: EncodeValue + FixedTag>(value: &T, buffer: &mut [u8]) 
 /// # Errors
 ///
 /// Those of [`encoded_len`], then Memory if the allocation fails.
-pub fn to_der<T: EncodeValue + FixedTag>(alloc: Global, value: &T) -> Result<Vec<u8>>
+pub fn to_der<T: EncodeValue + Tagged>(alloc: Global, value: &T) -> Result<Vec<u8>>
     ensures overlength { element_of T.tag_byte (T.content value.now) ≡ None
         → Refuses result ErrorKind.Overlength }
     ensures only { (bytes : List ℕ) → element_of T.tag_byte (T.content value.now) ≡ Some bytes
@@ -163,7 +151,7 @@ pub(crate) fn check_room(count: usize, room: usize) -> Result<()>
 }
 
 /// Writes the value's element into a slice of its length.
-fn fill<T: EncodeValue + FixedTag>(value: &T, buffer: &mut [u8]) -> Result<()>
+fn fill<T: EncodeValue + Tagged>(value: &T, buffer: &mut [u8]) -> Result<()>
     ensures fits { (bytes : List ℕ) → element_of T.tag_byte (T.content value.now) ≡ Some bytes
         → length buffer.old ≡ length bytes
         → IsOk result × (buffer.new ≡ bytes) }
@@ -173,17 +161,17 @@ fn fill<T: EncodeValue + FixedTag>(value: &T, buffer: &mut [u8]) -> Result<()>
     BackWriter::new(buffer).put_element(value)
 }
 
-/// Writes the content of a SEQUENCE with these components into a slice of its length.
-pub(crate) fn fill_components<R: EncodeComponents>(row: &R, buffer: &mut [u8]) -> Result<()>
-    ensures { (bytes : List ℕ) → R.content row.now ≡ Some bytes → length bytes ≤ max_length
+/// Writes the parts of a SEQUENCE into a slice of their length.
+pub(crate) fn fill_parts<P: EncodePart>(parts: &P, buffer: &mut [u8]) -> Result<()>
+    ensures { (bytes : List ℕ) → P.bytes parts.now ≡ Some bytes → length bytes ≤ max_length
         → length buffer.old ≡ length bytes
         → IsOk result × (buffer.new ≡ bytes) }
 {
-    row.put_value(&mut BackWriter::new(buffer))
+    parts.put_part(&mut BackWriter::new(buffer))
 }
 
 /// Returns the header of the value's element.
-pub(crate) fn element_header<T: EncodeValue + FixedTag>(value: &T) -> Result<Header>
+pub(crate) fn element_header<T: EncodeValue + Tagged>(value: &T) -> Result<Header>
     ensures overlength { element_of T.tag_byte (T.content value.now) ≡ None
         → Refuses result ErrorKind.Overlength }
     ensures only { (content : List ℕ) → T.content value.now ≡ Some content → length content ≤ max_length
@@ -193,24 +181,5 @@ pub(crate) fn element_header<T: EncodeValue + FixedTag>(value: &T) -> Result<Hea
     Ok(Header {
         tag: T::fixed_tag(),
         length: value.value_len()?,
-    })
-}
-
-/// Returns the header of an explicit field `[number]` around the value's element.
-pub(crate) fn field_header<T: EncodeValue + FixedTag>(number: u8, value: &T) -> Result<Header>
-    requires { number ≤ 30 }
-    ensures overlength { field_of number T.tag_byte (Some (T.content value.now)) ≡ None
-        → Refuses result ErrorKind.Overlength }
-    ensures only { (inside : List ℕ) → element_of T.tag_byte (T.content value.now) ≡ Some inside
-        → length inside ≤ max_length
-        → result ≡ Ok (record { tag = explicit_tag number; length = length inside }) }
-    ensures found { IfOk result (λ header. (header.tag ≡ explicit_tag number)
-        × IsSomeAnd (element_of T.tag_byte (T.content value.now)) (λ inside. header.length ≡ length inside)) }
-    ensures kind { IfErr result (λ e. (e.kind ≡ ErrorKind.Overlength)
-        × (field_of number T.tag_byte (Some (T.content value.now)) ≡ None)) }
-{
-    Ok(Header {
-        tag: Tag::context(number),
-        length: Length::new(encoded_len(value)?)?,
     })
 }

@@ -1,14 +1,13 @@
 //! Values for the components of a [`Record`](crate::Record). A contract sees only their bytes, so that the record can hold
 //! plain slices.
 ghost use Rattle.std.specs.Prelude.{◌≡◌, ◌∷◌, [], ℕ, List, Some, ⊤};
-ghost use Rattle.sec1_der.specs.Contents.{byte_fault, is_bit_string, whole_bits_fault};
+ghost use Rattle.sec1_der.specs.Contents.{byte_fault, whole_bits_fault};
 ghost use Rattle.sec1_der.specs.Elements.{element_of};
 ghost use Rattle.sec1_der.specs.Refusals.{element_fault, end_fault, no_fault};
 
 use crate::{
-    BackWriter, BitStringRef, DecodeValue, EncodeValue, End, ErrorKind, FixedTag, Length,
-    OctetStringRef, Required, Result, SliceReader, SliceWriter, Tag, UniversalTag, ValueContent,
-    encoded_len,
+    BackWriter, BitStringRef, DecodeValue, EncodeValue, ErrorKind, Length, OctetStringRef, Result,
+    SliceReader, SliceWriter, Tag, Tagged, UniqueContent, ValueContent, encoded_len,
 };
 use std::marker::Model;
 
@@ -17,14 +16,10 @@ use std::marker::Model;
 #[derive(Clone, Copy, PartialEq, Eq, Debug)]
 pub struct SmallInteger<const N: u8>;
 
-impl<const N: u8> FixedTag for SmallInteger<N> {
-    const TAG: Tag = Tag::INTEGER;
-
+impl<const N: u8> Tagged for SmallInteger<N> {
     ghost tag_byte = { 0x02 };
 
-    fn fixed_tag() -> Tag
-        ensures { result ≡ 0x02 }
-    {
+    fn fixed_tag() -> Tag {
         Tag::INTEGER
     }
 }
@@ -62,6 +57,10 @@ impl<const N: u8> EncodeValue for SmallInteger<N> {
     }
 }
 
+impl<const N: u8> UniqueContent for SmallInteger<N> {
+    fn one() {}
+}
+
 /// The bytes of an OCTET STRING (X.690 section 8.7). A contract sees the bytes.
 #[derive(Drop)]
 pub struct Octets<'a> {
@@ -75,15 +74,13 @@ impl<'a> Model for Octets<'a> {
     ghost view = { λ octets. octets.bytes.now };
 }
 
-impl FixedTag for Octets<'_> {
-    const TAG: Tag = Tag::OCTET_STRING;
-
+impl Tagged for Octets<'_> {
     ghost tag_byte = { 0x04 };
 
     fn fixed_tag() -> Tag
         ensures { result ≡ 0x04 }
     {
-        Self::TAG
+        Tag::OCTET_STRING
     }
 }
 
@@ -118,6 +115,12 @@ impl EncodeValue for Octets<'_> {
     }
 }
 
+impl UniqueContent for Octets<'_> {
+    fn one()
+        ensures { (a b bytes : List ℕ) → Some a ≡ Some bytes → Some b ≡ Some bytes → a ≡ b }
+    {}
+}
+
 /// The bytes of a BIT STRING without unused bits (X.690 section 8.6). One with unused bits is refused as Value. A
 /// contract sees the bytes.
 #[derive(Drop)]
@@ -132,15 +135,13 @@ impl<'a> Model for WholeBits<'a> {
     ghost view = { λ bits. bits.bytes.now };
 }
 
-impl FixedTag for WholeBits<'_> {
-    const TAG: Tag = Tag::BIT_STRING;
-
+impl Tagged for WholeBits<'_> {
     ghost tag_byte = { 0x03 };
 
     fn fixed_tag() -> Tag
         ensures { result ≡ 0x03 }
     {
-        Self::TAG
+        Tag::BIT_STRING
     }
 }
 
@@ -152,8 +153,6 @@ impl ValueContent for WholeBits<'_> {
     ghost content_is_valid = { λ bytes _ same _. (bytes, same) };
 
     ghost fault = { whole_bits_fault };
-
-    ghost checked_late = { is_bit_string };
 }
 
 impl<'a> DecodeValue<'a> for WholeBits<'a> {
@@ -180,6 +179,12 @@ impl EncodeValue for WholeBits<'_> {
     }
 }
 
+impl UniqueContent for WholeBits<'_> {
+    fn one()
+        ensures { (a b bytes : List ℕ) → Some (0 ∷ a) ≡ Some bytes → Some (0 ∷ b) ≡ Some bytes → a ≡ b }
+    {}
+}
+
 /// An OCTET STRING whose content is the element of another value, `OCTET STRING (CONTAINING T)` (X.682 section 11).
 #[derive(Clone, Copy, PartialEq, Eq, Debug, Drop)]
 pub struct Containing<T> {
@@ -187,19 +192,15 @@ pub struct Containing<T> {
     pub value: T,
 }
 
-impl<T> FixedTag for Containing<T> {
-    const TAG: Tag = Tag::OCTET_STRING;
-
+impl<T> Tagged for Containing<T> {
     ghost tag_byte = { 0x04 };
 
-    fn fixed_tag() -> Tag
-        ensures { result ≡ 0x04 }
-    {
+    fn fixed_tag() -> Tag {
         Tag::OCTET_STRING
     }
 }
 
-impl<T: ValueContent + FixedTag> ValueContent for Containing<T> {
+impl<T: ValueContent + Tagged> ValueContent for Containing<T> {
     ghost content = { λ outside. element_of T.tag_byte (T.content outside.value) };
 
     ghost is_content = { λ bytes. (value : T) × (element_of T.tag_byte (T.content value) ≡ Some bytes) };
@@ -209,15 +210,15 @@ impl<T: ValueContent + FixedTag> ValueContent for Containing<T> {
     ghost fault = { element_fault T.tag_byte T.fault end_fault };
 }
 
-impl<'a, T: DecodeValue<'a> + FixedTag + Drop> DecodeValue<'a> for Containing<T> {
-    #[tactic(auto, using(crate::proofs::ComponentLemmas::alone))]
+impl<'a, T: DecodeValue<'a> + Tagged + Drop> DecodeValue<'a> for Containing<T> {
+    #[tactic(auto, using(crate::proofs::PartLemmas::one_element))]
     fn decode_value(reader: &mut SliceReader<'a>) -> Result<Self> {
-        let Required { first, rest: End } = Required::decode_value(reader)?;
-        Ok(Containing { value: first })
+        let value = reader.only_element::<T>()?;
+        Ok(Containing { value })
     }
 }
 
-impl<T: EncodeValue + FixedTag> EncodeValue for Containing<T> {
+impl<T: EncodeValue + Tagged> EncodeValue for Containing<T> {
     fn value_len(&self) -> Result<Length> {
         Length::new(encoded_len(&self.value)?)
     }
@@ -234,5 +235,12 @@ impl<T: EncodeValue + FixedTag> EncodeValue for Containing<T> {
 
     fn put_value(&self, writer: &mut BackWriter) -> Result<()> {
         writer.put_element(&self.value)
+    }
+}
+
+impl<T: UniqueContent + Tagged> UniqueContent for Containing<T> {
+    #[tactic(auto, using(crate::proofs::UniqueLemmas::unique_inside))]
+    fn one() {
+        T::one();
     }
 }

@@ -6,7 +6,7 @@ ghost use Rattle.sec1_der.specs.Refusals.{document_fault};
 pub(crate) mod stream;
 
 use crate::header::element_at;
-use crate::{EncodeValue, ErrorKind, FixedTag, Result, to_der};
+use crate::{EncodeValue, ErrorKind, Result, Tagged, to_der};
 use std::alloc::Global;
 use std::fmt;
 use std::marker::Model;
@@ -70,7 +70,7 @@ impl SecretDocument {
     /// # Errors
     ///
     /// Those of [`to_der`].
-    pub fn encode_msg<T: EncodeValue + FixedTag>(alloc: Global, value: &T) -> Result<SecretDocument>
+    pub fn encode_msg<T: EncodeValue + Tagged>(alloc: Global, value: &T) -> Result<SecretDocument>
         ensures overlength { element_of T.tag_byte (T.content value.now) ≡ None
             → Refuses result ErrorKind.Overlength }
         ensures only { (bytes : List ℕ) → element_of T.tag_byte (T.content value.now) ≡ Some bytes

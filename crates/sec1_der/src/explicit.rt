@@ -1,205 +1,170 @@
-//! Explicit tags (X.690 section 8.14), and which components may begin with them.
-ghost use Rattle.std.proofs.Common.{lit<};
-ghost use Rattle.std.specs.Prelude.{◌≡◌, ◌≢◌, ◌≤◌, ◌<◌, ◌+◌, ◌++◌, ℕ, List, Some, None, Ok, true, false, length, slice_get};
-ghost use Rattle.std.specs.Prelude.{IfOk, IfErr, IfSome, IfNone, IsOkAnd, IsSomeAnd, OnErr};
-ghost use Rattle.sec1_der.specs.Elements.{max_length, element, explicit_tag};
-ghost use Rattle.sec1_der.specs.Faults.{Refuses, IsReadingFault};
-ghost use Rattle.sec1_der.specs.Readers.{reader_over, HasReadElement};
-ghost use Rattle.sec1_der.specs.Refusals.{HasFault, field_fault, no_fault};
+//! Explicit tags (X.690 section 8.14): an element around the element of a value.
+ghost use Rattle.std.specs.Prelude.{◌≡◌, ◌∷◌, ℕ, List, Some};
+ghost use Rattle.sec1_der.specs.Contents.{whole_bits_field_fault};
+ghost use Rattle.sec1_der.specs.Elements.{element_of};
+ghost use Rattle.sec1_der.specs.Refusals.{element_fault, end_fault};
 
 use crate::{
-    BitStringRef, Containing, DecodeValue, ErrorKind, FixedTag, ObjectIdentifier, OctetStringRef,
-    Octets, Record, Result, SliceReader, SmallInteger, ValueContent, VersionOne, WholeBits,
+    BackWriter, BitStringRef, DecodeValue, EncodeValue, ErrorKind, Length, Result, SliceReader,
+    SliceWriter, Tag, Tagged, UniqueContent, ValueContent, WholeBits, encoded_len,
 };
+use std::marker::{Model, PhantomData};
 
-/// A type that stands for an explicit tag `[number]` of the context-specific class.
-pub trait ExplicitTag {
-    /// The number.
-    ghost at: { ℕ };
-
-    /// Returns the number, from 0 to 30.
-    fn number() -> u8
-        ensures value { result ≡ at }
-        ensures low { result ≤ 30 };
+/// The element of a value inside an element with the tag of `K`: `[0] EXPLICIT A` is `Explicit<Context0, A>`. A contract sees
+/// the value.
+#[derive(Drop)]
+pub struct Explicit<K, A> {
+    /// The value.
+    pub value: A,
+    tag: PhantomData<K>,
 }
 
-/// The explicit tag `[0]`.
-#[derive(Clone, Copy, PartialEq, Eq, Debug)]
-pub struct Explicit0;
+impl<K, A> Model for Explicit<K, A> {
+    ghost Value = { A };
 
-impl ExplicitTag for Explicit0 {
-    ghost at = { 0 };
+    ghost view = { λ field. field.value };
 
-    fn number() -> u8 {
-        0
+    ghost inverse = { λ value. record { value = value; tag = record {} } };
+}
+
+impl<K, A> Explicit<K, A> {
+    /// Returns the value with an explicit tag around it.
+    pub fn new(value: A) -> Self
+        ensures { result ≡ value }
+    {
+        Explicit {
+            value,
+            tag: PhantomData,
+        }
     }
 }
 
-/// The explicit tag `[1]`.
-#[derive(Clone, Copy, PartialEq, Eq, Debug)]
-pub struct Explicit1;
+impl<K: Tagged, A> Tagged for Explicit<K, A> {
+    ghost tag_byte = { K.tag_byte };
 
-impl ExplicitTag for Explicit1 {
-    ghost at = { 1 };
-
-    fn number() -> u8 {
-        1
+    fn fixed_tag() -> Tag {
+        K::fixed_tag()
     }
 }
 
-/// An explicit tag whose number isn't that of `N`.
-pub trait OtherThan<N: ExplicitTag>: ExplicitTag {
-    /// The numbers differ.
-    ghost other: { Self.at ≢ N.at };
+impl<K, A: ValueContent + Tagged> ValueContent for Explicit<K, A> {
+    ghost content = { λ value. element_of A.tag_byte (A.content value) };
+
+    ghost is_content = { λ bytes. (value : A) × (element_of A.tag_byte (A.content value) ≡ Some bytes) };
+
+    ghost content_is_valid = { λ value _ same _. (value, same) };
+
+    ghost fault = { element_fault A.tag_byte A.fault end_fault };
 }
 
-impl OtherThan<Explicit0> for Explicit1 {
-    ghost other = { λ e. absurd (cc e) };
-}
-
-/// A content that never begins with the explicit tag `N`, so that it may follow an OPTIONAL component with that tag (X.680
-/// section 25.6).
-pub trait NoField<N: ExplicitTag>: ValueContent {
-    /// No content begins with the tag byte `A0 + number`.
-    ghost none: { (value : Self) (bytes : List ℕ) → Self.content value ≡ Some bytes
-        → slice_get bytes 0 ≢ Some (explicit_tag N.at) };
-}
-
-/// A type whose tag is of the universal class (X.690 section 8.1.2.2).
-pub trait UniversalTag: FixedTag {
-    /// The two highest bits of the tag byte are zero.
-    ghost universal: { Self.tag_byte < 0x40 };
-}
-
-impl UniversalTag for VersionOne {
-    ghost universal = { lit< tt };
-}
-
-impl<const N: u8> UniversalTag for SmallInteger<N> {
-    ghost universal = { lit< tt };
-}
-
-impl UniversalTag for OctetStringRef<'_> {
-    ghost universal = { lit< tt };
-}
-
-impl UniversalTag for Octets<'_> {
-    ghost universal = { lit< tt };
-}
-
-impl<T> UniversalTag for Containing<T> {
-    ghost universal = { lit< tt };
-}
-
-impl UniversalTag for BitStringRef<'_> {
-    ghost universal = { lit< tt };
-}
-
-impl UniversalTag for WholeBits<'_> {
-    ghost universal = { lit< tt };
-}
-
-impl UniversalTag for ObjectIdentifier {
-    ghost universal = { lit< tt };
-}
-
-/// A value that is read from an explicit field, as an OPTIONAL component is (X.690 section 8.14).
-pub trait DecodeExplicit<'a>: DecodeValue<'a> + FixedTag + Drop {
-    /// Reads an explicit field `[number]` around the element of a value, if present, as
-    /// [`SliceReader::context_specific`] does. A type may refuse a content only after the end of the field was checked.
-    ///
-    /// # Errors
-    ///
-    /// Those of [`SliceReader::context_specific`]. The reader has failed then.
-    fn decode_explicit(reader: &mut SliceReader<'a>, number: u8) -> Result<Option<Self>>
-        requires { number ≤ 30 }
-        // What is read is the field around the element of the value, and just its bytes are read.
-        ensures found { IfOk result (λ field. IfSome field (λ value. IsSomeAnd (Self.content value) (λ content.
-            Self.is_content content
-            × (length content ≤ max_length)
-            × HasReadElement (explicit_tag number) (element Self.tag_byte content) reader.old reader.new))) }
-        // None means that no such field is next.
-        ensures missing { IfOk result (λ field. IfNone field ((reader.new ≡ reader.old)
-            × (slice_get reader.old.unread 0 ≢ Some (explicit_tag number)))) }
-
-        // Where another byte is next, or none, nothing is read.
-        ensures absent { reader.old.failed ≡ false → slice_get reader.old.unread 0 ≢ Some (explicit_tag number)
-            → (result ≡ Ok None) × (reader.new ≡ reader.old) }
-        // Where the unread bytes begin with such a field, it is read.
-        ensures only { (content rest : List ℕ) → Self.is_content content → length content ≤ max_length
-            → length (element Self.tag_byte content) ≤ max_length
-            → reader.old ≡ reader_over (element (explicit_tag number) (element Self.tag_byte content) ++ rest)
-            → IsOkAnd result (λ field. IsSomeAnd field (λ value. Self.content value ≡ Some content))
-            × (reader.new ≡ reader_over rest) }
-
-        ensures kinds { reader.old.failed ≡ false → IfErr result (λ e. IsReadingFault e.kind) }
-        ensures kind { reader.old.failed ≡ false → HasFault result (field_fault number Self.tag_byte
-            Self.checked_late Self.fault no_fault reader.old.unread) }
-        ensures failed { reader.old.failed ≡ true → Refuses result ErrorKind.Failed
-            × (reader.new ≡ reader.old) }
-        ensures refused { OnErr result (reader.new.failed ≡ true) };
-}
-
-impl<'a> DecodeExplicit<'a> for VersionOne {
-    fn decode_explicit(reader: &mut SliceReader<'a>, number: u8) -> Result<Option<Self>> {
-        reader.context_specific::<Self>(number)
+impl<'a, K, A: DecodeValue<'a> + Tagged + Drop> DecodeValue<'a> for Explicit<K, A> {
+    #[tactic(auto, using(crate::proofs::PartLemmas::one_element))]
+    fn decode_value(reader: &mut SliceReader<'a>) -> Result<Self> {
+        let value = reader.only_element::<A>()?;
+        Ok(Explicit::new(value))
     }
 }
 
-impl<'a, const N: u8> DecodeExplicit<'a> for SmallInteger<N> {
-    fn decode_explicit(reader: &mut SliceReader<'a>, number: u8) -> Result<Option<Self>> {
-        reader.context_specific::<Self>(number)
+impl<K, A: EncodeValue + Tagged> EncodeValue for Explicit<K, A> {
+    fn value_len(&self) -> Result<Length> {
+        Length::new(encoded_len(&self.value)?)
+    }
+
+    fn encode_value(&self, writer: &mut SliceWriter) -> Result<()> {
+        self.value_len()?;
+        writer.element(&self.value)
+    }
+
+    fn encode_back(&self, writer: &mut BackWriter) -> Result<()> {
+        self.value_len()?;
+        writer.element(&self.value)
+    }
+
+    fn put_value(&self, writer: &mut BackWriter) -> Result<()> {
+        writer.put_element(&self.value)
     }
 }
 
-impl<'a> DecodeExplicit<'a> for OctetStringRef<'a> {
-    fn decode_explicit(reader: &mut SliceReader<'a>, number: u8) -> Result<Option<Self>> {
-        reader.context_specific::<Self>(number)
+impl<K, A: UniqueContent + Tagged> UniqueContent for Explicit<K, A> {
+    #[tactic(auto, using(crate::proofs::UniqueLemmas::unique_inside))]
+    fn one() {
+        A::one();
     }
 }
 
-impl<'a> DecodeExplicit<'a> for Octets<'a> {
-    fn decode_explicit(reader: &mut SliceReader<'a>, number: u8) -> Result<Option<Self>> {
-        reader.context_specific::<Self>(number)
+/// The explicit tag `[1]` around a BIT STRING without unused bits, as an ECPrivateKey has it (RFC 5915 section 3). Unused bits
+/// are refused as Value after the end of the field was checked. A contract sees the bytes.
+#[derive(Drop)]
+pub struct ExplicitBits<'a> {
+    /// The bytes.
+    pub bytes: &'a [u8],
+}
+
+impl<'a> Model for ExplicitBits<'a> {
+    ghost Value = { List ℕ };
+
+    ghost view = { λ bits. bits.bytes.now };
+}
+
+impl Tagged for ExplicitBits<'_> {
+    ghost tag_byte = { 0xA1 };
+
+    fn fixed_tag() -> Tag
+        ensures { result ≡ 0xA1 }
+    {
+        Tag::CONTEXT_1
     }
 }
 
-impl<'a, T: DecodeValue<'a> + FixedTag + Drop> DecodeExplicit<'a> for Containing<T> {
-    fn decode_explicit(reader: &mut SliceReader<'a>, number: u8) -> Result<Option<Self>> {
-        reader.context_specific::<Self>(number)
-    }
+impl ValueContent for ExplicitBits<'_> {
+    ghost content = { λ bytes. element_of 0x03 (Some (0 ∷ bytes)) };
+
+    ghost is_content = { λ content. (bytes : List ℕ) × (element_of 0x03 (Some (0 ∷ bytes)) ≡ Some content) };
+
+    ghost content_is_valid = { λ bytes _ same _. (bytes, same) };
+
+    ghost fault = { whole_bits_field_fault };
 }
 
-impl<'a> DecodeExplicit<'a> for BitStringRef<'a> {
-    fn decode_explicit(reader: &mut SliceReader<'a>, number: u8) -> Result<Option<Self>> {
-        reader.context_specific::<Self>(number)
-    }
-}
-
-impl<'a> DecodeExplicit<'a> for ObjectIdentifier {
-    fn decode_explicit(reader: &mut SliceReader<'a>, number: u8) -> Result<Option<Self>> {
-        reader.context_specific::<Self>(number)
-    }
-}
-
-impl<'a, T: Record + Drop> DecodeExplicit<'a> for T
-where
-    T::Components: DecodeValue<'a> + Drop,
-{
-    fn decode_explicit(reader: &mut SliceReader<'a>, number: u8) -> Result<Option<Self>> {
-        reader.context_specific::<Self>(number)
-    }
-}
-
-/// Unused bits are refused after the end of the field was checked.
-impl<'a> DecodeExplicit<'a> for WholeBits<'a> {
-    fn decode_explicit(reader: &mut SliceReader<'a>, number: u8) -> Result<Option<Self>> {
-        let Some(bits) = reader.context_specific::<BitStringRef>(number)? else {
-            return Ok(None);
-        };
+impl<'a> DecodeValue<'a> for ExplicitBits<'a> {
+    #[tactic(auto, using(crate::proofs::PartLemmas::one_element))]
+    fn decode_value(reader: &mut SliceReader<'a>) -> Result<Self> {
+        let bits = reader.only_element::<BitStringRef>()?;
         match bits.as_bytes() {
-            Some(bytes) => Ok(Some(WholeBits { bytes })),
+            Some(bytes) => Ok(ExplicitBits { bytes }),
             None => Err(reader.fail(ErrorKind::Value)),
         }
     }
+}
+
+impl EncodeValue for ExplicitBits<'_> {
+    fn value_len(&self) -> Result<Length> {
+        let bytes = self.bytes;
+        Length::new(encoded_len(&WholeBits { bytes })?)
+    }
+
+    fn encode_value(&self, writer: &mut SliceWriter) -> Result<()> {
+        self.value_len()?;
+        let bytes = self.bytes;
+        writer.element(&WholeBits { bytes })
+    }
+
+    fn encode_back(&self, writer: &mut BackWriter) -> Result<()> {
+        self.value_len()?;
+        let bytes = self.bytes;
+        writer.element(&WholeBits { bytes })
+    }
+
+    fn put_value(&self, writer: &mut BackWriter) -> Result<()> {
+        let bytes = self.bytes;
+        writer.put_element(&WholeBits { bytes })
+    }
+}
+
+impl UniqueContent for ExplicitBits<'_> {
+    #[tactic(auto, using(crate::proofs::UniqueLemmas::unique_bits))]
+    fn one()
+        ensures { (a b bytes : List ℕ) → element_of 0x03 (Some (0 ∷ a)) ≡ Some bytes
+            → element_of 0x03 (Some (0 ∷ b)) ≡ Some bytes → a ≡ b }
+    {}
 }

@@ -49,7 +49,7 @@ impl Header {
         ensures refused { OnErr result (reader.new ≡ refused reader.old) }
     {
         reader.check()?;
-        match header_at(reader.unread()) {
+        match header_at(reader.remaining_input()) {
             Ok((header, rest)) => {
                 reader.set_unread(rest);
                 Ok(header)

@@ -12,8 +12,8 @@ ghost use Rattle.sec1_der.specs.declared.version.VersionOne.{VersionOne};
 
 use crate::{
     AnyRef, BackWriter, BitStringRef, EncodeValue, ErrorKind, FixedTag, Header, ID_EC_PUBLIC_KEY,
-    Length, ObjectIdentifier, OctetStringRef, Result, SECP256R1, SliceWriter, Tag, ValueContent,
-    VersionOne,
+    Length, ObjectIdentifier, OctetStringRef, Result, SECP256R1, SliceWriter, Tag, Tagged,
+    ValueContent, VersionOne,
 };
 
 /// A tree is determined by its bytes, whatever follows them.
@@ -87,54 +87,82 @@ pub fn spelled_identifiers()
 {}
 
 /// A value has an encoding, or it has none.
-pub fn element_or_none<T: EncodeValue + FixedTag>(value: &T)
+pub fn element_or_none<T: EncodeValue + Tagged>(value: &T)
     ensures { (element_of T.tag_byte (T.content value.now) ≡ None)
         ⊎ IsSome (element_of T.tag_byte (T.content value.now)) }
 {
     let _value = value;
 }
 
-/// Returns the constants of [`Tag`]: INTEGER, BIT STRING, OCTET STRING, NULL, OBJECT IDENTIFIER and SEQUENCE (X.680
-/// section 8.4), `[0]` and `[1]`.
-pub fn tags() -> [Tag; 8]
-    ensures { result ≡ 0x02 ∷ 0x03 ∷ 0x04 ∷ 0x05 ∷ 0x06 ∷ 0x30 ∷ 0xA0 ∷ 0xA1 ∷ [] }
+/// Returns the constants of [`Tag`] for universal types (X.680 section 8.4), in the order of their bytes.
+pub fn universal_tags() -> [Tag; 19]
+    ensures { result ≡ 0x01 ∷ 0x02 ∷ 0x03 ∷ 0x04 ∷ 0x05 ∷ 0x06 ∷ 0x0A ∷ 0x0C ∷ 0x12 ∷ 0x13
+        ∷ 0x14 ∷ 0x16 ∷ 0x17 ∷ 0x18 ∷ 0x1A ∷ 0x1C ∷ 0x1E ∷ 0x30 ∷ 0x31 ∷ [] }
 {
     [
+        Tag::BOOLEAN,
         Tag::INTEGER,
         Tag::BIT_STRING,
         Tag::OCTET_STRING,
         Tag::NULL,
         Tag::OBJECT_IDENTIFIER,
+        Tag::ENUMERATED,
+        Tag::UTF8_STRING,
+        Tag::NUMERIC_STRING,
+        Tag::PRINTABLE_STRING,
+        Tag::TELETEX_STRING,
+        Tag::IA5_STRING,
+        Tag::UTC_TIME,
+        Tag::GENERALIZED_TIME,
+        Tag::VISIBLE_STRING,
+        Tag::UNIVERSAL_STRING,
+        Tag::BMP_STRING,
         Tag::SEQUENCE,
-        Tag::CONTEXT_0,
-        Tag::CONTEXT_1,
+        Tag::SET,
     ]
 }
 
-/// Returns [`FixedTag::TAG`] of [`VersionOne`], which is its [`fixed_tag`](FixedTag::fixed_tag).
+/// Returns the constants of [`Tag`] for context-specific tags (X.690 section 8.1.2.2): `[0]` to `[3]` of constructed elements,
+/// and of primitive ones.
+pub fn context_tags() -> [Tag; 8]
+    ensures { result ≡ 0xA0 ∷ 0xA1 ∷ 0xA2 ∷ 0xA3 ∷ 0x80 ∷ 0x81 ∷ 0x82 ∷ 0x83 ∷ [] }
+{
+    [
+        Tag::CONTEXT_0,
+        Tag::CONTEXT_1,
+        Tag::CONTEXT_2,
+        Tag::CONTEXT_3,
+        Tag::PRIMITIVE_0,
+        Tag::PRIMITIVE_1,
+        Tag::PRIMITIVE_2,
+        Tag::PRIMITIVE_3,
+    ]
+}
+
+/// Returns [`FixedTag::TAG`] of [`VersionOne`], which is its [`fixed_tag`](Tagged::fixed_tag).
 pub fn version_tag() -> Tag
-    ensures { result ≡ ⟦<VersionOne as FixedTag>⟧.tag_byte }
+    ensures { result ≡ ⟦<VersionOne as Tagged>⟧.tag_byte }
 {
     VersionOne::TAG
 }
 
-/// Returns [`FixedTag::TAG`] of [`OctetStringRef`], which is its [`fixed_tag`](FixedTag::fixed_tag).
+/// Returns [`FixedTag::TAG`] of [`OctetStringRef`], which is its [`fixed_tag`](Tagged::fixed_tag).
 pub fn octet_string_tag() -> Tag
-    ensures { result ≡ ⟦<OctetStringRef<'static> as FixedTag>⟧.tag_byte }
+    ensures { result ≡ ⟦<OctetStringRef<'static> as Tagged>⟧.tag_byte }
 {
     OctetStringRef::TAG
 }
 
-/// Returns [`FixedTag::TAG`] of [`BitStringRef`], which is its [`fixed_tag`](FixedTag::fixed_tag).
+/// Returns [`FixedTag::TAG`] of [`BitStringRef`], which is its [`fixed_tag`](Tagged::fixed_tag).
 pub fn bit_string_tag() -> Tag
-    ensures { result ≡ ⟦<BitStringRef<'static> as FixedTag>⟧.tag_byte }
+    ensures { result ≡ ⟦<BitStringRef<'static> as Tagged>⟧.tag_byte }
 {
     BitStringRef::TAG
 }
 
-/// Returns [`FixedTag::TAG`] of [`ObjectIdentifier`], which is its [`fixed_tag`](FixedTag::fixed_tag).
+/// Returns [`FixedTag::TAG`] of [`ObjectIdentifier`], which is its [`fixed_tag`](Tagged::fixed_tag).
 pub fn identifier_tag() -> Tag
-    ensures { result ≡ ⟦<ObjectIdentifier as FixedTag>⟧.tag_byte }
+    ensures { result ≡ ⟦<ObjectIdentifier as Tagged>⟧.tag_byte }
 {
     ObjectIdentifier::TAG
 }

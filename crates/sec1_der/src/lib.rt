@@ -2,7 +2,7 @@
 //!
 //! Lengths, tags and headers; a reader and two writers over slices; the values that a key is made of; traits by
 //! which a type is read from its element and written as it, and the calls that are generic over these; records, which
-//! are read and written by the row of their components; documents, which are read from streams and files and written
+//! are read and written by the parts that they have; documents, which are read from streams and files and written
 //! to them; a check of whole trees; laws.
 #![tactic(auto)]
 
@@ -11,7 +11,7 @@ mod back_writer;
 mod bit_string;
 mod codec;
 mod component_values;
-mod components;
+mod context;
 mod document;
 mod error;
 mod explicit;
@@ -20,39 +20,45 @@ pub mod laws;
 mod length;
 mod object_identifier;
 mod octet_string;
+mod optional;
+mod part;
 mod reader;
 mod record;
+mod required;
 mod slice_writer;
 mod std_stream;
 mod stream;
 mod tag;
 mod tree;
-mod unique;
 mod value;
 mod version;
 
 pub use any::AnyRef;
 pub use back_writer::BackWriter;
 pub use bit_string::BitStringRef;
-pub use codec::{context_specific_len, encode_to_slice, encoded_len, from_der, to_der};
+pub use codec::{encode_to_slice, encoded_len, from_der, read_der, to_der};
 pub use component_values::{Containing, Octets, SmallInteger, WholeBits};
-pub use components::{EncodeComponents, End, Optional, Required};
+pub use context::{
+    Context0, Context1, Context2, Context3, Primitive0, Primitive1, Primitive2, Primitive3,
+};
 pub use document::SecretDocument;
 pub use error::{Error, ErrorKind, Result};
-pub use explicit::{
-    DecodeExplicit, Explicit0, Explicit1, ExplicitTag, NoField, OtherThan, UniversalTag,
-};
+pub use explicit::{Explicit, ExplicitBits};
 pub use header::Header;
 pub use length::Length;
 pub use object_identifier::{ID_EC_PUBLIC_KEY, ObjectIdentifier, SECP256R1};
 pub use octet_string::OctetStringRef;
+pub use optional::Optional;
+pub use part::{DecodePart, EncodePart, Part, UniquePart};
 pub use reader::SliceReader;
 pub use record::Record;
+pub use required::Required;
 pub use slice_writer::SliceWriter;
 pub use std_stream::{StdReader, StdWriter};
 pub use stream::{IoFault, Read, Write};
 pub use tag::Tag;
 pub use tree::{MAX_DEPTH, check_tree};
-pub use unique::{UniqueContent, UniqueRecord, read_der};
-pub use value::{DecodeValue, EncodeValue, FixedTag, Sequence, ValueContent};
+pub use value::{
+    DecodeValue, EncodeValue, FixedTag, Sequence, Tagged, UniqueContent, ValueContent,
+};
 pub use version::VersionOne;

@@ -9,7 +9,7 @@ mod builder;
 
 use crate::{
     BackWriter, DecodeValue, EncodeValue, ErrorKind, FixedTag, Length, Result, SliceReader,
-    SliceWriter, Tag, ValueContent,
+    SliceWriter, Tag, Tagged, UniqueContent, ValueContent,
 };
 use builder::{Builder, arc};
 use std::fmt;
@@ -192,16 +192,16 @@ impl fmt::Debug for ObjectIdentifier {
     }
 }
 
-impl FixedTag for ObjectIdentifier {
-    const TAG: Tag = Tag::OBJECT_IDENTIFIER;
-
+impl Tagged for ObjectIdentifier {
     ghost tag_byte = { 0x06 };
 
-    fn fixed_tag() -> Tag
-        ensures { result ≡ 0x06 }
-    {
+    fn fixed_tag() -> Tag {
         Self::TAG
     }
+}
+
+impl FixedTag for ObjectIdentifier {
+    const TAG: Tag = Tag::OBJECT_IDENTIFIER;
 }
 
 impl ValueContent for ObjectIdentifier {
@@ -239,4 +239,9 @@ impl EncodeValue for ObjectIdentifier {
     fn encode_back(&self, writer: &mut BackWriter) -> Result<()> {
         writer.write(self.as_bytes())
     }
+}
+
+impl UniqueContent for ObjectIdentifier {
+    #[tactic(auto, using(crate::proofs::UniqueLemmas::unique_identifier))]
+    fn one() {}
 }

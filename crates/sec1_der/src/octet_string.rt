@@ -5,7 +5,7 @@ ghost use Rattle.sec1_der.specs.Values.{octets_of};
 
 use crate::{
     BackWriter, DecodeValue, EncodeValue, ErrorKind, FixedTag, Length, Result, SliceReader,
-    SliceWriter, Tag, ValueContent,
+    SliceWriter, Tag, Tagged, ValueContent,
 };
 
 /// An OCTET STRING, which borrows its bytes (X.690 section 8.7). Its content is its bytes.
@@ -37,9 +37,7 @@ impl<'a> OctetStringRef<'a> {
     }
 }
 
-impl FixedTag for OctetStringRef<'_> {
-    const TAG: Tag = Tag::OCTET_STRING;
-
+impl Tagged for OctetStringRef<'_> {
     ghost tag_byte = { 0x04 };
 
     fn fixed_tag() -> Tag
@@ -47,6 +45,10 @@ impl FixedTag for OctetStringRef<'_> {
     {
         Self::TAG
     }
+}
+
+impl FixedTag for OctetStringRef<'_> {
+    const TAG: Tag = Tag::OCTET_STRING;
 }
 
 impl ValueContent for OctetStringRef<'_> {

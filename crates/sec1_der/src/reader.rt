@@ -3,9 +3,9 @@ ghost use Rattle.std.specs.Prelude.{IsOkAnd, IsErr, IfErr, OnOk, OnErr, IfSome, 
 ghost use Rattle.sec1_der.specs.Elements.{max_length, element, IsProperBeginning, explicit_tag};
 ghost use Rattle.sec1_der.specs.Faults.{Refuses, IsReadingFault};
 ghost use Rattle.sec1_der.specs.Readers.{reader_over, refused, HasRead, HasReadElement, Reader};
-ghost use Rattle.sec1_der.specs.Refusals.{HasFault, element_fault, end_fault, field_fault, never_late, no_fault};
+ghost use Rattle.sec1_der.specs.Refusals.{HasFault, element_fault, end_fault, field_fault, no_fault};
 
-use crate::{AnyRef, DecodeValue, Error, ErrorKind, FixedTag, Length, Result, Tag};
+use crate::{AnyRef, DecodeValue, Error, ErrorKind, Length, Result, Tag, Tagged};
 use std::marker::Model;
 
 /// A reader over a slice. A contract sees the remaining input, and whether the reader has failed.
@@ -40,6 +40,13 @@ impl<'a> SliceReader<'a> {
         ensures { result ≡ length self.now.unread }
     {
         self.unread.len()
+    }
+
+    /// Borrows the remaining input without reading it, also if the reader has failed.
+    pub fn remaining_input(&self) -> &'a [u8]
+        ensures { result.now ≡ self.now.unread }
+    {
+        self.unread
     }
 
     /// Returns `true` if the reader has failed.
@@ -111,7 +118,7 @@ impl<'a> SliceReader<'a> {
     /// Truncated if no input remains; Tag if the next byte isn't `T::TAG`; then Length or Truncated if no length in the
     /// form of DER follows, or if the input ends inside the content; then those of [`DecodeValue::decode_value`]; Failed
     /// if the reader failed before. The reader has failed then.
-    pub fn decode<T: DecodeValue<'a> + FixedTag>(&mut self) -> Result<T>
+    pub fn decode<T: DecodeValue<'a> + Tagged>(&mut self) -> Result<T>
         // What is read is the element of the value, and just its bytes are read.
         ensures found { IfOk result (λ value. IsSomeAnd (T.content value) (λ content.
             T.is_content content × HasReadElement T.tag_byte content self.old self.new)) }
@@ -148,7 +155,7 @@ impl<'a> SliceReader<'a> {
     ///
     /// Those of [`decode`](SliceReader::decode) for the field and for the element inside; TrailingData if bytes follow
     /// that element inside the field; Failed if the reader failed before. The reader has failed then.
-    pub fn context_specific<T: DecodeValue<'a> + FixedTag + Drop>(
+    pub fn context_specific<T: DecodeValue<'a> + Tagged + Drop>(
         &mut self,
         number: u8,
     ) -> Result<Option<T>>
@@ -175,7 +182,7 @@ impl<'a> SliceReader<'a> {
         ensures kinds { self.old.failed ≡ false → IfErr result (λ e. IsReadingFault e.kind) }
         // The kind of a refusal is a function of the remaining input.
         ensures kind { self.old.failed ≡ false
-            → HasFault result (field_fault number T.tag_byte never_late T.fault no_fault self.old.unread) }
+            → HasFault result (field_fault number T.tag_byte T.fault no_fault self.old.unread) }
         ensures failed { self.old.failed ≡ true → Refuses result ErrorKind.Failed
             × (self.new ≡ self.old) }
         ensures refused { OnErr result (self.new.failed ≡ true) }
@@ -235,13 +242,6 @@ impl<'a> SliceReader<'a> {
         Ok(())
     }
 
-    /// Borrows the remaining input.
-    pub(crate) fn unread(&self) -> &'a [u8]
-        ensures { result.now ≡ self.now.unread }
-    {
-        self.unread
-    }
-
     /// Sets the remaining input.
     pub(crate) fn set_unread(&mut self, rest: &'a [u8])
         ensures { self.new ≡ record self.old { unread = rest.now } }
@@ -298,7 +298,7 @@ impl<'a> SliceReader<'a> {
     }
 
     /// Reads the one element in the remaining input.
-    pub(crate) fn only_element<T: DecodeValue<'a> + FixedTag + Drop>(&mut self) -> Result<T>
+    pub(crate) fn only_element<T: DecodeValue<'a> + Tagged + Drop>(&mut self) -> Result<T>
         ensures found { IfOk result (λ value. IsSomeAnd (T.content value) (λ content.
             T.is_content content × (length content ≤ max_length)
             × (self.old ≡ reader_over (element T.tag_byte content)))) }
@@ -317,6 +317,10 @@ impl<'a> SliceReader<'a> {
         ensures kinds { self.old.failed ≡ false → IfErr result (λ e. IsReadingFault e.kind) }
         ensures kind { self.old.failed ≡ false
             → HasFault result (element_fault T.tag_byte T.fault end_fault self.old.unread) }
+        ensures read { OnOk result (self.new ≡ reader_over []) }
+        ensures failed { self.old.failed ≡ true → Refuses result ErrorKind.Failed
+            × (self.new ≡ self.old) }
+        ensures refused { OnErr result (self.new.failed ≡ true) }
     {
         let value = self.decode::<T>()?;
         self.finish()?;

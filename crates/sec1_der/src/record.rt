@@ -1,99 +1,119 @@
 //! A struct of one's own that is read and written as a SEQUENCE.
-ghost use Rattle.std.proofs.Common.{lit<};
-ghost use Rattle.std.specs.Prelude.{◌≡◌, refl};
+ghost use Rattle.std.specs.Prelude.{◌≡◌, ℕ, List, Some, true, refl};
+ghost use Rattle.sec1_der.specs.Refusals.{end_fault};
 
 use crate::codec::check_room;
 use crate::{
-    BackWriter, DecodeValue, EncodeComponents, EncodeValue, FixedTag, Length, Result, Sequence,
-    SliceReader, SliceWriter, Tag, UniversalTag, ValueContent,
+    BackWriter, DecodePart, DecodeValue, EncodePart, EncodeValue, FixedTag, Length, Part, Result,
+    Sequence, SliceReader, SliceWriter, Tag, Tagged, UniqueContent, UniquePart, ValueContent,
 };
 
-/// A struct that is read and written as the SEQUENCE of its components (X.690 section 8.9).
+/// A struct that is read and written as the SEQUENCE of its parts (X.690 section 8.9).
 ///
-/// Its [`Components`](Record::Components) describe the shape once. From them it gets [`FixedTag`], [`ValueContent`],
-/// [`DecodeValue`], [`EncodeValue`] and [`Sequence`].
+/// Its [`Parts`](Record::Parts) describe the shape once: [`Required`](crate::Required) and
+/// [`Optional`](crate::Optional) components, and a pair `(P, Q)` of two parts one after the other. From them the struct gets
+/// [`FixedTag`], [`ValueContent`], [`DecodeValue`], [`EncodeValue`], [`Sequence`] and [`UniqueContent`], each as far as its
+/// parts have it.
 pub trait Record: Sized {
-    /// The components, in their order: [`Required`](crate::Required) and [`Optional`](crate::Optional) ones, and the
-    /// [`End`](crate::End).
-    type Components;
+    /// The parts in their order, as nested pairs.
+    type Parts: Part;
 
-    /// The components of a record.
-    ghost parts: { Self → Self.Components };
+    /// The parts of a record.
+    ghost parts: { Self → Self.Parts };
 
-    /// Returns the record with these components.
-    fn from_components(row: &Self::Components) -> Self
-        ensures { Self.parts result ≡ row.now };
+    /// The record with these parts.
+    ghost of_parts: { Self.Parts → Self };
 
-    /// Returns the components of the record.
-    fn to_components(&self) -> Self::Components
-        ensures { result ≡ Self.parts self.now };
+    /// Returns the record with these parts.
+    fn from_parts(row: Self::Parts) -> Self
+        ensures { parts result ≡ row };
+
+    /// Returns the parts of the record.
+    fn to_parts(&self) -> Self::Parts
+        ensures { result ≡ parts self.now };
+
+    /// A record is the one with its parts.
+    ghost same: { (value : Self) → of_parts (parts value) ≡ value };
+
+    /// No part can be confused with one after it (X.680 section 25.6).
+    ghost apart: { Self.Parts.tags.apart ≡ true };
+
+    /// Returns the record again. It borrows what this one borrows.
+    final fn reborrow(&self) -> Self
+        ensures { result ≡ self.now }
+    {
+        Self::from_parts(self.to_parts())
+    }
 }
 
-impl<T: Record> FixedTag for T {
-    const TAG: Tag = Tag::SEQUENCE;
-
+impl<T: Record> Tagged for T {
     ghost tag_byte = { 0x30 };
 
-    fn fixed_tag() -> Tag
-        ensures { result ≡ 0x30 }
-    {
+    fn fixed_tag() -> Tag {
         Tag::SEQUENCE
     }
 }
 
-impl<T: Record> UniversalTag for T {
-    ghost universal = { lit< tt };
+impl<T: Record> FixedTag for T {
+    const TAG: Tag = Tag::SEQUENCE;
 }
 
-impl<T: Record> ValueContent for T
-where
-    T::Components: ValueContent,
-{
-    ghost content = { λ value. T.Components.content (T.parts value) };
+impl<T: Record> ValueContent for T {
+    ghost content = { λ value. T.Parts.bytes (T.parts value) };
 
-    ghost is_content = { T.Components.is_content };
+    ghost is_content = { λ content. (parts : T.Parts) × (T.Parts.bytes parts ≡ Some content) };
 
-    ghost content_is_valid = { λ value. T.Components.content_is_valid (T.parts value) };
+    ghost content_is_valid = { λ value _ same _. (T.parts value, same) };
 
-    ghost fault = { T.Components.fault };
+    ghost fault = { T.Parts.fault_then end_fault };
 }
 
 impl<'a, T: Record> DecodeValue<'a> for T
 where
-    T::Components: DecodeValue<'a> + Drop,
+    T::Parts: DecodePart<'a> + Drop,
 {
     fn decode_value(reader: &mut SliceReader<'a>) -> Result<Self> {
-        let row = T::Components::decode_value(reader)?;
-        Ok(T::from_components(&row))
+        let parts = T::Parts::decode_part(reader)?;
+        reader.finish()?;
+        Ok(T::from_parts(parts))
     }
 }
 
 impl<T: Record> EncodeValue for T
 where
-    T::Components: EncodeComponents + Drop,
+    T::Parts: EncodePart + Drop,
 {
     fn value_len(&self) -> Result<Length> {
-        self.to_components().value_len()
+        self.to_parts().part_len()
     }
 
     fn encode_value(&self, writer: &mut SliceWriter) -> Result<()> {
-        writer.components(&self.to_components())
+        writer.parts(&self.to_parts())
     }
 
     fn encode_back(&self, writer: &mut BackWriter) -> Result<()> {
-        let row = self.to_components();
-        check_room(row.value_len()?.get(), writer.remaining())?;
-        row.put_value(writer)
+        let parts = self.to_parts();
+        check_room(parts.part_len()?.get(), writer.remaining())?;
+        parts.put_part(writer)
     }
 
     fn put_value(&self, writer: &mut BackWriter) -> Result<()> {
-        self.to_components().put_value(writer)
+        self.to_parts().put_part(writer)
     }
 }
 
 impl<'a, T: Record> Sequence<'a> for T
 where
-    T::Components: DecodeValue<'a> + EncodeComponents + Drop,
+    T::Parts: DecodePart<'a> + EncodePart + Drop,
 {
     ghost is_sequence = { refl };
+}
+
+impl<T: Record> UniqueContent for T
+where
+    T::Parts: UniquePart,
+{
+    fn one() {
+        T::Parts::one_part();
+    }
 }

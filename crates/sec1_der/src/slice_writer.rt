@@ -1,9 +1,7 @@
 ghost use Rattle.std.specs.Prelude.{◌≤◌, length};
 
-use crate::codec::{check_room, element_header, field_header, fill_components};
-use crate::{
-    EncodeComponents, EncodeValue, ErrorKind, FixedTag, Result, context_specific_len, encoded_len,
-};
+use crate::codec::{check_room, element_header, fill_parts};
+use crate::{EncodePart, EncodeValue, ErrorKind, Result, Tagged, encoded_len};
 
 /// A writer that fills a slice from its beginning.
 ///
@@ -17,8 +15,7 @@ pub struct SliceWriter<'b> {
 
 impl<'b> SliceWriter<'b> {
     ghost use Rattle.std.specs.Prelude.{◌≡◌, ℕ, ◌<◌, List, [], ◌∷◌, Some, None, IsOk};
-    ghost use Rattle.std.specs.Option.{option_map};
-    ghost use Rattle.sec1_der.specs.Elements.{max_length, element_of, field_of, IsOverlong};
+    ghost use Rattle.sec1_der.specs.Elements.{max_length, element_of, IsOverlong};
     ghost use Rattle.sec1_der.specs.Faults.{Refuses};
     ghost use Rattle.sec1_der.specs.SliceWriters.{written_by, room_of, IsOver, KeepsSlice, AppendsNothing, Appends};
 
@@ -83,27 +80,27 @@ impl<'b> SliceWriter<'b> {
         Ok(())
     }
 
-    /// Appends the content of a SEQUENCE with these components.
+    /// Appends the content of a SEQUENCE with these parts.
     ///
     /// # Errors
     ///
-    /// Those of [`EncodeComponents::value_len`], then Buffer if the content has no room.
+    /// Those of [`EncodePart::part_len`], then Buffer if the content has no room.
     #[tactic(auto, using(std::proofs::lemmas::Slice::overwrites))]
-    pub(crate) fn components<R: EncodeComponents>(&mut self, row: &R) -> Result<()>
+    pub(crate) fn parts<P: EncodePart>(&mut self, parts: &P) -> Result<()>
         ensures slice { KeepsSlice self.old self.new }
-        ensures overlength { IsOverlong (R.content row.now) → Refuses result ErrorKind.Overlength
+        ensures overlength { IsOverlong (P.bytes parts.now) → Refuses result ErrorKind.Overlength
             × AppendsNothing self.old self.new }
-        ensures fits { (bytes : List ℕ) → R.content row.now ≡ Some bytes → length bytes ≤ max_length
+        ensures fits { (bytes : List ℕ) → P.bytes parts.now ≡ Some bytes → length bytes ≤ max_length
             → length bytes ≤ length (room_of self.old)
             → IsOk result × Appends self.old self.new bytes }
-        ensures buffer { (bytes : List ℕ) → R.content row.now ≡ Some bytes → length bytes ≤ max_length
+        ensures buffer { (bytes : List ℕ) → P.bytes parts.now ≡ Some bytes → length bytes ≤ max_length
             → length (room_of self.old) < length bytes
             → Refuses result ErrorKind.Buffer × AppendsNothing self.old self.new }
     {
-        let count = row.value_len()?.get();
+        let count = parts.part_len()?.get();
         check_room(count, self.remaining())?;
         let end = self.position + count;
-        fill_components(row, &mut self.buffer[self.position..end])?;
+        fill_parts(parts, &mut self.buffer[self.position..end])?;
         self.position = end;
         Ok(())
     }
@@ -113,7 +110,7 @@ impl<'b> SliceWriter<'b> {
     /// # Errors
     ///
     /// Those of [`encoded_len`], then Buffer if the element has no room.
-    pub fn element<T: EncodeValue + FixedTag>(&mut self, value: &T) -> Result<()>
+    pub fn element<T: EncodeValue + Tagged>(&mut self, value: &T) -> Result<()>
         ensures slice { KeepsSlice self.old self.new }
         ensures overlength { element_of T.tag_byte (T.content value.now) ≡ None
             → Refuses result ErrorKind.Overlength × AppendsNothing self.old self.new }
@@ -127,38 +124,5 @@ impl<'b> SliceWriter<'b> {
         check_room(encoded_len(value)?, self.remaining())?;
         element_header(value)?.encode(self)?;
         value.encode_value(self)
-    }
-
-    /// Appends an explicit field `[number]` around the element of a value, if present. The crate `der` has no such
-    /// call.
-    ///
-    /// # Errors
-    ///
-    /// Those of [`context_specific_len`], then Buffer if the field has no room.
-    #[tactic(auto, using(crate::proofs::WriterLemmas::element_parts))]
-    pub fn context_specific<T: EncodeValue + FixedTag>(
-        &mut self,
-        number: u8,
-        field: &Option<T>,
-    ) -> Result<()>
-        requires { number ≤ 30 }
-        ensures slice { KeepsSlice self.old self.new }
-        ensures overlength { field_of number T.tag_byte (option_map T.content field.now) ≡ None
-            → Refuses result ErrorKind.Overlength × AppendsNothing self.old self.new }
-        ensures fits { (bytes : List ℕ)
-            → field_of number T.tag_byte (option_map T.content field.now) ≡ Some bytes
-            → length bytes ≤ length (room_of self.old)
-            → IsOk result × Appends self.old self.new bytes }
-        ensures buffer { (bytes : List ℕ)
-            → field_of number T.tag_byte (option_map T.content field.now) ≡ Some bytes
-            → length (room_of self.old) < length bytes
-            → Refuses result ErrorKind.Buffer × AppendsNothing self.old self.new }
-    {
-        check_room(context_specific_len(number, field)?, self.remaining())?;
-        let Some(value) = field else {
-            return Ok(());
-        };
-        field_header(number, value)?.encode(self)?;
-        self.element(value)
     }
 }

@@ -24,6 +24,9 @@ impl Model for Tag {
 const EXPLICIT: u8 = 0xA0;
 
 impl Tag {
+    /// `01`, of a BOOLEAN.
+    pub const BOOLEAN: Tag = Tag { byte: 0x01 };
+
     /// `02`, of an INTEGER.
     pub const INTEGER: Tag = Tag { byte: 0x02 };
 
@@ -39,14 +42,68 @@ impl Tag {
     /// `06`, of an OBJECT IDENTIFIER.
     pub const OBJECT_IDENTIFIER: Tag = Tag { byte: 0x06 };
 
+    /// `0A`, of an ENUMERATED.
+    pub const ENUMERATED: Tag = Tag { byte: 0x0A };
+
+    /// `0C`, of a UTF8String.
+    pub const UTF8_STRING: Tag = Tag { byte: 0x0C };
+
+    /// `12`, of a NumericString.
+    pub const NUMERIC_STRING: Tag = Tag { byte: 0x12 };
+
+    /// `13`, of a PrintableString.
+    pub const PRINTABLE_STRING: Tag = Tag { byte: 0x13 };
+
+    /// `14`, of a TeletexString.
+    pub const TELETEX_STRING: Tag = Tag { byte: 0x14 };
+
+    /// `16`, of an IA5String.
+    pub const IA5_STRING: Tag = Tag { byte: 0x16 };
+
+    /// `17`, of a UTCTime.
+    pub const UTC_TIME: Tag = Tag { byte: 0x17 };
+
+    /// `18`, of a GeneralizedTime.
+    pub const GENERALIZED_TIME: Tag = Tag { byte: 0x18 };
+
+    /// `1A`, of a VisibleString.
+    pub const VISIBLE_STRING: Tag = Tag { byte: 0x1A };
+
+    /// `1C`, of a UniversalString.
+    pub const UNIVERSAL_STRING: Tag = Tag { byte: 0x1C };
+
+    /// `1E`, of a BMPString.
+    pub const BMP_STRING: Tag = Tag { byte: 0x1E };
+
     /// `30`, of a SEQUENCE.
     pub const SEQUENCE: Tag = Tag { byte: 0x30 };
 
-    /// `A0`, of an explicit field `[0]`.
+    /// `31`, of a SET.
+    pub const SET: Tag = Tag { byte: 0x31 };
+
+    /// `A0`, of a constructed element with the tag `[0]`.
     pub const CONTEXT_0: Tag = Tag { byte: EXPLICIT };
 
-    /// `A1`, of an explicit field `[1]`.
+    /// `A1`, of a constructed element with the tag `[1]`.
     pub const CONTEXT_1: Tag = Tag { byte: EXPLICIT + 1 };
+
+    /// `A2`, of a constructed element with the tag `[2]`.
+    pub const CONTEXT_2: Tag = Tag { byte: EXPLICIT + 2 };
+
+    /// `A3`, of a constructed element with the tag `[3]`.
+    pub const CONTEXT_3: Tag = Tag { byte: EXPLICIT + 3 };
+
+    /// `80`, of a primitive element with the tag `[0]`.
+    pub const PRIMITIVE_0: Tag = Tag { byte: 0x80 };
+
+    /// `81`, of a primitive element with the tag `[1]`.
+    pub const PRIMITIVE_1: Tag = Tag { byte: 0x81 };
+
+    /// `82`, of a primitive element with the tag `[2]`.
+    pub const PRIMITIVE_2: Tag = Tag { byte: 0x82 };
+
+    /// `83`, of a primitive element with the tag `[3]`.
+    pub const PRIMITIVE_3: Tag = Tag { byte: 0x83 };
 
     /// Returns the tag with this byte.
     ///

@@ -1,25 +1,28 @@
 //! The traits of DER values: with them the generic calls read and write a type.
-ghost use Rattle.std.specs.Prelude.{◌≡◌, ◌<◌, ◌≤◌, ℕ, List, [], length, Bool, true, false, Option, Some, IsOk, IfOk, IfErr, OnOk, OnErr};
+ghost use Rattle.std.specs.Prelude.{◌≡◌, ◌<◌, ◌≤◌, ℕ, List, [], length, true, false, Option, Some, IsOk, IfOk, IfErr, OnOk, OnErr};
 ghost use Rattle.sec1_der.specs.BackWriters.{end_of, front_of, KeepsEnd, PutsNothing, PutsInFront};
 ghost use Rattle.sec1_der.specs.Elements.{max_length, IsOverlong};
 ghost use Rattle.sec1_der.specs.Faults.{Refuses, IsReadingFault};
 ghost use Rattle.sec1_der.specs.Readers.{reader_over};
-ghost use Rattle.sec1_der.specs.Refusals.{Fault, HasFault, never_late};
+ghost use Rattle.sec1_der.specs.Refusals.{Fault, HasFault};
 ghost use Rattle.sec1_der.specs.SliceWriters.{room_of, KeepsSlice, AppendsNothing, Appends};
 
 use crate::{BackWriter, ErrorKind, Length, Result, SliceReader, SliceWriter, Tag};
 
-/// A type whose elements all have the same tag.
-pub trait FixedTag {
-    /// The tag.
-    const TAG: Tag;
-
+/// A type whose elements all have the same tag, which may be that of a type parameter.
+pub trait Tagged {
     /// The number of the tag byte.
     ghost tag_byte: { ℕ };
 
-    /// Returns `Self::TAG`. A contract sees its byte.
+    /// Returns the tag. A contract sees its byte.
     fn fixed_tag() -> Tag
         ensures { result ≡ tag_byte };
+}
+
+/// A type whose tag is a constant.
+pub trait FixedTag: Tagged {
+    /// The tag, which is [`fixed_tag`](Tagged::fixed_tag).
+    const TAG: Tag;
 }
 
 /// A type whose values have a content, the bytes in their element after the header.
@@ -36,11 +39,6 @@ pub trait ValueContent {
 
     /// The kind of the error by which bytes are refused as a content of the type, or None if they are a content.
     ghost fault: { Fault };
-
-    /// Which contents are refused, if at all, only after the end of an explicit field (X.690 section 8.14) around
-    /// them was checked. A type whose [`DecodeExplicit`](crate::DecodeExplicit) is a call of
-    /// [`SliceReader::context_specific`] has none, and leaves this out.
-    ghost checked_late: { List ℕ → Bool } = { never_late };
 }
 
 /// A value that is read from the content of its element.
@@ -127,6 +125,14 @@ pub trait EncodeValue: ValueContent {
     {
         self.encode_back(writer)
     }
+}
+
+/// A type whose values have different contents.
+pub trait UniqueContent: ValueContent {
+    /// Does nothing: its contract is the law that two values with one content are the same.
+    fn one()
+        ensures { (a b : Self) (bytes : List ℕ) → Self.content a ≡ Some bytes
+            → Self.content b ≡ Some bytes → a ≡ b };
 }
 
 /// A value that is read and written as a SEQUENCE (X.690 section 8.9).

@@ -3,7 +3,7 @@ ghost use Rattle.sec1_der.specs.Contents.{IsVersionOne, byte_fault, only_one};
 
 use crate::{
     BackWriter, DecodeValue, EncodeValue, ErrorKind, FixedTag, Length, Result, SliceReader,
-    SliceWriter, Tag, ValueContent,
+    SliceWriter, Tag, Tagged, UniqueContent, ValueContent,
 };
 
 /// The version of an ECPrivateKey, the INTEGER 1 (RFC 5915 section 3). Its content is the byte `01`; any other is refused
@@ -11,16 +11,16 @@ use crate::{
 #[derive(Clone, Copy, PartialEq, Eq, Debug)]
 pub struct VersionOne;
 
-impl FixedTag for VersionOne {
-    const TAG: Tag = Tag::INTEGER;
-
+impl Tagged for VersionOne {
     ghost tag_byte = { 0x02 };
 
-    fn fixed_tag() -> Tag
-        ensures { result ≡ 0x02 }
-    {
+    fn fixed_tag() -> Tag {
         Self::TAG
     }
+}
+
+impl FixedTag for VersionOne {
+    const TAG: Tag = Tag::INTEGER;
 }
 
 impl ValueContent for VersionOne {
@@ -54,4 +54,8 @@ impl EncodeValue for VersionOne {
     fn encode_back(&self, writer: &mut BackWriter) -> Result<()> {
         writer.write(&[1])
     }
+}
+
+impl UniqueContent for VersionOne {
+    fn one() {}
 }

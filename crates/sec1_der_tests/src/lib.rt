@@ -11,6 +11,8 @@ mod memory;
 #[cfg(test)]
 mod reading;
 #[cfg(test)]
+mod records;
+#[cfg(test)]
 mod streams;
 #[cfg(test)]
 mod trees;

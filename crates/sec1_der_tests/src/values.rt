@@ -1,17 +1,64 @@
 //! Values and calls of the reader that no other test makes, by examples with known results.
 use sec1_der::{
-    BitStringRef, Containing, EncodeValue, ErrorKind, FixedTag, ID_EC_PUBLIC_KEY, Length,
-    ObjectIdentifier, Octets, SliceReader, SliceWriter, SmallInteger, Tag, VersionOne, WholeBits,
-    from_der,
+    BitStringRef, Containing, Context0, EncodeValue, ErrorKind, Explicit, ExplicitBits, FixedTag,
+    ID_EC_PUBLIC_KEY, Length, ObjectIdentifier, OctetStringRef, Octets, SliceReader, SliceWriter,
+    SmallInteger, Tag, Tagged, VersionOne, WholeBits, from_der,
 };
 use std::test::Fail;
 
 #[test]
 fn has_tags_of_component_values(rt: HostRuntime) {
-    assert_eq!(rt; SmallInteger::<0>::TAG.byte(), 0x02);
-    assert_eq!(rt; WholeBits::TAG.byte(), 0x03);
-    assert_eq!(rt; Octets::TAG.byte(), 0x04);
-    assert_eq!(rt; Containing::<VersionOne>::TAG.byte(), 0x04);
+    assert_eq!(rt; SmallInteger::<0>::fixed_tag().byte(), 0x02);
+    assert_eq!(rt; WholeBits::fixed_tag().byte(), 0x03);
+    assert_eq!(rt; Octets::fixed_tag().byte(), 0x04);
+    assert_eq!(rt; Containing::<VersionOne>::fixed_tag().byte(), 0x04);
+    assert_eq!(rt; Explicit::<Context0, VersionOne>::fixed_tag().byte(), 0xA0);
+    assert_eq!(rt; ExplicitBits::fixed_tag().byte(), 0xA1);
+}
+
+#[test]
+fn has_tags_as_constants(rt: HostRuntime) {
+    assert_eq!(rt; VersionOne::TAG.byte(), 0x02);
+    assert_eq!(rt; BitStringRef::TAG.byte(), 0x03);
+    assert_eq!(rt; OctetStringRef::TAG.byte(), 0x04);
+    assert_eq!(rt; ObjectIdentifier::TAG.byte(), 0x06);
+}
+
+/// X.680 section 8.4 and X.690 section 8.1.2: the constants of `Tag` and their bytes.
+#[test]
+fn has_tags_by_their_bytes(rt: HostRuntime) {
+    for (tag, byte) in [
+        (Tag::BOOLEAN, 0x01),
+        (Tag::INTEGER, 0x02),
+        (Tag::BIT_STRING, 0x03),
+        (Tag::OCTET_STRING, 0x04),
+        (Tag::NULL, 0x05),
+        (Tag::OBJECT_IDENTIFIER, 0x06),
+        (Tag::ENUMERATED, 0x0A),
+        (Tag::UTF8_STRING, 0x0C),
+        (Tag::NUMERIC_STRING, 0x12),
+        (Tag::PRINTABLE_STRING, 0x13),
+        (Tag::TELETEX_STRING, 0x14),
+        (Tag::IA5_STRING, 0x16),
+        (Tag::UTC_TIME, 0x17),
+        (Tag::GENERALIZED_TIME, 0x18),
+        (Tag::VISIBLE_STRING, 0x1A),
+        (Tag::UNIVERSAL_STRING, 0x1C),
+        (Tag::BMP_STRING, 0x1E),
+        (Tag::SEQUENCE, 0x30),
+        (Tag::SET, 0x31),
+        (Tag::CONTEXT_0, 0xA0),
+        (Tag::CONTEXT_1, 0xA1),
+        (Tag::CONTEXT_2, 0xA2),
+        (Tag::CONTEXT_3, 0xA3),
+        (Tag::PRIMITIVE_0, 0x80),
+        (Tag::PRIMITIVE_1, 0x81),
+        (Tag::PRIMITIVE_2, 0x82),
+        (Tag::PRIMITIVE_3, 0x83),
+    ] {
+        assert_eq!(rt; tag.byte(), byte);
+        assert_eq!(rt; tag.is_constructed(), byte & 0x20 != 0, "{byte}");
+    }
 }
 
 #[test]

@@ -1,8 +1,8 @@
 //! What is written, by examples with known results.
 use sec1_der::{
-    AnyRef, BackWriter, BitStringRef, EncodeValue, ErrorKind, Header, ID_EC_PUBLIC_KEY, Length,
-    ObjectIdentifier, OctetStringRef, SecretDocument, SliceReader, SliceWriter, Tag, VersionOne,
-    context_specific_len, encode_to_slice, encoded_len, to_der,
+    AnyRef, BackWriter, BitStringRef, Context0, EncodeValue, ErrorKind, Explicit, Header,
+    ID_EC_PUBLIC_KEY, Length, ObjectIdentifier, OctetStringRef, SecretDocument, SliceReader,
+    SliceWriter, Tag, Tagged, VersionOne, encode_to_slice, encoded_len, to_der,
 };
 use std::test::Fail;
 
@@ -128,18 +128,57 @@ fn writes_values(rt: HostRuntime) -> Result<(), Fail> {
     Ok(())
 }
 
+/// The tag `[30]` of a constructed element, as a type.
+struct Context30;
+
+impl Tagged for Context30 {
+    ghost tag_byte = { 0xBE };
+
+    fn fixed_tag() -> Tag {
+        match Tag::from_byte(0xBE) {
+            Ok(tag) => tag,
+            Err(_) => unreachable!(),
+        }
+    }
+}
+
+/// An octet string with an explicit tag around it, if present.
+type Field<'f, 'a, K> = Option<&'f Explicit<K, OctetStringRef<'a>>>;
+
+fn field_len<K: Tagged>(field: Field<K>) -> sec1_der::Result<usize> {
+    match field {
+        Some(field) => encoded_len(field),
+        None => Ok(0),
+    }
+}
+
+fn append_field<K: Tagged>(writer: &mut SliceWriter, field: Field<K>) -> sec1_der::Result<()> {
+    match field {
+        Some(field) => writer.element(field),
+        None => Ok(()),
+    }
+}
+
+fn prepend_field<K: Tagged>(writer: &mut BackWriter, field: Field<K>) -> sec1_der::Result<()> {
+    match field {
+        Some(field) => writer.element(field),
+        None => Ok(()),
+    }
+}
+
 #[test]
 fn writes_elements_and_fields(rt: HostRuntime) -> Result<(), Fail> {
-    let octets = Some(OctetStringRef::new(&[])?);
-    let missing: Option<OctetStringRef> = None;
-    assert_eq!(rt; context_specific_len(30, &octets)?, 4);
-    assert_eq!(rt; context_specific_len(30, &missing)?, 0);
+    let octets = Explicit::<Context30, _>::new(OctetStringRef::new(&[])?);
+    let octets = Some(&octets);
+    let missing: Field<Context0> = None;
+    assert_eq!(rt; field_len(octets)?, 4);
+    assert_eq!(rt; field_len(missing)?, 0);
 
     let mut room = [0xAA; 8];
     let mut writer = SliceWriter::new(&mut room);
     writer.element(&VersionOne)?;
-    writer.context_specific(0, &missing)?;
-    writer.context_specific(30, &octets)?;
+    append_field(&mut writer, missing)?;
+    append_field(&mut writer, octets)?;
     assert_eq!(rt;
         kind_of(writer.element(&VersionOne)),
         Some(ErrorKind::Buffer)
@@ -148,11 +187,11 @@ fn writes_elements_and_fields(rt: HostRuntime) -> Result<(), Fail> {
 
     let mut room = [0xAA; 8];
     let mut writer = BackWriter::new(&mut room);
-    writer.context_specific(30, &octets)?;
-    writer.context_specific(0, &missing)?;
+    prepend_field(&mut writer, octets)?;
+    prepend_field(&mut writer, missing)?;
     writer.element(&VersionOne)?;
     assert_eq!(rt;
-        kind_of(writer.context_specific(30, &octets)),
+        kind_of(prepend_field(&mut writer, octets)),
         Some(ErrorKind::Buffer)
     );
     assert_eq!(rt; room, [0xAA, 0x02, 0x01, 0x01, 0xBE, 0x02, 0x04, 0x00]);

@@ -7,7 +7,7 @@ ghost use Rattle.sec1_c.specs.KeyPlaces.{content_len, key_places};
 
 use super::KeyParts;
 use crate::part::Part;
-use sec1::der::BitStringRef;
+use sec1::der::{Context0, Explicit, ExplicitBits};
 use sec1::{EcParameters, EcPrivateKey, der};
 
 /// Returns the places of the key's parts in its bytes.
@@ -50,7 +50,10 @@ fn parameters_field_len(parameters: &Option<EcParameters>) -> usize
     requires { IsNamedCurve (option_map curve_of parameters.now) }
     ensures { result ≡ length (bytes_of (parameters_field (option_map curve_of parameters.now))) }
 {
-    match der::context_specific_len(0, parameters) {
+    let Some(curve) = parameters else {
+        return 0;
+    };
+    match der::encoded_len(&Explicit::<Context0, EcParameters>::new(*curve)) {
         Ok(len) => len,
         Err(_) => unreachable!(),
     }
@@ -64,11 +67,8 @@ fn public_key_field_len(public_key: Option<&[u8]>) -> usize
     let Some(bytes) = public_key else {
         return 0;
     };
-    match BitStringRef::from_bytes(bytes) {
-        Ok(bits) => match der::context_specific_len(1, &Some(bits)) {
-            Ok(len) => len,
-            Err(_) => unreachable!(),
-        },
+    match der::encoded_len(&ExplicitBits { bytes }) {
+        Ok(len) => len,
         Err(_) => unreachable!(),
     }
 }

@@ -5,7 +5,7 @@ use Rattle.sec1_der.proofs.slice_writer.SliceWriter.element.Goals as goal
 
 pub returns-clause-fits : goal.returns-clause-fits
 returns-clause-fits g c bytes e fits =
-    let tag = g.T.FixedTag.tag_byte in
+    let tag = g.T.Tagged.tag_byte in
     let held = element_of-some tag (g.T.ValueContent.content c.args.value.now) bytes e in
     let room = rw (held.at.spelled, length-append) at fits in
     let same : c.in_ok-element_header.field-0 ≡ record { tag = tag; length = length held.inside } =

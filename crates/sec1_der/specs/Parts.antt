@@ -1,0 +1,65 @@
+-- X.690 section 8.9: the parts of a SEQUENCE, the tags that they begin with, and those that mustn't follow them.
+use Rattle.std.specs.Prelude.{◌≡◌, ◌++◌, ◌∷◌, [], ◌||◌, ◌&&◌, ◌==◌, not, ℕ, List, Bool, true, false, Option, Some, None, if◌then◌else◌, ⊤}
+use Rattle.sec1_der.specs.Elements.{element_of}
+
+-- X.690 sections 8.9.2 and 8.9.3: the bytes of one part and those of the parts after it, if all of them have an encoding. An
+-- absent OPTIONAL component has no bytes, []; one without an encoding is None.
+abbrev pub join : Option (List ℕ) → Option (List ℕ) → Option (List ℕ)
+join None rest = None
+join (Some first) None = None
+join (Some first) (Some rest) = Some (first ++ rest)
+
+-- What is known of a part by its type: the tags that it may begin with, whether it may have no bytes, the tags that
+-- mustn't follow it, and whether inside it no such tag may follow.
+pub record Tags : Type 0 where
+  pub firsts : List ℕ
+  pub may_be_empty : Bool
+  pub barred : List ℕ
+  pub apart : Bool
+
+-- one element with this tag
+abbrev pub one_tag : ℕ → Tags
+one_tag tag = record { firsts = tag ∷ []; may_be_empty = false; barred = []; apart = true }
+
+-- one element with this tag, or nothing
+abbrev pub optional_tag : ℕ → Tags
+optional_tag tag = record { firsts = tag ∷ []; may_be_empty = true; barred = tag ∷ []; apart = true }
+
+-- whether a tag is one of these
+abbrev pub is_among : ℕ → List ℕ → Bool
+is_among tag [] = false
+is_among tag (x ∷ xs) = tag == x || is_among tag xs
+
+-- no tag of the first is one of the second
+abbrev pub disjoint : List ℕ → List ℕ → Bool
+disjoint [] ys = true
+disjoint (x ∷ xs) ys = not (is_among x ys) && disjoint xs ys
+
+-- X.680 section 25.6: one part after another; what begins the second mustn't be barred by the first
+abbrev pub both_tags : Tags → Tags → Tags
+both_tags p q = record {
+  firsts = if p.may_be_empty then p.firsts ++ q.firsts else p.firsts;
+  may_be_empty = p.may_be_empty && q.may_be_empty;
+  barred = if q.may_be_empty then q.barred ++ p.barred else q.barred;
+  apart = p.apart && (q.apart && disjoint p.barred q.firsts);
+}
+
+-- no bytes, if that may be, or bytes that begin with one of the tags
+abbrev pub Begins : Tags → List ℕ → Type 0
+Begins tags [] = tags.may_be_empty ≡ true
+Begins tags (byte ∷ bytes) = is_among byte tags.firsts ≡ true
+
+-- no bytes, or bytes that begin with no tag that is barred
+abbrev pub MayFollow : Tags → List ℕ → Type 0
+MayFollow tags [] = ⊤
+MayFollow tags (byte ∷ bytes) = is_among byte tags.barred ≡ false
+
+-- X.690 section 8.9.3: the element with this tag, or no bytes if the value is absent
+abbrev pub optional_of : ℕ → Option (Option (List ℕ)) → Option (List ℕ)
+optional_of tag None = Some []
+optional_of tag (Some content) = element_of tag content
+
+-- Where two parts, and what may follow them, have the same bytes, the parts are the same, and so is what follows them.
+abbrev pub AreApart : {A : Type 0} → Tags → (A → Option (List ℕ)) → Type 0
+AreApart {A} tags bytes = (a b : A) (x y r s : List ℕ) → tags.apart ≡ true → bytes a ≡ Some x → bytes b ≡ Some y
+    → MayFollow tags r → MayFollow tags s → x ++ r ≡ y ++ s → (a ≡ b) × (r ≡ s)

@@ -1,0 +1,69 @@
+//! A component that may be absent.
+ghost use Rattle.std.specs.Option.{option_map};
+ghost use Rattle.std.specs.Prelude.{◌≡◌, Option};
+ghost use Rattle.sec1_der.specs.Parts.{optional_of, optional_tag};
+ghost use Rattle.sec1_der.specs.PartLaws.{optional_begins};
+ghost use Rattle.sec1_der.specs.Refusals.{optional_fault};
+
+use crate::{
+    BackWriter, DecodePart, DecodeValue, EncodePart, EncodeValue, Length, Part, Result,
+    SliceReader, Tagged, UniqueContent, UniquePart, ValueContent, encoded_len,
+};
+use std::marker::Model;
+
+/// An OPTIONAL component: the element of a value, if its tag is next. A contract sees the value, if present.
+#[derive(Clone, Copy, PartialEq, Eq, Debug, Drop)]
+pub struct Optional<A>(pub Option<A>);
+
+impl<A> Model for Optional<A> {
+    ghost Value = { Option A };
+
+    ghost view = { λ part. part.0 };
+
+    ghost inverse = { λ value. record { 0 = value } };
+}
+
+impl<A: ValueContent + Tagged> Part for Optional<A> {
+    ghost bytes = { λ value. optional_of A.tag_byte (option_map A.content value) };
+
+    ghost fault_then = { optional_fault A.tag_byte A.fault };
+
+    ghost tags = { optional_tag A.tag_byte };
+
+    ghost begins = { λ value whole same. optional_begins A.tag_byte (option_map A.content value) whole same };
+}
+
+impl<A: EncodeValue + Tagged> EncodePart for Optional<A> {
+    fn part_len(&self) -> Result<Length> {
+        match &self.0 {
+            Some(value) => Length::new(encoded_len(value)?),
+            None => Length::new(0),
+        }
+    }
+
+    fn put_part(&self, writer: &mut BackWriter) -> Result<()> {
+        match &self.0 {
+            Some(value) => writer.put_element(value),
+            None => Ok(()),
+        }
+    }
+}
+
+impl<'a, A: DecodeValue<'a> + Tagged + Drop> DecodePart<'a> for Optional<A> {
+    #[tactic(auto, using(crate::proofs::PartLemmas::one_element))]
+    fn decode_part(reader: &mut SliceReader<'a>) -> Result<Self> {
+        if reader.peek_tag_byte() != Some(A::fixed_tag().byte()) && !reader.is_failed() {
+            return Ok(Optional(None));
+        }
+        match reader.decode::<A>() {
+            Ok(value) => Ok(Optional(Some(value))),
+            Err(e) => Err(e),
+        }
+    }
+}
+
+impl<A: UniqueContent + Tagged> UniquePart for Optional<A> {
+    fn one_part() {
+        A::one();
+    }
+}

@@ -1,0 +1,127 @@
+//! The parts of a SEQUENCE (X.690 section 8.9), and two parts one after the other.
+ghost use Rattle.std.specs.Prelude.{◌≡◌, ◌≤◌, ◌++◌, ℕ, List, length, Option, Some, true, false};
+ghost use Rattle.std.specs.Prelude.{IfOk, IfErr, OnOk, OnErr, IsOk, IsOkAnd, IsSomeAnd};
+ghost use Rattle.sec1_der.specs.BackWriters.{end_of, front_of, KeepsEnd, PutsInFront};
+ghost use Rattle.sec1_der.specs.Elements.{max_length, IsOverlong};
+ghost use Rattle.sec1_der.specs.Faults.{Refuses, IsReadingFault};
+ghost use Rattle.sec1_der.specs.Parts.{Tags, Begins, MayFollow, AreApart, join, both_tags};
+ghost use Rattle.sec1_der.specs.PartLaws.{pair_begins};
+ghost use Rattle.sec1_der.specs.Readers.{reader_over, HasRead};
+ghost use Rattle.sec1_der.specs.Refusals.{Fault};
+
+use crate::{BackWriter, ErrorKind, Length, Result, SliceReader};
+
+/// A part of the content of a SEQUENCE: the bytes of some components in a row.
+pub trait Part {
+    /// The bytes of a part, if it has an encoding.
+    ghost bytes: { Self → Option (List ℕ) };
+
+    /// The kind of the error by which bytes are refused as a part and what follows it, from that of what follows.
+    ghost fault_then: { Fault → Fault };
+
+    /// The tags that a part may begin with, and those that mustn't follow it.
+    ghost tags: { Tags };
+
+    /// A part begins with one of its first tags, or is empty.
+    ghost begins: { (part : Self) (whole : List ℕ) → bytes part ≡ Some whole → Begins tags whole };
+}
+
+/// A part that is written.
+pub trait EncodePart: Part {
+    /// Returns the length of the part in bytes.
+    ///
+    /// # Errors
+    ///
+    /// Overlength if the part has no encoding, or one that is longer than 268,435,455 bytes.
+    fn part_len(&self) -> Result<Length>
+        ensures overlength { IsOverlong (Self.bytes self.now) → Refuses result ErrorKind.Overlength }
+        ensures only { (whole : List ℕ) → Self.bytes self.now ≡ Some whole → length whole ≤ max_length
+            → result ≡ Ok (length whole) };
+
+    /// Prepends the part to what was written, without testing the room first. If there is less room, or no encoding, any
+    /// bytes may be prepended.
+    ///
+    /// # Errors
+    ///
+    /// None if the part has room.
+    fn put_part(&self, writer: &mut BackWriter) -> Result<()>
+        ensures slice { KeepsEnd writer.old writer.new }
+        ensures grows { length (end_of writer.old) ≤ length (end_of writer.new) }
+        ensures fits { (whole : List ℕ) → Self.bytes self.now ≡ Some whole → length whole ≤ max_length
+            → length whole ≤ length (front_of writer.old)
+            → IsOk result × PutsInFront writer.old writer.new whole };
+}
+
+/// A part that is read.
+pub trait DecodePart<'a>: Part + Sized {
+    /// Reads a part, and leaves the bytes after it.
+    ///
+    /// # Errors
+    ///
+    /// Truncated, Tag, Length, TrailingData or Value if the remaining input doesn't begin with a part; Failed if the
+    /// reader failed before. The reader has failed then.
+    fn decode_part(reader: &mut SliceReader<'a>) -> Result<Self>
+        requires { length reader.old.unread ≤ max_length }
+        // What is read is the part, and just its bytes are read.
+        ensures found { IfOk result (λ part. IsSomeAnd (Self.bytes part) (λ whole. HasRead whole reader.old reader.new)) }
+        // If the unread bytes begin with a part, and what follows can't be confused with it, that part is read.
+        ensures only { (part : Self) (whole rest : List ℕ) → Self.tags.apart ≡ true → Self.bytes part ≡ Some whole
+            → MayFollow Self.tags rest → reader.old ≡ reader_over (whole ++ rest)
+            → IsOkAnd result (λ found. Self.bytes found ≡ Some whole) × (reader.new ≡ reader_over rest) }
+        ensures kinds { reader.old.failed ≡ false → IfErr result (λ e. IsReadingFault e.kind) }
+        // The kind of a refusal is a function of the remaining input; a part that is read leaves that of what follows.
+        ensures passes { reader.old.failed ≡ false
+            → OnOk result ((behind : Fault) → Self.fault_then behind reader.old.unread ≡ behind reader.new.unread) }
+        ensures refuses { reader.old.failed ≡ false
+            → IfErr result (λ e. (behind : Fault) → Self.fault_then behind reader.old.unread ≡ Some e.kind) }
+        ensures failed { reader.old.failed ≡ true → Refuses result ErrorKind.Failed
+            × (reader.new ≡ reader.old) }
+        ensures refused { OnErr result (reader.new.failed ≡ true) };
+}
+
+/// A part that is determined by the bytes that begin with it.
+pub trait UniquePart: Part {
+    /// Does nothing: its contract is the law that if two parts, each with what may follow it, have the same bytes, the
+    /// parts are the same, and so is what follows them.
+    fn one_part()
+        ensures { AreApart Self.tags Self.bytes };
+}
+
+impl<P: Part, Q: Part> Part for (P, Q) {
+    ghost bytes = { λ parts. join (P.bytes parts.0) (Q.bytes parts.1) };
+
+    ghost fault_then = { λ behind. P.fault_then (Q.fault_then behind) };
+
+    ghost tags = { both_tags P.tags Q.tags };
+
+    ghost begins = { λ parts whole same. pair_begins P.tags Q.tags (P.bytes parts.0) (Q.bytes parts.1) whole same
+        (P.begins parts.0) (Q.begins parts.1) };
+}
+
+impl<P: EncodePart, Q: EncodePart> EncodePart for (P, Q) {
+    fn part_len(&self) -> Result<Length> {
+        let first = self.0.part_len()?;
+        let second = self.1.part_len()?;
+        Length::new(first.get() + second.get())
+    }
+
+    fn put_part(&self, writer: &mut BackWriter) -> Result<()> {
+        self.1.put_part(writer)?;
+        self.0.put_part(writer)
+    }
+}
+
+impl<'a, P: DecodePart<'a> + Drop, Q: DecodePart<'a>> DecodePart<'a> for (P, Q) {
+    fn decode_part(reader: &mut SliceReader<'a>) -> Result<Self> {
+        let first = P::decode_part(reader)?;
+        let second = Q::decode_part(reader)?;
+        Ok((first, second))
+    }
+}
+
+impl<P: UniquePart, Q: UniquePart> UniquePart for (P, Q) {
+    fn one_part() {
+        P::one_part();
+        Q::one_part();
+    }
+}
