@@ -1,0 +1,16 @@
+use Rattle.std.proofs.Common.{[], append-nil}
+use Rattle.std.proofs.lemmas.Bool.{false≢true}
+use Rattle.der_types.proofs.any.Any.new.Goals as goal
+
+pub returns-in_err-any-clause-only : goal.returns-in_err-any-clause-only
+returns-in_err-any-clause-only c is =
+    let read = c.in_err-any.ensures.only c.args.bytes.now [] is (rw append-nil c.new-reader.ensures) in
+    absurd (cc (read.0))
+
+pub returns-in_err-finish-clause-only : goal.returns-in_err-finish-clause-only
+returns-in_err-finish-clause-only c is =
+    let read = c.in_ok-any.ensures.only c.args.bytes.now [] is (rw append-nil c.new-reader.ensures) in
+    absurd (false≢true (c.in_err-finish.ensures.only read.1))
+
+pub returns-clause-only : goal.returns-clause-only
+returns-clause-only c is = (c.in_ok-any.ensures.only c.args.bytes.now [] is (rw append-nil c.new-reader.ensures)).0

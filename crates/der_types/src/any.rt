@@ -1,0 +1,151 @@
+//! An element of any tag.
+ghost use Rattle.std.specs.Prelude.{◌≡◌, ◌≤◌, ◌++◌, ℕ, List, length, false, true, refl, IsOk, IfOk, IfErr, OnOk, OnErr};
+ghost use Rattle.sec1_der.specs.Elements.{element, IsHeader, IsElement};
+ghost use Rattle.sec1_der.specs.Faults.{IsReadingFault, Refuses};
+ghost use Rattle.sec1_der.specs.Parts.{is_among, AreApart};
+ghost use Rattle.sec1_der.specs.Readers.{reader_over, HasRead};
+ghost use Rattle.sec1_der.specs.Refusals.{Fault, HasFault, end_fault};
+ghost use Rattle.sec1_der.specs.Values.{tag_of, value_of};
+ghost use Rattle.der_types.specs.AnyElements.{first_byte, all_tags, any_of, any_tags, any_element_fault};
+ghost use Rattle.der_types.specs.AnyLaws.{any_begins};
+
+use crate::Alternative;
+use crate::lend::read_since;
+use sec1_der::{
+    AnyRef, BackWriter, DecodePart, EncodePart, ErrorKind, Length, Part, Result, SliceReader, Tag,
+    UniquePart,
+};
+use std::marker::Model;
+
+/// One element of any tag, which borrows its bytes: `ANY`, or an open type. A contract sees the bytes of the whole
+/// element.
+#[derive(Drop)]
+pub struct Any<'a> {
+    bytes: &'a [u8],
+    inside: AnyRef<'a>,
+    ghost header: { IsHeader (tag_of inside) (length (value_of inside)) },
+    ghost spelled: { bytes.now ≡ element (tag_of inside) (value_of inside) },
+}
+
+impl<'a> Model for Any<'a> {
+    ghost Value = { List ℕ };
+
+    ghost view = { λ any. any.bytes.now };
+}
+
+impl<'a> Any<'a> {
+    /// Returns the element with these bytes.
+    ///
+    /// # Errors
+    ///
+    /// Truncated, Tag or Length if the bytes don't begin with an element; TrailingData if they go on after it.
+    pub fn new(bytes: &'a [u8]) -> Result<Any<'a>>
+        ensures found { IfOk result (λ any. (any ≡ bytes.now) × IsElement bytes.now) }
+        ensures only { IsElement bytes.now → result ≡ Ok bytes.now }
+        ensures kinds { IfErr result (λ e. IsReadingFault e.kind) }
+        ensures kind { HasFault result (any_element_fault end_fault bytes.now) }
+    {
+        let mut reader = SliceReader::new(bytes);
+        let any = Any::read(&mut reader)?;
+        reader.finish()?;
+        Ok(any)
+    }
+
+    /// Returns the same element, which borrows the same bytes.
+    pub fn reborrow(&self) -> Any<'a>
+        ensures { result ≡ self.now }
+    {
+        Any {
+            bytes: self.bytes,
+            inside: self.inside,
+        }
+    }
+
+    /// Returns the tag.
+    pub fn tag(&self) -> Tag
+        ensures { result ≡ first_byte self.now }
+    {
+        self.inside.tag()
+    }
+
+    /// Borrows the content.
+    pub fn content(&self) -> &'a [u8]
+        ensures header { IsHeader (first_byte self.now) (length result.now) }
+        ensures spelled { self.now ≡ element (first_byte self.now) result.now }
+    {
+        self.inside.value()
+    }
+
+    /// Borrows the bytes of the whole element.
+    pub fn element(&self) -> &'a [u8]
+        ensures { result.now ≡ self.now }
+    {
+        self.bytes
+    }
+
+    /// Reads one element of any tag.
+    fn read(reader: &mut SliceReader<'a>) -> Result<Any<'a>>
+        ensures found { IfOk result (λ any. IsElement any × HasRead any reader.old reader.new) }
+        ensures only { (bytes rest : List ℕ) → IsElement bytes → reader.old ≡ reader_over (bytes ++ rest)
+            → (result ≡ Ok bytes) × (reader.new ≡ reader_over rest) }
+        ensures kinds { reader.old.failed ≡ false → IfErr result (λ e. IsReadingFault e.kind) }
+        ensures passes { reader.old.failed ≡ false
+            → OnOk result ((behind : Fault) → any_element_fault behind reader.old.unread ≡ behind reader.new.unread) }
+        ensures refuses { reader.old.failed ≡ false
+            → IfErr result (λ e. (behind : Fault) → any_element_fault behind reader.old.unread ≡ Some e.kind) }
+        ensures failed { reader.old.failed ≡ true → Refuses result ErrorKind.Failed
+            × (reader.new ≡ reader.old) }
+        ensures refused { OnErr result (reader.new.failed ≡ true) }
+    {
+        let input = reader.remaining_input();
+        match AnyRef::decode(reader) {
+            Ok(inside) => Ok(Any {
+                bytes: read_since(input, reader),
+                inside,
+            }),
+            Err(e) => Err(e),
+        }
+    }
+}
+
+impl Part for Any<'_> {
+    ghost bytes = { any_of };
+
+    ghost fault_then = { any_element_fault };
+
+    ghost tags = { any_tags };
+
+    ghost begins = { any_begins };
+}
+
+impl Alternative for Any<'_> {
+    fn may_begin(byte: u8) -> bool
+        ensures { result ≡ is_among byte all_tags }
+    {
+        Tag::from_byte(byte).is_ok()
+    }
+
+    ghost never_empty = { refl };
+}
+
+impl EncodePart for Any<'_> {
+    fn part_len(&self) -> Result<Length> {
+        Length::new(self.bytes.len())
+    }
+
+    fn put_part(&self, writer: &mut BackWriter) -> Result<()> {
+        writer.write(self.bytes)
+    }
+}
+
+impl<'a> DecodePart<'a> for Any<'a> {
+    fn decode_part(reader: &mut SliceReader<'a>) -> Result<Self> {
+        Any::read(reader)
+    }
+}
+
+impl UniquePart for Any<'_> {
+    fn one_part()
+        ensures { AreApart any_tags any_of }
+    {}
+}

@@ -1,0 +1,127 @@
+//! BIT STRING with unused bits.
+ghost use Rattle.std.specs.Prelude.{◌≡◌, ◌∷◌, ◌<◌, ◌≤◌, ◌↔◌, ℕ, List, length, true, Some};
+ghost use Rattle.std.specs.Prelude.{IsOk, IfOk, IfErr, IsSome, IfSome};
+ghost use Rattle.sec1_der.specs.Contents.{AreBits, is_bit_string, bit_string_fault};
+ghost use Rattle.sec1_der.specs.Elements.{max_length};
+ghost use Rattle.sec1_der.specs.Faults.{Refuses};
+ghost use Rattle.der_types.specs.BitStrings.{BitString, bit_string_content};
+ghost use Rattle.der_types.specs.Leaves.{content_if, passes-content_if};
+
+use sec1_der::{
+    BackWriter, BitStringRef, DecodeValue, EncodeValue, ErrorKind, Length, Result, SliceReader,
+    SliceWriter, Tag, Tagged, UniqueContent, ValueContent,
+};
+use std::marker::Model;
+
+/// A BIT STRING that may have unused bits, which borrows its bytes (X.690 section 8.6). A contract sees the number of
+/// unused bits and the bytes.
+#[derive(Drop)]
+pub struct Bits<'a> {
+    bits: BitStringRef<'a>,
+}
+
+impl<'a> Model for Bits<'a> {
+    ghost use Rattle.der_types.specs.BitStrings.{BitString};
+    ghost use Rattle.sec1_der.specs.Values.{unused_bits_of, bit_bytes_of};
+
+    ghost Value = { BitString };
+
+    ghost view = { λ bits. record { unused = unused_bits_of bits.bits; bytes = bit_bytes_of bits.bits } };
+}
+
+impl<'a> Bits<'a> {
+    /// Returns a bit string without the lowest `unused` bits of the last byte.
+    ///
+    /// # Errors
+    ///
+    /// Overlength if there are more than 268,435,454 bytes; then Value if `unused` is above 7, or isn't 0 without
+    /// bytes, or if an unused bit is set (X.690 section 11.2.1).
+    pub fn new(unused: u8, bytes: &'a [u8]) -> Result<Self>
+        ensures within { IsOk result ↔ ((length bytes.now < max_length) × AreBits unused bytes.now) }
+        ensures value { IfOk result (λ bits. bits ≡ record { unused = unused; bytes = bytes.now }) }
+        ensures overlength { max_length ≤ length bytes.now → Refuses result ErrorKind.Overlength }
+        ensures kind { length bytes.now < max_length → IfErr result (λ e. e.kind ≡ ErrorKind.Value) }
+    {
+        let bits = BitStringRef::new(unused, bytes)?;
+        Ok(Bits { bits })
+    }
+
+    /// Returns the number of unused bits of the last byte, from 0 to 7.
+    pub fn unused_bits(&self) -> u8
+        ensures { result ≡ self.now.unused }
+    {
+        self.bits.unused_bits()
+    }
+
+    /// Borrows the bytes, the last of which may have unused bits.
+    pub fn raw_bytes(&self) -> &'a [u8]
+        ensures bytes { result.now ≡ self.now.bytes }
+        ensures bits { AreBits self.now.unused result.now }
+    {
+        self.bits.raw_bytes()
+    }
+
+    /// Borrows the bytes, if there are no unused bits.
+    pub fn as_bytes(&self) -> Option<&'a [u8]>
+        ensures within { IsSome result ↔ (self.now.unused ≡ 0) }
+        ensures bytes { IfSome result (λ bytes. bytes.now ≡ self.now.bytes) }
+    {
+        self.bits.as_bytes()
+    }
+
+    /// Returns the bit string again. It borrows the same bytes.
+    pub fn reborrow(&self) -> Self
+        ensures { result ≡ self.now }
+    {
+        Bits { bits: self.bits }
+    }
+}
+
+impl Tagged for Bits<'_> {
+    ghost tag_byte = { 0x03 };
+
+    fn fixed_tag() -> Tag
+        ensures { result ≡ 0x03 }
+    {
+        Tag::BIT_STRING
+    }
+}
+
+impl ValueContent for Bits<'_> {
+    ghost content = { bit_string_content };
+
+    ghost is_content = { λ bytes. is_bit_string bytes ≡ true };
+
+    ghost content_is_valid = { λ bits bytes same _.
+        passes-content_if is_bit_string (bits.unused ∷ bits.bytes) bytes same };
+
+    ghost fault = { bit_string_fault };
+}
+
+impl<'a> DecodeValue<'a> for Bits<'a> {
+    fn decode_value(reader: &mut SliceReader<'a>) -> Result<Self> {
+        let bits = BitStringRef::decode_value(reader)?;
+        Ok(Bits { bits })
+    }
+}
+
+impl EncodeValue for Bits<'_> {
+    fn value_len(&self) -> Result<Length> {
+        self.bits.value_len()
+    }
+
+    fn encode_value(&self, writer: &mut SliceWriter) -> Result<()> {
+        self.bits.encode_value(writer)
+    }
+
+    fn encode_back(&self, writer: &mut BackWriter) -> Result<()> {
+        self.bits.encode_back(writer)
+    }
+}
+
+impl UniqueContent for Bits<'_> {
+    fn one()
+        ensures { (a b : BitString) (bytes : List ℕ) → bit_string_content a ≡ Some bytes
+            → bit_string_content b ≡ Some bytes → a ≡ b }
+    {}
+}

@@ -1,0 +1,105 @@
+//! Values with one content.
+ghost use Rattle.std.specs.Prelude.{◌≡◌, [], ◌∷◌, ℕ, List, Some};
+ghost use Rattle.std.specs.Str.{bytes_eq};
+ghost use Rattle.sec1_der.specs.Contents.{value_unless};
+
+use crate::kind;
+use sec1_der::{
+    BackWriter, DecodeValue, EncodeValue, ErrorKind, Length, Result, SliceReader, SliceWriter, Tag,
+    Tagged, UniqueContent, ValueContent,
+};
+use std::marker::PhantomData;
+
+/// The tag of a type with one value, and the content of that value.
+pub trait ConstantContent: Tagged {
+    /// The content.
+    ghost constant: { List ℕ };
+
+    /// Returns the content.
+    fn constant() -> &'static [u8]
+        ensures { result.now ≡ constant };
+}
+
+/// The one value with the content of `K`. Any other content is refused as Value.
+#[derive(Drop)]
+pub struct Constant<K> {
+    kind: PhantomData<K>,
+}
+
+impl<K> Constant<K> {
+    /// Returns the value.
+    pub fn new() -> Self {
+        Constant { kind: PhantomData }
+    }
+}
+
+impl<K: ConstantContent> Tagged for Constant<K> {
+    ghost tag_byte = { K.tag_byte };
+
+    fn fixed_tag() -> Tag {
+        K::fixed_tag()
+    }
+}
+
+impl<K: ConstantContent> ValueContent for Constant<K> {
+    ghost content = { λ _. Some K.constant };
+
+    ghost is_content = { λ bytes. Some K.constant ≡ Some bytes };
+
+    ghost content_is_valid = { λ _ _ same _. same };
+
+    ghost fault = { λ bytes. value_unless (bytes_eq bytes K.constant) };
+}
+
+impl<'a, K: ConstantContent> DecodeValue<'a> for Constant<K> {
+    fn decode_value(reader: &mut SliceReader<'a>) -> Result<Self> {
+        let bytes = reader.read_rest()?;
+        if bytes != K::constant() {
+            return Err(reader.fail(ErrorKind::Value));
+        }
+        Ok(Constant::new())
+    }
+}
+
+impl<K: ConstantContent> EncodeValue for Constant<K> {
+    fn value_len(&self) -> Result<Length> {
+        Length::new(K::constant().len())
+    }
+
+    fn encode_value(&self, writer: &mut SliceWriter) -> Result<()> {
+        self.value_len()?;
+        writer.write(K::constant())
+    }
+
+    fn encode_back(&self, writer: &mut BackWriter) -> Result<()> {
+        self.value_len()?;
+        writer.write(K::constant())
+    }
+}
+
+impl<K: ConstantContent> UniqueContent for Constant<K> {
+    fn one() {}
+}
+
+impl ConstantContent for kind::Null {
+    ghost constant = { [] };
+
+    fn constant() -> &'static [u8] {
+        &[]
+    }
+}
+
+impl ConstantContent for kind::True {
+    ghost constant = { 0xFF ∷ [] };
+
+    fn constant() -> &'static [u8] {
+        &[0xFF]
+    }
+}
+
+/// A NULL, which has no bytes of content (X.690 section 8.8).
+pub type Null = Constant<kind::Null>;
+
+/// The BOOLEAN TRUE (X.690 sections 8.2 and 11.1). A component that is FALSE by default is absent or this one (section
+/// 11.5).
+pub type True = Constant<kind::True>;

@@ -1,0 +1,138 @@
+//! A component with a default value (X.690 section 11.5).
+ghost use Rattle.std.specs.Prelude.{◌≡◌, ◌↔◌, ℕ, List, Some, IsTrue};
+ghost use Rattle.sec1_der.specs.Parts.{optional_tag};
+ghost use Rattle.sec1_der.specs.Refusals.{optional_fault};
+ghost use Rattle.der_types.specs.Defaults.{defaulted_of, defaulted_begins, other_content, other_fault};
+
+use sec1_der::{
+    BackWriter, DecodePart, DecodeValue, EncodePart, EncodeValue, ErrorKind, Length, Optional,
+    Part, Result, SliceReader, Tag, Tagged, UniqueContent, UniquePart, ValueContent, encoded_len,
+};
+use std::marker::Model;
+
+/// A type with a default value. A type of one's own that wraps another gives it the default of a component.
+pub trait HasDefault: UniqueContent + Sized {
+    /// The default value.
+    ghost default: { Self };
+
+    /// The content of the default value.
+    ghost default_content: { List ℕ };
+
+    /// Returns the default value.
+    fn default_value() -> Self
+        ensures { result ≡ default };
+
+    /// Returns `true` if this is the default value.
+    fn is_default(&self) -> bool
+        ensures { IsTrue result ↔ (self.now ≡ default) };
+
+    /// The default value has its content.
+    ghost has_content: { Self.content default ≡ Some default_content };
+}
+
+/// A component with a default value, `A DEFAULT v`: absent if the value is the default, otherwise the element of the
+/// value. A contract sees the value.
+///
+/// An element of the default value is refused as Value after it was read.
+#[derive(Clone, Copy, PartialEq, Eq, Debug, Drop)]
+pub struct Defaulted<A>(pub A);
+
+impl<A> Model for Defaulted<A> {
+    ghost Value = { A };
+
+    ghost view = { λ part. part.0 };
+
+    ghost inverse = { λ value. record { 0 = value } };
+}
+
+impl<A: HasDefault + Tagged> Part for Defaulted<A> {
+    ghost bytes = { λ value. defaulted_of A.tag_byte A.default_content (A.content value) };
+
+    ghost fault_then = { optional_fault A.tag_byte (other_fault A.default_content A.fault) };
+
+    ghost tags = { optional_tag A.tag_byte };
+
+    ghost begins = { λ value. defaulted_begins A.tag_byte A.default_content (A.content value) };
+}
+
+impl<A: HasDefault + EncodeValue + Tagged> EncodePart for Defaulted<A> {
+    fn part_len(&self) -> Result<Length> {
+        A::one();
+        if self.0.is_default() {
+            return Length::new(0);
+        }
+        Length::new(encoded_len(&self.0)?)
+    }
+
+    fn put_part(&self, writer: &mut BackWriter) -> Result<()> {
+        A::one();
+        if self.0.is_default() {
+            return Ok(());
+        }
+        writer.put_element(&self.0)
+    }
+}
+
+impl<'a, A: HasDefault + DecodeValue<'a> + Tagged + Drop> DecodePart<'a> for Defaulted<A> {
+    fn decode_part(reader: &mut SliceReader<'a>) -> Result<Self> {
+        let part = Optional::<NotDefault<A>>::decode_part(reader)?;
+        match part.0 {
+            Some(value) => Ok(Defaulted(value.0)),
+            None => Ok(Defaulted(A::default_value())),
+        }
+    }
+}
+
+impl<A: HasDefault + Tagged> UniquePart for Defaulted<A> {
+    fn one_part() {
+        A::one();
+        Optional::<NotDefault<A>>::one_part();
+    }
+}
+
+/// A value that isn't the default.
+#[derive(Drop)]
+struct NotDefault<A>(A);
+
+impl<A> Model for NotDefault<A> {
+    ghost Value = { A };
+
+    ghost view = { λ part. part.0 };
+
+    ghost inverse = { λ value. record { 0 = value } };
+}
+
+impl<A: Tagged> Tagged for NotDefault<A> {
+    ghost tag_byte = { A.tag_byte };
+
+    fn fixed_tag() -> Tag {
+        A::fixed_tag()
+    }
+}
+
+impl<A: HasDefault> ValueContent for NotDefault<A> {
+    ghost content = { λ value. other_content A.default_content (A.content value) };
+
+    ghost is_content = { λ bytes. (value : A) × (other_content A.default_content (A.content value) ≡ Some bytes) };
+
+    ghost content_is_valid = { λ value _ same _. (value, same) };
+
+    ghost fault = { other_fault A.default_content A.fault };
+}
+
+impl<'a, A: HasDefault + DecodeValue<'a> + Drop> DecodeValue<'a> for NotDefault<A> {
+    fn decode_value(reader: &mut SliceReader<'a>) -> Result<Self> {
+        A::one();
+        let value = A::decode_value(reader)?;
+        if value.is_default() {
+            return Err(reader.fail(ErrorKind::Value));
+        }
+        Ok(NotDefault(value))
+    }
+}
+
+impl<A: HasDefault> UniqueContent for NotDefault<A> {
+    fn one() {
+        A::one();
+    }
+}

@@ -1,0 +1,180 @@
+//! A value that is known by its content: a tag, and a test of contents.
+ghost use Rattle.std.specs.Prelude.{◌≡◌, ◌<◌, ◌≤◌, ◌↔◌, ℕ, List, length, Bool, true, Some};
+ghost use Rattle.std.specs.Prelude.{IsOk, IfOk, IfErr};
+ghost use Rattle.der_types.specs.Leaves.{content_if, passes-content_if};
+ghost use Rattle.sec1_der.specs.Contents.{value_unless};
+ghost use Rattle.sec1_der.specs.Elements.{max_length};
+ghost use Rattle.sec1_der.specs.Faults.{Refuses};
+
+use crate::kind;
+use sec1_der::{
+    BackWriter, DecodeValue, EncodeValue, ErrorKind, Length, Result, SliceReader, SliceWriter, Tag,
+    Tagged, UniqueContent, ValueContent,
+};
+use std::marker::{Model, PhantomData};
+
+/// A type of values that are known by their contents: which bytes are one. It is [`Tagged`] too.
+// `Tagged` isn't a supertrait: the bound of a struct must be met by one impl alone, and each `Record` is `Tagged`.
+pub trait Kind {
+    /// The test of contents.
+    ghost passes: { List ℕ → Bool };
+
+    /// Returns `true` if the bytes are the content of a value.
+    fn test(bytes: &[u8]) -> bool
+        ensures { result ≡ passes bytes.now };
+}
+
+/// A value that borrows its content, which passes the test of `K`. A contract sees the content.
+#[derive(Drop)]
+pub struct Leaf<'a, K> {
+    bytes: &'a [u8],
+    kind: PhantomData<K>,
+}
+
+impl<'a, K> Model for Leaf<'a, K> {
+    ghost Value = { List ℕ };
+
+    ghost view = { λ leaf. leaf.bytes.now };
+}
+
+impl<'a, K: Kind> Leaf<'a, K> {
+    /// Returns the value with this content.
+    ///
+    /// # Errors
+    ///
+    /// Overlength if there are more than 268,435,455 bytes; then Value if they don't pass the test of `K`.
+    pub fn new(bytes: &'a [u8]) -> Result<Self>
+        ensures within { IsOk result ↔ ((length bytes.now ≤ max_length) × (K.passes bytes.now ≡ true)) }
+        ensures value { IfOk result (λ leaf. leaf ≡ bytes.now) }
+        ensures overlength { max_length < length bytes.now → Refuses result ErrorKind.Overlength }
+        ensures kind { length bytes.now ≤ max_length → IfErr result (λ e. e.kind ≡ ErrorKind.Value) }
+    {
+        Length::new(bytes.len())?;
+        if !K::test(bytes) {
+            return Err(ErrorKind::Value.into());
+        }
+        Ok(Leaf {
+            bytes,
+            kind: PhantomData,
+        })
+    }
+}
+
+impl<'a, K> Leaf<'a, K> {
+    /// Borrows the content.
+    pub fn as_bytes(&self) -> &'a [u8]
+        ensures { result.now ≡ self.now }
+    {
+        self.bytes
+    }
+
+    /// Returns the value again. It borrows the same content.
+    pub fn reborrow(&self) -> Self
+        ensures { result ≡ self.now }
+    {
+        Leaf {
+            bytes: self.bytes,
+            kind: PhantomData,
+        }
+    }
+}
+
+impl<K: Kind + Tagged> Tagged for Leaf<'_, K> {
+    ghost tag_byte = { K.tag_byte };
+
+    fn fixed_tag() -> Tag
+        ensures { result ≡ K.tag_byte }
+    {
+        K::fixed_tag()
+    }
+}
+
+impl<K: Kind> ValueContent for Leaf<'_, K> {
+    ghost content = { content_if K.passes };
+
+    ghost is_content = { λ content. K.passes content ≡ true };
+
+    ghost content_is_valid = { λ bytes content same _. passes-content_if K.passes bytes content same };
+
+    ghost fault = { λ content. value_unless (K.passes content) };
+}
+
+impl<'a, K: Kind> DecodeValue<'a> for Leaf<'a, K> {
+    fn decode_value(reader: &mut SliceReader<'a>) -> Result<Self> {
+        let bytes = reader.read_rest()?;
+        if !K::test(bytes) {
+            return Err(reader.fail(ErrorKind::Value));
+        }
+        Ok(Leaf {
+            bytes,
+            kind: PhantomData,
+        })
+    }
+}
+
+impl<K: Kind> EncodeValue for Leaf<'_, K> {
+    fn value_len(&self) -> Result<Length> {
+        if !K::test(self.bytes) {
+            return Err(ErrorKind::Overlength.into());
+        }
+        Length::new(self.bytes.len())
+    }
+
+    fn encode_value(&self, writer: &mut SliceWriter) -> Result<()> {
+        self.value_len()?;
+        writer.write(self.bytes)
+    }
+
+    fn encode_back(&self, writer: &mut BackWriter) -> Result<()> {
+        self.value_len()?;
+        writer.write(self.bytes)
+    }
+}
+
+impl<K: Kind> UniqueContent for Leaf<'_, K> {
+    fn one()
+        ensures { (a b bytes : List ℕ) → content_if K.passes a ≡ Some bytes → content_if K.passes b ≡ Some bytes
+            → a ≡ b }
+    {}
+}
+
+/// An INTEGER, which borrows its content: a number in two's complement, in as few bytes as possible (X.690 section
+/// 8.3). [`Unsigned`](crate::Unsigned) is one whose contracts see the number.
+pub type Integer<'a> = Leaf<'a, kind::Integer>;
+
+/// An ENUMERATED, which borrows its content: a number in two's complement, in as few bytes as possible (X.690 section
+/// 8.4).
+pub type Enumerated<'a> = Leaf<'a, kind::Enumerated>;
+
+/// An OBJECT IDENTIFIER of any length, which borrows its content (X.690 section 8.19).
+pub type ObjectIdentifierRef<'a> = Leaf<'a, kind::ObjectIdentifier>;
+
+/// A UTF8String, which borrows its characters (X.680 section 41).
+pub type Utf8String<'a> = Leaf<'a, kind::Utf8String>;
+
+/// A NumericString, which borrows its characters (X.680 section 41.2).
+pub type NumericString<'a> = Leaf<'a, kind::NumericString>;
+
+/// A PrintableString, which borrows its characters (X.680 section 41.4).
+pub type PrintableString<'a> = Leaf<'a, kind::PrintableString>;
+
+/// A TeletexString, which borrows its content, any bytes (X.680 section 41).
+pub type TeletexString<'a> = Leaf<'a, kind::TeletexString>;
+
+/// An IA5String, which borrows its characters (X.680 section 41).
+pub type Ia5String<'a> = Leaf<'a, kind::Ia5String>;
+
+/// A UTCTime, which borrows its content (X.690 section 11.8).
+pub type UtcTime<'a> = Leaf<'a, kind::UtcTime>;
+
+/// A GeneralizedTime, which borrows its content (X.690 section 11.7).
+pub type GeneralizedTime<'a> = Leaf<'a, kind::GeneralizedTime>;
+
+/// A VisibleString, which borrows its characters (X.680 section 41).
+pub type VisibleString<'a> = Leaf<'a, kind::VisibleString>;
+
+/// A UniversalString, which borrows its content, any multiple of four bytes (X.690 section 8.23.7).
+pub type UniversalString<'a> = Leaf<'a, kind::UniversalString>;
+
+/// A BMPString, which borrows its content, any even number of bytes (X.690 section 8.23.8).
+pub type BmpString<'a> = Leaf<'a, kind::BmpString>;

@@ -1,0 +1,190 @@
+//! SEQUENCE OF (X.690 section 8.10).
+ghost use Rattle.std.specs.Prelude.{◌≡◌, ◌++◌, ℕ, List, [], Some, None};
+ghost use Rattle.std.specs.Prelude.{false, IsOk, IfOk, IfErr, OnOk, IfSome, IfNone, IsSomeAnd};
+ghost use Rattle.sec1_der.specs.Elements.{element_of};
+ghost use Rattle.sec1_der.specs.Faults.{IsReadingFault};
+ghost use Rattle.sec1_der.specs.Refusals.{HasFault};
+ghost use Rattle.der_types.specs.Rows.{joined, row_fault, row_of};
+
+use sec1_der::{
+    BackWriter, DecodeValue, EncodeValue, ErrorKind, Length, Result, SliceReader, SliceWriter, Tag,
+    Tagged, UniqueContent, ValueContent,
+};
+use std::marker::{Model, PhantomData};
+
+/// Checks that the bytes are elements of `T`, one after another, and nothing else.
+///
+/// # Errors
+///
+/// Those of [`SliceReader::decode`] for the first element that is refused.
+pub fn check_elements<'a, T: DecodeValue<'a> + Tagged + Drop>(bytes: &'a [u8]) -> Result<()>
+    // It succeeds for the elements of a list of values, and only for these.
+    ensures found { OnOk result ((values : List T) × (joined T.tag_byte T.content values ≡ Some bytes.now)) }
+    ensures only { (values : List T) → joined T.tag_byte T.content values ≡ Some bytes.now → IsOk result }
+    ensures kinds { IfErr result (λ e. IsReadingFault e.kind) }
+    ensures kind { HasFault result (row_fault T.tag_byte T.fault bytes.now) }
+{
+    let mut elements = SliceReader::new(bytes);
+    while elements.remaining_len() > 0 {
+        let _value = elements.decode::<T>()?;
+    }
+    Ok(())
+}
+
+/// The elements of values of `T`, one after another, which are borrowed unread after they were checked. A contract
+/// sees their bytes.
+#[derive(Drop)]
+pub struct SequenceOf<'a, T> {
+    bytes: &'a [u8],
+    of: PhantomData<T>,
+}
+
+impl<'a, T> Model for SequenceOf<'a, T> {
+    ghost Value = { List ℕ };
+
+    ghost view = { λ elements. elements.bytes.now };
+}
+
+impl<'a, T> SequenceOf<'a, T> {
+    /// Returns the elements with these bytes.
+    ///
+    /// # Errors
+    ///
+    /// Those of [`check_elements`].
+    pub fn new(bytes: &'a [u8]) -> Result<Self>
+    where
+        T: DecodeValue<'a> + Tagged + Drop,
+        ensures found { IfOk result (λ elements. elements ≡ bytes.now) }
+        ensures only { (values : List T) → joined T.tag_byte T.content values ≡ Some bytes.now → result ≡ Ok bytes.now }
+        ensures kinds { IfErr result (λ e. IsReadingFault e.kind) }
+        ensures kind { HasFault result (row_fault T.tag_byte T.fault bytes.now) }
+    {
+        check_elements::<T>(bytes)?;
+        Ok(SequenceOf {
+            bytes,
+            of: PhantomData,
+        })
+    }
+
+    /// Borrows the bytes of the elements.
+    pub fn as_bytes(&self) -> &'a [u8]
+        ensures { result.now ≡ self.now }
+    {
+        self.bytes
+    }
+
+    /// Returns the same elements, which borrow the same bytes.
+    pub fn reborrow(&self) -> Self
+        ensures { result ≡ self.now }
+    {
+        SequenceOf {
+            bytes: self.bytes,
+            of: PhantomData,
+        }
+    }
+
+    /// Returns the values, in their order.
+    pub fn elements(&self) -> Elements<'a, T>
+        ensures { result ≡ self.now }
+    {
+        Elements::over(self.bytes)
+    }
+}
+
+/// The values of a SEQUENCE OF, in their order. A contract sees the bytes of the elements that are left.
+#[derive(Drop)]
+pub struct Elements<'a, T> {
+    reader: SliceReader<'a>,
+    of: PhantomData<T>,
+    ghost working: { reader.failed ≡ false },
+}
+
+impl<'a, T> Model for Elements<'a, T> {
+    ghost Value = { List ℕ };
+
+    ghost view = { λ elements. elements.reader.unread };
+}
+
+impl<'a, T> Elements<'a, T> {
+    /// Returns the values of the elements with these bytes.
+    pub(crate) fn over(bytes: &'a [u8]) -> Self
+        ensures { result ≡ bytes.now }
+    {
+        Elements {
+            reader: SliceReader::new(bytes),
+            of: PhantomData,
+        }
+    }
+
+    /// Returns the next value, or `None` if none is left. It never fails, since the elements were checked.
+    pub fn next(&mut self) -> Option<T>
+    where
+        T: DecodeValue<'a> + Tagged,
+        requires { row_fault T.tag_byte T.fault self.old ≡ None }
+        ensures found { IfSome result (λ value. IsSomeAnd (element_of T.tag_byte (T.content value)) (λ bytes.
+            self.old ≡ bytes ++ self.new)) }
+        ensures end { IfNone result ((self.old ≡ []) × (self.new ≡ [])) }
+        ensures checked { row_fault T.tag_byte T.fault self.new ≡ None }
+    {
+        if self.reader.remaining_len() == 0 {
+            return None;
+        }
+        self.reader.decode::<T>().ok()
+    }
+}
+
+impl<T> Tagged for SequenceOf<'_, T> {
+    ghost tag_byte = { 0x30 };
+
+    fn fixed_tag() -> Tag
+        ensures { result ≡ 0x30 }
+    {
+        Tag::SEQUENCE
+    }
+}
+
+impl<T: ValueContent + Tagged> ValueContent for SequenceOf<'_, T> {
+    ghost content = { row_of T.tag_byte T.fault };
+
+    ghost is_content = { λ content. (bytes : List ℕ) × (row_of T.tag_byte T.fault bytes ≡ Some content) };
+
+    ghost content_is_valid = { λ bytes _ same _. (bytes, same) };
+
+    ghost fault = { row_fault T.tag_byte T.fault };
+}
+
+impl<'a, T: DecodeValue<'a> + Tagged + Drop> DecodeValue<'a> for SequenceOf<'a, T> {
+    fn decode_value(reader: &mut SliceReader<'a>) -> Result<Self> {
+        let bytes = reader.read_rest()?;
+        match SequenceOf::new(bytes) {
+            Ok(elements) => Ok(elements),
+            Err(e) => Err(reader.fail(e.kind)),
+        }
+    }
+}
+
+impl<'a, T: DecodeValue<'a> + Tagged + Drop> EncodeValue for SequenceOf<'a, T> {
+    fn value_len(&self) -> Result<Length> {
+        match check_elements::<T>(self.bytes) {
+            Ok(()) => Length::new(self.bytes.len()),
+            Err(_) => Err(ErrorKind::Overlength.into()),
+        }
+    }
+
+    fn encode_value(&self, writer: &mut SliceWriter) -> Result<()> {
+        self.value_len()?;
+        writer.write(self.bytes)
+    }
+
+    fn encode_back(&self, writer: &mut BackWriter) -> Result<()> {
+        self.value_len()?;
+        writer.write(self.bytes)
+    }
+}
+
+impl<T: ValueContent + Tagged> UniqueContent for SequenceOf<'_, T> {
+    fn one()
+        ensures { (a b bytes : List ℕ) → row_of T.tag_byte T.fault a ≡ Some bytes
+            → row_of T.tag_byte T.fault b ≡ Some bytes → a ≡ b }
+    {}
+}

@@ -1,0 +1,189 @@
+//! The tests of contents, at values that the standards give and at their neighbours.
+use crate::DateTime;
+use crate::boolean::is_boolean;
+use crate::integer::{is_integer, is_unsigned};
+use crate::object_identifier::is_object_identifier;
+use crate::string::{is_ia5, is_numeric_string, is_printable, is_utf8, is_visible};
+use crate::time::{generalized_date_time, is_generalized_time, is_utc_time, utc_date_time};
+
+/// Contents, whether they are an INTEGER's, and whether they are that of one which isn't negative (X.690 section 8.3).
+static INTEGERS: [(&[u8], bool, bool); 12] = [
+    (b"", false, false),
+    (b"\x00", true, true),
+    (b"\x7F", true, true),
+    (b"\x80", true, false),
+    (b"\xFF", true, false),
+    (b"\x00\x7F", false, false),
+    (b"\x00\x80", true, true),
+    (b"\x01\x00", true, true),
+    (b"\xFF\x7F", true, false),
+    (b"\xFF\x80", false, false),
+    (b"\x00\x00\x80", false, false),
+    (b"\x00\xFF\xFF\xFF", true, true),
+];
+
+#[test]
+fn tells_integers(rt: HostRuntime) {
+    for &(bytes, integer, unsigned) in INTEGERS.iter() {
+        assert_eq!(rt; is_integer(bytes), integer, "{bytes:?}");
+        assert_eq!(rt; is_unsigned(bytes), unsigned, "{bytes:?}");
+    }
+}
+
+/// Contents, and whether they are a BOOLEAN's (X.690 section 11.1).
+static BOOLEANS: [(&[u8], bool); 5] = [
+    (b"\xFF", true),
+    (b"\x00", true),
+    (b"\x01", false),
+    (b"", false),
+    (b"\xFF\xFF", false),
+];
+
+#[test]
+fn tells_booleans(rt: HostRuntime) {
+    for &(bytes, boolean) in BOOLEANS.iter() {
+        assert_eq!(rt; is_boolean(bytes), boolean, "{bytes:?}");
+    }
+}
+
+/// Contents, and whether they are an OBJECT IDENTIFIER's: 2.999.3 and 2.100.3, the examples of X.690 section 8.19.5;
+/// one with an arc of 128 bits, all set, below 2.25; and 0.0.
+static IDENTIFIERS: [(&[u8], bool); 8] = [
+    (b"\x88\x37\x03", true),
+    (b"\x81\x34\x03", true),
+    (
+        b"\x69\x83\xFF\xFF\xFF\xFF\xFF\xFF\xFF\xFF\xFF\xFF\xFF\xFF\xFF\xFF\xFF\xFF\xFF\x7F",
+        true,
+    ),
+    (b"\x00", true),
+    (b"", false),
+    (b"\x88", false),
+    (b"\x80\x37\x03", false),
+    (b"\x2A\x80\x01", false),
+];
+
+#[test]
+fn tells_identifiers(rt: HostRuntime) {
+    for &(bytes, identifier) in IDENTIFIERS.iter() {
+        assert_eq!(rt; is_object_identifier(bytes), identifier, "{bytes:?}");
+    }
+}
+
+/// Contents, and whether they are a UTCTime's. The first three and the first two that are refused are the examples of
+/// X.690 section 11.8.
+static UTC_TIMES: [(&str, bool); 16] = [
+    ("920521000000Z", true),
+    ("920622123421Z", true),
+    ("920722132100Z", true),
+    ("920520240000Z", false),
+    ("9207221321Z", false),
+    ("000229000000Z", true),
+    ("500228235959Z", true),
+    ("500229000000Z", false),
+    ("491231235959Z", true),
+    ("490229000000Z", false),
+    ("911301000000Z", false),
+    ("910001000000Z", false),
+    ("910100000000Z", false),
+    ("910431000000Z", false),
+    ("910506234540+0000", false),
+    ("9105O6234540Z", false),
+];
+
+#[test]
+fn tells_utc_times(rt: HostRuntime) {
+    for &(text, time) in UTC_TIMES.iter() {
+        assert_eq!(rt; is_utc_time(text.as_bytes()), time, "{text}");
+    }
+}
+
+/// Contents, and whether they are a GeneralizedTime's. The first three and the first three that are refused are the
+/// examples of X.690 section 11.7; 99991231235959Z is that of RFC 5280 section 4.1.2.5.
+static GENERALIZED_TIMES: [(&str, bool); 17] = [
+    ("19920521000000Z", true),
+    ("19920622123421Z", true),
+    ("19920722132100.3Z", true),
+    ("19920520240000Z", false),
+    ("19920622123421.0Z", false),
+    ("19920722132100.30Z", false),
+    ("99991231235959Z", true),
+    ("20000229000000Z", true),
+    ("19000229000000Z", false),
+    ("21000229000000Z", false),
+    ("20240229000000Z", true),
+    ("20230229000000Z", false),
+    ("19920722132100.03Z", true),
+    ("19920722132100.Z", false),
+    ("19920722132100,3Z", false),
+    ("19920722132100", false),
+    ("19920722132160Z", false),
+];
+
+#[test]
+fn tells_generalized_times(rt: HostRuntime) {
+    for &(text, time) in GENERALIZED_TIMES.iter() {
+        assert_eq!(rt; is_generalized_time(text.as_bytes()), time, "{text}");
+    }
+}
+
+#[test]
+fn reads_times(rt: HostRuntime) {
+    let first = DateTime {
+        year: 1950,
+        month: 1,
+        day: 2,
+        hour: 3,
+        minute: 4,
+        second: 5,
+    };
+    let last = DateTime {
+        year: 2049,
+        month: 12,
+        day: 31,
+        hour: 23,
+        minute: 59,
+        second: 58,
+    };
+    let bytes = b"500102030405Z";
+    assert!(rt; is_utc_time(bytes));
+    assert_eq!(rt; utc_date_time(bytes), first);
+    let bytes = b"491231235958Z";
+    assert!(rt; is_utc_time(bytes));
+    assert_eq!(rt; utc_date_time(bytes), last);
+    let bytes = b"20491231235958.5Z";
+    assert!(rt; is_generalized_time(bytes));
+    assert_eq!(rt; generalized_date_time(bytes), last);
+    assert!(rt; first < last && first.is_valid());
+}
+
+/// Contents, and whether they are a NumericString's, a PrintableString's, a VisibleString's, an IA5String's and a
+/// UTF8String's. Jones is the example of X.690 section 8.23; the UTF-8 is from RFC 3629 sections 3, 7 and 10.
+static STRINGS: [(&[u8], [bool; 5]); 13] = [
+    (b"", [true, true, true, true, true]),
+    (b"0123 456789", [true, true, true, true, true]),
+    (b"Jones", [false, true, true, true, true]),
+    (b"Az '()+,-./:=?", [false, true, true, true, true]),
+    (b"*.example.com", [false, false, true, true, true]),
+    (b"a@example.com", [false, false, true, true, true]),
+    (b"a_b&c", [false, false, true, true, true]),
+    (b"\x09", [false, false, false, true, true]),
+    (b"\x7F", [false, false, false, true, true]),
+    (
+        b"A\xE2\x89\xA2\xCE\x91.",
+        [false, false, false, false, true],
+    ),
+    (b"\xC0\x80", [false, false, false, false, false]),
+    (b"\xED\xA1\x8C", [false, false, false, false, false]),
+    (b"\x80", [false, false, false, false, false]),
+];
+
+#[test]
+fn tells_strings(rt: HostRuntime) {
+    for &(bytes, [numeric, printable, visible, ia5, utf8]) in STRINGS.iter() {
+        assert_eq!(rt; is_numeric_string(bytes), numeric, "{bytes:?}");
+        assert_eq!(rt; is_printable(bytes), printable, "{bytes:?}");
+        assert_eq!(rt; is_visible(bytes), visible, "{bytes:?}");
+        assert_eq!(rt; is_ia5(bytes), ia5, "{bytes:?}");
+        assert_eq!(rt; is_utf8(bytes), utf8, "{bytes:?}");
+    }
+}
