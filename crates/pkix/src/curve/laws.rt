@@ -1,0 +1,32 @@
+//! Laws of the table of curves, for callers to cite. Each law is the contract of a function, which does nothing else.
+ghost use Rattle.std.specs.Prelude.{◌≡◌, ◌↔◌, ℕ, List, Contains, IsTrue};
+ghost use Rattle.pkix.specs.Curves.{curve_arcs, curve_content, IsNameOf};
+ghost use Rattle.pkix.specs.declared.curve.Curve.{Curve};
+
+use super::Curve;
+
+/// [`Curve::ALL`] has each curve.
+#[tactic(auto, using(crate::proofs::CurveLemmas::all_curves))]
+pub fn all_curves()
+    ensures { (curve : Curve) → Contains Curve.ALL curve }
+{}
+
+/// No two curves have one identifier.
+#[tactic(auto, using(crate::proofs::CurveLemmas::one_identifier))]
+pub fn one_identifier()
+    ensures arcs { (a b : Curve) → curve_arcs a ≡ curve_arcs b → a ≡ b }
+    ensures content { (a b : Curve) → curve_content a ≡ curve_content b → a ≡ b }
+{}
+
+/// No two curves have a name in common.
+#[tactic(auto, using(crate::proofs::CurveLemmas::one_name))]
+pub fn one_name()
+    ensures { (a b : Curve) (text : List ℕ) → IsNameOf text a → IsNameOf text b → a ≡ b }
+{}
+
+/// Two curves are equal exactly where they are the same variant.
+pub fn same_curve(a: Curve, b: Curve) -> bool
+    ensures { IsTrue result ↔ (a ≡ b) }
+{
+    a == b
+}

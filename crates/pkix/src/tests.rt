@@ -1,0 +1,119 @@
+//! The table beside the named curves of OpenSSL.
+use crate::Curve;
+use sec1::der::{ObjectIdentifier, from_der, to_der};
+use std::test::Fail;
+
+/// What `tests/curves.sh` prints: OpenSSL's version and each of its named curves over a prime field, with
+/// the length of the prime in bits and the DER of the object identifier in hexadecimal.
+const OPENSSL: &str = "\
+# OpenSSL 3.0.19 27 Jan 2026 (Library: OpenSSL 3.0.19 27 Jan 2026)
+secp112r1 112 06052B81040006
+secp112r2 112 06052B81040007
+secp128r1 128 06052B8104001C
+secp128r2 128 06052B8104001D
+secp160k1 160 06052B81040009
+secp160r1 160 06052B81040008
+secp160r2 160 06052B8104001E
+secp192k1 192 06052B8104001F
+secp224k1 224 06052B81040020
+secp224r1 224 06052B81040021
+secp256k1 256 06052B8104000A
+secp384r1 384 06052B81040022
+secp521r1 521 06052B81040023
+prime192v1 192 06082A8648CE3D030101
+prime192v2 192 06082A8648CE3D030102
+prime192v3 192 06082A8648CE3D030103
+prime239v1 239 06082A8648CE3D030104
+prime239v2 239 06082A8648CE3D030105
+prime239v3 239 06082A8648CE3D030106
+prime256v1 256 06082A8648CE3D030107
+wap-wsg-idm-ecid-wtls6 112 0605672B010406
+wap-wsg-idm-ecid-wtls7 160 0605672B010407
+wap-wsg-idm-ecid-wtls8 112 0605672B010408
+wap-wsg-idm-ecid-wtls9 160 0605672B010409
+wap-wsg-idm-ecid-wtls12 224 0605672B01040C
+brainpoolP160r1 160 06092B2403030208010101
+brainpoolP160t1 160 06092B2403030208010102
+brainpoolP192r1 192 06092B2403030208010103
+brainpoolP192t1 192 06092B2403030208010104
+brainpoolP224r1 224 06092B2403030208010105
+brainpoolP224t1 224 06092B2403030208010106
+brainpoolP256r1 256 06092B2403030208010107
+brainpoolP256t1 256 06092B2403030208010108
+brainpoolP320r1 320 06092B2403030208010109
+brainpoolP320t1 320 06092B240303020801010A
+brainpoolP384r1 384 06092B240303020801010B
+brainpoolP384t1 384 06092B240303020801010C
+brainpoolP512r1 512 06092B240303020801010D
+brainpoolP512t1 512 06092B240303020801010E
+SM2 256 06082A811CCF5501822D
+";
+
+/// Returns the bytes that a text has in hexadecimal.
+fn bytes(rt: &HostRuntime, text: &str) -> Result<Vec<u8>, Fail> {
+    let mut bytes = Vec::new(rt.alloc());
+    for pair in text.as_bytes().chunks(2) {
+        bytes.push(u8::from_str_radix(std::str::from_utf8(pair)?, 16)?)?;
+    }
+    Ok(bytes)
+}
+
+/// Each curve of the table is one of OpenSSL's, with the name, the identifier and the length of the field that it has
+/// there. Of OpenSSL's curves over prime fields only those of WTLS and SM2 aren't in the table.
+#[test]
+fn has_the_curves_of_openssl(rt: HostRuntime) -> Result<(), Fail> {
+    let mut found = Vec::new(rt.alloc());
+    for line in OPENSSL.lines().skip(1) {
+        let mut words = line.split(' ');
+        let (name, bits, der) = (words.next(), words.next(), words.next());
+        let name = name.unwrap_or("");
+        let identifier: ObjectIdentifier = from_der(&bytes(&rt, der.unwrap_or(""))?)?;
+        let curve = Curve::from_identifier(&identifier);
+        assert_eq!(rt; Curve::from_name(name), curve, "{name}");
+        assert_eq!(rt; Curve::from_content(identifier.as_bytes()), curve, "{name}");
+        match curve {
+            Some(curve) => {
+                assert_eq!(rt; curve.identifier(), identifier, "{name}");
+                assert_eq!(rt; curve.content(), identifier.as_bytes(), "{name}");
+                assert!(rt; curve.has_name(name), "{name}");
+                assert_eq!(rt;
+                    curve.field_len(),
+                    bits.unwrap_or("").parse::<usize>()?.div_ceil(8),
+                    "{name}"
+                );
+                found.push(curve)?;
+            }
+            None => assert!(rt;
+                name == "SM2" || name.starts_with("wap-wsg-idm-ecid-wtls"),
+                "{name}"
+            ),
+        }
+    }
+    assert_eq!(rt; found.len(), Curve::ALL.len());
+    for curve in Curve::ALL {
+        assert!(rt; found.contains(&curve), "{curve:?}");
+    }
+    Ok(())
+}
+
+/// Names that OpenSSL takes for a curve beside the one that it lists: `openssl ecparam -name P-256`.
+#[test]
+fn finds_curves_by_each_name(rt: HostRuntime) {
+    for (name, curve) in [
+        ("P-192", Curve::Secp192r1),
+        ("P-224", Curve::Secp224r1),
+        ("P-256", Curve::Secp256r1),
+        ("P-384", Curve::Secp384r1),
+        ("P-521", Curve::Secp521r1),
+        ("secp192r1", Curve::Secp192r1),
+        ("secp256r1", Curve::Secp256r1),
+        ("prime192v1", Curve::Secp192r1),
+        ("prime256v1", Curve::Secp256r1),
+        ("brainpoolP512t1", Curve::BrainpoolP512t1),
+    ] {
+        assert_eq!(rt; Curve::from_name(name), Some(curve), "{name}");
+    }
+    for name in ["", "p-256", "P-256 ", "SECP256R1", "prime256", "SM2"] {
+        assert_eq!(rt; Curve::from_name(name), None, "{name}");
+    }
+}
