@@ -111,11 +111,11 @@ impl<'a> SliceReader<'a> {
         Ok(SliceReader::new(bytes))
     }
 
-    /// Reads one element with the tag `T::TAG`.
+    /// Reads one element with the tag of `T`.
     ///
     /// # Errors
     ///
-    /// Truncated if no input remains; Tag if the next byte isn't `T::TAG`; then Length or Truncated if no length in the
+    /// Truncated if no input remains; Tag if the next byte isn't that tag; then Length or Truncated if no length in the
     /// form of DER follows, or if the input ends inside the content; then those of [`DecodeValue::decode_value`]; Failed
     /// if the reader failed before. The reader has failed then.
     pub fn decode<T: DecodeValue<'a> + Tagged>(&mut self) -> Result<T>
@@ -148,7 +148,7 @@ impl<'a> SliceReader<'a> {
         }
     }
 
-    /// Reads an explicit field `[number]` around one element with the tag `T::TAG`, if present (X.690 section 8.14). It is
+    /// Reads an explicit field `[number]` around one element with the tag of `T`, if present (X.690 section 8.14). It is
     /// present if the next byte is `A0 + number`. Otherwise nothing is read.
     ///
     /// # Errors
