@@ -1,5 +1,6 @@
 -- Elements of any tag.
-use Rattle.std.proofs.Common.{◌≡◌, ◌++◌, ◌∷◌, [], ◌&&◌, ℕ, ◌<◌, nat_lt, nat_le, List, length, Bool, true, false, Some, None, Result, Ok, Err, if◌then◌else◌}
+use Rattle.std.proofs.Common.{◌≡◌, ◌++◌, ◌∷◌, [], ◌&&◌, ℕ, ◌<◌, nat_lt, nat_le, List, length, Bool, true, false, Some}
+use Rattle.std.proofs.Common.{None, Result, Ok, Err, if◌then◌else◌}
 use Rattle.std.proofs.Common.{IfOk, IsSomeAnd, refl, sym, ◌∙◌, ap, le-leb, leb-true, bytes_eq}
 use Rattle.std.proofs.Math.Seq.{drop-append_seam}
 use Rattle.std.proofs.lemmas.Bool.{and_parts, lt-ltb, ltb-true}
@@ -12,14 +13,16 @@ use Rattle.sec1_der.specs.Refusals.{Fault, no_fault, any_fault, parts_fault, wit
 use Rattle.sec1_der.specs.declared.error.Error.{Error}
 use Rattle.sec1_der.specs.declared.error.ErrorKind.{ErrorKind}
 use Rattle.sec1_der.specs.declared.error.ErrorKind.TheVariants.{Tag}
-use Rattle.sec1_der.proofs.HeaderLemmas.{is_tag-true}
-use Rattle.sec1_der.proofs.LengthLemmas.{number_spelled}
-use Rattle.sec1_der.proofs.RefusalLemmas.{any_at, tag_from_test}
-use Rattle.sec1_der.proofs.TreeLemmas.{element_apart}
+use Rattle.sec1_der.specs.ElementLaws.{is_tag-true}
+use Rattle.sec1_der.specs.LengthLaws.{number_spelled}
+use Rattle.sec1_der.specs.RefusalLaws.{any_at}
+use Rattle.sec1_der.specs.ElementLaws.{tag_from_test}
+use Rattle.sec1_der.specs.ElementLaws.{element_apart}
 use Rattle.sec1_der.specs.Values.{tag_of, value_of}
 use Rattle.sec1_der.specs.declared.any.AnyRef.{AnyRef}
 use Rattle.der_types.specs.AnyLaws.{among_all}
-use Rattle.der_types.specs.AnyElements.{all_tags, is_tag_byte, any_tags, first_byte, content_in, is_element, any_of, any_element_fault}
+use Rattle.der_types.specs.AnyElements.{all_tags, is_tag_byte, any_tags, first_byte, content_in, is_element, any_of}
+use Rattle.der_types.specs.AnyElements.{any_element_fault}
 
 and_both : (b c : Bool) → b ≡ true → c ≡ true → (b && c) ≡ true
 and_both b c e f = rw (e, f) refl
@@ -34,7 +37,11 @@ element_tested bytes e =
     record {
       tag = first_byte bytes;
       content = content_in bytes;
-      is_header = record { tag_byte = tag_from_test (first_byte bytes) (ltb-true _ _ tag.0) tag.1; within = leb-true _ _ more.0 };
+      is_header = record {
+        tag_byte = tag_from_test (first_byte bytes) (ltb-true _ _ tag.0) tag.1;
+        within =
+            leb-true _ _ more.0;
+      };
       spelled = sym ((bytes_eq-Decides (element (first_byte bytes) (content_in bytes)) bytes).0 more.1);
     }
 
@@ -52,7 +59,8 @@ passes_at tag content is =
     let found = content_found tag content in
     let byte : nat_lt tag 256 ≡ true = lt-ltb tag 256 is.tag_byte.byte in
     and_both _ _ (and_both _ _ byte (is_tag-true tag is.tag_byte))
-    (and_both _ _ (rw found (le-leb (length content) max_length is.within)) (ap (λ c. bytes_eq (element tag c) (element tag content)) found ∙ same))
+    (and_both _ _ (rw found (le-leb (length content) max_length is.within))
+    (ap (λ c. bytes_eq (element tag c) (element tag content)) found ∙ same))
 
 pub element_passes : (bytes : List ℕ) → IsElement bytes → is_element bytes ≡ true
 element_passes bytes is = rw is.spelled (passes_at is.tag is.content is.is_header)
@@ -61,7 +69,8 @@ element_passes bytes is = rw is.spelled (passes_at is.tag is.content is.is_heade
 pub any_some : (bytes whole : List ℕ) → any_of bytes ≡ Some whole → (bytes ≡ whole) × IsElement whole
 any_some bytes whole e = by (is_element bytes) refl e
   where
-    by : (b : Bool) → is_element bytes ≡ b → (if b then Some bytes else None) ≡ Some whole → (bytes ≡ whole) × IsElement whole
+    by : (b : Bool) → is_element bytes ≡ b → (if b then Some bytes else None) ≡ Some whole
+        → (bytes ≡ whole) × IsElement whole
     by false is e = absurd (cc (e))
     by true is e = let same : bytes ≡ whole = cc (e) in (same, rw same at (element_tested bytes is))
 
@@ -78,34 +87,40 @@ any_apart a b x y r s apart e f before behind same =
     (is ∙ (p.spelled ∙ (rw (all.0, all.1) (sym (at ∙ q.spelled)))), all.2)
 
 -- the fault of an element that was read is that of what follows it
-pub any_passes : (bytes : List ℕ) (old new : Reader) → IsElement bytes → HasRead bytes old new → (behind : Fault) → any_element_fault behind old.unread ≡ behind new.unread
+pub any_passes : (bytes : List ℕ) (old new : Reader) → IsElement bytes → HasRead bytes old new → (behind : Fault)
+    → any_element_fault behind old.unread ≡ behind new.unread
 unfolding any_element_fault
 any_passes bytes old new is read behind =
     any_at (λ _. no_fault) behind is.tag is.content old.unread new.unread is.is_header
     (ap (λ (r : Reader). r.unread) read.was_whole ∙ ap (λ xs. xs ++ new.unread) is.spelled)
 
 -- what is refused stays so where more is tested behind it
-pub any_refused : (behind : Fault) (bytes : List ℕ) (k : ErrorKind) → any_fault (λ _. no_fault) no_fault bytes ≡ Some k → any_element_fault behind bytes ≡ Some k
+pub any_refused : (behind : Fault) (bytes : List ℕ) (k : ErrorKind) → any_fault (λ _. no_fault) no_fault bytes ≡ Some k
+    → any_element_fault behind bytes ≡ Some k
 unfolding any_element_fault
 any_refused behind [] k e = e
 any_refused behind (byte ∷ bytes) k e = by (is_tag byte) (within (length_at bytes)) e
   where
-    by : (b : Bool) (found : Result (List ℕ × List ℕ) ErrorKind) → (if b then parts_fault no_fault no_fault found else Some Tag) ≡ Some k
+    by : (b : Bool) (found : Result (List ℕ × List ℕ) ErrorKind)
+        → (if b then parts_fault no_fault no_fault found else Some Tag) ≡ Some k
         → (if b then parts_fault no_fault behind found else Some Tag) ≡ Some k
     by false found e = e
     by true (Err kind) e = e
     by true (Ok x) e = absurd (cc (e))
 
 -- the bytes of an element that was read
-pub element_from : (any : AnyRef) (bytes : List ℕ) → IsHeader (tag_of any) (length (value_of any)) → bytes ≡ element (tag_of any) (value_of any) → IsElement bytes
-element_from any bytes header spelled = record { tag = tag_of any; content = value_of any; is_header = header; spelled = spelled }
+pub element_from : (any : AnyRef) (bytes : List ℕ) → IsHeader (tag_of any) (length (value_of any))
+    → bytes ≡ element (tag_of any) (value_of any) → IsElement bytes
+element_from any bytes header spelled =
+    record { tag = tag_of any; content = value_of any; is_header = header; spelled = spelled }
 
 -- an element that is too long has too many bytes
 pub any_overlong : (bytes : List ℕ) → IsElement bytes → IsOverlong (any_of bytes) → max_length < length bytes
 any_overlong bytes is over = rw (any_there bytes is) at over
 
 -- a byte that begins an element
-pub begins_any : (byte : ℕ) (b : Bool) → (b ≡ true → IsTag byte) → (IsTag byte → b ≡ true) → byte < 256 → b ≡ is_among byte all_tags
+pub begins_any : (byte : ℕ) (b : Bool) → (b ≡ true → IsTag byte) → (IsTag byte → b ≡ true) → byte < 256
+    → b ≡ is_among byte all_tags
 begins_any byte b f g small = by b (is_tag byte) refl f g ∙ (rw (lt-ltb byte 256 small) refl ∙ sym (among_all byte))
   where
     by : (b c : Bool) → is_tag byte ≡ c → (b ≡ true → IsTag byte) → (IsTag byte → b ≡ true) → b ≡ c
@@ -115,6 +130,7 @@ begins_any byte b f g small = by b (is_tag byte) refl f g ∙ (rw (lt-ltb byte 2
     by false false e f g = refl
 
 -- what was read as an element is the part
-pub any_found : (result : Result (List ℕ) Error) (P : List ℕ → Type 0) → IfOk result (λ any. IsElement any × P any) → IfOk result (λ any. IsSomeAnd (any_of any) P)
+pub any_found : (result : Result (List ℕ) Error) (P : List ℕ → Type 0) → IfOk result (λ any. IsElement any × P any)
+    → IfOk result (λ any. IsSomeAnd (any_of any) P)
 any_found (Err e) P found = tt
 any_found (Ok any) P found = rw (any_there any found.0) found.1

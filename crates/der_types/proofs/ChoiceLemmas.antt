@@ -1,5 +1,6 @@
 -- Which alternative of a CHOICE is next, and parts that are apart.
-use Rattle.std.proofs.Common.{◌≡◌, ◌==◌, ◌++◌, ◌∷◌, [], ◌||◌, ◌&&◌, not, if◌then◌else◌, ℕ, List, Bool, true, false, Option, Some, None, refl, sym, ◌∙◌, ap}
+use Rattle.std.proofs.Common.{◌≡◌, ◌==◌, ◌++◌, ◌∷◌, [], ◌||◌, ◌&&◌, not, if◌then◌else◌, ℕ, List, Bool, true, false}
+use Rattle.std.proofs.Common.{Option, Some, None, refl, sym, ◌∙◌, ap}
 use Rattle.std.proofs.lemmas.Bool.{and_parts, eqb-true}
 use Rattle.sec1_der.specs.Readers.{Reader, reader_over}
 use Rattle.sec1_der.specs.Parts.{Tags, is_among, disjoint, Begins, MayFollow, AreApart}
@@ -16,14 +17,16 @@ among_append tag (x ∷ xs) ys = rw (among_append tag xs ys) (by (tag == x))
     by true = refl
     by false = refl
 
-pub among_either : (tag : ℕ) (xs ys : List ℕ) (next found : Bool) → next ≡ is_among tag xs → next ≡ found → is_among tag (xs ++ ys) ≡ (found || is_among tag ys)
+pub among_either : (tag : ℕ) (xs ys : List ℕ) (next found : Bool) → next ≡ is_among tag xs → next ≡ found
+    → is_among tag (xs ++ ys) ≡ (found || is_among tag ys)
 among_either tag xs ys next found e is = among_append tag xs ys ∙ ap (λ b. b || is_among tag ys) (sym e ∙ is)
 
 or_false : (b c : Bool) → (b || c) ≡ false → (b ≡ false) × (c ≡ false)
 or_false true c e = absurd (cc (e))
 or_false false c e = (refl, e)
 
-not_among : (tag : ℕ) (xs ys : List ℕ) → is_among tag (xs ++ ys) ≡ false → (is_among tag xs ≡ false) × (is_among tag ys ≡ false)
+not_among : (tag : ℕ) (xs ys : List ℕ) → is_among tag (xs ++ ys) ≡ false
+    → (is_among tag xs ≡ false) × (is_among tag ys ≡ false)
 not_among tag xs ys e = or_false (is_among tag xs) (is_among tag ys) (sym (among_append tag xs ys) ∙ e)
 
 -- a tag among the second isn't among the first
@@ -33,7 +36,8 @@ apart_among tag (x ∷ xs) ys d e =
     let parts = and_parts (not (is_among x ys)) (disjoint xs ys) d in
     by (tag == x) refl parts.0 (apart_among tag xs ys parts.1 e)
   where
-    by : (b : Bool) → (tag == x) ≡ b → not (is_among x ys) ≡ true → is_among tag xs ≡ false → (b || is_among tag xs) ≡ false
+    by : (b : Bool) → (tag == x) ≡ b → not (is_among x ys) ≡ true → is_among tag xs ≡ false
+        → (b || is_among tag xs) ≡ false
     by true same other rest = absurd (cc (other, rw (eqb-true tag x same) at e))
     by false differ other rest = rest
 
@@ -43,17 +47,20 @@ follows_both p q [] may = (tt, tt)
 follows_both p q (byte ∷ rest) may = not_among byte p.barred q.barred may
 
 -- what may follow an OPTIONAL part may follow the part, and doesn't begin with one of its tags
-pub follows_optional : (p : Tags) (rest : List ℕ) → MayFollow (optional_tags p) rest → (begins_among p.firsts rest ≡ false) × MayFollow p rest
+pub follows_optional : (p : Tags) (rest : List ℕ) → MayFollow (optional_tags p) rest
+    → (begins_among p.firsts rest ≡ false) × MayFollow p rest
 follows_optional p [] may = (refl, tt)
 follows_optional p (byte ∷ rest) may = not_among byte p.firsts p.barred may
 
 -- one of the tags of a part that isn't empty is next
-pub next_is : (p : Tags) (whole rest : List ℕ) → p.may_be_empty ≡ false → Begins p whole → begins_among p.firsts (whole ++ rest) ≡ true
+pub next_is : (p : Tags) (whole rest : List ℕ) → p.may_be_empty ≡ false → Begins p whole
+    → begins_among p.firsts (whole ++ rest) ≡ true
 next_is p [] rest some begins = absurd (cc (some, begins))
 next_is p (byte ∷ whole) rest some begins = begins
 
 -- no tag of another part is next
-pub next_not : (p q : Tags) (whole rest : List ℕ) → disjoint p.firsts q.firsts ≡ true → q.may_be_empty ≡ false → Begins q whole
+pub next_not : (p q : Tags) (whole rest : List ℕ) → disjoint p.firsts q.firsts ≡ true → q.may_be_empty ≡ false
+    → Begins q whole
     → begins_among p.firsts (whole ++ rest) ≡ false
 next_not p q [] rest d some begins = absurd (cc (some, begins))
 next_not p q (byte ∷ whole) rest d some begins = apart_among byte p.firsts q.firsts d begins
@@ -63,14 +70,16 @@ abbrev pub BeginsWith : {P : Type 0} → Tags → (P → Option (List ℕ)) → 
 BeginsWith {P} tags bytes = (part : P) (whole : List ℕ) → bytes part ≡ Some whole → Begins tags whole
 
 -- the alternatives of a CHOICE that are apart, and may not begin with the same tag
-pub apart_parts : (p q : Tags) → (choice_tags p q).apart ≡ true → (p.apart ≡ true) × (q.apart ≡ true) × (disjoint p.firsts q.firsts ≡ true)
+pub apart_parts : (p q : Tags) → (choice_tags p q).apart ≡ true
+    → (p.apart ≡ true) × (q.apart ≡ true) × (disjoint p.firsts q.firsts ≡ true)
 apart_parts p q apart =
     let parts = and_parts p.apart (q.apart && disjoint p.firsts q.firsts) apart in
     let more = and_parts q.apart (disjoint p.firsts q.firsts) parts.1 in
     (parts.0, more.0, more.1)
 
 -- two parts don't begin with the same tag
-not_both : (p q : Tags) (x y : List ℕ) → disjoint p.firsts q.firsts ≡ true → p.may_be_empty ≡ false → q.may_be_empty ≡ false → (r s : List ℕ) → Begins p x
+not_both : (p q : Tags) (x y : List ℕ) → disjoint p.firsts q.firsts ≡ true → p.may_be_empty ≡ false
+    → q.may_be_empty ≡ false → (r s : List ℕ) → Begins p x
     → Begins q y → x ++ r ≡ y ++ s → ⊥
 not_both p q x y d some more r s begins ends same =
     let is = next_is p x r some begins in
@@ -78,24 +87,30 @@ not_both p q x y d some more r s begins ends same =
     absurd (cc (is, not))
 
 -- the alternatives of a CHOICE are apart
-pub choice_apart : (p q : Tags) {P Q : Type 0} (first : P → Option (List ℕ)) (second : Q → Option (List ℕ)) → p.may_be_empty ≡ false → q.may_be_empty ≡ false
-    → BeginsWith p first → BeginsWith q second → AreApart p first → AreApart q second → AreApart (choice_tags p q) (choice_of first second)
+pub choice_apart : (p q : Tags) {P Q : Type 0} (first : P → Option (List ℕ)) (second : Q → Option (List ℕ))
+    → p.may_be_empty ≡ false → q.may_be_empty ≡ false
+    → BeginsWith p first → BeginsWith q second → AreApart p first → AreApart q second
+    → AreApart (choice_tags p q) (choice_of first second)
 choice_apart p q first second some more begins ends one two (First a) (First b) x y r s apart e f before behind same =
-    let is = one a b x y r s (apart_parts p q apart).0 e f (follows_both p q r before).0 (follows_both p q s behind).0 same in
+    let is = one a b x y r s (apart_parts p q apart).0 e f (follows_both p q r before).0
+    (follows_both p q s behind).0 same in
     (ap (λ v. First v) is.0, is.1)
 choice_apart p q first second some more begins ends one two (First a) (Second b) x y r s apart e f before behind same =
     absurd (not_both p q x y (apart_parts p q apart).2 some more r s (begins a x e) (ends b y f) same)
 choice_apart p q first second some more begins ends one two (Second a) (First b) x y r s apart e f before behind same =
     absurd (not_both p q y x (apart_parts p q apart).2 some more s r (begins b y f) (ends a x e) (sym same))
 choice_apart p q first second some more begins ends one two (Second a) (Second b) x y r s apart e f before behind same =
-    let is = two a b x y r s (apart_parts p q apart).1 e f (follows_both p q r before).1 (follows_both p q s behind).1 same in
+    let is = two a b x y r s (apart_parts p q apart).1 e f (follows_both p q r before).1
+    (follows_both p q s behind).1 same in
     (ap (λ v. Second v) is.0, is.1)
 
-not_present : (p : Tags) (x r : List ℕ) → p.may_be_empty ≡ false → Begins p x → begins_among p.firsts (x ++ r) ≡ false → ⊥
+not_present : (p : Tags) (x r : List ℕ) → p.may_be_empty ≡ false → Begins p x
+    → begins_among p.firsts (x ++ r) ≡ false → ⊥
 not_present p x r some begins none = absurd (cc (none, next_is p x r some begins))
 
 -- an OPTIONAL part is apart from what may follow it
-pub optional_part_apart : (p : Tags) {P : Type 0} (bytes : P → Option (List ℕ)) → p.may_be_empty ≡ false → BeginsWith p bytes → AreApart p bytes
+pub optional_part_apart : (p : Tags) {P : Type 0} (bytes : P → Option (List ℕ)) → p.may_be_empty ≡ false
+    → BeginsWith p bytes → AreApart p bytes
     → AreApart (optional_tags p) (optional_bytes bytes)
 optional_part_apart p bytes some begins one None None x y r s apart e f before behind same =
     let front : x ≡ [] = cc (e) in
@@ -120,7 +135,8 @@ pub record IsNext {P : Type 0} (tags : Tags) (bytes : P → Option (List ℕ)) (
 
 -- what a reader that hasn't failed found to be next
 pub next_found : (tags : Tags) (old : Reader) (bytes : List ℕ) (absent found : Bool)
-    → absent ≡ (if old.failed then false else not (begins_among tags.firsts old.unread)) → absent ≡ found → old ≡ reader_over bytes
+    → absent ≡ (if old.failed then false else not (begins_among tags.firsts old.unread)) → absent ≡ found
+    → old ≡ reader_over bytes
     → begins_among tags.firsts bytes ≡ not found
 next_found tags old bytes absent found e same is = flip (begins_among tags.firsts bytes) found (sym same ∙ rw is at e)
   where
@@ -129,8 +145,10 @@ next_found tags old bytes absent found e same is = flip (begins_among tags.first
     flip false c e = rw e refl
 
 -- if a tag of the first alternative is next, that is the one
-pub first_next : (p q : Tags) {P Q : Type 0} (first : P → Option (List ℕ)) (second : Q → Option (List ℕ)) → q.may_be_empty ≡ false → BeginsWith q second
-    → (part : Choice P Q) (whole rest : List ℕ) → (choice_tags p q).apart ≡ true → choice_of first second part ≡ Some whole → MayFollow (choice_tags p q) rest
+pub first_next : (p q : Tags) {P Q : Type 0} (first : P → Option (List ℕ)) (second : Q → Option (List ℕ))
+    → q.may_be_empty ≡ false → BeginsWith q second
+    → (part : Choice P Q) (whole rest : List ℕ) → (choice_tags p q).apart ≡ true
+    → choice_of first second part ≡ Some whole → MayFollow (choice_tags p q) rest
     → begins_among p.firsts (whole ++ rest) ≡ true → IsNext p first whole rest
 first_next p q first second more ends (First part) whole rest apart same may next =
     record { part = part; apart = (apart_parts p q apart).0; same = same; may = (follows_both p q rest may).0 }
@@ -138,8 +156,10 @@ first_next p q first second more ends (Second part) whole rest apart same may ne
     absurd (cc (next, next_not p q whole rest (apart_parts p q apart).2 more (ends part whole same)))
 
 -- if none is next, it is the second
-pub second_next : (p q : Tags) {P Q : Type 0} (first : P → Option (List ℕ)) (second : Q → Option (List ℕ)) → p.may_be_empty ≡ false → BeginsWith p first
-    → (part : Choice P Q) (whole rest : List ℕ) → (choice_tags p q).apart ≡ true → choice_of first second part ≡ Some whole → MayFollow (choice_tags p q) rest
+pub second_next : (p q : Tags) {P Q : Type 0} (first : P → Option (List ℕ)) (second : Q → Option (List ℕ))
+    → p.may_be_empty ≡ false → BeginsWith p first
+    → (part : Choice P Q) (whole rest : List ℕ) → (choice_tags p q).apart ≡ true
+    → choice_of first second part ≡ Some whole → MayFollow (choice_tags p q) rest
     → begins_among p.firsts (whole ++ rest) ≡ false → IsNext q second whole rest
 second_next p q first second some begins (First part) whole rest apart same may next =
     absurd (not_present p whole rest some (begins part whole same) next)
@@ -147,15 +167,19 @@ second_next p q first second some begins (Second part) whole rest apart same may
     record { part = part; apart = (apart_parts p q apart).1; same = same; may = (follows_both p q rest may).1 }
 
 -- if a tag of an OPTIONAL part is next, it is present
-pub present_next : (p : Tags) {P : Type 0} (bytes : P → Option (List ℕ)) (part : Option P) (whole rest : List ℕ) → p.apart ≡ true
-    → optional_bytes bytes part ≡ Some whole → MayFollow (optional_tags p) rest → begins_among p.firsts (whole ++ rest) ≡ true → IsNext p bytes whole rest
+pub present_next : (p : Tags) {P : Type 0} (bytes : P → Option (List ℕ)) (part : Option P) (whole rest : List ℕ)
+    → p.apart ≡ true
+    → optional_bytes bytes part ≡ Some whole → MayFollow (optional_tags p) rest
+    → begins_among p.firsts (whole ++ rest) ≡ true → IsNext p bytes whole rest
 present_next p bytes None whole rest apart same may next =
     let none : whole ≡ [] = cc (same) in absurd (cc (rw none at next, (follows_optional p rest may).0))
 present_next p bytes (Some part) whole rest apart same may next =
     record { part = part; apart = apart; same = same; may = (follows_optional p rest may).1 }
 
 -- if none is next, it is absent
-pub absent_next : (p : Tags) {P : Type 0} (bytes : P → Option (List ℕ)) → p.may_be_empty ≡ false → BeginsWith p bytes → (part : Option P) (whole rest : List ℕ)
+pub absent_next : (p : Tags) {P : Type 0} (bytes : P → Option (List ℕ)) → p.may_be_empty ≡ false → BeginsWith p bytes
+    → (part : Option P) (whole rest : List ℕ)
     → optional_bytes bytes part ≡ Some whole → begins_among p.firsts (whole ++ rest) ≡ false → whole ≡ []
 absent_next p bytes some begins None whole rest same next = cc (same)
-absent_next p bytes some begins (Some part) whole rest same next = absurd (not_present p whole rest some (begins part whole same) next)
+absent_next p bytes some begins (Some part) whole rest same next =
+    absurd (not_present p whole rest some (begins part whole same) next)

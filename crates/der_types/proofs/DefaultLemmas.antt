@@ -1,5 +1,6 @@
 -- Components with a default value.
-use Rattle.std.proofs.Common.{◌≡◌, [], ℕ, List, Bool, true, false, Option, Some, None, if◌then◌else◌, refl, sym, ◌∙◌, arith, append-nil}
+use Rattle.std.proofs.Common.{◌≡◌, [], ℕ, List, Bool, true, false, Option, Some, None, if◌then◌else◌, refl, sym, ◌∙◌}
+use Rattle.std.proofs.Common.{arith, append-nil}
 use Rattle.std.proofs.Math.Seq.{take-append_seam}
 use Rattle.std.proofs.lemmas.Slice.Eq.{bytes_eq-Decides}
 use Rattle.std.specs.Option.{option_map}
@@ -10,7 +11,8 @@ use Rattle.sec1_der.specs.Parts.{AreApart, optional_tag, optional_of}
 use Rattle.der_types.specs.Defaults.{is_default, defaulted_of, other_content}
 
 -- the default value is tested as such
-pub default_passes : (d : List ℕ) {A : Type 0} (content : A → Option (List ℕ)) (default value : A) → content default ≡ Some d → value ≡ default
+pub default_passes : (d : List ℕ) {A : Type 0} (content : A → Option (List ℕ)) (default value : A)
+    → content default ≡ Some d → value ≡ default
     → is_default d (content value) ≡ true
 default_passes d content default value has same = rw (same, has) ((bytes_eq-Decides d d).1 refl)
 
@@ -20,7 +22,8 @@ has_default d None e = absurd (cc (e))
 has_default d (Some bytes) e = rw ((bytes_eq-Decides bytes d).0 e) refl
 
 -- the default value has no bytes
-pub default_empty : (tag : ℕ) (d : List ℕ) {A : Type 0} (content : A → Option (List ℕ)) (default value : A) → content default ≡ Some d → value ≡ default
+pub default_empty : (tag : ℕ) (d : List ℕ) {A : Type 0} (content : A → Option (List ℕ)) (default value : A)
+    → content default ≡ Some d → value ≡ default
     → defaulted_of tag d (content value) ≡ Some []
 default_empty tag d content default value has same = rw (default_passes d content default value has same) refl
 
@@ -30,20 +33,24 @@ unless_default d content value = if is_default d (content value) then None else 
 
 -- a component has the bytes of an optional one that isn't the default
 pub as_optional : (tag : ℕ) (d : List ℕ) {A : Type 0} (content : A → Option (List ℕ)) (value : A)
-    → optional_of tag (option_map (λ a. other_content d (content a)) (unless_default d content value)) ≡ defaulted_of tag d (content value)
+    → optional_of tag (option_map (λ a. other_content d (content a)) (unless_default d content value))
+    ≡ defaulted_of tag d (content value)
 as_optional tag d content value = by (is_default d (content value)) refl
   where
     by : (b : Bool) → is_default d (content value) ≡ b
-        → optional_of tag (option_map (λ a. other_content d (content a)) (if b then None else Some value)) ≡ (if b then Some [] else element_of tag (content value))
+        → optional_of tag (option_map (λ a. other_content d (content a)) (if b then None else Some value))
+        ≡ (if b then Some [] else element_of tag (content value))
     by true e = refl
     by false e = rw e refl
 
 -- an element that isn't that of the default is the component
-pub from_optional : (tag : ℕ) (d : List ℕ) (content : Option (List ℕ)) (whole : List ℕ) → element_of tag (other_content d content) ≡ Some whole
+pub from_optional : (tag : ℕ) (d : List ℕ) (content : Option (List ℕ)) (whole : List ℕ)
+    → element_of tag (other_content d content) ≡ Some whole
     → defaulted_of tag d content ≡ Some whole
 from_optional tag d content whole e = by (is_default d content) e
   where
-    by : (b : Bool) → element_of tag (if b then None else content) ≡ Some whole → (if b then Some [] else element_of tag content) ≡ Some whole
+    by : (b : Bool) → element_of tag (if b then None else content) ≡ Some whole
+        → (if b then Some [] else element_of tag content) ≡ Some whole
     by true e = absurd (cc (e))
     by false e = e
 
@@ -53,11 +60,13 @@ pub defaulted_apart : (tag : ℕ) (d : List ℕ) {A : Type 0} (content : A → O
     → AreApart (optional_tag tag) (λ (o : Option A). optional_of tag (option_map (λ a. other_content d (content a)) o))
     → AreApart (optional_tag tag) (λ (a : A). defaulted_of tag d (content a))
 defaulted_apart tag d content one two a b x y r s apart e f before behind same =
-    let is = two (unless_default d content a) (unless_default d content b) x y r s apart (as_optional tag d content a ∙ e) (as_optional tag d content b ∙ f)
+    let is = two (unless_default d content a) (unless_default d content b) x y r s apart
+    (as_optional tag d content a ∙ e) (as_optional tag d content b ∙ f)
     before behind same in
     (by (is_default d (content a)) (is_default d (content b)) refl refl is.0, is.1)
   where
-    by : (p q : Bool) → is_default d (content a) ≡ p → is_default d (content b) ≡ q → (if p then None else Some a) ≡ (if q then None else Some b) → a ≡ b
+    by : (p q : Bool) → is_default d (content a) ≡ p → is_default d (content b) ≡ q
+        → (if p then None else Some a) ≡ (if q then None else Some b) → a ≡ b
     by true true e f same = one a b d (has_default d (content a) e) (has_default d (content b) f)
     by true false e f same = absurd (cc (same))
     by false true e f same = absurd (cc (same))
@@ -65,4 +74,10 @@ defaulted_apart tag d content one two a b x y r s apart e f before behind same =
 
 -- a writer that wrote nothing
 pub puts_nothing : (writer : BackWriter) → PutsInFront writer writer []
-puts_nothing writer = record { written = refl; front = omega arith; unchanged = sym (rw append-nil at (take-append_seam (front_of writer) [])) }
+puts_nothing writer =
+    record {
+      written = refl;
+      front = omega arith;
+      unchanged =
+          sym (rw append-nil at (take-append_seam (front_of writer) []));
+    }

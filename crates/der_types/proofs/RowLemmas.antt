@@ -1,5 +1,6 @@
 -- Elements that are read one after another.
-use Rattle.std.proofs.Common.{◌≡◌, Result, Ok, Err, ℕ, zero, suc, ◌<◌, ◌≤◌, false, List, [], ◌∷◌, ◌++◌, length, Option, Some, None, IsSomeAnd, IfOk, refl, ap, sym, ◌∙◌, arith, length-append, length-drop}
+use Rattle.std.proofs.Common.{◌≡◌, Result, Ok, Err, ℕ, zero, suc, ◌<◌, ◌≤◌, false, List, [], ◌∷◌, ◌++◌, length, Option}
+use Rattle.std.proofs.Common.{Some, None, IsSomeAnd, IfOk, refl, ap, sym, ◌∙◌, arith, length-append, length-drop}
 use Rattle.std.proofs.lemmas.List.{length-take}
 use Rattle.sec1_der.specs.Elements.{max_length, element, element_of}
 use Rattle.sec1_der.specs.Readers.{Reader, reader_over, HasReadElement}
@@ -7,10 +8,10 @@ use Rattle.sec1_der.specs.Refusals.{Fault, HasFault, no_fault, element_fault}
 use Rattle.sec1_der.specs.declared.error.Error.{Error}
 use Rattle.sec1_der.specs.declared.error.ErrorKind.{ErrorKind}
 use Rattle.der_types.specs.Rows.{joined, elements_fault, row_fault}
-use Rattle.sec1_der.proofs.PartLemmas.{refused_more}
-use Rattle.sec1_der.proofs.RefusalLemmas.{reads_on, reader_at}
-use Rattle.sec1_der.proofs.ComponentLemmas.{parted}
-use Rattle.sec1_der.proofs.ElementLemmas.{element_of-some, element_of-within}
+use Rattle.sec1_der.specs.RefusalLaws.{refused_more}
+use Rattle.sec1_der.specs.RefusalLaws.{reads_on, reader_at}
+use Rattle.sec1_der.specs.PartLaws.{parted}
+use Rattle.sec1_der.specs.ElementLaws.{element_of-some, element_of-within}
 
 -- the reader stands before some of the elements: the fault of all of them is that of these
 pub record IsRowRest (tag : ℕ) (f : Fault) (start : List ℕ) (now : Reader) : Type 0 where
@@ -19,7 +20,8 @@ pub record IsRowRest (tag : ℕ) (f : Fault) (start : List ℕ) (now : Reader) :
   pub whole : now.failed ≡ false
   pub same : row_fault tag f start ≡ elements_fault tag f most now.unread
 
-pub row_begins : (tag : ℕ) (f : Fault) (start : List ℕ) (now : Reader) → now ≡ reader_over start → IsRowRest tag f start now
+pub row_begins : (tag : ℕ) (f : Fault) (start : List ℕ) (now : Reader) → now ≡ reader_over start
+    → IsRowRest tag f start now
 row_begins tag f start now is =
     let unread : now.unread ≡ start = ap (λ (r : Reader). r.unread) is in
     record {
@@ -36,24 +38,28 @@ one_more tag f most [] some = absurd (omega arith)
 one_more tag f most (byte ∷ bytes) some = refl
 
 -- an element that was read has some bytes
-shorter : (tag : ℕ) (inside : List ℕ) (old new : Reader) → HasReadElement tag inside old new → length new.unread < length old.unread
+shorter : (tag : ℕ) (inside : List ℕ) (old new : Reader) → HasReadElement tag inside old new
+    → length new.unread < length old.unread
 shorter tag inside old new h =
     let whole = ap (λ (r : Reader). length r.unread) h.read.was_whole in
     omega (arith, whole, length-append (element tag inside) new.unread)
 
 -- the content of an element that was read
-shorter_read : (tag : ℕ) (content : Option (List ℕ)) (P : List ℕ → Type 0) (old new : Reader) → IsSomeAnd content (λ inside. P inside × HasReadElement tag inside old new)
+shorter_read : (tag : ℕ) (content : Option (List ℕ)) (P : List ℕ → Type 0) (old new : Reader)
+    → IsSomeAnd content (λ inside. P inside × HasReadElement tag inside old new)
     → length new.unread < length old.unread
 shorter_read tag None P old new found = absurd found
 shorter_read tag (Some inside) P old new found = shorter tag inside old new found.1
 
 -- the reader stands behind one more element
-pub row_goes_on : (tag : ℕ) (f : Fault) (start : List ℕ) (content : Option (List ℕ)) (P : List ℕ → Type 0) (old new : Reader) → IsRowRest tag f start old
+pub row_goes_on : (tag : ℕ) (f : Fault) (start : List ℕ) (content : Option (List ℕ)) (P : List ℕ → Type 0)
+    (old new : Reader) → IsRowRest tag f start old
     → 0 < length old.unread → IsSomeAnd content (λ inside. P inside × HasReadElement tag inside old new)
     → element_fault tag f no_fault old.unread ≡ None → IsRowRest tag f start new
 row_goes_on tag f start content P old new at some found none = by at.most at.room at.same
   where
-    by : (most : ℕ) → length old.unread ≤ most → row_fault tag f start ≡ elements_fault tag f most old.unread → IsRowRest tag f start new
+    by : (most : ℕ) → length old.unread ≤ most → row_fault tag f start ≡ elements_fault tag f most old.unread
+        → IsRowRest tag f start new
     by zero room same = absurd (omega arith)
     by (suc most) room same =
         let on = reads_on f tag content P old new found none in
@@ -64,15 +70,19 @@ row_goes_on tag f start content P old new at some found none = by at.most at.roo
           same = same ∙ (one_more tag f most old.unread some ∙ on.next (elements_fault tag f most));
         }
 
-pub row_refused : (tag : ℕ) (f : Fault) (start : List ℕ) (old : Reader) (k : ErrorKind) → IsRowRest tag f start old → 0 < length old.unread
+pub row_refused : (tag : ℕ) (f : Fault) (start : List ℕ) (old : Reader) (k : ErrorKind) → IsRowRest tag f start old
+    → 0 < length old.unread
     → element_fault tag f no_fault old.unread ≡ Some k → row_fault tag f start ≡ Some k
 row_refused tag f start old k at some e = by at.most at.room at.same
   where
-    by : (most : ℕ) → length old.unread ≤ most → row_fault tag f start ≡ elements_fault tag f most old.unread → row_fault tag f start ≡ Some k
+    by : (most : ℕ) → length old.unread ≤ most → row_fault tag f start ≡ elements_fault tag f most old.unread
+        → row_fault tag f start ≡ Some k
     by zero room same = absurd (omega arith)
-    by (suc most) room same = same ∙ (one_more tag f most old.unread some ∙ refused_more f (elements_fault tag f most) tag old.unread k e)
+    by (suc most) room same =
+        same ∙ (one_more tag f most old.unread some ∙ refused_more f (elements_fault tag f most) tag old.unread k e)
 
-pub row_ends : (tag : ℕ) (f : Fault) (start : List ℕ) (old : Reader) → IsRowRest tag f start old → length old.unread ≤ 0 → row_fault tag f start ≡ None
+pub row_ends : (tag : ℕ) (f : Fault) (start : List ℕ) (old : Reader) → IsRowRest tag f start old → length old.unread ≤ 0
+    → row_fault tag f start ≡ None
 row_ends tag f start old at none = at.same ∙ by at.most old.unread none
   where
     by : (most : ℕ) (bytes : List ℕ) → length bytes ≤ 0 → elements_fault tag f most bytes ≡ None
@@ -92,24 +102,28 @@ pub record AreValues {A : Type 0} (tag : ℕ) (content : A → Option (List ℕ)
   pub only : HasValues tag content start → HasValues tag content left
 
 -- at first all of them are left
-pub values_begin : (tag : ℕ) {A : Type 0} (content : A → Option (List ℕ)) (start : List ℕ) (now : Reader) → now ≡ reader_over start
+pub values_begin : (tag : ℕ) {A : Type 0} (content : A → Option (List ℕ)) (start : List ℕ) (now : Reader)
+    → now ≡ reader_over start
     → AreValues tag content start now.unread
 values_begin tag content start now is =
     let unread : now.unread ≡ start = ap (λ (r : Reader). r.unread) is in
     record { found = λ left. rw (← unread) left; only = λ whole. rw unread whole }
 
 -- where none are left, they are those of values
-pub values_end : (tag : ℕ) {A : Type 0} (content : A → Option (List ℕ)) (start left : List ℕ) → AreValues tag content start left → length left ≤ 0
+pub values_end : (tag : ℕ) {A : Type 0} (content : A → Option (List ℕ)) (start left : List ℕ)
+    → AreValues tag content start left → length left ≤ 0
     → HasValues tag content start
 values_end tag content start [] at none = at.found ([], refl)
 values_end tag content start (byte ∷ left) at none = absurd (omega arith)
 
 -- the value that was read, in front of those that are left
 value_read : (tag : ℕ) {A : Type 0} (content : A → Option (List ℕ)) (P : List ℕ → Type 0) (value : A) (old new : Reader)
-    → IsSomeAnd (content value) (λ inside. P inside × HasReadElement tag inside old new) → HasValues tag content new.unread → HasValues tag content old.unread
+    → IsSomeAnd (content value) (λ inside. P inside × HasReadElement tag inside old new)
+    → HasValues tag content new.unread → HasValues tag content old.unread
 value_read tag content P value old new found left = (value ∷ left.0, by (content value) refl found)
   where
-    by : (c : Option (List ℕ)) → content value ≡ c → IsSomeAnd c (λ inside. P inside × HasReadElement tag inside old new)
+    by : (c : Option (List ℕ)) → content value ≡ c
+        → IsSomeAnd c (λ inside. P inside × HasReadElement tag inside old new)
         → joined tag content (value ∷ left.0) ≡ Some old.unread
     by None e found = absurd found
     by (Some inside) e found =
@@ -126,7 +140,8 @@ pub record FirstValue {A : Type 0} (tag : ℕ) (content : A → Option (List ℕ
   pub split : bytes ≡ element tag inside ++ left
   pub behind : HasValues tag content left
 
-pub first_value : (tag : ℕ) {A : Type 0} (content : A → Option (List ℕ)) (bytes : List ℕ) → 0 < length bytes → HasValues tag content bytes → FirstValue tag content bytes
+pub first_value : (tag : ℕ) {A : Type 0} (content : A → Option (List ℕ)) (bytes : List ℕ) → 0 < length bytes
+    → HasValues tag content bytes → FirstValue tag content bytes
 first_value tag content bytes some ([], e) = let none : [] ≡ bytes = cc (e) in absurd (omega (arith, ap length none))
 first_value tag content bytes some (value ∷ values, e) =
     let all = parted (element_of tag (content value)) (joined tag content values) bytes e in
@@ -142,10 +157,12 @@ first_value tag content bytes some (value ∷ values, e) =
     }
 
 -- the reader that read the first of them stands before the others
-pub values_read : (tag : ℕ) {A : Type 0} (content : A → Option (List ℕ)) (P : List ℕ → Type 0) (start : List ℕ) (value : A) (old new : Reader)
+pub values_read : (tag : ℕ) {A : Type 0} (content : A → Option (List ℕ)) (P : List ℕ → Type 0) (start : List ℕ)
+    (value : A) (old new : Reader)
     → AreValues tag content start old.unread → 0 < length old.unread → old.failed ≡ false
     → IsSomeAnd (content value) (λ inside. P inside × HasReadElement tag inside old new)
-    → ((a : A) (inside left : List ℕ) → content a ≡ Some inside → length inside ≤ max_length → old ≡ reader_over (element tag inside ++ left) → new ≡ reader_over left)
+    → ((a : A) (inside left : List ℕ) → content a ≡ Some inside → length inside ≤ max_length
+    → old ≡ reader_over (element tag inside ++ left) → new ≡ reader_over left)
     → AreValues tag content start new.unread
 values_read tag content P start value old new at some whole found read = record {
   found = λ left. at.found (value_read tag content P value old new found left);
@@ -158,18 +175,21 @@ values_read tag content P start value old new at some whole found read = record 
 -- if values are left, the first of them is read
 pub value_there : (tag : ℕ) {A : Type 0} (content : A → Option (List ℕ)) (start : List ℕ) (old : Reader) (C : Type 0)
     → AreValues tag content start old.unread → 0 < length old.unread → old.failed ≡ false → HasValues tag content start
-    → ((a : A) (inside left : List ℕ) → content a ≡ Some inside → length inside ≤ max_length → old ≡ reader_over (element tag inside ++ left) → C) → C
+    → ((a : A) (inside left : List ℕ) → content a ≡ Some inside → length inside ≤ max_length
+    → old ≡ reader_over (element tag inside ++ left) → C) → C
 value_there tag content start old C at some whole all read =
     let first = first_value tag content old.unread some (at.only all) in
     read first.value first.inside first.left first.same first.within (reader_at old _ first.split whole)
 
 -- two faults of an element are the same if they agree on fewer bytes after it
-behind_alike : (f g h : Fault) (tag byte : ℕ) (bytes : List ℕ) → ((behind : List ℕ) → length behind ≤ length bytes → g behind ≡ h behind)
+behind_alike : (f g h : Fault) (tag byte : ℕ) (bytes : List ℕ)
+    → ((behind : List ℕ) → length behind ≤ length bytes → g behind ≡ h behind)
     → element_fault tag f g (byte ∷ bytes) ≡ element_fault tag f h (byte ∷ bytes)
 behind_alike f g h tag byte bytes alike = grind (arith, length-take {A = ℕ}, length-drop {A = ℕ})
 
 -- the fault of elements is the same by any bound on their number
-elements_bound : (tag : ℕ) (f : Fault) (m n : ℕ) (bytes : List ℕ) → length bytes ≤ m → length bytes ≤ n → elements_fault tag f m bytes ≡ elements_fault tag f n bytes
+elements_bound : (tag : ℕ) (f : Fault) (m n : ℕ) (bytes : List ℕ) → length bytes ≤ m → length bytes ≤ n
+    → elements_fault tag f m bytes ≡ elements_fault tag f n bytes
 elements_bound tag f zero zero [] l r = refl
 elements_bound tag f zero (suc n) [] l r = refl
 elements_bound tag f (suc m) zero [] l r = refl
@@ -180,16 +200,20 @@ elements_bound tag f (suc m) (suc n) (byte ∷ bytes) l r =
     behind_alike f _ _ tag byte bytes (λ behind few. elements_bound tag f m n behind (omega arith) (omega arith))
 
 -- the fault of elements is that of the first, and then that of the others
-row_first : (tag : ℕ) (f : Fault) (bytes : List ℕ) → 0 < length bytes → row_fault tag f bytes ≡ element_fault tag f (row_fault tag f) bytes
+row_first : (tag : ℕ) (f : Fault) (bytes : List ℕ) → 0 < length bytes
+    → row_fault tag f bytes ≡ element_fault tag f (row_fault tag f) bytes
 row_first tag f [] some = absurd (omega arith)
 row_first tag f (byte ∷ bytes) some =
-    behind_alike f _ _ tag byte bytes (λ behind few. elements_bound tag f (length bytes) (length behind) behind few (omega arith))
+    behind_alike f _ _ tag byte bytes
+    (λ behind few. elements_bound tag f (length bytes) (length behind) behind few (omega arith))
 
 -- an element that is read from elements is there, and what is left is elements
-pub elements_left : (tag : ℕ) (f : Fault) {A : Type 0} (content : A → Option (List ℕ)) (P : List ℕ → Type 0) (result : Result A Error) (old new : Reader)
+pub elements_left : (tag : ℕ) (f : Fault) {A : Type 0} (content : A → Option (List ℕ)) (P : List ℕ → Type 0)
+    (result : Result A Error) (old new : Reader)
     → row_fault tag f old.unread ≡ None → 0 < length old.unread
     → IfOk result (λ value. IsSomeAnd (content value) (λ inside. P inside × HasReadElement tag inside old new))
-    → HasFault result (element_fault tag f no_fault old.unread) → (new.failed ≡ false) × (row_fault tag f new.unread ≡ None)
+    → HasFault result (element_fault tag f no_fault old.unread)
+    → (new.failed ≡ false) × (row_fault tag f new.unread ≡ None)
 elements_left tag f content P (Ok value) old new whole some found kind =
     let on = reads_on f tag (content value) P old new found kind in
     (on.whole, sym (on.next (row_fault tag f)) ∙ (sym (row_first tag f old.unread some) ∙ whole))

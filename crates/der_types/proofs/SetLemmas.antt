@@ -3,7 +3,6 @@ use Rattle.std.proofs.Common.{◌≡◌, ◌&&◌, Result, Ok, Err, ℕ, zero, s
 use Rattle.std.proofs.Common.{◌++◌, length, Some, None, if◌then◌else◌, Ordering, Less, Equal, Greater}
 use Rattle.std.proofs.Common.{refl, ap, sym, ◌∙◌, arith, length-append, append_assoc, le-leb}
 use Rattle.std.proofs.Math.Seq.{take-append_seam, drop-append_seam}
-use Rattle.std.proofs.lemmas.Slice.Eq.{bytes_eq-Decides}
 use Rattle.std.specs.Cmp.Lexicographic.{slice_cmp, slice_partial_cmp, lists_agrees}
 use Rattle.std.specs.Ordering.{is_le, is_gt, is_some_and, nat_cmp}
 use Rattle.sec1_der.specs.Elements.{max_length, length_octets, element, IsHeader}
@@ -12,8 +11,8 @@ use Rattle.sec1_der.specs.Readers.{Reader, HasRead}
 use Rattle.sec1_der.specs.Refusals.{no_fault, any_fault, parts_fault, within, length_at}
 use Rattle.sec1_der.specs.declared.error.ErrorKind.{ErrorKind}
 use Rattle.sec1_der.specs.declared.error.ErrorKind.TheVariants.{Tag}
-use Rattle.sec1_der.proofs.HeaderLemmas.{is_tag-true}
-use Rattle.sec1_der.proofs.LengthLemmas.{number_spelled}
+use Rattle.sec1_der.specs.ElementLaws.{is_tag-true}
+use Rattle.sec1_der.specs.RefusalLaws.{length_at_spelled}
 use Rattle.der_types.specs.Sets.{element_behind, first_element, is_at_most, ascends, is_ascending}
 
 -- the length that bytes begin with, and the content behind it, are found
@@ -22,12 +21,8 @@ parts_found : (tag : ℕ) (content rest : List ℕ) → length content ≤ max_l
     ≡ Some (element tag content, rest)
 parts_found tag content rest fits =
     let n = length content in
-    let octets = length_octets n in
-    let both = content ++ rest in
-    let same = (bytes_eq-Decides _ octets).1 (take-append_seam octets both) in
-    let room = le-leb n (length both) (omega (arith, length-append content rest)) in
-    let number = number_spelled n both in
-    rw (append_assoc octets content rest, number, le-leb n max_length fits, same, drop-append_seam octets both, room)
+    let room = le-leb n (length (content ++ rest)) (omega (arith, length-append content rest)) in
+    rw (append_assoc (length_octets n) content rest, length_at_spelled n (content ++ rest) fits, room)
     (rw (take-append_seam content rest, drop-append_seam content rest) refl)
 
 -- the element that bytes begin with is found

@@ -4,7 +4,7 @@ use Rattle.std.proofs.Common.{List, [], ◌∷◌, length, take, drop, get_or, s
 use Rattle.std.proofs.lemmas.Bool.Decides.{nat_tests}
 use Rattle.std.proofs.lemmas.Int.Digits.{first_digits_of}
 use Rattle.std.specs.Int.Digits.{digits_of, number_from_digits_after}
-use Rattle.sec1_der.proofs.DigitLemmas.{IsBytes, IsBytes-below}
+use Rattle.sec1_der.specs.DigitLaws.{IsBytes, IsBytes-below}
 use Rattle.sec1_der.specs.Numbers.{number_of}
 use Rattle.der_types.specs.Integers.{is_unsigned, unsigned_content, with_sign}
 use Rattle.der_types.specs.IntegerLaws.{is_unsigned-unsigned_content, number_of-unsigned_content}

@@ -1,5 +1,6 @@
 -- X.690 section 8.1.1: one element of any tag.
-use Rattle.std.specs.Prelude.{◌&&◌, ℕ, zero, suc, nat_lt, nat_le, List, [], ◌∷◌, length, drop, get_or, Bool, true, false, Option, Some, None, if◌then◌else◌}
+use Rattle.std.specs.Prelude.{◌&&◌, ℕ, zero, suc, nat_lt, nat_le, List, [], ◌∷◌, length, drop}
+use Rattle.std.specs.Prelude.{get_or, Bool, true, false, Option, Some, None, if◌then◌else◌}
 use Rattle.std.specs.Str.{bytes_eq}
 use Rattle.sec1_der.specs.Elements.{max_length, length_octets, element}
 use Rattle.sec1_der.specs.Faults.{is_tag}
@@ -35,7 +36,8 @@ content_in bytes = drop (length (length_octets (number_at (drop 1 bytes)))) (dro
 unfoldable pub is_element : List ℕ → Bool
 is_element bytes =
     is_tag_byte (first_byte bytes)
-    && (nat_le (length (content_in bytes)) max_length && bytes_eq (element (first_byte bytes) (content_in bytes)) bytes)
+    && (nat_le (length (content_in bytes)) max_length
+    && bytes_eq (element (first_byte bytes) (content_in bytes)) bytes)
 
 -- the bytes, if they are those of an element
 abbrev pub any_of : List ℕ → Option (List ℕ)

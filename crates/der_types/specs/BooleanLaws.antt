@@ -10,7 +10,8 @@ is_boolean-boolean_content true = refl
 is_boolean-boolean_content false = refl
 
 -- bytes that pass the test are the content of a value
-pub boolean_content-of : (bytes : List ℕ) → is_boolean bytes ≡ true → (value : Bool) × (boolean_content value ≡ bytes)
+pub boolean_content-of : (bytes : List ℕ) → is_boolean bytes ≡ true
+    → (value : Bool) × (boolean_content value ≡ bytes)
 boolean_content-of [] passes = absurd (cc passes)
 boolean_content-of (byte ∷ []) passes = grind (arith, nat_tests)
 boolean_content-of (first ∷ second ∷ bytes) passes = absurd (cc passes)
@@ -23,4 +24,5 @@ boolean_content-injective false true same = absurd (cc same)
 boolean_content-injective false false same = refl
 
 -- what the laws of the crate cite
-pub ruleset boolean_laws = (is_boolean-boolean_content, boolean_content-of, boolean_content-injective)
+pub ruleset boolean_laws =
+    (is_boolean-boolean_content, boolean_content-of, boolean_content-injective)

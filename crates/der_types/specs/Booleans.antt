@@ -1,7 +1,8 @@
 -- The contents of a BOOLEAN.
 use Rattle.std.specs.Prelude.{◌==◌, ℕ, Bool, true, false, ◌||◌, List, [], ◌∷◌}
 
--- X.690 sections 8.2.2 and 11.1: the one byte 00 is FALSE, and FF, all of whose bits are ones, is TRUE.
+-- X.690 sections 8.2.2 and 11.1: the one byte 00 is FALSE, and FF, all of whose bits are ones, is
+-- TRUE.
 abbrev pub boolean_content : Bool → List ℕ
 boolean_content false = 0x00 ∷ []
 boolean_content true = 0xFF ∷ []

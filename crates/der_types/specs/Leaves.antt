@@ -14,4 +14,6 @@ passes-content_if passes bytes content same = grind arith
 -- bytes that are a content which passes the test pass it
 pub passes-same : (passes : List ℕ → Bool) (content bytes : List ℕ)
     → passes content ≡ true → Some content ≡ Some bytes → passes bytes ≡ true
-passes-same passes content bytes passed same = let bytes_are : content ≡ bytes = cc in rw (← bytes_are) passed
+passes-same passes content bytes passed same =
+    let bytes_are : content ≡ bytes = cc in
+    rw (← bytes_are) passed

@@ -1,6 +1,6 @@
 -- The contents of an OBJECT IDENTIFIER and the arcs determine each other.
-use Rattle.std.specs.Prelude.{◌≡◌, ◌==◌, ℕ, zero, suc, ◌+◌, ◌*◌, ◌/◌, ◌%◌, ◌<◌, ◌≤◌, true, List, [], ◌∷◌, ◌++◌}
-use Rattle.std.specs.Prelude.{flat_map, refl}
+use Rattle.std.specs.Prelude.{◌≡◌, ◌==◌, ℕ, zero, suc, ◌+◌, ◌*◌, ◌/◌, ◌%◌, ◌<◌, ◌≤◌, true, List, []}
+use Rattle.std.specs.Prelude.{◌∷◌, ◌++◌, flat_map, refl}
 use Rattle.std.proofs.Common.{arith, ap, length}
 use Rattle.std.proofs.lemmas.Bool.Decides.{nat_tests}
 use Rattle.std.proofs.lemmas.List.{append_assoc, length-append, map-append}
@@ -9,14 +9,16 @@ use Rattle.std.specs.Int.Digits.{digits_of, AllBelowBase}
 use Rattle.sec1_der.specs.Numbers.{base128, marked}
 use Rattle.sec1_der.specs.Identifiers.{content_of}
 use Rattle.sec1_der.specs.ArcsOf.{numbers_after, arcs_of_numbers, arcs_of}
-use Rattle.sec1_der.proofs.DigitLemmas.{digits_of-push}
-use Rattle.sec1_der.proofs.IdentifierLemmas.{marked_step}
-use Rattle.der_types.specs.ObjectIdentifiers.{AreArcsOfAnySize, are_subidentifiers, is_object_identifier}
+use Rattle.sec1_der.specs.DigitLaws.{digits_of-push}
+use Rattle.sec1_der.specs.DigitLaws.{marked_step}
+use Rattle.der_types.specs.ObjectIdentifiers.{AreArcsOfAnySize, are_subidentifiers}
+use Rattle.der_types.specs.ObjectIdentifiers.{is_object_identifier}
 
 -- ---- what passes the test is spelled
 
 -- after the digits of a number, bytes that pass the test spell the numbers that are read of them
-spelled_after : (high : ℕ) (bytes : List ℕ) → AllBelowBase 256 bytes → are_subidentifiers (high == 0) bytes ≡ true
+spelled_after : (high : ℕ) (bytes : List ℕ) → AllBelowBase 256 bytes
+    → are_subidentifiers (high == 0) bytes ≡ true
     → marked (digits_of 128 high) ++ bytes ≡ flat_map base128 (numbers_after high bytes)
 spelled_after high [] below passes = grind (arith, nat_tests)
 spelled_after high (b ∷ bytes) below passes =
@@ -24,13 +26,25 @@ spelled_after high (b ∷ bytes) below passes =
     let digits = digits_of-push 128 high (b % 128) in
     let ends = spelled_after 0 bytes below.1 in
     let goes_on = spelled_after n bytes below.1 in
-    grind (arith, nat_tests, ends, goes_on, digits, div-mul-add, mod-mul-add, map-append, append_assoc)
+    grind (
+      arith,
+      nat_tests,
+      ends,
+      goes_on,
+      digits,
+      div-mul-add,
+      mod-mul-add,
+      map-append,
+      append_assoc,
+    )
 
 -- ---- what is spelled passes the test
 
 -- all digits but the last are read
-read_marked : (most n : ℕ) (rest : List ℕ) → n ≤ most → let bytes = marked (digits_of 128 n) ++ rest in
-    (numbers_after 0 bytes ≡ numbers_after n rest) × (are_subidentifiers true bytes ≡ are_subidentifiers (n == 0) rest)
+read_marked : (most n : ℕ) (rest : List ℕ) → n ≤ most
+    → let bytes = marked (digits_of 128 n) ++ rest in
+    (numbers_after 0 bytes ≡ numbers_after n rest)
+    × (are_subidentifiers true bytes ≡ are_subidentifiers (n == 0) rest)
 read_marked most zero rest l = (refl, refl)
 read_marked zero (suc n) rest l = absurd (omega arith)
 read_marked (suc most) (suc n) rest l =
@@ -43,7 +57,8 @@ read_all : (ns : List ℕ) → (numbers_after 0 (flat_map base128 ns) ≡ ns)
 read_all [] = (refl, refl)
 read_all (n ∷ ns) =
     let rest = flat_map base128 ns in
-    rw append_assoc (grind (arith, nat_tests, read_marked (n / 128) (n / 128) (n % 128 ∷ rest), read_all ns))
+    rw append_assoc (grind
+    (arith, nat_tests, read_marked (n / 128) (n / 128) (n % 128 ∷ rest), read_all ns))
 
 -- ---- arcs
 
@@ -61,12 +76,14 @@ spelled_arcs [] bytes some spelled = absurd (omega (arith, ap length spelled))
 spelled_arcs (n ∷ numbers) bytes some spelled = grind (arith, nat_tests)
 
 -- bytes that pass the test are the content of the arcs that are read of them
-pub content_of-arcs_of : (bytes : List ℕ) → AllBelowBase 256 bytes → is_object_identifier bytes ≡ true
+pub content_of-arcs_of : (bytes : List ℕ) → AllBelowBase 256 bytes
+    → is_object_identifier bytes ≡ true
     → AreArcsOfAnySize (arcs_of bytes) × (content_of (arcs_of bytes) ≡ bytes)
 content_of-arcs_of [] below passes = absurd (cc passes)
 content_of-arcs_of (b ∷ bytes) below passes =
     let whole : are_subidentifiers true (b ∷ bytes) ≡ true = grind (arith, nat_tests) in
-    spelled_arcs (numbers_after 0 (b ∷ bytes)) (b ∷ bytes) (omega arith) (spelled_after 0 (b ∷ bytes) below whole)
+    spelled_arcs (numbers_after 0 (b ∷ bytes)) (b ∷ bytes) (omega arith)
+    (spelled_after 0 (b ∷ bytes) below whole)
 
 -- what the laws of the crate cite
 pub ruleset identifier_laws = (is_object_identifier-content_of, content_of-arcs_of)

@@ -1,17 +1,21 @@
 -- The contents of an OBJECT IDENTIFIER, of any length.
-use Rattle.std.specs.Prelude.{◌==◌, ℕ, ◌<◌, ◌≤◌, nat_lt, Bool, true, not, ◌&&◌, List, [], ◌∷◌, length}
+use Rattle.std.specs.Prelude.{◌==◌, ℕ, ◌<◌, ◌≤◌, nat_lt, Bool, true, not, ◌&&◌, List, [], ◌∷◌}
+use Rattle.std.specs.Prelude.{length}
 
--- X.690 section 8.19.2: bit 8 of the last byte of a subidentifier is zero, and bit 8 of each byte before it is one; its
--- first byte isn't 80. These bytes begin with a subidentifier, or go on with one that began before them.
+-- X.690 section 8.19.2: bit 8 of the last byte of a subidentifier is zero, and bit 8 of each byte
+-- before it is one; its first byte isn't 80. These bytes begin with a subidentifier, or go on with
+-- one that began before them.
 abbrev pub are_subidentifiers : Bool → List ℕ → Bool
 are_subidentifiers begins [] = begins
-are_subidentifiers begins (byte ∷ bytes) = not (begins && byte == 0x80) && are_subidentifiers (nat_lt byte 0x80) bytes
+are_subidentifiers begins (byte ∷ bytes) =
+    not (begins && byte == 0x80) && are_subidentifiers (nat_lt byte 0x80) bytes
 
 -- X.690 section 8.19.2: one or more subidentifiers, one after the other.
 abbrev pub is_object_identifier : List ℕ → Bool
 is_object_identifier bytes = nat_lt 0 (length bytes) && are_subidentifiers true bytes
 
--- X.690 section 8.19.4: two or more arcs of any size. The first is 0, 1 or 2, and the second is below 40 under 0 and 1.
+-- X.690 section 8.19.4: two or more arcs of any size. The first is 0, 1 or 2, and the second is
+-- below 40 under 0 and 1.
 abbrev pub AreArcsOfAnySize : List ℕ → Type 0
 AreArcsOfAnySize [] = ⊥
 AreArcsOfAnySize (a ∷ []) = ⊥

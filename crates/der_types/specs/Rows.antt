@@ -1,5 +1,6 @@
 -- X.690 section 8.10: elements of one type, one after another.
-use Rattle.std.specs.Prelude.{ℕ, zero, suc, Bool, true, false, List, [], ◌∷◌, length, Option, Some, None, if◌then◌else◌}
+use Rattle.std.specs.Prelude.{ℕ, zero, suc, Bool, true, false, List, [], ◌∷◌, length, Option, Some}
+use Rattle.std.specs.Prelude.{None, if◌then◌else◌}
 use Rattle.sec1_der.specs.Elements.{element_of}
 use Rattle.sec1_der.specs.Parts.{join}
 use Rattle.sec1_der.specs.Refusals.{Fault, element_fault}
@@ -8,15 +9,18 @@ use Rattle.sec1_der.specs.declared.error.ErrorKind.{ErrorKind}
 -- X.690 section 8.10.2: the elements of values, in their order
 abbrev pub joined : {A : Type 0} → ℕ → (A → Option (List ℕ)) → List A → Option (List ℕ)
 joined tag content [] = Some []
-joined tag content (value ∷ values) = join (element_of tag (content value)) (joined tag content values)
+joined tag content (value ∷ values) =
+    join (element_of tag (content value)) (joined tag content values)
 
 -- the fault of at most so many elements with this tag
 abbrev pub elements_fault : ℕ → Fault → ℕ → Fault
 elements_fault tag f zero bytes = None
 elements_fault tag f (suc most) [] = None
-elements_fault tag f (suc most) (byte ∷ bytes) = element_fault tag f (elements_fault tag f most) (byte ∷ bytes)
+elements_fault tag f (suc most) (byte ∷ bytes) =
+    element_fault tag f (elements_fault tag f most) (byte ∷ bytes)
 
--- the fault of elements with this tag to the end of the bytes, which are at most as many as there are bytes
+-- the fault of elements with this tag to the end of the bytes, which are at most as many as there
+-- are bytes
 abbrev pub row_fault : ℕ → Fault → Fault
 row_fault tag f bytes = elements_fault tag f (length bytes) bytes
 

@@ -1,6 +1,6 @@
 -- X.690 sections 8.12 and 11.6: elements of one type, whose encodings are in ascending order.
-use Rattle.std.specs.Prelude.{◌&&◌, ℕ, zero, suc, Bool, true, List, [], ◌∷◌, length, Option, Some, None}
-use Rattle.std.specs.Prelude.{Result, Ok, Err, if◌then◌else◌}
+use Rattle.std.specs.Prelude.{◌&&◌, ℕ, zero, suc, Bool, true, List, [], ◌∷◌, length, Option, Some}
+use Rattle.std.specs.Prelude.{None, Result, Ok, Err, if◌then◌else◌}
 use Rattle.std.specs.Cmp.Lexicographic.{slice_cmp}
 use Rattle.std.specs.Option.{option_or}
 use Rattle.std.specs.Ordering.{is_le, nat_cmp}
@@ -19,11 +19,12 @@ element_behind tag (Ok x) = Some (element tag x.0, x.1)
 -- X.690 section 8.1.1: the bytes of the element that bytes begin with, and what follows it
 abbrev pub first_element : List ℕ → Option (List ℕ × List ℕ)
 first_element [] = None
-first_element (tag ∷ bytes) = if is_tag tag then element_behind tag (within (length_at bytes)) else None
+first_element (tag ∷ bytes) =
+    if is_tag tag then element_behind tag (within (length_at bytes)) else None
 
--- X.690 section 11.6: whether an encoding stands before another or is the same. They are compared as octet strings.
--- The standard pads the shorter one with zeros. This makes no difference, as no encoding is the beginning of a longer
--- one.
+-- X.690 section 11.6: whether an encoding stands before another or is the same. They are compared
+-- as octet strings. The standard pads the shorter one with zeros. This makes no difference, as no
+-- encoding is the beginning of a longer one.
 abbrev pub is_at_most : List ℕ → List ℕ → Bool
 is_at_most a b = is_le (slice_cmp nat_cmp a b)
 
@@ -32,21 +33,24 @@ abbrev pub ascends_by : (List ℕ → List ℕ → Bool) → List ℕ → Option
 ascends_by behind last None = true
 ascends_by behind last (Some x) = is_at_most last x.0 && behind x.0 x.1
 
--- whether at most so many elements ascend from the last one; they end where the bytes begin with no element
+-- whether at most so many elements ascend from the last one; they end where the bytes begin with no
+-- element
 abbrev pub ascends : ℕ → List ℕ → List ℕ → Bool
 ascends zero last bytes = true
 ascends (suc most) last bytes = ascends_by (ascends most) last (first_element bytes)
 
--- X.690 section 11.6: whether the elements at the beginning of the bytes are in ascending order, up to the end or to
--- the first place where no element begins. There are at most as many as there are bytes.
+-- X.690 section 11.6: whether the elements at the beginning of the bytes are in ascending order, up
+-- to the end or to the first place where no element begins. There are at most as many as there are
+-- bytes.
 abbrev pub is_ascending : List ℕ → Bool
 is_ascending bytes = ascends (length bytes) [] bytes
 
--- X.690 section 11.6: the fault of elements with this tag to the end of the bytes; their order is tested after they
--- were read
+-- X.690 section 11.6: the fault of elements with this tag to the end of the bytes; their order is
+-- tested after they were read
 abbrev pub set_fault : ℕ → Fault → Fault
 set_fault tag f bytes = option_or (row_fault tag f bytes) (value_unless (is_ascending bytes))
 
--- X.690 section 8.12.1: the content of elements with this tag, if the bytes are elements in ascending order
+-- X.690 section 8.12.1: the content of elements with this tag, if the bytes are elements in
+-- ascending order
 abbrev pub set_of : ℕ → Fault → List ℕ → Option (List ℕ)
 set_of tag f bytes = if is_whole (set_fault tag f bytes) then Some bytes else None

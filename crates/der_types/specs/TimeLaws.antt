@@ -1,21 +1,23 @@
 -- The contents of a UTCTime and of a GeneralizedTime and the times determine each other.
-use Rattle.std.specs.Prelude.{◌≡◌, ◌==◌, ℕ, suc, ◌+◌, ◌-◌, ◌*◌, ◌/◌, ◌%◌, ◌<◌, ◌≤◌, nat_lt, Bool, true, false, ◌&&◌}
-use Rattle.std.specs.Prelude.{◌||◌, List, [], ◌∷◌, ◌++◌, length, take, drop, slice_index, ◌⊎◌, codes, refl}
-use Rattle.std.proofs.Common.{get_or, eqb-true, eq-eqb, inl, inr, ap, ◌∙◌}
-use Rattle.std.proofs.Common.{arith}
+use Rattle.std.specs.Prelude.{◌≡◌, ◌==◌, ℕ, suc, ◌+◌, ◌-◌, ◌*◌, ◌/◌, ◌%◌, ◌<◌, ◌≤◌, nat_lt, Bool}
+use Rattle.std.specs.Prelude.{true, false, ◌&&◌, ◌||◌, List, [], ◌∷◌, ◌++◌, length, take, drop}
+use Rattle.std.specs.Prelude.{slice_index, ◌⊎◌, codes, refl}
+use Rattle.std.proofs.Common.{get_or, eqb-true, eq-eqb, inl, inr, ap, ◌∙◌, arith}
 use Rattle.std.proofs.lemmas.Bool.Decides.{nat_tests}
 use Rattle.std.proofs.lemmas.List.{length-take, length-append, take_at, get_or_at}
 use Rattle.std.proofs.lemmas.List.Sums.{AllPass-from_list_all}
 use Rattle.std.specs.Char.{is_ascii_digit}
 use Rattle.std.specs.List.{AllPass, list_all}
-use Rattle.der_types.specs.Times.{is_date_time, utc_year, ends_time, utc_date_time, generalized_date_time, is_utc_time}
-use Rattle.der_types.specs.Times.{is_generalized_time}
-use Rattle.der_types.specs.Times.{utc_content, inner, is_fraction, fraction_text, generalized_content, fraction_of}
+use Rattle.der_types.specs.Times.{is_date_time, utc_year, ends_time, utc_date_time}
+use Rattle.der_types.specs.Times.{generalized_date_time, is_utc_time, is_generalized_time}
+use Rattle.der_types.specs.Times.{utc_content, inner, is_fraction, fraction_text}
+use Rattle.der_types.specs.Times.{generalized_content, fraction_of}
 use Rattle.der_types.specs.declared.time.DateTime.{DateTime}
 
 -- ---- the parts of the tests
 
-all_four : (w x y z : Bool) → (w && (x && (y && z))) ≡ true → (w ≡ true) × (x ≡ true) × (y ≡ true) × (z ≡ true)
+all_four : (w x y z : Bool) → (w && (x && (y && z))) ≡ true → (w ≡ true) × (x ≡ true) × (y ≡ true)
+    × (z ≡ true)
 all_four w x y z all = grind arith
 
 record IsUtcTime (bytes : List ℕ) : Type 0 where
@@ -27,7 +29,8 @@ record IsUtcTime (bytes : List ℕ) : Type 0 where
 utc_parts : (bytes : List ℕ) → is_utc_time bytes ≡ true → IsUtcTime bytes
 utc_parts bytes passes =
     let parts =
-    all_four (length bytes == 13) (list_all is_ascii_digit (take 12 bytes)) (slice_index bytes 12 == 0x5A)
+    all_four (length bytes == 13) (list_all is_ascii_digit (take 12 bytes))
+    (slice_index bytes 12 == 0x5A)
     (is_date_time (utc_date_time bytes)) passes in
     record {
       long = eqb-true (length bytes) 13 parts.0;
@@ -45,7 +48,8 @@ record IsGeneralizedTime (bytes : List ℕ) : Type 0 where
 generalized_parts : (bytes : List ℕ) → is_generalized_time bytes ≡ true → IsGeneralizedTime bytes
 generalized_parts bytes passes =
     let parts =
-    all_four (nat_lt 14 (length bytes)) (list_all is_ascii_digit (take 14 bytes)) (ends_time (drop 14 bytes))
+    all_four (nat_lt 14 (length bytes)) (list_all is_ascii_digit (take 14 bytes))
+    (ends_time (drop 14 bytes))
     (is_date_time (generalized_date_time bytes)) passes in
     record {
       long = grind (arith, nat_tests);
@@ -62,7 +66,8 @@ utc_digits bytes passes =
     (omega (arith, length-take {A = ℕ}), parts.digits)
 
 -- a GeneralizedTime begins with fourteen digits
-pub generalized_digits : (bytes : List ℕ) → is_generalized_time bytes ≡ true → (length (take 14 bytes) ≡ 14)
+pub generalized_digits : (bytes : List ℕ) → is_generalized_time bytes ≡ true
+    → (length (take 14 bytes) ≡ 14)
     × AllPass is_ascii_digit (take 14 bytes)
 generalized_digits bytes passes =
     let parts = generalized_parts bytes passes in
@@ -75,7 +80,8 @@ pair : (a b : ℕ) → is_ascii_digit a ≡ true → is_ascii_digit b ≡ true
     → let n = 10 * (a - 0x30) + (b - 0x30) in (0x30 + n / 10 ≡ a) × (0x30 + n % 10 ≡ b)
 pair a b p q = grind (arith, nat_tests)
 
-two_digits_small : (a b : ℕ) → is_ascii_digit a ≡ true → is_ascii_digit b ≡ true → 10 * (a - 0x30) + (b - 0x30) < 100
+two_digits_small : (a b : ℕ) → is_ascii_digit a ≡ true → is_ascii_digit b ≡ true
+    → 10 * (a - 0x30) + (b - 0x30) < 100
 two_digits_small a b p q = grind (arith, nat_tests)
 
 number_back : (n : ℕ) → 10 * (0x30 + n / 10 - 0x30) + (0x30 + n % 10 - 0x30) ≡ n
@@ -100,7 +106,8 @@ utc_year-back : (year : ℕ) → 1950 ≤ year → year < 2050 → utc_year (yea
 utc_year-back year low high = grind (arith, nat_tests)
 
 fields_small : (time : DateTime) → is_date_time time ≡ true
-    → (time.month < 100) × (time.day < 100) × (time.hour < 100) × (time.minute < 100) × (time.second < 100)
+    → (time.month < 100) × (time.day < 100) × (time.hour < 100) × (time.minute < 100)
+    × (time.second < 100)
 fields_small time is = grind (arith, nat_tests)
 
 -- ---- UTCTime
@@ -121,7 +128,8 @@ utc_spelled (y ∷ z ∷ a ∷ b ∷ c ∷ d ∷ e ∷ f ∷ g ∷ h ∷ i ∷ j
 utc_spelled bytes parts = absurd (omega (arith, parts.long))
 
 -- what a UTCTime spells has this content
-pub utc_content-utc_date_time : (bytes : List ℕ) → is_utc_time bytes ≡ true → utc_content (utc_date_time bytes) ≡ bytes
+pub utc_content-utc_date_time : (bytes : List ℕ) → is_utc_time bytes ≡ true
+    → utc_content (utc_date_time bytes) ≡ bytes
 utc_content-utc_date_time bytes passes = utc_spelled bytes (utc_parts bytes passes)
 
 -- a UTCTime spells a time in the years 1950 to 2049
@@ -151,7 +159,8 @@ utc_date_time-utc_content time low high =
     ) refl
 
 -- the content of a time in the years 1950 to 2049 is a UTCTime
-pub is_utc_time-utc_content : (time : DateTime) → is_date_time time ≡ true → 1950 ≤ time.year → time.year < 2050
+pub is_utc_time-utc_content : (time : DateTime) → is_date_time time ≡ true → 1950 ≤ time.year
+    → time.year < 2050
     → is_utc_time (utc_content time) ≡ true
 is_utc_time-utc_content time is low high =
     let below = fields_small time is in
@@ -174,22 +183,26 @@ is_utc_time-utc_content time is low high =
 
 -- ---- GeneralizedTime
 
-all_but_last : (x : ℕ) (xs : List ℕ) → take (length xs) (x ∷ xs) ++ get_or (x ∷ xs) (length xs) 0 ∷ [] ≡ x ∷ xs
+all_but_last : (x : ℕ) (xs : List ℕ)
+    → take (length xs) (x ∷ xs) ++ get_or (x ∷ xs) (length xs) 0 ∷ [] ≡ x ∷ xs
 all_but_last x [] = refl
 all_but_last x (y ∷ xs) = ap (λ rest. x ∷ rest) (all_but_last y xs)
 
 -- the parts of an end with a fraction
 end_parts : (bytes : List ℕ) → 1 < length bytes → ends_time bytes ≡ true
-    → (slice_index bytes 0 ≡ 0x2E) × (slice_index bytes (length bytes - 1) ≡ 0x5A) × (0 < length (inner bytes))
+    → (slice_index bytes 0 ≡ 0x2E) × (slice_index bytes (length bytes - 1) ≡ 0x5A)
+    × (0 < length (inner bytes))
 unfolding ends_time
 end_parts bytes long passes = grind (arith, nat_tests)
 
-fraction_text-some : (fraction : List ℕ) → 0 < length fraction → fraction_text fraction ≡ 0x2E ∷ fraction
+fraction_text-some : (fraction : List ℕ) → 0 < length fraction
+    → fraction_text fraction ≡ 0x2E ∷ fraction
 fraction_text-some [] some = absurd (omega arith)
 fraction_text-some (digit ∷ fraction) some = refl
 
 -- what follows the seconds is a fraction, or none, and Z
-end_spelled : (bytes : List ℕ) → ends_time bytes ≡ true → fraction_text (inner bytes) ++ codes "Z" ≡ bytes
+end_spelled : (bytes : List ℕ) → ends_time bytes ≡ true
+    → fraction_text (inner bytes) ++ codes "Z" ≡ bytes
 unfolding ends_time
 end_spelled [] passes = absurd (cc passes)
 end_spelled (x ∷ []) passes = grind (arith, nat_tests)
@@ -222,11 +235,13 @@ generalized_spelled bytes parts = absurd (omega (arith, parts.long))
 -- what a GeneralizedTime and its fraction spell have this content
 pub generalized_content-generalized_date_time : (bytes : List ℕ) → is_generalized_time bytes ≡ true
     → generalized_content (generalized_date_time bytes) (fraction_of bytes) ≡ bytes
-generalized_content-generalized_date_time bytes passes = generalized_spelled bytes (generalized_parts bytes passes)
+generalized_content-generalized_date_time bytes passes =
+    generalized_spelled bytes (generalized_parts bytes passes)
 
 -- a GeneralizedTime spells a time in the years 0 to 9999
 pub generalized_date_time-is : (bytes : List ℕ) → is_generalized_time bytes ≡ true
-    → (is_date_time (generalized_date_time bytes) ≡ true) × ((generalized_date_time bytes).year < 10000)
+    → (is_date_time (generalized_date_time bytes) ≡ true)
+    × ((generalized_date_time bytes).year < 10000)
 generalized_date_time-is bytes passes =
     let digits = generalized_digits bytes passes in
     let digit = λ (k : ℕ). get_or (take 14 bytes) k 0 in
@@ -262,7 +277,8 @@ pub fraction_of-generalized_content : (time : DateTime) (fraction : List ℕ)
 fraction_of-generalized_content time [] = refl
 fraction_of-generalized_content time (digit ∷ fraction) = inner-fraction (digit ∷ fraction)
 
-some_of : (a b c d e : Bool) → b ≡ true → c ≡ true → d ≡ true → e ≡ true → (a || ((b && c) && (d && e))) ≡ true
+some_of : (a b c d e : Bool) → b ≡ true → c ≡ true → d ≡ true → e ≡ true
+    → (a || ((b && c) && (d && e))) ≡ true
 some_of a b c d e p q r s = grind arith
 
 end_is : (fraction : List ℕ) → (fraction ≡ []) ⊎ (is_fraction fraction ≡ true)
@@ -274,19 +290,23 @@ end_is (digit ∷ fraction) (inr is) =
     let bytes = 0x2E ∷ digit ∷ fraction ++ 0x5A ∷ [] in
     let whole = length-append fraction (0x5A ∷ []) in
     let last = get_or_at (0x2E ∷ digit ∷ fraction) 0x5A [] 0 (length bytes - 1) (omega arith) in
-    some_of (length bytes == 1 && false) (nat_lt 1 (length bytes)) true (slice_index bytes (length bytes - 1) == 0x5A)
+    some_of (length bytes == 1 && false) (nat_lt 1 (length bytes)) true
+    (slice_index bytes (length bytes - 1) == 0x5A)
     (is_fraction (inner bytes)) (grind (arith, nat_tests)) refl (eq-eqb _ _ last)
     (ap is_fraction (inner-fraction (digit ∷ fraction)) ∙ is)
 
 more_than_fourteen : (n : ℕ) → 0 < n
-    → nat_lt 14 (suc (suc (suc (suc (suc (suc (suc (suc (suc (suc (suc (suc (suc (suc n)))))))))))))) ≡ true
+    → nat_lt 14 (suc (suc
+    (suc (suc (suc (suc (suc (suc (suc (suc (suc (suc (suc (suc n)))))))))))))) ≡ true
 more_than_fourteen n some = grind (arith, nat_tests)
 
--- the content of a time in the years 0 to 9999, with a fraction whose last digit isn't 0 or without one, is a
--- GeneralizedTime
-pub is_generalized_time-generalized_content : (time : DateTime) (fraction : List ℕ) → is_date_time time ≡ true
+-- the content of a time in the years 0 to 9999, with a fraction whose last digit isn't 0 or without
+-- one, is a GeneralizedTime
+pub is_generalized_time-generalized_content : (time : DateTime) (fraction : List ℕ)
+    → is_date_time time ≡ true
     → time.year < 10000
-    → (fraction ≡ []) ⊎ (is_fraction fraction ≡ true) → is_generalized_time (generalized_content time fraction) ≡ true
+    → (fraction ≡ []) ⊎ (is_fraction fraction ≡ true)
+    → is_generalized_time (generalized_content time fraction) ≡ true
 is_generalized_time-generalized_content time fraction is small ends =
     let below = fields_small time is in
     let spelled = ap is_date_time (generalized_date_time-generalized_content time fraction) ∙ is in
@@ -314,7 +334,12 @@ is_generalized_time-generalized_content time fraction is small ends =
 
 -- ---- what the laws of the crate cite
 
-pub ruleset utc_laws = (utc_content-utc_date_time, utc_date_time-is, utc_date_time-utc_content, is_utc_time-utc_content)
+pub ruleset utc_laws = (
+  utc_content-utc_date_time,
+  utc_date_time-is,
+  utc_date_time-utc_content,
+  is_utc_time-utc_content,
+)
 
 pub ruleset generalized_laws = (
   generalized_content-generalized_date_time,

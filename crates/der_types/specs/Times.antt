@@ -1,13 +1,13 @@
 -- The contents of a UTCTime and of a GeneralizedTime.
-use Rattle.std.specs.Prelude.{◌==◌, ℕ, ◌+◌, ◌-◌, ◌*◌, ◌/◌, ◌%◌, nat_lt, nat_le, Bool, not, ◌&&◌, ◌||◌, if◌then◌else◌}
-use Rattle.std.specs.Prelude.{List, [], ◌∷◌, ◌++◌}
-use Rattle.std.specs.Prelude.{length, take, drop, slice_index, slice_range, codes}
+use Rattle.std.specs.Prelude.{◌==◌, ℕ, ◌+◌, ◌-◌, ◌*◌, ◌/◌, ◌%◌, nat_lt, nat_le, Bool, not, ◌&&◌}
+use Rattle.std.specs.Prelude.{◌||◌, if◌then◌else◌, List, [], ◌∷◌, ◌++◌, length, take, drop}
+use Rattle.std.specs.Prelude.{slice_index, slice_range, codes}
 use Rattle.std.specs.Char.{is_ascii_digit}
 use Rattle.std.specs.List.{list_all}
 use Rattle.der_types.specs.declared.time.DateTime.{DateTime}
 
--- The Gregorian calendar has a 29 February in each year that 4 divides. One that 100 divides has it only if 400 divides
--- it.
+-- The Gregorian calendar has a 29 February in each year that 4 divides. One that 100 divides has it
+-- only if 400 divides it.
 abbrev pub is_leap_year : ℕ → Bool
 is_leap_year year = year % 4 == 0 && (not (year % 100 == 0) || year % 400 == 0)
 
@@ -49,7 +49,8 @@ utc_fields digits = date_time_after (utc_year (two_digits digits 0)) (drop 2 dig
 
 -- X.680 section 46.2: YYYYMMDDhhmmss
 abbrev pub generalized_fields : List ℕ → DateTime
-generalized_fields digits = date_time_after (100 * two_digits digits 0 + two_digits digits 2) (drop 4 digits)
+generalized_fields digits =
+    date_time_after (100 * two_digits digits 0 + two_digits digits 2) (drop 4 digits)
 
 -- the time that the content of a UTCTime spells
 abbrev pub utc_date_time : List ℕ → DateTime
@@ -59,11 +60,13 @@ utc_date_time bytes = utc_fields (take 12 bytes)
 abbrev pub generalized_date_time : List ℕ → DateTime
 generalized_date_time bytes = generalized_fields (take 14 bytes)
 
--- X.680 section 47.3 and X.690 section 11.8: twelve digits, which spell a time to the second, and Z (5A).
+-- X.680 section 47.3 and X.690 section 11.8: twelve digits, which spell a time to the second, and Z
+-- (5A).
 abbrev pub is_utc_time : List ℕ → Bool
 is_utc_time bytes =
     length bytes == 13
-    && (list_all is_ascii_digit (take 12 bytes) && (slice_index bytes 12 == 0x5A && is_date_time (utc_date_time bytes)))
+    && (list_all is_ascii_digit (take 12 bytes)
+    && (slice_index bytes 12 == 0x5A && is_date_time (utc_date_time bytes)))
 
 -- X.690 section 11.7.3: the digits of a fraction, one or more, the last of which isn't 0 (30).
 abbrev pub is_fraction : List ℕ → Bool
@@ -75,14 +78,16 @@ is_fraction digits =
 abbrev pub inner : List ℕ → List ℕ
 inner bytes = slice_range bytes 1 (length bytes - 1)
 
--- X.690 section 11.7: the end is Z (5A). A full stop (2E) and a fraction of a second may stand before it.
+-- X.690 section 11.7: the end is Z (5A). A full stop (2E) and a fraction of a second may stand
+-- before it.
 unfoldable pub ends_time : List ℕ → Bool
 ends_time bytes =
     (length bytes == 1 && slice_index bytes 0 == 0x5A)
     || ((nat_lt 1 (length bytes) && slice_index bytes 0 == 0x2E)
     && (slice_index bytes (length bytes - 1) == 0x5A && is_fraction (inner bytes)))
 
--- X.680 section 46.2 and X.690 section 11.7: fourteen digits, which spell a time to the second, and the end.
+-- X.680 section 46.2 and X.690 section 11.7: fourteen digits, which spell a time to the second, and
+-- the end.
 abbrev pub is_generalized_time : List ℕ → Bool
 is_generalized_time bytes =
     nat_lt 14 (length bytes)
@@ -98,14 +103,16 @@ two_digit_text n = (0x30 + n / 10) ∷ (0x30 + n % 10) ∷ []
 -- MMDDhhmmss
 abbrev pub text_after_year : DateTime → List ℕ
 text_after_year time =
-    two_digit_text time.month ++ two_digit_text time.day ++ two_digit_text time.hour ++ two_digit_text time.minute
+    two_digit_text time.month ++ two_digit_text time.day ++ two_digit_text time.hour
+    ++ two_digit_text time.minute
     ++ two_digit_text time.second
 
 -- X.680 section 47.3 and X.690 section 11.8: YYMMDDhhmmssZ.
 abbrev pub utc_content : DateTime → List ℕ
 utc_content time = two_digit_text (time.year % 100) ++ text_after_year time ++ codes "Z"
 
--- X.690 section 11.7.3: a full stop and the digits of a fraction, or nothing if there is no fraction.
+-- X.690 section 11.7.3: a full stop and the digits of a fraction, or nothing if there is no
+-- fraction.
 abbrev pub fraction_text : List ℕ → List ℕ
 fraction_text [] = []
 fraction_text (digit ∷ digits) = codes "." ++ digit ∷ digits
@@ -116,6 +123,7 @@ generalized_content time fraction =
     two_digit_text (time.year / 100) ++ two_digit_text (time.year % 100) ++ text_after_year time
     ++ fraction_text fraction ++ codes "Z"
 
--- the digits of the fraction of a second in the content of a GeneralizedTime, none if there is no fraction
+-- the digits of the fraction of a second in the content of a GeneralizedTime, none if there is no
+-- fraction
 abbrev pub fraction_of : List ℕ → List ℕ
 fraction_of bytes = inner (drop 14 bytes)

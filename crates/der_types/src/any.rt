@@ -1,12 +1,14 @@
 //! An element of any tag.
-ghost use Rattle.std.specs.Prelude.{◌≡◌, ◌≤◌, ◌++◌, ℕ, List, length, false, true, refl, IsOk, IfOk, IfErr, OnOk, OnErr};
+ghost use Rattle.std.specs.Prelude.{◌≡◌, ◌≤◌, ◌++◌, ℕ, List, length, false, true, refl, IsOk, IfOk};
+ghost use Rattle.std.specs.Prelude.{IfErr, OnOk, OnErr};
 ghost use Rattle.sec1_der.specs.Elements.{element, IsHeader, IsElement};
 ghost use Rattle.sec1_der.specs.Faults.{IsReadingFault, Refuses};
 ghost use Rattle.sec1_der.specs.Parts.{is_among, AreApart};
 ghost use Rattle.sec1_der.specs.Readers.{reader_over, HasRead};
 ghost use Rattle.sec1_der.specs.Refusals.{Fault, HasFault, end_fault};
 ghost use Rattle.sec1_der.specs.Values.{tag_of, value_of};
-ghost use Rattle.der_types.specs.AnyElements.{first_byte, all_tags, any_of, any_tags, any_element_fault};
+ghost use Rattle.der_types.specs.AnyElements.{first_byte, all_tags, any_of, any_tags};
+ghost use Rattle.der_types.specs.AnyElements.{any_element_fault};
 ghost use Rattle.der_types.specs.AnyLaws.{any_begins};
 
 use crate::Alternative;
@@ -17,8 +19,8 @@ use sec1_der::{
 };
 use std::marker::Model;
 
-/// One element of any tag, which borrows its bytes: `ANY`, or an open type. A contract sees the bytes of the whole
-/// element.
+/// One element of any tag, which borrows its bytes: `ANY`, or an open type. A contract sees the
+/// bytes of the whole element.
 #[derive(Drop)]
 pub struct Any<'a> {
     bytes: &'a [u8],
@@ -38,7 +40,8 @@ impl<'a> Any<'a> {
     ///
     /// # Errors
     ///
-    /// Truncated, Tag or Length if the bytes don't begin with an element; TrailingData if they go on after it.
+    /// Truncated, Tag or Length if the bytes don't begin with an element; TrailingData if they go
+    /// on after it.
     pub fn new(bytes: &'a [u8]) -> Result<Any<'a>>
         ensures found { IfOk result (λ any. (any ≡ bytes.now) × IsElement bytes.now) }
         ensures only { IsElement bytes.now → result ≡ Ok bytes.now }
@@ -86,13 +89,16 @@ impl<'a> Any<'a> {
     /// Reads one element of any tag.
     fn read(reader: &mut SliceReader<'a>) -> Result<Any<'a>>
         ensures found { IfOk result (λ any. IsElement any × HasRead any reader.old reader.new) }
-        ensures only { (bytes rest : List ℕ) → IsElement bytes → reader.old ≡ reader_over (bytes ++ rest)
+        ensures only { (bytes rest : List ℕ) → IsElement bytes
+            → reader.old ≡ reader_over (bytes ++ rest)
             → (result ≡ Ok bytes) × (reader.new ≡ reader_over rest) }
         ensures kinds { reader.old.failed ≡ false → IfErr result (λ e. IsReadingFault e.kind) }
         ensures passes { reader.old.failed ≡ false
-            → OnOk result ((behind : Fault) → any_element_fault behind reader.old.unread ≡ behind reader.new.unread) }
+            → OnOk result ((behind : Fault)
+            → any_element_fault behind reader.old.unread ≡ behind reader.new.unread) }
         ensures refuses { reader.old.failed ≡ false
-            → IfErr result (λ e. (behind : Fault) → any_element_fault behind reader.old.unread ≡ Some e.kind) }
+            → IfErr result (λ e. (behind : Fault)
+            → any_element_fault behind reader.old.unread ≡ Some e.kind) }
         ensures failed { reader.old.failed ≡ true → Refuses result ErrorKind.Failed
             × (reader.new ≡ reader.old) }
         ensures refused { OnErr result (reader.new.failed ≡ true) }

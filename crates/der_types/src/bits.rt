@@ -13,8 +13,8 @@ use sec1_der::{
 };
 use std::marker::Model;
 
-/// A BIT STRING that may have unused bits, which borrows its bytes (X.690 section 8.6). A contract sees the number of
-/// unused bits and the bytes.
+/// A BIT STRING that may have unused bits, which borrows its bytes (X.690 section 8.6). A contract
+/// sees the number of unused bits and the bytes.
 #[derive(Drop)]
 pub struct Bits<'a> {
     bits: BitStringRef<'a>,
@@ -26,7 +26,8 @@ impl<'a> Model for Bits<'a> {
 
     ghost Value = { BitString };
 
-    ghost view = { λ bits. record { unused = unused_bits_of bits.bits; bytes = bit_bytes_of bits.bits } };
+    ghost view = { λ bits.
+        record { unused = unused_bits_of bits.bits; bytes = bit_bytes_of bits.bits } };
 }
 
 impl<'a> Bits<'a> {
@@ -34,13 +35,15 @@ impl<'a> Bits<'a> {
     ///
     /// # Errors
     ///
-    /// Overlength if there are more than 268,435,454 bytes; then Value if `unused` is above 7, or isn't 0 without
-    /// bytes, or if an unused bit is set (X.690 section 11.2.1).
+    /// Overlength if there are more than 268,435,454 bytes; then Value if `unused` is above 7, or
+    /// isn't 0 without bytes, or if an unused bit is set (X.690 section 11.2.1).
     pub fn new(unused: u8, bytes: &'a [u8]) -> Result<Self>
-        ensures within { IsOk result ↔ ((length bytes.now < max_length) × AreBits unused bytes.now) }
+        ensures within { IsOk result
+            ↔ ((length bytes.now < max_length) × AreBits unused bytes.now) }
         ensures value { IfOk result (λ bits. bits ≡ record { unused = unused; bytes = bytes.now }) }
         ensures overlength { max_length ≤ length bytes.now → Refuses result ErrorKind.Overlength }
-        ensures kind { length bytes.now < max_length → IfErr result (λ e. e.kind ≡ ErrorKind.Value) }
+        ensures kind { length bytes.now < max_length
+            → IfErr result (λ e. e.kind ≡ ErrorKind.Value) }
     {
         let bits = BitStringRef::new(unused, bytes)?;
         Ok(Bits { bits })

@@ -19,8 +19,8 @@ pub(crate) fn is_boolean(bytes: &[u8]) -> bool
     matches!(bytes, [0x00 | 0xFF])
 }
 
-/// A BOOLEAN (X.690 sections 8.2 and 11.1). Its content is the byte `00` for `false` and `FF` for `true`; any other is
-/// refused as Value. A contract sees the `bool`.
+/// A BOOLEAN (X.690 sections 8.2 and 11.1). Its content is the byte `00` for `false` and `FF` for
+/// `true`; any other is refused as Value. A contract sees the `bool`.
 #[derive(Clone, Copy, PartialEq, Eq, Debug)]
 pub struct Boolean(pub bool);
 
@@ -47,7 +47,8 @@ impl ValueContent for Boolean {
 
     ghost is_content = { λ bytes. is_boolean bytes ≡ true };
 
-    ghost content_is_valid = { λ value bytes same _. passes-same is_boolean (boolean_content value) bytes
+    ghost content_is_valid = { λ value bytes same _.
+        passes-same is_boolean (boolean_content value) bytes
         (is_boolean-boolean_content value) same };
 
     ghost fault = { λ bytes. value_unless (is_boolean bytes) };

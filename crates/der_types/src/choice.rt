@@ -27,10 +27,11 @@ impl<A: ValueContent + Tagged> Alternative for Required<A> {
     ghost never_empty = { refl };
 }
 
-/// Returns `true` if the next byte isn't one that `P` may begin with, or if no input remains. A reader that has
-/// failed gives `false`.
+/// Returns `true` if the next byte isn't one that `P` may begin with, or if no input remains. A
+/// reader that has failed gives `false`.
 pub(crate) fn is_absent<P: Alternative>(reader: &SliceReader) -> bool
-    ensures { result ≡ (if reader.now.failed then false else not (begins_among P.tags.firsts reader.now.unread)) }
+    ensures { result ≡ (if reader.now.failed then false
+        else not (begins_among P.tags.firsts reader.now.unread)) }
 {
     match reader.peek_tag_byte() {
         Some(byte) => !P::may_begin(byte),
@@ -38,11 +39,11 @@ pub(crate) fn is_absent<P: Alternative>(reader: &SliceReader) -> bool
     }
 }
 
-/// A CHOICE of two parts: `P` if the next byte is one that `P` may begin with, otherwise `Q`. A CHOICE of more is
-/// nested, as `Choice<P, Choice<Q, R>>`.
+/// A CHOICE of two parts: `P` if the next byte is one that `P` may begin with, otherwise `Q`. A
+/// CHOICE of more is nested, as `Choice<P, Choice<Q, R>>`.
 ///
-/// Its tags aren't apart if a part of each may begin with the same byte, so that no [`Record`](sec1_der::Record) can
-/// have it.
+/// Its tags aren't apart if a part of each may begin with the same byte, so that no
+/// [`Record`](sec1_der::Record) can have it.
 #[derive(Clone, Copy, PartialEq, Eq, Debug, Drop)]
 pub enum Choice<P, Q> {
     /// The first part.

@@ -100,6 +100,6 @@ impl ConstantContent for kind::True {
 /// A NULL, which has no bytes of content (X.690 section 8.8).
 pub type Null = Constant<kind::Null>;
 
-/// The BOOLEAN TRUE (X.690 sections 8.2 and 11.1). A component that is FALSE by default is absent or this one (section
-/// 11.5).
+/// The BOOLEAN TRUE (X.690 sections 8.2 and 11.1). A component that is FALSE by default is absent
+/// or this one (section 11.5).
 pub type True = Constant<kind::True>;

@@ -2,7 +2,8 @@
 ghost use Rattle.std.specs.Prelude.{◌≡◌, ◌↔◌, ℕ, List, Some, IsTrue};
 ghost use Rattle.sec1_der.specs.Parts.{optional_tag};
 ghost use Rattle.sec1_der.specs.Refusals.{optional_fault};
-ghost use Rattle.der_types.specs.Defaults.{defaulted_of, defaulted_begins, other_content, other_fault};
+ghost use Rattle.der_types.specs.Defaults.{defaulted_of, defaulted_begins, other_content};
+ghost use Rattle.der_types.specs.Defaults.{other_fault};
 
 use sec1_der::{
     BackWriter, DecodePart, DecodeValue, EncodePart, EncodeValue, ErrorKind, Length, Optional,
@@ -10,7 +11,8 @@ use sec1_der::{
 };
 use std::marker::Model;
 
-/// A type with a default value. A type of one's own that wraps another gives it the default of a component.
+/// A type with a default value. A type of one's own that wraps another gives it the default of a
+/// component.
 pub trait HasDefault: UniqueContent + Sized {
     /// The default value.
     ghost default: { Self };
@@ -30,8 +32,8 @@ pub trait HasDefault: UniqueContent + Sized {
     ghost has_content: { Self.content default ≡ Some default_content };
 }
 
-/// A component with a default value, `A DEFAULT v`: absent if the value is the default, otherwise the element of the
-/// value. A contract sees the value.
+/// A component with a default value, `A DEFAULT v`: absent if the value is the default, otherwise
+/// the element of the value. A contract sees the value.
 ///
 /// An element of the default value is refused as Value after it was read.
 #[derive(Clone, Copy, PartialEq, Eq, Debug, Drop)]
@@ -113,7 +115,8 @@ impl<A: Tagged> Tagged for NotDefault<A> {
 impl<A: HasDefault> ValueContent for NotDefault<A> {
     ghost content = { λ value. other_content A.default_content (A.content value) };
 
-    ghost is_content = { λ bytes. (value : A) × (other_content A.default_content (A.content value) ≡ Some bytes) };
+    ghost is_content = { λ bytes. (value : A)
+        × (other_content A.default_content (A.content value) ≡ Some bytes) };
 
     ghost content_is_valid = { λ value _ same _. (value, same) };
 

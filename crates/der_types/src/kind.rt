@@ -127,7 +127,8 @@ impl Kind for PrintableString {
     }
 }
 
-/// A TeletexString (X.680 section 41). Any bytes are accepted: which characters they stand for isn't tested.
+/// A TeletexString (X.680 section 41). Any bytes are accepted: which characters they stand for
+/// isn't tested.
 pub struct TeletexString;
 
 impl Tagged for TeletexString {
@@ -184,7 +185,8 @@ impl Kind for UtcTime {
     }
 }
 
-/// A GeneralizedTime, YYYYMMDDhhmmssZ, or the same with a fraction of a second (X.690 section 11.7).
+/// A GeneralizedTime, YYYYMMDDhhmmssZ, or the same with a fraction of a second (X.690
+/// section 11.7).
 pub struct GeneralizedTime;
 
 impl Tagged for GeneralizedTime {
@@ -222,8 +224,8 @@ impl Kind for VisibleString {
     }
 }
 
-/// A UniversalString, four bytes a character (X.690 section 8.23.7). Only the number of bytes is tested, not which
-/// characters they stand for.
+/// A UniversalString, four bytes a character (X.690 section 8.23.7). Only the number of bytes is
+/// tested, not which characters they stand for.
 pub struct UniversalString;
 
 impl Tagged for UniversalString {
@@ -242,8 +244,8 @@ impl Kind for UniversalString {
     }
 }
 
-/// A BMPString, two bytes a character (X.690 section 8.23.8). Only the number of bytes is tested, not which characters
-/// they stand for.
+/// A BMPString, two bytes a character (X.690 section 8.23.8). Only the number of bytes is tested,
+/// not which characters they stand for.
 pub struct BmpString;
 
 impl Tagged for BmpString {

@@ -1,20 +1,24 @@
-//! Laws of the contents, for callers to cite. Each law is the contract of a function, which does nothing else.
-ghost use Rattle.std.specs.Prelude.{◌≡◌, ◌⊎◌, ◌<◌, ◌≤◌, ℕ, Bool, true, false, List, [], ◌∷◌, ℤ, pos, negsuc};
+//! Laws of the contents, for callers to cite. Each law is the contract of a function, which does
+//! nothing else.
+ghost use Rattle.std.specs.Prelude.{◌≡◌, ◌⊎◌, ◌<◌, ◌≤◌, ℕ, Bool, true, false, List, [], ◌∷◌, ℤ};
+ghost use Rattle.std.specs.Prelude.{pos, negsuc};
 ghost use Rattle.std.specs.Int.Digits.{AllBelowBase};
 ghost use Rattle.std.specs.Str.{is_utf8};
 ghost use Rattle.sec1_der.specs.ArcsOf.{arcs_of};
 ghost use Rattle.sec1_der.specs.Identifiers.{content_of};
 ghost use Rattle.sec1_der.specs.Numbers.{number_of};
 ghost use Rattle.der_types.specs.Booleans.{boolean_content, is_boolean};
-ghost use Rattle.der_types.specs.Integers.{is_integer, is_unsigned, signed_content, signed_number, unsigned_content};
+ghost use Rattle.der_types.specs.Integers.{is_integer, is_unsigned, signed_content, signed_number};
+ghost use Rattle.der_types.specs.Integers.{unsigned_content};
 ghost use Rattle.der_types.specs.ObjectIdentifiers.{AreArcsOfAnySize, is_object_identifier};
 ghost use Rattle.der_types.specs.Strings.{is_ia5, is_numeric_string, is_printable, is_visible};
-ghost use Rattle.der_types.specs.Times.{fraction_of, generalized_content, generalized_date_time, is_date_time};
-ghost use Rattle.der_types.specs.Times.{is_fraction};
-ghost use Rattle.der_types.specs.Times.{is_generalized_time, is_utc_time, utc_content, utc_date_time};
+ghost use Rattle.der_types.specs.Times.{fraction_of, generalized_content, generalized_date_time};
+ghost use Rattle.der_types.specs.Times.{is_date_time, is_fraction, is_generalized_time};
+ghost use Rattle.der_types.specs.Times.{is_utc_time, utc_content, utc_date_time};
 ghost use Rattle.der_types.specs.declared.time.DateTime.{DateTime};
 
-/// A number that isn't negative has one content, and the bytes that pass the test are the contents (X.690 section 8.3).
+/// A number that isn't negative has one content, and the bytes that pass the test are the contents
+/// (X.690 section 8.3).
 #[tactic(auto, using(crate::specs::IntegerLaws::unsigned_laws))]
 pub fn unsigned_integers()
     ensures passes { (n : ℕ) → is_unsigned (unsigned_content n) ≡ true }
@@ -32,7 +36,8 @@ pub fn signed_integers()
     ensures content { (bytes : List ℕ) → AllBelowBase 256 bytes → is_integer bytes ≡ true
         → signed_content (signed_number bytes) ≡ bytes }
     ensures one_content { (xs ys : List ℕ) → AllBelowBase 256 xs → AllBelowBase 256 ys
-        → is_integer xs ≡ true → is_integer ys ≡ true → signed_number xs ≡ signed_number ys → xs ≡ ys }
+        → is_integer xs ≡ true → is_integer ys ≡ true
+        → signed_number xs ≡ signed_number ys → xs ≡ ys }
 {}
 
 /// The contents of numbers where these take one byte more.
@@ -46,15 +51,18 @@ pub fn spelled_integers()
     ensures minus_129 { signed_content (negsuc 128) ≡ 0xFF ∷ 0x7F ∷ [] }
 {}
 
-/// FALSE and TRUE have one content each, and the bytes that pass the test are these two (X.690 section 11.1).
+/// FALSE and TRUE have one content each, and the bytes that pass the test are these two (X.690
+/// section 11.1).
 #[tactic(auto, using(crate::specs::BooleanLaws::boolean_laws))]
 pub fn booleans()
     ensures passes { (value : Bool) → is_boolean (boolean_content value) ≡ true }
-    ensures content { (bytes : List ℕ) → is_boolean bytes ≡ true → (value : Bool) × (boolean_content value ≡ bytes) }
+    ensures content { (bytes : List ℕ) → is_boolean bytes ≡ true
+        → (value : Bool) × (boolean_content value ≡ bytes) }
     ensures one_value { (x y : Bool) → boolean_content x ≡ boolean_content y → x ≡ y }
 {}
 
-/// An identifier has one content, and the bytes that pass the test are the contents (X.690 section 8.19).
+/// An identifier has one content, and the bytes that pass the test are the contents (X.690
+/// section 8.19).
 #[tactic(auto, using(crate::specs::ObjectIdentifierLaws::identifier_laws))]
 pub fn object_identifiers()
     ensures passes { (arcs : List ℕ) → AreArcsOfAnySize arcs
@@ -63,33 +71,39 @@ pub fn object_identifiers()
         → AreArcsOfAnySize (arcs_of bytes) × (content_of (arcs_of bytes) ≡ bytes) }
 {}
 
-/// The content of a NumericString is that of a PrintableString too; and so on to a VisibleString, an IA5String and a
-/// UTF8String (X.680 section 41).
+/// The content of a NumericString is that of a PrintableString too; and so on to a VisibleString,
+/// an IA5String and a UTF8String (X.680 section 41).
 #[tactic(auto, using(crate::specs::StringLaws::string_laws))]
 pub fn strings()
-    ensures printable { (bytes : List ℕ) → is_numeric_string bytes ≡ true → is_printable bytes ≡ true }
+    ensures printable { (bytes : List ℕ) → is_numeric_string bytes ≡ true
+        → is_printable bytes ≡ true }
     ensures visible { (bytes : List ℕ) → is_printable bytes ≡ true → is_visible bytes ≡ true }
     ensures ia5 { (bytes : List ℕ) → is_visible bytes ≡ true → is_ia5 bytes ≡ true }
     ensures utf8 { (bytes : List ℕ) → is_ia5 bytes ≡ true → is_utf8 bytes ≡ true }
 {}
 
-/// A time of the years 1950 to 2049 has one content, and the bytes that pass the test are the contents (X.690 section
-/// 11.8).
+/// A time of the years 1950 to 2049 has one content, and the bytes that pass the test are the
+/// contents (X.690 section 11.8).
 #[tactic(auto, using(crate::specs::TimeLaws::utc_laws))]
 pub fn utc_times()
-    ensures passes { (time : DateTime) → is_date_time time ≡ true → 1950 ≤ time.year → time.year < 2050
+    ensures passes { (time : DateTime) → is_date_time time ≡ true → 1950 ≤ time.year
+        → time.year < 2050
         → is_utc_time (utc_content time) ≡ true }
-    ensures time { (time : DateTime) → 1950 ≤ time.year → time.year < 2050 → utc_date_time (utc_content time) ≡ time }
-    ensures content { (bytes : List ℕ) → is_utc_time bytes ≡ true → utc_content (utc_date_time bytes) ≡ bytes }
-    ensures valid { (bytes : List ℕ) → is_utc_time bytes ≡ true → (is_date_time (utc_date_time bytes) ≡ true)
+    ensures time { (time : DateTime) → 1950 ≤ time.year → time.year < 2050
+        → utc_date_time (utc_content time) ≡ time }
+    ensures content { (bytes : List ℕ) → is_utc_time bytes ≡ true
+        → utc_content (utc_date_time bytes) ≡ bytes }
+    ensures valid { (bytes : List ℕ) → is_utc_time bytes ≡ true
+        → (is_date_time (utc_date_time bytes) ≡ true)
         × (1950 ≤ (utc_date_time bytes).year) × ((utc_date_time bytes).year < 2050) }
 {}
 
-/// A time of the years 0 to 9999 and the digits of a fraction have one content, and the bytes that pass the test are
-/// the contents (X.690 section 11.7).
+/// A time of the years 0 to 9999 and the digits of a fraction have one content, and the bytes that
+/// pass the test are the contents (X.690 section 11.7).
 #[tactic(auto, using(crate::specs::TimeLaws::generalized_laws))]
 pub fn generalized_times()
-    ensures passes { (time : DateTime) (fraction : List ℕ) → is_date_time time ≡ true → time.year < 10000
+    ensures passes { (time : DateTime) (fraction : List ℕ) → is_date_time time ≡ true
+        → time.year < 10000
         → (fraction ≡ []) ⊎ (is_fraction fraction ≡ true)
         → is_generalized_time (generalized_content time fraction) ≡ true }
     ensures time { (time : DateTime) (fraction : List ℕ)
@@ -99,5 +113,6 @@ pub fn generalized_times()
     ensures content { (bytes : List ℕ) → is_generalized_time bytes ≡ true
         → generalized_content (generalized_date_time bytes) (fraction_of bytes) ≡ bytes }
     ensures valid { (bytes : List ℕ) → is_generalized_time bytes ≡ true
-        → (is_date_time (generalized_date_time bytes) ≡ true) × ((generalized_date_time bytes).year < 10000) }
+        → (is_date_time (generalized_date_time bytes) ≡ true)
+        × ((generalized_date_time bytes).year < 10000) }
 {}

@@ -14,7 +14,8 @@ use sec1_der::{
 use std::marker::{Model, PhantomData};
 
 /// A type of values that are known by their contents: which bytes are one. It is [`Tagged`] too.
-// `Tagged` isn't a supertrait: the bound of a struct must be met by one impl alone, and each `Record` is `Tagged`.
+// `Tagged` isn't a supertrait: the bound of a struct must be met by one impl alone, and each
+// `Record` is `Tagged`.
 pub trait Kind {
     /// The test of contents.
     ghost passes: { List ℕ → Bool };
@@ -42,12 +43,15 @@ impl<'a, K: Kind> Leaf<'a, K> {
     ///
     /// # Errors
     ///
-    /// Overlength if there are more than 268,435,455 bytes; then Value if they don't pass the test of `K`.
+    /// Overlength if there are more than 268,435,455 bytes; then Value if they don't pass the test
+    /// of `K`.
     pub fn new(bytes: &'a [u8]) -> Result<Self>
-        ensures within { IsOk result ↔ ((length bytes.now ≤ max_length) × (K.passes bytes.now ≡ true)) }
+        ensures within { IsOk result
+            ↔ ((length bytes.now ≤ max_length) × (K.passes bytes.now ≡ true)) }
         ensures value { IfOk result (λ leaf. leaf ≡ bytes.now) }
         ensures overlength { max_length < length bytes.now → Refuses result ErrorKind.Overlength }
-        ensures kind { length bytes.now ≤ max_length → IfErr result (λ e. e.kind ≡ ErrorKind.Value) }
+        ensures kind { length bytes.now ≤ max_length
+            → IfErr result (λ e. e.kind ≡ ErrorKind.Value) }
     {
         Length::new(bytes.len())?;
         if !K::test(bytes) {
@@ -94,7 +98,8 @@ impl<K: Kind> ValueContent for Leaf<'_, K> {
 
     ghost is_content = { λ content. K.passes content ≡ true };
 
-    ghost content_is_valid = { λ bytes content same _. passes-content_if K.passes bytes content same };
+    ghost content_is_valid = { λ bytes content same _.
+        passes-content_if K.passes bytes content same };
 
     ghost fault = { λ content. value_unless (K.passes content) };
 }
@@ -133,17 +138,18 @@ impl<K: Kind> EncodeValue for Leaf<'_, K> {
 
 impl<K: Kind> UniqueContent for Leaf<'_, K> {
     fn one()
-        ensures { (a b bytes : List ℕ) → content_if K.passes a ≡ Some bytes → content_if K.passes b ≡ Some bytes
+        ensures { (a b bytes : List ℕ) → content_if K.passes a ≡ Some bytes
+            → content_if K.passes b ≡ Some bytes
             → a ≡ b }
     {}
 }
 
-/// An INTEGER, which borrows its content: a number in two's complement, in as few bytes as possible (X.690 section
-/// 8.3). [`Unsigned`](crate::Unsigned) is one whose contracts see the number.
+/// An INTEGER, which borrows its content: a number in two's complement, in as few bytes as possible
+/// (X.690 section 8.3). [`Unsigned`](crate::Unsigned) is one whose contracts see the number.
 pub type Integer<'a> = Leaf<'a, kind::Integer>;
 
-/// An ENUMERATED, which borrows its content: a number in two's complement, in as few bytes as possible (X.690 section
-/// 8.4).
+/// An ENUMERATED, which borrows its content: a number in two's complement, in as few bytes as
+/// possible (X.690 section 8.4).
 pub type Enumerated<'a> = Leaf<'a, kind::Enumerated>;
 
 /// An OBJECT IDENTIFIER of any length, which borrows its content (X.690 section 8.19).

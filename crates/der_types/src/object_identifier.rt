@@ -2,8 +2,8 @@
 ghost use Rattle.std.specs.Prelude.{◌≡◌};
 ghost use Rattle.der_types.specs.ObjectIdentifiers.{is_object_identifier};
 
-/// Returns `true` if the bytes are the content of an OBJECT IDENTIFIER (X.690 section 8.19): one or more
-/// subidentifiers, each in as few bytes as possible.
+/// Returns `true` if the bytes are the content of an OBJECT IDENTIFIER (X.690 section 8.19): one or
+/// more subidentifiers, each in as few bytes as possible.
 pub(crate) fn is_object_identifier(bytes: &[u8]) -> bool
     ensures { result ≡ is_object_identifier bytes.now }
 {

@@ -8,8 +8,8 @@ use crate::choice::is_absent;
 use sec1_der::{BackWriter, DecodePart, EncodePart, Length, Part, Result, SliceReader, UniquePart};
 use std::marker::Model;
 
-/// An OPTIONAL CHOICE, or another OPTIONAL part that is never empty: `P` if the next byte is one that it may begin
-/// with. A contract sees the part, if present.
+/// An OPTIONAL CHOICE, or another OPTIONAL part that is never empty: `P` if the next byte is one
+/// that it may begin with. A contract sees the part, if present.
 #[derive(Clone, Copy, PartialEq, Eq, Debug, Drop)]
 pub struct OptionalPart<P>(pub Option<P>);
 

@@ -1,4 +1,5 @@
-//! Each type, read and written: values that the standards give, and their neighbours that are refused.
+//! Each type, read and written: values that the standards give, and their neighbours that are
+//! refused.
 use crate::{
     Bits, BmpString, Boolean, DateTime, Enumerated, GeneralizedTime, Ia5String, Integer, Null,
     NumericString, ObjectIdentifierRef, PrintableString, TeletexString, True, UniversalString,

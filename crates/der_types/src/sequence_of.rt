@@ -1,6 +1,6 @@
 //! SEQUENCE OF (X.690 section 8.10).
-ghost use Rattle.std.specs.Prelude.{◌≡◌, ◌++◌, ℕ, List, [], Some, None};
-ghost use Rattle.std.specs.Prelude.{false, IsOk, IfOk, IfErr, OnOk, IfSome, IfNone, IsSomeAnd};
+ghost use Rattle.std.specs.Prelude.{◌≡◌, ◌<◌, ◌++◌, ◌∷◌, ℕ, List, [], length, Some, None, false};
+ghost use Rattle.std.specs.Prelude.{Ok, IsOk, IfOk, IfErr, OnOk, IsSome, IfSome, IfNone, IsSomeAnd};
 ghost use Rattle.sec1_der.specs.Elements.{element_of};
 ghost use Rattle.sec1_der.specs.Faults.{IsReadingFault};
 ghost use Rattle.sec1_der.specs.Refusals.{HasFault};
@@ -19,8 +19,10 @@ use std::marker::{Model, PhantomData};
 /// Those of [`SliceReader::decode`] for the first element that is refused.
 pub fn check_elements<'a, T: DecodeValue<'a> + Tagged + Drop>(bytes: &'a [u8]) -> Result<()>
     // It succeeds for the elements of a list of values, and only for these.
-    ensures found { OnOk result ((values : List T) × (joined T.tag_byte T.content values ≡ Some bytes.now)) }
-    ensures only { (values : List T) → joined T.tag_byte T.content values ≡ Some bytes.now → IsOk result }
+    ensures found { OnOk result
+        ((values : List T) × (joined T.tag_byte T.content values ≡ Some bytes.now)) }
+    ensures only { (values : List T) → joined T.tag_byte T.content values ≡ Some bytes.now
+        → IsOk result }
     ensures kinds { IfErr result (λ e. IsReadingFault e.kind) }
     ensures kind { HasFault result (row_fault T.tag_byte T.fault bytes.now) }
 {
@@ -31,8 +33,8 @@ pub fn check_elements<'a, T: DecodeValue<'a> + Tagged + Drop>(bytes: &'a [u8]) -
     Ok(())
 }
 
-/// The elements of values of `T`, one after another, which are borrowed unread after they were checked. A contract
-/// sees their bytes.
+/// The elements of values of `T`, one after another, which are borrowed unread after they were
+/// checked. A contract sees their bytes.
 #[derive(Drop)]
 pub struct SequenceOf<'a, T> {
     bytes: &'a [u8],
@@ -55,7 +57,13 @@ impl<'a, T> SequenceOf<'a, T> {
     where
         T: DecodeValue<'a> + Tagged + Drop,
         ensures found { IfOk result (λ elements. elements ≡ bytes.now) }
-        ensures only { (values : List T) → joined T.tag_byte T.content values ≡ Some bytes.now → result ≡ Ok bytes.now }
+        // It succeeds for the elements of a list of values, and only for these.
+        ensures values { OnOk result
+            ((values : List T) × (joined T.tag_byte T.content values ≡ Some bytes.now)) }
+        ensures only { (values : List T) → joined T.tag_byte T.content values ≡ Some bytes.now
+            → result ≡ Ok bytes.now }
+        // The elements can be read, one after another.
+        ensures checked { OnOk result (row_fault T.tag_byte T.fault bytes.now ≡ None) }
         ensures kinds { IfErr result (λ e. IsReadingFault e.kind) }
         ensures kind { HasFault result (row_fault T.tag_byte T.fault bytes.now) }
     {
@@ -91,7 +99,8 @@ impl<'a, T> SequenceOf<'a, T> {
     }
 }
 
-/// The values of a SEQUENCE OF, in their order. A contract sees the bytes of the elements that are left.
+/// The values of a SEQUENCE OF, in their order. A contract sees the bytes of the elements that are
+/// left.
 #[derive(Drop)]
 pub struct Elements<'a, T> {
     reader: SliceReader<'a>,
@@ -116,15 +125,27 @@ impl<'a, T> Elements<'a, T> {
         }
     }
 
-    /// Returns the next value, or `None` if none is left. It never fails, since the elements were checked.
+    /// Returns the next value, or `None` if none is left. It never fails, since the elements were
+    /// checked.
     pub fn next(&mut self) -> Option<T>
     where
         T: DecodeValue<'a> + Tagged,
         requires { row_fault T.tag_byte T.fault self.old ≡ None }
-        ensures found { IfSome result (λ value. IsSomeAnd (element_of T.tag_byte (T.content value)) (λ bytes.
+        ensures found { IfSome result
+            (λ value. IsSomeAnd (element_of T.tag_byte (T.content value)) (λ bytes.
             self.old ≡ bytes ++ self.new)) }
         ensures end { IfNone result ((self.old ≡ []) × (self.new ≡ [])) }
         ensures checked { row_fault T.tag_byte T.fault self.new ≡ None }
+        ensures shorter { IsSome result → length self.new < length self.old }
+        // The same of the elements of a list of values: what is returned stands before those that
+        // are left, and is the first of them.
+        ensures values { IfSome result (λ value. (values : List T)
+            → joined T.tag_byte T.content values ≡ Some self.new
+            → joined T.tag_byte T.content (value ∷ values) ≡ Some self.old) }
+        ensures first { (value : T) (values : List T)
+            → joined T.tag_byte T.content (value ∷ values) ≡ Some self.old
+            → IsSomeAnd result (λ found. T.content found ≡ T.content value)
+            × (joined T.tag_byte T.content values ≡ Some self.new) }
     {
         if self.reader.remaining_len() == 0 {
             return None;
@@ -146,7 +167,8 @@ impl<T> Tagged for SequenceOf<'_, T> {
 impl<T: ValueContent + Tagged> ValueContent for SequenceOf<'_, T> {
     ghost content = { row_of T.tag_byte T.fault };
 
-    ghost is_content = { λ content. (bytes : List ℕ) × (row_of T.tag_byte T.fault bytes ≡ Some content) };
+    ghost is_content = { λ content. (bytes : List ℕ)
+        × (row_of T.tag_byte T.fault bytes ≡ Some content) };
 
     ghost content_is_valid = { λ bytes _ same _. (bytes, same) };
 

@@ -13,8 +13,9 @@ use sec1_der::{
 };
 use std::marker::{Model, PhantomData};
 
-/// Tests whether the elements in these bytes are in ascending order (X.690 section 11.6). Their encodings are compared
-/// as octet strings, and equal ones are allowed. The test ends at the end of the bytes, or where no element begins.
+/// Tests whether the elements in these bytes are in ascending order (X.690 section 11.6). Their
+/// encodings are compared as octet strings, and equal ones are allowed. The test ends at the end of
+/// the bytes, or where no element begins.
 pub(crate) fn is_ascending(bytes: &[u8]) -> bool
     ensures { result ≡ is_ascending bytes.now }
 {
@@ -34,8 +35,8 @@ pub(crate) fn is_ascending(bytes: &[u8]) -> bool
     true
 }
 
-/// The elements of values of `T` in ascending order, one after another, which are borrowed unread after they were
-/// checked. A contract sees their bytes.
+/// The elements of values of `T` in ascending order, one after another, which are borrowed unread
+/// after they were checked. A contract sees their bytes.
 #[derive(Drop)]
 pub struct SetOf<'a, T> {
     bytes: &'a [u8],
@@ -53,13 +54,16 @@ impl<'a, T> SetOf<'a, T> {
     ///
     /// # Errors
     ///
-    /// Those of [`check_elements`], then Value if the elements aren't in ascending order (X.690 section 11.6).
+    /// Those of [`check_elements`], then Value if the elements aren't in ascending order (X.690
+    /// section 11.6).
     pub fn new(bytes: &'a [u8]) -> Result<Self>
     where
         T: DecodeValue<'a> + Tagged + Drop,
         ensures found { IfOk result (λ elements. elements ≡ bytes.now) }
-        // It succeeds for the elements of a list of values that are in ascending order, and only for these.
-        ensures values { OnOk result ((values : List T) × (joined T.tag_byte T.content values ≡ Some bytes.now)) }
+        // It succeeds for the elements of a list of values that are in ascending order, and only
+        // for these.
+        ensures values { OnOk result
+            ((values : List T) × (joined T.tag_byte T.content values ≡ Some bytes.now)) }
         ensures ascending { OnOk result (is_ascending bytes.now ≡ true) }
         ensures only { (values : List T) → joined T.tag_byte T.content values ≡ Some bytes.now
             → is_ascending bytes.now ≡ true → result ≡ Ok bytes.now }
@@ -116,7 +120,8 @@ impl<T> Tagged for SetOf<'_, T> {
 impl<T: ValueContent + Tagged> ValueContent for SetOf<'_, T> {
     ghost content = { set_of T.tag_byte T.fault };
 
-    ghost is_content = { λ content. (bytes : List ℕ) × (set_of T.tag_byte T.fault bytes ≡ Some content) };
+    ghost is_content = { λ content. (bytes : List ℕ)
+        × (set_of T.tag_byte T.fault bytes ≡ Some content) };
 
     ghost content_is_valid = { λ bytes _ same _. (bytes, same) };
 

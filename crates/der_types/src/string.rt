@@ -34,7 +34,8 @@ fn is_numeric_character(character: u8) -> bool
     character.is_ascii_digit() || character == b' '
 }
 
-/// Returns `true` if the bytes are the content of a PrintableString: letters, digits, spaces and `'()+,-./:=?`.
+/// Returns `true` if the bytes are the content of a PrintableString: letters, digits, spaces and
+/// `'()+,-./:=?`.
 pub(crate) fn is_printable(bytes: &[u8]) -> bool
     ensures { result ≡ is_printable bytes.now }
 {
@@ -55,7 +56,8 @@ pub(crate) fn is_ia5(bytes: &[u8]) -> bool
     bytes.iter().all(|byte| byte.is_ascii())
 }
 
-/// Returns `true` if the bytes are the content of a VisibleString: characters that print, and spaces.
+/// Returns `true` if the bytes are the content of a VisibleString: characters that print, and
+/// spaces.
 pub(crate) fn is_visible(bytes: &[u8]) -> bool
     ensures { result ≡ is_visible bytes.now }
 {

@@ -6,7 +6,8 @@ use crate::object_identifier::is_object_identifier;
 use crate::string::{is_ia5, is_numeric_string, is_printable, is_utf8, is_visible};
 use crate::time::{generalized_date_time, is_generalized_time, is_utc_time, utc_date_time};
 
-/// Contents, whether they are an INTEGER's, and whether they are that of one which isn't negative (X.690 section 8.3).
+/// Contents, whether they are an INTEGER's, and whether they are that of one which isn't negative
+/// (X.690 section 8.3).
 static INTEGERS: [(&[u8], bool, bool); 12] = [
     (b"", false, false),
     (b"\x00", true, true),
@@ -46,8 +47,8 @@ fn tells_booleans(rt: HostRuntime) {
     }
 }
 
-/// Contents, and whether they are an OBJECT IDENTIFIER's: 2.999.3 and 2.100.3, the examples of X.690 section 8.19.5;
-/// one with an arc of 128 bits, all set, below 2.25; and 0.0.
+/// Contents, and whether they are an OBJECT IDENTIFIER's: 2.999.3 and 2.100.3, the examples of
+/// X.690 section 8.19.5; one with an arc of 128 bits, all set, below 2.25; and 0.0.
 static IDENTIFIERS: [(&[u8], bool); 8] = [
     (b"\x88\x37\x03", true),
     (b"\x81\x34\x03", true),
@@ -69,8 +70,8 @@ fn tells_identifiers(rt: HostRuntime) {
     }
 }
 
-/// Contents, and whether they are a UTCTime's. The first three and the first two that are refused are the examples of
-/// X.690 section 11.8.
+/// Contents, and whether they are a UTCTime's. The first three and the first two that are refused
+/// are the examples of X.690 section 11.8.
 static UTC_TIMES: [(&str, bool); 16] = [
     ("920521000000Z", true),
     ("920622123421Z", true),
@@ -97,8 +98,9 @@ fn tells_utc_times(rt: HostRuntime) {
     }
 }
 
-/// Contents, and whether they are a GeneralizedTime's. The first three and the first three that are refused are the
-/// examples of X.690 section 11.7; 99991231235959Z is that of RFC 5280 section 4.1.2.5.
+/// Contents, and whether they are a GeneralizedTime's. The first three and the first three that are
+/// refused are the examples of X.690 section 11.7; 99991231235959Z is that of RFC 5280
+/// section 4.1.2.5.
 static GENERALIZED_TIMES: [(&str, bool); 17] = [
     ("19920521000000Z", true),
     ("19920622123421Z", true),
@@ -156,8 +158,9 @@ fn reads_times(rt: HostRuntime) {
     assert!(rt; first < last && first.is_valid());
 }
 
-/// Contents, and whether they are a NumericString's, a PrintableString's, a VisibleString's, an IA5String's and a
-/// UTF8String's. Jones is the example of X.690 section 8.23; the UTF-8 is from RFC 3629 sections 3, 7 and 10.
+/// Contents, and whether they are a NumericString's, a PrintableString's, a VisibleString's, an
+/// IA5String's and a UTF8String's. Jones is the example of X.690 section 8.23; the UTF-8 is from
+/// RFC 3629 sections 3, 7 and 10.
 static STRINGS: [(&[u8], [bool; 5]); 13] = [
     (b"", [true, true, true, true, true]),
     (b"0123 456789", [true, true, true, true, true]),

@@ -36,7 +36,8 @@ pub struct DateTime {
 }
 
 impl DateTime {
-    /// Returns `true` if there is this day in the Gregorian calendar, and this hour, minute and second in a day.
+    /// Returns `true` if there is this day in the Gregorian calendar, and this hour, minute and
+    /// second in a day.
     pub fn is_valid(&self) -> bool
         ensures { result ≡ is_date_time self.now }
     {
@@ -84,7 +85,8 @@ fn two_digits(digits: &[u8], at: usize) -> u8
     10 * (digits[at] - b'0') + (digits[at + 1] - b'0')
 }
 
-/// Returns the time in the year whose month, day, hour, minute and second these digits spell, two each.
+/// Returns the time in the year whose month, day, hour, minute and second these digits spell, two
+/// each.
 fn date_time_after(year: u16, digits: &[u8]) -> DateTime
     requires ten { length digits.now ≡ 10 }
     requires digits { AllPass is_ascii_digit digits.now }
@@ -100,7 +102,8 @@ fn date_time_after(year: u16, digits: &[u8]) -> DateTime
     }
 }
 
-/// Returns the time that the digits of a UTCTime spell. Years from 50 on are in the twentieth century.
+/// Returns the time that the digits of a UTCTime spell. Years from 50 on are in the twentieth
+/// century.
 fn utc_fields(digits: &[u8]) -> DateTime
     requires twelve { length digits.now ≡ 12 }
     requires digits { AllPass is_ascii_digit digits.now }
@@ -121,7 +124,8 @@ fn generalized_fields(digits: &[u8]) -> DateTime
     date_time_after(year, &digits[4..])
 }
 
-/// Returns `true` if the bytes are the digits of a fraction, the last of which isn't 0 (X.690 section 11.7.3).
+/// Returns `true` if the bytes are the digits of a fraction, the last of which isn't 0 (X.690
+/// section 11.7.3).
 fn is_fraction(digits: &[u8]) -> bool
     ensures { result ≡ is_fraction digits.now }
 {
@@ -131,8 +135,8 @@ fn is_fraction(digits: &[u8]) -> bool
     }
 }
 
-/// Returns `true` if the bytes are what may follow the seconds of a GeneralizedTime: Z, or a fraction of a second and Z
-/// (X.690 section 11.7).
+/// Returns `true` if the bytes are what may follow the seconds of a GeneralizedTime: Z, or a
+/// fraction of a second and Z (X.690 section 11.7).
 #[tactic(auto, unfolding(crate::specs::Times::ends_time))]
 fn ends_time(bytes: &[u8]) -> bool
     ensures { result ≡ ends_time bytes.now }
@@ -154,8 +158,8 @@ pub(crate) fn is_utc_time(bytes: &[u8]) -> bool
         && utc_fields(&bytes[..12]).is_valid()
 }
 
-/// Returns `true` if the bytes are the content of a GeneralizedTime: YYYYMMDDhhmmssZ, or the same with a fraction of a
-/// second before the Z (X.690 section 11.7).
+/// Returns `true` if the bytes are the content of a GeneralizedTime: YYYYMMDDhhmmssZ, or the same
+/// with a fraction of a second before the Z (X.690 section 11.7).
 pub(crate) fn is_generalized_time(bytes: &[u8]) -> bool
     ensures { result ≡ is_generalized_time bytes.now }
 {
@@ -166,8 +170,8 @@ pub(crate) fn is_generalized_time(bytes: &[u8]) -> bool
     are_digits(digits) && ends_time(end) && generalized_fields(digits).is_valid()
 }
 
-/// Returns the time that the content of a UTCTime spells. Years from 50 on are in the twentieth century (RFC 5280
-/// section 4.1.2.5.1).
+/// Returns the time that the content of a UTCTime spells. Years from 50 on are in the twentieth
+/// century (RFC 5280 section 4.1.2.5.1).
 #[tactic(auto, using(crate::specs::TimeLaws::utc_digits))]
 pub(crate) fn utc_date_time(bytes: &[u8]) -> DateTime
     requires { is_utc_time bytes.now ≡ true }

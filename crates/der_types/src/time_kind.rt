@@ -36,9 +36,10 @@ impl TimeKind for kind::GeneralizedTime {
 }
 
 impl<'a, K: TimeKind> Leaf<'a, K> {
-    /// Returns the time: that of a UTCTime, whose years from 50 on are in the twentieth century (RFC 5280 section
-    /// 4.1.2.5.1), or of a GeneralizedTime, without the fraction of a second. It is `None` only for a content that doesn't
-    /// pass the test of `K`, which [`Leaf::new`] and [`read_der`](sec1_der::read_der) refuse.
+    /// Returns the time: that of a UTCTime, whose years from 50 on are in the twentieth century
+    /// (RFC 5280 section 4.1.2.5.1), or of a GeneralizedTime, without the fraction of a second. It
+    /// is `None` only for a content that doesn't pass the test of `K`, which [`Leaf::new`] and
+    /// [`read_der`](sec1_der::read_der) refuse.
     pub fn date_time(&self) -> Option<DateTime>
         ensures { result ≡ (if K.passes self.now then Some (K.time self.now) else None) }
     {

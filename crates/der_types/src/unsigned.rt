@@ -17,7 +17,8 @@ use sec1_der::{
 };
 use std::marker::Model;
 
-/// An INTEGER that isn't negative, which borrows its content (X.690 section 8.3). A contract sees the number.
+/// An INTEGER that isn't negative, which borrows its content (X.690 section 8.3). A contract sees
+/// the number.
 #[derive(Drop)]
 pub struct Unsigned<'a> {
     bytes: &'a [u8],
@@ -28,7 +29,8 @@ impl<'a> Model for Unsigned<'a> {
 
     ghost view = { λ number. number_of number.bytes.now };
 
-    ghost invariant = { λ number. unsigned_content (number_of number.bytes.now) ≡ number.bytes.now };
+    ghost invariant = { λ number. unsigned_content (number_of number.bytes.now)
+        ≡ number.bytes.now };
 }
 
 impl<'a> Unsigned<'a> {
@@ -36,13 +38,15 @@ impl<'a> Unsigned<'a> {
     ///
     /// # Errors
     ///
-    /// Overlength if there are more than 268,435,455 bytes; then Value if they aren't the content of a number that
-    /// isn't negative.
+    /// Overlength if there are more than 268,435,455 bytes; then Value if they aren't the content
+    /// of a number that isn't negative.
     pub fn new(bytes: &'a [u8]) -> Result<Self>
-        ensures within { IsOk result ↔ ((length bytes.now ≤ max_length) × (is_unsigned bytes.now ≡ true)) }
+        ensures within { IsOk result
+            ↔ ((length bytes.now ≤ max_length) × (is_unsigned bytes.now ≡ true)) }
         ensures value { IfOk result (λ number. unsigned_content number ≡ bytes.now) }
         ensures overlength { max_length < length bytes.now → Refuses result ErrorKind.Overlength }
-        ensures kind { length bytes.now ≤ max_length → IfErr result (λ e. e.kind ≡ ErrorKind.Value) }
+        ensures kind { length bytes.now ≤ max_length
+            → IfErr result (λ e. e.kind ≡ ErrorKind.Value) }
     {
         Length::new(bytes.len())?;
         match Unsigned::from_content(bytes) {
@@ -71,7 +75,8 @@ impl<'a> Unsigned<'a> {
         self.bytes
     }
 
-    /// Borrows the digits of the number in base 256, the most significant first. There are none if the number is 0.
+    /// Borrows the digits of the number in base 256, the most significant first. There are none if
+    /// the number is 0.
     #[tactic(auto, using(crate::proofs::UnsignedLemmas::digits_of_content))]
     pub fn digits(&self) -> &'a [u8]
         ensures { result.now ≡ digits_of 256 self.now }
@@ -127,7 +132,8 @@ impl ValueContent for Unsigned<'_> {
 
     ghost is_content = { λ bytes. is_unsigned bytes ≡ true };
 
-    ghost content_is_valid = { λ number bytes same _. passes-same is_unsigned (unsigned_content number) bytes
+    ghost content_is_valid = { λ number bytes same _.
+        passes-same is_unsigned (unsigned_content number) bytes
         (is_unsigned-unsigned_content number) same };
 
     ghost fault = { λ bytes. value_unless (is_unsigned bytes) };

@@ -1,6 +1,6 @@
 -- The content of a key, and the key's bytes.
 use Rattle.std.proofs.Common.{◌≡◌, ◌∷◌, [], ℕ, List, Option, Some, None, option_map, IsSomeAnd, refl, append-nil, arith}
-use Rattle.sec1_der.proofs.ElementLemmas.{element_of-within}
+use Rattle.sec1_der.specs.ElementLaws.{element_of-within}
 use Rattle.sec1.specs.Der.{join, element_of, optional_of, IsTreeOf}
 use Rattle.sec1_der.specs.Identifiers.{content_of, identifier_content}
 use Rattle.sec1_der.specs.IdentifierLaws.{is_identifier-true, identifier_content-valid}

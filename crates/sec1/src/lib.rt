@@ -4,6 +4,7 @@
 //! Nothing is computed on curves. [`der`] is the layer of DER below.
 #![tactic(auto)]
 
+mod borrowed_key;
 mod error;
 pub mod laws;
 mod parameters;

@@ -5,11 +5,12 @@ ghost use Rattle.sec1.specs.Parameters.{curve_of};
 ghost use Rattle.sec1.specs.ReadsKey.{ReadsKey};
 ghost use Rattle.sec1.specs.Errors.{IsAsn1, RefusesAsn1};
 
+use crate::borrowed_key::BorrowedKey;
 use crate::{EcParameters, Error, Result, laws};
 use sec1_der as der;
 use sec1_der::{
-    Context0, ErrorKind, Explicit, ExplicitBits, ObjectIdentifier, Octets, Optional, Record,
-    Required, SecretDocument, VersionOne,
+    Context0, Distinct, ErrorKind, Explicit, ExplicitBits, ObjectIdentifier, Octets, Optional,
+    Record, Required, SecretDocument, VersionOne,
 };
 use std::alloc::Global;
 use std::fmt;
@@ -67,7 +68,8 @@ impl<'a> TryFrom<&'a [u8]> for EcPrivateKey<'a> {
     fn try_from(bytes: &'a [u8]) -> Result<EcPrivateKey<'a>> {
         laws::one_key();
         der::laws::trees_unique();
-        Ok(der::from_der(bytes)?)
+        let key: BorrowedKey = der::from_der(bytes)?;
+        Ok(key.to_key())
     }
 }
 
@@ -232,6 +234,8 @@ impl<'a> Record for EcPrivateKey<'a> {
     }
 
     ghost same = { λ _. refl };
+}
 
+impl Distinct for EcPrivateKey<'_> {
     ghost apart = { refl };
 }

@@ -1,9 +1,11 @@
 -- The states of the walk over a tree's bytes, and its steps.
-use Rattle.std.proofs.Common.{◌≡◌, ◌≢◌, ℕ, suc, ◌+◌, ◌-◌, ◌<◌, ◌≤◌, List, [], ◌∷◌, ◌++◌, length, take, drop, refl, ap, sym, ◌∙◌, subst, arith, ⊎_elim}
+use Rattle.std.proofs.Common.{◌≡◌, ◌≢◌, ℕ, suc, ◌+◌, ◌-◌, ◌<◌, ◌≤◌, List, [], ◌∷◌, ◌++◌, length, take, drop, refl, ap}
+use Rattle.std.proofs.Common.{sym, ◌∙◌, subst, arith, ⊎_elim}
 use Rattle.std.proofs.lemmas.List.{append_assoc, append-nil, length-append, length-take-le}
 use Rattle.sec1_der.specs.Elements.{header}
 use Rattle.sec1_der.specs.Refusals.{tree_fault}
-use Rattle.sec1_der.specs.Trees.{Tree, branch, Forest, none, first, bytes, joined, IsTree, AreTrees, IsTreeOf, size, total_size, depth, max_depth}
+use Rattle.sec1_der.specs.Trees.{Tree, branch, Forest, none, first, bytes, joined, IsTree, AreTrees, IsTreeOf, size}
+use Rattle.sec1_der.specs.Trees.{total_size, depth, max_depth}
 use Rattle.sec1_der.specs.Walks.{innermost, Skips, Opens, Enters}
 use Rattle.sec1_der.specs.declared.tree.TheConstants.{MAX_DEPTH}
 use Rattle.sec1_der.proofs.TreeLemmas.{some_bytes}
@@ -19,7 +21,8 @@ IsCounted input n = (t : Tree) × IsTreeOf t input × (depth t ≤ MAX_DEPTH) ×
 -- elements that were read.
 abbrev pub Completes : List ℕ → List ℕ → List ℕ → ℕ → Type 0
 Completes input [] rest count = rest ≡ [] → IsCounted input count
-Completes input (end ∷ ends) rest count = (f : Forest) (tail : List ℕ) → AreTrees f → suc (length ends) + max_depth f ≤ MAX_DEPTH
+Completes input (end ∷ ends) rest count =
+    (f : Forest) (tail : List ℕ) → AreTrees f → suc (length ends) + max_depth f ≤ MAX_DEPTH
     → rest ≡ joined f ++ tail → length tail ≡ end → Completes input ends tail (count + total_size f)
 
 -- ---- the states
@@ -61,7 +64,8 @@ root_next input old empty = rw empty (record {
 })
 
 -- inside a node that hasn't ended an element is next
-pub child_next : {input ends rest : List ℕ} {count : ℕ} → Walks input ends rest count → ends ≢ [] → length rest ≢ innermost ends → IsNext input ends rest count
+pub child_next : {input ends rest : List ℕ} {count : ℕ} → Walks input ends rest count → ends ≢ []
+    → length rest ≢ innermost ends → IsNext input ends rest count
 child_next {ends = []} w some apart = absurd (some refl)
 child_next {input = input} {ends = end ∷ ends} {rest = rest} w some apart =
     let at = w.at in
@@ -69,58 +73,86 @@ child_next {input = input} {ends = end ∷ ends} {rest = rest} w some apart =
     record {
       at = at;
       completes = λ t tail is shallow row f tail' are shallow' row' e. subst (Completes input ends tail') (omega arith)
-          (w.completes (first t f) tail' (is, are) (omega arith) (row ∙ rw row' (sym (append_assoc (bytes t) (joined f) tail'))) e);
-      fault_is = w.fault_is ∙ rw (row_some (length ends + 2) (take (length rest - end) rest) (omega arith) (omega arith)) refl;
+          (w.completes (first t f) tail' (is, are) (omega arith)
+          (row ∙ rw row' (sym (append_assoc (bytes t) (joined f) tail'))) e);
+      fault_is = w.fault_is
+          ∙ rw (row_some (length ends + 2) (take (length rest - end) rest) (omega arith) (omega arith)) refl;
     }
 
 -- the walk goes on after an element without children
-passed : (input ends rest after : List ℕ) (count : ℕ) → IsNext input ends rest count → Skips ends rest after → Walks input ends after (count + 1)
+passed : (input ends rest after : List ℕ) (count : ℕ) → IsNext input ends rest count → Skips ends rest after
+    → Walks input ends after (count + 1)
 passed input ends rest after count next p =
     let at = next.at in
     let single = p.single in
     let some = some_bytes p.tree in
     record {
-      at = record { room = at.room; counted = omega (arith, ap length p.row, length-append (bytes p.tree) after); inside = p.fits; nested = at.nested };
-      completes = subst (Completes input ends after) (omega arith) (next.completes p.tree after single.tree (omega arith) p.row);
+      at = record {
+        room = at.room;
+        counted =
+            omega (arith, ap length p.row, length-append (bytes p.tree) after);
+        inside = p.fits;
+        nested = at.nested;
+      };
+      completes = subst (Completes input ends after) (omega arith)
+          (next.completes p.tree after single.tree (omega arith) p.row);
       fault_is = next.fault_is ∙ element_passed ends rest after p;
     }
 
 -- the walk goes on inside a node with a content, where there is room for one more
-opened : (input ends rest after : List ℕ) (end count : ℕ) → IsNext input ends rest count → Opens ends rest end after → length ends < MAX_DEPTH - 1
+opened : (input ends rest after : List ℕ) (end count : ℕ) → IsNext input ends rest count → Opens ends rest end after
+    → length ends < MAX_DEPTH - 1
     → Walks input (end ∷ ends) after (count + 1)
 opened input ends rest after end count next o room =
     let at = next.at in
     let opening = o.opening in
     let lengths = length-append (header o.tag o.n) after in
     record {
-      at = record { room = room; counted = omega (arith, ap length opening.row); inside = omega (arith, opening.ends); nested = (o.fits, at.nested) };
+      at = record {
+        room = room;
+        counted = omega (arith, ap length opening.row);
+        inside =
+            omega (arith, opening.ends);
+        nested = (o.fits, at.nested);
+      };
       completes = λ f tail are shallow row e.
           let n : length (joined f) ≡ o.n = omega (arith, opening.ends, ap length row, length-append (joined f) tail) in
-          let is : IsTree (branch o.tag f) = (opening.tag_byte, opening.constructed, omega (arith, opening.within), are) in
-          let whole = opening.row ∙ rw (← n, row) (sym (append_assoc (header o.tag (length (joined f))) (joined f) tail)) in
+          let is : IsTree (branch o.tag f) =
+          (opening.tag_byte, opening.constructed, omega (arith, opening.within), are) in
+          let whole = opening.row
+          ∙ rw (← n, row) (sym (append_assoc (header o.tag (length (joined f))) (joined f) tail)) in
           subst (Completes input ends tail) (omega arith) (next.completes (branch o.tag f) tail is (omega arith) whole);
       fault_is = next.fault_is ∙ node_opened ends rest after end o;
     }
 
 -- the walk goes on where an element was skipped or opened
-pub entered : {input ends rest ends' after : List ℕ} {count : ℕ} → IsNext input ends rest count → Enters ends rest ends' after
+pub entered : {input ends rest ends' after : List ℕ} {count : ℕ} → IsNext input ends rest count
+    → Enters ends rest ends' after
     → Walks input ends' after (count + 1)
 entered next e = ⊎_elim (λ p. rw (p.1) (passed _ _ _ _ _ next p.0)) (λ o. rw (o.2) (opened _ _ _ _ _ _ next o.1 o.3)) e
 
 -- the walk goes on where a node has ended
-pub closed : {input ends ends' rest : List ℕ} {count : ℕ} → Walks input ends rest count → ends ≢ [] → ends' ≡ drop 1 ends → length rest ≡ innermost ends
+pub closed : {input ends ends' rest : List ℕ} {count : ℕ} → Walks input ends rest count → ends ≢ []
+    → ends' ≡ drop 1 ends → length rest ≡ innermost ends
     → Walks input ends' rest count
 closed {ends = []} w some is e = absurd (some refl)
 closed {input = input} {ends = end ∷ ends} {rest = rest} {count = count} w some is e =
     let at = w.at in
     let all : length rest - end ≡ 0 = omega arith in
     rw is (record {
-      at = record { room = omega arith; counted = at.counted; inside = omega (arith, at.nested.0); nested = at.nested.1 };
+      at = record {
+        room = omega arith;
+        counted = at.counted;
+        inside = omega (arith, at.nested.0);
+        nested =
+            at.nested.1;
+      };
       completes = subst (Completes input ends rest) (omega arith) (w.completes none rest tt (omega arith) refl e);
       fault_is = w.fault_is ∙ rw all refl;
     })
 
 -- a tree was read, and nothing is after it
-pub tree_read : {input ends rest : List ℕ} {count : ℕ} → Walks input ends rest count → ends ≡ [] → rest ≡ [] → IsCounted input count
+pub tree_read : {input ends rest : List ℕ} {count : ℕ} → Walks input ends rest count → ends ≡ [] → rest ≡ []
+    → IsCounted input count
 tree_read {ends = []} w empty nothing = w.completes nothing
 tree_read {ends = end ∷ ends} w empty nothing = absurd (cc empty)

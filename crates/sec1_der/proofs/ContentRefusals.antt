@@ -1,17 +1,18 @@
 -- What the contents of identifiers and of bit strings are refused by.
-use Rattle.std.proofs.Common.{◌≡◌, ℕ, ◌&&◌, ◌≤◌, List, [], ◌∷◌, length, append-nil, Some, None, refl, sym, ap, ◌∙◌, arith}
-use Rattle.std.proofs.Common.{⊎_elim, bytes_eq}
+use Rattle.std.proofs.Common.{◌≡◌, ℕ, ◌&&◌, ◌≤◌, List, [], ◌∷◌, length, append-nil, Some, None, refl, sym, ap, ◌∙◌}
+use Rattle.std.proofs.Common.{arith, ⊎_elim, bytes_eq}
 use Rattle.std.proofs.lemmas.Bool.{and_parts, cases_Bool}
 use Rattle.std.proofs.lemmas.Slice.Eq.{bytes_eq-Decides}
 use Rattle.sec1_der.specs.ArcsOf.{arcs_of}
 use Rattle.sec1_der.specs.Elements.{max_length, element, element_of}
-use Rattle.sec1_der.proofs.ElementLemmas.{element_of-some}
+use Rattle.sec1_der.specs.ElementLaws.{element_of-some}
 use Rattle.sec1_der.specs.Refusals.{no_fault, end_fault, element_fault}
-use Rattle.sec1_der.specs.Contents.{AreBits, bit_string_fault, whole_bits_fault, whole_bits_field_fault, identifier_fault}
+use Rattle.sec1_der.specs.Contents.{AreBits, bit_string_fault, whole_bits_fault, whole_bits_field_fault}
+use Rattle.sec1_der.specs.Contents.{identifier_fault}
 use Rattle.sec1_der.specs.Identifiers.{IsIdentifier, is_identifier, content_of}
 use Rattle.sec1_der.specs.IdentifierLaws.{is_identifier-true, is_identifier-valid}
 use Rattle.sec1_der.specs.declared.error.ErrorKind.TheVariants.{Value}
-use Rattle.sec1_der.proofs.RefusalLemmas.{alone, element_at}
+use Rattle.sec1_der.specs.RefusalLaws.{alone, element_at}
 use Rattle.sec1_der.proofs.IdentifierLemmas.{goes_on_from_spells}
 
 -- the content of an identifier isn't refused
@@ -21,13 +22,20 @@ identifier_taken arcs content h =
     rw ((goes_on_from_spells arcs content h.spells).1, is_identifier-valid arcs content h, spelled) refl
 
 -- a content of no identifier is refused as Value
-pub identifier_refused : (content : List ℕ) → ((arcs : List ℕ) → IsIdentifier arcs content → ⊥) → identifier_fault content ≡ Some Value
+pub identifier_refused : (content : List ℕ) → ((arcs : List ℕ) → IsIdentifier arcs content → ⊥)
+    → identifier_fault content ≡ Some Value
 identifier_refused content none =
     let arcs = arcs_of content in
     ⊎_elim
-    (λ e. let (is, same) = and_parts _ _ e in absurd (none arcs (rw ((bytes_eq-Decides (content_of arcs) content).0 same) at (is_identifier-true arcs is))))
+    (λ e. let (is, same) =
+    and_parts _ _ e in
+    absurd (none arcs (rw ((bytes_eq-Decides (content_of arcs) content).0 same) at
+    (is_identifier-true arcs is))))
     (λ e. rw e refl)
     (cases_Bool (is_identifier arcs && bytes_eq (content_of arcs) content))
+
+-- by these, a content is refused exactly if it is that of no identifier
+pub ruleset identifier_faults = (identifier_taken, identifier_refused)
 
 -- any bytes are a bit string without unused bits
 pub whole_is : (bytes : List ℕ) → AreBits 0 bytes
@@ -43,7 +51,9 @@ whole_inside inside bytes e =
 
 -- where the content of a field is a bit string, its fault is that of its unused bits
 pub bits_inside : (content bytes : List ℕ) → length content ≤ max_length → bytes ≡ element 0x03 content
-    → element_fault 0x03 bit_string_fault end_fault bytes ≡ None → whole_bits_field_fault bytes ≡ whole_bits_fault content
+    → element_fault 0x03 bit_string_fault end_fault bytes ≡ None
+    → whole_bits_field_fault bytes ≡ whole_bits_fault content
 bits_inside content bytes fits spelled none =
-    let second = element_at whole_bits_fault no_fault 0x03 content bytes [] fits (spelled ∙ sym (append-nil (element 0x03 content))) in
+    let second = element_at whole_bits_fault no_fault 0x03 content bytes [] fits
+    (spelled ∙ sym (append-nil (element 0x03 content))) in
     rw none (second ∙ alone (whole_bits_fault content))

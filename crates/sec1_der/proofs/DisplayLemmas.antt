@@ -1,5 +1,6 @@
 -- The dotted text of the numbers that are left.
-use Rattle.std.proofs.Common.{◌≡◌, ℕ, Bool, cond, List, [], ◌∷◌, ◌++◌, map, refl, ap, sym, arith, rules, append_assoc, append-nil}
+use Rattle.std.proofs.Common.{◌≡◌, ℕ, Bool, cond, List, [], ◌∷◌, ◌++◌, map, refl, ap, sym, arith, rules, append_assoc}
+use Rattle.std.proofs.Common.{append-nil}
 use Rattle.std.specs.List.{flat_map, join_with_byte}
 use Rattle.std.specs.Fmt.{decimal, HasWritten, IsPlainFormatter}
 use Rattle.std.proofs.Output.{has_written_append}
@@ -27,11 +28,18 @@ pub record IsShown {W : Type 0} (took : W → List ℕ → W → Type 0) (f g : 
   pub row : written ++ rest ≡ all
 
 -- at the beginning all is left
-pub shown_none : {W : Type 0} (took : W → List ℕ → W → Type 0) (f : Formatter W) (all : List ℕ) → IsPlainFormatter f → IsShown took f f all all
+pub shown_none : {W : Type 0} (took : W → List ℕ → W → Type 0) (f : Formatter W) (all : List ℕ) → IsPlainFormatter f
+    → IsShown took f f all all
 shown_none took f all plain = record { written = []; wrote = search rules; row = refl }
 
 -- a further piece is written
-pub shown_more : {W : Type 0} (took : W → List ℕ → W → Type 0) (e f g : Formatter W) (text piece rest all : List ℕ) → IsShown took e f text all
+pub shown_more : {W : Type 0} (took : W → List ℕ → W → Type 0) (e f g : Formatter W) (text piece rest all : List ℕ)
+    → IsShown took e f text all
     → HasWritten took f piece g → text ≡ piece ++ rest → IsShown took e g rest all
 shown_more took e f g text piece rest all s wrote parts =
-    record { written = s.written ++ piece; wrote = has_written_append _ _ _ _ _ _ s.wrote wrote; row = grind (arith, append_assoc, s.row) }
+    record {
+      written = s.written ++ piece;
+      wrote = has_written_append _ _ _ _ _ _ s.wrote wrote;
+      row =
+          grind (arith, append_assoc, s.row);
+    }

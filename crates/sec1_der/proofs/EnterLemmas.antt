@@ -1,43 +1,65 @@
 -- The next element in a slice whose last bytes belong to outer nodes.
-use Rattle.std.proofs.Common.{◌≡◌, ℕ, ◌+◌, ◌-◌, ◌<◌, ◌≤◌, List, ◌++◌, length, take, drop, bit_and, ◌⊎◌, refl, ap, sym, ◌∙◌, arith, ⊎_elim}
+use Rattle.std.proofs.Common.{◌≡◌, ℕ, ◌+◌, ◌-◌, ◌<◌, ◌≤◌, List, ◌++◌, length, take, drop, bit_and, ◌⊎◌, refl, ap, sym}
+use Rattle.std.proofs.Common.{◌∙◌, arith, ⊎_elim}
 use Rattle.std.proofs.lemmas.Bool.{cases_eq}
-use Rattle.std.proofs.lemmas.List.{append_assoc, length-append, length-drop, length-take, length-take-le, take-append-drop, take_rest, drop_at, nil_from_length}
+use Rattle.std.proofs.lemmas.List.{append_assoc, length-append, length-drop, length-take, length-take-le}
+use Rattle.std.proofs.lemmas.List.{take-append-drop, take_rest, drop_at, nil_from_length}
 use Rattle.sec1_der.specs.Elements.{IsConstructed, IsHeader, header, element}
 use Rattle.sec1_der.specs.Trees.{Tree, leaf, branch, none, bytes}
 use Rattle.sec1_der.specs.Walks.{IsSingle, innermost, Skips, Opens}
 
 -- The slice begins with a header, then bytes with room for its content, then the last bytes.
 abbrev pub IsInFront : List ℕ → List ℕ → ℕ → ℕ → ℕ → Type 0
-IsInFront rest inside tag n end = IsHeader tag n × (take (length rest - end) rest ≡ header tag n ++ inside) × (n ≤ length inside)
+IsInFront rest inside tag n end =
+    IsHeader tag n × (take (length rest - end) rest ≡ header tag n ++ inside) × (n ≤ length inside)
 
 -- what is inside is no longer than all before the end
 pub inside_within : (rest front inside : List ℕ) (room : ℕ) → take room rest ≡ front ++ inside → length inside ≤ room
 inside_within rest front inside room e = omega (arith, ap length e, length-append front inside, length-take room rest)
 
--- if the bytes before the end begin with a front, the slice from its end on is the rest of them and what follows the end
-from_start : (rest front inside : List ℕ) (end start : ℕ) → end ≤ length rest → take (length rest - end) rest ≡ front ++ inside
+-- if the bytes before the end begin with a front, the slice from its end on is the rest of them and what follows the
+-- end
+from_start : (rest front inside : List ℕ) (end start : ℕ) → end ≤ length rest
+    → take (length rest - end) rest ≡ front ++ inside
     → start + length inside ≡ length rest - end
-    → (rest ≡ front ++ take (length rest - start) (drop start rest)) × (length (take (length rest - start) (drop start rest)) ≡ length inside + end)
+    → (rest ≡ front ++ take (length rest - start) (drop start rest))
+    × (length (take (length rest - start) (drop start rest)) ≡ length inside + end)
 from_start rest front inside end start within e l =
     let room = length rest - end in
     let row : rest ≡ front ++ (inside ++ drop room rest) =
-    sym (take-append-drop room rest) ∙ (ap (λ xs. xs ++ drop room rest) e ∙ append_assoc front inside (drop room rest)) in
-    let count : length front ≡ start = omega (arith, ap length e, length-append front inside, length-take-le room rest (omega arith)) in
-    let behind = take_rest rest start ∙ (ap (drop start) row ∙ drop_at front (inside ++ drop room rest) start count) in
-    (row ∙ ap (λ xs. front ++ xs) (sym behind), omega (arith, length-take (length rest - start) (drop start rest), length-drop start rest))
+    sym (take-append-drop room rest)
+    ∙ (ap (λ xs. xs ++ drop room rest) e ∙ append_assoc front inside (drop room rest)) in
+    let count : length front
+    ≡ start = omega (arith, ap length e, length-append front inside, length-take-le room rest (omega arith)) in
+    let behind = take_rest rest start
+    ∙ (ap (drop start) row ∙ drop_at front (inside ++ drop room rest) start count) in (
+      row ∙ ap (λ xs. front ++ xs) (sym behind),
+      omega (arith, length-take (length rest - start) (drop start rest), length-drop start rest),
+    )
 
 -- the header of a node with a content
-pub opens_at : (rest inside ends : List ℕ) (tag n end m : ℕ) → IsInFront rest inside tag n end → end ≡ innermost ends → m ≡ n → 0 < n
+pub opens_at : (rest inside ends : List ℕ) (tag n end m : ℕ) → IsInFront rest inside tag n end → end ≡ innermost ends
+    → m ≡ n → 0 < n
     → IsConstructed tag
-    → Opens ends rest (end + length inside - m) (take (length rest - (length rest - end - length inside)) (drop (length rest - end - length inside) rest))
+    → Opens ends rest (end + length inside - m)
+    (take (length rest - (length rest - end - length inside)) (drop (length rest - end - length inside) rest))
 opens_at rest inside ends tag n end m f is same some constructed =
     let few = inside_within rest (header tag n) inside (length rest - end) f.1 in
     let within : end ≤ length rest = omega (arith, ap length f.1, length-take (length rest - end) rest) in
-    let (row, behind) = from_start rest (header tag n) inside end (length rest - end - length inside) within f.1 (omega arith) in
+    let (row, behind) = from_start rest (header tag n) inside end (length rest - end - length inside) within f.1
+    (omega arith) in
     record {
       tag = tag;
       n = n;
-      opening = record { tag_byte = f.0.tag_byte; constructed = constructed; some = some; within = f.0.within; row = row; ends = omega arith };
+      opening = record {
+        tag_byte = f.0.tag_byte;
+        constructed = constructed;
+        some = some;
+        within = f.0.within;
+        row =
+            row;
+        ends = omega arith;
+      };
       fits = omega arith;
     }
 
@@ -45,15 +67,29 @@ opens_at rest inside ends tag n end m f is same some constructed =
 single_tree : (tag : ℕ) (content : List ℕ) → IsHeader tag (length content) → ¬ IsConstructed tag ⊎ (length content ≡ 0)
     → (t : Tree) × IsSingle t × (bytes t ≡ element tag content)
 single_tree tag content h which = ⊎_elim
-    (λ (plain : bit_and tag 32 ≡ 0). (leaf tag content, record { tree = (h.tag_byte, λ set. set plain, h.within); alone = refl; shallow = refl }, refl))
-    (λ set. let empty = nil_from_length content (⊎_elim (λ plain. absurd (plain set)) (λ none. none) which) in
-    (branch tag none, record { tree = (h.tag_byte, set, omega arith, tt); alone = refl; shallow = refl }, rw empty refl))
+    (λ (plain : bit_and tag 32 ≡ 0). (
+      leaf tag content,
+      record {
+        tree = (h.tag_byte, λ set. set plain, h.within);
+        alone = refl;
+        shallow =
+            refl;
+      },
+      refl,
+    ))
+    (λ set. let empty = nil_from_length content (⊎_elim (λ plain. absurd (plain set)) (λ none. none) which) in (
+      branch tag none,
+      record { tree = (h.tag_byte, set, omega arith, tt); alone = refl; shallow = refl },
+      rw empty refl,
+    ))
     (cases_eq (bit_and tag 32) 0)
 
 -- an element without children
-pub passes_at : (rest inside ends : List ℕ) (tag n end m : ℕ) → IsInFront rest inside tag n end → end ≡ innermost ends → m ≡ n
+pub passes_at : (rest inside ends : List ℕ) (tag n end m : ℕ) → IsInFront rest inside tag n end
+    → end ≡ innermost ends → m ≡ n
     → ¬ IsConstructed tag ⊎ (n ≡ 0)
-    → Skips ends rest (take (length rest - (length rest - end - length inside + m)) (drop (length rest - end - length inside + m) rest))
+    → Skips ends rest (take (length rest - (length rest - end - length inside + m))
+    (drop (length rest - end - length inside + m) rest))
 passes_at rest inside ends tag n end m f is same which =
     let content = take n inside in
     let size : length content ≡ n = length-take-le n inside f.2 in
@@ -62,6 +98,7 @@ passes_at rest inside ends tag n end m f is same which =
     rw (size, append_assoc (header tag n) content (drop n inside), take-append-drop n inside) refl in
     let few = inside_within rest (header tag n) inside (length rest - end) f.1 in
     let within : end ≤ length rest = omega (arith, ap length f.1, length-take (length rest - end) rest) in
-    let (row, behind) = from_start rest (element tag content) (drop n inside) end (length rest - end - length inside + m) within (f.1 ∙ split)
+    let (row, behind) = from_start rest (element tag content) (drop n inside) end
+    (length rest - end - length inside + m) within (f.1 ∙ split)
     (omega (arith, length-drop n inside)) in
     record { tree = t.0; single = t.1; row = rw (t.2) row; fits = omega (arith, behind) }

@@ -1,25 +1,39 @@
 -- Which contents are identifiers', and what their arcs are.
-use Rattle.std.proofs.Common.{◌≡◌, ℕ, zero, suc, ◌+◌, ◌*◌, ◌/◌, ◌%◌, ◌^◌, ◌<◌, ◌≤◌, Bool, true, false, cond, ◌&&◌, eqb, ltb, List, [], ◌∷◌, ◌++◌}
-use Rattle.std.proofs.Common.{Some, length, get_or, drop, ◌↔◌, refl, ap, arith}
+use Rattle.std.proofs.Common.{◌≡◌, ℕ, zero, suc, ◌+◌, ◌*◌, ◌/◌, ◌%◌, ◌^◌, ◌<◌, ◌≤◌, Bool, true, false, cond, ◌&&◌, eqb}
+use Rattle.std.proofs.Common.{ltb, List, [], ◌∷◌, ◌++◌, Some, length, get_or, drop, ◌↔◌, refl, sym, ap, arith}
 use Rattle.std.proofs.lemmas.Bool.Decides.{nat_tests}
-use Rattle.std.proofs.lemmas.List.{append_assoc, append-nil, flat_map_more, map-append, length-append, drop_more, take_at}
+use Rattle.std.proofs.lemmas.List.{append_assoc, append-nil, flat_map_more, map-append, length-append, drop_more}
+use Rattle.std.proofs.lemmas.List.{take_at}
 use Rattle.std.proofs.lemmas.Nat.{div-mul-add, mod-mul-add}
-use Rattle.std.proofs.lemmas.Int.Digits.{digits_of_step}
 use Rattle.std.specs.Int.Digits.{digits_of}
 use Rattle.std.specs.List.{flat_map, AllByRecursion}
 use Rattle.sec1_der.specs.Numbers.{base128, marked}
 use Rattle.sec1_der.specs.Stored.{arcs_stored, IsStored}
 use Rattle.sec1_der.specs.declared.object_identifier.ObjectIdentifier.TheInside.{Inside}
 use Rattle.sec1_der.specs.ArcsOf.{padded, numbers_after, arcs_of_numbers, arcs_of}
-use Rattle.sec1_der.specs.Identifiers.{AreArcs, Spells, IsIdentifier, identifier_content}
+use Rattle.sec1_der.specs.Identifiers.{AreArcs, Spells, IsIdentifier, IsIdentifierContent, identifier_content}
 use Rattle.sec1_der.specs.IdentifierLaws.{identifier_content-valid}
 use Rattle.sec1_der.specs.declared.object_identifier.TheConstants.{MAX_CONTENT}
-use Rattle.sec1_der.proofs.DigitLemmas.{IsBytes, digits_of-push}
+use Rattle.sec1_der.specs.DigitLaws.{IsBytes, digits_of-push, marked_step}
 
 -- the bytes go on a spelling whose digits so far are those of high, and end one
 abbrev pub goes_on : ℕ → List ℕ → Bool
 goes_on high [] = eqb high 0
-goes_on high (b ∷ bs) = cond (eqb high 0 && eqb b 128) false (cond (ltb high (2 ^ 25)) (goes_on (cond (ltb b 128) 0 (high * 128 + b % 128)) bs) false)
+goes_on high (b ∷ bs) =
+    cond (eqb high 0 && eqb b 128) false
+    (cond (ltb high (2 ^ 25)) (goes_on (cond (ltb b 128) 0 (high * 128 + b % 128)) bs) false)
+
+-- the width of the digits of a number below 2^25: how many they are, where a first one of 16 or more counts as two
+abbrev pub width_of : ℕ → ℕ
+width_of high =
+    cond (eqb high 0) 0 (cond (ltb high (2 ^ 4)) 1 (cond (ltb high (2 ^ 11)) 2 (cond (ltb high (2 ^ 18)) 3 4)))
+
+-- the same test by the width of the digits so far
+abbrev pub is_narrow : ℕ → List ℕ → Bool
+is_narrow width [] = eqb width 0
+is_narrow width (b ∷ bs) = cond (ltb b 0x80) (is_narrow 0 bs) (cond (eqb width 0)
+    (cond (eqb b 0x80) false (is_narrow (cond (ltb b 0x90) 1 2) bs))
+    (cond (ltb width 4) (is_narrow (width + 1) bs) false))
 
 -- each number is below 2^32
 abbrev pub AreSmall : List ℕ → Type 0
@@ -38,19 +52,42 @@ record IsSpelled (high : ℕ) (bs ns : List ℕ) : Type 0 where
   pub small : AreSmall ns
 
 -- bytes that pass the test spell the numbers that are read of them
-spelled_after : (high : ℕ) (bs : List ℕ) → IsBytes bs → goes_on high bs ≡ true → IsSpelled high bs (numbers_after high bs)
+spelled_after : (high : ℕ) (bs : List ℕ) → IsBytes bs → goes_on high bs ≡ true
+    → IsSpelled high bs (numbers_after high bs)
 spelled_after high [] h e = grind (arith, nat_tests)
 spelled_after high (b ∷ bs) h e =
     let n = high * 128 + b % 128 in
     let tail = λ (i : ℕ). h (suc i) in
     let digits = digits_of-push 128 high (b % 128) in
-    grind (arith, nat_tests, h 0, spelled_after 0 bs tail, spelled_after n bs tail, digits, div-mul-add, mod-mul-add, map-append, append_assoc)
+    grind (
+      arith,
+      nat_tests,
+      h 0,
+      spelled_after 0 bs tail,
+      spelled_after n bs tail,
+      digits,
+      div-mul-add,
+      mod-mul-add,
+      map-append,
+      append_assoc,
+    )
+
+-- ---- widths
+
+-- no bytes go on a number of too many digits
+too_long : (high : ℕ) (bs : List ℕ) → 2 ^ 25 ≤ high → goes_on high bs ≡ false
+too_long high [] l = grind (arith, nat_tests)
+too_long high (b ∷ bs) l = grind (arith, nat_tests)
+
+-- the width of the digits says as much as their number
+goes_on-width : (high : ℕ) (bs : List ℕ) → IsBytes bs → high < 2 ^ 25 → goes_on high bs ≡ is_narrow (width_of high) bs
+goes_on-width high [] h l = grind (arith, nat_tests)
+goes_on-width high (b ∷ bs) h l =
+    let n = high * 128 + b % 128 in
+    let tail = λ (i : ℕ). h (suc i) in
+    grind (arith, nat_tests, h 0, goes_on-width 0 bs tail, goes_on-width n bs tail, too_long n bs)
 
 -- ---- what is spelled goes on
-
--- the digits of a number, without the last
-pub marked_step : (n : ℕ) → 0 < n → marked (digits_of 128 n) ≡ marked (digits_of 128 (n / 128)) ++ (128 + n % 128) ∷ []
-marked_step n some = grind (arith, digits_of_step 128 n, map-append)
 
 -- what the function that writes the digits takes
 pub ruleset marked_steps = (marked_step, append_assoc, length-append)
@@ -61,10 +98,12 @@ read_marked : (most n : ℕ) (rest : List ℕ) → n ≤ most → n < 2 ^ 32 →
 read_marked most zero rest l small = (refl, refl)
 read_marked zero (suc n) rest l small = absurd (omega arith)
 read_marked (suc most) (suc n) rest l small =
-    rw (marked_step (suc n) (omega arith), append_assoc) (grind (arith, nat_tests, read_marked most (suc n / 128) ((128 + suc n % 128) ∷ rest)))
+    rw (marked_step (suc n) (omega arith), append_assoc)
+    (grind (arith, nat_tests, read_marked most (suc n / 128) ((128 + suc n % 128) ∷ rest)))
 
 -- the numbers that are spelled are read
-read_all : (ns : List ℕ) → AreSmall ns → (numbers_after 0 (flat_map base128 ns) ≡ ns) × (goes_on 0 (flat_map base128 ns) ≡ true)
+read_all : (ns : List ℕ) → AreSmall ns → (numbers_after 0 (flat_map base128 ns) ≡ ns)
+    × (goes_on 0 (flat_map base128 ns) ≡ true)
 read_all [] small = (refl, refl)
 read_all (n ∷ ns) small =
     let rest = flat_map base128 ns in
@@ -73,22 +112,37 @@ read_all (n ∷ ns) small =
 -- ---- contents
 
 -- a content of arcs goes on, and the arcs are its own
-pub goes_on_from_spells : (arcs content : List ℕ) → Spells arcs content → (goes_on 0 content ≡ true) × (arcs_of content ≡ arcs)
+pub goes_on_from_spells : (arcs content : List ℕ) → Spells arcs content
+    → (goes_on 0 content ≡ true) × (arcs_of content ≡ arcs)
 goes_on_from_spells [] content s = absurd s.allowed
 goes_on_from_spells (a ∷ []) content s = absurd s.allowed
-goes_on_from_spells (a ∷ b ∷ cs) content s = rw s.spelled (grind (arith, nat_tests, read_all ((40 * a + b) ∷ cs) (s.allowed.2, s.allowed.3)))
+goes_on_from_spells (a ∷ b ∷ cs) content s =
+    rw s.spelled (grind (arith, nat_tests, read_all ((40 * a + b) ∷ cs) (s.allowed.2, s.allowed.3)))
 
 -- numbers that are spelled are those of arcs
 spells_arcs : (content ns : List ℕ) → 0 < length content → IsSpelled 0 content ns → Spells (arcs_of_numbers ns) content
 spells_arcs content [] some s = absurd (omega (arith, ap length s.row))
 spells_arcs content (n ∷ ns) some s = grind (arith, nat_tests)
 
--- the test decides whether bytes spell arcs
-pub goes_on-decides : (content : List ℕ) → IsBytes content → 0 < length content → (goes_on 0 content ≡ true) ↔ ((arcs : List ℕ) × Spells arcs content)
-goes_on-decides content h some = (
-  λ e. (arcs_of content, spells_arcs content (numbers_after 0 content) some (spelled_after 0 content h e)),
-  λ s. (goes_on_from_spells s.0 content s.1).0,
-)
+-- the test by widths decides whether bytes spell arcs
+pub is_narrow-decides : (content : List ℕ) → IsBytes content → 0 < length content
+    → (is_narrow 0 content ≡ true) ↔ ((arcs : List ℕ) × Spells arcs content)
+is_narrow-decides content h some =
+    rw (sym (goes_on-width 0 content h (omega arith))) (
+      λ e. (arcs_of content, spells_arcs content (numbers_after 0 content) some (spelled_after 0 content h e)),
+      λ s. (goes_on_from_spells s.0 content s.1).0,
+    )
+
+-- the arcs that are read of an identifier's content are the identifier's
+pub read_arcs : (arcs content : List ℕ) → IsIdentifier arcs content → arcs_of content ≡ arcs
+read_arcs arcs content is = (goes_on_from_spells arcs content is.spells).1
+
+-- an identifier's content is that of the arcs that are read of it
+pub own_arcs : (content : List ℕ) → IsIdentifierContent content → IsIdentifier (arcs_of content) content
+own_arcs content (arcs, is) = rw (read_arcs arcs content is) is
+
+-- what a value that holds a content takes
+pub ruleset held_contents = (read_arcs, own_arcs)
 
 -- one byte is read
 pub read_byte : (high i : ℕ) (content : List ℕ) → i < length content
@@ -99,17 +153,24 @@ read_byte high i content l = rw (drop_more content i 0 l) (refl, refl)
 -- what the loops over a content take
 pub ruleset content_steps = (nat_tests, read_byte)
 
+-- where no bytes are left, a subidentifier begins or the content was cut
+pub narrow_end : (width : ℕ) (bs : List ℕ) → length bs ≡ 0 → is_narrow width bs ≡ eqb width 0
+narrow_end width [] e = refl
+narrow_end width (b ∷ bs) e = absurd (omega arith)
+
 -- ---- the stored form
 
 -- the content of an identifier in front, zeros after it, and its length hold the identifier
-pub content_is_stored : (arcs content : List ℕ) → IsIdentifier arcs content → let o : Inside = record { bytes = padded content; len = length content } in
+pub content_is_stored : (arcs content : List ℕ) → IsIdentifier arcs content → let o : Inside =
+    record { bytes = padded content; len = length content } in
     IsStored o × (arcs_stored o ≡ arcs)
 content_is_stored arcs content is = grind (arith, goes_on_from_spells arcs content is.spells, take_at)
 
 -- ---- writing
 
 -- an identifier has this content, and an element can hold it
-pub identifier_fits : (arcs content : List ℕ) → IsIdentifier arcs content → (identifier_content arcs ≡ Some content) × (length content ≤ MAX_CONTENT)
+pub identifier_fits : (arcs content : List ℕ) → IsIdentifier arcs content → (identifier_content arcs ≡ Some content)
+    × (length content ≤ MAX_CONTENT)
 identifier_fits arcs content is = (identifier_content-valid arcs content is, is.short)
 
 -- ---- building
@@ -120,9 +181,18 @@ pub first_two : (a b n : ℕ) (content : List ℕ) → AreArcs (a ∷ b ∷ []) 
 first_two a b n content allowed shared is = grind (arith, goes_on_from_spells (a ∷ b ∷ []) content, append-nil)
 
 -- the same of a content with one more arc after it
-pub one_more_arc : (arcs content : List ℕ) (n : ℕ) (more : List ℕ) → Spells arcs content → n < 2 ^ 32 → more ≡ content ++ base128 n
+pub one_more_arc : (arcs content : List ℕ) (n : ℕ) (more : List ℕ) → Spells arcs content → n < 2 ^ 32
+    → more ≡ content ++ base128 n
     → Spells (arcs_of more) more × (arcs_of more ≡ arcs ++ n ∷ [])
 one_more_arc [] content n more s small is = absurd s.allowed
 one_more_arc (a ∷ []) content n more s small is = absurd s.allowed
 one_more_arc (a ∷ b ∷ cs) content n more s small is =
-    grind (arith, goes_on_from_spells (a ∷ b ∷ (cs ++ n ∷ [])) more, small_push cs n s.allowed.3 small, flat_map_more base128 (base128 (40 * a + b)) cs n)
+    grind (
+      arith,
+      goes_on_from_spells (a ∷ b ∷ (cs ++ n ∷ [])) more,
+      small_push cs n s.allowed.3 small,
+      flat_map_more base128 (base128 (40 * a + b)) cs n,
+    )
+
+-- by these, the test of contents is exact
+pub ruleset content_tests = (content_steps, goes_on_from_spells)

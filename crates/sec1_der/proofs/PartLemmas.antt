@@ -1,31 +1,14 @@
 -- Parts of a SEQUENCE.
-use Rattle.std.proofs.Common.{◌≡◌, ◌==◌, ◌++◌, ◌∷◌, [], ◌||◌, not, ℕ, List, Bool, true, false, refl, sym, ◌∙◌, ap, if◌then◌else◌}
-use Rattle.std.proofs.Common.{Option, Some, None, IsSomeAnd, Result, Ok, Err, eq-eqb}
+use Rattle.std.proofs.Common.{◌≡◌, ◌==◌, ◌++◌, ◌∷◌, [], ◌||◌, not, ℕ, List, Bool, true, false, refl, sym, ◌∙◌, ap}
+use Rattle.std.proofs.Common.{Option, Some, None, IsSomeAnd, eq-eqb}
 use Rattle.std.proofs.lemmas.Bool.{and_parts, eqb-true}
-use Rattle.std.specs.Option.{option_or}
 use Rattle.sec1_der.specs.Parts.{Tags, is_among, disjoint, Begins, MayFollow, both_tags}
 use Rattle.sec1_der.specs.PartLaws.{among_left, among_right}
 use Rattle.sec1_der.specs.Readers.{Reader, HasReadElement}
-use Rattle.sec1_der.specs.Refusals.{Fault, no_fault, optional_fault, is_next, length_at, within, parts_fault, element_fault}
-use Rattle.sec1_der.specs.declared.error.ErrorKind.{ErrorKind}
-use Rattle.sec1_der.specs.declared.error.ErrorKind.TheVariants.{Tag}
-use Rattle.sec1_der.proofs.ElementLemmas.{element_of-some, element_of-within}
-use Rattle.sec1_der.proofs.RefusalLemmas.{reads_on}
-
--- what is refused stays so where more is tested behind it
-pub refused_more : (f g : Fault) (tag : ℕ) (bytes : List ℕ) (k : ErrorKind) → element_fault tag f no_fault bytes ≡ Some k → element_fault tag f g bytes ≡ Some k
-refused_more f g tag [] k e = e
-refused_more f g tag (byte ∷ bytes) k e = by (byte == tag) (within (length_at bytes)) e
-  where
-    more : (o p : Option ErrorKind) → option_or o None ≡ Some k → option_or o p ≡ Some k
-    more None p e = absurd (cc e)
-    more (Some j) p e = e
-
-    by : (b : Bool) (found : Result (List ℕ × List ℕ) ErrorKind) → (if b then parts_fault f no_fault found else Some Tag) ≡ Some k
-        → (if b then parts_fault f g found else Some Tag) ≡ Some k
-    by false found e = e
-    by true (Err kind) e = e
-    by true (Ok x) e = more (f x.0) (g x.1) e
+use Rattle.sec1_der.specs.Refusals.{Fault, no_fault, optional_fault, is_next}
+use Rattle.sec1_der.specs.Refusals.{element_fault}
+use Rattle.sec1_der.specs.ElementLaws.{element_of-some, element_of-within}
+use Rattle.sec1_der.specs.RefusalLaws.{reads_on}
 
 pub ruleset one_element = (element_of-some, element_of-within)
 
@@ -33,7 +16,8 @@ false_unless : (b : Bool) → (b ≡ true → ⊥) → b ≡ false
 false_unless true never = absurd (never refl)
 false_unless false never = refl
 
-by_tag : (tag x : ℕ) (c : Bool) (ys : List ℕ) → not (is_among x ys) ≡ true → is_among tag ys ≡ true → (c ≡ true → ⊥) → (b : Bool) → (tag == x) ≡ b → (b || c) ≡ true → ⊥
+by_tag : (tag x : ℕ) (c : Bool) (ys : List ℕ) → not (is_among x ys) ≡ true → is_among tag ys ≡ true → (c ≡ true → ⊥)
+    → (b : Bool) → (tag == x) ≡ b → (b || c) ≡ true → ⊥
 by_tag tag x c ys apart among rest true same also = absurd (cc (apart, rw (eqb-true tag x same) at among))
 by_tag tag x c ys apart among rest false differ also = rest also
 
@@ -47,19 +31,25 @@ apart_among tag (x ∷ xs) ys d among also =
 abbrev with_tags : List ℕ → Bool → List ℕ → Bool → Tags
 with_tags firsts empty barred apart = record { firsts = firsts; may_be_empty = empty; barred = barred; apart = apart }
 
-next_by : (pf po qf qo : List ℕ) (p q pa qa : Bool) (y rest : List ℕ) → disjoint po qf ≡ true → Begins (with_tags qf q qo qa) y
-    → MayFollow (both_tags (with_tags pf p po pa) (with_tags qf q qo qa)) rest → MayFollow (with_tags pf p po pa) (y ++ rest)
+next_by : (pf po qf qo : List ℕ) (p q pa qa : Bool) (y rest : List ℕ) → disjoint po qf ≡ true
+    → Begins (with_tags qf q qo qa) y
+    → MayFollow (both_tags (with_tags pf p po pa) (with_tags qf q qo qa)) rest
+    → MayFollow (with_tags pf p po pa) (y ++ rest)
 next_by pf po qf qo p false pa qa [] rest d e n = absurd (cc e)
 next_by pf po qf qo p true pa qa [] [] d e n = tt
 next_by pf po qf qo p true pa qa [] (byte ∷ rest) d e n =
     false_unless (is_among byte po) (λ among. absurd (cc (sym (among_right byte qo po among) ∙ n)))
-next_by pf po qf qo p q pa qa (byte ∷ y) rest d e n = false_unless (is_among byte po) (λ among. apart_among byte po qf d e among)
+next_by pf po qf qo p q pa qa (byte ∷ y) rest d e n =
+    false_unless (is_among byte po) (λ among. apart_among byte po qf d e among)
 
 -- what may follow two parts, behind the second, may follow the first
-pub next_first : (p q : Tags) (y rest : List ℕ) → disjoint p.barred q.firsts ≡ true → Begins q y → MayFollow (both_tags p q) rest → MayFollow p (y ++ rest)
-next_first p q y rest d e n = next_by p.firsts p.barred q.firsts q.barred p.may_be_empty q.may_be_empty p.apart q.apart y rest d e n
+pub next_first : (p q : Tags) (y rest : List ℕ) → disjoint p.barred q.firsts ≡ true → Begins q y
+    → MayFollow (both_tags p q) rest → MayFollow p (y ++ rest)
+next_first p q y rest d e n =
+    next_by p.firsts p.barred q.firsts q.barred p.may_be_empty q.may_be_empty p.apart q.apart y rest d e n
 
-second_by : (pf po qf qo : List ℕ) (p q pa qa : Bool) (rest : List ℕ) → MayFollow (both_tags (with_tags pf p po pa) (with_tags qf q qo qa)) rest
+second_by : (pf po qf qo : List ℕ) (p q pa qa : Bool) (rest : List ℕ)
+    → MayFollow (both_tags (with_tags pf p po pa) (with_tags qf q qo qa)) rest
     → MayFollow (with_tags qf q qo qa) rest
 second_by pf po qf qo p q pa qa [] n = tt
 second_by pf po qf qo p false pa qa (byte ∷ rest) n = n
@@ -68,17 +58,21 @@ second_by pf po qf qo p true pa qa (byte ∷ rest) n =
 
 -- what may follow two parts may follow the second
 pub next_second : (p q : Tags) (rest : List ℕ) → MayFollow (both_tags p q) rest → MayFollow q rest
-next_second p q rest n = second_by p.firsts p.barred q.firsts q.barred p.may_be_empty q.may_be_empty p.apart q.apart rest n
+next_second p q rest n =
+    second_by p.firsts p.barred q.firsts q.barred p.may_be_empty q.may_be_empty p.apart q.apart rest n
 
 -- a reader that read an element had its tag next
-next_read : (tag : ℕ) (content : Option (List ℕ)) (P : List ℕ → Type 0) (old new : Reader) → IsSomeAnd content (λ inside. P inside × HasReadElement tag inside old new)
+next_read : (tag : ℕ) (content : Option (List ℕ)) (P : List ℕ → Type 0) (old new : Reader)
+    → IsSomeAnd content (λ inside. P inside × HasReadElement tag inside old new)
     → is_next tag old.unread ≡ true
 next_read tag None P old new found = absurd found
-next_read tag (Some inside) P old new found = rw (ap (λ (r : Reader). r.unread) found.1.read.was_whole) (eq-eqb tag tag refl)
+next_read tag (Some inside) P old new found =
+    rw (ap (λ (r : Reader). r.unread) found.1.read.was_whole) (eq-eqb tag tag refl)
 
 -- the fault of an optional element that was read is that of what follows it
 pub optional_passes : (f : Fault) (tag : ℕ) (content : Option (List ℕ)) (P : List ℕ → Type 0) (old new : Reader)
-    → IsSomeAnd content (λ inside. P inside × HasReadElement tag inside old new) → element_fault tag f no_fault old.unread ≡ None
+    → IsSomeAnd content (λ inside. P inside × HasReadElement tag inside old new)
+    → element_fault tag f no_fault old.unread ≡ None
     → (behind : Fault) → optional_fault tag f behind old.unread ≡ behind new.unread
 optional_passes f tag content P old new found none behind =
     rw (next_read tag content P old new found) ((reads_on f tag content P old new found none).next behind)

@@ -1,21 +1,24 @@
 -- What the bytes of trees are refused by.
-use Rattle.std.proofs.Common.{◌≡◌, ℕ, ◌+◌, ◌<◌, ◌≤◌, max, nat_lt, if◌then◌else◌, List, [], ◌++◌, length, Option, Some, None, Result, Ok, Err, IfOk}
-use Rattle.std.proofs.Common.{bit_and, refl, ap, sym, ◌∙◌, arith, ⊎_elim}
+use Rattle.std.proofs.Common.{◌≡◌, ℕ, ◌+◌, ◌<◌, ◌≤◌, max, nat_lt, if◌then◌else◌, List, [], ◌++◌, length, Option, Some}
+use Rattle.std.proofs.Common.{None, Result, Ok, Err, IfOk, bit_and, refl, ap, sym, ◌∙◌, arith, ⊎_elim}
 use Rattle.std.proofs.lemmas.Bool.{lt-ltb, le-ltb, ne_eqb, cases_lt}
 use Rattle.std.proofs.lemmas.Bool.Decides.{nat_tests}
 use Rattle.std.proofs.lemmas.List.{append_assoc, append-nil, length-append}
 use Rattle.std.specs.Option.{option_or}
 use Rattle.sec1_der.specs.Elements.{IsHeader, IsProperBeginning, LacksHeader, header, element}
 use Rattle.sec1_der.specs.Refusals.{Fault, HasFault, end_fault, any_fault, nested_fault, tree_fault}
-use Rattle.sec1_der.specs.Trees.{Tree, leaf, branch, Forest, none, first, bytes, joined, IsTree, AreTrees, IsTreeOf, size, depth, max_depth}
+use Rattle.sec1_der.specs.Trees.{Tree, leaf, branch, Forest, none, first, bytes, joined, IsTree, AreTrees, IsTreeOf}
+use Rattle.sec1_der.specs.Trees.{size, depth, max_depth}
 use Rattle.sec1_der.specs.declared.error.Error.{Error}
 use Rattle.sec1_der.specs.declared.error.ErrorKind.{ErrorKind}
 use Rattle.sec1_der.specs.declared.error.ErrorKind.TheVariants.{Truncated, Depth}
 use Rattle.sec1_der.specs.declared.tree.TheConstants.{MAX_DEPTH}
 use Rattle.sec1_der.proofs.CheckLemmas.{IsCounted}
-use Rattle.sec1_der.proofs.DigitLemmas.{IsBytes}
-use Rattle.sec1_der.proofs.HeaderLemmas.{longer, header_front, header_apart, some_length}
-use Rattle.sec1_der.proofs.RefusalLemmas.{any_at, any_lacks, any_short}
+use Rattle.sec1_der.specs.DigitLaws.{IsBytes}
+use Rattle.sec1_der.proofs.HeaderLemmas.{longer, header_front, some_length}
+use Rattle.sec1_der.specs.ElementLaws.{header_apart}
+use Rattle.sec1_der.proofs.RefusalLemmas.{any_lacks, any_short}
+use Rattle.sec1_der.specs.RefusalLaws.{any_at}
 use Rattle.sec1_der.proofs.TreeLemmas.{some_bytes, tree_apart}
 use Rattle.sec1_der.proofs.TreeRefusals.{leaf_passes, row_at, row_some, row_deep, tree_next}
 
@@ -29,8 +32,10 @@ deep_or above a b = grind (arith, nat_tests)
 
 mutual
   -- a tree below so many levels, and what follows it
-  tree_at : (t : Tree) (above : ℕ) (behind : Fault) (bs rest : List ℕ) → IsTree t → bs ≡ bytes t ++ rest → above < MAX_DEPTH
-      → any_fault (nested_fault (row_at (above + 1 + 1))) behind bs ≡ option_or (deep_fault (above + depth t)) (behind rest)
+  tree_at : (t : Tree) (above : ℕ) (behind : Fault) (bs rest : List ℕ) → IsTree t → bs ≡ bytes t ++ rest
+      → above < MAX_DEPTH
+      → any_fault (nested_fault (row_at (above + 1 + 1))) behind bs ≡ option_or (deep_fault (above + depth t))
+      (behind rest)
   tree_at (leaf tag content) above behind bs rest is e fits =
       any_at _ behind tag content bs rest (record { tag_byte = is.0; within = is.2 }) e
       ∙ rw (leaf_passes (row_at (above + 1 + 1)) tag content is.1, le-ltb MAX_DEPTH (above + 1) (omega arith)) refl
@@ -40,33 +45,41 @@ mutual
       (ap (λ n. option_or (deep_fault n) (behind rest)) (omega arith))
 
   -- trees in a row, below so many levels
-  forest_at : (f : Forest) (above : ℕ) → AreTrees f → above ≤ MAX_DEPTH → row_at (above + 1) (joined f) ≡ deep_fault (above + max_depth f)
+  forest_at : (f : Forest) (above : ℕ) → AreTrees f → above ≤ MAX_DEPTH
+      → row_at (above + 1) (joined f) ≡ deep_fault (above + max_depth f)
   forest_at none above are fits = rw (le-ltb MAX_DEPTH (above + 0) (omega arith)) refl
   forest_at (first t f) above are fits =
       let row = bytes t ++ joined f in
       let some = some_bytes t in
       let lengths = length-append (bytes t) (joined f) in
       ⊎_elim
-      (λ l. row_some (above + 1) row (omega arith) (omega arith) ∙ (tree_at t above (row_at (above + 1)) row (joined f) are.0 refl l
+      (λ l. row_some (above + 1) row (omega arith) (omega arith)
+      ∙ (tree_at t above (row_at (above + 1)) row (joined f) are.0 refl l
       ∙ rw (forest_at f above are.1 fits) (deep_or above (depth t) (max_depth f))))
-      (λ l. row_deep (above + 1) row (omega arith) (omega arith) ∙ rw (lt-ltb MAX_DEPTH (above + max (depth t) (max_depth f)) (omega arith)) refl)
+      (λ l. row_deep (above + 1) row (omega arith) (omega arith)
+      ∙ rw (lt-ltb MAX_DEPTH (above + max (depth t) (max_depth f)) (omega arith)) refl)
       (cases_lt above MAX_DEPTH)
 
 -- the fault of a tree and of what follows it
-tree_faults : (t : Tree) (input rest : List ℕ) → IsTree t → input ≡ bytes t ++ rest → tree_fault input ≡ option_or (deep_fault (depth t)) (end_fault rest)
+tree_faults : (t : Tree) (input rest : List ℕ) → IsTree t → input ≡ bytes t ++ rest
+    → tree_fault input ≡ option_or (deep_fault (depth t)) (end_fault rest)
 tree_faults t input rest is e =
-    tree_next input ∙ (tree_at t 0 end_fault input rest is e (omega arith) ∙ ap (λ n. option_or (deep_fault n) (end_fault rest)) (omega arith))
+    tree_next input ∙ (tree_at t 0 end_fault input rest is e (omega arith)
+    ∙ ap (λ n. option_or (deep_fault n) (end_fault rest)) (omega arith))
 
 -- a tree that is too deep
 pub deep_tree : (t : Tree) (input : List ℕ) → IsTreeOf t input → MAX_DEPTH < depth t → tree_fault input ≡ Some Depth
-deep_tree t input h deep = tree_faults t input [] h.tree (h.whole ∙ sym (append-nil (bytes t))) ∙ rw (lt-ltb MAX_DEPTH (depth t) deep) refl
+deep_tree t input h deep =
+    tree_faults t input [] h.tree (h.whole ∙ sym (append-nil (bytes t))) ∙ rw (lt-ltb MAX_DEPTH (depth t) deep) refl
 
 -- another tree, and what follows it
-pub shallow_tree : (t : Tree) (input rest : List ℕ) → IsTree t → depth t ≤ MAX_DEPTH → input ≡ bytes t ++ rest → tree_fault input ≡ end_fault rest
+pub shallow_tree : (t : Tree) (input rest : List ℕ) → IsTree t → depth t ≤ MAX_DEPTH → input ≡ bytes t ++ rest
+    → tree_fault input ≡ end_fault rest
 shallow_tree t input rest is shallow e = tree_faults t input rest is e ∙ rw (le-ltb MAX_DEPTH (depth t) shallow) refl
 
 -- an element that is cut short
-element_cut : (f : ℕ → Fault) (g : Fault) (tag : ℕ) (content input : List ℕ) → IsBytes input → IsHeader tag (length content)
+element_cut : (f : ℕ → Fault) (g : Fault) (tag : ℕ) (content input : List ℕ) → IsBytes input
+    → IsHeader tag (length content)
     → IsProperBeginning input (element tag content) → any_fault f g input ≡ Some Truncated
 element_cut f g tag content input all h cut = ⊎_elim
     (λ l. any_lacks f g input all (lacks l) ∙ ⊎_elim
@@ -80,19 +93,25 @@ element_cut f g tag content input all h cut = ⊎_elim
   where
     lacks : length input < length (header tag (length content)) → LacksHeader input
     lacks l tag' n rest h' e =
-        let joined = sym (append_assoc (header tag' n) rest cut.more) ∙ (ap (λ xs. xs ++ cut.more) (sym e) ∙ sym cut.split) in
+        let joined = sym (append_assoc (header tag' n) rest cut.more)
+        ∙ (ap (λ xs. xs ++ cut.more) (sym e) ∙ sym cut.split) in
         let same = header_apart tag' n tag (length content) (rest ++ cut.more) content joined in
         omega (arith, ap length e, length-append (header tag' n) rest, ap (λ m. length (header tag' m)) same.1)
 
 -- a tree that is cut short
-pub cut_tree : (t : Tree) (input : List ℕ) → IsBytes input → IsTree t → IsProperBeginning input (bytes t) → tree_fault input ≡ Some Truncated
-cut_tree (leaf tag content) input all is cut = element_cut _ end_fault tag content input all (record { tag_byte = is.0; within = is.2 }) cut
-cut_tree (branch tag f) input all is cut = element_cut _ end_fault tag (joined f) input all (record { tag_byte = is.0; within = is.2 }) cut
+pub cut_tree : (t : Tree) (input : List ℕ) → IsBytes input → IsTree t → IsProperBeginning input (bytes t)
+    → tree_fault input ≡ Some Truncated
+cut_tree (leaf tag content) input all is cut =
+    element_cut _ end_fault tag content input all (record { tag_byte = is.0; within = is.2 }) cut
+cut_tree (branch tag f) input all is cut =
+    element_cut _ end_fault tag (joined f) input all (record { tag_byte = is.0; within = is.2 }) cut
 
 -- a count of a tree's elements
-pub counted : (result : Result ℕ Error) (input : List ℕ) (t : Tree) → IfOk result (IsCounted input) → HasFault result (tree_fault input)
+pub counted : (result : Result ℕ Error) (input : List ℕ) (t : Tree) → IfOk result (IsCounted input)
+    → HasFault result (tree_fault input)
     → IsTreeOf t input → depth t ≤ MAX_DEPTH → result ≡ Ok (size t)
 counted (Ok n) input t found h is shallow =
     let same = tree_apart found.0 t [] [] found.1.tree is.tree (cc (found.1.whole, is.whole)) in
     cc (found.3, same.0)
-counted (Err error) input t found h is shallow = absurd (cc (h, shallow_tree t input [] is.tree shallow (is.whole ∙ sym (append-nil (bytes t)))))
+counted (Err error) input t found h is shallow =
+    absurd (cc (h, shallow_tree t input [] is.tree shallow (is.whole ∙ sym (append-nil (bytes t)))))

@@ -1,10 +1,11 @@
 -- What rows of elements are refused by, and what a walk over a tree has left.
-use Rattle.std.proofs.Common.{◌≡◌, ℕ, zero, suc, ◌+◌, ◌-◌, ◌<◌, ◌≤◌, if◌then◌else◌, nat_lt, bit_and, List, [], ◌∷◌, ◌++◌, length, take, drop}
-use Rattle.std.proofs.Common.{Option, Some, None, ◌⊎◌, ⊎_elim, refl, ap, sym, ◌∙◌, arith}
+use Rattle.std.proofs.Common.{◌≡◌, ℕ, zero, suc, ◌+◌, ◌-◌, ◌<◌, ◌≤◌, if◌then◌else◌, nat_lt, bit_and, List, [], ◌∷◌}
+use Rattle.std.proofs.Common.{◌++◌, length, take, drop, Option, Some, None, ◌⊎◌, ⊎_elim, refl, ap, sym, ◌∙◌, arith}
 use Rattle.std.proofs.Math.Seq.{take-append-add, drop-append-add}
 use Rattle.std.proofs.lemmas.Bool.{lt-ltb, le-ltb, ne_eqb}
 use Rattle.std.proofs.lemmas.Bool.Decides.{nat_tests}
-use Rattle.std.proofs.lemmas.List.{take_all, length-append, length-take, length-take-le, length-drop, append_assoc, take-append-drop}
+use Rattle.std.proofs.lemmas.List.{take_all, length-append, length-take, length-take-le, length-drop, append_assoc}
+use Rattle.std.proofs.lemmas.List.{take-append-drop}
 use Rattle.std.specs.Option.{option_or}
 use Rattle.sec1_der.specs.Elements.{length_octets, element, IsConstructed, IsHeader}
 use Rattle.sec1_der.specs.Refusals.{Fault, end_fault, any_fault, nested_fault, row_fault, tree_fault}
@@ -13,7 +14,7 @@ use Rattle.sec1_der.specs.Walks.{IsSingle, innermost, Skips, Opens, IsTooDeep}
 use Rattle.sec1_der.specs.declared.tree.TheConstants.{MAX_DEPTH}
 use Rattle.sec1_der.specs.declared.error.ErrorKind.{ErrorKind}
 use Rattle.sec1_der.specs.declared.error.ErrorKind.TheVariants.{Depth}
-use Rattle.sec1_der.proofs.RefusalLemmas.{any_at}
+use Rattle.sec1_der.specs.RefusalLaws.{any_at}
 
 -- the content of a leaf isn't refused
 pub leaf_passes : (f : Fault) (tag : ℕ) (content : List ℕ) → ¬ IsConstructed tag → nested_fault f tag content ≡ None
@@ -22,13 +23,15 @@ leaf_passes f tag content plain = grind (arith, nat_tests)
 -- ---- a bound on the recursion
 
 -- two faults of an element are the same if they agree on fewer bytes, inside it and after it
-nested_alike : (f g h k : Fault) (tag : ℕ) (bytes : List ℕ) → ((content : List ℕ) → length content ≤ length bytes → f content ≡ h content)
+nested_alike : (f g h k : Fault) (tag : ℕ) (bytes : List ℕ)
+    → ((content : List ℕ) → length content ≤ length bytes → f content ≡ h content)
     → ((behind : List ℕ) → length behind ≤ length bytes → g behind ≡ k behind)
     → any_fault (nested_fault f) g (tag ∷ bytes) ≡ any_fault (nested_fault h) k (tag ∷ bytes)
 nested_alike f g h k tag bytes inside behind = grind (arith, length-take {A = ℕ}, length-drop {A = ℕ})
 
 -- the fault of a row is the same by any bound on its bytes
-row_bound : (m n level : ℕ) (bytes : List ℕ) → length bytes ≤ m → length bytes ≤ n → row_fault m level bytes ≡ row_fault n level bytes
+row_bound : (m n level : ℕ) (bytes : List ℕ) → length bytes ≤ m → length bytes ≤ n
+    → row_fault m level bytes ≡ row_fault n level bytes
 row_bound zero zero level [] l r = refl
 row_bound zero (suc n) level [] l r = refl
 row_bound (suc m) zero level [] l r = refl
@@ -50,7 +53,8 @@ pub row_some : (level : ℕ) (bytes : List ℕ) → 0 < length bytes → level �
 row_some level [] some fits = absurd (omega arith)
 row_some level (b ∷ bs) some fits =
     rw (le-ltb MAX_DEPTH level fits)
-    (nested_alike _ _ _ _ b bs (λ content few. row_bound (length bs) (length content) (level + 1) content (omega arith) (omega arith))
+    (nested_alike _ _ _ _ b bs
+    (λ content few. row_bound (length bs) (length content) (level + 1) content (omega arith) (omega arith))
     (λ behind few. row_bound (length bs) (length behind) level behind (omega arith) (omega arith)))
 
 -- a row at level 65 is too deep
@@ -62,26 +66,33 @@ row_deep level (b ∷ bs) some deep = rw (lt-ltb MAX_DEPTH level (omega arith)) 
 pub tree_next : (input : List ℕ) → tree_fault input ≡ any_fault (nested_fault (row_at 2)) end_fault input
 tree_next [] = refl
 tree_next (b ∷ bs) = nested_alike _ end_fault _ end_fault b bs
-    (λ content few. row_bound (suc (length bs)) (length content) 2 content (omega arith) (omega arith)) (λ behind few. refl)
+    (λ content few. row_bound (suc (length bs)) (length content) 2 content (omega arith) (omega arith))
+    (λ behind few. refl)
 
 -- ---- what a walk has left
 
 -- what is left, where these nodes are open
 abbrev pub open_fault : List ℕ → Fault
 open_fault [] rest = end_fault rest
-open_fault (end ∷ ends) rest = option_or (row_at (length ends + 2) (take (length rest - end) rest)) (open_fault ends (drop (length rest - end) rest))
+open_fault (end ∷ ends) rest =
+    option_or (row_at (length ends + 2) (take (length rest - end) rest))
+    (open_fault ends (drop (length rest - end) rest))
 
 -- what is left, where an element has to be next
 abbrev pub next_fault : List ℕ → Fault
 next_fault [] rest = any_fault (nested_fault (row_at 2)) end_fault rest
 next_fault (end ∷ ends) rest =
-    option_or (any_fault (nested_fault (row_at (length ends + 2 + 1))) (row_at (length ends + 2)) (take (length rest - end) rest))
+    option_or (any_fault (nested_fault (row_at (length ends + 2 + 1))) (row_at (length ends + 2))
+    (take (length rest - end) rest))
     (open_fault ends (drop (length rest - end) rest))
 
 -- where an element is next, the fault is that of its content, or else of the bytes after it
-next_element : (ends rest after : List ℕ) (tag : ℕ) (content : List ℕ) → IsHeader tag (length content) → rest ≡ element tag content ++ after
-    → innermost ends ≤ length after → next_fault ends rest ≡ option_or (nested_fault (row_at (length ends + 2)) tag content) (open_fault ends after)
-next_element [] rest after tag content h is fits = any_at (nested_fault (row_at 2)) end_fault tag content rest after h is
+next_element : (ends rest after : List ℕ) (tag : ℕ) (content : List ℕ) → IsHeader tag (length content)
+    → rest ≡ element tag content ++ after
+    → innermost ends ≤ length after
+    → next_fault ends rest ≡ option_or (nested_fault (row_at (length ends + 2)) tag content) (open_fault ends after)
+next_element [] rest after tag content h is fits =
+    any_at (nested_fault (row_at 2)) end_fault tag content rest after h is
 next_element (end ∷ ends) rest after tag content h is fits =
     let e = element tag content in
     let n = length after - end in
@@ -110,15 +121,19 @@ element_passed ends rest after p = by p.tree p.single p.row
     by (branch tag (first (branch tag' inside) children)) single is = absurd (omega (arith, single.alone))
 
 -- where a node with a content was opened, the fault is that of the bytes inside it and after it
-pub node_opened : (ends rest after : List ℕ) (end : ℕ) → Opens ends rest end after → next_fault ends rest ≡ open_fault (end ∷ ends) after
+pub node_opened : (ends rest after : List ℕ) (end : ℕ) → Opens ends rest end after
+    → next_fault ends rest ≡ open_fault (end ∷ ends) after
 node_opened ends rest after end o =
     let n = length after - end in
     let content = take n after in
     let count : length content ≡ o.n = omega (arith, length-take-le n after (omega arith), o.opening.ends) in
-    let is : IsHeader o.tag (length content) = record { tag_byte = o.opening.tag_byte; within = omega (arith, count, o.opening.within) } in
+    let is : IsHeader o.tag
+    (length content) = record { tag_byte = o.opening.tag_byte; within = omega (arith, count, o.opening.within) } in
     let whole : rest ≡ element o.tag content ++ drop n after =
-    rw (append_assoc (length_octets (length content)) content (drop n after), take-append-drop n after, count) o.opening.row in
-    next_element ends rest (drop n after) o.tag content is whole (omega (arith, length-drop n after, o.opening.ends, o.fits))
+    rw (append_assoc (length_octets (length content)) content (drop n after), take-append-drop n after, count)
+    o.opening.row in
+    next_element ends rest (drop n after) o.tag content is whole
+    (omega (arith, length-drop n after, o.opening.ends, o.fits))
     ∙ rw (ne_eqb (bit_and o.tag 0x20) 0 o.opening.constructed) refl
 
 -- where as many nodes are open as may be, a further one with a content is refused as too deep
@@ -127,16 +142,20 @@ next_deep ends rest d =
     let opening = d.opens.opening in
     let few = length-take-le (length d.after - d.end) d.after (omega arith) in
     node_opened ends rest d.after d.end d.opens
-    ∙ rw (row_deep (length ends + 2) (take (length d.after - d.end) d.after) (omega (arith, opening.some, opening.ends)) (omega (arith, d.full))) refl
+    ∙ rw (row_deep (length ends + 2) (take (length d.after - d.end) d.after) (omega (arith, opening.some, opening.ends))
+    (omega (arith, d.full))) refl
 
 -- what is next is refused as too deep, or by its own bytes
 pub next_refused : (ends rest : List ℕ) (k : ErrorKind) → (k ≡ Depth → IsTooDeep ends rest)
-    → (k ≡ Depth) ⊎ ((content : ℕ → Fault) (behind : Fault) → any_fault content behind (take (length rest - innermost ends) rest) ≡ Some k)
+    → (k ≡ Depth) ⊎ ((content : ℕ → Fault) (behind : Fault)
+    → any_fault content behind (take (length rest - innermost ends) rest) ≡ Some k)
     → next_fault ends rest ≡ Some k
 next_refused ends rest k deep kinds =
     ⊎_elim (λ is. next_deep ends rest (deep is) ∙ ap (λ j. Some j) (sym is)) (λ any. by ends any) kinds
   where
-    by : (ends : List ℕ) → ((content : ℕ → Fault) (behind : Fault) → any_fault content behind (take (length rest - innermost ends) rest) ≡ Some k)
+    by : (ends : List ℕ)
+        → ((content : ℕ → Fault) (behind : Fault)
+        → any_fault content behind (take (length rest - innermost ends) rest) ≡ Some k)
         → next_fault ends rest ≡ Some k
     by [] any = rw (take_all (length rest - 0) rest (omega arith)) at any (nested_fault (row_at 2)) end_fault
     by (end ∷ ends) any = rw (any (nested_fault (row_at (length ends + 2 + 1))) (row_at (length ends + 2))) refl

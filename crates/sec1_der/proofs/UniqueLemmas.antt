@@ -1,5 +1,6 @@
 -- Parts that are apart, and values with one content, are the same.
-use Rattle.std.proofs.Common.{◌≡◌, [], ◌∷◌, ◌++◌, ◌∙◌, ℕ, List, Option, Some, None, true, ap, refl, sym, ap₂, append_assoc}
+use Rattle.std.proofs.Common.{◌≡◌, [], ◌∷◌, ◌++◌, ◌∙◌, ℕ, List, Option, Some, None, true, ap, refl, sym, ap₂}
+use Rattle.std.proofs.Common.{append_assoc}
 use Rattle.std.specs.Option.{option_map}
 use Rattle.std.proofs.lemmas.Bool.{and_parts}
 use Rattle.sec1_der.specs.Elements.{element_of}
@@ -8,16 +9,17 @@ use Rattle.sec1_der.specs.PartLaws.{element_begins}
 use Rattle.sec1_der.proofs.PartLemmas.{next_first, next_second}
 use Rattle.sec1_der.specs.IdentifierLaws.{identifier_content-some}
 use Rattle.sec1_der.specs.Identifiers.{identifier_content}
-use Rattle.sec1_der.proofs.ComponentLemmas.{parted}
-use Rattle.sec1_der.proofs.ElementLemmas.{element_of-some}
+use Rattle.sec1_der.specs.PartLaws.{parted}
+use Rattle.sec1_der.specs.ElementLaws.{element_of-some}
 use Rattle.sec1_der.proofs.DottedLemmas.{same_arcs}
-use Rattle.sec1_der.proofs.TreeLemmas.{element_apart}
+use Rattle.sec1_der.specs.ElementLaws.{element_apart}
 
 -- no two values have one content
 abbrev pub IsUnique : {A : Type 0} → (A → Option (List ℕ)) → Type 0
 IsUnique {A} content = (a b : A) (bytes : List ℕ) → content a ≡ Some bytes → content b ≡ Some bytes → a ≡ b
 
--- where elements of one tag, and what follows them, have the same bytes, the values are the same, and so is what follows them
+-- where elements of one tag, and what follows them, have the same bytes, the values are the same, and so is what
+-- follows them
 same_values : (tag : ℕ) {A : Type 0} (content : A → Option (List ℕ)) → IsUnique content → (a b : A) (x y r s : List ℕ)
     → element_of tag (content a) ≡ Some x → element_of tag (content b) ≡ Some y → x ++ r ≡ y ++ s → (a ≡ b) × (r ≡ s)
 same_values tag content one a b x y r s e f same =
@@ -27,11 +29,13 @@ same_values tag content one a b x y r s e f same =
     (one a b p.inside p.same (rw is.1 q.same), is.2)
 
 -- elements of one tag are apart
-pub one_apart : (tag : ℕ) {A : Type 0} (content : A → Option (List ℕ)) → IsUnique content → AreApart (one_tag tag) (λ a. element_of tag (content a))
+pub one_apart : (tag : ℕ) {A : Type 0} (content : A → Option (List ℕ)) → IsUnique content
+    → AreApart (one_tag tag) (λ a. element_of tag (content a))
 one_apart tag content one a b x y r s apart e f before behind same = same_values tag content one a b x y r s e f same
 
 -- two elements of one tag that have one content are the same
-pub unique_inside : (tag : ℕ) {A : Type 0} (content : A → Option (List ℕ)) → IsUnique content → IsUnique (λ a. element_of tag (content a))
+pub unique_inside : (tag : ℕ) {A : Type 0} (content : A → Option (List ℕ)) → IsUnique content
+    → IsUnique (λ a. element_of tag (content a))
 unique_inside tag content one a b bytes e f = (same_values tag content one a b bytes bytes [] [] e f refl).0
 
 -- bits with one content are the same
@@ -39,7 +43,8 @@ pub unique_bits : IsUnique (λ (bytes : List ℕ). element_of 0x03 (Some (0 ∷ 
 unique_bits = unique_inside 0x03 (λ (bytes : List ℕ). Some (0 ∷ bytes)) (λ a b bytes e f. cc (e, f))
 
 -- what may follow an optional element doesn't begin with its tag
-not_present : (tag : ℕ) (content : Option (List ℕ)) (r y s : List ℕ) → element_of tag content ≡ Some y → MayFollow (optional_tag tag) r → r ≡ y ++ s → ⊥
+not_present : (tag : ℕ) (content : Option (List ℕ)) (r y s : List ℕ) → element_of tag content ≡ Some y
+    → MayFollow (optional_tag tag) r → r ≡ y ++ s → ⊥
 not_present tag content r y s e may same = by y (element_begins tag content y e) same
   where
     by : (y : List ℕ) → Begins (one_tag tag) y → r ≡ y ++ s → ⊥
@@ -64,8 +69,10 @@ optional_apart tag content one (Some a) (Some b) x y r s apart e f before behind
     (ap (λ v. Some v) is.0, is.1)
 
 -- parts that are apart are so one after the other
-pub pair_apart : (p q : Tags) {P Q : Type 0} (first : P → Option (List ℕ)) (second : Q → Option (List ℕ)) → AreApart p first → AreApart q second
-    → ((b : Q) (bytes : List ℕ) → second b ≡ Some bytes → Begins q bytes) → AreApart (both_tags p q) (λ (ab : P × Q). join (first ab.0) (second ab.1))
+pub pair_apart : (p q : Tags) {P Q : Type 0} (first : P → Option (List ℕ)) (second : Q → Option (List ℕ))
+    → AreApart p first → AreApart q second
+    → ((b : Q) (bytes : List ℕ) → second b ≡ Some bytes → Begins q bytes)
+    → AreApart (both_tags p q) (λ (ab : P × Q). join (first ab.0) (second ab.1))
 pair_apart p q first second one two begins (a, c) (b, d) x y r s apart e f before behind same =
     let x = parted (first a) (second c) x e in
     let y = parted (first b) (second d) y f in
@@ -76,13 +83,16 @@ pair_apart p q first second one two begins (a, c) (b, d) x y r s apart e f befor
     let front = one a b x.front y.front (x.back ++ r) (y.back ++ s) tags.0 x.first_there y.first_there
     (next_first p q x.back r more.1 (begins c x.back x.second_there) before)
     (next_first p q y.back s more.1 (begins d y.back y.second_there) behind) split in
-    let back = two c d x.back y.back r s more.0 x.second_there y.second_there (next_second p q r before) (next_second p q s behind) front.1 in
+    let back = two c d x.back y.back r s more.0 x.second_there y.second_there (next_second p q r before)
+    (next_second p q s behind) front.1 in
     (ap₂ (λ a c. (a, c)) front.0 back.0, back.1)
 
 -- two values of one part that is all of their bytes are the same
-pub unique_parts : (tags : Tags) {A : Type 0} (bytes : A → Option (List ℕ)) → AreApart tags bytes → tags.apart ≡ true → IsUnique bytes
+pub unique_parts : (tags : Tags) {A : Type 0} (bytes : A → Option (List ℕ)) → AreApart tags bytes → tags.apart ≡ true
+    → IsUnique bytes
 unique_parts tags bytes one apart a b whole e f = (one a b whole whole [] [] apart e f tt tt refl).0
 
 -- two lists of arcs with one content are the same
 pub unique_identifier : IsUnique identifier_content
-unique_identifier a b bytes e f = same_arcs a b bytes (identifier_content-some a bytes e).spells (identifier_content-some b bytes f).spells
+unique_identifier a b bytes e f =
+    same_arcs a b bytes (identifier_content-some a bytes e).spells (identifier_content-some b bytes f).spells

@@ -1,6 +1,6 @@
 -- The contents of the primitive types.
-use Rattle.std.specs.Prelude.{◌≡◌, ◌==◌, ℕ, ◌-◌, ◌^◌, ◌%◌, ◌<◌, ◌≤◌, nat_le, Bool, false, ◌&&◌, if◌then◌else◌, List, [], ◌∷◌, length, slice_index}
-use Rattle.std.specs.Prelude.{Option, Some, None}
+use Rattle.std.specs.Prelude.{◌≡◌, ◌==◌, ℕ, ◌-◌, ◌^◌, ◌%◌, ◌<◌, ◌≤◌, nat_le, Bool, false, ◌&&◌}
+use Rattle.std.specs.Prelude.{if◌then◌else◌, List, [], ◌∷◌, length, slice_index, Option, Some, None}
 use Rattle.std.specs.Str.{bytes_eq}
 use Rattle.sec1_der.specs.ArcsOf.{arcs_of}
 use Rattle.sec1_der.specs.Identifiers.{is_identifier, content_of}
@@ -13,8 +13,8 @@ use Rattle.sec1_der.specs.declared.error.ErrorKind.TheVariants.{Value}
 abbrev pub IsVersionOne : List ℕ → Type 0
 IsVersionOne content = content ≡ 1 ∷ []
 
--- X.690 sections 8.6 and 11.2.1: a number of unused bits. It is 0 if there are no bytes, and the unused bits,
--- the lowest of the last byte, are zero.
+-- X.690 sections 8.6 and 11.2.1: a number of unused bits. It is 0 if there are no bytes, and the
+-- unused bits, the lowest of the last byte, are zero.
 pub record AreBits (unused : ℕ) (bytes : List ℕ) : Type 0 where
   pub count : unused ≤ 7
   pub empty : length bytes ≡ 0 → unused ≡ 0
@@ -30,7 +30,8 @@ pub only_one : (bytes : List ℕ) → Some (1 ∷ []) ≡ Some bytes → IsVersi
 only_one bytes same = cc
 
 -- a bit string has the content of a bit string
-pub bits_are_one : (unused : ℕ) (bytes content : List ℕ) → AreBits unused bytes → Some (unused ∷ bytes) ≡ Some content → IsBitString content
+pub bits_are_one : (unused : ℕ) (bytes content : List ℕ) → AreBits unused bytes
+    → Some (unused ∷ bytes) ≡ Some content → IsBitString content
 bits_are_one unused bytes [] bits same = absurd (cc same)
 bits_are_one unused bytes (count ∷ rest) bits same =
     let counts : unused ≡ count = cc in
@@ -48,14 +49,15 @@ byte_fault n content = value_unless (bytes_eq content (n ∷ []))
 -- the test for a number of unused bits
 abbrev pub are_bits : ℕ → List ℕ → Bool
 are_bits unused [] = unused == 0
-are_bits unused (byte ∷ bytes) = nat_le unused 7 && slice_index (byte ∷ bytes) (length bytes) % 2 ^ unused == 0
+are_bits unused (byte ∷ bytes) =
+    nat_le unused 7 && slice_index (byte ∷ bytes) (length bytes) % 2 ^ unused == 0
 
 abbrev pub is_bit_string : List ℕ → Bool
 is_bit_string [] = false
 is_bit_string (unused ∷ bytes) = are_bits unused bytes
 
--- X.690 sections 8.6 and 11.2.1: Any content other than that of a bit string is refused; any other than that of one without
--- unused bits.
+-- X.690 sections 8.6 and 11.2.1: Any content other than that of a bit string is refused; any other
+-- than that of one without unused bits.
 abbrev pub bit_string_fault : Fault
 bit_string_fault content = value_unless (is_bit_string content)
 
@@ -63,11 +65,14 @@ abbrev pub whole_bits_fault : Fault
 whole_bits_fault [] = Some Value
 whole_bits_fault (unused ∷ bytes) = value_unless (unused == 0)
 
--- X.690 section 8.14: the content of an explicit field around a bit string without unused bits: a bit string, and nothing
--- after it; then that no bits are unused
+-- X.690 section 8.14: the content of an explicit field around a bit string without unused bits: a
+-- bit string, and nothing after it; then that no bits are unused
 abbrev pub whole_bits_field_fault : Fault
-whole_bits_field_fault bytes = option_or (element_fault 0x03 bit_string_fault end_fault bytes) (element_fault 0x03 whole_bits_fault no_fault bytes)
+whole_bits_field_fault bytes = option_or (element_fault 0x03 bit_string_fault end_fault bytes)
+    (element_fault 0x03 whole_bits_fault no_fault bytes)
 
 -- X.690 section 8.19: Any content other than that of an identifier is refused.
 abbrev pub identifier_fault : Fault
-identifier_fault content = value_unless (is_identifier (arcs_of content) && bytes_eq (content_of (arcs_of content)) content)
+identifier_fault content =
+    value_unless (is_identifier (arcs_of content)
+    && bytes_eq (content_of (arcs_of content)) content)

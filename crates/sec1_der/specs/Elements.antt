@@ -1,5 +1,6 @@
 -- X.690: an element is a tag byte, a length and a content.
-use Rattle.std.specs.Prelude.{◌≡◌, ◌≢◌, ℕ, ◌+◌, ◌%◌, ◌<◌, ◌≤◌, List, [], ◌∷◌, ◌++◌, length, nat_lt, nat_le, Option, Some, None, ⊤, if◌then◌else◌}
+use Rattle.std.specs.Prelude.{◌≡◌, ◌≢◌, ℕ, ◌+◌, ◌%◌, ◌<◌, ◌≤◌, List, [], ◌∷◌, ◌++◌, length, nat_lt}
+use Rattle.std.specs.Prelude.{nat_le, Option, Some, None, ⊤, if◌then◌else◌}
 use Rattle.std.specs.Int.{IsBitSet}
 use Rattle.std.specs.Int.Digits.{digits_of}
 use Rattle.sec1_der.specs.declared.header.TheConstants.{LONG_FORM}
@@ -10,8 +11,8 @@ use Rattle.sec1_der.specs.declared.length.TheConstants.Length.{MAX}
 abbrev pub max_length : ℕ
 max_length = MAX
 
--- X.690 section 8.1.2: a tag byte. It isn't 00, which is reserved for end-of-contents, and its low five bits
--- aren't all ones, which begin a high tag number.
+-- X.690 section 8.1.2: a tag byte. It isn't 00, which is reserved for end-of-contents, and its low
+-- five bits aren't all ones, which begin a high tag number.
 pub record IsTag (tag : ℕ) : Type 0 where
   pub byte : tag < 256
   pub not_end_of_contents : tag ≢ 0
@@ -25,10 +26,12 @@ IsConstructed tag = IsBitSet tag 5
 abbrev pub explicit_tag : ℕ → ℕ
 explicit_tag number = EXPLICIT + number
 
--- X.690 sections 8.1.3 and 10.1: the one encoding of a length: the number itself below 128, otherwise the
--- number of its base 256 digits plus 80 (hexadecimal), and the digits.
+-- X.690 sections 8.1.3 and 10.1: the one encoding of a length: the number itself below 128,
+-- otherwise the number of its base 256 digits plus 80 (hexadecimal), and the digits.
 unfoldable pub length_octets : ℕ → List ℕ
-length_octets n = let digits = digits_of 256 n in if nat_lt n LONG_FORM then n ∷ [] else (LONG_FORM + length digits) ∷ digits
+length_octets n =
+    let digits = digits_of 256 n in
+    if nat_lt n LONG_FORM then n ∷ [] else (LONG_FORM + length digits) ∷ digits
 
 -- a tag byte and a length
 abbrev pub header : ℕ → ℕ → List ℕ
@@ -73,4 +76,5 @@ IsOverlong (Some content) = max_length < length content
 -- the element with this tag and content, if there is a content that isn't too long
 abbrev pub element_of : ℕ → Option (List ℕ) → Option (List ℕ)
 element_of tag None = None
-element_of tag (Some content) = if nat_le (length content) max_length then Some (element tag content) else None
+element_of tag (Some content) =
+    if nat_le (length content) max_length then Some (element tag content) else None

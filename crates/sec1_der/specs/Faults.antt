@@ -1,9 +1,12 @@
 -- The kinds of refusals.
-use Rattle.std.specs.Prelude.{◌≡◌, ◌⊎◌, ℕ, ◌-◌, ◌%◌, Bool, ◌&&◌, not, ◌==◌, nat_lt, nat_le, if◌then◌else◌, List, [], ◌∷◌, length, Result, IsErrAnd}
+use Rattle.std.specs.Prelude.{◌≡◌, ◌⊎◌, ℕ, ◌-◌, ◌%◌, Bool, ◌&&◌, not, ◌==◌, nat_lt, nat_le}
+use Rattle.std.specs.Prelude.{if◌then◌else◌, List, [], ◌∷◌, length, Result, IsErrAnd}
 use Rattle.sec1_der.specs.declared.header.TheConstants.{LONG_FORM}
 use Rattle.sec1_der.specs.declared.error.Error.{Error}
 use Rattle.sec1_der.specs.declared.error.ErrorKind.{ErrorKind}
-use Rattle.sec1_der.specs.declared.error.ErrorKind.TheVariants.{Truncated, Tag, Length, TrailingData, Value, Overlength, Buffer, Failed, Io, Depth, Memory}
+use Rattle.sec1_der.specs.declared.error.ErrorKind.TheVariants.{Truncated, Tag, Length}
+use Rattle.sec1_der.specs.declared.error.ErrorKind.TheVariants.{TrailingData, Value, Overlength}
+use Rattle.sec1_der.specs.declared.error.ErrorKind.TheVariants.{Buffer, Failed, Io, Depth, Memory}
 
 -- the call failed with an error of this kind
 abbrev pub Refuses : {T : Type 0} → Result T Error → ErrorKind → Type 0
@@ -36,7 +39,8 @@ IsReadingFault Memory = ⊥
 
 -- a first byte that announces one to four digits, more than there are
 abbrev pub lacks_digits : ℕ → List ℕ → Bool
-lacks_digits first digits = nat_lt LONG_FORM first && nat_le first 0x84 && nat_lt (length digits) (first - LONG_FORM)
+lacks_digits first digits =
+    nat_lt LONG_FORM first && nat_le first 0x84 && nat_lt (length digits) (first - LONG_FORM)
 
 -- The kind, if the bytes don't begin with a length: they end inside one, or encode none.
 abbrev pub length_fault : List ℕ → ErrorKind

@@ -1,22 +1,29 @@
--- The test for the arcs of an identifier is exact: an identifier has its content, and any other list of numbers has none.
-use Rattle.std.specs.Prelude.{◌≡◌, ℕ, ◌+◌, ◌*◌, ◌^◌, ◌<◌, ◌≤◌, Bool, true, false, ◌&&◌, ◌||◌, nat_lt, nat_le}
+-- The test for the arcs of an identifier is exact: an identifier has its content, and any other
+-- list of numbers has none.
+use Rattle.std.specs.Prelude.{◌≡◌, ℕ, ◌+◌, ◌*◌, ◌^◌, ◌<◌, ◌≤◌, Bool, true, false, ◌&&◌, ◌||◌}
+use Rattle.std.specs.Prelude.{nat_lt, nat_le}
 use Rattle.std.specs.Prelude.{List, [], ◌∷◌, length, Some, None, if◌then◌else◌, refl}
 use Rattle.std.proofs.Common.{arith}
 use Rattle.std.proofs.lemmas.Bool.Decides.{nat_tests}
 use Rattle.std.specs.Bool.{Decides}
 use Rattle.std.specs.List.{AllByRecursion, list_all}
-use Rattle.sec1_der.specs.Identifiers.{AreArcs, content_of, IsIdentifier, are_arcs, is_identifier, identifier_content}
+use Rattle.sec1_der.specs.Identifiers.{AreArcs, content_of, IsIdentifier, are_arcs, is_identifier}
+use Rattle.sec1_der.specs.Identifiers.{identifier_content}
 use Rattle.sec1_der.specs.declared.object_identifier.TheConstants.{MAX_CONTENT}
 
-one_below : (n : ℕ) (rest : Bool) (P : Type 0) → Decides rest P → Decides (nat_lt n (2 ^ 32) && rest) ((n < 2 ^ 32) × P)
+one_below : (n : ℕ) (rest : Bool) (P : Type 0) → Decides rest P
+    → Decides (nat_lt n (2 ^ 32) && rest) ((n < 2 ^ 32) × P)
 one_below n rest P d = grind (arith, nat_tests)
 
-all_below : (ns : List ℕ) → Decides (list_all (λ arc. nat_lt arc (2 ^ 32)) ns) (AllByRecursion (λ arc. arc < 2 ^ 32) ns)
+all_below : (ns : List ℕ)
+    → Decides (list_all (λ arc. nat_lt arc (2 ^ 32)) ns) (AllByRecursion (λ arc. arc < 2 ^ 32) ns)
 all_below [] = (λ _. tt, λ _. refl)
 all_below (n ∷ ns) = one_below n _ _ (all_below ns)
 
 two_arcs : (a b : ℕ) (rest : Bool) (P : Type 0) → Decides rest P
-    → Decides (nat_le a 2 && ((nat_le 2 a || nat_lt b 40) && (nat_lt (40 * a + b) (2 ^ 32) && rest))) ((a ≤ 2) × (a < 2 → b < 40) × (40 * a + b < 2 ^ 32) × P)
+    → Decides (nat_le a 2
+    && ((nat_le 2 a || nat_lt b 40) && (nat_lt (40 * a + b) (2 ^ 32) && rest)))
+    ((a ≤ 2) × (a < 2 → b < 40) × (40 * a + b < 2 ^ 32) × P)
 two_arcs a b rest P d = grind (arith, nat_tests)
 
 are_arcs-decides : (arcs : List ℕ) → Decides (are_arcs arcs) (AreArcs arcs)
@@ -24,32 +31,41 @@ are_arcs-decides [] = (λ e. absurd (cc e), λ h. absurd h)
 are_arcs-decides (a ∷ []) = (λ e. absurd (cc e), λ h. absurd h)
 are_arcs-decides (a ∷ b ∷ further) = two_arcs a b _ _ (all_below further)
 
-short_too : (b : Bool) (n : ℕ) (P : Type 0) → Decides b P → Decides (b && nat_le n MAX_CONTENT) (P × (n ≤ MAX_CONTENT))
+short_too : (b : Bool) (n : ℕ) (P : Type 0) → Decides b P
+    → Decides (b && nat_le n MAX_CONTENT) (P × (n ≤ MAX_CONTENT))
 short_too b n P d = grind (arith, nat_tests)
 
-is_identifier-decides : (arcs : List ℕ) → Decides (is_identifier arcs) (AreArcs arcs × (length (content_of arcs) ≤ MAX_CONTENT))
-is_identifier-decides arcs = short_too (are_arcs arcs) (length (content_of arcs)) _ (are_arcs-decides arcs)
+is_identifier-decides : (arcs : List ℕ)
+    → Decides (is_identifier arcs) (AreArcs arcs × (length (content_of arcs) ≤ MAX_CONTENT))
+is_identifier-decides arcs =
+    short_too (are_arcs arcs) (length (content_of arcs)) _ (are_arcs-decides arcs)
 
 -- if the test succeeds, the arcs are an identifier's
-pub is_identifier-true : (arcs : List ℕ) → is_identifier arcs ≡ true → IsIdentifier arcs (content_of arcs)
+pub is_identifier-true : (arcs : List ℕ) → is_identifier arcs ≡ true
+    → IsIdentifier arcs (content_of arcs)
 is_identifier-true arcs e =
     let h = (is_identifier-decides arcs).0 e in
     record { spells = record { allowed = h.0; spelled = refl }; short = h.1 }
 
 -- the test succeeds for the arcs of an identifier
-pub is_identifier-valid : (arcs content : List ℕ) → IsIdentifier arcs content → is_identifier arcs ≡ true
-is_identifier-valid arcs content h = (is_identifier-decides arcs).1 (h.spells.allowed, rw (← h.spells.spelled) h.short)
+pub is_identifier-valid : (arcs content : List ℕ) → IsIdentifier arcs content
+    → is_identifier arcs ≡ true
+is_identifier-valid arcs content h =
+    (is_identifier-decides arcs).1 (h.spells.allowed, rw (← h.spells.spelled) h.short)
 
 chosen : (b : Bool) (v c : List ℕ) → (if b then Some v else None) ≡ Some c → (b ≡ true) × (v ≡ c)
 chosen true v c e = (refl, cc)
 chosen false v c e = absurd (cc e)
 
 -- arcs that have a content are an identifier's
-pub identifier_content-some : (arcs content : List ℕ) → identifier_content arcs ≡ Some content → IsIdentifier arcs content
+pub identifier_content-some : (arcs content : List ℕ) → identifier_content arcs ≡ Some content
+    → IsIdentifier arcs content
 identifier_content-some arcs content e =
     let h = chosen (is_identifier arcs) (content_of arcs) content e in
     rw (← h.1) (is_identifier-true arcs h.0)
 
 -- an identifier has this content
-pub identifier_content-valid : (arcs content : List ℕ) → IsIdentifier arcs content → identifier_content arcs ≡ Some content
-identifier_content-valid arcs content h = rw (is_identifier-valid arcs content h, ← h.spells.spelled) refl
+pub identifier_content-valid : (arcs content : List ℕ) → IsIdentifier arcs content
+    → identifier_content arcs ≡ Some content
+identifier_content-valid arcs content h =
+    rw (is_identifier-valid arcs content h, ← h.spells.spelled) refl

@@ -1,18 +1,19 @@
 -- Object identifiers: their arcs, the content that spells them, and their dotted text.
-use Rattle.std.specs.Prelude.{◌≡◌, ℕ, ◌+◌, ◌*◌, ◌^◌, ◌<◌, ◌≤◌, Bool, false, ◌&&◌, ◌||◌, nat_lt, nat_le, List, [], ◌∷◌, length, map, Option, Some}
-use Rattle.std.specs.Prelude.{None, if◌then◌else◌}
+use Rattle.std.specs.Prelude.{◌≡◌, ℕ, ◌+◌, ◌*◌, ◌^◌, ◌<◌, ◌≤◌, Bool, false, ◌&&◌, ◌||◌, nat_lt}
+use Rattle.std.specs.Prelude.{nat_le, List, [], ◌∷◌, length, map, Option, Some, None, if◌then◌else◌}
 use Rattle.std.specs.List.{AllByRecursion, list_all, flat_map, join_with_byte}
 use Rattle.std.specs.Fmt.{decimal}
 use Rattle.sec1_der.specs.Numbers.{base128}
 use Rattle.sec1_der.specs.declared.object_identifier.TheConstants.{MAX_CONTENT}
 
--- X.690 section 8.19.4: two or more arcs. The first is 0, 1 or 2, the second is below 40 under 0 and 1; the
--- number that these two share and each further arc are below 2^32.
+-- X.690 section 8.19.4: two or more arcs. The first is 0, 1 or 2, the second is below 40 under 0
+-- and 1; the number that these two share and each further arc are below 2^32.
 abbrev pub AreArcs : List ℕ → Type 0
 AreArcs [] = ⊥
 AreArcs (a ∷ []) = ⊥
 AreArcs (a ∷ b ∷ further) =
-    (a ≤ 2) × (a < 2 → b < 40) × (40 * a + b < 2 ^ 32) × AllByRecursion (λ arc. arc < 2 ^ 32) further
+    (a ≤ 2) × (a < 2 → b < 40) × (40 * a + b < 2 ^ 32)
+    × AllByRecursion (λ arc. arc < 2 ^ 32) further
 
 -- X.690 section 8.19.4: the first two arcs share a number, and each further arc is one.
 abbrev pub subidentifiers : List ℕ → List ℕ
@@ -47,7 +48,8 @@ abbrev pub are_arcs : List ℕ → Bool
 are_arcs [] = false
 are_arcs (a ∷ []) = false
 are_arcs (a ∷ b ∷ further) =
-    nat_le a 2 && ((nat_le 2 a || nat_lt b 40) && (nat_lt (40 * a + b) (2 ^ 32) && list_all (λ arc. nat_lt arc (2 ^ 32)) further))
+    nat_le a 2 && ((nat_le 2 a || nat_lt b 40)
+    && (nat_lt (40 * a + b) (2 ^ 32) && list_all (λ arc. nat_lt arc (2 ^ 32)) further))
 
 abbrev pub is_identifier : List ℕ → Bool
 is_identifier arcs = are_arcs arcs && nat_le (length (content_of arcs)) MAX_CONTENT

@@ -1,4 +1,5 @@
 pub mod Numbers
+pub mod DigitLaws
 pub mod Elements
 pub mod Trees
 pub mod TreeLaws
@@ -10,12 +11,15 @@ pub mod Stored
 pub mod Building
 pub mod Faults
 pub mod Refusals
+pub mod LengthLaws
+pub mod ElementLaws
 pub mod Contents
 pub mod Values
 pub mod Readers
 pub mod SliceWriters
 pub mod BackWriters
 pub mod Parts
+pub mod RefusalLaws
 pub mod PartLaws
 pub mod Streams
 pub mod StdStreams

@@ -1,8 +1,11 @@
 -- What a part begins with. Ghost members of traits cite these laws.
-use Rattle.std.specs.Prelude.{◌≡◌, ◌++◌, ◌∷◌, [], ◌||◌, ◌==◌, ℕ, List, Bool, true, false, length, nat_le, Option, Some, None, if◌then◌else◌, refl}
+use Rattle.std.specs.Prelude.{◌≡◌, ◌++◌, ◌∷◌, [], ◌||◌, ◌==◌, ℕ, List, Bool, true, false, length}
+use Rattle.std.specs.Prelude.{nat_le, Option, Some, None, if◌then◌else◌, refl}
 use Rattle.std.proofs.Common.{eq-eqb}
 use Rattle.sec1_der.specs.Elements.{max_length, element, element_of}
-use Rattle.sec1_der.specs.Parts.{Tags, is_among, Begins, join, one_tag, optional_tag, both_tags, optional_of}
+use Rattle.sec1_der.specs.Parts.{Tags, is_among, Begins, join, one_tag, optional_tag, both_tags}
+use Rattle.sec1_der.specs.Parts.{optional_of}
+use Rattle.std.proofs.Common.{◌+◌, ap, ◌∙◌, length-append}
 
 or_left : (b c d : Bool) → (c ≡ true → d ≡ true) → (b || c) ≡ true → (b || d) ≡ true
 or_left true c d f e = refl
@@ -12,48 +15,87 @@ or_right : (b d : Bool) → d ≡ true → (b || d) ≡ true
 or_right true d e = refl
 or_right false d e = e
 
-pub among_left : (tag : ℕ) (xs ys : List ℕ) → is_among tag xs ≡ true → is_among tag (xs ++ ys) ≡ true
+pub among_left : (tag : ℕ) (xs ys : List ℕ) → is_among tag xs ≡ true
+    → is_among tag (xs ++ ys) ≡ true
 among_left tag [] ys e = absurd (cc (e))
-among_left tag (x ∷ xs) ys e = or_left (tag == x) (is_among tag xs) (is_among tag (xs ++ ys)) (among_left tag xs ys) e
+among_left tag (x ∷ xs) ys e =
+    or_left (tag == x) (is_among tag xs) (is_among tag (xs ++ ys)) (among_left tag xs ys) e
 
-pub among_right : (tag : ℕ) (xs ys : List ℕ) → is_among tag ys ≡ true → is_among tag (xs ++ ys) ≡ true
+pub among_right : (tag : ℕ) (xs ys : List ℕ) → is_among tag ys ≡ true
+    → is_among tag (xs ++ ys) ≡ true
 among_right tag [] ys e = e
-among_right tag (x ∷ xs) ys e = or_right (tag == x) (is_among tag (xs ++ ys)) (among_right tag xs ys e)
+among_right tag (x ∷ xs) ys e =
+    or_right (tag == x) (is_among tag (xs ++ ys)) (among_right tag xs ys e)
 
 -- an element begins with its tag
-pub element_begins : (tag : ℕ) (content : Option (List ℕ)) (whole : List ℕ) → element_of tag content ≡ Some whole → Begins (one_tag tag) whole
+pub element_begins : (tag : ℕ) (content : Option (List ℕ)) (whole : List ℕ)
+    → element_of tag content ≡ Some whole → Begins (one_tag tag) whole
 element_begins tag None whole e = absurd (cc e)
 element_begins tag (Some inside) whole e = by (nat_le (length inside) max_length) e
   where
-    by : (b : Bool) → (if b then Some (element tag inside) else None) ≡ Some whole → Begins (one_tag tag) whole
+    by : (b : Bool) → (if b then Some (element tag inside) else None) ≡ Some whole
+        → Begins (one_tag tag) whole
     by false e = absurd (cc e)
     by true e = let is : whole ≡ element tag inside = cc in rw is (rw (eq-eqb tag tag refl) refl)
 
-or_nothing : (tag : ℕ) (whole : List ℕ) → Begins (one_tag tag) whole → Begins (optional_tag tag) whole
+or_nothing : (tag : ℕ) (whole : List ℕ) → Begins (one_tag tag) whole
+    → Begins (optional_tag tag) whole
 or_nothing tag [] e = refl
 or_nothing tag (byte ∷ bytes) e = e
 
 -- an optional element is empty, or begins with its tag
-pub optional_begins : (tag : ℕ) (content : Option (Option (List ℕ))) (whole : List ℕ) → optional_of tag content ≡ Some whole → Begins (optional_tag tag) whole
+pub optional_begins : (tag : ℕ) (content : Option (Option (List ℕ))) (whole : List ℕ)
+    → optional_of tag content ≡ Some whole → Begins (optional_tag tag) whole
 optional_begins tag None whole e = let none : whole ≡ [] = cc (e) in rw none refl
-optional_begins tag (Some content) whole e = or_nothing tag whole (element_begins tag content whole e)
+optional_begins tag (Some content) whole e =
+    or_nothing tag whole (element_begins tag content whole e)
 
 both_begin : (ps qs : List ℕ) (p q : Bool) (po qo : List ℕ) (pa qa : Bool) (x y : List ℕ)
     → Begins (record { firsts = ps; may_be_empty = p; barred = po; apart = pa }) x
     → Begins (record { firsts = qs; may_be_empty = q; barred = qo; apart = qa }) y
-    → Begins (both_tags (record { firsts = ps; may_be_empty = p; barred = po; apart = pa }) (record { firsts = qs; may_be_empty = q; barred = qo; apart = qa })) (x ++ y)
+    → Begins (both_tags (record { firsts = ps; may_be_empty = p; barred = po; apart = pa })
+    (record { firsts = qs; may_be_empty = q; barred = qo; apart = qa })) (x ++ y)
 both_begin ps qs true q po qo pa qa [] [] e f = f
 both_begin ps qs true q po qo pa qa [] (byte ∷ y) e f = among_right byte ps qs f
 both_begin ps qs false q po qo pa qa [] y e f = absurd (cc e)
 both_begin ps qs true q po qo pa qa (byte ∷ x) y e f = among_left byte ps qs e
 both_begin ps qs false q po qo pa qa (byte ∷ x) y e f = e
 
--- one part after another begins with a tag of the first, or with one of the second where the first is empty
+-- one part after another begins with a tag of the first, or with one of the second where the first
+-- is empty
 pub pair_begins : (p q : Tags) (x y : Option (List ℕ)) (whole : List ℕ) → join x y ≡ Some whole
-    → ((front : List ℕ) → x ≡ Some front → Begins p front) → ((back : List ℕ) → y ≡ Some back → Begins q back)
+    → ((front : List ℕ) → x ≡ Some front → Begins p front)
+    → ((back : List ℕ) → y ≡ Some back → Begins q back)
     → Begins (both_tags p q) whole
 pair_begins p q None y whole e f g = absurd (cc e)
 pair_begins p q (Some front) None whole e f g = absurd (cc e)
 pair_begins p q (Some front) (Some back) whole e f g =
     let is : whole ≡ front ++ back = cc in
-    rw is (both_begin p.firsts q.firsts p.may_be_empty q.may_be_empty p.barred q.barred p.apart q.apart front back (f front refl) (g back refl))
+    rw is (both_begin p.firsts q.firsts p.may_be_empty q.may_be_empty p.barred q.barred p.apart
+    q.apart front back (f front refl) (g back refl))
+
+-- the bytes of both, one after the other
+pub record AreJoined (first second : Option (List ℕ)) (bytes : List ℕ) : Type 0 where
+  pub front : List ℕ
+  pub back : List ℕ
+  pub first_there : first ≡ Some front
+  pub second_there : second ≡ Some back
+  pub joined : bytes ≡ front ++ back
+  pub total : length bytes ≡ length front + length back
+
+-- a row that has bytes has those of its first component, and those of the rest
+pub parted : (first second : Option (List ℕ)) (bytes : List ℕ) → join first second ≡ Some bytes
+    → AreJoined first second bytes
+parted None second bytes e = absurd (cc e)
+parted (Some xs) None bytes e = absurd (cc e)
+parted (Some xs) (Some ys) bytes e =
+    let joined : bytes ≡ xs ++ ys = cc in
+    record {
+      front = xs;
+      back = ys;
+      first_there = refl;
+      second_there = refl;
+      joined = joined;
+      total =
+          ap length joined ∙ length-append xs ys;
+    }

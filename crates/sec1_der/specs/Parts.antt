@@ -1,16 +1,19 @@
--- X.690 section 8.9: the parts of a SEQUENCE, the tags that they begin with, and those that mustn't follow them.
-use Rattle.std.specs.Prelude.{◌≡◌, ◌++◌, ◌∷◌, [], ◌||◌, ◌&&◌, ◌==◌, not, ℕ, List, Bool, true, false, Option, Some, None, if◌then◌else◌, ⊤}
+-- X.690 section 8.9: the parts of a SEQUENCE, the tags that they begin with, and those that mustn't
+-- follow them.
+use Rattle.std.specs.Prelude.{◌≡◌, ◌++◌, ◌∷◌, [], ◌||◌, ◌&&◌, ◌==◌, not, ℕ, List, Bool, true, false}
+use Rattle.std.specs.Prelude.{Option, Some, None, if◌then◌else◌, ⊤}
 use Rattle.sec1_der.specs.Elements.{element_of}
 
--- X.690 sections 8.9.2 and 8.9.3: the bytes of one part and those of the parts after it, if all of them have an encoding. An
--- absent OPTIONAL component has no bytes, []; one without an encoding is None.
+-- X.690 sections 8.9.2 and 8.9.3: the bytes of one part and those of the parts after it, if all of
+-- them have an encoding. An absent OPTIONAL component has no bytes, []; one without an encoding is
+-- None.
 abbrev pub join : Option (List ℕ) → Option (List ℕ) → Option (List ℕ)
 join None rest = None
 join (Some first) None = None
 join (Some first) (Some rest) = Some (first ++ rest)
 
--- What is known of a part by its type: the tags that it may begin with, whether it may have no bytes, the tags that
--- mustn't follow it, and whether inside it no such tag may follow.
+-- What is known of a part by its type: the tags that it may begin with, whether it may have no
+-- bytes, the tags that mustn't follow it, and whether inside it no such tag may follow.
 pub record Tags : Type 0 where
   pub firsts : List ℕ
   pub may_be_empty : Bool
@@ -23,7 +26,8 @@ one_tag tag = record { firsts = tag ∷ []; may_be_empty = false; barred = []; a
 
 -- one element with this tag, or nothing
 abbrev pub optional_tag : ℕ → Tags
-optional_tag tag = record { firsts = tag ∷ []; may_be_empty = true; barred = tag ∷ []; apart = true }
+optional_tag tag =
+    record { firsts = tag ∷ []; may_be_empty = true; barred = tag ∷ []; apart = true }
 
 -- whether a tag is one of these
 abbrev pub is_among : ℕ → List ℕ → Bool
@@ -59,7 +63,9 @@ abbrev pub optional_of : ℕ → Option (Option (List ℕ)) → Option (List ℕ
 optional_of tag None = Some []
 optional_of tag (Some content) = element_of tag content
 
--- Where two parts, and what may follow them, have the same bytes, the parts are the same, and so is what follows them.
+-- Where two parts, and what may follow them, have the same bytes, the parts are the same, and so is
+-- what follows them.
 abbrev pub AreApart : {A : Type 0} → Tags → (A → Option (List ℕ)) → Type 0
-AreApart {A} tags bytes = (a b : A) (x y r s : List ℕ) → tags.apart ≡ true → bytes a ≡ Some x → bytes b ≡ Some y
+AreApart {A} tags bytes = (a b : A) (x y r s : List ℕ) → tags.apart ≡ true → bytes a ≡ Some x
+    → bytes b ≡ Some y
     → MayFollow tags r → MayFollow tags s → x ++ r ≡ y ++ s → (a ≡ b) × (r ≡ s)

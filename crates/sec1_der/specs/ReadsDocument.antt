@@ -4,7 +4,9 @@ use Rattle.std.specs.Io.KnownBytes.{Consumes, IsAtEnd}
 use Rattle.sec1_der.specs.Elements.{IsTag, IsHeader, IsElement, LacksHeader, header}
 use Rattle.sec1_der.specs.Faults.{header_fault, IsIoOrMemory}
 use Rattle.sec1_der.specs.declared.error.ErrorKind.{ErrorKind}
-use Rattle.sec1_der.specs.declared.error.ErrorKind.TheVariants.{Truncated, Tag, Length, TrailingData, Value, Overlength, Buffer, Failed, Io, Depth, Memory}
+use Rattle.sec1_der.specs.declared.error.ErrorKind.TheVariants.{Truncated, Tag, Length}
+use Rattle.sec1_der.specs.declared.error.ErrorKind.TheVariants.{TrailingData, Value, Overlength}
+use Rattle.sec1_der.specs.declared.error.ErrorKind.TheVariants.{Buffer, Failed, Io, Depth, Memory}
 
 -- one element was read, and no input remains
 pub record ConsumesElement (old new : Option (List ℕ)) (bytes : List ℕ) : Type 0 where
@@ -83,7 +85,8 @@ TakenBeforeRefusal Io taken = IsUpToElement taken
 TakenBeforeRefusal Depth taken = ⊥
 TakenBeforeRefusal Memory taken = IsUpToElement taken
 
--- an element was refused by this kind after these bytes were read; if it was Truncated, no input remains
+-- an element was refused by this kind after these bytes were read; if it was Truncated, no input
+-- remains
 pub record RefusesElement (kind : ErrorKind) (old new : Option (List ℕ)) : Type 0 where
   pub taken : List ℕ
   pub consumed : Consumes old new taken
@@ -96,7 +99,8 @@ pub record ReadsHeader (old new : Option (List ℕ)) (tag announced : ℕ) : Typ
   pub consumed : Consumes old new (header tag announced)
 
 -- reading so many bytes failed with this kind, after fewer of them
-pub record RefusesContent (kind : ErrorKind) (announced : ℕ) (old new : Option (List ℕ)) : Type 0 where
+pub record RefusesContent (kind : ErrorKind) (announced : ℕ)
+    (old new : Option (List ℕ)) : Type 0 where
   pub taken : List ℕ
   pub consumed : Consumes old new taken
   pub few : length taken < announced

@@ -1,6 +1,7 @@
 -- The kind of a refusal as a function of the bytes: the first fault from left to right.
-use Rattle.std.specs.Prelude.{◌≡◌, ◌==◌, ℕ, zero, suc, ◌+◌, ◌-◌, Bool, false, ◌&&◌, not, nat_lt, nat_le, if◌then◌else◌, bit_and}
-use Rattle.std.specs.Prelude.{List, [], ◌∷◌, length, take, drop, Option, Some, None, Result, Ok, Err, MatchResult}
+use Rattle.std.specs.Prelude.{◌≡◌, ◌==◌, ℕ, zero, suc, ◌+◌, ◌-◌, Bool, false, ◌&&◌, not, nat_lt}
+use Rattle.std.specs.Prelude.{nat_le, if◌then◌else◌, bit_and, List, [], ◌∷◌, length, take, drop}
+use Rattle.std.specs.Prelude.{Option, Some, None, Result, Ok, Err, MatchResult}
 use Rattle.std.specs.Option.{option_or}
 use Rattle.std.specs.Str.{bytes_eq}
 use Rattle.sec1_der.specs.Elements.{max_length, length_octets, explicit_tag}
@@ -31,14 +32,16 @@ end_fault (byte ∷ bytes) = Some TrailingData
 -- X.690 sections 8.1.3 and 10.1: the length at the beginning of the bytes, if there is one
 abbrev pub number_at : List ℕ → ℕ
 number_at [] = 0
-number_at (first ∷ digits) = if nat_lt first LONG_FORM then first else number_of (take (first - LONG_FORM) digits)
+number_at (first ∷ digits) =
+    if nat_lt first LONG_FORM then first else number_of (take (first - LONG_FORM) digits)
 
 -- the length at the beginning of the bytes, and the bytes after it
 abbrev pub length_at : List ℕ → Result (ℕ × List ℕ) ErrorKind
 length_at bytes =
     let n = number_at bytes in
     let spelled = length_octets n in
-    if nat_le n max_length && bytes_eq (take (length spelled) bytes) spelled then Ok (n, drop (length spelled) bytes) else Err (length_fault bytes)
+    if nat_le n max_length && bytes_eq (take (length spelled) bytes) spelled
+    then Ok (n, drop (length spelled) bytes) else Err (length_fault bytes)
 
 -- X.690 section 8.1.4: as many bytes as the length says, and the bytes after them
 abbrev pub within : Result (ℕ × List ℕ) ErrorKind → Result (List ℕ × List ℕ) ErrorKind
@@ -50,7 +53,8 @@ abbrev pub parts_fault : Fault → Fault → Result (List ℕ × List ℕ) Error
 parts_fault content behind (Err kind) = Some kind
 parts_fault content behind (Ok x) = option_or (content x.0) (behind x.1)
 
--- X.690 section 8.1.1: an element with this tag, and what follows it. The tag is checked before the length.
+-- X.690 section 8.1.1: an element with this tag, and what follows it. The tag is checked before the
+-- length.
 abbrev pub element_fault : ℕ → Fault → Fault → Fault
 element_fault tag content behind [] = Some Truncated
 element_fault tag content behind (byte ∷ bytes) =
@@ -63,11 +67,14 @@ is_next tag (byte ∷ bytes) = byte == tag
 
 -- an element with this tag, if its tag is next; and what follows it
 abbrev pub optional_fault : ℕ → Fault → Fault → Fault
-optional_fault tag content behind bytes = if is_next tag bytes then element_fault tag content behind bytes else behind bytes
+optional_fault tag content behind bytes =
+    if is_next tag bytes then element_fault tag content behind bytes else behind bytes
 
--- X.690 section 8.14: an explicit field [number] around an element with this tag, if its tag is next; and what follows it
+-- X.690 section 8.14: an explicit field [number] around an element with this tag, if its tag is
+-- next; and what follows it
 abbrev pub field_fault : ℕ → ℕ → Fault → Fault → Fault
-field_fault number tag content behind = optional_fault (explicit_tag number) (element_fault tag content end_fault) behind
+field_fault number tag content behind =
+    optional_fault (explicit_tag number) (element_fault tag content end_fault) behind
 
 -- an element of any tag, which decides how its content is checked, and what follows it
 abbrev pub any_fault : (ℕ → Fault) → Fault → Fault
@@ -83,7 +90,8 @@ document_fault = any_fault (λ _. no_fault) end_fault
 abbrev pub nested_fault : Fault → ℕ → Fault
 nested_fault row tag content = if not (bit_and tag 0x20 == 0) then row content else None
 
--- Elements in a row at this level. There are at most as many, and at most so many inside one another, as there are bytes.
+-- Elements in a row at this level. There are at most as many, and at most so many inside one
+-- another, as there are bytes.
 abbrev pub row_fault : ℕ → ℕ → Fault
 row_fault zero level bytes = None
 row_fault (suc most) level [] = None

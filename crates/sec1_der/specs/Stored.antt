@@ -22,9 +22,11 @@ store arcs = record { bytes = padded (content_of arcs); len = length (content_of
 -- an identifier has one way to be held
 pub store_arcs_stored : (o : Inside) → IsStored o → store (arcs_stored o) ≡ o
 store_arcs_stored o h =
-    let content : content_of (arcs_stored o) ≡ take o.len o.bytes = sym h.identifier.spells.spelled in
+    let content : content_of (arcs_stored o)
+    ≡ take o.len o.bytes = sym h.identifier.spells.spelled in
     let bytes : padded (content_of (arcs_stored o)) ≡ o.bytes = ap padded content ∙ sym h.zeros in
     let len : length (content_of (arcs_stored o)) ≡ o.len = ap length content ∙ h.length_kept in
-    let with_bytes : List ℕ → Inside = λ b. record { bytes = b; len = length (content_of (arcs_stored o)) } in
+    let with_bytes : List ℕ
+    → Inside = λ b. record { bytes = b; len = length (content_of (arcs_stored o)) } in
     let with_len : ℕ → Inside = λ n. record { bytes = o.bytes; len = n } in
     ap with_bytes bytes ∙ ap with_len len

@@ -1,6 +1,7 @@
--- One step of a walk over the bytes of a tree. The open nodes are known by how many bytes are left where each
--- ends, the innermost first.
-use Rattle.std.specs.Prelude.{◌≡◌, ℕ, zero, suc, ◌+◌, ◌-◌, ◌<◌, ◌≤◌, ◌⊎◌, List, [], ◌∷◌, ◌++◌, length, get_or}
+-- One step of a walk over the bytes of a tree. The open nodes are known by how many bytes are left
+-- where each ends, the innermost first.
+use Rattle.std.specs.Prelude.{◌≡◌, ℕ, zero, suc, ◌+◌, ◌-◌, ◌<◌, ◌≤◌, ◌⊎◌, List, [], ◌∷◌, ◌++◌}
+use Rattle.std.specs.Prelude.{length, get_or}
 use Rattle.sec1_der.specs.Elements.{header, IsTag, IsConstructed, max_length}
 use Rattle.sec1_der.specs.declared.tree.TheConstants.{MAX_DEPTH}
 use Rattle.sec1_der.specs.Trees.{Tree, IsTree, bytes, size, depth}
@@ -42,7 +43,9 @@ pub record Opens (ends rest : List ℕ) (end : ℕ) (after : List ℕ) : Type 0 
 -- the next element is skipped, or is opened if one more node may be open
 abbrev pub Enters : List ℕ → List ℕ → List ℕ → List ℕ → Type 0
 Enters ends rest ends' after =
-    (Skips ends rest after × (ends' ≡ ends)) ⊎ ((end : ℕ) × Opens ends rest end after × (ends' ≡ end ∷ ends) × (length ends < MAX_DEPTH - 1))
+    (Skips ends rest after × (ends' ≡ ends))
+    ⊎ ((end : ℕ) × Opens ends rest end after × (ends' ≡ end ∷ ends)
+    × (length ends < MAX_DEPTH - 1))
 
 -- as many nodes are open as can be, and the next element is one more with a content
 pub record IsTooDeep (ends rest : List ℕ) : Type 0 where

@@ -6,7 +6,8 @@ use crate::{
 };
 
 /// An element of any tag, which borrows its content unread.
-// The tag is held as its byte: a value that holds both a reference and a type with a `Model` can't be passed by `?`.
+// The tag is held as its byte: a value that holds both a reference and a type with a `Model` can't
+// be passed by `?`.
 #[derive(Clone, Copy, PartialEq, Eq, Debug)]
 pub struct AnyRef<'a> {
     tag: u8,
@@ -15,8 +16,10 @@ pub struct AnyRef<'a> {
 }
 
 impl<'a> AnyRef<'a> {
-    ghost use Rattle.std.specs.Prelude.{◌≡◌, ◌≤◌, ◌↔◌, ℕ, List, [], ◌++◌, length, true, false, IsOk, IfOk, IsOkAnd, IfErr, OnErr};
-    ghost use Rattle.sec1_der.specs.Elements.{max_length, element, IsHeader, IsProperBeginning, LacksHeader};
+    ghost use Rattle.std.specs.Prelude.{◌≡◌, ◌≤◌, ◌↔◌, ℕ, List, [], ◌++◌, length, true, false};
+    ghost use Rattle.std.specs.Prelude.{IsOk, IfOk, IsOkAnd, IfErr, OnErr};
+    ghost use Rattle.sec1_der.specs.Elements.{max_length, element, IsHeader, IsProperBeginning};
+    ghost use Rattle.sec1_der.specs.Elements.{LacksHeader};
     ghost use Rattle.sec1_der.specs.Faults.{header_fault, Refuses, IsHeaderFault};
     ghost use Rattle.sec1_der.specs.Readers.{reader_over, HasRead};
     ghost use Rattle.sec1_der.specs.Refusals.{HasFault, any_fault, no_fault};
@@ -44,8 +47,8 @@ impl<'a> AnyRef<'a> {
     ///
     /// # Errors
     ///
-    /// Those of [`Header::decode`](crate::Header::decode), then Truncated if the input ends inside the content. The
-    /// reader has failed then.
+    /// Those of [`Header::decode`](crate::Header::decode), then Truncated if the input ends inside
+    /// the content. The reader has failed then.
     #[tactic(auto, using(crate::proofs::HeaderLemmas::fronts))]
     pub fn decode(reader: &mut SliceReader<'a>) -> Result<AnyRef<'a>>
         ensures found { IfOk result (λ any. IsHeader (tag_of any) (length (value_of any))

@@ -6,8 +6,9 @@ use crate::{EncodeValue, ErrorKind, Header, Length, Result, Tag, Tagged, encoded
 
 /// A writer that fills a slice from its end, so that a content is written before its header.
 ///
-/// On an error nothing is written. The bytes of the slice in front of what was written are never changed.
-/// [`put_element`](BackWriter::put_element) promises neither if there is no room, which its caller tests.
+/// On an error nothing is written. The bytes of the slice in front of what was written are never
+/// changed. [`put_element`](BackWriter::put_element) promises neither if there is no room, which
+/// its caller tests.
 #[derive(Drop)]
 pub struct BackWriter<'b> {
     buffer: &'b mut [u8],
@@ -17,7 +18,8 @@ pub struct BackWriter<'b> {
 
 impl<'b> BackWriter<'b> {
     ghost use Rattle.std.specs.Prelude.{◌≡◌, ℕ, ◌<◌, ◌+◌, ◌-◌, List, [], Some, None, IsOk};
-    ghost use Rattle.sec1_der.specs.BackWriters.{end_of, front_of, IsOverEnd, KeepsEnd, PutsNothing, PutsInFront};
+    ghost use Rattle.sec1_der.specs.BackWriters.{end_of, front_of, IsOverEnd, KeepsEnd};
+    ghost use Rattle.sec1_der.specs.BackWriters.{PutsNothing, PutsInFront};
     ghost use Rattle.sec1_der.specs.Elements.{max_length, header, element_of};
     ghost use Rattle.sec1_der.specs.Faults.{Refuses};
 
@@ -55,7 +57,8 @@ impl<'b> BackWriter<'b> {
         ensures grows { length (end_of self.old) ≤ length (end_of self.new) }
         ensures fits { length bytes.now ≤ length (front_of self.old) → IsOk result
             × PutsInFront self.old self.new bytes.now }
-        ensures buffer { length (front_of self.old) < length bytes.now → Refuses result ErrorKind.Buffer
+        ensures buffer { length (front_of self.old) < length bytes.now
+            → Refuses result ErrorKind.Buffer
             × PutsNothing self.old self.new }
     {
         check_room(bytes.len(), self.start)?;
@@ -65,12 +68,13 @@ impl<'b> BackWriter<'b> {
         Ok(())
     }
 
-    /// Prepends a header for everything written since [`written`](BackWriter::written) returned `since`.
+    /// Prepends a header for everything written since [`written`](BackWriter::written) returned
+    /// `since`.
     ///
     /// # Errors
     ///
     /// Overlength if that is more than 268,435,455 bytes, then Buffer if the header has no room.
-    #[tactic(auto, using(crate::proofs::LengthLemmas::len_1))]
+    #[tactic(auto, using(crate::specs::LengthLaws::len_1))]
     pub fn header(&mut self, tag: Tag, since: usize) -> Result<()>
         requires { since ≤ length (end_of self.old) }
         ensures slice { KeepsEnd self.old self.new }
@@ -92,7 +96,8 @@ impl<'b> BackWriter<'b> {
         self.write(&octets[..count])
     }
 
-    /// Prepends the element of a value: its content, and then the header over it. The crate `der` has no such call.
+    /// Prepends the element of a value: its content, and then the header over it. The crate `der`
+    /// has no such call.
     ///
     /// # Errors
     ///
@@ -113,8 +118,9 @@ impl<'b> BackWriter<'b> {
         self.put_element(value)
     }
 
-    /// Prepends the element of a value, without testing the room first. If there is less room, or if the value has no
-    /// encoding, any bytes may have been prepended. The crate `der` has no such call.
+    /// Prepends the element of a value, without testing the room first. If there is less room, or
+    /// if the value has no encoding, any bytes may have been prepended. The crate `der` has no such
+    /// call.
     ///
     /// # Errors
     ///

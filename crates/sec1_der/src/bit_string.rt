@@ -7,8 +7,8 @@ use crate::{
     SliceWriter, Tag, Tagged, ValueContent,
 };
 
-/// A BIT STRING, which borrows its bytes (X.690 section 8.6). Its content is the number of unused bits of the last byte,
-/// and the bytes.
+/// A BIT STRING, which borrows its bytes (X.690 section 8.6). Its content is the number of unused
+/// bits of the last byte, and the bytes.
 #[derive(Clone, Copy, PartialEq, Eq, Debug)]
 pub struct BitStringRef<'a> {
     unused: u8,
@@ -17,7 +17,8 @@ pub struct BitStringRef<'a> {
 }
 
 impl<'a> BitStringRef<'a> {
-    ghost use Rattle.std.specs.Prelude.{◌<◌, ◌+◌, ◌≤◌, length, Some, None, IsOk, IfOk, IfErr, IsSome, IfSome};
+    ghost use Rattle.std.specs.Prelude.{◌<◌, ◌+◌, ◌≤◌, length, Some, None, IsOk, IfOk, IfErr};
+    ghost use Rattle.std.specs.Prelude.{IsSome, IfSome};
     ghost use Rattle.sec1_der.specs.Elements.{max_length};
     ghost use Rattle.sec1_der.specs.Faults.{Refuses};
     ghost use Rattle.sec1_der.specs.Values.{unused_bits_of, bit_bytes_of};
@@ -26,14 +27,15 @@ impl<'a> BitStringRef<'a> {
     ///
     /// # Errors
     ///
-    /// Overlength if there are more than 268,435,454 bytes; then Value if `unused` is above 7, or isn't 0 without bytes, or
-    /// if an unused bit is set (X.690 section 11.2.1).
+    /// Overlength if there are more than 268,435,454 bytes; then Value if `unused` is above 7, or
+    /// isn't 0 without bytes, or if an unused bit is set (X.690 section 11.2.1).
     pub fn new(unused: u8, bytes: &'a [u8]) -> Result<BitStringRef<'a>>
         ensures bits { IsOk result ↔ ((length bytes.now < max_length) × AreBits unused bytes.now) }
         ensures count { IfOk result (λ bits. unused_bits_of bits ≡ unused) }
         ensures bytes { IfOk result (λ bits. bit_bytes_of bits ≡ bytes.now) }
         ensures overlength { max_length ≤ length bytes.now → Refuses result ErrorKind.Overlength }
-        ensures value { length bytes.now < max_length → IfErr result (λ e. e.kind ≡ ErrorKind.Value) }
+        ensures value { length bytes.now < max_length
+            → IfErr result (λ e. e.kind ≡ ErrorKind.Value) }
     {
         if bytes.len() >= Length::MAX {
             return Err(ErrorKind::Overlength.into());
@@ -118,7 +120,8 @@ impl ValueContent for BitStringRef<'_> {
 
     ghost is_content = { IsBitString };
 
-    ghost content_is_valid = { λ bits bytes same _. bits_are_one bits.unused bits.bytes.now bytes bits.are_bits same };
+    ghost content_is_valid = { λ bits bytes same _.
+        bits_are_one bits.unused bits.bytes.now bytes bits.are_bits same };
 
     ghost fault = { bit_string_fault };
 }

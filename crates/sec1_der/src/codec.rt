@@ -1,7 +1,9 @@
 //! Reading and writing values of any type, by their whole DER encoding.
-ghost use Rattle.std.specs.Prelude.{◌≡◌, ◌≢◌, ◌<◌, ◌≤◌, ◌+◌, ◌⊎◌, ◌↔◌, [], ◌++◌, ℕ, List, length, drop, Option, Some, None, slice_get, IsOk, IfOk};
+ghost use Rattle.std.specs.Prelude.{◌≡◌, ◌≢◌, ◌<◌, ◌≤◌, ◌+◌, ◌⊎◌, ◌↔◌, [], ◌++◌, ℕ, List, length};
+ghost use Rattle.std.specs.Prelude.{drop, Option, Some, None, slice_get, IsOk, IfOk};
 ghost use Rattle.std.specs.Prelude.{IsOkAnd, IfErr, OnOk, OnErr, IsSomeAnd, MatchResult};
-ghost use Rattle.sec1_der.specs.Elements.{max_length, element, element_of, IsTag, IsElementOf, IsProperBeginning};
+ghost use Rattle.sec1_der.specs.Elements.{max_length, element, element_of, IsTag, IsElementOf};
+ghost use Rattle.sec1_der.specs.Elements.{IsProperBeginning};
 ghost use Rattle.sec1_der.specs.Faults.{Refuses, IsReadingFault};
 ghost use Rattle.sec1_der.specs.Refusals.{HasFault, element_fault, end_fault};
 
@@ -17,15 +19,20 @@ use std::alloc::Global;
 ///
 /// Those of [`SliceReader::decode`], then TrailingData if bytes follow the element.
 pub fn from_der<'a, T: DecodeValue<'a> + Tagged + Drop>(input: &'a [u8]) -> Result<T>
-    ensures found { IfOk result (λ value. IsSomeAnd (T.content value) (λ content. T.is_content content
+    ensures found { IfOk result
+        (λ value. IsSomeAnd (T.content value) (λ content. T.is_content content
         × IsElementOf T.tag_byte content input.now)) }
-    ensures only { (content : List ℕ) → T.is_content content → IsElementOf T.tag_byte content input.now
+    ensures only { (content : List ℕ) → T.is_content content
+        → IsElementOf T.tag_byte content input.now
         → IsOkAnd result (λ value. T.content value ≡ Some content) }
-    // The same of values: what is read has these bytes, and the bytes of a value are read as one with its content.
-    ensures found_value { IfOk result (λ value. element_of T.tag_byte (T.content value) ≡ Some input.now) }
+    // The same of values: what is read has these bytes, and the bytes of a value are read as one
+    // with its content.
+    ensures found_value { IfOk result
+        (λ value. element_of T.tag_byte (T.content value) ≡ Some input.now) }
     ensures only_value { (value : T) → element_of T.tag_byte (T.content value) ≡ Some input.now
         → IsOkAnd result (λ found. T.content found ≡ T.content value) }
-    ensures long_value { (value : T) (bytes : List ℕ) → element_of T.tag_byte (T.content value) ≡ Some bytes
+    ensures long_value { (value : T) (bytes : List ℕ)
+        → element_of T.tag_byte (T.content value) ≡ Some bytes
         → IsProperBeginning bytes input.now → Refuses result ErrorKind.TrailingData }
 
     ensures empty { input.now ≡ [] → Refuses result ErrorKind.Truncated }
@@ -53,8 +60,10 @@ pub fn read_der<'a, T: DecodeValue<'a> + Tagged + UniqueContent + Drop>(
     input: &'a [u8],
 ) -> Result<T>
     // What is read has these bytes, and a value with these bytes is read.
-    ensures found { IfOk result (λ value. element_of T.tag_byte (T.content value) ≡ Some input.now) }
-    ensures only { (value : T) → element_of T.tag_byte (T.content value) ≡ Some input.now → result ≡ Ok value }
+    ensures found { IfOk result
+        (λ value. element_of T.tag_byte (T.content value) ≡ Some input.now) }
+    ensures only { (value : T) → element_of T.tag_byte (T.content value) ≡ Some input.now
+        → result ≡ Ok value }
     ensures kinds { IfErr result (λ e. IsReadingFault e.kind) }
     ensures kind { HasFault result (element_fault T.tag_byte T.fault end_fault input.now) }
 {
@@ -72,7 +81,8 @@ pub fn encoded_len<T: EncodeValue + Tagged>(value: &T) -> Result<usize>
         → Refuses result ErrorKind.Overlength }
     ensures only { (bytes : List ℕ) → element_of T.tag_byte (T.content value.now) ≡ Some bytes
         → result ≡ Ok (length bytes) }
-    ensures found { IfOk result (λ n. IsSomeAnd (element_of T.tag_byte (T.content value.now)) (λ bytes.
+    ensures found { IfOk result
+        (λ n. IsSomeAnd (element_of T.tag_byte (T.content value.now)) (λ bytes.
         n ≡ length bytes)) }
     ensures kind { IfErr result (λ e. (e.kind ≡ ErrorKind.Overlength)
         × (element_of T.tag_byte (T.content value.now) ≡ None)) }
@@ -83,12 +93,13 @@ pub fn encoded_len<T: EncodeValue + Tagged>(value: &T) -> Result<usize>
     Ok(header.encoded_len() + header.length.get())
 }
 
-/// Writes the value's DER encoding at the beginning of the slice, and returns the number of bytes written. The rest of the
-/// slice is unchanged.
+/// Writes the value's DER encoding at the beginning of the slice, and returns the number of bytes
+/// written. The rest of the slice is unchanged.
 ///
 /// # Errors
 ///
-/// Those of [`encoded_len`], then Buffer if the slice is too short. The whole slice is unchanged then.
+/// Those of [`encoded_len`], then Buffer if the slice is too short. The whole slice is unchanged
+/// then.
 pub fn encode_to_slice<T: EncodeValue + Tagged>(value: &T, buffer: &mut [u8]) -> Result<usize>
     ensures overlength { element_of T.tag_byte (T.content value.now) ≡ None
         → Refuses result ErrorKind.Overlength × (buffer.new ≡ buffer.old) }
@@ -99,7 +110,8 @@ pub fn encode_to_slice<T: EncodeValue + Tagged>(value: &T, buffer: &mut [u8]) ->
         → length buffer.old < length bytes
         → Refuses result ErrorKind.Buffer × (buffer.new ≡ buffer.old) }
     // What was written is the element, and it fits into the slice.
-    ensures found { IfOk result (λ n. IsSomeAnd (element_of T.tag_byte (T.content value.now)) (λ bytes.
+    ensures found { IfOk result
+        (λ n. IsSomeAnd (element_of T.tag_byte (T.content value.now)) (λ bytes.
         (n ≡ length bytes) × (buffer.new ≡ bytes ++ drop n buffer.old))) }
     ensures within { IfOk result (λ n. n ≤ length buffer.new) }
     ensures kinds { IfErr result (λ e.
@@ -123,7 +135,8 @@ pub fn to_der<T: EncodeValue + Tagged>(alloc: Global, value: &T) -> Result<Vec<u
         → Refuses result ErrorKind.Overlength }
     ensures only { (bytes : List ℕ) → element_of T.tag_byte (T.content value.now) ≡ Some bytes
         → MatchResult result (λ der. der.items ≡ bytes) (λ e. e.kind ≡ ErrorKind.Memory) }
-    ensures found { IfOk result (λ der. element_of T.tag_byte (T.content value.now) ≡ Some der.items) }
+    ensures found { IfOk result
+        (λ der. element_of T.tag_byte (T.content value.now) ≡ Some der.items) }
     ensures kinds { IfErr result (λ e.
         ((e.kind ≡ ErrorKind.Overlength) × (element_of T.tag_byte (T.content value.now) ≡ None))
         ⊎ (e.kind ≡ ErrorKind.Memory)) }
@@ -155,7 +168,8 @@ fn fill<T: EncodeValue + Tagged>(value: &T, buffer: &mut [u8]) -> Result<()>
     ensures fits { (bytes : List ℕ) → element_of T.tag_byte (T.content value.now) ≡ Some bytes
         → length buffer.old ≡ length bytes
         → IsOk result × (buffer.new ≡ bytes) }
-    ensures found { IsSomeAnd (element_of T.tag_byte (T.content value.now)) (λ bytes. length buffer.old ≡ length bytes)
+    ensures found { IsSomeAnd (element_of T.tag_byte (T.content value.now))
+        (λ bytes. length buffer.old ≡ length bytes)
         → IsOk result × (element_of T.tag_byte (T.content value.now) ≡ Some buffer.new) }
 {
     BackWriter::new(buffer).put_element(value)
@@ -174,7 +188,8 @@ pub(crate) fn fill_parts<P: EncodePart>(parts: &P, buffer: &mut [u8]) -> Result<
 pub(crate) fn element_header<T: EncodeValue + Tagged>(value: &T) -> Result<Header>
     ensures overlength { element_of T.tag_byte (T.content value.now) ≡ None
         → Refuses result ErrorKind.Overlength }
-    ensures only { (content : List ℕ) → T.content value.now ≡ Some content → length content ≤ max_length
+    ensures only { (content : List ℕ) → T.content value.now ≡ Some content
+        → length content ≤ max_length
         → result ≡ Ok (record { tag = T.tag_byte; length = length content }) }
     ensures tag { OnOk result (IsTag T.tag_byte) }
 {

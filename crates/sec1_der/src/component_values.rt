@@ -1,5 +1,5 @@
-//! Values for the components of a [`Record`](crate::Record). A contract sees only their bytes, so that the record can hold
-//! plain slices.
+//! Values for the components of a [`Record`](crate::Record). A contract sees only their bytes, so
+//! that the record can hold plain slices.
 ghost use Rattle.std.specs.Prelude.{◌≡◌, ◌∷◌, [], ℕ, List, Some, ⊤};
 ghost use Rattle.sec1_der.specs.Contents.{byte_fault, whole_bits_fault};
 ghost use Rattle.sec1_der.specs.Elements.{element_of};
@@ -11,8 +11,8 @@ use crate::{
 };
 use std::marker::Model;
 
-/// An INTEGER whose content is the one byte `N`, such as a version (X.690 section 8.3). It is the number `N` if that is
-/// below 128. Any other content is refused as Value.
+/// An INTEGER whose content is the one byte `N`, such as a version (X.690 section 8.3). It is the
+/// number `N` if that is below 128. Any other content is refused as Value.
 #[derive(Clone, Copy, PartialEq, Eq, Debug)]
 pub struct SmallInteger<const N: u8>;
 
@@ -121,8 +121,8 @@ impl UniqueContent for Octets<'_> {
     {}
 }
 
-/// The bytes of a BIT STRING without unused bits (X.690 section 8.6). One with unused bits is refused as Value. A
-/// contract sees the bytes.
+/// The bytes of a BIT STRING without unused bits (X.690 section 8.6). One with unused bits is
+/// refused as Value. A contract sees the bytes.
 #[derive(Drop)]
 pub struct WholeBits<'a> {
     /// The bytes.
@@ -181,11 +181,13 @@ impl EncodeValue for WholeBits<'_> {
 
 impl UniqueContent for WholeBits<'_> {
     fn one()
-        ensures { (a b bytes : List ℕ) → Some (0 ∷ a) ≡ Some bytes → Some (0 ∷ b) ≡ Some bytes → a ≡ b }
+        ensures { (a b bytes : List ℕ) → Some (0 ∷ a) ≡ Some bytes
+            → Some (0 ∷ b) ≡ Some bytes → a ≡ b }
     {}
 }
 
-/// An OCTET STRING whose content is the element of another value, `OCTET STRING (CONTAINING T)` (X.682 section 11).
+/// An OCTET STRING whose content is the element of another value, `OCTET STRING (CONTAINING T)`
+/// (X.682 section 11).
 #[derive(Clone, Copy, PartialEq, Eq, Debug, Drop)]
 pub struct Containing<T> {
     /// The value.
@@ -203,7 +205,8 @@ impl<T> Tagged for Containing<T> {
 impl<T: ValueContent + Tagged> ValueContent for Containing<T> {
     ghost content = { λ outside. element_of T.tag_byte (T.content outside.value) };
 
-    ghost is_content = { λ bytes. (value : T) × (element_of T.tag_byte (T.content value) ≡ Some bytes) };
+    ghost is_content = { λ bytes. (value : T)
+        × (element_of T.tag_byte (T.content value) ≡ Some bytes) };
 
     ghost content_is_valid = { λ outside _ same _. (outside.value, same) };
 

@@ -1,5 +1,7 @@
-ghost use Rattle.std.specs.Prelude.{◌≡◌, ◌≤◌, ◌⊎◌, ℕ, List, length, Some, None, IfOk, IfErr, MatchResult};
-ghost use Rattle.sec1_der.specs.Elements.{max_length, element, element_of, IsHeader, IsElement, IsProperBeginning, LacksHeader};
+ghost use Rattle.std.specs.Prelude.{◌≡◌, ◌≤◌, ◌⊎◌, ℕ, List, length, Some, None, IfOk, IfErr};
+ghost use Rattle.std.specs.Prelude.{MatchResult};
+ghost use Rattle.sec1_der.specs.Elements.{max_length, element, element_of, IsHeader, IsElement};
+ghost use Rattle.sec1_der.specs.Elements.{IsProperBeginning, LacksHeader};
 ghost use Rattle.sec1_der.specs.Faults.{Refuses, IsHeaderFault, header_fault};
 ghost use Rattle.sec1_der.specs.Refusals.{document_fault};
 
@@ -11,10 +13,11 @@ use std::alloc::Global;
 use std::fmt;
 use std::marker::Model;
 
-/// The DER encoding of one element, in memory: a header, and as many bytes as it announces. A contract sees the bytes.
+/// The DER encoding of one element, in memory: a header, and as many bytes as it announces. A
+/// contract sees the bytes.
 ///
-/// The content isn't examined. A document is never empty, since it has a header. Its bytes aren't wiped when it is
-/// dropped.
+/// The content isn't examined. A document is never empty, since it has a header. Its bytes aren't
+/// wiped when it is dropped.
 #[derive(Drop)]
 pub struct SecretDocument {
     bytes: Vec<u8>,
@@ -33,13 +36,14 @@ impl SecretDocument {
     ///
     /// # Errors
     ///
-    /// Those of [`Header::decode`](crate::Header::decode), then Truncated if the input ends inside the content,
-    /// TrailingData if bytes follow it, and Memory if the allocation fails.
-    #[tactic(auto, using(crate::proofs::HeaderLemmas::fronts, crate::proofs::RefusalLemmas::document_element, crate::proofs::RefusalLemmas::document_long))]
+    /// Those of [`Header::decode`](crate::Header::decode), then Truncated if the input ends inside
+    /// the content, TrailingData if bytes follow it, and Memory if the allocation fails.
+    #[tactic(auto, using(crate::proofs::RefusalLemmas::document_faults))]
     pub fn from_der(alloc: Global, bytes: &[u8]) -> Result<SecretDocument>
         ensures found { IfOk result (λ document. (document ≡ bytes.now) × IsElement bytes.now) }
         ensures only { IsElement bytes.now
-            → MatchResult result (λ document. document ≡ bytes.now) (λ e. e.kind ≡ ErrorKind.Memory) }
+            → MatchResult result (λ document. document ≡ bytes.now)
+            (λ e. e.kind ≡ ErrorKind.Memory) }
         ensures fault { LacksHeader bytes.now → Refuses result (header_fault bytes.now) }
         ensures short { (tag : ℕ) (content : List ℕ) → IsHeader tag (length content)
             → IsProperBeginning bytes.now (element tag content)
@@ -49,7 +53,8 @@ impl SecretDocument {
             → Refuses result ErrorKind.TrailingData }
         ensures kinds { IfErr result (λ e. IsHeaderFault e.kind ⊎ (e.kind ≡ ErrorKind.TrailingData)
             ⊎ ((e.kind ≡ ErrorKind.Memory) × IsElement bytes.now)) }
-        // Whether the input is refused, and by which kind, is a function of its bytes; otherwise the allocation may fail.
+        // Whether the input is refused, and by which kind, is a function of its bytes; otherwise
+        // the allocation may fail.
         ensures kind { MatchResult result (λ _. document_fault bytes.now ≡ None) (λ e.
             (document_fault bytes.now ≡ Some e.kind)
             ⊎ ((e.kind ≡ ErrorKind.Memory) × (document_fault bytes.now ≡ None))) }
@@ -75,7 +80,8 @@ impl SecretDocument {
             → Refuses result ErrorKind.Overlength }
         ensures only { (bytes : List ℕ) → element_of T.tag_byte (T.content value.now) ≡ Some bytes
             → MatchResult result (λ document. document ≡ bytes) (λ e. e.kind ≡ ErrorKind.Memory) }
-        ensures found { IfOk result (λ document. element_of T.tag_byte (T.content value.now) ≡ Some document) }
+        ensures found { IfOk result
+            (λ document. element_of T.tag_byte (T.content value.now) ≡ Some document) }
         ensures kinds { IfErr result (λ e.
             ((e.kind ≡ ErrorKind.Overlength) × (element_of T.tag_byte (T.content value.now) ≡ None))
             ⊎ (e.kind ≡ ErrorKind.Memory)) }

@@ -19,8 +19,8 @@ pub enum ErrorKind {
     /// Bytes after the end of the value.
     #[error("bytes after the value")]
     TrailingData,
-    /// A content that isn't valid for its tag, a text that isn't an identifier's, or unused bits that a bit string
-    /// can't have.
+    /// A content that isn't valid for its tag, a text that isn't an identifier's, or unused bits
+    /// that a bit string can't have.
     #[error("content not valid for its tag")]
     Value,
     /// A content to write, or a number, above [`Length::MAX`](crate::Length::MAX).

@@ -10,8 +10,8 @@ use crate::{
 };
 use std::marker::{Model, PhantomData};
 
-/// The element of a value inside an element with the tag of `K`: `[0] EXPLICIT A` is `Explicit<Context0, A>`. A contract sees
-/// the value.
+/// The element of a value inside an element with the tag of `K`: `[0] EXPLICIT A` is
+/// `Explicit<Context0, A>`. A contract sees the value.
 #[derive(Drop)]
 pub struct Explicit<K, A> {
     /// The value.
@@ -50,7 +50,8 @@ impl<K: Tagged, A> Tagged for Explicit<K, A> {
 impl<K, A: ValueContent + Tagged> ValueContent for Explicit<K, A> {
     ghost content = { λ value. element_of A.tag_byte (A.content value) };
 
-    ghost is_content = { λ bytes. (value : A) × (element_of A.tag_byte (A.content value) ≡ Some bytes) };
+    ghost is_content = { λ bytes. (value : A)
+        × (element_of A.tag_byte (A.content value) ≡ Some bytes) };
 
     ghost content_is_valid = { λ value _ same _. (value, same) };
 
@@ -92,8 +93,9 @@ impl<K, A: UniqueContent + Tagged> UniqueContent for Explicit<K, A> {
     }
 }
 
-/// The explicit tag `[1]` around a BIT STRING without unused bits, as an ECPrivateKey has it (RFC 5915 section 3). Unused bits
-/// are refused as Value after the end of the field was checked. A contract sees the bytes.
+/// The explicit tag `[1]` around a BIT STRING without unused bits, as an ECPrivateKey has it (RFC
+/// 5915 section 3). Unused bits are refused as Value after the end of the field was checked. A
+/// contract sees the bytes.
 #[derive(Drop)]
 pub struct ExplicitBits<'a> {
     /// The bytes.
@@ -119,7 +121,8 @@ impl Tagged for ExplicitBits<'_> {
 impl ValueContent for ExplicitBits<'_> {
     ghost content = { λ bytes. element_of 0x03 (Some (0 ∷ bytes)) };
 
-    ghost is_content = { λ content. (bytes : List ℕ) × (element_of 0x03 (Some (0 ∷ bytes)) ≡ Some content) };
+    ghost is_content = { λ content. (bytes : List ℕ)
+        × (element_of 0x03 (Some (0 ∷ bytes)) ≡ Some content) };
 
     ghost content_is_valid = { λ bytes _ same _. (bytes, same) };
 

@@ -1,5 +1,7 @@
-ghost use Rattle.std.specs.Prelude.{◌≡◌, ℕ, ◌<◌, ◌≤◌, ◌^◌, length, take, List, ◌++◌, IfOk, IfErr, IsOkAnd, IsOk, IsErr, OnErr, false, true, Some};
-ghost use Rattle.sec1_der.specs.Elements.{max_length, length_octets, header, element, IsHeader, IsProperBeginning, LacksHeader};
+ghost use Rattle.std.specs.Prelude.{◌≡◌, ℕ, ◌<◌, ◌≤◌, ◌^◌, length, take, List, ◌++◌, IfOk, IfErr};
+ghost use Rattle.std.specs.Prelude.{IsOkAnd, IsOk, IsErr, OnErr, false, true, Some};
+ghost use Rattle.sec1_der.specs.Elements.{max_length, length_octets, header, element, IsHeader};
+ghost use Rattle.sec1_der.specs.Elements.{IsProperBeginning, LacksHeader};
 ghost use Rattle.sec1_der.specs.Faults.{length_fault, header_fault, Refuses, IsHeaderFault};
 ghost use Rattle.sec1_der.specs.Numbers.{number_of};
 ghost use Rattle.sec1_der.specs.Readers.{reader_over, refused, HasRead};
@@ -28,9 +30,9 @@ impl Header {
     ///
     /// # Errors
     ///
-    /// Tag if the first byte is no tag; Length if no length in the form of DER follows it; Truncated if the input ends
-    /// inside the header; Failed if the reader failed before. The tag is checked before the length. The reader has
-    /// failed then.
+    /// Tag if the first byte is no tag; Length if no length in the form of DER follows it;
+    /// Truncated if the input ends inside the header; Failed if the reader failed before. The tag
+    /// is checked before the length. The reader has failed then.
     pub fn decode(reader: &mut SliceReader) -> Result<Header>
         // What is read is a header, and just its bytes are read.
         ensures found { IfOk result (λ h. IsHeader h.tag h.length
@@ -43,7 +45,8 @@ impl Header {
         ensures kind { reader.old.failed ≡ false → IsErr result
             → Refuses result (header_fault reader.old.unread) }
         // An element of any tag is refused there by the same kind.
-        ensures element { reader.old.failed ≡ false → IfErr result (λ e. (content : ℕ → Fault) (behind : Fault)
+        ensures element { reader.old.failed ≡ false
+            → IfErr result (λ e. (content : ℕ → Fault) (behind : Fault)
             → any_fault content behind reader.old.unread ≡ Some e.kind) }
         ensures failed { reader.old.failed ≡ true → Refuses result ErrorKind.Failed }
         ensures refused { OnErr result (reader.new ≡ refused reader.old) }
@@ -107,8 +110,9 @@ impl Header {
     }
 }
 
-/// Returns the header at the beginning of the bytes, and the bytes after it, which are at least as many as it announces.
-#[tactic(auto, using(crate::proofs::HeaderLemmas::fronts, crate::proofs::HeaderLemmas::header_fault_kinds))]
+/// Returns the header at the beginning of the bytes, and the bytes after it, which are at least as
+/// many as it announces.
+#[tactic(auto, using(crate::proofs::HeaderLemmas::header_fronts))]
 pub(crate) fn element_at(input: &[u8]) -> First<'_, Header>
     ensures kinds { IfErr result IsHeaderFault }
     ensures found { IfOk result (λ x. IsHeader x.0.tag x.0.length
@@ -161,8 +165,10 @@ pub(crate) fn header_at(bytes: &[u8]) -> First<'_, Header>
 /// Returns the length at the beginning of the bytes, and the bytes after it.
 #[tactic(auto, using(crate::proofs::LengthLemmas::len_shape), unfolding(crate::specs::Elements::length_octets))]
 fn length_at(bytes: &[u8]) -> First<'_, Length>
-    ensures found { IfOk result (λ x. (x.0 ≤ max_length) × (bytes.now ≡ length_octets x.0 ++ x.1.now)) }
-    ensures only { (n : ℕ) (rest : List ℕ) → n ≤ max_length → bytes.now ≡ length_octets n ++ rest → IsOk result }
+    ensures found { IfOk result
+        (λ x. (x.0 ≤ max_length) × (bytes.now ≡ length_octets x.0 ++ x.1.now)) }
+    ensures only { (n : ℕ) (rest : List ℕ) → n ≤ max_length → bytes.now ≡ length_octets n ++ rest
+        → IsOk result }
     ensures kind { IfErr result (λ kind. kind ≡ length_fault bytes.now) }
 {
     let Some((first, rest)) = bytes.split_first() else {
@@ -175,7 +181,8 @@ fn length_at(bytes: &[u8]) -> First<'_, Length>
     if first == 0x80 || first > 0x84 {
         return Err(ErrorKind::Length);
     }
-    // 1 to 4. A remainder, so that the compiler knows how few digits there are, and `number` becomes code without a loop.
+    // 1 to 4. A remainder, so that the compiler knows how few digits there are, and `number`
+    // becomes code without a loop.
     let count = usize::from(first % 8);
     if rest.len() < count {
         return Err(ErrorKind::Truncated);

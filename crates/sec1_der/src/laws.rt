@@ -1,10 +1,12 @@
-//! Laws of the definitions, of the constants and of `==`, for callers to cite. Each law is the contract of a function,
-//! which does nothing else.
-ghost use Rattle.std.specs.Prelude.{◌≡◌, ◌⊎◌, ◌↔◌, ◌<◌, ◌≤◌, ℕ, List, [], ◌∷◌, ◌++◌, length, take, drop, ◌-◌, Some, None, IsSome, IsOk, IsTrue};
+//! Laws of the definitions, of the constants and of `==`, for callers to cite. Each law is the
+//! contract of a function, which does nothing else.
+ghost use Rattle.std.specs.Prelude.{◌≡◌, ◌⊎◌, ◌↔◌, ◌<◌, ◌≤◌, ℕ, List, [], ◌∷◌, ◌++◌, length, take};
+ghost use Rattle.std.specs.Prelude.{drop, ◌-◌, Some, None, IsSome, IsOk, IsTrue};
 ghost use Rattle.sec1_der.specs.Elements.{length_octets, element_of};
 ghost use Rattle.sec1_der.specs.Faults.{Refuses};
 ghost use Rattle.sec1_der.specs.Identifiers.{content_of, dotted};
-ghost use Rattle.sec1_der.specs.TreeLaws.{BytesDetermineTree, BytesDetermineRow, NoTreeBeginsAnother};
+ghost use Rattle.sec1_der.specs.TreeLaws.{BytesDetermineTree, BytesDetermineRow};
+ghost use Rattle.sec1_der.specs.TreeLaws.{NoTreeBeginsAnother};
 ghost use Rattle.sec1_der.specs.Values.{octets_of, unused_bits_of, bit_bytes_of, tag_of, value_of};
 ghost use Rattle.sec1_der.specs.declared.bit_string.BitStringRef.{BitStringRef};
 ghost use Rattle.sec1_der.specs.declared.octet_string.OctetStringRef.{OctetStringRef};
@@ -77,8 +79,8 @@ pub fn spelled_lengths()
     ensures greatest { length_octets 268435455 ≡ 0x84 ∷ 0x0F ∷ 0xFF ∷ 0xFF ∷ 0xFF ∷ [] }
 {}
 
-/// The contents of P-256's identifier (RFC 5480 section 2.1.1.1), of 2.999, whose second arc is above 39 (X.690
-/// section 8.19.4), and of the greatest second arc.
+/// The contents of P-256's identifier (RFC 5480 section 2.1.1.1), of 2.999, whose second arc is
+/// above 39 (X.690 section 8.19.4), and of the greatest second arc.
 pub fn spelled_identifiers()
     ensures p_256 { content_of (1 ∷ 2 ∷ 840 ∷ 10045 ∷ 3 ∷ 1 ∷ 7 ∷ [])
         ≡ 0x2A ∷ 0x86 ∷ 0x48 ∷ 0xCE ∷ 0x3D ∷ 0x03 ∷ 0x01 ∷ 0x07 ∷ [] }
@@ -94,7 +96,8 @@ pub fn element_or_none<T: EncodeValue + Tagged>(value: &T)
     let _value = value;
 }
 
-/// Returns the constants of [`Tag`] for universal types (X.680 section 8.4), in the order of their bytes.
+/// Returns the constants of [`Tag`] for universal types (X.680 section 8.4), in the order of their
+/// bytes.
 pub fn universal_tags() -> [Tag; 19]
     ensures { result ≡ 0x01 ∷ 0x02 ∷ 0x03 ∷ 0x04 ∷ 0x05 ∷ 0x06 ∷ 0x0A ∷ 0x0C ∷ 0x12 ∷ 0x13
         ∷ 0x14 ∷ 0x16 ∷ 0x17 ∷ 0x18 ∷ 0x1A ∷ 0x1C ∷ 0x1E ∷ 0x30 ∷ 0x31 ∷ [] }
@@ -122,8 +125,8 @@ pub fn universal_tags() -> [Tag; 19]
     ]
 }
 
-/// Returns the constants of [`Tag`] for context-specific tags (X.690 section 8.1.2.2): `[0]` to `[3]` of constructed elements,
-/// and of primitive ones.
+/// Returns the constants of [`Tag`] for context-specific tags (X.690 section 8.1.2.2): `[0]` to
+/// `[3]` of constructed elements, and of primitive ones.
 pub fn context_tags() -> [Tag; 8]
     ensures { result ≡ 0xA0 ∷ 0xA1 ∷ 0xA2 ∷ 0xA3 ∷ 0x80 ∷ 0x81 ∷ 0x82 ∷ 0x83 ∷ [] }
 {
@@ -160,7 +163,8 @@ pub fn bit_string_tag() -> Tag
     BitStringRef::TAG
 }
 
-/// Returns [`FixedTag::TAG`] of [`ObjectIdentifier`], which is its [`fixed_tag`](Tagged::fixed_tag).
+/// Returns [`FixedTag::TAG`] of [`ObjectIdentifier`], which is its
+/// [`fixed_tag`](Tagged::fixed_tag).
 pub fn identifier_tag() -> Tag
     ensures { result ≡ ⟦<ObjectIdentifier as Tagged>⟧.tag_byte }
 {
@@ -238,8 +242,8 @@ pub fn same_identifier(a: ObjectIdentifier, b: ObjectIdentifier) -> bool
     a == b
 }
 
-/// Writes bytes at the beginning of a slice by a [`SliceWriter`]. The rest of the slice is unchanged after the writer
-/// has been dropped.
+/// Writes bytes at the beginning of a slice by a [`SliceWriter`]. The rest of the slice is
+/// unchanged after the writer has been dropped.
 ///
 /// # Errors
 ///
@@ -253,15 +257,16 @@ pub fn writes_forwards(buffer: &mut [u8], bytes: &[u8]) -> Result<()>
     SliceWriter::new(buffer).write(bytes)
 }
 
-/// Writes bytes at the end of a slice by a [`BackWriter`]. The rest of the slice is unchanged after the writer has
-/// been dropped.
+/// Writes bytes at the end of a slice by a [`BackWriter`]. The rest of the slice is unchanged after
+/// the writer has been dropped.
 ///
 /// # Errors
 ///
 /// Buffer if the slice is too short. The whole slice is unchanged then.
 pub fn writes_backwards(buffer: &mut [u8], bytes: &[u8]) -> Result<()>
     ensures fits { length bytes.now ≤ length buffer.old
-        → IsOk result × (buffer.new ≡ take (length buffer.old - length bytes.now) buffer.old ++ bytes.now) }
+        → IsOk result × (buffer.new ≡ take (length buffer.old - length bytes.now) buffer.old
+        ++ bytes.now) }
     ensures buffer { length buffer.old < length bytes.now
         → Refuses result ErrorKind.Buffer × (buffer.new ≡ buffer.old) }
 {

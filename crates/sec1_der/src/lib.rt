@@ -1,9 +1,10 @@
-//! The part of DER (X.690) that EC private keys need. Each value has one encoding, and everything else is refused.
+//! The part of DER (X.690) that EC private keys need. Each value has one encoding, and everything
+//! else is refused.
 //!
-//! Lengths, tags and headers; a reader and two writers over slices; the values that a key is made of; traits by
-//! which a type is read from its element and written as it, and the calls that are generic over these; records, which
-//! are read and written by the parts that they have; documents, which are read from streams and files and written
-//! to them; a check of whole trees; laws.
+//! Lengths, tags and headers; a reader and two writers over slices; the values that a key is made
+//! of; traits by which a type is read from its element and written as it, and the calls that are
+//! generic over these; records, which are read and written by the parts that they have; documents,
+//! which are read from streams and files and written to them; a check of whole trees; laws.
 #![tactic(auto)]
 
 mod any;
@@ -16,6 +17,7 @@ mod document;
 mod error;
 mod explicit;
 mod header;
+mod identifier_ref;
 pub mod laws;
 mod length;
 mod object_identifier;
@@ -45,13 +47,14 @@ pub use document::SecretDocument;
 pub use error::{Error, ErrorKind, Result};
 pub use explicit::{Explicit, ExplicitBits};
 pub use header::Header;
+pub use identifier_ref::IdentifierRef;
 pub use length::Length;
 pub use object_identifier::{ID_EC_PUBLIC_KEY, ObjectIdentifier, SECP256R1};
 pub use octet_string::OctetStringRef;
 pub use optional::Optional;
 pub use part::{DecodePart, EncodePart, Part, UniquePart};
 pub use reader::SliceReader;
-pub use record::Record;
+pub use record::{Distinct, Record};
 pub use required::Required;
 pub use slice_writer::SliceWriter;
 pub use std_stream::{StdReader, StdWriter};

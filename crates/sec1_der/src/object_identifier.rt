@@ -1,8 +1,10 @@
-ghost use Rattle.std.specs.Prelude.{◌≡◌, ℕ, ◌<◌, ◌≤◌, ◌↔◌, List, length, IsTrue, IfOk, IfErr, Some, ◌∷◌};
+ghost use Rattle.std.specs.Prelude.{◌≡◌, ℕ, ◌<◌, ◌≤◌, ◌↔◌, List, length, IsTrue, IfOk, IfErr, Some};
+ghost use Rattle.std.specs.Prelude.{◌∷◌};
 ghost use Rattle.sec1_der.specs.ArcsOf.{padded, arcs_of_numbers};
 ghost use Rattle.sec1_der.specs.Contents.{identifier_fault};
 ghost use Rattle.sec1_der.specs.IdentifierLaws.{identifier_content-some};
-ghost use Rattle.sec1_der.specs.Identifiers.{IsIdentifier, IsIdentifierContent, Spells, content_of, dotted, identifier_content};
+ghost use Rattle.sec1_der.specs.Identifiers.{IsIdentifier, IsIdentifierContent, Spells, content_of};
+ghost use Rattle.sec1_der.specs.Identifiers.{dotted, identifier_content};
 ghost use Rattle.sec1_der.specs.Stored.{arcs_stored, IsStored, store, store_arcs_stored};
 
 mod builder;
@@ -18,11 +20,11 @@ use std::marker::Model;
 /// The greatest length of a content in bytes.
 const MAX_CONTENT: usize = 39;
 
-/// An OBJECT IDENTIFIER (X.690 section 8.19): two or more arcs, whose content has 1 to 39 bytes. A contract sees
-/// the arcs.
+/// An OBJECT IDENTIFIER (X.690 section 8.19): two or more arcs, whose content has 1 to 39 bytes. A
+/// contract sees the arcs.
 ///
-/// The first arc is 0, 1 or 2; the second is below 40 under 0 and 1, and at most 4,294,967,215 under 2; each
-/// further arc is at most 4,294,967,295.
+/// The first arc is 0, 1 or 2; the second is below 40 under 0 and 1, and at most 4,294,967,215
+/// under 2; each further arc is at most 4,294,967,295.
 #[derive(Clone, Copy, PartialEq, Eq)]
 pub struct ObjectIdentifier {
     bytes: [u8; MAX_CONTENT],
@@ -60,7 +62,8 @@ impl Model for ObjectIdentifier {
 }
 
 impl ObjectIdentifier {
-    /// Parses an identifier: its arcs in decimal digits without leading zeros, joined by full stops.
+    /// Parses an identifier: its arcs in decimal digits without leading zeros, joined by full
+    /// stops.
     ///
     /// # Errors
     ///
@@ -68,7 +71,8 @@ impl ObjectIdentifier {
     pub fn new(text: &str) -> Result<ObjectIdentifier>
         ensures found { IfOk result (λ arcs. IsIdentifier arcs (content_of arcs)
             × (text.now ≡ dotted arcs)) }
-        ensures only { (arcs : List ℕ) → IsIdentifier arcs (content_of arcs) → text.now ≡ dotted arcs
+        ensures only { (arcs : List ℕ) → IsIdentifier arcs (content_of arcs)
+            → text.now ≡ dotted arcs
             → result ≡ Ok arcs }
         ensures kind { IfErr result (λ e. e.kind ≡ ErrorKind.Value) }
     {
@@ -95,14 +99,14 @@ impl ObjectIdentifier {
         ensures only { (arcs : List ℕ) → IsIdentifier arcs content.now → result ≡ Ok arcs }
         ensures kind { IfErr result (λ e. e.kind ≡ ErrorKind.Value) }
     {
-        if content.len() > MAX_CONTENT || !is_content(content) {
+        if !is_identifier(content) {
             return Err(ErrorKind::Value.into());
         }
         Ok(ObjectIdentifier::of_content(content))
     }
 
     /// Returns the identifier with this content.
-    fn of_content(content: &[u8]) -> ObjectIdentifier
+    pub(crate) fn of_content(content: &[u8]) -> ObjectIdentifier
         requires { IsIdentifierContent content.now }
         ensures { (arcs : List ℕ) → IsIdentifier arcs content.now → result ≡ arcs }
     {
@@ -122,27 +126,42 @@ impl ObjectIdentifier {
     }
 }
 
+/// Returns `true` if the bytes are the content of an identifier, at most 39 of them.
+pub(crate) fn is_identifier(content: &[u8]) -> bool
+    ensures { IsTrue result ↔ IsIdentifierContent content.now }
+{
+    content.len() <= MAX_CONTENT && is_content(content)
+}
+
 /// Returns `true` if the bytes are one or more subidentifiers, each below 2^32 (X.690 section 8.19.2).
-#[tactic(auto, using(crate::proofs::IdentifierLemmas::content_steps, crate::proofs::IdentifierLemmas::goes_on_from_spells))]
+#[tactic(auto, using(std::proofs::lemmas::Bool::Decides::nat_tests))]
 fn is_content(content: &[u8]) -> bool
     ensures { IsTrue result ↔ ((arcs : List ℕ) × Spells arcs content.now) }
 {
     if content.is_empty() {
         return false;
     }
-    // The number in the digits so far of a subidentifier that goes on. It isn't 0 then, since its first digit isn't.
-    let mut high: u32 = 0;
-    for b in content {
-        if high >= 1 << 25 {
+    // The width of a subidentifier that goes on: how many of its digits were read, where a first
+    // digit of 16 or more counts as two; 0 where one begins. A number is below 2^32 exactly if the
+    // width of its digits without the last is at most four.
+    let mut width: u8 = 0;
+    let mut rest = content;
+    while let Some((byte, behind)) = rest.split_first() {
+        if *byte < 0x80 {
+            width = 0;
+        } else if width == 0 {
+            if *byte == 0x80 {
+                return false;
+            }
+            width = if *byte < 0x90 { 1 } else { 2 };
+        } else if width < 4 {
+            width += 1;
+        } else {
             return false;
         }
-        if high == 0 && *b == 0x80 {
-            return false;
-        }
-        let n = high * 128 + u32::from(*b % 128);
-        high = if *b < 128 { 0 } else { n };
+        rest = behind;
     }
-    high == 0
+    width == 0
 }
 
 /// Prints the arcs in decimal digits, joined by full stops.
@@ -209,13 +228,14 @@ impl ValueContent for ObjectIdentifier {
 
     ghost is_content = { IsIdentifierContent };
 
-    ghost content_is_valid = { λ arcs bytes same _. (arcs, identifier_content-some arcs bytes same) };
+    ghost content_is_valid = { λ arcs bytes same _.
+        (arcs, identifier_content-some arcs bytes same) };
 
     ghost fault = { identifier_fault };
 }
 
 impl<'a> DecodeValue<'a> for ObjectIdentifier {
-    #[tactic(auto, using(crate::proofs::ContentRefusals::identifier_taken, crate::proofs::ContentRefusals::identifier_refused))]
+    #[tactic(auto, using(crate::proofs::ContentRefusals::identifier_faults))]
     fn decode_value(reader: &mut SliceReader<'a>) -> Result<Self> {
         match ObjectIdentifier::from_bytes(reader.read_rest()?) {
             Ok(identifier) => Ok(identifier),

@@ -11,7 +11,8 @@ use crate::{
 };
 use std::marker::Model;
 
-/// An OPTIONAL component: the element of a value, if its tag is next. A contract sees the value, if present.
+/// An OPTIONAL component: the element of a value, if its tag is next. A contract sees the value, if
+/// present.
 #[derive(Clone, Copy, PartialEq, Eq, Debug, Drop)]
 pub struct Optional<A>(pub Option<A>);
 
@@ -30,7 +31,8 @@ impl<A: ValueContent + Tagged> Part for Optional<A> {
 
     ghost tags = { optional_tag A.tag_byte };
 
-    ghost begins = { λ value whole same. optional_begins A.tag_byte (option_map A.content value) whole same };
+    ghost begins = { λ value whole same.
+        optional_begins A.tag_byte (option_map A.content value) whole same };
 }
 
 impl<A: EncodeValue + Tagged> EncodePart for Optional<A> {

@@ -16,7 +16,8 @@ pub trait Part {
     /// The bytes of a part, if it has an encoding.
     ghost bytes: { Self → Option (List ℕ) };
 
-    /// The kind of the error by which bytes are refused as a part and what follows it, from that of what follows.
+    /// The kind of the error by which bytes are refused as a part and what follows it, from that of
+    /// what follows.
     ghost fault_then: { Fault → Fault };
 
     /// The tags that a part may begin with, and those that mustn't follow it.
@@ -34,12 +35,14 @@ pub trait EncodePart: Part {
     ///
     /// Overlength if the part has no encoding, or one that is longer than 268,435,455 bytes.
     fn part_len(&self) -> Result<Length>
-        ensures overlength { IsOverlong (Self.bytes self.now) → Refuses result ErrorKind.Overlength }
-        ensures only { (whole : List ℕ) → Self.bytes self.now ≡ Some whole → length whole ≤ max_length
+        ensures overlength { IsOverlong (Self.bytes self.now)
+            → Refuses result ErrorKind.Overlength }
+        ensures only { (whole : List ℕ) → Self.bytes self.now ≡ Some whole
+            → length whole ≤ max_length
             → result ≡ Ok (length whole) };
 
-    /// Prepends the part to what was written, without testing the room first. If there is less room, or no encoding, any
-    /// bytes may be prepended.
+    /// Prepends the part to what was written, without testing the room first. If there is less
+    /// room, or no encoding, any bytes may be prepended.
     ///
     /// # Errors
     ///
@@ -47,7 +50,8 @@ pub trait EncodePart: Part {
     fn put_part(&self, writer: &mut BackWriter) -> Result<()>
         ensures slice { KeepsEnd writer.old writer.new }
         ensures grows { length (end_of writer.old) ≤ length (end_of writer.new) }
-        ensures fits { (whole : List ℕ) → Self.bytes self.now ≡ Some whole → length whole ≤ max_length
+        ensures fits { (whole : List ℕ) → Self.bytes self.now ≡ Some whole
+            → length whole ≤ max_length
             → length whole ≤ length (front_of writer.old)
             → IsOk result × PutsInFront writer.old writer.new whole };
 }
@@ -58,22 +62,29 @@ pub trait DecodePart<'a>: Part + Sized {
     ///
     /// # Errors
     ///
-    /// Truncated, Tag, Length, TrailingData or Value if the remaining input doesn't begin with a part; Failed if the
-    /// reader failed before. The reader has failed then.
+    /// Truncated, Tag, Length, TrailingData or Value if the remaining input doesn't begin with a
+    /// part; Failed if the reader failed before. The reader has failed then.
     fn decode_part(reader: &mut SliceReader<'a>) -> Result<Self>
         requires { length reader.old.unread ≤ max_length }
         // What is read is the part, and just its bytes are read.
-        ensures found { IfOk result (λ part. IsSomeAnd (Self.bytes part) (λ whole. HasRead whole reader.old reader.new)) }
-        // If the unread bytes begin with a part, and what follows can't be confused with it, that part is read.
-        ensures only { (part : Self) (whole rest : List ℕ) → Self.tags.apart ≡ true → Self.bytes part ≡ Some whole
+        ensures found { IfOk result
+            (λ part. IsSomeAnd (Self.bytes part) (λ whole. HasRead whole reader.old reader.new)) }
+        // If the unread bytes begin with a part, and what follows can't be confused with it, that
+        // part is read.
+        ensures only { (part : Self) (whole rest : List ℕ) → Self.tags.apart ≡ true
+            → Self.bytes part ≡ Some whole
             → MayFollow Self.tags rest → reader.old ≡ reader_over (whole ++ rest)
-            → IsOkAnd result (λ found. Self.bytes found ≡ Some whole) × (reader.new ≡ reader_over rest) }
+            → IsOkAnd result (λ found. Self.bytes found ≡ Some whole)
+            × (reader.new ≡ reader_over rest) }
         ensures kinds { reader.old.failed ≡ false → IfErr result (λ e. IsReadingFault e.kind) }
-        // The kind of a refusal is a function of the remaining input; a part that is read leaves that of what follows.
+        // The kind of a refusal is a function of the remaining input; a part that is read leaves
+        // that of what follows.
         ensures passes { reader.old.failed ≡ false
-            → OnOk result ((behind : Fault) → Self.fault_then behind reader.old.unread ≡ behind reader.new.unread) }
+            → OnOk result ((behind : Fault)
+            → Self.fault_then behind reader.old.unread ≡ behind reader.new.unread) }
         ensures refuses { reader.old.failed ≡ false
-            → IfErr result (λ e. (behind : Fault) → Self.fault_then behind reader.old.unread ≡ Some e.kind) }
+            → IfErr result (λ e. (behind : Fault)
+            → Self.fault_then behind reader.old.unread ≡ Some e.kind) }
         ensures failed { reader.old.failed ≡ true → Refuses result ErrorKind.Failed
             × (reader.new ≡ reader.old) }
         ensures refused { OnErr result (reader.new.failed ≡ true) };
@@ -81,8 +92,8 @@ pub trait DecodePart<'a>: Part + Sized {
 
 /// A part that is determined by the bytes that begin with it.
 pub trait UniquePart: Part {
-    /// Does nothing: its contract is the law that if two parts, each with what may follow it, have the same bytes, the
-    /// parts are the same, and so is what follows them.
+    /// Does nothing: its contract is the law that if two parts, each with what may follow it, have
+    /// the same bytes, the parts are the same, and so is what follows them.
     fn one_part()
         ensures { AreApart Self.tags Self.bytes };
 }
@@ -94,7 +105,8 @@ impl<P: Part, Q: Part> Part for (P, Q) {
 
     ghost tags = { both_tags P.tags Q.tags };
 
-    ghost begins = { λ parts whole same. pair_begins P.tags Q.tags (P.bytes parts.0) (Q.bytes parts.1) whole same
+    ghost begins = { λ parts whole same. pair_begins P.tags Q.tags (P.bytes parts.0)
+        (Q.bytes parts.1) whole same
         (P.begins parts.0) (Q.begins parts.1) };
 }
 

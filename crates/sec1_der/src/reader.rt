@@ -1,17 +1,19 @@
-ghost use Rattle.std.specs.Prelude.{◌≡◌, ◌≢◌, ◌↔◌, ◌+◌, ◌≤◌, ◌++◌, ◌∷◌, [], ℕ, List, length, slice_get, true, false, if◌then◌else◌, IsOk, IfOk};
+ghost use Rattle.std.specs.Prelude.{◌≡◌, ◌≢◌, ◌↔◌, ◌+◌, ◌≤◌, ◌++◌, ◌∷◌, [], ℕ, List, length};
+ghost use Rattle.std.specs.Prelude.{slice_get, true, false, if◌then◌else◌, IsOk, IfOk};
 ghost use Rattle.std.specs.Prelude.{IsOkAnd, IsErr, IfErr, OnOk, OnErr, IfSome, IfNone, IsSomeAnd};
 ghost use Rattle.sec1_der.specs.Elements.{max_length, element, IsProperBeginning, explicit_tag};
 ghost use Rattle.sec1_der.specs.Faults.{Refuses, IsReadingFault};
 ghost use Rattle.sec1_der.specs.Readers.{reader_over, refused, HasRead, HasReadElement, Reader};
-ghost use Rattle.sec1_der.specs.Refusals.{HasFault, element_fault, end_fault, field_fault, no_fault};
+ghost use Rattle.sec1_der.specs.Refusals.{HasFault, element_fault, end_fault, field_fault};
+ghost use Rattle.sec1_der.specs.Refusals.{no_fault};
 
 use crate::{AnyRef, DecodeValue, Error, ErrorKind, Length, Result, Tag, Tagged};
 use std::marker::Model;
 
 /// A reader over a slice. A contract sees the remaining input, and whether the reader has failed.
 ///
-/// A reader has failed after its first error: [`peek_tag_byte`](SliceReader::peek_tag_byte) returns `None`, no more
-/// bytes are read, and each call that returns a [`Result`] returns Failed.
+/// A reader has failed after its first error: [`peek_tag_byte`](SliceReader::peek_tag_byte) returns
+/// `None`, no more bytes are read, and each call that returns a [`Result`] returns Failed.
 #[derive(Drop)]
 pub struct SliceReader<'a> {
     unread: &'a [u8],
@@ -75,7 +77,8 @@ impl<'a> SliceReader<'a> {
     pub fn read_slice(&mut self, count: Length) -> Result<&'a [u8]>
         ensures found { IfOk result (λ bytes. (length bytes.now ≡ count)
             × HasRead bytes.now self.old self.new) }
-        ensures only { (bytes rest : List ℕ) → length bytes ≡ count → self.old ≡ reader_over (bytes ++ rest)
+        ensures only { (bytes rest : List ℕ) → length bytes ≡ count
+            → self.old ≡ reader_over (bytes ++ rest)
             → IsOkAnd result (λ found. found.now ≡ bytes) × (self.new ≡ reader_over rest) }
         ensures within { self.old.failed ≡ false → IsOk result ↔ (count ≤ length self.old.unread) }
         ensures kind { self.old.failed ≡ false → IsErr result → Refuses result ErrorKind.Truncated }
@@ -100,7 +103,8 @@ impl<'a> SliceReader<'a> {
     pub fn read_nested(&mut self, count: Length) -> Result<SliceReader<'a>>
         ensures found { IfOk result (λ nested. (length nested.unread ≡ count)
             × (nested ≡ reader_over nested.unread) × HasRead nested.unread self.old self.new) }
-        ensures only { (bytes rest : List ℕ) → length bytes ≡ count → self.old ≡ reader_over (bytes ++ rest)
+        ensures only { (bytes rest : List ℕ) → length bytes ≡ count
+            → self.old ≡ reader_over (bytes ++ rest)
             → (result ≡ Ok (reader_over bytes)) × (self.new ≡ reader_over rest) }
         ensures within { self.old.failed ≡ false → IsOk result ↔ (count ≤ length self.old.unread) }
         ensures kind { self.old.failed ≡ false → IsErr result → Refuses result ErrorKind.Truncated }
@@ -115,9 +119,10 @@ impl<'a> SliceReader<'a> {
     ///
     /// # Errors
     ///
-    /// Truncated if no input remains; Tag if the next byte isn't that tag; then Length or Truncated if no length in the
-    /// form of DER follows, or if the input ends inside the content; then those of [`DecodeValue::decode_value`]; Failed
-    /// if the reader failed before. The reader has failed then.
+    /// Truncated if no input remains; Tag if the next byte isn't that tag; then Length or Truncated
+    /// if no length in the form of DER follows, or if the input ends inside the content; then those
+    /// of [`DecodeValue::decode_value`]; Failed if the reader failed before. The reader has failed
+    /// then.
     pub fn decode<T: DecodeValue<'a> + Tagged>(&mut self) -> Result<T>
         // What is read is the element of the value, and just its bytes are read.
         ensures found { IfOk result (λ value. IsSomeAnd (T.content value) (λ content.
@@ -125,11 +130,13 @@ impl<'a> SliceReader<'a> {
         // Where the unread bytes begin with the element of a value, it is read.
         ensures only { (content rest : List ℕ) → T.is_content content → length content ≤ max_length
             → self.old ≡ reader_over (element T.tag_byte content ++ rest)
-            → IsOkAnd result (λ value. T.content value ≡ Some content) × (self.new ≡ reader_over rest) }
+            → IsOkAnd result (λ value. T.content value ≡ Some content)
+            × (self.new ≡ reader_over rest) }
 
         ensures empty { self.old ≡ reader_over [] → Refuses result ErrorKind.Truncated }
         ensures other_tag { (byte : ℕ) → self.old.failed ≡ false
-            → slice_get self.old.unread 0 ≡ Some byte → byte ≢ T.tag_byte → Refuses result ErrorKind.Tag }
+            → slice_get self.old.unread 0 ≡ Some byte → byte ≢ T.tag_byte
+            → Refuses result ErrorKind.Tag }
         ensures short { (content : List ℕ) → length content ≤ max_length → self.old.failed ≡ false
             → IsProperBeginning self.old.unread (element T.tag_byte content)
             → Refuses result ErrorKind.Truncated }
@@ -148,34 +155,39 @@ impl<'a> SliceReader<'a> {
         }
     }
 
-    /// Reads an explicit field `[number]` around one element with the tag of `T`, if present (X.690 section 8.14). It is
-    /// present if the next byte is `A0 + number`. Otherwise nothing is read.
+    /// Reads an explicit field `[number]` around one element with the tag of `T`, if present (X.690
+    /// section 8.14). It is present if the next byte is `A0 + number`. Otherwise nothing is read.
     ///
     /// # Errors
     ///
-    /// Those of [`decode`](SliceReader::decode) for the field and for the element inside; TrailingData if bytes follow
-    /// that element inside the field; Failed if the reader failed before. The reader has failed then.
+    /// Those of [`decode`](SliceReader::decode) for the field and for the element inside;
+    /// TrailingData if bytes follow that element inside the field; Failed if the reader failed
+    /// before. The reader has failed then.
     pub fn context_specific<T: DecodeValue<'a> + Tagged + Drop>(
         &mut self,
         number: u8,
     ) -> Result<Option<T>>
         requires { number ≤ 30 }
         // What is read is the field around the element of the value, and just its bytes are read.
-        ensures found { IfOk result (λ field. IfSome field (λ value. IsSomeAnd (T.content value) (λ content.
+        ensures found { IfOk result
+            (λ field. IfSome field (λ value. IsSomeAnd (T.content value) (λ content.
             T.is_content content
             × (length content ≤ max_length)
-            × HasReadElement (explicit_tag number) (element T.tag_byte content) self.old self.new))) }
+            × HasReadElement (explicit_tag number) (element T.tag_byte content) self.old
+            self.new))) }
         // None means that no such field is next.
         ensures missing { IfOk result (λ field. IfNone field ((self.new ≡ self.old)
             × (slice_get self.old.unread 0 ≢ Some (explicit_tag number)))) }
 
         // Where another byte is next, or none, nothing is read.
-        ensures absent { self.old.failed ≡ false → slice_get self.old.unread 0 ≢ Some (explicit_tag number)
+        ensures absent { self.old.failed ≡ false
+            → slice_get self.old.unread 0 ≢ Some (explicit_tag number)
             → (result ≡ Ok None) × (self.new ≡ self.old) }
         // Where the unread bytes begin with such a field, it is read.
         ensures only { (content rest : List ℕ) → T.is_content content → length content ≤ max_length
             → length (element T.tag_byte content) ≤ max_length
-            → self.old ≡ reader_over (element (explicit_tag number) (element T.tag_byte content) ++ rest)
+            → self.old ≡ reader_over
+            (element (explicit_tag number) (element T.tag_byte content) ++ rest)
             → IsOkAnd result (λ field. IsSomeAnd field (λ value. T.content value ≡ Some content))
             × (self.new ≡ reader_over rest) }
 
@@ -207,7 +219,8 @@ impl<'a> SliceReader<'a> {
     pub fn finish(&mut self) -> Result<()>
         ensures only { self.old ≡ reader_over [] → IsOk result }
         ensures unchanged { OnOk result ((self.old ≡ reader_over []) × (self.new ≡ self.old)) }
-        ensures kind { self.old.failed ≡ false → IsErr result → Refuses result ErrorKind.TrailingData }
+        ensures kind { self.old.failed ≡ false → IsErr result
+            → Refuses result ErrorKind.TrailingData }
         ensures failed { self.old.failed ≡ true → Refuses result ErrorKind.Failed }
         ensures refused { OnErr result (self.new ≡ refused self.old) }
     {
@@ -249,13 +262,15 @@ impl<'a> SliceReader<'a> {
         self.unread = rest;
     }
 
-    /// Reads and borrows the remaining input, which may be empty. A type of one's own reads its content by this call.
+    /// Reads and borrows the remaining input, which may be empty. A type of one's own reads its
+    /// content by this call.
     ///
     /// # Errors
     ///
     /// Failed if the reader failed before.
     pub fn read_rest(&mut self) -> Result<&'a [u8]>
-        ensures found { IfOk result (λ rest. (self.old ≡ reader_over rest.now) × (self.new ≡ reader_over [])) }
+        ensures found { IfOk result
+            (λ rest. (self.old ≡ reader_over rest.now) × (self.new ≡ reader_over [])) }
         ensures only { self.old.failed ≡ false → IsOk result }
         ensures failed { self.old.failed ≡ true → Refuses result ErrorKind.Failed }
         ensures refused { OnErr result (self.new ≡ self.old) }
@@ -307,12 +322,14 @@ impl<'a> SliceReader<'a> {
             → IsOkAnd result (λ value. T.content value ≡ Some content) }
         ensures empty { self.old ≡ reader_over [] → Refuses result ErrorKind.Truncated }
         ensures other_tag { (byte : ℕ) → self.old.failed ≡ false
-            → slice_get self.old.unread 0 ≡ Some byte → byte ≢ T.tag_byte → Refuses result ErrorKind.Tag }
+            → slice_get self.old.unread 0 ≡ Some byte → byte ≢ T.tag_byte
+            → Refuses result ErrorKind.Tag }
         ensures short { (content : List ℕ) → length content ≤ max_length → self.old.failed ≡ false
             → IsProperBeginning self.old.unread (element T.tag_byte content)
             → Refuses result ErrorKind.Truncated }
         ensures long { (content : List ℕ) → T.is_content content → length content ≤ max_length
-            → self.old.failed ≡ false → IsProperBeginning (element T.tag_byte content) self.old.unread
+            → self.old.failed ≡ false
+            → IsProperBeginning (element T.tag_byte content) self.old.unread
             → Refuses result ErrorKind.TrailingData }
         ensures kinds { self.old.failed ≡ false → IfErr result (λ e. IsReadingFault e.kind) }
         ensures kind { self.old.failed ≡ false

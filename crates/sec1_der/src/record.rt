@@ -11,12 +11,12 @@ use crate::{
 /// A struct that is read and written as the SEQUENCE of its parts (X.690 section 8.9).
 ///
 /// Its [`Parts`](Record::Parts) describe the shape once: [`Required`](crate::Required) and
-/// [`Optional`](crate::Optional) components, and a pair `(P, Q)` of two parts one after the other. From them the struct gets
-/// [`FixedTag`], [`ValueContent`], [`DecodeValue`], [`EncodeValue`], [`Sequence`] and [`UniqueContent`], each as far as its
-/// parts have it.
+/// [`Optional`](crate::Optional) components, and a pair `(P, Q)` of two parts one after the other.
+/// From them the struct gets [`FixedTag`], [`ValueContent`], [`DecodeValue`], [`EncodeValue`],
+/// [`Sequence`] and [`UniqueContent`], each as far as its parts have it.
 pub trait Record: Sized {
     /// The parts in their order, as nested pairs.
-    type Parts: Part;
+    type Parts;
 
     /// The parts of a record.
     ghost parts: { Self → Self.Parts };
@@ -35,15 +35,21 @@ pub trait Record: Sized {
     /// A record is the one with its parts.
     ghost same: { (value : Self) → of_parts (parts value) ≡ value };
 
-    /// No part can be confused with one after it (X.680 section 25.6).
-    ghost apart: { Self.Parts.tags.apart ≡ true };
-
     /// Returns the record again. It borrows what this one borrows.
     final fn reborrow(&self) -> Self
         ensures { result ≡ self.now }
     {
         Self::from_parts(self.to_parts())
     }
+}
+
+/// A struct whose parts can't be confused.
+pub trait Distinct: Record
+where
+    Self::Parts: Part,
+{
+    /// No part can be confused with one after it (X.680 section 25.6).
+    ghost apart: { Self.Parts.tags.apart ≡ true };
 }
 
 impl<T: Record> Tagged for T {
@@ -58,7 +64,10 @@ impl<T: Record> FixedTag for T {
     const TAG: Tag = Tag::SEQUENCE;
 }
 
-impl<T: Record> ValueContent for T {
+impl<T: Record> ValueContent for T
+where
+    T::Parts: Part,
+{
     ghost content = { λ value. T.Parts.bytes (T.parts value) };
 
     ghost is_content = { λ content. (parts : T.Parts) × (T.Parts.bytes parts ≡ Some content) };
@@ -68,7 +77,7 @@ impl<T: Record> ValueContent for T {
     ghost fault = { T.Parts.fault_then end_fault };
 }
 
-impl<'a, T: Record> DecodeValue<'a> for T
+impl<'a, T: Distinct> DecodeValue<'a> for T
 where
     T::Parts: DecodePart<'a> + Drop,
 {
@@ -79,7 +88,7 @@ where
     }
 }
 
-impl<T: Record> EncodeValue for T
+impl<T: Distinct> EncodeValue for T
 where
     T::Parts: EncodePart + Drop,
 {
@@ -102,14 +111,14 @@ where
     }
 }
 
-impl<'a, T: Record> Sequence<'a> for T
+impl<'a, T: Distinct> Sequence<'a> for T
 where
     T::Parts: DecodePart<'a> + EncodePart + Drop,
 {
     ghost is_sequence = { refl };
 }
 
-impl<T: Record> UniqueContent for T
+impl<T: Distinct> UniqueContent for T
 where
     T::Parts: UniquePart,
 {

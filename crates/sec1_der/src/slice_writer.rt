@@ -5,7 +5,8 @@ use crate::{EncodePart, EncodeValue, ErrorKind, Result, Tagged, encoded_len};
 
 /// A writer that fills a slice from its beginning.
 ///
-/// On an error nothing is written. The bytes of the slice behind what was written are never changed.
+/// On an error nothing is written. The bytes of the slice behind what was written are never
+/// changed.
 #[derive(Drop)]
 pub struct SliceWriter<'b> {
     buffer: &'b mut [u8],
@@ -17,7 +18,8 @@ impl<'b> SliceWriter<'b> {
     ghost use Rattle.std.specs.Prelude.{◌≡◌, ℕ, ◌<◌, List, [], ◌∷◌, Some, None, IsOk};
     ghost use Rattle.sec1_der.specs.Elements.{max_length, element_of, IsOverlong};
     ghost use Rattle.sec1_der.specs.Faults.{Refuses};
-    ghost use Rattle.sec1_der.specs.SliceWriters.{written_by, room_of, IsOver, KeepsSlice, AppendsNothing, Appends};
+    ghost use Rattle.sec1_der.specs.SliceWriters.{written_by, room_of, IsOver, KeepsSlice};
+    ghost use Rattle.sec1_der.specs.SliceWriters.{AppendsNothing, Appends};
 
     /// Creates a writer at the beginning of a slice.
     pub fn new(buffer: &'b mut [u8]) -> SliceWriter<'b>
@@ -70,7 +72,8 @@ impl<'b> SliceWriter<'b> {
         ensures slice { KeepsSlice self.old self.new }
         ensures fits { length bytes.now ≤ length (room_of self.old) → IsOk result
             × Appends self.old self.new bytes.now }
-        ensures buffer { length (room_of self.old) < length bytes.now → Refuses result ErrorKind.Buffer
+        ensures buffer { length (room_of self.old) < length bytes.now
+            → Refuses result ErrorKind.Buffer
             × AppendsNothing self.old self.new }
     {
         check_room(bytes.len(), self.remaining())?;
@@ -93,7 +96,8 @@ impl<'b> SliceWriter<'b> {
         ensures fits { (bytes : List ℕ) → P.bytes parts.now ≡ Some bytes → length bytes ≤ max_length
             → length bytes ≤ length (room_of self.old)
             → IsOk result × Appends self.old self.new bytes }
-        ensures buffer { (bytes : List ℕ) → P.bytes parts.now ≡ Some bytes → length bytes ≤ max_length
+        ensures buffer { (bytes : List ℕ) → P.bytes parts.now ≡ Some bytes
+            → length bytes ≤ max_length
             → length (room_of self.old) < length bytes
             → Refuses result ErrorKind.Buffer × AppendsNothing self.old self.new }
     {

@@ -1,6 +1,7 @@
 //! The standard library's readers and writers, as readers and writers that remember a failure.
 ghost use Rattle.std.specs.Prelude.{◌≡◌, false};
-ghost use Rattle.sec1_der.specs.StdStreams.{reader_failed, reader_inner, writer_failed, writer_inner};
+ghost use Rattle.sec1_der.specs.StdStreams.{reader_failed, reader_inner, writer_failed};
+ghost use Rattle.sec1_der.specs.StdStreams.{writer_inner};
 
 use crate::stream::{IoFault, Read, Write};
 use std::io;
@@ -59,7 +60,8 @@ impl<R: io::Read> Read for StdReader<R> {
     }
 }
 
-/// A writer of the standard library. It has failed once one of its writes failed, or wrote none of some bytes.
+/// A writer of the standard library. It has failed once one of its writes failed, or wrote none of
+/// some bytes.
 #[derive(Drop)]
 pub struct StdWriter<W> {
     inner: W,

@@ -1,5 +1,6 @@
 //! Byte readers and writers that remember a failure.
-ghost use Rattle.std.specs.Prelude.{ℕ, List, Option, None, Bool, false, IsTrue, IsErr, IfOk, OnOk, OnErr, ◌≤◌, ◌≡◌, ◌↔◌, length};
+ghost use Rattle.std.specs.Prelude.{ℕ, List, Option, None, Bool, false, IsTrue, IsErr, IfOk, OnOk};
+ghost use Rattle.std.specs.Prelude.{OnErr, ◌≤◌, ◌≡◌, ◌↔◌, length};
 ghost use Rattle.std.specs.Io.KnownBytes.{Appends, ReadConsumes, WriteAppends};
 ghost use Rattle.sec1_der.specs.Streams.{AppendsBeginning};
 
@@ -15,12 +16,13 @@ pub trait Read {
     /// Whether a read has failed.
     ghost failed: { Self → Bool };
 
-    /// Reads bytes into the beginning of the slice and returns their number: 0 only at the end of the input or for an
-    /// empty slice.
+    /// Reads bytes into the beginning of the slice and returns their number: 0 only at the end of
+    /// the input or for an empty slice.
     ///
     /// # Errors
     ///
-    /// [`IoFault`] exactly if the reader has failed after the call; nothing is read then. It stays failed.
+    /// [`IoFault`] exactly if the reader has failed after the call; nothing is read then. It stays
+    /// failed.
     fn read(&mut self, buf: &mut [u8]) -> Result<usize, IoFault>
         ensures bound { IfOk result (λ n. n ≤ length buf.new) }
         ensures fault { IsErr result ↔ IsTrue (failed self.new) }
@@ -40,11 +42,13 @@ pub trait Write {
     /// Whether a write has failed.
     ghost failed: { Self → Bool };
 
-    /// Writes bytes from the beginning of the slice and returns their number: 0 only for an empty slice.
+    /// Writes bytes from the beginning of the slice and returns their number: 0 only for an empty
+    /// slice.
     ///
     /// # Errors
     ///
-    /// [`IoFault`] exactly if the writer has failed after the call; nothing is written then. It stays failed.
+    /// [`IoFault`] exactly if the writer has failed after the call; nothing is written then. It
+    /// stays failed.
     fn write(&mut self, buf: &[u8]) -> Result<usize, IoFault>
         ensures bound { IfOk result (λ n. n ≤ length buf.now) }
         ensures some { IfOk result (λ n. n ≡ 0 → length buf.now ≡ 0) }

@@ -20,7 +20,8 @@ impl Model for Tag {
     ghost inverse = { λ n. record { byte = n } };
 }
 
-/// The tag byte of an explicit field `[0]`: the class context-specific, and constructed (X.690 section 8.1.2).
+/// The tag byte of an explicit field `[0]`: the class context-specific, and constructed (X.690
+/// section 8.1.2).
 const EXPLICIT: u8 = 0xA0;
 
 impl Tag {
@@ -109,8 +110,8 @@ impl Tag {
     ///
     /// # Errors
     ///
-    /// Tag if the byte is `00`, which is reserved for end-of-contents (X.690 section 8.1.5), or if its low five bits
-    /// are all ones, since it begins a high tag number (section 8.1.2.4).
+    /// Tag if the byte is `00`, which is reserved for end-of-contents (X.690 section 8.1.5), or if
+    /// its low five bits are all ones, since it begins a high tag number (section 8.1.2.4).
     pub fn from_byte(byte: u8) -> Result<Tag>
         ensures tag { OkIff result (IsTag byte) byte }
         ensures kind { IfErr result (λ e. e.kind ≡ ErrorKind.Tag) }
@@ -147,7 +148,8 @@ impl Tag {
         self.byte
     }
 
-    /// Returns `true` if the content consists of elements: bit 20 (hexadecimal) is set (X.690 section 8.1.2.5).
+    /// Returns `true` if the content consists of elements: bit 20 (hexadecimal) is set (X.690
+    /// section 8.1.2.5).
     pub fn is_constructed(self) -> bool
         ensures { IsTrue result ↔ IsConstructed self }
     {

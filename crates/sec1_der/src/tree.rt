@@ -1,4 +1,5 @@
-ghost use Rattle.std.specs.Prelude.{◌≡◌, ◌<◌, ◌≤◌, IfOk, IfErr, List, ℕ, get_or, ◌≢◌, ◌-◌, ◌⊎◌, ◌↔◌, ◌++◌, [], ◌∷◌, Some, take, drop, length, IsTrue};
+ghost use Rattle.std.specs.Prelude.{◌≡◌, ◌<◌, ◌≤◌, IfOk, IfErr, List, ℕ, get_or, ◌≢◌, ◌-◌, ◌⊎◌};
+ghost use Rattle.std.specs.Prelude.{◌↔◌, ◌++◌, [], ◌∷◌, Some, take, drop, length, IsTrue};
 ghost use Rattle.std.specs.Prelude.{OnOk, OnErr};
 ghost use Rattle.sec1_der.specs.Elements.{IsProperBeginning};
 ghost use Rattle.sec1_der.specs.Faults.{Refuses, IsTreeFault, IsHeaderFault};
@@ -14,26 +15,29 @@ use std::marker::Model;
 /// The greatest depth of a tree that [`check_tree`] accepts.
 pub const MAX_DEPTH: usize = 64;
 
-/// Checks that the input is one tree of elements with at most 64 levels, and returns their number. The content of an
-/// element with a constructed tag is elements again, and nothing else (X.690 section 8.1.2.5). Allocates no memory.
+/// Checks that the input is one tree of elements with at most 64 levels, and returns their number.
+/// The content of an element with a constructed tag is elements again, and nothing else (X.690
+/// section 8.1.2.5). Allocates no memory.
 ///
 /// # Errors
 ///
-/// The first from left to right: Tag or Length if an element has no header of DER; Truncated if the input ends inside an
-/// element, or an element ends after the one around it; Depth if an element at level 64 contains elements, before they are
-/// read; TrailingData if bytes follow the tree.
+/// The first from left to right: Tag or Length if an element has no header of DER; Truncated if the
+/// input ends inside an element, or an element ends after the one around it; Depth if an element at
+/// level 64 contains elements, before they are read; TrailingData if bytes follow the tree.
 pub fn check_tree(input: &[u8]) -> Result<usize>
     // What is counted is a tree, and these are its bytes.
     ensures found { IfOk result (λ n. (t : Tree) × IsTreeOf t input.now × (depth t ≤ MAX_DEPTH)
         × (size t ≡ n)) }
     // Where they are the bytes of such a tree, it is counted.
     ensures only { (t : Tree) → IsTreeOf t input.now → depth t ≤ MAX_DEPTH → result ≡ Ok (size t) }
-    ensures deeper { (t : Tree) → IsTreeOf t input.now → MAX_DEPTH < depth t → Refuses result ErrorKind.Depth }
+    ensures deeper { (t : Tree) → IsTreeOf t input.now → MAX_DEPTH < depth t
+        → Refuses result ErrorKind.Depth }
 
     // The bytes end inside those of a tree of any depth, or go on behind those of a tree.
     ensures short { (t : Tree) → IsTree t → IsProperBeginning input.now (bytes t)
         → Refuses result ErrorKind.Truncated }
-    ensures long { (t : Tree) → IsTree t → depth t ≤ MAX_DEPTH → IsProperBeginning (bytes t) input.now
+    ensures long { (t : Tree) → IsTree t → depth t ≤ MAX_DEPTH
+        → IsProperBeginning (bytes t) input.now
         → Refuses result ErrorKind.TrailingData }
     ensures kinds { IfErr result (λ e. IsTreeFault e.kind) }
     // Whether the input is refused, and by which kind, is a function of its bytes.
@@ -68,11 +72,12 @@ fn count_elements(input: &[u8]) -> Result<usize>
     Ok(count)
 }
 
-/// The elements around the next one, which are its open nodes. A contract sees how many bytes are left at the end of each,
-/// the innermost first.
+/// The elements around the next one, which are its open nodes. A contract sees how many bytes are
+/// left at the end of each, the innermost first.
 #[derive(Drop)]
 struct OpenNodes {
-    /// The number of bytes left at the end of the input, which is 0, and at the end of each open node.
+    /// The number of bytes left at the end of the input, which is 0, and at the end of each open
+    /// node.
     ends: [usize; MAX_DEPTH],
 
     /// The number of open nodes.
@@ -117,9 +122,10 @@ impl OpenNodes {
     /// # Errors
     ///
     /// Depth if that is level 64.
-    #[tactic(auto, using(crate::proofs::WalkLemmas::open_ends_opened, crate::proofs::WalkLemmas::length_open_ends))]
+    #[tactic(auto, using(crate::proofs::WalkLemmas::opened_ends))]
     fn open(&mut self, end: usize) -> Result<()>
-        ensures found { OnOk result ((length self.old < MAX_DEPTH - 1) × (self.new ≡ end ∷ self.old)) }
+        ensures found { OnOk result
+            ((length self.old < MAX_DEPTH - 1) × (self.new ≡ end ∷ self.old)) }
         ensures only { OnErr result (length self.old ≡ MAX_DEPTH - 1) }
         ensures kind { IfErr result (λ e. e.kind ≡ ErrorKind.Depth) }
     {
@@ -139,7 +145,8 @@ impl OpenNodes {
         self.level -= 1;
     }
 
-    /// Skips the next element, or opens it if it contains elements. Returns the bytes after the element, or after its header.
+    /// Skips the next element, or opens it if it contains elements. Returns the bytes after the
+    /// element, or after its header.
     #[inline(always)]
     #[tactic(auto, using(crate::proofs::EnterLemmas::inside_within))]
     fn enter<'a>(&mut self, rest: &'a [u8]) -> Result<&'a [u8]>

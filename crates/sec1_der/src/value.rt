@@ -1,5 +1,6 @@
 //! The traits of DER values: with them the generic calls read and write a type.
-ghost use Rattle.std.specs.Prelude.{◌≡◌, ◌<◌, ◌≤◌, ℕ, List, [], length, true, false, Option, Some, IsOk, IfOk, IfErr, OnOk, OnErr};
+ghost use Rattle.std.specs.Prelude.{◌≡◌, ◌<◌, ◌≤◌, ℕ, List, [], length, true, false, Option, Some};
+ghost use Rattle.std.specs.Prelude.{IsOk, IfOk, IfErr, OnOk, OnErr};
 ghost use Rattle.sec1_der.specs.BackWriters.{end_of, front_of, KeepsEnd, PutsNothing, PutsInFront};
 ghost use Rattle.sec1_der.specs.Elements.{max_length, IsOverlong};
 ghost use Rattle.sec1_der.specs.Faults.{Refuses, IsReadingFault};
@@ -37,18 +38,20 @@ pub trait ValueContent {
     ghost content_is_valid: { (value : Self) (bytes : List ℕ) → content value ≡ Some bytes
         → length bytes ≤ max_length → is_content bytes };
 
-    /// The kind of the error by which bytes are refused as a content of the type, or None if they are a content.
+    /// The kind of the error by which bytes are refused as a content of the type, or None if they
+    /// are a content.
     ghost fault: { Fault };
 }
 
 /// A value that is read from the content of its element.
 pub trait DecodeValue<'a>: ValueContent + Sized {
-    /// Reads a value from its content, which is all of the remaining input, at most 268,435,455 bytes.
+    /// Reads a value from its content, which is all of the remaining input, at most 268,435,455
+    /// bytes.
     ///
     /// # Errors
     ///
-    /// Truncated, Tag, Length, TrailingData or Value if the remaining input isn't a content of the type; Failed if the
-    /// reader failed before. The reader has failed then.
+    /// Truncated, Tag, Length, TrailingData or Value if the remaining input isn't a content of the
+    /// type; Failed if the reader failed before. The reader has failed then.
     fn decode_value(reader: &mut SliceReader<'a>) -> Result<Self>
         requires { length reader.old.unread ≤ max_length }
         ensures found { IfOk result (λ value. Self.content value ≡ Some reader.old.unread) }
@@ -70,23 +73,29 @@ pub trait EncodeValue: ValueContent {
     ///
     /// Overlength if there is no content, or if it is longer than 268,435,455 bytes.
     fn value_len(&self) -> Result<Length>
-        ensures overlength { IsOverlong (Self.content self.now) → Refuses result ErrorKind.Overlength }
-        ensures only { (bytes : List ℕ) → Self.content self.now ≡ Some bytes → length bytes ≤ max_length
+        ensures overlength { IsOverlong (Self.content self.now)
+            → Refuses result ErrorKind.Overlength }
+        ensures only { (bytes : List ℕ) → Self.content self.now ≡ Some bytes
+            → length bytes ≤ max_length
             → result ≡ Ok (length bytes) };
 
     /// Appends the content.
     ///
     /// # Errors
     ///
-    /// Those of [`value_len`](EncodeValue::value_len), then Buffer if the content has no room. Nothing is written then.
+    /// Those of [`value_len`](EncodeValue::value_len), then Buffer if the content has no room.
+    /// Nothing is written then.
     fn encode_value(&self, writer: &mut SliceWriter) -> Result<()>
         ensures slice { KeepsSlice writer.old writer.new }
-        ensures overlength { IsOverlong (Self.content self.now) → Refuses result ErrorKind.Overlength
+        ensures overlength { IsOverlong (Self.content self.now)
+            → Refuses result ErrorKind.Overlength
             × AppendsNothing writer.old writer.new }
-        ensures fits { (bytes : List ℕ) → Self.content self.now ≡ Some bytes → length bytes ≤ max_length
+        ensures fits { (bytes : List ℕ) → Self.content self.now ≡ Some bytes
+            → length bytes ≤ max_length
             → length bytes ≤ length (room_of writer.old)
             → IsOk result × Appends writer.old writer.new bytes }
-        ensures buffer { (bytes : List ℕ) → Self.content self.now ≡ Some bytes → length bytes ≤ max_length
+        ensures buffer { (bytes : List ℕ) → Self.content self.now ≡ Some bytes
+            → length bytes ≤ max_length
             → length (room_of writer.old) < length bytes
             → Refuses result ErrorKind.Buffer × AppendsNothing writer.old writer.new };
 
@@ -98,20 +107,23 @@ pub trait EncodeValue: ValueContent {
     fn encode_back(&self, writer: &mut BackWriter) -> Result<()>
         ensures slice { KeepsEnd writer.old writer.new }
         ensures grows { length (end_of writer.old) ≤ length (end_of writer.new) }
-        ensures overlength { IsOverlong (Self.content self.now) → Refuses result ErrorKind.Overlength
+        ensures overlength { IsOverlong (Self.content self.now)
+            → Refuses result ErrorKind.Overlength
             × PutsNothing writer.old writer.new }
-        ensures fits { (bytes : List ℕ) → Self.content self.now ≡ Some bytes → length bytes ≤ max_length
+        ensures fits { (bytes : List ℕ) → Self.content self.now ≡ Some bytes
+            → length bytes ≤ max_length
             → length bytes ≤ length (front_of writer.old)
             → IsOk result × PutsInFront writer.old writer.new bytes }
-        ensures buffer { (bytes : List ℕ) → Self.content self.now ≡ Some bytes → length bytes ≤ max_length
+        ensures buffer { (bytes : List ℕ) → Self.content self.now ≡ Some bytes
+            → length bytes ≤ max_length
             → length (front_of writer.old) < length bytes
             → Refuses result ErrorKind.Buffer × PutsNothing writer.old writer.new };
 
-    /// Prepends the content to what was written, without testing the room first. If there is less room, or no content, any
-    /// bytes may be prepended.
+    /// Prepends the content to what was written, without testing the room first. If there is less
+    /// room, or no content, any bytes may be prepended.
     ///
-    /// A type that contains other elements overrides this with calls of [`BackWriter::put_element`], so that an element is
-    /// measured once, however deep it is nested.
+    /// A type that contains other elements overrides this with calls of
+    /// [`BackWriter::put_element`], so that an element is measured once, however deep it is nested.
     ///
     /// # Errors
     ///
@@ -119,7 +131,8 @@ pub trait EncodeValue: ValueContent {
     fn put_value(&self, writer: &mut BackWriter) -> Result<()>
         ensures slice { KeepsEnd writer.old writer.new }
         ensures grows { length (end_of writer.old) ≤ length (end_of writer.new) }
-        ensures fits { (bytes : List ℕ) → Self.content self.now ≡ Some bytes → length bytes ≤ max_length
+        ensures fits { (bytes : List ℕ) → Self.content self.now ≡ Some bytes
+            → length bytes ≤ max_length
             → length bytes ≤ length (front_of writer.old)
             → IsOk result × PutsInFront writer.old writer.new bytes }
     {

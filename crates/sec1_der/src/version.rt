@@ -6,8 +6,8 @@ use crate::{
     SliceWriter, Tag, Tagged, UniqueContent, ValueContent,
 };
 
-/// The version of an ECPrivateKey, the INTEGER 1 (RFC 5915 section 3). Its content is the byte `01`; any other is refused
-/// as Value.
+/// The version of an ECPrivateKey, the INTEGER 1 (RFC 5915 section 3). Its content is the byte
+/// `01`; any other is refused as Value.
 #[derive(Clone, Copy, PartialEq, Eq, Debug)]
 pub struct VersionOne;
 

@@ -1,7 +1,7 @@
 //! What is read, by examples with known results.
 use sec1_der::{
-    AnyRef, BitStringRef, Error, ErrorKind, Header, ID_EC_PUBLIC_KEY, Length, ObjectIdentifier,
-    OctetStringRef, SliceReader, Tag, VersionOne, from_der,
+    AnyRef, BitStringRef, Error, ErrorKind, Header, ID_EC_PUBLIC_KEY, IdentifierRef, Length,
+    ObjectIdentifier, OctetStringRef, SliceReader, Tag, VersionOne, encode_to_slice, from_der,
 };
 use std::test::Fail;
 
@@ -229,6 +229,31 @@ fn refuses_other_identifiers(rt: HostRuntime) {
         let refused = ObjectIdentifier::from_bytes(content).map_err(|e| e.kind);
         assert!(rt; refused == Err(ErrorKind::Value), "{content:?}");
     }
+}
+
+#[test]
+fn reads_and_writes_borrowed_identifiers(rt: HostRuntime) -> Result<(), Fail> {
+    for &(text, content) in IDENTIFIERS.iter() {
+        let identifier = IdentifierRef::from_bytes(content)?;
+        assert!(rt;
+            identifier.to_identifier() == ObjectIdentifier::new(text)?,
+            "{text}"
+        );
+        let mut room = [0xAA; 16];
+        let count = encode_to_slice(&identifier.reborrow(), &mut room)?;
+        assert_eq!(rt; count, 2 + content.len(), "{text}");
+        assert_eq!(rt; room[0], 0x06, "{text}");
+        let read = from_der::<IdentifierRef>(&room[..count])?;
+        assert_eq!(rt; read.as_bytes(), content, "{text}");
+    }
+    for &content in REFUSED_CONTENTS.iter() {
+        let refused = IdentifierRef::from_bytes(content).map_err(|e| e.kind);
+        assert!(rt;
+            refused.is_err_and(|kind| kind == ErrorKind::Value),
+            "{content:?}"
+        );
+    }
+    Ok(())
 }
 
 #[test]

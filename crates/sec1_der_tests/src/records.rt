@@ -3,7 +3,7 @@ ghost use Rattle.std.specs.Option.{option_map};
 ghost use Rattle.std.specs.Prelude.{ℕ, List, Option, refl};
 
 use sec1_der::{
-    Context0, Context1, Context2, Context3, ErrorKind, Explicit, ExplicitBits, FixedTag,
+    Context0, Context1, Context2, Context3, Distinct, ErrorKind, Explicit, ExplicitBits, FixedTag,
     ObjectIdentifier, Octets, Optional, Primitive0, Primitive1, Primitive2, Primitive3, Record,
     Required, SmallInteger, Tagged, VersionOne, WholeBits, encode_to_slice, encoded_len, from_der,
     read_der, to_der,
@@ -47,7 +47,9 @@ impl Record for Inner {
     }
 
     ghost same = { λ _. refl };
+}
 
+impl Distinct for Inner {
     ghost apart = { refl };
 }
 
@@ -88,7 +90,9 @@ impl Record for Middle {
     }
 
     ghost same = { λ _. refl };
+}
 
+impl Distinct for Middle {
     ghost apart = { refl };
 }
 
@@ -236,7 +240,9 @@ impl<'a> Record for Lent<'a> {
     }
 
     ghost same = { λ _. refl };
+}
 
+impl Distinct for Lent<'_> {
     ghost apart = { refl };
 }
 

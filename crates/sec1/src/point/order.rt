@@ -62,15 +62,17 @@ impl<const N: usize, const L: usize> Ord for EncodedPoint<N, L> {
         ensures bytes { result
             ≡ slice_cmp nat_cmp (encoding N (point_of self.now)) (encoding N (point_of other.now)) }
     {
-        // The compiler knows the number of words in these, and compares them without a loop.
+        // The compiler knows the length of these, and compares them without a loop or a call.
         if self.len == L && other.len == L {
             return words_cmp(&self.bytes, &other.bytes);
         }
-        words_cmp(self.as_bytes(), other.as_bytes())
+        self.as_bytes().cmp(other.as_bytes())
     }
 }
 
-/// Compares the bytes, eight at a time.
+/// Compares the bytes: eight at a time, and then those that are left one by one. It is inlined, so
+/// that the compiler sees the lengths that the caller knows.
+#[inline(always)]
 #[tactic(auto, using(crate::proofs::ByteOrderLemmas::word_steps))]
 fn words_cmp(a: &[u8], b: &[u8]) -> Ordering
     ensures { result ≡ slice_cmp nat_cmp a.now b.now }
@@ -89,7 +91,21 @@ fn words_cmp(a: &[u8], b: &[u8]) -> Ordering
         rest = behind;
         other_rest = other_behind;
     }
-    rest.cmp(other_rest)
+    while let Some((byte, behind)) = rest.split_first() {
+        let Some((other_byte, other_behind)) = other_rest.split_first() else {
+            return Ordering::Greater;
+        };
+        if byte != other_byte {
+            return byte.cmp(other_byte);
+        }
+        rest = behind;
+        other_rest = other_behind;
+    }
+    if other_rest.is_empty() {
+        Ordering::Equal
+    } else {
+        Ordering::Less
+    }
 }
 
 impl<const N: usize, const L: usize> Hash for EncodedPoint<N, L> {

@@ -1,11 +1,13 @@
 //! Documents that are read from streams and files, and written to them.
 ghost use Rattle.std.specs.Prelude.{Some, None, MatchResult};
-ghost use Rattle.std.specs.Prelude.{ℕ, List, false, ◌≡◌, ◌<◌, ◌≤◌, ◌↔◌, ◌⊎◌, length, take, IsTrue, IsErr, IfOk, IfErr, IfSome, OnOk, OnErr};
+ghost use Rattle.std.specs.Prelude.{ℕ, List, false, ◌≡◌, ◌<◌, ◌≤◌, ◌↔◌, ◌⊎◌, length, take, IsTrue};
+ghost use Rattle.std.specs.Prelude.{IsErr, IfOk, IfErr, IfSome, OnOk, OnErr};
 ghost use Rattle.std.specs.Io.KnownBytes.{Appends, Consumes, IsAtEnd};
 ghost use Rattle.std.specs.List.{All};
 ghost use Rattle.sec1_der.specs.Elements.{IsElement};
 ghost use Rattle.sec1_der.specs.Faults.{IsIoOrMemory, Refuses};
-ghost use Rattle.sec1_der.specs.ReadsDocument.{IsElementFault, ConsumesElement, RefusesElement, ReadsHeader, RefusesContent};
+ghost use Rattle.sec1_der.specs.ReadsDocument.{IsElementFault, ConsumesElement, RefusesElement};
+ghost use Rattle.sec1_der.specs.ReadsDocument.{ReadsHeader, RefusesContent};
 ghost use Rattle.sec1_der.specs.Refusals.{document_fault};
 ghost use Rattle.sec1_der.specs.Streams.{AppendsBeginning, ReadsOnto, TakesFewer};
 ghost use Rattle.sec1_der.specs.declared.error.ErrorKind.TheVariants.{Io};
@@ -21,16 +23,18 @@ use std::rt::Files;
 const STEP: usize = 4096;
 
 impl SecretDocument {
-    /// Reads one element up to the end of the input. The header is read one byte at a time, the content at most 4,096
-    /// bytes at a time, and then one byte more, which must not be there. Whatever the header announces, memory grows by
-    /// at most 4,096 bytes at once, and only when it is full.
+    /// Reads one element up to the end of the input. The header is read one byte at a time, the
+    /// content at most 4,096 bytes at a time, and then one byte more, which must not be there.
+    /// Whatever the header announces, memory grows by at most 4,096 bytes at once, and only when it
+    /// is full.
     ///
     /// # Errors
     ///
-    /// Tag if the first byte is no tag; Length at the first byte of the header that can't be in a length of DER (X.690
-    /// sections 8.1.3 and 10.1); Truncated if the input ends inside the element; TrailingData if one byte follows it;
-    /// Io if a read failed; Memory if an allocation failed.
-    #[tactic(auto, using(crate::proofs::StreamLemmas::refused_kind, crate::proofs::StreamLemmas::refused_none, crate::proofs::StreamLemmas::read_fault))]
+    /// Tag if the first byte is no tag; Length at the first byte of the header that can't be in a
+    /// length of DER (X.690 sections 8.1.3 and 10.1); Truncated if the input ends inside the
+    /// element; TrailingData if one byte follows it; Io if a read failed; Memory if an allocation
+    /// failed.
+    #[tactic(auto, using(crate::proofs::StreamLemmas::element_faults))]
     pub fn read_der_from<R: Read>(alloc: Global, reader: &mut R) -> Result<SecretDocument>
         requires { R.failed reader.old ≡ false }
         // Io comes exactly where a read failed.
@@ -38,11 +42,13 @@ impl SecretDocument {
         // The document is all that the reader had left.
         ensures found { IfOk result (ConsumesElement (R.left reader.old) (R.left reader.new)) }
         // The kind of a refusal says what was taken.
-        ensures refused { IfErr result (λ error. RefusesElement error.kind (R.left reader.old) (R.left reader.new)) }
+        ensures refused { IfErr result
+            (λ error. RefusesElement error.kind (R.left reader.old) (R.left reader.new)) }
         // One element that is all there is, is read, unless a read failed or a growth was refused.
         ensures only { IfErr result (λ error. IsIoOrMemory error.kind
             ⊎ IfSome (R.left reader.old) (λ left. ¬ (IsElement left))) }
-        // Whether it is refused, and by which kind, is a function of what the reader had left, as of a slice.
+        // Whether it is refused, and by which kind, is a function of what the reader had left, as
+        // of a slice.
         ensures kind { MatchResult result
             (λ _. IfSome (R.left reader.old) (λ left. document_fault left ≡ None))
             (λ error. IsIoOrMemory error.kind ⊎ IfSome (R.left reader.old) (λ left.
@@ -75,7 +81,8 @@ impl SecretDocument {
         ensures io { IsErr result ↔ IsTrue (W.failed writer.new) }
         ensures kind { IfErr result (λ error. error.kind ≡ Io) }
         ensures all { OnOk result (Appends (W.written writer.old) (W.written writer.new) self.now) }
-        ensures beginning { OnErr result (AppendsBeginning (W.written writer.old) (W.written writer.new) self.now) }
+        ensures beginning { OnErr result
+            (AppendsBeginning (W.written writer.old) (W.written writer.new) self.now) }
     {
         writer.write_all(self.as_bytes())?;
         Ok(())
@@ -102,7 +109,8 @@ fn read_element<R: Read>(alloc: Global, reader: &mut R) -> Result<SecretDocument
     requires { R.failed reader.old ≡ false }
     ensures io { Refuses result Io ↔ IsTrue (R.failed reader.new) }
     ensures found { IfOk result (ConsumesElement (R.left reader.old) (R.left reader.new)) }
-    ensures refused { IfErr result (λ error. RefusesElement error.kind (R.left reader.old) (R.left reader.new)) }
+    ensures refused { IfErr result
+        (λ error. RefusesElement error.kind (R.left reader.old) (R.left reader.new)) }
 {
     let header = read_header(reader)?;
     let (octets, count) = header.octets();
@@ -120,8 +128,10 @@ fn read_element<R: Read>(alloc: Global, reader: &mut R) -> Result<SecretDocument
 fn read_header<R: Read>(reader: &mut R) -> Result<Header>
     requires { R.failed reader.old ≡ false }
     ensures io { Refuses result Io ↔ IsTrue (R.failed reader.new) }
-    ensures found { IfOk result (λ h. ReadsHeader (R.left reader.old) (R.left reader.new) h.tag h.length) }
-    ensures refused { IfErr result (λ error. RefusesElement error.kind (R.left reader.old) (R.left reader.new)) }
+    ensures found { IfOk result
+        (λ h. ReadsHeader (R.left reader.old) (R.left reader.new) h.tag h.length) }
+    ensures refused { IfErr result
+        (λ error. RefusesElement error.kind (R.left reader.old) (R.left reader.new)) }
 {
     let mut octets = [0; 6];
     let mut count = 0;
@@ -138,7 +148,8 @@ fn read_header<R: Read>(reader: &mut R) -> Result<Header>
     }
 }
 
-/// Appends the next `announced` bytes of the input to the vector, which grows by at most 4,096 bytes at once.
+/// Appends the next `announced` bytes of the input to the vector, which grows by at most 4,096
+/// bytes at once.
 pub(crate) fn read_content<R: Read>(
     reader: &mut R,
     bytes: &mut Vec<u8>,
@@ -147,7 +158,8 @@ pub(crate) fn read_content<R: Read>(
     requires { R.failed reader.old ≡ false }
     ensures io { Refuses result Io ↔ IsTrue (R.failed reader.new) }
     ensures found { OnOk result
-        (ReadsOnto (R.left reader.old) (R.left reader.new) bytes.old.items bytes.new.items announced) }
+        (ReadsOnto (R.left reader.old) (R.left reader.new) bytes.old.items bytes.new.items
+        announced) }
     ensures refused { IfErr result (λ error.
         RefusesContent error.kind announced (R.left reader.old) (R.left reader.new)) }
 {
@@ -175,9 +187,11 @@ fn fill<R: Read>(reader: &mut R, buf: &mut [u8]) -> std::result::Result<usize, I
     requires { R.failed reader.old ≡ false }
     ensures io { IsErr result ↔ IsTrue (R.failed reader.new) }
     ensures bound { IfOk result (λ n. n ≤ length buf.new) }
-    ensures bytes { IfOk result (λ n. Consumes (R.left reader.old) (R.left reader.new) (take n buf.new)) }
+    ensures bytes { IfOk result
+        (λ n. Consumes (R.left reader.old) (R.left reader.new) (take n buf.new)) }
     ensures end { IfOk result (λ n. n < length buf.new → IsAtEnd (R.left reader.new)) }
-    ensures few { OnErr result (TakesFewer (R.left reader.old) (R.left reader.new) (length buf.old)) }
+    ensures few { OnErr result
+        (TakesFewer (R.left reader.old) (R.left reader.new) (length buf.old)) }
 {
     let mut count = 0;
     while count < buf.len() {

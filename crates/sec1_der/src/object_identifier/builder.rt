@@ -1,5 +1,6 @@
 //! Builds an identifier from the arcs of its text.
-ghost use Rattle.std.specs.Prelude.{◌≡◌, ℕ, ◌<◌, ◌≤◌, ◌+◌, ◌*◌, ◌^◌, List, [], ◌∷◌, ◌++◌, length, IsErr, IfOk, OnOk, IfErr, IfSome, IfNone};
+ghost use Rattle.std.specs.Prelude.{◌≡◌, ℕ, ◌<◌, ◌≤◌, ◌+◌, ◌*◌, ◌^◌, List, [], ◌∷◌, ◌++◌, length};
+ghost use Rattle.std.specs.Prelude.{IsErr, IfOk, OnOk, IfErr, IfSome, IfNone};
 ghost use Rattle.std.specs.Fmt.{decimal};
 ghost use Rattle.std.specs.Int.Digits.{digits_of};
 ghost use Rattle.sec1_der.specs.Identifiers.{AreArcs, IsIdentifier, content_of};
@@ -84,8 +85,8 @@ impl Builder {
     }
 }
 
-/// Returns the first subidentifier, which encodes the first two arcs; `None` if no identifier begins with them (X.690
-/// section 8.19.4).
+/// Returns the first subidentifier, which encodes the first two arcs; `None` if no identifier
+/// begins with them (X.690 section 8.19.4).
 fn shared_number(a: u32, b: u32) -> Option<u32>
     ensures found { IfSome result (λ n. (n ≡ 40 * a + b) × AreArcs (a ∷ b ∷ [])) }
     ensures none { IfNone result (¬ AreArcs (a ∷ b ∷ [])) }
@@ -97,7 +98,7 @@ fn shared_number(a: u32, b: u32) -> Option<u32>
 }
 
 /// Parses an arc: decimal digits without a sign or a leading zero.
-#[tactic(auto, using(crate::proofs::ArcLemmas::not_empty, crate::proofs::ArcLemmas::no_zero, crate::proofs::ArcLemmas::arc_none))]
+#[tactic(auto, using(crate::proofs::ArcLemmas::arc_digits))]
 pub(crate) fn arc(text: &str) -> Option<u32>
     ensures found { IfSome result (λ n. (n < 2 ^ 32) × (text.now ≡ decimal n)) }
     ensures none { IfNone result ((n : ℕ) → n < 2 ^ 32 → text.now ≡ decimal n → ⊥) }
@@ -174,7 +175,8 @@ impl Content {
     #[tactic(auto, using(crate::proofs::IdentifierLemmas::marked_steps))]
     fn push_marked(&mut self, n: u32) -> Result<()>
         ensures found { OnOk result (self.new ≡ self.old ++ marked (digits_of 128 n)) }
-        ensures only { IsErr result → MAX_CONTENT < length self.old + length (marked (digits_of 128 n)) }
+        ensures only { IsErr result
+            → MAX_CONTENT < length self.old + length (marked (digits_of 128 n)) }
         ensures kind { IfErr result (λ e. e.kind ≡ ErrorKind.Value) }
     {
         if n == 0 {

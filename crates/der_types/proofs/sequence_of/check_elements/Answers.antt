@@ -5,27 +5,38 @@ use Rattle.der_types.proofs.sequence_of.check_elements.Goals as goal
 pub returns-in_err-_value-clause-kind : goal.returns-in_err-_value-clause-kind
 returns-in_err-_value-clause-kind g c =
     let at = c.loop-elements.invariant.rest in
-    let fault = row_refused _ _ _ _ _ at (omega (arith, c.loop-elements-test.true, c.remaining_len.ensures)) (c.in_err-_value.ensures.kind at.whole) in
+    let fault = row_refused _ _ _ _ _ at (omega (arith, c.loop-elements-test.true, c.remaining_len.ensures))
+    (c.in_err-_value.ensures.kind at.whole) in
     grind arith
 
 pub loop-elements-preserved : goal.loop-elements-preserved
 loop-elements-preserved g c =
     let at = c.loop-elements.invariant.rest in
     record {
-      rest = row_goes_on _ _ _ _ _ _ _ at (omega (arith, c.loop-elements-test.true, c.remaining_len.ensures)) c.in_ok-_value.ensures.found (c.in_ok-_value.ensures.kind at.whole);
-      values = values_read _ _ _ _ _ _ _ c.loop-elements.invariant.values (omega (arith, c.loop-elements-test.true, c.remaining_len.ensures)) at.whole
+      rest = row_goes_on _ _ _ _ _ _ _ at (omega (arith, c.loop-elements-test.true, c.remaining_len.ensures))
+          c.in_ok-_value.ensures.found (c.in_ok-_value.ensures.kind at.whole);
+      values = values_read _ _ _ _ _ _ _ c.loop-elements.invariant.values
+          (omega (arith, c.loop-elements-test.true, c.remaining_len.ensures)) at.whole
           c.in_ok-_value.ensures.found
-          (λ a inside left same within is. (c.in_ok-_value.ensures.only inside left (g.T.ValueContent.content_is_valid a inside same within) within is).1);
+          (λ a inside left same within is.
+          (c.in_ok-_value.ensures.only inside left (g.T.ValueContent.content_is_valid a inside same within)
+          within is).1);
     }
 
 pub returns-clause-kind : goal.returns-clause-kind
-returns-clause-kind g c = row_ends _ _ _ _ c.loop-elements.invariant.rest (omega (arith, c.loop-elements-test.false, c.remaining_len.ensures))
+returns-clause-kind g c =
+    row_ends _ _ _ _ c.loop-elements.invariant.rest (omega (arith, c.loop-elements-test.false, c.remaining_len.ensures))
 
 pub returns-clause-found : goal.returns-clause-found
-returns-clause-found g c = values_end _ _ _ _ c.loop-elements.invariant.values (omega (arith, c.loop-elements-test.false, c.remaining_len.ensures))
+returns-clause-found g c =
+    values_end _ _ _ _ c.loop-elements.invariant.values
+    (omega (arith, c.loop-elements-test.false, c.remaining_len.ensures))
 
 pub returns-in_err-_value-clause-only : goal.returns-in_err-_value-clause-only
 returns-in_err-_value-clause-only g c values same =
     let at = c.loop-elements.invariant.rest in
-    absurd (value_there _ _ _ _ ⊥ c.loop-elements.invariant.values (omega (arith, c.loop-elements-test.true, c.remaining_len.ensures)) at.whole (values, same)
-    (λ a inside left same within is. (c.in_err-_value.ensures.only inside left (g.T.ValueContent.content_is_valid a inside same within) within is).0))
+    absurd (value_there _ _ _ _ ⊥ c.loop-elements.invariant.values
+    (omega (arith, c.loop-elements-test.true, c.remaining_len.ensures)) at.whole (values, same)
+    (λ a inside left same within is.
+    (c.in_err-_value.ensures.only inside left (g.T.ValueContent.content_is_valid a inside same within)
+    within is).0))

@@ -11,4 +11,5 @@ returns-in-Err-clause-short c tag content h short = ⊎_elim
 
 pub returns-then-inside-get-clause-element : goal.returns-then-inside-get-clause-element
 returns-then-inside-get-clause-element c content behind =
-    let (is, read) = c.in-Ok.ensures.found in any_short content behind _ _ c.args.input.now _ is read (omega (arith, c.if-inside-get.true))
+    let (is, read) = c.in-Ok.ensures.found in
+    any_short content behind _ _ c.args.input.now _ is read (omega (arith, c.if-inside-get.true))

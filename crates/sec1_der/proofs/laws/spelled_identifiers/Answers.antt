@@ -1,12 +1,13 @@
 use Rattle.std.proofs.Common.{◌≡◌, ℕ, List, [], ◌∷◌, ◌++◌, ap, lit<, lit≤}
 use Rattle.std.specs.Int.Digits.{digits_of}
 use Rattle.sec1_der.specs.Numbers.{marked}
-use Rattle.sec1_der.proofs.DigitLemmas.{digits_of-number}
+use Rattle.sec1_der.specs.DigitLaws.{digits_of-number}
 use Rattle.sec1_der.proofs.laws.spelled_identifiers.Goals as goal
 
 pub returns-clause-greatest : goal.returns-clause-greatest
 returns-clause-greatest c =
     -- Written out, since counting down from so large a number takes too long.
     let digits : digits_of 128 33554431 ≡ 0x0F ∷ 0x7F ∷ 0x7F ∷ 0x7F ∷ [] =
-    digits_of-number 128 0x0F (0x7F ∷ 0x7F ∷ 0x7F ∷ []) (lit≤ tt) (lit< tt, (lit< tt, (lit< tt, (lit< tt, tt)))) (lit< tt) in
+    digits_of-number 128 0x0F (0x7F ∷ 0x7F ∷ 0x7F ∷ []) (lit≤ tt) (lit< tt, (lit< tt, (lit< tt, (lit< tt, tt))))
+    (lit< tt) in
     ap (λ (ds : List ℕ). (marked ds ++ 0x7F ∷ []) ++ []) digits

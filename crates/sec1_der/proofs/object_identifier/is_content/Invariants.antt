@@ -1,6 +1,9 @@
-use Rattle.std.proofs.Common.{◌≡◌, drop}
-use Rattle.sec1_der.proofs.IdentifierLemmas.{goes_on}
+use Rattle.std.proofs.Common.{◌≡◌, length}
+use Rattle.sec1_der.proofs.IdentifierLemmas.{is_narrow}
 use Rattle.sec1_der.proofs.object_identifier.is_content.Given as goal
 
-abbrev pub invariant-loop-b : goal.invariant-loop-b
-invariant-loop-b l = goes_on l.high (drop l.b-index l.content) ≡ goes_on 0 l.content
+abbrev pub invariant-loop-byte : goal.invariant-loop-byte
+invariant-loop-byte l = is_narrow l.width l.rest ≡ is_narrow 0 l.content
+
+abbrev pub decreases-loop-byte : goal.decreases-loop-byte
+decreases-loop-byte l = length l.rest

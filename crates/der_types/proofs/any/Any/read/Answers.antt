@@ -8,8 +8,14 @@ returns-in-Err-clause-refuses c fresh = λ behind. any_refused behind _ _ (c.in-
 
 pub invariant_of-result : goal.invariant_of-result
 invariant_of-result c =
-    let found = c.in-Ok.ensures.found in
-    (found.0, (c.read_since.ensures _ (c.remaining_input-input.ensures ∙ ap (λ (r : Reader). r.unread) found.1.was_whole), tt))
+    let found = c.in-Ok.ensures.found in (
+      found.0,
+      (
+        c.read_since.ensures _
+            (c.remaining_input-input.ensures ∙ ap (λ (r : Reader). r.unread) found.1.was_whole),
+        tt,
+      ),
+    )
 
 pub returns-in-Ok-clause-passes : goal.returns-in-Ok-clause-passes
 returns-in-Ok-clause-passes c fresh =

@@ -4,23 +4,27 @@ use Rattle.der_types.proofs.choice.ChoiceDecodePart.decode_part.Goals as goal
 pub returns-in_err-decode_part-clause-only : goal.returns-in_err-decode_part-clause-only
 returns-in_err-decode_part-clause-only g c part whole rest apart same may is =
     let next = next_found g.P.Part.tags _ _ _ _ c.is_absent.ensures c.if-is_absent.true is in
-    let at = second_next g.P.Part.tags g.Q.Part.tags _ _ g.met.P.Alternative.never_empty g.P.Part.begins part whole rest apart same may next in
+    let at = second_next g.P.Part.tags g.Q.Part.tags _ _ g.met.P.Alternative.never_empty g.P.Part.begins part whole rest
+    apart same may next in
     absurd (c.in_err-decode_part.ensures.only at.part whole rest at.apart at.same at.may is).0
 
 pub returns-then-is_absent-clause-only : goal.returns-then-is_absent-clause-only
 returns-then-is_absent-clause-only g c part whole rest apart same may is =
     let next = next_found g.P.Part.tags _ _ _ _ c.is_absent.ensures c.if-is_absent.true is in
-    let at = second_next g.P.Part.tags g.Q.Part.tags _ _ g.met.P.Alternative.never_empty g.P.Part.begins part whole rest apart same may next in
+    let at = second_next g.P.Part.tags g.Q.Part.tags _ _ g.met.P.Alternative.never_empty g.P.Part.begins part whole rest
+    apart same may next in
     c.in_ok-decode_part.ensures.only at.part whole rest at.apart at.same at.may is
 
 pub returns-in_err-decode_part-2-clause-only : goal.returns-in_err-decode_part-2-clause-only
 returns-in_err-decode_part-2-clause-only g c part whole rest apart same may is =
     let next = next_found g.P.Part.tags _ _ _ _ c.is_absent.ensures c.if-is_absent.false is in
-    let at = first_next g.P.Part.tags g.Q.Part.tags _ _ g.met.Q.Alternative.never_empty g.Q.Part.begins part whole rest apart same may next in
+    let at = first_next g.P.Part.tags g.Q.Part.tags _ _ g.met.Q.Alternative.never_empty g.Q.Part.begins part whole rest
+    apart same may next in
     absurd (c.in_err-decode_part-2.ensures.only at.part whole rest at.apart at.same at.may is).0
 
 pub returns-clause-only : goal.returns-clause-only
 returns-clause-only g c part whole rest apart same may is =
     let next = next_found g.P.Part.tags _ _ _ _ c.is_absent.ensures c.if-is_absent.false is in
-    let at = first_next g.P.Part.tags g.Q.Part.tags _ _ g.met.Q.Alternative.never_empty g.Q.Part.begins part whole rest apart same may next in
+    let at = first_next g.P.Part.tags g.Q.Part.tags _ _ g.met.Q.Alternative.never_empty g.Q.Part.begins part whole rest
+    apart same may next in
     c.in_ok-decode_part-2.ensures.only at.part whole rest at.apart at.same at.may is

@@ -11,12 +11,18 @@ pub returns-in-Some-clause-only : goal.returns-in-Some-clause-only
 returns-in-Some-clause-only g c part whole rest apart same may is =
     let there = as_optional g.A.Tagged.tag_byte g.A.HasDefault.default_content g.A.ValueContent.content part ∙ same in
     let read = c.in_ok-part.ensures.only _ whole rest refl there may is in
-    let found = rw (← c.part.view_is, c.in-Some.is) at read.0 in
-    (from_optional _ _ (g.A.ValueContent.content c.value.inside.0) whole (rw (← (c.value.view_is ∙ c.in-Some.value-is)) at found), read.1)
+    let found = rw (← c.part.view_is, c.in-Some.is) at read.0 in (
+      from_optional _ _ (g.A.ValueContent.content c.value.inside.0) whole
+          (rw (← (c.value.view_is ∙ c.in-Some.value-is)) at found),
+      read.1,
+    )
 
 pub returns-in-None-clause-only : goal.returns-in-None-clause-only
 returns-in-None-clause-only g c part whole rest apart same may is =
     let there = as_optional g.A.Tagged.tag_byte g.A.HasDefault.default_content g.A.ValueContent.content part ∙ same in
     let read = c.in_ok-part.ensures.only _ whole rest refl there may is in
-    let found = rw (← c.part.view_is, c.in-None.is) at read.0 in
-    (default_empty g.A.Tagged.tag_byte g.A.HasDefault.default_content g.A.ValueContent.content _ c.default_value.result g.met.A.HasDefault.has_content c.default_value.ensures ∙ found, read.1)
+    let found = rw (← c.part.view_is, c.in-None.is) at read.0 in (
+      default_empty g.A.Tagged.tag_byte g.A.HasDefault.default_content g.A.ValueContent.content _ c.default_value.result
+          g.met.A.HasDefault.has_content c.default_value.ensures ∙ found,
+      read.1,
+    )

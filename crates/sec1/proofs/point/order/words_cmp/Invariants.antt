@@ -13,3 +13,10 @@ invariant-loop-word l = record {
 
 abbrev pub decreases-loop-word : goal.decreases-loop-word
 decreases-loop-word l = length l.rest
+
+-- what is left decides
+abbrev pub invariant-loop-byte : goal.invariant-loop-byte
+invariant-loop-byte l = slice_cmp nat_cmp l.rest l.other_rest ≡ slice_cmp nat_cmp l.a l.b
+
+abbrev pub decreases-loop-byte : goal.decreases-loop-byte
+decreases-loop-byte l = length l.rest

@@ -6,7 +6,7 @@ use Rattle.sec1_der.specs.declared.error.ErrorKind.TheVariants.{Memory as DerMem
 use Rattle.sec1.specs.Der.{IsReadingFault}
 use Rattle.sec1.specs.Errors.{error_of_kind}
 use Rattle.sec1.specs.declared.error.Error.TheVariants.{Asn1}
-use Rattle.sec1_der.proofs.ElementLemmas.{element_of-some}
+use Rattle.sec1_der.specs.ElementLaws.{element_of-some}
 use Rattle.sec1.specs.KeyRefusals.{key_fault}
 use Rattle.sec1.specs.Keys.{key_tree, fields_of}
 use Rattle.sec1.proofs.KeyLemmas.{key_content, key_found, key_written}
@@ -17,12 +17,12 @@ asn1 : (kind : ErrorKind) (cause : DerError) → IsReadingFault kind → error_o
 asn1 DerMemory cause fault = absurd fault
 asn1 kind cause fault = refl
 
-pub returns-in_err-from_der : goal.returns-in_err-from_der
+pub returns-in_err-key : goal.returns-in_err-key
 unfolding key_fault
-returns-in_err-from_der c =
+returns-in_err-key c =
     let answered = err_from_is_err_and c.from_residual.result c.from_residual.ensures.1 in
-    let from_der = c.in_err-from_der.ensures in
-    let cause = c.in_err-from_der.field-0.0 in
+    let from_der = c.in_err-key.ensures in
+    let cause = c.in_err-key.field-0.0 in
     rw (answered.1, answered.2, asn1 cause.kind cause from_der.kinds) (record {
       found = tt;
       only = λ key is. absurd (from_der.only_value key (key_written key c.args.bytes.now is));
@@ -37,10 +37,10 @@ pub returns : goal.returns
 unfolding key_fault
 returns c =
     let input = c.args.bytes.now in
-    let key = c.in_ok-from_der.field-0 in
-    let from_der = c.in_ok-from_der.ensures in
+    let key = c.in_ok-key.key in
+    let from_der = c.in_ok-key.ensures in
     let found = key_found key input from_der.found_value in
-    record {
+    rw c.to_key.ensures (record {
       found = found;
       only = λ other at.
           let there = element_of-some 0x30 (key_content other) input (key_written other input at) in
@@ -50,4 +50,4 @@ returns c =
       kind = from_der.kind;
       short = λ other bytes at begins. absurd (from_der.short (fields_of other) at.tree.tree.2 (rw at.tree.whole at begins));
       long = λ other bytes at begins. absurd (from_der.long_value other bytes (key_written other bytes at) begins);
-    }
+    })

@@ -6,7 +6,8 @@ use Rattle.sec1_der.proofs.RefusalLemmas.{document_element}
 use Rattle.sec1_der.proofs.document.SecretDocument.from_der.Goals as goal
 
 pub returns-in-Err-clause-only : goal.returns-in-Err-clause-only
-returns-in-Err-clause-only c is = absurd (cc (c.in-Err.ensures.element (λ _. no_fault) end_fault, document_element c.args.bytes.now is))
+returns-in-Err-clause-only c is =
+    absurd (cc (c.in-Err.ensures.element (λ _. no_fault) end_fault, document_element c.args.bytes.now is))
 
 pub returns-in-Err-clause-short : goal.returns-in-Err-clause-short
 returns-in-Err-clause-short c tag content allowed short = cc (c.in-Err.ensures.short tag content allowed short)

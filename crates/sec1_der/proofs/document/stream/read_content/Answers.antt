@@ -10,22 +10,44 @@ returns-in_err-fill-clause-refused g c =
     let fewer = c.in_err-fill.ensures.few in
     let p = err_from_is_err_and c.from_residual-in_err-fill.result c.from_residual-in_err-fill.ensures.1 in
     rw (p.1, p.2) (refused_part Io _ _ _ _ _ _ c.loop-missing.missing _ c.loop-missing.invariant.read (omega arith)
-    (record { taken = fewer.bytes; consumed = fewer.consumed; few = grind (arith, common_steps); kinds = inr (inl refl); at_end = λ e. absurd (cc e) }))
+    (record {
+      taken = fewer.bytes;
+      consumed = fewer.consumed;
+      few =
+          grind (arith, common_steps);
+      kinds = inr (inl refl);
+      at_end = λ e. absurd (cc e);
+    }))
 
 pub returns-then-branch-step-clause-refused : goal.returns-then-branch-step-clause-refused
 returns-then-branch-step-clause-refused g c =
     let fill = c.in_ok-fill.ensures in
-    rw c.into.ensures (refused_part Truncated _ _ _ _ _ _ c.loop-missing.missing _ c.loop-missing.invariant.read (omega arith)
-    (record { taken = _; consumed = fill.bytes; few = grind (arith, common_steps); kinds = inl refl; at_end = λ _. fill.end (grind (arith, common_steps)) }))
+    rw c.into.ensures (refused_part Truncated _ _ _ _ _ _ c.loop-missing.missing _ c.loop-missing.invariant.read
+    (omega arith)
+    (record {
+      taken = _;
+      consumed = fill.bytes;
+      few = grind (arith, common_steps);
+      kinds = inl refl;
+      at_end =
+          λ _. fill.end (grind (arith, common_steps));
+    }))
 
 pub loop-missing-preserved : goal.loop-missing-preserved
 loop-missing-preserved g c =
     let size : length c.fill.new.buf ≡ c.min-step.result = grind (arith, common_steps) in
-    let front : take c.len-held.result c.deref_mut.result.now ≡ c.loop-missing.bytes.items = grind (arith, common_steps) in
+    let front : take c.len-held.result c.deref_mut.result.now ≡ c.loop-missing.bytes.items = grind
+    (arith, common_steps) in
     let all = take_all c.in_ok-fill.field-0 c.fill.new.buf (omega arith) in
     record {
       read = reads_more _ _ _ _ _ _ _ _ _ c.loop-missing.invariant.read (omega arith)
-          (record { bytes = _; consumed = rw all at c.in_ok-fill.ensures.bytes; appended = grind (arith, common_steps); count = size });
+          (record {
+            bytes = _;
+            consumed = rw all at c.in_ok-fill.ensures.bytes;
+            appended =
+                grind (arith, common_steps);
+            count = size;
+          });
       few = omega arith;
       unfailed = search rules;
     }

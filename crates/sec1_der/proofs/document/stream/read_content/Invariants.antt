@@ -4,7 +4,8 @@ use Rattle.sec1_der.proofs.document.stream.read_content.Given as goal
 
 abbrev pub invariant-loop-missing : goal.invariant-loop-missing
 invariant-loop-missing g l = record {
-  read : ReadsOnto (g.R.Read.left l.initial.reader) (g.R.Read.left l.reader) l.initial.bytes.items l.bytes.items (l.announced - l.missing);
+  read : ReadsOnto (g.R.Read.left l.initial.reader) (g.R.Read.left l.reader) l.initial.bytes.items l.bytes.items
+      (l.announced - l.missing);
   few : l.missing ≤ l.announced;
   unfailed : g.R.Read.failed l.reader ≡ false;
 }

@@ -1,8 +1,8 @@
 use Rattle.std.proofs.Common.{◌≡◌, ◌==◌, ◌∷◌, false, ◌∙◌, refl, ap}
 use Rattle.std.proofs.lemmas.Bool.{ne_eqb, iff_false}
 use Rattle.sec1_der.specs.Readers.{Reader}
-use Rattle.sec1_der.proofs.ElementLemmas.{element_of-within}
-use Rattle.sec1_der.proofs.RefusalLemmas.{reader_at}
+use Rattle.sec1_der.specs.ElementLaws.{element_of-within}
+use Rattle.sec1_der.specs.RefusalLaws.{reader_at}
 use Rattle.sec1_der.proofs.ContentRefusals.{whole_is, whole_inside, bits_inside}
 use Rattle.sec1_der.proofs.explicit.ExplicitBitsDecodeValue.decode_value.Goals as goal
 
@@ -14,14 +14,18 @@ returns-in_err-bits-clause-only c fresh is =
 pub returns-in-Some-clause-allowed : goal.returns-in-Some-clause-allowed
 returns-in-Some-clause-allowed c =
     let bytes = c.in-Some.ensures in
-    let found = rw (bytes.within.0 refl, ← bytes.bytes) at c.in_ok-bits.ensures.found in
-    (c.in-Some.bytes.now, rw (ap (λ (r : Reader). r.unread) found.2) (element_of-within 0x03 _ (0 ∷ c.in-Some.bytes.now) refl found.1))
+    let found = rw (bytes.within.0 refl, ← bytes.bytes) at c.in_ok-bits.ensures.found in (
+      c.in-Some.bytes.now,
+      rw (ap (λ (r : Reader). r.unread) found.2)
+          (element_of-within 0x03 _ (0 ∷ c.in-Some.bytes.now) refl found.1),
+    )
 
 pub returns-in-Some-clause-kind : goal.returns-in-Some-clause-kind
 returns-in-Some-clause-kind c fresh =
     let bytes = c.in-Some.ensures in
     let found = rw (bytes.within.0 refl, ← bytes.bytes) at c.in_ok-bits.ensures.found in
-    bits_inside (0 ∷ c.in-Some.bytes.now) _ found.1 (ap (λ (r : Reader). r.unread) found.2) (c.in_ok-bits.ensures.kind fresh)
+    bits_inside (0 ∷ c.in-Some.bytes.now) _ found.1 (ap (λ (r : Reader). r.unread) found.2)
+    (c.in_ok-bits.ensures.kind fresh)
 
 pub returns-in-None-clause-only : goal.returns-in-None-clause-only
 returns-in-None-clause-only c fresh is =
@@ -35,5 +39,6 @@ returns-in-None-clause-kind c fresh =
     let bits = c.in_ok-bits.bits in
     let found = c.in_ok-bits.ensures.found in
     let unused : (bits.unused == 0) ≡ false = ne_eqb bits.unused 0 (iff_false c.in-None.ensures.within refl) in
-    bits_inside (bits.unused ∷ bits.bytes.now) _ found.1 (ap (λ (r : Reader). r.unread) found.2) (c.in_ok-bits.ensures.kind fresh)
+    bits_inside (bits.unused ∷ bits.bytes.now) _ found.1 (ap (λ (r : Reader). r.unread) found.2)
+    (c.in_ok-bits.ensures.kind fresh)
     ∙ rw (unused, c.fail.ensures.error) refl

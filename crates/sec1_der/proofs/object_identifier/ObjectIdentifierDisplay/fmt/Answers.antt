@@ -8,4 +8,11 @@ loop-b-init g c = grind (arith, goes_on_from_spells c.args.self.now c.as_bytes-c
 
 pub loop-b-preserved : goal.loop-b-preserved
 loop-b-preserved g c =
-    grind (arith, content_steps, read_byte c.loop-b.high c.loop-b.b-index c.as_bytes-content.result.now, shown_more, joined_text, append_assoc)
+    grind (
+      arith,
+      content_steps,
+      read_byte c.loop-b.high c.loop-b.b-index c.as_bytes-content.result.now,
+      shown_more,
+      joined_text,
+      append_assoc,
+    )

@@ -10,5 +10,6 @@ abbrev pub invariant-loop-b : goal.invariant-loop-b
 invariant-loop-b g l = record {
   goes : goes_on l.high (drop l.b-index l.content) ≡ true;
   shows : IsPlainFormatter l.initial.f
-      → IsShown g.W.Write.write_str_gives l.initial.f l.f (text_of l.first (numbers_after l.high (drop l.b-index l.content))) (dotted l.self);
+      → IsShown g.W.Write.write_str_gives l.initial.f l.f
+      (text_of l.first (numbers_after l.high (drop l.b-index l.content))) (dotted l.self);
 }

@@ -6,4 +6,5 @@ pub returns-then-bytes-eq43-clause-none : goal.returns-then-bytes-eq43-clause-no
 returns-then-bytes-eq43-clause-none c n h e = grind (arith, not_there n 43 0 c.as_bytes-bytes.result.now, not_empty)
 
 pub returns-in-Ok-clause-found : goal.returns-in-Ok-clause-found
-returns-in-Ok-clause-found c = grind (arith, arc_found c.in-Ok.n c.as_bytes-bytes.result.now c.parse.result c.in-Ok.is c.if-bytes-eq43.false)
+returns-in-Ok-clause-found c =
+    grind (arith, arc_found c.in-Ok.n c.as_bytes-bytes.result.now c.parse.result c.in-Ok.is c.if-bytes-eq43.false)

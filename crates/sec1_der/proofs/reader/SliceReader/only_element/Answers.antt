@@ -3,24 +3,30 @@ use Rattle.std.proofs.lemmas.Bool.{false≢true}
 use Rattle.std.proofs.lemmas.Result.{err_from_is_err_and}
 use Rattle.sec1_der.specs.Readers.{Reader}
 use Rattle.sec1_der.specs.Refusals.{end_fault}
-use Rattle.sec1_der.proofs.RefusalLemmas.{reads_on, trailing_fault, reader_at}
+use Rattle.sec1_der.proofs.RefusalLemmas.{trailing_fault}
+use Rattle.sec1_der.specs.RefusalLaws.{reads_on, reader_at}
 use Rattle.sec1_der.proofs.reader.SliceReader.only_element.Goals as goal
 
 pub returns-in_err-value-clause-only : goal.returns-in_err-value-clause-only
-returns-in_err-value-clause-only g c content is within e = absurd (c.in_err-value.ensures.only content [] is within (rw append-nil e)).0
+returns-in_err-value-clause-only g c content is within e =
+    absurd (c.in_err-value.ensures.only content [] is within (rw append-nil e)).0
 
 pub returns-in_err-finish-clause-only : goal.returns-in_err-finish-clause-only
 returns-in_err-finish-clause-only g c content is within e =
-    absurd (false≢true (c.in_err-finish.ensures.only (c.in_ok-value.ensures.only content [] is within (rw append-nil e)).1))
+    absurd (false≢true
+    (c.in_err-finish.ensures.only (c.in_ok-value.ensures.only content [] is within (rw append-nil e)).1))
 
 pub returns-in_err-finish-clause-kind : goal.returns-in_err-finish-clause-kind
 returns-in_err-finish-clause-kind g c fresh =
-    let first = reads_on g.T.ValueContent.fault _ _ _ _ _ c.in_ok-value.ensures.found (c.in_ok-value.ensures.kind fresh) in
-    let more = trailing_fault c.decode.new.self.unread (λ none. false≢true (c.in_err-finish.ensures.only (reader_at _ [] none first.whole))) in
+    let first = reads_on g.T.ValueContent.fault _ _ _ _ _ c.in_ok-value.ensures.found
+    (c.in_ok-value.ensures.kind fresh) in
+    let more = trailing_fault c.decode.new.self.unread
+    (λ none. false≢true (c.in_err-finish.ensures.only (reader_at _ [] none first.whole))) in
     let refusal = err_from_is_err_and c.from_residual-in_err-finish.result c.from_residual-in_err-finish.ensures.1 in
     rw (refusal.1, refusal.2, c.in_err-finish.ensures.kind first.whole refl) (first.next end_fault ∙ more)
 
 pub returns-clause-kind : goal.returns-clause-kind
 returns-clause-kind g c fresh =
-    let first = reads_on g.T.ValueContent.fault _ _ _ _ _ c.in_ok-value.ensures.found (c.in_ok-value.ensures.kind fresh) in
+    let first = reads_on g.T.ValueContent.fault _ _ _ _ _ c.in_ok-value.ensures.found
+    (c.in_ok-value.ensures.kind fresh) in
     first.next end_fault ∙ ap (λ (r : Reader). end_fault r.unread) c.in_ok-finish.ensures.unchanged.0

@@ -1,9 +1,11 @@
-use Rattle.sec1_der.proofs.RefusalLemmas.{reads_on}
-use Rattle.sec1_der.proofs.PartLemmas.{refused_more}
+use Rattle.sec1_der.specs.RefusalLaws.{reads_on, refused_more}
 use Rattle.sec1_der.proofs.required.RequiredDecodePart.decode_part.Goals as goal
 
 pub returns-in-Err-clause-refuses : goal.returns-in-Err-clause-refuses
-returns-in-Err-clause-refuses g c fresh = λ behind. refused_more g.A.ValueContent.fault behind g.A.Tagged.tag_byte c.args.reader.now.unread _ (c.in-Err.ensures.kind fresh)
+returns-in-Err-clause-refuses g c fresh =
+    λ behind. refused_more g.A.ValueContent.fault behind g.A.Tagged.tag_byte c.args.reader.now.unread _
+    (c.in-Err.ensures.kind fresh)
 
 pub returns-in-Ok-clause-passes : goal.returns-in-Ok-clause-passes
-returns-in-Ok-clause-passes g c fresh = λ behind. (reads_on g.A.ValueContent.fault _ _ _ _ _ c.in-Ok.ensures.found (c.in-Ok.ensures.kind fresh)).next behind
+returns-in-Ok-clause-passes g c fresh =
+    λ behind. (reads_on g.A.ValueContent.fault _ _ _ _ _ c.in-Ok.ensures.found (c.in-Ok.ensures.kind fresh)).next behind

@@ -1,5 +1,5 @@
 use Rattle.std.proofs.Common.{◌≡◌, arith, length, length-append}
-use Rattle.sec1_der.proofs.ElementLemmas.{element_of-some}
+use Rattle.sec1_der.specs.ElementLaws.{element_of-some}
 use Rattle.sec1_der.proofs.WriterLemmas.{appends_both}
 use Rattle.sec1_der.proofs.slice_writer.SliceWriter.element.Goals as goal
 

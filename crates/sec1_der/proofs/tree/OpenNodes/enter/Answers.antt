@@ -3,7 +3,8 @@ use Rattle.std.proofs.lemmas.Bool.{iff_false}
 use Rattle.sec1_der.specs.Elements.{IsConstructed}
 use Rattle.sec1_der.proofs.EnterLemmas.{opens_at, passes_at}
 use Rattle.sec1_der.proofs.tree.OpenNodes.enter.Goals as goal
-use Rattle.sec1_der.proofs.tree.OpenNodes.enter.Goals.{else-length-gt0-via-then-length-gt0+else-is_constructed, else-length-gt0-via-else-length-gt0}
+use Rattle.sec1_der.proofs.tree.OpenNodes.enter.Goals.{else-length-gt0-via-then-length-gt0+else-is_constructed}
+use Rattle.sec1_der.proofs.tree.OpenNodes.enter.Goals.{else-length-gt0-via-else-length-gt0}
 
 pub returns-in_err-open-clause-deep : goal.returns-in_err-open-clause-deep
 returns-in_err-open-clause-deep c _ = record {
@@ -25,7 +26,8 @@ pub returns-else-length-gt0-clause-found : goal.returns-else-length-gt0-clause-f
 returns-else-length-gt0-clause-found c =
     let which : ¬ IsConstructed c.in-Ok.found.0.tag ⊎ (c.in-Ok.found.0.length ≡ 0) =
     elim c.else-length-gt0.branch [
-      | else-length-gt0-via-then-length-gt0+else-is_constructed w ↦ inl (iff_false w.is_constructed.ensures w.if-is_constructed.false)
+      | else-length-gt0-via-then-length-gt0+else-is_constructed w ↦
+          inl (iff_false w.is_constructed.ensures w.if-is_constructed.false)
       | else-length-gt0-via-else-length-gt0 w ↦ inr (omega (arith, w.if-length-gt0.false, c.get-length.ensures.value))
     ] in
     inl (passes_at _ _ _ _ _ _ _ c.in-Ok.ensures.found c.end-end.ensures c.get-length.ensures.value which, refl)

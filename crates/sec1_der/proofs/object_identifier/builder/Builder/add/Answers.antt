@@ -12,4 +12,5 @@ pub returns-in_ok-with_number-in-One-clause-found : goal.returns-in_ok-with_numb
 returns-in_ok-with_number-in-One-clause-found c = grind (arith, first_two c.in-One.first c.args.arc)
 
 pub returns-in_ok-with_number-in-Several-clause-found : goal.returns-in_ok-with_number-in-Several-clause-found
-returns-in_ok-with_number-in-Several-clause-found c = grind (arith, one_more_arc c.args.self c.in-Several.content c.args.arc)
+returns-in_ok-with_number-in-Several-clause-found c =
+    grind (arith, one_more_arc c.args.self c.in-Several.content c.args.arc)

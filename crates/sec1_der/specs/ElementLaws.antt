@@ -1,0 +1,68 @@
+-- An element is determined by its bytes, and has a content that it can hold. Further crates cite
+-- these laws.
+use Rattle.std.proofs.Common.{◌≡◌, ℕ, ◌≤◌, List, length, Option, Some, None, refl, arith, ⊎_elim}
+use Rattle.std.proofs.Common.{tests, append_assoc, ne_eqb, ◌%◌, ◌<◌, true, ◌++◌}
+use Rattle.std.proofs.lemmas.Bool.{le-leb, lt-leb, cases_lt}
+use Rattle.sec1_der.specs.Elements.{max_length, header, element, IsElementOf, element_of, IsTag}
+use Rattle.sec1_der.specs.Faults.{is_tag}
+use Rattle.sec1_der.specs.LengthLaws.{len_apart, split_same}
+use Rattle.sec1_der.specs.Trees.{bytes}
+use Rattle.sec1_der.specs.Refusals.{within}
+
+-- a tag passes the test for one
+pub is_tag-true : (tag : ℕ) → IsTag tag → is_tag tag ≡ true
+is_tag-true tag h = rw (ne_eqb tag 0 h.not_end_of_contents, ne_eqb (tag % 32) 31 h.not_high) refl
+
+-- two headers that begin one list
+pub header_apart : (tag n tag' n' : ℕ) (r s : List ℕ) → header tag n ++ r ≡ header tag' n' ++ s
+    → (tag ≡ tag') × (n ≡ n') × (r ≡ s)
+header_apart tag n tag' n' r s e =
+    let (lengths, rests) = len_apart n n' r s (cc) in (cc, lengths, rests)
+
+-- a byte that passes the test is a tag
+pub tag_from_test : (byte : ℕ) → byte < 256 → is_tag byte ≡ true → IsTag byte
+tag_from_test byte small e =
+    record {
+      byte = small;
+      not_end_of_contents = λ zero. grind (arith, tests);
+      not_high =
+          λ ones. grind (arith, tests);
+    }
+
+-- an element is determined by a list that it begins
+pub element_apart : (tag tag' : ℕ) (b c r s : List ℕ) → element tag b ++ r ≡ element tag' c ++ s
+    → (tag ≡ tag') × (b ≡ c) × (r ≡ s)
+element_apart tag tag' b c r s e =
+    let heads = header_apart tag (length b) tag' (length c) (b ++ r) (c ++ s)
+    (rw (← append_assoc, ← append_assoc) e) in
+    let (contents, behind) = split_same b c r s heads.1 heads.2 in
+    (heads.0, contents, behind)
+
+-- a content, and the element around it
+pub record FoundContent (tag : ℕ) (content : Option (List ℕ)) (bytes : List ℕ) : Type 0 where
+  pub inside : List ℕ
+  pub same : content ≡ Some inside
+  pub at : IsElementOf tag inside bytes
+
+-- what has an element has a content that an element can hold
+pub element_of-some : (tag : ℕ) (content : Option (List ℕ)) (bytes : List ℕ)
+    → element_of tag content ≡ Some bytes
+    → FoundContent tag content bytes
+element_of-some tag None bytes e = absurd (cc e)
+element_of-some tag (Some inside) bytes e = ⊎_elim
+    (λ over. absurd (cc (rw (lt-leb (length inside) max_length over) at e)))
+    (λ fits. record {
+      inside = inside;
+      same = refl;
+      at =
+          record { within = fits; spelled = cc (rw (le-leb (length inside) max_length fits) at e) };
+    })
+    (cases_lt max_length (length inside))
+
+-- a content that an element can hold has its element
+pub element_of-within : (tag : ℕ) (content : Option (List ℕ)) (inside : List ℕ)
+    → content ≡ Some inside
+    → length inside ≤ max_length
+    → element_of tag content ≡ Some (element tag inside)
+element_of-within tag content inside e within =
+    rw (e, le-leb (length inside) max_length within) refl

@@ -1,0 +1,142 @@
+-- What the bytes of an element are refused by, and a reader that goes on behind one. Further crates
+-- cite these laws.
+use Rattle.std.proofs.Common.{◌≡◌, ◌==◌, ◌++◌, ◌∷◌, [], ℕ, List, Bool, true, false, refl, sym, ◌∙◌}
+use Rattle.std.proofs.Common.{ap, if◌then◌else◌, Option, Some, None, IsSomeAnd, Result, Ok, Err}
+use Rattle.std.proofs.Common.{eq-eqb, ◌≤◌, length, take, drop, arith, le-leb, length-append}
+use Rattle.std.proofs.Common.{append_assoc}
+use Rattle.std.specs.Option.{option_or}
+use Rattle.sec1_der.specs.Readers.{Reader, HasReadElement, reader_over}
+use Rattle.sec1_der.specs.Refusals.{Fault, no_fault, length_at, within, parts_fault, element_fault}
+use Rattle.sec1_der.specs.Refusals.{any_fault}
+use Rattle.sec1_der.specs.declared.error.ErrorKind.{ErrorKind}
+use Rattle.sec1_der.specs.declared.error.ErrorKind.TheVariants.{Tag}
+use Rattle.std.proofs.Math.Seq.{take-append_seam, drop-append_seam}
+use Rattle.std.proofs.lemmas.Slice.Eq.{bytes_eq-Decides}
+use Rattle.sec1_der.specs.Elements.{max_length, length_octets, header, element, IsHeader}
+use Rattle.sec1_der.specs.ElementLaws.{is_tag-true}
+use Rattle.sec1_der.specs.LengthLaws.{number_spelled}
+
+-- the length that the bytes begin with is found, and what follows it
+pub length_at_spelled : (n : ℕ) (rest : List ℕ) → n ≤ max_length
+    → length_at (length_octets n ++ rest) ≡ Ok (n, rest)
+length_at_spelled n rest fits =
+    let same = (bytes_eq-Decides (take (length (length_octets n)) (length_octets n ++ rest))
+    (length_octets n)).1
+    (take-append_seam (length_octets n) rest) in
+    rw (
+      number_spelled n rest,
+      le-leb n max_length fits,
+      same,
+      drop-append_seam (length_octets n) rest,
+    ) refl
+
+-- the fault after the first byte of an element is that of its content, or else of the bytes after
+-- it
+pub parts_at : (f g : Fault) (content rest : List ℕ) → length content ≤ max_length
+    → parts_fault f g (within (length_at ((length_octets (length content) ++ content) ++ rest)))
+    ≡ option_or (f content) (g rest)
+parts_at f g content rest fits =
+    let n = length content in
+    let room = le-leb n (length (content ++ rest)) (omega (arith, length-append content rest)) in
+    rw (
+      append_assoc (length_octets n) content rest,
+      length_at_spelled n (content ++ rest) fits,
+      room,
+    )
+    (rw (take-append_seam content rest, drop-append_seam content rest) refl)
+
+-- where a header has room for its content, the fault is that of the content, or else of the bytes
+-- after it
+pub any_room : (f : ℕ → Fault) (g : Fault) (tag n : ℕ) (bytes inside : List ℕ) → IsHeader tag n
+    → bytes ≡ header tag n ++ inside → n ≤ length inside
+    → any_fault f g bytes ≡ option_or (f tag (take n inside)) (g (drop n inside))
+any_room f g tag n bytes inside h e fits =
+    rw (
+      e,
+      is_tag-true tag h.tag_byte,
+      length_at_spelled n inside h.within,
+      le-leb n (length inside) fits,
+    ) refl
+
+-- the fault of an element of any tag is that of its content, or else of the bytes after it
+pub any_at : (f : ℕ → Fault) (g : Fault) (tag : ℕ) (content bytes rest : List ℕ)
+    → IsHeader tag (length content)
+    → bytes ≡ element tag content ++ rest
+    → any_fault f g bytes ≡ option_or (f tag content) (g rest)
+any_at f g tag content bytes rest h e =
+    rw (e, is_tag-true tag h.tag_byte) (parts_at (f tag) g content rest h.within)
+
+-- the same of an element with this tag
+pub element_at : (f g : Fault) (tag : ℕ) (content bytes rest : List ℕ) → length content ≤ max_length
+    → bytes ≡ element tag content ++ rest
+    → element_fault tag f g bytes ≡ option_or (f content) (g rest)
+element_at f g tag content bytes rest fits e =
+    rw (e, eq-eqb tag tag refl) (parts_at f g content rest fits)
+
+-- a fault with none after it is the fault
+pub alone : (o : Option ErrorKind) → option_or o None ≡ o
+alone None = refl
+alone (Some k) = refl
+
+-- the fault of an element that a reader read is that of its content, or else of the bytes after it
+pub read_element : (f g : Fault) (tag : ℕ) (content : List ℕ) (old new : Reader)
+    → HasReadElement tag content old new
+    → element_fault tag f g old.unread ≡ option_or (f content) (g new.unread)
+read_element f g tag content old new h =
+    element_at f g tag content old.unread new.unread h.within
+    (ap (λ (r : Reader). r.unread) h.read.was_whole)
+
+-- the reader goes on: the fault of the bytes that it had is that of the bytes that it has
+pub record GoesOn (fault : Fault → Fault) (old new : Reader) : Type 0 where
+  pub whole : new.failed ≡ false
+  pub next : (g : Fault) → fault g old.unread ≡ g new.unread
+
+-- a reader goes on after an element that is there, and of which nothing is refused
+goes_on : (fault : Fault → Fault) (found : Fault) (content : Option (List ℕ)) (P : List ℕ → Type 0)
+    (old new : Reader)
+    → IsSomeAnd content P
+    → ((inside : List ℕ) → P inside
+    → (new.failed ≡ false)
+    × ((g : Fault) → fault g old.unread ≡ option_or (found inside) (g new.unread)))
+    → fault no_fault old.unread ≡ None → GoesOn fault old new
+goes_on fault found None P old new some read none = absurd some
+goes_on fault found (Some inside) P old new some read none =
+    let (whole, same) = read inside some in
+    let first : found inside ≡ None = sym (alone (found inside)) ∙ (sym (same no_fault) ∙ none) in
+    record { whole = whole; next = λ g. same g ∙ rw first refl }
+
+-- a reader goes on after an element that was read
+pub reads_on : (f : Fault) (tag : ℕ) (content : Option (List ℕ)) (P : List ℕ → Type 0)
+    (old new : Reader)
+    → IsSomeAnd content (λ inside. P inside × HasReadElement tag inside old new)
+    → element_fault tag f no_fault old.unread ≡ None
+    → GoesOn (element_fault tag f) old new
+reads_on f tag content P old new some none = goes_on (element_fault tag f) f content _ old new some
+    (λ inside is. (
+      ap (λ (r : Reader). r.failed) is.1.read.is_whole,
+      λ g.
+          read_element f g tag inside old new is.1,
+    ))
+    none
+
+-- a reader that hasn't refused is known by its bytes
+pub reader_at : (r : Reader) (bytes : List ℕ) → r.unread ≡ bytes → r.failed ≡ false
+    → r ≡ reader_over bytes
+reader_at r bytes unread whole = rw (← unread, ← whole) refl
+
+-- what is refused stays so where more is tested behind it
+pub refused_more : (f g : Fault) (tag : ℕ) (bytes : List ℕ) (k : ErrorKind)
+    → element_fault tag f no_fault bytes ≡ Some k → element_fault tag f g bytes ≡ Some k
+refused_more f g tag [] k e = e
+refused_more f g tag (byte ∷ bytes) k e = by (byte == tag) (within (length_at bytes)) e
+  where
+    more : (o p : Option ErrorKind) → option_or o None ≡ Some k → option_or o p ≡ Some k
+    more None p e = absurd (cc e)
+    more (Some j) p e = e
+
+    by : (b : Bool) (found : Result (List ℕ × List ℕ) ErrorKind)
+        → (if b then parts_fault f no_fault found else Some Tag) ≡ Some k
+        → (if b then parts_fault f g found else Some Tag) ≡ Some k
+    by false found e = e
+    by true (Err kind) e = e
+    by true (Ok x) e = more (f x.0) (g x.1) e

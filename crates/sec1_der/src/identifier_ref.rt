@@ -1,0 +1,128 @@
+//! OBJECT IDENTIFIER that borrows its content.
+ghost use Rattle.std.specs.Prelude.{◌≡◌, ℕ, List, Some, IfOk, IfErr};
+ghost use Rattle.sec1_der.specs.ArcsOf.{arcs_of};
+ghost use Rattle.sec1_der.specs.Contents.{identifier_fault};
+ghost use Rattle.sec1_der.specs.IdentifierLaws.{identifier_content-some};
+ghost use Rattle.sec1_der.specs.Identifiers.{IsIdentifier, IsIdentifierContent, identifier_content};
+
+use crate::object_identifier::is_identifier;
+use crate::{
+    BackWriter, DecodeValue, EncodeValue, ErrorKind, FixedTag, Length, ObjectIdentifier, Result,
+    SliceReader, SliceWriter, Tag, Tagged, UniqueContent, ValueContent,
+};
+use std::marker::Model;
+
+/// An OBJECT IDENTIFIER that borrows its content, which has 1 to 39 bytes (X.690 section 8.19). A
+/// contract sees the arcs. They are those of an [`ObjectIdentifier`], and so are the refusals.
+#[derive(Drop)]
+pub struct IdentifierRef<'a> {
+    bytes: &'a [u8],
+}
+
+impl<'a> Model for IdentifierRef<'a> {
+    ghost Value = { List ℕ };
+
+    ghost view = { λ identifier. arcs_of identifier.bytes.now };
+
+    ghost invariant = { λ identifier.
+        IsIdentifier (arcs_of identifier.bytes.now) identifier.bytes.now };
+}
+
+impl<'a> IdentifierRef<'a> {
+    /// Returns the identifier with this content (X.690 section 8.19).
+    ///
+    /// # Errors
+    ///
+    /// Value if no identifier has this content, or if it has more than 39 bytes.
+    #[tactic(auto, using(crate::proofs::IdentifierLemmas::held_contents))]
+    pub fn from_bytes(bytes: &'a [u8]) -> Result<IdentifierRef<'a>>
+        ensures found { IfOk result (λ arcs. IsIdentifier arcs bytes.now) }
+        ensures only { (arcs : List ℕ) → IsIdentifier arcs bytes.now → result ≡ Ok arcs }
+        ensures kind { IfErr result (λ e. e.kind ≡ ErrorKind.Value) }
+    {
+        if !is_identifier(bytes) {
+            return Err(ErrorKind::Value.into());
+        }
+        Ok(IdentifierRef { bytes })
+    }
+
+    /// Returns the identifier again. It borrows the same content.
+    pub fn reborrow(&self) -> Self
+        ensures { result ≡ self.now }
+    {
+        IdentifierRef { bytes: self.bytes }
+    }
+
+    /// Returns the identifier with a copy of its content.
+    pub fn to_identifier(&self) -> ObjectIdentifier
+        ensures { result ≡ self.now }
+    {
+        ObjectIdentifier::of_content(self.bytes)
+    }
+
+    /// Borrows the content, 1 to 39 bytes.
+    pub fn as_bytes(&self) -> &'a [u8]
+        ensures { IsIdentifier self.now result.now }
+    {
+        self.bytes
+    }
+}
+
+impl Tagged for IdentifierRef<'_> {
+    ghost tag_byte = { 0x06 };
+
+    fn fixed_tag() -> Tag
+        ensures { result ≡ 0x06 }
+    {
+        Self::TAG
+    }
+}
+
+impl FixedTag for IdentifierRef<'_> {
+    const TAG: Tag = Tag::OBJECT_IDENTIFIER;
+}
+
+impl ValueContent for IdentifierRef<'_> {
+    ghost content = { identifier_content };
+
+    ghost is_content = { IsIdentifierContent };
+
+    ghost content_is_valid = { λ arcs bytes same _. (arcs, identifier_content-some arcs bytes same) };
+
+    ghost fault = { identifier_fault };
+}
+
+impl<'a> DecodeValue<'a> for IdentifierRef<'a> {
+    #[tactic(auto, using(crate::proofs::ContentRefusals::identifier_taken, crate::proofs::ContentRefusals::identifier_refused))]
+    fn decode_value(reader: &mut SliceReader<'a>) -> Result<Self> {
+        match IdentifierRef::from_bytes(reader.read_rest()?) {
+            Ok(identifier) => Ok(identifier),
+            Err(e) => Err(reader.fail(e.kind)),
+        }
+    }
+}
+
+impl EncodeValue for IdentifierRef<'_> {
+    #[tactic(auto, using(crate::proofs::IdentifierLemmas::identifier_fits))]
+    fn value_len(&self) -> Result<Length> {
+        Length::new(self.bytes.len())
+    }
+
+    #[tactic(auto, using(crate::proofs::IdentifierLemmas::identifier_fits))]
+    fn encode_value(&self, writer: &mut SliceWriter) -> Result<()> {
+        writer.write(self.bytes)
+    }
+
+    #[tactic(auto, using(crate::proofs::IdentifierLemmas::identifier_fits))]
+    fn encode_back(&self, writer: &mut BackWriter) -> Result<()> {
+        writer.write(self.bytes)
+    }
+}
+
+impl UniqueContent for IdentifierRef<'_> {
+    #[tactic(auto, using(crate::proofs::UniqueLemmas::unique_identifier))]
+    fn one()
+        ensures { (a b bytes : List ℕ) → identifier_content a ≡ Some bytes
+            → identifier_content b ≡ Some bytes → a ≡ b }
+    {}
+}
