@@ -6,9 +6,8 @@ use Rattle.std.specs.Bool.{Decides}
 use Rattle.std.specs.Option.{unwrap_or}
 use Rattle.std.specs.Prelude.{Contains, find, option_map, position}
 use Rattle.std.specs.Str.{bytes_eq}
-use Rattle.sec1_der.proofs.DottedLemmas.{same_arcs}
-use Rattle.sec1_der.specs.IdentifierLaws.{is_identifier-true}
-use Rattle.sec1_der.specs.Identifiers.{Spells, content_of, is_identifier}
+use Rattle.sec1_der.specs.IdentifierLaws.{is_identifier-true, identifier_content-valid}
+use Rattle.sec1_der.specs.Identifiers.{content_of, identifier_content, is_identifier}
 use Rattle.pkix.specs.Curves.{curve_arcs, curve_content, curve_name, curve_alias, x962_name, IsNameOf}
 use Rattle.pkix.specs.declared.curve.Curve.{Curve}
 use Rattle.pkix.specs.declared.curve.Curve.TheVariants as curves
@@ -104,9 +103,9 @@ is_identifier-curve_arcs : (curve : Curve) → is_identifier (curve_arcs curve) 
 is_identifier-curve_arcs curves.Secp112r1 = refl
 is_identifier-curve_arcs curve = refl
 
--- a curve with the content of an identifier has that identifier
-pub arcs_of_content : (curve : Curve) (arcs content : List ℕ) → Spells arcs content → curve_content curve ≡ content
-    → curve_arcs curve ≡ arcs
-arcs_of_content curve arcs content spells same =
-    let own = (is_identifier-true (curve_arcs curve) (is_identifier-curve_arcs curve)).spells in
-    same_arcs (curve_arcs curve) arcs content (rw (← same) own) spells
+-- a curve's identifier has the curve's content
+pub content-curve_arcs : (curve : Curve) (content : List ℕ) → curve_content curve ≡ content
+    → identifier_content (curve_arcs curve) ≡ Some content
+content-curve_arcs curve content same =
+    let own = is_identifier-true (curve_arcs curve) (is_identifier-curve_arcs curve) in
+    identifier_content-valid (curve_arcs curve) content (rw (← same) own)

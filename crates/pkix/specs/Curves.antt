@@ -1,11 +1,12 @@
--- The named elliptic curves over prime fields: their identifiers, their names and the lengths of their fields.
+-- The named elliptic curves over prime fields: their identifiers, their names and the lengths of
+-- their fields.
 use Rattle.std.specs.Prelude.{◌≡◌, ℕ, ◌+◌, ◌/◌, ◌⊎◌, List, [], ◌∷◌, codes, Option, Some, None}
 use Rattle.sec1.specs.Der.{content_of}
 use Rattle.pkix.specs.declared.curve.Curve.{Curve}
 use Rattle.pkix.specs.declared.curve.Curve.TheVariants as curves
 
--- The arcs of each curve's identifier, in the order of its dotted text: SEC 2 appendix A.2.1, RFC 5480 section 2.1.1.1,
--- RFC 3279 section 2.3.5 (ANSI X9.62) and RFC 5639 section 4.1.
+-- The arcs of each curve's identifier, in the order of its dotted text: SEC 2 appendix A.2.1,
+-- RFC 5480 section 2.1.1.1, RFC 3279 section 2.3.5 (ANSI X9.62) and RFC 5639 section 4.1.
 abbrev pub curve_arcs : Curve → List ℕ
 curve_arcs curves.Secp112r1 = 1 ∷ 3 ∷ 132 ∷ 0 ∷ 6 ∷ []
 curve_arcs curves.Secp112r2 = 1 ∷ 3 ∷ 132 ∷ 0 ∷ 7 ∷ []
@@ -105,7 +106,8 @@ x962_name curve = None
 
 -- the text is a name of the curve in one of these standards
 abbrev pub IsNameOf : List ℕ → Curve → Type 0
-IsNameOf text curve = (text ≡ curve_name curve) ⊎ (curve_alias curve ≡ Some text) ⊎ (x962_name curve ≡ Some text)
+IsNameOf text curve =
+    (text ≡ curve_name curve) ⊎ (curve_alias curve ≡ Some text) ⊎ (x962_name curve ≡ Some text)
 
 -- the length in bits of the prime of the curve's field
 abbrev pub field_bits : Curve → ℕ

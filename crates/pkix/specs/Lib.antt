@@ -1,1 +1,4 @@
 pub mod Curves
+pub mod EcKeys
+pub mod Records
+pub mod Versions

@@ -1,14 +1,16 @@
-//! The named elliptic curves over prime fields of SEC 2 (RFC 5480 section 2.1.1.1), of ANSI X9.62 (RFC 3279 section
-//! 2.3.5) and of RFC 5639: their identifiers, their names and the lengths of their fields.
+//! The named elliptic curves over prime fields of SEC 2 (RFC 5480 section 2.1.1.1), of ANSI X9.62
+//! (RFC 3279 section 2.3.5) and of RFC 5639: their identifiers, their names and the lengths of
+//! their fields.
 ghost use Rattle.std.specs.Prelude.{◌≡◌, ◌↔◌, ℕ, List, IsTrue, IfSome, Some, option_map};
-ghost use Rattle.pkix.specs.Curves.{curve_arcs, curve_content, curve_name, curve_alias, x962_name, IsNameOf, field_len};
+ghost use Rattle.pkix.specs.Curves.{curve_arcs, curve_content, curve_name, curve_alias, x962_name};
+ghost use Rattle.pkix.specs.Curves.{IsNameOf, field_len};
 
 pub mod laws;
 
-use sec1::der::ObjectIdentifier;
+use sec1::der::{self, ObjectIdentifier};
 
-/// A named elliptic curve over a prime field: those of SEC 2 v1.0 and v2.0, among which are the five of RFC 5480
-/// section 2.1.1.1, the further ones of ANSI X9.62, and those of RFC 5639.
+/// A named elliptic curve over a prime field: those of SEC 2 v1.0 and v2.0, among which are the
+/// five of RFC 5480 section 2.1.1.1, the further ones of ANSI X9.62, and those of RFC 5639.
 #[derive(Clone, Copy, Debug, PartialEq, Eq)]
 pub enum Curve {
     /// secp112r1, over a prime of 112 bits (SEC 2 v1.0 section 2.2.1).
@@ -162,8 +164,8 @@ impl Curve {
         }
     }
 
-    /// Returns the curve's identifier (SEC 2 appendix A.2.1, RFC 5480 section 2.1.1.1, RFC 3279 section 2.3.5, RFC 5639
-    /// section 4.1).
+    /// Returns the curve's identifier (SEC 2 appendix A.2.1, RFC 5480 section 2.1.1.1, RFC 3279
+    /// section 2.3.5, RFC 5639 section 4.1).
     pub fn identifier(self) -> ObjectIdentifier
         ensures { result ≡ curve_arcs self }
     {
@@ -173,7 +175,8 @@ impl Curve {
         }
     }
 
-    /// Returns the curve with this content of its OBJECT IDENTIFIER; None if there is no such curve in the table.
+    /// Returns the curve with this content of its OBJECT IDENTIFIER; None if there is no such curve
+    /// in the table.
     pub fn from_content(content: &[u8]) -> Option<Curve>
         ensures found { IfSome result (λ curve. curve_content curve ≡ content.now) }
         ensures only { (curve : Curve) → curve_content curve ≡ content.now → result ≡ Some curve }
@@ -189,11 +192,12 @@ impl Curve {
         ensures found { IfSome result (λ curve. curve_arcs curve ≡ identifier.now) }
         ensures only { (curve : Curve) → curve_arcs curve ≡ identifier.now → result ≡ Some curve }
     {
+        der::laws::one_identifier();
         Curve::from_content(identifier.as_bytes())
     }
 
-    /// Returns the curve's name in SEC 2, as secp256r1; of a curve that isn't in SEC 2, the name in ANSI X9.62 or
-    /// RFC 5639.
+    /// Returns the curve's name in SEC 2, as secp256r1; of a curve that isn't in SEC 2, the name in
+    /// ANSI X9.62 or RFC 5639.
     pub const fn name(self) -> &'static str
         ensures { result.now ≡ curve_name self }
     {
@@ -249,7 +253,8 @@ impl Curve {
         }
     }
 
-    /// Returns the curve's name in ANSI X9.62 (RFC 3279 section 2.3.5), as prime256v1; None if it has none.
+    /// Returns the curve's name in ANSI X9.62 (RFC 3279 section 2.3.5), as prime256v1; None if it
+    /// has none.
     pub const fn x962_name(self) -> Option<&'static str>
         ensures { option_map (λ text. text.now) result ≡ x962_name self }
     {
@@ -273,8 +278,8 @@ impl Curve {
         self.name() == text || self.alias() == Some(text) || self.x962_name() == Some(text)
     }
 
-    /// Returns the curve with this name, as [`has_name`](Self::has_name) tests it; None if there is no such curve in
-    /// the table.
+    /// Returns the curve with this name, as [`has_name`](Self::has_name) tests it; None if there is
+    /// no such curve in the table.
     pub fn from_name(text: &str) -> Option<Curve>
         ensures found { IfSome result (IsNameOf text.now) }
         ensures only { (curve : Curve) → IsNameOf text.now curve → result ≡ Some curve }

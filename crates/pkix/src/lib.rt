@@ -1,8 +1,27 @@
-//! The parts of certificates that name elliptic curves.
 #![tactic(auto)]
 
+mod algorithm;
+mod certificate;
+mod component;
 pub mod curve;
+mod extension;
+mod keys;
+mod name;
+mod private_key;
+mod public_key;
+mod signature;
 #[cfg(test)]
 mod tests;
+mod validity;
+mod version;
 
+pub use algorithm::AlgorithmIdentifier;
+pub use certificate::{Certificate, TbsCertificate};
 pub use curve::Curve;
+pub use extension::Extension;
+pub use name::{AttributeTypeAndValue, Name, RelativeDistinguishedName};
+pub use private_key::{Attribute, Attributes, OneAsymmetricKey, PrivateKeyInfo, ValueSet};
+pub use public_key::SubjectPublicKeyInfo;
+pub use signature::EcdsaSigValue;
+pub use validity::{Time, Validity};
+pub use version::LaterVersion;

@@ -3,8 +3,8 @@ use crate::Curve;
 use sec1::der::{ObjectIdentifier, from_der, to_der};
 use std::test::Fail;
 
-/// What `tests/curves.sh` prints: OpenSSL's version and each of its named curves over a prime field, with
-/// the length of the prime in bits and the DER of the object identifier in hexadecimal.
+/// What `tests/curves.sh` prints: OpenSSL's version and each of its named curves over a prime
+/// field, with the length of the prime in bits and the DER of the object identifier in hexadecimal.
 const OPENSSL: &str = "\
 # OpenSSL 3.0.19 27 Jan 2026 (Library: OpenSSL 3.0.19 27 Jan 2026)
 secp112r1 112 06052B81040006
@@ -58,8 +58,9 @@ fn bytes(rt: &HostRuntime, text: &str) -> Result<Vec<u8>, Fail> {
     Ok(bytes)
 }
 
-/// Each curve of the table is one of OpenSSL's, with the name, the identifier and the length of the field that it has
-/// there. Of OpenSSL's curves over prime fields only those of WTLS and SM2 aren't in the table.
+/// Each curve of the table is one of OpenSSL's, with the name, the identifier and the length of the
+/// field that it has there. Of OpenSSL's curves over prime fields only those of WTLS and SM2 aren't
+/// in the table.
 #[test]
 fn has_the_curves_of_openssl(rt: HostRuntime) -> Result<(), Fail> {
     let mut found = Vec::new(rt.alloc());
@@ -96,7 +97,8 @@ fn has_the_curves_of_openssl(rt: HostRuntime) -> Result<(), Fail> {
     Ok(())
 }
 
-/// Names that OpenSSL takes for a curve beside the one that it lists: `openssl ecparam -name P-256`.
+/// Names that OpenSSL takes for a curve beside the one that it lists:
+/// `openssl ecparam -name P-256`.
 #[test]
 fn finds_curves_by_each_name(rt: HostRuntime) {
     for (name, curve) in [

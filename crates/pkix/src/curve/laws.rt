@@ -1,4 +1,5 @@
-//! Laws of the table of curves, for callers to cite. Each law is the contract of a function, which does nothing else.
+//! Laws of the table of curves, for callers to cite. Each law is the contract of a function, which
+//! does nothing else.
 ghost use Rattle.std.specs.Prelude.{◌≡◌, ◌↔◌, ℕ, List, Contains, IsTrue};
 ghost use Rattle.pkix.specs.Curves.{curve_arcs, curve_content, IsNameOf};
 ghost use Rattle.pkix.specs.declared.curve.Curve.{Curve};

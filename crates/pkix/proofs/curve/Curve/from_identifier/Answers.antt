@@ -1,8 +1,13 @@
 use Rattle.std.proofs.lemmas.Option.{IfSome_then}
-use Rattle.pkix.proofs.CurveLemmas.{arcs_of_content}
+use Rattle.sec1_der.specs.IdentifierLaws.{identifier_content-valid}
+use Rattle.pkix.specs.Curves.{curve_arcs}
+use Rattle.pkix.proofs.CurveLemmas.{content-curve_arcs}
 use Rattle.pkix.proofs.curve.Curve.from_identifier.Goals as goal
 
 pub returns-clause-found : goal.returns-clause-found
 returns-clause-found c =
+    let arcs = c.args.identifier.now in
+    let content = c.as_bytes.result.now in
+    let own = identifier_content-valid arcs content c.as_bytes.ensures in
     IfSome_then c.from_content.result c.from_content.ensures.found
-    (λ curve same. arcs_of_content curve c.args.identifier.now c.as_bytes.result.now c.as_bytes.ensures.spells same)
+    (λ curve same. c.one_identifier.ensures (curve_arcs curve) arcs content (content-curve_arcs curve content same) own)

@@ -1,0 +1,86 @@
+//! Public keys with their algorithms.
+ghost use Rattle.std.specs.Prelude.{refl};
+ghost use Rattle.sec1_der.specs.Elements.{element_of};
+ghost use Rattle.sec1_der.specs.Parts.{AreApart, one_tag};
+ghost use Rattle.sec1_der.specs.PartLaws.{element_begins};
+ghost use Rattle.sec1_der.specs.Refusals.{element_fault};
+ghost use Rattle.pkix.specs.Records.{public_key_content, public_key_fault};
+
+use crate::AlgorithmIdentifier;
+use crate::component::{component_len, decode_component};
+use der_types::Bits;
+use sec1_der::{
+    BackWriter, DecodePart, Distinct, EncodePart, Length, Part, Record, Required, Result,
+    SliceReader, UniquePart,
+};
+
+/// A SubjectPublicKeyInfo (RFC 5280 section 4.1).
+#[derive(Drop)]
+pub struct SubjectPublicKeyInfo<'a> {
+    /// The algorithm of the key.
+    pub algorithm: AlgorithmIdentifier<'a>,
+    /// The key.
+    pub public_key: Bits<'a>,
+}
+
+impl<'a> Record for SubjectPublicKeyInfo<'a> {
+    type Parts = (AlgorithmIdentifier<'a>, Required<Bits<'a>>);
+
+    ghost parts = { λ value. (value.algorithm, value.public_key) };
+
+    ghost of_parts = { λ row. record { algorithm = row.0; public_key = row.1 } };
+
+    fn from_parts((algorithm, public_key): Self::Parts) -> Self {
+        SubjectPublicKeyInfo {
+            algorithm,
+            public_key: public_key.0,
+        }
+    }
+
+    fn to_parts(&self) -> Self::Parts {
+        (
+            self.algorithm.reborrow(),
+            Required(self.public_key.reborrow()),
+        )
+    }
+
+    ghost same = { λ _. refl };
+}
+
+impl Distinct for SubjectPublicKeyInfo<'_> {
+    ghost apart = { refl };
+}
+
+impl Part for SubjectPublicKeyInfo<'_> {
+    ghost bytes = { λ value. element_of 0x30 (public_key_content value) };
+
+    ghost fault_then = { element_fault 0x30 public_key_fault };
+
+    ghost tags = { one_tag 0x30 };
+
+    ghost begins = { λ value. element_begins 0x30 (public_key_content value) };
+}
+
+impl EncodePart for SubjectPublicKeyInfo<'_> {
+    fn part_len(&self) -> Result<Length> {
+        component_len(self)
+    }
+
+    fn put_part(&self, writer: &mut BackWriter) -> Result<()> {
+        writer.put_element(self)
+    }
+}
+
+impl<'a> DecodePart<'a> for SubjectPublicKeyInfo<'a> {
+    fn decode_part(reader: &mut SliceReader<'a>) -> Result<Self> {
+        decode_component(reader)
+    }
+}
+
+impl UniquePart for SubjectPublicKeyInfo<'_> {
+    fn one_part()
+        ensures { AreApart (one_tag 0x30) (λ value. element_of 0x30 (public_key_content value)) }
+    {
+        Required::<SubjectPublicKeyInfo>::one_part();
+    }
+}

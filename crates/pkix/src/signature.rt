@@ -1,0 +1,36 @@
+//! Signatures of ECDSA.
+ghost use Rattle.std.specs.Prelude.{refl};
+
+use der_types::Unsigned;
+use sec1_der::{Distinct, Record, Required};
+
+/// An ECDSA-Sig-Value (RFC 3279 section 2.2.3). A contract sees the numbers.
+#[derive(Drop)]
+pub struct EcdsaSigValue<'a> {
+    /// The x-coordinate of a point, modulo the order of the curve.
+    pub r: Unsigned<'a>,
+    /// The number that was computed from `r`, the hash and the private key.
+    pub s: Unsigned<'a>,
+}
+
+impl<'a> Record for EcdsaSigValue<'a> {
+    type Parts = (Required<Unsigned<'a>>, Required<Unsigned<'a>>);
+
+    ghost parts = { λ value. (value.r, value.s) };
+
+    ghost of_parts = { λ row. record { r = row.0; s = row.1 } };
+
+    fn from_parts((r, s): Self::Parts) -> Self {
+        EcdsaSigValue { r: r.0, s: s.0 }
+    }
+
+    fn to_parts(&self) -> Self::Parts {
+        (Required(self.r.reborrow()), Required(self.s.reborrow()))
+    }
+
+    ghost same = { λ _. refl };
+}
+
+impl Distinct for EcdsaSigValue<'_> {
+    ghost apart = { refl };
+}

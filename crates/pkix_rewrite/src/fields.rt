@@ -1,0 +1,157 @@
+//! The fields of each structure, separated by blanks.
+
+use der_types::{Any, Bits, Choice, Implicit, Unsigned};
+use hex::ToHex;
+use pkix::{
+    AlgorithmIdentifier, Attributes, Certificate, EcdsaSigValue, LaterVersion, OneAsymmetricKey,
+    PrivateKeyInfo, SubjectPublicKeyInfo, TbsCertificate, Time,
+};
+use std::alloc::{AllocError, Global};
+
+/// Returns the hexadecimal digits of the bytes, or `empty` if there are none.
+fn digits(alloc: Global, bytes: &[u8]) -> Result<String, AllocError> {
+    if bytes.is_empty() {
+        return "empty".to_string(alloc);
+    }
+    bytes.encode_hex(alloc)
+}
+
+/// Returns the digits of an element, or `-` if it is absent.
+fn element_or_none(alloc: Global, element: &Option<Any>) -> Result<String, AllocError> {
+    match element {
+        Some(any) => digits(alloc, any.element()),
+        None => "-".to_string(alloc),
+    }
+}
+
+/// Returns the digits of a bit string's content: the number of unused bits, and the bytes.
+fn bits(alloc: Global, bits: &Bits) -> Result<String, AllocError> {
+    let unused = bits.unused_bits();
+    let bytes: String = bits.raw_bytes().encode_hex(alloc)?;
+    format!(in alloc; "{unused:02x}{bytes}")
+}
+
+/// Returns the digits of a bit string's content, or `-` if it is absent.
+fn bits_or_none<K>(alloc: Global, field: &Option<Implicit<K, Bits>>) -> Result<String, AllocError> {
+    match field {
+        Some(field) => bits(alloc, &field.value),
+        None => "-".to_string(alloc),
+    }
+}
+
+/// Returns the digits of a number without the byte of its sign.
+fn number(alloc: Global, number: &Unsigned) -> Result<String, AllocError> {
+    match number.as_bytes() {
+        [0, rest @ ..] if !rest.is_empty() => digits(alloc, rest),
+        bytes => digits(alloc, bytes),
+    }
+}
+
+/// Returns the identifier of an algorithm and its parameters.
+fn algorithm(alloc: Global, value: &AlgorithmIdentifier) -> Result<String, AllocError> {
+    let identifier = digits(alloc, value.algorithm.as_bytes())?;
+    let parameters = element_or_none(alloc, &value.parameters)?;
+    format!(in alloc; "{identifier}:{parameters}")
+}
+
+/// Returns the type of a time and its characters.
+fn time(alloc: Global, time: &Time) -> Result<String, AllocError> {
+    let (letter, bytes) = match time {
+        Choice::First(utc) => ("u", utc.0.as_bytes()),
+        Choice::Second(general) => ("g", general.0.as_bytes()),
+    };
+    match std::str::from_utf8(bytes) {
+        Ok(text) => format!(in alloc; "{letter}:{text}"),
+        Err(_) => "not text".to_string(alloc),
+    }
+}
+
+/// Returns the fields of a signature.
+pub(crate) fn signature(alloc: Global, value: &EcdsaSigValue) -> Result<String, AllocError> {
+    let r = number(alloc, &value.r)?;
+    let s = number(alloc, &value.s)?;
+    format!(in alloc; "{r} {s}")
+}
+
+/// Returns the fields of a public key.
+pub(crate) fn public_key_info(
+    alloc: Global,
+    value: &SubjectPublicKeyInfo,
+) -> Result<String, AllocError> {
+    let identifier = digits(alloc, value.algorithm.algorithm.as_bytes())?;
+    let parameters = element_or_none(alloc, &value.algorithm.parameters)?;
+    let bits = bits(alloc, &value.public_key)?;
+    format!(in alloc; "{identifier} {parameters} {bits}")
+}
+
+/// Returns the digits of the attributes of a container, or `-` if they are absent.
+fn attributes(alloc: Global, value: &Option<Attributes>) -> Result<String, AllocError> {
+    match value {
+        Some(attributes) => digits(alloc, attributes.value.as_bytes()),
+        None => "-".to_string(alloc),
+    }
+}
+
+/// Returns the fields of a container of version 0.
+pub(crate) fn private_key_info(
+    alloc: Global,
+    value: &PrivateKeyInfo,
+) -> Result<String, AllocError> {
+    let identifier = digits(alloc, value.algorithm.algorithm.as_bytes())?;
+    let parameters = element_or_none(alloc, &value.algorithm.parameters)?;
+    let key = digits(alloc, value.private_key.bytes)?;
+    let attributes = attributes(alloc, &value.attributes)?;
+    format!(in alloc; "0 {identifier} {parameters} {key} {attributes} -")
+}
+
+/// Returns the fields of a container of version 1.
+pub(crate) fn one_asymmetric_key(
+    alloc: Global,
+    value: &OneAsymmetricKey,
+) -> Result<String, AllocError> {
+    let identifier = digits(alloc, value.algorithm.algorithm.as_bytes())?;
+    let parameters = element_or_none(alloc, &value.algorithm.parameters)?;
+    let key = digits(alloc, value.private_key.bytes)?;
+    let attributes = attributes(alloc, &value.attributes)?;
+    let public_key = bits_or_none(alloc, &value.public_key)?;
+    format!(in alloc; "1 {identifier} {parameters} {key} {attributes} {public_key}")
+}
+
+/// Returns the number of the version of a certificate, from 1 to 3.
+fn version(value: &TbsCertificate) -> u8 {
+    match &value.version {
+        None => 1,
+        Some(version) => match version.value {
+            LaterVersion::V2 => 2,
+            LaterVersion::V3 => 3,
+        },
+    }
+}
+
+/// Returns the fields from the version to the subject.
+fn names(alloc: Global, value: &TbsCertificate) -> Result<String, AllocError> {
+    let version = version(value);
+    let serial = digits(alloc, value.serial_number.as_bytes())?;
+    let signature = algorithm(alloc, &value.signature)?;
+    let issuer = digits(alloc, value.issuer.as_bytes())?;
+    let not_before = time(alloc, &value.validity.not_before)?;
+    let not_after = time(alloc, &value.validity.not_after)?;
+    let subject = digits(alloc, value.subject.as_bytes())?;
+    format!(in alloc; "{version} {serial} {signature} {issuer} {not_before} {not_after} {subject}")
+}
+
+/// Returns the fields of a certificate.
+pub(crate) fn certificate(alloc: Global, value: &Certificate) -> Result<String, AllocError> {
+    let tbs = &value.tbs_certificate;
+    let names = names(alloc, tbs)?;
+    let key = public_key_info(alloc, &tbs.public_key)?;
+    let issuer = bits_or_none(alloc, &tbs.issuer_unique_id)?;
+    let subject = bits_or_none(alloc, &tbs.subject_unique_id)?;
+    let extensions = match &tbs.extensions {
+        Some(extensions) => digits(alloc, extensions.value.as_bytes())?,
+        None => "-".to_string(alloc)?,
+    };
+    let outer = algorithm(alloc, &value.signature_algorithm)?;
+    let signature = bits(alloc, &value.signature)?;
+    format!(in alloc; "{names} {key} {issuer} {subject} {extensions} {outer} {signature}")
+}

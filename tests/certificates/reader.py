@@ -1,0 +1,311 @@
+"""A reader of certificates, public keys, containers of private keys and ECDSA signatures in DER,
+written from X.690, RFC 5280, RFC 5958 and RFC 3279 alone and apart from the crates. It stands
+beside them to say what they have to print.
+
+The reader of each word returns the fields as text. Faults are found from left to right: of each
+element its tag, its length, its end and its content, and then of what follows it.
+"""
+
+LIMIT = 0x0FFFFFFF
+BOOLEAN, INTEGER, BIT_STRING, OCTET_STRING, IDENTIFIER = 0x01, 0x02, 0x03, 0x04, 0x06
+UTC_TIME, GENERALIZED_TIME, SEQUENCE, SET = 0x17, 0x18, 0x30, 0x31
+V1, V2, V3 = b"\x00", b"\x01", b"\x02"
+
+
+class Refused(Exception):
+    """The bytes are refused; the one argument is the kind."""
+
+
+def demand(holds, kind="Value"):
+    if not holds:
+        raise Refused(kind)
+
+
+def is_tag(byte):
+    """A tag of one byte that isn't end-of-contents (X.690 sections 8.1.2 and 8.1.5)."""
+    return byte != 0 and byte & 0x1F != 0x1F
+
+
+class Elements:
+    """The elements in a content, which are read one after another."""
+
+    def __init__(self, data):
+        self.data, self.at = data, 0
+
+    def more(self):
+        return self.at < len(self.data)
+
+    def is_next(self, tag):
+        return self.more() and self.data[self.at] == tag
+
+    def byte(self):
+        demand(self.more(), "Truncated")
+        self.at += 1
+        return self.data[self.at - 1]
+
+    def length(self):
+        """Reads a length in its one form (X.690 section 10.1)."""
+        first = self.byte()
+        if first < 0x80:
+            return first
+        count = first - 0x80
+        demand(1 <= count <= 4, "Length")
+        demand(self.at + count <= len(self.data), "Truncated")
+        digits = self.data[self.at : self.at + count]
+        self.at += count
+        number = int.from_bytes(digits, "big")
+        demand(digits[0] != 0 and 0x80 <= number <= LIMIT, "Length")
+        return number
+
+    def read(self, tag):
+        """Reads an element with this tag, or with any for None. Returns its content."""
+        demand(self.more(), "Truncated")
+        found = self.byte()
+        demand(is_tag(found) if tag is None else found == tag, "Tag")
+        end = self.length() + self.at
+        demand(end <= len(self.data), "Truncated")
+        start, self.at = self.at, end
+        return self.data[start:end]
+
+    def read_whole(self):
+        """Reads an element of any tag, whose content may be anything. Returns its bytes."""
+        start = self.at
+        self.read(None)
+        return self.data[start : self.at]
+
+    def finish(self):
+        demand(not self.more(), "TrailingData")
+
+
+def only(data, tag):
+    """Returns the content of the element that the bytes begin with, and what may follow it."""
+    elements = Elements(data)
+    return elements.read(tag), elements
+
+
+def digits(data):
+    return "-" if data is None else data.hex() or "empty"
+
+
+def integer(content):
+    """X.690 sections 8.3.1 and 8.3.2: the first nine bits aren't all the same."""
+    demand(content)
+    if len(content) > 1:
+        demand(content[0] != 0x00 or content[1] >= 0x80)
+        demand(content[0] != 0xFF or content[1] < 0x80)
+    return content
+
+
+def unsigned(content):
+    """Returns the number's bytes without the byte that is there for its sign."""
+    demand(integer(content)[0] < 0x80)
+    return content[1:] if len(content) > 1 and content[0] == 0 else content
+
+
+def identifier(content):
+    """X.690 section 8.19.2: subidentifiers; none begins with 80, and the last one ends."""
+    demand(content and content[-1] < 0x80)
+    for place, byte in enumerate(content):
+        demand(byte != 0x80 or place > 0 and content[place - 1] >= 0x80)
+    return content
+
+
+def bits(content):
+    """X.690 sections 8.6.2 and 11.2: the count of unused bits, which are zero, and the bytes."""
+    demand(content and content[0] <= 7)
+    demand(content[0] == 0 or len(content) > 1 and content[-1] % (1 << content[0]) == 0)
+    return content
+
+
+def is_digits(text):
+    return all(0x30 <= byte <= 0x39 for byte in text)
+
+
+def is_moment(year, text):
+    """Whether MMDDhhmmss is a time in this year, to the second."""
+    month, day, hour, minute, second = (int(text[at : at + 2]) for at in range(0, 10, 2))
+    leap = year % 4 == 0 and (year % 100 != 0 or year % 400 == 0)
+    days = [31, 29 if leap else 28, 31, 30, 31, 30, 31, 31, 30, 31, 30, 31]
+    is_day = 1 <= month <= 12 and 1 <= day <= days[month - 1]
+    return is_day and hour < 24 and minute < 60 and second < 60
+
+
+def utc_time(content):
+    """X.690 section 11.8 and RFC 5280 section 4.1.2.5.1: YYMMDDhhmmssZ."""
+    demand(len(content) == 13 and is_digits(content[:12]) and content[12:] == b"Z")
+    year = int(content[:2])
+    demand(is_moment(year + (2000 if year < 50 else 1900), content[2:12]))
+    return "u:" + content.decode()
+
+
+def generalized_time(content):
+    """X.690 section 11.7: YYYYMMDDhhmmssZ; a fraction of the second doesn't end in 0."""
+    demand(len(content) >= 15 and is_digits(content[:14]) and content[-1:] == b"Z")
+    fraction = content[14:-1]
+    if fraction:
+        demand(len(fraction) > 1 and fraction[:1] == b"." and is_digits(fraction[1:]))
+        demand(fraction[-1:] != b"0")
+    demand(is_moment(int(content[:4]), content[4:14]))
+    return "g:" + content.decode()
+
+
+def time(elements):
+    """RFC 5280 section 4.1: Time, a UTCTime or else a GeneralizedTime."""
+    if elements.is_next(UTC_TIME):
+        return utc_time(elements.read(UTC_TIME))
+    return generalized_time(elements.read(GENERALIZED_TIME))
+
+
+def algorithm(elements):
+    """RFC 5280 section 4.1.1.2: the identifier's content, and the parameters' element."""
+    inside = Elements(elements.read(SEQUENCE))
+    name, parameters = identifier(inside.read(IDENTIFIER)), None
+    # A byte that is no tag begins no parameters, so that it is a byte too many.
+    if inside.more() and is_tag(inside.data[inside.at]):
+        parameters = inside.read_whole()
+    inside.finish()
+    return digits(name), digits(parameters)
+
+
+def demand_order(members):
+    """X.690 section 11.6: the order of a SET OF, the shorter encoding padded with zeros."""
+    for one, next_one in zip(members, members[1:]):
+        size = max(len(one), len(next_one))
+        demand(one.ljust(size, b"\0") <= next_one.ljust(size, b"\0"))
+
+
+def set_of(content, check):
+    """Reads the elements to the end, checks each, and then their order."""
+    elements, members = Elements(content), []
+    while elements.more():
+        start = elements.at
+        check(elements)
+        members.append(content[start : elements.at])
+    demand_order(members)
+    return content
+
+
+def attribute(elements):
+    """RFC 5280 section 4.1.2.4: AttributeTypeAndValue."""
+    inside = Elements(elements.read(SEQUENCE))
+    identifier(inside.read(IDENTIFIER))
+    inside.read_whole()
+    inside.finish()
+
+
+def name(elements):
+    """RFC 5280 section 4.1.2.4: a SEQUENCE OF SET OF AttributeTypeAndValue."""
+    content = elements.read(SEQUENCE)
+    inside = Elements(content)
+    while inside.more():
+        set_of(inside.read(SET), attribute)
+    return digits(content)
+
+
+def extension(elements):
+    """RFC 5280 section 4.1. FALSE, the default of `critical`, isn't written: X.690 section 11.5."""
+    inside = Elements(elements.read(SEQUENCE))
+    identifier(inside.read(IDENTIFIER))
+    if inside.is_next(BOOLEAN):
+        demand(inside.read(BOOLEAN) == b"\xff")
+    inside.read(OCTET_STRING)
+    inside.finish()
+
+
+def extensions(content):
+    row, outer = only(content, SEQUENCE)
+    inside = Elements(row)
+    while inside.more():
+        extension(inside)
+    outer.finish()
+    return row
+
+
+def version(elements):
+    """RFC 5280 section 4.1.2.1. The default v1 isn't written: X.690 section 11.5."""
+    if not elements.is_next(0xA0):
+        return V1
+    content, outer = only(elements.read(0xA0), INTEGER)
+    demand(content in (V2, V3))
+    outer.finish()
+    return content
+
+
+def optional(elements, tag, check):
+    return check(elements.read(tag)) if elements.is_next(tag) else None
+
+
+def key(elements):
+    """RFC 5280 section 4.1: SubjectPublicKeyInfo."""
+    inside = Elements(elements.read(SEQUENCE))
+    fields = [*algorithm(inside), digits(bits(inside.read(BIT_STRING)))]
+    inside.finish()
+    return fields
+
+
+def to_be_signed(elements):
+    """RFC 5280 section 4.1: TBSCertificate."""
+    inside = Elements(elements.read(SEQUENCE))
+    fields = [str(version(inside)[0] + 1), digits(integer(inside.read(INTEGER)))]
+    fields += [":".join(algorithm(inside)), name(inside)]
+    validity = Elements(inside.read(SEQUENCE))
+    fields += [time(validity), time(validity)]
+    validity.finish()
+    fields += [name(inside), *key(inside)]
+    fields += [digits(optional(inside, tag, bits)) for tag in (0x81, 0x82)]
+    fields += [digits(optional(inside, 0xA3, extensions))]
+    inside.finish()
+    return fields
+
+
+def certificate(elements):
+    """RFC 5280 section 4.1: Certificate."""
+    inside = Elements(elements.read(SEQUENCE))
+    fields = to_be_signed(inside)
+    fields += [":".join(algorithm(inside)), digits(bits(inside.read(BIT_STRING)))]
+    inside.finish()
+    return fields
+
+
+def key_attribute(elements):
+    """RFC 5958 section 2: Attribute. Its values aren't examined."""
+    inside = Elements(elements.read(SEQUENCE))
+    identifier(inside.read(IDENTIFIER))
+    inside.read(SET)
+    inside.finish()
+
+
+def private_key(elements):
+    """RFC 5958 section 2: OneAsymmetricKey. Version 0 has no public key."""
+    inside = Elements(elements.read(SEQUENCE))
+    number = inside.read(INTEGER)
+    demand(number in (V1, V2))
+    fields = [str(number[0]), *algorithm(inside), digits(inside.read(OCTET_STRING))]
+    attributes = optional(inside, 0xA0, lambda content: set_of(content, key_attribute))
+    public = optional(inside, 0x81, bits) if number == V2 else None
+    inside.finish()
+    return [*fields, digits(attributes), digits(public)]
+
+
+def signature(elements):
+    """RFC 3279 section 2.2.3: ECDSA-Sig-Value."""
+    inside = Elements(elements.read(SEQUENCE))
+    fields = [digits(unsigned(inside.read(INTEGER))) for _ in range(2)]
+    inside.finish()
+    return fields
+
+
+READERS = {
+    "certificate": certificate,
+    "public-key-info": key,
+    "private-key-info": private_key,
+    "signature": signature,
+}
+
+
+def read(word, data):
+    """Returns the fields of the structure."""
+    elements = Elements(data)
+    fields = READERS[word](elements)
+    elements.finish()
+    return fields
