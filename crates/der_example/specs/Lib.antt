@@ -2,3 +2,4 @@ pub mod PublicKeys
 pub mod PrivateKeys
 pub mod KeyReading
 pub mod KeyStores
+pub mod Numbers

@@ -1,6 +1,6 @@
 ghost use Rattle.std.specs.Prelude.{refl};
 
-use sec1::der::{ObjectIdentifier, Record, Required};
+use sec1::der::{Distinct, ObjectIdentifier, Record, Required};
 
 /// The algorithm of a public key, and the curve that is its parameter (RFC 5280 section 4.1.1.2, RFC 5480 section 2.1).
 #[derive(Clone, Copy, PartialEq, Eq, Debug)]
@@ -31,6 +31,8 @@ impl Record for AlgorithmIdentifier {
     }
 
     ghost same = { λ _. refl };
+}
 
+impl Distinct for AlgorithmIdentifier {
     ghost apart = { refl };
 }

@@ -1,13 +1,17 @@
-//! What a user writes over `sec1` and its layer `sec1_der`, by their public contracts alone: records of other shapes,
-//! the public key of a certificate (RFC 5280 section 4.1) and a private key container (RFC 5208); keys read from them, and
-//! a store of keys.
+//! What a user writes over `sec1`, its layer `sec1_der` and `der_types`, by their public contracts
+//! alone: records of other shapes, the public key of a certificate (RFC 5280 section 4.1) and a
+//! private key container (RFC 5208); keys read from them, and a store of keys; numbers of a
+//! SEQUENCE OF INTEGER.
 #![tactic(auto)]
 
 mod algorithm;
 pub mod callers;
+pub mod certificates;
+pub mod curves;
 pub mod examples;
 mod key_store;
 pub mod null;
+pub mod numbers;
 pub mod points;
 mod private_key_info;
 mod public_key_info;

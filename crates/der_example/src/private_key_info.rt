@@ -2,7 +2,7 @@ ghost use Rattle.std.specs.Prelude.{refl};
 ghost use Rattle.der_example.specs.PrivateKeys.{PrivateKey};
 
 use crate::AlgorithmIdentifier;
-use sec1::der::{Octets, Record, Required, SmallInteger};
+use sec1::der::{Distinct, Octets, Record, Required, SmallInteger};
 use std::marker::Model;
 
 /// A private key container of PKCS #8, version 0 (RFC 5208 section 5), whose bytes are borrowed. Attributes are
@@ -48,6 +48,8 @@ impl<'a> Record for PrivateKeyInfo<'a> {
     }
 
     ghost same = { λ _. refl };
+}
 
+impl Distinct for PrivateKeyInfo<'_> {
     ghost apart = { refl };
 }

@@ -2,7 +2,7 @@ ghost use Rattle.std.specs.Prelude.{refl};
 ghost use Rattle.der_example.specs.PublicKeys.{PublicKey};
 
 use crate::AlgorithmIdentifier;
-use sec1::der::{Record, Required, WholeBits};
+use sec1::der::{Distinct, Record, Required, WholeBits};
 use std::marker::Model;
 
 /// The public key of a certificate, whose bytes are borrowed (RFC 5280 section 4.1). A contract sees the parts.
@@ -41,6 +41,8 @@ impl<'a> Record for SubjectPublicKeyInfo<'a> {
     }
 
     ghost same = { λ _. refl };
+}
 
+impl Distinct for SubjectPublicKeyInfo<'_> {
     ghost apart = { refl };
 }

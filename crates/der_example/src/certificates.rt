@@ -1,0 +1,52 @@
+//! Certificates and containers of keys, by the records of `pkix`.
+ghost use Rattle.std.specs.Prelude.{◌≡◌, Ok, Some, IfOk, IsOkAnd};
+ghost use Rattle.pkix.specs.Curves.{field_len};
+ghost use Rattle.pkix.specs.EcKeys.{HasPoint, IsOnCurve};
+ghost use Rattle.pkix.specs.Records.{certificate_content, certificate_fault};
+ghost use Rattle.pkix.specs.declared.certificate.Certificate.{Certificate};
+ghost use Rattle.pkix.specs.declared.curve.Curve.{Curve};
+ghost use Rattle.sec1.specs.EncodedPoints.{point_of};
+ghost use Rattle.sec1.specs.Points.{Point};
+ghost use Rattle.sec1.specs.Der.{HasFault, element_fault, element_of, end_fault};
+
+use pkix::Certificate;
+use sec1::der::read_der;
+use sec1::point::EncodedPoint32;
+use sec1::{Result, der};
+
+/// Reads a certificate (RFC 5280 section 4.1).
+///
+/// # Errors
+///
+/// Those of [`read_der`].
+pub fn read_certificate<'a>(bytes: &'a [u8]) -> der::Result<Certificate<'a>>
+    ensures found { IfOk result (λ certificate.
+        element_of 0x30 (certificate_content certificate) ≡ Some bytes.now) }
+    ensures only { (certificate : Certificate)
+        → element_of 0x30 (certificate_content certificate) ≡ Some bytes.now
+        → result ≡ Ok certificate }
+    ensures kind { HasFault result (element_fault 0x30 certificate_fault end_fault bytes.now) }
+{
+    read_der(bytes)
+}
+
+/// Returns the public key of a certificate on a curve whose field has 32 bytes, such as P-256.
+///
+/// # Errors
+///
+/// Asn1 if the bytes aren't a certificate; Crypto if its key is on no such curve; PointEncoding if
+/// the key isn't the encoding of a point.
+pub fn public_point(bytes: &[u8]) -> Result<EncodedPoint32>
+    ensures found { IfOk result (λ point. (certificate : Certificate)
+        × (element_of 0x30 (certificate_content certificate) ≡ Some bytes.now)
+        × HasPoint 32 certificate.tbs_certificate.public_key (point_of point)) }
+    ensures only { (certificate : Certificate) (curve : Curve) (point : Point)
+        → element_of 0x30 (certificate_content certificate) ≡ Some bytes.now
+        → IsOnCurve curve certificate.tbs_certificate.public_key.algorithm
+        → field_len curve ≡ 32
+        → HasPoint 32 certificate.tbs_certificate.public_key point
+        → IsOkAnd result (λ found. point_of found ≡ point) }
+{
+    let certificate = read_certificate(bytes)?;
+    certificate.tbs_certificate.public_key.point()
+}

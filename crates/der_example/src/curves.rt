@@ -1,0 +1,16 @@
+//! The curves that algorithms name.
+ghost use Rattle.std.specs.Prelude.{◌≡◌, Some, IfSome};
+ghost use Rattle.pkix.specs.Curves.{curve_arcs};
+ghost use Rattle.pkix.specs.declared.curve.Curve.{Curve};
+
+use crate::AlgorithmIdentifier;
+use pkix::Curve;
+
+/// Returns the curve that is the parameter of an algorithm, if it is one of the table.
+pub fn curve_of(algorithm: &AlgorithmIdentifier) -> Option<Curve>
+    ensures found { IfSome result (λ curve. curve_arcs curve ≡ algorithm.now.parameters) }
+    ensures only { (curve : Curve) → curve_arcs curve ≡ algorithm.now.parameters
+        → result ≡ Some curve }
+{
+    Curve::from_identifier(&algorithm.parameters)
+}
