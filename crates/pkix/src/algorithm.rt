@@ -6,11 +6,10 @@ ghost use Rattle.sec1_der.specs.PartLaws.{element_begins};
 ghost use Rattle.sec1_der.specs.Refusals.{element_fault};
 ghost use Rattle.pkix.specs.Records.{algorithm_content, algorithm_fault};
 
-use crate::component::{component_len, decode_component};
 use der_types::{Any, ObjectIdentifierRef, OptionalPart};
 use sec1_der::{
     BackWriter, DecodePart, Distinct, EncodePart, Length, Part, Record, Required, Result,
-    SliceReader, UniquePart,
+    SliceReader, UniquePart, component_len, decode_component,
 };
 
 /// An AlgorithmIdentifier (RFC 5280 section 4.1.1.2). Its parameters are any element, NULL among

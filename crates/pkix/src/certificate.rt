@@ -6,12 +6,12 @@ ghost use Rattle.sec1_der.specs.PartLaws.{element_begins};
 ghost use Rattle.sec1_der.specs.Refusals.{element_fault};
 ghost use Rattle.pkix.specs.Records.{tbs_content, tbs_fault};
 
-use crate::component::{component_len, decode_component};
 use crate::{AlgorithmIdentifier, Extension, LaterVersion, Name, SubjectPublicKeyInfo, Validity};
 use der_types::{Bits, Implicit, Integer, SequenceOf};
 use sec1_der::{
     BackWriter, Context0, Context3, DecodePart, Distinct, EncodePart, Explicit, Length, Optional,
-    Part, Primitive1, Primitive2, Record, Required, Result, SliceReader, UniquePart,
+    Part, Primitive1, Primitive2, Record, Required, Result, SliceReader, UniquePart, component_len,
+    decode_component,
 };
 
 /// A TBSCertificate (RFC 5280 section 4.1.2).

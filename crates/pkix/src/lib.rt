@@ -2,7 +2,6 @@
 
 mod algorithm;
 mod certificate;
-mod component;
 pub mod curve;
 mod extension;
 mod keys;

@@ -7,11 +7,10 @@ ghost use Rattle.sec1_der.specs.Refusals.{element_fault};
 ghost use Rattle.pkix.specs.Records.{public_key_content, public_key_fault};
 
 use crate::AlgorithmIdentifier;
-use crate::component::{component_len, decode_component};
 use der_types::Bits;
 use sec1_der::{
     BackWriter, DecodePart, Distinct, EncodePart, Length, Part, Record, Required, Result,
-    SliceReader, UniquePart,
+    SliceReader, UniquePart, component_len, decode_component,
 };
 
 /// A SubjectPublicKeyInfo (RFC 5280 section 4.1).

@@ -6,11 +6,10 @@ ghost use Rattle.sec1_der.specs.PartLaws.{element_begins};
 ghost use Rattle.sec1_der.specs.Refusals.{element_fault};
 ghost use Rattle.pkix.specs.Records.{validity_content, validity_fault};
 
-use crate::component::{component_len, decode_component};
 use der_types::{Choice, GeneralizedTime, UtcTime};
 use sec1_der::{
     BackWriter, DecodePart, Distinct, EncodePart, Length, Part, Record, Required, Result,
-    SliceReader, UniquePart,
+    SliceReader, UniquePart, component_len, decode_component,
 };
 
 /// A Time (RFC 5280 section 4.1).

@@ -6,7 +6,7 @@ ghost use Rattle.sec1_der.specs.Refusals.{element_fault, end_fault};
 
 use crate::{
     BackWriter, BitStringRef, DecodeValue, EncodeValue, ErrorKind, Length, Result, SliceReader,
-    SliceWriter, Tag, Tagged, UniqueContent, ValueContent, WholeBits, encoded_len,
+    SliceWriter, Tag, Tagged, UniqueContent, ValueContent, WholeBits, component_len,
 };
 use std::marker::{Model, PhantomData};
 
@@ -68,7 +68,7 @@ impl<'a, K, A: DecodeValue<'a> + Tagged + Drop> DecodeValue<'a> for Explicit<K, 
 
 impl<K, A: EncodeValue + Tagged> EncodeValue for Explicit<K, A> {
     fn value_len(&self) -> Result<Length> {
-        Length::new(encoded_len(&self.value)?)
+        component_len(&self.value)
     }
 
     fn encode_value(&self, writer: &mut SliceWriter) -> Result<()> {
@@ -143,7 +143,7 @@ impl<'a> DecodeValue<'a> for ExplicitBits<'a> {
 impl EncodeValue for ExplicitBits<'_> {
     fn value_len(&self) -> Result<Length> {
         let bytes = self.bytes;
-        Length::new(encoded_len(&WholeBits { bytes })?)
+        component_len(&WholeBits { bytes })
     }
 
     fn encode_value(&self, writer: &mut SliceWriter) -> Result<()> {

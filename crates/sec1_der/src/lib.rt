@@ -11,6 +11,7 @@ mod any;
 mod back_writer;
 mod bit_string;
 mod codec;
+mod component;
 mod component_values;
 mod context;
 mod document;
@@ -39,6 +40,7 @@ pub use any::AnyRef;
 pub use back_writer::BackWriter;
 pub use bit_string::BitStringRef;
 pub use codec::{encode_to_slice, encoded_len, from_der, read_der, to_der};
+pub use component::{component_len, decode_component};
 pub use component_values::{Containing, Octets, SmallInteger, WholeBits};
 pub use context::{
     Context0, Context1, Context2, Context3, Primitive0, Primitive1, Primitive2, Primitive3,

@@ -7,7 +7,7 @@ ghost use Rattle.sec1_der.specs.Refusals.{optional_fault};
 
 use crate::{
     BackWriter, DecodePart, DecodeValue, EncodePart, EncodeValue, Length, Part, Result,
-    SliceReader, Tagged, UniqueContent, UniquePart, ValueContent, encoded_len,
+    SliceReader, Tagged, UniqueContent, UniquePart, ValueContent, component_len,
 };
 use std::marker::Model;
 
@@ -38,7 +38,7 @@ impl<A: ValueContent + Tagged> Part for Optional<A> {
 impl<A: EncodeValue + Tagged> EncodePart for Optional<A> {
     fn part_len(&self) -> Result<Length> {
         match &self.0 {
-            Some(value) => Length::new(encoded_len(value)?),
+            Some(value) => component_len(value),
             None => Length::new(0),
         }
     }

@@ -7,7 +7,7 @@ ghost use Rattle.sec1_der.specs.Refusals.{element_fault};
 
 use crate::{
     BackWriter, DecodePart, DecodeValue, EncodePart, EncodeValue, Length, Part, Result,
-    SliceReader, Tagged, UniqueContent, UniquePart, ValueContent, encoded_len,
+    SliceReader, Tagged, UniqueContent, UniquePart, ValueContent, component_len,
 };
 use std::marker::Model;
 
@@ -35,7 +35,7 @@ impl<A: ValueContent + Tagged> Part for Required<A> {
 
 impl<A: EncodeValue + Tagged> EncodePart for Required<A> {
     fn part_len(&self) -> Result<Length> {
-        Length::new(encoded_len(&self.0)?)
+        component_len(&self.0)
     }
 
     fn put_part(&self, writer: &mut BackWriter) -> Result<()> {

@@ -1,4 +1,4 @@
-//! Records that are parts by themselves: what [`Required`] does, with the value alone.
+//! The element of a value as a part: what [`Required`] does, for a type that is a part by itself.
 ghost use Rattle.std.specs.Prelude.{◌≡◌, ◌≤◌, ◌++◌, ℕ, List, length, false, true, Some, Ok};
 ghost use Rattle.std.specs.Prelude.{IsOkAnd, IsSomeAnd};
 ghost use Rattle.std.specs.Prelude.{IfOk, IfErr, OnOk, OnErr};
@@ -8,7 +8,7 @@ ghost use Rattle.sec1_der.specs.Parts.{MayFollow, one_tag};
 ghost use Rattle.sec1_der.specs.Readers.{reader_over, HasRead};
 ghost use Rattle.sec1_der.specs.Refusals.{Fault, element_fault};
 
-use sec1_der::{
+use crate::{
     DecodePart, DecodeValue, EncodeValue, ErrorKind, Length, Required, Result, SliceReader, Tagged,
     encoded_len,
 };
@@ -18,7 +18,7 @@ use sec1_der::{
 /// # Errors
 ///
 /// Overlength if the value has no encoding, or one that is longer than 268,435,455 bytes.
-pub(crate) fn component_len<A: EncodeValue + Tagged>(value: &A) -> Result<Length>
+pub fn component_len<A: EncodeValue + Tagged>(value: &A) -> Result<Length>
     ensures overlength { IsOverlong (element_of A.tag_byte (A.content value.now))
         → Refuses result ErrorKind.Overlength }
     ensures only { (whole : List ℕ) → element_of A.tag_byte (A.content value.now) ≡ Some whole
@@ -27,12 +27,12 @@ pub(crate) fn component_len<A: EncodeValue + Tagged>(value: &A) -> Result<Length
     Length::new(encoded_len(value)?)
 }
 
-/// Reads the element of a value, as [`Required`] does.
+/// Reads the element of a value, and leaves the bytes after it.
 ///
 /// # Errors
 ///
 /// Those of [`DecodePart::decode_part`].
-pub(crate) fn decode_component<'a, A: DecodeValue<'a> + Tagged + Drop>(
+pub fn decode_component<'a, A: DecodeValue<'a> + Tagged + Drop>(
     reader: &mut SliceReader<'a>,
 ) -> Result<A>
     requires { length reader.old.unread ≤ max_length }
