@@ -9,6 +9,8 @@ mod large;
 #[cfg(test)]
 mod memory;
 #[cfg(test)]
+mod nested;
+#[cfg(test)]
 mod reading;
 #[cfg(test)]
 mod records;

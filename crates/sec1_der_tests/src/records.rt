@@ -97,7 +97,11 @@ impl Distinct for Middle {
 }
 
 /// Returns the header and the parts behind it.
-fn wrapped(alloc: Global, header: &[u8], parts: &[&[u8]]) -> Result<Vec<u8>, AllocError> {
+pub(crate) fn wrapped(
+    alloc: Global,
+    header: &[u8],
+    parts: &[&[u8]],
+) -> Result<Vec<u8>, AllocError> {
     let mut bytes = Vec::new(alloc);
     bytes.extend_from_slice(header)?;
     for &part in parts.iter() {

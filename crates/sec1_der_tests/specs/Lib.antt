@@ -1,0 +1,2 @@
+-- The contents of the records of the tests.
+pub mod Nested

@@ -1,0 +1,325 @@
+//! Records of many parts, and records in records in records.
+ghost use Rattle.std.specs.Prelude.{◌≡◌, ℕ, List, refl};
+ghost use Rattle.sec1_der.specs.Elements.{element_of};
+ghost use Rattle.sec1_der.specs.Parts.{AreApart, one_tag};
+ghost use Rattle.sec1_der.specs.PartLaws.{element_begins};
+ghost use Rattle.sec1_der.specs.Refusals.{element_fault};
+ghost use Rattle.sec1_der_tests.specs.Nested.{Four, inner_content, inner_fault};
+ghost use Rattle.sec1_der_tests.specs.Nested.{middle_content, middle_fault};
+
+use crate::records::wrapped;
+use sec1_der::{
+    BackWriter, DecodePart, DecodeValue, Distinct, EncodePart, ErrorKind, FixedTag, Length,
+    ObjectIdentifier, Optional, Part, Record, Required, Result, SliceReader, UniquePart,
+    VersionOne, component_len, decode_component, from_der, read_der, to_der,
+};
+use std::marker::Model;
+use std::test::Fail;
+
+/// Four parts: two identifiers, and a version behind each that may be absent.
+type Row = (
+    (Required<ObjectIdentifier>, Optional<VersionOne>),
+    (Required<ObjectIdentifier>, Optional<VersionOne>),
+);
+
+/// Sixteen parts.
+#[derive(Clone, Copy)]
+struct Wide {
+    first: Row,
+    second: Row,
+    third: Row,
+    fourth: Row,
+}
+
+impl Record for Wide {
+    type Parts = ((Row, Row), (Row, Row));
+
+    ghost parts = { λ wide. ((wide.first, wide.second), (wide.third, wide.fourth)) };
+
+    ghost of_parts = { λ row.
+        record { first = row.0.0; second = row.0.1; third = row.1.0; fourth = row.1.1 } };
+
+    fn from_parts(row: Self::Parts) -> Self {
+        let ((first, second), (third, fourth)) = row;
+        Wide {
+            first,
+            second,
+            third,
+            fourth,
+        }
+    }
+
+    fn to_parts(&self) -> Self::Parts {
+        ((self.first, self.second), (self.third, self.fourth))
+    }
+
+    ghost same = { λ _. refl };
+}
+
+impl Distinct for Wide {
+    ghost apart = { refl };
+}
+
+/// Four identifiers.
+#[derive(Drop)]
+struct Inner {
+    first: ObjectIdentifier,
+    second: ObjectIdentifier,
+    third: ObjectIdentifier,
+    fourth: ObjectIdentifier,
+}
+
+/// Four [`Inner`].
+#[derive(Drop)]
+struct Middle {
+    first: Inner,
+    second: Inner,
+    third: Inner,
+    fourth: Inner,
+}
+
+/// Four [`Middle`].
+#[derive(Drop)]
+struct Outer {
+    first: Middle,
+    second: Middle,
+    third: Middle,
+    fourth: Middle,
+}
+
+impl Model for Inner {
+    ghost Value = { Four (List ℕ) };
+
+    ghost view = { λ four. ((four.first, four.second), (four.third, four.fourth)) };
+}
+
+impl Record for Inner {
+    type Parts = (
+        (Required<ObjectIdentifier>, Required<ObjectIdentifier>),
+        (Required<ObjectIdentifier>, Required<ObjectIdentifier>),
+    );
+
+    ghost parts = { λ four. four };
+
+    ghost of_parts = { λ row. row };
+
+    fn from_parts(row: Self::Parts) -> Self {
+        let ((Required(first), Required(second)), (Required(third), Required(fourth))) = row;
+        Inner {
+            first,
+            second,
+            third,
+            fourth,
+        }
+    }
+
+    fn to_parts(&self) -> Self::Parts {
+        (
+            (Required(self.first), Required(self.second)),
+            (Required(self.third), Required(self.fourth)),
+        )
+    }
+
+    ghost same = { λ _. refl };
+}
+
+impl Distinct for Inner {
+    ghost apart = { refl };
+}
+
+impl Part for Inner {
+    ghost bytes = { λ four. element_of 0x30 (inner_content four) };
+
+    ghost fault_then = { element_fault 0x30 inner_fault };
+
+    ghost tags = { one_tag 0x30 };
+
+    ghost begins = { λ four. element_begins 0x30 (inner_content four) };
+}
+
+impl EncodePart for Inner {
+    fn part_len(&self) -> Result<Length> {
+        component_len(self)
+    }
+
+    fn put_part(&self, writer: &mut BackWriter) -> Result<()> {
+        writer.put_element(self)
+    }
+}
+
+impl<'a> DecodePart<'a> for Inner {
+    fn decode_part(reader: &mut SliceReader<'a>) -> Result<Self> {
+        decode_component(reader)
+    }
+}
+
+impl UniquePart for Inner {
+    fn one_part()
+        ensures { AreApart (one_tag 0x30) (λ four. element_of 0x30 (inner_content four)) }
+    {
+        Required::<Inner>::one_part();
+    }
+}
+
+impl Model for Middle {
+    ghost Value = { Four (Four (List ℕ)) };
+
+    ghost view = { λ four. ((four.first, four.second), (four.third, four.fourth)) };
+}
+
+impl Record for Middle {
+    type Parts = ((Inner, Inner), (Inner, Inner));
+
+    ghost parts = { λ four. four };
+
+    ghost of_parts = { λ row. row };
+
+    fn from_parts(row: Self::Parts) -> Self {
+        let ((first, second), (third, fourth)) = row;
+        Middle {
+            first,
+            second,
+            third,
+            fourth,
+        }
+    }
+
+    fn to_parts(&self) -> Self::Parts {
+        (
+            (self.first.reborrow(), self.second.reborrow()),
+            (self.third.reborrow(), self.fourth.reborrow()),
+        )
+    }
+
+    ghost same = { λ _. refl };
+}
+
+impl Distinct for Middle {
+    ghost apart = { refl };
+}
+
+impl Part for Middle {
+    ghost bytes = { λ four. element_of 0x30 (middle_content four) };
+
+    ghost fault_then = { element_fault 0x30 middle_fault };
+
+    ghost tags = { one_tag 0x30 };
+
+    ghost begins = { λ four. element_begins 0x30 (middle_content four) };
+}
+
+impl EncodePart for Middle {
+    fn part_len(&self) -> Result<Length> {
+        component_len(self)
+    }
+
+    fn put_part(&self, writer: &mut BackWriter) -> Result<()> {
+        writer.put_element(self)
+    }
+}
+
+impl<'a> DecodePart<'a> for Middle {
+    fn decode_part(reader: &mut SliceReader<'a>) -> Result<Self> {
+        decode_component(reader)
+    }
+}
+
+impl UniquePart for Middle {
+    fn one_part()
+        ensures { AreApart (one_tag 0x30) (λ four. element_of 0x30 (middle_content four)) }
+    {
+        Required::<Middle>::one_part();
+    }
+}
+
+impl Model for Outer {
+    ghost Value = { Four (Four (Four (List ℕ))) };
+
+    ghost view = { λ four. ((four.first, four.second), (four.third, four.fourth)) };
+}
+
+impl Record for Outer {
+    type Parts = ((Middle, Middle), (Middle, Middle));
+
+    ghost parts = { λ four. four };
+
+    ghost of_parts = { λ row. row };
+
+    fn from_parts(row: Self::Parts) -> Self {
+        let ((first, second), (third, fourth)) = row;
+        Outer {
+            first,
+            second,
+            third,
+            fourth,
+        }
+    }
+
+    fn to_parts(&self) -> Self::Parts {
+        (
+            (self.first.reborrow(), self.second.reborrow()),
+            (self.third.reborrow(), self.fourth.reborrow()),
+        )
+    }
+
+    ghost same = { λ _. refl };
+}
+
+impl Distinct for Outer {
+    ghost apart = { refl };
+}
+
+/// Returns the kind of the error by which the bytes are refused.
+fn refusal_of<'a, A: DecodeValue<'a> + FixedTag + Drop>(bytes: &'a [u8]) -> Option<ErrorKind> {
+    match from_der::<A>(bytes) {
+        Ok(_) => None,
+        Err(e) => Some(e.kind),
+    }
+}
+
+/// A [`Row`] of the identifiers 0.7 and 0.8, the second with a version.
+static ROW: [u8; 9] = [0x06, 0x01, 0x07, 0x06, 0x01, 0x08, 0x02, 0x01, 0x01];
+
+#[test]
+fn reads_and_writes_a_record_of_16_parts(rt: HostRuntime) -> std::result::Result<(), Fail> {
+    let bytes = wrapped(rt.alloc(), &[0x30, 0x24], &[&ROW, &ROW, &ROW, &ROW])?;
+    assert_eq!(rt; bytes.len(), 38);
+    let wide: Wide = read_der(bytes.as_slice())?;
+    let ((first, absent), (second, version)) = &wide.fourth;
+    assert_eq!(rt; first.0.as_bytes(), [0x07].as_slice());
+    assert_eq!(rt; second.0.as_bytes(), [0x08].as_slice());
+    assert!(rt; absent.0.is_none() && version.0 == Some(VersionOne));
+    assert_eq!(rt; to_der(rt.alloc(), &wide)?.as_slice(), bytes.as_slice());
+    let whole = bytes.as_slice();
+    for length in 0..whole.len() {
+        let cut = refusal_of::<Wide>(&whole[..length]);
+        assert_eq!(rt; cut, Some(ErrorKind::Truncated), "of {length} bytes");
+    }
+    Ok(())
+}
+
+/// An [`Inner`] of the identifiers 0.7 to 0.10.
+static INNER: [u8; 14] = [
+    0x30, 0x0C, 0x06, 0x01, 0x07, 0x06, 0x01, 0x08, 0x06, 0x01, 0x09, 0x06, 0x01, 0x0A,
+];
+
+#[test]
+fn reads_and_writes_64_identifiers_in_21_records(rt: HostRuntime) -> std::result::Result<(), Fail> {
+    let middle = wrapped(rt.alloc(), &[0x30, 0x38], &[&INNER, &INNER, &INNER, &INNER])?;
+    let middle = middle.as_slice();
+    let bytes = wrapped(
+        rt.alloc(),
+        &[0x30, 0x81, 0xE8],
+        &[middle, middle, middle, middle],
+    )?;
+    assert_eq!(rt; bytes.len(), 235);
+    let outer: Outer = read_der(bytes.as_slice())?;
+    assert_eq!(rt; outer.third.second.fourth.as_bytes(), [0x0A].as_slice());
+    assert_eq!(rt; to_der(rt.alloc(), &outer)?.as_slice(), bytes.as_slice());
+    let whole = bytes.as_slice();
+    for length in 0..whole.len() {
+        let cut = refusal_of::<Outer>(&whole[..length]);
+        assert_eq!(rt; cut, Some(ErrorKind::Truncated), "of {length} bytes");
+    }
+    Ok(())
+}
