@@ -16,5 +16,5 @@ pub use Rattle.sec1_der.specs.StdStreams.{reader_failed, reader_inner, writer_fa
 pub use Rattle.sec1_der.specs.Streams.{AppendsBeginning}
 pub use Rattle.sec1_der.specs.Trees.{Tree, Forest, leaf, node, bytes, IsTree, IsTreeOf, depth, size}
 pub use Rattle.sec1_der.specs.TreeLaws.{BytesDetermineTree, BytesDetermineRow, NoTreeBeginsAnother}
-pub use Rattle.sec1_der.specs.declared.tree.TheConstants.{MAX_DEPTH}
+pub use Rattle.sec1_der.specs.Trees.{max_tree_depth}
 pub use Rattle.sec1_der.specs.Values.{octets_of, unused_bits_of, bit_bytes_of, tag_of, value_of}

@@ -2,8 +2,7 @@
 ghost use Rattle.std.specs.Prelude.{◌≡◌, ◌≢◌, ◌≤◌, ◌<◌, ◌⊎◌, ℕ, List, length};
 ghost use Rattle.sec1_der.specs.Elements.{IsElement, IsProperBeginning, LacksHeader};
 ghost use Rattle.sec1_der.specs.Faults.{header_fault};
-ghost use Rattle.sec1_der.specs.Trees.{Tree, IsTree, IsTreeOf, bytes, depth, size};
-ghost use Rattle.sec1_der.specs.declared.tree.TheConstants.{MAX_DEPTH};
+ghost use Rattle.sec1_der.specs.Trees.{Tree, IsTree, IsTreeOf, bytes, depth, max_tree_depth, size};
 ghost use Rattle.sec1_c.specs.Documents.{Announces, element_len};
 ghost use Rattle.sec1_c.specs.Statuses.{IsReadingNumber, kind_number};
 
@@ -21,14 +20,14 @@ use std::cmp::Ordering;
 /// around it; Depth if an element at level 64 contains elements; TrailingData if bytes follow the tree.
 #[unsafe(no_mangle)]
 pub extern "C" fn sec1_check_tree(input: &[u8], elements: &mut usize) -> u32
-    ensures found { result ≡ 0 → (t : Tree) × IsTreeOf t input.now × (depth t ≤ MAX_DEPTH) }
-    ensures only { (t : Tree) → IsTreeOf t input.now → depth t ≤ MAX_DEPTH
+    ensures found { result ≡ 0 → (t : Tree) × IsTreeOf t input.now × (depth t ≤ max_tree_depth) }
+    ensures only { (t : Tree) → IsTreeOf t input.now → depth t ≤ max_tree_depth
         → (result ≡ 0) × (elements.new ≡ size t) }
-    ensures deeper { (t : Tree) → IsTreeOf t input.now → MAX_DEPTH < depth t
+    ensures deeper { (t : Tree) → IsTreeOf t input.now → max_tree_depth < depth t
         → result ≡ kind_number ErrorKind.Depth }
     ensures short { (t : Tree) → IsTree t → IsProperBeginning input.now (bytes t)
         → result ≡ kind_number ErrorKind.Truncated }
-    ensures long { (t : Tree) → IsTree t → depth t ≤ MAX_DEPTH → IsProperBeginning (bytes t) input.now
+    ensures long { (t : Tree) → IsTree t → depth t ≤ max_tree_depth → IsProperBeginning (bytes t) input.now
         → result ≡ kind_number ErrorKind.TrailingData }
     ensures kinds { result ≢ 0 → (result ≡ kind_number ErrorKind.Depth) ⊎ IsReadingNumber result }
     ensures unchanged { result ≢ 0 → elements.new ≡ elements.old }

@@ -5,9 +5,8 @@ use Rattle.std.proofs.lemmas.List.{append_assoc, append-nil, length-append, leng
 use Rattle.sec1_der.specs.Elements.{header}
 use Rattle.sec1_der.specs.Refusals.{tree_fault}
 use Rattle.sec1_der.specs.Trees.{Tree, branch, Forest, none, first, bytes, joined, IsTree, AreTrees, IsTreeOf, size}
-use Rattle.sec1_der.specs.Trees.{total_size, depth, max_depth}
+use Rattle.sec1_der.specs.Trees.{total_size, depth, max_depth, max_tree_depth}
 use Rattle.sec1_der.specs.Walks.{innermost, Skips, Opens, Enters}
-use Rattle.sec1_der.specs.declared.tree.TheConstants.{MAX_DEPTH}
 use Rattle.sec1_der.proofs.TreeLemmas.{some_bytes}
 use Rattle.sec1_der.proofs.TreeRefusals.{row_some, tree_next, open_fault, next_fault, element_passed, node_opened}
 
@@ -15,14 +14,14 @@ use Rattle.sec1_der.proofs.TreeRefusals.{row_some, tree_next, open_fault, next_f
 
 -- the input is a tree of so many elements
 abbrev pub IsCounted : List ℕ → ℕ → Type 0
-IsCounted input n = (t : Tree) × IsTreeOf t input × (depth t ≤ MAX_DEPTH) × (size t ≡ n)
+IsCounted input n = (t : Tree) × IsTreeOf t input × (depth t ≤ max_tree_depth) × (size t ≡ n)
 
 -- Trees that end the innermost node, and then those that end the nodes around it, make the input a tree, with the
 -- elements that were read.
 abbrev pub Completes : List ℕ → List ℕ → List ℕ → ℕ → Type 0
 Completes input [] rest count = rest ≡ [] → IsCounted input count
 Completes input (end ∷ ends) rest count =
-    (f : Forest) (tail : List ℕ) → AreTrees f → suc (length ends) + max_depth f ≤ MAX_DEPTH
+    (f : Forest) (tail : List ℕ) → AreTrees f → suc (length ends) + max_depth f ≤ max_tree_depth
     → rest ≡ joined f ++ tail → length tail ≡ end → Completes input ends tail (count + total_size f)
 
 -- ---- the states
@@ -34,7 +33,7 @@ Nested (end ∷ ends) = (innermost ends ≤ end) × Nested ends
 
 -- where the walk is in the input
 pub record IsAt (input ends rest : List ℕ) (count : ℕ) : Type 0 where
-  pub room : length ends ≤ MAX_DEPTH - 1
+  pub room : length ends ≤ max_tree_depth - 1
   pub counted : count + length rest ≤ length input
   pub inside : innermost ends ≤ length rest
   pub nested : Nested ends
@@ -48,7 +47,7 @@ pub record Walks (input ends rest : List ℕ) (count : ℕ) : Type 0 where
 -- The same if an element has to be next: with a tree next, and what ends the open nodes after it, the input is a tree.
 pub record IsNext (input ends rest : List ℕ) (count : ℕ) : Type 0 where
   pub at : IsAt input ends rest count
-  pub completes : (t : Tree) (tail : List ℕ) → IsTree t → length ends + depth t ≤ MAX_DEPTH → rest ≡ bytes t ++ tail
+  pub completes : (t : Tree) (tail : List ℕ) → IsTree t → length ends + depth t ≤ max_tree_depth → rest ≡ bytes t ++ tail
       → Completes input ends tail (count + size t)
   pub fault_is : tree_fault input ≡ next_fault ends rest
 
@@ -101,7 +100,7 @@ passed input ends rest after count next p =
 
 -- the walk goes on inside a node with a content, where there is room for one more
 opened : (input ends rest after : List ℕ) (end count : ℕ) → IsNext input ends rest count → Opens ends rest end after
-    → length ends < MAX_DEPTH - 1
+    → length ends < max_tree_depth - 1
     → Walks input (end ∷ ends) after (count + 1)
 opened input ends rest after end count next o room =
     let at = next.at in

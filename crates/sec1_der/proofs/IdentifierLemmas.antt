@@ -13,7 +13,7 @@ use Rattle.sec1_der.specs.declared.object_identifier.ObjectIdentifier.TheInside.
 use Rattle.sec1_der.specs.ArcsOf.{padded, numbers_after, arcs_of_numbers, arcs_of}
 use Rattle.sec1_der.specs.Identifiers.{AreArcs, Spells, IsIdentifier, IsIdentifierContent, identifier_content}
 use Rattle.sec1_der.specs.IdentifierLaws.{identifier_content-valid}
-use Rattle.sec1_der.specs.declared.object_identifier.TheConstants.{MAX_CONTENT}
+use Rattle.sec1_der.specs.Identifiers.{max_identifier_length}
 use Rattle.sec1_der.specs.DigitLaws.{IsBytes, digits_of-push, marked_step}
 
 -- the bytes go on a spelling whose digits so far are those of high, and end one
@@ -170,7 +170,7 @@ content_is_stored arcs content is = grind (arith, goes_on_from_spells arcs conte
 
 -- an identifier has this content, and an element can hold it
 pub identifier_fits : (arcs content : List ℕ) → IsIdentifier arcs content → (identifier_content arcs ≡ Some content)
-    × (length content ≤ MAX_CONTENT)
+    × (length content ≤ max_identifier_length)
 identifier_fits arcs content is = (identifier_content-valid arcs content is, is.short)
 
 -- ---- building

@@ -8,11 +8,10 @@ use Rattle.std.specs.Option.{option_or}
 use Rattle.sec1_der.specs.Elements.{IsHeader, IsProperBeginning, LacksHeader, header, element}
 use Rattle.sec1_der.specs.Refusals.{Fault, HasFault, end_fault, any_fault, nested_fault, tree_fault}
 use Rattle.sec1_der.specs.Trees.{Tree, leaf, branch, Forest, none, first, bytes, joined, IsTree, AreTrees, IsTreeOf}
-use Rattle.sec1_der.specs.Trees.{size, depth, max_depth}
+use Rattle.sec1_der.specs.Trees.{size, depth, max_depth, max_tree_depth}
 use Rattle.sec1_der.specs.declared.error.Error.{Error}
 use Rattle.sec1_der.specs.declared.error.ErrorKind.{ErrorKind}
 use Rattle.sec1_der.specs.declared.error.ErrorKind.TheVariants.{Truncated, Depth}
-use Rattle.sec1_der.specs.declared.tree.TheConstants.{MAX_DEPTH}
 use Rattle.sec1_der.proofs.CheckLemmas.{IsCounted}
 use Rattle.sec1_der.specs.DigitLaws.{IsBytes}
 use Rattle.sec1_der.proofs.HeaderLemmas.{longer, header_front, some_length}
@@ -24,7 +23,7 @@ use Rattle.sec1_der.proofs.TreeRefusals.{leaf_passes, row_at, row_some, row_deep
 
 -- the fault of trees that are so many levels deep
 abbrev deep_fault : ℕ → Option ErrorKind
-deep_fault level = if nat_lt MAX_DEPTH level then Some Depth else None
+deep_fault level = if nat_lt max_tree_depth level then Some Depth else None
 
 -- of two depths below a level the greater one counts
 deep_or : (above a b : ℕ) → option_or (deep_fault (above + a)) (deep_fault (above + b)) ≡ deep_fault (above + max a b)
@@ -33,21 +32,21 @@ deep_or above a b = grind (arith, nat_tests)
 mutual
   -- a tree below so many levels, and what follows it
   tree_at : (t : Tree) (above : ℕ) (behind : Fault) (bs rest : List ℕ) → IsTree t → bs ≡ bytes t ++ rest
-      → above < MAX_DEPTH
+      → above < max_tree_depth
       → any_fault (nested_fault (row_at (above + 1 + 1))) behind bs ≡ option_or (deep_fault (above + depth t))
       (behind rest)
   tree_at (leaf tag content) above behind bs rest is e fits =
       any_at _ behind tag content bs rest (record { tag_byte = is.0; within = is.2 }) e
-      ∙ rw (leaf_passes (row_at (above + 1 + 1)) tag content is.1, le-ltb MAX_DEPTH (above + 1) (omega arith)) refl
+      ∙ rw (leaf_passes (row_at (above + 1 + 1)) tag content is.1, le-ltb max_tree_depth (above + 1) (omega arith)) refl
   tree_at (branch tag f) above behind bs rest is e fits =
       any_at _ behind tag (joined f) bs rest (record { tag_byte = is.0; within = is.2 }) e
       ∙ rw (ne_eqb (bit_and tag 0x20) 0 is.1, forest_at f (above + 1) is.3 (omega arith))
       (ap (λ n. option_or (deep_fault n) (behind rest)) (omega arith))
 
   -- trees in a row, below so many levels
-  forest_at : (f : Forest) (above : ℕ) → AreTrees f → above ≤ MAX_DEPTH
+  forest_at : (f : Forest) (above : ℕ) → AreTrees f → above ≤ max_tree_depth
       → row_at (above + 1) (joined f) ≡ deep_fault (above + max_depth f)
-  forest_at none above are fits = rw (le-ltb MAX_DEPTH (above + 0) (omega arith)) refl
+  forest_at none above are fits = rw (le-ltb max_tree_depth (above + 0) (omega arith)) refl
   forest_at (first t f) above are fits =
       let row = bytes t ++ joined f in
       let some = some_bytes t in
@@ -57,8 +56,8 @@ mutual
       ∙ (tree_at t above (row_at (above + 1)) row (joined f) are.0 refl l
       ∙ rw (forest_at f above are.1 fits) (deep_or above (depth t) (max_depth f))))
       (λ l. row_deep (above + 1) row (omega arith) (omega arith)
-      ∙ rw (lt-ltb MAX_DEPTH (above + max (depth t) (max_depth f)) (omega arith)) refl)
-      (cases_lt above MAX_DEPTH)
+      ∙ rw (lt-ltb max_tree_depth (above + max (depth t) (max_depth f)) (omega arith)) refl)
+      (cases_lt above max_tree_depth)
 
 -- the fault of a tree and of what follows it
 tree_faults : (t : Tree) (input rest : List ℕ) → IsTree t → input ≡ bytes t ++ rest
@@ -68,14 +67,14 @@ tree_faults t input rest is e =
     ∙ ap (λ n. option_or (deep_fault n) (end_fault rest)) (omega arith))
 
 -- a tree that is too deep
-pub deep_tree : (t : Tree) (input : List ℕ) → IsTreeOf t input → MAX_DEPTH < depth t → tree_fault input ≡ Some Depth
+pub deep_tree : (t : Tree) (input : List ℕ) → IsTreeOf t input → max_tree_depth < depth t → tree_fault input ≡ Some Depth
 deep_tree t input h deep =
-    tree_faults t input [] h.tree (h.whole ∙ sym (append-nil (bytes t))) ∙ rw (lt-ltb MAX_DEPTH (depth t) deep) refl
+    tree_faults t input [] h.tree (h.whole ∙ sym (append-nil (bytes t))) ∙ rw (lt-ltb max_tree_depth (depth t) deep) refl
 
 -- another tree, and what follows it
-pub shallow_tree : (t : Tree) (input rest : List ℕ) → IsTree t → depth t ≤ MAX_DEPTH → input ≡ bytes t ++ rest
+pub shallow_tree : (t : Tree) (input rest : List ℕ) → IsTree t → depth t ≤ max_tree_depth → input ≡ bytes t ++ rest
     → tree_fault input ≡ end_fault rest
-shallow_tree t input rest is shallow e = tree_faults t input rest is e ∙ rw (le-ltb MAX_DEPTH (depth t) shallow) refl
+shallow_tree t input rest is shallow e = tree_faults t input rest is e ∙ rw (le-ltb max_tree_depth (depth t) shallow) refl
 
 -- an element that is cut short
 element_cut : (f : ℕ → Fault) (g : Fault) (tag : ℕ) (content input : List ℕ) → IsBytes input
@@ -109,7 +108,7 @@ cut_tree (branch tag f) input all is cut =
 -- a count of a tree's elements
 pub counted : (result : Result ℕ Error) (input : List ℕ) (t : Tree) → IfOk result (IsCounted input)
     → HasFault result (tree_fault input)
-    → IsTreeOf t input → depth t ≤ MAX_DEPTH → result ≡ Ok (size t)
+    → IsTreeOf t input → depth t ≤ max_tree_depth → result ≡ Ok (size t)
 counted (Ok n) input t found h is shallow =
     let same = tree_apart found.0 t [] [] found.1.tree is.tree (cc (found.1.whole, is.whole)) in
     cc (found.3, same.0)

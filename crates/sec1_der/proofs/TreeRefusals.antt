@@ -9,9 +9,8 @@ use Rattle.std.proofs.lemmas.List.{take-append-drop}
 use Rattle.std.specs.Option.{option_or}
 use Rattle.sec1_der.specs.Elements.{length_octets, element, IsConstructed, IsHeader}
 use Rattle.sec1_der.specs.Refusals.{Fault, end_fault, any_fault, nested_fault, row_fault, tree_fault}
-use Rattle.sec1_der.specs.Trees.{Tree, leaf, branch, none, first, bytes}
+use Rattle.sec1_der.specs.Trees.{Tree, leaf, branch, none, first, bytes, max_tree_depth}
 use Rattle.sec1_der.specs.Walks.{IsSingle, innermost, Skips, Opens, IsTooDeep}
-use Rattle.sec1_der.specs.declared.tree.TheConstants.{MAX_DEPTH}
 use Rattle.sec1_der.specs.declared.error.ErrorKind.{ErrorKind}
 use Rattle.sec1_der.specs.declared.error.ErrorKind.TheVariants.{Depth}
 use Rattle.sec1_der.specs.RefusalLaws.{any_at}
@@ -39,7 +38,7 @@ row_bound (suc m) (suc n) level [] l r = refl
 row_bound zero n level (b ∷ bs) l r = absurd (omega arith)
 row_bound (suc m) zero level (b ∷ bs) l r = absurd (omega arith)
 row_bound (suc m) (suc n) level (b ∷ bs) l r =
-    ap (λ fault. if nat_lt MAX_DEPTH level then Some Depth else fault)
+    ap (λ fault. if nat_lt max_tree_depth level then Some Depth else fault)
     (nested_alike _ _ _ _ b bs (λ content few. row_bound m n (level + 1) content (omega arith) (omega arith))
     (λ behind few. row_bound m n level behind (omega arith) (omega arith)))
 
@@ -48,11 +47,11 @@ abbrev pub row_at : ℕ → Fault
 row_at level bytes = row_fault (length bytes) level bytes
 
 -- a row within the greatest depth is its first element, and a row
-pub row_some : (level : ℕ) (bytes : List ℕ) → 0 < length bytes → level ≤ MAX_DEPTH
+pub row_some : (level : ℕ) (bytes : List ℕ) → 0 < length bytes → level ≤ max_tree_depth
     → row_at level bytes ≡ any_fault (nested_fault (row_at (level + 1))) (row_at level) bytes
 row_some level [] some fits = absurd (omega arith)
 row_some level (b ∷ bs) some fits =
-    rw (le-ltb MAX_DEPTH level fits)
+    rw (le-ltb max_tree_depth level fits)
     (nested_alike _ _ _ _ b bs
     (λ content few. row_bound (length bs) (length content) (level + 1) content (omega arith) (omega arith))
     (λ behind few. row_bound (length bs) (length behind) level behind (omega arith) (omega arith)))
@@ -60,7 +59,7 @@ row_some level (b ∷ bs) some fits =
 -- a row at level 65 is too deep
 pub row_deep : (level : ℕ) (bytes : List ℕ) → 0 < length bytes → level ≡ 65 → row_at level bytes ≡ Some Depth
 row_deep level [] some deep = absurd (omega arith)
-row_deep level (b ∷ bs) some deep = rw (lt-ltb MAX_DEPTH level (omega arith)) refl
+row_deep level (b ∷ bs) some deep = rw (lt-ltb max_tree_depth level (omega arith)) refl
 
 -- the fault of the input is that of an element whose content is a row at level 2
 pub tree_next : (input : List ℕ) → tree_fault input ≡ any_fault (nested_fault (row_at 2)) end_fault input

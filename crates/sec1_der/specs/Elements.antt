@@ -3,13 +3,10 @@ use Rattle.std.specs.Prelude.{◌≡◌, ◌≢◌, ℕ, ◌+◌, ◌%◌, ◌<�
 use Rattle.std.specs.Prelude.{nat_le, Option, Some, None, ⊤, if◌then◌else◌}
 use Rattle.std.specs.Int.{IsBitSet}
 use Rattle.std.specs.Int.Digits.{digits_of}
-use Rattle.sec1_der.specs.declared.header.TheConstants.{LONG_FORM}
-use Rattle.sec1_der.specs.declared.tag.TheConstants.{EXPLICIT}
-use Rattle.sec1_der.specs.declared.length.TheConstants.Length.{MAX}
 
--- the greatest length of a content in bytes
+-- the greatest length of a content in bytes: 2^28 - 1
 abbrev pub max_length : ℕ
-max_length = MAX
+max_length = 268435455
 
 -- X.690 section 8.1.2: a tag byte. It isn't 00, which is reserved for end-of-contents, and its low
 -- five bits aren't all ones, which begin a high tag number.
@@ -24,14 +21,14 @@ IsConstructed tag = IsBitSet tag 5
 
 -- X.690 section 8.14: the tag byte of an explicit field [number]
 abbrev pub explicit_tag : ℕ → ℕ
-explicit_tag number = EXPLICIT + number
+explicit_tag number = 0xA0 + number
 
 -- X.690 sections 8.1.3 and 10.1: the one encoding of a length: the number itself below 128,
 -- otherwise the number of its base 256 digits plus 80 (hexadecimal), and the digits.
 unfoldable pub length_octets : ℕ → List ℕ
 length_octets n =
     let digits = digits_of 256 n in
-    if nat_lt n LONG_FORM then n ∷ [] else (LONG_FORM + length digits) ∷ digits
+    if nat_lt n 128 then n ∷ [] else (0x80 + length digits) ∷ digits
 
 -- a tag byte and a length
 abbrev pub header : ℕ → ℕ → List ℕ

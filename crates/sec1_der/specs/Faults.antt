@@ -1,7 +1,6 @@
 -- The kinds of refusals.
 use Rattle.std.specs.Prelude.{◌≡◌, ◌⊎◌, ℕ, ◌-◌, ◌%◌, Bool, ◌&&◌, not, ◌==◌, nat_lt, nat_le}
 use Rattle.std.specs.Prelude.{if◌then◌else◌, List, [], ◌∷◌, length, Result, IsErrAnd}
-use Rattle.sec1_der.specs.declared.header.TheConstants.{LONG_FORM}
 use Rattle.sec1_der.specs.declared.error.Error.{Error}
 use Rattle.sec1_der.specs.declared.error.ErrorKind.{ErrorKind}
 use Rattle.sec1_der.specs.declared.error.ErrorKind.TheVariants.{Truncated, Tag, Length}
@@ -19,7 +18,7 @@ IsHeaderFault Tag = Unit {0}
 IsHeaderFault Length = Unit {0}
 IsHeaderFault _ = ⊥
 
--- the kinds by which bytes are refused that aren't those of a tree of at most MAX_DEPTH levels
+-- the kinds by which bytes are refused that aren't those of a tree, or of one that is too deep
 abbrev pub IsTreeFault : ErrorKind → Type 0
 IsTreeFault kind = IsHeaderFault kind ⊎ (kind ≡ TrailingData) ⊎ (kind ≡ Depth)
 
@@ -40,7 +39,7 @@ IsReadingFault Memory = ⊥
 -- a first byte that announces one to four digits, more than there are
 abbrev pub lacks_digits : ℕ → List ℕ → Bool
 lacks_digits first digits =
-    nat_lt LONG_FORM first && nat_le first 0x84 && nat_lt (length digits) (first - LONG_FORM)
+    nat_lt 0x80 first && nat_le first 0x84 && nat_lt (length digits) (first - 0x80)
 
 -- The kind, if the bytes don't begin with a length: they end inside one, or encode none.
 abbrev pub length_fault : List ℕ → ErrorKind

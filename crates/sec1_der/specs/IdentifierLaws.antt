@@ -8,8 +8,7 @@ use Rattle.std.proofs.lemmas.Bool.Decides.{nat_tests}
 use Rattle.std.specs.Bool.{Decides}
 use Rattle.std.specs.List.{AllByRecursion, list_all}
 use Rattle.sec1_der.specs.Identifiers.{AreArcs, content_of, IsIdentifier, are_arcs, is_identifier}
-use Rattle.sec1_der.specs.Identifiers.{identifier_content}
-use Rattle.sec1_der.specs.declared.object_identifier.TheConstants.{MAX_CONTENT}
+use Rattle.sec1_der.specs.Identifiers.{identifier_content, max_identifier_length}
 
 one_below : (n : ℕ) (rest : Bool) (P : Type 0) → Decides rest P
     → Decides (nat_lt n (2 ^ 32) && rest) ((n < 2 ^ 32) × P)
@@ -32,11 +31,11 @@ are_arcs-decides (a ∷ []) = (λ e. absurd (cc e), λ h. absurd h)
 are_arcs-decides (a ∷ b ∷ further) = two_arcs a b _ _ (all_below further)
 
 short_too : (b : Bool) (n : ℕ) (P : Type 0) → Decides b P
-    → Decides (b && nat_le n MAX_CONTENT) (P × (n ≤ MAX_CONTENT))
+    → Decides (b && nat_le n max_identifier_length) (P × (n ≤ max_identifier_length))
 short_too b n P d = grind (arith, nat_tests)
 
 is_identifier-decides : (arcs : List ℕ)
-    → Decides (is_identifier arcs) (AreArcs arcs × (length (content_of arcs) ≤ MAX_CONTENT))
+    → Decides (is_identifier arcs) (AreArcs arcs × (length (content_of arcs) ≤ max_identifier_length))
 is_identifier-decides arcs =
     short_too (are_arcs arcs) (length (content_of arcs)) _ (are_arcs-decides arcs)
 

@@ -4,7 +4,6 @@ use Rattle.std.specs.Prelude.{nat_le, List, [], ◌∷◌, length, map, Option, 
 use Rattle.std.specs.List.{AllByRecursion, list_all, flat_map, join_with_byte}
 use Rattle.std.specs.Fmt.{decimal}
 use Rattle.sec1_der.specs.Numbers.{base128}
-use Rattle.sec1_der.specs.declared.object_identifier.TheConstants.{MAX_CONTENT}
 
 -- X.690 section 8.19.4: two or more arcs. The first is 0, 1 or 2, the second is below 40 under 0
 -- and 1; the number that these two share and each further arc are below 2^32.
@@ -30,10 +29,14 @@ pub record Spells (arcs content : List ℕ) : Type 0 where
   pub allowed : AreArcs arcs
   pub spelled : content ≡ content_of arcs
 
--- the bytes are the content of the identifier with these arcs, at most MAX_CONTENT of them
+-- the greatest length of the content of an identifier in bytes
+abbrev pub max_identifier_length : ℕ
+max_identifier_length = 39
+
+-- the bytes are the content of the identifier with these arcs, and not too many
 pub record IsIdentifier (arcs content : List ℕ) : Type 0 where
   pub spells : Spells arcs content
-  pub short : length content ≤ MAX_CONTENT
+  pub short : length content ≤ max_identifier_length
 
 -- the bytes are the content of some identifier
 abbrev pub IsIdentifierContent : List ℕ → Type 0
@@ -52,7 +55,7 @@ are_arcs (a ∷ b ∷ further) =
     && (nat_lt (40 * a + b) (2 ^ 32) && list_all (λ arc. nat_lt arc (2 ^ 32)) further))
 
 abbrev pub is_identifier : List ℕ → Bool
-is_identifier arcs = are_arcs arcs && nat_le (length (content_of arcs)) MAX_CONTENT
+is_identifier arcs = are_arcs arcs && nat_le (length (content_of arcs)) max_identifier_length
 
 -- the content of an identifier; a list that is no identifier's has none
 abbrev pub identifier_content : List ℕ → Option (List ℕ)

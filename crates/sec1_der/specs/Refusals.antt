@@ -7,8 +7,7 @@ use Rattle.std.specs.Str.{bytes_eq}
 use Rattle.sec1_der.specs.Elements.{max_length, length_octets, explicit_tag}
 use Rattle.sec1_der.specs.Faults.{is_tag, length_fault}
 use Rattle.sec1_der.specs.Numbers.{number_of}
-use Rattle.sec1_der.specs.declared.header.TheConstants.{LONG_FORM}
-use Rattle.sec1_der.specs.declared.tree.TheConstants.{MAX_DEPTH}
+use Rattle.sec1_der.specs.Trees.{max_tree_depth}
 use Rattle.sec1_der.specs.declared.error.Error.{Error}
 use Rattle.sec1_der.specs.declared.error.ErrorKind.{ErrorKind}
 use Rattle.sec1_der.specs.declared.error.ErrorKind.TheVariants.{Truncated, Tag, TrailingData, Depth}
@@ -33,7 +32,7 @@ end_fault (byte ∷ bytes) = Some TrailingData
 abbrev pub number_at : List ℕ → ℕ
 number_at [] = 0
 number_at (first ∷ digits) =
-    if nat_lt first LONG_FORM then first else number_of (take (first - LONG_FORM) digits)
+    if nat_lt first 128 then first else number_of (take (first - 0x80) digits)
 
 -- the length at the beginning of the bytes, and the bytes after it
 abbrev pub length_at : List ℕ → Result (ℕ × List ℕ) ErrorKind
@@ -96,9 +95,9 @@ abbrev pub row_fault : ℕ → ℕ → Fault
 row_fault zero level bytes = None
 row_fault (suc most) level [] = None
 row_fault (suc most) level (byte ∷ bytes) =
-    if nat_lt MAX_DEPTH level then Some Depth
+    if nat_lt max_tree_depth level then Some Depth
     else any_fault (nested_fault (row_fault most (level + 1))) (row_fault most level) (byte ∷ bytes)
 
--- one tree of at most MAX_DEPTH levels
+-- one tree that isn't too deep
 abbrev pub tree_fault : Fault
 tree_fault bytes = any_fault (nested_fault (row_fault (length bytes) 2)) end_fault bytes

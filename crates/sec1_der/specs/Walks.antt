@@ -3,8 +3,7 @@
 use Rattle.std.specs.Prelude.{◌≡◌, ℕ, zero, suc, ◌+◌, ◌-◌, ◌<◌, ◌≤◌, ◌⊎◌, List, [], ◌∷◌, ◌++◌}
 use Rattle.std.specs.Prelude.{length, get_or}
 use Rattle.sec1_der.specs.Elements.{header, IsTag, IsConstructed, max_length}
-use Rattle.sec1_der.specs.declared.tree.TheConstants.{MAX_DEPTH}
-use Rattle.sec1_der.specs.Trees.{Tree, IsTree, bytes, size, depth}
+use Rattle.sec1_der.specs.Trees.{Tree, IsTree, bytes, size, depth, max_tree_depth}
 
 -- a leaf or an empty node
 pub record IsSingle (t : Tree) : Type 0 where
@@ -45,14 +44,14 @@ abbrev pub Enters : List ℕ → List ℕ → List ℕ → List ℕ → Type 0
 Enters ends rest ends' after =
     (Skips ends rest after × (ends' ≡ ends))
     ⊎ ((end : ℕ) × Opens ends rest end after × (ends' ≡ end ∷ ends)
-    × (length ends < MAX_DEPTH - 1))
+    × (length ends < max_tree_depth - 1))
 
 -- as many nodes are open as can be, and the next element is one more with a content
 pub record IsTooDeep (ends rest : List ℕ) : Type 0 where
   pub end : ℕ
   pub after : List ℕ
   pub opens : Opens ends rest end after
-  pub full : length ends ≡ MAX_DEPTH - 1
+  pub full : length ends ≡ max_tree_depth - 1
 
 -- the ends of so many open nodes, from a table that has the outermost at 1
 abbrev pub open_ends : ℕ → List ℕ → List ℕ

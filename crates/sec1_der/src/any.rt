@@ -1,4 +1,5 @@
-ghost use Rattle.sec1_der.specs.Elements.{IsTag};
+ghost use Rattle.std.specs.Prelude.{◌≤◌, length};
+ghost use Rattle.sec1_der.specs.Elements.{max_length, IsTag};
 
 use crate::{
     BackWriter, EncodeValue, ErrorKind, Header, Length, ObjectIdentifier, Result, SliceReader,
@@ -13,12 +14,13 @@ pub struct AnyRef<'a> {
     tag: u8,
     value: &'a [u8],
     ghost is_tag: { IsTag tag },
+    ghost within: { length value.now ≤ max_length },
 }
 
 impl<'a> AnyRef<'a> {
-    ghost use Rattle.std.specs.Prelude.{◌≡◌, ◌≤◌, ◌↔◌, ℕ, List, [], ◌++◌, length, true, false};
+    ghost use Rattle.std.specs.Prelude.{◌≡◌, ◌↔◌, ℕ, List, [], ◌++◌, true, false};
     ghost use Rattle.std.specs.Prelude.{IsOk, IfOk, IsOkAnd, IfErr, OnErr};
-    ghost use Rattle.sec1_der.specs.Elements.{max_length, element, IsHeader, IsProperBeginning};
+    ghost use Rattle.sec1_der.specs.Elements.{element, IsHeader, IsProperBeginning};
     ghost use Rattle.sec1_der.specs.Elements.{LacksHeader};
     ghost use Rattle.sec1_der.specs.Faults.{header_fault, Refuses, IsHeaderFault};
     ghost use Rattle.sec1_der.specs.Readers.{reader_over, HasRead};
@@ -130,12 +132,10 @@ impl EncodeValue for AnyRef<'_> {
     }
 
     fn encode_value(&self, writer: &mut SliceWriter) -> Result<()> {
-        self.value_len()?;
         writer.write(self.value)
     }
 
     fn encode_back(&self, writer: &mut BackWriter) -> Result<()> {
-        self.value_len()?;
         writer.write(self.value)
     }
 }

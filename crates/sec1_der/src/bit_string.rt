@@ -1,5 +1,6 @@
-ghost use Rattle.std.specs.Prelude.{◌≡◌, ◌↔◌, IsTrue};
+ghost use Rattle.std.specs.Prelude.{◌≡◌, ◌↔◌, ◌<◌, length, IsTrue};
 ghost use Rattle.sec1_der.specs.Contents.{AreBits};
+ghost use Rattle.sec1_der.specs.Elements.{max_length};
 
 use crate::codec::check_room;
 use crate::{
@@ -14,12 +15,12 @@ pub struct BitStringRef<'a> {
     unused: u8,
     bytes: &'a [u8],
     ghost are_bits: { AreBits unused bytes.now },
+    ghost within: { length bytes.now < max_length },
 }
 
 impl<'a> BitStringRef<'a> {
-    ghost use Rattle.std.specs.Prelude.{◌<◌, ◌+◌, ◌≤◌, length, Some, None, IsOk, IfOk, IfErr};
+    ghost use Rattle.std.specs.Prelude.{◌+◌, ◌≤◌, Some, None, IsOk, IfOk, IfErr};
     ghost use Rattle.std.specs.Prelude.{IsSome, IfSome};
-    ghost use Rattle.sec1_der.specs.Elements.{max_length};
     ghost use Rattle.sec1_der.specs.Faults.{Refuses};
     ghost use Rattle.sec1_der.specs.Values.{unused_bits_of, bit_bytes_of};
 
@@ -142,20 +143,17 @@ impl<'a> DecodeValue<'a> for BitStringRef<'a> {
 
 impl EncodeValue for BitStringRef<'_> {
     fn value_len(&self) -> Result<Length> {
-        if self.bytes.len() >= Length::MAX {
-            return Err(ErrorKind::Overlength.into());
-        }
         Length::new(1 + self.bytes.len())
     }
 
     fn encode_value(&self, writer: &mut SliceWriter) -> Result<()> {
-        check_room(self.value_len()?.get(), writer.remaining())?;
+        check_room(1 + self.bytes.len(), writer.remaining())?;
         writer.write_byte(self.unused)?;
         writer.write(self.bytes)
     }
 
     fn encode_back(&self, writer: &mut BackWriter) -> Result<()> {
-        check_room(self.value_len()?.get(), writer.remaining())?;
+        check_room(1 + self.bytes.len(), writer.remaining())?;
         writer.write(self.bytes)?;
         writer.write(&[self.unused])
     }

@@ -1,6 +1,6 @@
 //! Reading and writing values of any type, by their whole DER encoding.
-ghost use Rattle.std.specs.Prelude.{◌≡◌, ◌≢◌, ◌<◌, ◌≤◌, ◌+◌, ◌⊎◌, ◌↔◌, [], ◌++◌, ℕ, List, length};
-ghost use Rattle.std.specs.Prelude.{drop, Option, Some, None, slice_get, IsOk, IfOk};
+ghost use Rattle.std.specs.Prelude.{◌≡◌, ◌<◌, ◌≤◌, ◌+◌, ◌⊎◌, ◌↔◌, ◌++◌, ℕ, List, length};
+ghost use Rattle.std.specs.Prelude.{drop, Option, Some, None, IsOk, IfOk};
 ghost use Rattle.std.specs.Prelude.{IsOkAnd, IfErr, OnOk, OnErr, IsSomeAnd, MatchResult};
 ghost use Rattle.sec1_der.specs.Elements.{max_length, element, element_of, IsTag, IsElementOf};
 ghost use Rattle.sec1_der.specs.Elements.{IsProperBeginning};
@@ -35,9 +35,6 @@ pub fn from_der<'a, T: DecodeValue<'a> + Tagged + Drop>(input: &'a [u8]) -> Resu
         → element_of T.tag_byte (T.content value) ≡ Some bytes
         → IsProperBeginning bytes input.now → Refuses result ErrorKind.TrailingData }
 
-    ensures empty { input.now ≡ [] → Refuses result ErrorKind.Truncated }
-    ensures other_tag { (byte : ℕ) → slice_get input.now 0 ≡ Some byte → byte ≢ T.tag_byte
-        → Refuses result ErrorKind.Tag }
     ensures short { (content : List ℕ) → length content ≤ max_length
         → IsProperBeginning input.now (element T.tag_byte content)
         → Refuses result ErrorKind.Truncated }
@@ -77,14 +74,9 @@ pub fn read_der<'a, T: DecodeValue<'a> + Tagged + UniqueContent + Drop>(
 ///
 /// Overlength if the value has no content, or one that is longer than 268,435,455 bytes.
 pub fn encoded_len<T: EncodeValue + Tagged>(value: &T) -> Result<usize>
-    ensures overlength { element_of T.tag_byte (T.content value.now) ≡ None
-        → Refuses result ErrorKind.Overlength }
-    ensures only { (bytes : List ℕ) → element_of T.tag_byte (T.content value.now) ≡ Some bytes
-        → result ≡ Ok (length bytes) }
-    ensures found { IfOk result
-        (λ n. IsSomeAnd (element_of T.tag_byte (T.content value.now)) (λ bytes.
-        n ≡ length bytes)) }
-    ensures kind { IfErr result (λ e. (e.kind ≡ ErrorKind.Overlength)
+    ensures exact { MatchResult result
+        (λ n. IsSomeAnd (element_of T.tag_byte (T.content value.now)) (λ bytes. n ≡ length bytes))
+        (λ e. (e.kind ≡ ErrorKind.Overlength)
         × (element_of T.tag_byte (T.content value.now) ≡ None)) }
     ensures most { IfOk result (λ n. n ≤ max_length + 6) }
     ensures tag { OnOk result (IsTag T.tag_byte) }

@@ -1,7 +1,5 @@
-ghost use Rattle.std.specs.Prelude.{◌≡◌, ◌≤◌, ◌↔◌, length, IsOk, IfOk, IfErr, Some, ⊤};
+ghost use Rattle.std.specs.Prelude.{◌≤◌, length};
 ghost use Rattle.sec1_der.specs.Elements.{max_length};
-ghost use Rattle.sec1_der.specs.Refusals.{no_fault};
-ghost use Rattle.sec1_der.specs.Values.{octets_of};
 
 use crate::{
     BackWriter, DecodeValue, EncodeValue, ErrorKind, FixedTag, Length, Result, SliceReader,
@@ -12,9 +10,13 @@ use crate::{
 #[derive(Clone, Copy, PartialEq, Eq, Debug)]
 pub struct OctetStringRef<'a> {
     bytes: &'a [u8],
+    ghost within: { length bytes.now ≤ max_length },
 }
 
 impl<'a> OctetStringRef<'a> {
+    ghost use Rattle.std.specs.Prelude.{◌≡◌, ◌↔◌, IsOk, IfOk, IfErr};
+    ghost use Rattle.sec1_der.specs.Values.{octets_of};
+
     /// Returns an octet string of these bytes.
     ///
     /// # Errors
@@ -38,6 +40,8 @@ impl<'a> OctetStringRef<'a> {
 }
 
 impl Tagged for OctetStringRef<'_> {
+    ghost use Rattle.std.specs.Prelude.{◌≡◌};
+
     ghost tag_byte = { 0x04 };
 
     fn fixed_tag() -> Tag
@@ -52,6 +56,10 @@ impl FixedTag for OctetStringRef<'_> {
 }
 
 impl ValueContent for OctetStringRef<'_> {
+    ghost use Rattle.std.specs.Prelude.{Some, ⊤};
+    ghost use Rattle.sec1_der.specs.Refusals.{no_fault};
+    ghost use Rattle.sec1_der.specs.Values.{octets_of};
+
     ghost content = { λ octets. Some (octets_of octets) };
 
     ghost is_content = { λ _. ⊤ };
@@ -74,12 +82,10 @@ impl EncodeValue for OctetStringRef<'_> {
     }
 
     fn encode_value(&self, writer: &mut SliceWriter) -> Result<()> {
-        self.value_len()?;
         writer.write(self.bytes)
     }
 
     fn encode_back(&self, writer: &mut BackWriter) -> Result<()> {
-        self.value_len()?;
         writer.write(self.bytes)
     }
 }

@@ -133,10 +133,6 @@ impl<'a> SliceReader<'a> {
             → IsOkAnd result (λ value. T.content value ≡ Some content)
             × (self.new ≡ reader_over rest) }
 
-        ensures empty { self.old ≡ reader_over [] → Refuses result ErrorKind.Truncated }
-        ensures other_tag { (byte : ℕ) → self.old.failed ≡ false
-            → slice_get self.old.unread 0 ≡ Some byte → byte ≢ T.tag_byte
-            → Refuses result ErrorKind.Tag }
         ensures short { (content : List ℕ) → length content ≤ max_length → self.old.failed ≡ false
             → IsProperBeginning self.old.unread (element T.tag_byte content)
             → Refuses result ErrorKind.Truncated }
@@ -288,9 +284,6 @@ impl<'a> SliceReader<'a> {
         ensures only { (content rest : List ℕ) → length content ≤ max_length
             → self.old ≡ reader_over (element tag content ++ rest)
             → (result ≡ Ok (reader_over content)) × (self.new ≡ reader_over rest) }
-        ensures empty { self.old ≡ reader_over [] → Refuses result ErrorKind.Truncated }
-        ensures other_tag { (byte : ℕ) → self.old.failed ≡ false
-            → slice_get self.old.unread 0 ≡ Some byte → byte ≢ tag → Refuses result ErrorKind.Tag }
         ensures short { (content : List ℕ) → length content ≤ max_length → self.old.failed ≡ false
             → IsProperBeginning self.old.unread (element tag content)
             → Refuses result ErrorKind.Truncated }
@@ -320,10 +313,6 @@ impl<'a> SliceReader<'a> {
         ensures only { (content : List ℕ) → T.is_content content → length content ≤ max_length
             → self.old ≡ reader_over (element T.tag_byte content)
             → IsOkAnd result (λ value. T.content value ≡ Some content) }
-        ensures empty { self.old ≡ reader_over [] → Refuses result ErrorKind.Truncated }
-        ensures other_tag { (byte : ℕ) → self.old.failed ≡ false
-            → slice_get self.old.unread 0 ≡ Some byte → byte ≢ T.tag_byte
-            → Refuses result ErrorKind.Tag }
         ensures short { (content : List ℕ) → length content ≤ max_length → self.old.failed ≡ false
             → IsProperBeginning self.old.unread (element T.tag_byte content)
             → Refuses result ErrorKind.Truncated }

@@ -4,9 +4,8 @@ ghost use Rattle.std.specs.Prelude.{OnOk, OnErr};
 ghost use Rattle.sec1_der.specs.Elements.{IsProperBeginning};
 ghost use Rattle.sec1_der.specs.Faults.{Refuses, IsTreeFault, IsHeaderFault};
 ghost use Rattle.sec1_der.specs.Refusals.{HasFault, tree_fault, Fault, any_fault};
-ghost use Rattle.sec1_der.specs.Trees.{Tree, IsTree, IsTreeOf, bytes, size, depth};
+ghost use Rattle.sec1_der.specs.Trees.{Tree, IsTree, IsTreeOf, bytes, size, depth, max_tree_depth};
 ghost use Rattle.sec1_der.specs.Walks.{open_ends, innermost, Enters, IsTooDeep};
-ghost use Rattle.sec1_der.specs.declared.tree.TheConstants.{MAX_DEPTH};
 
 use crate::header::element_at;
 use crate::{ErrorKind, Result};
@@ -26,17 +25,18 @@ pub const MAX_DEPTH: usize = 64;
 /// level 64 contains elements, before they are read; TrailingData if bytes follow the tree.
 pub fn check_tree(input: &[u8]) -> Result<usize>
     // What is counted is a tree, and these are its bytes.
-    ensures found { IfOk result (λ n. (t : Tree) × IsTreeOf t input.now × (depth t ≤ MAX_DEPTH)
-        × (size t ≡ n)) }
+    ensures found { IfOk result (λ n. (t : Tree) × IsTreeOf t input.now
+        × (depth t ≤ max_tree_depth) × (size t ≡ n)) }
     // Where they are the bytes of such a tree, it is counted.
-    ensures only { (t : Tree) → IsTreeOf t input.now → depth t ≤ MAX_DEPTH → result ≡ Ok (size t) }
-    ensures deeper { (t : Tree) → IsTreeOf t input.now → MAX_DEPTH < depth t
+    ensures only { (t : Tree) → IsTreeOf t input.now → depth t ≤ max_tree_depth
+        → result ≡ Ok (size t) }
+    ensures deeper { (t : Tree) → IsTreeOf t input.now → max_tree_depth < depth t
         → Refuses result ErrorKind.Depth }
 
     // The bytes end inside those of a tree of any depth, or go on behind those of a tree.
     ensures short { (t : Tree) → IsTree t → IsProperBeginning input.now (bytes t)
         → Refuses result ErrorKind.Truncated }
-    ensures long { (t : Tree) → IsTree t → depth t ≤ MAX_DEPTH
+    ensures long { (t : Tree) → IsTree t → depth t ≤ max_tree_depth
         → IsProperBeginning (bytes t) input.now
         → Refuses result ErrorKind.TrailingData }
     ensures kinds { IfErr result (λ e. IsTreeFault e.kind) }
@@ -50,8 +50,8 @@ pub fn check_tree(input: &[u8]) -> Result<usize>
 /// Walks over the elements of a tree, and counts them.
 #[tactic(auto, using(crate::proofs::CheckLemmas::tree_read))]
 fn count_elements(input: &[u8]) -> Result<usize>
-    ensures found { IfOk result (λ n. (t : Tree) × IsTreeOf t input.now × (depth t ≤ MAX_DEPTH)
-        × (size t ≡ n)) }
+    ensures found { IfOk result (λ n. (t : Tree) × IsTreeOf t input.now
+        × (depth t ≤ max_tree_depth) × (size t ≡ n)) }
     ensures kinds { IfErr result (λ e. IsTreeFault e.kind) }
     ensures kind { HasFault result (tree_fault input.now) }
 {
@@ -89,7 +89,7 @@ impl Model for OpenNodes {
 
     ghost view = { λ nodes. open_ends nodes.level nodes.ends };
 
-    ghost invariant = { λ nodes. (nodes.level < MAX_DEPTH) × (get_or nodes.ends 0 0 ≡ 0) };
+    ghost invariant = { λ nodes. (nodes.level < max_tree_depth) × (get_or nodes.ends 0 0 ≡ 0) };
 }
 
 impl OpenNodes {
@@ -125,8 +125,8 @@ impl OpenNodes {
     #[tactic(auto, using(crate::proofs::WalkLemmas::opened_ends))]
     fn open(&mut self, end: usize) -> Result<()>
         ensures found { OnOk result
-            ((length self.old < MAX_DEPTH - 1) × (self.new ≡ end ∷ self.old)) }
-        ensures only { OnErr result (length self.old ≡ MAX_DEPTH - 1) }
+            ((length self.old < max_tree_depth - 1) × (self.new ≡ end ∷ self.old)) }
+        ensures only { OnErr result (length self.old ≡ max_tree_depth - 1) }
         ensures kind { IfErr result (λ e. e.kind ≡ ErrorKind.Depth) }
     {
         if self.level == MAX_DEPTH - 1 {

@@ -3,7 +3,7 @@ use Rattle.std.specs.Prelude.{◌≡◌, ℕ, ◌<◌, ◌≤◌, ◌⊎◌, Lis
 use Rattle.std.specs.Fmt.{decimal}
 use Rattle.hex.specs.Hex.{decode_of, encode_upper}
 use Rattle.sec1.specs.Keys.{Key, IsKeyOf}
-use Rattle.sec1.specs.Der.{dotted, Tree, IsTreeOf, depth, size, MAX_DEPTH}
+use Rattle.sec1.specs.Der.{dotted, Tree, IsTreeOf, depth, size, max_tree_depth}
 use Rattle.sec1.specs.Points.{Point, IsPoint, IsEncoding, encoding}
 use Rattle.sec1.specs.Tags.{point_tag}
 use Rattle.sec1.specs.declared.point.tag.Tag.{Tag}
@@ -75,10 +75,10 @@ pub record IsKeyReport (key : Key) (text : List ℕ) (status : ℕ) : Type 0 whe
   pub lines : text ≡ key_lines key point
   pub accepted : status ≡ 0
 
--- a tree of at most MAX_DEPTH levels has these bytes
+-- a tree that isn't too deep has these bytes
 pub record HasTree (bytes : List ℕ) (tree : Tree) : Type 0 where
   pub whole : IsTreeOf tree bytes
-  pub shallow : depth tree ≤ MAX_DEPTH
+  pub shallow : depth tree ≤ max_tree_depth
 
 -- the number of elements of the tree with these bytes, otherwise `no`
 abbrev pub IsTreeText : List ℕ → List ℕ → Type 0

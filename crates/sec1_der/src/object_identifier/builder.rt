@@ -4,6 +4,7 @@ ghost use Rattle.std.specs.Prelude.{IsErr, IfOk, OnOk, IfErr, IfSome, IfNone};
 ghost use Rattle.std.specs.Fmt.{decimal};
 ghost use Rattle.std.specs.Int.Digits.{digits_of};
 ghost use Rattle.sec1_der.specs.Identifiers.{AreArcs, IsIdentifier, content_of};
+ghost use Rattle.sec1_der.specs.Identifiers.{max_identifier_length};
 ghost use Rattle.sec1_der.specs.Numbers.{base128, marked};
 
 use super::MAX_CONTENT;
@@ -128,13 +129,13 @@ struct Content {
 
 impl Model for Content {
     ghost use Rattle.std.specs.Prelude.{List, ℕ, ◌≤◌, take};
-    ghost use Rattle.sec1_der.specs.declared.object_identifier.TheConstants.{MAX_CONTENT};
+    ghost use Rattle.sec1_der.specs.Identifiers.{max_identifier_length};
 
     ghost Value = { List ℕ };
 
     ghost view = { λ c. take c.len c.bytes };
 
-    ghost invariant = { λ c. c.len ≤ MAX_CONTENT };
+    ghost invariant = { λ c. c.len ≤ max_identifier_length };
 }
 
 impl Content {
@@ -151,7 +152,7 @@ impl Content {
     /// Borrows the bytes.
     fn as_bytes(&self) -> &[u8]
         ensures whole { result.now ≡ self.now }
-        ensures short { length result.now ≤ MAX_CONTENT }
+        ensures short { length result.now ≤ max_identifier_length }
     {
         &self.bytes[..self.len]
     }
@@ -163,7 +164,7 @@ impl Content {
     /// Value if it has no room.
     fn with_number(mut self, n: u32) -> Result<Content>
         ensures found { IfOk result (λ content. content ≡ self ++ base128 n) }
-        ensures only { IsErr result → MAX_CONTENT < length self + length (base128 n) }
+        ensures only { IsErr result → max_identifier_length < length self + length (base128 n) }
         ensures kind { IfErr result (λ e. e.kind ≡ ErrorKind.Value) }
     {
         self.push_marked(n / 128)?;
@@ -176,7 +177,7 @@ impl Content {
     fn push_marked(&mut self, n: u32) -> Result<()>
         ensures found { OnOk result (self.new ≡ self.old ++ marked (digits_of 128 n)) }
         ensures only { IsErr result
-            → MAX_CONTENT < length self.old + length (marked (digits_of 128 n)) }
+            → max_identifier_length < length self.old + length (marked (digits_of 128 n)) }
         ensures kind { IfErr result (λ e. e.kind ≡ ErrorKind.Value) }
     {
         if n == 0 {
@@ -193,7 +194,7 @@ impl Content {
     /// Value if the content is full.
     fn push(&mut self, byte: u8) -> Result<()>
         ensures found { OnOk result (self.new ≡ self.old ++ byte ∷ []) }
-        ensures only { IsErr result → MAX_CONTENT ≤ length self.old }
+        ensures only { IsErr result → max_identifier_length ≤ length self.old }
         ensures kind { IfErr result (λ e. e.kind ≡ ErrorKind.Value) }
     {
         if self.len == MAX_CONTENT {
