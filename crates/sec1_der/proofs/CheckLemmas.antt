@@ -47,8 +47,8 @@ pub record Walks (input ends rest : List ℕ) (count : ℕ) : Type 0 where
 -- The same if an element has to be next: with a tree next, and what ends the open nodes after it, the input is a tree.
 pub record IsNext (input ends rest : List ℕ) (count : ℕ) : Type 0 where
   pub at : IsAt input ends rest count
-  pub completes : (t : Tree) (tail : List ℕ) → IsTree t → length ends + depth t ≤ max_tree_depth → rest ≡ bytes t ++ tail
-      → Completes input ends tail (count + size t)
+  pub completes : (t : Tree) (tail : List ℕ) → IsTree t → length ends + depth t ≤ max_tree_depth
+      → rest ≡ bytes t ++ tail → Completes input ends tail (count + size t)
   pub fault_is : tree_fault input ≡ next_fault ends rest
 
 -- ---- the steps

@@ -67,14 +67,17 @@ tree_faults t input rest is e =
     ∙ ap (λ n. option_or (deep_fault n) (end_fault rest)) (omega arith))
 
 -- a tree that is too deep
-pub deep_tree : (t : Tree) (input : List ℕ) → IsTreeOf t input → max_tree_depth < depth t → tree_fault input ≡ Some Depth
+pub deep_tree : (t : Tree) (input : List ℕ) → IsTreeOf t input → max_tree_depth < depth t
+    → tree_fault input ≡ Some Depth
 deep_tree t input h deep =
-    tree_faults t input [] h.tree (h.whole ∙ sym (append-nil (bytes t))) ∙ rw (lt-ltb max_tree_depth (depth t) deep) refl
+    tree_faults t input [] h.tree (h.whole ∙ sym (append-nil (bytes t)))
+    ∙ rw (lt-ltb max_tree_depth (depth t) deep) refl
 
 -- another tree, and what follows it
 pub shallow_tree : (t : Tree) (input rest : List ℕ) → IsTree t → depth t ≤ max_tree_depth → input ≡ bytes t ++ rest
     → tree_fault input ≡ end_fault rest
-shallow_tree t input rest is shallow e = tree_faults t input rest is e ∙ rw (le-ltb max_tree_depth (depth t) shallow) refl
+shallow_tree t input rest is shallow e =
+    tree_faults t input rest is e ∙ rw (le-ltb max_tree_depth (depth t) shallow) refl
 
 -- an element that is cut short
 element_cut : (f : ℕ → Fault) (g : Fault) (tag : ℕ) (content input : List ℕ) → IsBytes input

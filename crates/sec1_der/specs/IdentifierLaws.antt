@@ -35,7 +35,8 @@ short_too : (b : Bool) (n : ℕ) (P : Type 0) → Decides b P
 short_too b n P d = grind (arith, nat_tests)
 
 is_identifier-decides : (arcs : List ℕ)
-    → Decides (is_identifier arcs) (AreArcs arcs × (length (content_of arcs) ≤ max_identifier_length))
+    → Decides (is_identifier arcs)
+    (AreArcs arcs × (length (content_of arcs) ≤ max_identifier_length))
 is_identifier-decides arcs =
     short_too (are_arcs arcs) (length (content_of arcs)) _ (are_arcs-decides arcs)
 

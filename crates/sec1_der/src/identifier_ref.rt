@@ -87,7 +87,8 @@ impl ValueContent for IdentifierRef<'_> {
 
     ghost is_content = { IsIdentifierContent };
 
-    ghost content_is_valid = { λ arcs bytes same _. (arcs, identifier_content-some arcs bytes same) };
+    ghost content_is_valid = { λ arcs bytes same _.
+        (arcs, identifier_content-some arcs bytes same) };
 
     ghost fault = { identifier_fault };
 }

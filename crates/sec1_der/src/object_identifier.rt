@@ -133,7 +133,8 @@ pub(crate) fn is_identifier(content: &[u8]) -> bool
     content.len() <= MAX_CONTENT && is_content(content)
 }
 
-/// Returns `true` if the bytes are one or more subidentifiers, each below 2^32 (X.690 section 8.19.2).
+/// Returns `true` if the bytes are one or more subidentifiers, each below 2^32 (X.690 section
+/// 8.19.2).
 #[tactic(auto, using(std::proofs::lemmas::Bool::Decides::nat_tests))]
 fn is_content(content: &[u8]) -> bool
     ensures { IsTrue result ↔ ((arcs : List ℕ) × Spells arcs content.now) }

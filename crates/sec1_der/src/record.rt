@@ -43,7 +43,8 @@ pub trait Record: Sized {
     }
 }
 
-/// A struct whose parts can't be confused.
+/// A record whose parts are told apart by their tags (X.680 section 25.6). Only such a record is
+/// read and written.
 pub trait Distinct: Record
 where
     Self::Parts: Part,
