@@ -1,10 +1,12 @@
 //! The keys on named curves in containers and certificates.
-ghost use Rattle.std.specs.Prelude.{◌≡◌, ◌↔◌, ◌⊎◌, true, ℕ, List, Ok, Some, IsOkAnd, IsSomeAnd};
-ghost use Rattle.std.specs.Prelude.{IfOk, IfErr, IfSome};
+ghost use Rattle.std.specs.Prelude.{◌≡◌, ◌≢◌, ◌↔◌, ◌⊎◌, true, ℕ, List, Ok, Err, Some, IsOkAnd};
+ghost use Rattle.std.specs.Prelude.{IsSomeAnd, IfOk, IfErr, IfSome};
 ghost use Rattle.sec1.specs.EncodedPoints.{point_of};
-ghost use Rattle.sec1.specs.Errors.{IsAsn1ReadingFault};
+ghost use Rattle.sec1.specs.Errors.{IsAsn1ReadingFault, RefusesAsn1};
+ghost use Rattle.sec1.specs.KeyRefusals.{key_fault};
 ghost use Rattle.sec1.specs.Keys.{Key, IsKeyOf};
 ghost use Rattle.sec1.specs.Points.{Fits, Point};
+ghost use Rattle.sec1_der.specs.declared.error.ErrorKind.{ErrorKind};
 ghost use Rattle.pkix.specs.Curves.{field_len};
 ghost use Rattle.pkix.specs.EcKeys.{IsOnCurve, NamesCurve, HasPoint};
 
@@ -56,18 +58,24 @@ impl<'a> PrivateKeyInfo<'a> {
     ///
     /// # Errors
     ///
-    /// Crypto if the algorithm isn't id-ecPublicKey with a curve of the table; Asn1 if the bytes
-    /// aren't an EC private key; Crypto if the key names another curve.
+    /// [`Error::Crypto`] if the algorithm isn't id-ecPublicKey with a curve of the table; then
+    /// [`Error::Asn1`] as [`EcPrivateKey::try_from`] returns it, if the bytes aren't an EC private
+    /// key; then [`Error::Crypto`] if the key names another curve.
     pub fn ec_private_key(&self) -> Result<EcPrivateKey<'a>>
         ensures found { IfOk result (λ key. IsKeyOf key self.now.private_key
             × (curve : Curve) × IsOnCurve curve self.now.algorithm × NamesCurve curve key) }
         ensures only { (curve : Curve) (key : Key) → IsOnCurve curve self.now.algorithm
             → IsKeyOf key self.now.private_key → NamesCurve curve key → result ≡ Ok key }
+        ensures other_algorithm { ((curve : Curve) → ¬ IsOnCurve curve self.now.algorithm)
+            → result ≡ Err Error.Crypto }
+        ensures no_key { (curve : Curve) (kind : ErrorKind) → IsOnCurve curve self.now.algorithm
+            → key_fault self.now.private_key ≡ Some kind → RefusesAsn1 result kind }
+        ensures other_curve { (curve : Curve) (key : Key) → IsOnCurve curve self.now.algorithm
+            → IsKeyOf key self.now.private_key → ¬ NamesCurve curve key
+            → result ≡ Err Error.Crypto }
         ensures kinds { IfErr result (λ e. (e ≡ Error.Crypto) ⊎ IsAsn1ReadingFault e) }
     {
-        let Some(curve) = self.algorithm.curve() else {
-            return Err(Error::Crypto);
-        };
+        let curve = self.algorithm.curve().ok_or(Error::Crypto)?;
         let key = EcPrivateKey::try_from(self.private_key.bytes)?;
         if !agrees(&key, curve) {
             return Err(Error::Crypto);
@@ -82,14 +90,22 @@ impl SubjectPublicKeyInfo<'_> {
     ///
     /// # Errors
     ///
-    /// Crypto if the algorithm isn't id-ecPublicKey with such a curve; PointEncoding if the key has
-    /// unused bits or isn't the encoding of a point.
+    /// [`Error::Crypto`] if the algorithm isn't id-ecPublicKey with such a curve; then
+    /// [`Error::PointEncoding`] if the key has unused bits or isn't the encoding of a point, or if
+    /// N and L don't [fit](EncodedPoint::fits).
     pub fn point<const N: usize, const L: usize>(&self) -> Result<EncodedPoint<N, L>>
         ensures found { IfOk result (λ point. ((curve : Curve) × IsOnCurve curve self.now.algorithm
             × (field_len curve ≡ N)) × HasPoint N self.now (point_of point)) }
         ensures only { (curve : Curve) (point : Point) → IsOnCurve curve self.now.algorithm
             → field_len curve ≡ N → Fits N L → HasPoint N self.now point
             → IsOkAnd result (λ found. point_of found ≡ point) }
+        ensures other_curve { ((curve : Curve) → IsOnCurve curve self.now.algorithm
+            → field_len curve ≢ N) → result ≡ Err Error.Crypto }
+        ensures no_point { (curve : Curve) → IsOnCurve curve self.now.algorithm
+            → field_len curve ≡ N → ((point : Point) → ¬ HasPoint N self.now point)
+            → result ≡ Err Error.PointEncoding }
+        ensures no_fit { (curve : Curve) → IsOnCurve curve self.now.algorithm
+            → field_len curve ≡ N → ¬ Fits N L → result ≡ Err Error.PointEncoding }
         ensures kinds { IfErr result (λ e. (e ≡ Error.Crypto) ⊎ (e ≡ Error.PointEncoding)) }
     {
         match self.algorithm.curve() {
