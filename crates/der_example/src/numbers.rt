@@ -1,16 +1,20 @@
 //! Numbers of a SEQUENCE OF INTEGER and of a SET OF INTEGER, none of which is negative.
-ghost use Rattle.std.specs.Prelude.{◌≡◌, ◌∷◌, ℕ, List, [], Some, None, IfOk, IfSome, IfNone, sum};
+ghost use Rattle.std.specs.Prelude.{◌≡◌, ◌<◌, ◌^◌, ◌∷◌, ℕ, List, [], Some, None, SomeIff, sum};
+ghost use Rattle.std.specs.Prelude.{IfOk, IfSome, IfNone, IsOkAnd};
 ghost use Rattle.sec1.specs.Der.{element_of, HasFault, element_fault, end_fault};
 ghost use Rattle.der_example.specs.Numbers.{numbers_content, numbers_fault};
+ghost use Rattle.der_example.specs.Numbers.{ascending_content, ascending_fault};
 
 use der_types::{Elements, SequenceOf, SetOf, Unsigned};
 use sec1::der::{Result, read_der};
 
-/// Returns the sum of the numbers, or `None` if it, or one of them, is 2^64 or above.
+/// Returns the sum of the numbers, or `None` if it is 2^64 or above.
 fn sum_of<'a>(mut elements: Elements<'a, Unsigned<'a>>) -> Option<u64>
     requires { numbers_fault elements ≡ None }
-    ensures { IfSome result (λ total. (numbers : List ℕ)
+    ensures found { IfSome result (λ total. (numbers : List ℕ)
         × (numbers_content numbers ≡ Some elements.entry) × (sum numbers ≡ total)) }
+    ensures only { (numbers : List ℕ) → numbers_content numbers ≡ Some elements.entry
+        → SomeIff result (sum numbers < 2 ^ 64) (sum numbers) }
 {
     let mut total = 0u64;
     while let Some(number) = elements.next() {
@@ -45,8 +49,7 @@ pub fn first_of_sequence<'a>(
     }
 }
 
-/// Returns the sum of the numbers of a SEQUENCE OF INTEGER, or `None` if it, or one of them, is
-/// 2^64 or above.
+/// Returns the sum of the numbers of a SEQUENCE OF INTEGER, or `None` if it is 2^64 or above.
 ///
 /// # Errors
 ///
@@ -54,22 +57,26 @@ pub fn first_of_sequence<'a>(
 pub fn sum_of_sequence(bytes: &[u8]) -> Result<Option<u64>>
     ensures found { IfOk result (λ found. IfSome found (λ total. (numbers : List ℕ)
         × (element_of 0x30 (numbers_content numbers) ≡ Some bytes.now) × (sum numbers ≡ total))) }
+    ensures only { (numbers : List ℕ) → element_of 0x30 (numbers_content numbers) ≡ Some bytes.now
+        → IsOkAnd result (λ found. SomeIff found (sum numbers < 2 ^ 64) (sum numbers)) }
     ensures kind { HasFault result (element_fault 0x30 numbers_fault end_fault bytes.now) }
 {
-    let numbers: SequenceOf<Unsigned> = read_der(bytes)?;
-    Ok(sum_of(numbers.elements()))
+    let sequence: SequenceOf<Unsigned> = read_der(bytes)?;
+    Ok(sum_of(sequence.elements()))
 }
 
-/// Returns the sum of the numbers of a SET OF INTEGER, or `None` if it, or one of them, is 2^64 or
-/// above.
+/// Returns the sum of the numbers of a SET OF INTEGER, or `None` if it is 2^64 or above.
 ///
 /// # Errors
 ///
-/// Those of [`read_der`], if a number is negative too.
+/// Those of [`read_der`], if a number is negative or the elements aren't in ascending order too.
 pub fn sum_of_set(bytes: &[u8]) -> Result<Option<u64>>
     ensures found { IfOk result (λ found. IfSome found (λ total. (numbers : List ℕ)
         × (element_of 0x31 (numbers_content numbers) ≡ Some bytes.now) × (sum numbers ≡ total))) }
+    ensures only { (numbers : List ℕ) → element_of 0x31 (ascending_content numbers) ≡ Some bytes.now
+        → IsOkAnd result (λ found. SomeIff found (sum numbers < 2 ^ 64) (sum numbers)) }
+    ensures kind { HasFault result (element_fault 0x31 ascending_fault end_fault bytes.now) }
 {
-    let numbers: SetOf<Unsigned> = read_der(bytes)?;
-    Ok(sum_of(numbers.elements()))
+    let set: SetOf<Unsigned> = read_der(bytes)?;
+    Ok(sum_of(set.elements()))
 }

@@ -1,4 +1,4 @@
-use Rattle.std.proofs.Common.{◌≡◌, ◌+◌, ℕ, List, Some, None, length, sum}
+use Rattle.std.proofs.Common.{◌≡◌, ◌<◌, ◌+◌, ◌^◌, ℕ, List, Some, None, length, sum}
 use Rattle.der_example.specs.Numbers.{numbers_content, numbers_fault}
 use Rattle.der_example.proofs.numbers.sum_of.Given as goal
 
@@ -6,8 +6,11 @@ use Rattle.der_example.proofs.numbers.sum_of.Given as goal
 abbrev pub invariant-loop-number : goal.invariant-loop-number
 invariant-loop-number l = record {
   checked : numbers_fault l.elements ≡ None;
+  fits : l.total < 2 ^ 64;
   read : (left : List ℕ) → numbers_content left ≡ Some l.elements
       → (all : List ℕ) × (numbers_content all ≡ Some l.initial.elements) × (sum all ≡ l.total + sum left);
+  left : (all : List ℕ) → numbers_content all ≡ Some l.initial.elements
+      → (left : List ℕ) × (numbers_content left ≡ Some l.elements) × (sum all ≡ l.total + sum left);
 }
 
 abbrev pub decreases-loop-number : goal.decreases-loop-number
