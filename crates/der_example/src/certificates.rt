@@ -1,18 +1,19 @@
 //! Certificates and containers of keys, by the records of `pkix`.
-ghost use Rattle.std.specs.Prelude.{◌≡◌, Ok, Some, IfOk, IsOkAnd};
+ghost use Rattle.std.specs.Prelude.{◌≡◌, ◌≢◌, ◌⊎◌, Ok, Err, Some, IfOk, IfErr, IsOkAnd};
 ghost use Rattle.pkix.specs.Curves.{field_len};
 ghost use Rattle.pkix.specs.EcKeys.{HasPoint, IsOnCurve};
 ghost use Rattle.pkix.specs.Records.{certificate_content, certificate_fault};
 ghost use Rattle.pkix.specs.declared.certificate.Certificate.{Certificate};
 ghost use Rattle.pkix.specs.declared.curve.Curve.{Curve};
 ghost use Rattle.sec1.specs.EncodedPoints.{point_of};
+ghost use Rattle.sec1.specs.Errors.{RefusesAsn1};
 ghost use Rattle.sec1.specs.Points.{Point};
-ghost use Rattle.sec1.specs.Der.{HasFault, element_fault, element_of, end_fault};
+ghost use Rattle.sec1.specs.Der.{HasFault, IsReadingFault, element_fault, element_of, end_fault};
 
 use pkix::Certificate;
-use sec1::der::read_der;
+use sec1::der::{ErrorKind, read_der};
 use sec1::point::EncodedPoint32;
-use sec1::{Result, der};
+use sec1::{Error, Result, der};
 
 /// Reads a certificate (RFC 5280 section 4.1).
 ///
@@ -25,6 +26,7 @@ pub fn read_certificate<'a>(bytes: &'a [u8]) -> der::Result<Certificate<'a>>
     ensures only { (certificate : Certificate)
         → element_of 0x30 (certificate_content certificate) ≡ Some bytes.now
         → result ≡ Ok certificate }
+    ensures kinds { IfErr result (λ e. IsReadingFault e.kind) }
     ensures kind { HasFault result (element_fault 0x30 certificate_fault end_fault bytes.now) }
 {
     read_der(bytes)
@@ -39,6 +41,8 @@ pub fn read_certificate<'a>(bytes: &'a [u8]) -> der::Result<Certificate<'a>>
 pub fn public_point(bytes: &[u8]) -> Result<EncodedPoint32>
     ensures found { IfOk result (λ point. (certificate : Certificate)
         × (element_of 0x30 (certificate_content certificate) ≡ Some bytes.now)
+        × ((curve : Curve) × IsOnCurve curve certificate.tbs_certificate.public_key.algorithm
+        × (field_len curve ≡ 32))
         × HasPoint 32 certificate.tbs_certificate.public_key (point_of point)) }
     ensures only { (certificate : Certificate) (curve : Curve) (point : Point)
         → element_of 0x30 (certificate_content certificate) ≡ Some bytes.now
@@ -46,6 +50,22 @@ pub fn public_point(bytes: &[u8]) -> Result<EncodedPoint32>
         → field_len curve ≡ 32
         → HasPoint 32 certificate.tbs_certificate.public_key point
         → IsOkAnd result (λ found. point_of found ≡ point) }
+    ensures no_certificate { (kind : ErrorKind)
+        → element_fault 0x30 certificate_fault end_fault bytes.now ≡ Some kind
+        → RefusesAsn1 result kind }
+    ensures other_curve { (certificate : Certificate)
+        → element_of 0x30 (certificate_content certificate) ≡ Some bytes.now
+        → ((curve : Curve) → IsOnCurve curve certificate.tbs_certificate.public_key.algorithm
+        → field_len curve ≢ 32) → result ≡ Err Error.Crypto }
+    ensures no_point { (certificate : Certificate) (curve : Curve)
+        → element_of 0x30 (certificate_content certificate) ≡ Some bytes.now
+        → IsOnCurve curve certificate.tbs_certificate.public_key.algorithm
+        → field_len curve ≡ 32
+        → ((point : Point) → ¬ HasPoint 32 certificate.tbs_certificate.public_key point)
+        → result ≡ Err Error.PointEncoding }
+    ensures kinds { (certificate : Certificate)
+        → element_of 0x30 (certificate_content certificate) ≡ Some bytes.now
+        → IfErr result (λ e. (e ≡ Error.Crypto) ⊎ (e ≡ Error.PointEncoding)) }
 {
     let certificate = read_certificate(bytes)?;
     certificate.tbs_certificate.public_key.point()
