@@ -34,8 +34,7 @@ pub returns-in_err-total-clause-only : goal.returns-in_err-total-clause-only
 returns-in_err-total-clause-only c = λ numbers is.
     let (left, there, same) = next_left (Some c.in-Some.number) _ numbers _ _ (c.loop-number.invariant.left numbers is)
     c.in-Some.ensures.shorter c.in-Some.ensures.first in
-    rw c.from_residual-in_err-total.ensures
-    (λ small. c.in_err-total.ensures (omega (arith, c.in_ok-to_u64.ensures.value)))
+    grind (arith, common_steps)
 
 pub loop-number-preserved : goal.loop-number-preserved
 loop-number-preserved c = record {
