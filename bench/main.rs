@@ -2,6 +2,7 @@
 //!
 //!     main measure         runs each line and prints its samples, as nanoseconds
 //!     main table FILE..    prints the table of the samples of one or more runs
+//!     main lines           prints the name of each line, and how many jobs a call does, by us and by OpenSSL
 //!     main large           reads the longest document there is, once by each side, and prints the seconds
 //!     main repeat LINE ours|peer|openssl COUNT     runs one side of one line so often, for a profiler
 mod heap;
@@ -230,6 +231,9 @@ const LENGTHS: [usize; 8] = [1, 32, 0x77, 0x81, 3, 0x1F0, 0x1_2345, 0x0FFF_FFFF]
 
 /// How often each call on many points goes over them, and how often a text is read.
 const ROUNDS: usize = 200;
+
+/// The name of the line that calls nothing.
+const EMPTY: &str = "an empty call";
 
 /// How often OpenSSL writes a key that it reads once.
 const WRITES: usize = 200;
@@ -622,16 +626,25 @@ fn main() {
             &args[1..],
             &lines.iter().map(|line| line.name).collect::<Vec<&str>>(),
         ),
+        ["lines"] => {
+            println!("{EMPTY}\t1\t0");
+            for line in &lines {
+                let openssl = match &line.openssl {
+                    Some((jobs, call)) if call() > 0 => *jobs,
+                    _ => 0,
+                };
+                println!("{}\t{}\t{openssl}", line.name, line.jobs);
+            }
+        }
         ["large"] => large(),
         ["repeat", name, side, count] => {
-            let line = lines
-                .iter()
-                .find(|line| line.name == name)
-                .expect("a line's name");
-            let call = match (side, &line.openssl) {
-                ("ours", _) => &line.ours,
-                ("openssl", Some((_, call))) => call,
-                _ => &line.peer,
+            let empty: Call = Box::new(|| 0);
+            let line = lines.iter().find(|line| line.name == name);
+            let call = match (line, side) {
+                (None, _) => &empty,
+                (Some(line), "ours") => &line.ours,
+                (Some(line), "peer") => &line.peer,
+                (Some(line), _) => &line.openssl.as_ref().expect("a line of OpenSSL's").1,
             };
             let count: usize = count.parse().expect("a count");
             for _ in 0..count {
@@ -639,7 +652,7 @@ fn main() {
             }
         }
         _ => eprintln!(
-            "usage: main measure | table FILE.. | large | repeat LINE ours|peer|openssl COUNT"
+            "usage: main measure | table FILE.. | lines | large | repeat LINE ours|peer|openssl COUNT"
         ),
     }
 }
