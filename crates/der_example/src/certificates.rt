@@ -1,10 +1,10 @@
 //! Certificates and containers of keys, by the records of `pkix`.
 ghost use Rattle.std.specs.Prelude.{◌≡◌, ◌≢◌, ◌⊎◌, Ok, Err, Some, IfOk, IfErr, IsOkAnd};
-ghost use Rattle.pkix.specs.Curves.{field_len};
+ghost use Rattle.curves.specs.Curves.{field_len};
 ghost use Rattle.pkix.specs.EcKeys.{HasPoint, IsOnCurve};
 ghost use Rattle.pkix.specs.Records.{certificate_content, certificate_fault};
 ghost use Rattle.pkix.specs.declared.certificate.Certificate.{Certificate};
-ghost use Rattle.pkix.specs.declared.curve.Curve.{Curve};
+ghost use Rattle.curves.specs.declared.curve.Curve.{Curve};
 ghost use Rattle.sec1.specs.EncodedPoints.{point_of};
 ghost use Rattle.sec1.specs.Errors.{RefusesAsn1};
 ghost use Rattle.sec1.specs.Points.{Point};

@@ -1,10 +1,10 @@
 //! The curves that algorithms name.
 ghost use Rattle.std.specs.Prelude.{◌≡◌, Some, IfSome};
-ghost use Rattle.pkix.specs.Curves.{curve_arcs};
-ghost use Rattle.pkix.specs.declared.curve.Curve.{Curve};
+ghost use Rattle.curves.specs.Curves.{curve_arcs};
+ghost use Rattle.curves.specs.declared.curve.Curve.{Curve};
 
 use crate::AlgorithmIdentifier;
-use pkix::Curve;
+use curves::Curve;
 
 /// Returns the curve that is the parameter of an algorithm, if it is one of the table.
 pub fn curve_of(algorithm: &AlgorithmIdentifier) -> Option<Curve>

@@ -4,9 +4,9 @@ use Rattle.sec1.specs.Keys.{Key}
 use Rattle.sec1.specs.Points.{Point, IsPoint, encoding}
 use Rattle.sec1_der.specs.Elements.{element_of}
 use Rattle.sec1_der.specs.Identifiers.{identifier_content}
-use Rattle.pkix.specs.Curves.{curve_arcs}
+use Rattle.curves.specs.Curves.{curve_arcs}
 use Rattle.pkix.specs.declared.algorithm.AlgorithmIdentifier.{AlgorithmIdentifier}
-use Rattle.pkix.specs.declared.curve.Curve.{Curve}
+use Rattle.curves.specs.declared.curve.Curve.{Curve}
 use Rattle.pkix.specs.declared.public_key.SubjectPublicKeyInfo.{SubjectPublicKeyInfo}
 
 -- RFC 5480 section 2.1.1: the content of id-ecPublicKey

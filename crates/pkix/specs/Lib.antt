@@ -1,4 +1,3 @@
-pub mod Curves
 pub mod EcKeys
 pub mod Records
 pub mod Versions

@@ -7,11 +7,11 @@ ghost use Rattle.sec1.specs.KeyRefusals.{key_fault};
 ghost use Rattle.sec1.specs.Keys.{Key, IsKeyOf};
 ghost use Rattle.sec1.specs.Points.{Fits, Point};
 ghost use Rattle.sec1_der.specs.declared.error.ErrorKind.{ErrorKind};
-ghost use Rattle.pkix.specs.Curves.{field_len};
+ghost use Rattle.curves.specs.Curves.{field_len};
 ghost use Rattle.pkix.specs.EcKeys.{IsOnCurve, NamesCurve, HasPoint};
 
-use crate::curve::laws;
 use crate::{AlgorithmIdentifier, Curve, PrivateKeyInfo, SubjectPublicKeyInfo};
+use curves::laws;
 use sec1::point::EncodedPoint;
 use sec1::{EcParameters, EcPrivateKey, Error, Result};
 use sec1_der::{ObjectIdentifier, read_der};

@@ -2,21 +2,18 @@
 
 mod algorithm;
 mod certificate;
-pub mod curve;
 mod extension;
 mod keys;
 mod name;
 mod private_key;
 mod public_key;
 mod signature;
-#[cfg(test)]
-mod tests;
 mod validity;
 mod version;
 
 pub use algorithm::AlgorithmIdentifier;
 pub use certificate::{Certificate, TbsCertificate};
-pub use curve::Curve;
+pub use curves::Curve;
 pub use extension::Extension;
 pub use name::{AttributeTypeAndValue, Name, RelativeDistinguishedName};
 pub use private_key::{Attribute, Attributes, OneAsymmetricKey, PrivateKeyInfo, ValueSet};

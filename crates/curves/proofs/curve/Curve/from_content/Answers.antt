@@ -4,9 +4,9 @@ use Rattle.std.proofs.lemmas.Iterator.{YieldsList-from_slice}
 use Rattle.std.proofs.lemmas.Iterator.Adapters.{option_map_id}
 use Rattle.std.proofs.lemmas.Iterator.Consumers.{YieldsList-from_copied}
 use Rattle.std.proofs.lemmas.Iterator.Search.{find_from_yields_List}
-use Rattle.pkix.proofs.CurveLemmas.{has_content, find-has_content}
-use Rattle.pkix.specs.declared.curve.TheConstants.Curve.{ALL}
-use Rattle.pkix.proofs.curve.Curve.from_content.Goals as goal
+use Rattle.curves.proofs.CurveLemmas.{has_content, find-has_content}
+use Rattle.curves.specs.declared.curve.TheConstants.Curve.{ALL}
+use Rattle.curves.proofs.curve.Curve.from_content.Goals as goal
 
 pub returns-clause-only : goal.returns-clause-only
 unfolding has_content

@@ -1,6 +1,6 @@
 //! The table beside the named curves of OpenSSL.
 use crate::Curve;
-use sec1::der::{ObjectIdentifier, from_der, to_der};
+use sec1_der::{ObjectIdentifier, from_der, to_der};
 use std::test::Fail;
 
 /// What `tests/curves.sh` prints: OpenSSL's version and each of its named curves over a prime

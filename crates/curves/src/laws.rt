@@ -1,10 +1,10 @@
 //! Laws of the table of curves, for callers to cite. Each law is the contract of a function, which
 //! does nothing else.
 ghost use Rattle.std.specs.Prelude.{◌≡◌, ◌↔◌, ℕ, List, Contains, IsTrue};
-ghost use Rattle.pkix.specs.Curves.{curve_arcs, curve_content, IsNameOf};
-ghost use Rattle.pkix.specs.declared.curve.Curve.{Curve};
+ghost use Rattle.curves.specs.Curves.{curve_arcs, curve_content, IsNameOf};
+ghost use Rattle.curves.specs.declared.curve.Curve.{Curve};
 
-use super::Curve;
+use crate::Curve;
 
 /// [`Curve::ALL`] has each curve.
 #[tactic(auto, using(crate::proofs::CurveLemmas::all_curves))]

@@ -1,8 +1,8 @@
 use Rattle.std.proofs.lemmas.Option.{IfSome_then}
 use Rattle.sec1_der.specs.IdentifierLaws.{identifier_content-valid}
-use Rattle.pkix.specs.Curves.{curve_arcs}
-use Rattle.pkix.proofs.CurveLemmas.{content-curve_arcs}
-use Rattle.pkix.proofs.curve.Curve.from_identifier.Goals as goal
+use Rattle.curves.specs.Curves.{curve_arcs}
+use Rattle.curves.proofs.CurveLemmas.{content-curve_arcs}
+use Rattle.curves.proofs.curve.Curve.from_identifier.Goals as goal
 
 pub returns-clause-found : goal.returns-clause-found
 returns-clause-found c =

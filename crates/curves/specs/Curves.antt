@@ -1,9 +1,9 @@
 -- The named elliptic curves over prime fields: their identifiers, their names and the lengths of
 -- their fields.
 use Rattle.std.specs.Prelude.{◌≡◌, ℕ, ◌+◌, ◌/◌, ◌⊎◌, List, [], ◌∷◌, codes, Option, Some, None}
-use Rattle.sec1.specs.Der.{content_of}
-use Rattle.pkix.specs.declared.curve.Curve.{Curve}
-use Rattle.pkix.specs.declared.curve.Curve.TheVariants as curves
+use Rattle.sec1_der.specs.Identifiers.{content_of}
+use Rattle.curves.specs.declared.curve.Curve.{Curve}
+use Rattle.curves.specs.declared.curve.Curve.TheVariants as curves
 
 -- The arcs of each curve's identifier, in the order of its dotted text: SEC 2 appendix A.2.1,
 -- RFC 5480 section 2.1.1.1, RFC 3279 section 2.3.5 (ANSI X9.62) and RFC 5639 section 4.1.

@@ -8,10 +8,10 @@ use Rattle.std.specs.Prelude.{Contains, find, option_map, position}
 use Rattle.std.specs.Str.{bytes_eq}
 use Rattle.sec1_der.specs.IdentifierLaws.{is_identifier-true, identifier_content-valid}
 use Rattle.sec1_der.specs.Identifiers.{content_of, identifier_content, is_identifier}
-use Rattle.pkix.specs.Curves.{curve_arcs, curve_content, curve_name, curve_alias, x962_name, IsNameOf}
-use Rattle.pkix.specs.declared.curve.Curve.{Curve}
-use Rattle.pkix.specs.declared.curve.Curve.TheVariants as curves
-use Rattle.pkix.specs.declared.curve.TheConstants.Curve.{ALL}
+use Rattle.curves.specs.Curves.{curve_arcs, curve_content, curve_name, curve_alias, x962_name, IsNameOf}
+use Rattle.curves.specs.declared.curve.Curve.{Curve}
+use Rattle.curves.specs.declared.curve.Curve.TheVariants as curves
+use Rattle.curves.specs.declared.curve.TheConstants.Curve.{ALL}
 
 -- whether the text is the one of a choice
 abbrev pub is_text : List ℕ → Option (List ℕ) → Bool

@@ -2,12 +2,10 @@
 //! (RFC 3279 section 2.3.5) and of RFC 5639: their identifiers, their names and the lengths of
 //! their fields.
 ghost use Rattle.std.specs.Prelude.{◌≡◌, ◌↔◌, ℕ, List, IsTrue, IfSome, Some, option_map};
-ghost use Rattle.pkix.specs.Curves.{curve_arcs, curve_content, curve_name, curve_alias, x962_name};
-ghost use Rattle.pkix.specs.Curves.{IsNameOf, field_len};
+ghost use Rattle.curves.specs.Curves.{curve_arcs, curve_content, curve_name, curve_alias};
+ghost use Rattle.curves.specs.Curves.{x962_name, IsNameOf, field_len};
 
-pub mod laws;
-
-use sec1::der::{self, ObjectIdentifier};
+use sec1_der::ObjectIdentifier;
 
 /// A named elliptic curve over a prime field: those of SEC 2 v1.0 and v2.0, among which are the
 /// five of RFC 5480 section 2.1.1.1, the further ones of ANSI X9.62, and those of RFC 5639.
@@ -192,7 +190,7 @@ impl Curve {
         ensures found { IfSome result (λ curve. curve_arcs curve ≡ identifier.now) }
         ensures only { (curve : Curve) → curve_arcs curve ≡ identifier.now → result ≡ Some curve }
     {
-        der::laws::one_identifier();
+        sec1_der::laws::one_identifier();
         Curve::from_content(identifier.as_bytes())
     }
 

@@ -5,9 +5,9 @@ use Rattle.std.proofs.lemmas.Iterator.{YieldsList-from_slice}
 use Rattle.std.proofs.lemmas.Iterator.Adapters.{option_map_id}
 use Rattle.std.proofs.lemmas.Iterator.Consumers.{YieldsList-from_copied}
 use Rattle.std.proofs.lemmas.Iterator.Search.{find_from_yields_List}
-use Rattle.pkix.proofs.CurveLemmas.{has_name, has_name-decides, find-has_name}
-use Rattle.pkix.specs.declared.curve.TheConstants.Curve.{ALL}
-use Rattle.pkix.proofs.curve.Curve.from_name.Goals as goal
+use Rattle.curves.proofs.CurveLemmas.{has_name, has_name-decides, find-has_name}
+use Rattle.curves.specs.declared.curve.TheConstants.Curve.{ALL}
+use Rattle.curves.proofs.curve.Curve.from_name.Goals as goal
 
 pub returns-clause-only : goal.returns-clause-only
 returns-clause-only c curve is =
