@@ -1,17 +1,28 @@
 //! The kinds of [`Leaf`](crate::Leaf): a tag and a test of contents each.
-ghost use Rattle.std.specs.Prelude.{◌≡◌, ◌==◌, ◌%◌, ℕ, List, true, length};
+ghost use Rattle.std.specs.Prelude.{◌≡◌, ◌==◌, ◌%◌, ℕ, List, Bool, true, length};
 ghost use Rattle.std.specs.Str.{is_utf8};
 ghost use Rattle.der_types.specs.Integers.{is_integer};
 ghost use Rattle.der_types.specs.ObjectIdentifiers.{is_object_identifier};
 ghost use Rattle.der_types.specs.Strings.{is_ia5, is_numeric_string, is_printable, is_visible};
 ghost use Rattle.der_types.specs.Times.{is_generalized_time, is_utc_time};
 
-use crate::Kind;
 use crate::integer::is_integer;
 use crate::object_identifier::is_object_identifier;
 use crate::string::{is_ia5, is_numeric_string, is_printable, is_utf8, is_visible};
 use crate::time::{is_generalized_time, is_utc_time};
 use sec1_der::{Tag, Tagged};
+
+/// A type of values that are known by their contents: which bytes are one. It is [`Tagged`] too.
+// `Tagged` isn't a supertrait: the bound of a struct must be met by one impl alone, and each
+// `Record` is `Tagged`.
+pub trait Kind {
+    /// The test of contents.
+    ghost passes: { List ℕ → Bool };
+
+    /// Returns `true` if the bytes are the content of a value.
+    fn test(bytes: &[u8]) -> bool
+        ensures { result ≡ passes bytes.now };
+}
 
 /// An INTEGER: a number in two's complement, in as few bytes as possible (X.690 section 8.3).
 pub struct Integer;

@@ -1,29 +1,17 @@
 //! A value that is known by its content: a tag, and a test of contents.
-ghost use Rattle.std.specs.Prelude.{◌≡◌, ◌<◌, ◌≤◌, ◌↔◌, ℕ, List, length, Bool, true, Some};
+ghost use Rattle.std.specs.Prelude.{◌≡◌, ◌<◌, ◌≤◌, ◌↔◌, ℕ, List, length, true, Some};
 ghost use Rattle.std.specs.Prelude.{IsOk, IfOk, IfErr};
 ghost use Rattle.der_types.specs.Leaves.{content_if, passes-content_if};
 ghost use Rattle.sec1_der.specs.Contents.{value_unless};
 ghost use Rattle.sec1_der.specs.Elements.{max_length};
 ghost use Rattle.sec1_der.specs.Faults.{Refuses};
 
-use crate::kind;
+use crate::kind::{self, Kind};
 use sec1_der::{
     BackWriter, DecodeValue, EncodeValue, ErrorKind, Length, Result, SliceReader, SliceWriter, Tag,
     Tagged, UniqueContent, ValueContent,
 };
 use std::marker::{Model, PhantomData};
-
-/// A type of values that are known by their contents: which bytes are one. It is [`Tagged`] too.
-// `Tagged` isn't a supertrait: the bound of a struct must be met by one impl alone, and each
-// `Record` is `Tagged`.
-pub trait Kind {
-    /// The test of contents.
-    ghost passes: { List ℕ → Bool };
-
-    /// Returns `true` if the bytes are the content of a value.
-    fn test(bytes: &[u8]) -> bool
-        ensures { result ≡ passes bytes.now };
-}
 
 /// A value that borrows its content, which passes the test of `K`. A contract sees the content.
 #[derive(Drop)]

@@ -40,8 +40,9 @@ pub use codec::read_part;
 pub use constant::{Constant, ConstantContent, Null, True};
 pub use default::{Defaulted, HasDefault};
 pub use implicit::Implicit;
+pub use kind::Kind;
 pub use leaf::{
-    BmpString, Enumerated, GeneralizedTime, Ia5String, Integer, Kind, Leaf, NumericString,
+    BmpString, Enumerated, GeneralizedTime, Ia5String, Integer, Leaf, NumericString,
     ObjectIdentifierRef, PrintableString, TeletexString, UniversalString, UtcTime, Utf8String,
     VisibleString,
 };
