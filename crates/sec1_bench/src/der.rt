@@ -6,7 +6,8 @@ use sec1::der::{Header, IoFault, ObjectIdentifier, Read, SecretDocument, SliceRe
 use std::alloc::Global;
 use std::str::from_utf8;
 
-/// Reads headers, one after the other, to the end. Returns the sum of the lengths that they announce.
+/// Reads headers, one after the other, to the end. Returns the sum of the lengths that they
+/// announce.
 #[unsafe(no_mangle)]
 pub extern "C" fn sec1_headers_read(input: &[u8]) -> usize {
     let mut reader = SliceReader::new(input);
@@ -35,7 +36,8 @@ pub extern "C" fn sec1_identifier_read(input: &[u8]) -> usize {
     }
 }
 
-/// Reads an identifier's dotted text. Returns the length of its content and the last byte, added up.
+/// Reads an identifier's dotted text. Returns the length of its content and the last byte, added
+/// up.
 #[unsafe(no_mangle)]
 pub extern "C" fn sec1_identifier_parse(input: &[u8]) -> usize {
     let Ok(text) = from_utf8(input) else {

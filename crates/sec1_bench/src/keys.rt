@@ -38,7 +38,8 @@ pub extern "C" fn sec1_key_write(private_key: &[u8], public_key: &[u8], out: &mu
     key.encode_to_slice(out).unwrap_or(0)
 }
 
-/// Writes a key without a curve and a public key into the slice. Returns the length of its encoding.
+/// Writes a key without a curve and a public key into the slice. Returns the length of its
+/// encoding.
 #[unsafe(no_mangle)]
 pub extern "C" fn sec1_key_write_bare(private_key: &[u8], out: &mut [u8]) -> usize {
     let key = EcPrivateKey {

@@ -1,5 +1,6 @@
-//! The calls of `sec1` as a benchmark makes them: exports over slices, each with one number that sums up what the call
-//! did, so that the same job by other code can be compared. If a call fails, the number is 0.
+//! The calls of `sec1` as a benchmark makes them: exports over slices, each with one number that
+//! sums up what the call did, so that the same job by other code can be compared. If a call fails,
+//! the number is 0.
 #![tactic(auto)]
 
 mod der;

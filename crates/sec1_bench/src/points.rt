@@ -1,5 +1,5 @@
-//! Points over a field of 256 bits. Calls on points that were read before are made for each of 64 points, many times over,
-//! so that reading the points counts for little.
+//! Points over a field of 256 bits. Calls on points that were read before are made for each of 64
+//! points, many times over, so that reading the points counts for little.
 use crate::length_and_last;
 use sec1::point::EncodedPoint32;
 use std::alloc::Global;
@@ -33,7 +33,8 @@ pub extern "C" fn sec1_point_copy(alloc: Global, input: &[u8]) -> usize {
     }
 }
 
-/// Reads a point from hexadecimal text, `rounds` times. Returns the sum of the lengths and last bytes.
+/// Reads a point from hexadecimal text, `rounds` times. Returns the sum of the lengths and last
+/// bytes.
 #[unsafe(no_mangle)]
 pub extern "C" fn sec1_point_parse(input: &[u8], rounds: usize) -> usize {
     let Ok(text) = from_utf8(input) else {
@@ -77,7 +78,8 @@ fn points(input: &[u8]) -> [EncodedPoint32; COUNT] {
     points
 }
 
-/// Compresses 64 points, `rounds` times, and copies each encoding into the slice. Returns the sum of the lengths.
+/// Compresses 64 points, `rounds` times, and copies each encoding into the slice. Returns the sum
+/// of the lengths.
 #[unsafe(no_mangle)]
 pub extern "C" fn sec1_points_compress(input: &[u8], out: &mut [u8], rounds: usize) -> usize {
     let points = points(input);

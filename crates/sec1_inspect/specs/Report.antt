@@ -1,5 +1,6 @@
 -- The report on an input: its text, and the status that the program ends with.
-use Rattle.std.specs.Prelude.{◌≡◌, ℕ, ◌<◌, ◌≤◌, ◌⊎◌, List, [], ◌∷◌, ◌++◌, Option, Some, None, MatchResult, Bool, ◌==◌, ◌||◌, not, filter, length, codes}
+use Rattle.std.specs.Prelude.{◌≡◌, ℕ, ◌<◌, ◌≤◌, ◌⊎◌, List, [], ◌∷◌, ◌++◌, Option, Some, None}
+use Rattle.std.specs.Prelude.{MatchResult, Bool, ◌==◌, ◌||◌, not, filter, length, codes}
 use Rattle.std.specs.Fmt.{decimal}
 use Rattle.hex.specs.Hex.{decode_of, encode_upper}
 use Rattle.sec1.specs.Keys.{Key, IsKeyOf}
@@ -7,7 +8,9 @@ use Rattle.sec1.specs.Der.{dotted, Tree, IsTreeOf, depth, size, max_tree_depth}
 use Rattle.sec1.specs.Points.{Point, IsPoint, IsEncoding, encoding}
 use Rattle.sec1.specs.Tags.{point_tag}
 use Rattle.sec1.specs.declared.point.tag.Tag.{Tag}
-use Rattle.sec1.specs.declared.point.tag.Tag.TheVariants.{Identity, CompressedEvenY, CompressedOddY, Uncompressed, Compact, HybridEvenY, HybridOddY}
+use Rattle.sec1.specs.declared.point.tag.Tag.TheVariants.{Identity, CompressedEvenY, CompressedOddY}
+use Rattle.sec1.specs.declared.point.tag.Tag.TheVariants.{Uncompressed, Compact, HybridEvenY}
+use Rattle.sec1.specs.declared.point.tag.Tag.TheVariants.{HybridOddY}
 
 -- the greatest length of an input in bytes
 abbrev pub limit : ℕ
@@ -49,7 +52,8 @@ pub record IsPointText (size : ℕ) (bytes text : List ℕ) : Type 0 where
   pub encoded : bytes ≡ encoding size point
   pub words : text ≡ tag_words size (point_tag point)
 
--- the words for the point that these bytes encode at the first of these sizes at which they encode one, otherwise `none`
+-- the words for the point that these bytes encode at the first of these sizes at which they encode
+-- one, otherwise `none`
 abbrev pub IsFirstPointText : List ℕ → List ℕ → List ℕ → Type 0
 IsFirstPointText [] bytes text = text ≡ codes "none"
 IsFirstPointText (size ∷ sizes) bytes text =
@@ -88,7 +92,8 @@ IsTreeText bytes text =
 
 -- the report on an input that is refused for this reason, with these words for its tree
 pub record IsRefusal (reason tree text : List ℕ) (status : ℕ) : Type 0 where
-  pub lines : text ≡ (codes "refused: " ++ (reason ++ codes "\n")) ++ (codes "tree: " ++ (tree ++ codes "\n"))
+  pub lines : text ≡ (codes "refused: " ++ (reason ++ codes "\n"))
+      ++ (codes "tree: " ++ (tree ++ codes "\n"))
   pub refused : status ≡ 1
 
 -- the report on bytes that aren't a key's
@@ -118,7 +123,8 @@ IsReportUnlessLong IsReportOn input text status =
 
 -- the report on an input in hexadecimal
 abbrev pub IsReport : List ℕ → List ℕ → ℕ → Type 0
-IsReport input text status = IsReportUnlessLong (λ bytes. IsReportOnDigits (stripped bytes)) input text status
+IsReport input text status =
+    IsReportUnlessLong (λ bytes. IsReportOnDigits (stripped bytes)) input text status
 
 -- the report on an input in DER
 abbrev pub IsDerReport : List ℕ → List ℕ → ℕ → Type 0

@@ -27,13 +27,15 @@ abbrev pub ReadsInput : Option (List ℕ) → Option (List ℕ) → Type 0
 ReadsInput old new = (taken : List ℕ) × Takes old new taken
 
 -- the whole text of the report on the input was written, and this is its status
-pub record WritesReport (IsReport : List ℕ → List ℕ → ℕ → Type 0) (input old new : Option (List ℕ)) (status : ℕ) : Type 0 where
+pub record WritesReport (IsReport : List ℕ → List ℕ → ℕ → Type 0) (input old new : Option (List ℕ))
+    (status : ℕ) : Type 0 where
   pub text : List ℕ
   pub appended : Appends old new text
   pub report : IfSome input (λ bytes. IsReport bytes text status)
 
 -- a beginning of the text of the report on the input was written
-pub record WritesBeginning (IsReport : List ℕ → List ℕ → ℕ → Type 0) (input old new : Option (List ℕ)) : Type 0 where
+pub record WritesBeginning (IsReport : List ℕ → List ℕ → ℕ → Type 0)
+    (input old new : Option (List ℕ)) : Type 0 where
   pub text : List ℕ
   pub status : ℕ
   pub appended : AppendsBeginning old new text
@@ -45,7 +47,8 @@ report_in Text = IsReport
 report_in Der = IsDerReport
 
 -- a report on the input has this status
-pub record HasStatus (IsReport : List ℕ → List ℕ → ℕ → Type 0) (input : Option (List ℕ)) (status : ℕ) : Type 0 where
+pub record HasStatus (IsReport : List ℕ → List ℕ → ℕ → Type 0) (input : Option (List ℕ))
+    (status : ℕ) : Type 0 where
   pub text : List ℕ
   pub report : IfSome input (λ bytes. IsReport bytes text status)
 

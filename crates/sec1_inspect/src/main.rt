@@ -1,11 +1,13 @@
-//! Inspects an EC private key: hexadecimal text on standard input, or DER in the file named by the one argument.
+//! Inspects an EC private key: hexadecimal text on standard input, or DER in the file named by the
+//! one argument.
 #![tactic(auto)]
 
 mod report;
 #[cfg(test)]
 mod tests;
 
-ghost use Rattle.std.specs.Prelude.{◌≡◌, ◌≢◌, ◌<◌, ◌≤◌, ℕ, List, false, ◌↔◌, ◌⊎◌, IsTrue, IfOk, IfErr, OnOk, OnErr, IsErrOf, MatchOption, MatchResult, Ok};
+ghost use Rattle.std.specs.Prelude.{◌≡◌, ◌≢◌, ◌<◌, ◌≤◌, ℕ, List, false, ◌↔◌, ◌⊎◌, IsTrue, IfOk};
+ghost use Rattle.std.specs.Prelude.{IfErr, OnOk, OnErr, IsErrOf, MatchOption, MatchResult, Ok};
 ghost use Rattle.std.specs.Prelude.{Err, string_bytes};
 ghost use Rattle.std.specs.Io.KnownBytes.{Appends, IsAtEnd};
 ghost use Rattle.sec1.specs.Der.{AppendsBeginning};
@@ -13,7 +15,8 @@ ghost use Rattle.sec1_inspect.specs.declared.Failure.TheVariants.{Run, Paths};
 ghost use Rattle.sec1_inspect.specs.declared.Fault.TheVariants.{Input, Output, Memory};
 ghost use Rattle.sec1_inspect.specs.declared.Source.TheVariants.{StandardInput, File};
 ghost use Rattle.sec1_inspect.specs.Report.{IsDerReport, IsReport};
-ghost use Rattle.sec1_inspect.specs.Run.{HasStatus, ReadsInput, ReadsOnto, Takes, WritesBeginning, WritesReport, line_of, report_in};
+ghost use Rattle.sec1_inspect.specs.Run.{HasStatus, ReadsInput, ReadsOnto, Takes, WritesBeginning};
+ghost use Rattle.sec1_inspect.specs.Run.{WritesReport, line_of, report_in};
 
 use crate::report::{LIMIT, Report, report_on_der, report_on_text};
 use sec1::der::{Read, StdReader, StdWriter, Write};
@@ -52,13 +55,13 @@ impl From<AllocError> for Fault {
     }
 }
 
-/// Reads an input in hexadecimal, writes the report on it, and returns the status: 0 for a key, 1 for anything else. At
-/// most 1,048,577 bytes are read.
+/// Reads an input in hexadecimal, writes the report on it, and returns the status: 0 for a key, 1
+/// for anything else. At most 1,048,577 bytes are read.
 ///
 /// # Errors
 ///
-/// Input exactly if a read failed, Output exactly if a write failed, Memory if an allocation failed. After Output a
-/// beginning of the report is written, otherwise nothing.
+/// Input exactly if a read failed, Output exactly if a write failed, Memory if an allocation
+/// failed. After Output a beginning of the report is written, otherwise nothing.
 pub fn run<R: Read, W: Write>(alloc: Global, reader: &mut R, writer: &mut W) -> Result<u8, Fault>
     requires reader { R.failed reader.old ≡ false }
     requires writer { W.failed writer.old ≡ false }
@@ -73,7 +76,8 @@ pub fn run<R: Read, W: Write>(alloc: Global, reader: &mut R, writer: &mut W) -> 
     ensures nothing { IfErr result
         (λ fault. fault ≢ Output → W.written writer.new ≡ W.written writer.old) }
     ensures beginning { IsErrOf result Fault.Output
-        → WritesBeginning IsReport (R.left reader.old) (W.written writer.old) (W.written writer.new) }
+        → WritesBeginning IsReport (R.left reader.old) (W.written writer.old)
+        (W.written writer.new) }
 {
     let input = read_input(alloc, reader)?;
     let report = report_on_text(alloc, &input)?;
@@ -98,12 +102,14 @@ pub fn run_der<R: Read, W: Write>(
 
     ensures read { OnOk result (ReadsInput (R.left reader.old) (R.left reader.new)) }
     ensures report { IfOk result
-        (WritesReport IsDerReport (R.left reader.old) (W.written writer.old) (W.written writer.new)) }
+        (WritesReport IsDerReport (R.left reader.old) (W.written writer.old)
+        (W.written writer.new)) }
 
     ensures nothing { IfErr result
         (λ fault. fault ≢ Output → W.written writer.new ≡ W.written writer.old) }
     ensures beginning { IsErrOf result Fault.Output
-        → WritesBeginning IsDerReport (R.left reader.old) (W.written writer.old) (W.written writer.new) }
+        → WritesBeginning IsDerReport (R.left reader.old) (W.written writer.old)
+        (W.written writer.new) }
 {
     let input = read_input(alloc, reader)?;
     let report = report_on_der(alloc, &input)?;
@@ -118,7 +124,8 @@ fn read_input<R: Read>(alloc: Global, reader: &mut R) -> Result<Vec<u8>, Fault>
     requires { R.failed reader.old ≡ false }
     ensures input { IsErrOf result Fault.Input ↔ IsTrue (R.failed reader.new) }
     ensures kind { IfErr result (λ fault. (fault ≡ Input) ⊎ (fault ≡ Memory)) }
-    ensures read { IfOk result (λ input. Takes (R.left reader.old) (R.left reader.new) input.items) }
+    ensures read { IfOk result
+        (λ input. Takes (R.left reader.old) (R.left reader.new) input.items) }
 {
     let mut input = Vec::new(alloc);
     while input.len() <= LIMIT {
@@ -133,8 +140,8 @@ fn read_input<R: Read>(alloc: Global, reader: &mut R) -> Result<Vec<u8>, Fault>
 /// The greatest number of bytes in one read.
 const STEP: usize = 4096;
 
-/// Appends the bytes of one read to the input, at most 4,096 and at most those missing, and returns their number: 0 only at
-/// the end. The vector grows by no more.
+/// Appends the bytes of one read to the input, at most 4,096 and at most those missing, and returns
+/// their number: 0 only at the end. The vector grows by no more.
 ///
 /// # Errors
 /// Input exactly if the read failed, Memory if the allocation failed. The vector is unchanged then.
@@ -171,7 +178,8 @@ fn write_report<W: Write>(writer: &mut W, report: &Report) -> Result<u8, Fault>
     ensures whole { OnOk result
         (Appends (W.written writer.old) (W.written writer.new) (string_bytes report.now.text)) }
     ensures beginning { OnErr result
-        (AppendsBeginning (W.written writer.old) (W.written writer.new) (string_bytes report.now.text)) }
+        (AppendsBeginning (W.written writer.old) (W.written writer.new)
+        (string_bytes report.now.text)) }
 {
     match writer.write_all(report.text.as_bytes()) {
         Ok(()) => Ok(report.status),
@@ -275,7 +283,8 @@ fn line(failure: &Failure) -> &'static str
     }
 }
 
-/// Writes the report on the source named by the program's arguments to standard output, and returns the status.
+/// Writes the report on the source named by the program's arguments to standard output, and returns
+/// the status.
 fn inspect_source<H: AllocGlobal + Env + Files + Input + Print>(rt: &H) -> Result<u8, Failure> {
     let Ok(mut arguments) = env::args(rt) else {
         return Err(Failure::Run(Fault::Input));

@@ -1,8 +1,11 @@
 //! The report on an input: its lines, and the status that the program ends with.
 
 ghost use Rattle.std.specs.Prelude.{◌≡◌, ◌<◌, ◌^◌, IfOk, MatchOption, string_bytes};
-ghost use Rattle.sec1_inspect.specs.Report.{IsDerReport, IsKeyReport, IsNoKeyReport, IsPointText, IsPublicPointText, IsRefusal, IsReport, IsReportOnBytes};
-ghost use Rattle.sec1_inspect.specs.Report.{IsTreeText, parameters_words, public_key_words, stripped, tag_words};
+ghost use Rattle.sec1_inspect.specs.Report.{IsDerReport, IsKeyReport, IsNoKeyReport, IsPointText};
+ghost use Rattle.sec1_inspect.specs.Report.{IsPublicPointText, IsRefusal, IsReport};
+ghost use Rattle.sec1_inspect.specs.Report.{IsReportOnBytes};
+ghost use Rattle.sec1_inspect.specs.Report.{IsTreeText, parameters_words, public_key_words};
+ghost use Rattle.sec1_inspect.specs.Report.{stripped, tag_words};
 ghost use Rattle.sec1.specs.Points.{Fits, IsEncoding};
 
 use hex::{FromHexError, ToHex};
@@ -39,7 +42,8 @@ pub fn report_on_text(alloc: Global, input: &[u8]) -> Result<Report, AllocError>
 
 /// Returns the report on an input in DER. Fails only if an allocation fails.
 pub fn report_on_der(alloc: Global, input: &[u8]) -> Result<Report, AllocError>
-    ensures { IfOk result (λ report. IsDerReport input.now (string_bytes report.text) report.status) }
+    ensures { IfOk result
+        (λ report. IsDerReport input.now (string_bytes report.text) report.status) }
 {
     if input.len() > LIMIT {
         return refusal(alloc, "input too long", "no");
@@ -60,7 +64,8 @@ fn without_blanks(alloc: Global, input: &[u8]) -> Result<Vec<u8>, AllocError>
 
 /// Returns the report on bytes that may be a key's.
 fn report_on_bytes(alloc: Global, bytes: &[u8]) -> Result<Report, AllocError>
-    ensures { IfOk result (λ report. IsReportOnBytes bytes.now (string_bytes report.text) report.status) }
+    ensures { IfOk result
+        (λ report. IsReportOnBytes bytes.now (string_bytes report.text) report.status) }
 {
     match EcPrivateKey::try_from(bytes) {
         Ok(key) => key_report(alloc, &key),
@@ -70,7 +75,8 @@ fn report_on_bytes(alloc: Global, bytes: &[u8]) -> Result<Report, AllocError>
 
 /// Returns the report on bytes that aren't a key's.
 fn no_key_report(alloc: Global, bytes: &[u8]) -> Result<Report, AllocError>
-    ensures { IfOk result (λ report. IsNoKeyReport bytes.now (string_bytes report.text) report.status) }
+    ensures { IfOk result
+        (λ report. IsNoKeyReport bytes.now (string_bytes report.text) report.status) }
 {
     let tree = tree_text(alloc, bytes)?;
     refusal(alloc, "not an EC private key in DER", tree.as_str())
@@ -130,7 +136,8 @@ fn public_key_text(alloc: Global, key: &EcPrivateKey) -> Result<String, AllocErr
     }
 }
 
-/// Returns the words for the point that the public key encodes, at the first size at which it does, or `none`.
+/// Returns the words for the point that the public key encodes, at the first size at which it does,
+/// or `none`.
 fn point_text(alloc: Global, key: &EcPrivateKey) -> Result<String, AllocError>
     ensures { IfOk result (λ text. IsPublicPointText key.now.public_key (string_bytes text)) }
 {
@@ -152,7 +159,8 @@ fn point_text(alloc: Global, key: &EcPrivateKey) -> Result<String, AllocError>
     "none".to_string(alloc)
 }
 
-/// Returns the words for the point that the bytes encode at field elements of N bytes, if they encode one.
+/// Returns the words for the point that the bytes encode at field elements of N bytes, if they
+/// encode one.
 fn point_words<const N: usize, const L: usize>(
     alloc: Global,
     bytes: &[u8],

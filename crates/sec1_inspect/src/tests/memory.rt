@@ -1,7 +1,8 @@
 //! What a run returns while its requests for memory are refused, one by one.
 //!
-//! They are refused by `tests/refuse.c`, an allocator that replaces the C library's in the built tests. A test controls it by
-//! requests of sizes that no allocator grants. Without it nothing is refused, and each call is made once.
+//! They are refused by `tests/refuse.c`, an allocator that replaces the C library's in the built
+//! tests. A test controls it by requests of sizes that no allocator grants. Without it nothing is
+//! refused, and each call is made once.
 use super::{KEY, KEY_REPORT};
 use crate::{Fault, run, run_der};
 use sec1::der::{Read, StdReader, StdWriter, Write};
@@ -37,12 +38,14 @@ fn refused(is_kept: bool) -> Outcome {
     }
 }
 
-/// Asks for so many bytes more than any allocator grants. Returns whether the allocator of the tests granted them.
+/// Asks for so many bytes more than any allocator grants. Returns whether the allocator of the
+/// tests granted them.
 fn signal(alloc: Global, more: u32) -> bool {
     Vec::<u8>::with_capacity(alloc, (1 << 62) + more as usize).is_ok()
 }
 
-/// Has the request of this number refused, the first from now on being 1. Returns whether the allocator of the tests is there.
+/// Has the request of this number refused, the first from now on being 1. Returns whether the
+/// allocator of the tests is there.
 fn refuse(alloc: Global, number: u16) -> bool {
     signal(alloc, u32::from(number))
 }
@@ -57,8 +60,9 @@ fn one_was_refused(alloc: Global) -> bool {
     signal(alloc, 0x3_0000)
 }
 
-/// Makes the call with its first request refused, with its second, and so on until it makes no more, and prints how
-/// many it makes. Returns whether each of these calls was refused, or succeeded after a request for less memory.
+/// Makes the call with its first request refused, with its second, and so on until it makes no
+/// more, and prints how many it makes. Returns whether each of these calls was refused, or
+/// succeeded after a request for less memory.
 fn is_refused_in_turn<F: FnMut() -> Outcome>(
     rt: &impl Print,
     alloc: Global,
@@ -87,8 +91,8 @@ fn is_refused_in_turn<F: FnMut() -> Outcome>(
     false
 }
 
-/// Returns the outcome of a run over the key. On an error nothing is written, and the reader is after the bytes
-/// it gave.
+/// Returns the outcome of a run over the key. On an error nothing is written, and the reader is
+/// after the bytes it gave.
 fn run_outcome(alloc: Global, input: &[u8], is_der: bool) -> Outcome {
     let mut room = [0u8; 220];
     let mut reader = StdReader::new(input);

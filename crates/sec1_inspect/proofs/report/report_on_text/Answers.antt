@@ -8,4 +8,5 @@ pub returns-in-Ok : goal.returns-in-Ok
 returns-in-Ok c =
     let spelled : decode_of (stripped c.args.input.now) ≡ Ok c.in-Ok.bytes.items =
     rw (c.as_slice.ensures.value, c.in_ok-digits.ensures) at c.in-Ok.ensures.ok in
-    IfOk-weaker _ _ _ (λ report on_bytes. inr (c.if-input-gt-LIMIT.false, rw spelled on_bytes)) (rw c.deref.ensures.value at c.report_on_bytes.ensures)
+    IfOk-weaker _ _ _ (λ report on_bytes. inr (c.if-input-gt-LIMIT.false, rw spelled on_bytes))
+    (rw c.deref.ensures.value at c.report_on_bytes.ensures)
