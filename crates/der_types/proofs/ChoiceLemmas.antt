@@ -172,7 +172,9 @@ pub present_next : (p : Tags) {P : Type 0} (bytes : P → Option (List ℕ)) (pa
     → optional_bytes bytes part ≡ Some whole → MayFollow (optional_tags p) rest
     → begins_among p.firsts (whole ++ rest) ≡ true → IsNext p bytes whole rest
 present_next p bytes None whole rest apart same may next =
-    let none : whole ≡ [] = cc (same) in absurd (cc (rw none at next, (follows_optional p rest may).0))
+    let none : whole ≡ [] = cc same in
+    let after : begins_among p.firsts rest ≡ true = rw none at next in
+    absurd (cc (after, (follows_optional p rest may).0))
 present_next p bytes (Some part) whole rest apart same may next =
     record { part = part; apart = apart; same = same; may = (follows_optional p rest may).1 }
 
