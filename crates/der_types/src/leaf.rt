@@ -1,10 +1,8 @@
 //! A value that is known by its content: a tag, and a test of contents.
-ghost use Rattle.std.specs.Prelude.{◌≡◌, ◌<◌, ◌≤◌, ◌↔◌, ℕ, List, length, true, Some};
-ghost use Rattle.std.specs.Prelude.{IsOk, IfOk, IfErr};
-ghost use Rattle.der_types.specs.Leaves.{content_if, passes-content_if};
+ghost use Rattle.std.specs.Prelude.{◌≡◌, ℕ, List, true, Some, IfOk};
+ghost use Rattle.der_types.specs.Leaves.{content_if, new_fault, passes-content_if};
 ghost use Rattle.sec1_der.specs.Contents.{value_unless};
-ghost use Rattle.sec1_der.specs.Elements.{max_length};
-ghost use Rattle.sec1_der.specs.Faults.{Refuses};
+ghost use Rattle.sec1_der.specs.Refusals.{HasFault};
 
 use crate::kind::{self, Kind};
 use sec1_der::{
@@ -34,12 +32,8 @@ impl<'a, K: Kind> Leaf<'a, K> {
     /// Overlength if there are more than 268,435,455 bytes; then Value if they don't pass the test
     /// of `K`.
     pub fn new(bytes: &'a [u8]) -> Result<Self>
-        ensures within { IsOk result
-            ↔ ((length bytes.now ≤ max_length) × (K.passes bytes.now ≡ true)) }
         ensures value { IfOk result (λ leaf. leaf ≡ bytes.now) }
-        ensures overlength { max_length < length bytes.now → Refuses result ErrorKind.Overlength }
-        ensures kind { length bytes.now ≤ max_length
-            → IfErr result (λ e. e.kind ≡ ErrorKind.Value) }
+        ensures kind { HasFault result (new_fault K.passes bytes.now) }
     {
         Length::new(bytes.len())?;
         if !K::test(bytes) {

@@ -62,8 +62,6 @@ impl<'a, T> SequenceOf<'a, T> {
             ((values : List T) × (joined T.tag_byte T.content values ≡ Some bytes.now)) }
         ensures only { (values : List T) → joined T.tag_byte T.content values ≡ Some bytes.now
             → result ≡ Ok bytes.now }
-        // The elements can be read, one after another.
-        ensures checked { OnOk result (row_fault T.tag_byte T.fault bytes.now ≡ None) }
         ensures kinds { IfErr result (λ e. IsReadingFault e.kind) }
         ensures kind { HasFault result (row_fault T.tag_byte T.fault bytes.now) }
     {

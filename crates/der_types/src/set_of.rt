@@ -67,8 +67,6 @@ impl<'a, T> SetOf<'a, T> {
         ensures ascending { OnOk result (is_ascending bytes.now ≡ true) }
         ensures only { (values : List T) → joined T.tag_byte T.content values ≡ Some bytes.now
             → is_ascending bytes.now ≡ true → result ≡ Ok bytes.now }
-        // The elements can be read, one after another.
-        ensures checked { OnOk result (row_fault T.tag_byte T.fault bytes.now ≡ None) }
         ensures kinds { IfErr result (λ e. IsReadingFault e.kind) }
         ensures kind { HasFault result (set_fault T.tag_byte T.fault bytes.now) }
     {

@@ -1,14 +1,13 @@
 //! INTEGER that is not negative, as a number.
-ghost use Rattle.std.specs.Prelude.{◌≡◌, ◌<◌, ◌≤◌, ◌^◌, ◌↔◌, ℕ, List, length, true};
-ghost use Rattle.std.specs.Prelude.{Some, IsOk, IfOk, IfErr, IsSome, IfSome};
+ghost use Rattle.std.specs.Prelude.{◌≡◌, ◌<◌, ◌^◌, ◌↔◌, ℕ, List, true, false, Some, IfOk};
+ghost use Rattle.std.specs.Prelude.{IsSome, IfSome, MatchOption};
 ghost use Rattle.std.specs.Int.Digits.{digits_of};
 ghost use Rattle.sec1_der.specs.Contents.{value_unless};
-ghost use Rattle.sec1_der.specs.Elements.{max_length};
-ghost use Rattle.sec1_der.specs.Faults.{Refuses};
 ghost use Rattle.sec1_der.specs.Numbers.{number_of};
+ghost use Rattle.sec1_der.specs.Refusals.{HasFault};
 ghost use Rattle.der_types.specs.Integers.{is_unsigned, unsigned_content};
 ghost use Rattle.der_types.specs.IntegerLaws.{is_unsigned-unsigned_content};
-ghost use Rattle.der_types.specs.Leaves.{passes-same};
+ghost use Rattle.der_types.specs.Leaves.{new_fault, passes-same};
 
 use crate::integer::is_unsigned;
 use sec1_der::{
@@ -41,12 +40,8 @@ impl<'a> Unsigned<'a> {
     /// Overlength if there are more than 268,435,455 bytes; then Value if they aren't the content
     /// of a number that isn't negative.
     pub fn new(bytes: &'a [u8]) -> Result<Self>
-        ensures within { IsOk result
-            ↔ ((length bytes.now ≤ max_length) × (is_unsigned bytes.now ≡ true)) }
         ensures value { IfOk result (λ number. unsigned_content number ≡ bytes.now) }
-        ensures overlength { max_length < length bytes.now → Refuses result ErrorKind.Overlength }
-        ensures kind { length bytes.now ≤ max_length
-            → IfErr result (λ e. e.kind ≡ ErrorKind.Value) }
+        ensures kind { HasFault result (new_fault is_unsigned bytes.now) }
     {
         Length::new(bytes.len())?;
         match Unsigned::from_content(bytes) {
@@ -58,8 +53,8 @@ impl<'a> Unsigned<'a> {
     /// Returns the number with this content, if the bytes are one.
     #[tactic(auto, using(crate::proofs::UnsignedLemmas::numbers))]
     fn from_content(bytes: &'a [u8]) -> Option<Self>
-        ensures within { IsSome result ↔ (is_unsigned bytes.now ≡ true) }
-        ensures value { IfSome result (λ number. unsigned_content number ≡ bytes.now) }
+        ensures { MatchOption result (is_unsigned bytes.now ≡ false)
+            (λ number. (unsigned_content number ≡ bytes.now) × (is_unsigned bytes.now ≡ true)) }
     {
         if is_unsigned(bytes) {
             Some(Unsigned { bytes })
