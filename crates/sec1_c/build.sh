@@ -5,7 +5,8 @@
 set -euo pipefail
 folder=$(realpath -m "${1:-$(dirname "$0")/out/install}")
 cd "$(dirname "$0")"
-${RT:-rt} lib ${JOBS:+--jobs "$JOBS"}
+# x86-64 is the processor that every x86-64 has: without the option the code asks for SSE4.1.
+${RT:-rt} lib --cpu=x86-64 ${JOBS:+--jobs "$JOBS"}
 mkdir -p "$folder/include" "$folder/lib"
 cp sec1.h "$folder/include/sec1.h"
 cp out/libsec1_c.a "$folder/lib/libsec1.a"

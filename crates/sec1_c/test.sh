@@ -63,6 +63,35 @@ if command -v nm > "$work/null" && command -v ar > "$work/null"; then
 else
     fail "nm or ar is missing (Debian: binutils)"
 fi
+# Instructions that the first x86-64 lacks: SSE3, SSSE3, SSE4, AVX, BMI, ADX and the like. tzcnt
+# isn't among them: an old processor runs it as bsf, whose result is the same for every number but
+# 0, and the compiler writes it for no other.
+newer='v[a-z0-9]+|k(mov|or|and|not|xor|test|shift|unpck|add)[a-z]+|addsubp[sd]|h(add|sub)p[sd]'
+newer+='|mov[sd][hl]?dup|lddqu|fisttp.*|m(onitor|wait)x?|pshufb|ph(add|sub)s?[wd]|pmaddubsw'
+newer+='|pabs[bwd]|psign[bwd]|pmulhrsw|palignr|p?blend[a-z]+|ptest|pmov[sz]x[a-z]+|pmul(dq|ld)'
+newer+='|pm(in|ax)(sb|sd|uw|ud)|round[ps][sd]|insertps|extractps|pinsr[bdq]|pextr[bdq]|mpsadbw'
+newer+='|phminposuw|packusdw|pcmp(eq|gt)q|dpp[sd]|movntdqa|pcmp[ei]str[im]|crc32[bwlq]?'
+newer+='|popcnt[wlq]?|lzcnt[wlq]?|andn[lq]?|bextr[lq]?|bls(i|r|msk)[lq]?|bzhi[lq]?|mulx[lq]?'
+newer+='|pdep[lq]?|pext[lq]?|rorx[lq]?|s[ah][rl]x[lq]?|ad[co]x[lq]?|movbe[wlq]?|cmpxchg16b'
+newer+='|aes[a-z]+|pclmul[a-z]+|sha(1|256)[a-z0-9]+|rd(rand|seed|pid|[fg]sbase)|[ls]ahf'
+newer+='|xsave[a-z0-9]*|xrstor[a-z0-9]*'
+instructions() {
+    objdump -d --no-show-raw-insn "$1" |
+        awk -F'\t' 'NF > 1 { split($2, word, " "); print word[1] }' | sort -u
+}
+if command -v objdump > "$work/null"; then
+    instructions "$archive" > "$work/instructions"
+    check "its code can be read" grep -qx ret "$work/instructions"
+    check "it has no instruction that some x86-64 lacks" \
+        same "$(words $(grep -Ex "$newer" "$work/instructions"))" ""
+    echo '__asm__("popcnt %eax, %eax; pshufb %xmm0, %xmm0; haddps %xmm0, %xmm0; ret");' > "$work/newer.c"
+    ${CC:-cc} -c -o "$work/newer.o" "$work/newer.c"
+    instructions "$work/newer.o" > "$work/instructions"
+    check "such an instruction is found" \
+        same "$(words $(grep -Ex "$newer" "$work/instructions"))" "haddps popcnt pshufb"
+else
+    fail "objdump is missing (Debian: binutils)"
+fi
 check "the header declares them" \
     same "$(words $(grep -o '\bsec1_[a-z_]*(' sec1.h | tr -d '(' | grep -v status_text))" "$(words $exported)"
 
