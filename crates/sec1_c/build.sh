@@ -10,6 +10,8 @@ ${RT:-rt} lib --cpu=x86-64 ${JOBS:+--jobs "$JOBS"}
 mkdir -p "$folder/include" "$folder/lib"
 cp sec1.h "$folder/include/sec1.h"
 cp out/libsec1_c.a "$folder/lib/libsec1.a"
+${CC:-cc} -std=c99 -O2 -fPIC -fvisibility=hidden -Wall -Wextra -c -o out/header.o header.c
+ar rD "$folder/lib/libsec1.a" out/header.o
 ${CC:-cc} -shared -nostdlib -o "$folder/lib/libsec1.so" -Wl,-soname,libsec1.so -Wl,--whole-archive "$folder/lib/libsec1.a" \
     -Wl,--no-whole-archive -lc
 echo "installed into $folder"

@@ -49,11 +49,14 @@ fi
 archive=$installed/lib/libsec1.a
 shared=$installed/lib/libsec1.so
 exported="sec1_check_tree sec1_document_len sec1_identifier_from_text sec1_identifier_to_text sec1_key_len sec1_key_read \
-sec1_key_write sec1_point_check sec1_point_compare sec1_point_compress sec1_point_read sec1_point_to_hybrid"
+sec1_key_write sec1_point_check sec1_point_compare sec1_point_compress sec1_point_read sec1_point_to_hybrid \
+sec1_status_text sec1_version"
 same() { [[ $1 == "$2" ]] || { echo "  '$1' isn't '$2'"; false; }; }
 words() { echo $(printf '%s\n' "$@" | LC_ALL=C sort); }
 if command -v nm > "$work/null" && command -v ar > "$work/null"; then
-    check "the archive is one object" same "$(ar t "$archive" | wc -l)" 1
+    check "the archive is two objects" same "$(words $(ar t "$archive"))" "header.o sec1_c.o"
+    check "the first is the proved one, as it was built" \
+        cmp <(ar p "$archive" sec1_c.o) <(ar p out/libsec1_c.a sec1_c.o)
     check "it wants memcpy, memmove and memset alone" \
         same "$(words $(nm -u "$archive" | awk '$1 == "U" {print $2}'))" "memcpy memmove memset"
     check "it exports what the header declares" \
@@ -93,7 +96,7 @@ else
     fail "objdump is missing (Debian: binutils)"
 fi
 check "the header declares them" \
-    same "$(words $(grep -o '\bsec1_[a-z_]*(' sec1.h | tr -d '(' | grep -v status_text))" "$(words $exported)"
+    same "$(words $(grep -o '\bsec1_[a-z_]*(' sec1.h | tr -d '(' | sort -u))" "$(words $exported)"
 
 # ---- C compilers that have the sanitizers
 
@@ -116,14 +119,7 @@ for compiler in "${compilers[@]}"; do
         $compiler $warnings $sanitizers -I "$installed/include" -o "$work/calls" tests/calls.c "$archive"
     add "tests/calls.c by $compiler" "$work/calls"
 done
-printf '#include <sec1.h>\nint main() { return sec1_point_check(nullptr, 0, 32) == SEC1_POINT_ENCODING ? 0 : 1; }\n' > "$work/header.cc"
-if command -v g++ > "$work/null"; then
-    check "the header compiles as C++" \
-        g++ -std=c++11 -Wall -Wextra -Wpedantic -Werror -I "$installed/include" -o "$work/header" "$work/header.cc" "$archive"
-    check "and runs" "$work/header"
-else
-    echo "note: g++ is missing, so the header isn't compiled as C++"
-fi
+add "tests/compilers.sh" tests/compilers.sh "$installed/include" "$archive"
 
 # ---- OpenSSL
 

@@ -1,0 +1,71 @@
+/* Calls that a compiler has to accept without a warning, and with WRONG one that it has to warn of. */
+#include <sec1.h>
+
+static uint8_t key[128], out[64];
+static char text[SEC1_IDENTIFIER_TEXT_MAX];
+static struct sec1_key_parts parts;
+static struct sec1_point_parts point;
+static size_t len;
+static int32_t order;
+
+uint32_t right_calls(size_t some);
+uint32_t wrong_call(size_t some);
+
+/* Among them NULL with the length 0 in each place, and a length that isn't known. */
+uint32_t right_calls(size_t some)
+{
+    uint32_t status = sec1_key_read(key, sizeof key, &parts);
+    status |= sec1_key_read(key, some, &parts);
+    status |= sec1_key_read(NULL, 0, &parts);
+    status |= sec1_key_len(key, 32, NULL, 0, NULL, 0, 0, &len);
+    status |= sec1_key_write(key, 32, key, 8, key, 65, 1, out, sizeof out, &len);
+    status |= sec1_key_write(NULL, 0, NULL, 0, NULL, 0, 1, NULL, 0, &len);
+    status |= sec1_point_check(key, 65, 32);
+    status |= sec1_point_check(NULL, 0, 32);
+    status |= sec1_point_read(key, 65, 32, &point);
+    status |= sec1_point_compress(key, 65, 32, out, sizeof out, &len);
+    status |= sec1_point_compress(key, 65, 32, NULL, 0, &len);
+    status |= sec1_point_to_hybrid(key, 65, 32, out, some, &len);
+    status |= sec1_point_compare(key, 65, key, 33, 32, &order);
+    status |= sec1_identifier_to_text(key, 8, text, sizeof text, &len);
+    status |= sec1_identifier_from_text("1.2.840", 7, out, sizeof out, &len);
+    status |= sec1_identifier_from_text(text, some, out, sizeof out, &len);
+    status |= sec1_check_tree(key, sizeof key, &len);
+    status |= sec1_document_len(key, sizeof key, &len);
+    return sec1_status_text(status)[0] == 'o' ? sec1_version() : status;
+}
+
+#ifndef WRONG
+#define WRONG 0
+#endif
+
+uint32_t wrong_call(size_t some)
+{
+#if WRONG == 1 /* the status is ignored */
+    sec1_key_read(key, some, &parts);
+    return 0;
+#elif WRONG == 2
+    sec1_point_compress(key, 65, 32, out, sizeof out, &len);
+    return (uint32_t)some;
+#elif WRONG == 3 /* NULL for an object */
+    return sec1_key_read(key, some, NULL);
+#elif WRONG == 4
+    return sec1_key_len(key, some, NULL, 0, NULL, 0, 0, NULL);
+#elif WRONG == 5
+    return sec1_point_compare(key, some, key, some, 32, NULL);
+#elif WRONG == 6 /* here begin those that a compiler sees by the attribute access: NULL with a length */
+    return sec1_key_read(NULL, 32 + 0 * some, &parts);
+#elif WRONG == 7
+    return sec1_key_len(key, some, NULL, 0, NULL, 65, 0, &len);
+#elif WRONG == 8
+    return sec1_point_compress(key, some, 32, NULL, 33, &len);
+#elif WRONG == 9 /* a length beyond the bytes */
+    return sec1_point_check(key, sizeof key + 1, 32 + 0 * some);
+#elif WRONG == 10
+    return sec1_identifier_to_text(key, some, text, sizeof text + 1, &len);
+#elif WRONG == 11
+    return sec1_key_write(key, 32, key, some, key, 65, 1, out, 121, &len);
+#else
+    return (uint32_t)some;
+#endif
+}
