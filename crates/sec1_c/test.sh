@@ -1,6 +1,6 @@
 #!/usr/bin/env bash
-# Builds the library, and tests it from C, Rust and Python. The last line is `N passed, M failed`; the status is 1 where
-# anything failed, also where a tool that a test needs is missing.
+# Builds the library, and tests it from C, C++, Rust and Python. The last line is `N passed, M failed`; the status is 1
+# where anything failed, also where a tool that a test needs is missing.
 # RT names the command `rt`; with SEC1_C_BUILT=1 the library that stands in out/ is taken as it is.
 set -uo pipefail
 cd "$(dirname "$0")"
@@ -61,8 +61,6 @@ if command -v nm > "$work/null" && command -v ar > "$work/null"; then
         same "$(words $(nm -u "$archive" | awk '$1 == "U" {print $2}'))" "memcpy memmove memset"
     check "it exports what the header declares" \
         same "$(words $(nm -g --defined-only "$archive" | awk 'NF == 3 {print $3}'))" "$(words $exported)"
-    check "so does the shared library" \
-        same "$(words $(nm -D --defined-only "$shared" | awk '{print $3}'))" "$(words $exported)"
 else
     fail "nm or ar is missing (Debian: binutils)"
 fi
@@ -119,14 +117,12 @@ for compiler in "${compilers[@]}"; do
         $compiler $warnings $sanitizers -I "$installed/include" -o "$work/calls" tests/calls.c "$archive"
     add "tests/calls.c by $compiler" "$work/calls"
 done
+add "tests/packaging.sh" tests/packaging.sh
 add "tests/compilers.sh" tests/compilers.sh "$installed/include" "$archive"
 
 # ---- OpenSSL
 
 has_openssl() { echo '#include <openssl/ec.h>' | ${CC:-cc} -E -o "$work/null" - 2> "$work/null"; }
-if ! has_openssl; then
-    apt-get install -y libssl-dev > "$work/apt" 2>&1 || tail -n 3 "$work/apt"
-fi
 if has_openssl && [[ ${#compilers[@]} -gt 0 ]]; then
     check "tests/openssl.c compiles" ${compilers[0]} $warnings $sanitizers -I "$installed/include" \
         -o "$work/openssl" tests/openssl.c "$archive" -lcrypto
