@@ -47,7 +47,6 @@ else
     finish
 fi
 archive=$installed/lib/libsec1.a
-shared=$installed/lib/libsec1.so
 exported="sec1_check_tree sec1_document_len sec1_identifier_from_text sec1_identifier_to_text sec1_key_len sec1_key_read \
 sec1_key_write sec1_point_check sec1_point_compare sec1_point_compress sec1_point_read sec1_point_to_hybrid \
 sec1_status_text sec1_version"
@@ -131,38 +130,11 @@ else
     fail "the headers of OpenSSL are missing (Debian: libssl-dev)"
 fi
 
-# ---- the examples
+# ---- the examples, and the header beside the source
 
-prints() { # WANTED COMMAND..: the command prints what the file has
-    local wanted=$1
-    shift
-    "$@" > "$work/printed" && diff "$wanted" "$work/printed"
-}
-key=examples/p256.der
-wanted=examples/p256.txt
-refuses() { [[ $("$@") == "refused: "* ]]; }
-head -c 60 "$key" > "$work/cut"
-if ${CC:-cc} -std=c11 -Wall -Wextra -Wpedantic -Werror -I "$installed/include" -o "$work/key_parts" examples/key_parts.c "$archive"; then
-    check "the example in C" prints "$wanted" "$work/key_parts" "$key"
-    check "the example in C refuses half a key" refuses "$work/key_parts" "$work/cut"
-    ${CC:-cc} -I "$installed/include" -o "$work/key_parts" examples/key_parts.c -L "$installed/lib" -lsec1
-    check "the example in C over the shared library" \
-        prints "$wanted" env LD_LIBRARY_PATH="$installed/lib" "$work/key_parts" "$key"
-else
-    fail "examples/key_parts.c doesn't compile"
-fi
-if command -v rustc > "$work/null"; then
-    check "the example in Rust compiles" \
-        rustc --edition 2021 -O -D warnings -L native="$installed/lib" -o "$work/key_parts_rs" examples/key_parts.rs
-    check "the example in Rust" prints "$wanted" "$work/key_parts_rs" "$key"
-    check "the example in Rust refuses half a key" refuses "$work/key_parts_rs" "$work/cut"
-else
-    fail "rustc is missing"
-fi
+add "tests/examples.sh" tests/examples.sh "$installed"
 if command -v python3 > "$work/null"; then
     add "tests/header.py" python3 -B tests/header.py
-    check "the example in Python" prints "$wanted" python3 -B examples/key_parts.py "$shared" "$key"
-    check "the example in Python refuses half a key" refuses python3 -B examples/key_parts.py "$shared" "$work/cut"
 else
     fail "python3 is missing"
 fi

@@ -1,5 +1,22 @@
 //! Prints the parts of an EC private key in DER: key_parts FILE
 
+use std::ffi::{c_char, CStr};
+
+/// Curves by the texts of their identifiers, and the lengths of their field elements in bytes.
+const CURVES: [(&str, usize); 11] = [
+    ("1.2.840.10045.3.1.1", 24),   // P-192
+    ("1.3.132.0.33", 28),          // P-224
+    ("1.2.840.10045.3.1.7", 32),   // P-256
+    ("1.3.132.0.34", 48),          // P-384
+    ("1.3.132.0.35", 66),          // P-521
+    ("1.3.132.0.10", 32),          // secp256k1
+    ("1.3.36.3.3.2.8.1.1.5", 28),  // brainpoolP224r1
+    ("1.3.36.3.3.2.8.1.1.7", 32),  // brainpoolP256r1
+    ("1.3.36.3.3.2.8.1.1.9", 40),  // brainpoolP320r1
+    ("1.3.36.3.3.2.8.1.1.11", 48), // brainpoolP384r1
+    ("1.3.36.3.3.2.8.1.1.13", 64), // brainpoolP512r1
+];
+
 #[repr(C)]
 #[derive(Clone, Copy, Default)]
 struct Part {
@@ -35,6 +52,12 @@ extern "C" {
         text_len: usize,
         len: *mut usize,
     ) -> u32;
+    fn sec1_status_text(status: u32) -> *const c_char;
+}
+
+/// Returns the text for a status.
+fn status_text(status: u32) -> &'static str {
+    unsafe { CStr::from_ptr(sec1_status_text(status)) }.to_str().unwrap_or("")
 }
 
 /// Borrows a part of the bytes that it was read from, where it is present.
@@ -60,26 +83,39 @@ fn identifier_text(content: &[u8]) -> Option<String> {
     (status == 0).then(|| String::from_utf8_lossy(&text[..len - 1]).into_owned())
 }
 
+/// Returns the line that tells the places of a point's coordinates, or why there are none.
+fn point_line(public_key: &[u8], field_len: usize) -> String {
+    let mut point = PointParts::default();
+    match unsafe { sec1_point_read(public_key.as_ptr(), public_key.len(), field_len, &mut point) } {
+        0 => format!("point: tag {}, x at {}, y at {}", point.tag, point.x.offset, point.y.offset),
+        status => format!("no point: {}", status_text(status)),
+    }
+}
+
 fn main() {
     let path = std::env::args().nth(1).expect("usage: key_parts FILE");
     let key = std::fs::read(path).expect("the file can be read");
     let parts = match read_key(&key) {
         Ok(parts) => parts,
         Err(status) => {
-            println!("refused: {status}");
+            println!("refused: {status} ({})", status_text(status));
             std::process::exit(1);
         }
     };
     println!("private key: {} bytes at {}", parts.private_key.len, parts.private_key.offset);
-    if let Some(name) = part_of(&key, parts.curve).and_then(identifier_text) {
+    let name = part_of(&key, parts.curve).and_then(identifier_text);
+    if let Some(name) = &name {
         println!("curve: {name}");
     }
-    if let Some(public_key) = part_of(&key, parts.public_key) {
-        let digits: String = public_key.iter().map(|byte| format!("{byte:02X}")).collect();
-        println!("public key: {digits}");
-        let mut point = PointParts::default();
-        if unsafe { sec1_point_read(public_key.as_ptr(), public_key.len(), 32, &mut point) } == 0 {
-            println!("point: tag {}, x at {}, y at {}", point.tag, point.x.offset, point.y.offset);
-        }
+    let Some(public_key) = part_of(&key, parts.public_key) else {
+        println!("no point: the key has no public key");
+        return;
+    };
+    let digits: String = public_key.iter().map(|byte| format!("{byte:02X}")).collect();
+    println!("public key: {digits}");
+    match name.map(|name| CURVES.iter().find(|curve| curve.0 == name)) {
+        Some(Some((_, field_len))) => println!("{}", point_line(public_key, *field_len)),
+        Some(None) => println!("no point: the length of this curve's field elements isn't known here"),
+        None => println!("no point: the key names no curve"),
     }
 }
