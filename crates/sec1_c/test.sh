@@ -115,6 +115,9 @@ for compiler in "${compilers[@]}"; do
     check "$compiler compiles tests/calls.c" \
         $compiler $warnings $sanitizers -I "$installed/include" -o "$work/calls" tests/calls.c "$archive"
     add "tests/calls.c by $compiler" "$work/calls"
+    check "$compiler compiles tests/million.c" \
+        $compiler $warnings $sanitizers -I "$installed/include" -o "$work/million" tests/million.c "$archive"
+    add "tests/million.c by $compiler" "$work/million"
 done
 add "tests/packaging.sh" tests/packaging.sh
 add "tests/compilers.sh" tests/compilers.sh "$installed/include" "$archive"

@@ -248,6 +248,16 @@ static void test_header(void)
     EXPECT(offsetof(struct sec1_point_parts, y) == 4 * sizeof(size_t));
     EXPECT(sizeof(size_t) == 8 && sizeof(void *) == 8);
 
+    EXPECT(SEC1_OK == 0 && SEC1_TRUNCATED == 1 && SEC1_TAG == 2 && SEC1_LENGTH == 3);
+    EXPECT(SEC1_TRAILING_DATA == 4 && SEC1_VALUE == 5 && SEC1_OVERLENGTH == 6 && SEC1_BUFFER == 7);
+    EXPECT(SEC1_DEPTH == 8 && SEC1_POINT_ENCODING == 9 && SEC1_FIELD_LENGTH == 10);
+    EXPECT(SEC1_POINT_IDENTITY == 0);
+    EXPECT(SEC1_POINT_COMPRESSED_EVEN == 2 && SEC1_POINT_COMPRESSED_ODD == 3);
+    EXPECT(SEC1_POINT_UNCOMPRESSED == 4 && SEC1_POINT_COMPACT == 5);
+    EXPECT(SEC1_POINT_HYBRID_EVEN == 6 && SEC1_POINT_HYBRID_ODD == 7);
+    EXPECT(SEC1_IDENTIFIER_CONTENT_MAX == 39 && SEC1_IDENTIFIER_TEXT_MAX == 158);
+    EXPECT(sec1_version() == SEC1_VERSION);
+
     static const char *const texts[] = {
         "ok", "input ends inside an element", "unexpected or unsupported tag",
         "length not in DER form or above the limit", "bytes after the value", "content not valid for its tag",
@@ -613,6 +623,16 @@ static void expect_identifier(const char *text, struct bytes content)
     expect_converted(from_text, text_bytes(text), content);
 }
 
+/* The longest text of an identifier. */
+static void expect_longest_text(void)
+{
+    struct bytes content = repeated(0x7F, SEC1_IDENTIFIER_CONTENT_MAX);
+    char text[SEC1_IDENTIFIER_TEXT_MAX];
+    size_t len;
+    EXPECT(sec1_identifier_to_text(content.data, content.len, text, sizeof text, &len) == SEC1_OK);
+    EXPECT(len == 157 && strlen(text) == 156);
+}
+
 static void test_identifiers(void)
 {
     expect_identifier("1.2.840.10045.2.1", unhex("2A8648CE3D0201"));
@@ -640,6 +660,7 @@ static void test_identifiers(void)
         strcat(shortest, ".1");
     }
     EXPECT(strlen(longest) == 156);
+    expect_longest_text();
     expect_identifier(longest, repeated(0x7F, 39));
     expect_identifier(shortest, joined(unhex("2A"), repeated(1, 38)));
     expect_refused(from_text, text_bytes(strcat(shortest, ".1")), SEC1_VALUE);

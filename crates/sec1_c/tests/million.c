@@ -1,0 +1,432 @@
+/* A million inputs through every call, compared with the second reader of reader.h: the status,
+ * what is stored, and that nothing else is written. Each input and each buffer is against a page
+ * behind it or before it that can't be touched. */
+#define _GNU_SOURCE
+#include "draw.h"
+#include "reader.h"
+#include <stdio.h>
+#include <stdlib.h>
+#include <sys/mman.h>
+#include <unistd.h>
+
+enum { INPUTS = 1000000, MOST = 2048 };
+
+/* ---- memory between pages that can't be touched */
+
+struct arena {
+    uint8_t *begin, *end;
+};
+
+static struct arena map_arena(void)
+{
+    size_t page = (size_t)sysconf(_SC_PAGESIZE), size = (MOST + page - 1) / page * page;
+    struct arena arena;
+    uint8_t *pages = mmap(NULL, size + 2 * page, PROT_NONE, MAP_PRIVATE | MAP_ANONYMOUS, -1, 0);
+    if (pages == MAP_FAILED || mprotect(pages + page, size, PROT_READ | PROT_WRITE)) {
+        perror("mmap");
+        exit(2);
+    }
+    arena.begin = pages + page;
+    arena.end = arena.begin + size;
+    return arena;
+}
+
+static struct arena input_arena, other_arena, out_arena, struct_arena;
+static int at_end;
+
+/* Room for len bytes, against the page behind it or the page before it. */
+static uint8_t *room(struct arena arena, size_t len)
+{
+    return at_end ? arena.end - len : arena.begin;
+}
+
+/* Room for len bytes of this value. */
+static uint8_t *filled(struct arena arena, size_t len, uint8_t value)
+{
+    return memset(room(arena, len), value, len);
+}
+
+static int all_are(const uint8_t *bytes, size_t len, uint8_t value)
+{
+    for (size_t i = 0; i < len; i++)
+        if (bytes[i] != value)
+            return 0;
+    return 1;
+}
+
+/* ---- results */
+
+enum call {
+    KEY_READ,
+    KEY_WRITE,
+    TREE,
+    DOCUMENT,
+    POINT,
+    FORM,
+    COMPARE,
+    TO_TEXT,
+    FROM_TEXT,
+    INPUT,
+    CALLS
+};
+static const char *const names[CALLS] = {
+    "sec1_key_read",
+    "sec1_key_len and sec1_key_write",
+    "sec1_check_tree",
+    "sec1_document_len",
+    "sec1_point_read and sec1_point_check",
+    "sec1_point_compress and sec1_point_to_hybrid",
+    "sec1_point_compare",
+    "sec1_identifier_to_text",
+    "sec1_identifier_from_text",
+    "inputs that are unchanged",
+};
+/* the statuses that each call returns at least once here, as bits */
+static const unsigned wanted[CALLS] = {0x3F, 0xA1, 0x11F, 0x1F, 0x601, 0x681, 0x601, 0xA1, 0xA1, 1};
+static unsigned long counts[CALLS][11], wrong[CALLS];
+static struct {
+    uint8_t data[MOST];
+    size_t len;
+} now;
+
+static void expect(enum call call, uint32_t status, int holds)
+{
+    if (status <= 10)
+        counts[call][status]++;
+    if (!holds && ++wrong[call] <= 5) {
+        printf("FAILED: %s, status %u: ", names[call], (unsigned)status);
+        for (size_t i = 0; i < now.len; i++)
+            printf("%02X", now.data[i]);
+        printf("\n");
+    }
+}
+
+/* Whether a call that writes bytes did as it has to: its status, the length and the buffer. */
+static int writes(uint32_t status, size_t len, const uint8_t *out, size_t out_len, uint32_t refused,
+                  const uint8_t *bytes, size_t bytes_len)
+{
+    if (refused)
+        return status == refused && len == 777777 && all_are(out, out_len, 0xEE);
+    if (len != bytes_len)
+        return 0;
+    if (out_len < bytes_len)
+        return status == SEC1_BUFFER && all_are(out, out_len, 0xEE);
+    return status == SEC1_OK && memcmp(out, bytes, bytes_len) == 0
+           && all_are(out + bytes_len, out_len - bytes_len, 0xEE);
+}
+
+/* A length of a buffer for so many bytes: none, one too few, as many, or a few more. */
+static size_t some_room(size_t len)
+{
+    switch (draw(5)) {
+    case 0: return len ? len - 1 : 0;
+    case 1: return draw((uint32_t)len + 1);
+    case 2: return len + draw(4);
+    default: return len;
+    }
+}
+
+/* The buffer, or NULL where there is no room, now and then. */
+static uint8_t *buffer(size_t len)
+{
+    return len == 0 && draw(2) ? NULL : filled(out_arena, len, 0xEE);
+}
+
+/* ---- the calls */
+
+/* Writes a key from its parts, which are in the memory of the input. */
+static void check_key_write(const uint8_t *private_key, size_t private_len, const uint8_t *curve,
+                            size_t curve_len, const uint8_t *public_key, size_t public_len,
+                            size_t has)
+{
+    static uint8_t key[MOST + 64], field[MOST + 64];
+    static const uint8_t version = 1;
+    struct arcs arcs;
+    size_t key_len = put(key, 0x02, &version, 1), len = 777777, only_len = 777777;
+    key_len += put(key + key_len, 0x04, private_key, private_len);
+    if (curve_len) {
+        size_t inner = put(field, 0x06, curve, curve_len);
+        key_len += put(key + key_len, 0xA0, field, inner);
+    }
+    if (has) {
+        field[0] = 0;
+        if (public_len)
+            memcpy(field + 1, public_key, public_len);
+        key_len += put(key + key_len, 0xA1, field, wrap(field, 0x03, 1 + public_len));
+    }
+    key_len = wrap(key, 0x30, key_len);
+    uint32_t refused = curve_len && !is_identifier(curve, curve_len, &arcs) ? SEC1_VALUE : SEC1_OK;
+    size_t out_len = some_room(key_len);
+    uint8_t *out = buffer(out_len);
+    uint32_t status = sec1_key_write(private_key, private_len, curve, curve_len, public_key,
+                                     public_len, has, out, out_len, &len);
+    uint32_t only = sec1_key_len(private_key, private_len, curve, curve_len, public_key, public_len,
+                                 has, &only_len);
+    expect(KEY_WRITE, status,
+           writes(status, len, out, out_len, refused, key, key_len) && only == refused
+               && only_len == (refused ? 777777 : key_len));
+}
+
+static void check_key(const uint8_t *bytes, size_t len)
+{
+    struct sec1_key_parts found,
+        *stored = (struct sec1_key_parts *)filled(struct_arena, sizeof found, 0xA5);
+    uint32_t refused = key_of(bytes, len, &found), status = sec1_key_read(bytes, len, stored);
+    expect(KEY_READ, status,
+           status == refused
+               && (refused ? all_are((uint8_t *)stored, sizeof found, 0xA5)
+                           : memcmp(stored, &found, sizeof found) == 0));
+    if (status == SEC1_OK) {
+        check_key_write(bytes + stored->private_key.offset, stored->private_key.len,
+                        bytes + stored->curve.offset, stored->curve.len,
+                        bytes + stored->public_key.offset, stored->public_key.len,
+                        stored->public_key.present);
+    } else {
+        size_t a = draw((uint32_t)len + 1), b = a + draw((uint32_t)(len - a) + 1);
+        if (b - a > 39 && draw(8))
+            b = a + draw(12);
+        check_key_write(bytes, a, b == a ? NULL : bytes + a, b - a, bytes + b, len - b, draw(3));
+    }
+}
+
+static void check_elements(const uint8_t *bytes, size_t len)
+{
+    size_t found = 0, *stored = (size_t *)filled(struct_arena, sizeof found, 0xA5),
+           before = *stored;
+    uint32_t refused = check_tree_of(bytes, len, &found),
+             status = sec1_check_tree(bytes, len, stored);
+    expect(TREE, status, status == refused && *stored == (refused ? before : found));
+    refused = document_of(bytes, len, &found);
+    status = sec1_document_len(bytes, len, stored);
+    expect(DOCUMENT, status, status == refused && *stored == found);
+}
+
+static void check_point(const uint8_t *bytes, size_t len, size_t n, const uint8_t *other,
+                        size_t other_len)
+{
+    static uint8_t form[MOST];
+    struct sec1_point_parts found, others,
+        *stored = (struct sec1_point_parts *)filled(struct_arena, sizeof found, 0xA5);
+    uint32_t refused = point_of(bytes, len, n, &found),
+             status = sec1_point_read(bytes, len, n, stored);
+    expect(POINT, status,
+           status == refused && sec1_point_check(bytes, len, n) == refused
+               && (refused ? all_are((uint8_t *)stored, sizeof found, 0xA5)
+                           : memcmp(stored, &found, sizeof found) == 0));
+
+    for (int compressed = 0; compressed < 2; compressed++) {
+        size_t form_len = refused ? draw(140) : put_form(form, bytes, len, compressed);
+        size_t out_len = some_room(form_len), form_found = 777777;
+        uint8_t *out = buffer(out_len);
+        status = compressed ? sec1_point_compress(bytes, len, n, out, out_len, &form_found)
+                            : sec1_point_to_hybrid(bytes, len, n, out, out_len, &form_found);
+        expect(FORM, status, writes(status, form_found, out, out_len, refused, form, form_len));
+    }
+
+    int32_t *order = (int32_t *)filled(struct_arena, sizeof *order, 0xA5), before = *order;
+    if (!refused)
+        refused = point_of(other, other_len, n, &others);
+    status = sec1_point_compare(bytes, len, other, other_len, n, order);
+    if (refused) {
+        expect(COMPARE, status, status == refused && *order == before);
+    } else {
+        int sign = memcmp(bytes, other, len < other_len ? len : other_len);
+        expect(COMPARE, status, status == SEC1_OK && *order == (sign > 0) - (sign < 0));
+    }
+}
+
+static void check_identifier(const uint8_t *bytes, size_t len)
+{
+    char text[512];
+    uint8_t content[48];
+    struct arcs arcs;
+    size_t found = 777777, wanted_len;
+    uint32_t refused = is_identifier(bytes, len, &arcs) ? SEC1_OK : SEC1_VALUE;
+    wanted_len = refused ? draw(180) : put_text(text, &arcs);
+    size_t out_len = some_room(wanted_len);
+    uint8_t *out = buffer(out_len);
+    uint32_t status = sec1_identifier_to_text(bytes, len, (char *)out, out_len, &found);
+    expect(TO_TEXT, status,
+           writes(status, found, out, out_len, refused, (uint8_t *)text, wanted_len));
+
+    found = 777777;
+    wanted_len = put_content(content, (const char *)bytes, len);
+    refused = wanted_len ? SEC1_OK : SEC1_VALUE;
+    out_len = some_room(refused ? 40 : wanted_len);
+    out = buffer(out_len);
+    status = sec1_identifier_from_text((const char *)bytes, len, out, out_len, &found);
+    expect(FROM_TEXT, status, writes(status, found, out, out_len, refused, content, wanted_len));
+}
+
+/* ---- inputs */
+
+static void draw_bytes(uint8_t *bytes, size_t len)
+{
+    for (size_t i = 0; i < len; i++)
+        bytes[i] = (uint8_t)draw(256);
+}
+
+static size_t draw_soup(uint8_t *out)
+{
+    static const uint8_t often[] = {0x30, 0x02, 0x01, 0x01, 0x04, 0x00, 0xA0,
+                                    0x06, 0xA1, 0x03, 0x2A, 0x80, 0x81, 0x7F};
+    size_t len = draw(draw(2) ? 12 : 72);
+    for (size_t i = 0; i < len; i++)
+        out[i] = draw(3) ? often[draw(sizeof often)] : (uint8_t)draw(256);
+    return len;
+}
+
+static size_t draw_content(uint8_t *out)
+{
+    size_t len = draw(8) ? 1 + draw(10) : draw(44);
+    for (size_t i = 0; i < len; i++)
+        out[i] = (uint8_t)(draw(3) ? draw(128) : draw(256));
+    if (len && draw(8))
+        out[len - 1] &= 0x7F;
+    return len;
+}
+
+static size_t draw_text(uint8_t *out)
+{
+    static const uint32_t often[] = {0, 1, 2, 39, 40, 47, 48, 127, 128, 4294967215u, 4294967295u};
+    struct arcs arcs;
+    arcs.count = draw(8) ? 1 + draw(12) : draw(45);
+    for (size_t i = 0; i < arcs.count; i++)
+        arcs.arc[i] = i == 0 ? draw(4) : i == 1 ? draw(50) : draw(2) ? draw(300) : often[draw(11)];
+    size_t len = put_text((char *)out, &arcs) - 1;
+    if (len && draw(3) == 0)
+        out[draw((uint32_t)len)] = (uint8_t) ".0129-+ \xC3"[draw(9)];
+    return len;
+}
+
+static size_t draw_point(uint8_t *out, size_t n)
+{
+    uint8_t tag = (uint8_t)draw(draw(8) ? 8 : 256);
+    size_t len = tag == 0 ? 1 : 1 + (tag == 4 || tag >= 6 ? 2 : 1) * n;
+    memset(out, (int)draw(3), len);
+    if (draw(2))
+        draw_bytes(out, len);
+    else
+        out[draw((uint32_t)len)] = (uint8_t)draw(256);
+    out[0] = tag;
+    return draw(8) ? len : len - 1 + draw(3);
+}
+
+static size_t draw_key(uint8_t *out)
+{
+    static const uint8_t lengths[] = {0, 1, 28, 32, 48, 66, 65, 97, 122, 123, 133, 200};
+    uint8_t part[512];
+    size_t len = put(out, 0x02, (const uint8_t *)"\x01", 1), part_len = lengths[draw(12)];
+    draw_bytes(part, part_len);
+    len += put(out + len, 0x04, part, part_len);
+    if (draw(4)) {
+        part_len = wrap(part, 0x06, draw_content(part));
+        len += put(out + len, 0xA0, part, part_len);
+    }
+    if (draw(4)) {
+        part_len = 1 + lengths[draw(12)];
+        draw_bytes(part, part_len);
+        part[0] = draw(8) ? 0 : (uint8_t)draw(9);
+        if (part[0] && draw(2))
+            part[part_len - 1] = 0;
+        len += put(out + len, 0xA1, part, wrap(part, 0x03, part_len));
+    }
+    return wrap(out, 0x30, len);
+}
+
+/* Elements inside one another and beside one another. */
+static size_t draw_tree(uint8_t *out)
+{
+    size_t len = draw(4), levels = draw(4) ? draw(8) : 58 + draw(10);
+    draw_bytes(out, len);
+    len = wrap(out, draw(2) ? 0x04 : 0x30, len);
+    for (size_t i = 0; i < levels && len < 300; i++) {
+        if (draw(4) == 0) {
+            memcpy(out + len, "\x05\x00", 2);
+            len += 2;
+        }
+        len = wrap(out, draw(2) ? 0x30 : 0xA1, len);
+    }
+    return len;
+}
+
+static size_t damage(uint8_t *bytes, size_t len)
+{
+    for (uint32_t times = draw(3); times && len; times--) {
+        size_t at = draw((uint32_t)(draw(2) || len < 16 ? len : 16));
+        switch (draw(6)) {
+        case 0: bytes[at] ^= (uint8_t)(1 << draw(8)); break;
+        case 1: bytes[at] = (uint8_t)draw(256); break;
+        case 2:
+            memmove(bytes + at, bytes + at + 1, len - at - 1);
+            len--;
+            break;
+        case 3:
+            memmove(bytes + at + 1, bytes + at, len - at);
+            bytes[at] = (uint8_t)draw(256);
+            len++;
+            break;
+        case 4: len = at; break;
+        default: bytes[len++] = (uint8_t)draw(256); break;
+        }
+    }
+    return len;
+}
+
+static size_t draw_input(uint8_t *out, size_t n)
+{
+    switch (draw(8)) {
+    case 0: return draw_soup(out);
+    case 1: return draw_content(out);
+    case 2: return draw_text(out);
+    case 3:
+    case 4: return draw_point(out, n);
+    case 5: return damage(out, draw_tree(out));
+    default: return damage(out, draw_key(out));
+    }
+}
+
+int main(void)
+{
+    static const size_t fields[] = {28, 32, 48, 66};
+    static uint8_t other[MOST];
+    unsigned passed = 0, failed = 0;
+    input_arena = map_arena();
+    other_arena = map_arena();
+    out_arena = map_arena();
+    struct_arena = map_arena();
+    for (long i = 0; i < INPUTS; i++) {
+        at_end = i % 2;
+        size_t n = draw(8) ? fields[draw(4)] : draw(70);
+        now.len = draw_input(now.data, n);
+        size_t other_len = draw(2) ? draw_point(other, n) : now.len;
+        if (other_len == now.len)
+            memcpy(other, now.data, now.len);
+        if (other_len == now.len && now.len && draw(2))
+            other[now.len - 1] += 2;
+        uint8_t *bytes = memcpy(room(input_arena, now.len), now.data, now.len);
+        uint8_t *others = memcpy(room(other_arena, other_len), other, other_len);
+        const uint8_t *given = now.len == 0 && draw(2) ? NULL : bytes;
+        check_key(bytes, now.len);
+        check_elements(given, now.len);
+        check_point(given, now.len, n, others, other_len);
+        check_identifier(given, now.len);
+        expect(INPUT, 0,
+               memcmp(bytes, now.data, now.len) == 0 && memcmp(others, other, other_len) == 0);
+    }
+    for (int call = 0; call < CALLS; call++) {
+        unsigned met = 0;
+        printf("%s:", names[call]);
+        for (int status = 0; status < 11; status++) {
+            met |= (unsigned)(counts[call][status] > 0) << status;
+            if (counts[call][status])
+                printf(" %lu of %d", counts[call][status], status);
+        }
+        printf("\n");
+        if (met != wanted[call])
+            printf("FAILED: %s: the statuses %X aren't %X\n", names[call], met, wanted[call]);
+        wrong[call] || met != wanted[call] ? failed++ : passed++;
+    }
+    printf("%u passed, %u failed\n", passed, failed);
+    return failed != 0;
+}
