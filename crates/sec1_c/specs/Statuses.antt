@@ -1,5 +1,5 @@
 -- The numbers that the calls return: 0 for success, otherwise the reason of the refusal.
-use Rattle.std.specs.Prelude.{◌≡◌, ◌⊎◌, ℕ}
+use Rattle.std.specs.Prelude.{◌≡◌, ◌⊎◌, ℕ, Option, Some, None}
 use Rattle.sec1.specs.declared.error.Error.{Error}
 use Rattle.sec1.specs.declared.error.Error.TheVariants.{Asn1, Crypto, PointEncoding, Version, Memory}
 use Rattle.sec1_der.specs.declared.error.ErrorKind.{ErrorKind}
@@ -20,6 +20,11 @@ kind_number Failed = 11
 kind_number Io = 12
 kind_number OutOfMemory = 13
 
+-- the number of the kind by which bytes are refused; 0 if there is none
+abbrev pub fault_number : Option ErrorKind → ℕ
+fault_number None = 0
+fault_number (Some kind) = kind_number kind
+
 -- the number of an error; no call returns one above 10
 abbrev pub error_number : Error → ℕ
 error_number (Asn1 cause) = kind_number cause.kind
@@ -35,3 +40,7 @@ field_length_number = 10
 -- the reasons for which bytes are refused: Truncated, Tag, Length, TrailingData or Value
 abbrev pub IsReadingNumber : ℕ → Type 0
 IsReadingNumber n = (n ≡ 1) ⊎ ((n ≡ 2) ⊎ ((n ≡ 3) ⊎ ((n ≡ 4) ⊎ (n ≡ 5))))
+
+-- the reasons for which a tree is refused: Truncated, Tag, Length, TrailingData or Depth
+abbrev pub IsTreeNumber : ℕ → Type 0
+IsTreeNumber n = (n ≡ 1) ⊎ ((n ≡ 2) ⊎ ((n ≡ 3) ⊎ ((n ≡ 4) ⊎ (n ≡ 8))))

@@ -1,10 +1,11 @@
 //! Elements of DER (X.690): `sec1_check_tree` and `sec1_document_len`.
-ghost use Rattle.std.specs.Prelude.{◌≡◌, ◌≢◌, ◌≤◌, ◌<◌, ◌⊎◌, ℕ, List, length};
+ghost use Rattle.std.specs.Prelude.{◌≡◌, ◌≢◌, ◌≤◌, ◌<◌, ℕ, List, length};
 ghost use Rattle.sec1_der.specs.Elements.{IsElement, IsProperBeginning, LacksHeader};
 ghost use Rattle.sec1_der.specs.Faults.{header_fault};
+ghost use Rattle.sec1_der.specs.Refusals.{tree_fault};
 ghost use Rattle.sec1_der.specs.Trees.{Tree, IsTree, IsTreeOf, bytes, depth, max_tree_depth, size};
 ghost use Rattle.sec1_c.specs.Documents.{Announces, element_len};
-ghost use Rattle.sec1_c.specs.Statuses.{IsReadingNumber, kind_number};
+ghost use Rattle.sec1_c.specs.Statuses.{IsTreeNumber, fault_number, kind_number};
 
 use crate::status::{OK, kind_number};
 use sec1::der::{self, ErrorKind, Header, SliceReader};
@@ -29,7 +30,8 @@ pub extern "C" fn sec1_check_tree(input: &[u8], elements: &mut usize) -> u32
         → result ≡ kind_number ErrorKind.Truncated }
     ensures long { (t : Tree) → IsTree t → depth t ≤ max_tree_depth → IsProperBeginning (bytes t) input.now
         → result ≡ kind_number ErrorKind.TrailingData }
-    ensures kinds { result ≢ 0 → (result ≡ kind_number ErrorKind.Depth) ⊎ IsReadingNumber result }
+    ensures kinds { result ≢ 0 → IsTreeNumber result }
+    ensures kind { result ≡ fault_number (tree_fault input.now) }
     ensures unchanged { result ≢ 0 → elements.new ≡ elements.old }
 {
     match der::check_tree(input) {

@@ -1,11 +1,12 @@
 //! Private keys (RFC 5915 section 3): `sec1_key_read`, `sec1_key_len` and `sec1_key_write`.
 ghost use Rattle.std.specs.Prelude.{◌≡◌, ◌≢◌, List, ℕ, length};
+ghost use Rattle.sec1.specs.KeyRefusals.{key_fault};
 ghost use Rattle.sec1.specs.Keys.{HasNoEncoding, Key, IsKeyOf};
 ghost use Rattle.sec1_der.specs.Elements.{IsProperBeginning};
 ghost use Rattle.sec1_c.specs.GivenKeys.{IsGiven, IsNoCurve, IsTooLong};
-ghost use Rattle.sec1_c.specs.KeyPlaces.{AreWithin, ArePartsOf, GiveAgain, IsKey};
+ghost use Rattle.sec1_c.specs.KeyPlaces.{AreWithin, ArePartsOf, GiveAgain, IsKey, key_places};
 ghost use Rattle.sec1_c.specs.Outputs.{StoresLength, Writes, WritesNothing};
-ghost use Rattle.sec1_c.specs.Statuses.{IsReadingNumber, kind_number};
+ghost use Rattle.sec1_c.specs.Statuses.{IsReadingNumber, fault_number, kind_number};
 
 mod given;
 mod places;
@@ -44,9 +45,11 @@ pub extern "C" fn sec1_key_read(bytes: &[u8], parts: &mut KeyParts) -> u32
     ensures found { result ≡ 0 → IsKey bytes.now }
     ensures only { (key : Key) → IsKeyOf key bytes.now → result ≡ 0 }
     ensures parts { (key : Key) → IsKeyOf key bytes.now → ArePartsOf key bytes.now parts.new }
+    ensures places { (key : Key) → IsKeyOf key bytes.now → parts.new ≡ key_places key bytes.now }
     ensures within { result ≡ 0 → AreWithin bytes.now parts.new }
     ensures again { (key : Key) → IsKeyOf key bytes.now → GiveAgain key bytes.now parts.new }
     ensures kinds { result ≢ 0 → IsReadingNumber result }
+    ensures kind { result ≡ fault_number (key_fault bytes.now) }
     ensures unchanged { result ≢ 0 → parts.new ≡ parts.old }
     ensures short { (key : Key) (whole : List ℕ) → IsKeyOf key whole
         → IsProperBeginning bytes.now whole → result ≡ kind_number ErrorKind.Truncated }

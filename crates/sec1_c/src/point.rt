@@ -5,7 +5,7 @@ ghost use Rattle.sec1.specs.Points.{Point, IsEncoding, compressed_point, encodin
 ghost use Rattle.sec1_c.specs.FieldLengths.{Encodes, EncodesBoth, IsFieldLength};
 ghost use Rattle.sec1_c.specs.Outputs.{Writes, WritesNothing};
 ghost use Rattle.sec1_c.specs.PointOrders.{IsOrderOf};
-ghost use Rattle.sec1_c.specs.PointPlaces.{ArePointPartsOf};
+ghost use Rattle.sec1_c.specs.PointPlaces.{ArePointPartsOf, point_places};
 ghost use Rattle.sec1_c.specs.Statuses.{error_number, field_length_number};
 
 mod sized;
@@ -62,6 +62,8 @@ pub extern "C" fn sec1_point_read(bytes: &[u8], field_len: usize, parts: &mut Po
     ensures only { (p : Point) → IsFieldLength field_len → Encodes field_len p bytes.now → result ≡ 0 }
     ensures parts { (p : Point) → IsFieldLength field_len → Encodes field_len p bytes.now
         → ArePointPartsOf field_len p bytes.now parts.new }
+    ensures places { (p : Point) → IsFieldLength field_len → Encodes field_len p bytes.now
+        → parts.new ≡ point_places field_len p }
     ensures no_point { IsFieldLength field_len → ¬ IsEncoding field_len bytes.now
         → result ≡ error_number Error.PointEncoding }
     ensures other_field { ¬ IsFieldLength field_len → result ≡ field_length_number }

@@ -1,7 +1,7 @@
 //! The numbers that the exported functions return.
-ghost use Rattle.std.specs.Prelude.{◌≡◌};
-ghost use Rattle.sec1.specs.Errors.{IsAsn1};
-ghost use Rattle.sec1_c.specs.Statuses.{error_number, field_length_number, kind_number};
+ghost use Rattle.std.specs.Prelude.{◌≡◌, Option};
+ghost use Rattle.sec1.specs.Errors.{IsAsn1, IsAsn1Fault};
+ghost use Rattle.sec1_c.specs.Statuses.{error_number, fault_number, field_length_number, kind_number};
 
 use sec1::Error;
 use sec1::der::ErrorKind;
@@ -32,6 +32,8 @@ pub fn kind_number(kind: ErrorKind) -> u32
 pub fn error_number(error: &Error) -> u32
     ensures number { result ≡ error_number error.now }
     ensures kind { (kind : ErrorKind) → IsAsn1 kind error.now → result ≡ kind_number kind }
+    ensures fault { (fault : Option ErrorKind) → IsAsn1Fault fault error.now
+        → result ≡ fault_number fault }
 {
     match error {
         Error::Asn1(cause) => kind_number(cause.kind),

@@ -39,6 +39,7 @@ pub fn read<const N: usize, const L: usize>(bytes: &[u8], parts: &mut PointParts
     ensures only { (p : Point) → Encodes N p bytes.now → result ≡ 0 }
     ensures parts { (p : Point) → Encodes N p bytes.now
         → ArePointPartsOf N p bytes.now parts.new }
+    ensures places { (p : Point) → Encodes N p bytes.now → parts.new ≡ point_places N p }
     ensures kind { result ≢ 0 → result ≡ error_number Error.PointEncoding }
     ensures unchanged { result ≢ 0 → parts.new ≡ parts.old }
 {
