@@ -1,8 +1,10 @@
 ghost use Rattle.std.specs.Prelude.{◌≤◌, length};
 
-use crate::codec::check_room;
 use crate::header::LONG_FORM;
-use crate::{EncodeValue, ErrorKind, Header, Length, Result, Tag, Tagged, encoded_len};
+use crate::length::check_room;
+use crate::{ErrorKind, Header, Length, Result, Tag};
+
+mod values;
 
 /// A writer that fills a slice from its end, so that a content is written before its header.
 ///
@@ -17,10 +19,10 @@ pub struct BackWriter<'b> {
 }
 
 impl<'b> BackWriter<'b> {
-    ghost use Rattle.std.specs.Prelude.{◌≡◌, ℕ, ◌<◌, ◌+◌, ◌-◌, List, [], Some, None, IsOk};
+    ghost use Rattle.std.specs.Prelude.{◌≡◌, ℕ, ◌<◌, ◌+◌, ◌-◌, [], IsOk};
     ghost use Rattle.sec1_der.specs.BackWriters.{end_of, front_of, IsOverEnd, KeepsEnd};
     ghost use Rattle.sec1_der.specs.BackWriters.{PutsNothing, PutsInFront};
-    ghost use Rattle.sec1_der.specs.Elements.{max_length, header, element_of};
+    ghost use Rattle.sec1_der.specs.Elements.{max_length, header};
     ghost use Rattle.sec1_der.specs.Faults.{Refuses};
 
     /// Creates a writer at the end of a slice.
@@ -94,46 +96,5 @@ impl<'b> BackWriter<'b> {
         }
         let (octets, count) = Header { tag, length }.octets();
         self.write(&octets[..count])
-    }
-
-    /// Prepends the element of a value: its content, and then the header over it. The crate `der`
-    /// has no such call.
-    ///
-    /// # Errors
-    ///
-    /// Those of [`encoded_len`], then Buffer if the element has no room.
-    pub fn element<T: EncodeValue + Tagged>(&mut self, value: &T) -> Result<()>
-        ensures slice { KeepsEnd self.old self.new }
-        ensures grows { length (end_of self.old) ≤ length (end_of self.new) }
-        ensures overlength { element_of T.tag_byte (T.content value.now) ≡ None
-            → Refuses result ErrorKind.Overlength × PutsNothing self.old self.new }
-        ensures fits { (bytes : List ℕ) → element_of T.tag_byte (T.content value.now) ≡ Some bytes
-            → length bytes ≤ length (front_of self.old)
-            → IsOk result × PutsInFront self.old self.new bytes }
-        ensures buffer { (bytes : List ℕ) → element_of T.tag_byte (T.content value.now) ≡ Some bytes
-            → length (front_of self.old) < length bytes
-            → Refuses result ErrorKind.Buffer × PutsNothing self.old self.new }
-    {
-        check_room(encoded_len(value)?, self.remaining())?;
-        self.put_element(value)
-    }
-
-    /// Prepends the element of a value, without testing the room first. If there is less room, or
-    /// if the value has no encoding, any bytes may have been prepended. The crate `der` has no such
-    /// call.
-    ///
-    /// # Errors
-    ///
-    /// None if the element has room.
-    pub fn put_element<T: EncodeValue + Tagged>(&mut self, value: &T) -> Result<()>
-        ensures slice { KeepsEnd self.old self.new }
-        ensures grows { length (end_of self.old) ≤ length (end_of self.new) }
-        ensures fits { (bytes : List ℕ) → element_of T.tag_byte (T.content value.now) ≡ Some bytes
-            → length bytes ≤ length (front_of self.old)
-            → IsOk result × PutsInFront self.old self.new bytes }
-    {
-        let since = self.written();
-        value.put_value(self)?;
-        self.header(T::fixed_tag(), since)
     }
 }

@@ -2,7 +2,7 @@ ghost use Rattle.std.specs.Prelude.{◌≡◌, ◌↔◌, ◌<◌, length, IsTru
 ghost use Rattle.sec1_der.specs.Contents.{AreBits};
 ghost use Rattle.sec1_der.specs.Elements.{max_length};
 
-use crate::codec::check_room;
+use crate::length::check_room;
 use crate::{
     BackWriter, DecodeValue, EncodeValue, ErrorKind, FixedTag, Length, Result, SliceReader,
     SliceWriter, Tag, Tagged, ValueContent,

@@ -7,9 +7,10 @@ ghost use Rattle.sec1_der.specs.Elements.{IsProperBeginning};
 ghost use Rattle.sec1_der.specs.Faults.{Refuses, IsReadingFault};
 ghost use Rattle.sec1_der.specs.Refusals.{HasFault, element_fault, end_fault};
 
+use crate::length::check_room;
+use crate::value::element_header;
 use crate::{
-    BackWriter, DecodeValue, EncodePart, EncodeValue, ErrorKind, Header, Result, SliceReader,
-    Tagged, UniqueContent,
+    BackWriter, DecodeValue, EncodeValue, ErrorKind, Result, SliceReader, Tagged, UniqueContent,
 };
 use std::alloc::Global;
 
@@ -140,21 +141,6 @@ pub fn to_der<T: EncodeValue + Tagged>(alloc: Global, value: &T) -> Result<Vec<u
     Ok(bytes)
 }
 
-/// Checks that `count` bytes fit into `room` bytes.
-///
-/// # Errors
-///
-/// Buffer if they don't.
-pub(crate) fn check_room(count: usize, room: usize) -> Result<()>
-    ensures within { IsOk result ↔ (count ≤ room) }
-    ensures kind { IfErr result (λ e. e.kind ≡ ErrorKind.Buffer) }
-{
-    if room < count {
-        return Err(ErrorKind::Buffer.into());
-    }
-    Ok(())
-}
-
 /// Writes the value's element into a slice of its length.
 fn fill<T: EncodeValue + Tagged>(value: &T, buffer: &mut [u8]) -> Result<()>
     ensures fits { (bytes : List ℕ) → element_of T.tag_byte (T.content value.now) ≡ Some bytes
@@ -165,28 +151,4 @@ fn fill<T: EncodeValue + Tagged>(value: &T, buffer: &mut [u8]) -> Result<()>
         → IsOk result × (element_of T.tag_byte (T.content value.now) ≡ Some buffer.new) }
 {
     BackWriter::new(buffer).put_element(value)
-}
-
-/// Writes the parts of a SEQUENCE into a slice of their length.
-pub(crate) fn fill_parts<P: EncodePart>(parts: &P, buffer: &mut [u8]) -> Result<()>
-    ensures { (bytes : List ℕ) → P.bytes parts.now ≡ Some bytes → length bytes ≤ max_length
-        → length buffer.old ≡ length bytes
-        → IsOk result × (buffer.new ≡ bytes) }
-{
-    parts.put_part(&mut BackWriter::new(buffer))
-}
-
-/// Returns the header of the value's element.
-pub(crate) fn element_header<T: EncodeValue + Tagged>(value: &T) -> Result<Header>
-    ensures overlength { element_of T.tag_byte (T.content value.now) ≡ None
-        → Refuses result ErrorKind.Overlength }
-    ensures only { (content : List ℕ) → T.content value.now ≡ Some content
-        → length content ≤ max_length
-        → result ≡ Ok (record { tag = T.tag_byte; length = length content }) }
-    ensures tag { OnOk result (IsTag T.tag_byte) }
-{
-    Ok(Header {
-        tag: T::fixed_tag(),
-        length: value.value_len()?,
-    })
 }

@@ -1,4 +1,4 @@
-ghost use Rattle.std.specs.Prelude.{◌≡◌, ◌≤◌, ◌<◌, ◌↔◌, OkIff, IfErr, ℕ};
+ghost use Rattle.std.specs.Prelude.{◌≡◌, ◌≤◌, ◌<◌, ◌↔◌, OkIff, IsOk, IfErr, ℕ};
 ghost use Rattle.sec1_der.specs.Elements.{max_length};
 
 use crate::{ErrorKind, Result};
@@ -55,4 +55,19 @@ impl Length {
     {
         self.bytes
     }
+}
+
+/// Checks that `count` bytes fit into `room` bytes.
+///
+/// # Errors
+///
+/// Buffer if they don't.
+pub(crate) fn check_room(count: usize, room: usize) -> Result<()>
+    ensures within { IsOk result ↔ (count ≤ room) }
+    ensures kind { IfErr result (λ e. e.kind ≡ ErrorKind.Buffer) }
+{
+    if room < count {
+        return Err(ErrorKind::Buffer.into());
+    }
+    Ok(())
 }

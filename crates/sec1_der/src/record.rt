@@ -2,7 +2,7 @@
 ghost use Rattle.std.specs.Prelude.{◌≡◌, ℕ, List, Some, true, refl};
 ghost use Rattle.sec1_der.specs.Refusals.{end_fault};
 
-use crate::codec::check_room;
+use crate::length::check_room;
 use crate::{
     BackWriter, DecodePart, DecodeValue, EncodePart, EncodeValue, FixedTag, Length, Part, Result,
     Sequence, SliceReader, SliceWriter, Tag, Tagged, UniqueContent, UniquePart, ValueContent,

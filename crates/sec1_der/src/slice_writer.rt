@@ -1,7 +1,9 @@
 ghost use Rattle.std.specs.Prelude.{◌≤◌, length};
 
-use crate::codec::{check_room, element_header, fill_parts};
-use crate::{EncodePart, EncodeValue, ErrorKind, Result, Tagged, encoded_len};
+use crate::length::check_room;
+use crate::{ErrorKind, Result};
+
+mod values;
 
 /// A writer that fills a slice from its beginning.
 ///
@@ -15,8 +17,7 @@ pub struct SliceWriter<'b> {
 }
 
 impl<'b> SliceWriter<'b> {
-    ghost use Rattle.std.specs.Prelude.{◌≡◌, ℕ, ◌<◌, List, [], ◌∷◌, Some, None, IsOk};
-    ghost use Rattle.sec1_der.specs.Elements.{max_length, element_of, IsOverlong};
+    ghost use Rattle.std.specs.Prelude.{◌≡◌, ◌<◌, [], ◌∷◌, IsOk};
     ghost use Rattle.sec1_der.specs.Faults.{Refuses};
     ghost use Rattle.sec1_der.specs.SliceWriters.{written_by, room_of, IsOver, KeepsSlice};
     ghost use Rattle.sec1_der.specs.SliceWriters.{AppendsNothing, Appends};
@@ -81,52 +82,5 @@ impl<'b> SliceWriter<'b> {
         self.buffer[self.position..end].copy_from_slice(bytes);
         self.position = end;
         Ok(())
-    }
-
-    /// Appends the content of a SEQUENCE with these parts.
-    ///
-    /// # Errors
-    ///
-    /// Those of [`EncodePart::part_len`], then Buffer if the content has no room.
-    #[tactic(auto, using(std::proofs::lemmas::Slice::overwrites))]
-    pub(crate) fn parts<P: EncodePart>(&mut self, parts: &P) -> Result<()>
-        ensures slice { KeepsSlice self.old self.new }
-        ensures overlength { IsOverlong (P.bytes parts.now) → Refuses result ErrorKind.Overlength
-            × AppendsNothing self.old self.new }
-        ensures fits { (bytes : List ℕ) → P.bytes parts.now ≡ Some bytes → length bytes ≤ max_length
-            → length bytes ≤ length (room_of self.old)
-            → IsOk result × Appends self.old self.new bytes }
-        ensures buffer { (bytes : List ℕ) → P.bytes parts.now ≡ Some bytes
-            → length bytes ≤ max_length
-            → length (room_of self.old) < length bytes
-            → Refuses result ErrorKind.Buffer × AppendsNothing self.old self.new }
-    {
-        let count = parts.part_len()?.get();
-        check_room(count, self.remaining())?;
-        let end = self.position + count;
-        fill_parts(parts, &mut self.buffer[self.position..end])?;
-        self.position = end;
-        Ok(())
-    }
-
-    /// Appends the element of a value. The crate `der` has no such call.
-    ///
-    /// # Errors
-    ///
-    /// Those of [`encoded_len`], then Buffer if the element has no room.
-    pub fn element<T: EncodeValue + Tagged>(&mut self, value: &T) -> Result<()>
-        ensures slice { KeepsSlice self.old self.new }
-        ensures overlength { element_of T.tag_byte (T.content value.now) ≡ None
-            → Refuses result ErrorKind.Overlength × AppendsNothing self.old self.new }
-        ensures fits { (bytes : List ℕ) → element_of T.tag_byte (T.content value.now) ≡ Some bytes
-            → length bytes ≤ length (room_of self.old)
-            → IsOk result × Appends self.old self.new bytes }
-        ensures buffer { (bytes : List ℕ) → element_of T.tag_byte (T.content value.now) ≡ Some bytes
-            → length (room_of self.old) < length bytes
-            → Refuses result ErrorKind.Buffer × AppendsNothing self.old self.new }
-    {
-        check_room(encoded_len(value)?, self.remaining())?;
-        element_header(value)?.encode(self)?;
-        value.encode_value(self)
     }
 }

@@ -1,14 +1,14 @@
 //! The traits of DER values: with them the generic calls read and write a type.
 ghost use Rattle.std.specs.Prelude.{◌≡◌, ◌<◌, ◌≤◌, ℕ, List, [], length, true, false, Option, Some};
-ghost use Rattle.std.specs.Prelude.{IsOk, IfOk, IfErr, OnOk, OnErr};
+ghost use Rattle.std.specs.Prelude.{None, IsOk, IfOk, IfErr, OnOk, OnErr};
 ghost use Rattle.sec1_der.specs.BackWriters.{end_of, front_of, KeepsEnd, PutsNothing, PutsInFront};
-ghost use Rattle.sec1_der.specs.Elements.{max_length, IsOverlong};
+ghost use Rattle.sec1_der.specs.Elements.{max_length, element_of, IsTag, IsOverlong};
 ghost use Rattle.sec1_der.specs.Faults.{Refuses, IsReadingFault};
 ghost use Rattle.sec1_der.specs.Readers.{reader_over};
 ghost use Rattle.sec1_der.specs.Refusals.{Fault, HasFault};
 ghost use Rattle.sec1_der.specs.SliceWriters.{room_of, KeepsSlice, AppendsNothing, Appends};
 
-use crate::{BackWriter, ErrorKind, Length, Result, SliceReader, SliceWriter, Tag};
+use crate::{BackWriter, ErrorKind, Header, Length, Result, SliceReader, SliceWriter, Tag};
 
 /// A type whose elements all have the same tag, which may be that of a type parameter.
 pub trait Tagged {
@@ -152,4 +152,19 @@ pub trait UniqueContent: ValueContent {
 pub trait Sequence<'a>: DecodeValue<'a> + EncodeValue + FixedTag {
     /// The tag is `30`.
     ghost is_sequence: { Self.tag_byte ≡ 0x30 };
+}
+
+/// Returns the header of the value's element.
+pub(crate) fn element_header<T: EncodeValue + Tagged>(value: &T) -> Result<Header>
+    ensures overlength { element_of T.tag_byte (T.content value.now) ≡ None
+        → Refuses result ErrorKind.Overlength }
+    ensures only { (content : List ℕ) → T.content value.now ≡ Some content
+        → length content ≤ max_length
+        → result ≡ Ok (record { tag = T.tag_byte; length = length content }) }
+    ensures tag { OnOk result (IsTag T.tag_byte) }
+{
+    Ok(Header {
+        tag: T::fixed_tag(),
+        length: value.value_len()?,
+    })
 }
