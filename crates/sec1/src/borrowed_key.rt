@@ -1,28 +1,27 @@
 //! EC private keys as they are read.
-ghost use Rattle.std.specs.Prelude.{◌≡◌, refl};
+ghost use Rattle.std.specs.Prelude.{refl};
 ghost use Rattle.std.specs.Option.{option_map};
 ghost use Rattle.sec1.specs.Keys.{Key};
 
-use crate::{EcParameters, EcPrivateKey};
 use sec1_der::{
     Context0, Distinct, Explicit, ExplicitBits, IdentifierRef, Octets, Optional, Record, Required,
     VersionOne,
 };
 use std::marker::Model;
 
-/// An EC private key that borrows the curve's identifier too. An [`EcPrivateKey`] is made of it
-/// once all of it was read: its identifier has bytes of its own, which would be moved from each part
-/// of the record to the next. A contract sees the three parts of the key.
+/// An EC private key that borrows the curve's identifier too. An `EcPrivateKey` is made of it once
+/// all of it was read: its identifier has bytes of its own, which would be moved from each part of
+/// the record to the next. A contract sees the three parts of the key.
 #[derive(Drop)]
 pub(crate) struct BorrowedKey<'a> {
     /// The bytes of the private key.
-    private_key: &'a [u8],
+    pub(crate) private_key: &'a [u8],
 
     /// The identifier of the curve, if present.
-    curve: Option<IdentifierRef<'a>>,
+    pub(crate) curve: Option<IdentifierRef<'a>>,
 
     /// The bytes of the public key, if present.
-    public_key: Option<&'a [u8]>,
+    pub(crate) public_key: Option<&'a [u8]>,
 }
 
 impl<'a> Model for BorrowedKey<'a> {
@@ -33,22 +32,6 @@ impl<'a> Model for BorrowedKey<'a> {
       parameters = key.curve;
       public_key = option_map (λ bytes. bytes.now) key.public_key;
     } };
-}
-
-impl<'a> BorrowedKey<'a> {
-    /// Returns the key with a copy of the identifier.
-    pub(crate) fn to_key(&self) -> EcPrivateKey<'a>
-        ensures { result ≡ self.now }
-    {
-        EcPrivateKey {
-            private_key: self.private_key,
-            parameters: match &self.curve {
-                Some(curve) => Some(EcParameters::NamedCurve(curve.to_identifier())),
-                None => None,
-            },
-            public_key: self.public_key,
-        }
-    }
 }
 
 impl<'a> Record for BorrowedKey<'a> {

@@ -5,7 +5,6 @@ ghost use Rattle.std.specs.Prelude.{◌≡◌, ◌⊎◌, ◌↔◌, List, [], �
 ghost use Rattle.sec1.specs.Examples.{p_256_bytes, p_256_key, p_256_point, p_256_base, p_256_base_compressed};
 ghost use Rattle.sec1.specs.Coordinates.{coordinates_bytes};
 ghost use Rattle.sec1.specs.Keys.{HasNoEncoding, IsKeyOf, Key};
-ghost use Rattle.sec1_der.specs.Elements.{element_of};
 ghost use Rattle.sec1.specs.KeyRefusals.{key_fault};
 ghost use Rattle.sec1.specs.EncodedPoints.{point_of};
 ghost use Rattle.sec1.specs.Parameters.{curve_of};
@@ -16,6 +15,7 @@ use crate::der::{
     ErrorKind, FixedTag, ObjectIdentifier, Tagged, UniqueContent, ValueContent, laws,
 };
 use crate::point::{Coordinates, Tag};
+pub use crate::private_key::tree_is_element;
 use crate::{ALGORITHM_OID, EcParameters, EcPrivateKey, EncodedPoint};
 
 /// Returns whether two parameters name the same curve.
@@ -72,14 +72,6 @@ pub fn one_key()
 {
     EcPrivateKey::one();
 }
-
-/// The bytes of a key's tree are its element, and a key without a tree has no element.
-pub fn tree_is_element()
-    ensures bytes { (key : Key) (bytes : List ℕ) → IsKeyOf key bytes
-        ↔ (element_of 0x30 (⟦<EcPrivateKey<'static> as ValueContent>⟧.content key) ≡ Some bytes) }
-    ensures none { (key : Key) → HasNoEncoding key
-        ↔ (element_of 0x30 (⟦<EcPrivateKey<'static> as ValueContent>⟧.content key) ≡ None) }
-{}
 
 /// A key has an encoding, or it has none.
 pub fn bytes_or_none(key: &EcPrivateKey)

@@ -1,4 +1,5 @@
-ghost use Rattle.std.specs.Prelude.{◌≡◌, ◌<◌, ◌≤◌, ◌++◌, ℕ, List, length, Ok, drop, MatchResult, IfOk, IfErr, OnErr, ◌⊎◌, refl};
+ghost use Rattle.std.specs.Prelude.{◌≡◌, ◌<◌, ◌≤◌, ◌++◌, ℕ, List, length, Ok, drop, MatchResult, IfOk, IfErr, OnErr, ◌⊎◌, ◌↔◌, Some, None, refl};
+ghost use Rattle.sec1_der.specs.Elements.{element_of};
 ghost use Rattle.std.specs.Option.{option_map};
 ghost use Rattle.sec1.specs.Keys.{Key, IsKeyOf, HasNoEncoding, HasEncodingWith};
 ghost use Rattle.sec1.specs.Parameters.{curve_of};
@@ -6,11 +7,11 @@ ghost use Rattle.sec1.specs.ReadsKey.{ReadsKey};
 ghost use Rattle.sec1.specs.Errors.{IsAsn1, RefusesAsn1};
 
 use crate::borrowed_key::BorrowedKey;
-use crate::{EcParameters, Error, Result, laws};
+use crate::{EcParameters, Error, Result};
 use sec1_der as der;
 use sec1_der::{
     Context0, Distinct, ErrorKind, Explicit, ExplicitBits, ObjectIdentifier, Octets, Optional,
-    Record, Required, SecretDocument, VersionOne,
+    Record, Required, SecretDocument, UniqueContent, ValueContent, VersionOne,
 };
 use std::alloc::Global;
 use std::fmt;
@@ -66,7 +67,7 @@ impl<'a> TryFrom<&'a [u8]> for EcPrivateKey<'a> {
     ghost try_from_gives = { λ bytes result. ReadsKey bytes.now result };
 
     fn try_from(bytes: &'a [u8]) -> Result<EcPrivateKey<'a>> {
-        laws::one_key();
+        EcPrivateKey::one();
         der::laws::trees_unique();
         let key: BorrowedKey = der::from_der(bytes)?;
         Ok(key.to_key())
@@ -87,7 +88,7 @@ impl<'a> EcPrivateKey<'a> {
         ensures lacks { OnErr result (HasNoEncoding self.now) }
         ensures kind { IfErr result (IsAsn1 ErrorKind.Overlength) }
     {
-        laws::tree_is_element();
+        tree_is_element();
         Ok(der::encoded_len(self)?)
     }
 
@@ -114,7 +115,7 @@ impl<'a> EcPrivateKey<'a> {
         ensures kinds { IfErr result (λ e. (IsAsn1 ErrorKind.Overlength e × HasNoEncoding self.now)
             ⊎ IsAsn1 ErrorKind.Buffer e) }
     {
-        laws::tree_is_element();
+        tree_is_element();
         Ok(der::encode_to_slice(self, buffer)?)
     }
 
@@ -131,7 +132,7 @@ impl<'a> EcPrivateKey<'a> {
         ensures kinds { IfErr result (λ e. (IsAsn1 ErrorKind.Overlength e × HasNoEncoding self.now)
             ⊎ (e ≡ Error.Memory)) }
     {
-        laws::tree_is_element();
+        tree_is_element();
         Ok(der::to_der(alloc, self)?)
     }
 
@@ -164,8 +165,24 @@ impl<'a> EcPrivateKey<'a> {
         ensures kinds { IfErr result (λ e. (IsAsn1 ErrorKind.Overlength e × HasNoEncoding self.now)
             ⊎ (e ≡ Error.Memory)) }
     {
-        laws::tree_is_element();
+        tree_is_element();
         Ok(SecretDocument::encode_msg(alloc, self)?)
+    }
+}
+
+impl<'a> BorrowedKey<'a> {
+    /// Returns the key with a copy of the identifier.
+    pub(crate) fn to_key(&self) -> EcPrivateKey<'a>
+        ensures { result ≡ self.now }
+    {
+        EcPrivateKey {
+            private_key: self.private_key,
+            parameters: match &self.curve {
+                Some(curve) => Some(EcParameters::NamedCurve(curve.to_identifier())),
+                None => None,
+            },
+            public_key: self.public_key,
+        }
     }
 }
 
@@ -239,3 +256,11 @@ impl<'a> Record for EcPrivateKey<'a> {
 impl Distinct for EcPrivateKey<'_> {
     ghost apart = { refl };
 }
+
+/// The bytes of a key's tree are its element, and a key without a tree has no element.
+pub fn tree_is_element()
+    ensures bytes { (key : Key) (bytes : List ℕ) → IsKeyOf key bytes
+        ↔ (element_of 0x30 (⟦<EcPrivateKey<'static> as ValueContent>⟧.content key) ≡ Some bytes) }
+    ensures none { (key : Key) → HasNoEncoding key
+        ↔ (element_of 0x30 (⟦<EcPrivateKey<'static> as ValueContent>⟧.content key) ≡ None) }
+{}
