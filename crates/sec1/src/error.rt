@@ -1,7 +1,9 @@
 ghost use Rattle.std.specs.Prelude.{◌≡◌};
 ghost use Rattle.sec1.specs.Errors.{error_of};
+ghost use Rattle.sec1.specs.declared.error.Error.TheVariants.{Memory};
 
 use sec1_der as der;
+use std::alloc::{AllocError, AllocFailed};
 
 /// The error type of this crate.
 #[derive(Debug, PartialEq, Eq, Drop, thiserror::Error)]
@@ -40,5 +42,23 @@ impl From<der::Error> for Error {
             der::ErrorKind::Memory => Error::Memory,
             _ => Error::Asn1(cause),
         }
+    }
+}
+
+/// A failed allocation becomes [`Error::Memory`].
+impl From<AllocError> for Error {
+    ghost from_gives = { λ _ error. error ≡ Memory };
+
+    fn from(_: AllocError) -> Error {
+        Error::Memory
+    }
+}
+
+/// A failed allocation becomes [`Error::Memory`].
+impl<T: Drop> From<AllocFailed<T>> for Error {
+    ghost from_gives = { λ _ error. error ≡ Memory };
+
+    fn from(_: AllocFailed<T>) -> Error {
+        Error::Memory
     }
 }
