@@ -21,13 +21,9 @@ mod leaf;
 mod lend;
 mod object_identifier;
 mod optional_part;
-#[cfg(test)]
-mod round_trips;
 mod sequence_of;
 mod set_of;
 mod string;
-#[cfg(test)]
-mod tests;
 mod time;
 mod time_kind;
 mod unsigned;

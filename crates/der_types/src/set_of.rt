@@ -161,6 +161,3 @@ impl<T: ValueContent + Tagged> UniqueContent for SetOf<'_, T> {
             → set_of T.tag_byte T.fault b ≡ Some bytes → a ≡ b }
     {}
 }
-
-#[cfg(test)]
-mod tests;

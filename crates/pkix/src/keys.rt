@@ -118,6 +118,3 @@ impl SubjectPublicKeyInfo<'_> {
         }
     }
 }
-
-#[cfg(test)]
-mod tests;

@@ -1,5 +1,5 @@
 //! Keys on P-256 that OpenSSL 3.0.19 wrote, and small ones that were put together by hand.
-use crate::{PrivateKeyInfo, SubjectPublicKeyInfo};
+use pkix::{PrivateKeyInfo, SubjectPublicKeyInfo};
 use sec1::Error;
 use sec1_der::read_der;
 use std::test::Fail;

@@ -1,10 +1,7 @@
 //! The tests of contents, at values that the standards give and at their neighbours.
-use crate::DateTime;
-use crate::boolean::is_boolean;
-use crate::integer::{is_integer, is_unsigned};
-use crate::object_identifier::is_object_identifier;
-use crate::string::{is_ia5, is_numeric_string, is_printable, is_utf8, is_visible};
-use crate::time::{generalized_date_time, is_generalized_time, is_utc_time, utc_date_time};
+use der_types::{Boolean, DateTime, GeneralizedTime, Kind, Unsigned, UtcTime, kind};
+use sec1_der::read_der;
+use std::test::Fail;
 
 /// Contents, whether they are an INTEGER's, and whether they are that of one which isn't negative
 /// (X.690 section 8.3).
@@ -26,24 +23,24 @@ static INTEGERS: [(&[u8], bool, bool); 12] = [
 #[test]
 fn tells_integers(rt: HostRuntime) {
     for &(bytes, integer, unsigned) in INTEGERS.iter() {
-        assert_eq!(rt; is_integer(bytes), integer, "{bytes:?}");
-        assert_eq!(rt; is_unsigned(bytes), unsigned, "{bytes:?}");
+        assert_eq!(rt; kind::Integer::test(bytes), integer, "{bytes:?}");
+        assert_eq!(rt; Unsigned::new(bytes).is_ok(), unsigned, "{bytes:?}");
     }
 }
 
-/// Contents, and whether they are a BOOLEAN's (X.690 section 11.1).
+/// Elements, and whether they are a BOOLEAN's (X.690 section 11.1).
 static BOOLEANS: [(&[u8], bool); 5] = [
-    (b"\xFF", true),
-    (b"\x00", true),
-    (b"\x01", false),
-    (b"", false),
-    (b"\xFF\xFF", false),
+    (b"\x01\x01\xFF", true),
+    (b"\x01\x01\x00", true),
+    (b"\x01\x01\x01", false),
+    (b"\x01\x00", false),
+    (b"\x01\x02\xFF\xFF", false),
 ];
 
 #[test]
 fn tells_booleans(rt: HostRuntime) {
     for &(bytes, boolean) in BOOLEANS.iter() {
-        assert_eq!(rt; is_boolean(bytes), boolean, "{bytes:?}");
+        assert_eq!(rt; read_der::<Boolean>(bytes).is_ok(), boolean, "{bytes:?}");
     }
 }
 
@@ -66,7 +63,11 @@ static IDENTIFIERS: [(&[u8], bool); 8] = [
 #[test]
 fn tells_identifiers(rt: HostRuntime) {
     for &(bytes, identifier) in IDENTIFIERS.iter() {
-        assert_eq!(rt; is_object_identifier(bytes), identifier, "{bytes:?}");
+        assert_eq!(rt;
+            kind::ObjectIdentifier::test(bytes),
+            identifier,
+            "{bytes:?}"
+        );
     }
 }
 
@@ -94,7 +95,7 @@ static UTC_TIMES: [(&str, bool); 16] = [
 #[test]
 fn tells_utc_times(rt: HostRuntime) {
     for &(text, time) in UTC_TIMES.iter() {
-        assert_eq!(rt; is_utc_time(text.as_bytes()), time, "{text}");
+        assert_eq!(rt; kind::UtcTime::test(text.as_bytes()), time, "{text}");
     }
 }
 
@@ -124,12 +125,16 @@ static GENERALIZED_TIMES: [(&str, bool); 17] = [
 #[test]
 fn tells_generalized_times(rt: HostRuntime) {
     for &(text, time) in GENERALIZED_TIMES.iter() {
-        assert_eq!(rt; is_generalized_time(text.as_bytes()), time, "{text}");
+        assert_eq!(rt;
+            kind::GeneralizedTime::test(text.as_bytes()),
+            time,
+            "{text}"
+        );
     }
 }
 
 #[test]
-fn reads_times(rt: HostRuntime) {
+fn reads_times(rt: HostRuntime) -> Result<(), Fail> {
     let first = DateTime {
         year: 1950,
         month: 1,
@@ -146,16 +151,14 @@ fn reads_times(rt: HostRuntime) {
         minute: 59,
         second: 58,
     };
-    let bytes = b"500102030405Z";
-    assert!(rt; is_utc_time(bytes));
-    assert_eq!(rt; utc_date_time(bytes), first);
-    let bytes = b"491231235958Z";
-    assert!(rt; is_utc_time(bytes));
-    assert_eq!(rt; utc_date_time(bytes), last);
-    let bytes = b"20491231235958.5Z";
-    assert!(rt; is_generalized_time(bytes));
-    assert_eq!(rt; generalized_date_time(bytes), last);
+    assert_eq!(rt; UtcTime::new(b"500102030405Z")?.date_time(), Some(first));
+    assert_eq!(rt; UtcTime::new(b"491231235958Z")?.date_time(), Some(last));
+    assert_eq!(rt;
+        GeneralizedTime::new(b"20491231235958.5Z")?.date_time(),
+        Some(last)
+    );
     assert!(rt; first < last && first.is_valid());
+    Ok(())
 }
 
 /// Contents, and whether they are a NumericString's, a PrintableString's, a VisibleString's, an
@@ -183,10 +186,10 @@ static STRINGS: [(&[u8], [bool; 5]); 13] = [
 #[test]
 fn tells_strings(rt: HostRuntime) {
     for &(bytes, [numeric, printable, visible, ia5, utf8]) in STRINGS.iter() {
-        assert_eq!(rt; is_numeric_string(bytes), numeric, "{bytes:?}");
-        assert_eq!(rt; is_printable(bytes), printable, "{bytes:?}");
-        assert_eq!(rt; is_visible(bytes), visible, "{bytes:?}");
-        assert_eq!(rt; is_ia5(bytes), ia5, "{bytes:?}");
-        assert_eq!(rt; is_utf8(bytes), utf8, "{bytes:?}");
+        assert_eq!(rt; kind::NumericString::test(bytes), numeric, "{bytes:?}");
+        assert_eq!(rt; kind::PrintableString::test(bytes), printable, "{bytes:?}");
+        assert_eq!(rt; kind::VisibleString::test(bytes), visible, "{bytes:?}");
+        assert_eq!(rt; kind::Ia5String::test(bytes), ia5, "{bytes:?}");
+        assert_eq!(rt; kind::Utf8String::test(bytes), utf8, "{bytes:?}");
     }
 }

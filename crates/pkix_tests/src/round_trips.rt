@@ -1,6 +1,6 @@
 //! Each type, read and written: values that the standards give, and their neighbours that are
 //! refused.
-use crate::{
+use der_types::{
     Bits, BmpString, Boolean, DateTime, Enumerated, GeneralizedTime, Ia5String, Integer, Null,
     NumericString, ObjectIdentifierRef, PrintableString, TeletexString, True, UniversalString,
     Unsigned, UtcTime, Utf8String, VisibleString,
