@@ -11,7 +11,6 @@ mod any;
 mod back_writer;
 mod bit_string;
 mod codec;
-mod component;
 mod component_values;
 mod context;
 mod document;
@@ -40,7 +39,6 @@ pub use any::AnyRef;
 pub use back_writer::BackWriter;
 pub use bit_string::BitStringRef;
 pub use codec::{encode_to_slice, encoded_len, from_der, read_der, to_der};
-pub use component::{component_len, decode_component};
 pub use component_values::{Containing, Octets, SmallInteger, WholeBits};
 pub use context::{
     Context0, Context1, Context2, Context3, Primitive0, Primitive1, Primitive2, Primitive3,
@@ -57,7 +55,7 @@ pub use optional::Optional;
 pub use part::{DecodePart, EncodePart, Part, UniquePart};
 pub use reader::SliceReader;
 pub use record::{Distinct, Record};
-pub use required::Required;
+pub use required::{Required, component_len, decode_component};
 pub use slice_writer::SliceWriter;
 pub use std_stream::{StdReader, StdWriter};
 pub use stream::{IoFault, Read, Write};

@@ -1,0 +1,161 @@
+//! The generic calls of a reader, which read values and explicit fields.
+ghost use Rattle.std.specs.Prelude.{◌≡◌, ◌≢◌, ◌≤◌, ◌++◌, [], ℕ, List, length};
+ghost use Rattle.std.specs.Prelude.{slice_get, true, false, IfOk};
+ghost use Rattle.std.specs.Prelude.{IsOkAnd, IfErr, OnOk, OnErr, IfSome, IfNone, IsSomeAnd};
+ghost use Rattle.sec1_der.specs.Elements.{max_length, element, IsProperBeginning, explicit_tag};
+ghost use Rattle.sec1_der.specs.Faults.{Refuses, IsReadingFault};
+ghost use Rattle.sec1_der.specs.Readers.{reader_over, HasReadElement};
+ghost use Rattle.sec1_der.specs.Refusals.{HasFault, element_fault, end_fault, field_fault};
+ghost use Rattle.sec1_der.specs.Refusals.{no_fault};
+
+use crate::{AnyRef, DecodeValue, ErrorKind, Result, SliceReader, Tag, Tagged};
+
+impl<'a> SliceReader<'a> {
+    /// Reads one element with the tag of `T`.
+    ///
+    /// # Errors
+    ///
+    /// Truncated if no input remains; Tag if the next byte isn't that tag; then Length or Truncated
+    /// if no length in the form of DER follows, or if the input ends inside the content; then those
+    /// of [`DecodeValue::decode_value`]; Failed if the reader failed before. The reader has failed
+    /// then.
+    pub fn decode<T: DecodeValue<'a> + Tagged>(&mut self) -> Result<T>
+        // What is read is the element of the value, and just its bytes are read.
+        ensures found { IfOk result (λ value. IsSomeAnd (T.content value) (λ content.
+            T.is_content content × HasReadElement T.tag_byte content self.old self.new)) }
+        // Where the unread bytes begin with the element of a value, it is read.
+        ensures only { (content rest : List ℕ) → T.is_content content → length content ≤ max_length
+            → self.old ≡ reader_over (element T.tag_byte content ++ rest)
+            → IsOkAnd result (λ value. T.content value ≡ Some content)
+            × (self.new ≡ reader_over rest) }
+
+        ensures short { (content : List ℕ) → length content ≤ max_length → self.old.failed ≡ false
+            → IsProperBeginning self.old.unread (element T.tag_byte content)
+            → Refuses result ErrorKind.Truncated }
+        ensures kinds { self.old.failed ≡ false → IfErr result (λ e. IsReadingFault e.kind) }
+        // The kind of a refusal is a function of the remaining input.
+        ensures kind { self.old.failed ≡ false
+            → HasFault result (element_fault T.tag_byte T.fault no_fault self.old.unread) }
+        ensures failed { self.old.failed ≡ true → Refuses result ErrorKind.Failed
+            × (self.new ≡ self.old) }
+        ensures refused { OnErr result (self.new.failed ≡ true) }
+    {
+        let mut content = self.open(T::fixed_tag())?;
+        match T::decode_value(&mut content) {
+            Ok(value) => Ok(value),
+            Err(e) => Err(self.fail(e.kind)),
+        }
+    }
+
+    /// Reads an explicit field `[number]` around one element with the tag of `T`, if present (X.690
+    /// section 8.14). It is present if the next byte is `A0 + number`. Otherwise nothing is read.
+    ///
+    /// # Errors
+    ///
+    /// Those of [`decode`](SliceReader::decode) for the field and for the element inside;
+    /// TrailingData if bytes follow that element inside the field; Failed if the reader failed
+    /// before. The reader has failed then.
+    pub fn context_specific<T: DecodeValue<'a> + Tagged + Drop>(
+        &mut self,
+        number: u8,
+    ) -> Result<Option<T>>
+        requires { number ≤ 30 }
+        // What is read is the field around the element of the value, and just its bytes are read.
+        ensures found { IfOk result
+            (λ field. IfSome field (λ value. IsSomeAnd (T.content value) (λ content.
+            T.is_content content
+            × (length content ≤ max_length)
+            × HasReadElement (explicit_tag number) (element T.tag_byte content) self.old
+            self.new))) }
+        // None means that no such field is next.
+        ensures missing { IfOk result (λ field. IfNone field ((self.new ≡ self.old)
+            × (slice_get self.old.unread 0 ≢ Some (explicit_tag number)))) }
+
+        // Where another byte is next, or none, nothing is read.
+        ensures absent { self.old.failed ≡ false
+            → slice_get self.old.unread 0 ≢ Some (explicit_tag number)
+            → (result ≡ Ok None) × (self.new ≡ self.old) }
+        // Where the unread bytes begin with such a field, it is read.
+        ensures only { (content rest : List ℕ) → T.is_content content → length content ≤ max_length
+            → length (element T.tag_byte content) ≤ max_length
+            → self.old ≡ reader_over
+            (element (explicit_tag number) (element T.tag_byte content) ++ rest)
+            → IsOkAnd result (λ field. IsSomeAnd field (λ value. T.content value ≡ Some content))
+            × (self.new ≡ reader_over rest) }
+
+        ensures kinds { self.old.failed ≡ false → IfErr result (λ e. IsReadingFault e.kind) }
+        // The kind of a refusal is a function of the remaining input.
+        ensures kind { self.old.failed ≡ false
+            → HasFault result (field_fault number T.tag_byte T.fault no_fault self.old.unread) }
+        ensures failed { self.old.failed ≡ true → Refuses result ErrorKind.Failed
+            × (self.new ≡ self.old) }
+        ensures refused { OnErr result (self.new.failed ≡ true) }
+    {
+        self.check()?;
+        let tag = Tag::context(number);
+        if self.peek_tag_byte() != Some(tag.byte()) {
+            return Ok(None);
+        }
+        let mut field = self.open(tag)?;
+        match field.only_element::<T>() {
+            Ok(value) => Ok(Some(value)),
+            Err(e) => Err(self.fail(e.kind)),
+        }
+    }
+
+    /// Reads the next element, which has this tag, and returns a reader over its content.
+    fn open(&mut self, tag: Tag) -> Result<SliceReader<'a>>
+        ensures found { IfOk result (λ content. (content ≡ reader_over content.unread)
+            × HasReadElement tag content.unread self.old self.new) }
+        ensures only { (content rest : List ℕ) → length content ≤ max_length
+            → self.old ≡ reader_over (element tag content ++ rest)
+            → (result ≡ Ok (reader_over content)) × (self.new ≡ reader_over rest) }
+        ensures short { (content : List ℕ) → length content ≤ max_length → self.old.failed ≡ false
+            → IsProperBeginning self.old.unread (element tag content)
+            → Refuses result ErrorKind.Truncated }
+        ensures kinds { self.old.failed ≡ false → IfErr result (λ e. IsReadingFault e.kind) }
+        ensures kind { self.old.failed ≡ false
+            → HasFault result (element_fault tag no_fault no_fault self.old.unread) }
+        ensures failed { self.old.failed ≡ true → Refuses result ErrorKind.Failed
+            × (self.new ≡ self.old) }
+        ensures refused { OnErr result (self.new.failed ≡ true) }
+    {
+        self.check()?;
+        let Some(byte) = self.peek_tag_byte() else {
+            return Err(self.fail(ErrorKind::Truncated));
+        };
+        if byte != tag.byte() {
+            return Err(self.fail(ErrorKind::Tag));
+        }
+        let any = AnyRef::decode(self)?;
+        Ok(SliceReader::new(any.value()))
+    }
+
+    /// Reads the one element in the remaining input.
+    pub(crate) fn only_element<T: DecodeValue<'a> + Tagged + Drop>(&mut self) -> Result<T>
+        ensures found { IfOk result (λ value. IsSomeAnd (T.content value) (λ content.
+            T.is_content content × (length content ≤ max_length)
+            × (self.old ≡ reader_over (element T.tag_byte content)))) }
+        ensures only { (content : List ℕ) → T.is_content content → length content ≤ max_length
+            → self.old ≡ reader_over (element T.tag_byte content)
+            → IsOkAnd result (λ value. T.content value ≡ Some content) }
+        ensures short { (content : List ℕ) → length content ≤ max_length → self.old.failed ≡ false
+            → IsProperBeginning self.old.unread (element T.tag_byte content)
+            → Refuses result ErrorKind.Truncated }
+        ensures long { (content : List ℕ) → T.is_content content → length content ≤ max_length
+            → self.old.failed ≡ false
+            → IsProperBeginning (element T.tag_byte content) self.old.unread
+            → Refuses result ErrorKind.TrailingData }
+        ensures kinds { self.old.failed ≡ false → IfErr result (λ e. IsReadingFault e.kind) }
+        ensures kind { self.old.failed ≡ false
+            → HasFault result (element_fault T.tag_byte T.fault end_fault self.old.unread) }
+        ensures read { OnOk result (self.new ≡ reader_over []) }
+        ensures failed { self.old.failed ≡ true → Refuses result ErrorKind.Failed
+            × (self.new ≡ self.old) }
+        ensures refused { OnErr result (self.new.failed ≡ true) }
+    {
+        let value = self.decode::<T>()?;
+        self.finish()?;
+        Ok(value)
+    }
+}
