@@ -1,6 +1,6 @@
 //! Laws of the table of curves, for callers to cite. Each law is the contract of a function, which
 //! does nothing else.
-ghost use Rattle.std.specs.Prelude.{◌≡◌, ◌↔◌, ℕ, List, Contains, IsTrue};
+ghost use Rattle.std.specs.Prelude.{◌≡◌, ℕ, List, Contains};
 ghost use Rattle.curves.specs.Curves.{curve_arcs, curve_content, IsNameOf};
 ghost use Rattle.curves.specs.declared.curve.Curve.{Curve};
 
@@ -24,10 +24,3 @@ pub fn one_identifier()
 pub fn one_name()
     ensures { (a b : Curve) (text : List ℕ) → IsNameOf text a → IsNameOf text b → a ≡ b }
 {}
-
-/// Two curves are equal exactly where they are the same variant.
-pub fn same_curve(a: Curve, b: Curve) -> bool
-    ensures { IsTrue result ↔ (a ≡ b) }
-{
-    a == b
-}

@@ -1,13 +1,18 @@
-//! Points of `sec1`, read again from what was written of them: bytes, texts and JSON.
+//! Points of `sec1`, read again from what was written of them: bytes, texts and JSON; points compared
+//! and kept in a set.
 
-ghost use Rattle.std.specs.Prelude.{◌≡◌, ◌↔◌, ◌<◌, ◌^◌, IsTrue, IfOk, IfErr, IsOkAnd};
+ghost use Rattle.std.specs.Prelude.{◌≡◌, ◌≢◌, ◌↔◌, ◌<◌, ◌^◌, IsTrue, IfOk, OnErr, IfErr, IsOkAnd};
+ghost use Rattle.std.specs.Prelude.{not};
+ghost use Rattle.std.specs.BTreeSet.{contains};
 ghost use Rattle.sec1.specs.EncodedPoints.{point_of};
 ghost use Rattle.sec1.specs.Points.{Fits, IsEncoding};
 ghost use Rattle.sec1.specs.declared.error.Error.TheVariants.{Memory};
 
-use sec1::laws::one_point;
+use sec1::laws::{one_point, points_apart};
+use sec1::point::EncodedPoint32;
 use sec1::{EncodedPoint, Result};
 use std::alloc::Global;
+use std::collections::BTreeSet;
 use std::str::FromStr;
 
 /// Reads a point again from its encoding.
@@ -83,4 +88,30 @@ pub fn is_encoding<const N: usize, const L: usize>(bytes: &[u8]) -> bool
     ensures { IsTrue result ↔ Fits N L × IsEncoding N bytes.now }
 {
     EncodedPoint::<N, L>::from_bytes(bytes).is_ok()
+}
+
+/// Returns `true` if the points differ.
+pub fn differ<const N: usize, const L: usize>(
+    a: &EncodedPoint<N, L>,
+    b: &EncodedPoint<N, L>,
+) -> bool
+    ensures { IsTrue result ↔ (point_of a.now ≢ point_of b.now) }
+{
+    points_apart();
+    *a != *b
+}
+
+/// Adds a point to a set, and returns `true` if it wasn't there.
+///
+/// # Errors
+///
+/// Memory if the allocation of an entry fails. The set has the same points then.
+pub fn add(set: &mut BTreeSet<EncodedPoint32>, point: EncodedPoint32) -> Result<bool>
+    ensures found { IfOk result (λ added. added
+        ≡ not (contains ⟦<EncodedPoint32 as Ord>⟧.cmp set.old point)) }
+    ensures unchanged { OnErr result (set.new.keys ≡ set.old.keys) }
+    ensures kind { IfErr result (λ e. e ≡ Memory) }
+{
+    let added = set.insert(point)?;
+    Ok(added)
 }

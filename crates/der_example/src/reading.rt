@@ -9,7 +9,7 @@ ghost use Rattle.der_example.specs.PrivateKeys.{PrivateKey};
 ghost use Rattle.der_example.specs.PublicKeys.{PublicKey};
 
 use crate::{AlgorithmIdentifier, PrivateKeyInfo, SubjectPublicKeyInfo};
-use sec1::der::{laws, read_der};
+use sec1::der::{ID_EC_PUBLIC_KEY, SECP256R1, read_der};
 use sec1::point::EncodedPoint32;
 use sec1::{EcPrivateKey, Error, Result};
 
@@ -17,14 +17,14 @@ use sec1::{EcPrivateKey, Error, Result};
 fn is_elliptic(algorithm: &AlgorithmIdentifier) -> bool
     ensures { IsTrue result ↔ (algorithm.now.algorithm ≡ ec_public_key) }
 {
-    laws::same_identifier(algorithm.algorithm, laws::id_ec_public_key())
+    algorithm.algorithm == ID_EC_PUBLIC_KEY
 }
 
 /// Returns whether the curve is P-256 (RFC 5480 section 2.1.1.1).
 fn is_p_256(algorithm: &AlgorithmIdentifier) -> bool
     ensures { IsTrue result ↔ (algorithm.now.parameters ≡ secp256r1) }
 {
-    laws::same_identifier(algorithm.parameters, laws::secp256r1())
+    algorithm.parameters == SECP256R1
 }
 
 /// Returns the public key of a certificate, from the bytes of its SubjectPublicKeyInfo (RFC 5280 section 4.1): a point

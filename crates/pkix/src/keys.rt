@@ -45,7 +45,7 @@ fn agrees(key: &EcPrivateKey, curve: Curve) -> bool
 {
     match &key.parameters {
         Some(EcParameters::NamedCurve(named)) => match Curve::from_identifier(named) {
-            Some(named) => laws::same_curve(named, curve),
+            Some(named) => named == curve,
             None => false,
         },
         None => true,

@@ -5,7 +5,6 @@ pub mod Keys
 pub mod KeyRefusals
 pub mod ReadsKey
 pub mod Traits
-pub mod Examples
 pub mod Points
 pub mod PointOrder
 pub mod PointOrderLaws

@@ -1,57 +1,17 @@
-//! Laws of the definitions, of the constants and of `==`, for callers to cite. Each law is the contract of a function,
-//! which does nothing else.
+//! Laws of keys and of points, for callers to cite: that a value is determined by its bytes, and how
+//! points compare. Each law is the contract of a function, which does nothing else.
 
-ghost use Rattle.std.specs.Prelude.{◌≡◌, ◌⊎◌, ◌↔◌, List, [], ◌∷◌, ℕ, Some, false, IsTrue};
-ghost use Rattle.sec1.specs.Examples.{p_256_bytes, p_256_key, p_256_point, p_256_base, p_256_base_compressed};
-ghost use Rattle.sec1.specs.Coordinates.{coordinates_bytes};
+ghost use Rattle.std.specs.Prelude.{◌≡◌, ◌⊎◌, ◌↔◌, List, ℕ, Some, IsTrue};
 ghost use Rattle.sec1.specs.Keys.{HasNoEncoding, IsKeyOf, Key};
-ghost use Rattle.sec1.specs.KeyRefusals.{key_fault};
 ghost use Rattle.sec1.specs.EncodedPoints.{point_of};
 ghost use Rattle.sec1.specs.Parameters.{curve_of};
-ghost use Rattle.sec1.specs.Points.{Fits, IsPoint, compact, compressed, compressed_point, encoding, hybrid, identity};
+ghost use Rattle.sec1.specs.PointOrder.{same_point};
+ghost use Rattle.sec1.specs.Points.{Fits, IsPoint, Point};
 ghost use Rattle.sec1.specs.declared.parameters.EcParameters.{EcParameters};
 
-use crate::der::{
-    ErrorKind, FixedTag, ObjectIdentifier, Tagged, UniqueContent, ValueContent, laws,
-};
-use crate::point::{Coordinates, Tag};
+use crate::der::{UniqueContent, ValueContent, laws};
 pub use crate::private_key::tree_is_element;
-use crate::{ALGORITHM_OID, EcParameters, EcPrivateKey, EncodedPoint};
-
-/// Returns whether two parameters name the same curve.
-pub fn same_parameters(a: EcParameters, b: EcParameters) -> bool
-    ensures { IsTrue result ↔ (curve_of a ≡ curve_of b) }
-{
-    a == b
-}
-
-/// Returns whether two tags of points are the same.
-pub fn same_tag(a: Tag, b: Tag) -> bool
-    ensures { IsTrue result ↔ (a ≡ b) }
-{
-    a == b
-}
-
-/// Returns whether the coordinates have the same variant, flag and bytes.
-pub fn same_coordinates<const N: usize>(a: Coordinates<'_, N>, b: Coordinates<'_, N>) -> bool
-    ensures { IsTrue result ↔ (coordinates_bytes a.entry ≡ coordinates_bytes b.entry) }
-{
-    a == b
-}
-
-/// Returns the identifier of the keys' algorithm, id-ecPublicKey (RFC 5480 section 2.1.1).
-pub fn algorithm_identifier() -> ObjectIdentifier
-    ensures { result ≡ 1 ∷ 2 ∷ 840 ∷ 10045 ∷ 2 ∷ 1 ∷ [] }
-{
-    ALGORITHM_OID
-}
-
-/// Returns the tag byte of a curve's name, an OBJECT IDENTIFIER (X.690 section 8.19).
-pub fn parameters_tag_byte() -> u8
-    ensures { result ≡ 0x06 }
-{
-    EcParameters::TAG.byte()
-}
+use crate::{EcParameters, EcPrivateKey, EncodedPoint};
 
 /// Two parameters with one content name the same curve.
 pub fn one_curve()
@@ -80,51 +40,6 @@ pub fn bytes_or_none(key: &EcPrivateKey)
     let _len = key.encoded_len();
 }
 
-/// A key on P-256 and its bytes (RFC 5915 section 3).
-#[tactic(auto, using(crate::proofs::KeyLemmas::key_found), unfolding(sec1_der::specs::Elements::length_octets))]
-pub fn spelled_key()
-    ensures { IsKeyOf p_256_key p_256_bytes }
-{}
-
-/// Bytes that are refused as a key, and by which kind (RFC 5915 section 3).
-#[tactic(auto, unfolding(sec1_der::specs::Elements::length_octets, crate::specs::KeyRefusals::key_fault))]
-pub fn spelled_refusals()
-    ensures no_byte { key_fault [] ≡ Some ErrorKind.Truncated }
-    ensures tag_before_length { key_fault (0x31 ∷ 0x80 ∷ []) ≡ Some ErrorKind.Tag }
-    ensures indefinite_length { key_fault (0x30 ∷ 0x80 ∷ []) ≡ Some ErrorKind.Length }
-    ensures less_than_announced { key_fault (0x30 ∷ 0x05 ∷ 0x02 ∷ 0x01 ∷ 0x01 ∷ 0x04 ∷ 0x01 ∷ 0xAA ∷ [])
-        ≡ Some ErrorKind.Truncated }
-    ensures another_version { key_fault (0x30 ∷ 0x06 ∷ 0x02 ∷ 0x02 ∷ 0x00 ∷ 0x01 ∷ 0x04 ∷ 0x00 ∷ [])
-        ≡ Some ErrorKind.Value }
-    ensures no_private_key { key_fault (0x30 ∷ 0x03 ∷ 0x02 ∷ 0x01 ∷ 0x01 ∷ [])
-        ≡ Some ErrorKind.Truncated }
-    ensures identifier { key_fault (0x30 ∷ 0x0C ∷ 0x02 ∷ 0x01 ∷ 0x01 ∷ 0x04 ∷ 0x00 ∷ 0xA0 ∷ 0x05
-        ∷ 0x06 ∷ 0x03 ∷ 0x2A ∷ 0x80 ∷ 0x01 ∷ []) ≡ Some ErrorKind.Value }
-    ensures field_twice { key_fault (0x30 ∷ 0x11 ∷ 0x02 ∷ 0x01 ∷ 0x01 ∷ 0x04 ∷ 0x00 ∷ 0xA0
-        ∷ 0x04 ∷ 0x06 ∷ 0x02 ∷ 0x2A ∷ 0x03 ∷ 0xA0 ∷ 0x04 ∷ 0x06 ∷ 0x02 ∷ 0x2A ∷ 0x03 ∷ [])
-        ≡ Some ErrorKind.TrailingData }
-    ensures unused_bits { key_fault (0x30 ∷ 0x0B ∷ 0x02 ∷ 0x01 ∷ 0x01 ∷ 0x04 ∷ 0x00 ∷ 0xA1
-        ∷ 0x04 ∷ 0x03 ∷ 0x02 ∷ 0x01 ∷ 0x00 ∷ []) ≡ Some ErrorKind.Value }
-    ensures end_before_unused_bits { key_fault (0x30 ∷ 0x0D ∷ 0x02 ∷ 0x01 ∷ 0x01 ∷ 0x04 ∷ 0x00
-        ∷ 0xA1 ∷ 0x06 ∷ 0x03 ∷ 0x02 ∷ 0x01 ∷ 0x00 ∷ 0x05 ∷ 0x00 ∷ [])
-        ≡ Some ErrorKind.TrailingData }
-    ensures bit_string_before_end { key_fault (0x30 ∷ 0x0D ∷ 0x02 ∷ 0x01 ∷ 0x01 ∷ 0x04 ∷ 0x00
-        ∷ 0xA1 ∷ 0x06 ∷ 0x03 ∷ 0x02 ∷ 0x01 ∷ 0x01 ∷ 0x05 ∷ 0x00 ∷ []) ≡ Some ErrorKind.Value }
-{}
-
-/// Encodings of points (SEC1 v2.0 section 2.3.3): the public key of the key on P-256, the curve's base point
-/// compressed (SEC 2 v2.0 section 2.4.2), and each other form at field elements of one byte.
-#[tactic(auto, unfolding(crate::specs::Points::encoding, crate::specs::Points::fixed_width))]
-pub fn spelled_points()
-    ensures public_key { Some (encoding 32 p_256_point) ≡ p_256_key.public_key }
-    ensures compressed { encoding 32 (compressed_point p_256_base) ≡ p_256_base_compressed }
-    ensures compressed_even { encoding 1 (compressed 1 false) ≡ 2 ∷ 1 ∷ [] }
-    ensures identity { encoding 1 identity ≡ 0 ∷ [] }
-    ensures compact { encoding 1 (compact 1) ≡ 5 ∷ 1 ∷ [] }
-    ensures hybrid_even { encoding 1 (hybrid 1 2) ≡ 6 ∷ 1 ∷ 2 ∷ [] }
-    ensures hybrid_odd { encoding 1 (hybrid 1 3) ≡ 7 ∷ 1 ∷ 3 ∷ [] }
-{}
-
 /// The meaning of an [`EncodedPoint`] is a point of its size.
 pub fn one_point<const N: usize, const L: usize>(point: &EncodedPoint<N, L>)
     ensures sizes { Fits N L }
@@ -132,3 +47,8 @@ pub fn one_point<const N: usize, const L: usize>(point: &EncodedPoint<N, L>)
 {
     let _len = point.len();
 }
+
+/// The comparison of points finds them equal exactly where they are the same, also by `!=`.
+pub fn points_apart()
+    ensures { (p q : Point) → IsTrue (same_point p q) ↔ (p ≡ q) }
+{}

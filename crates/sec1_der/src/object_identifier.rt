@@ -1,5 +1,7 @@
 ghost use Rattle.std.specs.Prelude.{◌≡◌, ℕ, ◌<◌, ◌≤◌, ◌↔◌, List, length, IsTrue, IfOk, IfErr, Some};
-ghost use Rattle.std.specs.Prelude.{◌∷◌};
+ghost use Rattle.std.specs.Prelude.{◌∷◌, bytes_eq};
+ghost use Rattle.std.specs.Cmp.{partial_equiv_from_equiv};
+ghost use Rattle.std.specs.Cmp.Lexicographic.{nat_list_eq_equiv};
 ghost use Rattle.sec1_der.specs.ArcsOf.{padded, arcs_of_numbers};
 ghost use Rattle.sec1_der.specs.Contents.{identifier_fault};
 ghost use Rattle.sec1_der.specs.IdentifierLaws.{identifier_content-some};
@@ -25,7 +27,7 @@ const MAX_CONTENT: usize = 39;
 ///
 /// The first arc is 0, 1 or 2; the second is below 40 under 0 and 1, and at most 4,294,967,215
 /// under 2; each further arc is at most 4,294,967,295.
-#[derive(Clone, Copy, PartialEq, Eq)]
+#[derive(Clone, Copy)]
 pub struct ObjectIdentifier {
     bytes: [u8; MAX_CONTENT],
     len: usize,
@@ -163,6 +165,24 @@ fn is_content(content: &[u8]) -> bool
         rest = behind;
     }
     width == 0
+}
+
+/// Two are equal exactly where their arcs are.
+impl PartialEq for ObjectIdentifier {
+    ghost eq = { bytes_eq };
+
+    ghost laws = { partial_equiv_from_equiv nat_list_eq_equiv };
+
+    fn eq(&self, other: &Self) -> bool
+        ensures value { result ≡ bytes_eq self.now other.now }
+        ensures same { IsTrue result ↔ (self.now ≡ other.now) }
+    {
+        self.bytes == other.bytes && self.len == other.len
+    }
+}
+
+impl Eq for ObjectIdentifier {
+    ghost laws = { nat_list_eq_equiv };
 }
 
 /// Prints the arcs in decimal digits, joined by full stops.

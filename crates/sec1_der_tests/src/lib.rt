@@ -1,9 +1,11 @@
-//! Tests of `sec1_der` by its public calls: what its contracts can't say, on streams, files and memory, and values from
-//! outside.
+//! Tests of `sec1_der` by its public calls: what its contracts can't say, on streams, files and
+//! memory, and values from outside. [`checks`] has what is proved of its definitions, its constants
+//! and of `==`.
 //!
 //! They are in a crate of their own, so that `sec1_der` is proved once.
 #![tactic(auto)]
 
+pub mod checks;
 #[cfg(test)]
 mod large;
 #[cfg(test)]

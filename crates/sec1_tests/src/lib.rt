@@ -1,9 +1,11 @@
-//! Tests of `sec1` by its public calls: what its contracts can't say, on streams, files, memory and texts, and keys and
-//! points from outside.
+//! Tests of `sec1` by its public calls: what its contracts can't say, on streams, files, memory and
+//! texts, and keys and points from outside. [`checks`] has what is proved of its definitions, its
+//! constants and of `==`.
 //!
 //! They are in a crate of their own, so that `sec1` is proved once.
 #![tactic(auto)]
 
+pub mod checks;
 #[cfg(test)]
 mod files;
 #[cfg(test)]
