@@ -1,5 +1,5 @@
 -- Coordinates borrowed as arrays of bytes.
-use Rattle.std.specs.Prelude.{◌≡◌, ℕ, zero, suc, List, [], ◌∷◌, ◌++◌, Bool, if◌then◌else◌, length, ⊤, get_or, bytes_eq}
+use Rattle.std.specs.Prelude.{◌≡◌, ℕ, zero, suc, List, [], ◌∷◌, ◌++◌, if◌then◌else◌, length, ⊤, get_or}
 use Rattle.sec1_der.specs.Numbers.{number_of}
 use Rattle.sec1.specs.Points.{Point, identity, compact, compressed, uncompressed, hybrid}
 use Rattle.sec1.specs.declared.point.coordinates.Coordinates.{Coordinates}
@@ -37,7 +37,3 @@ coordinates_bytes {N} (parts.Compact x) = 1 ∷ first_bytes N x.now
 coordinates_bytes {N} (parts.Compressed x y_is_odd) = (if y_is_odd then 3 else 2) ∷ first_bytes N x.now
 coordinates_bytes {N} (parts.Uncompressed x y) = 4 ∷ (first_bytes N x.now ++ first_bytes N y.now)
 coordinates_bytes {N} (parts.Hybrid x y) = 5 ∷ (first_bytes N x.now ++ first_bytes N y.now)
-
--- the same variant, flag and bytes
-abbrev pub same_parts : {N : ℕ} → Coordinates N → Coordinates N → Bool
-same_parts c d = bytes_eq (coordinates_bytes c) (coordinates_bytes d)

@@ -15,13 +15,17 @@ error_of_kind _ cause = Asn1 cause
 abbrev pub error_of : DerError → Error
 error_of cause = error_of_kind cause.kind cause
 
+-- an error of DER whose kind is such
+abbrev IsAsn1Where : (ErrorKind → Type 0) → Error → Type 0
+IsAsn1Where P (Asn1 cause) = P cause.kind
+IsAsn1Where P Crypto = ⊥
+IsAsn1Where P PointEncoding = ⊥
+IsAsn1Where P Version = ⊥
+IsAsn1Where P Memory = ⊥
+
 -- an error of DER of this kind
 abbrev pub IsAsn1 : ErrorKind → Error → Type 0
-IsAsn1 kind (Asn1 cause) = cause.kind ≡ kind
-IsAsn1 kind Crypto = ⊥
-IsAsn1 kind PointEncoding = ⊥
-IsAsn1 kind Version = ⊥
-IsAsn1 kind Memory = ⊥
+IsAsn1 kind = IsAsn1Where (λ of. of ≡ kind)
 
 -- the call failed with an error of DER of this kind
 abbrev pub RefusesAsn1 : {T : Type 0} → Result T Error → ErrorKind → Type 0
@@ -29,20 +33,9 @@ RefusesAsn1 result kind = IsErrAnd result (IsAsn1 kind)
 
 -- an error of DER by which bytes are refused
 abbrev pub IsAsn1ReadingFault : Error → Type 0
-IsAsn1ReadingFault (Asn1 cause) = IsReadingFault cause.kind
-IsAsn1ReadingFault Crypto = ⊥
-IsAsn1ReadingFault PointEncoding = ⊥
-IsAsn1ReadingFault Version = ⊥
-IsAsn1ReadingFault Memory = ⊥
-
--- an error of DER of this kind
-abbrev pub IsAsn1Fault : Option ErrorKind → Error → Type 0
-IsAsn1Fault fault (Asn1 cause) = fault ≡ Some cause.kind
-IsAsn1Fault fault Crypto = ⊥
-IsAsn1Fault fault PointEncoding = ⊥
-IsAsn1Fault fault Version = ⊥
-IsAsn1Fault fault Memory = ⊥
+IsAsn1ReadingFault = IsAsn1Where IsReadingFault
 
 -- the call fails with an error of DER of this kind, or succeeds if there is none
 abbrev pub HasAsn1Fault : {T : Type 0} → Result T Error → Option ErrorKind → Type 0
-HasAsn1Fault result fault = MatchResult result (λ _. fault ≡ None) (IsAsn1Fault fault)
+HasAsn1Fault result fault =
+    MatchResult result (λ _. fault ≡ None) (IsAsn1Where (λ kind. fault ≡ Some kind))

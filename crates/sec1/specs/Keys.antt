@@ -22,7 +22,7 @@ public_key_field None = []
 public_key_field (Some bytes) = node 0xA1 (leaf 0x03 (0 ∷ bytes) ∷ []) ∷ []
 
 -- version 1, the private key, the parameters and the public key
-abbrev pub key_fields : Key → List Tree
+abbrev key_fields : Key → List Tree
 key_fields key =
     leaf 0x02 (1 ∷ []) ∷ leaf 0x04 key.private_key ∷ parameters_field key.parameters ++ public_key_field key.public_key
 

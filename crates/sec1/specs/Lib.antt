@@ -10,6 +10,5 @@ pub mod PointOrder
 pub mod PointOrderLaws
 pub mod Tags
 pub mod Coordinates
-pub mod CoordinateLaws
 pub mod EncodedPoints
 pub mod HexTexts

@@ -5,7 +5,7 @@ use Rattle.std.specs.Ordering.{nat_cmp, ordering_then, is_eq}
 use Rattle.sec1.specs.Points.{Point, tag_byte, x_of, y_of}
 
 -- both are present, and the first is smaller
-abbrev pub IsLess : Option ℕ → Option ℕ → Type 0
+abbrev IsLess : Option ℕ → Option ℕ → Type 0
 IsLess (Some a) (Some b) = a < b
 IsLess (Some a) None = ⊥
 IsLess None b = ⊥
@@ -22,7 +22,7 @@ or_zero None = 0
 or_zero (Some n) = n
 
 -- by x, then by y
-abbrev pub coordinates_cmp : Point → Point → Ordering
+abbrev coordinates_cmp : Point → Point → Ordering
 coordinates_cmp p q =
     ordering_then (nat_cmp (or_zero (x_of p)) (or_zero (x_of q))) (nat_cmp (or_zero (y_of p)) (or_zero (y_of q)))
 

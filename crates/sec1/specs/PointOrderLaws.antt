@@ -17,7 +17,7 @@ pub same_point_equiv : IsEquivalence same_point
 same_point_equiv = eq_by_cmp_equiv point_cmp_total
 
 -- Tag and coordinates make the point.
-pub point_from-parts : (p : Point) → point_from (tag_byte p) (or_zero (x_of p)) (or_zero (y_of p)) ≡ p
+point_from-parts : (p : Point) → point_from (tag_byte p) (or_zero (x_of p)) (or_zero (y_of p)) ≡ p
 point_from-parts identity = refl
 point_from-parts p = grind arith
 

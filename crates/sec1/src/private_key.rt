@@ -6,12 +6,12 @@ ghost use Rattle.sec1.specs.Parameters.{curve_of};
 ghost use Rattle.sec1.specs.ReadsKey.{ReadsKey};
 ghost use Rattle.sec1.specs.Errors.{IsAsn1, RefusesAsn1};
 
-use crate::borrowed_key::BorrowedKey;
+use crate::borrowed_key::{BorrowedKey, KeyParts};
 use crate::{EcParameters, Error, Result};
 use sec1_der as der;
 use sec1_der::{
-    Context0, Distinct, ErrorKind, Explicit, ExplicitBits, ObjectIdentifier, Octets, Optional,
-    Record, Required, SecretDocument, UniqueContent, ValueContent, VersionOne,
+    Distinct, ErrorKind, Explicit, ExplicitBits, ObjectIdentifier, Octets, Optional, Record,
+    Required, SecretDocument, UniqueContent, ValueContent, VersionOne,
 };
 use std::alloc::Global;
 use std::fmt;
@@ -197,16 +197,7 @@ impl fmt::Debug for EcPrivateKey<'_> {
 }
 
 impl<'a> Record for EcPrivateKey<'a> {
-    type Parts = (
-        Required<VersionOne>,
-        (
-            Required<Octets<'a>>,
-            (
-                Optional<Explicit<Context0, ObjectIdentifier>>,
-                Optional<ExplicitBits<'a>>,
-            ),
-        ),
-    );
+    type Parts = KeyParts<'a, ObjectIdentifier>;
 
     ghost parts = { λ key. (record {}, (key.private_key, (key.parameters, key.public_key))) };
 

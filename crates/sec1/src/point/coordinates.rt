@@ -4,8 +4,8 @@ ghost use Rattle.std.specs.Prelude.{◌≡◌, length, bytes_eq};
 ghost use Rattle.sec1_der.specs.Numbers.{number_of};
 ghost use Rattle.sec1.specs.Points.{point_from};
 ghost use Rattle.sec1.specs.Tags.{byte_of, point_tag};
-ghost use Rattle.sec1.specs.Coordinates.{AreWhole, first_bytes, coordinates_point, same_parts};
-ghost use Rattle.sec1.specs.CoordinateLaws.{same_parts_equiv};
+ghost use Rattle.sec1.specs.Coordinates.{AreWhole, first_bytes, coordinates_bytes, coordinates_point};
+ghost use Rattle.std.specs.Cmp.Lexicographic.{on_texts_equal};
 ghost use Rattle.std.specs.Cmp.{partial_equiv_from_equiv};
 
 use super::Tag;
@@ -104,9 +104,9 @@ impl<const N: usize> fmt::Debug for Coordinate<'_, N> {
 
 /// Two are equal if the variant, the flag and each byte are the same.
 impl<const N: usize> PartialEq for Coordinates<'_, N> {
-    ghost eq = { same_parts };
+    ghost eq = { λ c d. bytes_eq (coordinates_bytes c) (coordinates_bytes d) };
 
-    ghost laws = { partial_equiv_from_equiv same_parts_equiv };
+    ghost laws = { partial_equiv_from_equiv (on_texts_equal coordinates_bytes) };
 
     #[tactic(auto, using(crate::proofs::CoordinateLemmas::compared_coordinates))]
     fn eq(&self, other: &Self) -> bool {
@@ -142,7 +142,7 @@ impl<const N: usize> PartialEq for Coordinates<'_, N> {
 }
 
 impl<const N: usize> Eq for Coordinates<'_, N> {
-    ghost laws = { same_parts_equiv };
+    ghost laws = { on_texts_equal coordinates_bytes };
 }
 
 impl<const N: usize> fmt::Debug for Coordinates<'_, N> {
