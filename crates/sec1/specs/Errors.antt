@@ -8,7 +8,7 @@ use Rattle.sec1_der.specs.declared.error.ErrorKind.{ErrorKind}
 use Rattle.sec1_der.specs.declared.error.ErrorKind.TheVariants.{Memory as DerMemory}
 
 -- the error of this crate for an error of DER, by its kind
-abbrev pub error_of_kind : ErrorKind → DerError → Error
+abbrev error_of_kind : ErrorKind → DerError → Error
 error_of_kind DerMemory cause = Memory
 error_of_kind _ cause = Asn1 cause
 

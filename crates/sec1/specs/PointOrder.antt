@@ -1,5 +1,5 @@
 -- The order of points: by tag, then by coordinates as whole numbers. It is total, and only one point ties with another.
-use Rattle.std.specs.Prelude.{◌≡◌, ℕ, ◌<◌, ◌⊎◌, Bool, Option, Some, None}
+use Rattle.std.specs.Prelude.{◌≡◌, ℕ, ◌<◌, ◌⊎◌, Bool, Option, Some, None, unwrap_or}
 use Rattle.std.specs.declared.cmp.Ordering.{Ordering}
 use Rattle.std.specs.Ordering.{nat_cmp, ordering_then, is_eq}
 use Rattle.sec1.specs.Points.{Point, tag_byte, x_of, y_of}
@@ -16,15 +16,10 @@ IsBelow p q = (tag_byte p < tag_byte q)
     ⊎ ((tag_byte p ≡ tag_byte q) × IsLess (x_of p) (x_of q))
     ⊎ ((tag_byte p ≡ tag_byte q) × (x_of p ≡ x_of q) × IsLess (y_of p) (y_of q))
 
--- the number, or 0 if there is none
-abbrev pub or_zero : Option ℕ → ℕ
-or_zero None = 0
-or_zero (Some n) = n
-
--- by x, then by y
+-- by x, then by y; a coordinate that is absent counts as 0
 abbrev coordinates_cmp : Point → Point → Ordering
 coordinates_cmp p q =
-    ordering_then (nat_cmp (or_zero (x_of p)) (or_zero (x_of q))) (nat_cmp (or_zero (y_of p)) (or_zero (y_of q)))
+    ordering_then (nat_cmp (unwrap_or (x_of p) 0) (unwrap_or (x_of q) 0)) (nat_cmp (unwrap_or (y_of p) 0) (unwrap_or (y_of q) 0))
 
 -- by tag byte, then by coordinates
 unfoldable pub point_cmp : Point → Point → Ordering

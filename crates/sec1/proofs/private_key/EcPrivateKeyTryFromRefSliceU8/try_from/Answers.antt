@@ -4,7 +4,7 @@ use Rattle.sec1_der.specs.declared.error.Error.{Error as DerError}
 use Rattle.sec1_der.specs.declared.error.ErrorKind.{ErrorKind}
 use Rattle.sec1_der.specs.declared.error.ErrorKind.TheVariants.{Memory as DerMemory}
 use Rattle.sec1.specs.Der.{IsReadingFault}
-use Rattle.sec1.specs.Errors.{error_of_kind}
+use Rattle.sec1.specs.Errors.{error_of}
 use Rattle.sec1.specs.declared.error.Error.TheVariants.{Asn1}
 use Rattle.sec1_der.specs.ElementLaws.{element_of-some}
 use Rattle.sec1.specs.KeyRefusals.{key_fault}
@@ -13,9 +13,10 @@ use Rattle.sec1.proofs.KeyLemmas.{key_content, key_found, key_written}
 use Rattle.sec1.proofs.private_key.EcPrivateKeyTryFromRefSliceU8.try_from.Goals as goal
 
 -- A fault of reading stays an error of DER.
-asn1 : (kind : ErrorKind) (cause : DerError) → IsReadingFault kind → error_of_kind kind cause ≡ Asn1 cause
-asn1 DerMemory cause fault = absurd fault
-asn1 kind cause fault = refl
+asn1 : (kind : ErrorKind) (cause : DerError) → cause.kind ≡ kind → IsReadingFault kind
+    → error_of cause ≡ Asn1 cause
+asn1 DerMemory cause is fault = absurd fault
+asn1 kind cause is fault = rw is refl
 
 pub returns-in_err-key : goal.returns-in_err-key
 unfolding key_fault
@@ -23,7 +24,7 @@ returns-in_err-key c =
     let answered = err_from_is_err_and c.from_residual.result c.from_residual.ensures.1 in
     let from_der = c.in_err-key.ensures in
     let cause = c.in_err-key.field-0.0 in
-    rw (answered.1, answered.2, asn1 cause.kind cause from_der.kinds) (record {
+    rw (answered.1, answered.2, asn1 cause.kind cause refl from_der.kinds) (record {
       found = tt;
       only = λ key is. absurd (from_der.only_value key (key_written key c.args.bytes.now is));
       one_tree = tt;
