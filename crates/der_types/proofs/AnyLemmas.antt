@@ -5,7 +5,7 @@ use Rattle.std.proofs.Common.{IfOk, IsSomeAnd, refl, sym, ◌∙◌, ap, le-leb,
 use Rattle.std.proofs.Math.Seq.{drop-append_seam}
 use Rattle.std.proofs.lemmas.Bool.{and_parts, lt-ltb, ltb-true}
 use Rattle.std.proofs.lemmas.Slice.Eq.{bytes_eq-Decides}
-use Rattle.sec1_der.specs.Elements.{max_length, length_octets, element, IsTag, IsHeader, IsElement, IsOverlong}
+use Rattle.sec1_der.specs.Elements.{max_length, length_octets, element, IsTag, IsHeader, IsElement}
 use Rattle.sec1_der.specs.Faults.{is_tag}
 use Rattle.sec1_der.specs.Parts.{AreApart, is_among}
 use Rattle.sec1_der.specs.Readers.{Reader, HasRead}
@@ -113,10 +113,6 @@ pub element_from : (any : AnyRef) (bytes : List ℕ) → IsHeader (tag_of any) (
     → bytes ≡ element (tag_of any) (value_of any) → IsElement bytes
 element_from any bytes header spelled =
     record { tag = tag_of any; content = value_of any; is_header = header; spelled = spelled }
-
--- an element that is too long has too many bytes
-pub any_overlong : (bytes : List ℕ) → IsElement bytes → IsOverlong (any_of bytes) → max_length < length bytes
-any_overlong bytes is over = rw (any_there bytes is) at over
 
 -- a byte that begins an element
 pub begins_any : (byte : ℕ) (b : Bool) → (b ≡ true → IsTag byte) → (IsTag byte → b ≡ true) → byte < 256

@@ -1,10 +1,10 @@
 -- Components with a default value.
-use Rattle.std.proofs.Common.{◌≡◌, [], ℕ, List, Bool, true, false, Option, Some, None, if◌then◌else◌, refl, sym, ◌∙◌}
+use Rattle.std.proofs.Common.{◌≡◌, [], ℕ, List, Bool, true, false, Option, Some, None, Ok, if◌then◌else◌, refl, sym, ◌∙◌}
 use Rattle.std.proofs.Common.{arith, append-nil}
 use Rattle.std.proofs.Math.Seq.{take-append_seam}
 use Rattle.std.proofs.lemmas.Slice.Eq.{bytes_eq-Decides}
 use Rattle.std.specs.Option.{option_map}
-use Rattle.sec1_der.specs.BackWriters.{PutsInFront, front_of}
+use Rattle.sec1_der.specs.BackWriters.{Puts, front_of}
 use Rattle.sec1_der.specs.Elements.{element_of}
 use Rattle.sec1_der.specs.declared.back_writer.BackWriter.{BackWriter}
 use Rattle.sec1_der.specs.Parts.{AreApart, optional_tag, optional_of}
@@ -73,11 +73,18 @@ defaulted_apart tag d content one two a b x y r s apart e f before behind same =
     by false false e f same = cc (same)
 
 -- a writer that wrote nothing
-pub puts_nothing : (writer : BackWriter) → PutsInFront writer writer []
+pub puts_nothing : (writer : BackWriter) → Puts (Some []) writer writer (Ok tt)
 puts_nothing writer =
     record {
-      written = refl;
-      front = omega arith;
-      unchanged =
-          sym (rw append-nil at (take-append_seam (front_of writer) []));
+      slice = refl;
+      grows = omega arith;
+      fits = λ whole same room. let none : [] ≡ whole = cc same in (
+        refl,
+        rw (← none) (record {
+          written = refl;
+          front = omega arith;
+          unchanged = sym (rw append-nil at (take-append_seam (front_of writer) []));
+        }),
+      );
+      kinds = tt;
     }

@@ -1,12 +1,14 @@
 -- Which contents are identifiers', and what their arcs are.
 use Rattle.std.proofs.Common.{◌≡◌, ℕ, zero, suc, ◌+◌, ◌*◌, ◌/◌, ◌%◌, ◌^◌, ◌<◌, ◌≤◌, Bool, true, false, cond, ◌&&◌, eqb}
 use Rattle.std.proofs.Common.{ltb, List, [], ◌∷◌, ◌++◌, Some, length, get_or, drop, ◌↔◌, refl, sym, ap, arith}
+use Rattle.std.proofs.lemmas.Bool.{le-leb}
 use Rattle.std.proofs.lemmas.Bool.Decides.{nat_tests}
 use Rattle.std.proofs.lemmas.List.{append_assoc, append-nil, flat_map_more, map-append, length-append, drop_more}
 use Rattle.std.proofs.lemmas.List.{take_at}
 use Rattle.std.proofs.lemmas.Nat.{div-mul-add, mod-mul-add}
 use Rattle.std.specs.Int.Digits.{digits_of}
 use Rattle.std.specs.List.{flat_map, AllByRecursion}
+use Rattle.sec1_der.specs.Elements.{max_length, within_limit}
 use Rattle.sec1_der.specs.Numbers.{base128, marked}
 use Rattle.sec1_der.specs.Stored.{arcs_stored, IsStored}
 use Rattle.sec1_der.specs.declared.object_identifier.ObjectIdentifier.TheInside.{Inside}
@@ -169,9 +171,12 @@ content_is_stored arcs content is = grind (arith, goes_on_from_spells arcs conte
 -- ---- writing
 
 -- an identifier has this content, and an element can hold it
-pub identifier_fits : (arcs content : List ℕ) → IsIdentifier arcs content → (identifier_content arcs ≡ Some content)
-    × (length content ≤ max_identifier_length)
-identifier_fits arcs content is = (identifier_content-valid arcs content is, is.short)
+pub identifier_fits : (arcs content : List ℕ) → IsIdentifier arcs content
+    → (within_limit (identifier_content arcs) ≡ Some content) × (length content ≤ max_identifier_length)
+identifier_fits arcs content is = (
+  rw (identifier_content-valid arcs content is, le-leb (length content) max_length (omega (arith, is.short))) refl,
+  is.short,
+)
 
 -- ---- building
 

@@ -1,13 +1,21 @@
 -- What two calls of a writer do, one after the other, and what is written of a value that has bytes.
-use Rattle.std.proofs.Common.{◌≡◌, ℕ, List, ◌++◌, length, Option, Some, None, IsSomeAnd, Result, IsOk, refl, arith}
+use Rattle.std.proofs.Common.{false, true, ◌≡◌, ◌+◌, ◌-◌, ◌≤◌, ◌⊎◌, IfErr, Ok, Err, inl, inr, ⊎_elim, ap, ℕ, List, ◌++◌, length, Option, Some, None, IsSomeAnd, Result, IsOk, refl, arith}
 use Rattle.std.proofs.Common.{append_assoc, length-append}
+use Rattle.std.proofs.lemmas.Bool.{le-leb, cases_lt}
 use Rattle.std.proofs.lemmas.List.{drop-drop, take-take}
-use Rattle.sec1_der.specs.ElementLaws.{element_of-some}
-use Rattle.sec1_der.specs.BackWriters.{PutsInFront}
-use Rattle.sec1_der.specs.SliceWriters.{Appends}
+use Rattle.sec1_der.specs.ElementLaws.{FoundContent, element_of-some}
+use Rattle.sec1_der.specs.BackWriters.{PutsInFront, WritesInFront, Puts, front_of, end_of}
+use Rattle.sec1_der.specs.Elements.{max_length, header, header_of, element_of, within_limit}
+use Rattle.sec1_der.specs.SliceWriters.{Appends, Writes, room_of}
 use Rattle.sec1_der.specs.declared.back_writer.BackWriter.{BackWriter}
 use Rattle.sec1_der.specs.declared.error.Error.{Error}
+use Rattle.sec1_der.specs.declared.error.ErrorKind.TheVariants.{Overlength, Buffer}
+use Rattle.sec1_der.specs.declared.header.Header.{Header}
 use Rattle.sec1_der.specs.declared.slice_writer.SliceWriter.{SliceWriter}
+
+-- a call that failed doesn't succeed
+pub failed_ok : {A : Type 0} → false ≡ true → A
+failed_ok ok = absurd (cc ok)
 
 -- what the writers of elements take: the content of an element that is there, and lengths
 pub ruleset element_parts = (element_of-some, length-append)
@@ -21,6 +29,130 @@ appends_both old between new xs ys p q = grind (arith, append_assoc, length-appe
 pub puts_both : (old between new : BackWriter) (xs ys : List ℕ) → PutsInFront old between xs
     → PutsInFront between new ys → PutsInFront old new (ys ++ xs)
 puts_both old between new xs ys p q = grind (arith, append_assoc, length-append, take-take)
+
+-- bytes that have room, and then more that have room
+pub both_written : (old between new : SliceWriter) (xs ys : List ℕ) (first second : Result Unit Error)
+    → length xs + length ys ≤ length (room_of old)
+    → Writes (Some xs) old between first → Writes (Some ys) between new second
+    → Writes (Some (xs ++ ys)) old new second
+both_written old between new xs ys first second room p q =
+    let front = p.fits xs refl (omega arith) in
+    let behind = q.fits ys refl (omega (arith, front.1.room)) in
+    record {
+      slice = grind (arith, p.slice, q.slice);
+      overlength = λ none. absurd (cc none);
+      fits = λ whole same _. let is : xs ++ ys ≡ whole = cc same in
+          (behind.0, rw (← is) (appends_both old between new xs ys front.1 behind.1));
+      buffer = λ whole same less. let is : xs ++ ys ≡ whole = cc same in
+          absurd (omega (arith, rw (← is, length-append) at less));
+    }
+
+-- bytes that have room, and then more that have room in front of them
+pub both_put : (old between new : BackWriter) (xs ys : List ℕ) (first second : Result Unit Error)
+    → length xs + length ys ≤ length (front_of old)
+    → WritesInFront (Some xs) old between first → WritesInFront (Some ys) between new second
+    → WritesInFront (Some (ys ++ xs)) old new second
+both_put old between new xs ys first second room p q =
+    let behind = p.fits xs refl (omega arith) in
+    let front = q.fits ys refl (omega (arith, behind.1.front)) in
+    record {
+      slice = grind (arith, p.slice, q.slice);
+      grows = omega (arith, p.grows, q.grows);
+      overlength = λ none. absurd (cc none);
+      fits = λ whole same _. let is : ys ++ xs ≡ whole = cc same in
+          (front.0, rw (← is) (puts_both old between new xs ys behind.1 front.1));
+      buffer = λ whole same less. let is : ys ++ xs ≡ whole = cc same in
+          absurd (omega (arith, rw (← is, length-append) at less));
+    }
+
+-- the content of an element that an element can hold
+inside_element : (tag : ℕ) (content : Option (List ℕ)) (bytes : List ℕ) → (is : FoundContent tag content bytes)
+    → within_limit content ≡ Some is.inside
+inside_element tag content bytes is = rw (is.same, le-leb (length is.inside) max_length is.at.within) refl
+
+-- this header was returned
+abbrev pub Found : ℕ → ℕ → Header → Type 0
+Found tag n found = let result : Result Header Error = Ok found in result ≡ Ok (record { tag = tag; length = n })
+
+spelled_by : (tag : ℕ) (found : Header) (bytes inside : List ℕ) → Found tag (length inside) found
+    → bytes ≡ header tag (length inside) ++ inside → bytes ≡ header found.tag found.length ++ inside
+spelled_by tag found bytes inside same spelled = let is : found ≡ record { tag = tag; length = length inside } = cc same in
+    rw is spelled
+
+-- a header that is written where its element has room
+pub header_written : (tag total : ℕ) (found : Header) (content : Option (List ℕ)) (old between : SliceWriter) (first : Result Unit Error)
+    → IsSomeAnd (element_of tag content) (λ bytes. total ≡ length bytes) → total ≤ length (room_of old)
+    → ((inside : List ℕ) → within_limit content ≡ Some inside → Found tag (length inside) found)
+    → Writes (Some (header found.tag found.length)) old between first → IsOk first
+header_written tag total found content old between first measured room same p = by (element_of tag content) refl measured
+  where
+    by : (piece : Option (List ℕ)) → element_of tag content ≡ piece → IsSomeAnd piece (λ bytes. total ≡ length bytes)
+        → IsOk first
+    by None e h = absurd h
+    by (Some bytes) e h =
+        let is = element_of-some tag content bytes e in
+        let same_length = same is.inside (inside_element tag content bytes is) in
+        let spelled : bytes ≡ header found.tag found.length ++ is.inside = spelled_by tag found bytes is.inside same_length is.at.spelled in
+        (p.fits (header found.tag found.length) refl
+        (omega (arith, ap length spelled, length-append (header found.tag found.length) is.inside, h, room))).0
+
+-- an element whose header and content are written
+pub element_written : (tag total : ℕ) (found : Header) (content : Option (List ℕ)) (old between new : SliceWriter)
+    (first second : Result Unit Error)
+    → IsSomeAnd (element_of tag content) (λ bytes. total ≡ length bytes) → total ≤ length (room_of old)
+    → ((inside : List ℕ) → within_limit content ≡ Some inside → Found tag (length inside) found)
+    → Writes (Some (header found.tag found.length)) old between first → Writes (within_limit content) between new second
+    → Writes (element_of tag content) old new second
+element_written tag total found content old between new first second measured room same p q =
+    by (element_of tag content) refl measured
+  where
+    by : (piece : Option (List ℕ)) → element_of tag content ≡ piece → IsSomeAnd piece (λ bytes. total ≡ length bytes)
+        → Writes piece old new second
+    by None e h = absurd h
+    by (Some bytes) e h =
+        let is = element_of-some tag content bytes e in
+        let held = inside_element tag content bytes is in
+        let same_length = same is.inside held in
+        let spelled : bytes ≡ header found.tag found.length ++ is.inside = spelled_by tag found bytes is.inside same_length is.at.spelled in
+        rw spelled (both_written old between new (header found.tag found.length) is.inside first second
+        (omega (arith, ap length spelled, length-append (header found.tag found.length) is.inside, h, room)) p (rw held at q))
+
+-- the errors of a writer
+pub writing_kinds : (bytes : Option (List ℕ)) (old new : BackWriter) (result : Result Unit Error)
+    → WritesInFront bytes old new result → IfErr result (λ e. (e.kind ≡ Overlength) ⊎ (e.kind ≡ Buffer))
+writing_kinds bytes old new (Ok done) is = tt
+writing_kinds None old new (Err e) is = inl (is.overlength refl).0
+writing_kinds (Some bytes) old new (Err e) is = ⊎_elim
+    (λ less. inr (is.buffer bytes refl less).0)
+    (λ fits. absurd (cc (is.fits bytes refl fits).0))
+    (cases_lt (length (front_of old)) (length bytes))
+
+-- an element whose content and header are written
+pub element_put : (tag : ℕ) (content : Option (List ℕ)) (old between new : BackWriter) (first second : Result Unit Error)
+    → (written_tag since : ℕ) → written_tag ≡ tag → since ≡ length (end_of old) → Puts (within_limit content) old between first
+    → ((n : ℕ) → length (end_of between) ≡ n + since
+    → WritesInFront (header_of written_tag n) between new second)
+    → Puts (element_of tag content) old new second
+element_put tag content old between new first second written_tag since is_tag is_old p over_all =
+    let q : (n : ℕ) → length (end_of between) ≡ n + since → WritesInFront (header_of tag n) between new second =
+    rw (← is_tag) over_all in
+    let any = q (length (end_of between) - since) (omega (arith, is_old, p.grows)) in
+    record {
+      slice = grind (arith, p.slice, any.slice);
+      grows = omega (arith, p.grows, any.grows);
+      fits = λ whole e room.
+          let is = element_of-some tag content whole e in
+          let first_bytes = header tag (length is.inside) in
+          let count = length-append first_bytes is.inside in
+          let behind = p.fits is.inside (inside_element tag content whole is)
+          (omega (arith, ap length is.at.spelled, count, room)) in
+          let over = q (length is.inside)
+          (omega (arith, is_old, ap length behind.1.written, length-append is.inside (end_of old))) in
+          let front = over.fits first_bytes (rw (le-leb (length is.inside) max_length is.at.within) refl)
+          (omega (arith, ap length is.at.spelled, count, room, behind.1.front)) in
+          (front.0, rw is.at.spelled (puts_both old between new is.inside first_bytes behind.1 front.1));
+      kinds = writing_kinds _ between new second any;
+    }
 
 -- where bytes are there and have room, they are what was written
 pub filled : (piece : Option (List ℕ)) (old new : List ℕ) (result : Result Unit Error)

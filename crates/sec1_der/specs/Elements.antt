@@ -1,6 +1,6 @@
 -- X.690: an element is a tag byte, a length and a content.
 use Rattle.std.specs.Prelude.{◌≡◌, ◌≢◌, ℕ, ◌+◌, ◌%◌, ◌<◌, ◌≤◌, List, [], ◌∷◌, ◌++◌, length, nat_lt}
-use Rattle.std.specs.Prelude.{nat_le, Option, Some, None, ⊤, if◌then◌else◌}
+use Rattle.std.specs.Prelude.{nat_le, Option, Some, None, if◌then◌else◌}
 use Rattle.std.specs.Int.{IsBitSet}
 use Rattle.std.specs.Int.Digits.{digits_of}
 
@@ -34,6 +34,10 @@ length_octets n =
 abbrev pub header : ℕ → ℕ → List ℕ
 header tag n = tag ∷ length_octets n
 
+-- the header with this tag and length, if the length isn't above the limit
+abbrev pub header_of : ℕ → ℕ → Option (List ℕ)
+header_of tag n = if nat_le n max_length then Some (header tag n) else None
+
 -- a tag byte, and a length that isn't above the limit
 pub record IsHeader (tag n : ℕ) : Type 0 where
   pub tag_byte : IsTag tag
@@ -65,10 +69,10 @@ pub record IsProperBeginning (bytes whole : List ℕ) : Type 0 where
   pub some : more ≢ []
   pub split : whole ≡ bytes ++ more
 
--- there is no content, or it is too long for an element
-abbrev pub IsOverlong : Option (List ℕ) → Type 0
-IsOverlong None = ⊤
-IsOverlong (Some content) = max_length < length content
+-- the content, if there is one that isn't too long for an element
+abbrev pub within_limit : Option (List ℕ) → Option (List ℕ)
+within_limit None = None
+within_limit (Some content) = if nat_le (length content) max_length then Some content else None
 
 -- the element with this tag and content, if there is a content that isn't too long
 abbrev pub element_of : ℕ → Option (List ℕ) → Option (List ℕ)

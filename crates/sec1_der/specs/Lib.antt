@@ -9,6 +9,7 @@ pub mod IdentifierLaws
 pub mod ArcsOf
 pub mod Stored
 pub mod Building
+pub mod Encodings
 pub mod Faults
 pub mod Refusals
 pub mod LengthLaws

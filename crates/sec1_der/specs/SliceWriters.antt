@@ -1,6 +1,10 @@
 -- The state of a writer that fills a slice from its beginning, and what its calls change.
-use Rattle.std.specs.Prelude.{◌≡◌, ℕ, ◌+◌, List, ◌++◌, length, take, drop}
+use Rattle.std.specs.Prelude.{◌≡◌, ℕ, ◌+◌, ◌<◌, ◌≤◌, List, ◌++◌, length, take, drop}
+use Rattle.std.specs.Prelude.{Option, Some, None, Result, IsOk}
 use Rattle.std.specs.Borrow.{MutBor}
+use Rattle.sec1_der.specs.Faults.{Refuses}
+use Rattle.sec1_der.specs.declared.error.Error.{Error}
+use Rattle.sec1_der.specs.declared.error.ErrorKind.TheVariants.{Overlength, Buffer}
 use Rattle.sec1_der.specs.declared.slice_writer.SliceWriter.{SliceWriter}
 
 -- the bytes that were written
@@ -29,3 +33,14 @@ pub record Appends (old new : SliceWriter) (bytes : List ℕ) : Type 0 where
   pub written : written_by new ≡ written_by old ++ bytes
   pub room : length (room_of old) ≡ length bytes + length (room_of new)
   pub unchanged : room_of new ≡ drop (length bytes) (room_of old)
+
+-- The bytes were appended, if there are any and they have room. Otherwise nothing was written, and
+-- the error is Overlength if there are none, and Buffer if there is less room.
+pub record Writes (bytes : Option (List ℕ)) (old new : SliceWriter)
+    (result : Result (Unit {0}) Error) : Type 0 where
+  pub slice : KeepsSlice old new
+  pub overlength : bytes ≡ None → Refuses result Overlength × AppendsNothing old new
+  pub fits : (whole : List ℕ) → bytes ≡ Some whole → length whole ≤ length (room_of old)
+      → IsOk result × Appends old new whole
+  pub buffer : (whole : List ℕ) → bytes ≡ Some whole → length (room_of old) < length whole
+      → Refuses result Buffer × AppendsNothing old new

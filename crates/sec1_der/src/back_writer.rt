@@ -19,11 +19,9 @@ pub struct BackWriter<'b> {
 }
 
 impl<'b> BackWriter<'b> {
-    ghost use Rattle.std.specs.Prelude.{◌≡◌, ℕ, ◌<◌, ◌+◌, ◌-◌, [], IsOk};
-    ghost use Rattle.sec1_der.specs.BackWriters.{end_of, front_of, IsOverEnd, KeepsEnd};
-    ghost use Rattle.sec1_der.specs.BackWriters.{PutsNothing, PutsInFront};
-    ghost use Rattle.sec1_der.specs.Elements.{max_length, header};
-    ghost use Rattle.sec1_der.specs.Faults.{Refuses};
+    ghost use Rattle.std.specs.Prelude.{◌≡◌, ℕ, ◌+◌, [], Some};
+    ghost use Rattle.sec1_der.specs.BackWriters.{end_of, front_of, IsOverEnd, WritesInFront};
+    ghost use Rattle.sec1_der.specs.Elements.{header_of};
 
     /// Creates a writer at the end of a slice.
     pub fn new(buffer: &'b mut [u8]) -> BackWriter<'b>
@@ -55,13 +53,7 @@ impl<'b> BackWriter<'b> {
     ///
     /// Buffer if the slice has less room.
     pub fn write(&mut self, bytes: &[u8]) -> Result<()>
-        ensures slice { KeepsEnd self.old self.new }
-        ensures grows { length (end_of self.old) ≤ length (end_of self.new) }
-        ensures fits { length bytes.now ≤ length (front_of self.old) → IsOk result
-            × PutsInFront self.old self.new bytes.now }
-        ensures buffer { length (front_of self.old) < length bytes.now
-            → Refuses result ErrorKind.Buffer
-            × PutsNothing self.old self.new }
+        ensures { WritesInFront (Some bytes.now) self.old self.new result }
     {
         check_room(bytes.len(), self.start)?;
         let start = self.start - bytes.len();
@@ -79,16 +71,8 @@ impl<'b> BackWriter<'b> {
     #[tactic(auto, using(crate::specs::LengthLaws::len_1))]
     pub fn header(&mut self, tag: Tag, since: usize) -> Result<()>
         requires { since ≤ length (end_of self.old) }
-        ensures slice { KeepsEnd self.old self.new }
-        ensures grows { length (end_of self.old) ≤ length (end_of self.new) }
-        ensures overlength { max_length < length (end_of self.old) - since
-            → Refuses result ErrorKind.Overlength × PutsNothing self.old self.new }
-        ensures fits { (n : ℕ) → length (end_of self.old) ≡ n + since → n ≤ max_length
-            → length (header tag n) ≤ length (front_of self.old)
-            → IsOk result × PutsInFront self.old self.new (header tag n) }
-        ensures buffer { (n : ℕ) → length (end_of self.old) ≡ n + since → n ≤ max_length
-            → length (front_of self.old) < length (header tag n)
-            → Refuses result ErrorKind.Buffer × PutsNothing self.old self.new }
+        ensures { (n : ℕ) → length (end_of self.old) ≡ n + since
+            → WritesInFront (header_of tag n) self.old self.new result }
     {
         let length = Length::new(self.written() - since)?;
         if length.get() < LONG_FORM {

@@ -6,7 +6,7 @@ ghost use Rattle.sec1_der.specs.Faults.{length_fault, header_fault, Refuses, IsH
 ghost use Rattle.sec1_der.specs.Numbers.{number_of};
 ghost use Rattle.sec1_der.specs.Readers.{reader_over, refused, HasRead};
 ghost use Rattle.sec1_der.specs.Refusals.{Fault, any_fault};
-ghost use Rattle.sec1_der.specs.SliceWriters.{room_of, KeepsSlice, AppendsNothing, Appends};
+ghost use Rattle.sec1_der.specs.SliceWriters.{Writes};
 
 use crate::{ErrorKind, Length, Result, SliceReader, SliceWriter, Tag};
 
@@ -76,11 +76,8 @@ impl Header {
     ///
     /// Buffer if it has no room.
     pub fn encode(&self, writer: &mut SliceWriter) -> Result<()>
-        ensures slice { KeepsSlice writer.old writer.new }
-        ensures fits { length (header self.now.tag self.now.length) ≤ length (room_of writer.old)
-            → IsOk result × Appends writer.old writer.new (header self.now.tag self.now.length) }
-        ensures buffer { length (room_of writer.old) < length (header self.now.tag self.now.length)
-            → Refuses result ErrorKind.Buffer × AppendsNothing writer.old writer.new }
+        ensures { Writes (Some (header self.now.tag self.now.length)) writer.old writer.new
+            result }
     {
         let (octets, count) = self.octets();
         writer.write(&octets[..count])

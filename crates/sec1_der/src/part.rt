@@ -1,8 +1,9 @@
 //! The parts of a SEQUENCE (X.690 section 8.9), and two parts one after the other.
 ghost use Rattle.std.specs.Prelude.{◌≡◌, ◌≤◌, ◌++◌, ℕ, List, length, Option, Some, true, false};
 ghost use Rattle.std.specs.Prelude.{IfOk, IfErr, OnOk, OnErr, IsOk, IsOkAnd, IsSomeAnd};
-ghost use Rattle.sec1_der.specs.BackWriters.{end_of, front_of, KeepsEnd, PutsInFront};
-ghost use Rattle.sec1_der.specs.Elements.{max_length, IsOverlong};
+ghost use Rattle.sec1_der.specs.BackWriters.{Puts};
+ghost use Rattle.sec1_der.specs.Elements.{max_length, within_limit};
+ghost use Rattle.sec1_der.specs.Encodings.{Measures};
 ghost use Rattle.sec1_der.specs.Faults.{Refuses, IsReadingFault};
 ghost use Rattle.sec1_der.specs.Parts.{Tags, Begins, MayFollow, AreApart, join, both_tags};
 ghost use Rattle.sec1_der.specs.PartLaws.{pair_begins};
@@ -35,11 +36,7 @@ pub trait EncodePart: Part {
     ///
     /// Overlength if the part has no encoding, or one that is longer than 268,435,455 bytes.
     fn part_len(&self) -> Result<Length>
-        ensures overlength { IsOverlong (Self.bytes self.now)
-            → Refuses result ErrorKind.Overlength }
-        ensures only { (whole : List ℕ) → Self.bytes self.now ≡ Some whole
-            → length whole ≤ max_length
-            → result ≡ Ok (length whole) };
+        ensures { Measures (within_limit (Self.bytes self.now)) result };
 
     /// Prepends the part to what was written, without testing the room first. If there is less
     /// room, or no encoding, any bytes may be prepended.
@@ -48,12 +45,7 @@ pub trait EncodePart: Part {
     ///
     /// None if the part has room.
     fn put_part(&self, writer: &mut BackWriter) -> Result<()>
-        ensures slice { KeepsEnd writer.old writer.new }
-        ensures grows { length (end_of writer.old) ≤ length (end_of writer.new) }
-        ensures fits { (whole : List ℕ) → Self.bytes self.now ≡ Some whole
-            → length whole ≤ max_length
-            → length whole ≤ length (front_of writer.old)
-            → IsOk result × PutsInFront writer.old writer.new whole };
+        ensures { Puts (within_limit (Self.bytes self.now)) writer.old writer.new result };
 }
 
 /// A part that is read.

@@ -3,7 +3,8 @@
 ghost use Rattle.std.specs.Prelude.{◌≡◌, ◌≤◌, ◌++◌, ℕ, List, length, false, true, Some, Ok};
 ghost use Rattle.std.specs.Prelude.{IsOkAnd, IsSomeAnd};
 ghost use Rattle.std.specs.Prelude.{IfOk, IfErr, OnOk, OnErr};
-ghost use Rattle.sec1_der.specs.Elements.{element_of, max_length, IsOverlong};
+ghost use Rattle.sec1_der.specs.Elements.{element_of, max_length, within_limit};
+ghost use Rattle.sec1_der.specs.Encodings.{Measures};
 ghost use Rattle.sec1_der.specs.Faults.{Refuses, IsReadingFault};
 ghost use Rattle.sec1_der.specs.Parts.{MayFollow, one_tag};
 ghost use Rattle.sec1_der.specs.PartLaws.{element_begins};
@@ -70,10 +71,7 @@ impl<A: UniqueContent + Tagged> UniquePart for Required<A> {
 ///
 /// Overlength if the value has no encoding, or one that is longer than 268,435,455 bytes.
 pub fn component_len<A: EncodeValue + Tagged>(value: &A) -> Result<Length>
-    ensures overlength { IsOverlong (element_of A.tag_byte (A.content value.now))
-        → Refuses result ErrorKind.Overlength }
-    ensures only { (whole : List ℕ) → element_of A.tag_byte (A.content value.now) ≡ Some whole
-        → length whole ≤ max_length → result ≡ Ok (length whole) }
+    ensures { Measures (within_limit (element_of A.tag_byte (A.content value.now))) result }
 {
     Length::new(encoded_len(value)?)
 }

@@ -17,10 +17,8 @@ pub struct SliceWriter<'b> {
 }
 
 impl<'b> SliceWriter<'b> {
-    ghost use Rattle.std.specs.Prelude.{◌≡◌, ◌<◌, [], ◌∷◌, IsOk};
-    ghost use Rattle.sec1_der.specs.Faults.{Refuses};
-    ghost use Rattle.sec1_der.specs.SliceWriters.{written_by, room_of, IsOver, KeepsSlice};
-    ghost use Rattle.sec1_der.specs.SliceWriters.{AppendsNothing, Appends};
+    ghost use Rattle.std.specs.Prelude.{◌≡◌, [], ◌∷◌, Some};
+    ghost use Rattle.sec1_der.specs.SliceWriters.{written_by, room_of, IsOver, Writes};
 
     /// Creates a writer at the beginning of a slice.
     pub fn new(buffer: &'b mut [u8]) -> SliceWriter<'b>
@@ -54,11 +52,7 @@ impl<'b> SliceWriter<'b> {
     ///
     /// Buffer if the slice is full.
     pub fn write_byte(&mut self, byte: u8) -> Result<()>
-        ensures slice { KeepsSlice self.old self.new }
-        ensures fits { 0 < length (room_of self.old) → IsOk result
-            × Appends self.old self.new (byte ∷ []) }
-        ensures buffer { length (room_of self.old) ≡ 0 → Refuses result ErrorKind.Buffer
-            × AppendsNothing self.old self.new }
+        ensures { Writes (Some (byte ∷ [])) self.old self.new result }
     {
         self.write(&[byte])
     }
@@ -70,12 +64,7 @@ impl<'b> SliceWriter<'b> {
     /// Buffer if the slice has less room.
     #[tactic(auto, using(std::proofs::lemmas::Slice::overwrites))]
     pub fn write(&mut self, bytes: &[u8]) -> Result<()>
-        ensures slice { KeepsSlice self.old self.new }
-        ensures fits { length bytes.now ≤ length (room_of self.old) → IsOk result
-            × Appends self.old self.new bytes.now }
-        ensures buffer { length (room_of self.old) < length bytes.now
-            → Refuses result ErrorKind.Buffer
-            × AppendsNothing self.old self.new }
+        ensures { Writes (Some bytes.now) self.old self.new result }
     {
         check_room(bytes.len(), self.remaining())?;
         let end = self.position + bytes.len();

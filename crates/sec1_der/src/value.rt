@@ -1,12 +1,13 @@
 //! The traits of DER values: with them the generic calls read and write a type.
 ghost use Rattle.std.specs.Prelude.{◌≡◌, ◌<◌, ◌≤◌, ℕ, List, [], length, true, false, Option, Some};
 ghost use Rattle.std.specs.Prelude.{None, IsOk, IfOk, IfErr, OnOk, OnErr};
-ghost use Rattle.sec1_der.specs.BackWriters.{end_of, front_of, KeepsEnd, PutsNothing, PutsInFront};
-ghost use Rattle.sec1_der.specs.Elements.{max_length, element_of, IsTag, IsOverlong};
+ghost use Rattle.sec1_der.specs.BackWriters.{WritesInFront, Puts};
+ghost use Rattle.sec1_der.specs.Elements.{max_length, element_of, within_limit, IsTag};
+ghost use Rattle.sec1_der.specs.Encodings.{Measures};
 ghost use Rattle.sec1_der.specs.Faults.{Refuses, IsReadingFault};
 ghost use Rattle.sec1_der.specs.Readers.{reader_over};
 ghost use Rattle.sec1_der.specs.Refusals.{Fault, HasFault};
-ghost use Rattle.sec1_der.specs.SliceWriters.{room_of, KeepsSlice, AppendsNothing, Appends};
+ghost use Rattle.sec1_der.specs.SliceWriters.{Writes};
 
 use crate::{BackWriter, ErrorKind, Header, Length, Result, SliceReader, SliceWriter, Tag};
 
@@ -73,11 +74,7 @@ pub trait EncodeValue: ValueContent {
     ///
     /// Overlength if there is no content, or if it is longer than 268,435,455 bytes.
     fn value_len(&self) -> Result<Length>
-        ensures overlength { IsOverlong (Self.content self.now)
-            → Refuses result ErrorKind.Overlength }
-        ensures only { (bytes : List ℕ) → Self.content self.now ≡ Some bytes
-            → length bytes ≤ max_length
-            → result ≡ Ok (length bytes) };
+        ensures { Measures (within_limit (Self.content self.now)) result };
 
     /// Appends the content.
     ///
@@ -86,18 +83,7 @@ pub trait EncodeValue: ValueContent {
     /// Those of [`value_len`](EncodeValue::value_len), then Buffer if the content has no room.
     /// Nothing is written then.
     fn encode_value(&self, writer: &mut SliceWriter) -> Result<()>
-        ensures slice { KeepsSlice writer.old writer.new }
-        ensures overlength { IsOverlong (Self.content self.now)
-            → Refuses result ErrorKind.Overlength
-            × AppendsNothing writer.old writer.new }
-        ensures fits { (bytes : List ℕ) → Self.content self.now ≡ Some bytes
-            → length bytes ≤ max_length
-            → length bytes ≤ length (room_of writer.old)
-            → IsOk result × Appends writer.old writer.new bytes }
-        ensures buffer { (bytes : List ℕ) → Self.content self.now ≡ Some bytes
-            → length bytes ≤ max_length
-            → length (room_of writer.old) < length bytes
-            → Refuses result ErrorKind.Buffer × AppendsNothing writer.old writer.new };
+        ensures { Writes (within_limit (Self.content self.now)) writer.old writer.new result };
 
     /// Prepends the content to what was written.
     ///
@@ -105,19 +91,8 @@ pub trait EncodeValue: ValueContent {
     ///
     /// Those of [`encode_value`](EncodeValue::encode_value). Nothing is written then.
     fn encode_back(&self, writer: &mut BackWriter) -> Result<()>
-        ensures slice { KeepsEnd writer.old writer.new }
-        ensures grows { length (end_of writer.old) ≤ length (end_of writer.new) }
-        ensures overlength { IsOverlong (Self.content self.now)
-            → Refuses result ErrorKind.Overlength
-            × PutsNothing writer.old writer.new }
-        ensures fits { (bytes : List ℕ) → Self.content self.now ≡ Some bytes
-            → length bytes ≤ max_length
-            → length bytes ≤ length (front_of writer.old)
-            → IsOk result × PutsInFront writer.old writer.new bytes }
-        ensures buffer { (bytes : List ℕ) → Self.content self.now ≡ Some bytes
-            → length bytes ≤ max_length
-            → length (front_of writer.old) < length bytes
-            → Refuses result ErrorKind.Buffer × PutsNothing writer.old writer.new };
+        ensures { WritesInFront (within_limit (Self.content self.now)) writer.old writer.new
+            result };
 
     /// Prepends the content to what was written, without testing the room first. If there is less
     /// room, or no content, any bytes may be prepended.
@@ -129,12 +104,7 @@ pub trait EncodeValue: ValueContent {
     ///
     /// None if the content has room.
     fn put_value(&self, writer: &mut BackWriter) -> Result<()>
-        ensures slice { KeepsEnd writer.old writer.new }
-        ensures grows { length (end_of writer.old) ≤ length (end_of writer.new) }
-        ensures fits { (bytes : List ℕ) → Self.content self.now ≡ Some bytes
-            → length bytes ≤ max_length
-            → length bytes ≤ length (front_of writer.old)
-            → IsOk result × PutsInFront writer.old writer.new bytes }
+        ensures { Puts (within_limit (Self.content self.now)) writer.old writer.new result }
     {
         self.encode_back(writer)
     }
@@ -158,8 +128,7 @@ pub trait Sequence<'a>: DecodeValue<'a> + EncodeValue + FixedTag {
 pub(crate) fn element_header<T: EncodeValue + Tagged>(value: &T) -> Result<Header>
     ensures overlength { element_of T.tag_byte (T.content value.now) ≡ None
         → Refuses result ErrorKind.Overlength }
-    ensures only { (content : List ℕ) → T.content value.now ≡ Some content
-        → length content ≤ max_length
+    ensures only { (content : List ℕ) → within_limit (T.content value.now) ≡ Some content
         → result ≡ Ok (record { tag = T.tag_byte; length = length content }) }
     ensures tag { OnOk result (IsTag T.tag_byte) }
 {

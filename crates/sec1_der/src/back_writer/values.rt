@@ -4,11 +4,8 @@ use crate::length::check_room;
 use crate::{EncodeValue, ErrorKind, Result, Tagged, encoded_len};
 
 impl<'b> BackWriter<'b> {
-    ghost use Rattle.std.specs.Prelude.{◌≡◌, ◌≤◌, ◌<◌, ℕ, List, length, Some, None, IsOk};
-    ghost use Rattle.sec1_der.specs.BackWriters.{end_of, front_of, KeepsEnd};
-    ghost use Rattle.sec1_der.specs.BackWriters.{PutsNothing, PutsInFront};
+    ghost use Rattle.sec1_der.specs.BackWriters.{WritesInFront, Puts};
     ghost use Rattle.sec1_der.specs.Elements.{element_of};
-    ghost use Rattle.sec1_der.specs.Faults.{Refuses};
 
     /// Prepends the element of a value: its content, and then the header over it. The crate `der`
     /// has no such call.
@@ -17,16 +14,8 @@ impl<'b> BackWriter<'b> {
     ///
     /// Those of [`encoded_len`], then Buffer if the element has no room.
     pub fn element<T: EncodeValue + Tagged>(&mut self, value: &T) -> Result<()>
-        ensures slice { KeepsEnd self.old self.new }
-        ensures grows { length (end_of self.old) ≤ length (end_of self.new) }
-        ensures overlength { element_of T.tag_byte (T.content value.now) ≡ None
-            → Refuses result ErrorKind.Overlength × PutsNothing self.old self.new }
-        ensures fits { (bytes : List ℕ) → element_of T.tag_byte (T.content value.now) ≡ Some bytes
-            → length bytes ≤ length (front_of self.old)
-            → IsOk result × PutsInFront self.old self.new bytes }
-        ensures buffer { (bytes : List ℕ) → element_of T.tag_byte (T.content value.now) ≡ Some bytes
-            → length (front_of self.old) < length bytes
-            → Refuses result ErrorKind.Buffer × PutsNothing self.old self.new }
+        ensures { WritesInFront (element_of T.tag_byte (T.content value.now)) self.old self.new
+            result }
     {
         check_room(encoded_len(value)?, self.remaining())?;
         self.put_element(value)
@@ -40,11 +29,7 @@ impl<'b> BackWriter<'b> {
     ///
     /// None if the element has room.
     pub fn put_element<T: EncodeValue + Tagged>(&mut self, value: &T) -> Result<()>
-        ensures slice { KeepsEnd self.old self.new }
-        ensures grows { length (end_of self.old) ≤ length (end_of self.new) }
-        ensures fits { (bytes : List ℕ) → element_of T.tag_byte (T.content value.now) ≡ Some bytes
-            → length bytes ≤ length (front_of self.old)
-            → IsOk result × PutsInFront self.old self.new bytes }
+        ensures { Puts (element_of T.tag_byte (T.content value.now)) self.old self.new result }
     {
         let since = self.written();
         value.put_value(self)?;

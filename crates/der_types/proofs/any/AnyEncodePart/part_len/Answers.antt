@@ -1,9 +1,8 @@
 use Rattle.std.proofs.Common.{rules}
-use Rattle.der_types.proofs.AnyLemmas.{element_from, any_overlong}
+use Rattle.der_types.proofs.AnyLemmas.{element_from, any_there}
 use Rattle.der_types.proofs.any.AnyEncodePart.part_len.Goals as goal
 
-pub returns-clause-overlength : goal.returns-clause-overlength
-returns-clause-overlength c over =
+pub returns : goal.returns
+returns c =
     let is = rw c.self.view_is at (element_from c.self.inside.inside _ c.self.inside.header c.self.inside.spelled) in
-    let more = any_overlong _ is over in
-    search rules
+    rw (any_there _ is) (search rules)

@@ -1,15 +1,17 @@
-use Rattle.std.proofs.Common.{◌≡◌, arith, length, length-append}
-use Rattle.sec1_der.specs.ElementLaws.{element_of-some}
-use Rattle.sec1_der.proofs.WriterLemmas.{appends_both}
+use Rattle.std.proofs.Common.{arith, refl}
+use Rattle.sec1_der.proofs.WriterLemmas.{failed_ok, header_written, element_written}
 use Rattle.sec1_der.proofs.slice_writer.SliceWriter.element.Goals as goal
 
-pub returns-clause-fits : goal.returns-clause-fits
-returns-clause-fits g c bytes e fits =
-    let tag = g.T.Tagged.tag_byte in
-    let held = element_of-some tag (g.T.ValueContent.content c.args.value.now) bytes e in
-    let room = rw (held.at.spelled, length-append) at fits in
-    let same : c.in_ok-element_header.field-0 ≡ record { tag = tag; length = length held.inside } =
-    cc (c.in_ok-element_header.ensures.only held.inside held.same held.at.within) in
-    let front = (rw same at c.encode.ensures.fits) (omega arith) in
-    let behind = c.encode_value.ensures.fits held.inside held.same held.at.within (omega (arith, front.1.room)) in
-    rw held.at.spelled (behind.0, appends_both _ _ _ _ _ front.1 behind.1)
+pub returns-in_err-encode : goal.returns-in_err-encode
+returns-in_err-encode g c =
+    let content = g.T.ValueContent.content c.args.value.now in
+    failed_ok (header_written g.T.Tagged.tag_byte c.in_ok-encoded_len.field-0 c.in_ok-element_header.field-0
+    content c.args.self.now _ _ c.in_ok-encoded_len.ensures.exact (omega (arith, c.in_ok-check_room.ensures.within.0 refl, c.remaining.ensures))
+    c.in_ok-element_header.ensures.only c.in_err-encode.ensures)
+
+pub returns : goal.returns
+returns g c =
+    let content = g.T.ValueContent.content c.args.value.now in
+    element_written g.T.Tagged.tag_byte c.in_ok-encoded_len.field-0 c.in_ok-element_header.field-0
+    content c.args.self.now _ _ _ _ c.in_ok-encoded_len.ensures.exact (omega (arith, c.in_ok-check_room.ensures.within.0 refl, c.remaining.ensures))
+    c.in_ok-element_header.ensures.only c.encode.ensures c.encode_value.ensures
