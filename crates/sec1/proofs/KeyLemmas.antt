@@ -1,5 +1,12 @@
 -- The content of a key, and the key's bytes.
 use Rattle.std.proofs.Common.{◌≡◌, ◌∷◌, [], ℕ, List, Option, Some, None, option_map, IsSomeAnd, refl, append-nil, arith}
+use Rattle.std.proofs.Common.{⊎_elim, inl, inr, Result, Ok, Err, IsErrAnd, MatchResult}
+use Rattle.sec1_der.specs.Encodings.{IsOverlengthOr}
+use Rattle.sec1_der.specs.declared.error.Error.{Error as DerError}
+use Rattle.sec1_der.specs.declared.error.ErrorKind.TheVariants.{Overlength, Buffer, Memory as DerMemory}
+use Rattle.sec1.specs.declared.error.Error.{Error}
+use Rattle.sec1.specs.declared.error.Error.TheVariants.{Memory}
+use Rattle.sec1.specs.Errors.{IsAsn1, HasNoEncodingOr, error_of}
 use Rattle.sec1_der.specs.ElementLaws.{element_of-within}
 use Rattle.sec1.specs.Der.{join, element_of, optional_of, IsTreeOf}
 use Rattle.sec1_der.specs.Identifiers.{content_of, identifier_content}
@@ -73,3 +80,36 @@ key_none key none bytes is = absurd (cc (key_written key bytes is, none))
 pub ruleset written_keys = (key_written, key_lacks, key_found)
 
 pub ruleset counted_keys = (key_written, key_lacks, key_found_with)
+
+overlength_is : (cause : DerError) → cause.kind ≡ Overlength → IsAsn1 Overlength (error_of cause)
+overlength_is cause same = rw same refl
+
+buffer_is : (cause : DerError) → cause.kind ≡ Buffer → IsAsn1 Buffer (error_of cause)
+buffer_is cause same = rw same refl
+
+memory_is : (cause : DerError) → cause.kind ≡ DerMemory → error_of cause ≡ Memory
+memory_is cause same = rw same refl
+
+-- A key whose element isn't there, and one whose bytes have no room, are refused as such.
+pub key_without_room : (key : Key) (P : List ℕ → Type 0) (cause : DerError)
+    → IsOverlengthOr Buffer (element_of 0x30 (key_content key)) P cause
+    → HasNoEncodingOr (IsAsn1 Buffer) key P (error_of cause)
+key_without_room key P cause is = ⊎_elim
+    (λ none. inl (overlength_is cause none.0, key_none key none.1))
+    (λ held. inr (buffer_is cause held.0, key_found_with key P held.1))
+    is
+
+-- A key whose element isn't there, and one for which there is no memory, are refused as such.
+pub key_without_memory : (key : Key) (P : List ℕ → Type 0) (cause : DerError)
+    → IsOverlengthOr DerMemory (element_of 0x30 (key_content key)) P cause
+    → HasNoEncodingOr (λ e. e ≡ Memory) key P (error_of cause)
+key_without_memory key P cause is = ⊎_elim
+    (λ none. inl (overlength_is cause none.0, key_none key none.1))
+    (λ held. inr (memory_is cause held.0, key_found_with key P held.1))
+    is
+
+-- A call that fails with the error for a cause fails as that one does.
+pub fails_with : {T : Type 0} → (result : Result T Error) (cause : DerError) (Q : T → Type 0) (P : Error → Type 0)
+    → IsErrAnd result (λ e. e ≡ error_of cause) → P (error_of cause) → MatchResult result Q P
+fails_with (Ok x) cause Q P same holds = absurd same
+fails_with (Err e) cause Q P same holds = rw same holds

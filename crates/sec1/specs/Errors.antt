@@ -1,11 +1,12 @@
 -- The errors of this crate.
-use Rattle.std.specs.Prelude.{◌≡◌, Option, Some, None, Result, IsErrAnd, MatchResult}
+use Rattle.std.specs.Prelude.{◌≡◌, ◌⊎◌, List, ℕ, Option, Some, None, Result, IsErrAnd, MatchResult}
+use Rattle.sec1.specs.Keys.{Key, HasNoEncoding, HasEncodingWith}
 use Rattle.sec1.specs.declared.error.Error.{Error}
 use Rattle.sec1.specs.declared.error.Error.TheVariants.{Asn1, Crypto, PointEncoding, Version, Memory}
 use Rattle.sec1_der.specs.Faults.{IsReadingFault}
 use Rattle.sec1_der.specs.declared.error.Error.{Error as DerError}
 use Rattle.sec1_der.specs.declared.error.ErrorKind.{ErrorKind}
-use Rattle.sec1_der.specs.declared.error.ErrorKind.TheVariants.{Memory as DerMemory}
+use Rattle.sec1_der.specs.declared.error.ErrorKind.TheVariants.{Overlength, Memory as DerMemory}
 
 -- the error of this crate for an error of DER, by its kind
 abbrev error_of_kind : ErrorKind → DerError → Error
@@ -39,3 +40,9 @@ IsAsn1ReadingFault = IsAsn1Where IsReadingFault
 abbrev pub HasAsn1Fault : {T : Type 0} → Result T Error → Option ErrorKind → Type 0
 HasAsn1Fault result fault =
     MatchResult result (λ _. fault ≡ None) (IsAsn1Where (λ kind. fault ≡ Some kind))
+
+-- The error is Overlength, and the key has no encoding; or it is such a one, and this holds of the
+-- encoding.
+abbrev pub HasNoEncodingOr : (Error → Type 0) → Key → (List ℕ → Type 0) → Error → Type 0
+HasNoEncodingOr IsSuch key P e =
+    (IsAsn1 Overlength e × HasNoEncoding key) ⊎ (IsSuch e × HasEncodingWith key P)

@@ -1,10 +1,11 @@
-ghost use Rattle.std.specs.Prelude.{◌≡◌, ◌<◌, ◌≤◌, ◌++◌, ℕ, List, length, Ok, drop, MatchResult, IfOk, IfErr, OnErr, ◌⊎◌, ◌↔◌, Some, None, refl};
+ghost use Rattle.std.specs.Prelude.{◌≡◌, ◌<◌, ◌≤◌, ◌++◌, ◌↔◌, ℕ, List, length, Ok, drop, MatchResult};
+ghost use Rattle.std.specs.Prelude.{Some, None, ⊤, refl};
 ghost use Rattle.sec1_der.specs.Elements.{element_of};
 ghost use Rattle.std.specs.Option.{option_map};
 ghost use Rattle.sec1.specs.Keys.{Key, IsKeyOf, HasNoEncoding, HasEncodingWith};
 ghost use Rattle.sec1.specs.Parameters.{curve_of};
 ghost use Rattle.sec1.specs.ReadsKey.{ReadsKey};
-ghost use Rattle.sec1.specs.Errors.{IsAsn1, RefusesAsn1};
+ghost use Rattle.sec1.specs.Errors.{IsAsn1, HasNoEncodingOr};
 
 use crate::borrowed_key::{BorrowedKey, KeyParts};
 use crate::{EcParameters, Error, Result};
@@ -80,13 +81,10 @@ impl<'a> EcPrivateKey<'a> {
     /// # Errors
     ///
     /// [`Error::Asn1`] of Overlength if the content of an element would be longer than 268,435,455 bytes.
-    #[tactic(auto, using(crate::proofs::KeyLemmas::key_found_with))]
     pub fn encoded_len(&self) -> Result<usize>
-        ensures found { IfOk result (λ n. HasEncodingWith self.now (λ bytes. n ≡ length bytes)) }
-        ensures only { (bytes : List ℕ) → IsKeyOf self.now bytes → result ≡ Ok (length bytes) }
-        ensures overlength { HasNoEncoding self.now → RefusesAsn1 result ErrorKind.Overlength }
-        ensures lacks { OnErr result (HasNoEncoding self.now) }
-        ensures kind { IfErr result (IsAsn1 ErrorKind.Overlength) }
+        ensures exact { MatchResult result
+            (λ n. HasEncodingWith self.now (λ bytes. n ≡ length bytes))
+            (λ e. IsAsn1 ErrorKind.Overlength e × HasNoEncoding self.now) }
     {
         tree_is_element();
         Ok(der::encoded_len(self)?)
@@ -99,21 +97,12 @@ impl<'a> EcPrivateKey<'a> {
     ///
     /// Those of [`encoded_len`](EcPrivateKey::encoded_len), then [`Error::Asn1`] of Buffer if the slice is too short. The
     /// whole slice is unchanged then.
-    #[tactic(auto, using(crate::proofs::KeyLemmas::key_found_with))]
     pub fn encode_to_slice(&self, buffer: &mut [u8]) -> Result<usize>
-        // What was written are the key's bytes.
-        ensures found { IfOk result (λ n. HasEncodingWith self.now (λ bytes.
-            (n ≡ length bytes) × (buffer.new ≡ bytes ++ drop n buffer.old))) }
-        ensures overlength { HasNoEncoding self.now → RefusesAsn1 result ErrorKind.Overlength
-            × (buffer.new ≡ buffer.old) }
-        ensures fits { (bytes : List ℕ) → IsKeyOf self.now bytes → length bytes ≤ length buffer.old
-            → (result ≡ Ok (length bytes)) × (buffer.new ≡ bytes ++ drop (length bytes) buffer.old) }
-        ensures buffer { (bytes : List ℕ) → IsKeyOf self.now bytes → length buffer.old < length bytes
-            → RefusesAsn1 result ErrorKind.Buffer × (buffer.new ≡ buffer.old) }
-        ensures within { IfOk result (λ n. n ≤ length buffer.new) }
-        ensures unchanged { OnErr result (buffer.new ≡ buffer.old) }
-        ensures kinds { IfErr result (λ e. (IsAsn1 ErrorKind.Overlength e × HasNoEncoding self.now)
-            ⊎ IsAsn1 ErrorKind.Buffer e) }
+        ensures exact { MatchResult result
+            (λ n. (n ≤ length buffer.new) × HasEncodingWith self.now (λ bytes.
+            (n ≡ length bytes) × (buffer.new ≡ bytes ++ drop n buffer.old)))
+            (λ e. (buffer.new ≡ buffer.old) × HasNoEncodingOr (IsAsn1 ErrorKind.Buffer) self.now
+            (λ bytes. length buffer.old < length bytes) e) }
     {
         tree_is_element();
         Ok(der::encode_to_slice(self, buffer)?)
@@ -125,12 +114,8 @@ impl<'a> EcPrivateKey<'a> {
     ///
     /// Those of [`encoded_len`](EcPrivateKey::encoded_len), then [`Error::Memory`] if the allocation fails.
     pub fn to_der(&self, alloc: Global) -> Result<Vec<u8>>
-        ensures found { IfOk result (λ der. IsKeyOf self.now der.items) }
-        ensures only { (bytes : List ℕ) → IsKeyOf self.now bytes
-            → MatchResult result (λ der. der.items ≡ bytes) (λ e. e ≡ Error.Memory) }
-        ensures overlength { HasNoEncoding self.now → RefusesAsn1 result ErrorKind.Overlength }
-        ensures kinds { IfErr result (λ e. (IsAsn1 ErrorKind.Overlength e × HasNoEncoding self.now)
-            ⊎ (e ≡ Error.Memory)) }
+        ensures exact { MatchResult result (λ der. IsKeyOf self.now der.items)
+            (HasNoEncodingOr (λ e. e ≡ Error.Memory) self.now (λ _. ⊤)) }
     {
         tree_is_element();
         Ok(der::to_der(alloc, self)?)
@@ -142,12 +127,8 @@ impl<'a> EcPrivateKey<'a> {
     ///
     /// Those of [`to_der`](EcPrivateKey::to_der).
     pub fn document(self, alloc: Global) -> Result<SecretDocument>
-        ensures found { IfOk result (IsKeyOf self.entry) }
-        ensures only { (bytes : List ℕ) → IsKeyOf self.entry bytes
-            → MatchResult result (λ document. document ≡ bytes) (λ e. e ≡ Error.Memory) }
-        ensures overlength { HasNoEncoding self.entry → RefusesAsn1 result ErrorKind.Overlength }
-        ensures kinds { IfErr result (λ e. (IsAsn1 ErrorKind.Overlength e × HasNoEncoding self.entry)
-            ⊎ (e ≡ Error.Memory)) }
+        ensures exact { MatchResult result (IsKeyOf self.entry)
+            (HasNoEncodingOr (λ e. e ≡ Error.Memory) self.entry (λ _. ⊤)) }
     {
         self.document_ref(alloc)
     }
@@ -158,12 +139,8 @@ impl<'a> EcPrivateKey<'a> {
     ///
     /// Those of [`to_der`](EcPrivateKey::to_der).
     pub fn document_ref(&self, alloc: Global) -> Result<SecretDocument>
-        ensures found { IfOk result (IsKeyOf self.now) }
-        ensures only { (bytes : List ℕ) → IsKeyOf self.now bytes
-            → MatchResult result (λ document. document ≡ bytes) (λ e. e ≡ Error.Memory) }
-        ensures overlength { HasNoEncoding self.now → RefusesAsn1 result ErrorKind.Overlength }
-        ensures kinds { IfErr result (λ e. (IsAsn1 ErrorKind.Overlength e × HasNoEncoding self.now)
-            ⊎ (e ≡ Error.Memory)) }
+        ensures exact { MatchResult result (IsKeyOf self.now)
+            (HasNoEncodingOr (λ e. e ≡ Error.Memory) self.now (λ _. ⊤)) }
     {
         tree_is_element();
         Ok(SecretDocument::encode_msg(alloc, self)?)

@@ -1,8 +1,9 @@
 //! Reading and writing values of any type, by their whole DER encoding.
 ghost use Rattle.std.specs.Prelude.{◌≡◌, ◌<◌, ◌≤◌, ◌+◌, ◌⊎◌, ◌↔◌, ◌++◌, ℕ, List, length};
-ghost use Rattle.std.specs.Prelude.{drop, Option, Some, None, IsOk, IfOk};
+ghost use Rattle.std.specs.Prelude.{⊤, Option, Some, None, IsOk, IfOk};
 ghost use Rattle.std.specs.Prelude.{IsOkAnd, IfErr, OnOk, OnErr, IsSomeAnd, MatchResult};
 ghost use Rattle.sec1_der.specs.Elements.{max_length, element, element_of, IsTag, IsElementOf};
+ghost use Rattle.sec1_der.specs.Encodings.{IsOverlengthOr, WritesInto};
 ghost use Rattle.sec1_der.specs.Elements.{IsProperBeginning};
 ghost use Rattle.sec1_der.specs.Faults.{Refuses, IsReadingFault};
 ghost use Rattle.sec1_der.specs.Refusals.{HasFault, element_fault, end_fault};
@@ -79,7 +80,6 @@ pub fn encoded_len<T: EncodeValue + Tagged>(value: &T) -> Result<usize>
         (λ n. IsSomeAnd (element_of T.tag_byte (T.content value.now)) (λ bytes. n ≡ length bytes))
         (λ e. (e.kind ≡ ErrorKind.Overlength)
         × (element_of T.tag_byte (T.content value.now) ≡ None)) }
-    ensures most { IfOk result (λ n. n ≤ max_length + 6) }
     ensures tag { OnOk result (IsTag T.tag_byte) }
 {
     let header = element_header(value)?;
@@ -94,23 +94,8 @@ pub fn encoded_len<T: EncodeValue + Tagged>(value: &T) -> Result<usize>
 /// Those of [`encoded_len`], then Buffer if the slice is too short. The whole slice is unchanged
 /// then.
 pub fn encode_to_slice<T: EncodeValue + Tagged>(value: &T, buffer: &mut [u8]) -> Result<usize>
-    ensures overlength { element_of T.tag_byte (T.content value.now) ≡ None
-        → Refuses result ErrorKind.Overlength × (buffer.new ≡ buffer.old) }
-    ensures fits { (bytes : List ℕ) → element_of T.tag_byte (T.content value.now) ≡ Some bytes
-        → length bytes ≤ length buffer.old
-        → (result ≡ Ok (length bytes)) × (buffer.new ≡ bytes ++ drop (length bytes) buffer.old) }
-    ensures buffer { (bytes : List ℕ) → element_of T.tag_byte (T.content value.now) ≡ Some bytes
-        → length buffer.old < length bytes
-        → Refuses result ErrorKind.Buffer × (buffer.new ≡ buffer.old) }
-    // What was written is the element, and it fits into the slice.
-    ensures found { IfOk result
-        (λ n. IsSomeAnd (element_of T.tag_byte (T.content value.now)) (λ bytes.
-        (n ≡ length bytes) × (buffer.new ≡ bytes ++ drop n buffer.old))) }
-    ensures within { IfOk result (λ n. n ≤ length buffer.new) }
-    ensures kinds { IfErr result (λ e.
-        ((e.kind ≡ ErrorKind.Overlength) × (element_of T.tag_byte (T.content value.now) ≡ None))
-        ⊎ (e.kind ≡ ErrorKind.Buffer)) }
-    ensures unchanged { OnErr result (buffer.new ≡ buffer.old) }
+    ensures { WritesInto (element_of T.tag_byte (T.content value.now)) buffer.old buffer.new
+        result }
 {
     let total = encoded_len(value)?;
     check_room(total, buffer.len())?;
@@ -124,15 +109,9 @@ pub fn encode_to_slice<T: EncodeValue + Tagged>(value: &T, buffer: &mut [u8]) ->
 ///
 /// Those of [`encoded_len`], then Memory if the allocation fails.
 pub fn to_der<T: EncodeValue + Tagged>(alloc: Global, value: &T) -> Result<Vec<u8>>
-    ensures overlength { element_of T.tag_byte (T.content value.now) ≡ None
-        → Refuses result ErrorKind.Overlength }
-    ensures only { (bytes : List ℕ) → element_of T.tag_byte (T.content value.now) ≡ Some bytes
-        → MatchResult result (λ der. der.items ≡ bytes) (λ e. e.kind ≡ ErrorKind.Memory) }
-    ensures found { IfOk result
-        (λ der. element_of T.tag_byte (T.content value.now) ≡ Some der.items) }
-    ensures kinds { IfErr result (λ e.
-        ((e.kind ≡ ErrorKind.Overlength) × (element_of T.tag_byte (T.content value.now) ≡ None))
-        ⊎ (e.kind ≡ ErrorKind.Memory)) }
+    ensures exact { MatchResult result
+        (λ der. element_of T.tag_byte (T.content value.now) ≡ Some der.items)
+        (IsOverlengthOr ErrorKind.Memory (element_of T.tag_byte (T.content value.now)) (λ _. ⊤)) }
     ensures tag { OnOk result (IsTag T.tag_byte) }
 {
     let total = encoded_len(value)?;

@@ -1,7 +1,8 @@
 ghost use Rattle.std.specs.Prelude.{◌≡◌, ◌≤◌, ◌⊎◌, ℕ, List, length, Some, None, IfOk, IfErr};
-ghost use Rattle.std.specs.Prelude.{MatchResult};
+ghost use Rattle.std.specs.Prelude.{MatchResult, ⊤};
 ghost use Rattle.sec1_der.specs.Elements.{max_length, element, element_of, IsHeader, IsElement};
 ghost use Rattle.sec1_der.specs.Elements.{IsProperBeginning, LacksHeader};
+ghost use Rattle.sec1_der.specs.Encodings.{IsOverlengthOr};
 ghost use Rattle.sec1_der.specs.Faults.{Refuses, IsHeaderFault, header_fault};
 ghost use Rattle.sec1_der.specs.Refusals.{document_fault};
 
@@ -76,15 +77,10 @@ impl SecretDocument {
     ///
     /// Those of [`to_der`].
     pub fn encode_msg<T: EncodeValue + Tagged>(alloc: Global, value: &T) -> Result<SecretDocument>
-        ensures overlength { element_of T.tag_byte (T.content value.now) ≡ None
-            → Refuses result ErrorKind.Overlength }
-        ensures only { (bytes : List ℕ) → element_of T.tag_byte (T.content value.now) ≡ Some bytes
-            → MatchResult result (λ document. document ≡ bytes) (λ e. e.kind ≡ ErrorKind.Memory) }
-        ensures found { IfOk result
-            (λ document. element_of T.tag_byte (T.content value.now) ≡ Some document) }
-        ensures kinds { IfErr result (λ e.
-            ((e.kind ≡ ErrorKind.Overlength) × (element_of T.tag_byte (T.content value.now) ≡ None))
-            ⊎ (e.kind ≡ ErrorKind.Memory)) }
+        ensures { MatchResult result
+            (λ document. element_of T.tag_byte (T.content value.now) ≡ Some document)
+            (IsOverlengthOr ErrorKind.Memory (element_of T.tag_byte (T.content value.now))
+            (λ _. ⊤)) }
     {
         let bytes = to_der(alloc, value)?;
         Ok(SecretDocument { bytes })
