@@ -12,7 +12,7 @@ pub use Rattle.sec1_der.specs.Numbers.{number_of}
 pub use Rattle.sec1_der.specs.Readers.{Reader, reader_over, refused, HasRead, HasReadElement}
 pub use Rattle.sec1_der.specs.Refusals.{Fault, HasFault, no_fault, end_fault, element_fault, optional_fault, field_fault, any_fault, document_fault, tree_fault}
 pub use Rattle.sec1_der.specs.ReadsDocument.{IsElementFault, ConsumesElement, RefusesElement}
-pub use Rattle.sec1_der.specs.SliceWriters.{written_by, room_of, IsOver, KeepsSlice, AppendsNothing, Appends, Writes}
+pub use Rattle.sec1_der.specs.SliceWriters.{written_by, room_of, IsOver, KeepsSlice, AppendsNothing, Appends, WritesBehind}
 pub use Rattle.sec1_der.specs.StdStreams.{reader_failed, reader_inner, writer_failed, writer_inner}
 pub use Rattle.sec1_der.specs.Streams.{AppendsBeginning}
 pub use Rattle.sec1_der.specs.Trees.{Tree, Forest, leaf, node, bytes, IsTree, IsTreeOf, depth, size}

@@ -1,12 +1,13 @@
 -- What two calls of a writer do, one after the other, and what is written of a value that has bytes.
-use Rattle.std.proofs.Common.{false, true, ◌≡◌, ◌+◌, ◌-◌, ◌≤◌, ◌⊎◌, IfErr, Ok, Err, inl, inr, ⊎_elim, ap, ℕ, List, ◌++◌, length, Option, Some, None, IsSomeAnd, Result, IsOk, refl, arith}
+use Rattle.std.proofs.Common.{false, true, ◌≡◌, ◌+◌, ◌-◌, ◌≤◌, ◌⊎◌, IfErr, Ok, Err, inl, inr, ⊎_elim, ap, ℕ, List, ◌++◌, length}
+use Rattle.std.proofs.Common.{Option, Some, None, IsSomeAnd, Result, IsOk, refl, arith}
 use Rattle.std.proofs.Common.{append_assoc, length-append}
 use Rattle.std.proofs.lemmas.Bool.{le-leb, cases_lt}
 use Rattle.std.proofs.lemmas.List.{drop-drop, take-take}
 use Rattle.sec1_der.specs.ElementLaws.{FoundContent, element_of-some}
 use Rattle.sec1_der.specs.BackWriters.{PutsInFront, WritesInFront, Puts, front_of, end_of}
 use Rattle.sec1_der.specs.Elements.{max_length, header, header_of, element_of, within_limit}
-use Rattle.sec1_der.specs.SliceWriters.{Appends, Writes, room_of}
+use Rattle.sec1_der.specs.SliceWriters.{Appends, WritesBehind, room_of}
 use Rattle.sec1_der.specs.declared.back_writer.BackWriter.{BackWriter}
 use Rattle.sec1_der.specs.declared.error.Error.{Error}
 use Rattle.sec1_der.specs.declared.error.ErrorKind.TheVariants.{Overlength, Buffer}
@@ -33,8 +34,8 @@ puts_both old between new xs ys p q = grind (arith, append_assoc, length-append,
 -- bytes that have room, and then more that have room
 pub both_written : (old between new : SliceWriter) (xs ys : List ℕ) (first second : Result Unit Error)
     → length xs + length ys ≤ length (room_of old)
-    → Writes (Some xs) old between first → Writes (Some ys) between new second
-    → Writes (Some (xs ++ ys)) old new second
+    → WritesBehind (Some xs) old between first → WritesBehind (Some ys) between new second
+    → WritesBehind (Some (xs ++ ys)) old new second
 both_written old between new xs ys first second room p q =
     let front = p.fits xs refl (omega arith) in
     let behind = q.fits ys refl (omega (arith, front.1.room)) in
@@ -76,15 +77,18 @@ Found tag n found = let result : Result Header Error = Ok found in result ≡ Ok
 
 spelled_by : (tag : ℕ) (found : Header) (bytes inside : List ℕ) → Found tag (length inside) found
     → bytes ≡ header tag (length inside) ++ inside → bytes ≡ header found.tag found.length ++ inside
-spelled_by tag found bytes inside same spelled = let is : found ≡ record { tag = tag; length = length inside } = cc same in
+spelled_by tag found bytes inside same spelled =
+    let is : found ≡ record { tag = tag; length = length inside } = cc same in
     rw is spelled
 
 -- a header that is written where its element has room
-pub header_written : (tag total : ℕ) (found : Header) (content : Option (List ℕ)) (old between : SliceWriter) (first : Result Unit Error)
+pub header_written : (tag total : ℕ) (found : Header) (content : Option (List ℕ)) (old between : SliceWriter)
+    (first : Result Unit Error)
     → IsSomeAnd (element_of tag content) (λ bytes. total ≡ length bytes) → total ≤ length (room_of old)
     → ((inside : List ℕ) → within_limit content ≡ Some inside → Found tag (length inside) found)
-    → Writes (Some (header found.tag found.length)) old between first → IsOk first
-header_written tag total found content old between first measured room same p = by (element_of tag content) refl measured
+    → WritesBehind (Some (header found.tag found.length)) old between first → IsOk first
+header_written tag total found content old between first measured room same p =
+    by (element_of tag content) refl measured
   where
     by : (piece : Option (List ℕ)) → element_of tag content ≡ piece → IsSomeAnd piece (λ bytes. total ≡ length bytes)
         → IsOk first
@@ -92,7 +96,8 @@ header_written tag total found content old between first measured room same p = 
     by (Some bytes) e h =
         let is = element_of-some tag content bytes e in
         let same_length = same is.inside (inside_element tag content bytes is) in
-        let spelled : bytes ≡ header found.tag found.length ++ is.inside = spelled_by tag found bytes is.inside same_length is.at.spelled in
+        let spelled : bytes ≡ header found.tag found.length ++ is.inside =
+        spelled_by tag found bytes is.inside same_length is.at.spelled in
         (p.fits (header found.tag found.length) refl
         (omega (arith, ap length spelled, length-append (header found.tag found.length) is.inside, h, room))).0
 
@@ -101,21 +106,24 @@ pub element_written : (tag total : ℕ) (found : Header) (content : Option (List
     (first second : Result Unit Error)
     → IsSomeAnd (element_of tag content) (λ bytes. total ≡ length bytes) → total ≤ length (room_of old)
     → ((inside : List ℕ) → within_limit content ≡ Some inside → Found tag (length inside) found)
-    → Writes (Some (header found.tag found.length)) old between first → Writes (within_limit content) between new second
-    → Writes (element_of tag content) old new second
+    → WritesBehind (Some (header found.tag found.length)) old between first
+    → WritesBehind (within_limit content) between new second
+    → WritesBehind (element_of tag content) old new second
 element_written tag total found content old between new first second measured room same p q =
     by (element_of tag content) refl measured
   where
     by : (piece : Option (List ℕ)) → element_of tag content ≡ piece → IsSomeAnd piece (λ bytes. total ≡ length bytes)
-        → Writes piece old new second
+        → WritesBehind piece old new second
     by None e h = absurd h
     by (Some bytes) e h =
         let is = element_of-some tag content bytes e in
         let held = inside_element tag content bytes is in
         let same_length = same is.inside held in
-        let spelled : bytes ≡ header found.tag found.length ++ is.inside = spelled_by tag found bytes is.inside same_length is.at.spelled in
+        let spelled : bytes ≡ header found.tag found.length ++ is.inside =
+        spelled_by tag found bytes is.inside same_length is.at.spelled in
         rw spelled (both_written old between new (header found.tag found.length) is.inside first second
-        (omega (arith, ap length spelled, length-append (header found.tag found.length) is.inside, h, room)) p (rw held at q))
+        (omega (arith, ap length spelled, length-append (header found.tag found.length) is.inside, h, room))
+        p (rw held at q))
 
 -- the errors of a writer
 pub writing_kinds : (bytes : Option (List ℕ)) (old new : BackWriter) (result : Result Unit Error)
@@ -128,8 +136,10 @@ writing_kinds (Some bytes) old new (Err e) is = ⊎_elim
     (cases_lt (length (front_of old)) (length bytes))
 
 -- an element whose content and header are written
-pub element_put : (tag : ℕ) (content : Option (List ℕ)) (old between new : BackWriter) (first second : Result Unit Error)
-    → (written_tag since : ℕ) → written_tag ≡ tag → since ≡ length (end_of old) → Puts (within_limit content) old between first
+pub element_put : (tag : ℕ) (content : Option (List ℕ)) (old between new : BackWriter)
+    (first second : Result Unit Error)
+    → (written_tag since : ℕ) → written_tag ≡ tag → since ≡ length (end_of old)
+    → Puts (within_limit content) old between first
     → ((n : ℕ) → length (end_of between) ≡ n + since
     → WritesInFront (header_of written_tag n) between new second)
     → Puts (element_of tag content) old new second

@@ -36,7 +36,7 @@ pub record Appends (old new : SliceWriter) (bytes : List ℕ) : Type 0 where
 
 -- The bytes were appended, if there are any and they have room. Otherwise nothing was written, and
 -- the error is Overlength if there are none, and Buffer if there is less room.
-pub record Writes (bytes : Option (List ℕ)) (old new : SliceWriter)
+pub record WritesBehind (bytes : Option (List ℕ)) (old new : SliceWriter)
     (result : Result (Unit {0}) Error) : Type 0 where
   pub slice : KeepsSlice old new
   pub overlength : bytes ≡ None → Refuses result Overlength × AppendsNothing old new

@@ -6,7 +6,7 @@ ghost use Rattle.sec1_der.specs.Faults.{length_fault, header_fault, Refuses, IsH
 ghost use Rattle.sec1_der.specs.Numbers.{number_of};
 ghost use Rattle.sec1_der.specs.Readers.{reader_over, refused, HasRead};
 ghost use Rattle.sec1_der.specs.Refusals.{Fault, any_fault};
-ghost use Rattle.sec1_der.specs.SliceWriters.{Writes};
+ghost use Rattle.sec1_der.specs.SliceWriters.{WritesBehind};
 
 use crate::{ErrorKind, Length, Result, SliceReader, SliceWriter, Tag};
 
@@ -76,7 +76,7 @@ impl Header {
     ///
     /// Buffer if it has no room.
     pub fn encode(&self, writer: &mut SliceWriter) -> Result<()>
-        ensures { Writes (Some (header self.now.tag self.now.length)) writer.old writer.new
+        ensures { WritesBehind (Some (header self.now.tag self.now.length)) writer.old writer.new
             result }
     {
         let (octets, count) = self.octets();

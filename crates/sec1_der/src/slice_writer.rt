@@ -18,7 +18,7 @@ pub struct SliceWriter<'b> {
 
 impl<'b> SliceWriter<'b> {
     ghost use Rattle.std.specs.Prelude.{◌≡◌, [], ◌∷◌, Some};
-    ghost use Rattle.sec1_der.specs.SliceWriters.{written_by, room_of, IsOver, Writes};
+    ghost use Rattle.sec1_der.specs.SliceWriters.{written_by, room_of, IsOver, WritesBehind};
 
     /// Creates a writer at the beginning of a slice.
     pub fn new(buffer: &'b mut [u8]) -> SliceWriter<'b>
@@ -52,7 +52,7 @@ impl<'b> SliceWriter<'b> {
     ///
     /// Buffer if the slice is full.
     pub fn write_byte(&mut self, byte: u8) -> Result<()>
-        ensures { Writes (Some (byte ∷ [])) self.old self.new result }
+        ensures { WritesBehind (Some (byte ∷ [])) self.old self.new result }
     {
         self.write(&[byte])
     }
@@ -64,7 +64,7 @@ impl<'b> SliceWriter<'b> {
     /// Buffer if the slice has less room.
     #[tactic(auto, using(std::proofs::lemmas::Slice::overwrites))]
     pub fn write(&mut self, bytes: &[u8]) -> Result<()>
-        ensures { Writes (Some bytes.now) self.old self.new result }
+        ensures { WritesBehind (Some bytes.now) self.old self.new result }
     {
         check_room(bytes.len(), self.remaining())?;
         let end = self.position + bytes.len();

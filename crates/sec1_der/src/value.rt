@@ -7,7 +7,7 @@ ghost use Rattle.sec1_der.specs.Encodings.{Measures};
 ghost use Rattle.sec1_der.specs.Faults.{Refuses, IsReadingFault};
 ghost use Rattle.sec1_der.specs.Readers.{reader_over};
 ghost use Rattle.sec1_der.specs.Refusals.{Fault, HasFault};
-ghost use Rattle.sec1_der.specs.SliceWriters.{Writes};
+ghost use Rattle.sec1_der.specs.SliceWriters.{WritesBehind};
 
 use crate::{BackWriter, ErrorKind, Header, Length, Result, SliceReader, SliceWriter, Tag};
 
@@ -83,7 +83,8 @@ pub trait EncodeValue: ValueContent {
     /// Those of [`value_len`](EncodeValue::value_len), then Buffer if the content has no room.
     /// Nothing is written then.
     fn encode_value(&self, writer: &mut SliceWriter) -> Result<()>
-        ensures { Writes (within_limit (Self.content self.now)) writer.old writer.new result };
+        ensures { WritesBehind (within_limit (Self.content self.now)) writer.old writer.new
+            result };
 
     /// Prepends the content to what was written.
     ///
@@ -102,7 +103,7 @@ pub trait EncodeValue: ValueContent {
     ///
     /// # Errors
     ///
-    /// None if the content has room.
+    /// Overlength or Buffer if there is no content or the content has no room. None if it has.
     fn put_value(&self, writer: &mut BackWriter) -> Result<()>
         ensures { Puts (within_limit (Self.content self.now)) writer.old writer.new result }
     {

@@ -27,7 +27,7 @@ impl<'b> BackWriter<'b> {
     ///
     /// # Errors
     ///
-    /// None if the element has room.
+    /// Overlength or Buffer if there is no encoding or the element has no room. None if it has.
     pub fn put_element<T: EncodeValue + Tagged>(&mut self, value: &T) -> Result<()>
         ensures { Puts (element_of T.tag_byte (T.content value.now)) self.old self.new result }
     {

@@ -9,7 +9,7 @@ use crate::{BackWriter, EncodePart, EncodeValue, ErrorKind, Result, Tagged, enco
 
 impl<'b> SliceWriter<'b> {
     ghost use Rattle.sec1_der.specs.Elements.{element_of, within_limit};
-    ghost use Rattle.sec1_der.specs.SliceWriters.{Writes};
+    ghost use Rattle.sec1_der.specs.SliceWriters.{WritesBehind};
 
     /// Appends the content of a SEQUENCE with these parts.
     ///
@@ -18,7 +18,7 @@ impl<'b> SliceWriter<'b> {
     /// Those of [`EncodePart::part_len`], then Buffer if the content has no room.
     #[tactic(auto, using(std::proofs::lemmas::Slice::overwrites))]
     pub(crate) fn parts<P: EncodePart>(&mut self, parts: &P) -> Result<()>
-        ensures { Writes (within_limit (P.bytes parts.now)) self.old self.new result }
+        ensures { WritesBehind (within_limit (P.bytes parts.now)) self.old self.new result }
     {
         let count = parts.part_len()?.get();
         check_room(count, self.remaining())?;
@@ -34,7 +34,8 @@ impl<'b> SliceWriter<'b> {
     ///
     /// Those of [`encoded_len`], then Buffer if the element has no room.
     pub fn element<T: EncodeValue + Tagged>(&mut self, value: &T) -> Result<()>
-        ensures { Writes (element_of T.tag_byte (T.content value.now)) self.old self.new result }
+        ensures { WritesBehind (element_of T.tag_byte (T.content value.now)) self.old self.new
+            result }
     {
         check_room(encoded_len(value)?, self.remaining())?;
         element_header(value)?.encode(self)?;

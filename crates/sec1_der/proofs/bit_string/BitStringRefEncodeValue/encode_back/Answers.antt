@@ -7,4 +7,5 @@ use Rattle.sec1_der.proofs.bit_string.BitStringRefEncodeValue.encode_back.Goals 
 pub returns : goal.returns
 returns c =
     rw (le-leb (suc (length c.args.self.now.bytes.now)) max_length c.args.self.now.within)
-    (both_put c.args.writer.now _ _ c.args.self.now.bytes.now (c.args.self.now.unused ∷ []) _ _ (omega (arith, c.in_ok-check_room.ensures.within.0 refl, c.remaining.ensures)) c.write.ensures c.write-2.ensures)
+    (both_put c.args.writer.now _ _ c.args.self.now.bytes.now (c.args.self.now.unused ∷ []) _ _
+    (omega (arith, c.in_ok-check_room.ensures.within.0 refl, c.remaining.ensures)) c.write.ensures c.write-2.ensures)

@@ -6,12 +6,14 @@ pub returns-in_err-encode : goal.returns-in_err-encode
 returns-in_err-encode g c =
     let content = g.T.ValueContent.content c.args.value.now in
     failed_ok (header_written g.T.Tagged.tag_byte c.in_ok-encoded_len.field-0 c.in_ok-element_header.field-0
-    content c.args.self.now _ _ c.in_ok-encoded_len.ensures.exact (omega (arith, c.in_ok-check_room.ensures.within.0 refl, c.remaining.ensures))
+    content c.args.self.now _ _ c.in_ok-encoded_len.ensures.exact
+    (omega (arith, c.in_ok-check_room.ensures.within.0 refl, c.remaining.ensures))
     c.in_ok-element_header.ensures.only c.in_err-encode.ensures)
 
 pub returns : goal.returns
 returns g c =
     let content = g.T.ValueContent.content c.args.value.now in
     element_written g.T.Tagged.tag_byte c.in_ok-encoded_len.field-0 c.in_ok-element_header.field-0
-    content c.args.self.now _ _ _ _ c.in_ok-encoded_len.ensures.exact (omega (arith, c.in_ok-check_room.ensures.within.0 refl, c.remaining.ensures))
+    content c.args.self.now _ _ _ _ c.in_ok-encoded_len.ensures.exact
+    (omega (arith, c.in_ok-check_room.ensures.within.0 refl, c.remaining.ensures))
     c.in_ok-element_header.ensures.only c.encode.ensures c.encode_value.ensures
