@@ -1,21 +1,21 @@
 -- What the bytes of an element, and bytes that begin with none, are refused by.
 use Rattle.std.proofs.Common.{◌≡◌, ℕ, ◌+◌, ◌<◌, ◌≤◌, false, ◌&&◌, nat_le, List, [], ◌∷◌, ◌++◌, length, take, drop}
-use Rattle.std.proofs.Common.{get_or, Option, Some, None, Err, ⊎_elim, refl, ap, sym, ◌∙◌, arith}
-use Rattle.std.proofs.Common.{leb-true, eq-eqb, length-drop, append-nil}
+use Rattle.std.proofs.Common.{slice_get, get_or, Option, Some, None, Err, ⊎_elim, refl, ap, sym, ◌∙◌, arith}
+use Rattle.std.proofs.Common.{leb-true, eq-eqb, length-drop, append-nil, append_assoc, length-append}
 use Rattle.std.proofs.Common.{take-append-drop, bytes_eq}
-use Rattle.std.proofs.lemmas.Bool.{lt-leb, and_parts, cases_Bool}
+use Rattle.std.proofs.lemmas.Bool.{lt-leb, and_parts, cases_Bool, cases_lt}
 use Rattle.std.proofs.lemmas.Slice.Eq.{bytes_eq-Decides}
 use Rattle.std.specs.Option.{option_or}
 use Rattle.sec1_der.specs.Elements.{max_length, length_octets, header, element, IsTag, IsHeader, IsElement, LacksHeader}
+use Rattle.sec1_der.specs.Elements.{IsProperBeginning}
 use Rattle.sec1_der.specs.Faults.{is_tag, length_fault, header_fault}
 use Rattle.sec1_der.specs.Readers.{Reader, reader_over, HasReadElement}
-use Rattle.sec1_der.specs.Refusals.{Fault, no_fault, end_fault, number_at, length_at}
+use Rattle.sec1_der.specs.Refusals.{Fault, no_fault, end_fault, number_at, length_at, within, parts_fault}
 use Rattle.sec1_der.specs.Refusals.{element_fault, optional_fault, field_fault, any_fault, document_fault}
 use Rattle.sec1_der.specs.declared.error.ErrorKind.{ErrorKind}
 use Rattle.sec1_der.specs.declared.error.ErrorKind.TheVariants.{Truncated, TrailingData}
-use Rattle.sec1_der.specs.DigitLaws.{IsBytes}
-use Rattle.sec1_der.proofs.HeaderLemmas.{fronts}
-use Rattle.sec1_der.specs.ElementLaws.{is_tag-true}
+use Rattle.sec1_der.proofs.HeaderLemmas.{fronts, header_front, longer, some_length}
+use Rattle.sec1_der.specs.ElementLaws.{is_tag-true, header_apart}
 use Rattle.sec1_der.specs.ElementLaws.{tag_from_test}
 use Rattle.sec1_der.specs.RefusalLaws.{length_at_spelled, parts_at, any_room, any_at, alone, read_element}
 
@@ -60,10 +60,56 @@ any_headless f g (byte ∷ bytes) small lacks = ⊎_elim
     (λ e. rw e refl)
     (cases_Bool (is_tag byte))
 
--- the same, where each is a byte
-pub any_lacks : (f : ℕ → Fault) (g : Fault) (bytes : List ℕ) → IsBytes bytes → LacksHeader bytes
-    → any_fault f g bytes ≡ Some (header_fault bytes)
-any_lacks f g bytes all lacks = any_headless f g bytes (λ _. all 0) lacks
+-- an element that is cut short
+pub any_cut : (f : ℕ → Fault) (g : Fault) (tag : ℕ) (content input : List ℕ) → (0 < length input → get_or input 0 0 < 256)
+    → IsHeader tag (length content)
+    → IsProperBeginning input (element tag content) → any_fault f g input ≡ Some Truncated
+any_cut f g tag content input small h cut = ⊎_elim
+    (λ l. any_headless f g input small (lacks l) ∙ ⊎_elim
+    (λ c. absurd (omega (arith, ap length c.front, length-append (header tag (length content)) c.after)))
+    (λ k. ap Some k)
+    (header_front tag (length content) input cut.more content h (sym cut.split)))
+    (λ l. let c = longer input (header tag (length content)) cut.more content (sym cut.split) l in
+    any_short f g tag (length content) input c.after h c.front
+    (omega (arith, ap length c.back, length-append c.after cut.more, some_length cut.more cut.some)))
+    (cases_lt (length input) (length (header tag (length content))))
+  where
+    lacks : length input < length (header tag (length content)) → LacksHeader input
+    lacks l tag' n rest h' e =
+        let joined = sym (append_assoc (header tag' n) rest cut.more)
+        ∙ (ap (λ xs. xs ++ cut.more) (sym e) ∙ sym cut.split) in
+        let same = header_apart tag' n tag (length content) (rest ++ cut.more) content joined in
+        omega (arith, ap length e, length-append (header tag' n) rest, ap (λ m. length (header tag' m)) same.1)
+
+-- the length and the content of an element that is cut short
+parts_cut : (f g : Fault) (tag : ℕ) (content bytes : List ℕ) → IsHeader tag (length content)
+    → IsProperBeginning (tag ∷ bytes) (element tag content)
+    → parts_fault f g (within (length_at bytes)) ≡ Some Truncated
+parts_cut f g tag content bytes h cut =
+    rw (is_tag-true tag h.tag_byte) at (any_cut (λ _. f) g tag content (tag ∷ bytes) (λ _. h.tag_byte.byte) h cut)
+
+-- the tag of a SEQUENCE is a tag
+sequence_tag : IsTag 0x30
+sequence_tag = tag_from_test 0x30 (omega arith) refl
+
+-- an element with this tag that is cut short, whatever its tag
+pub element_cut : (f g : Fault) (tag : ℕ) (content input : List ℕ) → length content ≤ max_length
+    → IsProperBeginning input (element tag content) → element_fault tag f g input ≡ Some Truncated
+element_cut f g tag content [] fits cut = refl
+element_cut f g tag content (byte ∷ bytes) fits cut =
+    let same : tag ≡ byte = cc cut.split in
+    let rest : length_octets (length content) ++ content ≡ bytes ++ cut.more = cc cut.split in
+    let inside = parts_cut f g 0x30 content bytes (record { tag_byte = sequence_tag; within = fits })
+    (record { more = cut.more; some = cut.some; split = ap (λ xs. 0x30 ∷ xs) rest }) in
+    rw (← same, eq-eqb tag tag refl, inside) refl
+
+-- where the tag is next, an element with this tag is refused as one of any tag is
+pub element_next : (f g : Fault) (tag : ℕ) (bytes : List ℕ) → IsTag tag → slice_get bytes 0 ≡ Some tag
+    → element_fault tag f g bytes ≡ any_fault (λ _. f) g bytes
+element_next f g tag [] is next = absurd (cc next)
+element_next f g tag (byte ∷ bytes) is next =
+    let same : byte ≡ tag = cc next in
+    rw (same, eq-eqb tag tag refl, is_tag-true tag is) refl
 
 -- ---- one element after another
 

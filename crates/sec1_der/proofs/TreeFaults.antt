@@ -1,11 +1,11 @@
 -- What the bytes of trees are refused by.
-use Rattle.std.proofs.Common.{◌≡◌, ℕ, ◌+◌, ◌<◌, ◌≤◌, max, nat_lt, if◌then◌else◌, List, [], ◌++◌, length, Option, Some}
+use Rattle.std.proofs.Common.{◌≡◌, ℕ, ◌+◌, ◌<◌, ◌≤◌, max, nat_lt, if◌then◌else◌, List, [], ◌++◌, Option, Some}
 use Rattle.std.proofs.Common.{None, Result, Ok, Err, IfOk, bit_and, refl, ap, sym, ◌∙◌, arith, ⊎_elim}
 use Rattle.std.proofs.lemmas.Bool.{lt-ltb, le-ltb, ne_eqb, cases_lt}
 use Rattle.std.proofs.lemmas.Bool.Decides.{nat_tests}
-use Rattle.std.proofs.lemmas.List.{append_assoc, append-nil, length-append}
+use Rattle.std.proofs.lemmas.List.{append-nil, length-append}
 use Rattle.std.specs.Option.{option_or}
-use Rattle.sec1_der.specs.Elements.{IsHeader, IsProperBeginning, LacksHeader, header, element}
+use Rattle.sec1_der.specs.Elements.{IsProperBeginning}
 use Rattle.sec1_der.specs.Refusals.{Fault, HasFault, end_fault, any_fault, nested_fault, tree_fault}
 use Rattle.sec1_der.specs.Trees.{Tree, leaf, branch, Forest, none, first, bytes, joined, IsTree, AreTrees, IsTreeOf}
 use Rattle.sec1_der.specs.Trees.{size, depth, max_depth, max_tree_depth}
@@ -14,9 +14,7 @@ use Rattle.sec1_der.specs.declared.error.ErrorKind.{ErrorKind}
 use Rattle.sec1_der.specs.declared.error.ErrorKind.TheVariants.{Truncated, Depth}
 use Rattle.sec1_der.proofs.CheckLemmas.{IsCounted}
 use Rattle.sec1_der.specs.DigitLaws.{IsBytes}
-use Rattle.sec1_der.proofs.HeaderLemmas.{longer, header_front, some_length}
-use Rattle.sec1_der.specs.ElementLaws.{header_apart}
-use Rattle.sec1_der.proofs.RefusalLemmas.{any_lacks, any_short}
+use Rattle.sec1_der.proofs.RefusalLemmas.{any_cut}
 use Rattle.sec1_der.specs.RefusalLaws.{any_at}
 use Rattle.sec1_der.proofs.TreeLemmas.{some_bytes, tree_apart}
 use Rattle.sec1_der.proofs.TreeRefusals.{leaf_passes, row_at, row_some, row_deep, tree_next}
@@ -79,34 +77,13 @@ pub shallow_tree : (t : Tree) (input rest : List ℕ) → IsTree t → depth t �
 shallow_tree t input rest is shallow e =
     tree_faults t input rest is e ∙ rw (le-ltb max_tree_depth (depth t) shallow) refl
 
--- an element that is cut short
-element_cut : (f : ℕ → Fault) (g : Fault) (tag : ℕ) (content input : List ℕ) → IsBytes input
-    → IsHeader tag (length content)
-    → IsProperBeginning input (element tag content) → any_fault f g input ≡ Some Truncated
-element_cut f g tag content input all h cut = ⊎_elim
-    (λ l. any_lacks f g input all (lacks l) ∙ ⊎_elim
-    (λ c. absurd (omega (arith, ap length c.front, length-append (header tag (length content)) c.after)))
-    (λ k. ap Some k)
-    (header_front tag (length content) input cut.more content h (sym cut.split)))
-    (λ l. let c = longer input (header tag (length content)) cut.more content (sym cut.split) l in
-    any_short f g tag (length content) input c.after h c.front
-    (omega (arith, ap length c.back, length-append c.after cut.more, some_length cut.more cut.some)))
-    (cases_lt (length input) (length (header tag (length content))))
-  where
-    lacks : length input < length (header tag (length content)) → LacksHeader input
-    lacks l tag' n rest h' e =
-        let joined = sym (append_assoc (header tag' n) rest cut.more)
-        ∙ (ap (λ xs. xs ++ cut.more) (sym e) ∙ sym cut.split) in
-        let same = header_apart tag' n tag (length content) (rest ++ cut.more) content joined in
-        omega (arith, ap length e, length-append (header tag' n) rest, ap (λ m. length (header tag' m)) same.1)
-
 -- a tree that is cut short
 pub cut_tree : (t : Tree) (input : List ℕ) → IsBytes input → IsTree t → IsProperBeginning input (bytes t)
     → tree_fault input ≡ Some Truncated
 cut_tree (leaf tag content) input all is cut =
-    element_cut _ end_fault tag content input all (record { tag_byte = is.0; within = is.2 }) cut
+    any_cut _ end_fault tag content input (λ _. all 0) (record { tag_byte = is.0; within = is.2 }) cut
 cut_tree (branch tag f) input all is cut =
-    element_cut _ end_fault tag (joined f) input all (record { tag_byte = is.0; within = is.2 }) cut
+    any_cut _ end_fault tag (joined f) input (λ _. all 0) (record { tag_byte = is.0; within = is.2 }) cut
 
 -- a count of a tree's elements
 pub counted : (result : Result ℕ Error) (input : List ℕ) (t : Tree) → IfOk result (IsCounted input)

@@ -1,6 +1,10 @@
 -- The state of a reader: the remaining input, and whether it has failed.
-use Rattle.std.specs.Prelude.{◌≡◌, ◌≤◌, Bool, false, true, List, ◌++◌, length, ℕ}
+use Rattle.std.specs.Prelude.{◌≡◌, ◌≤◌, Bool, false, true, List, ◌++◌, length, ℕ, Result, OnErr}
 use Rattle.sec1_der.specs.Elements.{max_length, element}
+use Rattle.sec1_der.specs.Faults.{Refuses}
+use Rattle.sec1_der.specs.Refusals.{Fault, HasFault}
+use Rattle.sec1_der.specs.declared.error.Error.{Error}
+use Rattle.sec1_der.specs.declared.error.ErrorKind.TheVariants.{Failed}
 
 pub record Reader : Type 0 where
   pub unread : List ℕ
@@ -23,3 +27,12 @@ pub record HasRead (bytes : List ℕ) (old new : Reader) : Type 0 where
 pub record HasReadElement (tag : ℕ) (content : List ℕ) (old new : Reader) : Type 0 where
   pub within : length content ≤ max_length
   pub read : HasRead (element tag content) old new
+
+-- whether a call of a reader refuses, by which kind, and what the error leaves
+pub record RefusesBy {T : Type 0} (fault : Fault) (result : Result T Error) (old new : Reader) : Type 0 where
+  -- the kind is a function of the remaining input
+  pub kind : old.failed ≡ false → HasFault result (fault old.unread)
+  -- a reader that had failed refuses every call
+  pub failed : old.failed ≡ true → Refuses result Failed
+  -- the reader is as it was, but it has failed
+  pub left : OnErr result (new ≡ refused old)

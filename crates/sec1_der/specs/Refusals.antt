@@ -28,6 +28,10 @@ abbrev pub end_fault : Fault
 end_fault [] = None
 end_fault (byte ∷ bytes) = Some TrailingData
 
+-- as many bytes as these have to be there
+abbrev pub count_fault : ℕ → Fault
+count_fault count bytes = if nat_le count (length bytes) then None else Some Truncated
+
 -- X.690 sections 8.1.3 and 10.1: the length at the beginning of the bytes, if there is one
 abbrev pub number_at : List ℕ → ℕ
 number_at [] = 0

@@ -1,9 +1,10 @@
 ghost use Rattle.std.specs.Prelude.{◌≤◌, length};
 ghost use Rattle.sec1_der.specs.Elements.{max_length, IsTag};
 
+use crate::header::element_at;
 use crate::{
-    BackWriter, EncodeValue, ErrorKind, Header, Length, ObjectIdentifier, Result, SliceReader,
-    SliceWriter, Tag, ValueContent,
+    BackWriter, EncodeValue, ErrorKind, Length, ObjectIdentifier, Result, SliceReader, SliceWriter,
+    Tag, ValueContent,
 };
 
 /// An element of any tag, which borrows its content unread.
@@ -20,11 +21,10 @@ pub struct AnyRef<'a> {
 impl<'a> AnyRef<'a> {
     ghost use Rattle.std.specs.Prelude.{◌≡◌, ◌↔◌, ℕ, List, [], ◌++◌, true, false};
     ghost use Rattle.std.specs.Prelude.{IsOk, IfOk, IsOkAnd, IfErr, OnErr};
-    ghost use Rattle.sec1_der.specs.Elements.{element, IsHeader, IsProperBeginning};
-    ghost use Rattle.sec1_der.specs.Elements.{LacksHeader};
+    ghost use Rattle.sec1_der.specs.Elements.{element, IsHeader, LacksHeader};
     ghost use Rattle.sec1_der.specs.Faults.{header_fault, Refuses, IsHeaderFault};
-    ghost use Rattle.sec1_der.specs.Readers.{reader_over, HasRead};
-    ghost use Rattle.sec1_der.specs.Refusals.{HasFault, any_fault, no_fault};
+    ghost use Rattle.sec1_der.specs.Readers.{reader_over, HasRead, RefusesBy};
+    ghost use Rattle.sec1_der.specs.Refusals.{any_fault, no_fault};
     ghost use Rattle.sec1_der.specs.Values.{tag_of, value_of};
 
     /// Returns the element with this tag and content.
@@ -51,7 +51,6 @@ impl<'a> AnyRef<'a> {
     ///
     /// Those of [`Header::decode`](crate::Header::decode), then Truncated if the input ends inside
     /// the content. The reader has failed then.
-    #[tactic(auto, using(crate::proofs::HeaderLemmas::fronts))]
     pub fn decode(reader: &mut SliceReader<'a>) -> Result<AnyRef<'a>>
         ensures found { IfOk result (λ any. IsHeader (tag_of any) (length (value_of any))
             × HasRead (element (tag_of any) (value_of any)) reader.old reader.new) }
@@ -59,25 +58,24 @@ impl<'a> AnyRef<'a> {
             → reader.old ≡ reader_over (element tag content ++ rest)
             → IsOkAnd result (λ any. (tag_of any ≡ tag) × (value_of any ≡ content))
             × (reader.new ≡ reader_over rest) }
-        ensures short { (tag : ℕ) (content : List ℕ) → IsHeader tag (length content)
-            → reader.old.failed ≡ false
-            → IsProperBeginning reader.old.unread (element tag content)
-            → Refuses result ErrorKind.Truncated }
         ensures fault { reader.old.failed ≡ false → LacksHeader reader.old.unread
             → Refuses result (header_fault reader.old.unread) }
         ensures kinds { reader.old.failed ≡ false → IfErr result (λ e. IsHeaderFault e.kind) }
-        ensures kind { reader.old.failed ≡ false
-            → HasFault result (any_fault (λ _. no_fault) no_fault reader.old.unread) }
-        ensures failed { reader.old.failed ≡ true → Refuses result ErrorKind.Failed
-            × (reader.new ≡ reader.old) }
-        ensures refused { OnErr result (reader.new.failed ≡ true) }
+        ensures refused { RefusesBy (any_fault (λ _. no_fault) no_fault) result reader.old
+            reader.new }
     {
-        let header = Header::decode(reader)?;
-        let value = reader.read_slice(header.length)?;
-        Ok(AnyRef {
-            tag: header.tag.byte(),
-            value,
-        })
+        reader.check()?;
+        match element_at(reader.remaining_input()) {
+            Ok((header, inside)) => {
+                let (value, rest) = inside.split_at(header.length.get());
+                reader.set_unread(rest);
+                Ok(AnyRef {
+                    tag: header.tag.byte(),
+                    value,
+                })
+            }
+            Err(kind) => Err(reader.fail(kind)),
+        }
     }
 
     /// Returns the tag.

@@ -2,7 +2,8 @@ ghost use Rattle.std.specs.Prelude.{◌≡◌, ◌↔◌, ◌≤◌, ◌++◌, [
 ghost use Rattle.std.specs.Prelude.{slice_get, true, false, if◌then◌else◌, IsOk, IfOk};
 ghost use Rattle.std.specs.Prelude.{IsOkAnd, IsErr, IfErr, OnOk, OnErr};
 ghost use Rattle.sec1_der.specs.Faults.{Refuses};
-ghost use Rattle.sec1_der.specs.Readers.{reader_over, refused, HasRead, Reader};
+ghost use Rattle.sec1_der.specs.Readers.{reader_over, refused, HasRead, Reader, RefusesBy};
+ghost use Rattle.sec1_der.specs.Refusals.{count_fault, end_fault, no_fault};
 
 mod values;
 
@@ -79,10 +80,7 @@ impl<'a> SliceReader<'a> {
         ensures only { (bytes rest : List ℕ) → length bytes ≡ count
             → self.old ≡ reader_over (bytes ++ rest)
             → IsOkAnd result (λ found. found.now ≡ bytes) × (self.new ≡ reader_over rest) }
-        ensures within { self.old.failed ≡ false → IsOk result ↔ (count ≤ length self.old.unread) }
-        ensures kind { self.old.failed ≡ false → IsErr result → Refuses result ErrorKind.Truncated }
-        ensures failed { self.old.failed ≡ true → Refuses result ErrorKind.Failed }
-        ensures refused { OnErr result (self.new ≡ refused self.old) }
+        ensures refused { RefusesBy (count_fault count) result self.old self.new }
     {
         self.check()?;
         let count = count.get();
@@ -105,10 +103,7 @@ impl<'a> SliceReader<'a> {
         ensures only { (bytes rest : List ℕ) → length bytes ≡ count
             → self.old ≡ reader_over (bytes ++ rest)
             → (result ≡ Ok (reader_over bytes)) × (self.new ≡ reader_over rest) }
-        ensures within { self.old.failed ≡ false → IsOk result ↔ (count ≤ length self.old.unread) }
-        ensures kind { self.old.failed ≡ false → IsErr result → Refuses result ErrorKind.Truncated }
-        ensures failed { self.old.failed ≡ true → Refuses result ErrorKind.Failed }
-        ensures refused { OnErr result (self.new ≡ refused self.old) }
+        ensures refused { RefusesBy (count_fault count) result self.old self.new }
     {
         let bytes = self.read_slice(count)?;
         Ok(SliceReader::new(bytes))
@@ -120,12 +115,9 @@ impl<'a> SliceReader<'a> {
     ///
     /// TrailingData if input remains; Failed if the reader failed before.
     pub fn finish(&mut self) -> Result<()>
+        ensures found { OnOk result ((self.old ≡ reader_over []) × (self.new ≡ self.old)) }
         ensures only { self.old ≡ reader_over [] → IsOk result }
-        ensures unchanged { OnOk result ((self.old ≡ reader_over []) × (self.new ≡ self.old)) }
-        ensures kind { self.old.failed ≡ false → IsErr result
-            → Refuses result ErrorKind.TrailingData }
-        ensures failed { self.old.failed ≡ true → Refuses result ErrorKind.Failed }
-        ensures refused { OnErr result (self.new ≡ refused self.old) }
+        ensures refused { RefusesBy end_fault result self.old self.new }
     {
         self.check()?;
         if !self.unread.is_empty() {
@@ -141,6 +133,16 @@ impl<'a> SliceReader<'a> {
     {
         self.failed = true;
         kind.into()
+    }
+
+    /// Goes back to this remaining input, marks the reader as failed, and returns an error of this
+    /// kind.
+    pub(crate) fn fail_at(&mut self, start: &'a [u8], kind: ErrorKind) -> Error
+        ensures error { result.kind ≡ kind }
+        ensures after { self.new ≡ record { unread = start.now; failed = true } }
+    {
+        self.unread = start;
+        self.fail(kind)
     }
 
     /// Checks that the reader hasn't failed.
@@ -174,9 +176,7 @@ impl<'a> SliceReader<'a> {
     pub fn read_rest(&mut self) -> Result<&'a [u8]>
         ensures found { IfOk result
             (λ rest. (self.old ≡ reader_over rest.now) × (self.new ≡ reader_over [])) }
-        ensures only { self.old.failed ≡ false → IsOk result }
-        ensures failed { self.old.failed ≡ true → Refuses result ErrorKind.Failed }
-        ensures refused { OnErr result (self.new ≡ self.old) }
+        ensures refused { RefusesBy no_fault result self.old self.new }
     {
         self.check()?;
         let (rest, end) = self.unread.split_at(self.unread.len());

@@ -4,11 +4,12 @@ ghost use Rattle.std.specs.Prelude.{slice_get, true, false, IfOk};
 ghost use Rattle.std.specs.Prelude.{IsOkAnd, IfErr, OnOk, OnErr, IfSome, IfNone, IsSomeAnd};
 ghost use Rattle.sec1_der.specs.Elements.{max_length, element, IsProperBeginning, explicit_tag};
 ghost use Rattle.sec1_der.specs.Faults.{Refuses, IsReadingFault};
-ghost use Rattle.sec1_der.specs.Readers.{reader_over, HasReadElement};
+ghost use Rattle.sec1_der.specs.Readers.{reader_over, HasReadElement, RefusesBy};
 ghost use Rattle.sec1_der.specs.Refusals.{HasFault, element_fault, end_fault, field_fault};
 ghost use Rattle.sec1_der.specs.Refusals.{no_fault};
 
-use crate::{AnyRef, DecodeValue, ErrorKind, Result, SliceReader, Tag, Tagged};
+use crate::header::element_at;
+use crate::{DecodeValue, ErrorKind, Result, SliceReader, Tag, Tagged};
 
 impl<'a> SliceReader<'a> {
     /// Reads one element with the tag of `T`.
@@ -29,21 +30,15 @@ impl<'a> SliceReader<'a> {
             → IsOkAnd result (λ value. T.content value ≡ Some content)
             × (self.new ≡ reader_over rest) }
 
-        ensures short { (content : List ℕ) → length content ≤ max_length → self.old.failed ≡ false
-            → IsProperBeginning self.old.unread (element T.tag_byte content)
-            → Refuses result ErrorKind.Truncated }
         ensures kinds { self.old.failed ≡ false → IfErr result (λ e. IsReadingFault e.kind) }
-        // The kind of a refusal is a function of the remaining input.
-        ensures kind { self.old.failed ≡ false
-            → HasFault result (element_fault T.tag_byte T.fault no_fault self.old.unread) }
-        ensures failed { self.old.failed ≡ true → Refuses result ErrorKind.Failed
-            × (self.new ≡ self.old) }
-        ensures refused { OnErr result (self.new.failed ≡ true) }
+        ensures refused { RefusesBy (element_fault T.tag_byte T.fault no_fault) result self.old
+            self.new }
     {
+        let start = self.remaining_input();
         let mut content = self.open(T::fixed_tag())?;
         match T::decode_value(&mut content) {
             Ok(value) => Ok(value),
-            Err(e) => Err(self.fail(e.kind)),
+            Err(e) => Err(self.fail_at(start, e.kind)),
         }
     }
 
@@ -84,14 +79,11 @@ impl<'a> SliceReader<'a> {
             × (self.new ≡ reader_over rest) }
 
         ensures kinds { self.old.failed ≡ false → IfErr result (λ e. IsReadingFault e.kind) }
-        // The kind of a refusal is a function of the remaining input.
-        ensures kind { self.old.failed ≡ false
-            → HasFault result (field_fault number T.tag_byte T.fault no_fault self.old.unread) }
-        ensures failed { self.old.failed ≡ true → Refuses result ErrorKind.Failed
-            × (self.new ≡ self.old) }
-        ensures refused { OnErr result (self.new.failed ≡ true) }
+        ensures refused { RefusesBy (field_fault number T.tag_byte T.fault no_fault) result self.old
+            self.new }
     {
         self.check()?;
+        let input = self.remaining_input();
         let tag = Tag::context(number);
         if self.peek_tag_byte() != Some(tag.byte()) {
             return Ok(None);
@@ -99,7 +91,7 @@ impl<'a> SliceReader<'a> {
         let mut field = self.open(tag)?;
         match field.only_element::<T>() {
             Ok(value) => Ok(Some(value)),
-            Err(e) => Err(self.fail(e.kind)),
+            Err(e) => Err(self.fail_at(input, e.kind)),
         }
     }
 
@@ -110,25 +102,24 @@ impl<'a> SliceReader<'a> {
         ensures only { (content rest : List ℕ) → length content ≤ max_length
             → self.old ≡ reader_over (element tag content ++ rest)
             → (result ≡ Ok (reader_over content)) × (self.new ≡ reader_over rest) }
-        ensures short { (content : List ℕ) → length content ≤ max_length → self.old.failed ≡ false
-            → IsProperBeginning self.old.unread (element tag content)
-            → Refuses result ErrorKind.Truncated }
         ensures kinds { self.old.failed ≡ false → IfErr result (λ e. IsReadingFault e.kind) }
-        ensures kind { self.old.failed ≡ false
-            → HasFault result (element_fault tag no_fault no_fault self.old.unread) }
-        ensures failed { self.old.failed ≡ true → Refuses result ErrorKind.Failed
-            × (self.new ≡ self.old) }
-        ensures refused { OnErr result (self.new.failed ≡ true) }
+        ensures refused { RefusesBy (element_fault tag no_fault no_fault) result self.old self.new }
     {
         self.check()?;
-        let Some(byte) = self.peek_tag_byte() else {
+        let Some(byte) = self.remaining_input().first() else {
             return Err(self.fail(ErrorKind::Truncated));
         };
-        if byte != tag.byte() {
+        if *byte != tag.byte() {
             return Err(self.fail(ErrorKind::Tag));
         }
-        let any = AnyRef::decode(self)?;
-        Ok(SliceReader::new(any.value()))
+        match element_at(self.remaining_input()) {
+            Ok((header, inside)) => {
+                let (content, rest) = inside.split_at(header.length.get());
+                self.set_unread(rest);
+                Ok(SliceReader::new(content))
+            }
+            Err(kind) => Err(self.fail(kind)),
+        }
     }
 
     /// Reads the one element in the remaining input.
@@ -139,9 +130,6 @@ impl<'a> SliceReader<'a> {
         ensures only { (content : List ℕ) → T.is_content content → length content ≤ max_length
             → self.old ≡ reader_over (element T.tag_byte content)
             → IsOkAnd result (λ value. T.content value ≡ Some content) }
-        ensures short { (content : List ℕ) → length content ≤ max_length → self.old.failed ≡ false
-            → IsProperBeginning self.old.unread (element T.tag_byte content)
-            → Refuses result ErrorKind.Truncated }
         ensures long { (content : List ℕ) → T.is_content content → length content ≤ max_length
             → self.old.failed ≡ false
             → IsProperBeginning (element T.tag_byte content) self.old.unread

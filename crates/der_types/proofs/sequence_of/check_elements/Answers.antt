@@ -6,7 +6,7 @@ pub returns-in_err-_value-clause-kind : goal.returns-in_err-_value-clause-kind
 returns-in_err-_value-clause-kind g c =
     let at = c.loop-elements.invariant.rest in
     let fault = row_refused _ _ _ _ _ at (omega (arith, c.loop-elements-test.true, c.remaining_len.ensures))
-    (c.in_err-_value.ensures.kind at.whole) in
+    (c.in_err-_value.ensures.refused.kind at.whole) in
     grind arith
 
 pub loop-elements-preserved : goal.loop-elements-preserved
@@ -14,7 +14,7 @@ loop-elements-preserved g c =
     let at = c.loop-elements.invariant.rest in
     record {
       rest = row_goes_on _ _ _ _ _ _ _ at (omega (arith, c.loop-elements-test.true, c.remaining_len.ensures))
-          c.in_ok-_value.ensures.found (c.in_ok-_value.ensures.kind at.whole);
+          c.in_ok-_value.ensures.found (c.in_ok-_value.ensures.refused.kind at.whole);
       values = values_read _ _ _ _ _ _ _ c.loop-elements.invariant.values
           (omega (arith, c.loop-elements-test.true, c.remaining_len.ensures)) at.whole
           c.in_ok-_value.ensures.found

@@ -6,7 +6,7 @@ use Rattle.der_types.proofs.set_of.is_ascending.Goals as goal
 pub returns-in_default : goal.returns-in_default
 returns-in_default c =
     let at = c.loop-elements.invariant.rest in
-    sym (set_stops _ _ _ _ at (c.in_default.ensures.kind at.whole))
+    sym (set_stops _ _ _ _ at (c.in_default.ensures.refused.kind at.whole))
 
 pub returns-then-gt : goal.returns-then-gt
 returns-then-gt c =

@@ -4,7 +4,7 @@ use Rattle.der_types.proofs.AnyLemmas.{element_from, any_passes, any_refused}
 use Rattle.der_types.proofs.any.Any.read.Goals as goal
 
 pub returns-in-Err-clause-refuses : goal.returns-in-Err-clause-refuses
-returns-in-Err-clause-refuses c fresh = λ behind. any_refused behind _ _ (c.in-Err.ensures.kind fresh)
+returns-in-Err-clause-refuses c fresh = λ behind. any_refused behind _ _ (c.in-Err.ensures.refused.kind fresh)
 
 pub invariant_of-result : goal.invariant_of-result
 invariant_of-result c =

@@ -7,7 +7,7 @@ invariant_of-self-inside g c =
     let checked = rw (← c.self.view_is) at c.requires in
     let left = elements_left _ _ _ _ c.decode.result _ _ checked
     (omega (arith, c.if-remaining_len-eq0.false, c.remaining_len.ensures))
-    c.decode.ensures.found (c.decode.ensures.kind c.self.inside.working) in
+    c.decode.ensures.found (c.decode.ensures.refused.kind c.self.inside.working) in
     (left.0, tt)
 
 pub returns-clause-checked : goal.returns-clause-checked
@@ -15,5 +15,5 @@ returns-clause-checked g c =
     let checked = rw (← c.self.view_is) at c.requires in
     let left = elements_left _ _ _ _ c.decode.result _ _ checked
     (omega (arith, c.if-remaining_len-eq0.false, c.remaining_len.ensures))
-    c.decode.ensures.found (c.decode.ensures.kind c.self.inside.working) in
+    c.decode.ensures.found (c.decode.ensures.refused.kind c.self.inside.working) in
     left.1

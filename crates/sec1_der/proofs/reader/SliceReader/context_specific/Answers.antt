@@ -1,11 +1,19 @@
+use Rattle.std.proofs.Common.{rules}
 use Rattle.sec1_der.proofs.RefusalLemmas.{opened_field}
 use Rattle.sec1_der.proofs.reader.SliceReader.context_specific.Goals as goal
 
-pub returns-in-Ok-clause-kind : goal.returns-in-Ok-clause-kind
-returns-in-Ok-clause-kind g c fresh =
-    opened_field _ _ _ _ _ _ _ _ c.in_ok-field.ensures.found c.context-tag.ensures c.in-Ok.ensures.kind
+pub returns-in-Ok-clause-refused : goal.returns-in-Ok-clause-refused
+returns-in-Ok-clause-refused g c = record {
+  kind = λ fresh.
+      opened_field _ _ _ _ _ _ _ _ c.in_ok-field.ensures.found c.context-tag.ensures c.in-Ok.ensures.kind;
+  failed = λ failed. search rules;
+  left = tt;
+}
 
-pub returns-in-Err-clause-kind : goal.returns-in-Err-clause-kind
-returns-in-Err-clause-kind g c fresh =
-    rw c.fail.ensures.error
-    (opened_field _ _ _ _ _ _ _ _ c.in_ok-field.ensures.found c.context-tag.ensures c.in-Err.ensures.kind)
+pub returns-in-Err-clause-refused : goal.returns-in-Err-clause-refused
+returns-in-Err-clause-refused g c = record {
+  kind = λ fresh. rw c.fail_at.ensures.error
+      (opened_field _ _ _ _ _ _ _ _ c.in_ok-field.ensures.found c.context-tag.ensures c.in-Err.ensures.kind);
+  failed = λ failed. search rules;
+  left = rw c.remaining_input-input.ensures at c.fail_at.ensures.after;
+}

@@ -1,10 +1,9 @@
-use Rattle.std.proofs.Common.{[], refl, ap, ◌∙◌, append-nil}
+use Rattle.std.proofs.Common.{[], ap, ◌∙◌, append-nil}
 use Rattle.std.proofs.lemmas.Bool.{false≢true}
 use Rattle.std.proofs.lemmas.Result.{err_from_is_err_and}
 use Rattle.sec1_der.specs.Readers.{Reader}
 use Rattle.sec1_der.specs.Refusals.{end_fault}
-use Rattle.sec1_der.proofs.RefusalLemmas.{trailing_fault}
-use Rattle.sec1_der.specs.RefusalLaws.{reads_on, reader_at}
+use Rattle.sec1_der.specs.RefusalLaws.{reads_on}
 use Rattle.sec1_der.proofs.reader.SliceReader.only_element.Goals as goal
 
 pub returns-in_err-value-clause-only : goal.returns-in_err-value-clause-only
@@ -19,14 +18,12 @@ returns-in_err-finish-clause-only g c content is within e =
 pub returns-in_err-finish-clause-kind : goal.returns-in_err-finish-clause-kind
 returns-in_err-finish-clause-kind g c fresh =
     let first = reads_on g.T.ValueContent.fault _ _ _ _ _ c.in_ok-value.ensures.found
-    (c.in_ok-value.ensures.kind fresh) in
-    let more = trailing_fault c.decode.new.self.unread
-    (λ none. false≢true (c.in_err-finish.ensures.only (reader_at _ [] none first.whole))) in
+    (c.in_ok-value.ensures.refused.kind fresh) in
     let refusal = err_from_is_err_and c.from_residual-in_err-finish.result c.from_residual-in_err-finish.ensures.1 in
-    rw (refusal.1, refusal.2, c.in_err-finish.ensures.kind first.whole refl) (first.next end_fault ∙ more)
+    rw (refusal.1, refusal.2) (first.next end_fault ∙ c.in_err-finish.ensures.refused.kind first.whole)
 
 pub returns-clause-kind : goal.returns-clause-kind
 returns-clause-kind g c fresh =
     let first = reads_on g.T.ValueContent.fault _ _ _ _ _ c.in_ok-value.ensures.found
-    (c.in_ok-value.ensures.kind fresh) in
-    first.next end_fault ∙ ap (λ (r : Reader). end_fault r.unread) c.in_ok-finish.ensures.unchanged.0
+    (c.in_ok-value.ensures.refused.kind fresh) in
+    first.next end_fault ∙ ap (λ (r : Reader). end_fault r.unread) c.in_ok-finish.ensures.found.0

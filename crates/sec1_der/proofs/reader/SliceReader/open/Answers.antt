@@ -1,13 +1,38 @@
-use Rattle.std.proofs.Common.{rules}
+use Rattle.std.proofs.Common.{◌≡◌, ap, rules, sym, ◌∙◌, slice_get, Some}
+use Rattle.std.proofs.Math.Seq.{take-append_seam, drop-append_seam}
+use Rattle.sec1_der.specs.Elements.{IsTag}
+use Rattle.sec1_der.specs.Readers.{Reader}
+use Rattle.sec1_der.specs.Refusals.{no_fault}
+use Rattle.sec1_der.specs.RefusalLaws.{any_room}
+use Rattle.sec1_der.proofs.RefusalLemmas.{element_next}
 use Rattle.sec1_der.proofs.reader.SliceReader.open.Goals as goal
 
-pub returns-in_err-any-clause-short : goal.returns-in_err-any-clause-short
-returns-in_err-any-clause-short c content within fresh short =
-    let is = rw c.byte.ensures.value at c.byte.ensures.tag in
-    let refusal = c.in_err-any.ensures.short c.args.tag content (record { tag_byte = is; within = within }) fresh
-    short in search rules
+pub returns-in-Ok-clause-only : goal.returns-in-Ok-clause-only
+returns-in-Ok-clause-only c content rest within is =
+    let tag = rw c.byte.ensures.value at c.byte.ensures.tag in
+    let same = c.in-Ok.ensures.only c.args.tag content rest (record { tag_byte = tag; within = within })
+    (c.remaining_input-2.ensures ∙ ap (λ (r : Reader). r.unread) is) in
+    let front = take-append_seam content rest in
+    let back = drop-append_seam content rest in
+    search rules
 
-pub returns-clause-short : goal.returns-clause-short
-returns-clause-short c content within fresh short =
-    c.in_ok-any.ensures.short _ content
-    (record { tag_byte = rw c.byte.ensures.value at c.byte.ensures.tag; within = within }) fresh short
+pub returns-in-Ok-clause-refused : goal.returns-in-Ok-clause-refused
+returns-in-Ok-clause-refused c =
+    let (is, read, room) = c.in-Ok.ensures.found in
+    let tag : IsTag c.args.tag = rw c.byte.ensures.value at c.byte.ensures.tag in
+    let none = any_room (λ _. no_fault) no_fault _ _ _ _ is (sym c.remaining_input-2.ensures ∙ read) room in
+    let first : slice_get c.args.self.now.unread 0 ≡ Some c.args.tag = search rules in
+    let next = element_next no_fault no_fault c.args.tag c.args.self.now.unread tag first in
+    record { kind = λ fresh. next ∙ none; failed = λ f. search rules; left = tt }
+
+pub returns-in-Err-clause-refused : goal.returns-in-Err-clause-refused
+returns-in-Err-clause-refused c =
+    let tag : IsTag c.args.tag = rw c.byte.ensures.value at c.byte.ensures.tag in
+    let first : slice_get c.args.self.now.unread 0 ≡ Some c.args.tag = search rules in
+    let next = element_next no_fault no_fault c.args.tag c.args.self.now.unread tag first in
+    let kind = rw c.remaining_input-2.ensures at (c.in-Err.ensures.element (λ _. no_fault) no_fault) in
+    record {
+      kind = λ fresh. next ∙ (kind ∙ ap Some (sym c.fail-in-Err.ensures.error));
+      failed = λ f. search rules;
+      left = c.fail-in-Err.ensures.after;
+    }
