@@ -1,5 +1,6 @@
 -- The first bytes of a borrowed coordinate: all of it at its length, their parity, and a comparison of two.
-use Rattle.std.proofs.Common.{◌≡◌, ◌≢◌, add-one, ℕ, zero, suc, ◌+◌, ◌-◌, ◌%◌, ◌<◌, ◌≤◌, false, ◌&&◌, List, [], ◌∷◌, ◌++◌, length, get_or, take, bytes_eq, refl}
+use Rattle.std.proofs.Common.{◌≡◌, ◌≢◌, add-one, ℕ, zero, suc, ◌+◌, ◌-◌, ◌%◌, ◌<◌, ◌≤◌, false, ◌&&◌, List, [], ◌∷◌}
+use Rattle.std.proofs.Common.{◌++◌, length, get_or, take, bytes_eq, refl}
 use Rattle.std.proofs.Common.{arith, take_all}
 use Rattle.std.proofs.lemmas.List.{take_more, length_push}
 use Rattle.std.proofs.lemmas.Grind.{elements}
@@ -40,7 +41,8 @@ get_or-first (suc n) i xs h = grind (arith, elements, length-first n xs, get_or-
 
 -- The number of a borrowed array has the parity of its last byte.
 pub coordinates_parity : (n : ℕ) (xs : List ℕ) → 0 < n → coordinate_number n xs % 2 ≡ get_or xs (n - 1) 0 % 2
-coordinates_parity n xs h = grind (arith, length-first n xs, get_or-first n (n - 1) xs, parity_of_last (first_bytes n xs))
+coordinates_parity n xs h =
+    grind (arith, length-first n xs, get_or-first n (n - 1) xs, parity_of_last (first_bytes n xs))
 
 -- No bytes spell 0.
 pub coordinates_none : (n : ℕ) (xs : List ℕ) → n ≡ 0 → coordinate_number n xs ≡ 0
@@ -49,11 +51,13 @@ coordinates_none n xs e = rw (e, first_none xs) refl
 -- ---- comparison
 
 -- One byte differs.
-pub first_apart : (n i : ℕ) (xs ys : List ℕ) → i < n → get_or xs i 0 ≢ get_or ys i 0 → false ≡ bytes_eq (first_bytes n xs) (first_bytes n ys)
+pub first_apart : (n i : ℕ) (xs ys : List ℕ) → i < n → get_or xs i 0 ≢ get_or ys i 0
+    → false ≡ bytes_eq (first_bytes n xs) (first_bytes n ys)
 first_apart n i xs ys h apart = grind (arith, get_or-first n i, bytes_eq-Decides)
 
 -- Fronts of one length are compared first.
-pub eq_append : (xs ys us vs : List ℕ) → length xs ≡ length ys → bytes_eq (xs ++ us) (ys ++ vs) ≡ (bytes_eq xs ys && bytes_eq us vs)
+pub eq_append : (xs ys us vs : List ℕ) → length xs ≡ length ys
+    → bytes_eq (xs ++ us) (ys ++ vs) ≡ (bytes_eq xs ys && bytes_eq us vs)
 eq_append [] [] us vs e = refl
 eq_append (x ∷ xs) (y ∷ ys) us vs e = grind (arith, eq_append xs ys us vs (omega arith))
 eq_append xs ys us vs e = absurd (omega arith)

@@ -1,5 +1,6 @@
 -- Bytes, the numbers that they spell and the digits that spell a number.
-use Rattle.std.proofs.Common.{◌≡◌, ℕ, zero, suc, ◌+◌, ◌-◌, ◌/◌, ◌%◌, ◌^◌, ◌<◌, ◌≤◌, List, ◌++◌, length, get_or, take, drop, refl, arith, pow-suc, length-append}
+use Rattle.std.proofs.Common.{◌≡◌, ℕ, zero, suc, ◌+◌, ◌-◌, ◌/◌, ◌%◌, ◌^◌, ◌<◌, ◌≤◌, List, ◌++◌, length, get_or, take}
+use Rattle.std.proofs.Common.{drop, refl, arith, pow-suc, length-append}
 use Rattle.std.proofs.Common.{get_or-drop, take_all}
 use Rattle.std.proofs.Math.Nat.{pow-le-pow_right}
 use Rattle.std.proofs.lemmas.Grind.{elements}
@@ -44,9 +45,11 @@ num-below width bs h fits =
 pub num-fixed_width : (width n : ℕ) → n < 256 ^ width → number_of (fixed_width width n) ≡ n
 unfolding fixed_width
 num-fixed_width zero n h = grind arith
-num-fixed_width (suc width) n h = grind (arith, pow-suc, num-fixed_width width (n / 256), number_push 256 (fixed_width width (n / 256)) (n % 256))
+num-fixed_width (suc width) n h =
+    grind (arith, pow-suc, num-fixed_width width (n / 256), number_push 256 (fixed_width width (n / 256)) (n % 256))
 
-fixed_width-front : (bs : List ℕ) → IsBytes bs → (i : ℕ) → i ≤ length bs → fixed_width i (number_of (take i bs)) ≡ take i bs
+fixed_width-front : (bs : List ℕ) → IsBytes bs → (i : ℕ) → i ≤ length bs
+    → fixed_width i (number_of (take i bs)) ≡ take i bs
 unfolding fixed_width
 fixed_width-front bs h zero le = refl
 fixed_width-front bs h (suc i) le = grind (arith, h i, number_more 256 bs i, take_more bs i 0, fixed_width-front bs h i)

@@ -1,20 +1,24 @@
 -- The point of a buffer that begins with its encoding.
-use Rattle.std.proofs.Common.{◌≡◌, ℕ, ◌+◌, ◌-◌, ◌*◌, ◌≤◌, cond, List, [], ◌∷◌, ◌++◌, length, get_or, take, drop, set, replicate, sym, ap, ◌∙◌, arith}
-use Rattle.std.proofs.Common.{append_assoc, add-one, Some, Ok, nat_cmp, ◌↔◌, take_at, take_all, take-append-drop, length-append, length-drop, length-take}
+use Rattle.std.proofs.Common.{◌≡◌, ℕ, ◌+◌, ◌-◌, ◌*◌, ◌≤◌, cond, List, [], ◌∷◌, ◌++◌, length, get_or, take, drop, set}
+use Rattle.std.proofs.Common.{replicate, sym, ap, ◌∙◌, arith}
+use Rattle.std.proofs.Common.{append_assoc, add-one, Some, Ok, nat_cmp, ◌↔◌, take_at, take_all, take-append-drop}
+use Rattle.std.proofs.Common.{length-append, length-drop, length-take}
 use Rattle.std.proofs.Common.{le_of_eq}
 use Rattle.std.specs.Cmp.Lexicographic.{slice_cmp}
 use Rattle.std.proofs.lemmas.Slice.{take-put_mid}
 use borrow.Rule.Slice.PartMut.{put_mid}
 use Rattle.hex.specs.Hex.{IsBytes}
 use Rattle.sec1.specs.Der.{number_of}
-use Rattle.sec1.specs.Points.{Point, identity, uncompressed, is_odd, coordinate_bytes, IsPoint, IsEncoding, Fits, tag_byte, encoding, meaning, point_from}
+use Rattle.sec1.specs.Points.{Point, identity, uncompressed, is_odd, coordinate_bytes, IsPoint, IsEncoding, Fits}
+use Rattle.sec1.specs.Points.{tag_byte, encoding, meaning, point_from}
 use Rattle.sec1.specs.Points.{compressed_point, hybrid_point, y_of}
 use Rattle.sec1.specs.PointOrder.{point_cmp}
 use Rattle.sec1.specs.Tags.{byte_of, point_tag}
 use Rattle.sec1.specs.EncodedPoints.{point_of, ReadsBytes}
 use Rattle.sec1.specs.declared.point.EncodedPoint.{EncodedPoint}
 use Rattle.sec1.proofs.DigitLemmas.{length-fixed_width, num-below, fixed_width-num}
-use Rattle.sec1.proofs.PointLemmas.{half, meaning-enc, meaning-enc-append, meaning-fits, IsBytes-enc, byte_of-tag_of, length-enc-le, no_beginning}
+use Rattle.sec1.proofs.PointLemmas.{half, meaning-enc, meaning-enc-append, meaning-fits, IsBytes-enc, byte_of-tag_of}
+use Rattle.sec1.proofs.PointLemmas.{length-enc-le, no_beginning}
 use Rattle.sec1.proofs.ByteOrderLemmas.{slice_cmp-enc}
 
 -- ---- the beginning of a buffer
@@ -49,10 +53,12 @@ unfolding encoding
 first_byte p = ap (λ (xs : List ℕ). get_or xs 0 0) (begins p) ∙ sym (byte_of-tag_of (point_of p))
 
 -- The tag and the two halves after it make the point.
-pub made_of_halves : {N L : ℕ} (p : EncodedPoint N L) (x y : List ℕ) → x ≡ take N (drop 1 p.bytes) → y ≡ take N (drop N (drop 1 p.bytes))
+pub made_of_halves : {N L : ℕ} (p : EncodedPoint N L) (x y : List ℕ) → x ≡ take N (drop 1 p.bytes)
+    → y ≡ take N (drop N (drop 1 p.bytes))
     → point_from (byte_of (point_tag (point_of p))) (number_of x) (number_of y) ≡ point_of p
 unfolding encoding meaning
-made_of_halves {N} p x y ex ey = grind (arith, begins p, meaning-enc-append N (point_of p) (drop p.len p.bytes) (point_fits p), byte_of-tag_of)
+made_of_halves {N} p x y ex ey =
+    grind (arith, begins p, meaning-enc-append N (point_of p) (drop p.len p.bytes) (point_fits p), byte_of-tag_of)
 
 -- A buffer that the encoding fills is the encoding.
 pub filled : {N L : ℕ} (p : EncodedPoint N L) → length p.bytes ≤ p.len → p.bytes ≡ encoding N (point_of p)
@@ -61,7 +67,8 @@ filled p full = sym (p.encoded ∙ take_all p.len p.bytes full)
 -- ---- comparing two values
 
 -- Equal encodings are those of equal points.
-pub same_encodings : {N L : ℕ} (p q : EncodedPoint N L) → (encoding N (point_of p) ≡ encoding N (point_of q)) ↔ (point_of p ≡ point_of q)
+pub same_encodings : {N L : ℕ} (p q : EncodedPoint N L)
+    → (encoding N (point_of p) ≡ encoding N (point_of q)) ↔ (point_of p ≡ point_of q)
 same_encodings {N} p q = (λ h. ap (meaning N) (sym p.encoded ∙ h ∙ q.encoded), λ h. ap (encoding N) h)
 
 -- The encodings of two values are ordered as their points.
@@ -70,7 +77,8 @@ pub point_order : {N L : ℕ} (p q : EncodedPoint N L)
 point_order {N} p q = slice_cmp-enc N (point_of p) (point_of q) (point_fits p) (point_fits q)
 
 -- Two buffers are the same where their first bytes and both halves are.
-pub halves_same : (n : ℕ) (xs ys : List ℕ) → length xs ≡ 2 * n + 1 → length ys ≡ 2 * n + 1 → get_or xs 0 0 ≡ get_or ys 0 0
+pub halves_same : (n : ℕ) (xs ys : List ℕ) → length xs ≡ 2 * n + 1 → length ys ≡ 2 * n + 1
+    → get_or xs 0 0 ≡ get_or ys 0 0
     → take n (drop 1 xs) ≡ take n (drop 1 ys) → take n (drop n (drop 1 xs)) ≡ take n (drop n (drop 1 ys)) → xs ≡ ys
 halves_same n (a ∷ xs) (b ∷ ys) long other_long first front back =
     grind (arith, half n xs, half n ys, take-append-drop n xs, take-append-drop n ys)
@@ -79,7 +87,8 @@ halves_same n xs ys long other_long first front back = absurd (omega arith)
 -- ---- another tag in the first byte
 
 -- The encoding of the compressed form means that form.
-pub compressed_holds : {N L : ℕ} (p : EncodedPoint N L) (front : List ℕ) → front ≡ encoding N (compressed_point (point_of p))
+pub compressed_holds : {N L : ℕ} (p : EncodedPoint N L) (front : List ℕ)
+    → front ≡ encoding N (compressed_point (point_of p))
     → Holds N front (compressed_point (point_of p))
 compressed_holds {N} p front e = holds N front (compressed_point (point_of p)) (grind (arith, point_fits p)) e
 
@@ -89,7 +98,8 @@ unfolding encoding
 compress_of n p rest y tag h e = grind (arith, add-one, append_assoc {A = ℕ}, take_at {A = ℕ}, length-fixed_width)
 
 -- With the tag of y's parity in front, the tag and x are the compressed form.
-pub compress_front : {N L : ℕ} (p : EncodedPoint N L) (y tag : ℕ) → Some y ≡ y_of (point_of p) → tag ≡ cond (is_odd y) 3 2
+pub compress_front : {N L : ℕ} (p : EncodedPoint N L) (y tag : ℕ) → Some y ≡ y_of (point_of p)
+    → tag ≡ cond (is_odd y) 3 2
     → take (N + 1) (set p.bytes 0 tag) ≡ encoding N (compressed_point (point_of p))
 compress_front {N} p y tag h e = grind (arith, begins p, compress_of N (point_of p) (drop p.len p.bytes) y tag h e)
 
@@ -99,7 +109,8 @@ unfolding encoding
 hybrid_of n p rest tag e = grind (arith, take_at (coordinate_bytes n p) rest)
 
 -- With the hybrid form's tag in front, the encoding is that form's.
-pub hybrid_holds : {N L : ℕ} (p : EncodedPoint N L) (tag : ℕ) → p.len ≤ length p.bytes → tag ≡ tag_byte (hybrid_point (point_of p))
+pub hybrid_holds : {N L : ℕ} (p : EncodedPoint N L) (tag : ℕ) → p.len ≤ length p.bytes
+    → tag ≡ tag_byte (hybrid_point (point_of p))
     → Holds N (take p.len (set p.bytes 0 tag)) (hybrid_point (point_of p))
 hybrid_holds {N} p tag room h =
     holds N (take p.len (set p.bytes 0 tag)) (hybrid_point (point_of p)) (grind (arith, point_fits p))
@@ -108,16 +119,20 @@ hybrid_holds {N} p tag room h =
 -- ---- a buffer made of coordinates
 
 -- The tag, x and y, written into a buffer one after the other, are the uncompressed point.
-pub halves_hold : (n l k : ℕ) (buffer x y : List ℕ) → l ≡ 2 * n + 1 → length buffer ≡ l → length x ≡ n → length y ≡ n → IsBytes x → IsBytes y
-    → Holds n (take l (put_mid (n + 1) k (put_mid 1 (n + 1 - 1) (set buffer 0 4) x) y)) (uncompressed (number_of x) (number_of y))
+pub halves_hold : (n l k : ℕ) (buffer x y : List ℕ) → l ≡ 2 * n + 1 → length buffer ≡ l → length x ≡ n → length y ≡ n
+    → IsBytes x → IsBytes y
+    → Holds n (take l (put_mid (n + 1) k (put_mid 1 (n + 1 - 1) (set buffer 0 4) x) y))
+    (uncompressed (number_of x) (number_of y))
 unfolding encoding
 halves_hold n l k [] x y el eb ex ey hx hy = absurd (omega arith)
 halves_hold n l k (b ∷ buffer) x y el eb ex ey hx hy =
     let with_x = put_mid 1 (n + 1 - 1) (4 ∷ buffer) x in
     let front = take-put_mid 1 (n + 1 - 1) (4 ∷ buffer) x (n + 1) in
     let whole = take-put_mid (n + 1) k with_x y l in
-    holds n (take l (put_mid (n + 1) k with_x y)) (uncompressed (number_of x) (number_of y)) (num-below n x hx (le_of_eq ex), num-below n y hy (le_of_eq ey))
-    (grind (arith, front, whole, fixed_width-num n x hx, fixed_width-num n y hy, length-append {A = ℕ}, length-drop {A = ℕ}))
+    holds n (take l (put_mid (n + 1) k with_x y)) (uncompressed (number_of x) (number_of y))
+    (num-below n x hx (le_of_eq ex), num-below n y hy (le_of_eq ey))
+    (grind
+    (arith, front, whole, fixed_width-num n x hx, fixed_width-num n y hy, length-append {A = ℕ}, length-drop {A = ℕ}))
 
 -- ---- reading bytes
 
@@ -126,7 +141,8 @@ pub encoding_room : (n l : ℕ) (input : List ℕ) → Fits n l → IsEncoding n
 encoding_room n l input fits e = omega (arith, length-enc-le n e.of, ap length e.spelled, fits.1)
 
 -- A value whose encoding is the input was read from it.
-pub read_bytes : {N L : ℕ} (input : List ℕ) (point : EncodedPoint N L) → take point.len point.bytes ≡ input → IsEncoding N input → ReadsBytes input (Ok point)
+pub read_bytes : {N L : ℕ} (input : List ℕ) (point : EncodedPoint N L) → take point.len point.bytes ≡ input
+    → IsEncoding N input → ReadsBytes input (Ok point)
 read_bytes {N} input point front e = record {
   found = (point.sizes, point_fits point, sym (point.encoded ∙ front));
   only = λ p _ fits spelled. rw front (holds N input p fits spelled).means;

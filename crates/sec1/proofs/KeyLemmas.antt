@@ -27,20 +27,28 @@ key_content key = content_with (option_map (λ arcs. element_of 0x06 (identifier
 
 -- the key of these parts
 abbrev made : List ℕ → Option (List ℕ) → Option (List ℕ) → Key
-made private_key parameters public_key = record { private_key = private_key; parameters = parameters; public_key = public_key }
+made private_key parameters public_key =
+    record { private_key = private_key; parameters = parameters; public_key = public_key }
 
 -- Bytes with the content of these arcs, whether or not they are an identifier's, are those of the key's tree.
 tree_found : (private_key : List ℕ) (parameters public_key : Option (List ℕ)) (bytes : List ℕ)
-    → element_of 0x30 (content_with (option_map (λ arcs. element_of 0x06 (Some (content_of arcs))) parameters) (made private_key parameters public_key)) ≡ Some bytes
+    → element_of 0x30
+    (content_with (option_map (λ arcs. element_of 0x06 (Some (content_of arcs))) parameters)
+    (made private_key parameters public_key)) ≡ Some bytes
     → IsTreeOf (key_tree (made private_key parameters public_key)) bytes
-tree_found private_key None None bytes e = record { tree = grind (arith, append-nil {A = ℕ}); whole = grind (arith, append-nil {A = ℕ}) }
-tree_found private_key None (Some public_key) bytes e = record { tree = grind (arith, append-nil {A = ℕ}); whole = grind (arith, append-nil {A = ℕ}) }
-tree_found private_key (Some arcs) None bytes e = record { tree = grind (arith, append-nil {A = ℕ}); whole = grind (arith, append-nil {A = ℕ}) }
-tree_found private_key (Some arcs) (Some public_key) bytes e = record { tree = grind (arith, append-nil {A = ℕ}); whole = grind (arith, append-nil {A = ℕ}) }
+tree_found private_key None None bytes e =
+    record { tree = grind (arith, append-nil {A = ℕ}); whole = grind (arith, append-nil {A = ℕ}) }
+tree_found private_key None (Some public_key) bytes e =
+    record { tree = grind (arith, append-nil {A = ℕ}); whole = grind (arith, append-nil {A = ℕ}) }
+tree_found private_key (Some arcs) None bytes e =
+    record { tree = grind (arith, append-nil {A = ℕ}); whole = grind (arith, append-nil {A = ℕ}) }
+tree_found private_key (Some arcs) (Some public_key) bytes e =
+    record { tree = grind (arith, append-nil {A = ℕ}); whole = grind (arith, append-nil {A = ℕ}) }
 
 -- A curve that is named has the content of its identifier.
 curve_content : (parameters : Option (List ℕ)) → IsNamedCurve parameters
-    → option_map (λ arcs. element_of 0x06 (identifier_content arcs)) parameters ≡ option_map (λ arcs. element_of 0x06 (Some (content_of arcs))) parameters
+    → option_map (λ arcs. element_of 0x06 (identifier_content arcs)) parameters
+    ≡ option_map (λ arcs. element_of 0x06 (Some (content_of arcs))) parameters
 curve_content parameters is = grind (arith, identifier_content-valid)
 
 -- What has a content names its curve.
@@ -52,20 +60,27 @@ curve_named private_key (Some arcs) public_key bytes e = is_identifier-true arcs
 -- A key that has bytes has an element.
 pub key_written : (key : Key) (bytes : List ℕ) → IsKeyOf key bytes → element_of 0x30 (key_content key) ≡ Some bytes
 key_written key bytes is =
-    rw (curve_content key.parameters is.curve) (grind (arith, element_of-within, append-nil {A = ℕ}, is.tree.tree, is.tree.whole))
+    rw (curve_content key.parameters is.curve)
+    (grind (arith, element_of-within, append-nil {A = ℕ}, is.tree.tree, is.tree.whole))
 
 -- What is the element of a key is its bytes.
 pub key_found : (key : Key) (bytes : List ℕ) → element_of 0x30 (key_content key) ≡ Some bytes → IsKeyOf key bytes
 key_found key bytes e =
     let curve = curve_named key.private_key key.parameters key.public_key bytes e in
-    record { curve = curve; tree = tree_found key.private_key key.parameters key.public_key bytes (rw (curve_content key.parameters curve) at e) }
+    record {
+      curve = curve;
+      tree = tree_found key.private_key key.parameters key.public_key bytes
+          (rw (curve_content key.parameters curve) at e);
+    }
 
-found_with : (key : Key) (P : List ℕ → Type 0) (piece : Option (List ℕ)) → element_of 0x30 (key_content key) ≡ piece → IsSomeAnd piece P → HasEncodingWith key P
+found_with : (key : Key) (P : List ℕ → Type 0) (piece : Option (List ℕ)) → element_of 0x30 (key_content key) ≡ piece
+    → IsSomeAnd piece P → HasEncodingWith key P
 found_with key P None e h = absurd h
 found_with key P (Some bytes) e h = record { bytes = bytes; of_key = key_found key bytes e; holds = h }
 
 -- What holds of the element of a key holds of its bytes.
-pub key_found_with : (key : Key) (P : List ℕ → Type 0) → IsSomeAnd (element_of 0x30 (key_content key)) P → HasEncodingWith key P
+pub key_found_with : (key : Key) (P : List ℕ → Type 0) → IsSomeAnd (element_of 0x30 (key_content key)) P
+    → HasEncodingWith key P
 key_found_with key P h = found_with key P (element_of 0x30 (key_content key)) refl h
 
 -- A key that has none has no element.

@@ -1,6 +1,8 @@
 -- Points, tags and encodings.
-use Rattle.std.proofs.Common.{◌≡◌, ℕ, zero, suc, ◌+◌, ◌-◌, ◌*◌, ◌%◌, ◌≤◌, true, List, [], ◌∷◌, ◌++◌, length, get_or, take, drop, sym, ap, ◌∙◌, arith}
-use Rattle.std.proofs.Common.{append_assoc, append-nil, ◌↔◌, take_at, drop_at, take_all, length-drop, get_or-drop, length-append, length-take, take-append-drop}
+use Rattle.std.proofs.Common.{◌≡◌, ℕ, zero, suc, ◌+◌, ◌-◌, ◌*◌, ◌%◌, ◌≤◌, true, List, [], ◌∷◌, ◌++◌, length, get_or}
+use Rattle.std.proofs.Common.{take, drop, sym, ap, ◌∙◌, arith}
+use Rattle.std.proofs.Common.{append_assoc, append-nil, ◌↔◌, take_at, drop_at, take_all, length-drop, get_or-drop}
+use Rattle.std.proofs.Common.{length-append, length-take, take-append-drop}
 use Rattle.std.proofs.lemmas.List.{nil_from_length}
 use Rattle.hex.specs.Hex.{IsBytes}
 use Rattle.sec1.specs.Der.{number_of, IsProperBeginning}
@@ -8,7 +10,8 @@ use Rattle.sec1_der.specs.DigitLaws.{IsBytes-take}
 use Rattle.sec1.specs.Points.{Point, IsPoint, IsEncoding, fixed_width, tag_byte, encoding, meaning}
 use Rattle.sec1.specs.Tags.{byte_of, point_tag, message_len, is_hybrid}
 use Rattle.sec1.specs.declared.point.tag.Tag.{Tag}
-use Rattle.sec1.proofs.DigitLemmas.{IsBytes-append, IsBytes-drop, length-fixed_width, IsBytes-fixed_width, num-below, num-fixed_width, fixed_width-num}
+use Rattle.sec1.proofs.DigitLemmas.{IsBytes-append, IsBytes-drop, length-fixed_width, IsBytes-fixed_width, num-below}
+use Rattle.sec1.proofs.DigitLemmas.{num-fixed_width, fixed_width-num}
 use Rattle.sec1.proofs.DigitLemmas.{parity_of_last}
 
 -- ---- tags
@@ -50,14 +53,26 @@ unfolding encoding
 no_beginning n p q begins =
     let same = tag_of-byte (point_tag q) p in
     let end = nil_from_length begins.more in
-    grind (arith, begins.some, begins.split, same, byte_of-tag_of q, end, append-nil {A = ℕ}, length-append {A = ℕ}, length-enc n p, length-enc n q)
+    grind (
+      arith,
+      begins.some,
+      begins.split,
+      same,
+      byte_of-tag_of q,
+      end,
+      append-nil {A = ℕ},
+      length-append {A = ℕ},
+      length-enc n p,
+      length-enc n q,
+    )
 
 -- ---- what encodings mean
 
 -- An encoding means its point, whatever follows it.
 pub meaning-enc-append : (n : ℕ) (p : Point) (r : List ℕ) → IsPoint n p → meaning n (encoding n p ++ r) ≡ p
 unfolding encoding meaning
-meaning-enc-append n p r h = grind (arith, take_at {A = ℕ}, drop_at {A = ℕ}, append_assoc {A = ℕ}, length-fixed_width, num-fixed_width)
+meaning-enc-append n p r h =
+    grind (arith, take_at {A = ℕ}, drop_at {A = ℕ}, append_assoc {A = ℕ}, length-fixed_width, num-fixed_width)
 
 -- An encoding means its point.
 pub meaning-enc : (n : ℕ) (p : Point) → IsPoint n p → meaning n (encoding n p) ≡ p
@@ -69,14 +84,18 @@ unfolding meaning
 meaning-fits n [] h = tt
 meaning-fits n (tag ∷ rest) h =
     let x = num-below n (take n rest) (IsBytes-take n rest (λ i. h (suc i))) (omega (arith, length-take {A = ℕ})) in
-    let y = num-below n (take n (drop n rest)) (IsBytes-take n (drop n rest) (IsBytes-drop n rest (λ i. h (suc i)))) (omega (arith, length-take {A = ℕ})) in
+    let y =
+    num-below n (take n (drop n rest)) (IsBytes-take n (drop n rest) (IsBytes-drop n rest (λ i. h (suc i))))
+    (omega (arith, length-take {A = ℕ})) in
     grind (arith, x, y)
 
 -- ---- the tests of a reader
 
 -- What follows the tag has the right length, and of a hybrid point the right parity.
 abbrev pub Skips : ℕ → Tag → List ℕ → Type 0
-Skips n tag rest = (suc (length rest) ≡ message_len tag n) × (is_hybrid tag ≡ true → get_or rest (length rest - 1) 0 % 2 ≡ byte_of tag % 2)
+Skips n tag rest =
+    (suc (length rest) ≡ message_len tag n)
+    × (is_hybrid tag ≡ true → get_or rest (length rest - 1) 0 % 2 ≡ byte_of tag % 2)
 
 -- Behind the first half is the second.
 pub half : (n : ℕ) (rest : List ℕ) → length rest ≡ 2 * n → take n (drop n rest) ≡ drop n rest
@@ -90,15 +109,24 @@ spelled_xy n rest h e =
     grind (arith, x, y, half n rest e, take-append-drop n rest, length-take {A = ℕ}, length-drop {A = ℕ})
 
 -- The last byte has the parity of the second half.
-parity_rest : (n : ℕ) (rest : List ℕ) → 1 ≤ n → length rest ≡ 2 * n → get_or rest (length rest - 1) 0 % 2 ≡ number_of (take n (drop n rest)) % 2
-parity_rest n rest some e = grind (arith, half n rest e, parity_of_last (drop n rest), get_or-drop {A = ℕ}, length-drop n rest)
+parity_rest : (n : ℕ) (rest : List ℕ) → 1 ≤ n → length rest ≡ 2 * n
+    → get_or rest (length rest - 1) 0 % 2 ≡ number_of (take n (drop n rest)) % 2
+parity_rest n rest some e =
+    grind (arith, half n rest e, parity_of_last (drop n rest), get_or-drop {A = ℕ}, length-drop n rest)
 
 -- What passes the test is an encoding.
 passes_spelled : (n : ℕ) (tag : Tag) (rest : List ℕ) → 1 ≤ n → IsBytes rest → Skips n tag rest
     → encoding n (meaning n (byte_of tag ∷ rest)) ≡ byte_of tag ∷ rest
 unfolding encoding meaning
 passes_spelled n tag rest some h p =
-    grind (arith, nil_from_length rest, take_all n rest, fixed_width-num n rest h, spelled_xy n rest h, parity_rest n rest some)
+    grind (
+      arith,
+      nil_from_length rest,
+      take_all n rest,
+      fixed_width-num n rest h,
+      spelled_xy n rest h,
+      parity_rest n rest some,
+    )
 
 -- An encoding is that of its meaning.
 pub encoding_spelled : (n : ℕ) (bs : List ℕ) → IsEncoding n bs → encoding n (meaning n bs) ≡ bs
@@ -107,10 +135,19 @@ encoding_spelled n bs e = rw e.spelled (ap (encoding n) (meaning-enc n e.of e.fi
 encoding_passes : (n : ℕ) (tag : Tag) (rest : List ℕ) → 1 ≤ n → IsEncoding n (byte_of tag ∷ rest) → Skips n tag rest
 unfolding encoding meaning
 encoding_passes n tag rest some e =
-    grind (arith, encoding_spelled n (byte_of tag ∷ rest) e, length-enc n e.of, tag_of-byte tag e.of, parity_rest n rest some, e.spelled)
+    grind (
+      arith,
+      encoding_spelled n
+          (byte_of tag ∷ rest) e,
+      length-enc n e.of,
+      tag_of-byte tag e.of,
+      parity_rest n rest some,
+      e.spelled,
+    )
 
 -- The bytes after a tag pass the test exactly if the tag and they are an encoding.
-pub passing_encodings : (n : ℕ) (tag : Tag) (rest input : List ℕ) → 1 ≤ n → IsBytes input → input ≡ byte_of tag ∷ rest → Skips n tag rest ↔ IsEncoding n input
+pub passing_encodings : (n : ℕ) (tag : Tag) (rest input : List ℕ) → 1 ≤ n → IsBytes input → input ≡ byte_of tag ∷ rest
+    → Skips n tag rest ↔ IsEncoding n input
 passing_encodings n tag rest input some h is =
     let bytes : IsBytes (byte_of tag ∷ rest) = rw is at h in (
       λ p. record {

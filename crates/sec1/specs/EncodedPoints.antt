@@ -17,23 +17,35 @@ point_of {N} p = meaning N (take p.len p.bytes)
 abbrev pub IsWiped : {N L : ℕ} → EncodedPoint N L → Type 0
 IsWiped p = All (λ byte. byte ≡ 0) p.bytes
 
--- reading bytes: the encodings of points are accepted, each as its point, and nothing else is; and no encoding at
--- this size begins another
-pub record ReadsBytes {N L : ℕ} (input : List ℕ) (result : Result (EncodedPoint N L) Error) : Type 0 where
-  pub found : IfOk result (λ point. Fits N L × IsPoint N (point_of point) × (input ≡ encoding N (point_of point)))
-  pub only : (p : Point) → Fits N L → IsPoint N p → input ≡ encoding N p → IsOkAnd result (λ point. point_of point ≡ p)
+-- reading bytes: the encodings of points are accepted, each as its point, and nothing else is; and
+-- no encoding at this size begins another
+pub record ReadsBytes {N L : ℕ} (input : List ℕ)
+    (result : Result (EncodedPoint N L) Error) : Type 0 where
+  pub found : IfOk result
+      (λ point. Fits N L × IsPoint N (point_of point) × (input ≡ encoding N (point_of point)))
+  pub only : (p : Point) → Fits N L → IsPoint N p → input ≡ encoding N p
+      → IsOkAnd result (λ point. point_of point ≡ p)
   pub kind : IfErr result (λ e. e ≡ PointEncoding)
-  pub begins_none : OnOk result ((other : Point) → IsPoint N other → ¬ IsProperBeginning input (encoding N other))
-  pub begun_by_none : OnOk result ((other : Point) → IsPoint N other → ¬ IsProperBeginning (encoding N other) input)
+  pub begins_none : OnOk result
+      ((other : Point) → IsPoint N other → ¬ IsProperBeginning input (encoding N other))
+  pub begun_by_none : OnOk result
+      ((other : Point) → IsPoint N other → ¬ IsProperBeginning (encoding N other) input)
 
--- reading a text: the texts of encodings are accepted, each as the point of its encoding, and nothing else is
-pub record ReadsText {N L : ℕ} (text : List ℕ) (result : Result (EncodedPoint N L) Error) : Type 0 where
-  pub found : IfOk result (λ point. Fits N L × IsPoint N (point_of point) × IsHexOf text (encoding N (point_of point)))
-  pub only : (p : Point) → Fits N L → IsPoint N p → IsHexOf text (encoding N p) → IsOkAnd result (λ point. point_of point ≡ p)
+-- reading a text: the texts of encodings are accepted, each as the point of its encoding, and
+-- nothing else is
+pub record ReadsText {N L : ℕ} (text : List ℕ)
+    (result : Result (EncodedPoint N L) Error) : Type 0 where
+  pub found : IfOk result
+      (λ point. Fits N L × IsPoint N (point_of point) × IsHexOf text (encoding N (point_of point)))
+  pub only : (p : Point) → Fits N L → IsPoint N p → IsHexOf text (encoding N p)
+      → IsOkAnd result (λ point. point_of point ≡ p)
   pub kind : IfErr result (λ e. e ≡ PointEncoding)
 
 -- reading JSON: the strings of such texts are accepted, and no other value is
-pub record ReadsJson {N L : ℕ} (json : Data) (result : Result (EncodedPoint N L) Error) : Type 0 where
-  pub found : IfOk result (λ point. Fits N L × IsPoint N (point_of point) × IsJsonOf json (encoding N (point_of point)))
-  pub only : (p : Point) → Fits N L → IsPoint N p → IsJsonOf json (encoding N p) → IsOkAnd result (λ point. point_of point ≡ p)
+pub record ReadsJson {N L : ℕ} (json : Data)
+    (result : Result (EncodedPoint N L) Error) : Type 0 where
+  pub found : IfOk result
+      (λ point. Fits N L × IsPoint N (point_of point) × IsJsonOf json (encoding N (point_of point)))
+  pub only : (p : Point) → Fits N L → IsPoint N p → IsJsonOf json (encoding N p)
+      → IsOkAnd result (λ point. point_of point ≡ p)
   pub kind : IfErr result (λ e. e ≡ PointEncoding)

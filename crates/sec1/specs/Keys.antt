@@ -4,8 +4,8 @@ use Rattle.sec1_der.specs.Elements.{max_length, element}
 use Rattle.sec1_der.specs.Identifiers.{IsIdentifier, content_of}
 use Rattle.sec1_der.specs.Trees.{Tree, leaf, node, row, joined, IsTreeOf}
 
--- The parts of a key: the bytes of the private key and, if present, the arcs of the curve's identifier and the bytes of
--- the public key.
+-- The parts of a key: the bytes of the private key and, if present, the arcs of the curve's
+-- identifier and the bytes of the public key.
 pub record Key : Type 0 where
   pub private_key : List ℕ
   pub parameters : Option (List ℕ)
@@ -24,7 +24,8 @@ public_key_field (Some bytes) = node 0xA1 (leaf 0x03 (0 ∷ bytes) ∷ []) ∷ [
 -- version 1, the private key, the parameters and the public key
 abbrev key_fields : Key → List Tree
 key_fields key =
-    leaf 0x02 (1 ∷ []) ∷ leaf 0x04 key.private_key ∷ parameters_field key.parameters ++ public_key_field key.public_key
+    leaf 0x02 (1 ∷ []) ∷ leaf 0x04 key.private_key ∷ parameters_field key.parameters
+    ++ public_key_field key.public_key
 
 -- the tree of a key
 abbrev pub key_tree : Key → Tree
@@ -36,7 +37,8 @@ IsNamedCurve parameters = IfSome parameters (λ arcs. IsIdentifier arcs (content
 
 -- the public key, if present, isn't too long for its field
 abbrev pub PublicKeyFits : Option (List ℕ) → Type 0
-PublicKeyFits public_key = IfSome public_key (λ bytes. length (element 0x03 (0 ∷ bytes)) ≤ max_length)
+PublicKeyFits public_key =
+    IfSome public_key (λ bytes. length (element 0x03 (0 ∷ bytes)) ≤ max_length)
 
 -- the bytes are those of a key with these parts
 pub record IsKeyOf (key : Key) (input : List ℕ) : Type 0 where

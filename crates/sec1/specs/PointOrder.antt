@@ -1,4 +1,5 @@
--- The order of points: by tag, then by coordinates as whole numbers. It is total, and only one point ties with another.
+-- The order of points: by tag, then by coordinates as whole numbers. It is total, and only one
+-- point ties with another.
 use Rattle.std.specs.Prelude.{◌≡◌, ℕ, ◌<◌, ◌⊎◌, Bool, Option, Some, None, unwrap_or}
 use Rattle.std.specs.declared.cmp.Ordering.{Ordering}
 use Rattle.std.specs.Ordering.{nat_cmp, ordering_then, is_eq}
@@ -19,7 +20,8 @@ IsBelow p q = (tag_byte p < tag_byte q)
 -- by x, then by y; a coordinate that is absent counts as 0
 abbrev coordinates_cmp : Point → Point → Ordering
 coordinates_cmp p q =
-    ordering_then (nat_cmp (unwrap_or (x_of p) 0) (unwrap_or (x_of q) 0)) (nat_cmp (unwrap_or (y_of p) 0) (unwrap_or (y_of q) 0))
+    ordering_then (nat_cmp (unwrap_or (x_of p) 0) (unwrap_or (x_of q) 0))
+    (nat_cmp (unwrap_or (y_of p) 0) (unwrap_or (y_of q) 0))
 
 -- by tag byte, then by coordinates
 unfoldable pub point_cmp : Point → Point → Ordering

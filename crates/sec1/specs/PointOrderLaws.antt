@@ -1,4 +1,5 @@
--- The laws of the order of points, which the impls of the comparing traits name: it is total, and only one point ties with another.
+-- The laws of the order of points, which the impls of the comparing traits name: it is total, and
+-- only one point ties with another.
 use Rattle.std.proofs.Common.{◌≡◌, ℕ, true, refl, sym, ◌∙◌, arith}
 use Rattle.std.specs.Prelude.{unwrap_or}
 use Rattle.std.specs.Cmp.{IsTotalOrder, IsEquivalence}
@@ -12,25 +13,31 @@ pub point_cmp_total : IsTotalOrder point_cmp
 unfolding point_cmp
 point_cmp_total =
     then_total (on_total tag_byte nat_cmp_total)
-    (then_total (on_total (λ p. unwrap_or (x_of p) 0) nat_cmp_total) (on_total (λ p. unwrap_or (y_of p) 0) nat_cmp_total))
+    (then_total (on_total (λ p. unwrap_or (x_of p) 0) nat_cmp_total)
+    (on_total (λ p. unwrap_or (y_of p) 0) nat_cmp_total))
 
 pub same_point_equiv : IsEquivalence same_point
 same_point_equiv = eq_by_cmp_equiv point_cmp_total
 
 -- Tag and coordinates make the point.
-point_from-parts : (p : Point) → point_from (tag_byte p) (unwrap_or (x_of p) 0) (unwrap_or (y_of p) 0) ≡ p
+point_from-parts : (p : Point)
+    → point_from (tag_byte p) (unwrap_or (x_of p) 0) (unwrap_or (y_of p) 0) ≡ p
 point_from-parts identity = refl
 point_from-parts p = grind arith
 
 -- Numbers that are compared one pair after the other tie only if each pair is the same.
-three_tie : (a b c d e f : ℕ) → ordering_then (nat_cmp a b) (ordering_then (nat_cmp c d) (nat_cmp e f)) ≡ Equal → (a ≡ b) × (c ≡ d) × (e ≡ f)
+three_tie : (a b c d e f : ℕ)
+    → ordering_then (nat_cmp a b) (ordering_then (nat_cmp c d) (nat_cmp e f)) ≡ Equal
+    → (a ≡ b) × (c ≡ d) × (e ≡ f)
 three_tie a b c d e f h = (grind arith, grind arith, grind arith)
 
 -- Points that tie are the same.
 pub point_cmp-Equal : (p q : Point) → point_cmp p q ≡ Equal → p ≡ q
 unfolding point_cmp
 point_cmp-Equal p q h =
-    let tie = three_tie (tag_byte p) (tag_byte q) (unwrap_or (x_of p) 0) (unwrap_or (x_of q) 0) (unwrap_or (y_of p) 0) (unwrap_or (y_of q) 0) h in
+    let tie =
+    three_tie (tag_byte p) (tag_byte q) (unwrap_or (x_of p) 0) (unwrap_or (x_of q) 0)
+    (unwrap_or (y_of p) 0) (unwrap_or (y_of q) 0) h in
     sym (point_from-parts p) ∙ rw (tie.0, tie.1, tie.2) (point_from-parts q)
 
 -- Points that the test finds the same are the same.

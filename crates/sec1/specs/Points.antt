@@ -1,9 +1,12 @@
--- Points of elliptic curves over prime fields, as whole numbers, and their encodings (SEC1 v2.0 section 2.3.3).
-use Rattle.std.specs.Prelude.{◌≡◌, ℕ, zero, suc, ◌+◌, ◌*◌, ◌/◌, ◌%◌, ◌^◌, ◌<◌, ◌≤◌, ◌==◌, ◌||◌, Bool, true, false, if◌then◌else◌, List, [], ◌∷◌, ◌++◌, take}
+-- Points of elliptic curves over prime fields, as whole numbers, and their encodings (SEC1 v2.0
+-- section 2.3.3).
+use Rattle.std.specs.Prelude.{◌≡◌, ℕ, zero, suc, ◌+◌, ◌*◌, ◌/◌, ◌%◌, ◌^◌, ◌<◌, ◌≤◌, ◌==◌, ◌||◌}
+use Rattle.std.specs.Prelude.{Bool, true, false, if◌then◌else◌, List, [], ◌∷◌, ◌++◌, take}
 use Rattle.std.specs.Prelude.{drop, ⊤, Option, Some, None}
 use Rattle.sec1_der.specs.Numbers.{number_of}
 
--- A point in the form of its encoding. Compact has x alone and nothing of y; hybrid has y, and its tag the parity of y.
+-- A point in the form of its encoding. Compact has x alone and nothing of y; hybrid has y, and its
+-- tag the parity of y.
 pub data Point : Type 0 where
   identity : Point
   compact : (x : ℕ) → Point
@@ -50,8 +53,8 @@ hybrid_point p = p
 
 -- ---- the encoding
 
--- exactly so many base 256 digits, the most significant first: those of n, where n is below 256 ^ width (SEC1 v2.0
--- sections 2.3.5 and 2.3.7)
+-- exactly so many base 256 digits, the most significant first: those of n, where n is below 256 ^
+-- width (SEC1 v2.0 sections 2.3.5 and 2.3.7)
 unfoldable pub fixed_width : ℕ → ℕ → List ℕ
 fixed_width zero n = []
 fixed_width (suc width) n = fixed_width width (n / 256) ++ n % 256 ∷ []

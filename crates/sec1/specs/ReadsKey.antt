@@ -21,6 +21,8 @@ pub record ReadsKey (input : List ℕ) (result : Result Key Error) : Type 0 wher
   -- whether the bytes are refused, and by which kind, is a function of them
   pub kind : HasAsn1Fault result (key_fault input)
   -- a proper beginning of a key's bytes is refused as Truncated
-  pub short : (key : Key) (bytes : List ℕ) → IsKeyOf key bytes → IsProperBeginning input bytes → RefusesAsn1 result Truncated
+  pub short : (key : Key) (bytes : List ℕ) → IsKeyOf key bytes → IsProperBeginning input bytes
+      → RefusesAsn1 result Truncated
   -- bytes after a key's are refused as TrailingData
-  pub long : (key : Key) (bytes : List ℕ) → IsKeyOf key bytes → IsProperBeginning bytes input → RefusesAsn1 result TrailingData
+  pub long : (key : Key) (bytes : List ℕ) → IsKeyOf key bytes → IsProperBeginning bytes input
+      → RefusesAsn1 result TrailingData

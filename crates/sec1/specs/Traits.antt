@@ -28,7 +28,8 @@ abbrev pub IsMemoryOr : (Error → Type 0) → Error → Type 0
 IsMemoryOr refuses error = (error ≡ Memory) ⊎ refuses error
 
 -- No element was read: the remaining input isn't one, a read failed, or an allocation failed.
-pub record RefusesDocument (old new : Option (List ℕ)) (failed : Bool) (error : Error) : Type 0 where
+pub record RefusesDocument (old new : Option (List ℕ)) (failed : Bool)
+    (error : Error) : Type 0 where
   pub cause : DerError
   pub is : error ≡ error_of cause
   pub refused : RefusesElement cause.kind old new
@@ -36,7 +37,8 @@ pub record RefusesDocument (old new : Option (List ℕ)) (failed : Bool) (error 
   pub io : cause.kind ≡ Io ↔ IsTrue failed
 
 -- One element was read and refused as a key, and no read failed.
-pub record RefusesKey (refuses : List ℕ → Error → Type 0) (old new : Option (List ℕ)) (failed : Bool) (error : Error) : Type 0 where
+pub record RefusesKey (refuses : List ℕ → Error → Type 0) (old new : Option (List ℕ))
+    (failed : Bool) (error : Error) : Type 0 where
   pub of_element : ConsumesElementWith (λ bytes. IsMemoryOr (refuses bytes) error) old new
   pub unfailed : failed ≡ false
 
@@ -47,13 +49,15 @@ pub record IsDocumentError (error : Error) : Type 0 where
   pub kinds : IsElementFault cause.kind
 
 -- all bytes of a key were written
-pub record WritesKey {K : Type 0} (writes : K → List ℕ → Type 0) (key : K) (old new : Option (List ℕ)) : Type 0 where
+pub record WritesKey {K : Type 0} (writes : K → List ℕ → Type 0) (key : K)
+    (old new : Option (List ℕ)) : Type 0 where
   pub bytes : List ℕ
   pub of_key : writes key bytes
   pub appended : Appends old new bytes
 
 -- a beginning of a key's bytes was written
-pub record WritesKeyBeginning {K : Type 0} (writes : K → List ℕ → Type 0) (key : K) (old new : Option (List ℕ)) : Type 0 where
+pub record WritesKeyBeginning {K : Type 0} (writes : K → List ℕ → Type 0) (key : K)
+    (old new : Option (List ℕ)) : Type 0 where
   pub bytes : List ℕ
   pub of_key : writes key bytes
   pub appended : AppendsBeginning old new bytes

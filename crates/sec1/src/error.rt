@@ -8,12 +8,13 @@ use std::alloc::{AllocError, AllocFailed};
 /// The error type of this crate.
 #[derive(Debug, PartialEq, Eq, Drop, thiserror::Error)]
 pub enum Error {
-    /// The input isn't a value in DER, or a value can't be encoded in it. If the kind is Io, a read or write failed or a
-    /// file couldn't be opened.
+    /// The input isn't a value in DER, or a value can't be encoded in it. If the kind is Io, a read
+    /// or write failed or a file couldn't be opened.
     #[error("SEC1 ASN.1 error: {0}")]
     Asn1(der::Error),
 
-    /// For users of the crate: a value isn't valid cryptographically. No call of this crate returns it.
+    /// For users of the crate: a value isn't valid cryptographically. No call of this crate returns
+    /// it.
     #[error("SEC1 cryptographic error")]
     Crypto,
 

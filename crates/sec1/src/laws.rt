@@ -1,5 +1,5 @@
-//! Laws of keys and of points, for callers to cite: that a value is determined by its bytes, and how
-//! points compare. Each law is the contract of a function, which does nothing else.
+//! Laws of keys and of points, for callers to cite: that a value is determined by its bytes, and
+//! how points compare. Each law is the contract of a function, which does nothing else.
 
 ghost use Rattle.std.specs.Prelude.{◌≡◌, ◌⊎◌, ◌↔◌, List, ℕ, Some, IsTrue};
 ghost use Rattle.sec1.specs.Keys.{HasNoEncoding, IsKeyOf, Key};

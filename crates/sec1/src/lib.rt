@@ -1,5 +1,6 @@
-//! EC private keys in DER (SEC1 v2.0 Appendix C.4, RFC 5915 section 3) and points of elliptic curves over prime
-//! fields (SEC1 v2.0 section 2.3.3). Each value has one encoding in bytes, and everything else is refused.
+//! EC private keys in DER (SEC1 v2.0 Appendix C.4, RFC 5915 section 3) and points of elliptic
+//! curves over prime fields (SEC1 v2.0 section 2.3.3). Each value has one encoding in bytes, and
+//! everything else is refused.
 //!
 //! Nothing is computed on curves. [`der`] is the layer of DER below.
 #![tactic(auto)]
@@ -20,5 +21,6 @@ pub use sec1_der as der;
 use sec1_der::{ID_EC_PUBLIC_KEY, ObjectIdentifier};
 pub use traits::{DecodeEcPrivateKey, EncodeEcPrivateKey};
 
-/// The algorithm identifier of elliptic curve keys, id-ecPublicKey, 1.2.840.10045.2.1 (RFC 5480 section 2.1.1).
+/// The algorithm identifier of elliptic curve keys, id-ecPublicKey, 1.2.840.10045.2.1 (RFC 5480
+/// section 2.1.1).
 pub const ALGORITHM_OID: ObjectIdentifier = ID_EC_PUBLIC_KEY;

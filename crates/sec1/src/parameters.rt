@@ -11,8 +11,8 @@ use sec1_der::{
     SliceWriter, Tag, Tagged, ValueContent,
 };
 
-/// The curve of a key, named by an identifier (RFC 5480 section 2.1.1). Curves given by their parameters, or implicitly,
-/// are refused.
+/// The curve of a key, named by an identifier (RFC 5480 section 2.1.1). Curves given by their
+/// parameters, or implicitly, are refused.
 #[derive(Clone, Copy, PartialEq, Eq, Debug)]
 pub enum EcParameters {
     /// The identifier of the curve.
@@ -67,7 +67,8 @@ impl ValueContent for EcParameters {
 
     ghost is_content = { IsIdentifierContent };
 
-    ghost content_is_valid = { λ parameters bytes same _. (curve_of parameters, identifier_content-some (curve_of parameters) bytes same) };
+    ghost content_is_valid = { λ parameters bytes same _.
+        (curve_of parameters, identifier_content-some (curve_of parameters) bytes same) };
 
     ghost fault = { identifier_fault };
 }

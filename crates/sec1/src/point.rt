@@ -1,6 +1,8 @@
-//! Points of elliptic curves over prime fields in their encodings (SEC1 v2.0 sections 2.3.3 and 2.3.4).
+//! Points of elliptic curves over prime fields in their encodings (SEC1 v2.0 sections 2.3.3 and
+//! 2.3.4).
 //!
-//! No call here tests that a point lies on a curve, or that a coordinate is below a field's modulus.
+//! No call here tests that a point lies on a curve, or that a coordinate is below a field's
+//! modulus.
 
 mod coordinates;
 mod order;
@@ -8,11 +10,14 @@ mod select;
 mod tag;
 mod text;
 
-// Definitions that cite `EncodedPoint` are imported in the blocks below: its ghost fields come before them.
-ghost use Rattle.std.specs.Prelude.{◌≡◌, ◌+◌, ◌*◌, ◌<◌, ◌≤◌, ◌^◌, ◌↔◌, if◌then◌else◌, length, slice_index, take, drop, set, IsTrue, IfSome};
+// Definitions that cite `EncodedPoint` are imported in the blocks below: its ghost fields come
+// before them.
+ghost use Rattle.std.specs.Prelude.{◌≡◌, ◌+◌, ◌*◌, ◌<◌, ◌≤◌, ◌^◌, ◌↔◌, if◌then◌else◌, length};
+ghost use Rattle.std.specs.Prelude.{slice_index, take, drop, set, IsTrue, IfSome};
 ghost use Rattle.std.specs.Option.{option_map};
 ghost use Rattle.sec1_der.specs.Numbers.{number_of};
-ghost use Rattle.sec1.specs.Points.{identity, uncompressed, IsEncoding, meaning, encoding, Fits, compressed_point, hybrid_point, x_of, y_of};
+ghost use Rattle.sec1.specs.Points.{identity, uncompressed, IsEncoding, meaning, encoding, Fits};
+ghost use Rattle.sec1.specs.Points.{compressed_point, hybrid_point, x_of, y_of};
 
 use crate::error::{Error, Result};
 pub use coordinates::Coordinates;
@@ -21,11 +26,13 @@ pub use tag::Tag;
 
 /// The encoding of a point, for field elements of N bytes.
 ///
-/// N is at least 1 and L is 2N + 1, the length of the longest encoding. The encoding is at the beginning of a buffer of L
-/// bytes; the bytes after it are ignored, so that two values may be equal and differ there.
+/// N is at least 1 and L is 2N + 1, the length of the longest encoding. The encoding is at the
+/// beginning of a buffer of L bytes; the bytes after it are ignored, so that two values may be
+/// equal and differ there.
 ///
-/// A function that is generic over N and L, without a value of this type among its parameters or in its result, must
-/// require or test that L is below 2^62 before it calls one of these: only then is the type known to have a size.
+/// A function that is generic over N and L, without a value of this type among its parameters or in
+/// its result, must require or test that L is below 2^62 before it calls one of these: only then is
+/// the type known to have a size.
 #[derive(Clone, Copy)]
 pub struct EncodedPoint<const N: usize, const L: usize> {
     bytes: [u8; L],
@@ -49,10 +56,12 @@ pub type EncodedPoint66 = EncodedPoint<66, 133>;
 
 impl<const N: usize, const L: usize> EncodedPoint<N, L> {
     ghost use Rattle.sec1.specs.EncodedPoints.{point_of, IsWiped, ReadsBytes};
-    ghost use Rattle.sec1.specs.Tags.{byte_of, message_len, point_tag, is_compact, is_compressed, is_hybrid, is_identity};
+    ghost use Rattle.sec1.specs.Tags.{byte_of, message_len, point_tag, is_compact, is_compressed};
+    ghost use Rattle.sec1.specs.Tags.{is_hybrid, is_identity};
     ghost use Rattle.sec1.specs.Coordinates.{coordinates_point, AreWhole};
 
-    /// Returns `true` if N is at least 1 and L is 2N + 1. Otherwise there are no points of this type.
+    /// Returns `true` if N is at least 1 and L is 2N + 1. Otherwise there are no points of this
+    /// type.
     pub fn fits() -> bool
         ensures { IsTrue result ↔ Fits N L }
     {
@@ -63,7 +72,8 @@ impl<const N: usize, const L: usize> EncodedPoint<N, L> {
     ///
     /// # Errors
     ///
-    /// PointEncoding if the input isn't the encoding of a point, or if N and L don't [fit](EncodedPoint::fits).
+    /// PointEncoding if the input isn't the encoding of a point, or if N and L don't
+    /// [fit](EncodedPoint::fits).
     #[tactic(auto, using(crate::proofs::EncodedPointLemmas::encoding_room))]
     pub fn from_bytes(input: &[u8]) -> Result<Self>
         ensures { ReadsBytes input.now result }
@@ -83,7 +93,8 @@ impl<const N: usize, const L: usize> EncodedPoint<N, L> {
     pub fn from_untagged_bytes(bytes: &[u8]) -> Self
         requires sizes { Fits N L }
         requires len { length bytes.now ≡ 2 * N }
-        ensures { point_of result ≡ uncompressed (number_of (take N bytes.now)) (number_of (drop N bytes.now)) }
+        ensures { point_of result
+            ≡ uncompressed (number_of (take N bytes.now)) (number_of (drop N bytes.now)) }
     {
         let (x, y) = bytes.split_at(N);
         Self::from_halves(x, y)
@@ -174,7 +185,8 @@ impl<const N: usize, const L: usize> EncodedPoint<N, L> {
         self.tag().is_identity()
     }
 
-    /// Returns the compressed form of an uncompressed or hybrid point. Any other point is returned as it is.
+    /// Returns the compressed form of an uncompressed or hybrid point. Any other point is returned
+    /// as it is.
     pub fn compress(&self) -> Self
         ensures point { point_of result ≡ compressed_point (point_of self.now) }
         ensures same_x { x_of (point_of result) ≡ x_of (point_of self.now) }
@@ -186,7 +198,8 @@ impl<const N: usize, const L: usize> EncodedPoint<N, L> {
         EncodedPoint { bytes, len }
     }
 
-    /// Returns the tag byte and the length of the compressed form, whose other bytes are those of this one.
+    /// Returns the tag byte and the length of the compressed form, whose other bytes are those of
+    /// this one.
     fn compressed_front(&self) -> (u8, usize)
         ensures room { result.1 ≤ L }
         ensures front { take result.1 (set self.now.bytes 0 result.0)
@@ -211,7 +224,8 @@ impl<const N: usize, const L: usize> EncodedPoint<N, L> {
         point
     }
 
-    /// Returns the tag, the first byte of the encoding. The length of the encoding is that of its tag.
+    /// Returns the tag, the first byte of the encoding. The length of the encoding is that of its
+    /// tag.
     #[tactic(auto, using(crate::proofs::EncodedPointLemmas::first_byte, crate::proofs::PointLemmas::tag_facts), unfolding(crate::specs::Points::encoding))]
     pub fn tag(&self) -> Tag
         ensures point { result ≡ point_tag (point_of self.now) }
@@ -233,7 +247,8 @@ impl<const N: usize, const L: usize> EncodedPoint<N, L> {
         Coordinates::with_tag(self.tag(), x, y)
     }
 
-    /// Borrows the N bytes after the tag, and the N bytes after these, whether or not they belong to the encoding.
+    /// Borrows the N bytes after the tag, and the N bytes after these, whether or not they belong
+    /// to the encoding.
     fn halves(&self) -> (&[u8; N], &[u8; N])
         ensures x { result.0.now ≡ take N (drop 1 self.now.bytes) }
         ensures y { result.1.now ≡ take N (drop N (drop 1 self.now.bytes)) }

@@ -18,8 +18,8 @@ use std::alloc::Global;
 use std::fmt;
 use std::marker::Model;
 
-/// An EC private key (SEC1 v2.0 Appendix C.4, RFC 5915 section 3), which borrows its bytes. A contract sees its
-/// three parts.
+/// An EC private key (SEC1 v2.0 Appendix C.4, RFC 5915 section 3), which borrows its bytes. A
+/// contract sees its three parts.
 ///
 /// ```text
 /// ECPrivateKey ::= SEQUENCE {
@@ -30,7 +30,8 @@ use std::marker::Model;
 /// }
 /// ```
 ///
-/// The length of the private key isn't compared with the curve's, and the public key need not be a point.
+/// The length of the private key isn't compared with the curve's, and the public key need not be a
+/// point.
 #[derive(Clone, Drop)]
 pub struct EcPrivateKey<'a> {
     /// The bytes of the private key.
@@ -53,15 +54,15 @@ impl<'a> Model for EcPrivateKey<'a> {
     } };
 }
 
-/// Reads a key from its whole DER encoding, without an allocation. The private key and the public key are borrowed from
-/// the input.
+/// Reads a key from its whole DER encoding, without an allocation. The private key and the public
+/// key are borrowed from the input.
 ///
 /// # Errors
 ///
-/// [`Error::Asn1`] of the first fault from left to right: Truncated if the input, or the element around a part, ends too
-/// early; Tag if another tag is expected; Length if a length isn't in the form of DER; Value if the version isn't 1, the
-/// identifier isn't valid, or the public key has unused bits; TrailingData if bytes follow the last part of an element or
-/// of the input.
+/// [`Error::Asn1`] of the first fault from left to right: Truncated if the input, or the element
+/// around a part, ends too early; Tag if another tag is expected; Length if a length isn't in the
+/// form of DER; Value if the version isn't 1, the identifier isn't valid, or the public key has
+/// unused bits; TrailingData if bytes follow the last part of an element or of the input.
 impl<'a> TryFrom<&'a [u8]> for EcPrivateKey<'a> {
     type Error = Error;
 
@@ -80,7 +81,8 @@ impl<'a> EcPrivateKey<'a> {
     ///
     /// # Errors
     ///
-    /// [`Error::Asn1`] of Overlength if the content of an element would be longer than 268,435,455 bytes.
+    /// [`Error::Asn1`] of Overlength if the content of an element would be longer than 268,435,455
+    /// bytes.
     pub fn encoded_len(&self) -> Result<usize>
         ensures exact { MatchResult result
             (λ n. HasEncodingWith self.now (λ bytes. n ≡ length bytes))
@@ -90,13 +92,13 @@ impl<'a> EcPrivateKey<'a> {
         Ok(der::encoded_len(self)?)
     }
 
-    /// Writes the key's DER encoding at the beginning of the slice, and returns the number of bytes written. The rest of
-    /// the slice is unchanged.
+    /// Writes the key's DER encoding at the beginning of the slice, and returns the number of bytes
+    /// written. The rest of the slice is unchanged.
     ///
     /// # Errors
     ///
-    /// Those of [`encoded_len`](EcPrivateKey::encoded_len), then [`Error::Asn1`] of Buffer if the slice is too short. The
-    /// whole slice is unchanged then.
+    /// Those of [`encoded_len`](EcPrivateKey::encoded_len), then [`Error::Asn1`] of Buffer if the
+    /// slice is too short. The whole slice is unchanged then.
     pub fn encode_to_slice(&self, buffer: &mut [u8]) -> Result<usize>
         ensures exact { MatchResult result
             (λ n. (n ≤ length buffer.new) × HasEncodingWith self.now (λ bytes.
@@ -112,7 +114,8 @@ impl<'a> EcPrivateKey<'a> {
     ///
     /// # Errors
     ///
-    /// Those of [`encoded_len`](EcPrivateKey::encoded_len), then [`Error::Memory`] if the allocation fails.
+    /// Those of [`encoded_len`](EcPrivateKey::encoded_len), then [`Error::Memory`] if the
+    /// allocation fails.
     pub fn to_der(&self, alloc: Global) -> Result<Vec<u8>>
         ensures exact { MatchResult result (λ der. IsKeyOf self.now der.items)
             (HasNoEncodingOr (λ e. e ≡ Error.Memory) self.now (λ _. ⊤)) }

@@ -1,9 +1,10 @@
-//! Key types that are read from and written in the DER of an EC private key. A key type says which bytes are read as
-//! which key, which bytes a key is written as, and what is an error.
+//! Key types that are read from and written in the DER of an EC private key. A key type says which
+//! bytes are read as which key, which bytes a key is written as, and what is an error.
 
 ghost use Rattle.std.specs.Prelude.{ℕ, List, false, ◌≡◌, ◌⊎◌, IsTrue, IfOk, IfErr, OnOk, OnErr};
 ghost use Rattle.sec1.specs.Errors.{IsAsn1, RefusesAsn1};
-ghost use Rattle.sec1.specs.Traits.{IsDocumentError, IsElementWith, IsMemoryOr, ConsumesElementWith, RefusesDocument, RefusesKey, WritesKey};
+ghost use Rattle.sec1.specs.Traits.{IsDocumentError, IsElementWith, IsMemoryOr};
+ghost use Rattle.sec1.specs.Traits.{ConsumesElementWith, RefusesDocument, RefusesKey, WritesKey};
 ghost use Rattle.sec1.specs.Traits.{WritesKeyBeginning};
 ghost use Rattle.sec1.specs.declared.error.Error.{Error};
 ghost use Rattle.sec1_der.specs.declared.error.ErrorKind.TheVariants.{Io};
@@ -34,16 +35,18 @@ pub trait DecodeEcPrivateKey: Sized {
     ///
     /// # Errors
     ///
-    /// Those of [`SecretDocument::read_der_from`], [`Error::Asn1`] of kind Io among them if a read failed; then those of
-    /// [`from_sec1_der`](DecodeEcPrivateKey::from_sec1_der).
+    /// Those of [`SecretDocument::read_der_from`], [`Error::Asn1`] of kind Io among them if a read
+    /// failed; then those of [`from_sec1_der`](DecodeEcPrivateKey::from_sec1_der).
     fn read_sec1_der_from<R: Read>(alloc: Global, reader: &mut R) -> Result<Self>
         requires { R.failed reader.old ≡ false }
         ensures found { IfOk result (λ key.
-            ConsumesElementWith (λ bytes. reads bytes key) (R.left reader.old) (R.left reader.new)) }
+            ConsumesElementWith (λ bytes. reads bytes key) (R.left reader.old)
+            (R.left reader.new)) }
         ensures io { IsTrue (R.failed reader.new) → RefusesAsn1 result Io }
         ensures refused { IfErr result (λ error.
             RefusesDocument (R.left reader.old) (R.left reader.new) (R.failed reader.new) error
-            ⊎ RefusesKey refuses (R.left reader.old) (R.left reader.new) (R.failed reader.new) error) }
+            ⊎ RefusesKey refuses (R.left reader.old) (R.left reader.new)
+            (R.failed reader.new) error) }
     {
         let document = SecretDocument::read_der_from(alloc, reader)?;
         Self::from_sec1_der(alloc, document.as_bytes())
@@ -53,7 +56,8 @@ pub trait DecodeEcPrivateKey: Sized {
     ///
     /// # Errors
     ///
-    /// Those of [`SecretDocument::read_der_file`], then those of [`from_sec1_der`](DecodeEcPrivateKey::from_sec1_der).
+    /// Those of [`SecretDocument::read_der_file`], then those of
+    /// [`from_sec1_der`](DecodeEcPrivateKey::from_sec1_der).
     fn read_sec1_der_file<F: Files>(rt: &F, alloc: Global, path: &str) -> Result<Self>
         ensures found { IfOk result (λ key. IsElementWith (λ bytes. reads bytes key)) }
         ensures kinds { IfErr result (λ error. IsDocumentError error

@@ -4,14 +4,16 @@ ghost use Rattle.std.specs.Prelude.{◌≡◌, length, bytes_eq};
 ghost use Rattle.sec1_der.specs.Numbers.{number_of};
 ghost use Rattle.sec1.specs.Points.{point_from};
 ghost use Rattle.sec1.specs.Tags.{byte_of, point_tag};
-ghost use Rattle.sec1.specs.Coordinates.{AreWhole, first_bytes, coordinates_bytes, coordinates_point};
+ghost use Rattle.sec1.specs.Coordinates.{AreWhole, first_bytes, coordinates_bytes};
+ghost use Rattle.sec1.specs.Coordinates.{coordinates_point};
 ghost use Rattle.std.specs.Cmp.Lexicographic.{on_texts_equal};
 ghost use Rattle.std.specs.Cmp.{partial_equiv_from_equiv};
 
 use super::Tag;
 use std::fmt;
 
-/// The coordinates of a point, by the form of its encoding. Each is borrowed as N bytes, the most significant first.
+/// The coordinates of a point, by the form of its encoding. Each is borrowed as N bytes, the most
+/// significant first.
 #[derive(Clone, Copy)]
 pub enum Coordinates<'a, const N: usize> {
     /// The point at infinity, which has no coordinates.
@@ -32,7 +34,8 @@ impl<'a, const N: usize> Coordinates<'a, N> {
     pub(super) fn with_tag(tag: Tag, x: &'a [u8; N], y: &'a [u8; N]) -> Self
         requires x_len { length x.now ≡ N }
         requires y_len { length y.now ≡ N }
-        ensures point { coordinates_point result ≡ point_from (byte_of tag) (number_of x.now) (number_of y.now) }
+        ensures point { coordinates_point result
+            ≡ point_from (byte_of tag) (number_of x.now) (number_of y.now) }
         ensures whole { AreWhole result }
     {
         match tag {
@@ -72,7 +75,8 @@ impl<'a, const N: usize> Coordinates<'a, N> {
     }
 }
 
-/// A coordinate, which is passed on in this form: the size of a bare array would have to be known at each call.
+/// A coordinate, which is passed on in this form: the size of a bare array would have to be known
+/// at each call.
 #[derive(Clone, Copy)]
 struct Coordinate<'a, const N: usize>(&'a [u8; N]);
 
@@ -80,7 +84,8 @@ impl<const N: usize> Coordinate<'_, N> {
     /// Returns `true` if the bytes are the same.
     #[tactic(auto, using(crate::proofs::CoordinateLemmas::compared_bytes))]
     fn is(self, other: Self) -> bool
-        ensures { result ≡ bytes_eq (first_bytes N self.entry.0.now) (first_bytes N other.entry.0.now) }
+        ensures { result
+            ≡ bytes_eq (first_bytes N self.entry.0.now) (first_bytes N other.entry.0.now) }
     {
         for i in 0..N {
             if self.0[i] != other.0[i] {

@@ -1,7 +1,8 @@
 //! Equality, order and hash of points. The order is by tag, then by coordinates as whole numbers.
 
 ghost use Rattle.std.specs.Prelude.{◌≡◌, ◌↔◌, IsTrue, Some, refl};
-ghost use Rattle.std.specs.Cmp.{on_per, on_equiv, on_total, partial_equiv_from_equiv, partial_order_from_agreeing_total};
+ghost use Rattle.std.specs.Cmp.{on_per, on_equiv, on_total, partial_equiv_from_equiv};
+ghost use Rattle.std.specs.Cmp.{partial_order_from_agreeing_total};
 ghost use Rattle.std.specs.Cmp.Lexicographic.{slice_cmp};
 ghost use Rattle.std.specs.Ordering.{nat_cmp};
 ghost use Rattle.sec1.specs.EncodedPoints.{point_of};
@@ -24,7 +25,8 @@ impl<const N: usize, const L: usize> PartialEq for EncodedPoint<N, L> {
     fn eq(&self, other: &Self) -> bool
         ensures value { result ≡ same_point (point_of self.now) (point_of other.now) }
         ensures same { IsTrue result ↔ (point_of self.now ≡ point_of other.now) }
-        ensures bytes { IsTrue result ↔ (encoding N (point_of self.now) ≡ encoding N (point_of other.now)) }
+        ensures bytes { IsTrue result
+            ↔ (encoding N (point_of self.now) ≡ encoding N (point_of other.now)) }
     {
         self.ct_eq(other)
     }
@@ -112,7 +114,8 @@ impl<const N: usize, const L: usize> Hash for EncodedPoint<N, L> {
     // What the slice of the encoding feeds.
     ghost hash_input = { λ p. fed.slice fed.u8 (encoding N (point_of p)) };
 
-    ghost respects_eq = { λ p q h. ap (λ (r : Point). fed.slice fed.u8 (encoding N r)) (same_point-true (point_of p) (point_of q) h) };
+    ghost respects_eq = { λ p q h. ap (λ (r : Point). fed.slice fed.u8 (encoding N r))
+        (same_point-true (point_of p) (point_of q) h) };
 
     fn hash<H: Hasher>(&self, state: &mut H) {
         self.as_bytes().hash(state);

@@ -11,7 +11,8 @@ impl<const N: usize, const L: usize> EncodedPoint<N, L> {
     #[tactic(auto, using(crate::proofs::EncodedPointLemmas::filled, crate::proofs::EncodedPointLemmas::same_encodings))]
     pub fn ct_eq(&self, other: &Self) -> bool
         ensures same { IsTrue result ↔ (point_of self.now ≡ point_of other.now) }
-        ensures bytes { IsTrue result ↔ (encoding N (point_of self.now) ≡ encoding N (point_of other.now)) }
+        ensures bytes { IsTrue result
+            ↔ (encoding N (point_of self.now) ≡ encoding N (point_of other.now)) }
     {
         // Two arrays are compared without a loop.
         if self.len == L && other.len == L {

@@ -3,12 +3,13 @@
 ghost use Rattle.std.specs.Prelude.{◌≡◌, ◌<◌, ◌^◌, if◌then◌else◌};
 ghost use Rattle.sec1_der.specs.Numbers.{number_of};
 ghost use Rattle.sec1.specs.Points.{is_odd};
-ghost use Rattle.sec1.specs.Tags.{byte_of, ReadsTag, message_len, is_compact, is_compressed, is_hybrid, is_identity};
+ghost use Rattle.sec1.specs.Tags.{byte_of, ReadsTag, message_len, is_compact, is_compressed};
+ghost use Rattle.sec1.specs.Tags.{is_hybrid, is_identity};
 
 use crate::error::{Error, Result};
 
-/// The first byte of a point's encoding: identity, compressed and uncompressed (SEC1 v2.0 section 2.3.3), compact, which
-/// has x alone, and hybrid, which has y and its parity (ANSI X9.62).
+/// The first byte of a point's encoding: identity, compressed and uncompressed (SEC1 v2.0 section
+/// 2.3.3), compact, which has x alone, and hybrid, which has y and its parity (ANSI X9.62).
 #[derive(Clone, Copy, Debug, PartialEq, Eq)]
 pub enum Tag {
     /// The point at infinity.
@@ -76,7 +77,8 @@ impl Tag {
         self == Tag::Identity
     }
 
-    /// Returns the length in bytes of an encoding with this tag, the tag included, for field elements of this many bytes.
+    /// Returns the length in bytes of an encoding with this tag, the tag included, for field
+    /// elements of this many bytes.
     ///
     /// Requires that the length fits a `usize`.
     pub const fn message_len(self, field_element_size: usize) -> usize
@@ -113,7 +115,8 @@ impl Tag {
     }
 }
 
-/// Returns `true` if the number in the bytes, the most significant first, is odd. Without bytes it is 0.
+/// Returns `true` if the number in the bytes, the most significant first, is odd. Without bytes it
+/// is 0.
 #[tactic(auto, using(crate::proofs::DigitLemmas::parity_of_last, std::proofs::lemmas::List::nil_from_length))]
 fn is_odd<const N: usize>(y: &[u8; N]) -> bool
     ensures { result ≡ is_odd (number_of y.now) }

@@ -26,7 +26,8 @@ impl<const N: usize, const L: usize> EncodedPoint<N, L> {
     ///
     /// Memory if the allocation fails.
     pub fn to_bytes(&self, alloc: Global) -> Result<BoxedSlice<u8>>
-        ensures found { IfOk result (λ bytes. boxed_slice_items bytes ≡ encoding N (point_of self.now)) }
+        ensures found { IfOk result
+            (λ bytes. boxed_slice_items bytes ≡ encoding N (point_of self.now)) }
         ensures kind { IfErr result (λ e. e ≡ Memory) }
     {
         BoxedSlice::from_slice(alloc, self.as_bytes()).map_err(|_| Error::Memory)
@@ -38,7 +39,8 @@ impl<const N: usize, const L: usize> EncodedPoint<N, L> {
     ///
     /// Memory if the allocation fails.
     pub fn to_lower_hex(&self, alloc: Global) -> Result<String>
-        ensures found { IfOk result (λ text. string_bytes text ≡ encode_lower (encoding N (point_of self.now))) }
+        ensures found { IfOk result
+            (λ text. string_bytes text ≡ encode_lower (encoding N (point_of self.now))) }
         ensures kind { IfErr result (λ e. e ≡ Memory) }
     {
         hex::encode(alloc, self.as_bytes()).map_err(|_| Error::Memory)
@@ -50,7 +52,8 @@ impl<const N: usize, const L: usize> EncodedPoint<N, L> {
     ///
     /// Memory if the allocation fails.
     pub fn to_upper_hex(&self, alloc: Global) -> Result<String>
-        ensures found { IfOk result (λ text. string_bytes text ≡ encode_upper (encoding N (point_of self.now))) }
+        ensures found { IfOk result
+            (λ text. string_bytes text ≡ encode_upper (encoding N (point_of self.now))) }
         ensures kind { IfErr result (λ e. e ≡ Memory) }
     {
         hex::encode_upper(alloc, self.as_bytes()).map_err(|_| Error::Memory)
@@ -62,13 +65,15 @@ impl<const N: usize, const L: usize> EncodedPoint<N, L> {
     ///
     /// Memory if the allocation fails.
     pub fn to_json(&self, alloc: Global) -> Result<Value>
-        ensures found { IfOk result (λ json. view json ≡ string (encode_upper (encoding N (point_of self.now)))) }
+        ensures found { IfOk result
+            (λ json. view json ≡ string (encode_upper (encoding N (point_of self.now)))) }
         ensures kind { IfErr result (λ e. e ≡ Memory) }
     {
         Ok(Value::String(self.to_upper_hex(alloc)?))
     }
 
-    /// Reads a point from a JSON string of its encoding in hexadecimal, as [`from_str`](EncodedPoint::from_str) does.
+    /// Reads a point from a JSON string of its encoding in hexadecimal, as
+    /// [`from_str`](EncodedPoint::from_str) does.
     ///
     /// # Errors
     ///
@@ -95,7 +100,8 @@ impl<const N: usize, const L: usize> EncodedPoint<N, L> {
     }
 }
 
-/// Decodes two hexadecimal digits for each byte, and returns `true` if they are digits with letters of one case.
+/// Decodes two hexadecimal digits for each byte, and returns `true` if they are digits with letters
+/// of one case.
 #[tactic(auto, using(crate::proofs::HexLemmas::decoded))]
 fn decode_digits(text: &[u8], out: &mut [u8]) -> bool
     requires { length out.old ≡ length text.now / 2 }

@@ -6,8 +6,12 @@ use Rattle.sec1.proofs.point.EncodedPoint.from_bytes.Goals as goal
 pub invariant_of-result-clause-encoded : goal.invariant_of-result-clause-encoded
 invariant_of-result-clause-encoded g c =
     let len = length c.args.input.now in
-    let front = take_at c.copy_from_slice.new.self (drop len (replicate {A = ℕ} g.row.L 0)) len (ap length c.copy_from_slice.ensures.after) in
-    rw (front, c.copy_from_slice.ensures.after) (encoding_spelled g.row.N c.args.input.now (c.is_encoding.ensures.0 c.if-not-is_encoding.false))
+    let front =
+    take_at c.copy_from_slice.new.self (drop len (replicate {A = ℕ} g.row.L 0)) len
+    (ap length c.copy_from_slice.ensures.after) in
+    rw (front, c.copy_from_slice.ensures.after)
+    (encoding_spelled g.row.N c.args.input.now (c.is_encoding.ensures.0 c.if-not-is_encoding.false))
 
 pub returns : goal.returns
-returns g c = read_bytes c.args.input.now _ (grind (arith, take_at {A = ℕ})) (c.is_encoding.ensures.0 c.if-not-is_encoding.false)
+returns g c =
+    read_bytes c.args.input.now _ (grind (arith, take_at {A = ℕ})) (c.is_encoding.ensures.0 c.if-not-is_encoding.false)

@@ -10,7 +10,8 @@ returns-then-len g c = record {
   found = tt;
   only = λ p fit _ spelled.
       let bytes = encoding g.row.N p in
-      let room : length c.args.text.now / 2 ≤ g.row.L = omega (arith, fit.1, text_len c.args.text.now bytes spelled, length-enc-le g.row.N p) in
+      let room : length c.args.text.now / 2 ≤ g.row.L =
+      omega (arith, fit.1, text_len c.args.text.now bytes spelled, length-enc-le g.row.N p) in
       grind (arith, IsBytes-enc g.row.N p, spelled);
   kind = refl;
 }
@@ -19,11 +20,13 @@ pub returns : goal.returns
 returns g c =
     let half = length c.args.text.now / 2 in
     let buffer = replicate {A = ℕ} g.row.L 0 in
-    let len : length c.decode_digits.new.out ≡ half = omega (arith, length-take half buffer, length-replicate {A = ℕ} g.row.L 0) in
+    let len : length c.decode_digits.new.out ≡ half =
+    omega (arith, length-take half buffer, length-replicate {A = ℕ} g.row.L 0) in
     let front = take_at c.decode_digits.new.out (drop half buffer) half len in
     record {
       found = search rules;
       only = λ p fit fits spelled.
-          c.from_bytes.ensures.only p fit fits (front ∙ (c.decode_digits.ensures.only (encoding g.row.N p) (IsBytes-enc g.row.N p) spelled).1);
+          c.from_bytes.ensures.only p fit fits
+          (front ∙ (c.decode_digits.ensures.only (encoding g.row.N p) (IsBytes-enc g.row.N p) spelled).1);
       kind = c.from_bytes.ensures.kind;
     }

@@ -6,7 +6,9 @@ use Rattle.sec1.proofs.EncodedPointLemmas.{first_byte}
 use Rattle.sec1.proofs.point.EncodedPoint.tag.Goals as goal
 
 pub unreachable-requires : goal.unreachable-requires
-unreachable-requires g c = c.in-Err.ensures.none (point_tag (point_of c.args.self.now)) (sym (first_byte c.args.self.now))
+unreachable-requires g c =
+    c.in-Err.ensures.none (point_tag (point_of c.args.self.now)) (sym (first_byte c.args.self.now))
 
 pub returns-clause-len : goal.returns-clause-len
-returns-clause-len g c = grind (arith, length-enc g.row.N (point_of c.args.self.now), first_byte c.args.self.now, byte_of-injective)
+returns-clause-len g c =
+    grind (arith, length-enc g.row.N (point_of c.args.self.now), first_byte c.args.self.now, byte_of-injective)

@@ -45,10 +45,15 @@ returns c =
       found = found;
       only = λ other at.
           let there = element_of-some 0x30 (key_content other) input (key_written other input at) in
-          ap Ok (c.one.ensures key other there.inside (from_der.only_value other (key_written other input at) ∙ there.same) there.same);
-      one_tree = λ t at. (c.trees_unique.ensures t (key_tree key) [] [] at.tree found.tree.tree (ap (λ xs. xs ++ []) (sym at.whole ∙ found.tree.whole))).0;
+          ap Ok
+          (c.one.ensures key other there.inside
+          (from_der.only_value other (key_written other input at) ∙ there.same) there.same);
+      one_tree = λ t at.
+          (c.trees_unique.ensures t (key_tree key) [] [] at.tree found.tree.tree
+          (ap (λ xs. xs ++ []) (sym at.whole ∙ found.tree.whole))).0;
       kinds = tt;
       kind = from_der.kind;
-      short = λ other bytes at begins. absurd (from_der.short (fields_of other) at.tree.tree.2 (rw at.tree.whole at begins));
+      short = λ other bytes at begins. absurd
+          (from_der.short (fields_of other) at.tree.tree.2 (rw at.tree.whole at begins));
       long = λ other bytes at begins. absurd (from_der.long_value other bytes (key_written other bytes at) begins);
     })

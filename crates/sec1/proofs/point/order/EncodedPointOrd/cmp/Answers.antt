@@ -5,11 +5,30 @@ use Rattle.sec1.proofs.point.order.EncodedPointOrd.cmp.Goals as goal
 
 pub returns-then-other : goal.returns-then-other
 returns-then-other g c =
-    let bytes = rw (filled c.args.self.now (omega (arith, c.if-self.true)), filled c.args.other.now (omega (arith, c.if-other.true))) at c.words_cmp.ensures in
+    let bytes =
+    rw (
+      filled c.args.self.now (omega (arith, c.if-self.true)),
+      filled c.args.other.now
+          (omega (arith, c.if-other.true)),
+    ) at c.words_cmp.ensures in
     let order = point_order c.args.self.now c.args.other.now in
-    record { value = cc; below = grind (arith, orders); above = grind (arith, orders); same = grind (arith, orders); bytes = bytes }
+    record {
+      value = cc;
+      below = grind (arith, orders);
+      above = grind (arith, orders);
+      same = grind
+          (arith, orders);
+      bytes = bytes;
+    }
 
 pub returns : goal.returns
 returns g c =
     let order = point_order c.args.self.now c.args.other.now in
-    record { value = cc; below = grind (arith, orders); above = grind (arith, orders); same = grind (arith, orders); bytes = cc }
+    record {
+      value = cc;
+      below = grind (arith, orders);
+      above = grind (arith, orders);
+      same = grind
+          (arith, orders);
+      bytes = cc;
+    }

@@ -16,7 +16,9 @@ loop-byte-preserved g c = λ plain.
     let bytes = c.as_bytes-bytes.result.now in
     let byte = get_or bytes c.loop-byte.byte-index 0 in
     let small : byte < 256 = omega (arith, c.type_inv.bytes c.loop-byte.byte-index) in
-    let digits : styled_digits_output c.in_radix.result c.laid_out.result ≡ Some (digit_glyph true (byte / 16) ∷ digit_glyph true (byte % 16) ∷ []) =
+    let digits : styled_digits_output c.in_radix.result c.laid_out.result
+    ≡ Some (digit_glyph true (byte / 16) ∷ digit_glyph true (byte % 16) ∷ []) =
     rw (c.laid_out.ensures, c.in_radix.ensures) (ap Some (hex_byte true byte small)) in
     let writes = rw digits at c.in_ok-write.ensures.writes in
-    put_two _ _ _ _ _ _ _ so_far (writes so_far.plain refl) (encode_more bytes c.loop-byte.byte-index (omega arith) small)
+    put_two _ _ _ _ _ _ _ so_far (writes so_far.plain refl)
+    (encode_more bytes c.loop-byte.byte-index (omega arith) small)
