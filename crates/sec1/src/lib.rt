@@ -6,6 +6,7 @@
 #![tactic(auto)]
 
 mod borrowed_key;
+mod checks;
 mod error;
 pub mod laws;
 mod parameters;

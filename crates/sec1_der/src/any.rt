@@ -10,7 +10,7 @@ use crate::{
 /// An element of any tag, which borrows its content unread.
 // The tag is held as its byte: a value that holds both a reference and a type with a `Model` can't
 // be passed by `?`.
-#[derive(Clone, Copy, PartialEq, Eq, Debug)]
+#[derive(Clone, Copy, Debug)]
 pub struct AnyRef<'a> {
     tag: u8,
     value: &'a [u8],
@@ -108,6 +108,37 @@ impl<'a> From<&'a ObjectIdentifier> for AnyRef<'a> {
             value: identifier.as_bytes(),
         }
     }
+}
+
+/// Two are equal exactly where their tags and their contents are.
+impl PartialEq for AnyRef<'_> {
+    ghost use Rattle.std.specs.Cmp.{and_equiv, nat_eq_equiv, on_equiv, partial_equiv_from_equiv};
+    ghost use Rattle.std.specs.Cmp.Lexicographic.{on_texts_equal};
+    ghost use Rattle.std.specs.Ordering.{eq_of_both, on};
+    ghost use Rattle.std.specs.Prelude.{◌≡◌, ◌↔◌, IsTrue, bytes_eq, nat_eq};
+    ghost use Rattle.sec1_der.specs.Values.{tag_of, value_of};
+
+    ghost eq = { eq_of_both (on tag_of nat_eq) (on value_of bytes_eq) };
+
+    ghost laws = { partial_equiv_from_equiv (and_equiv (on_equiv tag_of nat_eq_equiv)
+        (on_texts_equal value_of)) };
+
+    fn eq(&self, other: &Self) -> bool
+        ensures value { result
+            ≡ eq_of_both (on tag_of nat_eq) (on value_of bytes_eq) self.now other.now }
+        ensures same { IsTrue result ↔ ((tag_of self.now ≡ tag_of other.now)
+            × (value_of self.now ≡ value_of other.now)) }
+    {
+        self.tag == other.tag && self.value == other.value
+    }
+}
+
+impl Eq for AnyRef<'_> {
+    ghost use Rattle.std.specs.Cmp.{and_equiv, nat_eq_equiv, on_equiv};
+    ghost use Rattle.std.specs.Cmp.Lexicographic.{on_texts_equal};
+    ghost use Rattle.sec1_der.specs.Values.{tag_of, value_of};
+
+    ghost laws = { and_equiv (on_equiv tag_of nat_eq_equiv) (on_texts_equal value_of) };
 }
 
 impl ValueContent for AnyRef<'_> {

@@ -1,4 +1,7 @@
 ghost use Rattle.std.specs.Prelude.{◌≡◌, ℕ, ◌<◌, ◌≤◌, ◌^◌, length, take, List, ◌++◌, IfOk, IfErr};
+ghost use Rattle.std.specs.Cmp.{and_equiv, nat_eq_equiv, on_equiv, partial_equiv_from_equiv};
+ghost use Rattle.std.specs.Ordering.{eq_of_both, on};
+ghost use Rattle.std.specs.Prelude.{nat_eq, ◌↔◌, IsTrue};
 ghost use Rattle.std.specs.Prelude.{IsOkAnd, IsOk, IsErr, OnErr, false, true, Some};
 ghost use Rattle.sec1_der.specs.Elements.{max_length, length_octets, header, element, IsHeader};
 ghost use Rattle.sec1_der.specs.Elements.{IsProperBeginning, LacksHeader};
@@ -17,7 +20,7 @@ pub(crate) const LONG_FORM: usize = 0x80;
 pub(crate) type First<'a, T> = std::result::Result<(T, &'a [u8]), ErrorKind>;
 
 /// The tag and the length of an element (X.690 sections 8.1.2 and 8.1.3).
-#[derive(Clone, Copy, Debug, PartialEq, Eq)]
+#[derive(Clone, Copy, Debug)]
 pub struct Header {
     /// The tag.
     pub tag: Tag,
@@ -105,6 +108,27 @@ impl Header {
             _ => ([tag, 0x84, a, b, c, d], 6),
         }
     }
+}
+
+/// Two are equal exactly where their tags and their lengths are.
+impl PartialEq for Header {
+    ghost eq = { eq_of_both (on (λ h. h.tag) nat_eq) (on (λ h. h.length) nat_eq) };
+
+    ghost laws = { partial_equiv_from_equiv (and_equiv (on_equiv (λ h. h.tag) nat_eq_equiv)
+        (on_equiv (λ h. h.length) nat_eq_equiv)) };
+
+    fn eq(&self, other: &Self) -> bool
+        ensures value { result
+            ≡ eq_of_both (on (λ h. h.tag) nat_eq) (on (λ h. h.length) nat_eq) self.now other.now }
+        ensures same { IsTrue result ↔ (self.now ≡ other.now) }
+    {
+        self.tag == other.tag && self.length == other.length
+    }
+}
+
+impl Eq for Header {
+    ghost laws = { and_equiv (on_equiv (λ h. h.tag) nat_eq_equiv)
+        (on_equiv (λ h. h.length) nat_eq_equiv) };
 }
 
 /// Returns the header at the beginning of the bytes, and the bytes after it, which are at least as

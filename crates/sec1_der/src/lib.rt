@@ -10,6 +10,7 @@
 mod any;
 mod back_writer;
 mod bit_string;
+mod checks;
 mod codec;
 mod component_values;
 mod context;

@@ -10,21 +10,14 @@ ghost use Rattle.sec1_tests.specs.Examples.{p_256_base, p_256_base_compressed};
 
 pub mod equality;
 
-use sec1::der::{ErrorKind, FixedTag, ObjectIdentifier};
-use sec1::{ALGORITHM_OID, EcParameters, laws};
+use sec1::der::{ErrorKind, ObjectIdentifier};
+use sec1::{ALGORITHM_OID, laws};
 
 /// Returns the identifier of the keys' algorithm, id-ecPublicKey (RFC 5480 section 2.1.1).
 pub fn algorithm_identifier() -> ObjectIdentifier
     ensures { result ≡ 1 ∷ 2 ∷ 840 ∷ 10045 ∷ 2 ∷ 1 ∷ [] }
 {
     ALGORITHM_OID
-}
-
-/// Returns the tag byte of a curve's name, an OBJECT IDENTIFIER (X.690 section 8.19).
-pub fn parameters_tag_byte() -> u8
-    ensures { result ≡ 0x06 }
-{
-    EcParameters::TAG.byte()
 }
 
 /// A key on P-256 and its bytes (RFC 5915 section 3).

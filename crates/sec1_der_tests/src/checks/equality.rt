@@ -160,6 +160,27 @@ pub fn is_sequence(tag: Tag) -> bool
     tag == Tag::SEQUENCE
 }
 
+/// The tag of a borrowed header is compared with a constant.
+pub fn begins_sequence(header: &Header) -> bool
+    ensures { IsTrue result ↔ (header.now.tag ≡ 0x30) }
+{
+    header.tag == Tag::SEQUENCE
+}
+
+/// The kind of a borrowed error is compared with a variant.
+pub fn is_truncated(error: &Error) -> bool
+    ensures { IsTrue result ↔ (error.now.kind ≡ ErrorKind.Truncated) }
+{
+    error.kind == ErrorKind::Truncated
+}
+
+/// Two borrowed identifiers differ exactly where their arcs do.
+pub fn other_borrowed_identifier(a: &ObjectIdentifier, b: &ObjectIdentifier) -> bool
+    ensures { IsTrue result ↔ (a.now ≢ b.now) }
+{
+    a != b
+}
+
 /// The clone of a length is the same, and never fails.
 pub fn cloned_length(value: &Length) -> Cloned<Length>
     ensures { IsOkAnd result (λ cloned. cloned ≡ value.now) }

@@ -1,5 +1,5 @@
 //! What `==`, `!=` and `clone` say of the values of `sec1`, as a caller meets them.
-ghost use Rattle.std.specs.Prelude.{◌≡◌, ◌≢◌, ◌↔◌, IsTrue, IsOkAnd, [], ◌∷◌};
+ghost use Rattle.std.specs.Prelude.{◌≡◌, ◌≢◌, ◌↔◌, IsTrue, IsOkAnd, [], ◌∷◌, Some};
 ghost use Rattle.sec1.specs.Coordinates.{coordinates_bytes};
 ghost use Rattle.sec1.specs.EncodedPoints.{point_of};
 ghost use Rattle.sec1.specs.Parameters.{curve_of};
@@ -94,6 +94,20 @@ pub fn is_algorithm(identifier: ObjectIdentifier) -> bool
     ensures { IsTrue result ↔ (identifier ≡ 1 ∷ 2 ∷ 840 ∷ 10045 ∷ 2 ∷ 1 ∷ []) }
 {
     identifier == ALGORITHM_OID
+}
+
+/// The curve of a key is compared by the arcs of its identifier.
+pub fn names_curve(key: &EcPrivateKey, curve: ObjectIdentifier) -> bool
+    ensures { IsTrue result ↔ (key.now.parameters ≡ Some curve) }
+{
+    key.parameters == Some(EcParameters::NamedCurve(curve))
+}
+
+/// The curve of a key differs from this one, or there is none.
+pub fn names_another_curve(key: &EcPrivateKey, curve: ObjectIdentifier) -> bool
+    ensures { IsTrue result ↔ (key.now.parameters ≢ Some curve) }
+{
+    key.parameters != Some(EcParameters::NamedCurve(curve))
 }
 
 /// The clone of a key has the same parts, and never fails.

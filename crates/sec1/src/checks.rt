@@ -1,0 +1,12 @@
+//! What a constant is. Nothing calls the function: its contract refuses another constant.
+ghost use Rattle.std.specs.Prelude.{◌≡◌};
+
+use crate::EcParameters;
+use crate::der::FixedTag;
+
+/// Returns the tag byte of a curve's name, an OBJECT IDENTIFIER (X.690 section 8.19).
+pub fn parameters_tag_byte() -> u8
+    ensures { result ≡ 0x06 }
+{
+    EcParameters::TAG.byte()
+}
