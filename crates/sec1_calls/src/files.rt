@@ -1,0 +1,112 @@
+//! Keys and documents in files.
+
+use crate::calls::{Outcome, sum_of, tried};
+use crate::keys::{Copied, der_failed, failed, pattern};
+use crate::streams::error_name;
+use crate::words::{number, word};
+use sec1::der::SecretDocument;
+use sec1::{DecodeEcPrivateKey, EcPrivateKey, EncodeEcPrivateKey};
+use std::alloc::{AllocError, Global};
+use std::rt::Files;
+
+/// Returns the text of the bytes of a file.
+fn found(alloc: Global, bytes: &[u8]) -> Result<String, AllocError> {
+    match sum_of(bytes) {
+        Outcome::Bytes(len, sum) => format!(in alloc; "{len} {sum}"),
+        _ => "other".to_string(alloc),
+    }
+}
+
+/// Returns the line for a file that is read as `document` or as `key`.
+pub fn read<H: Files>(rt: &H, alloc: Global, rest: &[u8]) -> Result<String, AllocError> {
+    let (kind, path) = word(rest);
+    let Ok(path) = str::from_utf8(path) else {
+        return "not a text".to_string(alloc);
+    };
+    if kind == b"key".as_slice() {
+        return match Copied::read_sec1_der_file(rt, alloc, path) {
+            Ok(key) => found(alloc, &key.bytes),
+            Err(error) => error_name(alloc, &error),
+        };
+    }
+    match SecretDocument::read_der_file(rt, alloc, path) {
+        Ok(document) => found(alloc, document.as_bytes()),
+        Err(error) => format!(in alloc; "{:?}", error.kind),
+    }
+}
+
+/// Returns the line for a file into which a `document` or a `key` is written.
+pub fn write<H: Files>(rt: &H, alloc: Global, rest: &[u8]) -> Result<String, AllocError> {
+    let (kind, rest) = word(rest);
+    let (private_len, path) = word(rest);
+    let Ok(path) = str::from_utf8(path) else {
+        return "not a text".to_string(alloc);
+    };
+    let private_key = pattern(alloc, number(private_len))?;
+    let key = EcPrivateKey {
+        private_key: &private_key,
+        parameters: None,
+        public_key: None,
+    };
+    let Ok(document) = key.document(alloc) else {
+        return "not written".to_string(alloc);
+    };
+    if kind == b"key".as_slice() {
+        let key = Copied {
+            bytes: Vec::from_slice(alloc, document.as_bytes())?,
+        };
+        return match key.write_sec1_der_file(rt, alloc, path) {
+            Ok(()) => "Ok".to_string(alloc),
+            Err(error) => error_name(alloc, &error),
+        };
+    }
+    match document.write_der_file(rt, path) {
+        Ok(()) => "Ok".to_string(alloc),
+        Err(error) => format!(in alloc; "{:?}", error.kind),
+    }
+}
+
+/// Returns the line for the calls on a file of a key with a private key of so many bytes.
+pub fn answer<H: Files>(rt: &H, alloc: Global, rest: &[u8]) -> Result<String, AllocError> {
+    let (private_len, path) = word(rest);
+    let Ok(path) = str::from_utf8(path) else {
+        return "not a text".to_string(alloc);
+    };
+    let private_key = pattern(alloc, number(private_len))?;
+    let key = EcPrivateKey {
+        private_key: &private_key,
+        parameters: None,
+        public_key: None,
+    };
+    let Ok(document) = key.document(alloc) else {
+        return "not written".to_string(alloc);
+    };
+    let key = Copied {
+        bytes: Vec::from_slice(alloc, document.as_bytes())?,
+    };
+    let wrote = tried(alloc, "write_sec1_der_file", || {
+        match key.write_sec1_der_file(rt, alloc, path) {
+            Ok(()) => Outcome::Bytes(0, 0),
+            Err(error) => failed(error),
+        }
+    })?;
+    let read = tried(alloc, "read_sec1_der_file", || {
+        match Copied::read_sec1_der_file(rt, alloc, path) {
+            Ok(key) => sum_of(&key.bytes),
+            Err(error) => failed(error),
+        }
+    })?;
+    let put = tried(alloc, "write_der_file", || {
+        match document.write_der_file(rt, path) {
+            Ok(()) => Outcome::Bytes(0, 0),
+            Err(error) => der_failed(error),
+        }
+    })?;
+    let got = tried(alloc, "read_der_file", || {
+        match SecretDocument::read_der_file(rt, alloc, path) {
+            Ok(document) => sum_of(document.as_bytes()),
+            Err(error) => der_failed(error),
+        }
+    })?;
+    format!(in alloc; "file{wrote}{read}{put}{got}")
+}

@@ -1,0 +1,56 @@
+//! Makes the calls that need memory, streams or files, and single ones, each line of standard input
+//! naming one, and prints how it ends.
+//!
+//! `point N DIGITS`: each call that allocates, of the point with this encoding at field elements of
+//! N bytes.
+//! `key P C Q`: each call that allocates, of the key with a private key of P bytes, the curve whose
+//! identifier has the content C and a public key of Q bytes, each `-` if absent.
+//! `break HOW AT STEP P`: the key with a private key of P bytes over a reader and a writer that
+//! fail once, after AT bytes.
+//! `encode P ROOM`, `document DIGITS`, `failed DIGITS`, `parts N DIGITS`: single calls.
+//! `write KIND P PATH`, `read KIND PATH`: one call on a file, of a `key` or a `document`.
+//! `file P PATH`: each call on a file. `refuse PATH`: a key type that refuses.
+//!
+//! `tests/calls` makes the lines, and says what is printed.
+#![tactic(auto)]
+
+mod calls;
+mod files;
+mod keys;
+mod points;
+mod refusals;
+mod results;
+mod streams;
+mod words;
+
+use std::alloc::{AllocError, Global};
+use std::io;
+use std::io::{BufRead, BufReader};
+use std::rt::Files;
+use words::word;
+
+/// Returns the line that answers this one.
+fn answer<H: Files>(rt: &H, alloc: Global, line: &str) -> Result<String, AllocError> {
+    let (name, rest) = word(line.as_bytes());
+    match name {
+        b"point" => points::answer(alloc, rest),
+        b"key" => keys::answer(alloc, rest),
+        b"break" => streams::answer(alloc, rest),
+        b"write" => files::write(rt, alloc, rest),
+        b"read" => files::read(rt, alloc, rest),
+        b"file" => files::answer(rt, alloc, rest),
+        b"encode" => results::encode(alloc, rest),
+        b"document" => results::document(alloc, rest),
+        b"failed" => results::failed(alloc, rest),
+        b"parts" => results::parts(alloc, rest),
+        b"refuse" => refusals::answer(rt, alloc, rest),
+        _ => "no such line".to_string(alloc),
+    }
+}
+
+fn main(rt: HostRuntime) -> io::Result<()> {
+    for line in BufReader::new(rt.alloc(), rt.reader())?.lines(rt.alloc()) {
+        println!(&rt; "{}", answer(&rt, rt.alloc(), &line?)?)?;
+    }
+    Ok(())
+}

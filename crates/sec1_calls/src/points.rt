@@ -1,0 +1,79 @@
+//! The calls of points that allocate.
+ghost use Rattle.std.specs.Prelude.{◌<◌, ◌^◌};
+ghost use Rattle.sec1.specs.Points.{Fits};
+
+use crate::calls::{Outcome, sum_of, tried};
+use crate::words::{number, word};
+use sec1::{EncodedPoint, Error};
+use serde_json::Value;
+use std::alloc::{AllocError, Global};
+
+/// Returns what a call gave that has an error.
+fn failed(error: Error) -> Outcome {
+    match error {
+        Error::Memory => Outcome::Memory,
+        _ => Outcome::Other,
+    }
+}
+
+/// Returns the ends of the calls of this point.
+fn ends<const N: usize, const L: usize>(
+    alloc: Global,
+    point: &EncodedPoint<N, L>,
+) -> Result<String, AllocError>
+    requires fits { Fits N L }
+    requires size { L < 2 ^ 62 }
+{
+    let bytes = tried(alloc, "to_bytes", || match point.to_bytes(alloc) {
+        Ok(bytes) => sum_of(bytes.as_slice()),
+        Err(error) => failed(error),
+    })?;
+    let lower = tried(alloc, "to_lower_hex", || match point.to_lower_hex(alloc) {
+        Ok(text) => sum_of(text.as_bytes()),
+        Err(error) => failed(error),
+    })?;
+    let upper = tried(alloc, "to_upper_hex", || match point.to_upper_hex(alloc) {
+        Ok(text) => sum_of(text.as_bytes()),
+        Err(error) => failed(error),
+    })?;
+    let json = tried(alloc, "to_json", || match point.to_json(alloc) {
+        Ok(Value::String(text)) => sum_of(text.as_bytes()),
+        Ok(_) => Outcome::Other,
+        Err(error) => failed(error),
+    })?;
+    let shown = tried(alloc, "Display", || match format!(in alloc; "{point}") {
+        Ok(text) => sum_of(text.as_bytes()),
+        Err(_) => Outcome::Memory,
+    })?;
+    format!(in alloc; "point{bytes}{lower}{upper}{json}{shown}")
+}
+
+/// Returns the ends of the calls of the point with these bytes.
+fn ends_of<const N: usize, const L: usize>(
+    alloc: Global,
+    bytes: &[u8],
+) -> Result<String, AllocError>
+    requires fits { Fits N L }
+    requires size { L < 2 ^ 62 }
+{
+    match EncodedPoint::<N, L>::from_bytes(bytes) {
+        Ok(point) => ends(alloc, &point),
+        Err(_) => "no point".to_string(alloc),
+    }
+}
+
+/// Returns the line for a point.
+pub fn answer(alloc: Global, rest: &[u8]) -> Result<String, AllocError> {
+    let (size, digits) = word(rest);
+    let Ok(bytes) = hex::decode(alloc, digits) else {
+        return "not hexadecimal".to_string(alloc);
+    };
+    match number(size) {
+        5 => ends_of::<5, 11>(alloc, &bytes),
+        28 => ends_of::<28, 57>(alloc, &bytes),
+        32 => ends_of::<32, 65>(alloc, &bytes),
+        48 => ends_of::<48, 97>(alloc, &bytes),
+        66 => ends_of::<66, 133>(alloc, &bytes),
+        _ => "no such size".to_string(alloc),
+    }
+}

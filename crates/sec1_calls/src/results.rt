@@ -1,0 +1,133 @@
+//! What single calls give: of readers, documents, slices and points.
+ghost use Rattle.std.specs.Prelude.{◌<◌, ◌^◌};
+ghost use Rattle.sec1.specs.Points.{Fits};
+
+use crate::keys::pattern;
+use crate::streams::error_name;
+use crate::words::{number, word};
+use sec1::der::{Error, Length, OctetStringRef, SecretDocument, SliceReader, check_tree};
+use sec1::{EcPrivateKey, EncodedPoint};
+use std::alloc::{AllocError, Global};
+
+/// Returns the digits of the bytes.
+fn digits(alloc: Global, bytes: &[u8]) -> Result<String, AllocError> {
+    hex::encode(alloc, bytes)
+}
+
+/// Returns the line for a key with a private key of so many bytes that is written into a slice of
+/// so many bytes AA.
+pub fn encode(alloc: Global, rest: &[u8]) -> Result<String, AllocError> {
+    let (private_len, room) = word(rest);
+    let private_key = pattern(alloc, number(private_len))?;
+    let key = EcPrivateKey {
+        private_key: &private_key,
+        parameters: None,
+        public_key: None,
+    };
+    let mut buffer = pattern(alloc, number(room))?;
+    buffer.fill(0xAA);
+    let wrote = match key.encode_to_slice(&mut buffer) {
+        Ok(count) => format!(in alloc; "{count}")?,
+        Err(error) => error_name(alloc, &error)?,
+    };
+    let is_read = EcPrivateKey::try_from(buffer.as_slice()).is_ok();
+    format!(in alloc; "encode {wrote} {} read {is_read}", digits(alloc, &buffer)?)
+}
+
+/// Returns the name of the kind of the error, or `Ok`.
+fn end<T: Drop>(alloc: Global, res: Result<T, Error>) -> Result<String, AllocError> {
+    match res {
+        Ok(_) => "Ok".to_string(alloc),
+        Err(error) => format!(in alloc; "{:?}", error.kind),
+    }
+}
+
+/// Returns the line for a document of these bytes.
+pub fn document(alloc: Global, rest: &[u8]) -> Result<String, AllocError> {
+    let Ok(bytes) = hex::decode(alloc, rest) else {
+        return "not hexadecimal".to_string(alloc);
+    };
+    let tree = match check_tree(&bytes) {
+        Ok(count) => format!(in alloc; "{count}")?,
+        Err(error) => format!(in alloc; "{:?}", error.kind)?,
+    };
+    match SecretDocument::from_der(alloc, &bytes) {
+        Ok(document) => format!(in alloc; "document {} {tree}", document.len()),
+        Err(error) => format!(in alloc; "document {:?} {tree}", error.kind),
+    }
+}
+
+/// Returns the line for a reader over these bytes that reads an octet string, and of which each
+/// other call is made then.
+pub fn failed(alloc: Global, rest: &[u8]) -> Result<String, AllocError> {
+    let Ok(bytes) = hex::decode(alloc, rest) else {
+        return "not hexadecimal".to_string(alloc);
+    };
+    let Ok(one) = Length::new(1) else {
+        return "no length".to_string(alloc);
+    };
+    let mut reader = SliceReader::new(&bytes);
+    let first = end(alloc, reader.decode::<OctetStringRef>())?;
+    let is_failed = reader.is_failed();
+    let left = reader.remaining_len();
+    let peeked = reader.peek_tag_byte();
+    let again = end(alloc, reader.decode::<OctetStringRef>())?;
+    let field = end(alloc, reader.context_specific::<OctetStringRef>(0))?;
+    let slice = end(alloc, reader.read_slice(one))?;
+    let nested = end(alloc, reader.read_nested(one))?;
+    let finished = end(alloc, reader.finish())?;
+    let same = reader.remaining_len() == left;
+    format!(in alloc;
+        "failed {first} {is_failed} {peeked:?} {again} {field} {slice} {nested} {finished} {same}"
+    )
+}
+
+/// Returns the digits of a coordinate, or `none`.
+fn coordinate<const N: usize>(
+    alloc: Global,
+    bytes: Option<&[u8; N]>,
+) -> Result<String, AllocError> {
+    match bytes {
+        Some(bytes) => digits(alloc, bytes.as_slice()),
+        None => "none".to_string(alloc),
+    }
+}
+
+/// Returns the parts of the point with these bytes.
+fn parts_of<const N: usize, const L: usize>(
+    alloc: Global,
+    bytes: &[u8],
+) -> Result<String, AllocError>
+    requires fits { Fits N L }
+    requires size { L < 2 ^ 62 }
+{
+    let point = match EncodedPoint::<N, L>::from_bytes(bytes) {
+        Ok(point) => point,
+        Err(error) => return error_name(alloc, &error),
+    };
+    let tag = point.tag();
+    let len = point.len();
+    let x = coordinate(alloc, point.x())?;
+    let y = coordinate(alloc, point.y())?;
+    let compressed = digits(alloc, point.compress().as_bytes())?;
+    let hybrid = digits(alloc, point.to_hybrid().as_bytes())?;
+    format!(in alloc; "parts {tag:?} {len} {x} {y} {compressed} {hybrid}")
+}
+
+/// Returns the line for the parts of a point.
+pub fn parts(alloc: Global, rest: &[u8]) -> Result<String, AllocError> {
+    let (size, point) = word(rest);
+    let Ok(bytes) = hex::decode(alloc, point) else {
+        return "not hexadecimal".to_string(alloc);
+    };
+    match number(size) {
+        1 => parts_of::<1, 3>(alloc, &bytes),
+        2 => parts_of::<2, 5>(alloc, &bytes),
+        5 => parts_of::<5, 11>(alloc, &bytes),
+        28 => parts_of::<28, 57>(alloc, &bytes),
+        32 => parts_of::<32, 65>(alloc, &bytes),
+        48 => parts_of::<48, 97>(alloc, &bytes),
+        66 => parts_of::<66, 133>(alloc, &bytes),
+        _ => "no such size".to_string(alloc),
+    }
+}

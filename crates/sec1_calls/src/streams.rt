@@ -1,0 +1,188 @@
+//! Keys and documents over readers and writers that fail once and would then go on.
+
+use crate::calls::{Outcome, sum_of};
+use crate::keys::{Copied, pattern};
+use crate::words::{number, word};
+use sec1::der::{Error, SecretDocument, StdReader, StdWriter};
+use sec1::{DecodeEcPrivateKey, EcPrivateKey, EncodeEcPrivateKey};
+use std::alloc::{AllocError, Global};
+use std::io;
+
+/// How a stream fails, once, and after how many bytes; at most so many bytes are moved at once.
+#[derive(Clone, Copy)]
+struct Break {
+    kind: Option<io::ErrorKind>,
+    at: usize,
+    step: usize,
+}
+
+impl Break {
+    /// Returns whether the stream fails now, and how many of these bytes it moves otherwise.
+    fn next(&mut self, moved: usize, wanted: usize) -> io::Result<usize> {
+        let mut count = wanted.min(self.step);
+        if let Some(kind) = self.kind {
+            if moved == self.at {
+                self.kind = None;
+                return Err(io::Error::from(kind));
+            }
+            if moved < self.at {
+                count = count.min(self.at - moved);
+            }
+        }
+        Ok(count)
+    }
+}
+
+/// A reader of these bytes.
+#[derive(Drop)]
+struct Source<'a> {
+    rest: &'a [u8],
+    moved: usize,
+    breaks: Break,
+}
+
+impl io::Read for Source<'_> {
+    fn read(&mut self, buf: &mut [u8]) -> io::Result<usize> {
+        let wanted = buf.len().min(self.rest.len());
+        let count = self.breaks.next(self.moved, wanted)?.min(wanted);
+        let (front, rest) = self.rest.split_at(count);
+        buf[..count].copy_from_slice(front);
+        self.rest = rest;
+        self.moved = self.moved.saturating_add(count);
+        Ok(count)
+    }
+}
+
+/// A writer into a vector.
+#[derive(Drop)]
+struct Target {
+    taken: Vec<u8>,
+    breaks: Break,
+}
+
+impl io::Write for Target {
+    fn write(&mut self, buf: &[u8]) -> io::Result<usize> {
+        let count = self
+            .breaks
+            .next(self.taken.len(), buf.len())?
+            .min(buf.len());
+        self.taken.extend_from_slice(&buf[..count])?;
+        Ok(count)
+    }
+
+    fn flush(&mut self) -> io::Result<()> {
+        Ok(())
+    }
+}
+
+/// Returns the text of what bytes were moved.
+fn moved(alloc: Global, bytes: &[u8]) -> Result<String, AllocError> {
+    match sum_of(bytes) {
+        Outcome::Bytes(len, sum) => format!(in alloc; "{len} {sum}"),
+        _ => "other".to_string(alloc),
+    }
+}
+
+/// Returns the name of the error.
+pub fn error_name(alloc: Global, error: &sec1::Error) -> Result<String, AllocError> {
+    match error {
+        sec1::Error::Asn1(Error { kind, .. }) => format!(in alloc; "{kind:?}"),
+        other => format!(in alloc; "{other:?}"),
+    }
+}
+
+/// Returns the text of what is read as a document.
+fn document_read(alloc: Global, bytes: &[u8], breaks: Break) -> Result<String, AllocError> {
+    let mut reader = StdReader::new(Source {
+        rest: bytes,
+        moved: 0,
+        breaks,
+    });
+    let result = SecretDocument::read_der_from(alloc, &mut reader);
+    let count = reader.into_inner().moved;
+    match result {
+        Ok(document) => format!(in alloc; "{} of {count}", moved(alloc, document.as_bytes())?),
+        Err(error) => format!(in alloc; "{:?} of {count}", error.kind),
+    }
+}
+
+/// Returns the text of what is read as a key.
+fn key_read(alloc: Global, bytes: &[u8], breaks: Break) -> Result<String, AllocError> {
+    let mut reader = StdReader::new(Source {
+        rest: bytes,
+        moved: 0,
+        breaks,
+    });
+    let result = Copied::read_sec1_der_from(alloc, &mut reader);
+    let count = reader.into_inner().moved;
+    match result {
+        Ok(key) => format!(in alloc; "{} of {count}", moved(alloc, &key.bytes)?),
+        Err(error) => format!(in alloc; "{} of {count}", error_name(alloc, &error)?),
+    }
+}
+
+/// Returns the text of what a document writes.
+fn document_written(alloc: Global, bytes: &[u8], breaks: Break) -> Result<String, AllocError> {
+    let Ok(document) = SecretDocument::from_der(alloc, bytes) else {
+        return "no document".to_string(alloc);
+    };
+    let mut writer = StdWriter::new(Target {
+        taken: Vec::new(alloc),
+        breaks,
+    });
+    let result = document.write_der_to(&mut writer);
+    let taken = moved(alloc, &writer.into_inner().taken)?;
+    match result {
+        Ok(()) => format!(in alloc; "Ok {taken}"),
+        Err(error) => format!(in alloc; "{:?} {taken}", error.kind),
+    }
+}
+
+/// Returns the text of what a key writes.
+fn key_written(alloc: Global, bytes: &[u8], breaks: Break) -> Result<String, AllocError> {
+    let key = Copied {
+        bytes: Vec::from_slice(alloc, bytes)?,
+    };
+    let mut writer = StdWriter::new(Target {
+        taken: Vec::new(alloc),
+        breaks,
+    });
+    let result = key.write_sec1_der_to(alloc, &mut writer);
+    let taken = moved(alloc, &writer.into_inner().taken)?;
+    match result {
+        Ok(()) => format!(in alloc; "Ok {taken}"),
+        Err(error) => format!(in alloc; "{} {taken}", error_name(alloc, &error)?),
+    }
+}
+
+/// Returns the line for a key over a stream that fails once.
+pub fn answer(alloc: Global, rest: &[u8]) -> Result<String, AllocError> {
+    let (how, rest) = word(rest);
+    let (at, rest) = word(rest);
+    let (step, private_len) = word(rest);
+    let kind = match how {
+        b"WouldBlock" => Some(io::ErrorKind::WouldBlock),
+        b"Interrupted" => Some(io::ErrorKind::Interrupted),
+        b"Other" => Some(io::ErrorKind::Other),
+        _ => None,
+    };
+    let breaks = Break {
+        kind,
+        at: number(at),
+        step: number(step),
+    };
+    let private_key = pattern(alloc, number(private_len))?;
+    let key = EcPrivateKey {
+        private_key: &private_key,
+        parameters: None,
+        public_key: None,
+    };
+    let Ok(der) = key.to_der(alloc) else {
+        return "not written".to_string(alloc);
+    };
+    let document = document_read(alloc, &der, breaks)?;
+    let key = key_read(alloc, &der, breaks)?;
+    let document_written = document_written(alloc, &der, breaks)?;
+    let key_written = key_written(alloc, &der, breaks)?;
+    format!(in alloc; "break, {document}, {key}, {document_written}, {key_written}")
+}

@@ -1,0 +1,246 @@
+"""The lines that sec1_calls reads, and what it has to print for each.
+
+Written from docs/FORMATS.md and the documentation of the calls. `rows()` are the lines of the stored
+input: points, keys, and streams that fail once.
+"""
+import functools
+
+SIZES = (5, 28, 32, 48, 66)
+LENGTHS = (0, 1, 28, 32, 48, 66, 300, 5000, 100000, 2000000)
+CURVE = "2a8648ce3d030107"
+# the most that a document grows by at once, in bytes
+GROWTH = 4096
+
+
+def element(tag, content):
+    """An element in DER: the length in the fewest bytes (X.690 section 10.1)."""
+    count = len(content)
+    if count < 128:
+        return bytes([tag, count]) + content
+    octets = count.to_bytes((count.bit_length() + 7) // 8, "big")
+    return bytes([tag, 0x80 + len(octets)]) + octets + content
+
+
+def pattern(count):
+    """So many bytes: 0 to 250 over and over."""
+    return (bytes(range(251)) * (count // 251 + 1))[:count]
+
+
+def key(private_len, curve=None, public_len=None):
+    """The content of a key with these parts (RFC 5915 section 3)."""
+    content = element(2, b"\1") + element(4, pattern(private_len))
+    if curve is not None:
+        content += element(0xA0, element(6, bytes.fromhex(curve)))
+    if public_len is not None:
+        content += element(0xA1, element(3, b"\0" + pattern(public_len)))
+    return content
+
+
+@functools.lru_cache(maxsize=None)
+def sum_of(data):
+    """The length of the bytes, and their sum, in which each multiplies what is before it by 31."""
+    total = 0
+    for byte in data:
+        total = (total * 31 + byte) % 2**32
+    return f"{len(data)} {total}"
+
+
+def doublings(count):
+    """How often a text that grows from 8 bytes is made larger until it has so many."""
+    steps, room = 1, 8
+    while room < count:
+        steps, room = steps + 1, 2 * room
+    return steps
+
+
+def call(name, result, requests, others=0):
+    """What is printed of a call: with refused requests, how many end it with Memory, and how many
+    don't end it, and how many end it with another error."""
+    return f" {name} {result}", f" {requests}+0+{others}" if requests + others else ""
+
+
+def line(name, calls, is_refused):
+    return name + "".join(text + counts * is_refused for text, counts in calls)
+
+
+def points():
+    """The size and the encoding of points of each form."""
+    for size in SIZES:
+        x, even, odd = bytes(range(1, size + 1)), b"\xAB" * (size - 1) + b"\xCE", b"\xEF" * size
+        yield size, b"\0"
+        for first, y in ((2, b""), (3, b""), (4, even), (4, odd), (5, b""), (6, even), (7, odd)):
+            yield size, bytes([first]) + x + y
+
+
+def point_rows(is_refused):
+    for size, encoding in points():
+        lower, upper = encoding.hex().encode(), encoding.hex().upper().encode()
+        calls = [call("to_bytes", sum_of(encoding), 1), call("to_lower_hex", sum_of(lower), 1)]
+        calls += [call("to_upper_hex", sum_of(upper), 1), call("to_json", sum_of(upper), 1)]
+        calls += [call("Display", sum_of(upper), doublings(len(upper)))]
+        yield f"point {size} {encoding.hex()}", line("point", calls, is_refused)
+
+
+def key_shapes():
+    """The private key's length, the curve and the public key's length."""
+    for count in LENGTHS:
+        for curve in (None, CURVE):
+            for public_len in (None, 65):
+                yield count, curve, public_len
+    # contents of a whole number of steps, one byte less and one more
+    for steps in (1, 2, 3, 25):
+        for more in (-1, 0, 1):
+            wanted = steps * GROWTH + more
+            yield next(p for p in range(wanted) if len(key(p)) == wanted), None, None
+    yield 0, None, 0
+    yield 0, CURVE, 100000
+
+
+def key_rows(is_refused):
+    for count, curve, public_len in key_shapes():
+        content = key(count, curve, public_len)
+        result = sum_of(element(0x30, content))
+        growth = (len(content) + GROWTH - 1) // GROWTH
+        names = ["to_der", "document_ref", "document", "encode_msg", "from_der"]
+        calls = [call(name, result, 1) for name in names]
+        calls += [call("read_der_from", result, growth), call("from_sec1_der", result, 1)]
+        calls += [call("read_sec1_der_from", result, growth + 1)]
+        calls += [call("to_sec1_der", result, 1), call("write_sec1_der_to", result, 1)]
+        shape = f"key {count} {curve or '-'} {'-' if public_len is None else public_len}"
+        yield shape, line("key", calls, is_refused)
+
+
+def break_row(how, after, step, private_len):
+    der = element(0x30, key(private_len))
+    taken, whole = sum_of(der[:after]), sum_of(der)
+    reads, writes = f"{whole} of {len(der)}", f"Ok {whole}"
+    if how != "None":
+        # the end is read too, and isn't written
+        reads = f"Io of {after}" if after <= len(der) else reads
+        writes = f"Io {taken}" if after < len(der) else writes
+    return f"break {how} {after} {step} {private_len}", f"break, {reads}, {reads}, {writes}, {writes}"
+
+
+def break_rows():
+    for how in ("WouldBlock", "Interrupted", "Other"):
+        for step in (1, 3, 100):
+            for after in range(13):
+                yield break_row(how, after, step, 4)
+        for private_len in (4081, 4082, 4083, 5000, 8177, 8178, 8179):
+            whole = len(element(0x30, key(private_len)))
+            near = (4, 4096, 4100, 8192, whole)
+            for after in sorted({place + more for place in near for more in (-1, 0, 1)}):
+                if after <= whole + 1:
+                    yield break_row(how, after, 5000, private_len)
+    for step in (1, 2, 3, 7, 100, 4095, 4096, 4097):
+        for private_len in (0, 4, 66, 300, 4081, 4082, 4083, 5000, 8177, 8178, 8179):
+            yield break_row("None", 0, step, private_len)
+
+
+def encode_rows():
+    """A key that is written into a slice of bytes AA: whether it fits, and whether it is a key."""
+    whole = element(0x30, key(0))
+    shapes = [(0, room) for room in range(10)]
+    shapes += [(count, len(element(0x30, key(count))) + more)
+               for count in (122, 123) for more in (-1, 0, 1)]
+    for count, room in shapes:
+        der = element(0x30, key(count))
+        fits = len(der) <= room
+        left = der + b"\xAA" * (room - len(der)) if fits else b"\xAA" * room
+        result = str(len(der)) if fits else "Buffer"
+        is_read = "true" if fits and len(der) == room else "false"
+        yield f"encode {count} {room}", f"encode {result} {left.hex()} read {is_read}"
+    assert whole == bytes.fromhex("30050201010400")
+
+
+def document_rows():
+    """Documents, and whether the bytes are a tree."""
+    wrapped = b""
+    for _ in range(64):
+        wrapped = element(0x30, wrapped)
+    octet = element(4, b"\xAA")
+    for _ in range(63):
+        octet = element(0x30, octet)
+    tests = [("0401aa", "3 1"), ("3003040500", "5 Truncated"), ("050000", "TrailingData TrailingData")]
+    tests += [("1f00", "Tag Tag"), ("", "Truncated Truncated"), ("0401", "Truncated Truncated")]
+    tests += [("30840fffffff", "Truncated Truncated"), ("308410000000", "Length Length")]
+    tests += [("308410", "Truncated Truncated"), ("3180", "Length Length"), ("0500", "2 1")]
+    tests += [("a000", "2 1"), ("04033080ff", "5 1"), ("0000", "Tag Tag"), ("30800000", "Length Length")]
+    tests += [("3002050000", "TrailingData TrailingData"), (wrapped.hex(), f"{len(wrapped)} 64")]
+    tests += [(octet.hex(), f"{len(octet)} 64")]
+    for inner in (wrapped, octet):
+        outer = element(0x30, inner)
+        tests += [(outer.hex(), f"{len(outer)} Depth")]
+    for digits, found in tests:
+        yield f"document {digits}", f"document {found}"
+
+
+def failed_rows():
+    """A reader of which a call failed: each further call is refused as Failed, and moves nothing."""
+    after = "true None Failed Failed Failed Failed Failed true"
+    tests = [("05000400", "Tag"), ("", "Truncated"), ("0402aa", "Truncated"), ("04800000", "Length")]
+    tests += [("1f000400", "Tag"), ("048105aabbccddee", "Length")]
+    for digits, kind in tests:
+        yield f"failed {digits}", f"failed {kind} {after}"
+    yield "failed 0400", "failed Ok false None Truncated Failed Failed Failed Failed true"
+    yield "failed 04000500", "failed Ok false Some(5) Tag Failed Failed Failed Failed true"
+
+
+TAGS = ("Identity", "", "CompressedEvenY", "CompressedOddY", "Uncompressed", "Compact", "HybridEvenY",
+        "HybridOddY")
+
+
+def parts_of(size, encoding):
+    """The parts of a point, by SEC1 v2.0 section 2.3.3, or the error."""
+    if not encoding or encoding[0] > 7 or encoding[0] == 1:
+        return "PointEncoding"
+    first, x, y = encoding[0], encoding[1 : 1 + size], encoding[1 + size :]
+    has_y = first in (4, 6, 7)
+    if len(encoding) != (1 if first == 0 else 1 + size * (1 + has_y)):
+        return "PointEncoding"
+    parity = y[-1] % 2 if has_y else 0
+    if first in (6, 7) and parity != first - 6:
+        return "PointEncoding"
+    compressed = bytes([2 + parity]) + x if has_y else encoding
+    hybrid = bytes([6 + parity]) + x + y if first == 4 else encoding
+    texts = [x.hex() if first else "none", y.hex() if has_y else "none", compressed.hex(), hybrid.hex()]
+    return f"parts {TAGS[first]} {len(encoding)} " + " ".join(texts)
+
+
+def part_encodings():
+    """Sizes and bytes: known points, and those that are none."""
+    for digits in ("02ff", "0300", "0401ff", "040200", "0507", "050700", "060102", "070103", "070102", "0602ff",
+                   "00", "0000", "01", "06", "07", "ff", "", "040101", "040103"):
+        yield 1, bytes.fromhex(digits)
+    for digits in ("0400000100", "0400000001", "0600000100", "0700000001", "0700000100"):
+        yield 2, bytes.fromhex(digits)
+    yield from points()
+    for size in (28, 32, 48, 66):
+        yield size, b"\2\1" + bytes(size - 1)
+        yield size, b"\3\2" + bytes(size - 1)
+        compressed, whole = b"\2" + b"\x11" * size, b"\4" + b"\x11" * size + b"\x22" * size
+        for point in (compressed, whole):
+            yield size, point
+            yield size, point + b"\0"
+            for first in range(256):
+                if size == 32 or first < 9:
+                    yield size, bytes([first]) + point[1:]
+            for count in range(len(point) if size == 32 else 3):
+                yield size, point[:count]
+
+
+def parts_rows():
+    for size, encoding in part_encodings():
+        yield f"parts {size} {encoding.hex()}", parts_of(size, encoding)
+
+
+def rows(is_refused=False):
+    """Each line of the stored input, and its line of the output: as it is where requests for memory
+    are refused, or with memory to spare."""
+    yield from point_rows(is_refused)
+    yield from key_rows(is_refused)
+    yield from break_rows()
+    yield from encode_rows()
+    yield from document_rows()
+    yield from failed_rows()
+    yield from parts_rows()
