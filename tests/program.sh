@@ -89,9 +89,14 @@ run broken </dev/null;            ended 'a link to no file' 2 nothing "$failed_i
 run circle </dev/null;            ended 'a link to itself' 2 nothing "$failed_input"
 run nothing </dev/null;           ended 'an empty file' 1 refused-report ''
 mkfifo pipe
-cat key >pipe & run pipe </dev/null; wait $!; ended 'a pipe with a name' 0 report ''
-(head -c 60 key; sleep 0.2; tail -c +61 key) >pipe & run pipe </dev/null; wait $!; ended 'a slow pipe with a name' 0 report ''
-: >pipe & run pipe </dev/null; wait $!; ended 'an empty pipe with a name' 1 refused-report ''
+# Opens the pipe for what the command writes, and waits at most 10 seconds for the program to open it.
+feed() { timeout 10 bash -c "($1) >pipe" & }
+feed 'cat key'
+run pipe </dev/null; wait $!;     ended 'a pipe with a name' 0 report ''
+feed 'head -c 60 key; sleep 0.2; tail -c +61 key'
+run pipe </dev/null; wait $!;     ended 'a slow pipe with a name' 0 report ''
+feed true
+run pipe </dev/null; wait $!;     ended 'an empty pipe with a name' 1 refused-report ''
 run /dev/stdin <key;              ended 'the path of standard input, which has DER' 0 report ''
 run /dev/null <text;              ended 'a device that is empty' 1 refused-report ''
 run /dev/zero <text;              ended 'a device without end' 1 long-report ''

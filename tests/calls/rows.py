@@ -234,6 +234,53 @@ def parts_rows():
         yield f"parts {size} {encoding.hex()}", parts_of(size, encoding)
 
 
+CURVES = {
+    None: None,
+    CURVE: "1.2.840.10045.3.1.7",
+    "2b81040022": "1.3.132.0.34",
+    "2a" + "01" * 38: "1.2" + ".1" * 38,
+}
+
+
+def lines_of(items, depth):
+    """Items as `{:#?}` prints them: each on a line of its own, indented."""
+    return "".join(" " * 4 * depth + item + ",\n" for item in items)
+
+
+def shown_key(curve, public_len):
+    """What `{:?}` and `{:#?}` print of a key: no private key."""
+    numbers = None if public_len is None else [str(byte) for byte in pattern(public_len)]
+    text = None if curve is None else f"ObjectIdentifier({CURVES[curve]})"
+    parameters = "None" if curve is None else f"Some(NamedCurve({text}))"
+    public_key = "None" if numbers is None else "Some([" + ", ".join(numbers) + "])"
+    short = f"EcPrivateKey {{ parameters: {parameters}, public_key: {public_key}, .. }}"
+    if curve is not None:
+        parameters = "Some(\n        NamedCurve(\n" + lines_of([text], 3) + "        ),\n    )"
+    if numbers:
+        public_key = "Some(\n        [\n" + lines_of(numbers, 3) + "        ],\n    )"
+    elif numbers is not None:
+        public_key = "Some(\n        [],\n    )"
+    fields = [f"parameters: {parameters}", f"public_key: {public_key}"]
+    return short, "EcPrivateKey {\n" + lines_of(fields, 1) + "    ..\n}"
+
+
+def show_rows():
+    """What `{:?}` prints: of keys and documents nothing that is secret."""
+    for count in (0, 1, 2, 28, 32, 48, 66, 300):
+        for curve in CURVES:
+            for public_len in (None, 0, 1, 65):
+                texts = [*shown_key(curve, public_len), "SecretDocument { .. }", "SecretDocument { .. }"]
+                shape = f"show_key {count} {curve or '-'} {'-' if public_len is None else public_len}"
+                yield shape, "\n".join(texts).encode().hex()
+    for size, encoding in points():
+        first, x, y = encoding[0], list(encoding[1 : 1 + size]), list(encoding[1 + size :])
+        is_odd = "true" if first == 3 else "false"
+        forms = {0: "Identity", 4: f"Uncompressed {{ x: {x}, y: {y} }}", 5: f"Compact {{ x: {x} }}"}
+        compressed = f"Compressed {{ x: {x}, y_is_odd: {is_odd} }}"
+        text = forms.get(first, compressed if first < 4 else f"Hybrid {{ x: {x}, y: {y} }}")
+        yield f"show_point {size} {encoding.hex()}", f"EncodedPoint({text})"
+
+
 def rows(is_refused=False):
     """Each line of the stored input, and its line of the output: as it is where requests for memory
     are refused, or with memory to spare."""
@@ -244,3 +291,4 @@ def rows(is_refused=False):
     yield from document_rows()
     yield from failed_rows()
     yield from parts_rows()
+    yield from show_rows()

@@ -162,7 +162,7 @@ fn write_ends(alloc: Global, bytes: &[u8]) -> Result<String, AllocError> {
 }
 
 /// Returns the curve whose identifier has this content.
-fn curve_of(content: &[u8]) -> Option<EcParameters> {
+pub fn curve_of(content: &[u8]) -> Option<EcParameters> {
     match ObjectIdentifier::from_bytes(content) {
         Ok(curve) => Some(EcParameters::NamedCurve(curve)),
         Err(_) => None,

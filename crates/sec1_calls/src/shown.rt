@@ -1,0 +1,64 @@
+//! What is printed of keys, documents and points by `{:?}` and `{:#?}`.
+ghost use Rattle.std.specs.Prelude.{◌<◌, ◌^◌};
+ghost use Rattle.sec1.specs.Points.{Fits};
+
+use crate::keys::{curve_of, pattern};
+use crate::words::{number, word};
+use sec1::{EcPrivateKey, EncodedPoint};
+use std::alloc::{AllocError, Global};
+
+/// Returns the line for the texts of a key and of its document, in hexadecimal.
+pub fn key(alloc: Global, rest: &[u8]) -> Result<String, AllocError> {
+    let (private_len, rest) = word(rest);
+    let (curve, public_len) = word(rest);
+    let private_key = pattern(alloc, number(private_len))?;
+    let public_key = pattern(alloc, number(public_len))?;
+    let parameters = match hex::decode(alloc, curve) {
+        Ok(content) => curve_of(&content),
+        Err(_) => None,
+    };
+    let key = EcPrivateKey {
+        private_key: &private_key,
+        parameters,
+        public_key: if public_len == b"-".as_slice() {
+            None
+        } else {
+            Some(&public_key)
+        },
+    };
+    let Ok(document) = key.document_ref(alloc) else {
+        return "not written".to_string(alloc);
+    };
+    let text = format!(in alloc; "{key:?}\n{key:#?}\n{document:?}\n{document:#?}")?;
+    hex::encode(alloc, text.as_bytes())
+}
+
+/// Returns the texts of the point with these bytes.
+fn texts_of<const N: usize, const L: usize>(
+    alloc: Global,
+    bytes: &[u8],
+) -> Result<String, AllocError>
+    requires fits { Fits N L }
+    requires size { L < 2 ^ 62 }
+{
+    match EncodedPoint::<N, L>::from_bytes(bytes) {
+        Ok(point) => format!(in alloc; "{point:?}"),
+        Err(_) => "no point".to_string(alloc),
+    }
+}
+
+/// Returns the line for the text of a point.
+pub fn point(alloc: Global, rest: &[u8]) -> Result<String, AllocError> {
+    let (size, digits) = word(rest);
+    let Ok(bytes) = hex::decode(alloc, digits) else {
+        return "not hexadecimal".to_string(alloc);
+    };
+    match number(size) {
+        5 => texts_of::<5, 11>(alloc, &bytes),
+        28 => texts_of::<28, 57>(alloc, &bytes),
+        32 => texts_of::<32, 65>(alloc, &bytes),
+        48 => texts_of::<48, 97>(alloc, &bytes),
+        66 => texts_of::<66, 133>(alloc, &bytes),
+        _ => "no such size".to_string(alloc),
+    }
+}
