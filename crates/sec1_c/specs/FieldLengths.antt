@@ -1,10 +1,10 @@
 -- The lengths of field elements at which points are read.
-use Rattle.std.specs.Prelude.{◌≡◌, ◌⊎◌, ℕ, List}
+use Rattle.std.specs.Prelude.{◌≡◌, ◌≤◌, ℕ, List}
 use Rattle.sec1.specs.Points.{Point, IsPoint, encoding}
 
--- 28, 32, 48 or 66 bytes: those of fields of 224, 256, 384 and 521 bits
+-- from 1 byte to the 66 bytes of a field of 521 bits
 abbrev pub IsFieldLength : ℕ → Type 0
-IsFieldLength n = (n ≡ 28) ⊎ ((n ≡ 32) ⊎ ((n ≡ 48) ⊎ (n ≡ 66)))
+IsFieldLength n = (1 ≤ n) × (n ≤ 66)
 
 -- the bytes are the encoding of this point (SEC1 v2.0 section 2.3.3)
 pub record Encodes (n : ℕ) (p : Point) (bytes : List ℕ) : Type 0 where

@@ -1,4 +1,4 @@
-//! Points (SEC1 v2.0 section 2.3.3) over fields whose elements have 28, 32, 48 or 66 bytes: `sec1_point_check`,
+//! Points (SEC1 v2.0 section 2.3.3) at field elements of 1 to 66 bytes: `sec1_point_check`,
 //! `sec1_point_read`, `sec1_point_compress`, `sec1_point_to_hybrid` and `sec1_point_compare`.
 ghost use Rattle.std.specs.Prelude.{◌≡◌, ◌≢◌};
 ghost use Rattle.sec1.specs.Points.{Point, IsEncoding, compressed_point, encoding, hybrid_point};
@@ -8,10 +8,11 @@ ghost use Rattle.sec1_c.specs.PointOrders.{IsOrderOf};
 ghost use Rattle.sec1_c.specs.PointPlaces.{ArePointPartsOf, point_places};
 ghost use Rattle.sec1_c.specs.Statuses.{error_number, field_length_number};
 
-mod sized;
+mod encoded;
 
 use crate::part::Part;
-use crate::status::field_length_number;
+use crate::status::OK;
+use encoded::{compress, order_number, places, status_of, to_hybrid};
 use sec1::Error;
 
 /// The tag of a point, and the places of its coordinates in its encoding.
@@ -35,6 +36,7 @@ pub struct PointParts {
 ///
 /// Returns the number of PointEncoding if it isn't, and another one if the field length isn't supported.
 #[unsafe(no_mangle)]
+#[tactic(auto, using(crate::proofs::PointLemmas::encodings))]
 pub extern "C" fn sec1_point_check(bytes: &[u8], field_len: usize) -> u32
     ensures found { result ≡ 0 → IsFieldLength field_len × IsEncoding field_len bytes.now }
     ensures only { (p : Point) → IsFieldLength field_len → Encodes field_len p bytes.now → result ≡ 0 }
@@ -42,13 +44,7 @@ pub extern "C" fn sec1_point_check(bytes: &[u8], field_len: usize) -> u32
         → result ≡ error_number Error.PointEncoding }
     ensures other_field { ¬ IsFieldLength field_len → result ≡ field_length_number }
 {
-    match field_len {
-        28 => sized::check::<28, 57>(bytes),
-        32 => sized::check::<32, 65>(bytes),
-        48 => sized::check::<48, 97>(bytes),
-        66 => sized::check::<66, 133>(bytes),
-        _ => field_length_number(),
-    }
+    status_of(bytes, field_len)
 }
 
 /// Reads a point from its encoding, which is all of `bytes`, and stores its tag and the places of its coordinates.
@@ -57,6 +53,7 @@ pub extern "C" fn sec1_point_check(bytes: &[u8], field_len: usize) -> u32
 ///
 /// Returns the numbers of `sec1_point_check`, and leaves `parts` unchanged.
 #[unsafe(no_mangle)]
+#[tactic(auto, using(crate::proofs::PointLemmas::encodings))]
 pub extern "C" fn sec1_point_read(bytes: &[u8], field_len: usize, parts: &mut PointParts) -> u32
     ensures found { result ≡ 0 → IsFieldLength field_len × IsEncoding field_len bytes.now }
     ensures only { (p : Point) → IsFieldLength field_len → Encodes field_len p bytes.now → result ≡ 0 }
@@ -69,13 +66,11 @@ pub extern "C" fn sec1_point_read(bytes: &[u8], field_len: usize, parts: &mut Po
     ensures other_field { ¬ IsFieldLength field_len → result ≡ field_length_number }
     ensures unchanged { result ≢ 0 → parts.new ≡ parts.old }
 {
-    match field_len {
-        28 => sized::read::<28, 57>(bytes, parts),
-        32 => sized::read::<32, 65>(bytes, parts),
-        48 => sized::read::<48, 97>(bytes, parts),
-        66 => sized::read::<66, 133>(bytes, parts),
-        _ => field_length_number(),
+    let status = status_of(bytes, field_len);
+    if status == OK {
+        *parts = places(bytes, field_len);
     }
+    status
 }
 
 /// Writes the compressed form of an uncompressed or hybrid point, with the parity of its y, at the beginning of
@@ -86,6 +81,7 @@ pub extern "C" fn sec1_point_read(bytes: &[u8], field_len: usize, parts: &mut Po
 /// Returns the number of Buffer if `out` is too short, and stores the length; otherwise those of `sec1_point_check`, and
 /// leaves `len` unchanged. `out` is unchanged in each case.
 #[unsafe(no_mangle)]
+#[tactic(auto, using(crate::proofs::PointLemmas::encodings))]
 pub extern "C" fn sec1_point_compress(
     bytes: &[u8],
     field_len: usize,
@@ -99,13 +95,11 @@ pub extern "C" fn sec1_point_compress(
     ensures other_field { ¬ IsFieldLength field_len
         → WritesNothing field_length_number out.old out.new result len.old len.new }
 {
-    match field_len {
-        28 => sized::compress::<28, 57>(bytes, out, len),
-        32 => sized::compress::<32, 65>(bytes, out, len),
-        48 => sized::compress::<48, 97>(bytes, out, len),
-        66 => sized::compress::<66, 133>(bytes, out, len),
-        _ => field_length_number(),
+    let status = status_of(bytes, field_len);
+    if status != OK {
+        return status;
     }
+    compress(bytes, out, len)
 }
 
 /// Writes the hybrid form of an uncompressed point, with the parity of its y, at the beginning of `out`, and stores
@@ -116,6 +110,7 @@ pub extern "C" fn sec1_point_compress(
 /// Returns the number of Buffer if `out` is too short, and stores the length; otherwise those of `sec1_point_check`, and
 /// leaves `len` unchanged. `out` is unchanged in each case.
 #[unsafe(no_mangle)]
+#[tactic(auto, using(crate::proofs::PointLemmas::encodings))]
 pub extern "C" fn sec1_point_to_hybrid(
     bytes: &[u8],
     field_len: usize,
@@ -129,13 +124,11 @@ pub extern "C" fn sec1_point_to_hybrid(
     ensures other_field { ¬ IsFieldLength field_len
         → WritesNothing field_length_number out.old out.new result len.old len.new }
 {
-    match field_len {
-        28 => sized::to_hybrid::<28, 57>(bytes, out, len),
-        32 => sized::to_hybrid::<32, 65>(bytes, out, len),
-        48 => sized::to_hybrid::<48, 97>(bytes, out, len),
-        66 => sized::to_hybrid::<66, 133>(bytes, out, len),
-        _ => field_length_number(),
+    let status = status_of(bytes, field_len);
+    if status != OK {
+        return status;
     }
+    to_hybrid(bytes, out, len)
 }
 
 /// Compares two points by tag, then by coordinates as whole numbers, and stores -1, 0 or 1: whether the first is
@@ -145,6 +138,7 @@ pub extern "C" fn sec1_point_to_hybrid(
 ///
 /// Returns the numbers of `sec1_point_check` for either point, and leaves `order` unchanged.
 #[unsafe(no_mangle)]
+#[tactic(auto, using(crate::proofs::PointLemmas::encodings))]
 pub extern "C" fn sec1_point_compare(
     first: &[u8],
     second: &[u8],
@@ -162,11 +156,13 @@ pub extern "C" fn sec1_point_compare(
     ensures other_field { ¬ IsFieldLength field_len → result ≡ field_length_number }
     ensures unchanged { result ≢ 0 → order.new ≡ order.old }
 {
-    match field_len {
-        28 => sized::compare::<28, 57>(first, second, order),
-        32 => sized::compare::<32, 65>(first, second, order),
-        48 => sized::compare::<48, 97>(first, second, order),
-        66 => sized::compare::<66, 133>(first, second, order),
-        _ => field_length_number(),
+    let status = status_of(first, field_len);
+    if status != OK {
+        return status;
     }
+    let status = status_of(second, field_len);
+    if status == OK {
+        *order = order_number(first, second);
+    }
+    status
 }

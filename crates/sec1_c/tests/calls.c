@@ -256,6 +256,7 @@ static void test_header(void)
     EXPECT(SEC1_POINT_UNCOMPRESSED == 4 && SEC1_POINT_COMPACT == 5);
     EXPECT(SEC1_POINT_HYBRID_EVEN == 6 && SEC1_POINT_HYBRID_ODD == 7);
     EXPECT(SEC1_IDENTIFIER_CONTENT_MAX == 39 && SEC1_IDENTIFIER_TEXT_MAX == 158);
+    EXPECT(SEC1_POINT_MAX == 133);
     EXPECT(sec1_version() == SEC1_VERSION);
 
     static const char *const texts[] = {
@@ -566,16 +567,16 @@ static void test_point_order(size_t n)
     struct bytes point = points[1], none = repeated(9, 5);
     EXPECT(sec1_point_compare(point.data, point.len, none.data, none.len, n, &order) == SEC1_POINT_ENCODING);
     EXPECT(sec1_point_compare(none.data, none.len, point.data, point.len, n, &order) == SEC1_POINT_ENCODING);
-    EXPECT(sec1_point_compare(point.data, point.len, point.data, point.len, n + 1, &order) == SEC1_FIELD_LENGTH);
+    EXPECT(sec1_point_compare(point.data, point.len, point.data, point.len, 67, &order) == SEC1_FIELD_LENGTH);
     EXPECT(order == 99);
 }
 
 static void test_points(void)
 {
-    static const size_t fields[] = {28, 32, 48, 66};
-    for (int i = 0; i < 4; i++) {
-        test_points_of(fields[i]);
-        test_point_order(fields[i]);
+    for (size_t n = 1; n <= 66; n++) {
+        test_points_of(n);
+        if (n > 1)
+            test_point_order(n);
     }
 
     /* the public key of the key above */
@@ -585,7 +586,7 @@ static void test_points(void)
     expect_converted(to_hybrid, point, unhex("07" X Y));
 
     struct sec1_point_parts parts;
-    static const size_t others[] = {0, 1, 27, 29, 31, 33, 47, 49, 65, 67, 256 + 32, ((size_t)1 << 32) + 32, SIZE_MAX};
+    static const size_t others[] = {0, 67, 68, 128, 256 + 32, ((size_t)1 << 32) + 32, SIZE_MAX};
     for (size_t i = 0; i < sizeof others / sizeof *others; i++) {
         field = others[i];
         EXPECT(read_point(point, &parts) == SEC1_FIELD_LENGTH);

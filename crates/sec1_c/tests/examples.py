@@ -11,7 +11,6 @@ FIELD_LENGTHS = {
     "secp256k1": 32, "brainpoolP224r1": 28, "brainpoolP256r1": 32, "brainpoolP320r1": 40,
     "brainpoolP384r1": 48, "brainpoolP512r1": 64, "secp160k1": None, "sect233r1": None,
 }  # fmt: skip
-SUPPORTED = [28, 32, 48, 66]
 STATUSES = {
     "Truncated": "1 (input ends inside an element)",
     "Tag": "2 (unexpected or unsupported tag)",
@@ -25,8 +24,6 @@ def point_line(key, field_len):
     """Returns the line on the point of a public key whose encoding OpenSSL has made."""
     if field_len is None:
         return "no point: the length of this curve's field elements isn't known here"
-    if field_len not in SUPPORTED:
-        return "no point: length of field elements not supported"
     if len(key) != {2: 1, 3: 1, 4: 2, 6: 2, 7: 2}[key[0]] * field_len + 1:
         return "no point: elliptic curve point encoding error"
     return f"point: tag {key[0]}, x at 1, y at {1 + field_len if key[0] >= 4 else 0}"

@@ -397,7 +397,7 @@ int main(void)
     struct_arena = map_arena();
     for (long i = 0; i < INPUTS; i++) {
         at_end = i % 2;
-        size_t n = draw(8) ? fields[draw(4)] : draw(70);
+        size_t n = draw(2) ? fields[draw(4)] : draw(70);
         now.len = draw_input(now.data, n);
         size_t other_len = draw(2) ? draw_point(other, n) : now.len;
         if (other_len == now.len)

@@ -304,7 +304,7 @@ static uint32_t point_of(const uint8_t *data, size_t len, size_t n, struct sec1_
 {
     size_t coordinates;
     memset(parts, 0, sizeof *parts);
-    if (n != 28 && n != 32 && n != 48 && n != 66)
+    if (n == 0 || n > 66)
         return SEC1_FIELD_LENGTH;
     if (len == 0 || data[0] > 7 || data[0] == 1)
         return SEC1_POINT_ENCODING;
