@@ -47,9 +47,9 @@ else
     finish
 fi
 archive=$installed/lib/libsec1.a
-exported="sec1_check_tree sec1_document_len sec1_identifier_from_text sec1_identifier_to_text sec1_key_len sec1_key_read \
-sec1_key_write sec1_point_check sec1_point_compare sec1_point_compress sec1_point_read sec1_point_to_hybrid \
-sec1_status_text sec1_version"
+exported="sec1_check_tree sec1_document_len sec1_identifier_from_text sec1_identifier_to_text sec1_key_len \
+sec1_key_len_of sec1_key_read sec1_key_write sec1_key_write_of sec1_point_check sec1_point_compare sec1_point_compress \
+sec1_point_len sec1_point_read sec1_point_to_hybrid sec1_status_text sec1_version"
 same() { [[ $1 == "$2" ]] || { echo "  '$1' isn't '$2'"; false; }; }
 words() { echo $(printf '%s\n' "$@" | LC_ALL=C sort); }
 if command -v nm > "$work/null" && command -v ar > "$work/null"; then
@@ -57,7 +57,8 @@ if command -v nm > "$work/null" && command -v ar > "$work/null"; then
     check "the first is the proved one, as it was built" \
         cmp <(ar p "$archive" sec1_c.o) <(ar p out/libsec1_c.a sec1_c.o)
     check "it wants memcpy, memmove and memset alone" \
-        same "$(words $(nm -u "$archive" | awk '$1 == "U" {print $2}'))" "memcpy memmove memset"
+        same "$(words $(nm -u "$archive" | awk '$1 == "U" {print $2}' | grep -v ^sec1_))" \
+        "memcpy memmove memset"
     check "it exports what the header declares" \
         same "$(words $(nm -g --defined-only "$archive" | awk 'NF == 3 {print $3}'))" "$(words $exported)"
 else

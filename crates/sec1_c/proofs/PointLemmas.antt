@@ -1,10 +1,11 @@
 -- Points by their encodings.
 use Rattle.std.proofs.Common.{◌≡◌, ◌≢◌, ◌<◌, ◌≤◌, ◌^◌, ◌+◌, ◌-◌, ◌/◌, ◌%◌, ◌↔◌, ℕ, List, [], ◌∷◌, ◌++◌, length}
-use Rattle.std.proofs.Common.{get_or, take, drop, arith, length-append}
+use Rattle.std.proofs.Common.{get_or, take, drop, ◌*◌, ◌==◌, ◌||◌, if◌then◌else◌, arith, length-append}
 use Rattle.std.proofs.Math.Seq.{drop-append-add}
 use Rattle.std.proofs.lemmas.List.{take_at, drop_at, take_all, get_or-append_right}
 use Rattle.std.specs.Cmp.Lexicographic.{slice_cmp}
 use Rattle.std.specs.Ordering.{nat_cmp}
+use Rattle.std.specs.declared.cmp.Ordering.{Ordering}
 use Rattle.std.specs.declared.cmp.Ordering.TheVariants.{Less, Equal, Greater}
 use Rattle.sec1.specs.PointOrder.{point_cmp, IsBelow}
 use Rattle.sec1.specs.Points.{Point, uncompressed, hybrid, IsEncoding, tag_byte, coordinate_bytes, encoding}
@@ -12,7 +13,8 @@ use Rattle.sec1.specs.Points.{fixed_width, compressed_point, hybrid_point}
 use Rattle.sec1.proofs.ByteOrderLemmas.{slice_cmp-enc}
 use Rattle.sec1.proofs.DigitLemmas.{length-fixed_width, num-fixed_width, parity_of_last}
 use Rattle.sec1.proofs.PointOrderLemmas.{orders, less_below, greater_below}
-use Rattle.sec1_c.specs.FieldLengths.{Encodes, IsFieldLength}
+use Rattle.sec1_c.specs.FieldLengths.{Encodes, EncodesBoth, IsFieldLength}
+use Rattle.sec1_c.specs.PointOrders.{IsOrderOf, order_of}
 use Rattle.sec1_c.specs.PointPlaces.{ArePointPartsOf, point_places}
 
 -- the tag and the coordinates of a point are at its places
@@ -94,19 +96,40 @@ pub encodings_ordered : (n : ℕ) (p q : Point) (first second : List ℕ) → En
 encodings_ordered n p q first second e f = rw (e.spelled, f.spelled) (slice_cmp-enc n p q e.fits f.fits)
 
 -- an encoding is less than another exactly if the point is
-pub encodings_below : (n : ℕ) (p q : Point) (first second : List ℕ) → Encodes n p first → Encodes n q second
+encodings_below : (n : ℕ) (p q : Point) (first second : List ℕ) → Encodes n p first → Encodes n q second
     → (slice_cmp nat_cmp first second ≡ Less) ↔ IsBelow p q
 encodings_below n p q first second e f = rw (encodings_ordered n p q first second e f) (less_below p q)
 
 -- it is greater exactly if the point is
-pub encodings_above : (n : ℕ) (p q : Point) (first second : List ℕ) → Encodes n p first → Encodes n q second
+encodings_above : (n : ℕ) (p q : Point) (first second : List ℕ) → Encodes n p first → Encodes n q second
     → (slice_cmp nat_cmp first second ≡ Greater) ↔ IsBelow q p
 encodings_above n p q first second e f = rw (encodings_ordered n p q first second e f) (greater_below p q)
 
 -- encodings are the same exactly if the points are
-pub encodings_same : (n : ℕ) (p q : Point) (first second : List ℕ) → Encodes n p first → Encodes n q second
+encodings_same : (n : ℕ) (p q : Point) (first second : List ℕ) → Encodes n p first → Encodes n q second
     → (slice_cmp nat_cmp first second ≡ Equal) ↔ (p ≡ q)
 encodings_same n p q first second e f = rw (encodings_ordered n p q first second e f) (grind (arith, orders))
 
--- what the order of two encodings says
-pub ruleset encoding_orders = (encodings_below, encodings_above, encodings_same)
+-- the number of an order that says how two points are ordered
+order_numbers : (o : Ordering) (p q : Point) → (o ≡ Less) ↔ IsBelow p q → (o ≡ Greater) ↔ IsBelow q p → (o ≡ Equal) ↔ (p ≡ q)
+    → IsOrderOf p q (order_of o)
+order_numbers Less p q below above same = record { below = grind arith; above = grind arith; same = grind arith }
+order_numbers Equal p q below above same = record { below = grind arith; above = grind arith; same = grind arith }
+order_numbers Greater p q below above same = record { below = grind arith; above = grind arith; same = grind arith }
+
+-- the number of the order of two encodings is that of the points
+pub encodings_numbered : (n : ℕ) (p q : Point) (first second : List ℕ) → EncodesBoth n p q first second
+    → IsOrderOf p q (order_of (slice_cmp nat_cmp first second))
+encodings_numbered n p q first second both =
+    order_numbers (slice_cmp nat_cmp first second) p q
+    (encodings_below n p q first second both.first_is both.second_is)
+    (encodings_above n p q first second both.first_is both.second_is)
+    (encodings_same n p q first second both.first_is both.second_is)
+
+-- ---- the length
+
+-- the length of an encoding is seen from its tag
+pub encoding_lengths : (n : ℕ) (p : Point)
+    → length (encoding n p) ≡ (if tag_byte p == 0 then 1 else if tag_byte p == 4 || (tag_byte p == 6 || tag_byte p == 7) then 2 * n + 1 else n + 1)
+unfolding encoding
+encoding_lengths n p = grind (arith, length-append {A = ℕ}, length-fixed_width)

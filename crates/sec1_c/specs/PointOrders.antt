@@ -1,5 +1,7 @@
 -- The order of points, as a number.
 use Rattle.std.specs.Prelude.{◌≡◌, ◌↔◌, ℤ, pos, negsuc}
+use Rattle.std.specs.declared.cmp.Ordering.{Ordering}
+use Rattle.std.specs.declared.cmp.Ordering.TheVariants.{Less, Equal, Greater}
 use Rattle.sec1.specs.Points.{Point}
 use Rattle.sec1.specs.PointOrder.{IsBelow}
 
@@ -8,3 +10,9 @@ pub record IsOrderOf (p q : Point) (order : ℤ) : Type 0 where
   pub below : (order ≡ negsuc 0) ↔ IsBelow p q
   pub above : (order ≡ pos 1) ↔ IsBelow q p
   pub same : (order ≡ pos 0) ↔ (p ≡ q)
+
+-- the number of an order
+abbrev pub order_of : Ordering → ℤ
+order_of Less = negsuc 0
+order_of Equal = pos 0
+order_of Greater = pos 1

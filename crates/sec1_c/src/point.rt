@@ -1,18 +1,21 @@
 //! Points (SEC1 v2.0 section 2.3.3) at field elements of 1 to 66 bytes: `sec1_point_check`,
 //! `sec1_point_read`, `sec1_point_compress`, `sec1_point_to_hybrid` and `sec1_point_compare`.
+ghost use Rattle.std.specs.Cmp.Lexicographic.{slice_cmp};
+ghost use Rattle.std.specs.Ordering.{nat_cmp};
 ghost use Rattle.std.specs.Prelude.{◌≡◌, ◌≢◌};
 ghost use Rattle.sec1.specs.Points.{Point, IsEncoding, compressed_point, encoding, hybrid_point};
+ghost use Rattle.sec1.specs.Points.{tag_byte};
 ghost use Rattle.sec1_c.specs.FieldLengths.{Encodes, EncodesBoth, IsFieldLength};
-ghost use Rattle.sec1_c.specs.Outputs.{Writes, WritesNothing};
-ghost use Rattle.sec1_c.specs.PointOrders.{IsOrderOf};
+ghost use Rattle.sec1_c.specs.Outputs.{StoresLength, Writes, WritesNothing};
+ghost use Rattle.sec1_c.specs.PointOrders.{IsOrderOf, order_of};
 ghost use Rattle.sec1_c.specs.PointPlaces.{ArePointPartsOf, point_places};
 ghost use Rattle.sec1_c.specs.Statuses.{error_number, field_length_number};
 
 mod encoded;
 
 use crate::part::Part;
-use crate::status::OK;
-use encoded::{compress, order_number, places, status_of, to_hybrid};
+use crate::status::{OK, error_number, field_length_number};
+use encoded::{compress, encoding_len, order_number, places, status_of, to_hybrid};
 use sec1::Error;
 
 /// The tag of a point, and the places of its coordinates in its encoding.
@@ -71,6 +74,32 @@ pub extern "C" fn sec1_point_read(bytes: &[u8], field_len: usize, parts: &mut Po
         *parts = places(bytes, field_len);
     }
     status
+}
+
+/// Stores the length of the encodings that begin with this tag, over a field whose elements have
+/// `field_len` bytes.
+///
+/// # Errors
+///
+/// Returns the number of PointEncoding if no point has the tag, and another one if the field length
+/// isn't supported. `len` is unchanged in both cases.
+#[unsafe(no_mangle)]
+pub extern "C" fn sec1_point_len(tag: usize, field_len: usize, len: &mut usize) -> u32
+    ensures point { (p : Point) → IsFieldLength field_len → tag_byte p ≡ tag
+        → StoresLength (encoding field_len p) result len.new }
+    ensures no_tag { IsFieldLength field_len → ((p : Point) → tag_byte p ≢ tag)
+        → (result ≡ error_number Error.PointEncoding) × (len.new ≡ len.old) }
+    ensures other_field { ¬ IsFieldLength field_len
+        → (result ≡ field_length_number) × (len.new ≡ len.old) }
+{
+    if field_len == 0 || field_len > 66 {
+        return field_length_number();
+    }
+    let Some(found) = encoding_len(tag, field_len) else {
+        return error_number(&Error::PointEncoding);
+    };
+    *len = found;
+    OK
 }
 
 /// Writes the compressed form of an uncompressed or hybrid point, with the parity of its y, at the beginning of
@@ -149,6 +178,7 @@ pub extern "C" fn sec1_point_compare(
         → EncodesBoth field_len p q first.now second.now → result ≡ 0 }
     ensures order { (p q : Point) → IsFieldLength field_len
         → EncodesBoth field_len p q first.now second.now → IsOrderOf p q order.new }
+    ensures bytes { result ≡ 0 → order.new ≡ order_of (slice_cmp nat_cmp first.now second.now) }
     ensures first { IsFieldLength field_len → ¬ IsEncoding field_len first.now
         → result ≡ error_number Error.PointEncoding }
     ensures second { IsFieldLength field_len → ¬ IsEncoding field_len second.now

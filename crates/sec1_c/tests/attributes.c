@@ -7,6 +7,7 @@ static struct sec1_key_parts parts;
 static struct sec1_point_parts point;
 static size_t len;
 static int32_t order;
+static const struct sec1_key given = {key, 32, NULL, 0, key, 65, 1};
 
 uint32_t right_calls(size_t some);
 uint32_t wrong_call(size_t some);
@@ -20,6 +21,10 @@ uint32_t right_calls(size_t some)
     status |= sec1_key_len(key, 32, NULL, 0, NULL, 0, 0, &len);
     status |= sec1_key_write(key, 32, key, 8, key, 65, 1, out, sizeof out, &len);
     status |= sec1_key_write(NULL, 0, NULL, 0, NULL, 0, 1, NULL, 0, &len);
+    status |= sec1_key_len_of(&given, &len);
+    status |= sec1_key_write_of(&given, out, sizeof out, &len);
+    status |= sec1_key_write_of(&given, NULL, 0, &len);
+    status |= sec1_point_len(SEC1_POINT_COMPACT, 32, &len);
     status |= sec1_point_check(key, 65, 32);
     status |= sec1_point_check(NULL, 0, 32);
     status |= sec1_point_read(key, 65, 32, &point);

@@ -156,6 +156,27 @@ struct given {
 
 static struct given no_key;
 
+/* The calls that take a struct do the same as those that take its members. */
+static void expect_same_of(struct given key, size_t out_len, uint32_t status, size_t stored, uint32_t only)
+{
+    static uint8_t out[4096];
+    size_t len = 777777;
+    struct sec1_key parts;
+    memset(&parts, 0, sizeof parts);
+    parts.private_key = key.private_key.data;
+    parts.private_key_len = key.private_key.len;
+    parts.curve = key.curve.data;
+    parts.curve_len = key.curve.len;
+    parts.public_key = key.public_key.data;
+    parts.public_key_len = key.public_key.len;
+    parts.has_public_key = key.has_public_key;
+    EXPECT(sec1_key_len_of(&parts, &len) == only && len == stored);
+    len = 777777;
+    EXPECT(sec1_key_write_of(&parts, out, out_len, &len) == status && len == stored);
+    uint32_t (*write)(const struct sec1_key *, uint8_t *, size_t, size_t *) = sec1_key_write_of;
+    EXPECT(write(&parts, out, out_len, &len) == status);
+}
+
 /* Writes a key into a buffer of out_len bytes of the value EE. Returns the buffer's bytes in out. */
 static uint32_t write_key(struct given key, size_t out_len, struct bytes *out, size_t *len)
 {
@@ -175,6 +196,7 @@ static uint32_t write_key(struct given key, size_t out_len, struct bytes *out, s
         uint32_t only_status = sec1_key_len(private_key.data, key.private_key.len, curve.data, key.curve.len,
                                             public_key.data, key.public_key.len, key.has_public_key, &only_len);
         EXPECT(only_len == stored[side]);
+        expect_same_of(key, out_len, status[side], stored[side], only_status);
         EXPECT(only_status == (status[side] == SEC1_BUFFER ? (uint32_t)SEC1_OK : status[side]));
         out->len = out_len;
         memcpy(out->data, buffer.data, out_len);
@@ -532,6 +554,17 @@ static void test_points_of(size_t n)
         }
     }
     EXPECT(sec1_point_check(NULL, 0, n) == SEC1_POINT_ENCODING);
+
+    static const size_t coordinates[] = {0, 9, 1, 1, 2, 1, 2, 2};
+    for (size_t tag = 0; tag < 300; tag++) {
+        size_t len = 777777, is_tag = tag < 8 && tag != 1;
+        EXPECT(sec1_point_len(tag, n, &len) == (is_tag ? SEC1_OK : SEC1_POINT_ENCODING));
+        EXPECT(len == (is_tag ? 1 + coordinates[tag] * n : 777777));
+    }
+    size_t len = 777777;
+    EXPECT(sec1_point_len(4, 0, &len) == SEC1_FIELD_LENGTH && len == 777777);
+    EXPECT(sec1_point_len(4, 67, &len) == SEC1_FIELD_LENGTH && len == 777777);
+    EXPECT(sec1_point_len(SIZE_MAX, n, &len) == SEC1_POINT_ENCODING && len == 777777);
 }
 
 static int32_t order_of(struct bytes a, struct bytes b)

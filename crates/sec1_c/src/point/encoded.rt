@@ -1,11 +1,13 @@
 //! Points by their encodings, at field elements of n bytes.
 ghost use Rattle.std.specs.Prelude.{◌≡◌, ◌≢◌, ◌-◌, ◌%◌, ◌≤◌, ◌<◌, ◌↔◌, ℕ, IsTrue};
-ghost use Rattle.std.specs.Prelude.{length, get_or, drop};
+ghost use Rattle.std.specs.Prelude.{length, get_or, drop, Some, None};
+ghost use Rattle.std.specs.Cmp.Lexicographic.{slice_cmp};
+ghost use Rattle.std.specs.Ordering.{nat_cmp};
 ghost use Rattle.sec1.specs.Points.{Point, IsEncoding, compressed_point, encoding, hybrid_point};
 ghost use Rattle.sec1.specs.Points.{tag_byte};
-ghost use Rattle.sec1_c.specs.FieldLengths.{Encodes, EncodesBoth, IsFieldLength};
+ghost use Rattle.sec1_c.specs.FieldLengths.{Encodes, IsFieldLength};
 ghost use Rattle.sec1_c.specs.Outputs.{Writes};
-ghost use Rattle.sec1_c.specs.PointOrders.{IsOrderOf};
+ghost use Rattle.sec1_c.specs.PointOrders.{order_of};
 ghost use Rattle.sec1_c.specs.PointPlaces.{point_places};
 ghost use Rattle.sec1_c.specs.Statuses.{error_number, field_length_number};
 
@@ -136,16 +138,33 @@ fn parity(bytes: &[u8]) -> u8
     }
 }
 
-/// Returns -1, 0 or 1: whether the point with the first encoding is less than that with the second,
-/// the same, or greater.
-#[tactic(auto, using(crate::proofs::PointLemmas::encoding_orders))]
+/// Returns -1, 0 or 1: whether the first bytes are less than the second, the same, or greater.
 pub fn order_number(first: &[u8], second: &[u8]) -> i32
-    ensures { (n : ℕ) (p q : Point) → EncodesBoth n p q first.now second.now
-        → IsOrderOf p q result }
+    ensures { result ≡ order_of (slice_cmp nat_cmp first.now second.now) }
 {
     match first.cmp(second) {
         Ordering::Less => -1,
         Ordering::Equal => 0,
         Ordering::Greater => 1,
+    }
+}
+
+/// Returns the length of the encodings with this tag at field elements of n bytes; `None` if no
+/// point has the tag.
+#[tactic(auto, using(crate::proofs::PointLemmas::encoding_lengths))]
+pub fn encoding_len(tag: usize, n: usize) -> Option<usize>
+    requires { n ≤ 66 }
+    ensures found { (p : Point) → tag_byte p ≡ tag → result ≡ Some (length (encoding n p)) }
+    ensures none { ((p : Point) → tag_byte p ≢ tag) → result ≡ None }
+{
+    match tag {
+        0 => Some(1),
+        2 => Some(n + 1),
+        3 => Some(n + 1),
+        4 => Some(2 * n + 1),
+        5 => Some(n + 1),
+        6 => Some(2 * n + 1),
+        7 => Some(2 * n + 1),
+        _ => None,
     }
 }
