@@ -1,6 +1,6 @@
 #!/usr/bin/env bash
-# Builds the library, and tests it from C, C++, Rust and Python. The last line is `N passed, M failed`; the status is 1
-# where anything failed, also where a tool that a test needs is missing.
+# Builds the library, and tests it from C, C++, Rust and Python. The last line is `N passed, M failed`;
+# the status is 1 where anything failed, also where a tool that a test needs is missing.
 # RT names the command `rt`; with SEC1_C_BUILT=1 the library that stands in out/ is taken as it is.
 set -uo pipefail
 cd "$(dirname "$0")"
@@ -47,9 +47,10 @@ else
     finish
 fi
 archive=$installed/lib/libsec1.a
-exported="sec1_check_tree sec1_document_len sec1_identifier_from_text sec1_identifier_to_text sec1_key_len \
-sec1_key_len_of sec1_key_read sec1_key_write sec1_key_write_of sec1_point_check sec1_point_compare sec1_point_compress \
-sec1_point_len sec1_point_read sec1_point_to_hybrid sec1_status_text sec1_version"
+exported="sec1_check_tree sec1_document_len sec1_identifier_from_text sec1_identifier_to_text \
+sec1_key_len sec1_key_len_of sec1_key_read sec1_key_write sec1_key_write_of sec1_point_check \
+sec1_point_compare sec1_point_compress sec1_point_len sec1_point_read sec1_point_to_hybrid \
+sec1_status_text sec1_version"
 same() { [[ $1 == "$2" ]] || { echo "  '$1' isn't '$2'"; false; }; }
 words() { echo $(printf '%s\n' "$@" | LC_ALL=C sort); }
 if command -v nm > "$work/null" && command -v ar > "$work/null"; then
@@ -85,7 +86,8 @@ if command -v objdump > "$work/null"; then
     check "its code can be read" grep -qx ret "$work/instructions"
     check "it has no instruction that some x86-64 lacks" \
         same "$(words $(grep -Ex "$newer" "$work/instructions"))" ""
-    echo '__asm__("popcnt %eax, %eax; pshufb %xmm0, %xmm0; haddps %xmm0, %xmm0; ret");' > "$work/newer.c"
+    echo '__asm__("popcnt %eax, %eax; pshufb %xmm0, %xmm0; haddps %xmm0, %xmm0; ret");' \
+        > "$work/newer.c"
     ${CC:-cc} -c -o "$work/newer.o" "$work/newer.c"
     instructions "$work/newer.o" > "$work/instructions"
     check "such an instruction is found" \
@@ -117,7 +119,8 @@ for compiler in "${compilers[@]}"; do
         $compiler $warnings $sanitizers -I "$installed/include" -o "$work/calls" tests/calls.c "$archive"
     add "tests/calls.c by $compiler" "$work/calls"
     check "$compiler compiles tests/million.c" \
-        $compiler $warnings $sanitizers -I "$installed/include" -o "$work/million" tests/million.c "$archive"
+        $compiler $warnings $sanitizers -I "$installed/include" \
+        -o "$work/million" tests/million.c "$archive"
     add "tests/million.c by $compiler" "$work/million"
 done
 add "tests/packaging.sh" tests/packaging.sh

@@ -1,4 +1,4 @@
-/* Calls that a compiler has to accept without a warning, and with WRONG one that it has to warn of. */
+/* Calls that a compiler has to accept without a warning, and by WRONG one that it has to warn of. */
 #include <sec1.h>
 
 static uint8_t key[128], out[64];
@@ -58,7 +58,7 @@ uint32_t wrong_call(size_t some)
     return sec1_key_len(key, some, NULL, 0, NULL, 0, 0, NULL);
 #elif WRONG == 5
     return sec1_point_compare(key, some, key, some, 32, NULL);
-#elif WRONG == 6 /* here begin those that a compiler sees by the attribute access: NULL with a length */
+#elif WRONG == 6 /* from here on a compiler sees them by the attribute access: NULL with a length */
     return sec1_key_read(NULL, 32 + 0 * some, &parts);
 #elif WRONG == 7
     return sec1_key_len(key, some, NULL, 0, NULL, 65, 0, &len);

@@ -1,6 +1,7 @@
 #!/usr/bin/env bash
 # Compiles the header as each standard of C and C++ that the compilers here have, and looks for the
-# warnings that its attributes give: compilers.sh INCLUDE ARCHIVE. The last line is `N passed, M failed`.
+# warnings that its attributes give: compilers.sh INCLUDE ARCHIVE. The last line is
+# `N passed, M failed`.
 set -uo pipefail
 include=$1 archive=$2
 cd "$(dirname "$0")"
@@ -32,12 +33,12 @@ standards() { # COMPILER LANGUAGE STANDARD..
     for standard in "$@"; do
         $compiler -x "$language" -std="$standard" -E -o "$work/null" /dev/null 2> "$work/null" || continue
         for level in -O0 -O2; do
-            found=$(warnings $compiler -x "$language" -std="$standard" "$level" $strict -I "$include" \
-                -c -o "$work/calls.o" attributes.c)
+            found=$(warnings $compiler -x "$language" -std="$standard" "$level" $strict \
+                -I "$include" -c -o "$work/calls.o" attributes.c)
             expect "$compiler -std=$standard $level: warnings of the right calls" "$found" 0
             [[ $found == 0 ]] || shown
-            $compiler -x "$language" -std="$standard" "$level" -I "$include" -o "$work/text" text.c \
-                -x none "$archive" 2> "$work/null"
+            $compiler -x "$language" -std="$standard" "$level" -I "$include" \
+                -o "$work/text" text.c -x none "$archive" 2> "$work/null"
             expect "$compiler -std=$standard $level: text.c" "$("$work/text")" "ok 200"
         done
         count=$((count + 1))
