@@ -49,7 +49,7 @@ for compiler in gcc clang; do
     has $compiler && standards $compiler c c89 gnu89 c99 gnu99 c11 c17 gnu17 c2x c23
 done
 for compiler in g++ clang++; do
-    has $compiler && standards $compiler c++ c++98 c++11 c++14 c++17 gnu++17 c++20 c++23 c++26
+    has $compiler && standards $compiler c++ c++98 c++11 c++14 c++17 gnu++17 c++20 c++2b c++23 c++26
 done
 
 # ---- the attributes: one warning of each wrong call, none of the right ones
