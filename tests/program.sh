@@ -146,6 +146,8 @@ text_ends=IIIMMGGGGGGMMMMMMMMMMMMM
 path_ends=IIIIMMMMMMMMMMMMMM
 small_ends=IIIIMMMMMMMMM
 missing_ends=IIII
+# 246 reads of 4,096 bytes, the last of which finds the end, and the texts of a small key
+large_ends=IIII$(printf 'M%.0s' $(seq 253))
 two_ends=IIIII
 refuse_in_turn() { # NAME ENDS STATUS OUTPUT ERROR WORD..: how the run on these words ends with each request refused, and with none
     local name=$1 ends=$2 status=$3 output=$4 error=$5 requests number refused
@@ -178,6 +180,7 @@ if cc -O1 -shared -fPIC -o refuse.so "$top/tests/refuse.c" -ldl 2>compiler; then
     refuse_in_turn text $text_ends 0 report ''
     refuse_in_turn path $path_ends 0 report '' key
     refuse_in_turn 'a small key' $small_ends 0 small-report '' small
+    refuse_in_turn 'a key of 1,000,000 bytes' "$large_ends" 0 large-report '' large
     refuse_in_turn 'a missing path' $missing_ends 2 nothing "$failed_input" missing
     refuse_in_turn 'two paths' $two_ends 2 nothing 'sec1_inspect: at most one path' small key
 else
