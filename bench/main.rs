@@ -1,15 +1,14 @@
 //! Measures the calls of `sec1` beside the same jobs by hand, in one process, in turn.
 //!
-//!     main measure         runs each line and prints its samples, as nanoseconds
-//!     main table FILE..    prints the table of the samples of one or more runs
-//!     main lines           prints the name of each line, and how many jobs a call does, by us and by OpenSSL
-//!     main large           reads the longest document there is, once by each side, and prints the seconds
-//!     main repeat LINE ours|peer|openssl COUNT     runs one side of one line so often, for a profiler
+//!     main verdicts    tests that all sides accept and refuse the same, over stored keys and damaged copies
+//!     main measure     runs each line and prints its samples, as nanoseconds
+//!     main lines       prints the name of each line, its sides, and how many jobs a call does
+//!     main large       reads the longest document there is, once by each side, and prints the seconds
+//!     main repeat LINE ours|peer|best|openssl COUNT     runs one side of one line so often, for a profiler
 mod heap;
 
 use peer::calls;
 use std::arch::global_asm;
-use std::collections::BTreeMap;
 use std::hint::black_box;
 use std::time::Instant;
 
@@ -21,10 +20,46 @@ global_asm!(
     ".text"
 );
 
+type OnBytes = unsafe extern "C" fn(*const u8, usize) -> usize;
+
 #[link(name = "sec1_bench", kind = "static")]
 unsafe extern "C" {
-    fn sec1_key_read(input: *const u8, len: usize) -> usize;
-    fn sec1_key_write(
+    fn bench_empty(input: *const u8, len: usize) -> usize;
+    fn bench_key_read(input: *const u8, len: usize) -> usize;
+    fn bench_key_point(input: *const u8, len: usize) -> usize;
+    fn bench_document_copy(input: *const u8, len: usize) -> usize;
+    fn bench_document_read(input: *const u8, len: usize) -> usize;
+    fn bench_headers_read(input: *const u8, len: usize) -> usize;
+    fn bench_headers_read_inline(input: *const u8, len: usize) -> usize;
+    fn bench_tree_check(input: *const u8, len: usize) -> usize;
+    fn bench_identifier_read(input: *const u8, len: usize) -> usize;
+    fn bench_identifier_read_inline(input: *const u8, len: usize) -> usize;
+    fn bench_identifier_parse(input: *const u8, len: usize) -> usize;
+    fn bench_identifier_text(input: *const u8, len: usize) -> usize;
+    fn bench_point_read(input: *const u8, len: usize) -> usize;
+    fn bench_point_read_inline(input: *const u8, len: usize) -> usize;
+    fn bench_point_copy(input: *const u8, len: usize) -> usize;
+    fn bench_point_text(input: *const u8, len: usize) -> usize;
+    fn bench_certificate_point(input: *const u8, len: usize) -> usize;
+    fn bench_container_point(input: *const u8, len: usize) -> usize;
+    fn bench_point_parse(input: *const u8, len: usize, rounds: usize) -> usize;
+    fn bench_points_cmp(input: *const u8, len: usize, rounds: usize) -> usize;
+    fn bench_points_eq(input: *const u8, len: usize, rounds: usize) -> usize;
+    fn bench_points_eq_inline(input: *const u8, len: usize, rounds: usize) -> usize;
+    fn bench_key_rewrite(input: *const u8, len: usize, out: *mut u8, out_len: usize) -> usize;
+    fn bench_key_write_bare(
+        private_key: *const u8,
+        len: usize,
+        out: *mut u8,
+        out_len: usize,
+    ) -> usize;
+    fn bench_key_write_bare_inline(
+        private_key: *const u8,
+        len: usize,
+        out: *mut u8,
+        out_len: usize,
+    ) -> usize;
+    fn bench_key_write(
         private_key: *const u8,
         private_key_len: usize,
         public_key: *const u8,
@@ -32,40 +67,82 @@ unsafe extern "C" {
         out: *mut u8,
         out_len: usize,
     ) -> usize;
-    fn sec1_key_write_bare(
+    fn bench_key_write_inline(
         private_key: *const u8,
         private_key_len: usize,
+        public_key: *const u8,
+        public_key_len: usize,
         out: *mut u8,
         out_len: usize,
     ) -> usize;
-    fn sec1_key_rewrite(input: *const u8, len: usize, out: *mut u8, out_len: usize) -> usize;
-    fn sec1_key_document(
+    fn bench_key_document(
         private_key: *const u8,
         private_key_len: usize,
         public_key: *const u8,
         public_key_len: usize,
     ) -> usize;
-    fn sec1_document_copy(input: *const u8, len: usize) -> usize;
-    fn sec1_document_read(input: *const u8, len: usize) -> usize;
-    fn sec1_document_read_bytes(input: *const u8, len: usize) -> usize;
-    fn sec1_headers_read(input: *const u8, len: usize) -> usize;
-    fn sec1_tree_check(input: *const u8, len: usize) -> usize;
-    fn sec1_identifier_read(input: *const u8, len: usize) -> usize;
-    fn sec1_identifier_parse(input: *const u8, len: usize) -> usize;
-    fn sec1_identifier_text(input: *const u8, len: usize) -> usize;
-    fn sec1_point_read(input: *const u8, len: usize) -> usize;
-    fn sec1_point_copy(input: *const u8, len: usize) -> usize;
-    fn sec1_point_parse(input: *const u8, len: usize, rounds: usize) -> usize;
-    fn sec1_point_text(input: *const u8, len: usize) -> usize;
-    fn sec1_points_compress(
+    fn bench_points_compress(
         input: *const u8,
         len: usize,
         out: *mut u8,
         out_len: usize,
         rounds: usize,
     ) -> usize;
-    fn sec1_points_cmp(input: *const u8, len: usize, rounds: usize) -> usize;
-    fn sec1_points_eq(input: *const u8, len: usize, rounds: usize) -> usize;
+    fn bench_points_compress_inline(
+        input: *const u8,
+        len: usize,
+        out: *mut u8,
+        out_len: usize,
+        rounds: usize,
+    ) -> usize;
+}
+
+#[link(name = "sec1_c", kind = "static")]
+unsafe extern "C" {
+    fn sec1_key_read(input: *const u8, len: usize, parts: *mut [[usize; 3]; 3]) -> u32;
+    fn sec1_key_write(
+        private_key: *const u8,
+        private_key_len: usize,
+        curve: *const u8,
+        curve_len: usize,
+        public_key: *const u8,
+        public_key_len: usize,
+        has_public_key: usize,
+        out: *mut u8,
+        out_len: usize,
+        len: *mut usize,
+    ) -> u32;
+    fn sec1_point_read(input: *const u8, len: usize, field: usize, parts: *mut [usize; 7]) -> u32;
+    fn sec1_point_compress(
+        input: *const u8,
+        len: usize,
+        field: usize,
+        out: *mut u8,
+        out_len: usize,
+        written: *mut usize,
+    ) -> u32;
+    fn sec1_point_compare(
+        first: *const u8,
+        first_len: usize,
+        second: *const u8,
+        second_len: usize,
+        field: usize,
+        order: *mut i32,
+    ) -> u32;
+    fn sec1_identifier_to_text(
+        content: *const u8,
+        content_len: usize,
+        text: *mut u8,
+        text_len: usize,
+        len: *mut usize,
+    ) -> u32;
+    fn sec1_identifier_from_text(
+        text: *const u8,
+        text_len: usize,
+        content: *mut u8,
+        content_len: usize,
+        len: *mut usize,
+    ) -> u32;
 }
 
 #[link(name = "openssl_peer", kind = "static")]
@@ -78,50 +155,46 @@ unsafe extern "C" {
 /// One call, with its arguments.
 type Call<'a> = Box<dyn Fn() -> usize + 'a>;
 
-/// A line of the table: the same job by `sec1`, by hand, and where it has one by OpenSSL.
+/// A line of the table: the same job by each side, with the number of jobs of a call.
 struct Line<'a> {
     name: &'static str,
-    /// How often a call does the job.
-    jobs: usize,
-    ours: Call<'a>,
-    peer: Call<'a>,
-    openssl: Option<(usize, Call<'a>)>,
+    sides: Vec<(&'static str, usize, Call<'a>)>,
 }
 
 /// The call of the static library on these bytes.
-fn on<'a>(call: unsafe extern "C" fn(*const u8, usize) -> usize, input: &'a [u8]) -> Call<'a> {
+fn on<'a>(call: OnBytes, input: &'a [u8]) -> Call<'a> {
     Box::new(move || unsafe { call(black_box(input).as_ptr(), input.len()) })
 }
 
-/// The call of the static library on these bytes and a number.
-fn with<'a>(
-    call: unsafe extern "C" fn(*const u8, usize, usize) -> usize,
-    input: &'a [u8],
-    n: usize,
-) -> Call<'a> {
-    Box::new(move || unsafe { call(black_box(input).as_ptr(), input.len(), black_box(n)) })
-}
-
-fn line<'a>(name: &'static str, ours: Call<'a>, peer: impl Fn() -> usize + 'a) -> Line<'a> {
+/// The line of a call of `sec1` and a peer's.
+fn line<'a>(
+    name: &'static str,
+    ours: impl Fn() -> usize + 'a,
+    peer: impl Fn() -> usize + 'a,
+) -> Line<'a> {
     Line {
         name,
-        jobs: 1,
-        ours,
-        peer: Box::new(peer),
-        openssl: None,
+        sides: vec![("ours", 1, Box::new(ours)), ("peer", 1, Box::new(peer))],
     }
+}
+
+/// The line of a call of `sec1` and those of both peers.
+macro_rules! line {
+    ($name:expr, $ours:expr, $call:ident($($arg:expr),*)) => {
+        line($name, $ours, move || peer::calls::$call($($arg),*) as usize)
+            .side("best", 1, move || best::calls::$call($($arg),*) as usize)
+    };
 }
 
 impl<'a> Line<'a> {
-    fn jobs(self, jobs: usize) -> Line<'a> {
-        Line { jobs, ..self }
+    fn jobs(mut self, jobs: usize) -> Line<'a> {
+        self.sides.iter_mut().for_each(|side| side.1 = jobs);
+        self
     }
 
-    fn openssl(self, jobs: usize, call: impl Fn() -> usize + 'a) -> Line<'a> {
-        Line {
-            openssl: Some((jobs, Box::new(call))),
-            ..self
-        }
+    fn side(mut self, side: &'static str, jobs: usize, call: impl Fn() -> usize + 'a) -> Line<'a> {
+        self.sides.push((side, jobs, Box::new(call)));
+        self
     }
 }
 
@@ -129,6 +202,8 @@ impl<'a> Line<'a> {
 struct Inputs {
     /// A key on P-256 with all its fields, 121 bytes (RFC 5915 section 3).
     key: Vec<u8>,
+    /// This key, those without one or both of the options, one with a long identifier, and one on P-521.
+    keys: Vec<Vec<u8>>,
     /// The same without a curve and a public key, 39 bytes.
     bare: Vec<u8>,
     /// The key with another first tag.
@@ -207,8 +282,31 @@ impl Inputs {
         );
         let mut other_tag = key.clone();
         other_tag[0] = 0x31;
+        let long_curve = element(0xA0, &element(0x06, &[0x2B, 0x24, 3, 3, 2, 8, 1, 1, 7]));
+        let long_private_key = element(0x04, &noise(3).take(66).collect::<Vec<u8>>());
+        bits.extend(noise(4).take(68));
+        let long_public_key = element(0xA1, &element(0x03, &bits));
+        let bare = element(0x30, &[&version[..], &private_key].concat());
+        let keys = vec![
+            key.clone(),
+            bare.clone(),
+            element(0x30, &[&version[..], &private_key, &parameters].concat()),
+            element(0x30, &[&version[..], &private_key, &public_key].concat()),
+            element(0x30, &[&version[..], &private_key, &long_curve].concat()),
+            element(
+                0x30,
+                &[
+                    &version[..],
+                    &long_private_key,
+                    &parameters,
+                    &long_public_key,
+                ]
+                .concat(),
+            ),
+        ];
         Inputs {
-            bare: element(0x30, &[version, private_key].concat()),
+            keys,
+            bare,
             other_tag,
             long: element(0x04, &noise(2).take(10_000).collect::<Vec<u8>>()),
             wide: element(0x30, &element(0x02, &[1]).repeat(1_000)),
@@ -244,72 +342,79 @@ const DOTTED: &[u8] = b"1.2.840.10045.3.1.7";
 fn key_lines(inputs: &Inputs) -> Vec<Line<'_>> {
     let (key, bare) = (&inputs.key[..], &inputs.bare[..]);
     let (other_tag, cut) = (&inputs.other_tag[..], &inputs.key[..60]);
-    let (private_key, public_key) = (&key[PRIVATE_KEY], &key[PUBLIC_KEY]);
-    vec![
-        line("read a key", on(sec1_key_read, key), move || {
-            calls::key_read(black_box(key))
-        })
-        .openssl(1, move || unsafe {
-            openssl_key_read(key.as_ptr(), key.len())
-        }),
-        line(
-            "read a key without options",
-            on(sec1_key_read, bare),
-            move || calls::key_read(black_box(bare)),
-        )
-        .openssl(1, move || unsafe {
-            openssl_key_read(bare.as_ptr(), bare.len())
-        }),
-        line(
-            "refuse at the first tag",
-            on(sec1_key_read, other_tag),
-            move || calls::key_read(black_box(other_tag)),
-        ),
-        line(
-            "refuse a key cut at 60",
-            on(sec1_key_read, cut),
-            move || calls::key_read(black_box(cut)),
-        ),
-        line(
+    let (d, q) = (&key[PRIVATE_KEY], &key[PUBLIC_KEY]);
+    let mut lines = vec![];
+    for (name, input) in [
+        ("read a key", key),
+        ("read a key without options", bare),
+        ("refuse at the first tag", other_tag),
+        ("refuse a key cut at 60", cut),
+    ] {
+        let mut line = line!(name, on(bench_key_read, input), key_read(black_box(input)));
+        if input == key || input == bare {
+            line = line.side("openssl", 1, move || unsafe {
+                openssl_key_read(input.as_ptr(), input.len())
+            });
+        }
+        lines.push(line);
+    }
+    lines.extend([
+        line!(
             "write a key",
-            write_ours(private_key, public_key),
-            move || calls::key_write(black_box(private_key), public_key, &mut [0; 128]),
+            write(bench_key_write, d, q),
+            key_write(black_box(d), q, &mut [0; 128])
         )
-        .openssl(WRITES, move || unsafe {
+        .side("openssl", WRITES, move || unsafe {
             openssl_key_write(key.as_ptr(), key.len(), [0; 128].as_mut_ptr(), WRITES)
         }),
-        line(
+        line!(
+            "write a key, inlined",
+            write(bench_key_write_inline, d, q),
+            key_write_inline(black_box(d), q, &mut [0; 128])
+        ),
+        line!(
             "write a key without options",
-            write_bare_ours(private_key),
-            move || calls::key_write_bare(black_box(private_key), &mut [0; 128]),
+            into(bench_key_write_bare, d),
+            key_write_bare(black_box(d), &mut [0; 128])
         )
-        .openssl(WRITES, move || unsafe {
+        .side("openssl", WRITES, move || unsafe {
             openssl_key_write(bare.as_ptr(), bare.len(), [0; 128].as_mut_ptr(), WRITES)
         }),
-        line("read a key and write it", rewrite_ours(key), move || {
-            calls::key_rewrite(black_box(key), &mut [0; 128])
-        })
-        .openssl(1, move || unsafe {
+        line!(
+            "write a key without options, inlined",
+            into(bench_key_write_bare_inline, d),
+            key_write_bare_inline(black_box(d), &mut [0; 128])
+        ),
+        line!(
+            "read a key and write it",
+            into(bench_key_rewrite, key),
+            key_rewrite(black_box(key), &mut [0; 128])
+        )
+        .side("openssl", 1, move || unsafe {
             openssl_key_rewrite(key.as_ptr(), key.len(), [0; 128].as_mut_ptr())
         }),
         line(
             "a key's document",
-            document_ours(private_key, public_key),
-            move || calls::key_document(black_box(private_key), public_key),
+            move || unsafe {
+                bench_key_document(black_box(d).as_ptr(), d.len(), q.as_ptr(), q.len())
+            },
+            move || calls::key_document(black_box(d), q),
         ),
-    ]
+    ]);
+    lines
 }
 
-fn write_ours<'a>(private_key: &'a [u8], public_key: &'a [u8]) -> Call<'a> {
+type Write = unsafe extern "C" fn(*const u8, usize, *const u8, usize, *mut u8, usize) -> usize;
+
+fn write<'a>(call: Write, d: &'a [u8], q: &'a [u8]) -> Call<'a> {
     Box::new(move || {
-        let mut out = [0; 128];
-        let private_key = black_box(private_key);
+        let (mut out, d) = ([0; 128], black_box(d));
         unsafe {
-            sec1_key_write(
-                private_key.as_ptr(),
-                private_key.len(),
-                public_key.as_ptr(),
-                public_key.len(),
+            call(
+                d.as_ptr(),
+                d.len(),
+                q.as_ptr(),
+                q.len(),
                 out.as_mut_ptr(),
                 out.len(),
             )
@@ -317,40 +422,12 @@ fn write_ours<'a>(private_key: &'a [u8], public_key: &'a [u8]) -> Call<'a> {
     })
 }
 
-fn write_bare_ours(private_key: &[u8]) -> Call<'_> {
-    Box::new(move || {
-        let mut out = [0; 128];
-        let private_key = black_box(private_key);
-        unsafe {
-            sec1_key_write_bare(
-                private_key.as_ptr(),
-                private_key.len(),
-                out.as_mut_ptr(),
-                out.len(),
-            )
-        }
-    })
-}
+type Into = unsafe extern "C" fn(*const u8, usize, *mut u8, usize) -> usize;
 
-fn rewrite_ours(key: &[u8]) -> Call<'_> {
+fn into(call: Into, input: &[u8]) -> Call<'_> {
     Box::new(move || {
-        let mut out = [0; 128];
-        let key = black_box(key);
-        unsafe { sec1_key_rewrite(key.as_ptr(), key.len(), out.as_mut_ptr(), out.len()) }
-    })
-}
-
-fn document_ours<'a>(private_key: &'a [u8], public_key: &'a [u8]) -> Call<'a> {
-    Box::new(move || {
-        let private_key = black_box(private_key);
-        unsafe {
-            sec1_key_document(
-                private_key.as_ptr(),
-                private_key.len(),
-                public_key.as_ptr(),
-                public_key.len(),
-            )
-        }
+        let (mut out, input) = ([0; 128], black_box(input));
+        unsafe { call(input.as_ptr(), input.len(), out.as_mut_ptr(), out.len()) }
     })
 }
 
@@ -358,80 +435,104 @@ fn document_ours<'a>(private_key: &'a [u8], public_key: &'a [u8]) -> Call<'a> {
 fn der_lines(inputs: &Inputs) -> Vec<Line<'_>> {
     let (key, long) = (&inputs.key[..], &inputs.long[..]);
     let (wide, deep, headers) = (&inputs.wide[..], &inputs.deep[..], &inputs.headers[..]);
+    let by_peer = |name, ours: OnBytes, peer: fn(&[u8]) -> usize, input| {
+        line(name, on(ours, input), move || peer(black_box(input)))
+    };
     vec![
-        line("a header, of 64", on(sec1_headers_read, headers), || {
-            calls::headers_read(black_box(headers))
-        })
+        by_peer(
+            "a header, of 64",
+            bench_headers_read,
+            calls::headers_read,
+            headers,
+        )
         .jobs(64),
-        line("check a key's tree", on(sec1_tree_check, key), || {
-            calls::tree_check(black_box(key))
-        }),
-        line(
+        by_peer(
+            "a header, of 64, inlined",
+            bench_headers_read_inline,
+            calls::headers_read_inline,
+            headers,
+        )
+        .jobs(64),
+        by_peer(
+            "check a key's tree",
+            bench_tree_check,
+            calls::tree_check,
+            key,
+        ),
+        by_peer(
             "check a wide tree, an element",
-            on(sec1_tree_check, wide),
-            || calls::tree_check(black_box(wide)),
+            bench_tree_check,
+            calls::tree_check,
+            wide,
         )
         .jobs(1001),
-        line(
+        by_peer(
             "check a deep tree, an element",
-            on(sec1_tree_check, deep),
-            || calls::tree_check(black_box(deep)),
+            bench_tree_check,
+            calls::tree_check,
+            deep,
         )
         .jobs(64),
-        line(
+        by_peer(
             "a document of 10 KB, copied",
-            on(sec1_document_copy, long),
-            || calls::document_copy(black_box(long)),
+            bench_document_copy,
+            calls::document_copy,
+            long,
         ),
-        line(
+        by_peer(
             "a key's document, read whole",
-            on(sec1_document_read, key),
-            || calls::document_read(black_box(key)),
+            bench_document_read,
+            calls::document_read,
+            key,
         ),
-        line(
-            "a key's document, read by bytes",
-            on(sec1_document_read_bytes, key),
-            || calls::document_read_bytes(black_box(key)),
-        ),
-        line(
+        by_peer(
             "a document of 10 KB, read whole",
-            on(sec1_document_read, long),
-            || calls::document_read(black_box(long)),
+            bench_document_read,
+            calls::document_read,
+            long,
         ),
-        line(
-            "a document of 10 KB, read by bytes",
-            on(sec1_document_read_bytes, long),
-            || calls::document_read_bytes(black_box(long)),
-        ),
-        line(
+        line!(
             "an identifier's content",
-            on(sec1_identifier_read, &CURVE),
-            || calls::identifier_read(black_box(&CURVE)),
+            on(bench_identifier_read, &CURVE),
+            identifier_read(black_box(&CURVE))
         ),
-        line(
+        line!(
+            "an identifier's content, inlined",
+            on(bench_identifier_read_inline, &CURVE),
+            identifier_read_inline(black_box(&CURVE))
+        ),
+        line!(
             "an identifier's text, read",
-            on(sec1_identifier_parse, DOTTED),
-            || calls::identifier_parse(black_box(DOTTED)),
+            on(bench_identifier_parse, DOTTED),
+            identifier_parse(black_box(DOTTED))
         ),
-        line(
+        line!(
             "an identifier's text, made",
-            on(sec1_identifier_text, &CURVE),
-            || calls::identifier_text(black_box(&CURVE)),
+            on(bench_identifier_text, &CURVE),
+            identifier_text(black_box(&CURVE))
         ),
     ]
 }
 
-fn compress_ours(points: &[u8]) -> Call<'_> {
+type OnPoints = unsafe extern "C" fn(*const u8, usize, usize) -> usize;
+
+fn many<'a>(call: OnPoints, points: &'a [u8]) -> Call<'a> {
+    Box::new(move || unsafe { call(black_box(points).as_ptr(), points.len(), black_box(ROUNDS)) })
+}
+
+type Compress = unsafe extern "C" fn(*const u8, usize, *mut u8, usize, usize) -> usize;
+
+fn compress(call: Compress, points: &[u8]) -> Call<'_> {
     Box::new(move || {
-        let mut out = [0; 128];
-        let points = black_box(points);
+        let (mut out, points) = ([0; 128], black_box(points));
+        let rounds = black_box(ROUNDS);
         unsafe {
-            sec1_points_compress(
+            call(
                 points.as_ptr(),
                 points.len(),
                 out.as_mut_ptr(),
                 out.len(),
-                black_box(ROUNDS),
+                rounds,
             )
         }
     })
@@ -444,43 +545,290 @@ fn point_lines(inputs: &Inputs) -> Vec<Line<'_>> {
         inputs.text.as_bytes(),
         &inputs.points[..],
     );
+    let rounds = || black_box(ROUNDS);
     vec![
-        line("a point from bytes", on(sec1_point_read, point), || {
-            calls::point_read(black_box(point))
-        }),
-        line(
-            "a point from bytes, and to bytes",
-            on(sec1_point_copy, point),
-            || calls::point_copy(black_box(point)),
+        line!(
+            "a point from bytes",
+            on(bench_point_read, point),
+            point_read(black_box(point))
         ),
-        line(
+        line!(
+            "a point from bytes, inlined",
+            on(bench_point_read_inline, point),
+            point_read_inline(black_box(point))
+        ),
+        line!(
+            "a point from bytes, and to bytes",
+            on(bench_point_copy, point),
+            point_copy(black_box(point))
+        ),
+        line!(
             "a point from text",
-            with(sec1_point_parse, text, ROUNDS),
-            || calls::point_parse(black_box(text), black_box(ROUNDS)),
+            many(bench_point_parse, text),
+            point_parse(black_box(text), rounds())
         )
         .jobs(ROUNDS),
-        line(
+        line!(
             "a point from bytes, and to text",
-            on(sec1_point_text, point),
-            || calls::point_text(black_box(point)),
+            on(bench_point_text, point),
+            point_text(black_box(point))
         ),
-        line("compress a point", compress_ours(points), || {
-            calls::points_compress(black_box(points), &mut [0; 128], black_box(ROUNDS))
-        })
+        line!(
+            "compress a point",
+            compress(bench_points_compress, points),
+            points_compress(black_box(points), &mut [0; 128], rounds())
+        )
         .jobs(64 * ROUNDS),
-        line(
+        line!(
+            "compress a point, inlined",
+            compress(bench_points_compress_inline, points),
+            points_compress_inline(black_box(points), &mut [0; 128], rounds())
+        )
+        .jobs(64 * ROUNDS),
+        line!(
             "compare two points, cmp",
-            with(sec1_points_cmp, points, ROUNDS),
-            || calls::points_cmp(black_box(points), black_box(ROUNDS)),
+            many(bench_points_cmp, points),
+            points_cmp(black_box(points), rounds())
         )
         .jobs(63 * ROUNDS),
-        line(
+        line!(
             "compare two points, eq",
-            with(sec1_points_eq, points, ROUNDS),
-            || calls::points_eq(black_box(points), black_box(ROUNDS)),
+            many(bench_points_eq, points),
+            points_eq(black_box(points), rounds())
+        )
+        .jobs(63 * ROUNDS),
+        line!(
+            "compare two points, eq, inlined",
+            many(bench_points_eq_inline, points),
+            points_eq_inline(black_box(points), rounds())
         )
         .jobs(63 * ROUNDS),
     ]
+}
+
+/// The lines on the calls of the C library. Each adds to its status what it has stored.
+fn c_lines(inputs: &Inputs) -> Vec<Line<'_>> {
+    let key = &inputs.key[..];
+    let (d, q) = (&key[PRIVATE_KEY], &key[PUBLIC_KEY]);
+    let next = &inputs.points[65..130];
+    macro_rules! c {
+        ($name:expr, $room:expr, $sum:expr, |$out:ident| $ours:expr, $call:ident($($arg:expr),*)) => {
+            line($name, move || {
+                let mut $out = $room;
+                let status = unsafe { $ours };
+                status as usize + $sum(black_box(&$out))
+            }, move || {
+                let mut $out = $room;
+                let status = peer::calls::$call($($arg),*);
+                status as usize + $sum(black_box(&$out))
+            })
+            .side("best", 1, move || {
+                let mut $out = $room;
+                let status = best::calls::$call($($arg),*);
+                status as usize + $sum(black_box(&$out))
+            })
+        };
+    }
+    vec![
+        c!(
+            "C: sec1_key_read",
+            [[0; 3]; 3],
+            |p: &[[usize; 3]; 3]| p[1][0] + p[2][0] + p[2][1],
+            |out| sec1_key_read(black_box(key).as_ptr(), key.len(), &mut out),
+            c_key_read(black_box(key), &mut out)
+        ),
+        c!(
+            "C: sec1_key_write",
+            ([0u8; 128], 0),
+            |o: &([u8; 128], usize)| o.1,
+            |out| sec1_key_write(
+                black_box(d).as_ptr(),
+                d.len(),
+                CURVE.as_ptr(),
+                CURVE.len(),
+                q.as_ptr(),
+                q.len(),
+                1,
+                out.0.as_mut_ptr(),
+                128,
+                &mut out.1
+            ),
+            c_key_write(black_box(d), black_box(&CURVE), q, &mut out.0, &mut out.1)
+        ),
+        c!(
+            "C: sec1_point_read",
+            [0; 7],
+            |p: &[usize; 7]| p[0] + p[4] + p[5],
+            |out| sec1_point_read(black_box(q).as_ptr(), q.len(), 32, &mut out),
+            c_point_read(black_box(q), &mut out)
+        ),
+        c!(
+            "C: sec1_point_compress",
+            ([0u8; 128], 0),
+            |o: &([u8; 128], usize)| o.1,
+            |out| sec1_point_compress(
+                black_box(q).as_ptr(),
+                q.len(),
+                32,
+                out.0.as_mut_ptr(),
+                128,
+                &mut out.1
+            ),
+            c_point_compress(black_box(q), &mut out.0, &mut out.1)
+        ),
+        c!(
+            "C: sec1_point_compare",
+            0,
+            |order: &i32| *order as usize,
+            |out| sec1_point_compare(
+                black_box(q).as_ptr(),
+                q.len(),
+                next.as_ptr(),
+                next.len(),
+                32,
+                &mut out
+            ),
+            c_point_compare(black_box(q), next, &mut out)
+        ),
+        c!(
+            "C: sec1_identifier_to_text",
+            ([0u8; 158], 0),
+            |o: &([u8; 158], usize)| o.1,
+            |out| sec1_identifier_to_text(
+                black_box(&CURVE).as_ptr(),
+                8,
+                out.0.as_mut_ptr(),
+                158,
+                &mut out.1
+            ),
+            c_identifier_to_text(black_box(&CURVE), &mut out.0, &mut out.1)
+        ),
+        c!(
+            "C: sec1_identifier_from_text",
+            ([0u8; 39], 0),
+            |o: &([u8; 39], usize)| o.1,
+            |out| sec1_identifier_from_text(
+                black_box(DOTTED).as_ptr(),
+                DOTTED.len(),
+                out.0.as_mut_ptr(),
+                39,
+                &mut out.1
+            ),
+            c_identifier_from_text(black_box(DOTTED), &mut out.0, &mut out.1)
+        ),
+    ]
+}
+
+const CERTIFICATE: &[u8] = include_bytes!("p256_certificate.der");
+const CONTAINER: &[u8] = include_bytes!("p256_container.der");
+
+/// The name of a file that holds a key.
+const FILE: &str = concat!(env!("BENCH_FOLDER"), "/../crates/sec1_c/examples/p256.der");
+
+fn file() -> Vec<u8> {
+    std::fs::read(FILE).expect("a file with a key")
+}
+
+/// The lines on records of a caller's own, and on a file.
+fn record_lines<'a>() -> Vec<Line<'a>> {
+    vec![
+        line(
+            "a certificate to a point",
+            on(bench_certificate_point, CERTIFICATE),
+            || calls::certificate_point(black_box(CERTIFICATE)),
+        ),
+        line(
+            "a container to a key to a point",
+            on(bench_container_point, CONTAINER),
+            || calls::container_point(black_box(CONTAINER)),
+        ),
+        line!(
+            "a file to a key to a point",
+            || {
+                let key = file();
+                unsafe { bench_key_point(key.as_ptr(), key.len()) }
+            },
+            key_point(&file())
+        ),
+    ]
+}
+
+/// What `f` is given: the bytes, their beginnings, one byte more, and a copy for each byte with another value.
+fn damaged(bytes: &[u8], mut f: impl FnMut(&[u8])) {
+    (0..=bytes.len()).for_each(|len| f(&bytes[..len]));
+    f(&[bytes, &[0]].concat());
+    let mut copy = bytes.to_vec();
+    for i in 0..bytes.len() {
+        for value in 0..=255 {
+            copy[i] = value;
+            f(&copy);
+        }
+        copy[i] = bytes[i];
+    }
+}
+
+/// Tests that both peers accept what `sec1` accepts, with the same result and the same reason of a refusal.
+fn verdicts(inputs: &Inputs) {
+    let mut count = 0;
+    let mut same = |ours: OnBytes, peers: [fn(&[u8]) -> usize; 2], bytes: &[u8]| {
+        damaged(bytes, |bytes| {
+            let number = unsafe { ours(bytes.as_ptr(), bytes.len()) };
+            assert_eq!([number; 2], peers.map(|peer| peer(bytes)), "{bytes:02X?}");
+            count += 1;
+        })
+    };
+    for key in &inputs.keys {
+        same(
+            bench_key_read,
+            [calls::key_read, best::calls::key_read],
+            key,
+        );
+    }
+    for key in &inputs.keys {
+        same(
+            bench_key_point,
+            [calls::key_point, best::calls::key_point],
+            key,
+        );
+    }
+    for content in [
+        &CURVE[..],
+        &[0x2B, 0x81, 4, 0, 0x22],
+        &[0x8F, 0xFF, 0xFF, 0xFF, 0x7F, 1, 1, 1, 0x81, 1],
+    ] {
+        same(
+            bench_identifier_read,
+            [calls::identifier_read, best::calls::identifier_read],
+            content,
+        );
+    }
+    for text in [DOTTED, b"2.999.4294967295", b"1.39"] {
+        same(
+            bench_identifier_parse,
+            [calls::identifier_parse, best::calls::identifier_parse],
+            text,
+        );
+    }
+    for point in [
+        &inputs.points[..65],
+        &[&[3], &inputs.points[1..33]].concat(),
+    ] {
+        same(
+            bench_point_read,
+            [calls::point_read, best::calls::point_read],
+            point,
+        );
+        let text: String = point.iter().map(|byte| format!("{byte:02X}")).collect();
+        damaged(text.as_bytes(), |text| {
+            let number = unsafe { bench_point_parse(text.as_ptr(), text.len(), 1) };
+            let peers = [
+                calls::point_parse(text, 1),
+                best::calls::point_parse(text, 1),
+            ];
+            assert_eq!([number; 2], peers, "{text:02X?}");
+        });
+    }
+    println!("{count} inputs, most of them damaged: the same verdicts by sec1 and by both peers");
 }
 
 /// How long `count` calls take, in nanoseconds.
@@ -509,29 +857,24 @@ fn calls_of(call: &dyn Fn() -> usize) -> usize {
 
 /// Takes samples of all sides of a line in turn, and prints each as nanoseconds a job.
 fn measure(line: &Line) {
-    assert_eq!(
-        (line.ours)(),
-        (line.peer)(),
-        "{}: the two don't do the same",
-        line.name
-    );
-    let mut sides: Vec<(&str, usize, &Call)> = vec![
-        ("ours", line.jobs, &line.ours),
-        ("peer", line.jobs, &line.peer),
-    ];
-    if let Some((jobs, call)) = &line.openssl {
-        if call() > 0 {
-            sides.push(("openssl", *jobs, call));
-        }
+    let sides: Vec<_> = line
+        .sides
+        .iter()
+        .filter(|side| side.0 != "openssl" || (side.2)() > 0)
+        .collect();
+    for (side, _, call) in sides.iter().filter(|side| side.0 != "openssl") {
+        assert_eq!(
+            call(),
+            (line.sides[0].2)(),
+            "{}: {side} doesn't do the same",
+            line.name
+        );
     }
-    let counts: Vec<usize> = sides.iter().map(|side| calls_of(side.2)).collect();
+    let counts: Vec<usize> = sides.iter().map(|side| calls_of(&side.2)).collect();
     for _ in 0..SAMPLES {
         for ((side, jobs, call), &count) in sides.iter().zip(&counts) {
-            println!(
-                "{}\t{side}\t{:.3}",
-                line.name,
-                time(call, count) / (count * jobs) as f64
-            );
+            let job = time(call, count) / (count * jobs) as f64;
+            println!("{}\t{side}\t{job:.3}", line.name);
         }
     }
 }
@@ -540,7 +883,7 @@ fn measure(line: &Line) {
 fn large() {
     let document = element(0x04, &vec![0; 0x0FFF_FFFF]);
     for (side, call) in [
-        ("ours", on(sec1_document_read, &document)),
+        ("ours", on(bench_document_read, &document)),
         ("peer", Box::new(|| calls::document_read(&document))),
     ] {
         let start = Instant::now();
@@ -553,106 +896,48 @@ fn large() {
     }
 }
 
-/// The number in the middle, and those at a quarter and three quarters.
-fn quartiles(samples: &[f64]) -> [f64; 3] {
-    let mut sorted = samples.to_vec();
-    sorted.sort_by(f64::total_cmp);
-    [1, 2, 3].map(|i| sorted[i * (sorted.len() - 1) / 4])
-}
-
-/// Prints the table of the samples in these files, one of each run.
-fn table(files: &[String], names: &[&str]) {
-    let mut runs = Vec::new();
-    for file in files {
-        let mut run: BTreeMap<(String, String), Vec<f64>> = BTreeMap::new();
-        for line in std::fs::read_to_string(file)
-            .expect("a file of samples")
-            .lines()
-        {
-            let mut parts = line.split('\t').map(str::to_string);
-            if let (Some(name), Some(side), Some(sample)) =
-                (parts.next(), parts.next(), parts.next())
-            {
-                run.entry((name, side))
-                    .or_default()
-                    .push(sample.parse().expect("a sample"));
-            }
-        }
-        runs.push(run);
-    }
-    println!("| What | ns | by hand, ns | ratio | by layout | spread | OpenSSL, ns |");
-    println!("|---|---|---|---|---|---|---|");
-    for name in names {
-        let samples = |side: &str| -> Vec<Vec<f64>> {
-            let key = (name.to_string(), side.to_string());
-            runs.iter()
-                .filter_map(|run| run.get(&key).cloned())
-                .collect()
-        };
-        let (ours, peer, openssl) = (samples("ours"), samples("peer"), samples("openssl"));
-        let ratios: Vec<f64> = ours
-            .iter()
-            .zip(&peer)
-            .map(|(a, b)| quartiles(a)[1] / quartiles(b)[1])
-            .collect();
-        let [low, middle, high] = quartiles(&ours.concat());
-        let by_hand = quartiles(&peer.concat())[1];
-        let (least, most) = ratios
-            .iter()
-            .fold((f64::MAX, 0.0_f64), |(a, b), &r| (a.min(r), b.max(r)));
-        let openssl = if openssl.is_empty() {
-            String::new()
-        } else {
-            format!("{:.0}", quartiles(&openssl.concat())[1])
-        };
-        println!(
-            "| {name} | {middle:.1} | {by_hand:.1} | {:.2} | {least:.2} to {most:.2} | {:.0} % | {openssl} |",
-            middle / by_hand,
-            100.0 * (high - low) / middle
-        );
-    }
-}
-
 fn main() {
     let inputs = Inputs::new();
-    let lines: Vec<Line> = [key_lines(&inputs), der_lines(&inputs), point_lines(&inputs)]
-        .into_iter()
-        .flatten()
-        .collect();
+    let empty = line(EMPTY, on(bench_empty, &inputs.key), || {
+        calls::empty(black_box(&inputs.key))
+    });
+    let lines: Vec<Line> = [
+        vec![empty],
+        key_lines(&inputs),
+        der_lines(&inputs),
+        point_lines(&inputs),
+        c_lines(&inputs),
+        record_lines(),
+    ]
+    .into_iter()
+    .flatten()
+    .collect();
     let args: Vec<String> = std::env::args().skip(1).collect();
     match args.iter().map(String::as_str).collect::<Vec<&str>>()[..] {
-        ["measure"] => lines.iter().for_each(measure),
-        ["table", ..] => table(
-            &args[1..],
-            &lines.iter().map(|line| line.name).collect::<Vec<&str>>(),
-        ),
+        ["measure"] => lines[1..].iter().for_each(measure),
+        ["verdicts"] => verdicts(&inputs),
         ["lines"] => {
-            println!("{EMPTY}\t1\t0");
             for line in &lines {
-                let openssl = match &line.openssl {
-                    Some((jobs, call)) if call() > 0 => *jobs,
-                    _ => 0,
-                };
-                println!("{}\t{}\t{openssl}", line.name, line.jobs);
+                for (side, jobs, call) in &line.sides {
+                    if *side != "openssl" || call() > 0 {
+                        println!("{}\t{side}\t{jobs}", line.name);
+                    }
+                }
             }
         }
         ["large"] => large(),
         ["repeat", name, side, count] => {
-            let empty: Call = Box::new(|| 0);
-            let line = lines.iter().find(|line| line.name == name);
-            let call = match (line, side) {
-                (None, _) => &empty,
-                (Some(line), "ours") => &line.ours,
-                (Some(line), "peer") => &line.peer,
-                (Some(line), _) => &line.openssl.as_ref().expect("a line of OpenSSL's").1,
-            };
-            let count: usize = count.parse().expect("a count");
-            for _ in 0..count {
+            let line = lines.iter().find(|line| line.name == name).expect("a line");
+            let call = &line
+                .sides
+                .iter()
+                .find(|found| found.0 == side)
+                .expect("a side")
+                .2;
+            for _ in 0..count.parse().expect("a count") {
                 black_box(call());
             }
         }
-        _ => eprintln!(
-            "usage: main measure | table FILE.. | lines | large | repeat LINE ours|peer|openssl COUNT"
-        ),
+        _ => eprintln!("usage: main measure | verdicts | lines | large | repeat LINE SIDE COUNT"),
     }
 }

@@ -1,6 +1,8 @@
 //! The jobs of `sec1` by hand, as Rust programs do them: the same inputs are read, the same are refused for the same reasons,
 //! and the same bytes are written. It is compared with `sec1` by `main.rs`, and used by nothing else.
-use std::io::{self, Read};
+#![allow(mismatched_lifetime_syntaxes)]
+use std::cmp::Ordering;
+use std::io::{self, Read, Write};
 
 /// The most bytes of a content.
 const MAX: usize = 0x0FFF_FFFF;
@@ -10,7 +12,7 @@ const STEP: usize = 4096;
 
 #[derive(Clone, Copy, Debug, PartialEq, Eq)]
 pub enum Error {
-    Truncated,
+    Truncated = 1,
     Tag,
     Length,
     TrailingData,
@@ -31,7 +33,7 @@ impl From<io::Error> for Error {
 }
 
 /// The tag and the length that the bytes begin with, and the bytes behind them.
-fn header(bytes: &[u8]) -> Result<(u8, usize, &[u8])> {
+pub fn header(bytes: &[u8]) -> Result<(u8, usize, &[u8])> {
     let (&tag, rest) = bytes.split_first().ok_or(Error::Truncated)?;
     if tag == 0 || tag & 0x1F == 0x1F {
         return Err(Error::Tag);
@@ -112,6 +114,8 @@ pub struct Identifier {
     len: usize,
 }
 
+use Identifier as Content;
+
 const ID_EC_PUBLIC_KEY: Identifier = {
     let mut bytes = [0; 39];
     let content = [0x2A, 0x86, 0x48, 0xCE, 0x3D, 0x02, 0x01];
@@ -124,7 +128,7 @@ const ID_EC_PUBLIC_KEY: Identifier = {
 };
 
 impl Identifier {
-    fn from_bytes(content: &[u8]) -> Result<Identifier> {
+    pub fn from_bytes(content: &[u8]) -> Result<Identifier> {
         if content.is_empty() || content.len() > 39 {
             return Err(Error::Value);
         }
@@ -186,6 +190,16 @@ impl Identifier {
     fn as_bytes(&self) -> &[u8] {
         &self.bytes[..self.len]
     }
+
+    fn text(&self) -> String {
+        self.to_string()
+    }
+
+    fn to_text(&self, text: &mut [u8; 158]) -> usize {
+        let mut rest = &mut text[..];
+        write!(rest, "{self}").expect("enough room");
+        158 - rest.len()
+    }
 }
 
 fn arc(text: &str) -> Result<u32> {
@@ -217,6 +231,37 @@ impl std::fmt::Display for Identifier {
     }
 }
 
+/// The identifier that is all of the bytes.
+fn identifier(field: &[u8]) -> Result<Identifier> {
+    let mut reader = Reader { rest: field };
+    let identifier = Identifier::from_bytes(reader.content(0x06)?)?;
+    reader.finish()?;
+    Ok(identifier)
+}
+
+/// The bytes of the bit string that is all of the bytes.
+fn bits(field: &[u8]) -> Result<&[u8]> {
+    let mut reader = Reader { rest: field };
+    match (reader.content(0x03)?, reader.rest) {
+        ([0, bytes @ ..], []) => Ok(bytes),
+        (content, behind) => Err(bits_fault(content, behind)),
+    }
+}
+
+/// Why a bit string with these bytes behind it isn't whole bytes, and nothing else.
+pub fn bits_fault(content: &[u8], behind: &[u8]) -> Error {
+    let is_bits = match content {
+        [0, ..] => true,
+        [unused @ 1..=7, .., last] => last & ((1 << unused) - 1) == 0,
+        _ => false,
+    };
+    if is_bits && !behind.is_empty() {
+        Error::TrailingData
+    } else {
+        Error::Value
+    }
+}
+
 pub struct Key<'a> {
     pub private_key: &'a [u8],
     pub curve: Option<Identifier>,
@@ -225,25 +270,24 @@ pub struct Key<'a> {
 
 impl<'a> Key<'a> {
     fn from_der(input: &'a [u8]) -> Result<Key<'a>> {
+        let mut outer = Reader { rest: input };
         let mut fields = Reader {
-            rest: only(input, 0x30)?,
+            rest: outer.content(0x30)?,
         };
         if fields.content(0x02)? != [1] {
             return Err(Error::Value);
         }
         let private_key = fields.content(0x04)?;
         let curve = match fields.optional(0xA0)? {
-            Some(field) => Some(Identifier::from_bytes(only(field, 0x06)?)?),
+            Some(field) => Some(identifier(field)?),
             None => None,
         };
         let public_key = match fields.optional(0xA1)? {
-            Some(field) => match only(field, 0x03)? {
-                [0, bytes @ ..] => Some(bytes),
-                _ => return Err(Error::Value),
-            },
+            Some(field) => Some(bits(field)?),
             None => None,
         };
         fields.finish()?;
+        outer.finish()?;
         Ok(Key {
             private_key,
             curve,
@@ -262,7 +306,7 @@ impl<'a> Key<'a> {
         Ok(len)
     }
 
-    fn encode_to_slice(&self, buffer: &mut [u8]) -> Result<usize> {
+    pub fn encode_to_slice(&self, buffer: &mut [u8]) -> Result<usize> {
         let len = self.content_len()?;
         let total = element_len(len)?;
         let mut writer = Writer {
@@ -477,6 +521,10 @@ impl Point {
         self.as_bytes().into()
     }
 
+    fn compare(&self, other: &Point) -> Ordering {
+        self.as_bytes().cmp(other.as_bytes())
+    }
+
     fn to_upper_hex(&self) -> String {
         let mut text = String::with_capacity(2 * self.len);
         for &byte in self.as_bytes() {
@@ -495,6 +543,12 @@ impl Point {
             }
             _ => *self,
         }
+    }
+}
+
+impl PartialEq for Point {
+    fn eq(&self, other: &Point) -> bool {
+        self.as_bytes() == other.as_bytes()
     }
 }
 
@@ -543,51 +597,531 @@ impl Read for Single<'_> {
     }
 }
 
-/// The calls that are measured, each with the arguments and the result of the export of `sec1_bench` that it is named for.
+/// The point of a certificate (RFC 5280 section 4.1), all of whose fields are read.
+fn certificate_point(input: &[u8]) -> Result<Point> {
+    let mut outer = Reader {
+        rest: only(input, 0x30)?,
+    };
+    let mut fields = Reader {
+        rest: outer.content(0x30)?,
+    };
+    if let Some(version) = fields.optional(0xA0)? {
+        if !matches!(only(version, 0x02)?, [1 | 2]) {
+            return Err(Error::Value);
+        }
+    }
+    match fields.content(0x02)? {
+        [] | [0, 0..=0x7F, ..] | [0xFF, 0x80..=0xFF, ..] => return Err(Error::Value),
+        _ => {}
+    }
+    algorithm(fields.content(0x30)?)?;
+    name(fields.content(0x30)?)?;
+    let mut validity = Reader {
+        rest: fields.content(0x30)?,
+    };
+    for _ in 0..2 {
+        time(validity.element()?)?;
+    }
+    validity.finish()?;
+    name(fields.content(0x30)?)?;
+    let mut key = Reader {
+        rest: fields.content(0x30)?,
+    };
+    let on_curve = is_p256(algorithm(key.content(0x30)?)?);
+    let public_key = bits(key.rest)?;
+    for tag in [0x81, 0x82] {
+        fields.optional(tag)?;
+    }
+    if let Some(extensions) = fields.optional(0xA3)? {
+        let mut extensions = Reader {
+            rest: only(extensions, 0x30)?,
+        };
+        while !extensions.rest.is_empty() {
+            extension(extensions.content(0x30)?)?;
+        }
+    }
+    fields.finish()?;
+    algorithm(outer.content(0x30)?)?;
+    bits(outer.rest)?;
+    if on_curve {
+        Point::from_bytes(public_key)
+    } else {
+        Err(Error::Value)
+    }
+}
+
+/// The identifier's content and the parameters of an AlgorithmIdentifier.
+fn algorithm(content: &[u8]) -> Result<(&[u8], &[u8])> {
+    let mut fields = Reader { rest: content };
+    let kind = fields.content(0x06)?;
+    Identifier::from_bytes(kind)?;
+    let parameters = fields.rest;
+    if !parameters.is_empty() {
+        fields.element()?;
+    }
+    fields.finish()?;
+    Ok((kind, parameters))
+}
+
+fn is_p256((kind, parameters): (&[u8], &[u8])) -> bool {
+    kind == ID_EC_PUBLIC_KEY.as_bytes()
+        && parameters == [6, 8, 0x2A, 0x86, 0x48, 0xCE, 0x3D, 3, 1, 7]
+}
+
+fn name(content: &[u8]) -> Result<()> {
+    let mut sets = Reader { rest: content };
+    while !sets.rest.is_empty() {
+        let mut set = Reader {
+            rest: sets.content(0x31)?,
+        };
+        let mut last: &[u8] = &[];
+        while !set.rest.is_empty() {
+            let front = set.rest;
+            let mut fields = Reader {
+                rest: set.content(0x30)?,
+            };
+            Identifier::from_bytes(fields.content(0x06)?)?;
+            fields.element()?;
+            fields.finish()?;
+            let element = &front[..front.len() - set.rest.len()];
+            if element < last {
+                return Err(Error::Value);
+            }
+            last = element;
+        }
+    }
+    Ok(())
+}
+
+fn time((tag, content): (u8, &[u8])) -> Result<()> {
+    let digits = match (tag, content) {
+        (0x17, [digits @ .., b'Z']) if digits.len() == 12 => digits,
+        (0x18, [_, _, digits @ .., b'Z']) if digits.len() == 12 => digits,
+        (0x17 | 0x18, _) => return Err(Error::Value),
+        _ => return Err(Error::Tag),
+    };
+    let pair = |i: usize| 10 * (digits[2 * i] - b'0') + digits[2 * i + 1] - b'0';
+    if !content[..content.len() - 1].iter().all(u8::is_ascii_digit)
+        || !(1..=12).contains(&pair(1))
+        || !(1..=31).contains(&pair(2))
+        || pair(3) > 23
+        || pair(4) > 59
+        || pair(5) > 59
+    {
+        return Err(Error::Value);
+    }
+    Ok(())
+}
+
+fn extension(content: &[u8]) -> Result<()> {
+    let mut fields = Reader { rest: content };
+    Identifier::from_bytes(fields.content(0x06)?)?;
+    if !matches!(fields.optional(0x01)?, None | Some([0xFF])) {
+        return Err(Error::Value);
+    }
+    fields.content(0x04)?;
+    fields.finish()
+}
+
+/// The point of the key in a container (RFC 5208 section 5), whose curve the key may name.
+fn container_point(input: &[u8]) -> Result<Point> {
+    let mut fields = Reader {
+        rest: only(input, 0x30)?,
+    };
+    if fields.content(0x02)? != [0] {
+        return Err(Error::Value);
+    }
+    let on_curve = is_p256(algorithm(fields.content(0x30)?)?);
+    let key = Key::from_der(fields.content(0x04)?)?;
+    fields.optional(0xA0)?;
+    fields.finish()?;
+    let named = key
+        .curve
+        .is_none_or(|curve| curve.as_bytes() == [0x2A, 0x86, 0x48, 0xCE, 0x3D, 3, 1, 7]);
+    if !on_curve || !named {
+        return Err(Error::Value);
+    }
+    Point::from_bytes(key.public_key.unwrap_or_default())
+}
+
+/// The calls of keys, identifiers and points, each with the arguments and the result of the export of `sec1_bench` that it is
+/// named for, or of the call of the C library. Those that aren't `_inline` call what they measure out of line.
+#[macro_export]
+macro_rules! calls {
+    () => {
+        fn length_and_last(bytes: &[u8]) -> usize {
+            bytes
+                .last()
+                .map_or(0, |&last| bytes.len() + usize::from(last))
+        }
+
+        fn key_sum(key: Result<Key>) -> usize {
+            key.map_or_else(
+                |error| error as usize,
+                |key| {
+                    let curve = key
+                        .curve
+                        .map_or(0, |curve| length_and_last(curve.as_bytes()));
+                    let public_key = key.public_key.map_or(0, length_and_last);
+                    length_and_last(key.private_key) + curve + public_key
+                },
+            )
+        }
+
+        #[inline(never)]
+        fn read(input: &[u8]) -> Result<Key> {
+            Key::from_der(input)
+        }
+
+        #[inline(never)]
+        pub fn key_read(input: &[u8]) -> usize {
+            key_sum(read(input))
+        }
+
+        #[inline(never)]
+        pub fn key_point(input: &[u8]) -> usize {
+            let point = Key::from_der(input)
+                .and_then(|key| Point::from_bytes(key.public_key.unwrap_or_default()));
+            point.map_or(0, |point| length_and_last(point.as_bytes()))
+        }
+
+        fn full<'a>(private_key: &'a [u8], public_key: &'a [u8]) -> Key<'a> {
+            Key {
+                private_key,
+                curve: Some(ID_EC_PUBLIC_KEY),
+                public_key: Some(public_key),
+            }
+        }
+
+        #[inline(never)]
+        fn write(key: &Key, out: &mut [u8]) -> usize {
+            key.encode_to_slice(out).unwrap_or(0)
+        }
+
+        #[inline(never)]
+        pub fn key_write(private_key: &[u8], public_key: &[u8], out: &mut [u8]) -> usize {
+            write(&full(private_key, public_key), out)
+        }
+
+        #[inline(never)]
+        pub fn key_write_inline(private_key: &[u8], public_key: &[u8], out: &mut [u8]) -> usize {
+            full(private_key, public_key)
+                .encode_to_slice(out)
+                .unwrap_or(0)
+        }
+
+        #[inline(never)]
+        pub fn key_write_bare(private_key: &[u8], out: &mut [u8]) -> usize {
+            write(
+                &Key {
+                    private_key,
+                    curve: None,
+                    public_key: None,
+                },
+                out,
+            )
+        }
+
+        #[inline(never)]
+        pub fn key_write_bare_inline(private_key: &[u8], out: &mut [u8]) -> usize {
+            let key = Key {
+                private_key,
+                curve: None,
+                public_key: None,
+            };
+            key.encode_to_slice(out).unwrap_or(0)
+        }
+
+        #[inline(never)]
+        pub fn key_rewrite(input: &[u8], out: &mut [u8]) -> usize {
+            Key::from_der(input)
+                .and_then(|key| key.encode_to_slice(out))
+                .unwrap_or(0)
+        }
+
+        #[inline(never)]
+        fn content(input: &[u8]) -> Result<Identifier> {
+            Identifier::from_bytes(input)
+        }
+
+        #[inline(never)]
+        pub fn identifier_read(input: &[u8]) -> usize {
+            content(input).map_or(0, |identifier| length_and_last(identifier.as_bytes()))
+        }
+
+        #[inline(never)]
+        pub fn identifier_read_inline(input: &[u8]) -> usize {
+            Identifier::from_bytes(input)
+                .map_or(0, |identifier| length_and_last(identifier.as_bytes()))
+        }
+
+        #[inline(never)]
+        pub fn identifier_parse(input: &[u8]) -> usize {
+            let text = std::str::from_utf8(input).unwrap_or_default();
+            Content::parse(text).map_or(0, |identifier| length_and_last(identifier.as_bytes()))
+        }
+
+        #[inline(never)]
+        pub fn identifier_text(input: &[u8]) -> usize {
+            Identifier::from_bytes(input).map_or(0, |identifier| {
+                std::hint::black_box(identifier.text()).len()
+            })
+        }
+
+        #[inline(never)]
+        fn point(input: &[u8]) -> Result<Point> {
+            Point::from_bytes(input)
+        }
+
+        #[inline(never)]
+        pub fn point_read(input: &[u8]) -> usize {
+            point(input).map_or(0, |point| length_and_last(point.as_bytes()))
+        }
+
+        #[inline(never)]
+        pub fn point_read_inline(input: &[u8]) -> usize {
+            Point::from_bytes(input).map_or(0, |point| length_and_last(point.as_bytes()))
+        }
+
+        #[inline(never)]
+        pub fn point_copy(input: &[u8]) -> usize {
+            Point::from_bytes(input).map_or(0, |point| std::hint::black_box(point.to_bytes()).len())
+        }
+
+        #[inline(never)]
+        pub fn point_parse(input: &[u8], rounds: usize) -> usize {
+            let text = std::str::from_utf8(input).unwrap_or_default();
+            (0..rounds)
+                .filter_map(|_| Point::parse(text).ok())
+                .map(|point| length_and_last(point.as_bytes()))
+                .sum()
+        }
+
+        #[inline(never)]
+        pub fn point_text(input: &[u8]) -> usize {
+            Point::from_bytes(input)
+                .map_or(0, |point| std::hint::black_box(point.to_upper_hex()).len())
+        }
+
+        fn points(input: &[u8]) -> [Point; 64] {
+            let mut points = [IDENTITY; 64];
+            for (point, bytes) in points.iter_mut().zip(input.chunks_exact(65)) {
+                *point = Point::from_bytes(bytes).unwrap_or(IDENTITY);
+            }
+            points
+        }
+
+        #[inline(never)]
+        fn compressed(point: &Point) -> Point {
+            point.compress()
+        }
+
+        #[inline(never)]
+        fn order(first: &Point, second: &Point) -> std::cmp::Ordering {
+            first.compare(second)
+        }
+
+        #[inline(never)]
+        fn same(first: &Point, second: &Point) -> bool {
+            first == second
+        }
+
+        #[inline(always)]
+        fn compress_all(
+            input: &[u8],
+            out: &mut [u8],
+            rounds: usize,
+            f: impl Fn(&Point) -> Point,
+        ) -> usize {
+            let points = points(input);
+            let mut sum = 0;
+            for _ in 0..rounds {
+                for point in &points {
+                    let compressed = f(point);
+                    let bytes = compressed.as_bytes();
+                    if let Some(room) = out.get_mut(..bytes.len()) {
+                        room.copy_from_slice(bytes);
+                    }
+                    sum += bytes.len();
+                }
+            }
+            sum
+        }
+
+        #[inline(always)]
+        fn count(input: &[u8], rounds: usize, f: impl Fn(&Point, &Point) -> bool) -> usize {
+            let points = points(input);
+            (0..rounds)
+                .map(|_| {
+                    points
+                        .windows(2)
+                        .filter(|pair| f(&pair[0], &pair[1]))
+                        .count()
+                })
+                .sum()
+        }
+
+        #[inline(never)]
+        pub fn points_compress(input: &[u8], out: &mut [u8], rounds: usize) -> usize {
+            compress_all(input, out, rounds, compressed)
+        }
+
+        #[inline(never)]
+        pub fn points_compress_inline(input: &[u8], out: &mut [u8], rounds: usize) -> usize {
+            compress_all(input, out, rounds, |point| point.compress())
+        }
+
+        #[inline(never)]
+        pub fn points_cmp(input: &[u8], rounds: usize) -> usize {
+            count(input, rounds, |first, second| order(first, second).is_lt())
+        }
+
+        #[inline(never)]
+        pub fn points_eq(input: &[u8], rounds: usize) -> usize {
+            count(input, rounds, same)
+        }
+
+        #[inline(never)]
+        pub fn points_eq_inline(input: &[u8], rounds: usize) -> usize {
+            count(input, rounds, |first, second| first == second)
+        }
+
+        fn part(input: &[u8], part: Option<&[u8]>) -> [usize; 3] {
+            part.map_or([0; 3], |part| {
+                [part.as_ptr().addr() - input.as_ptr().addr(), part.len(), 1]
+            })
+        }
+
+        #[inline(never)]
+        pub fn c_key_read(input: &[u8], parts: &mut [[usize; 3]; 3]) -> u32 {
+            match Key::from_der(input) {
+                Ok(key) => {
+                    let private_key = part(input, Some(key.private_key));
+                    let end = private_key[0] + private_key[1];
+                    let curve = key
+                        .curve
+                        .map_or([0; 3], |curve| [end + 4, curve.as_bytes().len(), 1]);
+                    *parts = [private_key, curve, part(input, key.public_key)];
+                    0
+                }
+                Err(error) => error as u32,
+            }
+        }
+
+        #[inline(never)]
+        pub fn c_key_write(
+            private_key: &[u8],
+            curve: &[u8],
+            public_key: &[u8],
+            out: &mut [u8],
+            len: &mut usize,
+        ) -> u32 {
+            let written = Identifier::from_bytes(curve).and_then(|curve| {
+                Key {
+                    private_key,
+                    curve: Some(curve),
+                    public_key: Some(public_key),
+                }
+                .encode_to_slice(out)
+            });
+            match written {
+                Ok(written) => *len = written,
+                Err(error) => return error as u32,
+            }
+            0
+        }
+
+        #[inline(never)]
+        pub fn c_point_read(input: &[u8], parts: &mut [usize; 7]) -> u32 {
+            match Point::from_bytes(input) {
+                Ok(point) => {
+                    let x = if point.as_bytes().len() > 1 {
+                        [1, 32, 1]
+                    } else {
+                        [0; 3]
+                    };
+                    let y = if point.as_bytes().len() > 33 {
+                        [33, 32, 1]
+                    } else {
+                        [0; 3]
+                    };
+                    let tag = usize::from(point.as_bytes()[0]);
+                    *parts = [tag, x[0], x[1], x[2], y[0], y[1], y[2]];
+                    0
+                }
+                Err(_) => 9,
+            }
+        }
+
+        #[inline(never)]
+        pub fn c_point_compress(input: &[u8], out: &mut [u8], len: &mut usize) -> u32 {
+            let Ok(point) = Point::from_bytes(input) else {
+                return 9;
+            };
+            let compressed = point.compress();
+            let bytes = compressed.as_bytes();
+            *len = bytes.len();
+            match out.get_mut(..bytes.len()) {
+                Some(room) => room.copy_from_slice(bytes),
+                None => return 7,
+            }
+            0
+        }
+
+        #[inline(never)]
+        pub fn c_point_compare(first: &[u8], second: &[u8], order: &mut i32) -> u32 {
+            match (Point::from_bytes(first), Point::from_bytes(second)) {
+                (Ok(first), Ok(second)) => *order = first.compare(&second) as i32,
+                _ => return 9,
+            }
+            0
+        }
+
+        #[inline(never)]
+        pub fn c_identifier_to_text(content: &[u8], out: &mut [u8], len: &mut usize) -> u32 {
+            let Ok(identifier) = Identifier::from_bytes(content) else {
+                return 5;
+            };
+            let mut text = [0; 158];
+            *len = identifier.to_text(&mut text) + 1;
+            match out.get_mut(..*len) {
+                Some(room) => room.copy_from_slice(&text[..*len]),
+                None => return 7,
+            }
+            0
+        }
+
+        #[inline(never)]
+        pub fn c_identifier_from_text(text: &[u8], out: &mut [u8], len: &mut usize) -> u32 {
+            let Some(identifier) = std::str::from_utf8(text)
+                .ok()
+                .and_then(|text| Content::parse(text).ok())
+            else {
+                return 5;
+            };
+            *len = identifier.as_bytes().len();
+            match out.get_mut(..*len) {
+                Some(room) => room.copy_from_slice(identifier.as_bytes()),
+                None => return 7,
+            }
+            0
+        }
+    };
+}
+
+/// The calls that are measured, those of the macro and the rest.
 pub mod calls {
     use super::*;
+    crate::calls!();
 
-    fn length_and_last(bytes: &[u8]) -> usize {
-        bytes
-            .last()
-            .map_or(0, |&last| bytes.len() + usize::from(last))
+    #[inline(never)]
+    pub fn empty(_input: &[u8]) -> usize {
+        0
     }
 
     #[inline(never)]
-    pub fn key_read(input: &[u8]) -> usize {
-        Key::from_der(input).map_or(0, |key| {
-            let curve = key
-                .curve
-                .map_or(0, |curve| length_and_last(curve.as_bytes()));
-            length_and_last(key.private_key) + curve + key.public_key.map_or(0, length_and_last)
-        })
-    }
-
-    #[inline(never)]
-    pub fn key_write(private_key: &[u8], public_key: &[u8], out: &mut [u8]) -> usize {
-        let key = Key {
-            private_key,
-            curve: Some(ID_EC_PUBLIC_KEY),
-            public_key: Some(public_key),
-        };
-        key.encode_to_slice(out).unwrap_or(0)
-    }
-
-    #[inline(never)]
-    pub fn key_write_bare(private_key: &[u8], out: &mut [u8]) -> usize {
-        let key = Key {
-            private_key,
-            curve: None,
-            public_key: None,
-        };
-        key.encode_to_slice(out).unwrap_or(0)
-    }
-
-    #[inline(never)]
-    pub fn key_rewrite(input: &[u8], out: &mut [u8]) -> usize {
-        Key::from_der(input)
-            .and_then(|key| key.encode_to_slice(out))
-            .unwrap_or(0)
+    fn front(bytes: &[u8]) -> Result<(u8, usize, &[u8])> {
+        header(bytes)
     }
 
     #[inline(never)]
@@ -622,6 +1156,17 @@ pub mod calls {
     pub fn headers_read(input: &[u8]) -> usize {
         let mut sum = 0;
         let mut rest = input;
+        while let Ok((_, length, behind)) = front(rest) {
+            sum += length;
+            rest = behind;
+        }
+        sum
+    }
+
+    #[inline(never)]
+    pub fn headers_read_inline(input: &[u8]) -> usize {
+        let mut sum = 0;
+        let mut rest = input;
         while let Ok((_, length, behind)) = header(rest) {
             sum += length;
             rest = behind;
@@ -635,99 +1180,12 @@ pub mod calls {
     }
 
     #[inline(never)]
-    pub fn identifier_read(input: &[u8]) -> usize {
-        Identifier::from_bytes(input).map_or(0, |identifier| length_and_last(identifier.as_bytes()))
+    pub fn certificate_point(input: &[u8]) -> usize {
+        super::certificate_point(input).map_or(0, |point| length_and_last(point.as_bytes()))
     }
 
     #[inline(never)]
-    pub fn identifier_parse(input: &[u8]) -> usize {
-        let Ok(text) = std::str::from_utf8(input) else {
-            return 0;
-        };
-        Identifier::parse(text).map_or(0, |identifier| length_and_last(identifier.as_bytes()))
-    }
-
-    #[inline(never)]
-    pub fn identifier_text(input: &[u8]) -> usize {
-        Identifier::from_bytes(input).map_or(0, |identifier| {
-            std::hint::black_box(identifier.to_string()).len()
-        })
-    }
-
-    #[inline(never)]
-    pub fn point_read(input: &[u8]) -> usize {
-        Point::from_bytes(input).map_or(0, |point| length_and_last(point.as_bytes()))
-    }
-
-    #[inline(never)]
-    pub fn point_copy(input: &[u8]) -> usize {
-        Point::from_bytes(input).map_or(0, |point| std::hint::black_box(point.to_bytes()).len())
-    }
-
-    #[inline(never)]
-    pub fn point_parse(input: &[u8], rounds: usize) -> usize {
-        let Ok(text) = std::str::from_utf8(input) else {
-            return 0;
-        };
-        (0..rounds)
-            .filter_map(|_| Point::parse(text).ok())
-            .map(|point| length_and_last(point.as_bytes()))
-            .sum()
-    }
-
-    #[inline(never)]
-    pub fn point_text(input: &[u8]) -> usize {
-        Point::from_bytes(input).map_or(0, |point| std::hint::black_box(point.to_upper_hex()).len())
-    }
-
-    fn points(input: &[u8]) -> [Point; 64] {
-        let mut points = [IDENTITY; 64];
-        for (point, bytes) in points.iter_mut().zip(input.chunks_exact(65)) {
-            *point = Point::from_bytes(bytes).unwrap_or(IDENTITY);
-        }
-        points
-    }
-
-    #[inline(never)]
-    pub fn points_compress(input: &[u8], out: &mut [u8], rounds: usize) -> usize {
-        let points = points(input);
-        let mut sum = 0;
-        for _ in 0..rounds {
-            for point in &points {
-                let compressed = point.compress();
-                let bytes = compressed.as_bytes();
-                if let Some(room) = out.get_mut(..bytes.len()) {
-                    room.copy_from_slice(bytes);
-                }
-                sum += bytes.len();
-            }
-        }
-        sum
-    }
-
-    #[inline(never)]
-    pub fn points_cmp(input: &[u8], rounds: usize) -> usize {
-        let points = points(input);
-        let mut sum = 0;
-        for _ in 0..rounds {
-            sum += points
-                .windows(2)
-                .filter(|pair| pair[0].as_bytes().cmp(pair[1].as_bytes()).is_lt())
-                .count();
-        }
-        sum
-    }
-
-    #[inline(never)]
-    pub fn points_eq(input: &[u8], rounds: usize) -> usize {
-        let points = points(input);
-        let mut sum = 0;
-        for _ in 0..rounds {
-            sum += points
-                .windows(2)
-                .filter(|pair| pair[0].as_bytes() == pair[1].as_bytes())
-                .count();
-        }
-        sum
+    pub fn container_point(input: &[u8]) -> usize {
+        super::container_point(input).map_or(0, |point| length_and_last(point.as_bytes()))
     }
 }

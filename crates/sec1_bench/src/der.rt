@@ -2,14 +2,42 @@
 ghost use Rattle.std.specs.Prelude.{false};
 
 use crate::length_and_last;
-use sec1::der::{Header, IoFault, ObjectIdentifier, Read, SecretDocument, SliceReader, check_tree};
+use sec1::der::{
+    Header, IoFault, ObjectIdentifier, Read, Result, SecretDocument, SliceReader, check_tree,
+};
 use std::alloc::Global;
 use std::str::from_utf8;
+
+/// Returns a header, as a call that isn't inlined does.
+#[inline(never)]
+fn header(reader: &mut SliceReader) -> Result<Header> {
+    Header::decode(reader)
+}
+
+/// Returns an identifier, as a call that isn't inlined does.
+#[inline(never)]
+fn identifier(content: &[u8]) -> Result<ObjectIdentifier> {
+    ObjectIdentifier::from_bytes(content)
+}
 
 /// Reads headers, one after the other, to the end. Returns the sum of the lengths that they
 /// announce.
 #[unsafe(no_mangle)]
-pub extern "C" fn sec1_headers_read(input: &[u8]) -> usize {
+pub extern "C" fn bench_headers_read(input: &[u8]) -> usize {
+    let mut reader = SliceReader::new(input);
+    let mut sum: usize = 0;
+    for _ in 0..input.len() {
+        match header(&mut reader) {
+            Ok(header) => sum = sum.wrapping_add(header.length.get()),
+            Err(_) => break,
+        }
+    }
+    sum
+}
+
+/// Reads headers as [`bench_headers_read`] does, by calls that may be inlined.
+#[unsafe(no_mangle)]
+pub extern "C" fn bench_headers_read_inline(input: &[u8]) -> usize {
     let mut reader = SliceReader::new(input);
     let mut sum: usize = 0;
     for _ in 0..input.len() {
@@ -23,13 +51,22 @@ pub extern "C" fn sec1_headers_read(input: &[u8]) -> usize {
 
 /// Checks that the input is one tree. Returns the number of its elements.
 #[unsafe(no_mangle)]
-pub extern "C" fn sec1_tree_check(input: &[u8]) -> usize {
+pub extern "C" fn bench_tree_check(input: &[u8]) -> usize {
     check_tree(input).unwrap_or(0)
 }
 
 /// Reads an identifier's content. Returns its length and last byte, added up.
 #[unsafe(no_mangle)]
-pub extern "C" fn sec1_identifier_read(input: &[u8]) -> usize {
+pub extern "C" fn bench_identifier_read(input: &[u8]) -> usize {
+    match identifier(input) {
+        Ok(identifier) => length_and_last(identifier.as_bytes()),
+        Err(_) => 0,
+    }
+}
+
+/// Reads an identifier's content as [`bench_identifier_read`] does, by a call that may be inlined.
+#[unsafe(no_mangle)]
+pub extern "C" fn bench_identifier_read_inline(input: &[u8]) -> usize {
     match ObjectIdentifier::from_bytes(input) {
         Ok(identifier) => length_and_last(identifier.as_bytes()),
         Err(_) => 0,
@@ -39,7 +76,7 @@ pub extern "C" fn sec1_identifier_read(input: &[u8]) -> usize {
 /// Reads an identifier's dotted text. Returns the length of its content and the last byte, added
 /// up.
 #[unsafe(no_mangle)]
-pub extern "C" fn sec1_identifier_parse(input: &[u8]) -> usize {
+pub extern "C" fn bench_identifier_parse(input: &[u8]) -> usize {
     let Ok(text) = from_utf8(input) else {
         return 0;
     };
@@ -51,7 +88,7 @@ pub extern "C" fn sec1_identifier_parse(input: &[u8]) -> usize {
 
 /// Makes the dotted text of an identifier with this content. Returns its length.
 #[unsafe(no_mangle)]
-pub extern "C" fn sec1_identifier_text(alloc: Global, input: &[u8]) -> usize {
+pub extern "C" fn bench_identifier_text(alloc: Global, input: &[u8]) -> usize {
     match ObjectIdentifier::from_bytes(input) {
         Ok(identifier) => match format!(in alloc; "{identifier}") {
             Ok(text) => text.len(),
@@ -70,7 +107,7 @@ struct Whole<'a> {
 impl Read for Whole<'_> {
     ghost failed = { λ _. false };
 
-    fn read(&mut self, buf: &mut [u8]) -> Result<usize, IoFault> {
+    fn read(&mut self, buf: &mut [u8]) -> std::result::Result<usize, IoFault> {
         let count = self.rest.len().min(buf.len());
         let (front, rest) = self.rest.split_at(count);
         buf[..count].copy_from_slice(front);
@@ -92,7 +129,7 @@ struct Single<'a> {
 impl Read for Single<'_> {
     ghost failed = { λ _. false };
 
-    fn read(&mut self, buf: &mut [u8]) -> Result<usize, IoFault> {
+    fn read(&mut self, buf: &mut [u8]) -> std::result::Result<usize, IoFault> {
         let Some((first, rest)) = self.rest.split_first() else {
             return Ok(0);
         };
@@ -111,7 +148,7 @@ impl Read for Single<'_> {
 
 /// Reads a document from a reader that gives all that is asked for. Returns its length.
 #[unsafe(no_mangle)]
-pub extern "C" fn sec1_document_read(alloc: Global, input: &[u8]) -> usize {
+pub extern "C" fn bench_document_read(alloc: Global, input: &[u8]) -> usize {
     match SecretDocument::read_der_from(alloc, &mut Whole { rest: input }) {
         Ok(document) => document.len(),
         Err(_) => 0,
@@ -120,7 +157,7 @@ pub extern "C" fn sec1_document_read(alloc: Global, input: &[u8]) -> usize {
 
 /// Reads a document from a reader that gives one byte a call. Returns its length.
 #[unsafe(no_mangle)]
-pub extern "C" fn sec1_document_read_bytes(alloc: Global, input: &[u8]) -> usize {
+pub extern "C" fn bench_document_read_bytes(alloc: Global, input: &[u8]) -> usize {
     match SecretDocument::read_der_from(alloc, &mut Single { rest: input }) {
         Ok(document) => document.len(),
         Err(_) => 0,

@@ -1,6 +1,7 @@
 //! Points over a field of 256 bits. Calls on points that were read before are made for each of 64
 //! points, many times over, so that reading the points counts for little.
 use crate::length_and_last;
+use sec1::Result;
 use sec1::point::EncodedPoint32;
 use std::alloc::Global;
 use std::cmp::Ordering;
@@ -12,9 +13,43 @@ const COUNT: usize = 64;
 /// The length of an uncompressed point.
 const LEN: usize = 65;
 
-/// Reads a point. Returns the length of its encoding and the last byte, added up.
+/// Returns the point, as a call that isn't inlined does.
+#[inline(never)]
+fn read(input: &[u8]) -> Result<EncodedPoint32> {
+    EncodedPoint32::from_bytes(input)
+}
+
+/// Returns the compressed point, as a call that isn't inlined does.
+#[inline(never)]
+fn compress(point: &EncodedPoint32) -> EncodedPoint32 {
+    point.compress()
+}
+
+/// Returns the order of two points, as a call that isn't inlined does.
+#[inline(never)]
+fn order(first: &EncodedPoint32, second: &EncodedPoint32) -> Ordering {
+    first.cmp(second)
+}
+
+/// Returns `true` if the points are the same, as a call that isn't inlined does.
+#[inline(never)]
+fn same(first: &EncodedPoint32, second: &EncodedPoint32) -> bool {
+    first == second
+}
+
+/// Reads a point by a call that isn't inlined. Returns the length of its encoding and the last
+/// byte, added up.
 #[unsafe(no_mangle)]
-pub extern "C" fn sec1_point_read(input: &[u8]) -> usize {
+pub extern "C" fn bench_point_read(input: &[u8]) -> usize {
+    match read(input) {
+        Ok(point) => length_and_last(point.as_bytes()),
+        Err(_) => 0,
+    }
+}
+
+/// Reads a point as [`bench_point_read`] does, by a call that may be inlined.
+#[unsafe(no_mangle)]
+pub extern "C" fn bench_point_read_inline(input: &[u8]) -> usize {
     match EncodedPoint32::from_bytes(input) {
         Ok(point) => length_and_last(point.as_bytes()),
         Err(_) => 0,
@@ -23,7 +58,7 @@ pub extern "C" fn sec1_point_read(input: &[u8]) -> usize {
 
 /// Reads a point and copies its encoding. Returns the length of the copy.
 #[unsafe(no_mangle)]
-pub extern "C" fn sec1_point_copy(alloc: Global, input: &[u8]) -> usize {
+pub extern "C" fn bench_point_copy(alloc: Global, input: &[u8]) -> usize {
     match EncodedPoint32::from_bytes(input) {
         Ok(point) => match point.to_bytes(alloc) {
             Ok(bytes) => bytes.len(),
@@ -36,7 +71,7 @@ pub extern "C" fn sec1_point_copy(alloc: Global, input: &[u8]) -> usize {
 /// Reads a point from hexadecimal text, `rounds` times. Returns the sum of the lengths and last
 /// bytes.
 #[unsafe(no_mangle)]
-pub extern "C" fn sec1_point_parse(input: &[u8], rounds: usize) -> usize {
+pub extern "C" fn bench_point_parse(input: &[u8], rounds: usize) -> usize {
     let Ok(text) = from_utf8(input) else {
         return 0;
     };
@@ -51,7 +86,7 @@ pub extern "C" fn sec1_point_parse(input: &[u8], rounds: usize) -> usize {
 
 /// Reads a point and makes its hexadecimal text. Returns the length of the text.
 #[unsafe(no_mangle)]
-pub extern "C" fn sec1_point_text(alloc: Global, input: &[u8]) -> usize {
+pub extern "C" fn bench_point_text(alloc: Global, input: &[u8]) -> usize {
     match EncodedPoint32::from_bytes(input) {
         Ok(point) => match point.to_upper_hex(alloc) {
             Ok(text) => text.len(),
@@ -81,7 +116,59 @@ fn points(input: &[u8]) -> [EncodedPoint32; COUNT] {
 /// Compresses 64 points, `rounds` times, and copies each encoding into the slice. Returns the sum
 /// of the lengths.
 #[unsafe(no_mangle)]
-pub extern "C" fn sec1_points_compress(input: &[u8], out: &mut [u8], rounds: usize) -> usize {
+pub extern "C" fn bench_points_compress(input: &[u8], out: &mut [u8], rounds: usize) -> usize {
+    let points = points(input);
+    let mut sum: usize = 0;
+    for _ in 0..rounds {
+        for i in 0..COUNT {
+            let compressed = compress(&points[i]);
+            let bytes = compressed.as_bytes();
+            if bytes.len() <= out.len() {
+                out[..bytes.len()].copy_from_slice(bytes);
+            }
+            sum = sum.wrapping_add(bytes.len());
+        }
+    }
+    sum
+}
+
+/// Compares each of 64 points with the next, `rounds` times. Returns how often it is less.
+#[unsafe(no_mangle)]
+pub extern "C" fn bench_points_cmp(input: &[u8], rounds: usize) -> usize {
+    let points = points(input);
+    let mut sum: usize = 0;
+    for _ in 0..rounds {
+        for i in 1..COUNT {
+            if order(&points[i - 1], &points[i]) == Ordering::Less {
+                sum = sum.wrapping_add(1);
+            }
+        }
+    }
+    sum
+}
+
+/// Compares each of 64 points with the next, `rounds` times. Returns how often they are equal.
+#[unsafe(no_mangle)]
+pub extern "C" fn bench_points_eq(input: &[u8], rounds: usize) -> usize {
+    let points = points(input);
+    let mut sum: usize = 0;
+    for _ in 0..rounds {
+        for i in 1..COUNT {
+            if same(&points[i - 1], &points[i]) {
+                sum = sum.wrapping_add(1);
+            }
+        }
+    }
+    sum
+}
+
+/// Compresses points as [`bench_points_compress`] does, by calls that may be inlined.
+#[unsafe(no_mangle)]
+pub extern "C" fn bench_points_compress_inline(
+    input: &[u8],
+    out: &mut [u8],
+    rounds: usize,
+) -> usize {
     let points = points(input);
     let mut sum: usize = 0;
     for _ in 0..rounds {
@@ -97,24 +184,9 @@ pub extern "C" fn sec1_points_compress(input: &[u8], out: &mut [u8], rounds: usi
     sum
 }
 
-/// Compares each of 64 points with the next, `rounds` times. Returns how often it is less.
+/// Compares points as [`bench_points_eq`] does, by calls that may be inlined.
 #[unsafe(no_mangle)]
-pub extern "C" fn sec1_points_cmp(input: &[u8], rounds: usize) -> usize {
-    let points = points(input);
-    let mut sum: usize = 0;
-    for _ in 0..rounds {
-        for i in 1..COUNT {
-            if points[i - 1].cmp(&points[i]) == Ordering::Less {
-                sum = sum.wrapping_add(1);
-            }
-        }
-    }
-    sum
-}
-
-/// Compares each of 64 points with the next, `rounds` times. Returns how often they are equal.
-#[unsafe(no_mangle)]
-pub extern "C" fn sec1_points_eq(input: &[u8], rounds: usize) -> usize {
+pub extern "C" fn bench_points_eq_inline(input: &[u8], rounds: usize) -> usize {
     let points = points(input);
     let mut sum: usize = 0;
     for _ in 0..rounds {
