@@ -1,0 +1,73 @@
+-- The places of the faults of one element.
+use Rattle.std.proofs.Common.{◌≡◌, ◌∷◌, ◌++◌, ℕ, ◌-◌, ◌≤◌, List, length, refl, ap}
+use Rattle.std.proofs.Common.{Option, Some, Result, Ok, Err, arith, eq-eqb, append_assoc}
+use Rattle.std.proofs.Math.Seq.{take-append_seam, drop-append_seam}
+use Rattle.std.proofs.lemmas.Bool.{le-leb}
+use Rattle.std.proofs.lemmas.List.{length-append}
+use Rattle.std.specs.Option.{option_or}
+use Rattle.std.specs.Prelude.{option_map, IfOk, IfErr}
+use Rattle.sec1_der.specs.ElementLaws.{is_tag-true}
+use Rattle.sec1_der.specs.Elements.{max_length, length_octets, element, IsHeader, IsTag}
+use Rattle.sec1_der.specs.RefusalLaws.{length_at_spelled}
+use Rattle.sec1_der.specs.Refusals.{no_fault, any_fault, parts_fault, length_at, within}
+use Rattle.sec1_der.specs.declared.error.ErrorKind.{ErrorKind}
+use Rattle.der_faults.specs.Places.{Place, before, parts_place, any_place, element_place}
+
+-- the parts of an element that is there
+within_spelled : (content rest : List ℕ) → length content ≤ max_length
+    → within (length_at ((length_octets (length content) ++ content) ++ rest)) ≡ Ok (content, rest)
+within_spelled content rest fits =
+    let n = length content in
+    let room = le-leb n (length (content ++ rest)) (omega (arith, length-append content rest)) in
+    rw (
+      append_assoc (length_octets n) content rest,
+      length_at_spelled n (content ++ rest) fits,
+      room,
+    )
+    (rw (take-append_seam content rest, drop-append_seam content rest) refl)
+
+-- the place of an element that is there is in its content, or else in the bytes after it
+pub any_found : (f : ℕ → Place) (g : Place) (end tag : ℕ) (content bytes rest : List ℕ)
+    → IsHeader tag (length content) → bytes ≡ element tag content ++ rest
+    → any_place f g end bytes ≡ option_or (f tag (end - length rest) content) (g end rest)
+any_found f g end tag content bytes rest h e =
+    rw (e, is_tag-true tag h.tag_byte, within_spelled content rest h.within) refl
+
+-- the place of an element whose length or content isn't there is at its length
+pub any_refused : (f : ℕ → Place) (g : Place) (end tag : ℕ) (bytes : List ℕ) (k : ErrorKind) → IsTag tag
+    → any_fault (λ _. no_fault) no_fault (tag ∷ bytes) ≡ Some k
+    → any_place f g end (tag ∷ bytes) ≡ Some (before end bytes k)
+any_refused f g end tag bytes k is e =
+    let none : parts_fault no_fault no_fault (within (length_at bytes)) ≡ Some k = rw (is_tag-true tag is) at e in
+    rw (is_tag-true tag is) (by (within (length_at bytes)) none)
+  where
+    by : (found : Result (List ℕ × List ℕ) ErrorKind) → parts_fault no_fault no_fault found ≡ Some k
+        → parts_place (f tag) g end bytes found ≡ Some (before end bytes k)
+    by (Err j) e = ap (λ (o : Option ErrorKind). option_map (before end bytes) o) e
+    by (Ok x) e = absurd (cc e)
+
+-- the bytes of an element that is there
+pub any_sizes : (tag : ℕ) (content bytes rest : List ℕ) → bytes ≡ element tag content ++ rest
+    → (length content ≤ length bytes - length rest) × (length rest ≤ length bytes)
+any_sizes tag content bytes rest e =
+    let octets = length_octets (length content) in
+    let whole = ap length e in
+    let parts = length-append (octets ++ content) rest in
+    let inner = length-append octets content in
+    (omega (arith, whole, parts, inner), omega (arith, whole, parts, inner))
+
+-- an element of this tag is one of any tag
+pub same_tag : (f g : Place) (end tag byte : ℕ) (bytes rest : List ℕ) → IsTag tag → bytes ≡ byte ∷ rest → byte ≡ tag
+    → any_place (λ _. f) g end bytes ≡ element_place tag f g end bytes
+same_tag f g end tag byte bytes rest is e same = rw (e, same, eq-eqb tag tag refl, is_tag-true tag is) refl
+
+-- what is known of a success, or of a failure, and what follows from it
+pub on_ok : {T E : Type 0} {P Q : T → Type 0} (r : Result T E) → ((x : T) → P x → Q x) → IfOk r P → IfOk r Q
+on_ok (Ok x) f p = f x p
+on_ok (Err e) f p = p
+
+pub on_err : {T E : Type 0} {P Q : E → Type 0} (r : Result T E) → ((e : E) → P e → Q e) → IfErr r P → IfErr r Q
+on_err (Ok x) f p = p
+on_err (Err e) f p = f e p
+
+pub ruleset placed = (any_refused)

@@ -1,0 +1,37 @@
+-- The places of the faults of elements in a row.
+use Rattle.std.proofs.Common.{◌≡◌, ◌==◌, ◌∷◌, [], ℕ, zero, suc, ◌+◌, ◌-◌, ◌<◌, ◌≤◌, List, Bool, true, false, length, refl, ◌∙◌}
+use Rattle.std.proofs.Common.{Option, None, arith, bit_and, not}
+use Rattle.std.proofs.lemmas.Bool.{le-ltb}
+use Rattle.std.specs.Option.{option_or}
+use Rattle.sec1_der.specs.Trees.{max_tree_depth}
+use Rattle.der_faults.specs.declared.Fault.{Fault}
+use Rattle.der_faults.specs.Places.{Place, any_place, nested_place, row_place}
+
+-- a row within the greatest depth is its first element, and a row
+pub row_next : (most level end : ℕ) (rest : List ℕ) → 0 < most → (rest ≡ [] → ⊥) → level ≤ 64
+    → row_place most level end rest
+    ≡ any_place (nested_place (row_place (most - 1) (level + 1))) (row_place (most - 1) level) end rest
+row_next zero level end rest some more fits = absurd (omega arith)
+row_next (suc most) level end [] some more fits = absurd (more refl)
+row_next (suc most) level end (byte ∷ rest) some more fits =
+    let one : suc most - 1 ≡ most = omega arith in rw (one, le-ltb max_tree_depth level fits) refl
+
+-- the fault of a row is that of its first element's content, or else of the row behind it
+pub row_step : (most level end : ℕ) (rest content behind : List ℕ) (tag : ℕ) (inner : Option Fault) → 0 < most
+    → (rest ≡ [] → ⊥) → level ≤ 64
+    → ((f : ℕ → Place) (g : Place)
+    → any_place f g end rest ≡ option_or (f tag (end - length behind) content) (g end behind))
+    → nested_place (row_place (most - 1) (level + 1)) tag (end - length behind) content ≡ inner
+    → row_place most level end rest ≡ option_or inner (row_place (most - 1) level end behind)
+row_step most level end rest content behind tag inner some more fits found is =
+    row_next most level end rest some more fits
+    ∙ (found (nested_place (row_place (most - 1) (level + 1))) (row_place (most - 1) level) ∙ rw is refl)
+
+-- the content of a constructed element is a row, and that of a primitive one isn't refused
+pub nested_row : (p : Place) (tag end : ℕ) (content : List ℕ) (b : Bool) → b ≡ not (bit_and tag 0x20 == 0) → b ≡ true
+    → nested_place p tag end content ≡ p end content
+nested_row p tag end content b same holds = rw (← same, holds) refl
+
+pub nested_none : (p : Place) (tag end : ℕ) (content : List ℕ) (b : Bool) → b ≡ not (bit_and tag 0x20 == 0) → b ≡ false
+    → nested_place p tag end content ≡ None
+nested_none p tag end content b same fails = rw (← same, fails) refl

@@ -1,0 +1,53 @@
+use Rattle.std.proofs.Common.{rules, ◌∙◌, ◌≡◌, [], ◌≤◌, ◌<◌, ◌-◌, ◌+◌, length, None}
+use Rattle.der_faults.proofs.RowLemmas.{row_next, row_step, nested_row, nested_none}
+use Rattle.der_faults.specs.Places.{nested_place, row_place}
+use Rattle.der_faults.proofs.tree.+check_row.Goals as goal
+use Rattle.der_faults.proofs.tree.+check_row.Goals.{then-is_constructed+in_ok-check_row, else-is_constructed}
+
+pub returns-in_err-found : goal.returns-in_err-found
+returns-in_err-found t c =
+    let some : 0 < c.loop-most.most = search rules in
+    let more : c.loop-most.rest.now ≡ [] → ⊥ = λ e. search rules in
+    let fits : c.args.level ≤ 64 = search rules in
+    let e = c.loop-most.invariant.0
+    ∙ (row_next c.loop-most.most c.args.level c.args.end c.loop-most.rest.now some more fits
+    ∙ c.in_err-found.ensures.refused (nested_place (row_place (c.loop-most.most - 1) (c.args.level + 1)))
+    (row_place (c.loop-most.most - 1) c.args.level)) in
+    search rules
+
+pub returns-in_err-check_row : goal.returns-in_err-check_row
+returns-in_err-check_row t c =
+    let some : 0 < c.loop-most.most = search rules in
+    let more : c.loop-most.rest.now ≡ [] → ⊥ = λ e. search rules in
+    let fits : c.args.level ≤ 64 = search rules in
+    let inside = nested_row (row_place (c.loop-most.most - 1) (c.args.level + 1)) c.in_ok-found.found.tag _ _
+    c.is_constructed.result c.is_constructed.ensures c.if-is_constructed.true
+    ∙ c.in_err-check_row.ensures in
+    let e = c.loop-most.invariant.0
+    ∙ row_step c.loop-most.most c.args.level c.args.end c.loop-most.rest.now c.in_ok-found.found.content.now
+    c.in_ok-found.found.behind.now c.in_ok-found.found.tag _ some more fits c.in_ok-found.ensures.found inside in
+    search rules
+
+pub loop-most-preserved : goal.loop-most-preserved
+loop-most-preserved t c =
+    let some : 0 < c.loop-most.most = search rules in
+    let more : c.loop-most.rest.now ≡ [] → ⊥ = λ e. search rules in
+    let fits : c.args.level ≤ 64 = search rules in
+    let row = nested_place (row_place (c.loop-most.most - 1) (c.args.level + 1)) in
+    let behind = c.in_ok-found.found.behind.now in
+    let content = c.in_ok-found.found.content.now in
+    let inside : row c.in_ok-found.found.tag (c.args.end - length behind) content ≡ None =
+    elim c.if-is_constructed.branch [
+      | then-is_constructed+in_ok-check_row w ↦
+          nested_row (row_place (c.loop-most.most - 1) (c.args.level + 1)) c.in_ok-found.found.tag _ _
+          c.is_constructed.result c.is_constructed.ensures w.if-is_constructed.true ∙ w.in_ok-check_row.ensures
+      | else-is_constructed w ↦
+          nested_none (row_place (c.loop-most.most - 1) (c.args.level + 1)) c.in_ok-found.found.tag _ _
+          c.is_constructed.result c.is_constructed.ensures w.if-is_constructed.false
+    ] in (
+      c.loop-most.invariant.0
+          ∙ row_step c.loop-most.most c.args.level c.args.end c.loop-most.rest.now content behind
+          c.in_ok-found.found.tag None some more fits c.in_ok-found.ensures.found inside,
+      search rules,
+      search rules,
+    )

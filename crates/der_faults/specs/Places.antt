@@ -1,0 +1,92 @@
+-- The place of a refusal: the offset at which the first fault from left to right lies, and its kind.
+use Rattle.std.specs.Prelude.{◌==◌, ℕ, zero, suc, ◌+◌, ◌-◌, not, nat_lt, bit_and, if◌then◌else◌}
+use Rattle.std.specs.Prelude.{List, [], ◌∷◌, length, Option, Some, None, option_map, Result, Ok, Err}
+use Rattle.std.specs.Option.{option_or}
+use Rattle.sec1_der.specs.Contents.{byte_fault, identifier_fault, bit_string_fault}
+use Rattle.sec1_der.specs.Contents.{whole_bits_fault}
+use Rattle.sec1_der.specs.Faults.{is_tag}
+use Rattle.sec1_der.specs.Refusals.{no_fault, length_at, within, is_next}
+use Rattle.sec1_der.specs.Refusals as refusals
+use Rattle.sec1_der.specs.Trees.{max_tree_depth}
+use Rattle.sec1_der.specs.declared.error.ErrorKind.{ErrorKind}
+use Rattle.sec1_der.specs.declared.error.ErrorKind.TheVariants.{Truncated, Tag, Depth}
+use Rattle.der_faults.specs.declared.Fault.{Fault}
+
+-- The place at which bytes are refused, or None if they aren't, from the offset of their end.
+abbrev pub Place : Type 0
+Place = ℕ → List ℕ → Option Fault
+
+-- a fault of this kind before as many bytes as are left
+abbrev pub before : ℕ → List ℕ → ErrorKind → Fault
+before end left kind = record { offset = end - length left; kind = kind }
+
+-- at the first byte, by a kind of the whole
+abbrev pub at_first : refusals.Fault → Place
+at_first fault end bytes = option_map (before end bytes) (fault bytes)
+
+-- at the first byte behind the end
+abbrev pub end_place : Place
+end_place = at_first refusals.end_fault
+
+-- at the length, in the content, or in the bytes after it, in this order
+abbrev pub parts_place : Place → Place → ℕ → List ℕ
+    → Result (List ℕ × List ℕ) ErrorKind → Option Fault
+parts_place content behind end bytes (Err kind) = Some (before end bytes kind)
+parts_place content behind end bytes (Ok x) =
+    option_or (content (end - length x.1) x.0) (behind end x.1)
+
+-- X.690 section 8.1.1: at the tag, or in the parts after it
+abbrev pub element_place : ℕ → Place → Place → Place
+element_place tag content behind end [] = Some (before end [] Truncated)
+element_place tag content behind end (byte ∷ bytes) =
+    if byte == tag then parts_place content behind end bytes (within (length_at bytes))
+    else Some (before end (byte ∷ bytes) Tag)
+
+-- the same of an element that may be absent
+abbrev pub optional_place : ℕ → Place → Place → Place
+optional_place tag content behind end bytes =
+    if is_next tag bytes then element_place tag content behind end bytes else behind end bytes
+
+-- the same of an element of any tag
+abbrev pub any_place : (ℕ → Place) → Place → Place
+any_place content behind end [] = Some (before end [] Truncated)
+any_place content behind end (tag ∷ bytes) =
+    if is_tag tag then parts_place (content tag) behind end bytes (within (length_at bytes))
+    else Some (before end (tag ∷ bytes) Tag)
+
+-- X.690 section 8.1.2.5: in the content of a constructed element
+abbrev pub nested_place : Place → ℕ → Place
+nested_place row tag content-end content =
+    if not (bit_and tag 0x20 == 0) then row content-end content else None
+
+-- elements in a row at this level, as in row_fault
+abbrev pub row_place : ℕ → ℕ → Place
+row_place zero level end bytes = None
+row_place (suc most) level end [] = None
+row_place (suc most) level end (byte ∷ bytes) =
+    if nat_lt max_tree_depth level then Some (before end (byte ∷ bytes) Depth)
+    else any_place (nested_place (row_place most (level + 1))) (row_place most level) end
+    (byte ∷ bytes)
+
+-- one tree that isn't too deep
+abbrev pub tree_place : List ℕ → Option Fault
+tree_place bytes =
+    any_place (nested_place (row_place (length bytes) 2)) end_place (length bytes) bytes
+
+-- X.690 section 8.14: in the explicit field around a bit string without unused bits
+abbrev pub whole_bits_field_place : Place
+whole_bits_field_place end bytes =
+    option_or (element_place 0x03 (at_first bit_string_fault) end_place end bytes)
+    (element_place 0x03 (at_first whole_bits_fault) (at_first no_fault) end bytes)
+
+-- RFC 5915 section 3: in the components of an ECPrivateKey, or after them
+abbrev pub components_place : Place
+components_place =
+    element_place 0x02 (at_first (byte_fault 1))
+    (element_place 0x04 (at_first no_fault)
+    (optional_place 0xA0 (element_place 0x06 (at_first identifier_fault) end_place)
+    (optional_place 0xA1 whole_bits_field_place end_place)))
+
+-- SEC1 v2.0 Appendix C.4: in the SEQUENCE of these components, or after it
+abbrev pub key_place : List ℕ → Option Fault
+key_place bytes = element_place 0x30 components_place end_place (length bytes) bytes

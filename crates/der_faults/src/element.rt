@@ -1,0 +1,140 @@
+//! One element of some bytes, or the place at which it is refused.
+ghost use Rattle.std.specs.Prelude.{◌≡◌, ◌-◌, ◌≤◌, ℕ, length, Some, None, IfErr, IfOk, MatchResult};
+ghost use Rattle.std.specs.Option.{option_or};
+ghost use Rattle.sec1_der.specs.Elements.{max_length, IsTag};
+ghost use Rattle.der_faults.specs.Places.{Place, any_place, at_first, before, element_place};
+ghost use Rattle.der_faults.specs.Places.{end_place};
+
+use crate::Fault;
+use sec1_der::{AnyRef, DecodeValue, ErrorKind, SliceReader, Tag, Tagged};
+
+/// The result of a step, or the place at which the bytes are refused.
+pub(crate) type Step<T> = std::result::Result<T, Fault>;
+
+/// An element, and the bytes behind it.
+#[derive(Drop)]
+pub(crate) struct Element<'a> {
+    // A value that holds both a reference and a type with a `Model` can't be passed by `?`.
+    /// The tag byte.
+    pub tag: u8,
+    /// The content.
+    pub content: &'a [u8],
+    /// The bytes behind the element.
+    pub behind: &'a [u8],
+}
+
+/// Returns the fault of this kind before as many bytes as are left.
+pub(crate) fn before(end: usize, left: &[u8], kind: ErrorKind) -> Fault
+    requires { length left.now ≤ end }
+    ensures { result ≡ before end left.now kind }
+{
+    Fault {
+        offset: end - left.len(),
+        kind,
+    }
+}
+
+/// Returns the element of any tag at the beginning of the bytes, which end at this offset.
+///
+/// # Errors
+///
+/// Truncated, Tag or Length where the bytes begin with no element.
+#[tactic(auto, using(crate::proofs::PlaceLemmas::placed))]
+pub(crate) fn any_element(end: usize, bytes: &[u8]) -> Step<Element<'_>>
+    requires { length bytes.now ≤ end }
+    ensures found { IfOk result (λ x. (content : ℕ → Place) (behind : Place)
+        → any_place content behind end bytes.now
+        ≡ option_or (content x.tag (end - length x.behind.now) x.content.now)
+        (behind end x.behind.now)) }
+    ensures refused { IfErr result (λ fault. (content : ℕ → Place) (behind : Place)
+        → any_place content behind end bytes.now ≡ Some fault) }
+    ensures within { IfOk result (λ x. length x.content.now ≤ max_length) }
+    ensures inside { IfOk result
+        (λ x. length x.content.now ≤ length bytes.now - length x.behind.now) }
+    ensures behind { IfOk result (λ x. length x.behind.now ≤ length bytes.now) }
+{
+    let Some((first, rest)) = bytes.split_first() else {
+        return Err(before(end, bytes, ErrorKind::Truncated));
+    };
+    if Tag::from_byte(*first).is_err() {
+        return Err(before(end, bytes, ErrorKind::Tag));
+    }
+    let mut reader = SliceReader::new(bytes);
+    match AnyRef::decode(&mut reader) {
+        Ok(any) => Ok(Element {
+            tag: any.tag().byte(),
+            content: any.value(),
+            behind: reader.remaining_input(),
+        }),
+        Err(e) => Err(before(end, rest, e.kind)),
+    }
+}
+
+/// Returns the element of this tag at the beginning of the bytes, which end at this offset.
+///
+/// # Errors
+///
+/// Truncated, Tag or Length where the bytes begin with no such element.
+pub(crate) fn tagged_element(tag: Tag, end: usize, bytes: &[u8]) -> Step<Element<'_>>
+    requires { length bytes.now ≤ end }
+    ensures found { IfOk result (λ x. (content behind : Place)
+        → element_place tag content behind end bytes.now
+        ≡ option_or (content (end - length x.behind.now) x.content.now)
+        (behind end x.behind.now)) }
+    ensures refused { IfErr result (λ fault. (content behind : Place)
+        → element_place tag content behind end bytes.now ≡ Some fault) }
+    ensures within { IfOk result (λ x. length x.content.now ≤ max_length) }
+    ensures inside { IfOk result
+        (λ x. length x.content.now ≤ length bytes.now - length x.behind.now) }
+    ensures behind { IfOk result (λ x. length x.behind.now ≤ length bytes.now) }
+{
+    let Some((first, _)) = bytes.split_first() else {
+        return Err(before(end, bytes, ErrorKind::Truncated));
+    };
+    if *first != tag.byte() {
+        return Err(before(end, bytes, ErrorKind::Tag));
+    }
+    any_element(end, bytes)
+}
+
+/// Reads the element of a value of T at the beginning of the bytes, which end at this offset.
+/// Returns the bytes behind it.
+///
+/// # Errors
+///
+/// Those of [`tagged_element`], then the kind by which T refuses the content.
+pub(crate) fn value<'a, T: DecodeValue<'a> + Tagged + Drop>(
+    end: usize,
+    bytes: &'a [u8],
+) -> Step<&'a [u8]>
+    requires { length bytes.now ≤ end }
+    ensures place { MatchResult result
+        (λ rest. (behind : Place)
+        → element_place T.tag_byte (at_first T.fault) behind end bytes.now ≡ behind end rest.now)
+        (λ fault. (behind : Place)
+        → element_place T.tag_byte (at_first T.fault) behind end bytes.now ≡ Some fault) }
+    ensures behind { IfOk result (λ rest. length rest.now ≤ length bytes.now) }
+{
+    let found = tagged_element(T::fixed_tag(), end, bytes)?;
+    match T::decode_value(&mut SliceReader::new(found.content)) {
+        Ok(_) => Ok(found.behind),
+        Err(e) => Err(before(end - found.behind.len(), found.content, e.kind)),
+    }
+}
+
+/// Checks that there are no bytes.
+///
+/// # Errors
+///
+/// TrailingData if there are.
+pub(crate) fn finish(end: usize, bytes: &[u8]) -> Step<()>
+    requires { length bytes.now ≤ end }
+    ensures { MatchResult result (λ _. end_place end bytes.now ≡ None)
+        (λ fault. end_place end bytes.now ≡ Some fault) }
+{
+    if bytes.is_empty() {
+        Ok(())
+    } else {
+        Err(before(end, bytes, ErrorKind::TrailingData))
+    }
+}

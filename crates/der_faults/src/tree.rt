@@ -1,0 +1,67 @@
+//! The place at which a tree is refused.
+ghost use Rattle.std.specs.Prelude.{◌≡◌, ◌≤◌, ℕ, length, Some, None, MatchResult, option_map};
+ghost use Rattle.std.specs.Prelude.{◌==◌, bit_and, not};
+ghost use Rattle.sec1_der.specs.Refusals as refusals;
+ghost use Rattle.der_faults.specs.Places.{nested_place, row_place, tree_place};
+
+use crate::Fault;
+use crate::element::{Step, any_element, before, finish};
+use sec1_der::{ErrorKind, MAX_DEPTH};
+
+/// Returns the first fault from left to right of bytes that aren't those of one tree with at most
+/// 64 levels, and `None` for those of one.
+#[tactic(auto, using(crate::proofs::KindLemmas::tree_kind))]
+pub fn tree_fault(bytes: &[u8]) -> Option<Fault>
+    // Where the fault lies is a function of the bytes.
+    ensures place { result ≡ tree_place bytes.now }
+    // There is one exactly where `check_tree` refuses the bytes, and it is of the same kind.
+    ensures kind { option_map (λ fault. fault.kind) result ≡ refusals.tree_fault bytes.now }
+{
+    check_tree(bytes).err()
+}
+
+/// Checks that the bytes are those of a tree.
+fn check_tree(bytes: &[u8]) -> Step<()>
+    ensures { MatchResult result (λ _. tree_place bytes.now ≡ None)
+        (λ fault. tree_place bytes.now ≡ Some fault) }
+{
+    let end = bytes.len();
+    let found = any_element(end, bytes)?;
+    if is_constructed(found.tag) {
+        check_row(bytes.len(), 2, end - found.behind.len(), found.content)?;
+    }
+    finish(end, found.behind)
+}
+
+/// Checks elements in a row at this level, at most as many.
+fn check_row(most: usize, level: usize, end: usize, bytes: &[u8]) -> Step<()>
+    requires within { length bytes.now ≤ end }
+    requires level { level ≤ 65 }
+    ensures { MatchResult result (λ _. row_place most level end bytes.now ≡ None)
+        (λ fault. row_place most level end bytes.now ≡ Some fault) }
+{
+    let mut most = most;
+    let mut rest = bytes;
+    while most > 0 && !rest.is_empty() {
+        most -= 1;
+        if level > MAX_DEPTH {
+            return Err(before(end, rest, ErrorKind::Depth));
+        }
+        let found = any_element(end, rest)?;
+        if is_constructed(found.tag) {
+            check_row(most, level + 1, end - found.behind.len(), found.content)?;
+        }
+        rest = found.behind;
+    }
+    Ok(())
+}
+
+/// The bit of a tag byte that marks a constructed element (X.690 section 8.1.2.5).
+const CONSTRUCTED: u8 = 0x20;
+
+/// Returns `true` if the content of an element with this tag byte is elements.
+fn is_constructed(tag: u8) -> bool
+    ensures { result ≡ not (bit_and tag 0x20 == 0) }
+{
+    tag & CONSTRUCTED != 0
+}
