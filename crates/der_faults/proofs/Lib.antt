@@ -1,3 +1,4 @@
 pub mod PlaceLemmas
 pub mod KindLemmas
 pub mod RowLemmas
+pub mod WithinLemmas

@@ -12,12 +12,13 @@ use crate::element::{Step, finish, tagged_element, value};
 use sec1_der::{BitStringRef, IdentifierRef, Octets, SmallInteger, Tag, WholeBits};
 
 /// Returns the first fault from left to right of bytes that aren't a key's, and `None` for a key's.
-#[tactic(auto, using(crate::proofs::KindLemmas::key_kind))]
+#[tactic(auto, using(crate::proofs::KindLemmas::key_kind, crate::proofs::WithinLemmas::key_within))]
 pub fn key_fault(bytes: &[u8]) -> Option<Fault>
     // Where the fault lies is a function of the bytes.
     ensures place { result ≡ key_place bytes.now }
     // There is one exactly where the bytes are refused as a key's, and it is of the same kind.
     ensures kind { option_map (λ fault. fault.kind) result ≡ refusals.key_fault bytes.now }
+    ensures within { IfSome result (λ fault. fault.offset ≤ length bytes.now) }
 {
     check_key(bytes).err()
 }
