@@ -45,7 +45,7 @@ pub trait EncodePart: Part {
     ///
     /// Overlength or Buffer if there is no encoding or the part has no room. None if it has.
     fn put_part(&self, writer: &mut BackWriter) -> Result<()>
-        ensures { Puts (within_limit (Self.bytes self.now)) writer.old writer.new result };
+        ensures { Puts (Self.bytes self.now) writer.old writer.new result };
 }
 
 /// A part that is read.
