@@ -1,7 +1,7 @@
 """The lines that sec1_calls reads, and what it has to print for each.
 
-Written from docs/FORMATS.md and the documentation of the calls. `rows()` are the lines of the stored
-input: points, keys, and streams that fail once.
+Written from docs/FORMATS.md and the documentation of the calls. `rows()` are the lines of the
+stored input: points, keys, streams that fail once, and single calls.
 """
 import functools
 
@@ -118,7 +118,8 @@ def break_row(how, after, step, private_len):
         # the end is read too, and isn't written
         reads = f"Io of {after}" if after <= len(der) else reads
         writes = f"Io {taken}" if after < len(der) else writes
-    return f"break {how} {after} {step} {private_len}", f"break, {reads}, {reads}, {writes}, {writes}"
+    asked = f"break {how} {after} {step} {private_len}"
+    return asked, f"break, {reads}, {reads}, {writes}, {writes}"
 
 
 def break_rows():
@@ -161,11 +162,13 @@ def document_rows():
     octet = element(4, b"\xAA")
     for _ in range(63):
         octet = element(0x30, octet)
-    tests = [("0401aa", "3 1"), ("3003040500", "5 Truncated"), ("050000", "TrailingData TrailingData")]
+    tests = [("0401aa", "3 1"), ("3003040500", "5 Truncated")]
+    tests += [("050000", "TrailingData TrailingData")]
     tests += [("1f00", "Tag Tag"), ("", "Truncated Truncated"), ("0401", "Truncated Truncated")]
     tests += [("30840fffffff", "Truncated Truncated"), ("308410000000", "Length Length")]
     tests += [("308410", "Truncated Truncated"), ("3180", "Length Length"), ("0500", "2 1")]
-    tests += [("a000", "2 1"), ("04033080ff", "5 1"), ("0000", "Tag Tag"), ("30800000", "Length Length")]
+    tests += [("a000", "2 1"), ("04033080ff", "5 1"), ("0000", "Tag Tag")]
+    tests += [("30800000", "Length Length")]
     tests += [("3002050000", "TrailingData TrailingData"), (wrapped.hex(), f"{len(wrapped)} 64")]
     tests += [(octet.hex(), f"{len(octet)} 64")]
     for inner in (wrapped, octet):
@@ -176,10 +179,10 @@ def document_rows():
 
 
 def failed_rows():
-    """A reader of which a call failed: each further call is refused as Failed, and moves nothing."""
+    """A reader of which a call failed: each further call answers Failed, and moves nothing."""
     after = "true None Failed Failed Failed Failed Failed true"
-    tests = [("05000400", "Tag"), ("", "Truncated"), ("0402aa", "Truncated"), ("04800000", "Length")]
-    tests += [("1f000400", "Tag"), ("048105aabbccddee", "Length")]
+    tests = [("05000400", "Tag"), ("", "Truncated"), ("0402aa", "Truncated")]
+    tests += [("04800000", "Length"), ("1f000400", "Tag"), ("048105aabbccddee", "Length")]
     for digits, kind in tests:
         yield f"failed {digits}", f"failed {kind} {after}"
     yield "failed 0400", "failed Ok false None Truncated Failed Failed Failed Failed true"
@@ -203,7 +206,8 @@ def parts_of(size, encoding):
         return "PointEncoding"
     compressed = bytes([2 + parity]) + x if has_y else encoding
     hybrid = bytes([6 + parity]) + x + y if first == 4 else encoding
-    texts = [x.hex() if first else "none", y.hex() if has_y else "none", compressed.hex(), hybrid.hex()]
+    texts = [x.hex() if first else "none", y.hex() if has_y else "none"]
+    texts += [compressed.hex(), hybrid.hex()]
     return f"parts {TAGS[first]} {len(encoding)} " + " ".join(texts)
 
 
