@@ -1,0 +1,224 @@
+#![doc = include_str!("../README.md")]
+#![no_std]
+#![allow(non_camel_case_types)]
+
+/// Success.
+pub const SEC1_OK: u32 = 0;
+/// The input, or the element around a part, ends too early.
+pub const SEC1_TRUNCATED: u32 = 1;
+/// A tag that isn't the expected one, or that no element has.
+pub const SEC1_TAG: u32 = 2;
+/// A length that isn't in the form of DER, or is above 268,435,455.
+pub const SEC1_LENGTH: u32 = 3;
+/// Bytes after the last part.
+pub const SEC1_TRAILING_DATA: u32 = 4;
+/// A content that isn't valid for its tag, or a text that isn't an identifier's.
+pub const SEC1_VALUE: u32 = 5;
+/// A content to write is above 268,435,455 bytes.
+pub const SEC1_OVERLENGTH: u32 = 6;
+/// The buffer to write into is too short.
+pub const SEC1_BUFFER: u32 = 7;
+/// More than 64 nested elements.
+pub const SEC1_DEPTH: u32 = 8;
+/// The bytes aren't the encoding of a point.
+pub const SEC1_POINT_ENCODING: u32 = 9;
+/// The length of field elements isn't 28, 32, 48 or 66.
+pub const SEC1_FIELD_LENGTH: u32 = 10;
+
+/// The point at infinity.
+pub const SEC1_POINT_IDENTITY: u8 = 0;
+/// x, and an even y that is left out.
+pub const SEC1_POINT_COMPRESSED_EVEN: u8 = 2;
+/// x, and an odd y that is left out.
+pub const SEC1_POINT_COMPRESSED_ODD: u8 = 3;
+/// x and y.
+pub const SEC1_POINT_UNCOMPRESSED: u8 = 4;
+/// x alone.
+pub const SEC1_POINT_COMPACT: u8 = 5;
+/// x and an even y.
+pub const SEC1_POINT_HYBRID_EVEN: u8 = 6;
+/// x and an odd y.
+pub const SEC1_POINT_HYBRID_ODD: u8 = 7;
+
+/// The greatest length of an identifier's content.
+pub const SEC1_IDENTIFIER_CONTENT_MAX: usize = 39;
+/// The greatest length of an identifier's text with the byte 0 at its end.
+pub const SEC1_IDENTIFIER_TEXT_MAX: usize = 158;
+
+/// A part of some bytes, by its place.
+#[repr(C)]
+#[derive(Clone, Copy, Debug, Default, Eq, PartialEq)]
+pub struct sec1_part {
+    /// The index of the part's first byte.
+    pub offset: usize,
+    /// The number of the part's bytes.
+    pub len: usize,
+    /// 1 if the part is present, otherwise 0.
+    pub present: usize,
+}
+
+/// The places of a private key's parts in its bytes.
+#[repr(C)]
+#[derive(Clone, Copy, Debug, Default, Eq, PartialEq)]
+pub struct sec1_key_parts {
+    /// Always present.
+    pub private_key: sec1_part,
+    /// The content of the curve's object identifier.
+    pub curve: sec1_part,
+    /// The bytes of the public key.
+    pub public_key: sec1_part,
+}
+
+/// The tag of a point, and the places of its coordinates.
+#[repr(C)]
+#[derive(Clone, Copy, Debug, Default, Eq, PartialEq)]
+pub struct sec1_point_parts {
+    /// One of `SEC1_POINT_..`.
+    pub tag: usize,
+    /// Absent only for the identity.
+    pub x: sec1_part,
+    /// Present for uncompressed and hybrid points.
+    pub y: sec1_part,
+}
+
+unsafe extern "C" {
+    /// Reads a private key from all of the bytes, and stores the places of its parts.
+    ///
+    /// # Safety
+    ///
+    /// `bytes` is readable for `bytes_len` bytes, and `parts` is writable and overlaps none of
+    /// them.
+    pub fn sec1_key_read(bytes: *const u8, bytes_len: usize, parts: *mut sec1_key_parts) -> u32;
+    /// Stores the length of the encoding of the private key with these parts.
+    ///
+    /// # Safety
+    ///
+    /// Each pointer is readable for the length after it, and `len` is writable.
+    pub fn sec1_key_len(
+        private_key: *const u8,
+        private_key_len: usize,
+        curve: *const u8,
+        curve_len: usize,
+        public_key: *const u8,
+        public_key_len: usize,
+        has_public_key: usize,
+        len: *mut usize,
+    ) -> u32;
+    /// Writes the encoding of the private key with these parts, and stores its length.
+    ///
+    /// # Safety
+    ///
+    /// Each `*const` is readable for the length after it. `out` is writable for `out_len` bytes,
+    /// `len` is writable, and neither overlaps another argument.
+    pub fn sec1_key_write(
+        private_key: *const u8,
+        private_key_len: usize,
+        curve: *const u8,
+        curve_len: usize,
+        public_key: *const u8,
+        public_key_len: usize,
+        has_public_key: usize,
+        out: *mut u8,
+        out_len: usize,
+        len: *mut usize,
+    ) -> u32;
+    /// Checks that all of the bytes are the encoding of a point.
+    ///
+    /// # Safety
+    ///
+    /// `bytes` is readable for `bytes_len` bytes.
+    pub fn sec1_point_check(bytes: *const u8, bytes_len: usize, field_len: usize) -> u32;
+    /// Reads a point from all of the bytes, and stores its tag and the places of its coordinates.
+    ///
+    /// # Safety
+    ///
+    /// `bytes` is readable for `bytes_len` bytes, and `parts` is writable and overlaps none of
+    /// them.
+    pub fn sec1_point_read(
+        bytes: *const u8,
+        bytes_len: usize,
+        field_len: usize,
+        parts: *mut sec1_point_parts,
+    ) -> u32;
+    /// Writes the compressed form of a point, and stores its length.
+    ///
+    /// # Safety
+    ///
+    /// `bytes` is readable for `bytes_len` bytes. `out` is writable for `out_len` bytes, `len` is
+    /// writable, and neither overlaps another argument.
+    pub fn sec1_point_compress(
+        bytes: *const u8,
+        bytes_len: usize,
+        field_len: usize,
+        out: *mut u8,
+        out_len: usize,
+        len: *mut usize,
+    ) -> u32;
+    /// Writes the hybrid form of a point, and stores its length.
+    ///
+    /// # Safety
+    ///
+    /// As for [`sec1_point_compress`].
+    pub fn sec1_point_to_hybrid(
+        bytes: *const u8,
+        bytes_len: usize,
+        field_len: usize,
+        out: *mut u8,
+        out_len: usize,
+        len: *mut usize,
+    ) -> u32;
+    /// Compares two points, and stores -1, 0 or 1.
+    ///
+    /// # Safety
+    ///
+    /// Each `*const` is readable for the length after it, and `order` is writable and overlaps
+    /// neither.
+    pub fn sec1_point_compare(
+        first: *const u8,
+        first_len: usize,
+        second: *const u8,
+        second_len: usize,
+        field_len: usize,
+        order: *mut i32,
+    ) -> u32;
+    /// Writes the dotted text of an identifier with a byte 0 behind it, and stores the length of
+    /// both.
+    ///
+    /// # Safety
+    ///
+    /// `content` is readable for `content_len` bytes. `text` is writable for `text_len` bytes,
+    /// `len` is writable, and neither overlaps another argument.
+    pub fn sec1_identifier_to_text(
+        content: *const u8,
+        content_len: usize,
+        text: *mut u8,
+        text_len: usize,
+        len: *mut usize,
+    ) -> u32;
+    /// Writes the content of the identifier with this dotted text, and stores its length.
+    ///
+    /// # Safety
+    ///
+    /// `text` is readable for `text_len` bytes. `content` is writable for `content_len` bytes,
+    /// `len` is writable, and neither overlaps another argument.
+    pub fn sec1_identifier_from_text(
+        text: *const u8,
+        text_len: usize,
+        content: *mut u8,
+        content_len: usize,
+        len: *mut usize,
+    ) -> u32;
+    /// Checks that all of the bytes are a tree of elements, and stores their number.
+    ///
+    /// # Safety
+    ///
+    /// `bytes` is readable for `bytes_len` bytes, and `elements` is writable and overlaps none.
+    pub fn sec1_check_tree(bytes: *const u8, bytes_len: usize, elements: *mut usize) -> u32;
+    /// Checks that all of the bytes are one element, and stores the length that its header
+    /// announces.
+    ///
+    /// # Safety
+    ///
+    /// `bytes` is readable for `bytes_len` bytes, and `len` is writable and overlaps none.
+    pub fn sec1_document_len(bytes: *const u8, bytes_len: usize, len: *mut usize) -> u32;
+}

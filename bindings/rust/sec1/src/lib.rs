@@ -1,0 +1,54 @@
+#![doc = include_str!("../README.md")]
+#![no_std]
+#![deny(unsafe_code)]
+#![cfg_attr(
+    not(test),
+    deny(
+        clippy::arithmetic_side_effects,
+        clippy::expect_used,
+        clippy::indexing_slicing,
+        clippy::panic,
+        clippy::unreachable,
+        clippy::unwrap_used
+    )
+)]
+
+#[cfg(feature = "alloc")]
+extern crate alloc;
+#[cfg(any(feature = "std", test))]
+extern crate std;
+
+pub mod consts;
+pub mod der;
+pub mod point;
+pub mod subtle;
+
+mod error;
+mod parameters;
+mod private_key;
+#[allow(unsafe_code)]
+mod raw;
+mod traits;
+
+pub use crate::consts::Array;
+pub use crate::error::{Error, Result};
+pub use crate::parameters::EcParameters;
+pub use crate::point::EncodedPoint;
+pub use crate::private_key::EcPrivateKey;
+pub use crate::traits::DecodeEcPrivateKey;
+#[cfg(feature = "alloc")]
+pub use crate::traits::EncodeEcPrivateKey;
+
+use crate::der::asn1::ObjectIdentifier;
+
+/// The identifier of elliptic curve public keys, `id-ecPublicKey` (RFC 5480 section 2.1.1).
+///
+/// # Examples
+///
+/// ```
+/// use sec1::{ALGORITHM_OID, der::asn1::ObjectIdentifier};
+///
+/// assert_eq!(ObjectIdentifier::new("1.2.840.10045.2.1"), Ok(ALGORITHM_OID));
+/// ```
+pub const ALGORITHM_OID: ObjectIdentifier =
+    ObjectIdentifier::literal([0x2A, 0x86, 0x48, 0xCE, 0x3D, 0x02, 0x01]);

@@ -1,0 +1,130 @@
+//! EC private keys in DER (RFC 5915 section 3).
+
+#[cfg(feature = "alloc")]
+use crate::der::SecretDocument;
+use crate::der::asn1::ObjectIdentifier;
+use crate::der::{self, Decode, Encode, ErrorKind, Length};
+use crate::raw::{self, Fields};
+use crate::{EcParameters, Error, Result};
+use core::fmt;
+
+/// A private key (RFC 5915 section 3), whose parts are borrowed. Its `Debug` leaves the private key
+/// out.
+///
+/// ```text
+/// ECPrivateKey ::= SEQUENCE {
+///   version        INTEGER { ecPrivkeyVer1(1) } (ecPrivkeyVer1),
+///   privateKey     OCTET STRING,
+///   parameters [0] ECParameters {{ NamedCurve }} OPTIONAL,
+///   publicKey  [1] BIT STRING OPTIONAL
+/// }
+/// ```
+///
+/// # Examples
+///
+/// ```
+/// use sec1::der::{Encode, asn1::ObjectIdentifier};
+/// use sec1::EcPrivateKey;
+///
+/// let curve = ObjectIdentifier::new("1.3.132.0.34")?;
+/// let key = EcPrivateKey {
+///     private_key: &[7; 48],
+///     parameters: Some(curve.into()),
+///     public_key: None,
+/// };
+/// let mut buffer = [0; 100];
+/// let der = key.encode_to_slice(&mut buffer)?;
+/// let read = EcPrivateKey::try_from(der)?;
+/// assert_eq!(read.private_key, [7; 48]);
+/// assert_eq!(read.parameters.and_then(|p| p.named_curve()), Some(curve));
+/// # Ok::<(), sec1::Error>(())
+/// ```
+#[derive(Clone)]
+pub struct EcPrivateKey<'a> {
+    /// The bytes of the private key. Their number isn't tested.
+    pub private_key: &'a [u8],
+
+    /// The curve.
+    pub parameters: Option<EcParameters>,
+
+    /// The bytes of the public key. It isn't tested that they are a point.
+    pub public_key: Option<&'a [u8]>,
+}
+
+impl EcPrivateKey<'_> {
+    /// Calls a function of the library with the fields.
+    fn with_fields<T>(&self, call: impl FnOnce(&Fields<'_>) -> T) -> T {
+        let curve = self.parameters.and_then(EcParameters::named_curve);
+        call(&Fields {
+            private_key: self.private_key,
+            curve: curve.as_ref().map(ObjectIdentifier::as_bytes).unwrap_or_default(),
+            public_key: self.public_key,
+        })
+    }
+}
+
+impl<'a> Decode<'a> for EcPrivateKey<'a> {
+    type Error = der::Error;
+
+    fn from_der(bytes: &'a [u8]) -> der::Result<Self> {
+        let parts = raw::key_read(bytes).map_err(der::Error::of)?;
+        let outside = |()| der::Error::new(ErrorKind::Failed);
+        let private_key = raw::part(bytes, parts.private_key).map_err(outside)?;
+        let curve = raw::part(bytes, parts.curve).map_err(outside)?;
+        Ok(EcPrivateKey {
+            private_key: private_key.ok_or(der::Error::new(ErrorKind::Failed))?,
+            parameters: curve
+                .map(ObjectIdentifier::of_content)
+                .transpose()?
+                .map(EcParameters::NamedCurve),
+            public_key: raw::part(bytes, parts.public_key).map_err(outside)?,
+        })
+    }
+}
+
+impl Encode for EcPrivateKey<'_> {
+    fn encoded_len(&self) -> der::Result<Length> {
+        let len = self.with_fields(raw::key_len).map_err(der::Error::of)?;
+        Length::try_from(len)
+    }
+
+    fn encode_to_slice<'b>(&self, buf: &'b mut [u8]) -> der::Result<&'b [u8]> {
+        let len = self.with_fields(|fields| raw::key_write(fields, buf)).map_err(der::Error::of)?;
+        buf.get(..len).ok_or(der::Error::new(ErrorKind::Failed))
+    }
+}
+
+impl<'a> TryFrom<&'a [u8]> for EcPrivateKey<'a> {
+    type Error = Error;
+
+    fn try_from(bytes: &'a [u8]) -> Result<EcPrivateKey<'a>> {
+        Ok(Self::from_der(bytes)?)
+    }
+}
+
+impl fmt::Debug for EcPrivateKey<'_> {
+    fn fmt(&self, f: &mut fmt::Formatter<'_>) -> fmt::Result {
+        f.debug_struct("EcPrivateKey")
+            .field("parameters", &self.parameters)
+            .field("public_key", &self.public_key)
+            .finish_non_exhaustive()
+    }
+}
+
+#[cfg(feature = "alloc")]
+impl TryFrom<EcPrivateKey<'_>> for SecretDocument {
+    type Error = Error;
+
+    fn try_from(private_key: EcPrivateKey<'_>) -> Result<Self> {
+        SecretDocument::try_from(&private_key)
+    }
+}
+
+#[cfg(feature = "alloc")]
+impl TryFrom<&EcPrivateKey<'_>> for SecretDocument {
+    type Error = Error;
+
+    fn try_from(private_key: &EcPrivateKey<'_>) -> Result<Self> {
+        Ok(Self::encode_msg(private_key)?)
+    }
+}

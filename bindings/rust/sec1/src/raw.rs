@@ -1,0 +1,201 @@
+//! The functions of the library over slices, and the wiping of bytes: all of the `unsafe` code.
+//!
+//! What `sec1.h` asks of a caller holds here by the types. A pointer and the length after it come
+//! from one slice, so that many bytes may be read, or written if the slice is `&mut`. What is
+//! written is borrowed by `&mut`, so it overlaps no other argument, and no other thread uses it.
+
+use core::cmp::Ordering;
+use core::num::NonZeroU32;
+use core::sync::atomic::{Ordering as Fence, compiler_fence};
+use sec1_sys::*;
+
+pub(crate) use sec1_sys::{
+    sec1_key_parts as KeyParts, sec1_part as Part, sec1_point_parts as PointParts,
+};
+
+/// The number of a refusal.
+pub(crate) type Status = NonZeroU32;
+
+/// Returns the value if the status is that of success.
+fn answer<T>(status: u32, value: T) -> Result<T, Status> {
+    match Status::new(status) {
+        None => Ok(value),
+        Some(status) => Err(status),
+    }
+}
+
+/// Borrows a part by its place: `Ok(None)` if it is absent.
+///
+/// # Errors
+///
+/// The place isn't within the bytes, which the library's contract rules out.
+pub(crate) fn part(bytes: &[u8], part: Part) -> Result<Option<&[u8]>, ()> {
+    if part.present == 0 {
+        return Ok(None);
+    }
+    match bytes.get(part.offset..).and_then(|rest| rest.get(..part.len)) {
+        Some(slice) => Ok(Some(slice)),
+        None => Err(()),
+    }
+}
+
+/// What a private key is written from.
+pub(crate) struct Fields<'a> {
+    pub private_key: &'a [u8],
+    pub curve: &'a [u8],
+    pub public_key: Option<&'a [u8]>,
+}
+
+/// Reads a private key, and returns the places of its parts.
+pub(crate) fn key_read(bytes: &[u8]) -> Result<KeyParts, Status> {
+    let mut parts = KeyParts::default();
+    // SAFETY: `bytes` is one slice, and `parts` is a place of this function.
+    let status = unsafe { sec1_key_read(bytes.as_ptr(), bytes.len(), &mut parts) };
+    answer(status, parts)
+}
+
+/// Returns the length of the encoding of a private key.
+pub(crate) fn key_len(fields: &Fields<'_>) -> Result<usize, Status> {
+    let (public_key, mut len) = (fields.public_key.unwrap_or_default(), 0);
+    // SAFETY: each pointer and length are of one slice, and `len` is a place of this function.
+    let status = unsafe {
+        sec1_key_len(
+            fields.private_key.as_ptr(),
+            fields.private_key.len(),
+            fields.curve.as_ptr(),
+            fields.curve.len(),
+            public_key.as_ptr(),
+            public_key.len(),
+            usize::from(fields.public_key.is_some()),
+            &mut len,
+        )
+    };
+    answer(status, len)
+}
+
+/// Writes the encoding of a private key at the beginning of `out`, and returns its length.
+pub(crate) fn key_write(fields: &Fields<'_>, out: &mut [u8]) -> Result<usize, Status> {
+    let (public_key, mut len) = (fields.public_key.unwrap_or_default(), 0);
+    // SAFETY: each pointer and length are of one slice, `out` is borrowed by `&mut`, and `len` is a
+    // place of this function.
+    let status = unsafe {
+        sec1_key_write(
+            fields.private_key.as_ptr(),
+            fields.private_key.len(),
+            fields.curve.as_ptr(),
+            fields.curve.len(),
+            public_key.as_ptr(),
+            public_key.len(),
+            usize::from(fields.public_key.is_some()),
+            out.as_mut_ptr(),
+            out.len(),
+            &mut len,
+        )
+    };
+    answer(status, len)
+}
+
+/// Reads a point, and returns its tag and the places of its coordinates.
+pub(crate) fn point_read(bytes: &[u8], field_len: usize) -> Result<PointParts, Status> {
+    let mut parts = PointParts::default();
+    // SAFETY: `bytes` is one slice, and `parts` is a place of this function.
+    let status = unsafe { sec1_point_read(bytes.as_ptr(), bytes.len(), field_len, &mut parts) };
+    answer(status, parts)
+}
+
+/// Writes the compressed form of a point at the beginning of `out`, and returns its length.
+pub(crate) fn point_compress(
+    bytes: &[u8],
+    field_len: usize,
+    out: &mut [u8],
+) -> Result<usize, Status> {
+    let mut len = 0;
+    // SAFETY: each pointer and length are of one slice, `out` is borrowed by `&mut`, and `len` is a
+    // place of this function.
+    let status = unsafe {
+        sec1_point_compress(
+            bytes.as_ptr(),
+            bytes.len(),
+            field_len,
+            out.as_mut_ptr(),
+            out.len(),
+            &mut len,
+        )
+    };
+    answer(status, len)
+}
+
+/// Compares two points.
+pub(crate) fn point_compare(
+    first: &[u8],
+    second: &[u8],
+    field_len: usize,
+) -> Result<Ordering, Status> {
+    let mut order = 0;
+    // SAFETY: each pointer and length are of one slice, and `order` is a place of this function.
+    let status = unsafe {
+        sec1_point_compare(
+            first.as_ptr(),
+            first.len(),
+            second.as_ptr(),
+            second.len(),
+            field_len,
+            &mut order,
+        )
+    };
+    answer(status, order.cmp(&0))
+}
+
+/// Writes the text of an identifier and a byte 0, and returns the length of both.
+pub(crate) fn identifier_to_text(content: &[u8], text: &mut [u8]) -> Result<usize, Status> {
+    let mut len = 0;
+    // SAFETY: each pointer and length are of one slice, `text` is borrowed by `&mut`, and `len` is
+    // a place of this function.
+    let status = unsafe {
+        sec1_identifier_to_text(
+            content.as_ptr(),
+            content.len(),
+            text.as_mut_ptr(),
+            text.len(),
+            &mut len,
+        )
+    };
+    answer(status, len)
+}
+
+/// Writes the content of an identifier, and returns its length.
+pub(crate) fn identifier_from_text(text: &str, content: &mut [u8]) -> Result<usize, Status> {
+    let mut len = 0;
+    // SAFETY: each pointer and length are of one slice, `content` is borrowed by `&mut`, and `len`
+    // is a place of this function.
+    let status = unsafe {
+        sec1_identifier_from_text(
+            text.as_ptr(),
+            text.len(),
+            content.as_mut_ptr(),
+            content.len(),
+            &mut len,
+        )
+    };
+    answer(status, len)
+}
+
+/// Returns the length of the one element that all of the bytes are.
+#[cfg(feature = "alloc")]
+pub(crate) fn document_len(bytes: &[u8]) -> Result<usize, Status> {
+    let mut len = 0;
+    // SAFETY: `bytes` is one slice, and `len` is a place of this function.
+    let status = unsafe { sec1_document_len(bytes.as_ptr(), bytes.len(), &mut len) };
+    answer(status, len)
+}
+
+/// Overwrites the bytes with zeros, also where nobody reads them again.
+pub(crate) fn wipe(bytes: &mut [u8]) {
+    for byte in bytes {
+        // SAFETY: a `&mut u8` is valid to be written and aligned. A volatile write is never left
+        // out.
+        unsafe { core::ptr::write_volatile(byte, 0) };
+    }
+    // Keeps what comes after from being moved before the writes.
+    compiler_fence(Fence::SeqCst);
+}

@@ -1,0 +1,46 @@
+//! Keys that OpenSSL has written, and damaged copies of them: what is printed of each is what the
+//! second reader of the repository says, and each key is written again as it was.
+#![cfg(feature = "std")]
+#![allow(clippy::unwrap_used)]
+
+mod support;
+
+use sec1::der::{Encode, ErrorKind};
+use sec1::{EcParameters, EcPrivateKey, Error};
+
+const KEYS: &str = include_str!("../../../../crates/sec1_rewrite/stdin");
+const ANSWERS: &str = include_str!("../../../../crates/sec1_rewrite/stdout");
+
+fn text(bytes: &[u8]) -> String {
+    bytes.iter().map(|byte| format!("{byte:02X}")).collect()
+}
+
+#[test]
+fn agrees_on_keys_of_openssl() {
+    let keys = KEYS.lines().filter(|line| !line.starts_with('#'));
+    let (mut read, mut refused) = (0, 0);
+    for (digits, answer) in keys.zip(ANSWERS.lines()) {
+        let bytes = support::bytes(digits);
+        match EcPrivateKey::try_from(&bytes[..]) {
+            Ok(key) => {
+                read += 1;
+                let parts: Vec<&str> = answer.split(' ').collect();
+                assert_eq!(parts[0], text(key.private_key), "{digits}");
+                let curve = key.parameters.and_then(EcParameters::named_curve);
+                let curve = curve.map_or("none".to_string(), |curve| curve.to_string());
+                assert_eq!(parts[1], curve, "{digits}");
+                assert_eq!(parts[2], key.public_key.map_or("none".into(), text), "{digits}");
+                assert_eq!(key.to_der().unwrap(), bytes);
+            }
+            Err(Error::Asn1(error)) => {
+                refused += 1;
+                assert!(answer.starts_with("SEC1 ASN.1 error: "), "{answer}: {digits}");
+                assert_eq!(answer, Error::Asn1(error).to_string(), "{digits}");
+                assert_ne!(error.kind(), ErrorKind::Failed);
+            }
+            Err(error) => panic!("{error}: {digits}"),
+        }
+    }
+    assert_eq!(read + refused, 2656);
+    assert!(read >= 656, "{read}");
+}

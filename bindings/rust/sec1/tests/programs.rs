@@ -1,0 +1,132 @@
+//! Pieces of programs that were written for the crate `sec1`: they have to compile and to do the
+//! same.
+#![cfg(feature = "std")]
+#![allow(clippy::unwrap_used, clippy::useless_conversion)]
+
+use sec1::consts::{U28, U32, U48, U66};
+use sec1::point::{Coordinates, ModulusSize, Tag};
+use sec1::{
+    ALGORITHM_OID, Array, DecodeEcPrivateKey, EcParameters, EcPrivateKey, EncodeEcPrivateKey,
+    EncodedPoint, der,
+};
+use std::collections::{BTreeSet, HashMap};
+
+mod support;
+
+// Over any field.
+fn x_of<Size: ModulusSize>(bytes: &[u8]) -> sec1::Result<Option<Array<u8, Size>>> {
+    Ok(EncodedPoint::<Size>::from_bytes(bytes)?.x().copied())
+}
+
+fn describe<Size>(point: &EncodedPoint<Size>) -> (usize, Tag)
+where
+    Size: ModulusSize,
+{
+    match point.coordinates() {
+        Coordinates::Identity => (0, Tag::Identity),
+        Coordinates::Compact { x } => (x.as_ref().len(), Tag::Compact),
+        Coordinates::Compressed { x, y_is_odd: true } => (x.as_ref().len(), Tag::CompressedOddY),
+        Coordinates::Compressed { x, y_is_odd: false } => (x.as_ref().len(), Tag::CompressedEvenY),
+        Coordinates::Uncompressed { x, y } => {
+            (x.as_ref().len() + y.as_ref().len(), Tag::Uncompressed)
+        }
+    }
+}
+
+// A curve's key, as crates of curves have it.
+#[derive(Debug, PartialEq)]
+struct SecretKey([u8; 32]);
+
+impl DecodeEcPrivateKey for SecretKey {
+    fn from_sec1_der(bytes: &[u8]) -> sec1::Result<Self> {
+        let key = EcPrivateKey::try_from(bytes)?;
+        key.private_key.try_into().map(SecretKey).map_err(|_| sec1::Error::Crypto)
+    }
+}
+
+impl EncodeEcPrivateKey for SecretKey {
+    fn to_sec1_der(&self) -> sec1::Result<der::SecretDocument> {
+        let oid = der::asn1::ObjectIdentifier::new("1.2.840.10045.3.1.7")?;
+        EcPrivateKey { private_key: &self.0, parameters: Some(oid.into()), public_key: None }
+            .try_into()
+    }
+}
+
+#[derive(Debug)]
+struct Fault(String);
+
+impl From<sec1::Error> for Fault {
+    fn from(error: sec1::Error) -> Fault {
+        Fault(error.to_string())
+    }
+}
+
+fn curve(bytes: &[u8]) -> Result<Option<String>, Fault> {
+    let key = EcPrivateKey::try_from(bytes)?;
+    Ok(key.parameters.and_then(EcParameters::named_curve).map(|oid| oid.to_string()))
+}
+
+#[test]
+fn programs_compile_and_run() {
+    let p256 = &support::p256()[..];
+    let key: EcPrivateKey<'_> = p256.try_into().unwrap();
+    let public = key.public_key.unwrap();
+    assert_eq!(x_of::<U32>(public).unwrap().unwrap().as_slice(), &public[1..33]);
+    assert!(
+        x_of::<U28>(public).is_err()
+            && x_of::<U48>(public).is_err()
+            && x_of::<U66>(public).is_err()
+    );
+
+    let point = EncodedPoint::<U32>::try_from(public).unwrap();
+    assert_eq!(describe(&point), (64, Tag::Uncompressed));
+    assert_eq!(describe(&point.compress()).1, point.compress().tag());
+    assert_eq!(describe(&EncodedPoint::<U66>::default()), (0, Tag::Identity));
+    let x: [u8; 32] = (*point.x().unwrap()).into();
+    let y = point.y().unwrap().to_vec();
+    let again = EncodedPoint::<U32>::from_affine_coordinates(
+        &x.into(),
+        y.as_slice().try_into().unwrap(),
+        false,
+    );
+    assert_eq!(again, point);
+    let untagged: &[u8; 64] = public[1..].try_into().unwrap();
+    assert_eq!(EncodedPoint::<U32>::from_untagged_bytes(untagged.into()), point);
+    let names = HashMap::from([(point, "uncompressed"), (point.compress(), "compressed")]);
+    assert_eq!(names.get(&again), Some(&"uncompressed"));
+    let sorted: Vec<_> =
+        BTreeSet::from([point, EncodedPoint::identity(), point.compress()]).into_iter().collect();
+    assert_eq!(sorted, [EncodedPoint::identity(), point.compress(), point]);
+    assert_eq!(format!("{point:X}"), point.to_string());
+    assert_eq!(u8::from(Tag::try_from(public[0]).unwrap()), 4);
+
+    let secret = SecretKey::from_sec1_der(p256).unwrap();
+    let document = secret.to_sec1_der().unwrap();
+    assert_eq!(SecretKey::from_sec1_der(document.as_bytes()), Ok(secret));
+    assert_eq!(curve(p256).unwrap().as_deref(), Some("1.2.840.10045.3.1.7"));
+    assert_eq!(curve(&p256[1..]).unwrap_err().0, "SEC1 ASN.1 error: unexpected or unsupported tag");
+    assert_eq!(ALGORITHM_OID.to_string(), "1.2.840.10045.2.1");
+    fn is_shared<T: Send + Sync + 'static>() {}
+    is_shared::<EncodedPoint<U32>>();
+    is_shared::<der::SecretDocument>();
+}
+
+#[cfg(unix)]
+#[test]
+fn files_of_keys_are_their_owners() {
+    use std::os::unix::fs::PermissionsExt;
+    let path = std::env::temp_dir().join(format!("sec1-owner-{}.der", std::process::id()));
+    SecretKey([7; 32]).write_sec1_der_file(&path).unwrap();
+    assert_eq!(std::fs::metadata(&path).unwrap().permissions().mode() & 0o777, 0o600);
+    assert_eq!(SecretKey::read_sec1_der_file(&path), Ok(SecretKey([7; 32])));
+    std::fs::remove_file(&path).unwrap();
+    let error = SecretKey::read_sec1_der_file(&path).unwrap_err();
+    assert_eq!(error, sec1::Error::Asn1(der::ErrorKind::Io(std::io::ErrorKind::NotFound).into()));
+}
+
+#[test]
+fn zeroize_leaves_the_identity() {
+    let mut point = EncodedPoint::<U32>::from_bytes([4; 65]).unwrap();
+    point.zeroize();
+    assert_eq!(point, EncodedPoint::identity());
+}

@@ -1,0 +1,70 @@
+//! A document is wiped before its memory is given back.
+#![cfg(feature = "std")]
+#![allow(clippy::unwrap_used)]
+
+use sec1::EcPrivateKey;
+use sec1::der::SecretDocument;
+use std::alloc::{GlobalAlloc, Layout, System};
+use std::sync::atomic::{AtomicUsize, Ordering};
+
+/// What no other memory of the test holds.
+const SECRET: [u8; 32] = *b"a secret of thirty-two bytes....";
+
+static FREED: AtomicUsize = AtomicUsize::new(0);
+
+/// The allocator of the system, which counts the blocks that hold the secret when they are freed.
+struct Watching;
+
+// SAFETY: each call is that of the system's allocator. A block is read before it is freed, and only
+// if it was filled, since those of this size are vectors of the test.
+unsafe impl GlobalAlloc for Watching {
+    unsafe fn alloc(&self, layout: Layout) -> *mut u8 {
+        // SAFETY: as the caller promises. Memory is zeroed so that it may be read.
+        unsafe { System.alloc_zeroed(layout) }
+    }
+
+    unsafe fn dealloc(&self, block: *mut u8, layout: Layout) {
+        // SAFETY: the block has this size, and was zeroed when it was allocated.
+        let bytes = unsafe { std::slice::from_raw_parts(block, layout.size()) };
+        if bytes.windows(32).any(|window| window == SECRET) {
+            FREED.fetch_add(1, Ordering::SeqCst);
+        }
+        // SAFETY: as the caller promises.
+        unsafe { System.dealloc(block, layout) }
+    }
+}
+
+#[global_allocator]
+static ALLOCATOR: Watching = Watching;
+
+fn freed(run: impl FnOnce()) -> usize {
+    let before = FREED.load(Ordering::SeqCst);
+    run();
+    FREED.load(Ordering::SeqCst) - before
+}
+
+#[test]
+fn secrets_are_wiped() {
+    let key = EcPrivateKey { private_key: &SECRET, parameters: None, public_key: None };
+    assert_eq!(freed(|| drop(SECRET.to_vec())), 1, "the allocator watches");
+    assert_eq!(freed(|| drop(SecretDocument::try_from(&key).unwrap())), 0);
+    // One that was longer before it became a document.
+    let document = SecretDocument::try_from(&key).unwrap();
+    let shorter = || {
+        let mut bytes = [&[0x30, 0][..], document.as_bytes()].concat();
+        bytes.truncate(2);
+        drop(SecretDocument::try_from(bytes).unwrap());
+    };
+    assert_eq!(freed(shorter), 0);
+    // One that is refused.
+    let refused = || {
+        let bytes = [document.as_bytes(), &[0]].concat();
+        assert!(SecretDocument::try_from(bytes).is_err());
+    };
+    assert_eq!(freed(refused), 0);
+    // Copies have memory of their own.
+    let copy = document.clone();
+    assert_eq!(freed(|| drop(document)), 0);
+    assert_eq!(copy.decode_msg::<EcPrivateKey<'_>>().unwrap().private_key, SECRET);
+    assert_eq!(freed(|| drop(copy)), 0);
+}

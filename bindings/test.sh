@@ -1,0 +1,68 @@
+#!/usr/bin/env bash
+# Builds and tests the bindings in a temporary folder, without a network, over the library that
+# stands in crates/sec1_c/out. The last line is `N passed, M failed`; the status is 1 where anything
+# failed, also where a tool or the library is missing.
+set -uo pipefail
+here=$(cd "$(dirname "$0")" && pwd)
+top=$(dirname "$here")
+passed=0 failed=0
+work=$(mktemp -d)
+trap 'rm -rf "$work"' EXIT
+
+pass() { passed=$((passed + 1)) && echo "ok: $1"; }
+fail() { failed=$((failed + 1)) && echo "FAILED: $1"; }
+check() { # NAME COMMAND..: passes where the command does, and prints its output where it doesn't
+    local name=$1
+    shift
+    if "$@" >"$work/output" 2>&1; then pass "$name"; else
+        tail -n 30 "$work/output"
+        fail "$name"
+    fi
+}
+refuses() { # NAME TEXT COMMAND..: passes where the command fails, and says the text
+    local name=$1 text=$2
+    shift 2
+    if ! "$@" >"$work/output" 2>&1 && grep -qF -- "$text" "$work/output"; then pass "$name"; else
+        fail "$name"
+    fi
+}
+has() { # TOOL
+    if command -v "$1" >/dev/null; then return 0; fi
+    fail "there is no $1"
+    return 1
+}
+
+rust() {
+    cd "$work/bindings/rust" || return
+    export CARGO_NET_OFFLINE=true CARGO_TARGET_DIR="$work/target"
+    check "the crates pass their tests" cargo test --locked --all-features
+    check "the crate has its examples without std" cargo test --locked
+    check "clippy finds nothing" cargo clippy --locked --all-targets --all-features -- -D warnings
+    check "clippy finds nothing with alloc" \
+        cargo clippy --locked --features alloc -- -D warnings
+    check "the sources are formatted" cargo fmt --check
+    check "the documents have no fault" \
+        env RUSTDOCFLAGS="-D warnings" cargo doc --locked --no-deps --all-features
+    refuses "a folder without the library is refused" "there is no libsec1.a in $work/none" \
+        env SEC1_LIB_DIR="$work/none" cargo build --locked
+    check "unsafe code stands in one module" \
+        test "$(grep -rl 'unsafe {' sec1/src sec1-sys/src)" = sec1/src/raw.rs
+}
+
+if [ -f "$top/crates/sec1_c/out/libsec1_c.a" ]; then
+    # The layout of the repository, so that the library and the stored keys are found beside.
+    mkdir -p "$work/crates/sec1_c/out"
+    cp "$top/crates/sec1_c/out/libsec1_c.a" "$work/crates/sec1_c/out"
+    for crate in sec1_inspect sec1_rewrite; do
+        mkdir -p "$work/crates/$crate"
+        cp "$top/crates/$crate/stdin" "$top/crates/$crate/stdout" "$work/crates/$crate"
+    done
+    cp -R "$here" "$work/bindings"
+    if has cargo; then (rust; echo "$passed $failed" >"$work/count"); fi
+    if [ -f "$work/count" ]; then read -r passed failed <"$work/count"; fi
+else
+    fail "there is no crates/sec1_c/out/libsec1_c.a: crates/sec1_c/build.sh builds it"
+fi
+
+echo "$passed passed, $failed failed"
+[ "$failed" = 0 ]
