@@ -49,6 +49,26 @@ rust() {
         test "$(grep -rl 'unsafe {' sec1/src sec1-sys/src)" = sec1/src/raw.rs
 }
 
+python() {
+    cd "$work/bindings/python" || return
+    export PIP_NO_INDEX=1 PIP_DISABLE_PIP_VERSION_CHECK=1 PYTHONDONTWRITEBYTECODE=1
+    check "there is an environment of Python" python3 -m venv "$work/environment"
+    local bin=$work/environment/bin
+    check "pip builds and installs the wheel" "$bin/pip" install --no-build-isolation .
+    check "the module passes its tests" "$bin/python" -I tests/test_sec1.py
+    check "the wheel has the library and the types inside" "$bin/python" -I -c \
+        'import pathlib, sec1; p = pathlib.Path(sec1.__file__).parent
+assert (p / "libsec1.so").is_file() and (p / "py.typed").is_file()'
+    refuses "a folder without the library is refused" "in $work/none" \
+        env SEC1_LIB_DIR="$work/none" "$bin/pip" install --no-build-isolation .
+}
+
+# Runs a part in a subshell, and takes over what it has counted.
+part() {
+    ("$1"; echo "$passed $failed" >"$work/count")
+    read -r passed failed <"$work/count"
+}
+
 if [ -f "$top/crates/sec1_c/out/libsec1_c.a" ]; then
     # The layout of the repository, so that the library and the stored keys are found beside.
     mkdir -p "$work/crates/sec1_c/out"
@@ -58,8 +78,8 @@ if [ -f "$top/crates/sec1_c/out/libsec1_c.a" ]; then
         cp "$top/crates/$crate/stdin" "$top/crates/$crate/stdout" "$work/crates/$crate"
     done
     cp -R "$here" "$work/bindings"
-    if has cargo; then (rust; echo "$passed $failed" >"$work/count"); fi
-    if [ -f "$work/count" ]; then read -r passed failed <"$work/count"; fi
+    if has cargo; then part rust; fi
+    if has python3 && has cc; then part python; fi
 else
     fail "there is no crates/sec1_c/out/libsec1_c.a: crates/sec1_c/build.sh builds it"
 fi

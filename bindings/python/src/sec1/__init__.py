@@ -1,0 +1,274 @@
+"""Reads and writes EC private keys in DER (RFC 5915) and points of elliptic curves (SEC1 v2.0 section
+2.3.3). What is accepted and what is written is decided by a library that is proved to meet its contracts."""
+from __future__ import annotations
+
+import functools
+from ctypes import byref, c_int32, c_size_t
+from dataclasses import dataclass, field
+from enum import IntEnum
+from typing import Any, Optional, Type
+
+from . import _library
+
+__all__ = [
+    "BufferTooShort",
+    "DepthError",
+    "EcPrivateKey",
+    "Error",
+    "FieldLengthError",
+    "LengthError",
+    "ObjectIdentifier",
+    "OverlengthError",
+    "Point",
+    "PointEncodingError",
+    "Tag",
+    "TagError",
+    "TrailingDataError",
+    "TruncatedError",
+    "ValueContentError",
+    "check_tree",
+    "document_length",
+]
+
+
+class Error(ValueError):
+    """A refusal. Each kind of refusal is a class of its own below this one."""
+
+    text = "the library broke its contract"
+
+    def __init__(self) -> None:
+        super().__init__(self.text)
+
+
+class TruncatedError(Error):
+    """The input, or the element around a part, ends too early."""
+
+    text = "input ends inside an element"
+
+
+class TagError(Error):
+    """A tag that isn't the expected one, or that no element has."""
+
+    text = "unexpected or unsupported tag"
+
+
+class LengthError(Error):
+    """A length that isn't in the form of DER, or is above 268,435,455."""
+
+    text = "length not in DER form or above the limit"
+
+
+class TrailingDataError(Error):
+    """Bytes after the last part."""
+
+    text = "bytes after the value"
+
+
+class ValueContentError(Error):
+    """A content that isn't valid for its tag, or a text that isn't an identifier's."""
+
+    text = "content not valid for its tag"
+
+
+class OverlengthError(Error):
+    """A content to write is above 268,435,455 bytes."""
+
+    text = "value longer than 268435455 bytes"
+
+
+class BufferTooShort(Error):
+    """The buffer to write into is too short. No call of this module raises it."""
+
+    text = "output buffer too small"
+
+
+class DepthError(Error):
+    """More than 64 nested elements."""
+
+    text = "more than 64 nested elements"
+
+
+class PointEncodingError(Error):
+    """The bytes aren't the encoding of a point."""
+
+    text = "elliptic curve point encoding error"
+
+
+class FieldLengthError(Error):
+    """The length of field elements isn't one that the library supports."""
+
+    text = "length of field elements not supported"
+
+
+# By the numbers of enum sec1_status, from 1 on.
+_ERRORS: "tuple[Type[Error], ...]" = (
+    *(TruncatedError, TagError, LengthError, TrailingDataError, ValueContentError),
+    *(OverlengthError, BufferTooShort, DepthError, PointEncodingError, FieldLengthError),
+)
+
+
+def _bytes(data: bytes) -> bytes:
+    """Returns a copy of `bytes`, `bytearray` or `memoryview`. Anything else is a TypeError."""
+    return data if isinstance(data, bytes) else bytes(memoryview(data))
+
+
+def _check(status: int) -> None:
+    """Raises the error of a status other than 0."""
+    if status:
+        raise (_ERRORS[status - 1] if status <= len(_ERRORS) else Error)()
+
+
+def _written(name: str, *arguments: Any) -> bytes:
+    """Returns what a function writes, or raises."""
+    status, data = _library.written(name, *arguments)
+    _check(status)
+    return data
+
+
+class Tag(IntEnum):
+    """The first byte of a point's encoding."""
+
+    IDENTITY = 0
+    COMPRESSED_EVEN = 2
+    COMPRESSED_ODD = 3
+    UNCOMPRESSED = 4
+    COMPACT = 5
+    HYBRID_EVEN = 6
+    HYBRID_ODD = 7
+
+
+@dataclass(frozen=True)
+class ObjectIdentifier:
+    """An object identifier (X.690 section 8.19), by its content. `str` returns its dotted text.
+
+    Raises ValueContentError if the bytes aren't the content of an identifier."""
+
+    content: bytes
+
+    def __post_init__(self) -> None:
+        object.__setattr__(self, "content", _bytes(self.content))
+        str(self)
+
+    @classmethod
+    def from_text(cls, text: str) -> ObjectIdentifier:
+        """Returns the identifier with this dotted text, or raises ValueContentError."""
+        data = text.encode("utf-8", "surrogatepass")
+        return cls(_written("sec1_identifier_from_text", data, len(data)))
+
+    def __str__(self) -> str:
+        text = _written("sec1_identifier_to_text", self.content, len(self.content))
+        return text[:-1].decode("ascii")
+
+    def __repr__(self) -> str:
+        return f"ObjectIdentifier.from_text({str(self)!r})"
+
+
+@dataclass(frozen=True)
+class EcPrivateKey:
+    """A private key (RFC 5915 section 3). Its `repr` doesn't show the private key."""
+
+    private_key: bytes = field(repr=False)
+    curve: Optional[ObjectIdentifier] = None
+    public_key: Optional[bytes] = None
+
+    @classmethod
+    def from_der(cls, data: bytes) -> EcPrivateKey:
+        """Reads a key from its DER encoding, which is all of the bytes.
+
+        Raises TruncatedError, TagError, LengthError, TrailingDataError or ValueContentError, the first
+        fault from left to right."""
+        data, parts = _bytes(data), _library.KeyParts()
+        _check(_library.call("sec1_key_read", data, len(data), byref(parts)))
+        curve = parts.curve.of(data)
+        return cls(
+            parts.private_key.of(data) or b"",
+            None if curve is None else ObjectIdentifier(curve),
+            parts.public_key.of(data),
+        )
+
+    def to_der(self) -> bytes:
+        """Returns the DER encoding, or raises OverlengthError."""
+        private_key = _bytes(self.private_key)
+        curve = b"" if self.curve is None else self.curve.content
+        public_key = b"" if self.public_key is None else _bytes(self.public_key)
+        parts = (private_key, len(private_key), curve, len(curve), public_key, len(public_key))
+        return _written("sec1_key_write", *parts, int(self.public_key is not None))
+
+
+@functools.total_ordering
+@dataclass(frozen=True, eq=False)
+class Point:
+    """A point in its encoding, over a field whose elements have `field_length` bytes.
+
+    Points over one field are ordered by tag, then by coordinates as whole numbers. It isn't tested that
+    a point lies on a curve. Raises PointEncodingError or FieldLengthError."""
+
+    encoding: bytes
+    field_length: int
+    tag: Tag = field(init=False, repr=False)
+    x: Optional[bytes] = field(init=False, repr=False)
+    y: Optional[bytes] = field(init=False, repr=False)
+
+    def __post_init__(self) -> None:
+        data, parts = _bytes(self.encoding), _library.PointParts()
+        # A negative number, or one of more than 64 bits, would become another one in C.
+        if not 0 <= self.field_length < 1 << 64:
+            raise FieldLengthError
+        _check(_library.call("sec1_point_read", data, len(data), self.field_length, byref(parts)))
+        object.__setattr__(self, "encoding", data)
+        object.__setattr__(self, "tag", Tag(parts.tag))
+        object.__setattr__(self, "x", parts.x.of(data))
+        object.__setattr__(self, "y", parts.y.of(data))
+
+    @classmethod
+    def from_coordinates(cls, x: bytes, y: bytes) -> Point:
+        """Returns the uncompressed point with these coordinates, or raises PointEncodingError."""
+        return cls(bytes([Tag.UNCOMPRESSED]) + x + y, len(x))
+
+    def compress(self) -> Point:
+        """Returns the compressed form of an uncompressed or hybrid point, any other as it is."""
+        return self._form("sec1_point_compress")
+
+    def to_hybrid(self) -> Point:
+        """Returns the hybrid form of an uncompressed point, any other as it is."""
+        return self._form("sec1_point_to_hybrid")
+
+    def _form(self, name: str) -> Point:
+        form = _written(name, self.encoding, len(self.encoding), self.field_length)
+        return Point(form, self.field_length)
+
+    def _order(self, other: Point) -> int:
+        order, first, second = c_int32(), self.encoding, other.encoding
+        arguments = (first, len(first), second, len(second), self.field_length, byref(order))
+        _check(_library.call("sec1_point_compare", *arguments))
+        return order.value
+
+    def __eq__(self, other: object) -> bool:
+        if not isinstance(other, Point):
+            return NotImplemented
+        return self.field_length == other.field_length and self._order(other) == 0
+
+    def __lt__(self, other: object) -> bool:
+        if not isinstance(other, Point) or self.field_length != other.field_length:
+            return NotImplemented
+        return self._order(other) < 0
+
+    def __hash__(self) -> int:
+        return hash((self.encoding, self.field_length))
+
+
+def check_tree(data: bytes) -> int:
+    """Returns the number of elements of the one tree that the bytes are.
+
+    Raises TruncatedError, TagError, LengthError, TrailingDataError or DepthError."""
+    data, count = _bytes(data), c_size_t()
+    _check(_library.call("sec1_check_tree", data, len(data), byref(count)))
+    return count.value
+
+
+def document_length(data: bytes) -> Optional[int]:
+    """Returns the length, header and content together, that the header at the beginning announces, or
+    None if the bytes don't begin with a whole header. More or fewer bytes may follow it."""
+    data, length = _bytes(data), c_size_t()
+    _library.call("sec1_document_len", data, len(data), byref(length))
+    return length.value or None
