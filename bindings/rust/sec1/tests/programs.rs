@@ -130,3 +130,45 @@ fn zeroize_leaves_the_identity() {
     point.zeroize();
     assert_eq!(point, EncodedPoint::identity());
 }
+
+#[test]
+fn an_encoding_is_appended() {
+    use der::Encode;
+    let key = EcPrivateKey { private_key: &[9], parameters: None, public_key: None };
+    let encoding = [0x30, 6, 2, 1, 1, 4, 1, 9];
+    for before in [&[][..], &[1], &[1; 40]] {
+        let mut bytes = before.to_vec();
+        assert_eq!(key.encode_to_vec(&mut bytes).map(u32::from), Ok(8));
+        assert_eq!(bytes, [before, &encoding].concat());
+    }
+}
+
+#[test]
+fn debug_shows_no_private_key() {
+    let key = EcPrivateKey {
+        private_key: &[201; 3],
+        parameters: Some(ALGORITHM_OID.into()),
+        public_key: None,
+    };
+    let text = "EcPrivateKey { parameters: Some(NamedCurve(ObjectIdentifier(1.2.840.10045.2.1))), \
+                public_key: None, .. }";
+    assert_eq!(format!("{key:?}"), text);
+}
+
+#[test]
+fn points_are_selected() {
+    use sec1::subtle::{Choice, ConditionallySelectable};
+    let (a, b) = (EncodedPoint::<U32>::identity(), EncodedPoint::from_bytes([3; 33]).unwrap());
+    for (choice, chosen) in [(Choice::from(0), a), (Choice::from(1), b), (true.into(), b)] {
+        assert_eq!(EncodedPoint::conditional_select(&a, &b, choice), chosen);
+    }
+}
+
+#[test]
+fn lengths_of_messages() {
+    for (tag, len) in [(0, 1), (2, 33), (3, 33), (4, 65), (5, 33)] {
+        assert_eq!(Tag::from_u8(tag).unwrap().message_len(32), len);
+    }
+    assert_eq!(Tag::Uncompressed.message_len(usize::MAX), usize::MAX);
+    assert_eq!(Tag::Compact.message_len(usize::MAX), usize::MAX);
+}

@@ -1,0 +1,95 @@
+#!/usr/bin/env python3
+"""Plants one fault at a time into the crate, in a temporary copy, and runs its tests: each fault has
+to be caught. It takes some minutes, so test.sh doesn't run it. The last line is 'N passed, M failed'.
+
+  bindings/rust/faults.py [FIRST [STEP]]    each STEP-th fault from FIRST on, by default all of them
+"""
+import os
+import pathlib
+import shutil
+import subprocess
+import sys
+import tempfile
+
+TOP = pathlib.Path(__file__).resolve().parents[2]
+FAULTS = [
+    ("raw.rs", "if part.present == 0", "if part.len == 0"),
+    ("raw.rs", "bytes.get(part.offset..)", "bytes.get(part.offset + 1..)"),
+    ("raw.rs", "usize::from(fields.public_key.is_some()),\n            &mut len", "1,\n            &mut len"),
+    ("raw.rs", "usize::from(fields.public_key.is_some()),\n            out", "0,\n            out"),
+    ("raw.rs", "order.cmp(&0)", "0.cmp(&order)"),
+    ("raw.rs", "core::ptr::write_volatile(byte, 0)", "core::ptr::write_volatile(byte, *byte)"),
+    ("error.rs", "Error::Asn1(error)\n", "{ let _ = error; Error::Crypto }\n"),
+    ("der.rs", "SEC1_TRUNCATED => ErrorKind::Truncated", "SEC1_TRUNCATED => ErrorKind::Tag"),
+    ("der.rs", "SEC1_TAG => ErrorKind::Tag", "SEC1_TAG => ErrorKind::Value"),
+    ("der.rs", "SEC1_LENGTH => ErrorKind::Length", "SEC1_LENGTH => ErrorKind::Overlength"),
+    ("der.rs", "SEC1_TRAILING_DATA => ErrorKind::TrailingData", "SEC1_TRAILING_DATA => ErrorKind::Failed"),
+    ("der.rs", "SEC1_VALUE => ErrorKind::Value", "SEC1_VALUE => ErrorKind::Tag"),
+    ("der.rs", "SEC1_BUFFER => ErrorKind::Buffer", "SEC1_BUFFER => ErrorKind::Length"),
+    ("der.rs", '"unexpected or unsupported tag"', '"unexpected tag"'),
+    ("der.rs", "start.saturating_add(more)", "start.saturating_add(more).max(9)"),
+    ("der.rs", "buf.get_mut(start..)", "buf.get_mut(0..)"),
+    ("der/asn1.rs", "[0; TEXT_MAX]).map_err(Error::of)?;", "[0; TEXT_MAX]).ok();"),
+    ("der/asn1.rs", "*first = bytes", "*first = [bytes[0]; 7]"),
+    ("der/asn1.rs", 'write!(f, "ObjectIdentifier({self})")', 'write!(f, "{self}")'),
+    ("der/document.rs", "raw::wipe(&mut self.bytes);", ""),
+    ("der/document.rs", "mode(&mut options, 0o600)", "mode(&mut options, 0o644)"),
+    ("der/document.rs", "raw::document_len(&document.bytes).map_err(Error::of)?", "document.bytes.len()"),
+    ("private_key.rs", "raw::part(bytes, parts.public_key)", "raw::part(bytes, parts.private_key)"),
+    ("private_key.rs", '.field("parameters"', '.field("private_key", &self.private_key).field("parameters"'),
+    ("private_key.rs", "public_key: self.public_key,", "public_key: None,"),
+    ("point.rs", "*tag = sec1_sys::SEC1_POINT_UNCOMPRESSED", "*tag = sec1_sys::SEC1_POINT_HYBRID_EVEN"),
+    ("point.rs", "if compress { point.compress() } else { point }", "{ let _ = compress; point.compress() }"),
+    ("point.rs", "Coordinates::Compressed { x, y_is_odd: false },", "Coordinates::Compressed { x, y_is_odd: true },"),
+    ("point.rs", "tag: Tag::Identity, len: 1", "tag: Tag::Identity, len: 2"),
+    ("point.rs", "self.cmp(other) == Ordering::Equal", "self.cmp(other) != Ordering::Less"),
+    ("point.rs", "self.as_bytes().hash(state)", "self.bytes.as_ref().as_ptr().hash(state)"),
+    ("point.rs", "if bool::from(choice) { *b } else { *a }", "if bool::from(choice) { *a } else { *b }"),
+    ("point.rs", "hexadecimal::write(self.as_bytes(), b'a', f)", "hexadecimal::write(self.as_bytes(), b'A', f)"),
+    ("point.rs", "        *self = Self::identity();\n", ""),
+    ("point/tag.rs", "        match byte {", "        match byte & 0x7F {"),
+    ("point/tag.rs", "saturating_mul(2)", "saturating_mul(1)"),
+    ("point/hexadecimal.rs", "!(upper && lower)", "true"),
+    ("point/hexadecimal.rs", "text.len() % 2 == 0 && ", ""),
+    ("point/hexadecimal.rs", "0..=9 =>", "0..=8 =>"),
+    ("subtle.rs", "choice.0 == 1", "choice.0 == 0"),
+]
+
+
+def main():
+    first, step = [int(word) for word in (sys.argv[1:] + ["0", "1"][len(sys.argv) - 1 :])][:2]
+    passed = failed = 0
+    with tempfile.TemporaryDirectory() as folder:
+        top = pathlib.Path(folder)
+        for name in ("sec1_c/out/libsec1_c.a", "sec1_inspect/stdin", "sec1_rewrite/stdin", "sec1_rewrite/stdout"):
+            (top / "crates" / name).parent.mkdir(parents=True, exist_ok=True)
+            shutil.copy(TOP / "crates" / name, top / "crates" / name)
+        shutil.copytree(TOP / "bindings/rust", top / "bindings/rust")
+        environment = dict(os.environ, CARGO_TARGET_DIR=str(top / "target"))
+        command = ["cargo", "test", "--offline", "--all-features", "--tests", "-p", "bridgeacacia-sec1"]
+
+        def run():
+            return subprocess.run(command, cwd=top / "bindings/rust", env=environment, capture_output=True, text=True)
+
+        if run().returncode != 0:
+            sys.exit("the tests fail without a fault")
+        for name, old, new in FAULTS[first::step]:
+            path = top / "bindings/rust/sec1/src" / name
+            text = path.read_text()
+            if text.count(old) != 1:
+                print(f"FAILED: {name} has {text.count(old)} times: {old}", flush=True)
+                failed += 1
+                continue
+            path.write_text(text.replace(old, new))
+            result = run()
+            path.write_text(text)
+            caught = result.returncode != 0 and "could not compile" not in result.stderr
+            passed, failed = passed + caught, failed + (not caught)
+            if not caught:
+                reason = "doesn't compile" if result.returncode else "isn't caught"
+                print(f"FAILED: {reason}: {name}: {old} -> {new}", flush=True)
+    print(f"{passed} passed, {failed} failed")
+    sys.exit(failed != 0)
+
+
+main()
