@@ -165,6 +165,13 @@ fn points_are_selected() {
 }
 
 #[test]
+fn the_identity_is_one_byte() {
+    let identity = EncodedPoint::<U32>::identity();
+    assert_eq!((identity.as_bytes(), identity.len()), (&[0][..], 1));
+    assert_eq!(EncodedPoint::<U32>::from_bytes([0]), Ok(identity));
+}
+
+#[test]
 fn lengths_of_messages() {
     for (tag, len) in [(0, 1), (2, 33), (3, 33), (4, 65), (5, 33)] {
         assert_eq!(Tag::from_u8(tag).unwrap().message_len(32), len);
