@@ -1,5 +1,5 @@
-//! Points of `sec1`, read again from what was written of them: bytes, texts and JSON; points compared
-//! and kept in a set.
+//! Points of `sec1`, read again from what was written of them: bytes, texts and JSON; points
+//! compared and kept in a set.
 
 ghost use Rattle.std.specs.Prelude.{◌≡◌, ◌≢◌, ◌↔◌, ◌<◌, ◌^◌, IsTrue, IfOk, OnErr, IfErr, IsOkAnd};
 ghost use Rattle.std.specs.Prelude.{not};

@@ -34,8 +34,8 @@ pub fn spelled_refusals()
     ensures no_byte { key_fault [] ≡ Some ErrorKind.Truncated }
     ensures tag_before_length { key_fault (0x31 ∷ 0x80 ∷ []) ≡ Some ErrorKind.Tag }
     ensures indefinite_length { key_fault (0x30 ∷ 0x80 ∷ []) ≡ Some ErrorKind.Length }
-    ensures less_than_announced { key_fault (0x30 ∷ 0x05 ∷ 0x02 ∷ 0x01 ∷ 0x01 ∷ 0x04 ∷ 0x01 ∷ 0xAA ∷ [])
-        ≡ Some ErrorKind.Truncated }
+    ensures less_than_announced { key_fault
+        (0x30 ∷ 0x05 ∷ 0x02 ∷ 0x01 ∷ 0x01 ∷ 0x04 ∷ 0x01 ∷ 0xAA ∷ []) ≡ Some ErrorKind.Truncated }
     ensures another_version { key_fault (0x30 ∷ 0x06 ∷ 0x02 ∷ 0x02 ∷ 0x00 ∷ 0x01 ∷ 0x04 ∷ 0x00 ∷ [])
         ≡ Some ErrorKind.Value }
     ensures no_private_key { key_fault (0x30 ∷ 0x03 ∷ 0x02 ∷ 0x01 ∷ 0x01 ∷ [])
@@ -54,8 +54,9 @@ pub fn spelled_refusals()
         ∷ 0xA1 ∷ 0x06 ∷ 0x03 ∷ 0x02 ∷ 0x01 ∷ 0x01 ∷ 0x05 ∷ 0x00 ∷ []) ≡ Some ErrorKind.Value }
 {}
 
-/// Encodings of points (SEC1 v2.0 section 2.3.3): the public key of the key on P-256, the curve's base point
-/// compressed (SEC 2 v2.0 section 2.4.2), and each other form at field elements of one byte.
+/// Encodings of points (SEC1 v2.0 section 2.3.3): the public key of the key on P-256, the curve's
+/// base point compressed (SEC 2 v2.0 section 2.4.2), and each other form at field elements of one
+/// byte.
 #[tactic(auto, unfolding(sec1::specs::Points::encoding, sec1::specs::Points::fixed_width))]
 pub fn spelled_points()
     ensures public_key { Some (encoding 32 p_256_point) ≡ p_256_key.public_key }

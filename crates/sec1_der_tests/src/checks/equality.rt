@@ -120,7 +120,8 @@ pub fn other_bit_string(a: &BitStringRef, b: &BitStringRef) -> bool
 
 /// Two elements of any tag differ exactly where their tags or their contents do.
 pub fn other_any(a: &AnyRef, b: &AnyRef) -> bool
-    ensures { IsTrue result ↔ ¬ ((tag_of a.now ≡ tag_of b.now) × (value_of a.now ≡ value_of b.now)) }
+    ensures { IsTrue result ↔ ¬ ((tag_of a.now ≡ tag_of b.now)
+        × (value_of a.now ≡ value_of b.now)) }
 {
     *a != *b
 }
