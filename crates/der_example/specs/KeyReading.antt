@@ -33,4 +33,5 @@ IsPrivateKeyOf info bytes = element_of 0x30 (private_key_content info) ≡ Some 
 
 -- RFC 5915 section 3: a key whose parameters name a curve, without its public key
 abbrev pub curve_key : List ℕ → List ℕ → Key
-curve_key curve private_key = record { private_key = private_key; parameters = Some curve; public_key = None }
+curve_key curve private_key =
+    record { private_key = private_key; parameters = Some curve; public_key = None }

@@ -9,8 +9,10 @@ pub record PrivateKey : Type 0 where
   pub algorithm : AlgorithmIdentifier
   pub bytes : List ℕ
 
--- SEQUENCE { version INTEGER 0, privateKeyAlgorithm AlgorithmIdentifier, privateKey OCTET STRING }, without attributes
+-- SEQUENCE { version INTEGER 0, privateKeyAlgorithm AlgorithmIdentifier, privateKey OCTET STRING },
+-- without attributes
 abbrev pub private_key_content : PrivateKey → Option (List ℕ)
 private_key_content value =
     join (element_of 0x02 (Some (0 ∷ [])))
-    (join (element_of 0x30 (algorithm_content value.algorithm)) (element_of 0x04 (Some value.bytes)))
+    (join (element_of 0x30 (algorithm_content value.algorithm))
+    (element_of 0x04 (Some value.bytes)))

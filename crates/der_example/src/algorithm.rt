@@ -2,7 +2,8 @@ ghost use Rattle.std.specs.Prelude.{refl};
 
 use sec1::der::{Distinct, ObjectIdentifier, Record, Required};
 
-/// The algorithm of a public key, and the curve that is its parameter (RFC 5280 section 4.1.1.2, RFC 5480 section 2.1).
+/// The algorithm of a public key, and the curve that is its parameter (RFC 5280 section 4.1.1.2,
+/// RFC 5480 section 2.1).
 #[derive(Clone, Copy, PartialEq, Eq, Debug)]
 pub struct AlgorithmIdentifier {
     /// The identifier of the algorithm.

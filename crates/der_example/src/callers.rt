@@ -1,9 +1,12 @@
 //! What a program does with keys and with values of DER, each with the contract that it needs.
 //!
-//! All of it is proved from the contracts of `sec1` alone, with the definitions that `sec1` re-exports.
-ghost use Rattle.std.specs.Prelude.{◌≡◌, ◌⊎◌, ◌↔◌, ◌≤◌, ◌++◌, ℕ, List, length, Some, IsOk, IfOk, IfErr, IsOkAnd, MatchResult};
-ghost use Rattle.sec1.specs.Der.{max_length, element, element_of, octets_of, tag_of, value_of, header_fault};
-ghost use Rattle.sec1.specs.Der.{IsElementOf, IsHeader, IsHeaderFault, LacksHeader, Refuses};
+//! All of it is proved from the contracts of `sec1` alone, with the definitions that `sec1`
+//! re-exports.
+ghost use Rattle.std.specs.Prelude.{◌≡◌, ◌⊎◌, ◌↔◌, ◌≤◌, ◌++◌, ℕ, List, length, Some, IsOk, IfOk};
+ghost use Rattle.std.specs.Prelude.{IfErr, IsOkAnd, MatchResult};
+ghost use Rattle.sec1.specs.Der.{max_length, element, element_of, octets_of, tag_of, value_of};
+ghost use Rattle.sec1.specs.Der.{header_fault, IsElementOf, IsHeader, IsHeaderFault, LacksHeader};
+ghost use Rattle.sec1.specs.Der.{Refuses};
 ghost use Rattle.sec1.specs.Errors.{IsAsn1ReadingFault};
 ghost use Rattle.sec1.specs.Keys.{Key, IsKeyOf};
 
@@ -28,7 +31,8 @@ pub fn element_in<'b, T: EncodeValue + Tagged>(
     value: &T,
     buffer: &'b mut [u8],
 ) -> der::Result<&'b [u8]>
-    ensures found { IfOk result (λ bytes. element_of T.tag_byte (T.content value.now) ≡ Some bytes.now) }
+    ensures found { IfOk result
+        (λ bytes. element_of T.tag_byte (T.content value.now) ≡ Some bytes.now) }
     ensures only { (bytes : List ℕ) → element_of T.tag_byte (T.content value.now) ≡ Some bytes
         → length bytes ≤ length buffer.old → IsOkAnd result (λ written. written.now ≡ bytes) }
 {

@@ -1,5 +1,6 @@
 //! The examples of the documents: a key read and written, points, and refusals.
-ghost use Rattle.std.specs.Prelude.{◌≡◌, ◌↔◌, Some, Ok, None, List, ℕ, IfOk, IfNone, IsOkAnd, IsTrue, MatchResult};
+ghost use Rattle.std.specs.Prelude.{◌≡◌, ◌↔◌, Some, Ok, None, List, ℕ, IfOk, IfNone, IsOkAnd};
+ghost use Rattle.std.specs.Prelude.{IsTrue, MatchResult};
 ghost use Rattle.std.specs.Box.{boxed_slice_items};
 ghost use Rattle.std.specs.Option.{option_map};
 ghost use Rattle.der_example.specs.KeyReading.{curve_key, IsPrivateKeyOf};
@@ -21,8 +22,10 @@ use std::str::FromStr;
 
 /// Returns the curve of a key, if present.
 pub fn curve(bytes: &[u8]) -> Result<Option<EcParameters>>
-    ensures found { IfOk result (λ c. (key : Key) × IsKeyOf key bytes.now × (option_map curve_of c ≡ key.parameters)) }
-    ensures only { (key : Key) → IsKeyOf key bytes.now → IsOkAnd result (λ c. option_map curve_of c ≡ key.parameters) }
+    ensures found { IfOk result
+        (λ c. (key : Key) × IsKeyOf key bytes.now × (option_map curve_of c ≡ key.parameters)) }
+    ensures only { (key : Key) → IsKeyOf key bytes.now
+        → IsOkAnd result (λ c. option_map curve_of c ≡ key.parameters) }
 {
     let key = EcPrivateKey::try_from(bytes)?;
     Ok(key.parameters)
@@ -42,9 +45,11 @@ pub fn key_on(alloc: Global, curve: ObjectIdentifier, private_key: &[u8]) -> Res
     key.to_der(alloc)
 }
 
-/// Returns whether a point, compressed, is the one of a text in hexadecimal; and the compressed point as JSON.
+/// Returns whether a point, compressed, is the one of a text in hexadecimal; and the compressed
+/// point as JSON.
 pub fn compressed(alloc: Global, bytes: &[u8], text: &str) -> Result<(bool, Value)>
-    ensures { (p q : Point) → IsPoint 32 p → IsPoint 32 q → bytes.now ≡ encoding 32 p → IsHexOf text.now (encoding 32 q)
+    ensures { (p q : Point) → IsPoint 32 p → IsPoint 32 q → bytes.now ≡ encoding 32 p
+        → IsHexOf text.now (encoding 32 q)
         → MatchResult result (λ x. IsTrue x.0 ↔ (compressed_point p ≡ q)) (λ e. e ≡ Error.Memory) }
 {
     let point = EncodedPoint32::from_bytes(bytes)?.compress();
@@ -82,8 +87,10 @@ pub fn compressed_public_key(alloc: Global, bytes: &[u8]) -> Result<BoxedSlice<u
 
 /// Returns the key in a private key container of PKCS #8 (RFC 5208 section 5).
 pub fn contained_key(bytes: &[u8]) -> Result<EcPrivateKey<'_>>
-    ensures found { IfOk result (λ key. (info : PrivateKey) × IsPrivateKeyOf info bytes.now × IsKeyOf key info.bytes) }
-    ensures only { (info : PrivateKey) (key : Key) → IsPrivateKeyOf info bytes.now → IsKeyOf key info.bytes → result ≡ Ok key }
+    ensures found { IfOk result
+        (λ key. (info : PrivateKey) × IsPrivateKeyOf info bytes.now × IsKeyOf key info.bytes) }
+    ensures only { (info : PrivateKey) (key : Key) → IsPrivateKeyOf info bytes.now
+        → IsKeyOf key info.bytes → result ≡ Ok key }
 {
     let container: PrivateKeyInfo = read_der(bytes)?;
     EcPrivateKey::try_from(container.private_key)

@@ -1,4 +1,5 @@
-//! Private keys, found by their public keys: by any value of the point, whatever is in its buffer after the encoding.
+//! Private keys, found by their public keys: by any value of the point, whatever is in its buffer
+//! after the encoding.
 ghost use Rattle.std.specs.Prelude.{◌≡◌, ◌≢◌, Some, OnOk, OnErr, IfErr, IsOkAnd};
 ghost use Rattle.std.specs.Option.{option_map};
 ghost use Rattle.sec1.specs.EncodedPoints.{point_of};
@@ -36,15 +37,16 @@ pub fn keep(store: &mut KeyStore, point: EncodedPoint32, document: SecretDocumen
 
 /// Borrows the document of a point.
 pub fn find<'s>(store: &'s KeyStore, point: &EncodedPoint32) -> Option<&'s SecretDocument>
-    ensures value { option_map (λ document. document.now) result ≡ kept store.now (point_of point.now) }
+    ensures value { option_map (λ document. document.now) result
+        ≡ kept store.now (point_of point.now) }
     ensures any_value { (again : EncodedPoint 32 65) → point_of again ≡ point_of point.now
         → option_map (λ document. document.now) result ≡ kept store.now (point_of again) }
 {
     store.get(point)
 }
 
-/// Borrows the document of a certificate's public key, given the DER encoding of its SubjectPublicKeyInfo
-/// (RFC 5280 section 4.1).
+/// Borrows the document of a certificate's public key, given the DER encoding of its
+/// SubjectPublicKeyInfo (RFC 5280 section 4.1).
 ///
 /// # Errors
 ///
@@ -55,7 +57,8 @@ pub fn find_by_public_key<'s>(
 ) -> sec1::Result<Option<&'s SecretDocument>>
     ensures { (info : PublicKey) (point : Point) → IsPublicKeyOf info bytes.now
         → IsOnP256 info.algorithm → HasPoint info point
-        → IsOkAnd result (λ found. option_map (λ document. document.now) found ≡ kept store.now point) }
+        → IsOkAnd result
+        (λ found. option_map (λ document. document.now) found ≡ kept store.now point) }
 {
     let point = read_public_key(bytes)?;
     Ok(find(store, &point))

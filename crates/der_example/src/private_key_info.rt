@@ -5,8 +5,8 @@ use crate::AlgorithmIdentifier;
 use sec1::der::{Distinct, Octets, Record, Required, SmallInteger};
 use std::marker::Model;
 
-/// A private key container of PKCS #8, version 0 (RFC 5208 section 5), whose bytes are borrowed. Attributes are
-/// refused. A contract sees the parts.
+/// A private key container of PKCS #8, version 0 (RFC 5208 section 5), whose bytes are borrowed.
+/// Attributes are refused. A contract sees the parts.
 #[derive(Drop)]
 pub struct PrivateKeyInfo<'a> {
     /// The algorithm and the curve.

@@ -5,7 +5,8 @@ use crate::AlgorithmIdentifier;
 use sec1::der::{Distinct, Record, Required, WholeBits};
 use std::marker::Model;
 
-/// The public key of a certificate, whose bytes are borrowed (RFC 5280 section 4.1). A contract sees the parts.
+/// The public key of a certificate, whose bytes are borrowed (RFC 5280 section 4.1). A contract
+/// sees the parts.
 #[derive(Drop)]
 pub struct SubjectPublicKeyInfo<'a> {
     /// The algorithm and the curve.

@@ -1,10 +1,12 @@
-//! Keys read from containers, exactly: what is read is in the bytes, and what is in the bytes is read.
+//! Keys read from containers, exactly: what is read is in the bytes, and what is in the bytes is
+//! read.
 ghost use Rattle.std.specs.Prelude.{◌≡◌, ◌≢◌, ◌↔◌, Ok, Err, IfOk, IsOkAnd, IsErrAnd, IsTrue};
 ghost use Rattle.sec1.specs.EncodedPoints.{point_of};
 ghost use Rattle.sec1.specs.Errors.{IsAsn1ReadingFault};
 ghost use Rattle.sec1.specs.Keys.{Key, IsKeyOf};
 ghost use Rattle.sec1.specs.Points.{Point};
-ghost use Rattle.der_example.specs.KeyReading.{ec_public_key, secp256r1, HasPoint, IsOnP256, IsPrivateKeyOf, IsPublicKeyOf};
+ghost use Rattle.der_example.specs.KeyReading.{ec_public_key, secp256r1, HasPoint, IsOnP256};
+ghost use Rattle.der_example.specs.KeyReading.{IsPrivateKeyOf, IsPublicKeyOf};
 ghost use Rattle.der_example.specs.PrivateKeys.{PrivateKey};
 ghost use Rattle.der_example.specs.PublicKeys.{PublicKey};
 
@@ -27,15 +29,15 @@ fn is_p_256(algorithm: &AlgorithmIdentifier) -> bool
     algorithm.parameters == SECP256R1
 }
 
-/// Returns the public key of a certificate, from the bytes of its SubjectPublicKeyInfo (RFC 5280 section 4.1): a point
-/// for id-ecPublicKey on the curve P-256, in any form of encoding that [`EncodedPoint32::from_bytes`] reads. It isn't
-/// tested that the point lies on the curve.
+/// Returns the public key of a certificate, from the bytes of its SubjectPublicKeyInfo (RFC 5280
+/// section 4.1): a point for id-ecPublicKey on the curve P-256, in any form of encoding that
+/// [`EncodedPoint32::from_bytes`] reads. It isn't tested that the point lies on the curve.
 ///
 /// # Errors
 ///
-/// Asn1 if the bytes aren't a SubjectPublicKeyInfo whose algorithm has an identifier as its parameters, and whose
-/// bit string has no unused bits; Crypto if the algorithm or the curve is another one; PointEncoding if the
-/// bytes of the public key aren't the encoding of a point.
+/// Asn1 if the bytes aren't a SubjectPublicKeyInfo whose algorithm has an identifier as its
+/// parameters, and whose bit string has no unused bits; Crypto if the algorithm or the curve is
+/// another one; PointEncoding if the bytes of the public key aren't the encoding of a point.
 pub fn read_public_key(bytes: &[u8]) -> Result<EncodedPoint32>
     // What is read is the public key in these bytes, and the public key in these bytes is read.
     ensures found { IfOk result (λ point. (info : PublicKey) × IsPublicKeyOf info bytes.now
@@ -60,13 +62,13 @@ pub fn read_public_key(bytes: &[u8]) -> Result<EncodedPoint32>
     EncodedPoint32::from_bytes(public_key)
 }
 
-/// Returns the private key in a container of PKCS #8 (RFC 5208 section 5) whose algorithm is id-ecPublicKey with a
-/// named curve. It isn't tested that the key names the same curve.
+/// Returns the private key in a container of PKCS #8 (RFC 5208 section 5) whose algorithm is
+/// id-ecPublicKey with a named curve. It isn't tested that the key names the same curve.
 ///
 /// # Errors
 ///
-/// Asn1 if the bytes aren't such a container, have attributes, or contain no EC private key (RFC 5915 section 3);
-/// Crypto if the algorithm is another one.
+/// Asn1 if the bytes aren't such a container, have attributes, or contain no EC private key (RFC
+/// 5915 section 3); Crypto if the algorithm is another one.
 pub fn read_private_key(bytes: &[u8]) -> Result<EcPrivateKey<'_>>
     // What is read is the private key in these bytes, and the private key in these bytes is read.
     ensures found { IfOk result (λ key. (info : PrivateKey) × IsPrivateKeyOf info bytes.now

@@ -83,7 +83,8 @@ row_within (suc most) level end (byte ∷ bytes) =
     (nat_lt max_tree_depth level)
     (omega arith)
     (any_within (nested_place (row_place most (level + 1))) (row_place most level)
-    (nested_within (row_place most (level + 1)) (row_within most (level + 1))) (row_within most level) end (byte ∷ bytes))
+    (nested_within (row_place most (level + 1)) (row_within most (level + 1))) (row_within most level) end
+    (byte ∷ bytes))
 
 -- the place of a tree is within its bytes
 pub tree_within : (bytes : List ℕ) (o : Option Fault) → o ≡ tree_place bytes → IfSome o (λ f. f.offset ≤ length bytes)

@@ -1,18 +1,28 @@
 -- The definitions of `sec1_der` that contracts use, for a crate that depends on `sec1` alone.
-pub use Rattle.sec1_der.specs.BackWriters.{end_of, front_of, IsOverEnd, KeepsEnd, PutsNothing, PutsInFront, WritesInFront, Puts}
+pub use Rattle.sec1_der.specs.BackWriters.{end_of, front_of, IsOverEnd, KeepsEnd, PutsNothing}
+pub use Rattle.sec1_der.specs.BackWriters.{PutsInFront, WritesInFront, Puts}
 pub use Rattle.sec1_der.specs.Encodings.{Measures}
 pub use Rattle.sec1_der.specs.Parts.{join, optional_of}
 pub use Rattle.sec1_der.specs.Contents.{IsVersionOne, AreBits, IsBitString}
-pub use Rattle.sec1_der.specs.Contents.{byte_fault, identifier_fault, bit_string_fault, is_bit_string, whole_bits_fault, whole_bits_field_fault, value_unless}
-pub use Rattle.sec1_der.specs.Elements.{max_length, IsTag, IsConstructed, length_octets, header, header_of, IsHeader, element, IsElementOf, IsElement, LacksHeader}
+pub use Rattle.sec1_der.specs.Contents.{byte_fault, identifier_fault, bit_string_fault}
+pub use Rattle.sec1_der.specs.Contents.{is_bit_string, whole_bits_fault, whole_bits_field_fault}
+pub use Rattle.sec1_der.specs.Contents.{value_unless}
+pub use Rattle.sec1_der.specs.Elements.{max_length, IsTag, IsConstructed, length_octets, header}
+pub use Rattle.sec1_der.specs.Elements.{header_of, IsHeader, element, IsElementOf, IsElement}
+pub use Rattle.sec1_der.specs.Elements.{LacksHeader}
 pub use Rattle.sec1_der.specs.Elements.{IsProperBeginning, within_limit, explicit_tag, element_of}
-pub use Rattle.sec1_der.specs.Faults.{Refuses, IsReadingFault, IsHeaderFault, IsTreeFault, IsIoOrMemory, header_fault}
-pub use Rattle.sec1_der.specs.Identifiers.{IsIdentifier, IsIdentifierContent, content_of, identifier_content, dotted}
+pub use Rattle.sec1_der.specs.Faults.{Refuses, IsReadingFault, IsHeaderFault, IsTreeFault}
+pub use Rattle.sec1_der.specs.Faults.{IsIoOrMemory, header_fault}
+pub use Rattle.sec1_der.specs.Identifiers.{IsIdentifier, IsIdentifierContent, content_of}
+pub use Rattle.sec1_der.specs.Identifiers.{identifier_content, dotted}
 pub use Rattle.sec1_der.specs.Numbers.{number_of}
 pub use Rattle.sec1_der.specs.Readers.{Reader, reader_over, refused, HasRead, HasReadElement}
-pub use Rattle.sec1_der.specs.Refusals.{Fault, HasFault, no_fault, end_fault, element_fault, optional_fault, field_fault, any_fault, document_fault, tree_fault}
+pub use Rattle.sec1_der.specs.Refusals.{Fault, HasFault, no_fault, end_fault, element_fault}
+pub use Rattle.sec1_der.specs.Refusals.{optional_fault, field_fault, any_fault, document_fault}
+pub use Rattle.sec1_der.specs.Refusals.{tree_fault}
 pub use Rattle.sec1_der.specs.ReadsDocument.{IsElementFault, ConsumesElement, RefusesElement}
-pub use Rattle.sec1_der.specs.SliceWriters.{written_by, room_of, IsOver, KeepsSlice, AppendsNothing, Appends, WritesBehind}
+pub use Rattle.sec1_der.specs.SliceWriters.{written_by, room_of, IsOver, KeepsSlice, AppendsNothing}
+pub use Rattle.sec1_der.specs.SliceWriters.{Appends, WritesBehind}
 pub use Rattle.sec1_der.specs.StdStreams.{reader_failed, reader_inner, writer_failed, writer_inner}
 pub use Rattle.sec1_der.specs.Streams.{AppendsBeginning}
 pub use Rattle.sec1_der.specs.Trees.{Tree, Forest, leaf, node, bytes, IsTree, IsTreeOf, depth, size}

@@ -89,11 +89,12 @@ pub trait EncodeEcPrivateKey {
     ///
     /// # Errors
     ///
-    /// Those of [`to_sec1_der`](EncodeEcPrivateKey::to_sec1_der), before anything is written; then [`Error::Asn1`] of kind
-    /// Io if a write failed, and a beginning of the bytes is written.
+    /// Those of [`to_sec1_der`](EncodeEcPrivateKey::to_sec1_der), before anything is written; then
+    /// [`Error::Asn1`] of kind Io if a write failed, and a beginning of the bytes is written.
     fn write_sec1_der_to<W: Write>(&self, alloc: Global, writer: &mut W) -> Result<()>
         requires { W.failed writer.old ≡ false }
-        ensures all { OnOk result (WritesKey writes self.now (W.written writer.old) (W.written writer.new)) }
+        ensures all { OnOk result
+            (WritesKey writes self.now (W.written writer.old) (W.written writer.new)) }
         ensures beginning { IsTrue (W.failed writer.new)
             → WritesKeyBeginning writes self.now (W.written writer.old) (W.written writer.new) }
         ensures nothing { W.failed writer.new ≡ false
@@ -110,11 +111,12 @@ pub trait EncodeEcPrivateKey {
     ///
     /// # Errors
     ///
-    /// Those of [`to_sec1_der`](EncodeEcPrivateKey::to_sec1_der), before the file is opened, then those of
-    /// [`SecretDocument::write_der_file`].
+    /// Those of [`to_sec1_der`](EncodeEcPrivateKey::to_sec1_der), before the file is opened, then
+    /// those of [`SecretDocument::write_der_file`].
     fn write_sec1_der_file<F: Files>(&self, rt: &F, alloc: Global, path: &str) -> Result<()>
         ensures written { OnOk result (IsElementWith (writes self.now)) }
-        ensures kinds { IfErr result (λ error. IsAsn1 Io error ⊎ IsMemoryOr (refuses self.now) error) }
+        ensures kinds { IfErr result
+            (λ error. IsAsn1 Io error ⊎ IsMemoryOr (refuses self.now) error) }
     {
         let document = self.to_sec1_der(alloc)?;
         document.write_der_file(rt, path)?;

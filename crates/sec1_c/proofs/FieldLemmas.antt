@@ -12,8 +12,10 @@ use Rattle.sec1.specs.Parameters.{curve_of}
 
 -- a curve that is named has the field [0]
 pub parameters_counted : (curve : EcParameters) → IsNamedCurve (Some (curve_of curve))
-    → element_of 0xA0 (element_of 0x06 (identifier_content (curve_of curve))) ≡ Some (bytes_of (parameters_field (Some (curve_of curve))))
+    → element_of 0xA0 (element_of 0x06 (identifier_content (curve_of curve)))
+    ≡ Some (bytes_of (parameters_field (Some (curve_of curve))))
 parameters_counted curve is =
     let content = content_of (curve_of curve) in
     let few = length-header 0x06 (length content) (omega (arith, is.short)) in
-    rw (identifier_content-valid (curve_of curve) content is) (grind (arith, nat_tests, length-append, append-nil, is.short))
+    rw (identifier_content-valid (curve_of curve) content is)
+    (grind (arith, nat_tests, length-append, append-nil, is.short))

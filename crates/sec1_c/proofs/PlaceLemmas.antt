@@ -1,5 +1,6 @@
 -- The places of a key's parts.
-use Rattle.std.proofs.Common.{◌≡◌, ◌+◌, ◌++◌, ◌∷◌, [], ℕ, List, length, Option, Some, None, refl, arith, length-append, append_assoc}
+use Rattle.std.proofs.Common.{◌≡◌, ◌+◌, ◌++◌, ◌∷◌, [], ℕ, List, length, Option, Some, None, refl, arith, length-append}
+use Rattle.std.proofs.Common.{append_assoc}
 use Rattle.std.proofs.lemmas.List.{append-nil, take_at, drop_at}
 use Rattle.std.specs.Option.{option_map}
 use Rattle.sec1_der.specs.Elements.{element, header}
@@ -11,13 +12,15 @@ use Rattle.sec1_c.specs.KeyPlaces.{ArePartsOf, AreWithin, content_len, key_place
 use Rattle.sec1_c.specs.declared.key.KeyParts.{KeyParts}
 
 -- what is between a front and a rest, by where the rest begins
-stands_before : (input front part rest : List ℕ) (end : ℕ) → input ≡ front ++ (part ++ rest) → end + length rest ≡ length input
+stands_before : (input front part rest : List ℕ) (end : ℕ) → input ≡ front ++ (part ++ rest) → end + length rest
+    ≡ length input
     → StandsAt input (part_before end (Some (length part))) part
 stands_before input front part rest end split ends = grind (arith, take_at, drop_at, length-append)
 
 -- the content of a field ends before the end of the field
 field_stands : (outer inner : ℕ) (unused input front part rest : List ℕ) (end : ℕ)
-    → input ≡ front ++ (bytes_of (node outer (leaf inner (unused ++ part) ∷ []) ∷ []) ++ rest) → end + length rest ≡ length input
+    → input ≡ front ++ (bytes_of (node outer (leaf inner (unused ++ part) ∷ []) ∷ []) ++ rest) → end + length rest
+    ≡ length input
     → StandsAt input (part_before end (Some (length part))) part
 field_stands outer inner unused input front part rest end split ends =
     let content = unused ++ part in
@@ -29,13 +32,16 @@ curve_stands : (input front : List ℕ) (parameters : Option (List ℕ)) (rest :
     → input ≡ front ++ (bytes_of (parameters_field parameters) ++ rest) → end + length rest ≡ length input
     → IsPart input (part_before end (option_map content_len parameters)) (option_map content_of parameters)
 curve_stands input front None rest end split ends = record { present = refl; offset = refl; len = refl }
-curve_stands input front (Some arcs) rest end split ends = field_stands 0xA0 0x06 [] input front (content_of arcs) rest end split ends
+curve_stands input front (Some arcs) rest end split ends =
+    field_stands 0xA0 0x06 [] input front (content_of arcs) rest end split ends
 
 -- the bytes of the public key end before the end of the field [1], if present
-public_stands : (input front : List ℕ) (public_key : Option (List ℕ)) → input ≡ front ++ bytes_of (public_key_field public_key)
+public_stands : (input front : List ℕ) (public_key : Option (List ℕ)) → input ≡ front
+    ++ bytes_of (public_key_field public_key)
     → IsPart input (part_before (length input) (option_map (λ bytes. length bytes) public_key)) public_key
 public_stands input front None split = record { present = refl; offset = refl; len = refl }
-public_stands input front (Some bytes) split = field_stands 0xA1 0x03 (0 ∷ []) input front bytes [] (length input) (grind (arith, append-nil)) (omega arith)
+public_stands input front (Some bytes) split =
+    field_stands 0xA1 0x03 (0 ∷ []) input front bytes [] (length input) (grind (arith, append-nil)) (omega arith)
 
 -- the parts of a key are at its places
 pub are_parts : (key : Key) (input : List ℕ) → IsKeyOf key input → ArePartsOf key input (key_places key input)
@@ -47,7 +53,8 @@ are_parts key input is =
     let split : input ≡ front ++ (p ++ (c ++ q)) = grind (arith, append_assoc, append-nil) in
     record {
       private_key = stands_before input front p (c ++ q) _ split (grind (arith, length-append));
-      curve = curve_stands input (front ++ p) key.parameters q _ (grind (arith, append_assoc)) (grind (arith, length-append));
+      curve = curve_stands input (front ++ p) key.parameters q _ (grind (arith, append_assoc))
+          (grind (arith, length-append));
       public_key = public_stands input (front ++ (p ++ c)) key.public_key (grind (arith, append_assoc));
     }
 

@@ -18,7 +18,8 @@ use Rattle.sec1_c.specs.PointOrders.{IsOrderOf, order_of}
 use Rattle.sec1_c.specs.PointPlaces.{ArePointPartsOf, point_places}
 
 -- the tag and the coordinates of a point are at its places
-pub are_point_parts : (n : ℕ) (p : Point) (input : List ℕ) → Encodes n p input → ArePointPartsOf n p input (point_places n p)
+pub are_point_parts : (n : ℕ) (p : Point) (input : List ℕ) → Encodes n p input
+    → ArePointPartsOf n p input (point_places n p)
 unfolding encoding
 are_point_parts n p input e =
     let behind = drop-append-add (tag_byte p ∷ []) (coordinate_bytes n p) n in
@@ -111,7 +112,8 @@ encodings_same : (n : ℕ) (p q : Point) (first second : List ℕ) → Encodes n
 encodings_same n p q first second e f = rw (encodings_ordered n p q first second e f) (grind (arith, orders))
 
 -- the number of an order that says how two points are ordered
-order_numbers : (o : Ordering) (p q : Point) → (o ≡ Less) ↔ IsBelow p q → (o ≡ Greater) ↔ IsBelow q p → (o ≡ Equal) ↔ (p ≡ q)
+order_numbers : (o : Ordering) (p q : Point) → (o ≡ Less) ↔ IsBelow p q → (o ≡ Greater) ↔ IsBelow q p → (o ≡ Equal)
+    ↔ (p ≡ q)
     → IsOrderOf p q (order_of o)
 order_numbers Less p q below above same = record { below = grind arith; above = grind arith; same = grind arith }
 order_numbers Equal p q below above same = record { below = grind arith; above = grind arith; same = grind arith }
@@ -130,6 +132,8 @@ encodings_numbered n p q first second both =
 
 -- the length of an encoding is seen from its tag
 pub encoding_lengths : (n : ℕ) (p : Point)
-    → length (encoding n p) ≡ (if tag_byte p == 0 then 1 else if tag_byte p == 4 || (tag_byte p == 6 || tag_byte p == 7) then 2 * n + 1 else n + 1)
+    → length (encoding n p)
+    ≡ (if tag_byte p == 0 then 1 else if tag_byte p == 4 ||
+    (tag_byte p == 6 || tag_byte p == 7) then 2 * n + 1 else n + 1)
 unfolding encoding
 encoding_lengths n p = grind (arith, length-append {A = ℕ}, length-fixed_width)

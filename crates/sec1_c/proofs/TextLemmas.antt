@@ -1,5 +1,6 @@
 -- The dotted text of an identifier.
-use Rattle.std.proofs.Common.{◌≡◌, ℕ, ◌+◌, ◌*◌, ◌/◌, ◌^◌, ◌<◌, ◌≤◌, List, [], ◌∷◌, ◌++◌, length, ap, sym, arith, length-append, append_assoc}
+use Rattle.std.proofs.Common.{◌≡◌, ℕ, ◌+◌, ◌*◌, ◌/◌, ◌^◌, ◌<◌, ◌≤◌, List, [], ◌∷◌, ◌++◌, length, ap, sym, arith}
+use Rattle.std.proofs.Common.{length-append, append_assoc}
 use Rattle.std.proofs.lemmas.Fmt.{IsAscii-decimal, length-decimal-le}
 use Rattle.std.proofs.lemmas.Int.Digits.{number_digits_of, all_below_base_digits_of}
 use Rattle.std.proofs.lemmas.List.{append-nil, length-map}
@@ -26,9 +27,11 @@ pub ruleset text_pieces = (dotted_text, length-append, append_assoc)
 -- a full stop and the digits of m are at most four times as many as the base 128 digits of n, where m isn't larger
 arc_room : (m n : ℕ) → m ≤ n → n < 2 ^ 32 → 1 + length (decimal m) ≤ 4 * length (base128 n)
 arc_room m n le fits =
-    simp (length-append, length-map) (few _ (all_below_base_digits_of 128 (n / 128) (omega arith)) (number_digits_of 128 (n / 128) (omega arith)))
+    simp (length-append, length-map)
+    (few _ (all_below_base_digits_of 128 (n / 128) (omega arith)) (number_digits_of 128 (n / 128) (omega arith)))
   where
-    few : (digits : List ℕ) → AllBelowBase 128 digits → number_from_digits 128 digits ≡ n / 128 → 1 + length (decimal m) ≤ 4 * (length digits + 1)
+    few : (digits : List ℕ) → AllBelowBase 128 digits → number_from_digits 128 digits ≡ n / 128
+        → 1 + length (decimal m) ≤ 4 * (length digits + 1)
     few [] below whole = omega (arith, length-decimal-le 3 m)
     few (d ∷ []) below whole = omega (arith, length-decimal-le 5 m)
     few (d ∷ e ∷ []) below whole = omega (arith, length-decimal-le 7 m)
@@ -38,7 +41,8 @@ arc_room m n le fits =
 further_room : (m n : ℕ) (ns : List ℕ) → m ≤ n → AllByRecursion (λ n. n < 2 ^ 32) (n ∷ ns)
     → length (further_text (m ∷ ns)) ≤ 4 * length (flat_map base128 (n ∷ ns))
 further_room m n [] le small = grind (arith, append-nil, arc_room m n le small.0)
-further_room m n (k ∷ ks) le small = grind (arith, length-append, arc_room m n le small.0, further_room k k ks (omega arith) small.1)
+further_room m n (k ∷ ks) le small =
+    grind (arith, length-append, arc_room m n le small.0, further_room k k ks (omega arith) small.1)
 
 -- the text of an identifier is shorter than 158 bytes
 pub text_room : (arcs content : List ℕ) → IsIdentifier arcs content → length (dotted arcs) < 158
@@ -55,7 +59,8 @@ text_room arcs content is = absurd is.spells.allowed
 ascii_dotted : (n : ℕ) (ns : List ℕ) → AllByRecursion (λ n. n < 2 ^ 32) (n ∷ ns) → IsAscii (dotted (n ∷ ns))
 ascii_dotted n [] small = IsAscii-decimal n (omega (arith, small.0))
 ascii_dotted n (m ∷ ms) small =
-    IsAscii-append (decimal n) (46 ∷ dotted (m ∷ ms)) (IsAscii-decimal n (omega (arith, small.0))) (IsAscii-cons 46 _ (omega arith) (ascii_dotted m ms small.1))
+    IsAscii-append (decimal n) (46 ∷ dotted (m ∷ ms)) (IsAscii-decimal n (omega (arith, small.0)))
+    (IsAscii-cons 46 _ (omega arith) (ascii_dotted m ms small.1))
 
 -- the text of an identifier is UTF-8
 pub dotted_utf8 : (arcs : List ℕ) → AreArcs arcs → IsUtf8 (dotted arcs)

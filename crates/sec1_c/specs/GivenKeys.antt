@@ -22,13 +22,16 @@ abbrev pub public_key_if : ℕ → List ℕ → Option (List ℕ)
 public_key_if has_public_key bytes = if has_public_key == 0 then None else Some bytes
 
 -- the key has these parts
-pub record IsGiven (key : Key) (private_key curve public_key : List ℕ) (has_public_key : ℕ) : Type 0 where
+pub record IsGiven (key : Key) (private_key curve public_key : List ℕ)
+    (has_public_key : ℕ) : Type 0 where
   pub private : key.private_key ≡ private_key
   pub curve_is : IsCurveOf curve key.parameters
   pub public : key.public_key ≡ public_key_if has_public_key public_key
 
--- The content names a curve or is empty, but the key with these parts has no encoding: one of them is too long.
+-- The content names a curve or is empty, but the key with these parts has no encoding: one of them
+-- is too long.
 pub record IsTooLong (private_key curve public_key : List ℕ) (has_public_key : ℕ) : Type 0 where
   pub parameters : Option (List ℕ)
   pub curve_is : IsCurveOf curve parameters
-  pub no_bytes : (key : Key) → IsGiven key private_key curve public_key has_public_key → HasNoEncoding key
+  pub no_bytes : (key : Key) → IsGiven key private_key curve public_key has_public_key
+      → HasNoEncoding key

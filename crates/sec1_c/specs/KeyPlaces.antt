@@ -26,7 +26,8 @@ pub record AreWithin (input : List ℕ) (parts : KeyParts) : Type 0 where
 -- The bytes at the places of the parts are the parts of the key.
 abbrev pub GiveAgain : Key → List ℕ → KeyParts → Type 0
 GiveAgain key input parts =
-    IsGiven key (bytes_at input parts.private_key) (bytes_at input parts.curve) (bytes_at input parts.public_key) parts.public_key.present
+    IsGiven key (bytes_at input parts.private_key) (bytes_at input parts.curve)
+    (bytes_at input parts.public_key) parts.public_key.present
 
 -- the length of the content of the identifier with these arcs
 abbrev pub content_len : List ℕ → ℕ
@@ -37,7 +38,8 @@ abbrev pub parameters_end : Key → List ℕ → ℕ
 parameters_end key input = length input - length (bytes_of (public_key_field key.public_key))
 
 abbrev pub private_key_end : Key → List ℕ → ℕ
-private_key_end key input = parameters_end key input - length (bytes_of (parameters_field key.parameters))
+private_key_end key input =
+    parameters_end key input - length (bytes_of (parameters_field key.parameters))
 
 -- the places of the parts, counted from the end of the input by the lengths of the fields
 abbrev pub key_places : Key → List ℕ → KeyParts

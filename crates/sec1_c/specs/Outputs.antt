@@ -1,8 +1,8 @@
 -- What a call does to the buffer that it writes into, and to the length that it stores.
 use Rattle.std.specs.Prelude.{◌≡◌, ℕ, ◌≤◌, ◌<◌, List, ◌++◌, length, drop}
 
--- The length of the bytes is stored, and they are written at the beginning of the buffer if they fit. A buffer
--- that is too short is unchanged, and the number 7 is returned.
+-- The length of the bytes is stored, and they are written at the beginning of the buffer if they
+-- fit. A buffer that is too short is unchanged, and the number 7 is returned.
 pub record Writes (bytes old new : List ℕ) (result stored : ℕ) : Type 0 where
   pub len : stored ≡ length bytes
   pub fits : length bytes ≤ length old → (result ≡ 0) × (new ≡ bytes ++ drop (length bytes) old)

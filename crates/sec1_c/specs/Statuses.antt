@@ -1,10 +1,13 @@
 -- The numbers that the calls return: 0 for success, otherwise the reason of the refusal.
 use Rattle.std.specs.Prelude.{◌≡◌, ◌⊎◌, ℕ, Option, Some, None}
 use Rattle.sec1.specs.declared.error.Error.{Error}
-use Rattle.sec1.specs.declared.error.Error.TheVariants.{Asn1, Crypto, PointEncoding, Version, Memory}
+use Rattle.sec1.specs.declared.error.Error.TheVariants.{Asn1, Crypto, PointEncoding, Version}
+use Rattle.sec1.specs.declared.error.Error.TheVariants.{Memory}
 use Rattle.sec1_der.specs.declared.error.ErrorKind.{ErrorKind}
-use Rattle.sec1_der.specs.declared.error.ErrorKind.TheVariants.{Truncated, Tag, Length, TrailingData, Value, Overlength}
-use Rattle.sec1_der.specs.declared.error.ErrorKind.TheVariants.{Buffer, Depth, Failed, Io, Memory as OutOfMemory}
+use Rattle.sec1_der.specs.declared.error.ErrorKind.TheVariants.{Truncated, Tag, Length}
+use Rattle.sec1_der.specs.declared.error.ErrorKind.TheVariants.{TrailingData, Value, Overlength}
+use Rattle.sec1_der.specs.declared.error.ErrorKind.TheVariants.{Buffer, Depth, Failed, Io}
+use Rattle.sec1_der.specs.declared.error.ErrorKind.TheVariants.{Memory as OutOfMemory}
 
 -- the number of a kind of error in DER
 abbrev pub kind_number : ErrorKind → ℕ

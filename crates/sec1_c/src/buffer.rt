@@ -5,7 +5,8 @@ ghost use Rattle.sec1_c.specs.Outputs.{Writes};
 use crate::status::{OK, kind_number};
 use sec1::der::ErrorKind;
 
-/// Stores the length of these bytes, and writes them at the beginning of `buffer`. The rest of the buffer is unchanged.
+/// Stores the length of these bytes, and writes them at the beginning of `buffer`. The rest of the
+/// buffer is unchanged.
 ///
 /// # Errors
 ///

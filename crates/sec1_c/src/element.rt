@@ -11,14 +11,16 @@ use crate::status::{OK, kind_number};
 use sec1::der::{self, ErrorKind, Header, SliceReader};
 use std::cmp::Ordering;
 
-/// Checks that all of `input` is a tree of DER elements of depth at most 64, and stores the number of elements. The
-/// content of an element with a constructed tag is elements again, and nothing else.
+/// Checks that all of `input` is a tree of DER elements of depth at most 64, and stores the number
+/// of elements. The content of an element with a constructed tag is elements again, and nothing
+/// else.
 ///
 /// # Errors
 ///
-/// Returns the number of the first fault from left to right, and leaves `elements` unchanged: Tag or Length if an
-/// element has no header of DER; Truncated if the input ends inside an element, or an element ends after the one
-/// around it; Depth if an element at level 64 contains elements; TrailingData if bytes follow the tree.
+/// Returns the number of the first fault from left to right, and leaves `elements` unchanged: Tag
+/// or Length if an element has no header of DER; Truncated if the input ends inside an element, or
+/// an element ends after the one around it; Depth if an element at level 64 contains elements;
+/// TrailingData if bytes follow the tree.
 #[unsafe(no_mangle)]
 pub extern "C" fn sec1_check_tree(input: &[u8], elements: &mut usize) -> u32
     ensures found { result ≡ 0 → (t : Tree) × IsTreeOf t input.now × (depth t ≤ max_tree_depth) }
@@ -28,7 +30,8 @@ pub extern "C" fn sec1_check_tree(input: &[u8], elements: &mut usize) -> u32
         → result ≡ kind_number ErrorKind.Depth }
     ensures short { (t : Tree) → IsTree t → IsProperBeginning input.now (bytes t)
         → result ≡ kind_number ErrorKind.Truncated }
-    ensures long { (t : Tree) → IsTree t → depth t ≤ max_tree_depth → IsProperBeginning (bytes t) input.now
+    ensures long { (t : Tree) → IsTree t → depth t ≤ max_tree_depth
+        → IsProperBeginning (bytes t) input.now
         → result ≡ kind_number ErrorKind.TrailingData }
     ensures kinds { result ≢ 0 → IsTreeNumber result }
     ensures kind { result ≡ fault_number (tree_fault input.now) }
@@ -43,17 +46,19 @@ pub extern "C" fn sec1_check_tree(input: &[u8], elements: &mut usize) -> u32
     }
 }
 
-/// Checks that all of `input` is one element, with any content, and stores the length that its header announces,
-/// header and content together; 0 if the input doesn't begin with a whole header.
+/// Checks that all of `input` is one element, with any content, and stores the length that its
+/// header announces, header and content together; 0 if the input doesn't begin with a whole header.
 ///
 /// # Errors
 ///
-/// Returns the number of Truncated if the input ends inside the header or the content; of Tag or Length if the input
-/// doesn't begin with a header of DER; of TrailingData if bytes follow the element.
+/// Returns the number of Truncated if the input ends inside the header or the content; of Tag or
+/// Length if the input doesn't begin with a header of DER; of TrailingData if bytes follow the
+/// element.
 #[unsafe(no_mangle)]
 pub extern "C" fn sec1_document_len(input: &[u8], len: &mut usize) -> u32
     ensures found { result ≡ 0 → IsElement input.now }
-    ensures announced { (tag announced : ℕ) (inside : List ℕ) → Announces input.now inside announced tag
+    ensures announced { (tag announced : ℕ) (inside : List ℕ)
+        → Announces input.now inside announced tag
         → len.new ≡ element_len tag announced }
     ensures only { (tag announced : ℕ) (inside : List ℕ) → Announces input.now inside announced tag
         → length inside ≡ announced → result ≡ 0 }

@@ -32,13 +32,15 @@ pub struct KeyParts {
     pub public_key: Part,
 }
 
-/// Reads a private key from its DER encoding, which is all of `bytes`, and stores the places of its parts.
+/// Reads a private key from its DER encoding, which is all of `bytes`, and stores the places of its
+/// parts.
 ///
 /// # Errors
 ///
-/// Returns the number of the first fault from left to right, and leaves `parts` unchanged: Truncated if the bytes,
-/// or the element around a part, end too early; Tag if another tag is expected; Length if a length isn't in the form of
-/// DER; Value if a content isn't valid for its tag; TrailingData if bytes follow the last part.
+/// Returns the number of the first fault from left to right, and leaves `parts` unchanged:
+/// Truncated if the bytes, or the element around a part, end too early; Tag if another tag is
+/// expected; Length if a length isn't in the form of DER; Value if a content isn't valid for its
+/// tag; TrailingData if bytes follow the last part.
 #[unsafe(no_mangle)]
 #[tactic(auto, using(crate::proofs::PlaceLemmas::are_parts, crate::proofs::PlaceLemmas::parts_within))]
 pub extern "C" fn sec1_key_read(bytes: &[u8], parts: &mut KeyParts) -> u32
@@ -65,13 +67,15 @@ pub extern "C" fn sec1_key_read(bytes: &[u8], parts: &mut KeyParts) -> u32
     }
 }
 
-/// Stores the length in bytes of the DER encoding of the private key with these parts. An empty `curve` names none,
-/// any other is the content of an object identifier. There is no public key if `has_public_key` is 0.
+/// Stores the length in bytes of the DER encoding of the private key with these parts. An empty
+/// `curve` names none, any other is the content of an object identifier. There is no public key if
+/// `has_public_key` is 0.
 ///
 /// # Errors
 ///
-/// Leaves `len` unchanged, and returns the number of Value if `curve` isn't the content of an identifier, or of
-/// Overlength if the private key, the public key or all of it is longer than an element can be.
+/// Leaves `len` unchanged, and returns the number of Value if `curve` isn't the content of an
+/// identifier, or of Overlength if the private key, the public key or all of it is longer than an
+/// element can be.
 #[unsafe(no_mangle)]
 pub extern "C" fn sec1_key_len(
     private_key: &[u8],
@@ -94,7 +98,8 @@ pub extern "C" fn sec1_key_len(
     store_len(&key, len)
 }
 
-/// Stores the length in bytes of the key's DER encoding. Returns the number of Overlength if it has none.
+/// Stores the length in bytes of the key's DER encoding. Returns the number of Overlength if it has
+/// none.
 fn store_len(key: &EcPrivateKey, len: &mut usize) -> u32
     ensures number { (bytes : List ℕ) → IsKeyOf key.now bytes → result ≡ 0 }
     ensures len { (bytes : List ℕ) → IsKeyOf key.now bytes → len.new ≡ length bytes }
@@ -110,13 +115,13 @@ fn store_len(key: &EcPrivateKey, len: &mut usize) -> u32
     }
 }
 
-/// Writes the DER encoding of the private key with these parts at the beginning of `out`, and stores its length. The
-/// parts are those of `sec1_key_len`. The rest of `out` is unchanged.
+/// Writes the DER encoding of the private key with these parts at the beginning of `out`, and
+/// stores its length. The parts are those of `sec1_key_len`. The rest of `out` is unchanged.
 ///
 /// # Errors
 ///
-/// Returns the number of Buffer if `out` is too short, and stores the length; otherwise those of `sec1_key_len`, and
-/// leaves `len` unchanged. `out` is unchanged in each case.
+/// Returns the number of Buffer if `out` is too short, and stores the length; otherwise those of
+/// `sec1_key_len`, and leaves `len` unchanged. `out` is unchanged in each case.
 #[unsafe(no_mangle)]
 pub extern "C" fn sec1_key_write(
     private_key: &[u8],
@@ -140,10 +145,12 @@ pub extern "C" fn sec1_key_write(
     write_key(&key, out, len)
 }
 
-/// Writes the key's DER encoding at the beginning of `out`, and stores its length. Returns the number of Buffer if
+/// Writes the key's DER encoding at the beginning of `out`, and stores its length. Returns the
+/// number of Buffer if
 /// `out` is too short, and that of Overlength if the key has no encoding.
 fn write_key(key: &EcPrivateKey, out: &mut [u8], len: &mut usize) -> u32
-    ensures key { (bytes : List ℕ) → IsKeyOf key.now bytes → Writes bytes out.old out.new result len.new }
+    ensures key { (bytes : List ℕ) → IsKeyOf key.now bytes
+        → Writes bytes out.old out.new result len.new }
     ensures overlength { HasNoEncoding key.now
         → WritesNothing (kind_number ErrorKind.Overlength) out.old out.new result len.old len.new }
 {

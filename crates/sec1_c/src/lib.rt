@@ -1,10 +1,12 @@
-//! EC private keys and points of `sec1` for C. Each exported function takes slices as a pointer and a length, stores
-//! what it finds through references, and returns 0, or a number that says why it refused.
+//! EC private keys and points of `sec1` for C. Each exported function takes slices as a pointer and
+//! a length, stores what it finds through references, and returns 0, or a number that says why it
+//! refused.
 //!
-//! For a slice a caller in C may pass NULL with the length 0, and never with another length. No other pointer is NULL.
+//! For a slice a caller in C may pass NULL with the length 0, and never with another length. No
+//! other pointer is NULL.
 //!
-//! No function allocates memory, keeps a pointer, or reads or writes beyond what it is given. `sec1.h` declares
-//! them for C.
+//! No function allocates memory, keeps a pointer, or reads or writes beyond what it is given.
+//! `sec1.h` declares them for C.
 #![tactic(auto)]
 
 mod buffer;

@@ -22,8 +22,8 @@ use sec1::Error;
 #[repr(C)]
 #[derive(Clone, Copy)]
 pub struct PointParts {
-    /// The first byte of the encoding: 0 identity, 2 and 3 compressed with an even and an odd y, 4 uncompressed,
-    /// 5 compact, 6 and 7 hybrid with an even and an odd y.
+    /// The first byte of the encoding: 0 identity, 2 and 3 compressed with an even and an odd y, 4
+    /// uncompressed, 5 compact, 6 and 7 hybrid with an even and an odd y.
     pub tag: usize,
 
     /// The x-coordinate, absent only for the identity.
@@ -33,16 +33,19 @@ pub struct PointParts {
     pub y: Part,
 }
 
-/// Checks that all of `bytes` is the encoding of a point over a field whose elements have `field_len` bytes.
+/// Checks that all of `bytes` is the encoding of a point over a field whose elements have
+/// `field_len` bytes.
 ///
 /// # Errors
 ///
-/// Returns the number of PointEncoding if it isn't, and another one if the field length isn't supported.
+/// Returns the number of PointEncoding if it isn't, and another one if the field length isn't
+/// supported.
 #[unsafe(no_mangle)]
 #[tactic(auto, using(crate::proofs::PointLemmas::encodings))]
 pub extern "C" fn sec1_point_check(bytes: &[u8], field_len: usize) -> u32
     ensures found { result ≡ 0 → IsFieldLength field_len × IsEncoding field_len bytes.now }
-    ensures only { (p : Point) → IsFieldLength field_len → Encodes field_len p bytes.now → result ≡ 0 }
+    ensures only { (p : Point) → IsFieldLength field_len → Encodes field_len p bytes.now → result
+        ≡ 0 }
     ensures no_point { IsFieldLength field_len → ¬ IsEncoding field_len bytes.now
         → result ≡ error_number Error.PointEncoding }
     ensures other_field { ¬ IsFieldLength field_len → result ≡ field_length_number }
@@ -50,7 +53,8 @@ pub extern "C" fn sec1_point_check(bytes: &[u8], field_len: usize) -> u32
     status_of(bytes, field_len)
 }
 
-/// Reads a point from its encoding, which is all of `bytes`, and stores its tag and the places of its coordinates.
+/// Reads a point from its encoding, which is all of `bytes`, and stores its tag and the places of
+/// its coordinates.
 ///
 /// # Errors
 ///
@@ -59,7 +63,8 @@ pub extern "C" fn sec1_point_check(bytes: &[u8], field_len: usize) -> u32
 #[tactic(auto, using(crate::proofs::PointLemmas::encodings))]
 pub extern "C" fn sec1_point_read(bytes: &[u8], field_len: usize, parts: &mut PointParts) -> u32
     ensures found { result ≡ 0 → IsFieldLength field_len × IsEncoding field_len bytes.now }
-    ensures only { (p : Point) → IsFieldLength field_len → Encodes field_len p bytes.now → result ≡ 0 }
+    ensures only { (p : Point) → IsFieldLength field_len → Encodes field_len p bytes.now → result
+        ≡ 0 }
     ensures parts { (p : Point) → IsFieldLength field_len → Encodes field_len p bytes.now
         → ArePointPartsOf field_len p bytes.now parts.new }
     ensures places { (p : Point) → IsFieldLength field_len → Encodes field_len p bytes.now
@@ -102,13 +107,15 @@ pub extern "C" fn sec1_point_len(tag: usize, field_len: usize, len: &mut usize) 
     OK
 }
 
-/// Writes the compressed form of an uncompressed or hybrid point, with the parity of its y, at the beginning of
-/// `out`, and stores its length. Any other point is written as it is. The rest of `out` is unchanged.
+/// Writes the compressed form of an uncompressed or hybrid point, with the parity of its y, at the
+/// beginning of
+/// `out`, and stores its length. Any other point is written as it is. The rest of `out` is
+/// unchanged.
 ///
 /// # Errors
 ///
-/// Returns the number of Buffer if `out` is too short, and stores the length; otherwise those of `sec1_point_check`, and
-/// leaves `len` unchanged. `out` is unchanged in each case.
+/// Returns the number of Buffer if `out` is too short, and stores the length; otherwise those of
+/// `sec1_point_check`, and leaves `len` unchanged. `out` is unchanged in each case.
 #[unsafe(no_mangle)]
 #[tactic(auto, using(crate::proofs::PointLemmas::encodings))]
 pub extern "C" fn sec1_point_compress(
@@ -131,13 +138,14 @@ pub extern "C" fn sec1_point_compress(
     compress(bytes, out, len)
 }
 
-/// Writes the hybrid form of an uncompressed point, with the parity of its y, at the beginning of `out`, and stores
-/// its length. Any other point is written as it is. The rest of `out` is unchanged.
+/// Writes the hybrid form of an uncompressed point, with the parity of its y, at the beginning of
+/// `out`, and stores its length. Any other point is written as it is. The rest of `out` is
+/// unchanged.
 ///
 /// # Errors
 ///
-/// Returns the number of Buffer if `out` is too short, and stores the length; otherwise those of `sec1_point_check`, and
-/// leaves `len` unchanged. `out` is unchanged in each case.
+/// Returns the number of Buffer if `out` is too short, and stores the length; otherwise those of
+/// `sec1_point_check`, and leaves `len` unchanged. `out` is unchanged in each case.
 #[unsafe(no_mangle)]
 #[tactic(auto, using(crate::proofs::PointLemmas::encodings))]
 pub extern "C" fn sec1_point_to_hybrid(
@@ -160,8 +168,8 @@ pub extern "C" fn sec1_point_to_hybrid(
     to_hybrid(bytes, out, len)
 }
 
-/// Compares two points by tag, then by coordinates as whole numbers, and stores -1, 0 or 1: whether the first is
-/// less than the second, the same, or greater.
+/// Compares two points by tag, then by coordinates as whole numbers, and stores -1, 0 or 1: whether
+/// the first is less than the second, the same, or greater.
 ///
 /// # Errors
 ///

@@ -1,7 +1,8 @@
 //! The numbers that the exported functions return.
 ghost use Rattle.std.specs.Prelude.{◌≡◌, Option};
 ghost use Rattle.sec1.specs.Errors.{IsAsn1, IsAsn1Fault};
-ghost use Rattle.sec1_c.specs.Statuses.{error_number, fault_number, field_length_number, kind_number};
+ghost use Rattle.sec1_c.specs.Statuses.{error_number, fault_number, field_length_number};
+ghost use Rattle.sec1_c.specs.Statuses.{kind_number};
 
 use sec1::Error;
 use sec1::der::ErrorKind;

@@ -61,7 +61,8 @@ any_headless f g (byte ∷ bytes) small lacks = ⊎_elim
     (cases_Bool (is_tag byte))
 
 -- an element that is cut short
-pub any_cut : (f : ℕ → Fault) (g : Fault) (tag : ℕ) (content input : List ℕ) → (0 < length input → get_or input 0 0 < 256)
+pub any_cut : (f : ℕ → Fault) (g : Fault) (tag : ℕ) (content input : List ℕ)
+    → (0 < length input → get_or input 0 0 < 256)
     → IsHeader tag (length content)
     → IsProperBeginning input (element tag content) → any_fault f g input ≡ Some Truncated
 any_cut f g tag content input small h cut = ⊎_elim

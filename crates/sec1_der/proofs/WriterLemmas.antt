@@ -1,5 +1,6 @@
 -- What two calls of a writer do, one after the other, and what is written of a value that has bytes.
-use Rattle.std.proofs.Common.{false, true, ◌≡◌, ◌+◌, ◌-◌, ◌≤◌, ◌⊎◌, IfErr, Ok, Err, inl, inr, ⊎_elim, ap, ℕ, List, ◌++◌, length}
+use Rattle.std.proofs.Common.{false, true, ◌≡◌, ◌+◌, ◌-◌, ◌≤◌, ◌⊎◌, IfErr, Ok, Err, inl, inr, ⊎_elim, ap, ℕ, List, ◌++◌}
+use Rattle.std.proofs.Common.{length}
 use Rattle.std.proofs.Common.{Option, Some, None, IsSomeAnd, Result, IsOk, refl, arith}
 use Rattle.std.proofs.Common.{append_assoc, length-append}
 use Rattle.std.proofs.lemmas.Bool.{le-leb, cases_lt}

@@ -29,7 +29,8 @@ pub record HasReadElement (tag : ℕ) (content : List ℕ) (old new : Reader) : 
   pub read : HasRead (element tag content) old new
 
 -- whether a call of a reader refuses, by which kind, and what the error leaves
-pub record RefusesBy {T : Type 0} (fault : Fault) (result : Result T Error) (old new : Reader) : Type 0 where
+pub record RefusesBy {T : Type 0} (fault : Fault) (result : Result T Error)
+    (old new : Reader) : Type 0 where
   -- the kind is a function of the remaining input
   pub kind : old.failed ≡ false → HasFault result (fault old.unread)
   -- a reader that had failed refuses every call

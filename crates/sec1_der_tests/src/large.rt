@@ -1,4 +1,5 @@
-//! Large documents, over readers that give uneven pieces and in files, and what calls on files refuse.
+//! Large documents, over readers that give uneven pieces and in files, and what calls on files
+//! refuse.
 use super::streams::KEY;
 use sec1_der::{ErrorKind, OctetStringRef, SecretDocument, StdReader, StdWriter, Write, to_der};
 use std::alloc::{AllocError, Global};

@@ -1,10 +1,11 @@
 //! What is returned while requests for memory are refused, one by one.
 //!
-//! They are refused by `tests/refuse.c`, an allocator that replaces the C library's in the built tests. A test controls it by
-//! requests of sizes that no allocator grants. Without it nothing is refused, and each call is made once.
+//! They are refused by `tests/refuse.c`, an allocator that replaces the C library's in the built
+//! tests. A test controls it by requests of sizes that no allocator grants. Without it nothing is
+//! refused, and each call is made once.
 //!
-//! The functions that control it are in each crate that has such tests: a library of them would be proved and exported
-//! only for tests.
+//! The functions that control it are in each crate that has such tests: a library of them would be
+//! proved and exported only for tests.
 use super::streams::KEY;
 use sec1_der::{
     ErrorKind, OctetStringRef, Read, SecretDocument, StdReader, StdWriter, check_tree,
@@ -43,12 +44,14 @@ fn refused(is_kept: bool) -> Outcome {
     }
 }
 
-/// Asks for so many bytes more than any allocator grants. Returns whether the allocator of the tests granted them.
+/// Asks for so many bytes more than any allocator grants. Returns whether the allocator of the
+/// tests granted them.
 fn signal(alloc: Global, more: u32) -> bool {
     Vec::<u8>::with_capacity(alloc, (1 << 62) + more as usize).is_ok()
 }
 
-/// Has the request of this number refused, the first from now on being 1. Returns whether the allocator of the tests is there.
+/// Has the request of this number refused, the first from now on being 1. Returns whether the
+/// allocator of the tests is there.
 fn refuse(alloc: Global, number: u16) -> bool {
     signal(alloc, u32::from(number))
 }
@@ -68,8 +71,9 @@ fn one_was_refused(alloc: Global) -> bool {
     signal(alloc, 0x3_0000)
 }
 
-/// Makes the call with its first request refused, with its second, and so on until it makes no more, and prints how
-/// many it makes. Returns whether each of these calls was refused, or succeeded after a request for less memory.
+/// Makes the call with its first request refused, with its second, and so on until it makes no
+/// more, and prints how many it makes. Returns whether each of these calls was refused, or
+/// succeeded after a request for less memory.
 fn is_refused_in_turn<F: FnMut() -> Outcome>(
     rt: &impl Print,
     alloc: Global,
@@ -139,7 +143,8 @@ fn reports_memory_from_writing_calls(rt: HostRuntime) -> Result<(), Fail> {
     Ok(())
 }
 
-/// Returns the outcome of reading a document from these bytes. On an error the reader is after the bytes it gave.
+/// Returns the outcome of reading a document from these bytes. On an error the reader is after the
+/// bytes it gave.
 fn read_outcome(alloc: Global, bytes: &[u8]) -> Outcome {
     let mut reader = StdReader::new(bytes);
     let result = SecretDocument::read_der_from(alloc, &mut reader);
@@ -205,7 +210,8 @@ fn reports_memory_from_calls_on_files(rt: HostRuntime) -> Result<(), Fail> {
     Ok(())
 }
 
-/// A reader of a header that announces the greatest length, which gives three requests of content and then fails.
+/// A reader of a header that announces the greatest length, which gives three requests of content
+/// and then fails.
 #[derive(Drop)]
 struct Endless {
     header: &'static [u8],

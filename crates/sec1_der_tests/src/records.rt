@@ -183,7 +183,11 @@ impl<'a> Model for Lent<'a> {
       lent.octets.now,
       (
         option_map (λ bytes. bytes.now) lent.bits,
-        (option_map (λ bytes. bytes.now) lent.public_key, option_map (λ bytes. bytes.now) lent.field),
+        (
+          option_map (λ bytes. bytes.now) lent.public_key,
+          option_map
+              (λ bytes. bytes.now) lent.field,
+        ),
       ),
     ) };
 }
@@ -300,8 +304,8 @@ fn refuses_unused_bits(rt: HostRuntime) {
     }
 }
 
-/// Reads an identifier inside an element with this tag byte as one inside the tag of `K`, and writes it again. Returns
-/// whether it has the same bytes.
+/// Reads an identifier inside an element with this tag byte as one inside the tag of `K`, and
+/// writes it again. Returns whether it has the same bytes.
 fn reads_inside<K: Tagged>(tag: u8) -> sec1_der::Result<bool> {
     let bytes = [tag, 0x03, 0x06, 0x01, 0x07];
     let field: Explicit<K, ObjectIdentifier> = read_der(&bytes)?;

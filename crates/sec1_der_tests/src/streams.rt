@@ -1,4 +1,5 @@
-//! Documents over readers and writers that give and take a few bytes at a time, break or never end, and in files.
+//! Documents over readers and writers that give and take a few bytes at a time, break or never end,
+//! and in files.
 use sec1_der::{ErrorKind, SecretDocument, StdReader, StdWriter};
 use std::alloc::Global;
 use std::test::Fail;
@@ -59,8 +60,8 @@ impl io::Read for Pieces<'_> {
     }
 }
 
-/// The reader's bytes, how many of them it gives, at most so many a call, and what it does then; why no document
-/// is read, and how many bytes are read.
+/// The reader's bytes, how many of them it gives, at most so many a call, and what it does then;
+/// why no document is read, and how many bytes are read.
 static READS: [(&[u8], usize, usize, Then, Option<ErrorKind>, usize); 12] = [
     (KEY, 121, 1, Then::End, None, 121),
     (KEY, 121, 7, Then::End, None, 121),
@@ -182,8 +183,8 @@ impl io::Write for Narrow {
     }
 }
 
-/// How many bytes the writer takes a call, how many in all, and whether it fails then; why the key isn't written,
-/// and how many of its bytes are.
+/// How many bytes the writer takes a call, how many in all, and whether it fails then; why the key
+/// isn't written, and how many of its bytes are.
 static WRITES: [(usize, usize, bool, Option<ErrorKind>, usize); 5] = [
     (1000, 1000, true, None, 121),
     (1, 1000, true, None, 121),

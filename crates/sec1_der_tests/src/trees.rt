@@ -148,7 +148,8 @@ fn counted_by_recursion(input: &[u8]) -> Result<usize, ErrorKind> {
     Ok(size)
 }
 
-/// The size of the tree that the bytes begin with, of at most so many levels, and the bytes after it.
+/// The size of the tree that the bytes begin with, of at most so many levels, and the bytes after
+/// it.
 fn tree_at(bytes: &[u8], levels: u8) -> Result<(usize, &[u8]), ErrorKind> {
     let Some((tag, rest)) = bytes.split_first() else {
         return Err(ErrorKind::Truncated);
@@ -247,8 +248,8 @@ struct Row {
     depth: usize,
 }
 
-/// One tree, grown from a leaf: a leaf goes after the row or before it, the row is written twice, or a
-/// node goes around it.
+/// One tree, grown from a leaf: a leaf goes after the row or before it, the row is written twice,
+/// or a node goes around it.
 fn made_tree(alloc: Global, numbers: &mut Numbers) -> Result<Row, AllocError> {
     let mut row = Row {
         bytes: node(alloc, 0x04, &[])?,

@@ -1,5 +1,5 @@
-//! Reads EC private keys in hexadecimal, one a line, and prints for each its parts and whether it is written as it was
-//! read, or why it is refused. Lines that begin with `#` are skipped.
+//! Reads EC private keys in hexadecimal, one a line, and prints for each its parts and whether it
+//! is written as it was read, or why it is refused. Lines that begin with `#` are skipped.
 #![tactic(auto)]
 
 use hex::ToHex;
@@ -16,7 +16,8 @@ fn digits(alloc: Global, bytes: &[u8]) -> Result<String, AllocError> {
     bytes.encode_hex_upper(alloc)
 }
 
-/// Returns the parts of the key: the private key, the curve and the public key, each `none` if absent.
+/// Returns the parts of the key: the private key, the curve and the public key, each `none` if
+/// absent.
 fn parts(alloc: Global, key: &EcPrivateKey) -> Result<String, AllocError> {
     let private_key = digits(alloc, key.private_key)?;
     let curve = match key.parameters {

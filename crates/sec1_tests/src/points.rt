@@ -60,7 +60,8 @@ static ORDERED: [&[u8]; 8] = [
 
 static NO_TEXT: [&str; 7] = ["02aF", "02A", "", "02", "02AF0000", "070102", "02G0"];
 
-// The text of an encoding with the letters A to F, and with a to f. The first is a point of the curve P-256.
+// The text of an encoding with the letters A to F, and with a to f. The first is a point of the
+// curve P-256.
 static TEXTS_32: [(&str, &str); 3] = [
     (
         "041CACFFB55F2F2CEFD89D89EB374B2681152452802DEEA09916068137D839CF7FC481A44492304D7EF66AC117BEFE83A8D08F155F2B52F9F618DD447029048E0F",
@@ -332,12 +333,16 @@ fn orders_points(rt: HostRuntime) -> Result<(), Fail> {
     Ok(())
 }
 
-// The bytes that were fed, up to 15 of them, as the digits after the first one, 1, of a number in base 256.
+// The bytes that were fed, up to 15 of them, as the digits after the first one, 1, of a number in
+// base 256.
 #[derive(Drop)]
 struct Recorder(u128);
 
 impl Hasher for Recorder {
-    ghost write = { λ fed bytes. record { 0 = fold (λ number byte. number % 2 ^ 120 * 256 + byte) fed.0 bytes } };
+    ghost write = { λ fed bytes. record {
+      0 =
+          fold (λ number byte. number % 2 ^ 120 * 256 + byte) fed.0 bytes;
+    } };
 
     ghost finish = { λ fed. fed.0 % 2 ^ 64 };
 

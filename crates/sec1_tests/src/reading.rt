@@ -25,7 +25,8 @@ fn key_with(alloc: Global, header: &str, parameters: &str) -> std::result::Resul
     Ok(hex::decode(alloc, text.as_str())?)
 }
 
-/// The kind by which the bytes are refused as a key; `None` if they are one, or the error has no kind.
+/// The kind by which the bytes are refused as a key; `None` if they are one, or the error has no
+/// kind.
 fn refusal(bytes: &[u8]) -> Option<ErrorKind> {
     match EcPrivateKey::try_from(bytes) {
         Err(Error::Asn1(cause)) => Some(cause.kind),
@@ -59,7 +60,8 @@ fn reads_whole_keys(rt: HostRuntime) -> std::result::Result<(), Fail> {
     Ok(())
 }
 
-/// Keys without a private key: the bytes, the dotted text of the curve, the hexadecimal of the public key.
+/// Keys without a private key: the bytes, the dotted text of the curve, the hexadecimal of the
+/// public key.
 static KEYS: [(&str, Option<&str>, Option<&str>); 6] = [
     ("30050201010400", None, None),
     ("300A0201010400A103030100", None, Some("")),

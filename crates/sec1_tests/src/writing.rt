@@ -39,7 +39,8 @@ fn holds_the_encoding_in_documents(rt: HostRuntime) -> Result<(), Fail> {
     Ok(())
 }
 
-/// From a content of 128 bytes on the length has two bytes. The private key, and the bytes before it.
+/// From a content of 128 bytes on the length has two bytes. The private key, and the bytes before
+/// it.
 static LONG_FORMS: [(usize, &[u8]); 2] = [
     (122, &[0x30, 0x7F, 0x02, 0x01, 0x01, 0x04, 0x7A]),
     (123, &[0x30, 0x81, 0x80, 0x02, 0x01, 0x01, 0x04, 0x7B]),
@@ -94,7 +95,8 @@ fn lends_the_identifier_of_parameters(rt: HostRuntime) -> Result<(), Fail> {
     Ok(())
 }
 
-/// Returns at how many of the 255 other values of this byte the key is still one, by another reader.
+/// Returns at how many of the 255 other values of this byte the key is still one, by another
+/// reader.
 fn accepted_at(place: usize) -> u32 {
     match place {
         0..=5 | 39..=42 | 51..=55 => 0,
@@ -114,8 +116,9 @@ static REFUSALS: [(ErrorKind, u32); 5] = [
     (ErrorKind::Value, 764),
 ];
 
-/// Whatever byte of a key is changed, what is still read is written just as it came. `tests/keys/reader.py` counted the
-/// 26,644 of the 30,855 changed keys that are read, and how the others are refused.
+/// Whatever byte of a key is changed, what is still read is written just as it came.
+/// `tests/keys/reader.py` counted the 26,644 of the 30,855 changed keys that are read, and how the
+/// others are refused.
 #[test]
 fn writes_what_is_read(rt: HostRuntime) -> Result<(), Fail> {
     let whole = p256_key(rt.alloc())?;

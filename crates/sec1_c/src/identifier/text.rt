@@ -10,7 +10,8 @@ use arrayvec::ArrayString;
 use itoa::Buffer;
 use sec1::der::ObjectIdentifier;
 
-/// The greatest length of a text in bytes: that of the longest dotted text of an identifier, and a byte 0.
+/// The greatest length of a text in bytes: that of the longest dotted text of an identifier, and a
+/// byte 0.
 const MAX: usize = 158;
 
 /// A text of at most 158 bytes.
@@ -25,8 +26,8 @@ pub fn dotted(identifier: &ObjectIdentifier) -> Text
     first_text(0, identifier.as_bytes())
 }
 
-/// Returns the dotted text of the identifier with these subidentifiers (X.690 section 8.19.2); `high` is the number in the
-/// digits before them.
+/// Returns the dotted text of the identifier with these subidentifiers (X.690 section 8.19.2);
+/// `high` is the number in the digits before them.
 #[tactic(auto, using(crate::proofs::TextLemmas::text_pieces))]
 fn first_text(high: u32, bytes: &[u8]) -> Text
     requires fit { SubidentifiersFit high bytes.now }
@@ -50,7 +51,8 @@ fn first_text(high: u32, bytes: &[u8]) -> Text
 
 /// Returns the two arcs in the first subidentifier (X.690 section 8.19.4).
 fn first_arcs(number: u32) -> (u32, u32)
-    ensures { (further : List ℕ) → arcs_of_numbers (number ∷ further) ≡ result.0 ∷ result.1 ∷ further }
+    ensures { (further : List ℕ) → arcs_of_numbers (number ∷ further)
+        ≡ result.0 ∷ result.1 ∷ further }
 {
     if number < 40 {
         (0, number)
@@ -61,10 +63,12 @@ fn first_arcs(number: u32) -> (u32, u32)
     }
 }
 
-/// Appends the arcs in these bytes, a full stop in front of each; `high` is the number in the digits before them.
+/// Appends the arcs in these bytes, a full stop in front of each; `high` is the number in the
+/// digits before them.
 fn push_arcs(text: &mut Text, high: u32, bytes: &[u8])
     requires fit { SubidentifiersFit high bytes.now }
-    requires room { length text.old.bytes + length (further_text (numbers_after high bytes.now)) < 158 }
+    requires room { length text.old.bytes + length
+        (further_text (numbers_after high bytes.now)) < 158 }
     ensures { text.new.bytes ≡ text.old.bytes ++ further_text (numbers_after high bytes.now) }
 {
     let Some((byte, rest)) = bytes.split_first() else {

@@ -8,14 +8,16 @@ ghost use Rattle.sec1_c.specs.GivenKeys.{IsCurveOf, IsGiven, public_key_if};
 use sec1::der::ObjectIdentifier;
 use sec1::{EcParameters, EcPrivateKey};
 
-/// Returns the key with these parts; `None` if `curve` isn't empty, and isn't the content of an identifier.
+/// Returns the key with these parts; `None` if `curve` isn't empty, and isn't the content of an
+/// identifier.
 pub fn key_given<'a>(
     private_key: &'a [u8],
     curve: &[u8],
     public_key: &'a [u8],
     has_public_key: usize,
 ) -> Option<EcPrivateKey<'a>>
-    ensures found { IfSome result (λ key. IsGiven key private_key.now curve.now public_key.now has_public_key) }
+    ensures found { IfSome result
+        (λ key. IsGiven key private_key.now curve.now public_key.now has_public_key) }
     ensures only { (key : Key) → IsGiven key private_key.now curve.now public_key.now has_public_key
         → result ≡ Some key }
     ensures some { (parameters : Option (List ℕ)) → IsCurveOf curve.now parameters → IsSome result }
@@ -28,9 +30,11 @@ pub fn key_given<'a>(
     })
 }
 
-/// Returns the parameters with this content, none if it is empty; `None` if it isn't the content of an identifier.
+/// Returns the parameters with this content, none if it is empty; `None` if it isn't the content of
+/// an identifier.
 fn curve_given(content: &[u8]) -> Option<Option<EcParameters>>
-    ensures found { IfSome result (λ parameters. IsCurveOf content.now (option_map curve_of parameters)) }
+    ensures found { IfSome result
+        (λ parameters. IsCurveOf content.now (option_map curve_of parameters)) }
     ensures only { (parameters : Option (List ℕ)) → IsCurveOf content.now parameters
         → option_map (option_map curve_of) result ≡ Some parameters }
 {

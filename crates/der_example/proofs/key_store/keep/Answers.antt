@@ -8,6 +8,7 @@ use Rattle.der_example.proofs.key_store.keep.Goals as goal
 pub returns-clause-others : goal.returns-clause-others
 returns-clause-others c other apart = by (same_point (point_of c.args.point) (point_of other)) refl
   where
-    by : (b : Bool) → same_point (point_of c.args.point) (point_of other) ≡ b → kept c.insert.new.self (point_of other) ≡ kept c.args.store.now (point_of other)
+    by : (b : Bool) → same_point (point_of c.args.point) (point_of other) ≡ b → kept c.insert.new.self (point_of other)
+        ≡ kept c.args.store.now (point_of other)
     by true same = absurd (apart (sym (same_point-true (point_of c.args.point) (point_of other) same)))
     by false differ = c.in_ok-insert.ensures.updates.2 other differ

@@ -12,7 +12,8 @@ pub returns-in_default-from_u8 : goal.returns-in_default-from_u8
 unfolding encoding
 returns-in_default-from_u8 c = (
   λ h. absurd cc,
-  λ h. absurd (c.in_default-from_u8.ensures.none (point_tag h.of) (byte_of-tag_of h.of ∙ cc (h.spelled, c.in-Some.ensures.cases.0))),
+  λ h. absurd (c.in_default-from_u8.ensures.none (point_tag h.of)
+      (byte_of-tag_of h.of ∙ cc (h.spelled, c.in-Some.ensures.cases.0))),
 )
 
 pub returns-then-bytes-message_len : goal.returns-then-bytes-message_len
