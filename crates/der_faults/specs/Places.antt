@@ -1,8 +1,7 @@
--- The place of a refusal: the offset at which the first fault from left to right lies, and its
--- kind.
+-- The place of a refusal: the offset of the first fault from left to right, and its kind.
 use Rattle.std.specs.Prelude.{◌==◌, ℕ, zero, suc, ◌+◌, ◌-◌, not, nat_lt, bit_and, if◌then◌else◌}
-use Rattle.std.specs.Prelude.{List, [], ◌∷◌, length, Option, Some, None, option_map, Result, Ok}
-use Rattle.std.specs.Prelude.{Err}
+use Rattle.std.specs.Prelude.{List, [], ◌∷◌, length, Option, Some, None, option_map}
+use Rattle.std.specs.Prelude.{Result, Ok, Err}
 use Rattle.std.specs.Option.{option_or}
 use Rattle.sec1_der.specs.Contents.{byte_fault, identifier_fault, bit_string_fault}
 use Rattle.sec1_der.specs.Contents.{whole_bits_fault}

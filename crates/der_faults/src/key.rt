@@ -12,7 +12,7 @@ use crate::element::{Step, finish, tagged_element, value};
 use sec1_der::{BitStringRef, IdentifierRef, Octets, SmallInteger, Tag, WholeBits};
 
 /// Returns the first fault from left to right of bytes that aren't a key's, and `None` for a key's.
-#[tactic(auto, using(crate::proofs::KindLemmas::key_kind, crate::proofs::WithinLemmas::key_within))]
+#[tactic(auto, using(crate::proofs::KindLemmas::key_kind))]
 pub fn key_fault(bytes: &[u8]) -> Option<Fault>
     // Where the fault lies is a function of the bytes.
     ensures place { result ≡ key_place bytes.now }

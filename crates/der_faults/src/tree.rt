@@ -10,7 +10,7 @@ use sec1_der::{ErrorKind, MAX_DEPTH};
 
 /// Returns the first fault from left to right of bytes that aren't those of one tree with at most
 /// 64 levels, and `None` for those of one.
-#[tactic(auto, using(crate::proofs::KindLemmas::tree_kind, crate::proofs::WithinLemmas::tree_within))]
+#[tactic(auto, using(crate::proofs::KindLemmas::tree_kind))]
 pub fn tree_fault(bytes: &[u8]) -> Option<Fault>
     // Where the fault lies is a function of the bytes.
     ensures place { result ≡ tree_place bytes.now }
