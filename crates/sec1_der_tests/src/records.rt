@@ -70,7 +70,8 @@ impl Record for Middle {
 
     ghost parts = { λ middle. ((middle.first, middle.second), (middle.third, middle.fourth)) };
 
-    ghost of_parts = { λ row. record { first = row.0.0; second = row.0.1; third = row.1.0; fourth = row.1.1 } };
+    ghost of_parts = { λ row.
+        record { first = row.0.0; second = row.0.1; third = row.1.0; fourth = row.1.1 } };
 
     fn from_parts(row: Self::Parts) -> Self {
         let ((Required(first), Required(second)), (Required(third), Optional(fourth))) = row;
@@ -185,8 +186,7 @@ impl<'a> Model for Lent<'a> {
         option_map (λ bytes. bytes.now) lent.bits,
         (
           option_map (λ bytes. bytes.now) lent.public_key,
-          option_map
-              (λ bytes. bytes.now) lent.field,
+          option_map (λ bytes. bytes.now) lent.field,
         ),
       ),
     ) };
