@@ -37,10 +37,13 @@ RefusesAsn1 result kind = IsErrAnd result (IsAsn1 kind)
 abbrev pub IsAsn1ReadingFault : Error → Type 0
 IsAsn1ReadingFault = IsAsn1Where IsReadingFault
 
+-- an error of DER of the kind of this fault
+abbrev pub IsAsn1Fault : Option ErrorKind → Error → Type 0
+IsAsn1Fault fault = IsAsn1Where (λ kind. fault ≡ Some kind)
+
 -- the call fails with an error of DER of this kind, or succeeds if there is none
 abbrev pub HasAsn1Fault : {T : Type 0} → Result T Error → Option ErrorKind → Type 0
-HasAsn1Fault result fault =
-    MatchResult result (λ _. fault ≡ None) (IsAsn1Where (λ kind. fault ≡ Some kind))
+HasAsn1Fault result fault = MatchResult result (λ _. fault ≡ None) (IsAsn1Fault fault)
 
 -- The error is Overlength, and the key has no encoding; or it is such a one, and this holds of the
 -- encoding.
