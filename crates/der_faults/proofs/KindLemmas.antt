@@ -9,7 +9,7 @@ use Rattle.sec1_der.specs.Faults.{is_tag}
 use Rattle.sec1_der.specs.Refusals as r
 use Rattle.sec1_der.specs.Trees.{max_tree_depth}
 use Rattle.sec1_der.specs.declared.error.ErrorKind.{ErrorKind}
-use Rattle.sec1.specs.KeyRefusals.{components_fault, key_fault}
+use Rattle.sec1.specs.KeyRefusals.{key_fault}
 use Rattle.der_faults.specs.declared.Fault.{Fault}
 use Rattle.der_faults.specs.Places.{Place, before, at_first, end_place, parts_place, element_place, optional_place}
 use Rattle.der_faults.specs.Places.{any_place, nested_place, row_place, tree_place, whole_bits_field_place}
@@ -145,6 +145,10 @@ curve_kind =
     (element_kind 0x06 (at_first identifier_fault) end_place identifier_fault r.end_fault
     (first_kind identifier_fault) ends)
     bits_kind
+
+abbrev components_fault : r.Fault
+components_fault =
+    r.element_fault 0x02 (byte_fault 1) (r.element_fault 0x04 r.no_fault curve_fault)
 
 components_kind : Places components_place components_fault
 components_kind =
