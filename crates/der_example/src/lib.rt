@@ -7,9 +7,9 @@
 mod algorithm;
 pub mod callers;
 pub mod certificates;
-pub mod curves;
 pub mod examples;
 mod key_store;
+pub mod named_curves;
 pub mod null;
 pub mod numbers;
 pub mod points;
