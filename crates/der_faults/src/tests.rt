@@ -96,7 +96,9 @@ fn finds_faults_as_another_reader_does(rt: HostRuntime) -> Result<(), Fail> {
             continue;
         };
         let mut key = SHORT_KEY;
-        key[usize::from(at)] = byte;
+        if let Some(place) = key.get_mut(usize::from(at)) {
+            *place = byte;
+        }
         let kind = KINDS.get(usize::from(number)).copied().flatten();
         let fault = kind.map(|kind| Fault {
             offset: usize::from(offset),
@@ -152,10 +154,10 @@ fn finds_depths(rt: HostRuntime) -> Result<(), Fail> {
         }
         bytes.insert(0, 0x30)?;
         // The elements below level 64 have short headers.
-        let fault = (levels > 64).then(|| Fault {
-            offset: bytes.len() - 2 * (levels - 64),
-            kind: ErrorKind::Depth,
-        });
+        let below = levels.saturating_sub(64).saturating_mul(2);
+        let offset = bytes.len().saturating_sub(below);
+        let kind = ErrorKind::Depth;
+        let fault = (below > 0).then_some(Fault { offset, kind });
         assert_eq!(rt; tree_fault(&bytes), fault, "at {levels} levels");
     }
     Ok(())
