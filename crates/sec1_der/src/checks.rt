@@ -4,8 +4,8 @@ ghost use Rattle.std.specs.Prelude.{◌≡◌, ◌<◌, ◌≤◌, [], ◌∷◌
 ghost use Rattle.sec1_der.specs.Faults.{Refuses};
 
 use crate::{
-    BackWriter, BitStringRef, ErrorKind, FixedTag, ObjectIdentifier, OctetStringRef, Result,
-    SliceWriter, Tag, Tagged, VersionOne,
+    BackWriter, BitStringRef, ErrorKind, FixedTag, ID_EC_PUBLIC_KEY, ObjectIdentifier,
+    OctetStringRef, Result, SECP256R1, SliceWriter, Tag, Tagged, VersionOne,
 };
 
 /// Returns the constants of [`Tag`] for universal types (X.680 section 8.4), in the order of their
@@ -52,6 +52,20 @@ pub fn context_tags() -> [Tag; 8]
         Tag::PRIMITIVE_2,
         Tag::PRIMITIVE_3,
     ]
+}
+
+/// Returns [`ID_EC_PUBLIC_KEY`], 1.2.840.10045.2.1 (RFC 5480 section 2.1.1).
+pub fn id_ec_public_key() -> ObjectIdentifier
+    ensures { result ≡ 1 ∷ 2 ∷ 840 ∷ 10045 ∷ 2 ∷ 1 ∷ [] }
+{
+    ID_EC_PUBLIC_KEY
+}
+
+/// Returns [`SECP256R1`], 1.2.840.10045.3.1.7 (RFC 5480 section 2.1.1.1).
+pub fn secp256r1() -> ObjectIdentifier
+    ensures { result ≡ 1 ∷ 2 ∷ 840 ∷ 10045 ∷ 3 ∷ 1 ∷ 7 ∷ [] }
+{
+    SECP256R1
 }
 
 /// Returns [`FixedTag::TAG`] of [`VersionOne`], which is its [`fixed_tag`](Tagged::fixed_tag).

@@ -1,13 +1,11 @@
-//! What the definitions of `sec1_der` say at values of the standards, and what its identifiers are.
-//! Each is proved from the public definitions. What the constants of tags are, and what the writers
-//! leave in a slice, is proved in `sec1_der` itself.
+//! What the definitions of `sec1_der` say at values of the standards. Each is proved from the
+//! public definitions. What the constants are, and what the writers leave in a slice, is proved in
+//! `sec1_der` itself.
 ghost use Rattle.std.specs.Prelude.{◌≡◌, [], ◌∷◌};
 ghost use Rattle.sec1_der.specs.Elements.{length_octets};
 ghost use Rattle.sec1_der.specs.Identifiers.{content_of};
 
 pub mod equality;
-
-use sec1_der::{ID_EC_PUBLIC_KEY, ObjectIdentifier, SECP256R1};
 
 /// Lengths where their spelling changes its form (X.690 section 8.1.3), and the greatest.
 #[tactic(auto, unfolding(sec1_der::specs::Elements::length_octets))]
@@ -28,17 +26,3 @@ pub fn spelled_identifiers()
     ensures example { content_of (2 ∷ 999 ∷ []) ≡ 0x88 ∷ 0x37 ∷ [] }
     ensures greatest { content_of (2 ∷ 4294967215 ∷ []) ≡ 0x8F ∷ 0xFF ∷ 0xFF ∷ 0xFF ∷ 0x7F ∷ [] }
 {}
-
-/// Returns [`ID_EC_PUBLIC_KEY`], 1.2.840.10045.2.1 (RFC 5480 section 2.1.1).
-pub fn id_ec_public_key() -> ObjectIdentifier
-    ensures { result ≡ 1 ∷ 2 ∷ 840 ∷ 10045 ∷ 2 ∷ 1 ∷ [] }
-{
-    ID_EC_PUBLIC_KEY
-}
-
-/// Returns [`SECP256R1`], 1.2.840.10045.3.1.7 (RFC 5480 section 2.1.1.1).
-pub fn secp256r1() -> ObjectIdentifier
-    ensures { result ≡ 1 ∷ 2 ∷ 840 ∷ 10045 ∷ 3 ∷ 1 ∷ 7 ∷ [] }
-{
-    SECP256R1
-}
