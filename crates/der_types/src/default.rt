@@ -11,7 +11,7 @@ use sec1_der::{
 };
 use std::marker::Model;
 
-/// A type with a default value. A type of one's own that wraps another gives it the default of a
+/// A type with a default value. Your own type that wraps another gives it the default of a
 /// component.
 pub trait HasDefault: UniqueContent + Sized {
     /// The default value.

@@ -1,7 +1,7 @@
 //! More types of DER (X.690) over `sec1_der`, for the records of certificates and containers.
 //!
 //! Values: integers, strings, times, identifiers of any length, bit strings, constants, and a type
-//! of one's own by a tag and a test of contents ([`Kind`]); values under an implicit tag; SEQUENCE
+//! of your own by a tag and a test of contents ([`Kind`]); values under an implicit tag; SEQUENCE
 //! OF and SET OF. Parts of a record: CHOICE, DEFAULT, and elements of any tag. Laws of the
 //! contents.
 #![tactic(auto)]

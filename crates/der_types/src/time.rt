@@ -170,7 +170,7 @@ pub(crate) fn is_generalized_time(bytes: &[u8]) -> bool
     are_digits(digits) && ends_time(end) && generalized_fields(digits).is_valid()
 }
 
-/// Returns the time that the content of a UTCTime spells. Years from 50 on are in the twentieth
+/// Returns the time that the content of a UTCTime encodes. Years from 50 on are in the twentieth
 /// century (RFC 5280 section 4.1.2.5.1).
 #[tactic(auto, using(crate::specs::TimeLaws::utc_digits))]
 pub(crate) fn utc_date_time(bytes: &[u8]) -> DateTime
@@ -180,7 +180,8 @@ pub(crate) fn utc_date_time(bytes: &[u8]) -> DateTime
     utc_fields(&bytes[..12])
 }
 
-/// Returns the time that the content of a GeneralizedTime spells, without the fraction of a second.
+/// Returns the time that the content of a GeneralizedTime encodes, without the fraction of a
+/// second.
 #[tactic(auto, using(crate::specs::TimeLaws::generalized_digits))]
 pub(crate) fn generalized_date_time(bytes: &[u8]) -> DateTime
     requires { is_generalized_time bytes.now ≡ true }

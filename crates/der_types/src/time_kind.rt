@@ -8,10 +8,10 @@ use crate::{DateTime, Kind, Leaf, kind};
 
 /// A kind of times whose contents spell a date and a time of day.
 pub trait TimeKind: Kind {
-    /// The time that a content spells.
+    /// The time that a content encodes.
     ghost time: { List ℕ → DateTime };
 
-    /// Returns the time that a content spells.
+    /// Returns the time that a content encodes.
     fn time(bytes: &[u8]) -> DateTime
         requires { Self.passes bytes.now ≡ true }
         ensures { result ≡ time bytes.now };

@@ -104,6 +104,14 @@ element_cut f g tag content (byte ∷ bytes) fits cut =
     (record { more = cut.more; some = cut.some; split = ap (λ xs. 0x30 ∷ xs) rest }) in
     rw (← same, eq-eqb tag tag refl, inside) refl
 
+-- an element of any tag that is cut short
+pub any_tag_cut : (f : ℕ → Fault) (g : Fault) (tag : ℕ) (content input : List ℕ) → IsHeader tag (length content)
+    → IsProperBeginning input (element tag content) → any_fault f g input ≡ Some Truncated
+any_tag_cut f g tag content [] h cut = refl
+any_tag_cut f g tag content (byte ∷ bytes) h cut =
+    let same : tag ≡ byte = cc cut.split in
+    any_cut f g tag content (byte ∷ bytes) (λ _. rw (← same) h.tag_byte.byte) h cut
+
 -- where the tag is next, an element with this tag is refused as one of any tag is
 pub element_next : (f g : Fault) (tag : ℕ) (bytes : List ℕ) → IsTag tag → slice_get bytes 0 ≡ Some tag
     → element_fault tag f g bytes ≡ any_fault (λ _. f) g bytes

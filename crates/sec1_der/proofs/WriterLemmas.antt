@@ -141,13 +141,11 @@ pub element_put : (tag : ℕ) (content : Option (List ℕ)) (old between new : B
     (first second : Result Unit Error)
     → (written_tag since : ℕ) → written_tag ≡ tag → since ≡ length (end_of old)
     → Puts (within_limit content) old between first
-    → ((n : ℕ) → length (end_of between) ≡ n + since
-    → WritesInFront (header_of written_tag n) between new second)
+    → WritesInFront (header_of written_tag (length (end_of between) - since)) between new second
     → Puts (element_of tag content) old new second
-element_put tag content old between new first second written_tag since is_tag is_old p over_all =
-    let q : (n : ℕ) → length (end_of between) ≡ n + since → WritesInFront (header_of tag n) between new second =
-    rw (← is_tag) over_all in
-    let any = q (length (end_of between) - since) (omega (arith, is_old, p.grows)) in
+element_put tag content old between new first second written_tag since is_tag is_old p over_tag =
+    let any : WritesInFront (header_of tag (length (end_of between) - since)) between new second =
+    rw (← is_tag) over_tag in
     record {
       slice = grind (arith, p.slice, any.slice);
       grows = omega (arith, p.grows, any.grows);
@@ -157,8 +155,9 @@ element_put tag content old between new first second written_tag since is_tag is
           let count = length-append first_bytes is.inside in
           let behind = p.fits is.inside (inside_element tag content whole is)
           (omega (arith, ap length is.at.spelled, count, room)) in
-          let over = q (length is.inside)
-          (omega (arith, is_old, ap length behind.1.written, length-append is.inside (end_of old))) in
+          let since_then : length (end_of between) - since ≡ length is.inside =
+          omega (arith, is_old, ap length behind.1.written, length-append is.inside (end_of old)) in
+          let over = rw since_then at any in
           let front = over.fits first_bytes (rw (le-leb (length is.inside) max_length is.at.within) refl)
           (omega (arith, ap length is.at.spelled, count, room, behind.1.front)) in
           (front.0, rw is.at.spelled (puts_both old between new is.inside first_bytes behind.1 front.1));

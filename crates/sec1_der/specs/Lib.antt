@@ -25,3 +25,4 @@ pub mod PartLaws
 pub mod Streams
 pub mod StdStreams
 pub mod ReadsDocument
+pub mod DebugTexts

@@ -7,7 +7,7 @@ use crate::{
     Tag, ValueContent,
 };
 
-/// An element of any tag, which borrows its content unread.
+/// An element of any tag, which borrows its content without looking into it.
 // The tag is held as its byte: a value that holds both a reference and a type with a `Model` can't
 // be passed by `?`.
 #[derive(Clone, Copy, Debug)]
@@ -50,7 +50,7 @@ impl<'a> AnyRef<'a> {
     /// # Errors
     ///
     /// Those of [`Header::decode`](crate::Header::decode), then Truncated if the input ends inside
-    /// the content. The reader has failed then.
+    /// the content. The reader has failed then, and its remaining input is as it was.
     pub fn decode(reader: &mut SliceReader<'a>) -> Result<AnyRef<'a>>
         ensures found { IfOk result (λ any. IsHeader (tag_of any) (length (value_of any))
             × HasRead (element (tag_of any) (value_of any)) reader.old reader.new) }

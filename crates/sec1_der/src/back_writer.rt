@@ -19,7 +19,7 @@ pub struct BackWriter<'b> {
 }
 
 impl<'b> BackWriter<'b> {
-    ghost use Rattle.std.specs.Prelude.{◌≡◌, ℕ, ◌+◌, [], Some};
+    ghost use Rattle.std.specs.Prelude.{◌≡◌, ◌-◌, [], Some};
     ghost use Rattle.sec1_der.specs.BackWriters.{end_of, front_of, IsOverEnd, WritesInFront};
     ghost use Rattle.sec1_der.specs.Elements.{header_of};
 
@@ -71,8 +71,8 @@ impl<'b> BackWriter<'b> {
     #[tactic(auto, using(crate::specs::LengthLaws::len_1))]
     pub fn header(&mut self, tag: Tag, since: usize) -> Result<()>
         requires { since ≤ length (end_of self.old) }
-        ensures { (n : ℕ) → length (end_of self.old) ≡ n + since
-            → WritesInFront (header_of tag n) self.old self.new result }
+        ensures { WritesInFront (header_of tag (length (end_of self.old) - since)) self.old self.new
+            result }
     {
         let length = Length::new(self.written() - since)?;
         if length.get() < LONG_FORM {

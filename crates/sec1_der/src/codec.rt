@@ -80,6 +80,7 @@ pub fn encoded_len<T: EncodeValue + Tagged>(value: &T) -> Result<usize>
         (λ n. IsSomeAnd (element_of T.tag_byte (T.content value.now)) (λ bytes. n ≡ length bytes))
         (λ e. (e.kind ≡ ErrorKind.Overlength)
         × (element_of T.tag_byte (T.content value.now) ≡ None)) }
+    ensures most { IfOk result (λ n. n ≤ max_length + 6) }
     ensures tag { OnOk result (IsTag T.tag_byte) }
 {
     let header = element_header(value)?;

@@ -1,5 +1,7 @@
 ghost use Rattle.std.specs.Prelude.{◌≡◌, ◌≤◌, ◌⊎◌, ℕ, List, length, Some, None, IfOk, IfErr};
 ghost use Rattle.std.specs.Prelude.{MatchResult, ⊤};
+ghost use Rattle.std.specs.Fmt.{WritesOnOk, WritesStyledOnOk};
+ghost use Rattle.sec1_der.specs.DebugTexts.{document_text};
 ghost use Rattle.sec1_der.specs.Elements.{max_length, element, element_of, IsHeader, IsElement};
 ghost use Rattle.sec1_der.specs.Elements.{IsProperBeginning, LacksHeader};
 ghost use Rattle.sec1_der.specs.Encodings.{IsOverlengthOr};
@@ -102,9 +104,14 @@ impl SecretDocument {
     }
 }
 
-/// Prints no bytes.
+/// Prints no bytes, whatever options are set.
 impl fmt::Debug for SecretDocument {
-    fn fmt<W: fmt::Write>(&self, f: &mut fmt::Formatter<W>) -> fmt::Result {
-        f.debug_struct("SecretDocument").finish_non_exhaustive()
+    ghost debug_output = { λ _. Some document_text };
+
+    fn fmt<W: fmt::Write>(&self, f: &mut fmt::Formatter<W>) -> fmt::Result
+        ensures writes { WritesOnOk W.write_str_gives f.old result document_text f.new }
+        ensures styled { WritesStyledOnOk W.write_str_gives f.old result document_text f.new }
+    {
+        f.write_str("SecretDocument { .. }")
     }
 }

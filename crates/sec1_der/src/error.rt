@@ -10,7 +10,7 @@ pub enum ErrorKind {
     /// The input, or the surrounding element, ends too early.
     #[error("input ends inside an element")]
     Truncated,
-    /// A byte that is no tag, or not the expected one.
+    /// A byte that isn't a valid tag, or isn't the expected one.
     #[error("unexpected or unsupported tag")]
     Tag,
     /// A length that isn't in the form of DER, or is above [`Length::MAX`](crate::Length::MAX).

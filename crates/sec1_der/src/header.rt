@@ -33,9 +33,9 @@ impl Header {
     ///
     /// # Errors
     ///
-    /// Tag if the first byte is no tag; Length if no length in the form of DER follows it;
+    /// Tag if the first byte isn't a valid tag; Length if no length in the form of DER follows it;
     /// Truncated if the input ends inside the header; Failed if the reader failed before. The tag
-    /// is checked before the length. The reader has failed then.
+    /// is checked before the length. On an error the reader is marked as failed.
     pub fn decode(reader: &mut SliceReader) -> Result<Header>
         // What is read is a header, and just its bytes are read.
         ensures found { IfOk result (λ h. IsHeader h.tag h.length
@@ -77,7 +77,7 @@ impl Header {
     ///
     /// # Errors
     ///
-    /// Buffer if it has no room.
+    /// Buffer if the slice has no room for it.
     pub fn encode(&self, writer: &mut SliceWriter) -> Result<()>
         ensures { WritesBehind (Some (header self.now.tag self.now.length)) writer.old writer.new
             result }

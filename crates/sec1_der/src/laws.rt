@@ -1,7 +1,9 @@
-//! Laws of trees, and that a value is determined by its bytes, for callers to cite. Each law is the
-//! contract of a function, which does nothing else.
-ghost use Rattle.std.specs.Prelude.{◌≡◌, ◌⊎◌, ℕ, List, Some, None, IsSome};
-ghost use Rattle.sec1_der.specs.Elements.{element_of};
+//! Laws of trees and of elements that end too early, and that a value is determined by its bytes,
+//! for callers to cite. Each law is the contract of a function, which does nothing else.
+ghost use Rattle.std.specs.Prelude.{◌≡◌, ◌⊎◌, ◌≤◌, ℕ, List, length, Some, None, IsSome};
+ghost use Rattle.sec1_der.specs.Elements.{element, element_of, max_length, IsHeader};
+ghost use Rattle.sec1_der.specs.Elements.{IsProperBeginning};
+ghost use Rattle.sec1_der.specs.Refusals.{Fault, any_fault, element_fault};
 ghost use Rattle.sec1_der.specs.TreeLaws.{BytesDetermineTree, BytesDetermineRow};
 ghost use Rattle.sec1_der.specs.TreeLaws.{NoTreeBeginsAnother};
 ghost use Rattle.sec1_der.specs.Values.{octets_of, unused_bits_of, bit_bytes_of};
@@ -10,7 +12,8 @@ ghost use Rattle.sec1_der.specs.declared.octet_string.OctetStringRef.{OctetStrin
 ghost use Rattle.sec1_der.specs.declared.version.VersionOne.{VersionOne};
 
 use crate::{
-    BitStringRef, EncodeValue, ObjectIdentifier, OctetStringRef, Tagged, ValueContent, VersionOne,
+    BitStringRef, EncodeValue, ErrorKind, ObjectIdentifier, OctetStringRef, Tagged, ValueContent,
+    VersionOne,
 };
 
 /// A tree is determined by its bytes, whatever follows them.
@@ -19,16 +22,28 @@ pub fn trees_unique()
     ensures { BytesDetermineTree }
 {}
 
-/// A row of trees is determined by its bytes.
+/// A sequence of trees is determined by its bytes.
 #[tactic(auto, using(crate::proofs::TreeLemmas::forest_apart))]
 pub fn rows_unique()
     ensures { BytesDetermineRow }
 {}
 
-/// No tree's bytes are a proper beginning of another's.
+/// No tree's bytes are a proper prefix of another's.
 #[tactic(auto, using(crate::proofs::TreeLemmas::tree_ends))]
 pub fn trees_prefix_free()
     ensures { NoTreeBeginsAnother }
+{}
+
+/// An element that ends too early is refused as Truncated, whatever its content is tested for and
+/// whatever may follow it.
+#[tactic(auto, using(crate::proofs::RefusalLemmas::element_cut, crate::proofs::RefusalLemmas::any_tag_cut))]
+pub fn cut_elements()
+    ensures element { (inside behind : Fault) (tag : ℕ) (content bytes : List ℕ)
+        → length content ≤ max_length → IsProperBeginning bytes (element tag content)
+        → element_fault tag inside behind bytes ≡ Some ErrorKind.Truncated }
+    ensures any { (inside : ℕ → Fault) (behind : Fault) (tag : ℕ) (content bytes : List ℕ)
+        → IsHeader tag (length content) → IsProperBeginning bytes (element tag content)
+        → any_fault inside behind bytes ≡ Some ErrorKind.Truncated }
 {}
 
 /// Two versions with one content are the same.

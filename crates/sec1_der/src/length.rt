@@ -39,7 +39,7 @@ impl Length {
         Ok(Length { bytes: n })
     }
 
-    /// Returns the length that a single byte spells.
+    /// Returns the length that a single byte encodes.
     pub(crate) fn of_byte(n: u8) -> Length
         ensures { result ≡ n }
     {

@@ -2,6 +2,7 @@ ghost use Rattle.std.specs.Prelude.{◌≡◌, ℕ, ◌<◌, ◌≤◌, ◌↔�
 ghost use Rattle.std.specs.Prelude.{◌∷◌, bytes_eq};
 ghost use Rattle.std.specs.Cmp.{partial_equiv_from_equiv};
 ghost use Rattle.std.specs.Cmp.Lexicographic.{nat_list_eq_equiv};
+ghost use Rattle.sec1_der.specs.DebugTexts.{identifier_text};
 ghost use Rattle.sec1_der.specs.ArcsOf.{padded, arcs_of_numbers};
 ghost use Rattle.sec1_der.specs.Contents.{identifier_fault};
 ghost use Rattle.sec1_der.specs.IdentifierLaws.{identifier_content-some};
@@ -227,6 +228,8 @@ fn first_arcs(n: u32) -> (u32, u32)
 }
 
 impl fmt::Debug for ObjectIdentifier {
+    ghost debug_output = { λ arcs. Some (identifier_text arcs) };
+
     fn fmt<W: fmt::Write>(&self, f: &mut fmt::Formatter<W>) -> fmt::Result {
         write!(f, "ObjectIdentifier({self})")
     }

@@ -43,7 +43,8 @@ pub trait EncodePart: Part {
     ///
     /// # Errors
     ///
-    /// Overlength or Buffer if there is no encoding or the part has no room. None if it has.
+    /// Overlength or Buffer if there is no encoding, or if the part has no room. Succeeds
+    /// otherwise.
     fn put_part(&self, writer: &mut BackWriter) -> Result<()>
         ensures { Puts (Self.bytes self.now) writer.old writer.new result };
 }

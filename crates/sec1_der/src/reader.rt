@@ -167,8 +167,8 @@ impl<'a> SliceReader<'a> {
         self.unread = rest;
     }
 
-    /// Reads and borrows the remaining input, which may be empty. A type of one's own reads its
-    /// content by this call.
+    /// Reads and borrows the remaining input, which may be empty. Your own type reads its content
+    /// by this call.
     ///
     /// # Errors
     ///

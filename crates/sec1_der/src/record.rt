@@ -1,4 +1,4 @@
-//! A struct of one's own that is read and written as a SEQUENCE.
+//! Your own struct, read and written as a SEQUENCE.
 ghost use Rattle.std.specs.Prelude.{◌≡◌, ℕ, List, Some, true, refl};
 ghost use Rattle.sec1_der.specs.Refusals.{end_fault};
 

@@ -7,8 +7,7 @@ mod values;
 
 /// A writer that fills a slice from its beginning.
 ///
-/// On an error nothing is written. The bytes of the slice behind what was written are never
-/// changed.
+/// On an error nothing is written. Bytes after the written part are never changed.
 #[derive(Drop)]
 pub struct SliceWriter<'b> {
     buffer: &'b mut [u8],
@@ -39,7 +38,7 @@ impl<'b> SliceWriter<'b> {
         self.position
     }
 
-    /// Returns the number of bytes of the slice behind what was written.
+    /// Returns the number of bytes of the slice after the written part.
     pub fn remaining(&self) -> usize
         ensures { result ≡ length (room_of self.now) }
     {

@@ -6,7 +6,7 @@ ghost use Rattle.sec1_der.specs.StdStreams.{writer_inner};
 use crate::stream::{IoFault, Read, Write};
 use std::io;
 
-/// A reader of the standard library. It has failed once one of its reads failed.
+/// Wraps a reader of the standard library, and remembers whether a read failed.
 #[derive(Drop)]
 pub struct StdReader<R> {
     inner: R,
@@ -60,7 +60,7 @@ impl<R: io::Read> Read for StdReader<R> {
     }
 }
 
-/// A writer of the standard library. It has failed once one of its writes failed, or wrote none of
+/// Wraps a writer of the standard library, and remembers whether a write failed, or wrote none of
 /// some bytes.
 #[derive(Drop)]
 pub struct StdWriter<W> {

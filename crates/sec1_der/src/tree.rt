@@ -110,7 +110,7 @@ impl OpenNodes {
         self.level == 0
     }
 
-    /// Returns the number of bytes left at the end of the innermost node, or of the input.
+    /// Returns how many bytes of input follow the innermost open node, or 0 if none is open.
     fn end(&self) -> usize
         ensures { result ≡ innermost self.now }
     {

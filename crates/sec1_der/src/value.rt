@@ -103,7 +103,8 @@ pub trait EncodeValue: ValueContent {
     ///
     /// # Errors
     ///
-    /// Overlength or Buffer if there is no content or the content has no room. None if it has.
+    /// Overlength or Buffer if there is no content, or if the content has no room. Succeeds
+    /// otherwise.
     fn put_value(&self, writer: &mut BackWriter) -> Result<()>
         ensures { Puts (within_limit (Self.content self.now)) writer.old writer.new result }
     {

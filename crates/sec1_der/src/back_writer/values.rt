@@ -7,8 +7,7 @@ impl<'b> BackWriter<'b> {
     ghost use Rattle.sec1_der.specs.BackWriters.{WritesInFront, Puts};
     ghost use Rattle.sec1_der.specs.Elements.{element_of};
 
-    /// Prepends the element of a value: its content, and then the header over it. The crate `der`
-    /// has no such call.
+    /// Prepends the element of a value: its content, and then the header over it.
     ///
     /// # Errors
     ///
@@ -22,12 +21,12 @@ impl<'b> BackWriter<'b> {
     }
 
     /// Prepends the element of a value, without testing the room first. If there is less room, or
-    /// if the value has no encoding, any bytes may have been prepended. The crate `der` has no such
-    /// call.
+    /// if the value has no encoding, any bytes may have been prepended.
     ///
     /// # Errors
     ///
-    /// Overlength or Buffer if there is no encoding or the element has no room. None if it has.
+    /// Overlength or Buffer if there is no encoding, or if the element has no room. Succeeds
+    /// otherwise.
     pub fn put_element<T: EncodeValue + Tagged>(&mut self, value: &T) -> Result<()>
         ensures { Puts (element_of T.tag_byte (T.content value.now)) self.old self.new result }
     {

@@ -30,10 +30,10 @@ impl SecretDocument {
     ///
     /// # Errors
     ///
-    /// Tag if the first byte is no tag; Length at the first byte of the header that can't be in a
-    /// length of DER (X.690 sections 8.1.3 and 10.1); Truncated if the input ends inside the
-    /// element; TrailingData if one byte follows it; Io if a read failed; Memory if an allocation
-    /// failed.
+    /// Tag if the first byte isn't a valid tag; Length at the first byte of the header that can't
+    /// be in a length of DER (X.690 sections 8.1.3 and 10.1); Truncated if the input ends inside
+    /// the element; TrailingData if any byte follows it; Io if a read failed; Memory if an
+    /// allocation failed.
     #[tactic(auto, using(crate::proofs::StreamLemmas::element_faults))]
     pub fn read_der_from<R: Read>(alloc: Global, reader: &mut R) -> Result<SecretDocument>
         requires { R.failed reader.old ≡ false }

@@ -19,7 +19,7 @@ impl<'a> SliceReader<'a> {
     /// Truncated if no input remains; Tag if the next byte isn't that tag; then Length or Truncated
     /// if no length in the form of DER follows, or if the input ends inside the content; then those
     /// of [`DecodeValue::decode_value`]; Failed if the reader failed before. The reader has failed
-    /// then.
+    /// then, and its remaining input is as it was.
     pub fn decode<T: DecodeValue<'a> + Tagged>(&mut self) -> Result<T>
         // What is read is the element of the value, and just its bytes are read.
         ensures found { IfOk result (λ value. IsSomeAnd (T.content value) (λ content.
@@ -49,7 +49,7 @@ impl<'a> SliceReader<'a> {
     ///
     /// Those of [`decode`](SliceReader::decode) for the field and for the element inside;
     /// TrailingData if bytes follow that element inside the field; Failed if the reader failed
-    /// before. The reader has failed then.
+    /// before. The reader has failed then, and its remaining input is as it was.
     pub fn context_specific<T: DecodeValue<'a> + Tagged + Drop>(
         &mut self,
         number: u8,

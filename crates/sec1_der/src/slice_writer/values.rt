@@ -28,7 +28,7 @@ impl<'b> SliceWriter<'b> {
         Ok(())
     }
 
-    /// Appends the element of a value. The crate `der` has no such call.
+    /// Appends the element of a value.
     ///
     /// # Errors
     ///
