@@ -1,5 +1,5 @@
 -- The point of a value, and the results of reading one.
-use Rattle.std.specs.Prelude.{◌≡◌, ℕ, List, take, Result, IsOkAnd, IfOk, IfErr, OnOk}
+use Rattle.std.specs.Prelude.{◌≡◌, ℕ, List, take, drop, Result, IsOkAnd, IfOk, IfErr, OnOk}
 use Rattle.std.specs.List.{All}
 use Rattle.sec1_der.specs.Elements.{IsProperBeginning}
 use Rattle.serde_json.specs.Data.{Data}
@@ -16,6 +16,10 @@ point_of {N} p = meaning N (take p.len p.bytes)
 -- each byte of the value's buffer is 00, also those after its encoding
 abbrev pub IsWiped : {N L : ℕ} → EncodedPoint N L → Type 0
 IsWiped p = All (λ byte. byte ≡ 0) p.bytes
+
+-- the bytes of the two buffers are the same but for the first, also those after the encodings
+abbrev pub KeepsBuffer : {N L : ℕ} → EncodedPoint N L → EncodedPoint N L → Type 0
+KeepsBuffer p q = drop 1 q.bytes ≡ drop 1 p.bytes
 
 -- reading bytes: the encodings of points are accepted, each as its point, and nothing else is; and
 -- no encoding at this size begins another

@@ -12,3 +12,4 @@ pub mod Tags
 pub mod Coordinates
 pub mod EncodedPoints
 pub mod HexTexts
+pub mod DebugTexts

@@ -2,10 +2,11 @@
 //! how points compare. Each law is the contract of a function, which does nothing else.
 
 ghost use Rattle.std.specs.Prelude.{◌≡◌, ◌⊎◌, ◌↔◌, List, ℕ, Some, IsTrue};
+ghost use Rattle.std.specs.declared.cmp.Ordering.TheVariants.{Less, Equal, Greater};
 ghost use Rattle.sec1.specs.Keys.{HasNoEncoding, IsKeyOf, Key};
 ghost use Rattle.sec1.specs.EncodedPoints.{point_of};
 ghost use Rattle.sec1.specs.Parameters.{curve_of};
-ghost use Rattle.sec1.specs.PointOrder.{same_point};
+ghost use Rattle.sec1.specs.PointOrder.{IsBelow, point_cmp, same_point};
 ghost use Rattle.sec1.specs.Points.{Fits, IsPoint, Point};
 ghost use Rattle.sec1.specs.declared.parameters.EcParameters.{EcParameters};
 
@@ -47,6 +48,16 @@ pub fn one_point<const N: usize, const L: usize>(point: &EncodedPoint<N, L>)
 {
     let _len = point.len();
 }
+
+/// The comparison of points, also by `<`, `<=`, `max` and `min`, is Less exactly where the first is
+/// below the second, Greater where the second is below the first, and Equal where they are the
+/// same.
+#[tactic(auto, using(crate::proofs::PointOrderLemmas::orders))]
+pub fn points_ordered()
+    ensures below { (p q : Point) → (point_cmp p q ≡ Less) ↔ IsBelow p q }
+    ensures above { (p q : Point) → (point_cmp p q ≡ Greater) ↔ IsBelow q p }
+    ensures same { (p q : Point) → (point_cmp p q ≡ Equal) ↔ (p ≡ q) }
+{}
 
 /// The comparison of points finds them equal exactly where they are the same, also by `!=`.
 pub fn points_apart()

@@ -1,4 +1,5 @@
 ghost use Rattle.std.specs.Prelude.{◌≡◌, Some};
+ghost use Rattle.sec1.specs.DebugTexts.{curve_text};
 ghost use Rattle.sec1.specs.Parameters.{curve_of};
 ghost use Rattle.sec1_der.specs.Contents.{identifier_fault};
 ghost use Rattle.sec1_der.specs.Identifiers.{identifier_content, IsIdentifierContent, IsIdentifier};
@@ -10,10 +11,11 @@ use sec1_der::{
     AnyRef, BackWriter, DecodeValue, EncodeValue, FixedTag, Length, ObjectIdentifier, SliceReader,
     SliceWriter, Tag, Tagged, ValueContent,
 };
+use std::fmt;
 
 /// The curve of a key, named by an identifier (RFC 5480 section 2.1.1). Curves given by their
 /// parameters, or implicitly, are refused.
-#[derive(Clone, Copy, PartialEq, Eq, Debug)]
+#[derive(Clone, Copy, PartialEq, Eq)]
 pub enum EcParameters {
     /// The identifier of the curve.
     NamedCurve(ObjectIdentifier),
@@ -27,6 +29,18 @@ impl EcParameters {
         match self {
             EcParameters::NamedCurve(identifier) => Some(identifier),
         }
+    }
+}
+
+impl fmt::Debug for EcParameters {
+    ghost debug_output = { λ parameters. Some (curve_text (curve_of parameters)) };
+
+    fn fmt<W: fmt::Write>(&self, f: &mut fmt::Formatter<W>) -> fmt::Result {
+        let EcParameters::NamedCurve(identifier) = self;
+        if f.alternate() {
+            return f.debug_tuple("NamedCurve").field(identifier).finish();
+        }
+        write!(f, "NamedCurve({identifier:?})")
     }
 }
 

@@ -55,7 +55,7 @@ pub type EncodedPoint48 = EncodedPoint<48, 97>;
 pub type EncodedPoint66 = EncodedPoint<66, 133>;
 
 impl<const N: usize, const L: usize> EncodedPoint<N, L> {
-    ghost use Rattle.sec1.specs.EncodedPoints.{point_of, IsWiped, ReadsBytes};
+    ghost use Rattle.sec1.specs.EncodedPoints.{point_of, IsWiped, KeepsBuffer, ReadsBytes};
     ghost use Rattle.sec1.specs.Tags.{byte_of, message_len, point_tag, is_compact, is_compressed};
     ghost use Rattle.sec1.specs.Tags.{is_hybrid, is_identity};
     ghost use Rattle.sec1.specs.Coordinates.{coordinates_point, AreWhole};
@@ -186,11 +186,12 @@ impl<const N: usize, const L: usize> EncodedPoint<N, L> {
     }
 
     /// Returns the compressed form of an uncompressed or hybrid point. Any other point is returned
-    /// as it is.
+    /// as it is. y stays in the buffer, after the encoding.
     pub fn compress(&self) -> Self
         ensures point { point_of result ≡ compressed_point (point_of self.now) }
         ensures same_x { x_of (point_of result) ≡ x_of (point_of self.now) }
         ensures once { compressed_point (point_of result) ≡ point_of result }
+        ensures kept { KeepsBuffer self.now result }
     {
         let (tag, len) = self.compressed_front();
         let mut bytes = self.bytes;

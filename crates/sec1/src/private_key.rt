@@ -3,6 +3,7 @@ ghost use Rattle.std.specs.Prelude.{MatchResult};
 ghost use Rattle.std.specs.Prelude.{Some, None, ⊤, refl};
 ghost use Rattle.sec1_der.specs.Elements.{element_of};
 ghost use Rattle.std.specs.Option.{option_map};
+ghost use Rattle.sec1.specs.DebugTexts.{key_text};
 ghost use Rattle.sec1.specs.Keys.{Key, IsKeyOf, HasNoEncoding, HasEncodingWith};
 ghost use Rattle.sec1.specs.Parameters.{curve_of};
 ghost use Rattle.sec1.specs.ReadsKey.{ReadsKey};
@@ -169,11 +170,22 @@ impl<'a> BorrowedKey<'a> {
 
 /// Doesn't print the private key.
 impl fmt::Debug for EcPrivateKey<'_> {
+    ghost debug_output = { λ key. key_text key.parameters key.public_key };
+
     fn fmt<W: fmt::Write>(&self, f: &mut fmt::Formatter<W>) -> fmt::Result {
-        f.debug_struct("EcPrivateKey")
-            .field("parameters", &self.parameters)
-            .field("public_key", &self.public_key)
-            .finish_non_exhaustive()
+        let parameters = &self.parameters;
+        let public_key = &self.public_key;
+        if f.alternate() {
+            return f
+                .debug_struct("EcPrivateKey")
+                .field("parameters", parameters)
+                .field("public_key", public_key)
+                .finish_non_exhaustive();
+        }
+        write!(
+            f,
+            "EcPrivateKey {{ parameters: {parameters:?}, public_key: {public_key:?}, .. }}"
+        )
     }
 }
 

@@ -42,7 +42,12 @@ impl<const N: usize, const L: usize> PartialOrd for EncodedPoint<N, L> {
     ghost laws = { partial_order_from_agreeing_total (λ p q. point_cmp (point_of p) (point_of q))
         (on_total (λ p. point_of p) point_cmp_total) (λ p q. refl) (λ p q. refl) };
 
-    fn partial_cmp(&self, other: &Self) -> Option<Ordering> {
+    fn partial_cmp(&self, other: &Self) -> Option<Ordering>
+        ensures value { result ≡ Some (point_cmp (point_of self.now) (point_of other.now)) }
+        ensures below { (result ≡ Some Less) ↔ IsBelow (point_of self.now) (point_of other.now) }
+        ensures above { (result ≡ Some Greater) ↔ IsBelow (point_of other.now) (point_of self.now) }
+        ensures same { (result ≡ Some Equal) ↔ (point_of self.now ≡ point_of other.now) }
+    {
         Some(self.cmp(other))
     }
 }

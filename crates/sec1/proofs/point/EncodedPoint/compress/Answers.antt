@@ -9,4 +9,4 @@ invariant_of-result-clause-encoded g c =
 pub returns : goal.returns
 returns g c =
     let point = (compressed_holds c.args.self.now _ c.compressed_front-tag.ensures.front).means in
-    record { point = point; same_x = grind arith; once = grind arith }
+    record { point = point; same_x = grind arith; once = grind arith; kept = grind arith }
