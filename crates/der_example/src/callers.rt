@@ -9,9 +9,10 @@ ghost use Rattle.sec1.specs.Der.{header_fault, IsElementOf, IsHeader, IsHeaderFa
 ghost use Rattle.sec1.specs.Der.{Refuses};
 ghost use Rattle.sec1.specs.Errors.{IsAsn1ReadingFault};
 ghost use Rattle.sec1.specs.Keys.{Key, IsKeyOf};
+ghost use Rattle.sec1.specs.Der.{IsProperBeginning};
 
 use sec1::der::{
-    self, AnyRef, EncodeValue, OctetStringRef, SecretDocument, SliceReader, Tag, Tagged,
+    self, AnyRef, EncodeValue, ErrorKind, OctetStringRef, SecretDocument, SliceReader, Tag, Tagged,
 };
 use sec1::{EcPrivateKey, Error, Result};
 use std::alloc::Global;
@@ -83,6 +84,16 @@ pub fn first_content(bytes: &[u8]) -> der::Result<&[u8]>
 {
     let any = AnyRef::decode(&mut SliceReader::new(bytes))?;
     Ok(any.value())
+}
+
+/// Reads an octet string. One that ends too early is refused as Truncated.
+pub fn octets_at(bytes: &[u8]) -> der::Result<OctetStringRef<'_>>
+    ensures short { (content : List ℕ) → length content ≤ max_length
+        → IsProperBeginning bytes.now (element 0x04 content)
+        → Refuses result ErrorKind.Truncated }
+{
+    der::laws::cut_elements();
+    SliceReader::new(bytes).decode()
 }
 
 /// Returns the element of this tag and content.

@@ -2,13 +2,14 @@
 //! compared and kept in a set.
 
 ghost use Rattle.std.specs.Prelude.{◌≡◌, ◌≢◌, ◌↔◌, ◌<◌, ◌^◌, IsTrue, IfOk, OnErr, IfErr, IsOkAnd};
-ghost use Rattle.std.specs.Prelude.{not};
-ghost use Rattle.std.specs.BTreeSet.{contains};
+ghost use Rattle.std.specs.Prelude.{not, OnOk};
+ghost use Rattle.std.specs.BTreeSet.{contains, insert_key};
 ghost use Rattle.sec1.specs.EncodedPoints.{point_of};
+ghost use Rattle.sec1.specs.PointOrder.{IsBelow};
 ghost use Rattle.sec1.specs.Points.{Fits, IsEncoding};
 ghost use Rattle.sec1.specs.declared.error.Error.TheVariants.{Memory};
 
-use sec1::laws::{one_point, points_apart};
+use sec1::laws::{one_point, points_apart, points_ordered};
 use sec1::point::EncodedPoint32;
 use sec1::{EncodedPoint, Result};
 use std::alloc::Global;
@@ -101,6 +102,41 @@ pub fn differ<const N: usize, const L: usize>(
     *a != *b
 }
 
+/// Returns `true` if the first point is below the second.
+pub fn is_below<const N: usize, const L: usize>(
+    a: &EncodedPoint<N, L>,
+    b: &EncodedPoint<N, L>,
+) -> bool
+    ensures { IsTrue result ↔ IsBelow (point_of a.now) (point_of b.now) }
+{
+    points_ordered();
+    *a < *b
+}
+
+/// Returns the lower of two points.
+pub fn lower<const N: usize, const L: usize>(
+    a: EncodedPoint<N, L>,
+    b: EncodedPoint<N, L>,
+) -> EncodedPoint<N, L>
+    ensures second { IsBelow (point_of b.entry) (point_of a.entry) → result ≡ b.entry }
+    ensures first { ¬ IsBelow (point_of b.entry) (point_of a.entry) → result ≡ a.entry }
+{
+    points_ordered();
+    a.min(b)
+}
+
+/// Returns the upper of two points.
+pub fn upper<const N: usize, const L: usize>(
+    a: EncodedPoint<N, L>,
+    b: EncodedPoint<N, L>,
+) -> EncodedPoint<N, L>
+    ensures first { IsBelow (point_of b.entry) (point_of a.entry) → result ≡ a.entry }
+    ensures second { ¬ IsBelow (point_of b.entry) (point_of a.entry) → result ≡ b.entry }
+{
+    points_ordered();
+    a.max(b)
+}
+
 /// Adds a point to a set, and returns `true` if it wasn't there.
 ///
 /// # Errors
@@ -109,6 +145,8 @@ pub fn differ<const N: usize, const L: usize>(
 pub fn add(set: &mut BTreeSet<EncodedPoint32>, point: EncodedPoint32) -> Result<bool>
     ensures found { IfOk result (λ added. added
         ≡ not (contains ⟦<EncodedPoint32 as Ord>⟧.cmp set.old point)) }
+    ensures keys { OnOk result (set.new.keys
+        ≡ insert_key ⟦<EncodedPoint32 as Ord>⟧.cmp set.old.keys point) }
     ensures unchanged { OnErr result (set.new.keys ≡ set.old.keys) }
     ensures kind { IfErr result (λ e. e ≡ Memory) }
 {
