@@ -1,4 +1,6 @@
 pub mod FieldLemmas
+pub mod HexTextLemmas
+pub mod NameLemmas
 pub mod PlaceLemmas
 pub mod PointLemmas
 pub mod SubidentifierLemmas

@@ -1,17 +1,19 @@
 -- Points by their encodings.
 use Rattle.std.proofs.Common.{◌≡◌, ◌≢◌, ◌<◌, ◌≤◌, ◌^◌, ◌+◌, ◌-◌, ◌/◌, ◌%◌, ◌↔◌, ℕ, List, [], ◌∷◌, ◌++◌, length}
-use Rattle.std.proofs.Common.{get_or, take, drop, ◌*◌, ◌==◌, ◌||◌, if◌then◌else◌, arith, length-append}
+use Rattle.std.proofs.Common.{refl, get_or, take, drop, ◌*◌, ◌==◌, ◌||◌, if◌then◌else◌, arith, length-append}
 use Rattle.std.proofs.Math.Seq.{drop-append-add}
 use Rattle.std.proofs.lemmas.List.{take_at, drop_at, take_all, get_or-append_right}
 use Rattle.std.specs.Cmp.Lexicographic.{slice_cmp}
 use Rattle.std.specs.Ordering.{nat_cmp}
 use Rattle.std.specs.declared.cmp.Ordering.{Ordering}
 use Rattle.std.specs.declared.cmp.Ordering.TheVariants.{Less, Equal, Greater}
+use Rattle.hex.specs.Hex.{IsBytes}
+use Rattle.sec1_der.specs.Numbers.{number_of}
 use Rattle.sec1.specs.PointOrder.{point_cmp, IsBelow}
 use Rattle.sec1.specs.Points.{Point, uncompressed, hybrid, IsEncoding, tag_byte, coordinate_bytes, encoding}
 use Rattle.sec1.specs.Points.{fixed_width, compressed_point, hybrid_point}
 use Rattle.sec1.proofs.ByteOrderLemmas.{slice_cmp-enc}
-use Rattle.sec1.proofs.DigitLemmas.{length-fixed_width, num-fixed_width, parity_of_last}
+use Rattle.sec1.proofs.DigitLemmas.{fixed_width-num, length-fixed_width, num-fixed_width, parity_of_last}
 use Rattle.sec1.proofs.PointOrderLemmas.{orders, less_below, greater_below}
 use Rattle.sec1_c.specs.FieldLengths.{Encodes, EncodesBoth, IsFieldLength}
 use Rattle.sec1_c.specs.PointOrders.{IsOrderOf, order_of}
@@ -88,6 +90,26 @@ hybrid_same n p input e other = grind (arith, e.spelled)
 pub ruleset compressed_forms = (compressed_spelled, compressed_same)
 
 pub ruleset hybrid_forms = (hybrid_spelled, hybrid_same)
+
+-- ---- points made of coordinates
+
+-- the uncompressed point is spelled by the bytes of its coordinates
+pub coordinates_spelled : (x y : List ℕ) → IsBytes x → IsBytes y → length y ≡ length x
+    → encoding (length x) (uncompressed (number_of x) (number_of y)) ≡ 4 ∷ (x ++ y)
+unfolding encoding
+coordinates_spelled x y in_x in_y same =
+    rw (fixed_width-num (length x) x in_x refl, fixed_width-num (length x) y in_y same) refl
+
+-- its compressed form is spelled by the parity of y and the bytes of x
+pub compressed_coordinates : (x y : List ℕ) → IsBytes x → 0 < length y
+    → encoding (length x) (compressed_point (uncompressed (number_of x) (number_of y)))
+    ≡ (2 + get_or y (length y - 1) 0 % 2) ∷ x
+unfolding encoding
+compressed_coordinates x y in_x some =
+    rw (fixed_width-num (length x) x in_x refl) (grind (arith, parity_of_last y some))
+
+-- how points are spelled by the bytes of coordinates
+pub ruleset made_forms = (coordinates_spelled, compressed_coordinates)
 
 -- ---- the order
 

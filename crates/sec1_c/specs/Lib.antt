@@ -4,8 +4,12 @@ pub mod Places
 pub mod KeyPlaces
 pub mod GivenKeys
 pub mod FieldLengths
+pub mod PointForms
 pub mod PointPlaces
 pub mod PointOrders
+pub mod HexTexts
 pub mod IdentifierTexts
 pub mod Subidentifiers
 pub mod Documents
+pub mod FaultPlaces
+pub mod CurveContents

@@ -1,5 +1,9 @@
 -- What a call does to the buffer that it writes into, and to the length that it stores.
-use Rattle.std.specs.Prelude.{◌≡◌, ℕ, ◌≤◌, ◌<◌, List, ◌++◌, length, drop}
+use Rattle.std.specs.Prelude.{◌≡◌, ℕ, ◌≤◌, ◌<◌, List, [], ◌∷◌, ◌++◌, length, drop}
+
+-- a text, and the byte 0 that ends it in C
+abbrev pub ended : List ℕ → List ℕ
+ended text = text ++ 0 ∷ []
 
 -- The length of the bytes is stored, and they are written at the beginning of the buffer if they
 -- fit. A buffer that is too short is unchanged, and the number 7 is returned.

@@ -19,26 +19,30 @@ kind_number Value = 5
 kind_number Overlength = 6
 kind_number Buffer = 7
 kind_number Depth = 8
-kind_number Failed = 11
-kind_number Io = 12
-kind_number OutOfMemory = 13
+kind_number Failed = 12
+kind_number Io = 13
+kind_number OutOfMemory = 14
 
 -- the number of the kind by which bytes are refused; 0 if there is none
 abbrev pub fault_number : Option ErrorKind → ℕ
 fault_number None = 0
 fault_number (Some kind) = kind_number kind
 
--- the number of an error; no call returns one above 10
+-- the number of an error; no call returns one above 11
 abbrev pub error_number : Error → ℕ
 error_number (Asn1 cause) = kind_number cause.kind
 error_number PointEncoding = 9
-error_number Memory = 13
-error_number Crypto = 14
-error_number Version = 15
+error_number Memory = 14
+error_number Crypto = 15
+error_number Version = 16
 
 -- the number of a field length that isn't supported
 abbrev pub field_length_number : ℕ
 field_length_number = 10
+
+-- the number of a curve that isn't in the table
+abbrev pub curve_number : ℕ
+curve_number = 11
 
 -- the reasons for which bytes are refused: Truncated, Tag, Length, TrailingData or Value
 abbrev pub IsReadingNumber : ℕ → Type 0

@@ -1,14 +1,15 @@
-//! Elements of DER (X.690): `sec1_check_tree` and `sec1_document_len`.
-ghost use Rattle.std.specs.Prelude.{◌≡◌, ◌≢◌, ◌≤◌, ◌<◌, ℕ, List, length};
-ghost use Rattle.sec1_der.specs.Elements.{IsElement, IsProperBeginning, LacksHeader};
+//! Elements of DER (X.690): `sec1_check_tree`, `sec1_document_len` and `sec1_element_read`.
+ghost use Rattle.std.specs.Prelude.{◌≡◌, ◌≢◌, ◌≤◌, ◌<◌, ◌++◌, ℕ, List, length};
+ghost use Rattle.sec1_der.specs.Elements.{IsElement, IsHeader, IsProperBeginning, LacksHeader};
+ghost use Rattle.sec1_der.specs.Elements.{element, header};
 ghost use Rattle.sec1_der.specs.Faults.{header_fault};
-ghost use Rattle.sec1_der.specs.Refusals.{tree_fault};
+ghost use Rattle.sec1_der.specs.Refusals.{any_fault, no_fault, tree_fault};
 ghost use Rattle.sec1_der.specs.Trees.{Tree, IsTree, IsTreeOf, bytes, depth, max_tree_depth, size};
-ghost use Rattle.sec1_c.specs.Documents.{Announces, element_len};
+ghost use Rattle.sec1_c.specs.Documents.{Announces, BeginsWithElement, element_len};
 ghost use Rattle.sec1_c.specs.Statuses.{IsTreeNumber, fault_number, kind_number};
 
 use crate::status::{OK, kind_number};
-use sec1::der::{self, ErrorKind, Header, SliceReader};
+use sec1::der::{self, AnyRef, ErrorKind, Header, SliceReader};
 use std::cmp::Ordering;
 
 /// Checks that all of `input` is a tree of DER elements of depth at most 64, and stores the number
@@ -84,5 +85,43 @@ pub extern "C" fn sec1_document_len(input: &[u8], len: &mut usize) -> u32
             *len = 0;
             kind_number(e.kind)
         }
+    }
+}
+
+/// Reads the element at the beginning of `input`, with any content, and stores the lengths of its
+/// header and of its content. What follows it isn't read.
+///
+/// # Errors
+///
+/// Returns the number of Tag or Length if the input doesn't begin with a header of DER, or of
+/// Truncated if it ends inside the header or the content. `header_len` and `content_len` are
+/// unchanged then.
+#[unsafe(no_mangle)]
+pub extern "C" fn sec1_element_read(
+    input: &[u8],
+    header_len: &mut usize,
+    content_len: &mut usize,
+) -> u32
+    ensures found { result ≡ 0 → BeginsWithElement input.now header_len.new content_len.new }
+    ensures only { (tag : ℕ) (content rest : List ℕ) → IsHeader tag (length content)
+        → input.now ≡ element tag content ++ rest → result ≡ 0 }
+    ensures header { (tag : ℕ) (content rest : List ℕ) → IsHeader tag (length content)
+        → input.now ≡ element tag content ++ rest
+        → header_len.new ≡ length (header tag (length content)) }
+    ensures content { (tag : ℕ) (content rest : List ℕ) → IsHeader tag (length content)
+        → input.now ≡ element tag content ++ rest → content_len.new ≡ length content }
+    ensures kind { result ≡ fault_number (any_fault (λ _. no_fault) no_fault input.now) }
+    ensures unchanged { result ≢ 0
+        → (header_len.new ≡ header_len.old) × (content_len.new ≡ content_len.old) }
+{
+    let mut reader = SliceReader::new(input);
+    match AnyRef::decode(&mut reader) {
+        Ok(element) => {
+            let len = element.value().len();
+            *header_len = input.len() - reader.remaining_len() - len;
+            *content_len = len;
+            OK
+        }
+        Err(error) => kind_number(error.kind),
     }
 }

@@ -1,4 +1,4 @@
-//! Object identifiers (X.690 section 8.19): `sec1_identifier_to_text` and
+//! Object identifiers (X.690 section 8.19): `sec1_identifier_check`, `sec1_identifier_to_text` and
 //! `sec1_identifier_from_text`.
 ghost use Rattle.std.specs.Prelude.{◌≡◌, ℕ, List};
 ghost use Rattle.sec1_der.specs.Identifiers.{IsIdentifier, IsIdentifierContent, content_of};
@@ -9,9 +9,27 @@ ghost use Rattle.sec1_c.specs.Statuses.{kind_number};
 mod text;
 
 use crate::buffer::write_bytes;
-use crate::status::kind_number;
-use sec1::der::{ErrorKind, ObjectIdentifier};
+use crate::status::{OK, kind_number};
+use sec1::der::{ErrorKind, IdentifierRef, ObjectIdentifier};
 use text::dotted;
+
+/// Checks that all of `content` is the content of an identifier.
+///
+/// # Errors
+///
+/// Returns the number of Value if it isn't.
+#[unsafe(no_mangle)]
+pub extern "C" fn sec1_identifier_check(content: &[u8]) -> u32
+    ensures found { result ≡ 0 → IsIdentifierContent content.now }
+    ensures only { (arcs : List ℕ) → IsIdentifier arcs content.now → result ≡ 0 }
+    ensures no_identifier { ¬ IsIdentifierContent content.now
+        → result ≡ kind_number ErrorKind.Value }
+{
+    match IdentifierRef::from_bytes(content) {
+        Ok(_) => OK,
+        Err(e) => kind_number(e.kind),
+    }
+}
 
 /// Writes the dotted text of the identifier with this content, followed by a byte 0, at the
 /// beginning of `text`, and stores their length in bytes, at most 158. The rest of `text` is

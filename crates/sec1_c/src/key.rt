@@ -146,8 +146,7 @@ pub extern "C" fn sec1_key_write(
 }
 
 /// Writes the key's DER encoding at the beginning of `out`, and stores its length. Returns the
-/// number of Buffer if
-/// `out` is too short, and that of Overlength if the key has no encoding.
+/// number of Buffer if `out` is too short, and that of Overlength if the key has no encoding.
 fn write_key(key: &EcPrivateKey, out: &mut [u8], len: &mut usize) -> u32
     ensures key { (bytes : List ℕ) → IsKeyOf key.now bytes
         → Writes bytes out.old out.new result len.new }

@@ -10,7 +10,9 @@
 #![tactic(auto)]
 
 mod buffer;
+mod curve;
 mod element;
+mod fault;
 mod identifier;
 mod key;
 mod part;

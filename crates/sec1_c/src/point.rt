@@ -12,6 +12,8 @@ ghost use Rattle.sec1_c.specs.PointPlaces.{ArePointPartsOf, point_places};
 ghost use Rattle.sec1_c.specs.Statuses.{error_number, field_length_number};
 
 mod encoded;
+mod hexadecimal;
+mod made;
 
 use crate::part::Part;
 use crate::status::{OK, error_number, field_length_number};
@@ -44,8 +46,8 @@ pub struct PointParts {
 #[tactic(auto, using(crate::proofs::PointLemmas::encodings))]
 pub extern "C" fn sec1_point_check(bytes: &[u8], field_len: usize) -> u32
     ensures found { result ≡ 0 → IsFieldLength field_len × IsEncoding field_len bytes.now }
-    ensures only { (p : Point) → IsFieldLength field_len → Encodes field_len p bytes.now → result
-        ≡ 0 }
+    ensures only { (p : Point) → IsFieldLength field_len → Encodes field_len p bytes.now
+        → result ≡ 0 }
     ensures no_point { IsFieldLength field_len → ¬ IsEncoding field_len bytes.now
         → result ≡ error_number Error.PointEncoding }
     ensures other_field { ¬ IsFieldLength field_len → result ≡ field_length_number }
@@ -63,8 +65,8 @@ pub extern "C" fn sec1_point_check(bytes: &[u8], field_len: usize) -> u32
 #[tactic(auto, using(crate::proofs::PointLemmas::encodings))]
 pub extern "C" fn sec1_point_read(bytes: &[u8], field_len: usize, parts: &mut PointParts) -> u32
     ensures found { result ≡ 0 → IsFieldLength field_len × IsEncoding field_len bytes.now }
-    ensures only { (p : Point) → IsFieldLength field_len → Encodes field_len p bytes.now → result
-        ≡ 0 }
+    ensures only { (p : Point) → IsFieldLength field_len → Encodes field_len p bytes.now
+        → result ≡ 0 }
     ensures parts { (p : Point) → IsFieldLength field_len → Encodes field_len p bytes.now
         → ArePointPartsOf field_len p bytes.now parts.new }
     ensures places { (p : Point) → IsFieldLength field_len → Encodes field_len p bytes.now
@@ -108,9 +110,8 @@ pub extern "C" fn sec1_point_len(tag: usize, field_len: usize, len: &mut usize) 
 }
 
 /// Writes the compressed form of an uncompressed or hybrid point, with the parity of its y, at the
-/// beginning of
-/// `out`, and stores its length. Any other point is written as it is. The rest of `out` is
-/// unchanged.
+/// beginning of `out`, and stores its length. Any other point is written as it is. The rest of
+/// `out` is unchanged.
 ///
 /// # Errors
 ///

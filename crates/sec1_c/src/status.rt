@@ -1,8 +1,8 @@
 //! The numbers that the exported functions return.
 ghost use Rattle.std.specs.Prelude.{◌≡◌, Option};
 ghost use Rattle.sec1.specs.Errors.{IsAsn1, IsAsn1Fault};
-ghost use Rattle.sec1_c.specs.Statuses.{error_number, fault_number, field_length_number};
-ghost use Rattle.sec1_c.specs.Statuses.{kind_number};
+ghost use Rattle.sec1_c.specs.Statuses.{curve_number, error_number, fault_number};
+ghost use Rattle.sec1_c.specs.Statuses.{field_length_number, kind_number};
 
 use sec1::Error;
 use sec1::der::ErrorKind;
@@ -23,9 +23,9 @@ pub fn kind_number(kind: ErrorKind) -> u32
         ErrorKind::Overlength => 6,
         ErrorKind::Buffer => 7,
         ErrorKind::Depth => 8,
-        ErrorKind::Failed => 11,
-        ErrorKind::Io => 12,
-        ErrorKind::Memory => 13,
+        ErrorKind::Failed => 12,
+        ErrorKind::Io => 13,
+        ErrorKind::Memory => 14,
     }
 }
 
@@ -39,9 +39,9 @@ pub fn error_number(error: &Error) -> u32
     match error {
         Error::Asn1(cause) => kind_number(cause.kind),
         Error::PointEncoding => 9,
-        Error::Memory => 13,
-        Error::Crypto => 14,
-        Error::Version => 15,
+        Error::Memory => 14,
+        Error::Crypto => 15,
+        Error::Version => 16,
     }
 }
 
@@ -50,4 +50,11 @@ pub fn field_length_number() -> u32
     ensures { result ≡ field_length_number }
 {
     10
+}
+
+/// Returns the number of a curve that isn't in the table.
+pub fn curve_number() -> u32
+    ensures { result ≡ curve_number }
+{
+    11
 }

@@ -2,10 +2,10 @@
 #include <sec1.h>
 
 static uint8_t key[128], out[64];
-static char text[SEC1_IDENTIFIER_TEXT_MAX];
+static char text[SEC1_IDENTIFIER_TEXT_MAX], name[SEC1_CURVE_NAME_MAX];
 static struct sec1_key_parts parts;
 static struct sec1_point_parts point;
-static size_t len;
+static size_t len, other_len;
 static int32_t order;
 static const struct sec1_key given = {key, 32, NULL, 0, key, 65, 1};
 
@@ -37,6 +37,26 @@ uint32_t right_calls(size_t some)
     status |= sec1_identifier_from_text(text, some, out, sizeof out, &len);
     status |= sec1_check_tree(key, sizeof key, &len);
     status |= sec1_document_len(key, sizeof key, &len);
+    status |= sec1_element_read(key, sizeof key, &len, &other_len);
+    status |= sec1_element_read(NULL, 0, &len, &other_len);
+    status |= sec1_key_fault_at(key, some, &len);
+    status |= sec1_key_fault_at(NULL, 0, &len);
+    status |= sec1_tree_fault_at(key, sizeof key, &len);
+    status |= sec1_identifier_check(key, 8);
+    status |= sec1_identifier_check(NULL, 0);
+    status |= sec1_curve_field_len(key, some, &len);
+    status |= sec1_curve_name(key, 8, name, sizeof name, &len);
+    status |= sec1_curve_name(NULL, 0, NULL, 0, &len);
+    status |= sec1_curve_from_name("P-256", 5, out, sizeof out, &len);
+    status |= sec1_curve_from_name(name, some, NULL, 0, &len);
+    status |= sec1_point_from_coordinates(key, 32, key, 32, 1, out, sizeof out, &len);
+    status |= sec1_point_from_coordinates(NULL, 0, NULL, 0, 0, NULL, 0, &len);
+    status |= sec1_point_identity(out, sizeof out, &len);
+    status |= sec1_point_identity(NULL, 0, &len);
+    status |= sec1_point_to_hex(key, 65, 32, 0, text, sizeof text, &len);
+    status |= sec1_point_to_hex(key, 65, 32, 1, NULL, 0, &len);
+    status |= sec1_point_from_hex("00", 2, 32, out, sizeof out, &len);
+    status |= sec1_point_from_hex(text, some, 32, NULL, 0, &len);
     return sec1_status_text(status)[0] == 'o' ? sec1_version() : status;
 }
 
@@ -70,6 +90,10 @@ uint32_t wrong_call(size_t some)
     return sec1_identifier_to_text(key, some, text, sizeof text + 1, &len);
 #elif WRONG == 11
     return sec1_key_write(key, 32, key, some, key, 65, 1, out, 121, &len);
+#elif WRONG == 12
+    return sec1_curve_name(key, some, name, sizeof name + 1, &len);
+#elif WRONG == 13
+    return sec1_point_identity(NULL, 1 + 0 * some, &len);
 #else
     return (uint32_t)some;
 #endif

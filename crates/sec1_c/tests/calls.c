@@ -272,24 +272,24 @@ static void test_header(void)
 
     EXPECT(SEC1_OK == 0 && SEC1_TRUNCATED == 1 && SEC1_TAG == 2 && SEC1_LENGTH == 3);
     EXPECT(SEC1_TRAILING_DATA == 4 && SEC1_VALUE == 5 && SEC1_OVERLENGTH == 6 && SEC1_BUFFER == 7);
-    EXPECT(SEC1_DEPTH == 8 && SEC1_POINT_ENCODING == 9 && SEC1_FIELD_LENGTH == 10);
+    EXPECT(SEC1_DEPTH == 8 && SEC1_POINT_ENCODING == 9 && SEC1_FIELD_LENGTH == 10 && SEC1_CURVE == 11);
     EXPECT(SEC1_POINT_IDENTITY == 0);
     EXPECT(SEC1_POINT_COMPRESSED_EVEN == 2 && SEC1_POINT_COMPRESSED_ODD == 3);
     EXPECT(SEC1_POINT_UNCOMPRESSED == 4 && SEC1_POINT_COMPACT == 5);
     EXPECT(SEC1_POINT_HYBRID_EVEN == 6 && SEC1_POINT_HYBRID_ODD == 7);
     EXPECT(SEC1_IDENTIFIER_CONTENT_MAX == 39 && SEC1_IDENTIFIER_TEXT_MAX == 158);
-    EXPECT(SEC1_POINT_MAX == 133);
+    EXPECT(SEC1_POINT_MAX == 133 && SEC1_CURVE_NAME_MAX == 16 && SEC1_POINT_TEXT_MAX == 267);
     EXPECT(sec1_version() == SEC1_VERSION);
 
     static const char *const texts[] = {
         "ok", "input ends inside an element", "unexpected or unsupported tag",
         "length not in DER form or above the limit", "bytes after the value", "content not valid for its tag",
         "value longer than 268435455 bytes", "output buffer too small", "more than 64 nested elements",
-        "elliptic curve point encoding error", "length of field elements not supported",
+        "elliptic curve point encoding error", "length of field elements not supported", "curve not in the table",
     };
-    for (uint32_t status = 0; status < 11; status++)
+    for (uint32_t status = 0; status < 12; status++)
         EXPECT(strcmp(sec1_status_text(status), texts[status]) == 0);
-    EXPECT(strcmp(sec1_status_text(11), "unknown status") == 0);
+    EXPECT(strcmp(sec1_status_text(12), "unknown status") == 0);
     EXPECT(strcmp(sec1_status_text(UINT32_MAX), "unknown status") == 0);
 }
 
@@ -567,6 +567,57 @@ static void test_points_of(size_t n)
     EXPECT(sec1_point_len(SIZE_MAX, n, &len) == SEC1_POINT_ENCODING && len == 777777);
 }
 
+/* Makes a point of n bytes for each coordinate, in both forms, at every length of the buffer. */
+static void test_coordinates(size_t n)
+{
+    for (unsigned last = 0; last < 2; last++) {
+        struct bytes x = repeated(0x41, n), y = repeated(0x62, n), forms[2];
+        y.data[n - 1] = (uint8_t)(0x62 + last);
+        forms[0] = joined(repeated(4, 1), joined(x, y));
+        forms[1] = joined(repeated((uint8_t)(2 + last), 1), x);
+        for (size_t flag = 0; flag < 4; flag++) {
+            struct bytes wanted = forms[flag != 0];
+            for (size_t room = 0; room <= wanted.len + 2; room++) {
+                struct guarded in_x = map_input(x.data, n, AT_END), in_y = map_input(y.data, n, AT_START);
+                struct guarded out = map_guarded(room, room % 2 ? AT_END : AT_START);
+                size_t len = 777777, compress_by = flag == 3 ? SIZE_MAX : flag;
+                memset(out.data, 0xEE, room);
+                uint32_t status = sec1_point_from_coordinates(in_x.data, n, in_y.data, n, compress_by, out.data, room, &len);
+                size_t written = room < wanted.len ? 0 : wanted.len;
+                EXPECT(status == (written ? (uint32_t)SEC1_OK : SEC1_BUFFER) && len == wanted.len);
+                EXPECT(memcmp(out.data, wanted.data, written) == 0);
+                EXPECT(all_are(out.data + written, room - written, 0xEE));
+                unmap(in_x);
+                unmap(in_y);
+                unmap(out);
+            }
+        }
+    }
+}
+
+static void test_made_points(void)
+{
+    for (size_t n = 1; n <= 66; n += n < 4 ? 1 : 31)
+        test_coordinates(n);
+    uint8_t out[8] = {9, 9, 9};
+    size_t len = 777777;
+    static const struct {
+        size_t x_len, y_len;
+    } others[] = {{0, 0}, {0, 1}, {1, 0}, {32, 31}, {31, 32}, {66, 67}, {67, 66}, {67, 67}, {256 + 32, 32}};
+    static const uint8_t zeros[300];
+    for (size_t i = 0; i < sizeof others / sizeof *others; i++)
+        for (size_t flag = 0; flag < 2; flag++)
+            EXPECT(sec1_point_from_coordinates(zeros, others[i].x_len, zeros, others[i].y_len, flag, out, sizeof out, &len)
+                   == SEC1_FIELD_LENGTH);
+    EXPECT(len == 777777 && out[0] == 9);
+    EXPECT(sec1_point_from_coordinates(NULL, 0, NULL, 0, 0, NULL, 0, &len) == SEC1_FIELD_LENGTH && len == 777777);
+
+    EXPECT(sec1_point_identity(NULL, 0, &len) == SEC1_BUFFER && len == 1);
+    len = 777777;
+    EXPECT(sec1_point_identity(out, 2, &len) == SEC1_OK && len == 1 && out[0] == 0 && out[1] == 9);
+    EXPECT(sec1_point_check(out, len, 66) == SEC1_OK);
+}
+
 static int32_t order_of(struct bytes a, struct bytes b)
 {
     int32_t order = 99;
@@ -649,9 +700,20 @@ static struct bytes text_bytes(const char *text)
     return b;
 }
 
+static uint32_t check_identifier(struct bytes content)
+{
+    struct guarded in = map_input(content.data, content.len, AT_END), again = map_input(content.data, content.len, AT_START);
+    uint32_t status = sec1_identifier_check(in.data, content.len);
+    EXPECT(sec1_identifier_check(again.data, content.len) == status);
+    unmap(in);
+    unmap(again);
+    return status;
+}
+
 static void expect_identifier(const char *text, struct bytes content)
 {
     struct bytes ended = text_bytes(text);
+    EXPECT(check_identifier(content) == SEC1_OK);
     ended.len++;
     expect_converted(to_text, content, ended);
     expect_converted(from_text, text_bytes(text), content);
@@ -711,11 +773,180 @@ static void test_identifiers(void)
     expect_refused(from_text, with_end, SEC1_VALUE);
 
     static const char *const no_contents[] = {"", "80", "8001", "2A80", "2A8001", "2AFF", "2A9080808000", "9080808000"};
-    for (size_t i = 0; i < sizeof no_contents / sizeof *no_contents; i++)
+    for (size_t i = 0; i < sizeof no_contents / sizeof *no_contents; i++) {
         expect_refused(to_text, unhex(no_contents[i]), SEC1_VALUE);
+        EXPECT(check_identifier(unhex(no_contents[i])) == SEC1_VALUE);
+    }
+    EXPECT(check_identifier(repeated(1, 40)) == SEC1_VALUE && sec1_identifier_check(NULL, 0) == SEC1_VALUE);
     size_t len = 777777;
     EXPECT(sec1_identifier_to_text(NULL, 0, NULL, 0, &len) == SEC1_VALUE && len == 777777);
     EXPECT(sec1_identifier_from_text(NULL, 0, NULL, 0, &len) == SEC1_VALUE && len == 777777);
+}
+
+/* ---- points as hexadecimal texts */
+
+static uint32_t to_upper(const uint8_t *bytes, size_t bytes_len, uint8_t *out, size_t out_len,
+                         size_t *len)
+{
+    return sec1_point_to_hex(bytes, bytes_len, field, 0, (char *)out, out_len, len);
+}
+
+static uint32_t to_lower(const uint8_t *bytes, size_t bytes_len, uint8_t *out, size_t out_len,
+                         size_t *len)
+{
+    return sec1_point_to_hex(bytes, bytes_len, field, SIZE_MAX, (char *)out, out_len, len);
+}
+
+static uint32_t from_hex(const uint8_t *bytes, size_t bytes_len, uint8_t *out, size_t out_len,
+                         size_t *len)
+{
+    return sec1_point_from_hex((const char *)bytes, bytes_len, field, out, out_len, len);
+}
+
+/* A point and its text in capital letters, both ways, and in small ones. */
+static void expect_hex(const char *text)
+{
+    struct bytes point = unhex(text), upper = text_bytes(text), lower = text_bytes(text);
+    expect_converted(from_hex, upper, point);
+    upper.len++;
+    expect_converted(to_upper, point, upper);
+    for (size_t i = 0; i < lower.len; i++)
+        if (lower.data[i] >= 'A')
+            lower.data[i] += 'a' - 'A';
+    expect_converted(from_hex, lower, point);
+    lower.len++;
+    expect_converted(to_lower, point, lower);
+}
+
+static void test_hexadecimal(void)
+{
+    field = 32;
+    expect_hex("00");
+    expect_hex("04" X Y);
+    expect_hex("03" X);
+    expect_hex("05" X);
+    expect_hex("07" X Y);
+    expect_refused(from_hex, text_bytes("06" X Y), SEC1_POINT_ENCODING);
+    expect_refused(from_hex, text_bytes("01"), SEC1_POINT_ENCODING);
+    expect_refused(from_hex, text_bytes("03" X "00"), SEC1_POINT_ENCODING);
+    expect_refused(from_hex, text_bytes("03" X "0"), SEC1_POINT_ENCODING);
+    expect_refused(to_upper, unhex("04" X), SEC1_POINT_ENCODING);
+
+    field = 2;
+    expect_hex("04ABCDEF01");
+    static const char *const no_texts[] = {
+        "", "0", "000", "04aBCDEF01", "04abCDef01", "04ABCDEFg1", "04ABCDEF0", "04ABCDEF011",
+        " 04ABCDEF01", "04ABCDEF01 ", "0x04ABCDEF01", "04ABCD-F01", "04ABCDE\xC3\xA9",
+    };
+    for (size_t i = 0; i < sizeof no_texts / sizeof *no_texts; i++)
+        expect_refused(from_hex, text_bytes(no_texts[i]), SEC1_POINT_ENCODING);
+    struct bytes ended = text_bytes("04ABCDEF01");
+    ended.len++;
+    expect_refused(from_hex, ended, SEC1_POINT_ENCODING);
+    expect_refused(from_hex, repeated('0', 268), SEC1_POINT_ENCODING);
+    expect_refused(from_hex, repeated('0', 4000), SEC1_POINT_ENCODING);
+
+    field = 66;
+    char text[SEC1_POINT_TEXT_MAX];
+    struct bytes longest = repeated(0xAE, SEC1_POINT_MAX), again;
+    size_t len;
+    longest.data[0] = 4;
+    EXPECT(to_lower(longest.data, longest.len, (uint8_t *)text, sizeof text, &len) == SEC1_OK);
+    EXPECT(len == sizeof text && strlen(text) == 266 && strncmp(text, "04aeaeae", 8) == 0);
+    EXPECT(from_hex((uint8_t *)text, 266, again.data, sizeof again.data, &again.len) == SEC1_OK);
+    EXPECT(again.len == longest.len && memcmp(again.data, longest.data, longest.len) == 0);
+
+    static const size_t others[] = {0, 67, SIZE_MAX};
+    for (size_t i = 0; i < sizeof others / sizeof *others; i++) {
+        field = others[i];
+        expect_refused(from_hex, text_bytes("00"), SEC1_FIELD_LENGTH);
+        expect_refused(to_upper, repeated(0, 1), SEC1_FIELD_LENGTH);
+    }
+    field = 32;
+    len = 777777;
+    EXPECT(from_hex(NULL, 0, NULL, 0, &len) == SEC1_POINT_ENCODING && len == 777777);
+    EXPECT(to_upper(NULL, 0, NULL, 0, &len) == SEC1_POINT_ENCODING && len == 777777);
+}
+
+/* ---- curves */
+
+/* What `openssl ecparam -list_curves`, `-param_enc named_curve` and `-text` of OpenSSL 3.0 say of curves, and the names
+ * of FIPS 186-4 and ANSI X9.62. */
+static const struct curve {
+    const char *name, *content;
+    size_t field_len;
+    const char *other_name;
+} curves[] = {
+    {"secp112r1", "2B81040006", 14, NULL},
+    {"secp160r2", "2B8104001E", 20, NULL},
+    {"secp192r1", "2A8648CE3D030101", 24, "P-192"},
+    {"secp192r1", "2A8648CE3D030101", 24, "prime192v1"},
+    {"secp224r1", "2B81040021", 28, "P-224"},
+    {"secp256k1", "2B8104000A", 32, NULL},
+    {"secp256r1", "2A8648CE3D030107", 32, "P-256"},
+    {"secp256r1", "2A8648CE3D030107", 32, "prime256v1"},
+    {"secp384r1", "2B81040022", 48, "P-384"},
+    {"secp521r1", "2B81040023", 66, "P-521"},
+    {"prime239v3", "2A8648CE3D030106", 30, NULL},
+    {"brainpoolP160t1", "2B2403030208010102", 20, NULL},
+    {"brainpoolP320r1", "2B2403030208010109", 40, NULL},
+    {"brainpoolP512t1", "2B240303020801010E", 64, NULL},
+};
+
+static uint32_t curve_name(const uint8_t *bytes, size_t bytes_len, uint8_t *out, size_t out_len, size_t *len)
+{
+    return sec1_curve_name(bytes, bytes_len, (char *)out, out_len, len);
+}
+
+static uint32_t curve_content(const uint8_t *bytes, size_t bytes_len, uint8_t *out, size_t out_len, size_t *len)
+{
+    return sec1_curve_from_name((const char *)bytes, bytes_len, out, out_len, len);
+}
+
+static uint32_t field_len_of(struct bytes content, size_t *field_len)
+{
+    struct guarded in = map_input(content.data, content.len, AT_END);
+    uint32_t status = sec1_curve_field_len(in.data, content.len, field_len);
+    unmap(in);
+    return status;
+}
+
+static void test_curves(void)
+{
+    size_t found, len;
+    for (size_t i = 0; i < sizeof curves / sizeof *curves; i++) {
+        struct bytes content = unhex(curves[i].content), ended = text_bytes(curves[i].name);
+        ended.len++;
+        EXPECT(field_len_of(content, &found) == SEC1_OK && found == curves[i].field_len);
+        expect_converted(curve_name, content, ended);
+        expect_converted(curve_content, text_bytes(curves[i].name), content);
+        if (curves[i].other_name)
+            expect_converted(curve_content, text_bytes(curves[i].other_name), content);
+    }
+    char name[SEC1_CURVE_NAME_MAX];
+    struct bytes longest = unhex("2B240303020801010D");
+    EXPECT(sec1_curve_name(longest.data, longest.len, name, sizeof name, &len) == SEC1_OK && len == SEC1_CURVE_NAME_MAX);
+
+    /* SM2, a curve of WTLS, beginnings of curves, and no identifiers */
+    static const char *const no_contents[] = {
+        "2A811CCF5501822D", "672B010406", "2A8648CE3D0301", "2A8648CE3D03010700", "2A8648CE3D030100", "2B", "80", "",
+    };
+    for (size_t i = 0; i < sizeof no_contents / sizeof *no_contents; i++) {
+        found = 777777;
+        EXPECT(field_len_of(unhex(no_contents[i]), &found) == SEC1_CURVE && found == 777777);
+        expect_refused(curve_name, unhex(no_contents[i]), SEC1_CURVE);
+    }
+    static const char *const no_names[] = {
+        "", "p-256", "P-256 ", "SECP256R1", "secp256r", "secp256r11", "P-25", "SM2", "1.2.840.10045.3.1.7", "\xFF\xFE",
+    };
+    for (size_t i = 0; i < sizeof no_names / sizeof *no_names; i++)
+        expect_refused(curve_content, text_bytes(no_names[i]), SEC1_CURVE);
+    struct bytes with_end = text_bytes("P-256");
+    with_end.len++;
+    expect_refused(curve_content, with_end, SEC1_CURVE);
+    len = 777777;
+    EXPECT(sec1_curve_name(NULL, 0, NULL, 0, &len) == SEC1_CURVE && len == 777777);
+    EXPECT(sec1_curve_from_name(NULL, 0, NULL, 0, &len) == SEC1_CURVE && len == 777777);
 }
 
 /* ---- elements */
@@ -743,6 +974,32 @@ static uint32_t document_len(struct bytes input, size_t *len)
         unmap(in);
     }
     return status;
+}
+
+/* Reads the element at the beginning. */
+static uint32_t read_element(struct bytes input, size_t *header_len, size_t *content_len)
+{
+    uint32_t status = 0;
+    for (enum side side = AT_END; side <= AT_START; side++) {
+        struct guarded in = map_input(input.data, input.len, side);
+        *header_len = *content_len = 777777;
+        status = sec1_element_read(in.data, input.len, header_len, content_len);
+        EXPECT(status == SEC1_OK || (*header_len == 777777 && *content_len == 777777));
+        unmap(in);
+    }
+    return status;
+}
+
+/* The status and the offset of the first fault, by the call for keys or by that for trees. */
+static void expect_fault(uint32_t (*fault_at)(const uint8_t *, size_t, size_t *), struct bytes input, uint32_t wanted,
+                         size_t wanted_offset)
+{
+    for (enum side side = AT_END; side <= AT_START; side++) {
+        struct guarded in = map_input(input.data, input.len, side);
+        size_t offset = 777777;
+        EXPECT(fault_at(in.data, input.len, &offset) == wanted && offset == (wanted ? wanted_offset : 777777));
+        unmap(in);
+    }
 }
 
 static const struct tree {
@@ -789,6 +1046,92 @@ static const struct document {
     {"", SEC1_TRUNCATED, 0},
 };
 
+/* The first element of some bytes. */
+static const struct first_element {
+    const char *bytes;
+    uint32_t status;
+    size_t header_len, content_len;
+} first_elements[] = {
+    {WHOLE_KEY, SEC1_OK, 2, 119},
+    {WHOLE_KEY "00", SEC1_OK, 2, 119},
+    {"0400", SEC1_OK, 2, 0},
+    {"04000000", SEC1_OK, 2, 0},
+    {"0201010400", SEC1_OK, 2, 1},
+    {"3003040500", SEC1_OK, 2, 3},
+    {"3003040500FF", SEC1_OK, 2, 3},
+    {"0403AABB", SEC1_TRUNCATED, 0, 0},
+    {"30840FFFFFFF", SEC1_TRUNCATED, 0, 0},
+    {"308410000000", SEC1_LENGTH, 0, 0},
+    {"04817F", SEC1_LENGTH, 0, 0},
+    {"048180", SEC1_TRUNCATED, 0, 0},
+    {"0480", SEC1_LENGTH, 0, 0},
+    {"04", SEC1_TRUNCATED, 0, 0},
+    {"0000", SEC1_TAG, 0, 0},
+    {"1F00", SEC1_TAG, 0, 0},
+    {"", SEC1_TRUNCATED, 0, 0},
+};
+
+static void test_first_elements(void)
+{
+    size_t header_len, content_len;
+    for (size_t i = 0; i < sizeof first_elements / sizeof *first_elements; i++) {
+        const struct first_element *e = &first_elements[i];
+        EXPECT(read_element(unhex(e->bytes), &header_len, &content_len) == e->status);
+        EXPECT(e->status != SEC1_OK || (header_len == e->header_len && content_len == e->content_len));
+    }
+    struct bytes two = joined(unhex("048180"), joined(repeated(5, 128), unhex("0500")));
+    EXPECT(read_element(two, &header_len, &content_len) == SEC1_OK && header_len == 3 && content_len == 128);
+    EXPECT(sec1_element_read(NULL, 0, &header_len, &content_len) == SEC1_TRUNCATED);
+    EXPECT(header_len == 3 && content_len == 128);
+}
+
+/* Which byte of the key is changed, to what, and where the fault lies then, counted by hand. */
+static const struct damage {
+    size_t at;
+    uint8_t byte;
+    uint32_t status;
+    size_t offset;
+} damages[] = {
+    {0, 0x31, SEC1_TAG, 0},        {0, 0x00, SEC1_TAG, 0},     {1, 0x32, SEC1_TRUNCATED, 1},
+    {1, 0x80, SEC1_LENGTH, 1},     {1, 0x30, SEC1_TRUNCATED, 40}, {2, 0x04, SEC1_TAG, 2},
+    {4, 0x00, SEC1_VALUE, 4},      {5, 0x30, SEC1_TAG, 5},     {6, 0x2D, SEC1_TRUNCATED, 6},
+    {39, 0xA1, SEC1_TAG, 41},      {42, 0x07, SEC1_TRAILING_DATA, 50}, {43, 0x80, SEC1_VALUE, 43},
+};
+
+static const struct tree_fault {
+    const char *bytes;
+    uint32_t status;
+    size_t offset;
+} tree_faults[] = {
+    {"3002050000", SEC1_TRAILING_DATA, 4}, {"3003050005", SEC1_TRUNCATED, 5}, {"3003050200", SEC1_TRUNCATED, 3},
+    {"30031F0100", SEC1_TAG, 2},           {"3003048100", SEC1_LENGTH, 3},    {"3003A00100", SEC1_TAG, 4},
+    {"", SEC1_TRUNCATED, 0},               {"3003050000", SEC1_TAG, 4},
+};
+
+static void test_faults(void)
+{
+    struct bytes key = unhex("3031020101" "0420" PRIVATE "A00A06082A8648CE3D030107");
+    expect_fault(sec1_key_fault_at, key, SEC1_OK, 0);
+    expect_fault(sec1_tree_fault_at, key, SEC1_OK, 0);
+    for (size_t i = 0; i < sizeof damages / sizeof *damages; i++) {
+        struct bytes damaged = key;
+        damaged.data[damages[i].at] = damages[i].byte;
+        expect_fault(sec1_key_fault_at, damaged, damages[i].status, damages[i].offset);
+    }
+    for (size_t end = 0; end < key.len; end++) {
+        struct bytes cut = key;
+        cut.len = end;
+        expect_fault(sec1_key_fault_at, cut, SEC1_TRUNCATED, end ? 1 : 0);
+    }
+    expect_fault(sec1_key_fault_at, joined(key, repeated(0, 1)), SEC1_TRAILING_DATA, key.len);
+    for (size_t i = 0; i < sizeof tree_faults / sizeof *tree_faults; i++)
+        expect_fault(sec1_tree_fault_at, unhex(tree_faults[i].bytes), tree_faults[i].status, tree_faults[i].offset);
+    size_t offset = 777777;
+    EXPECT(sec1_key_fault_at(NULL, 0, &offset) == SEC1_TRUNCATED && offset == 0);
+    offset = 777777;
+    EXPECT(sec1_tree_fault_at(NULL, 0, &offset) == SEC1_TRUNCATED && offset == 0);
+}
+
 static void test_elements(void)
 {
     size_t found;
@@ -812,6 +1155,8 @@ static void test_elements(void)
     tree.len = 128;
     EXPECT(check_tree(tree, &found) == SEC1_OK && found == 64);
     EXPECT(check_tree(joined(unhex("308180"), tree), &found) == SEC1_DEPTH);
+    expect_fault(sec1_tree_fault_at, tree, SEC1_OK, 0);
+    expect_fault(sec1_tree_fault_at, joined(unhex("308180"), tree), SEC1_DEPTH, 129);
 }
 
 /* ---- random bytes */
@@ -884,8 +1229,13 @@ int main(void)
         {"written keys", test_written_keys},
         {"long keys", test_long_keys},
         {"points", test_points},
+        {"made points", test_made_points},
         {"identifiers", test_identifiers},
+        {"hexadecimal texts", test_hexadecimal},
+        {"curves", test_curves},
         {"elements", test_elements},
+        {"first elements", test_first_elements},
+        {"faults", test_faults},
         {"random bytes", test_random_bytes},
     };
     unsigned tests_passed = 0, tests_failed = 0;

@@ -5,7 +5,6 @@ set -uo pipefail
 prefix=$(realpath "$1")
 here=$(realpath "$(dirname "$0")")
 keys=$here/../../../tests/keys
-passed=0 failed=0
 work=$(mktemp -d)
 trap 'rm -rf "$work"' EXIT
 mkdir "$work/empty"
@@ -13,18 +12,8 @@ cd "$work/empty" || exit 2
 examples=$prefix/share/doc/sec1/examples
 export PKG_CONFIG_PATH=$prefix/lib/pkgconfig LD_LIBRARY_PATH=$prefix/lib
 programs=()
+. "$here/counts.sh"
 
-check() { # NAME COMMAND..: passes where the command does
-    local name=$1
-    shift
-    if "$@" > "$work/said" 2>&1; then
-        passed=$((passed + 1))
-    else
-        failed=$((failed + 1))
-        echo "FAILED: $name"
-        head -n 10 "$work/said" | sed 's/^/  /'
-    fi
-}
 missing() { # TOOL PACKAGE
     failed=$((failed + 1))
     echo "FAILED: $1 is missing (Debian: $2)"
@@ -100,5 +89,4 @@ if command -v python3 > "$work/said"; then
 else
     missing python3 python3
 fi
-echo "$passed passed, $failed failed"
-[[ $failed -eq 0 ]]
+finish

@@ -31,7 +31,7 @@ static struct arena map_arena(void)
     return arena;
 }
 
-static struct arena input_arena, other_arena, out_arena, struct_arena;
+static struct arena input_arena, other_arena, out_arena, struct_arena, text_arena;
 static int at_end;
 
 /* Room for len bytes, against the page behind it or the page before it. */
@@ -66,6 +66,13 @@ enum call {
     COMPARE,
     TO_TEXT,
     FROM_TEXT,
+    KEY_FAULT,
+    TREE_FAULT,
+    ELEMENT,
+    IDENTIFIER,
+    MADE,
+    TO_HEX,
+    FROM_HEX,
     INPUT,
     CALLS
 };
@@ -79,10 +86,18 @@ static const char *const names[CALLS] = {
     "sec1_point_compare",
     "sec1_identifier_to_text",
     "sec1_identifier_from_text",
+    "sec1_key_fault_at",
+    "sec1_tree_fault_at",
+    "sec1_element_read",
+    "sec1_identifier_check",
+    "sec1_point_from_coordinates",
+    "sec1_point_to_hex",
+    "sec1_point_from_hex",
     "inputs that are unchanged",
 };
 /* the statuses that each call returns at least once here, as bits */
-static const unsigned wanted[CALLS] = {0x3F, 0xA1, 0x11F, 0x1F, 0x601, 0x681, 0x601, 0xA1, 0xA1, 1};
+static const unsigned wanted[CALLS] = {0x3F, 0xA1, 0x11F, 0x1F,  0x601, 0x681, 0x601, 0xA1,
+                                       0xA1, 0x3F, 0x11F, 0xF, 0x21,  0x481, 0x681, 0x681, 1};
 static unsigned long counts[CALLS][11], wrong[CALLS];
 static struct {
     uint8_t data[MOST];
@@ -167,6 +182,15 @@ static void check_key_write(const uint8_t *private_key, size_t private_len, cons
                && only_len == (refused ? 777777 : key_len));
 }
 
+/* A call that tells the first fault, whose status and offset are known. */
+static void check_fault(enum call call, uint32_t (*fault_at_of)(const uint8_t *, size_t, size_t *),
+                        const uint8_t *bytes, size_t len, uint32_t refused, size_t at)
+{
+    size_t *stored = (size_t *)filled(struct_arena, sizeof *stored, 0xA5), before = *stored;
+    uint32_t status = fault_at_of(bytes, len, stored);
+    expect(call, status, status == refused && *stored == (refused ? at : before));
+}
+
 static void check_key(const uint8_t *bytes, size_t len)
 {
     struct sec1_key_parts found,
@@ -176,6 +200,8 @@ static void check_key(const uint8_t *bytes, size_t len)
            status == refused
                && (refused ? all_are((uint8_t *)stored, sizeof found, 0xA5)
                            : memcmp(stored, &found, sizeof found) == 0));
+    check_fault(KEY_FAULT, sec1_key_fault_at, bytes, len, refused, fault_at);
+    stored = (struct sec1_key_parts *)memcpy(room(struct_arena, sizeof found), &found, sizeof found);
     if (status == SEC1_OK) {
         check_key_write(bytes + stored->private_key.offset, stored->private_key.len,
                         bytes + stored->curve.offset, stored->curve.len,
@@ -196,9 +222,20 @@ static void check_elements(const uint8_t *bytes, size_t len)
     uint32_t refused = check_tree_of(bytes, len, &found),
              status = sec1_check_tree(bytes, len, stored);
     expect(TREE, status, status == refused && *stored == (refused ? before : found));
+    check_fault(TREE_FAULT, sec1_tree_fault_at, bytes, len, refused, fault_at);
     refused = document_of(bytes, len, &found);
     status = sec1_document_len(bytes, len, stored);
     expect(DOCUMENT, status, status == refused && *stored == found);
+
+    struct rest rest = {bytes, 0, len};
+    struct element e = {0, 0, 0};
+    size_t *header_len = (size_t *)filled(struct_arena, 2 * sizeof found, 0xA5),
+           *content_len = header_len + 1;
+    refused = element_of(&rest, -1, &e);
+    status = sec1_element_read(bytes, len, header_len, content_len);
+    expect(ELEMENT, status,
+           status == refused && *header_len == (refused ? before : e.start)
+               && *content_len == (refused ? before : e.end - e.start));
 }
 
 static void check_point(const uint8_t *bytes, size_t len, size_t n, const uint8_t *other,
@@ -235,6 +272,74 @@ static void check_point(const uint8_t *bytes, size_t len, size_t n, const uint8_
     }
 }
 
+/* A point whose coordinates are at the beginning of the bytes and behind them. */
+static void check_made(const uint8_t *bytes, size_t len)
+{
+    static uint8_t form[MOST];
+    size_t x_len = draw(8) ? len / 2 : draw((uint32_t)len + 1);
+    size_t y_len = draw(8) ? x_len : len - x_len, form_len = 1 + x_len, found = 777777;
+    size_t compress_by = draw(3);
+    if (x_len + y_len > len)
+        y_len = len - x_len;
+    uint32_t refused = x_len && x_len <= 66 && y_len == x_len ? SEC1_OK : SEC1_FIELD_LENGTH;
+    form[0] = compress_by == 0 ? 4 : y_len && bytes[x_len + y_len - 1] % 2 ? 3 : 2;
+    if (x_len)
+        memcpy(form + 1, bytes, x_len);
+    if (compress_by == 0 && y_len) {
+        memcpy(form + form_len, bytes + x_len, y_len);
+        form_len += y_len;
+    }
+    size_t out_len = some_room(form_len);
+    uint8_t *out = buffer(out_len);
+    uint32_t status = sec1_point_from_coordinates(bytes, x_len, x_len ? bytes + x_len : bytes, y_len, compress_by, out,
+                                                  out_len, &found);
+    expect(MADE, status, writes(status, found, out, out_len, refused, form, form_len));
+}
+
+/* The text of some bytes, and back. Its letters are of both cases now and then. */
+static void check_hex(const uint8_t *bytes, size_t len, size_t n)
+{
+    static const char glyphs[2][17] = {"0123456789ABCDEF", "0123456789abcdef"};
+    static char text[2 * MOST + 2];
+    struct sec1_point_parts parts;
+    size_t lower = draw(2), text_len = 2 * len, found = 777777;
+    uint32_t refused = point_of(bytes, len, n, &parts);
+    for (size_t i = 0; i < text_len; i++)
+        text[i] = glyphs[lower][bytes[i / 2] >> (i % 2 ? 0 : 4) & 0xF];
+    text[text_len] = 0;
+    size_t out_len = some_room(text_len + 1);
+    uint8_t *out = buffer(out_len);
+    uint32_t status = sec1_point_to_hex(bytes, len, n, lower, (char *)out, out_len, &found);
+    expect(TO_HEX, status,
+           writes(status, found, out, out_len, refused, (uint8_t *)text, text_len + 1));
+
+    size_t uppers = 0, lowers = 0, others = 0;
+    if (text_len && draw(3) == 0)
+        text[draw((uint32_t)text_len)] = "0aFgGb:@"[draw(8)];
+    text_len -= text_len && draw(16) == 0;
+    for (size_t i = 0; i < text_len; i++) {
+        uppers += text[i] >= 'A' && text[i] <= 'F';
+        lowers += text[i] >= 'a' && text[i] <= 'f';
+        others += strchr("0123456789abcdefABCDEF", text[i]) == NULL;
+    }
+    static uint8_t point[MOST];
+    size_t count = text_len / 2;
+    refused = n == 0 || n > 66 ? SEC1_FIELD_LENGTH : SEC1_OK;
+    if (!refused && (text_len % 2 || others || (uppers && lowers)))
+        refused = SEC1_POINT_ENCODING;
+    for (size_t i = 0; !refused && i < 2 * count; i++) {
+        size_t digit = (size_t)(strchr(glyphs[lowers > 0], text[i]) - glyphs[lowers > 0]);
+        point[i / 2] = (uint8_t)(point[i / 2] << 4 | digit);
+    }
+    refused = refused ? refused : point_of(point, count, n, &parts);
+    uint8_t *given = memcpy(room(text_arena, text_len), text, text_len);
+    found = 777777;
+    out_len = some_room(count);
+    out = buffer(out_len);
+    status = sec1_point_from_hex((char *)given, text_len, n, out, out_len, &found);
+    expect(FROM_HEX, status, writes(status, found, out, out_len, refused, point, count));
+}
+
 static void check_identifier(const uint8_t *bytes, size_t len)
 {
     char text[512];
@@ -246,6 +351,8 @@ static void check_identifier(const uint8_t *bytes, size_t len)
     size_t out_len = some_room(wanted_len);
     uint8_t *out = buffer(out_len);
     uint32_t status = sec1_identifier_to_text(bytes, len, (char *)out, out_len, &found);
+    expect(IDENTIFIER, sec1_identifier_check(bytes, len),
+           sec1_identifier_check(bytes, len) == refused);
     expect(TO_TEXT, status,
            writes(status, found, out, out_len, refused, (uint8_t *)text, wanted_len));
 
@@ -395,6 +502,7 @@ int main(void)
     other_arena = map_arena();
     out_arena = map_arena();
     struct_arena = map_arena();
+    text_arena = map_arena();
     for (long i = 0; i < INPUTS; i++) {
         at_end = i % 2;
         size_t n = draw(2) ? fields[draw(4)] : draw(70);
@@ -411,6 +519,8 @@ int main(void)
         check_elements(given, now.len);
         check_point(given, now.len, n, others, other_len);
         check_identifier(given, now.len);
+        check_made(given, now.len);
+        check_hex(given, now.len, n);
         expect(INPUT, 0,
                memcmp(bytes, now.data, now.len) == 0 && memcmp(others, other, other_len) == 0);
     }

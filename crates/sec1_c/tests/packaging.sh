@@ -6,21 +6,10 @@ cd "$(dirname "$0")/.."
 export SEC1_C_BUILT=1
 unset MAKEFLAGS MAKELEVEL DESTDIR PREFIX LIBDIR INCLUDEDIR DATADIR MANDIR DOCDIR BUILD
 unset CFLAGS CPPFLAGS LDFLAGS
-passed=0 failed=0
 work=$(mktemp -d)
 trap 'rm -rf "$work"' EXIT
+. tests/counts.sh
 
-check() { # NAME COMMAND..: passes where the command does
-    local name=$1
-    shift
-    if "$@" > "$work/said" 2>&1; then
-        passed=$((passed + 1))
-    else
-        failed=$((failed + 1))
-        echo "FAILED: $name"
-        head -n 10 "$work/said" | sed 's/^/  /'
-    fi
-}
 same() { diff <(printf '%s\n' "$1") <(printf '%s\n' "$2"); }
 not() { ! "$@"; }
 has_line() { # FILE PATTERN
@@ -118,5 +107,4 @@ statuses=$(sed -n '/^enum sec1_status/,/^}/s/^ *\(SEC1_[A-Z_]*\) = .*/\1/p' sec1
 for word in $functions $statuses; do
     check "the page has $word" grep -q "\b$word\b" packaging/sec1.3.in
 done
-echo "$passed passed, $failed failed"
-[[ $failed -eq 0 ]]
+finish

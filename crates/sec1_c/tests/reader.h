@@ -9,6 +9,21 @@ struct rest {
     size_t at, end;
 };
 
+/* The offset of the last refusal. */
+static size_t fault_at;
+
+static uint32_t refuse(uint32_t status, size_t at)
+{
+    fault_at = at;
+    return status;
+}
+
+/* Refuses bytes that follow what was read. */
+static uint32_t end_of(const struct rest *rest)
+{
+    return rest->at == rest->end ? (uint32_t)SEC1_OK : refuse(SEC1_TRAILING_DATA, rest->at);
+}
+
 struct element {
     uint8_t tag;
     size_t start, end; /* of the content */
@@ -19,12 +34,12 @@ static uint32_t header_of(const uint8_t *data, size_t at, size_t end, int tag, s
 {
     size_t count, number = 0;
     if (at == end)
-        return SEC1_TRUNCATED;
+        return refuse(SEC1_TRUNCATED, at);
     e->tag = data[at];
     if (e->tag == 0 || (e->tag & 0x1F) == 0x1F || (tag >= 0 && e->tag != tag))
-        return SEC1_TAG;
+        return refuse(SEC1_TAG, at);
     if (end - at < 2)
-        return SEC1_TRUNCATED;
+        return refuse(SEC1_TRUNCATED, at + 1);
     if (data[at + 1] < 0x80) {
         e->start = at + 2;
         e->end = e->start + data[at + 1];
@@ -32,14 +47,14 @@ static uint32_t header_of(const uint8_t *data, size_t at, size_t end, int tag, s
     }
     count = data[at + 1] & 0x7F;
     if (count == 0 || count > 4)
-        return SEC1_LENGTH;
+        return refuse(SEC1_LENGTH, at + 1);
     if (end - at - 2 < count)
-        return SEC1_TRUNCATED;
+        return refuse(SEC1_TRUNCATED, at + 1);
     e->start = at + 2 + count;
     for (size_t i = at + 2; i < e->start; i++)
         number = number * 256 + data[i];
     if (data[at + 2] == 0 || number < 128 || number > 268435455)
-        return SEC1_LENGTH;
+        return refuse(SEC1_LENGTH, at + 1);
     e->end = e->start + number;
     return SEC1_OK;
 }
@@ -49,7 +64,7 @@ static uint32_t element_of(struct rest *rest, int tag, struct element *e)
 {
     uint32_t status = header_of(rest->data, rest->at, rest->end, tag, e);
     if (status == SEC1_OK && e->end > rest->end)
-        status = SEC1_TRUNCATED;
+        status = refuse(SEC1_TRUNCATED, rest->at + 1);
     if (status == SEC1_OK)
         rest->at = e->end;
     return status;
@@ -178,9 +193,9 @@ static uint32_t parameters_of(const uint8_t *data, struct element field, struct 
     if (status)
         return status;
     if (!is_identifier(data + e.start, e.end - e.start, &arcs))
-        return SEC1_VALUE;
+        return refuse(SEC1_VALUE, e.start);
     *curve = place(e.start, e.end);
-    return inside.at == inside.end ? SEC1_OK : SEC1_TRAILING_DATA;
+    return end_of(&inside);
 }
 
 /* Reads the field [1]. */
@@ -193,14 +208,14 @@ static uint32_t public_key_of(const uint8_t *data, struct element field, struct 
     if (status)
         return status;
     if (e.start == e.end)
-        return SEC1_VALUE;
+        return refuse(SEC1_VALUE, e.start);
     unused = data[e.start];
     if (unused > 7 || (unused && (e.end - e.start < 2 || data[e.end - 1] & ((1u << unused) - 1))))
-        return SEC1_VALUE;
+        return refuse(SEC1_VALUE, e.start);
     *key = place(e.start + 1, e.end);
-    if (inside.at != inside.end)
-        return SEC1_TRAILING_DATA;
-    return unused ? SEC1_VALUE : SEC1_OK;
+    if ((status = end_of(&inside)))
+        return status;
+    return unused ? refuse(SEC1_VALUE, e.start) : (uint32_t)SEC1_OK;
 }
 
 static uint32_t key_of(const uint8_t *data, size_t len, struct sec1_key_parts *parts)
@@ -216,7 +231,7 @@ static uint32_t key_of(const uint8_t *data, size_t len, struct sec1_key_parts *p
     if ((status = element_of(&inside, 0x02, &e)))
         return status;
     if (e.end - e.start != 1 || data[e.start] != 1)
-        return SEC1_VALUE;
+        return refuse(SEC1_VALUE, e.start);
     if ((status = element_of(&inside, 0x04, &e)))
         return status;
     parts->private_key = place(e.start, e.end);
@@ -228,7 +243,7 @@ static uint32_t key_of(const uint8_t *data, size_t len, struct sec1_key_parts *p
         && ((status = element_of(&inside, 0xA1, &e))
             || (status = public_key_of(data, e, &parts->public_key))))
         return status;
-    return inside.at == inside.end && outside.at == outside.end ? SEC1_OK : SEC1_TRAILING_DATA;
+    return (status = end_of(&inside)) ? status : end_of(&outside);
 }
 
 /* Writes a tag byte and a length. Returns their length. */
@@ -273,7 +288,7 @@ static uint32_t tree_of(struct rest *rest, int level, size_t *elements)
         struct rest inside = {rest->data, e.start, e.end};
         while (inside.at < inside.end)
             if (level == 64)
-                return SEC1_DEPTH;
+                return refuse(SEC1_DEPTH, inside.at);
             else if ((status = tree_of(&inside, level + 1, elements)))
                 return status;
     }
@@ -284,7 +299,7 @@ static uint32_t check_tree_of(const uint8_t *data, size_t len, size_t *elements)
 {
     struct rest rest = {data, 0, len};
     uint32_t status = tree_of(&rest, 1, elements);
-    return status ? status : rest.at == len ? SEC1_OK : SEC1_TRAILING_DATA;
+    return status ? status : end_of(&rest);
 }
 
 static uint32_t document_of(const uint8_t *data, size_t len, size_t *announced)

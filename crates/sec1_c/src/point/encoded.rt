@@ -128,7 +128,7 @@ fn after_first(bytes: &[u8]) -> &[u8]
 }
 
 /// Returns the parity of the last byte; 0 if there is none.
-fn parity(bytes: &[u8]) -> u8
+pub fn parity(bytes: &[u8]) -> u8
     ensures { result ≡ get_or bytes.now (length bytes.now - 1) 0 % 2 }
 {
     if bytes.is_empty() {
