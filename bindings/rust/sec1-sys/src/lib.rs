@@ -22,8 +22,10 @@ pub const SEC1_BUFFER: u32 = 7;
 pub const SEC1_DEPTH: u32 = 8;
 /// The bytes aren't the encoding of a point.
 pub const SEC1_POINT_ENCODING: u32 = 9;
-/// The length of field elements isn't 28, 32, 48 or 66.
+/// The length of field elements isn't 1 to 66, or two lengths differ.
 pub const SEC1_FIELD_LENGTH: u32 = 10;
+/// No curve of the table has this identifier or this name.
+pub const SEC1_CURVE: u32 = 11;
 
 /// The point at infinity.
 pub const SEC1_POINT_IDENTITY: u8 = 0;
@@ -44,6 +46,10 @@ pub const SEC1_POINT_HYBRID_ODD: u8 = 7;
 pub const SEC1_IDENTIFIER_CONTENT_MAX: usize = 39;
 /// The greatest length of an identifier's text with the byte 0 at its end.
 pub const SEC1_IDENTIFIER_TEXT_MAX: usize = 158;
+/// The greatest length of a curve's name with the byte 0 at its end.
+pub const SEC1_CURVE_NAME_MAX: usize = 16;
+/// The greatest length of a point's hexadecimal text with the byte 0 at its end.
+pub const SEC1_POINT_TEXT_MAX: usize = 267;
 
 /// A part of some bytes, by its place.
 #[repr(C)]
@@ -221,4 +227,125 @@ unsafe extern "C" {
     ///
     /// `bytes` is readable for `bytes_len` bytes, and `len` is writable and overlaps none.
     pub fn sec1_document_len(bytes: *const u8, bytes_len: usize, len: *mut usize) -> u32;
+    /// Reads the element at the beginning of the bytes, and stores the lengths of its header and of
+    /// its content.
+    ///
+    /// # Safety
+    ///
+    /// `bytes` is readable for `bytes_len` bytes, and `header_len` and `content_len` are writable
+    /// and overlap nothing.
+    pub fn sec1_element_read(
+        bytes: *const u8,
+        bytes_len: usize,
+        header_len: *mut usize,
+        content_len: *mut usize,
+    ) -> u32;
+    /// Returns what [`sec1_key_read`] returns, and stores the offset of the first fault.
+    ///
+    /// # Safety
+    ///
+    /// `bytes` is readable for `bytes_len` bytes, and `offset` is writable and overlaps none.
+    pub fn sec1_key_fault_at(bytes: *const u8, bytes_len: usize, offset: *mut usize) -> u32;
+    /// Returns what [`sec1_check_tree`] returns, and stores the offset of the first fault.
+    ///
+    /// # Safety
+    ///
+    /// As for [`sec1_key_fault_at`].
+    pub fn sec1_tree_fault_at(bytes: *const u8, bytes_len: usize, offset: *mut usize) -> u32;
+    /// Checks that all of the bytes are the content of an identifier.
+    ///
+    /// # Safety
+    ///
+    /// `content` is readable for `content_len` bytes.
+    pub fn sec1_identifier_check(content: *const u8, content_len: usize) -> u32;
+    /// Stores the length of a field element of the curve whose identifier has this content.
+    ///
+    /// # Safety
+    ///
+    /// `content` is readable for `content_len` bytes, and `field_len` is writable and overlaps none.
+    pub fn sec1_curve_field_len(
+        content: *const u8,
+        content_len: usize,
+        field_len: *mut usize,
+    ) -> u32;
+    /// Writes the name of the curve whose identifier has this content with a byte 0 behind it, and
+    /// stores the length of both.
+    ///
+    /// # Safety
+    ///
+    /// `content` is readable for `content_len` bytes. `name` is writable for `name_len` bytes,
+    /// `len` is writable, and neither overlaps another argument.
+    pub fn sec1_curve_name(
+        content: *const u8,
+        content_len: usize,
+        name: *mut u8,
+        name_len: usize,
+        len: *mut usize,
+    ) -> u32;
+    /// Writes the content of the identifier of the curve with this name, and stores its length.
+    ///
+    /// # Safety
+    ///
+    /// `name` is readable for `name_len` bytes. `content` is writable for `content_len` bytes,
+    /// `len` is writable, and neither overlaps another argument.
+    pub fn sec1_curve_from_name(
+        name: *const u8,
+        name_len: usize,
+        content: *mut u8,
+        content_len: usize,
+        len: *mut usize,
+    ) -> u32;
+    /// Writes the uncompressed point with these coordinates, or its compressed form if `compress`
+    /// isn't 0, and stores its length.
+    ///
+    /// # Safety
+    ///
+    /// `x` and `y` are readable for the lengths after them. `out` is writable for `out_len` bytes,
+    /// `len` is writable, and neither overlaps another argument.
+    pub fn sec1_point_from_coordinates(
+        x: *const u8,
+        x_len: usize,
+        y: *const u8,
+        y_len: usize,
+        compress: usize,
+        out: *mut u8,
+        out_len: usize,
+        len: *mut usize,
+    ) -> u32;
+    /// Writes the point at infinity, and stores its length.
+    ///
+    /// # Safety
+    ///
+    /// `out` is writable for `out_len` bytes, `len` is writable, and they don't overlap.
+    pub fn sec1_point_identity(out: *mut u8, out_len: usize, len: *mut usize) -> u32;
+    /// Writes the hexadecimal text of a point with a byte 0 behind it, and stores the length of
+    /// both.
+    ///
+    /// # Safety
+    ///
+    /// `bytes` is readable for `bytes_len` bytes. `text` is writable for `text_len` bytes, `len` is
+    /// writable, and neither overlaps another argument.
+    pub fn sec1_point_to_hex(
+        bytes: *const u8,
+        bytes_len: usize,
+        field_len: usize,
+        lower_case: usize,
+        text: *mut u8,
+        text_len: usize,
+        len: *mut usize,
+    ) -> u32;
+    /// Writes the encoding of the point with this hexadecimal text, and stores its length.
+    ///
+    /// # Safety
+    ///
+    /// `text` is readable for `text_len` bytes. `out` is writable for `out_len` bytes, `len` is
+    /// writable, and neither overlaps another argument.
+    pub fn sec1_point_from_hex(
+        text: *const u8,
+        text_len: usize,
+        field_len: usize,
+        out: *mut u8,
+        out_len: usize,
+        len: *mut usize,
+    ) -> u32;
 }

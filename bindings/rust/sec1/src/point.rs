@@ -125,7 +125,8 @@ impl<Size: ModulusSize> EncodedPoint<Size> {
 
     /// Returns the uncompressed point with these coordinates, one after the other.
     pub fn from_untagged_bytes(bytes: &Array<u8, Size::UntaggedPointSize>) -> Self {
-        Self::uncompressed(bytes.as_ref(), &[])
+        let (x, y) = bytes.as_ref().split_at_checked(Size::USIZE).unwrap_or_default();
+        Self::of_coordinates(x, y, false)
     }
 
     /// Returns the uncompressed point with these coordinates, or its compressed form.
@@ -134,29 +135,18 @@ impl<Size: ModulusSize> EncodedPoint<Size> {
         y: &Array<u8, Size>,
         compress: bool,
     ) -> Self {
-        let point = Self::uncompressed(x.as_ref(), y.as_ref());
-        if compress { point.compress() } else { point }
+        Self::of_coordinates(x.as_ref(), y.as_ref(), compress)
     }
 
-    /// Tag 4 and the coordinates, given in two pieces that fill the encoding.
-    fn uncompressed(first: &[u8], second: &[u8]) -> Self {
-        let mut bytes = Self::zeros();
-        if let Some((tag, rest)) = bytes.as_mut().split_first_mut() {
-            *tag = sec1_sys::SEC1_POINT_UNCOMPRESSED;
-            // Always so by the types.
-            if let Some((front, back)) = rest
-                .split_at_mut_checked(first.len())
-                .filter(|(_, back)| back.len() == second.len())
-            {
-                front.copy_from_slice(first);
-                back.copy_from_slice(second);
-            }
-        }
-        Self {
-            bytes,
-            tag: Tag::Uncompressed,
-            len: Tag::Uncompressed.message_len(Size::USIZE) as u8,
-        }
+    /// Returns the point that the library makes of these coordinates.
+    fn of_coordinates(x: &[u8], y: &[u8], compress: bool) -> Self {
+        let mut out = Self::zeros();
+        raw::point_from_coordinates(x, y, compress, out.as_mut())
+            .ok()
+            .and_then(|len| out.as_ref().get(..len))
+            .and_then(|bytes| Self::from_bytes(bytes).ok())
+            // Not reached: by the types the coordinates have the length of the field.
+            .unwrap_or_else(Self::identity)
     }
 
     /// Returns the point at infinity.

@@ -125,6 +125,31 @@ pub(crate) fn point_compress(
     answer(status, len)
 }
 
+/// Writes the point with these coordinates at the beginning of `out`, and returns its length.
+pub(crate) fn point_from_coordinates(
+    x: &[u8],
+    y: &[u8],
+    compress: bool,
+    out: &mut [u8],
+) -> Result<usize, Status> {
+    let mut len = 0;
+    // SAFETY: each pointer and length are of one slice, `out` is borrowed by `&mut`, and `len` is a
+    // place of this function.
+    let status = unsafe {
+        sec1_point_from_coordinates(
+            x.as_ptr(),
+            x.len(),
+            y.as_ptr(),
+            y.len(),
+            usize::from(compress),
+            out.as_mut_ptr(),
+            out.len(),
+            &mut len,
+        )
+    };
+    answer(status, len)
+}
+
 /// Compares two points.
 pub(crate) fn point_compare(
     first: &[u8],
@@ -144,6 +169,13 @@ pub(crate) fn point_compare(
         )
     };
     answer(status, order.cmp(&0))
+}
+
+/// Checks that the bytes are the content of an identifier.
+pub(crate) fn identifier_check(content: &[u8]) -> Result<(), Status> {
+    // SAFETY: the pointer and the length are of one slice.
+    let status = unsafe { sec1_identifier_check(content.as_ptr(), content.len()) };
+    answer(status, ())
 }
 
 /// Writes the text of an identifier and a byte 0, and returns the length of both.

@@ -46,7 +46,7 @@ impl ObjectIdentifier {
     ///
     /// [`ErrorKind::Value`] if the bytes aren't the content of an identifier.
     pub fn from_bytes(content: &[u8]) -> Result<Self> {
-        raw::identifier_to_text(content, &mut [0; TEXT_MAX]).map_err(Error::of)?;
+        raw::identifier_check(content).map_err(Error::of)?;
         Self::of_content(content)
     }
 
