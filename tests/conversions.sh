@@ -1,6 +1,7 @@
 #!/usr/bin/env bash
-# Runs the commands of docs/REFUSED.md on keys that it makes with OpenSSL and ssh-keygen: each file is refused by the
-# program before, and read after. Its last line is 'N passed, M failed'.
+# Runs the commands of docs/REFUSED.md on keys that it makes with OpenSSL and ssh-keygen: each file
+# is refused by the program before, and read after. Compares the table of curves there with OpenSSL.
+# Its last line is 'N passed, M failed'.
 set -u
 top=$(cd "$(dirname "$0")/.." && pwd)
 . "$top/tests/count.sh"
@@ -18,7 +19,8 @@ cd "$room" || exit 1
 refused() {
     local line
     line=$("$program" "$1" | head -1)
-    [ "$line" = 'refused: not an EC private key in DER' ] && tell "$1 is refused" yes || tell "$1: $line" no
+    [ "$line" = 'refused: not an EC private key in DER' ] && tell "$1 is refused" yes ||
+        tell "$1: $line" no
 }
 
 # Runs a command, and tells whether key.der then is the key as it was.
@@ -61,4 +63,27 @@ ssh-keygen -q -p -m PEM -f openssh -N '' >output 2>&1
 converted openssl ec -in openssh -outform DER -out key.der
 openssl pkcs12 -in key.p12 -passin pass:x -nodes -nocerts -out from_p12.pem >output 2>&1
 converted openssl ec -in from_p12.pem -outform DER -out key.der
+
+# Tells whether a curve of OpenSSL has this name, identifier and type of its points.
+curve() {
+    local bytes
+    openssl asn1parse -genstr "OID:$2" -noout -out wanted.der >output 2>&1
+    openssl ecparam -name "$1" -outform DER -out named.der >>output 2>&1
+    cmp -s wanted.der named.der && tell "$1" yes || tell "$1 isn't the curve of $2" no
+    bytes=$(openssl ecparam -name "$1" -genkey -noout 2>>output |
+        openssl ec -text -noout 2>>output |
+        sed -n '/^pub:/,/^ASN1/s/^  *//p' | grep -o '[0-9a-f][0-9a-f]' | wc -l)
+    local n=$(((bytes - 1) / 2))
+    case $3 in
+    "$n, \`EncodedPoint$n\`" | "$n, \`EncodedPoint<$n, $bytes>\`") tell "points of $1" yes ;;
+    *) tell "points of $1 have $bytes bytes, and not $3" no ;;
+    esac
+}
+
+while IFS='|' read -r _ name others identifier type _; do
+    for name in $name ${others//,/}; do
+        type=${type# }
+        curve "$name" "${identifier// /}" "${type% }"
+    done
+done < <(sed -n '/^## Curves/,$s/^| [Pbs].*/&/p' "$top/docs/REFUSED.md")
 finish
