@@ -252,31 +252,41 @@ fn prints_errors(rt: HostRuntime) -> std::result::Result<(), Fail> {
     Ok(())
 }
 
-/// Keys, and their texts. Of the private key, `69 96` or `AA`, no byte is shown.
-static DEBUG_TEXTS: [(&[u8], &str); 4] = [
+/// Keys, and their texts by `{:?}` and `{:#?}`. Of the private key no byte is shown.
+static DEBUG_TEXTS: [(&[u8], &str, &str); 5] = [
     (
         b"\x30\x05\x02\x01\x01\x04\x00",
         "EcPrivateKey { parameters: None, public_key: None, .. }",
+        "EcPrivateKey {\n    parameters: None,\n    public_key: None,\n    ..\n}",
     ),
     (
         b"\x30\x07\x02\x01\x01\x04\x02\x69\x96",
         "EcPrivateKey { parameters: None, public_key: None, .. }",
+        "EcPrivateKey {\n    parameters: None,\n    public_key: None,\n    ..\n}",
+    ),
+    (
+        b"\x30\x25\x02\x01\x01\x04\x20ABCDEFGHIJKLMNOPQRSTUVWXYZ012345",
+        "EcPrivateKey { parameters: None, public_key: None, .. }",
+        "EcPrivateKey {\n    parameters: None,\n    public_key: None,\n    ..\n}",
     ),
     (
         b"\x30\x0D\x02\x01\x01\x04\x02\x69\x96\xA0\x04\x06\x02\x2A\x03",
         "EcPrivateKey { parameters: Some(NamedCurve(ObjectIdentifier(1.2.3))), public_key: None, .. }",
+        "EcPrivateKey {\n    parameters: Some(\n        NamedCurve(\n            ObjectIdentifier(1.2.3),\n        ),\n    ),\n    public_key: None,\n    ..\n}",
     ),
     (
         b"\x30\x14\x02\x01\x01\x04\x01\xAA\xA0\x04\x06\x02\x2A\x03\xA1\x06\x03\x04\x00\x02\x01\x07",
         "EcPrivateKey { parameters: Some(NamedCurve(ObjectIdentifier(1.2.3))), public_key: Some([2, 1, 7]), .. }",
+        "EcPrivateKey {\n    parameters: Some(\n        NamedCurve(\n            ObjectIdentifier(1.2.3),\n        ),\n    ),\n    public_key: Some(\n        [\n            2,\n            1,\n            7,\n        ],\n    ),\n    ..\n}",
     ),
 ];
 
 #[test]
 fn shows_no_private_key_in_debug_texts(rt: HostRuntime) -> std::result::Result<(), Fail> {
-    for &(bytes, text) in DEBUG_TEXTS.iter() {
+    for &(bytes, text, lines) in DEBUG_TEXTS.iter() {
         let key = EcPrivateKey::try_from(bytes)?;
         assert_eq!(rt; format!(in rt.alloc(); "{key:?}")?.as_str(), text);
+        assert_eq!(rt; format!(in rt.alloc(); "{key:#?}")?.as_str(), lines);
     }
     let curve = EcParameters::from(ObjectIdentifier::new("1.2.3")?);
     assert_eq!(rt;
