@@ -4,16 +4,14 @@
 //! re-exports.
 ghost use Rattle.std.specs.Prelude.{◌≡◌, ◌⊎◌, ◌↔◌, ◌≤◌, ◌++◌, ℕ, List, length, Some, IsOk, IfOk};
 ghost use Rattle.std.specs.Prelude.{IfErr, IsOkAnd, MatchResult};
-ghost use Rattle.sec1.specs.Der.{max_length, element, element_of, octets_of, tag_of, value_of};
+ghost use Rattle.sec1.specs.Der.{max_length, element, octets_of, tag_of, value_of};
 ghost use Rattle.sec1.specs.Der.{header_fault, IsElementOf, IsHeader, IsHeaderFault, LacksHeader};
 ghost use Rattle.sec1.specs.Der.{Refuses};
 ghost use Rattle.sec1.specs.Errors.{IsAsn1ReadingFault};
 ghost use Rattle.sec1.specs.Keys.{Key, IsKeyOf};
 ghost use Rattle.sec1.specs.Der.{IsProperBeginning};
 
-use sec1::der::{
-    self, AnyRef, EncodeValue, ErrorKind, OctetStringRef, SecretDocument, SliceReader, Tag, Tagged,
-};
+use sec1::der::{self, AnyRef, ErrorKind, OctetStringRef, SecretDocument, SliceReader, Tag};
 use sec1::{EcPrivateKey, Error, Result};
 use std::alloc::Global;
 
@@ -27,20 +25,6 @@ pub fn key_in<'b>(key: &EcPrivateKey, buffer: &'b mut [u8]) -> Result<&'b [u8]>
     Ok(&buffer[..n])
 }
 
-/// Writes a value at the beginning of a buffer and returns its bytes.
-pub fn element_in<'b, T: EncodeValue + Tagged>(
-    value: &T,
-    buffer: &'b mut [u8],
-) -> der::Result<&'b [u8]>
-    ensures found { IfOk result
-        (λ bytes. element_of T.tag_byte (T.content value.now) ≡ Some bytes.now) }
-    ensures only { (bytes : List ℕ) → element_of T.tag_byte (T.content value.now) ≡ Some bytes
-        → length bytes ≤ length buffer.old → IsOkAnd result (λ written. written.now ≡ bytes) }
-{
-    let n = der::encode_to_slice(value, buffer)?;
-    Ok(&buffer[..n])
-}
-
 /// Writes an octet string at the beginning of a buffer and returns its bytes.
 pub fn octet_string_in<'b>(octets: &OctetStringRef, buffer: &'b mut [u8]) -> der::Result<&'b [u8]>
     ensures found { IfOk result (λ bytes. IsElementOf 0x04 (octets_of octets.now) bytes.now) }
@@ -49,17 +33,6 @@ pub fn octet_string_in<'b>(octets: &OctetStringRef, buffer: &'b mut [u8]) -> der
 {
     let n = der::encode_to_slice(octets, buffer)?;
     Ok(&buffer[..n])
-}
-
-/// Reads a key and writes it again: the bytes that were read.
-pub fn key_again(alloc: Global, bytes: &[u8]) -> Result<Vec<u8>>
-    ensures same { IfOk result (λ der. der.items ≡ bytes.now) }
-    ensures kinds { IfErr result (λ e. IsAsn1ReadingFault e ⊎ (e ≡ Error.Memory)) }
-    ensures key { (key : Key) → IsKeyOf key bytes.now
-        → MatchResult result (λ der. der.items ≡ bytes.now) (λ e. e ≡ Error.Memory) }
-{
-    let key = EcPrivateKey::try_from(bytes)?;
-    key.to_der(alloc)
 }
 
 /// Reads a key and makes its document: the bytes that were read.

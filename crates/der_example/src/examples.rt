@@ -1,7 +1,6 @@
 //! The examples of the documents: a key read and written, points, and refusals.
 ghost use Rattle.std.specs.Prelude.{◌≡◌, ◌↔◌, Some, Ok, None, List, ℕ, IfOk, IfNone, IsOkAnd};
 ghost use Rattle.std.specs.Prelude.{IsTrue, MatchResult};
-ghost use Rattle.std.specs.Box.{boxed_slice_items};
 ghost use Rattle.std.specs.Option.{option_map};
 ghost use Rattle.der_example.specs.KeyReading.{curve_key, IsPrivateKeyOf};
 ghost use Rattle.der_example.specs.PrivateKeys.{PrivateKey};
@@ -17,7 +16,6 @@ use sec1::point::EncodedPoint32;
 use sec1::{EcParameters, EcPrivateKey, Error, Result};
 use serde_json::Value;
 use std::alloc::Global;
-use std::boxed::BoxedSlice;
 use std::str::FromStr;
 
 /// Returns the curve of a key, if present.
@@ -68,21 +66,6 @@ pub fn refusal(bytes: &[u8]) -> Option<ErrorKind>
         Err(Error::Asn1(e)) => Some(e.kind),
         Err(_) => unreachable!(),
     }
-}
-
-/// Returns the public key of a key on a field of 256 bits, in its compressed form.
-pub fn compressed_public_key(alloc: Global, bytes: &[u8]) -> Result<BoxedSlice<u8>>
-    ensures { (key : Key) (p : Point) → IsKeyOf key bytes.now → IsPoint 32 p
-        → key.public_key ≡ Some (encoding 32 p)
-        → MatchResult result (λ point. boxed_slice_items point ≡ encoding 32 (compressed_point p))
-        (λ e. e ≡ Error.Memory) }
-{
-    let key = EcPrivateKey::try_from(bytes)?;
-    let Some(public_key) = key.public_key else {
-        return Err(Error::Crypto);
-    };
-    let point = EncodedPoint32::from_bytes(public_key)?;
-    point.compress().to_bytes(alloc)
 }
 
 /// Returns the key in a private key container of PKCS #8 (RFC 5208 section 5).
