@@ -1,34 +1,6 @@
 /* Prints the parts of an EC private key in DER: key_parts FILE. It is C99, and C++ as well. */
 #include <sec1.h>
 #include <stdio.h>
-#include <string.h>
-
-/* Curves by the texts of their identifiers, and the lengths of their field elements in bytes. */
-static const struct {
-    const char *name;
-    size_t field_len;
-} curves[] = {
-    {"1.2.840.10045.3.1.1", 24},    /* P-192 */
-    {"1.3.132.0.33", 28},           /* P-224 */
-    {"1.2.840.10045.3.1.7", 32},    /* P-256 */
-    {"1.3.132.0.34", 48},           /* P-384 */
-    {"1.3.132.0.35", 66},           /* P-521 */
-    {"1.3.132.0.10", 32},           /* secp256k1 */
-    {"1.3.36.3.3.2.8.1.1.5", 28},   /* brainpoolP224r1 */
-    {"1.3.36.3.3.2.8.1.1.7", 32},   /* brainpoolP256r1 */
-    {"1.3.36.3.3.2.8.1.1.9", 40},   /* brainpoolP320r1 */
-    {"1.3.36.3.3.2.8.1.1.11", 48},  /* brainpoolP384r1 */
-    {"1.3.36.3.3.2.8.1.1.13", 64},  /* brainpoolP512r1 */
-};
-
-/* Returns the length of the field elements of a curve, and 0 if it isn't one of those above. */
-static size_t field_len_of(const char *name)
-{
-    for (size_t i = 0; i < sizeof curves / sizeof *curves; i++)
-        if (strcmp(curves[i].name, name) == 0)
-            return curves[i].field_len;
-    return 0;
-}
 
 static void print_point(const uint8_t *public_key, size_t len, size_t field_len)
 {
@@ -61,7 +33,8 @@ int main(int argc, char **argv)
     char name[SEC1_IDENTIFIER_TEXT_MAX] = "";
     if (parts.curve.present) {
         size_t name_len;
-        status = sec1_identifier_to_text(key + parts.curve.offset, parts.curve.len, name, sizeof name, &name_len);
+        status = sec1_identifier_to_text(key + parts.curve.offset, parts.curve.len, name,
+                                         sizeof name, &name_len);
         printf("curve: %s\n", status ? sec1_status_text(status) : name);
     }
     if (!parts.public_key.present) {
@@ -72,12 +45,15 @@ int main(int argc, char **argv)
     for (size_t i = 0; i < parts.public_key.len; i++)
         printf("%02X", key[parts.public_key.offset + i]);
     printf("\n");
-    size_t field_len = field_len_of(name);
-    if (field_len)
-        print_point(key + parts.public_key.offset, parts.public_key.len, field_len);
-    else if (parts.curve.present)
-        printf("no point: the length of this curve's field elements isn't known here\n");
-    else
+    if (!parts.curve.present) {
         printf("no point: the key names no curve\n");
+        return 0;
+    }
+    size_t field_len;
+    status = sec1_curve_field_len(key + parts.curve.offset, parts.curve.len, &field_len);
+    if (status)
+        printf("no point: %s\n", sec1_status_text(status));
+    else
+        print_point(key + parts.public_key.offset, parts.public_key.len, field_len);
     return 0;
 }

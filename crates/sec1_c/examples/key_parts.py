@@ -3,21 +3,6 @@ import ctypes
 import sys
 from ctypes import POINTER, Structure, byref, c_char, c_char_p, c_size_t, c_uint32
 
-# Curves by the texts of their identifiers, and the lengths of their field elements in bytes.
-CURVES = {
-    "1.2.840.10045.3.1.1": 24,  # P-192
-    "1.3.132.0.33": 28,  # P-224
-    "1.2.840.10045.3.1.7": 32,  # P-256
-    "1.3.132.0.34": 48,  # P-384
-    "1.3.132.0.35": 66,  # P-521
-    "1.3.132.0.10": 32,  # secp256k1
-    "1.3.36.3.3.2.8.1.1.5": 28,  # brainpoolP224r1
-    "1.3.36.3.3.2.8.1.1.7": 32,  # brainpoolP256r1
-    "1.3.36.3.3.2.8.1.1.9": 40,  # brainpoolP320r1
-    "1.3.36.3.3.2.8.1.1.11": 48,  # brainpoolP384r1
-    "1.3.36.3.3.2.8.1.1.13": 64,  # brainpoolP512r1
-}
-
 
 class Part(Structure):
     _fields_ = [("offset", c_size_t), ("len", c_size_t), ("present", c_size_t)]
@@ -41,7 +26,10 @@ def load(path):
     functions = {
         "sec1_key_read": [c_char_p, c_size_t, POINTER(KeyParts)],
         "sec1_point_read": [c_char_p, c_size_t, c_size_t, POINTER(PointParts)],
-        "sec1_identifier_to_text": [c_char_p, c_size_t, POINTER(c_char), c_size_t, POINTER(c_size_t)],
+        "sec1_identifier_to_text": [
+            c_char_p, c_size_t, POINTER(c_char), c_size_t, POINTER(c_size_t),
+        ],
+        "sec1_curve_field_len": [c_char_p, c_size_t, POINTER(c_size_t)],
         "sec1_status_text": [c_uint32],
     }
     for name, arguments in functions.items():
@@ -70,7 +58,7 @@ def main(library, file):
         print(f"refused: {status} ({sec1.sec1_status_text(status).decode()})")
         return 1
     print(f"private key: {parts.private_key.len} bytes at {parts.private_key.offset}")
-    curve, name = parts.curve.of(key), None
+    curve = parts.curve.of(key)
     if curve is not None:
         text, length = ctypes.create_string_buffer(158), c_size_t()
         status = sec1.sec1_identifier_to_text(curve, len(curve), text, 158, byref(length))
@@ -81,12 +69,15 @@ def main(library, file):
         print("no point: the key has no public key")
         return 0
     print(f"public key: {public_key.hex().upper()}")
-    if name in CURVES:
-        print(point_line(sec1, public_key, CURVES[name]))
-    elif name:
-        print("no point: the length of this curve's field elements isn't known here")
-    else:
+    if curve is None:
         print("no point: the key names no curve")
+        return 0
+    field_len = c_size_t()
+    status = sec1.sec1_curve_field_len(curve, len(curve), byref(field_len))
+    if status:
+        print(f"no point: {sec1.sec1_status_text(status).decode()}")
+    else:
+        print(point_line(sec1, public_key, field_len.value))
     return 0
 
 

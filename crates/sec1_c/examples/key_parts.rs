@@ -2,21 +2,6 @@
 
 use std::ffi::{c_char, CStr};
 
-/// Curves by the texts of their identifiers, and the lengths of their field elements in bytes.
-const CURVES: [(&str, usize); 11] = [
-    ("1.2.840.10045.3.1.1", 24),   // P-192
-    ("1.3.132.0.33", 28),          // P-224
-    ("1.2.840.10045.3.1.7", 32),   // P-256
-    ("1.3.132.0.34", 48),          // P-384
-    ("1.3.132.0.35", 66),          // P-521
-    ("1.3.132.0.10", 32),          // secp256k1
-    ("1.3.36.3.3.2.8.1.1.5", 28),  // brainpoolP224r1
-    ("1.3.36.3.3.2.8.1.1.7", 32),  // brainpoolP256r1
-    ("1.3.36.3.3.2.8.1.1.9", 40),  // brainpoolP320r1
-    ("1.3.36.3.3.2.8.1.1.11", 48), // brainpoolP384r1
-    ("1.3.36.3.3.2.8.1.1.13", 64), // brainpoolP512r1
-];
-
 #[repr(C)]
 #[derive(Clone, Copy, Default)]
 struct Part {
@@ -44,13 +29,23 @@ struct PointParts {
 #[link(name = "sec1", kind = "static")]
 extern "C" {
     fn sec1_key_read(bytes: *const u8, bytes_len: usize, parts: *mut KeyParts) -> u32;
-    fn sec1_point_read(bytes: *const u8, bytes_len: usize, field_len: usize, parts: *mut PointParts) -> u32;
+    fn sec1_point_read(
+        bytes: *const u8,
+        bytes_len: usize,
+        field_len: usize,
+        parts: *mut PointParts,
+    ) -> u32;
     fn sec1_identifier_to_text(
         content: *const u8,
         content_len: usize,
         text: *mut u8,
         text_len: usize,
         len: *mut usize,
+    ) -> u32;
+    fn sec1_curve_field_len(
+        content: *const u8,
+        content_len: usize,
+        field_len: *mut usize,
     ) -> u32;
     fn sec1_status_text(status: u32) -> *const c_char;
 }
@@ -78,9 +73,25 @@ fn read_key(bytes: &[u8]) -> Result<KeyParts, u32> {
 fn identifier_text(content: &[u8]) -> Option<String> {
     let (mut text, mut len) = ([0; 158], 0);
     let status = unsafe {
-        sec1_identifier_to_text(content.as_ptr(), content.len(), text.as_mut_ptr(), text.len(), &mut len)
+        sec1_identifier_to_text(
+            content.as_ptr(),
+            content.len(),
+            text.as_mut_ptr(),
+            text.len(),
+            &mut len,
+        )
     };
     (status == 0).then(|| String::from_utf8_lossy(&text[..len - 1]).into_owned())
+}
+
+/// Returns the length of the field elements of the curve whose identifier has this content, or the
+/// number of the refusal.
+fn field_len_of(content: &[u8]) -> Result<usize, u32> {
+    let mut field_len = 0;
+    match unsafe { sec1_curve_field_len(content.as_ptr(), content.len(), &mut field_len) } {
+        0 => Ok(field_len),
+        status => Err(status),
+    }
 }
 
 /// Returns the line that tells the places of a point's coordinates, or why there are none.
@@ -103,8 +114,8 @@ fn main() {
         }
     };
     println!("private key: {} bytes at {}", parts.private_key.len, parts.private_key.offset);
-    let name = part_of(&key, parts.curve).and_then(identifier_text);
-    if let Some(name) = &name {
+    let curve = part_of(&key, parts.curve);
+    if let Some(name) = curve.and_then(identifier_text) {
         println!("curve: {name}");
     }
     let Some(public_key) = part_of(&key, parts.public_key) else {
@@ -113,9 +124,9 @@ fn main() {
     };
     let digits: String = public_key.iter().map(|byte| format!("{byte:02X}")).collect();
     println!("public key: {digits}");
-    match name.map(|name| CURVES.iter().find(|curve| curve.0 == name)) {
-        Some(Some((_, field_len))) => println!("{}", point_line(public_key, *field_len)),
-        Some(None) => println!("no point: the length of this curve's field elements isn't known here"),
+    match curve.map(field_len_of) {
+        Some(Ok(field_len)) => println!("{}", point_line(public_key, field_len)),
+        Some(Err(status)) => println!("no point: {}", status_text(status)),
         None => println!("no point: the key names no curve"),
     }
 }

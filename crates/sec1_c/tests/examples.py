@@ -9,7 +9,7 @@ import tempfile
 FIELD_LENGTHS = {
     "prime192v1": 24, "secp224r1": 28, "prime256v1": 32, "secp384r1": 48, "secp521r1": 66,
     "secp256k1": 32, "brainpoolP224r1": 28, "brainpoolP256r1": 32, "brainpoolP320r1": 40,
-    "brainpoolP384r1": 48, "brainpoolP512r1": 64, "secp160k1": None, "sect233r1": None,
+    "brainpoolP384r1": 48, "brainpoolP512r1": 64, "secp160k1": 20, "sect233r1": None,
 }  # fmt: skip
 STATUSES = {
     "Truncated": "1 (input ends inside an element)",
@@ -23,7 +23,7 @@ STATUSES = {
 def point_line(key, field_len):
     """Returns the line on the point of a public key whose encoding OpenSSL has made."""
     if field_len is None:
-        return "no point: the length of this curve's field elements isn't known here"
+        return "no point: curve not in the table"
     if len(key) != {2: 1, 3: 1, 4: 2, 6: 2, 7: 2}[key[0]] * field_len + 1:
         return "no point: elliptic curve point encoding error"
     return f"point: tag {key[0]}, x at 1, y at {1 + field_len if key[0] >= 4 else 0}"
