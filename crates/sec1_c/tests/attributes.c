@@ -1,4 +1,5 @@
-/* Calls that a compiler has to accept without a warning, and by WRONG one that it has to warn of. */
+/* Calls that a compiler has to accept without a warning, and by WRONG one that it has to warn
+ * of. */
 #include <sec1.h>
 
 static uint8_t key[128], out[64];

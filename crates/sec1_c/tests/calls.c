@@ -1,6 +1,7 @@
-/* Tests of each function of the library. Each input stands in pages of its own, which can only be read, once against
- * the page behind it and once against the page before it, which can't be read; each buffer that is written into stands
- * the same way. So a single byte read or written beyond what a call is given ends the program. */
+/* Tests of each function of the library. Each input stands in pages of its own, which can only be
+ * read, once against the page behind it and once against the page before it, which can't be read;
+ * each buffer that is written into stands the same way. So a single byte read or written beyond
+ * what a call is given ends the program. */
 #define _GNU_SOURCE
 #include "draw.h"
 #include <sec1.h>
@@ -47,7 +48,8 @@ static struct guarded map_guarded(size_t len, enum side side)
     struct guarded g = {0};
     g.size = inner + 2 * page_size;
     g.pages = mmap(NULL, g.size, PROT_NONE, MAP_PRIVATE | MAP_ANONYMOUS, -1, 0);
-    if (g.pages == MAP_FAILED || (inner && mprotect(g.pages + page_size, inner, PROT_READ | PROT_WRITE))) {
+    if (g.pages == MAP_FAILED ||
+        (inner && mprotect(g.pages + page_size, inner, PROT_READ | PROT_WRITE))) {
         perror("mmap");
         exit(2);
     }
@@ -95,7 +97,9 @@ static struct bytes unhex(const char *text)
     struct bytes b = {0};
     int high = -1;
     for (; *text; text++) {
-        int digit = *text >= '0' && *text <= '9' ? *text - '0' : *text >= 'A' && *text <= 'F' ? *text - 'A' + 10 : -1;
+        int digit = *text >= '0' && *text <= '9'   ? *text - '0'
+                    : *text >= 'A' && *text <= 'F' ? *text - 'A' + 10
+                                                   : -1;
         if (digit < 0)
             continue;
         if (high < 0) {
@@ -157,7 +161,8 @@ struct given {
 static struct given no_key;
 
 /* The calls that take a struct do the same as those that take its members. */
-static void expect_same_of(struct given key, size_t out_len, uint32_t status, size_t stored, uint32_t only)
+static void expect_same_of(struct given key, size_t out_len, uint32_t status, size_t stored,
+                           uint32_t only)
 {
     static uint8_t out[4096];
     size_t len = 777777;
@@ -177,7 +182,8 @@ static void expect_same_of(struct given key, size_t out_len, uint32_t status, si
     EXPECT(write(&parts, out, out_len, &len) == status);
 }
 
-/* Writes a key into a buffer of out_len bytes of the value EE. Returns the buffer's bytes in out. */
+/* Writes a key into a buffer of out_len bytes of the value EE. Returns the buffer's bytes in
+ * out. */
 static uint32_t write_key(struct given key, size_t out_len, struct bytes *out, size_t *len)
 {
     uint32_t status[2];
@@ -189,12 +195,13 @@ static uint32_t write_key(struct given key, size_t out_len, struct bytes *out, s
         struct guarded buffer = map_guarded(out_len, side);
         memset(buffer.data, 0xEE, out_len);
         stored[side] = 777777;
-        status[side] = sec1_key_write(private_key.data, key.private_key.len, curve.data, key.curve.len,
-                                      public_key.data, key.public_key.len, key.has_public_key,
-                                      buffer.data, out_len, &stored[side]);
+        status[side] = sec1_key_write(private_key.data, key.private_key.len, curve.data,
+                                      key.curve.len, public_key.data, key.public_key.len,
+                                      key.has_public_key, buffer.data, out_len, &stored[side]);
         size_t only_len = 777777;
-        uint32_t only_status = sec1_key_len(private_key.data, key.private_key.len, curve.data, key.curve.len,
-                                            public_key.data, key.public_key.len, key.has_public_key, &only_len);
+        uint32_t only_status =
+            sec1_key_len(private_key.data, key.private_key.len, curve.data, key.curve.len,
+                         public_key.data, key.public_key.len, key.has_public_key, &only_len);
         EXPECT(only_len == stored[side]);
         expect_same_of(key, out_len, status[side], stored[side], only_status);
         EXPECT(only_status == (status[side] == SEC1_BUFFER ? (uint32_t)SEC1_OK : status[side]));
@@ -272,7 +279,8 @@ static void test_header(void)
 
     EXPECT(SEC1_OK == 0 && SEC1_TRUNCATED == 1 && SEC1_TAG == 2 && SEC1_LENGTH == 3);
     EXPECT(SEC1_TRAILING_DATA == 4 && SEC1_VALUE == 5 && SEC1_OVERLENGTH == 6 && SEC1_BUFFER == 7);
-    EXPECT(SEC1_DEPTH == 8 && SEC1_POINT_ENCODING == 9 && SEC1_FIELD_LENGTH == 10 && SEC1_CURVE == 11);
+    EXPECT(SEC1_DEPTH == 8 && SEC1_POINT_ENCODING == 9 && SEC1_FIELD_LENGTH == 10 &&
+           SEC1_CURVE == 11);
     EXPECT(SEC1_POINT_IDENTITY == 0);
     EXPECT(SEC1_POINT_COMPRESSED_EVEN == 2 && SEC1_POINT_COMPRESSED_ODD == 3);
     EXPECT(SEC1_POINT_UNCOMPRESSED == 4 && SEC1_POINT_COMPACT == 5);
@@ -282,10 +290,18 @@ static void test_header(void)
     EXPECT(sec1_version() == SEC1_VERSION);
 
     static const char *const texts[] = {
-        "ok", "input ends inside an element", "unexpected or unsupported tag",
-        "length not in DER form or above the limit", "bytes after the value", "content not valid for its tag",
-        "value longer than 268435455 bytes", "output buffer too small", "more than 64 nested elements",
-        "elliptic curve point encoding error", "length of field elements not supported", "curve not in the table",
+        "ok",
+        "input ends inside an element",
+        "unexpected or unsupported tag",
+        "length not in DER form or above the limit",
+        "bytes after the value",
+        "content not valid for its tag",
+        "value longer than 268435455 bytes",
+        "output buffer too small",
+        "more than 64 nested elements",
+        "elliptic curve point encoding error",
+        "length of field elements not supported",
+        "curve not in the table",
     };
     for (uint32_t status = 0; status < 12; status++)
         EXPECT(strcmp(sec1_status_text(status), texts[status]) == 0);
@@ -305,7 +321,8 @@ static int is_absent(struct sec1_part part)
     return part.present == 0 && part.offset == 0 && part.len == 0;
 }
 
-/* Keys by their bytes, with the offset and the length of each part; an offset of 0 where it is absent. */
+/* Keys by their bytes, with the offset and the length of each part; an offset of 0 where it is
+ * absent. */
 static const struct accepted {
     const char *key;
     size_t private_offset, private_len, curve_offset, curve_len, public_offset, public_len;
@@ -330,8 +347,10 @@ static void test_accepted_keys(void)
         struct sec1_key_parts parts;
         EXPECT(read_key(key, &parts) == SEC1_OK);
         EXPECT(is_part(parts.private_key, a.private_offset, a.private_len));
-        EXPECT(a.curve_offset ? is_part(parts.curve, a.curve_offset, a.curve_len) : is_absent(parts.curve));
-        EXPECT(a.public_offset ? is_part(parts.public_key, a.public_offset, a.public_len) : is_absent(parts.public_key));
+        EXPECT(a.curve_offset ? is_part(parts.curve, a.curve_offset, a.curve_len)
+                              : is_absent(parts.curve));
+        EXPECT(a.public_offset ? is_part(parts.public_key, a.public_offset, a.public_len)
+                               : is_absent(parts.public_key));
 
         struct given given = no_key;
         given.private_key.len = a.private_len;
@@ -408,7 +427,8 @@ static void test_written_keys(void)
     EXPECT(memcmp(out.data, unhex("307F020101047A").data, 7) == 0 && all_are(out.data + 7, 122, 0));
     key.private_key = repeated(0, 123);
     EXPECT(write_key(key, 200, &out, &len) == SEC1_OK && len == 131);
-    EXPECT(memcmp(out.data, unhex("308180020101047B").data, 8) == 0 && all_are(out.data + 8, 123, 0));
+    EXPECT(memcmp(out.data, unhex("308180020101047B").data, 8) == 0 &&
+           all_are(out.data + 8, 123, 0));
 
     /* the buffer keeps what is behind the key */
     key = no_key;
@@ -424,7 +444,8 @@ static void test_written_keys(void)
     for (size_t i = 0; i < sizeof no_curves / sizeof *no_curves; i++) {
         key = no_key;
         key.curve = unhex(no_curves[i]);
-        EXPECT(write_key(key, 200, &out, &len) == SEC1_VALUE && len == 777777 && all_are(out.data, 200, 0xEE));
+        EXPECT(write_key(key, 200, &out, &len) == SEC1_VALUE && len == 777777 &&
+               all_are(out.data, 200, 0xEE));
     }
     key.curve = repeated(1, 40);
     EXPECT(write_key(key, 200, &out, &len) == SEC1_VALUE && len == 777777);
@@ -432,15 +453,18 @@ static void test_written_keys(void)
     EXPECT(write_key(key, 200, &out, &len) == SEC1_OK && len == 5 + 2 + 2 + 2 + 39);
 
     size_t found = 777777;
-    EXPECT(sec1_key_write(NULL, 0, NULL, 0, NULL, 0, 0, NULL, 0, &found) == SEC1_BUFFER && found == 7);
+    EXPECT(sec1_key_write(NULL, 0, NULL, 0, NULL, 0, 0, NULL, 0, &found) == SEC1_BUFFER &&
+           found == 7);
     EXPECT(sec1_key_len(NULL, 0, NULL, 0, NULL, 0, 1, &found) == SEC1_OK && found == 12);
 }
 
-/* Parts at the limit of 268,435,455 bytes of a content. Nothing is read of them where only the length is asked. */
+/* Parts at the limit of 268,435,455 bytes of a content. Nothing is read of them where only the
+ * length is asked. */
 static void test_long_keys(void)
 {
     size_t size = (size_t)1 << 28;
-    uint8_t *zeros = mmap(NULL, size + 16, PROT_READ, MAP_PRIVATE | MAP_ANONYMOUS | MAP_NORESERVE, -1, 0);
+    uint8_t *zeros =
+        mmap(NULL, size + 16, PROT_READ, MAP_PRIVATE | MAP_ANONYMOUS | MAP_NORESERVE, -1, 0);
     if (zeros == MAP_FAILED) {
         perror("mmap");
         exit(2);
@@ -448,17 +472,26 @@ static void test_long_keys(void)
     size_t len = 777777;
     uint8_t out[16];
     memset(out, 0xEE, sizeof out);
-    EXPECT(sec1_key_len(zeros, 268435446, NULL, 0, NULL, 0, 0, &len) == SEC1_OK && len == 268435461);
-    EXPECT(sec1_key_write(zeros, 268435446, NULL, 0, NULL, 0, 0, out, 16, &len) == SEC1_BUFFER && len == 268435461);
+    EXPECT(sec1_key_len(zeros, 268435446, NULL, 0, NULL, 0, 0, &len) == SEC1_OK &&
+           len == 268435461);
+    EXPECT(sec1_key_write(zeros, 268435446, NULL, 0, NULL, 0, 0, out, 16, &len) == SEC1_BUFFER &&
+           len == 268435461);
     len = 777777;
-    EXPECT(sec1_key_len(zeros, 268435447, NULL, 0, NULL, 0, 0, &len) == SEC1_OVERLENGTH && len == 777777);
-    EXPECT(sec1_key_len(zeros, size, NULL, 0, NULL, 0, 0, &len) == SEC1_OVERLENGTH && len == 777777);
-    EXPECT(sec1_key_len(NULL, 0, NULL, 0, zeros, 268435430, 1, &len) == SEC1_OK && len == 268435454);
-    EXPECT(sec1_key_len(NULL, 0, NULL, 0, zeros, 268435437, 1, &len) == SEC1_OK && len == 268435461);
+    EXPECT(sec1_key_len(zeros, 268435447, NULL, 0, NULL, 0, 0, &len) == SEC1_OVERLENGTH &&
+           len == 777777);
+    EXPECT(sec1_key_len(zeros, size, NULL, 0, NULL, 0, 0, &len) == SEC1_OVERLENGTH &&
+           len == 777777);
+    EXPECT(sec1_key_len(NULL, 0, NULL, 0, zeros, 268435430, 1, &len) == SEC1_OK &&
+           len == 268435454);
+    EXPECT(sec1_key_len(NULL, 0, NULL, 0, zeros, 268435437, 1, &len) == SEC1_OK &&
+           len == 268435461);
     len = 777777;
-    EXPECT(sec1_key_len(NULL, 0, NULL, 0, zeros, 268435438, 1, &len) == SEC1_OVERLENGTH && len == 777777);
-    EXPECT(sec1_key_len(NULL, 0, NULL, 0, zeros, size, 1, &len) == SEC1_OVERLENGTH && len == 777777);
-    EXPECT(sec1_key_write(zeros, size, NULL, 0, zeros, size, 1, out, 16, &len) == SEC1_OVERLENGTH && len == 777777);
+    EXPECT(sec1_key_len(NULL, 0, NULL, 0, zeros, 268435438, 1, &len) == SEC1_OVERLENGTH &&
+           len == 777777);
+    EXPECT(sec1_key_len(NULL, 0, NULL, 0, zeros, size, 1, &len) == SEC1_OVERLENGTH &&
+           len == 777777);
+    EXPECT(sec1_key_write(zeros, size, NULL, 0, zeros, size, 1, out, 16, &len) == SEC1_OVERLENGTH &&
+           len == 777777);
     EXPECT(all_are(out, 16, 0xEE));
     munmap(zeros, size + 16);
 }
@@ -467,12 +500,14 @@ static void test_long_keys(void)
 
 static size_t field;
 
-static uint32_t compress(const uint8_t *bytes, size_t bytes_len, uint8_t *out, size_t out_len, size_t *len)
+static uint32_t compress(const uint8_t *bytes, size_t bytes_len, uint8_t *out, size_t out_len,
+                         size_t *len)
 {
     return sec1_point_compress(bytes, bytes_len, field, out, out_len, len);
 }
 
-static uint32_t to_hybrid(const uint8_t *bytes, size_t bytes_len, uint8_t *out, size_t out_len, size_t *len)
+static uint32_t to_hybrid(const uint8_t *bytes, size_t bytes_len, uint8_t *out, size_t out_len,
+                          size_t *len)
 {
     return sec1_point_to_hybrid(bytes, bytes_len, field, out, out_len, len);
 }
@@ -537,7 +572,8 @@ static void test_points_of(size_t n)
             EXPECT(read_point(point, &parts) == SEC1_OK);
             EXPECT(parts.tag == tag && is_part(parts.x, 1, n) && is_part(parts.y, 1 + n, n));
             expect_converted(compress, point, point_bytes(is_odd ? 3 : 2, &x, NULL));
-            expect_converted(to_hybrid, point, point_bytes(tag == 4 ? (is_odd ? 7 : 6) : tag, &x, &y));
+            expect_converted(to_hybrid, point,
+                             point_bytes(tag == 4 ? (is_odd ? 7 : 6) : tag, &x, &y));
         }
     }
     expect_converted(compress, repeated(0, 1), repeated(0, 1));
@@ -548,9 +584,11 @@ static void test_points_of(size_t n)
             struct bytes input = repeated(0, len);
             if (len)
                 input.data[0] = (uint8_t)tag;
-            int is_point = (tag == 0 && len == 1) || ((tag == 2 || tag == 3 || tag == 5) && len == n + 1)
-                           || ((tag == 4 || tag == 6) && len == 2 * n + 1);
-            EXPECT(sec1_point_check(input.data, len, n) == (is_point ? SEC1_OK : SEC1_POINT_ENCODING));
+            int is_point = (tag == 0 && len == 1) ||
+                           ((tag == 2 || tag == 3 || tag == 5) && len == n + 1) ||
+                           ((tag == 4 || tag == 6) && len == 2 * n + 1);
+            EXPECT(sec1_point_check(input.data, len, n) ==
+                   (is_point ? SEC1_OK : SEC1_POINT_ENCODING));
         }
     }
     EXPECT(sec1_point_check(NULL, 0, n) == SEC1_POINT_ENCODING);
@@ -578,11 +616,13 @@ static void test_coordinates(size_t n)
         for (size_t flag = 0; flag < 4; flag++) {
             struct bytes wanted = forms[flag != 0];
             for (size_t room = 0; room <= wanted.len + 2; room++) {
-                struct guarded in_x = map_input(x.data, n, AT_END), in_y = map_input(y.data, n, AT_START);
+                struct guarded in_x = map_input(x.data, n, AT_END),
+                               in_y = map_input(y.data, n, AT_START);
                 struct guarded out = map_guarded(room, room % 2 ? AT_END : AT_START);
                 size_t len = 777777, compress_by = flag == 3 ? SIZE_MAX : flag;
                 memset(out.data, 0xEE, room);
-                uint32_t status = sec1_point_from_coordinates(in_x.data, n, in_y.data, n, compress_by, out.data, room, &len);
+                uint32_t status = sec1_point_from_coordinates(in_x.data, n, in_y.data, n,
+                                                              compress_by, out.data, room, &len);
                 size_t written = room < wanted.len ? 0 : wanted.len;
                 EXPECT(status == (written ? (uint32_t)SEC1_OK : SEC1_BUFFER) && len == wanted.len);
                 EXPECT(memcmp(out.data, wanted.data, written) == 0);
@@ -603,14 +643,16 @@ static void test_made_points(void)
     size_t len = 777777;
     static const struct {
         size_t x_len, y_len;
-    } others[] = {{0, 0}, {0, 1}, {1, 0}, {32, 31}, {31, 32}, {66, 67}, {67, 66}, {67, 67}, {256 + 32, 32}};
+    } others[] = {{0, 0},   {0, 1},   {1, 0},   {32, 31},      {31, 32},
+                  {66, 67}, {67, 66}, {67, 67}, {256 + 32, 32}};
     static const uint8_t zeros[300];
     for (size_t i = 0; i < sizeof others / sizeof *others; i++)
         for (size_t flag = 0; flag < 2; flag++)
-            EXPECT(sec1_point_from_coordinates(zeros, others[i].x_len, zeros, others[i].y_len, flag, out, sizeof out, &len)
-                   == SEC1_FIELD_LENGTH);
+            EXPECT(sec1_point_from_coordinates(zeros, others[i].x_len, zeros, others[i].y_len, flag,
+                                               out, sizeof out, &len) == SEC1_FIELD_LENGTH);
     EXPECT(len == 777777 && out[0] == 9);
-    EXPECT(sec1_point_from_coordinates(NULL, 0, NULL, 0, 0, NULL, 0, &len) == SEC1_FIELD_LENGTH && len == 777777);
+    EXPECT(sec1_point_from_coordinates(NULL, 0, NULL, 0, 0, NULL, 0, &len) == SEC1_FIELD_LENGTH &&
+           len == 777777);
 
     EXPECT(sec1_point_identity(NULL, 0, &len) == SEC1_BUFFER && len == 1);
     len = 777777;
@@ -621,7 +663,8 @@ static void test_made_points(void)
 static int32_t order_of(struct bytes a, struct bytes b)
 {
     int32_t order = 99;
-    struct guarded first = map_input(a.data, a.len, AT_END), second = map_input(b.data, b.len, AT_START);
+    struct guarded first = map_input(a.data, a.len, AT_END),
+                   second = map_input(b.data, b.len, AT_START);
     EXPECT(sec1_point_compare(first.data, a.len, second.data, b.len, field, &order) == SEC1_OK);
     unmap(first);
     unmap(second);
@@ -637,10 +680,12 @@ static void test_point_order(size_t n)
     one.data[n - 1] = 1;
     big.data[0] = 1;
     struct bytes points[] = {
-        point_bytes(0, NULL, NULL), point_bytes(2, &low, NULL), point_bytes(2, &one, NULL), point_bytes(2, &big, NULL),
-        point_bytes(2, &high, NULL), point_bytes(3, &low, NULL), point_bytes(4, &low, &high), point_bytes(4, &one, &low),
-        point_bytes(4, &one, &one), point_bytes(4, &one, &big), point_bytes(4, &big, &low), point_bytes(5, &low, NULL),
-        point_bytes(6, &low, &low), point_bytes(6, &high, &low), point_bytes(7, &low, &one), point_bytes(7, &low, &high),
+        point_bytes(0, NULL, NULL),  point_bytes(2, &low, NULL),  point_bytes(2, &one, NULL),
+        point_bytes(2, &big, NULL),  point_bytes(2, &high, NULL), point_bytes(3, &low, NULL),
+        point_bytes(4, &low, &high), point_bytes(4, &one, &low),  point_bytes(4, &one, &one),
+        point_bytes(4, &one, &big),  point_bytes(4, &big, &low),  point_bytes(5, &low, NULL),
+        point_bytes(6, &low, &low),  point_bytes(6, &high, &low), point_bytes(7, &low, &one),
+        point_bytes(7, &low, &high),
     };
     int count = sizeof points / sizeof *points;
     for (int i = 0; i < count; i++)
@@ -649,9 +694,12 @@ static void test_point_order(size_t n)
 
     int32_t order = 99;
     struct bytes point = points[1], none = repeated(9, 5);
-    EXPECT(sec1_point_compare(point.data, point.len, none.data, none.len, n, &order) == SEC1_POINT_ENCODING);
-    EXPECT(sec1_point_compare(none.data, none.len, point.data, point.len, n, &order) == SEC1_POINT_ENCODING);
-    EXPECT(sec1_point_compare(point.data, point.len, point.data, point.len, 67, &order) == SEC1_FIELD_LENGTH);
+    EXPECT(sec1_point_compare(point.data, point.len, none.data, none.len, n, &order) ==
+           SEC1_POINT_ENCODING);
+    EXPECT(sec1_point_compare(none.data, none.len, point.data, point.len, n, &order) ==
+           SEC1_POINT_ENCODING);
+    EXPECT(sec1_point_compare(point.data, point.len, point.data, point.len, 67, &order) ==
+           SEC1_FIELD_LENGTH);
     EXPECT(order == 99);
 }
 
@@ -682,12 +730,14 @@ static void test_points(void)
 
 /* ---- identifiers */
 
-static uint32_t to_text(const uint8_t *bytes, size_t bytes_len, uint8_t *out, size_t out_len, size_t *len)
+static uint32_t to_text(const uint8_t *bytes, size_t bytes_len, uint8_t *out, size_t out_len,
+                        size_t *len)
 {
     return sec1_identifier_to_text(bytes, bytes_len, (char *)out, out_len, len);
 }
 
-static uint32_t from_text(const uint8_t *bytes, size_t bytes_len, uint8_t *out, size_t out_len, size_t *len)
+static uint32_t from_text(const uint8_t *bytes, size_t bytes_len, uint8_t *out, size_t out_len,
+                          size_t *len)
 {
     return sec1_identifier_from_text((const char *)bytes, bytes_len, out, out_len, len);
 }
@@ -702,7 +752,8 @@ static struct bytes text_bytes(const char *text)
 
 static uint32_t check_identifier(struct bytes content)
 {
-    struct guarded in = map_input(content.data, content.len, AT_END), again = map_input(content.data, content.len, AT_START);
+    struct guarded in = map_input(content.data, content.len, AT_END),
+                   again = map_input(content.data, content.len, AT_START);
     uint32_t status = sec1_identifier_check(in.data, content.len);
     EXPECT(sec1_identifier_check(again.data, content.len) == status);
     unmap(in);
@@ -763,8 +814,30 @@ static void test_identifiers(void)
     expect_refused(to_text, repeated(1, 40), SEC1_VALUE);
 
     static const char *const no_texts[] = {
-        "", ".", "1", "1.", ".1", "1.2.", "01.2", "1.02", "1.40", "0.40", "3.1", "1.-2", "+1.2", "1.+2", "1 .2", "1. 2",
-        "1.2\n", "1.2.4294967296", "2.4294967216", "1.2.99999999999999999999", "1..2", "a.b", "1.2.\xC3\xA9", "\xFF\xFE",
+        "",
+        ".",
+        "1",
+        "1.",
+        ".1",
+        "1.2.",
+        "01.2",
+        "1.02",
+        "1.40",
+        "0.40",
+        "3.1",
+        "1.-2",
+        "+1.2",
+        "1.+2",
+        "1 .2",
+        "1. 2",
+        "1.2\n",
+        "1.2.4294967296",
+        "2.4294967216",
+        "1.2.99999999999999999999",
+        "1..2",
+        "a.b",
+        "1.2.\xC3\xA9",
+        "\xFF\xFE",
     };
     for (size_t i = 0; i < sizeof no_texts / sizeof *no_texts; i++)
         expect_refused(from_text, text_bytes(no_texts[i]), SEC1_VALUE);
@@ -772,12 +845,14 @@ static void test_identifiers(void)
     with_end.len++;
     expect_refused(from_text, with_end, SEC1_VALUE);
 
-    static const char *const no_contents[] = {"", "80", "8001", "2A80", "2A8001", "2AFF", "2A9080808000", "9080808000"};
+    static const char *const no_contents[] = {"",       "80",   "8001",         "2A80",
+                                              "2A8001", "2AFF", "2A9080808000", "9080808000"};
     for (size_t i = 0; i < sizeof no_contents / sizeof *no_contents; i++) {
         expect_refused(to_text, unhex(no_contents[i]), SEC1_VALUE);
         EXPECT(check_identifier(unhex(no_contents[i])) == SEC1_VALUE);
     }
-    EXPECT(check_identifier(repeated(1, 40)) == SEC1_VALUE && sec1_identifier_check(NULL, 0) == SEC1_VALUE);
+    EXPECT(check_identifier(repeated(1, 40)) == SEC1_VALUE &&
+           sec1_identifier_check(NULL, 0) == SEC1_VALUE);
     size_t len = 777777;
     EXPECT(sec1_identifier_to_text(NULL, 0, NULL, 0, &len) == SEC1_VALUE && len == 777777);
     EXPECT(sec1_identifier_from_text(NULL, 0, NULL, 0, &len) == SEC1_VALUE && len == 777777);
@@ -870,8 +945,8 @@ static void test_hexadecimal(void)
 
 /* ---- curves */
 
-/* What `openssl ecparam -list_curves`, `-param_enc named_curve` and `-text` of OpenSSL 3.0 say of curves, and the names
- * of FIPS 186-4 and ANSI X9.62. */
+/* What `openssl ecparam -list_curves`, `-param_enc named_curve` and `-text` of OpenSSL 3.0 say of
+ * curves, and the names of FIPS 186-4 and ANSI X9.62. */
 static const struct curve {
     const char *name, *content;
     size_t field_len;
@@ -893,12 +968,14 @@ static const struct curve {
     {"brainpoolP512t1", "2B240303020801010E", 64, NULL},
 };
 
-static uint32_t curve_name(const uint8_t *bytes, size_t bytes_len, uint8_t *out, size_t out_len, size_t *len)
+static uint32_t curve_name(const uint8_t *bytes, size_t bytes_len, uint8_t *out, size_t out_len,
+                           size_t *len)
 {
     return sec1_curve_name(bytes, bytes_len, (char *)out, out_len, len);
 }
 
-static uint32_t curve_content(const uint8_t *bytes, size_t bytes_len, uint8_t *out, size_t out_len, size_t *len)
+static uint32_t curve_content(const uint8_t *bytes, size_t bytes_len, uint8_t *out, size_t out_len,
+                              size_t *len)
 {
     return sec1_curve_from_name((const char *)bytes, bytes_len, out, out_len, len);
 }
@@ -925,11 +1002,19 @@ static void test_curves(void)
     }
     char name[SEC1_CURVE_NAME_MAX];
     struct bytes longest = unhex("2B240303020801010D");
-    EXPECT(sec1_curve_name(longest.data, longest.len, name, sizeof name, &len) == SEC1_OK && len == SEC1_CURVE_NAME_MAX);
+    EXPECT(sec1_curve_name(longest.data, longest.len, name, sizeof name, &len) == SEC1_OK &&
+           len == SEC1_CURVE_NAME_MAX);
 
     /* SM2, a curve of WTLS, beginnings of curves, and no identifiers */
     static const char *const no_contents[] = {
-        "2A811CCF5501822D", "672B010406", "2A8648CE3D0301", "2A8648CE3D03010700", "2A8648CE3D030100", "2B", "80", "",
+        "2A811CCF5501822D",
+        "672B010406",
+        "2A8648CE3D0301",
+        "2A8648CE3D03010700",
+        "2A8648CE3D030100",
+        "2B",
+        "80",
+        "",
     };
     for (size_t i = 0; i < sizeof no_contents / sizeof *no_contents; i++) {
         found = 777777;
@@ -937,7 +1022,8 @@ static void test_curves(void)
         expect_refused(curve_name, unhex(no_contents[i]), SEC1_CURVE);
     }
     static const char *const no_names[] = {
-        "", "p-256", "P-256 ", "SECP256R1", "secp256r", "secp256r11", "P-25", "SM2", "1.2.840.10045.3.1.7", "\xFF\xFE",
+        "",           "p-256", "P-256 ", "SECP256R1",           "secp256r",
+        "secp256r11", "P-25",  "SM2",    "1.2.840.10045.3.1.7", "\xFF\xFE",
     };
     for (size_t i = 0; i < sizeof no_names / sizeof *no_names; i++)
         expect_refused(curve_content, text_bytes(no_names[i]), SEC1_CURVE);
@@ -991,13 +1077,14 @@ static uint32_t read_element(struct bytes input, size_t *header_len, size_t *con
 }
 
 /* The status and the offset of the first fault, by the call for keys or by that for trees. */
-static void expect_fault(uint32_t (*fault_at)(const uint8_t *, size_t, size_t *), struct bytes input, uint32_t wanted,
-                         size_t wanted_offset)
+static void expect_fault(uint32_t (*fault_at)(const uint8_t *, size_t, size_t *),
+                         struct bytes input, uint32_t wanted, size_t wanted_offset)
 {
     for (enum side side = AT_END; side <= AT_START; side++) {
         struct guarded in = map_input(input.data, input.len, side);
         size_t offset = 777777;
-        EXPECT(fault_at(in.data, input.len, &offset) == wanted && offset == (wanted ? wanted_offset : 777777));
+        EXPECT(fault_at(in.data, input.len, &offset) == wanted &&
+               offset == (wanted ? wanted_offset : 777777));
         unmap(in);
     }
 }
@@ -1077,10 +1164,12 @@ static void test_first_elements(void)
     for (size_t i = 0; i < sizeof first_elements / sizeof *first_elements; i++) {
         const struct first_element *e = &first_elements[i];
         EXPECT(read_element(unhex(e->bytes), &header_len, &content_len) == e->status);
-        EXPECT(e->status != SEC1_OK || (header_len == e->header_len && content_len == e->content_len));
+        EXPECT(e->status != SEC1_OK ||
+               (header_len == e->header_len && content_len == e->content_len));
     }
     struct bytes two = joined(unhex("048180"), joined(repeated(5, 128), unhex("0500")));
-    EXPECT(read_element(two, &header_len, &content_len) == SEC1_OK && header_len == 3 && content_len == 128);
+    EXPECT(read_element(two, &header_len, &content_len) == SEC1_OK && header_len == 3 &&
+           content_len == 128);
     EXPECT(sec1_element_read(NULL, 0, &header_len, &content_len) == SEC1_TRUNCATED);
     EXPECT(header_len == 3 && content_len == 128);
 }
@@ -1103,9 +1192,14 @@ static const struct tree_fault {
     uint32_t status;
     size_t offset;
 } tree_faults[] = {
-    {"3002050000", SEC1_TRAILING_DATA, 4}, {"3003050005", SEC1_TRUNCATED, 5}, {"3003050200", SEC1_TRUNCATED, 3},
-    {"30031F0100", SEC1_TAG, 2},           {"3003048100", SEC1_LENGTH, 3},    {"3003A00100", SEC1_TAG, 4},
-    {"", SEC1_TRUNCATED, 0},               {"3003050000", SEC1_TAG, 4},
+    {"3002050000", SEC1_TRAILING_DATA, 4},
+    {"3003050005", SEC1_TRUNCATED, 5},
+    {"3003050200", SEC1_TRUNCATED, 3},
+    {"30031F0100", SEC1_TAG, 2},
+    {"3003048100", SEC1_LENGTH, 3},
+    {"3003A00100", SEC1_TAG, 4},
+    {"", SEC1_TRUNCATED, 0},
+    {"3003050000", SEC1_TAG, 4},
 };
 
 static void test_faults(void)
@@ -1125,7 +1219,8 @@ static void test_faults(void)
     }
     expect_fault(sec1_key_fault_at, joined(key, repeated(0, 1)), SEC1_TRAILING_DATA, key.len);
     for (size_t i = 0; i < sizeof tree_faults / sizeof *tree_faults; i++)
-        expect_fault(sec1_tree_fault_at, unhex(tree_faults[i].bytes), tree_faults[i].status, tree_faults[i].offset);
+        expect_fault(sec1_tree_fault_at, unhex(tree_faults[i].bytes), tree_faults[i].status,
+                     tree_faults[i].offset);
     size_t offset = 777777;
     EXPECT(sec1_key_fault_at(NULL, 0, &offset) == SEC1_TRUNCATED && offset == 0);
     offset = 777777;
@@ -1164,7 +1259,8 @@ static void test_elements(void)
 /* Bytes of small DER in no order, so that many of them are read far. */
 static struct bytes draw_bytes(size_t most)
 {
-    static const uint8_t often[] = {0x30, 0x02, 0x01, 0x01, 0x04, 0x00, 0xA0, 0x06, 0xA1, 0x03, 0x2A, 0x80, 0x81, 0x7F};
+    static const uint8_t often[] = {0x30, 0x02, 0x01, 0x01, 0x04, 0x00, 0xA0,
+                                    0x06, 0xA1, 0x03, 0x2A, 0x80, 0x81, 0x7F};
     struct bytes b = {0};
     b.len = draw((uint32_t)most + 1);
     for (size_t i = 0; i < b.len; i++)
@@ -1190,9 +1286,10 @@ static void test_random_bytes(void)
             EXPECT(sec1_check_tree(bytes, b.len, &elements) == SEC1_OK);
             EXPECT(elements == 3 + 2 * p.curve.present + 2 * p.public_key.present);
             EXPECT(sec1_document_len(bytes, b.len, &len) == SEC1_OK && len == b.len);
-            EXPECT(sec1_key_write(bytes + p.private_key.offset, p.private_key.len, bytes + p.curve.offset, p.curve.len,
-                                  bytes + p.public_key.offset, p.public_key.len, p.public_key.present,
-                                  out.data + ROOM - b.len, b.len, &len) == SEC1_OK);
+            EXPECT(sec1_key_write(bytes + p.private_key.offset, p.private_key.len,
+                                  bytes + p.curve.offset, p.curve.len, bytes + p.public_key.offset,
+                                  p.public_key.len, p.public_key.present, out.data + ROOM - b.len,
+                                  b.len, &len) == SEC1_OK);
             EXPECT(len == b.len && memcmp(out.data + ROOM - b.len, bytes, len) == 0);
         }
         uint8_t text[SEC1_IDENTIFIER_TEXT_MAX], content[SEC1_IDENTIFIER_CONTENT_MAX];

@@ -201,7 +201,8 @@ static void check_key(const uint8_t *bytes, size_t len)
                && (refused ? all_are((uint8_t *)stored, sizeof found, 0xA5)
                            : memcmp(stored, &found, sizeof found) == 0));
     check_fault(KEY_FAULT, sec1_key_fault_at, bytes, len, refused, fault_at);
-    stored = (struct sec1_key_parts *)memcpy(room(struct_arena, sizeof found), &found, sizeof found);
+    stored =
+        (struct sec1_key_parts *)memcpy(room(struct_arena, sizeof found), &found, sizeof found);
     if (status == SEC1_OK) {
         check_key_write(bytes + stored->private_key.offset, stored->private_key.len,
                         bytes + stored->curve.offset, stored->curve.len,
@@ -291,8 +292,8 @@ static void check_made(const uint8_t *bytes, size_t len)
     }
     size_t out_len = some_room(form_len);
     uint8_t *out = buffer(out_len);
-    uint32_t status = sec1_point_from_coordinates(bytes, x_len, x_len ? bytes + x_len : bytes, y_len, compress_by, out,
-                                                  out_len, &found);
+    uint32_t status = sec1_point_from_coordinates(bytes, x_len, x_len ? bytes + x_len : bytes,
+                                                  y_len, compress_by, out, out_len, &found);
     expect(MADE, status, writes(status, found, out, out_len, refused, form, form_len));
 }
 
