@@ -23,8 +23,9 @@ class Keys(unittest.TestCase):
         self.assertEqual((len(keys), len(answers)), (2656, 2656))
         for data, answer in zip(keys, answers):
             if answer.startswith("SEC1 ASN.1 error: "):
-                with self.assertRaises(TEXTS[answer[len("SEC1 ASN.1 error: ") :]]):
+                with self.assertRaises(TEXTS[answer[len("SEC1 ASN.1 error: ") :]]) as caught:
                     sec1.EcPrivateKey.from_der(data)
+                self.assertIn(caught.exception.offset, range(len(data) + 1))
                 continue
             key = sec1.EcPrivateKey.from_der(data)
             public_key = "none" if key.public_key is None else key.public_key.hex().upper()
@@ -72,7 +73,7 @@ class Points(unittest.TestCase):
     def test_random_points(self):
         draw, accepted, last = random.Random(7), 0, {}
         for _ in range(100000):
-            length = draw.choice((28, 32, 48, 66))
+            length = draw.choice((1, 20, 28, 32, 48, 66))
             size = draw.choice((1, 1 + length, 1 + 2 * length, 1 + 2 * length, draw.randrange(140)))
             data = draw.randbytes(size)
             data = (bytes([draw.randrange(9)]) + data[1:]) if data and draw.random() < 0.9 else data
@@ -87,7 +88,10 @@ class Points(unittest.TestCase):
             y = point.y
             small = data if y is None else bytes([2 + y[-1] % 2]) + point.x
             self.assertEqual(point.compress().encoding, small)
+            self.assertEqual((point.hex(), point.hex(True)), (data.hex().upper(), data.hex()))
+            self.assertEqual(sec1.Point.from_hex(data.hex(), length), point)
             if point.tag == sec1.Tag.UNCOMPRESSED:
+                self.assertEqual(sec1.Point.from_coordinates(point.x, y, True).encoding, small)
                 self.assertEqual(sec1.Point.from_coordinates(point.x, y), point)
                 self.assertEqual(point.to_hybrid().encoding, bytes([6 + y[-1] % 2]) + data[1:])
             other = last.get(length, point)
@@ -121,6 +125,54 @@ class Others(unittest.TestCase):
         for content in (b"", b"\x80\x01", b"\x81", b"\x01" * 40):
             with self.assertRaises(sec1.ValueContentError):
                 sec1.ObjectIdentifier(content)
+
+    def test_curves(self):
+        for name, first, text, length in (
+            ("P-256", "secp256r1", "1.2.840.10045.3.1.7", 32),
+            ("prime256v1", "secp256r1", "1.2.840.10045.3.1.7", 32),
+            ("secp521r1", "secp521r1", "1.3.132.0.35", 66),
+            ("brainpoolP512r1", "brainpoolP512r1", "1.3.36.3.3.2.8.1.1.13", 64),
+        ):
+            curve = sec1.Curve.from_name(name)
+            self.assertEqual((curve.name, str(curve.identifier), curve.field_length), (first, text, length))
+        for name in ("", "p-256", "P-256\0", "secp256r1 "):
+            with self.assertRaises(sec1.CurveError):
+                sec1.Curve.from_name(name)
+        with self.assertRaises(sec1.CurveError):
+            sec1.Curve(sec1.ObjectIdentifier.from_text("1.2"))
+
+    def test_offsets(self):
+        data = bytes.fromhex("3006020101040109")
+        for at, value, error, offset in (
+            (0, 0x31, sec1.TagError, 0),
+            (3, 2, sec1.ValueContentError, 4),
+            (4, 2, sec1.ValueContentError, 4),
+            (6, 0x80, sec1.LengthError, 6),
+        ):
+            with self.assertRaises(error) as caught:
+                sec1.EcPrivateKey.from_der(data[:at] + bytes([value]) + data[at + 1 :])
+            self.assertEqual(caught.exception.offset, offset)
+            self.assertEqual(pickle.loads(pickle.dumps(caught.exception)).offset, offset)
+        for text, error, offset in (
+            ("3003020301", sec1.TruncatedError, 3),
+            ("300302", sec1.TruncatedError, 1),
+            ("3080", sec1.LengthError, 1),
+            ("0500ff", sec1.TrailingDataError, 2),
+            ("1f00", sec1.TagError, 0),
+        ):
+            with self.assertRaises(error) as caught:
+                sec1.check_tree(bytes.fromhex(text))
+            self.assertEqual(caught.exception.offset, offset)
+        self.assertIsNone(sec1.PointEncodingError().offset)
+
+    def test_hexadecimal(self):
+        for text in ("02aA", "02a", "", "+2aa", "02gg", "02aaaa", "0\u0662aa"):
+            with self.assertRaises(sec1.PointEncodingError):
+                sec1.Point.from_hex(text, 1)
+        for x, y in ((b"", b""), (b"1", b"22"), (b"1" * 67, b"1" * 67)):
+            with self.assertRaises(sec1.FieldLengthError):
+                sec1.Point.from_coordinates(x, y)
+        self.assertEqual(sec1.Point.identity(66).encoding, b"\0")
 
     def test_trees(self):
         self.assertEqual(sec1.check_tree(bytes.fromhex("30030201 01")), 2)

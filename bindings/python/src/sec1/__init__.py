@@ -12,6 +12,8 @@ from . import _library
 
 __all__ = [
     "BufferTooShort",
+    "Curve",
+    "CurveError",
     "DepthError",
     "EcPrivateKey",
     "Error",
@@ -32,12 +34,20 @@ __all__ = [
 
 
 class Error(ValueError):
-    """A refusal. Each kind of refusal is a class of its own below this one."""
+    """A refusal. Each kind of refusal is a class of its own below this one.
+
+    `offset` is that of the first fault in the bytes of a key or of a tree, and None elsewhere: of the tag
+    byte, of the first byte of the length or of the content that is refused, of the first byte after the
+    last part, or the number of bytes where they end before a tag."""
 
     text = "the library broke its contract"
 
-    def __init__(self) -> None:
-        super().__init__(self.text)
+    def __init__(self, offset: Optional[int] = None) -> None:
+        super().__init__(self.text if offset is None else f"{self.text} at byte {offset}")
+        self.offset = offset
+
+    def __reduce__(self) -> Any:
+        return type(self), (self.offset,)
 
 
 class TruncatedError(Error):
@@ -95,15 +105,21 @@ class PointEncodingError(Error):
 
 
 class FieldLengthError(Error):
-    """The length of field elements isn't one that the library supports."""
+    """The length of field elements isn't 1 to 66, or two lengths differ."""
 
     text = "length of field elements not supported"
+
+
+class CurveError(Error):
+    """No curve of the library's table has this identifier or this name."""
+
+    text = "curve not in the table"
 
 
 # By the numbers of enum sec1_status, from 1 on.
 _ERRORS: "tuple[Type[Error], ...]" = (
     *(TruncatedError, TagError, LengthError, TrailingDataError, ValueContentError),
-    *(OverlengthError, BufferTooShort, DepthError, PointEncodingError, FieldLengthError),
+    *(OverlengthError, BufferTooShort, DepthError, PointEncodingError, FieldLengthError, CurveError),
 )
 
 
@@ -112,10 +128,15 @@ def _bytes(data: bytes) -> bytes:
     return data if isinstance(data, bytes) else bytes(memoryview(data))
 
 
-def _check(status: int) -> None:
-    """Raises the error of a status other than 0."""
-    if status:
-        raise (_ERRORS[status - 1] if status <= len(_ERRORS) else Error)()
+def _check(status: int, fault_at: Optional[str] = None, data: bytes = b"") -> None:
+    """Raises the error of a status other than 0, with the offset that the other function tells."""
+    if not status:
+        return
+    offset = c_size_t()
+    if fault_at is not None:
+        _library.call(fault_at, data, len(data), byref(offset))
+    kind = _ERRORS[status - 1] if status <= len(_ERRORS) else Error
+    raise kind(None if fault_at is None else offset.value)
 
 
 def _written(name: str, *arguments: Any) -> bytes:
@@ -146,8 +167,9 @@ class ObjectIdentifier:
     content: bytes
 
     def __post_init__(self) -> None:
-        object.__setattr__(self, "content", _bytes(self.content))
-        str(self)
+        content = _bytes(self.content)
+        _check(_library.call("sec1_identifier_check", content, len(content)))
+        object.__setattr__(self, "content", content)
 
     @classmethod
     def from_text(cls, text: str) -> ObjectIdentifier:
@@ -161,6 +183,30 @@ class ObjectIdentifier:
 
     def __repr__(self) -> str:
         return f"ObjectIdentifier.from_text({str(self)!r})"
+
+
+@dataclass(frozen=True)
+class Curve:
+    """A curve of the library's table, which has the 34 curves over prime fields of SEC 2, ANSI X9.62 and
+    RFC 5639, by its identifier. Raises CurveError if the table hasn't it."""
+
+    identifier: ObjectIdentifier
+    name: str = field(init=False)
+    field_length: int = field(init=False)
+
+    def __post_init__(self) -> None:
+        content, length = self.identifier.content, c_size_t()
+        _check(_library.call("sec1_curve_field_len", content, len(content), byref(length)))
+        name = _written("sec1_curve_name", content, len(content))
+        object.__setattr__(self, "name", name[:-1].decode("ascii"))
+        object.__setattr__(self, "field_length", length.value)
+
+    @classmethod
+    def from_name(cls, name: str) -> Curve:
+        """Returns the curve with this name, as secp256r1, P-256 or prime256v1, or raises CurveError. The
+        case of letters counts."""
+        data = name.encode("utf-8", "surrogatepass")
+        return cls(ObjectIdentifier(_written("sec1_curve_from_name", data, len(data))))
 
 
 @dataclass(frozen=True)
@@ -178,7 +224,7 @@ class EcPrivateKey:
         Raises TruncatedError, TagError, LengthError, TrailingDataError or ValueContentError, the first
         fault from left to right."""
         data, parts = _bytes(data), _library.KeyParts()
-        _check(_library.call("sec1_key_read", data, len(data), byref(parts)))
+        _check(_library.call("sec1_key_read", data, len(data), byref(parts)), "sec1_key_fault_at", data)
         curve = parts.curve.of(data)
         return cls(
             parts.private_key.of(data) or b"",
@@ -221,9 +267,31 @@ class Point:
         object.__setattr__(self, "y", parts.y.of(data))
 
     @classmethod
-    def from_coordinates(cls, x: bytes, y: bytes) -> Point:
-        """Returns the uncompressed point with these coordinates, or raises PointEncodingError."""
-        return cls(bytes([Tag.UNCOMPRESSED]) + x + y, len(x))
+    def from_coordinates(cls, x: bytes, y: bytes, compress: bool = False) -> Point:
+        """Returns the uncompressed point with these coordinates, or its compressed form, or raises
+        FieldLengthError."""
+        x, y = _bytes(x), _bytes(y)
+        return cls(_written("sec1_point_from_coordinates", x, len(x), y, len(y), int(compress)), len(x))
+
+    @classmethod
+    def identity(cls, field_length: int) -> Point:
+        """Returns the point at infinity, or raises FieldLengthError."""
+        return cls(_written("sec1_point_identity"), field_length)
+
+    @classmethod
+    def from_hex(cls, text: str, field_length: int) -> Point:
+        """Returns the point with this hexadecimal text, whose letters are all of one case, or raises
+        PointEncodingError or FieldLengthError."""
+        data = text.encode("utf-8", "surrogatepass")
+        if not 0 <= field_length < 1 << 64:
+            raise FieldLengthError
+        return cls(_written("sec1_point_from_hex", data, len(data), field_length), field_length)
+
+    def hex(self, lower_case: bool = False) -> str:
+        """Returns the encoding in hexadecimal."""
+        length = len(self.encoding)
+        text = _written("sec1_point_to_hex", self.encoding, length, self.field_length, int(lower_case))
+        return text[:-1].decode("ascii")
 
     def compress(self) -> Point:
         """Returns the compressed form of an uncompressed or hybrid point, any other as it is."""
@@ -262,7 +330,7 @@ def check_tree(data: bytes) -> int:
 
     Raises TruncatedError, TagError, LengthError, TrailingDataError or DepthError."""
     data, count = _bytes(data), c_size_t()
-    _check(_library.call("sec1_check_tree", data, len(data), byref(count)))
+    _check(_library.call("sec1_check_tree", data, len(data), byref(count)), "sec1_tree_fault_at", data)
     return count.value
 
 

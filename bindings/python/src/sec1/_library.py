@@ -41,7 +41,17 @@ for _name, _types in {
     "sec1_key_read": [*_BYTES, POINTER(KeyParts)],
     "sec1_key_write": [*_BYTES, *_BYTES, *_BYTES, c_size_t, *_OUT],
     "sec1_point_read": [*_BYTES, c_size_t, POINTER(PointParts)],
+    "sec1_key_fault_at": [*_BYTES, POINTER(c_size_t)],
     "sec1_point_compress": [*_BYTES, c_size_t, *_OUT],
+    "sec1_point_from_coordinates": [*_BYTES, *_BYTES, c_size_t, *_OUT],
+    "sec1_point_identity": _OUT,
+    "sec1_point_to_hex": [*_BYTES, c_size_t, c_size_t, *_OUT],
+    "sec1_point_from_hex": [*_BYTES, c_size_t, *_OUT],
+    "sec1_identifier_check": _BYTES,
+    "sec1_curve_field_len": [*_BYTES, POINTER(c_size_t)],
+    "sec1_curve_name": [*_BYTES, *_OUT],
+    "sec1_curve_from_name": [*_BYTES, *_OUT],
+    "sec1_tree_fault_at": [*_BYTES, POINTER(c_size_t)],
     "sec1_point_to_hybrid": [*_BYTES, c_size_t, *_OUT],
     "sec1_point_compare": [*_BYTES, *_BYTES, c_size_t, POINTER(c_int32)],
     "sec1_identifier_to_text": [*_BYTES, *_OUT],
@@ -58,8 +68,8 @@ def call(name: str, *arguments: Any) -> int:
 
 
 def written(name: str, *arguments: Any) -> "tuple[int, bytes]":
-    """Returns the status, and what the function writes: in 160 bytes, or in as many as it asks for."""
-    length, room = c_size_t(), 160
+    """Returns the status, and what the function writes: in 270 bytes, or in as many as it asks for."""
+    length, room = c_size_t(), 270
     while True:
         buffer = ctypes.create_string_buffer(room)
         status = call(name, *arguments, buffer, room, byref(length))

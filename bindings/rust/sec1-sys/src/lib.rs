@@ -42,6 +42,8 @@ pub const SEC1_POINT_HYBRID_EVEN: u8 = 6;
 /// x and an odd y.
 pub const SEC1_POINT_HYBRID_ODD: u8 = 7;
 
+/// The greatest length of a point's encoding.
+pub const SEC1_POINT_MAX: usize = 133;
 /// The greatest length of an identifier's content.
 pub const SEC1_IDENTIFIER_CONTENT_MAX: usize = 39;
 /// The greatest length of an identifier's text with the byte 0 at its end.
@@ -146,6 +148,12 @@ unsafe extern "C" {
         field_len: usize,
         parts: *mut sec1_point_parts,
     ) -> u32;
+    /// Stores the length of a point's encoding that begins with this byte.
+    ///
+    /// # Safety
+    ///
+    /// `len` is writable.
+    pub fn sec1_point_len(tag: usize, field_len: usize, len: *mut usize) -> u32;
     /// Writes the compressed form of a point, and stores its length.
     ///
     /// # Safety

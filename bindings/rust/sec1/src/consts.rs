@@ -1,5 +1,4 @@
-//! Sizes as types: those of field elements that the library supports, and those of points over
-//! them.
+//! Sizes as types: those of field elements, of 1 to 66 bytes, and those of points over them.
 //!
 //! # Examples
 //!
@@ -15,32 +14,98 @@ mod sealed {
 }
 
 /// A type of values that an array holds.
+///
+/// # Examples
+///
+/// ```
+/// use sec1::{Array, consts::{ArraySize, Element, U3}};
+///
+/// fn three<T: Element>(value: T) -> Array<T, U3> {
+///     U3::filled(value)
+/// }
+///
+/// assert_eq!(three('a'), ['a'; 3]);
+/// ```
 pub trait Element: Copy + Eq + core::fmt::Debug {}
 impl<T: Copy + Eq + core::fmt::Debug> Element for T {}
 
 /// A size of an array.
+///
+/// # Examples
+///
+/// ```
+/// use sec1::consts::{ArraySize, U48};
+///
+/// fn is_long<Size: ArraySize>() -> bool {
+///     Size::USIZE > 32
+/// }
+///
+/// assert!(is_long::<U48>());
+/// ```
 pub trait ArraySize:
     sealed::Sealed + Copy + Default + Eq + Ord + core::hash::Hash + core::fmt::Debug + 'static
 {
     /// The size as a number.
+    ///
+    /// # Examples
+    ///
+    /// ```
+    /// use sec1::consts::{ArraySize, U66};
+    ///
+    /// assert_eq!(U66::USIZE, 66);
+    /// ```
     const USIZE: usize;
 
     /// The array of this size.
     type ArrayType<T: Element>: AsRef<[T]> + AsMut<[T]> + Copy + Eq + core::fmt::Debug;
 
     /// Returns the size as a number.
+    ///
+    /// # Examples
+    ///
+    /// ```
+    /// use sec1::consts::{ArraySize, U66};
+    ///
+    /// assert_eq!(U66::to_usize(), 66);
+    /// ```
     fn to_usize() -> usize {
         Self::USIZE
     }
 
     /// Returns the array that holds one value everywhere.
+    ///
+    /// # Examples
+    ///
+    /// ```
+    /// use sec1::consts::{ArraySize, U4};
+    ///
+    /// assert_eq!(U4::filled(9), [9, 9, 9, 9]);
+    /// ```
     fn filled<T: Element>(value: T) -> Self::ArrayType<T>;
 
-    /// Borrows a slice of this size as an array.
+    /// Borrows a slice of this size as an array. Returns `None` for a slice of another size.
+    ///
+    /// # Examples
+    ///
+    /// ```
+    /// use sec1::consts::{ArraySize, U2};
+    ///
+    /// assert_eq!(U2::borrowed(&[1, 2]), Some(&[1, 2]));
+    /// assert_eq!(U2::borrowed(&[1, 2, 3]), None);
+    /// ```
     fn borrowed<T: Element>(slice: &[T]) -> Option<&Self::ArrayType<T>>;
 }
 
 /// An array whose size is a type. It is Rust's own array: `Array<u8, U32>` is `[u8; 32]`.
+///
+/// # Examples
+///
+/// ```
+/// use sec1::{Array, consts::U32};
+///
+/// let x: Array<u8, U32> = [7; 32];
+/// assert_eq!(x.as_slice(), [7; 32]);
+/// ```
 pub type Array<T, Size> = <Size as ArraySize>::ArrayType<T>;
 
 macro_rules! sizes {
@@ -67,8 +132,21 @@ macro_rules! sizes {
 }
 
 sizes! {
-    U28 28 U29 29 U56 56 U57 57
-    U32 32 U33 33 U64 64 U65 65
-    U48 48 U49 49 U96 96 U97 97
-    U66 66 U67 67 U132 132 U133 133
+    U1 1 U2 2 U3 3 U4 4 U5 5 U6 6 U7 7 U8 8
+    U9 9 U10 10 U11 11 U12 12 U13 13 U14 14 U15 15 U16 16
+    U17 17 U18 18 U19 19 U20 20 U21 21 U22 22 U23 23 U24 24
+    U25 25 U26 26 U27 27 U28 28 U29 29 U30 30 U31 31 U32 32
+    U33 33 U34 34 U35 35 U36 36 U37 37 U38 38 U39 39 U40 40
+    U41 41 U42 42 U43 43 U44 44 U45 45 U46 46 U47 47 U48 48
+    U49 49 U50 50 U51 51 U52 52 U53 53 U54 54 U55 55 U56 56
+    U57 57 U58 58 U59 59 U60 60 U61 61 U62 62 U63 63 U64 64
+    U65 65 U66 66 U67 67 U68 68 U69 69 U70 70 U71 71 U72 72
+    U73 73 U74 74 U75 75 U76 76 U77 77 U78 78 U79 79 U80 80
+    U81 81 U82 82 U83 83 U84 84 U85 85 U86 86 U87 87 U88 88
+    U89 89 U90 90 U91 91 U92 92 U93 93 U94 94 U95 95 U96 96
+    U97 97 U98 98 U99 99 U100 100 U101 101 U102 102 U103 103 U104 104
+    U105 105 U106 106 U107 107 U108 108 U109 109 U110 110 U111 111 U112 112
+    U113 113 U114 114 U115 115 U116 116 U117 117 U118 118 U119 119 U120 120
+    U121 121 U122 122 U123 123 U124 124 U125 125 U126 126 U127 127 U128 128
+    U129 129 U130 130 U131 131 U132 132 U133 133
 }

@@ -1,128 +1,36 @@
 //! What private keys need of DER (X.690): errors, lengths, the two traits of encodings, identifiers
-//! and documents, with the names of the crate `der`.
+//! and documents, with the names of the crate `der`; and elements and trees, which are this crate's
+//! own.
 
 pub mod asn1;
 #[cfg(feature = "alloc")]
 mod document;
+mod element;
+mod error;
 
 #[cfg(feature = "alloc")]
 pub use document::SecretDocument;
+pub use element::{Element, check_tree};
+pub use error::{Error, ErrorKind};
 
-use crate::raw::Status;
 #[cfg(feature = "alloc")]
 use alloc::vec::Vec;
 use core::fmt;
-#[cfg(feature = "std")]
-use std::io;
 
 /// A `Result` with the error of this module.
-pub type Result<T, E = Error> = core::result::Result<T, E>;
-
-/// Why a call refused.
 ///
 /// # Examples
 ///
 /// ```
-/// use sec1::der::{Error, ErrorKind};
+/// use sec1::der::{Length, Result};
 ///
-/// let error = Error::from(ErrorKind::Truncated);
-/// assert_eq!(error.kind(), ErrorKind::Truncated);
-/// assert_eq!(error.to_string(), "input ends inside an element");
+/// fn double(len: u32) -> Result<Length> {
+///     usize::try_from(len).unwrap_or(0).saturating_mul(2).try_into()
+/// }
+///
+/// assert!(double(60).is_ok());
 /// ```
-#[derive(Clone, Copy, Debug, Eq, PartialEq)]
-pub struct Error {
-    kind: ErrorKind,
-}
-
-/// The kinds of refusals. All but the last three are statuses of the library.
-#[derive(Clone, Copy, Debug, Eq, PartialEq)]
-#[non_exhaustive]
-pub enum ErrorKind {
-    /// The input, or the element around a part, ends too early.
-    Truncated,
-    /// A tag that isn't the expected one, or that no element has.
-    Tag,
-    /// A length that isn't in the form of DER, or is above 268,435,455.
-    Length,
-    /// Bytes after the last part.
-    TrailingData,
-    /// A content that isn't valid for its tag, or a text that isn't an identifier's.
-    Value,
-    /// A content to write is above 268,435,455 bytes.
-    Overlength,
-    /// The buffer to write into is too short.
-    Buffer,
-    /// More than 64 nested elements.
-    Depth,
-    /// The library returned what its contract rules out.
-    Failed,
-    /// The memory for the result was refused.
-    Memory,
-    /// A file couldn't be read or written.
-    #[cfg(feature = "std")]
-    Io(io::ErrorKind),
-}
-
-impl Error {
-    /// Returns the error of this kind.
-    pub(crate) const fn new(kind: ErrorKind) -> Error {
-        Error { kind }
-    }
-
-    /// The error of a status, which isn't one of points.
-    pub(crate) fn of(status: Status) -> Error {
-        Error::new(match status.get() {
-            sec1_sys::SEC1_TRUNCATED => ErrorKind::Truncated,
-            sec1_sys::SEC1_TAG => ErrorKind::Tag,
-            sec1_sys::SEC1_LENGTH => ErrorKind::Length,
-            sec1_sys::SEC1_TRAILING_DATA => ErrorKind::TrailingData,
-            sec1_sys::SEC1_VALUE => ErrorKind::Value,
-            sec1_sys::SEC1_OVERLENGTH => ErrorKind::Overlength,
-            sec1_sys::SEC1_BUFFER => ErrorKind::Buffer,
-            sec1_sys::SEC1_DEPTH => ErrorKind::Depth,
-            _ => ErrorKind::Failed,
-        })
-    }
-
-    /// Returns the kind of the error.
-    pub fn kind(self) -> ErrorKind {
-        self.kind
-    }
-}
-
-impl core::error::Error for Error {}
-
-impl fmt::Display for Error {
-    fn fmt(&self, f: &mut fmt::Formatter<'_>) -> fmt::Result {
-        f.write_str(match self.kind {
-            ErrorKind::Truncated => "input ends inside an element",
-            ErrorKind::Tag => "unexpected or unsupported tag",
-            ErrorKind::Length => "length not in DER form or above the limit",
-            ErrorKind::TrailingData => "bytes after the value",
-            ErrorKind::Value => "content not valid for its tag",
-            ErrorKind::Overlength => "value longer than 268435455 bytes",
-            ErrorKind::Buffer => "output buffer too small",
-            ErrorKind::Failed => "the library broke its contract",
-            #[cfg(feature = "std")]
-            ErrorKind::Io(_) => "read or write failed",
-            ErrorKind::Depth => "more than 64 nested elements",
-            ErrorKind::Memory => "out of memory",
-        })
-    }
-}
-
-impl From<ErrorKind> for Error {
-    fn from(kind: ErrorKind) -> Error {
-        Error::new(kind)
-    }
-}
-
-#[cfg(feature = "std")]
-impl From<io::Error> for Error {
-    fn from(error: io::Error) -> Error {
-        Error::new(ErrorKind::Io(error.kind()))
-    }
-}
+pub type Result<T, E = Error> = core::result::Result<T, E>;
 
 /// The length of an element in bytes.
 ///
@@ -131,7 +39,10 @@ impl From<io::Error> for Error {
 /// ```
 /// use sec1::der::Length;
 ///
-/// assert_eq!(u32::from(Length::try_from(121_usize)?), 121);
+/// let len = Length::try_from(121_usize)?;
+/// assert_eq!(u32::from(len), 121);
+/// assert_eq!(usize::try_from(len), Ok(121));
+/// assert_eq!(len.to_string(), "121");
 /// # Ok::<(), sec1::der::Error>(())
 /// ```
 #[derive(Clone, Copy, Debug, Default, Eq, Hash, Ord, PartialEq, PartialOrd)]
@@ -141,7 +52,7 @@ impl TryFrom<usize> for Length {
     type Error = Error;
 
     fn try_from(len: usize) -> Result<Length> {
-        u32::try_from(len).map(Length).map_err(|_| Error::new(ErrorKind::Overlength))
+        u32::try_from(len).map(Length).map_err(|_| Error::of_kind(ErrorKind::Overlength))
     }
 }
 
@@ -155,7 +66,7 @@ impl TryFrom<Length> for usize {
     type Error = Error;
 
     fn try_from(len: Length) -> Result<usize> {
-        usize::try_from(len.0).map_err(|_| Error::new(ErrorKind::Overlength))
+        usize::try_from(len.0).map_err(|_| Error::of_kind(ErrorKind::Overlength))
     }
 }
 
@@ -185,7 +96,19 @@ pub trait Decode<'a>: Sized + 'a {
     ///
     /// # Errors
     ///
-    /// The bytes aren't the encoding of such a value. The kind is that of the first fault.
+    /// The bytes aren't the encoding of such a value. The kind and the position are those of the
+    /// first fault.
+    ///
+    /// # Examples
+    ///
+    /// ```
+    /// use sec1::EcPrivateKey;
+    /// use sec1::der::{Decode, ErrorKind};
+    ///
+    /// let error = EcPrivateKey::from_der(&[0x30, 6, 2, 1, 2, 4, 1, 9]).unwrap_err();
+    /// assert_eq!(error.kind(), ErrorKind::Value);
+    /// assert_eq!(error.position().map(u32::from), Some(4));
+    /// ```
     fn from_der(bytes: &'a [u8]) -> Result<Self, Self::Error>;
 }
 
@@ -210,6 +133,16 @@ pub trait Encode {
     /// # Errors
     ///
     /// [`ErrorKind::Overlength`] if the value is too long to be encoded.
+    ///
+    /// # Examples
+    ///
+    /// ```
+    /// use sec1::EcPrivateKey;
+    /// use sec1::der::Encode;
+    ///
+    /// let key = EcPrivateKey { private_key: &[9; 32], parameters: None, public_key: None };
+    /// assert_eq!(key.encoded_len().map(u32::from), Ok(39));
+    /// ```
     fn encoded_len(&self) -> Result<Length>;
 
     /// Writes the encoding at the beginning of a slice, and returns what was written.
@@ -217,6 +150,18 @@ pub trait Encode {
     /// # Errors
     ///
     /// [`ErrorKind::Overlength`], or [`ErrorKind::Buffer`] if the slice is too short.
+    ///
+    /// # Examples
+    ///
+    /// ```
+    /// use sec1::EcPrivateKey;
+    /// use sec1::der::{Encode, ErrorKind};
+    ///
+    /// let key = EcPrivateKey { private_key: &[9], parameters: None, public_key: None };
+    /// assert_eq!(key.encode_to_slice(&mut [0; 9])?, [0x30, 6, 2, 1, 1, 4, 1, 9]);
+    /// assert_eq!(key.encode_to_slice(&mut [0; 7]).unwrap_err().kind(), ErrorKind::Buffer);
+    /// # Ok::<(), sec1::der::Error>(())
+    /// ```
     fn encode_to_slice<'b>(&self, buf: &'b mut [u8]) -> Result<&'b [u8]>;
 
     /// Appends the encoding to a vector, and returns its length. On an error the vector is as
@@ -225,21 +170,34 @@ pub trait Encode {
     /// # Errors
     ///
     /// [`ErrorKind::Overlength`], or [`ErrorKind::Memory`] if there is no memory.
+    ///
+    /// # Examples
+    ///
+    /// ```
+    /// use sec1::EcPrivateKey;
+    /// use sec1::der::Encode;
+    ///
+    /// let key = EcPrivateKey { private_key: &[9], parameters: None, public_key: None };
+    /// let mut bytes = vec![1];
+    /// key.encode_to_vec(&mut bytes)?;
+    /// assert_eq!(bytes, [1, 0x30, 6, 2, 1, 1, 4, 1, 9]);
+    /// # Ok::<(), sec1::der::Error>(())
+    /// ```
     #[cfg(feature = "alloc")]
     fn encode_to_vec(&self, buf: &mut Vec<u8>) -> Result<Length> {
         let (len, start) = (self.encoded_len()?, buf.len());
         let more = usize::try_from(len)?;
-        buf.try_reserve(more).map_err(|_| Error::new(ErrorKind::Memory))?;
+        buf.try_reserve(more).map_err(|_| Error::of_kind(ErrorKind::Memory))?;
         buf.resize(start.saturating_add(more), 0);
         let written = match buf.get_mut(start..) {
             Some(room) => self.encode_to_slice(room).map(<[u8]>::len),
-            None => Err(Error::new(ErrorKind::Failed)),
+            None => Err(Error::of_kind(ErrorKind::Failed)),
         };
         match written {
             Ok(written) if written == more => Ok(len),
             other => {
                 buf.truncate(start);
-                Err(other.err().unwrap_or(Error::new(ErrorKind::Failed)))
+                Err(other.err().unwrap_or(Error::of_kind(ErrorKind::Failed)))
             }
         }
     }
@@ -249,15 +207,26 @@ pub trait Encode {
     /// # Errors
     ///
     /// [`ErrorKind::Overlength`], or [`ErrorKind::Memory`] if there is no memory.
+    ///
+    /// # Examples
+    ///
+    /// ```
+    /// use sec1::EcPrivateKey;
+    /// use sec1::der::Encode;
+    ///
+    /// let key = EcPrivateKey { private_key: &[9], parameters: None, public_key: None };
+    /// assert_eq!(key.to_der()?, [0x30, 6, 2, 1, 1, 4, 1, 9]);
+    /// # Ok::<(), sec1::der::Error>(())
+    /// ```
     #[cfg(feature = "alloc")]
     fn to_der(&self) -> Result<Vec<u8>> {
         let mut buf = Vec::new();
         let len = usize::try_from(self.encoded_len()?)?;
-        buf.try_reserve_exact(len).map_err(|_| Error::new(ErrorKind::Memory))?;
+        buf.try_reserve_exact(len).map_err(|_| Error::of_kind(ErrorKind::Memory))?;
         buf.resize(len, 0);
         match self.encode_to_slice(&mut buf)?.len() == len {
             true => Ok(buf),
-            false => Err(Error::new(ErrorKind::Failed)),
+            false => Err(Error::of_kind(ErrorKind::Failed)),
         }
     }
 }

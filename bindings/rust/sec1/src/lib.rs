@@ -23,6 +23,7 @@ pub mod der;
 pub mod point;
 pub mod subtle;
 
+mod curve;
 mod error;
 mod parameters;
 mod private_key;
@@ -31,6 +32,7 @@ mod raw;
 mod traits;
 
 pub use crate::consts::Array;
+pub use crate::curve::Curve;
 pub use crate::error::{Error, Result};
 pub use crate::parameters::EcParameters;
 pub use crate::point::EncodedPoint;

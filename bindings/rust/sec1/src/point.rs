@@ -1,64 +1,24 @@
 //! Points of elliptic curves in their encodings (SEC1 v2.0 section 2.3.3).
 
-mod hexadecimal;
+mod encoding;
+mod hybrid;
+mod size;
 mod tag;
 
+pub use hybrid::HybridPoint;
+pub use size::ModulusSize;
 pub use tag::Tag;
 
-use crate::consts::{
-    Array, ArraySize, U28, U29, U32, U33, U48, U49, U56, U57, U64, U65, U66, U67, U96, U97, U132,
-    U133,
-};
+use crate::consts::Array;
 use crate::subtle::{Choice, ConditionallySelectable};
-use crate::{Error, Result, raw};
+use crate::{Error, Result};
 #[cfg(feature = "alloc")]
 use alloc::boxed::Box;
 use core::cmp::Ordering;
 use core::fmt::{self, Debug};
 use core::hash::{Hash, Hasher};
 use core::str::FromStr;
-use hexadecimal::Digits;
-
-/// A length of field elements that the library supports, with the sizes of points over such a
-/// field.
-///
-/// # Examples
-///
-/// ```
-/// use sec1::point::{EncodedPoint, ModulusSize};
-/// use sec1::{Array, Result, consts::U48};
-///
-/// fn x_of<Size: ModulusSize>(bytes: &[u8]) -> Result<Option<Array<u8, Size>>> {
-///     Ok(EncodedPoint::<Size>::from_bytes(bytes)?.x().copied())
-/// }
-///
-/// assert_eq!(x_of::<U48>(&[2; 49]), Ok(Some([2; 48])));
-/// ```
-pub trait ModulusSize: ArraySize {
-    /// The length of a compressed point.
-    type CompressedPointSize: ArraySize;
-    /// The length of an uncompressed point.
-    type UncompressedPointSize: ArraySize;
-    /// The length of two coordinates without a tag.
-    type UntaggedPointSize: ArraySize;
-}
-
-macro_rules! modulus_sizes {
-    ($($size:ident $compressed:ident $uncompressed:ident $untagged:ident)*) => {$(
-        impl ModulusSize for $size {
-            type CompressedPointSize = $compressed;
-            type UncompressedPointSize = $uncompressed;
-            type UntaggedPointSize = $untagged;
-        }
-    )*};
-}
-
-modulus_sizes! {
-    U28 U29 U57 U56
-    U32 U33 U65 U64
-    U48 U49 U97 U96
-    U66 U67 U133 U132
-}
+use encoding::{Encoding, by_encoding};
 
 /// A point in its encoding. It isn't tested that it lies on a curve.
 ///
@@ -82,25 +42,18 @@ modulus_sizes! {
 /// ```
 #[derive(Clone, Copy)]
 pub struct EncodedPoint<Size: ModulusSize> {
-    // The encoding, with zeros behind it.
-    bytes: Array<u8, Size::UncompressedPointSize>,
-    // The tag and the length of the encoding, as the library told them.
+    encoding: Encoding<Size>,
     tag: Tag,
-    len: u8,
 }
 
 #[allow(clippy::len_without_is_empty)]
 impl<Size: ModulusSize> EncodedPoint<Size> {
-    /// Returns room for an encoding.
-    fn zeros() -> Array<u8, Size::UncompressedPointSize> {
-        Size::UncompressedPointSize::filled(0)
-    }
-
     /// Reads a point from its encoding, which is all of the bytes.
     ///
     /// # Errors
     ///
-    /// [`Error::PointEncoding`] if they aren't the encoding of a point, or that of a hybrid point.
+    /// [`Error::PointEncoding`] if they aren't the encoding of a point, or that of a hybrid point,
+    /// which [`HybridPoint`] reads.
     ///
     /// # Examples
     ///
@@ -112,24 +65,39 @@ impl<Size: ModulusSize> EncodedPoint<Size> {
     /// # Ok::<(), Error>(())
     /// ```
     pub fn from_bytes(input: impl AsRef<[u8]>) -> Result<Self> {
-        let input = input.as_ref();
-        let parts = raw::point_read(input, Size::USIZE).map_err(|_| Error::PointEncoding)?;
-        let tag = u8::try_from(parts.tag).map_err(|_| Error::PointEncoding)?;
-        // Hybrid points, which have no tag here, are refused.
-        let tag = Tag::from_u8(tag)?;
-        let len = u8::try_from(input.len()).map_err(|_| Error::PointEncoding)?;
-        let mut bytes = Self::zeros();
-        bytes.as_mut().get_mut(..input.len()).ok_or(Error::PointEncoding)?.copy_from_slice(input);
-        Ok(Self { bytes, tag, len })
+        Encoding::read(input.as_ref()).and_then(Self::of)
+    }
+
+    /// Returns the point of an encoding that hasn't the tag of a hybrid one.
+    fn of(encoding: Encoding<Size>) -> Result<Self> {
+        Ok(Self { encoding, tag: Tag::of_number(encoding.tag())? })
     }
 
     /// Returns the uncompressed point with these coordinates, one after the other.
+    ///
+    /// # Examples
+    ///
+    /// ```
+    /// use sec1::{EncodedPoint, consts::U1};
+    ///
+    /// assert_eq!(EncodedPoint::<U1>::from_untagged_bytes(&[8, 9]).as_bytes(), [4, 8, 9]);
+    /// ```
     pub fn from_untagged_bytes(bytes: &Array<u8, Size::UntaggedPointSize>) -> Self {
         let (x, y) = bytes.as_ref().split_at_checked(Size::USIZE).unwrap_or_default();
         Self::of_coordinates(x, y, false)
     }
 
     /// Returns the uncompressed point with these coordinates, or its compressed form.
+    ///
+    /// # Examples
+    ///
+    /// ```
+    /// use sec1::{EncodedPoint, consts::U1};
+    ///
+    /// let point = |compress| EncodedPoint::<U1>::from_affine_coordinates(&[8], &[9], compress);
+    /// assert_eq!(point(false).as_bytes(), [4, 8, 9]);
+    /// assert_eq!(point(true).as_bytes(), [3, 8]);
+    /// ```
     pub fn from_affine_coordinates(
         x: &Array<u8, Size>,
         y: &Array<u8, Size>,
@@ -140,114 +108,230 @@ impl<Size: ModulusSize> EncodedPoint<Size> {
 
     /// Returns the point that the library makes of these coordinates.
     fn of_coordinates(x: &[u8], y: &[u8], compress: bool) -> Self {
-        let mut out = Self::zeros();
-        raw::point_from_coordinates(x, y, compress, out.as_mut())
-            .ok()
-            .and_then(|len| out.as_ref().get(..len))
-            .and_then(|bytes| Self::from_bytes(bytes).ok())
-            // Not reached: by the types the coordinates have the length of the field.
-            .unwrap_or_else(Self::identity)
+        // The identity isn't reached: by the types the coordinates have the length of the field.
+        Encoding::from_coordinates(x, y, compress).and_then(Self::of).unwrap_or_default()
     }
 
     /// Returns the point at infinity.
+    ///
+    /// # Examples
+    ///
+    /// ```
+    /// use sec1::{EncodedPoint, consts::U32};
+    ///
+    /// assert_eq!(EncodedPoint::<U32>::identity().as_bytes(), [0]);
+    /// ```
     pub fn identity() -> Self {
-        Self { bytes: Self::zeros(), tag: Tag::Identity, len: 1 }
+        Self { encoding: Encoding::identity(), tag: Tag::Identity }
     }
 
     /// Returns the length of the encoding.
+    ///
+    /// # Examples
+    ///
+    /// ```
+    /// use sec1::{EncodedPoint, consts::U32};
+    ///
+    /// assert_eq!(EncodedPoint::<U32>::from_bytes([2; 33])?.len(), 33);
+    /// # Ok::<(), sec1::Error>(())
+    /// ```
     pub fn len(&self) -> usize {
-        usize::from(self.len)
+        self.as_bytes().len()
     }
 
     /// Borrows the encoding.
+    ///
+    /// # Examples
+    ///
+    /// ```
+    /// use sec1::{EncodedPoint, consts::U32};
+    ///
+    /// assert_eq!(EncodedPoint::<U32>::from_bytes([2; 33])?.as_bytes(), [2; 33]);
+    /// # Ok::<(), sec1::Error>(())
+    /// ```
     pub fn as_bytes(&self) -> &[u8] {
-        self.bytes.as_ref().get(..self.len()).unwrap_or_default()
+        self.encoding.as_bytes()
     }
 
     /// Returns a copy of the encoding.
+    ///
+    /// # Examples
+    ///
+    /// ```
+    /// use sec1::{EncodedPoint, consts::U32};
+    ///
+    /// assert_eq!(*EncodedPoint::<U32>::from_bytes([2; 33])?.to_bytes(), [2; 33]);
+    /// # Ok::<(), sec1::Error>(())
+    /// ```
     #[cfg(feature = "alloc")]
     pub fn to_bytes(&self) -> Box<[u8]> {
         self.as_bytes().into()
     }
 
     /// Returns whether the point is compact.
+    ///
+    /// # Examples
+    ///
+    /// ```
+    /// use sec1::{EncodedPoint, consts::U32};
+    ///
+    /// assert!(EncodedPoint::<U32>::from_bytes([5; 33])?.is_compact());
+    /// # Ok::<(), sec1::Error>(())
+    /// ```
     pub fn is_compact(&self) -> bool {
         self.tag.is_compact()
     }
 
     /// Returns whether the point is compressed.
+    ///
+    /// # Examples
+    ///
+    /// ```
+    /// use sec1::{EncodedPoint, consts::U32};
+    ///
+    /// assert!(EncodedPoint::<U32>::from_bytes([2; 33])?.is_compressed());
+    /// assert!(!EncodedPoint::<U32>::from_bytes([5; 33])?.is_compressed());
+    /// # Ok::<(), sec1::Error>(())
+    /// ```
     pub fn is_compressed(&self) -> bool {
         self.tag.is_compressed()
     }
 
     /// Returns whether the point is the one at infinity.
+    ///
+    /// # Examples
+    ///
+    /// ```
+    /// use sec1::{EncodedPoint, consts::U32};
+    ///
+    /// assert!(EncodedPoint::<U32>::from_bytes([0])?.is_identity());
+    /// # Ok::<(), sec1::Error>(())
+    /// ```
     pub fn is_identity(&self) -> bool {
         self.tag.is_identity()
     }
 
     /// Returns the compressed form of an uncompressed point, and any other point as it is.
+    ///
+    /// # Examples
+    ///
+    /// ```
+    /// use sec1::{EncodedPoint, consts::U1};
+    ///
+    /// let point = EncodedPoint::<U1>::from_bytes([4, 8, 9])?.compress();
+    /// assert_eq!(point.as_bytes(), [3, 8]);
+    /// assert_eq!(point.compress(), point);
+    /// # Ok::<(), sec1::Error>(())
+    /// ```
     pub fn compress(&self) -> Self {
-        let mut out = Self::zeros();
-        raw::point_compress(self.as_bytes(), Size::USIZE, out.as_mut())
-            .ok()
-            .and_then(|len| out.as_ref().get(..len))
-            .and_then(|bytes| Self::from_bytes(bytes).ok())
-            // Not reached: the library refuses no point. The point itself is the same point.
-            .unwrap_or(*self)
+        // Not reached: the library refuses no point. The point itself is the same point.
+        self.encoding.compress().and_then(Self::of).unwrap_or(*self)
+    }
+
+    /// Returns the hybrid form of an uncompressed point, and `None` of any other.
+    ///
+    /// The crate `sec1` has no such call.
+    ///
+    /// # Examples
+    ///
+    /// ```
+    /// use sec1::{EncodedPoint, consts::U1};
+    ///
+    /// let point = EncodedPoint::<U1>::from_bytes([4, 8, 9])?;
+    /// assert_eq!(point.to_hybrid().map(|p| p.to_string()).as_deref(), Some("070809"));
+    /// assert_eq!(point.compress().to_hybrid(), None);
+    /// # Ok::<(), sec1::Error>(())
+    /// ```
+    pub fn to_hybrid(&self) -> Option<HybridPoint<Size>> {
+        self.encoding.to_hybrid().and_then(HybridPoint::of).ok()
     }
 
     /// Returns the tag.
+    ///
+    /// # Examples
+    ///
+    /// ```
+    /// use sec1::{EncodedPoint, consts::U32, point::Tag};
+    ///
+    /// assert_eq!(EncodedPoint::<U32>::from_bytes([3; 33])?.tag(), Tag::CompressedOddY);
+    /// # Ok::<(), sec1::Error>(())
+    /// ```
     pub fn tag(&self) -> Tag {
         self.tag
     }
 
     /// Borrows the coordinates.
+    ///
+    /// # Examples
+    ///
+    /// ```
+    /// use sec1::{EncodedPoint, consts::U1, point::Coordinates};
+    ///
+    /// let point = EncodedPoint::<U1>::from_bytes([4, 8, 9])?;
+    /// assert_eq!(point.coordinates(), Coordinates::Uncompressed { x: &[8], y: &[9] });
+    /// # Ok::<(), sec1::Error>(())
+    /// ```
     #[inline]
     pub fn coordinates(&self) -> Coordinates<'_, Size> {
-        let bytes = self.as_bytes();
-        let parts = raw::point_read(bytes, Size::USIZE).unwrap_or_default();
-        let coordinate = |part| raw::part(bytes, part).ok().flatten().and_then(Size::borrowed);
-        match (self.tag, coordinate(parts.x), coordinate(parts.y)) {
+        match (self.tag, self.encoding.x(), self.encoding.y()) {
             (Tag::Compact, Some(x), _) => Coordinates::Compact { x },
             (Tag::CompressedEvenY, Some(x), _) => Coordinates::Compressed { x, y_is_odd: false },
             (Tag::CompressedOddY, Some(x), _) => Coordinates::Compressed { x, y_is_odd: true },
             (Tag::Uncompressed, Some(x), Some(y)) => Coordinates::Uncompressed { x, y },
-            // The identity. Any other tag doesn't get here, since the library finds its
+            // The identity. Any other tag doesn't get here, since the library has found its
             // coordinates.
             _ => Coordinates::Identity,
         }
     }
 
     /// Borrows the x-coordinate, which only the point at infinity hasn't.
+    ///
+    /// # Examples
+    ///
+    /// ```
+    /// use sec1::{EncodedPoint, consts::U1};
+    ///
+    /// assert_eq!(EncodedPoint::<U1>::from_bytes([2, 8])?.x(), Some(&[8]));
+    /// # Ok::<(), sec1::Error>(())
+    /// ```
     pub fn x(&self) -> Option<&Array<u8, Size>> {
-        match self.coordinates() {
-            Coordinates::Identity => None,
-            Coordinates::Compact { x }
-            | Coordinates::Compressed { x, .. }
-            | Coordinates::Uncompressed { x, .. } => Some(x),
-        }
+        self.encoding.x()
     }
 
     /// Borrows the y-coordinate, which only uncompressed points have.
+    ///
+    /// # Examples
+    ///
+    /// ```
+    /// use sec1::{EncodedPoint, consts::U1};
+    ///
+    /// assert_eq!(EncodedPoint::<U1>::from_bytes([4, 8, 9])?.y(), Some(&[9]));
+    /// assert_eq!(EncodedPoint::<U1>::from_bytes([2, 8])?.y(), None);
+    /// # Ok::<(), sec1::Error>(())
+    /// ```
     pub fn y(&self) -> Option<&Array<u8, Size>> {
-        match self.coordinates() {
-            Coordinates::Uncompressed { y, .. } => Some(y),
-            _ => None,
-        }
+        self.encoding.y()
     }
 
     /// Makes this the point at infinity, and overwrites its bytes with zeros.
+    ///
+    /// # Examples
+    ///
+    /// ```
+    /// use sec1::{EncodedPoint, consts::U32};
+    ///
+    /// let mut point = EncodedPoint::<U32>::from_bytes([2; 33])?;
+    /// point.zeroize();
+    /// assert!(point.is_identity());
+    /// # Ok::<(), sec1::Error>(())
+    /// ```
     pub fn zeroize(&mut self) {
-        raw::wipe(self.bytes.as_mut());
+        self.encoding.wipe();
         *self = Self::identity();
     }
 }
 
-impl<Size: ModulusSize> AsRef<[u8]> for EncodedPoint<Size> {
-    fn as_ref(&self) -> &[u8] {
-        self.as_bytes()
-    }
-}
+by_encoding!(EncodedPoint);
 
 impl<Size: ModulusSize> Default for EncodedPoint<Size> {
     fn default() -> Self {
@@ -258,73 +342,6 @@ impl<Size: ModulusSize> Default for EncodedPoint<Size> {
 impl<Size: ModulusSize> Debug for EncodedPoint<Size> {
     fn fmt(&self, f: &mut fmt::Formatter<'_>) -> fmt::Result {
         write!(f, "EncodedPoint({:?})", self.coordinates())
-    }
-}
-
-impl<Size: ModulusSize> Eq for EncodedPoint<Size> {}
-
-impl<Size: ModulusSize> PartialEq for EncodedPoint<Size> {
-    fn eq(&self, other: &Self) -> bool {
-        self.cmp(other) == Ordering::Equal
-    }
-}
-
-impl<Size: ModulusSize> Hash for EncodedPoint<Size> {
-    fn hash<H: Hasher>(&self, state: &mut H) {
-        self.as_bytes().hash(state);
-    }
-}
-
-impl<Size: ModulusSize> PartialOrd for EncodedPoint<Size> {
-    fn partial_cmp(&self, other: &Self) -> Option<Ordering> {
-        Some(self.cmp(other))
-    }
-}
-
-impl<Size: ModulusSize> Ord for EncodedPoint<Size> {
-    fn cmp(&self, other: &Self) -> Ordering {
-        let (first, second) = (self.as_bytes(), other.as_bytes());
-        // Not reached: the library refuses no two points. The order of the bytes is the same one.
-        raw::point_compare(first, second, Size::USIZE).unwrap_or_else(|_| first.cmp(second))
-    }
-}
-
-impl<Size: ModulusSize> TryFrom<&[u8]> for EncodedPoint<Size> {
-    type Error = Error;
-
-    fn try_from(bytes: &[u8]) -> Result<Self> {
-        Self::from_bytes(bytes)
-    }
-}
-
-impl<Size: ModulusSize> fmt::Display for EncodedPoint<Size> {
-    fn fmt(&self, f: &mut fmt::Formatter<'_>) -> fmt::Result {
-        fmt::UpperHex::fmt(self, f)
-    }
-}
-
-impl<Size: ModulusSize> fmt::LowerHex for EncodedPoint<Size> {
-    fn fmt(&self, f: &mut fmt::Formatter<'_>) -> fmt::Result {
-        hexadecimal::write(self.as_bytes(), b'a', f)
-    }
-}
-
-impl<Size: ModulusSize> fmt::UpperHex for EncodedPoint<Size> {
-    fn fmt(&self, f: &mut fmt::Formatter<'_>) -> fmt::Result {
-        hexadecimal::write(self.as_bytes(), b'A', f)
-    }
-}
-
-/// Reads a point from the hexadecimal text of its encoding, whose letters are all of one case.
-impl<Size: ModulusSize> FromStr for EncodedPoint<Size> {
-    type Err = Error;
-
-    fn from_str(text: &str) -> Result<Self> {
-        let mut bytes = Self::zeros();
-        let len = Digits::of(text)
-            .and_then(|digits| digits.write(bytes.as_mut()))
-            .ok_or(Error::PointEncoding)?;
-        bytes.as_ref().get(..len).ok_or(Error::PointEncoding).and_then(Self::from_bytes)
     }
 }
 
@@ -380,6 +397,15 @@ pub enum Coordinates<'a, Size: ModulusSize> {
 
 impl<Size: ModulusSize> Coordinates<'_, Size> {
     /// Returns the tag of the point with these coordinates.
+    ///
+    /// # Examples
+    ///
+    /// ```
+    /// use sec1::{consts::U1, point::{Coordinates, Tag}};
+    ///
+    /// let coordinates: Coordinates<'_, U1> = Coordinates::Compressed { x: &[8], y_is_odd: true };
+    /// assert_eq!(coordinates.tag(), Tag::CompressedOddY);
+    /// ```
     pub fn tag(&self) -> Tag {
         match self {
             Coordinates::Identity => Tag::Identity,

@@ -67,12 +67,13 @@ impl<'a> Decode<'a> for EcPrivateKey<'a> {
     type Error = der::Error;
 
     fn from_der(bytes: &'a [u8]) -> der::Result<Self> {
-        let parts = raw::key_read(bytes).map_err(der::Error::of)?;
-        let outside = |()| der::Error::new(ErrorKind::Failed);
+        let parts = raw::key_read(bytes)
+            .map_err(|status| der::Error::at(status, raw::key_fault_at(bytes)))?;
+        let outside = |()| der::Error::of_kind(ErrorKind::Failed);
         let private_key = raw::part(bytes, parts.private_key).map_err(outside)?;
         let curve = raw::part(bytes, parts.curve).map_err(outside)?;
         Ok(EcPrivateKey {
-            private_key: private_key.ok_or(der::Error::new(ErrorKind::Failed))?,
+            private_key: private_key.ok_or(der::Error::of_kind(ErrorKind::Failed))?,
             parameters: curve
                 .map(ObjectIdentifier::of_content)
                 .transpose()?
@@ -90,7 +91,7 @@ impl Encode for EcPrivateKey<'_> {
 
     fn encode_to_slice<'b>(&self, buf: &'b mut [u8]) -> der::Result<&'b [u8]> {
         let len = self.with_fields(|fields| raw::key_write(fields, buf)).map_err(der::Error::of)?;
-        buf.get(..len).ok_or(der::Error::new(ErrorKind::Failed))
+        buf.get(..len).ok_or(der::Error::of_kind(ErrorKind::Failed))
     }
 }
 

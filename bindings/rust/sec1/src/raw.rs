@@ -54,6 +54,14 @@ pub(crate) fn key_read(bytes: &[u8]) -> Result<KeyParts, Status> {
     answer(status, parts)
 }
 
+/// Returns the offset of the first fault of a private key that is refused.
+pub(crate) fn key_fault_at(bytes: &[u8]) -> Option<usize> {
+    let mut offset = 0;
+    // SAFETY: `bytes` is one slice, and `offset` is a place of this function.
+    let status = unsafe { sec1_key_fault_at(bytes.as_ptr(), bytes.len(), &mut offset) };
+    (status != SEC1_OK).then_some(offset)
+}
+
 /// Returns the length of the encoding of a private key.
 pub(crate) fn key_len(fields: &Fields<'_>) -> Result<usize, Status> {
     let (public_key, mut len) = (fields.public_key.unwrap_or_default(), 0);
@@ -103,6 +111,22 @@ pub(crate) fn point_read(bytes: &[u8], field_len: usize) -> Result<PointParts, S
     answer(status, parts)
 }
 
+/// Returns the length of a point's encoding with this tag.
+pub(crate) fn point_len(tag: u8, field_len: usize) -> Result<usize, Status> {
+    let mut len = 0;
+    // SAFETY: `len` is a place of this function.
+    let status = unsafe { sec1_point_len(usize::from(tag), field_len, &mut len) };
+    answer(status, len)
+}
+
+/// Writes the point at infinity at the beginning of `out`, and returns its length.
+pub(crate) fn point_identity(out: &mut [u8]) -> Result<usize, Status> {
+    let mut len = 0;
+    // SAFETY: `out` is one slice that is borrowed by `&mut`, and `len` is a place of this function.
+    let status = unsafe { sec1_point_identity(out.as_mut_ptr(), out.len(), &mut len) };
+    answer(status, len)
+}
+
 /// Writes the compressed form of a point at the beginning of `out`, and returns its length.
 pub(crate) fn point_compress(
     bytes: &[u8],
@@ -116,6 +140,74 @@ pub(crate) fn point_compress(
         sec1_point_compress(
             bytes.as_ptr(),
             bytes.len(),
+            field_len,
+            out.as_mut_ptr(),
+            out.len(),
+            &mut len,
+        )
+    };
+    answer(status, len)
+}
+
+/// Writes the hybrid form of a point at the beginning of `out`, and returns its length.
+pub(crate) fn point_to_hybrid(
+    bytes: &[u8],
+    field_len: usize,
+    out: &mut [u8],
+) -> Result<usize, Status> {
+    let mut len = 0;
+    // SAFETY: each pointer and length are of one slice, `out` is borrowed by `&mut`, and `len` is a
+    // place of this function.
+    let status = unsafe {
+        sec1_point_to_hybrid(
+            bytes.as_ptr(),
+            bytes.len(),
+            field_len,
+            out.as_mut_ptr(),
+            out.len(),
+            &mut len,
+        )
+    };
+    answer(status, len)
+}
+
+/// Writes the hexadecimal text of a point and a byte 0, and returns the length of both.
+pub(crate) fn point_to_hex(
+    bytes: &[u8],
+    field_len: usize,
+    lower_case: bool,
+    text: &mut [u8],
+) -> Result<usize, Status> {
+    let mut len = 0;
+    // SAFETY: each pointer and length are of one slice, `text` is borrowed by `&mut`, and `len` is
+    // a place of this function.
+    let status = unsafe {
+        sec1_point_to_hex(
+            bytes.as_ptr(),
+            bytes.len(),
+            field_len,
+            usize::from(lower_case),
+            text.as_mut_ptr(),
+            text.len(),
+            &mut len,
+        )
+    };
+    answer(status, len)
+}
+
+/// Writes the point with this hexadecimal text at the beginning of `out`, and returns its length.
+pub(crate) fn point_from_hex(
+    text: &str,
+    field_len: usize,
+    out: &mut [u8],
+) -> Result<usize, Status> {
+    let mut len = 0;
+    // SAFETY: each pointer and length are of one slice, `out` is borrowed by `&mut`, and `len` is a
+    // place of this function.
+    let status = unsafe {
+        sec1_point_from_hex(
+            text.as_ptr(),
+            text.len(),
             field_len,
             out.as_mut_ptr(),
             out.len(),
@@ -210,6 +302,68 @@ pub(crate) fn identifier_from_text(text: &str, content: &mut [u8]) -> Result<usi
         )
     };
     answer(status, len)
+}
+
+/// Returns the length of a field element of the curve whose identifier has this content.
+pub(crate) fn curve_field_len(content: &[u8]) -> Result<usize, Status> {
+    let mut len = 0;
+    // SAFETY: `content` is one slice, and `len` is a place of this function.
+    let status = unsafe { sec1_curve_field_len(content.as_ptr(), content.len(), &mut len) };
+    answer(status, len)
+}
+
+/// Writes the name of a curve and a byte 0, and returns the length of both.
+pub(crate) fn curve_name(content: &[u8], name: &mut [u8]) -> Result<usize, Status> {
+    let mut len = 0;
+    // SAFETY: each pointer and length are of one slice, `name` is borrowed by `&mut`, and `len` is
+    // a place of this function.
+    let status = unsafe {
+        sec1_curve_name(content.as_ptr(), content.len(), name.as_mut_ptr(), name.len(), &mut len)
+    };
+    answer(status, len)
+}
+
+/// Writes the content of the identifier of the curve with this name, and returns its length.
+pub(crate) fn curve_from_name(name: &str, content: &mut [u8]) -> Result<usize, Status> {
+    let mut len = 0;
+    // SAFETY: each pointer and length are of one slice, `content` is borrowed by `&mut`, and `len`
+    // is a place of this function.
+    let status = unsafe {
+        sec1_curve_from_name(
+            name.as_ptr(),
+            name.len(),
+            content.as_mut_ptr(),
+            content.len(),
+            &mut len,
+        )
+    };
+    answer(status, len)
+}
+
+/// Returns the number of elements of the one tree that all of the bytes are.
+pub(crate) fn check_tree(bytes: &[u8]) -> Result<usize, Status> {
+    let mut elements = 0;
+    // SAFETY: `bytes` is one slice, and `elements` is a place of this function.
+    let status = unsafe { sec1_check_tree(bytes.as_ptr(), bytes.len(), &mut elements) };
+    answer(status, elements)
+}
+
+/// Returns the offset of the first fault of a tree that is refused.
+pub(crate) fn tree_fault_at(bytes: &[u8]) -> Option<usize> {
+    let mut offset = 0;
+    // SAFETY: `bytes` is one slice, and `offset` is a place of this function.
+    let status = unsafe { sec1_tree_fault_at(bytes.as_ptr(), bytes.len(), &mut offset) };
+    (status != SEC1_OK).then_some(offset)
+}
+
+/// Returns the lengths of the header and of the content of the element that the bytes begin with.
+pub(crate) fn element_read(bytes: &[u8]) -> Result<(usize, usize), Status> {
+    let (mut header_len, mut content_len) = (0, 0);
+    // SAFETY: `bytes` is one slice, and the two lengths are places of this function.
+    let status = unsafe {
+        sec1_element_read(bytes.as_ptr(), bytes.len(), &mut header_len, &mut content_len)
+    };
+    answer(status, (header_len, content_len))
 }
 
 /// Returns the length of the one element that all of the bytes are.

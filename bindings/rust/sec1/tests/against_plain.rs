@@ -14,10 +14,10 @@ mod plain;
 mod support;
 
 use plain::Error as P;
-use sec1::consts::{ArraySize, U28, U32, U48, U66};
+use sec1::consts::{ArraySize, U1, U20, U28, U32, U48, U66};
 use sec1::der::asn1::ObjectIdentifier;
 use sec1::der::{Encode, ErrorKind, SecretDocument};
-use sec1::point::{Coordinates, ModulusSize, Tag};
+use sec1::point::{Coordinates, HybridPoint, ModulusSize, Tag};
 use sec1::{ALGORITHM_OID, EcParameters, EcPrivateKey, EncodedPoint, Error};
 use std::collections::hash_map::DefaultHasher;
 use std::hash::{Hash, Hasher};
@@ -65,11 +65,27 @@ fn hash(value: impl Hash) -> u64 {
     hasher.finish()
 }
 
-fn points<Size: ModulusSize, const N: usize, const L: usize>() {
+/// Reads the bytes as a hybrid point, by X9.62: the tag is 6 or 7, by the lowest bit of y.
+fn hybrid<Size: ModulusSize>(input: &[u8], n: usize) {
+    let point = HybridPoint::<Size>::from_bytes(input);
+    let is_hybrid = input.len() == 2 * n + 1 && input[0] == 6 + (input[2 * n] & 1);
+    assert_eq!(point.is_ok(), is_hybrid, "{input:02X?}");
+    if let Ok(point) = point {
+        assert_eq!((point.as_bytes(), point.y_is_odd()), (input, input[0] == 7));
+        assert_eq!(point.x().map(|x| x.as_ref()), Some(&input[1..=n]));
+        assert_eq!(point.y().map(|y| y.as_ref()), Some(&input[n + 1..]));
+        assert_eq!(point.uncompress().as_bytes(), [&[4], &input[1..]].concat());
+        assert_eq!(point.compress().as_bytes(), [&[input[0] - 4], &input[1..=n]].concat());
+        assert_eq!(format!("{point:x}").parse(), Ok(point));
+        assert_eq!(HybridPoint::try_from(input), Ok(point));
+    }
+}
+
+fn points<Size: ModulusSize, const N: usize, const L: usize>(rounds: usize) {
     let mut draw = Draw(N as u64 + 77);
     let mut last: Option<(EncodedPoint<Size>, plain::Point<N, L>)> = None;
     let mut accepted = 0;
-    for _ in 0..100_000 {
+    for _ in 0..rounds {
         let len = match draw.below(8) {
             0 => 1,
             1 | 2 => N + 1,
@@ -92,6 +108,7 @@ fn points<Size: ModulusSize, const N: usize, const L: usize>() {
         }
         let (ours, theirs) =
             (EncodedPoint::<Size>::from_bytes(&input), plain::Point::<N, L>::from_bytes(&input));
+        hybrid::<Size>(&input, N);
         let (ours, theirs) = match (ours, theirs) {
             (Ok(ours), Ok(theirs)) => (ours, theirs),
             (Err(e), Err(f)) => {
@@ -110,7 +127,12 @@ fn points<Size: ModulusSize, const N: usize, const L: usize>() {
         assert_eq!(ours.y().map(|y| y.as_ref()), y.map(|y| &y[..]));
         assert_eq!(ours.compress().as_bytes(), theirs.compress().as_bytes());
         assert_eq!(ours.is_identity(), matches!(ours.coordinates(), Coordinates::Identity));
+        assert_eq!(ours.to_hybrid().is_some(), input[0] == 4);
         if let Coordinates::Uncompressed { x, y } = ours.coordinates() {
+            let tag = 6 + (input[2 * N] & 1);
+            let hybrid = ours.to_hybrid().unwrap();
+            assert_eq!(hybrid.as_bytes(), [&[tag], &input[1..]].concat());
+            assert_eq!((hybrid.uncompress(), hybrid.compress()), (ours, ours.compress()));
             assert_eq!(EncodedPoint::<Size>::from_affine_coordinates(x, y, false), ours);
             assert_eq!(EncodedPoint::<Size>::from_affine_coordinates(x, y, true), ours.compress());
             let untagged = <Size::UntaggedPointSize as ArraySize>::borrowed(&input[1..]).unwrap();
@@ -130,7 +152,7 @@ fn points<Size: ModulusSize, const N: usize, const L: usize>() {
         assert_eq!(ours, ours);
         last = Some((ours, theirs));
     }
-    assert!(accepted > 10_000, "{accepted}");
+    assert!(accepted > rounds / 10, "{accepted}");
     for byte in 0..=255 {
         assert_eq!(Tag::from_u8(byte).is_ok(), matches!(byte, 0 | 2..=5));
     }
@@ -138,10 +160,12 @@ fn points<Size: ModulusSize, const N: usize, const L: usize>() {
 
 #[test]
 fn agrees_on_points() {
-    points::<U28, 28, 57>();
-    points::<U32, 32, 65>();
-    points::<U48, 48, 97>();
-    points::<U66, 66, 133>();
+    points::<U1, 1, 3>(20_000);
+    points::<U20, 20, 41>(20_000);
+    points::<U28, 28, 57>(100_000);
+    points::<U32, 32, 65>(100_000);
+    points::<U48, 48, 97>(100_000);
+    points::<U66, 66, 133>(100_000);
 }
 
 #[test]

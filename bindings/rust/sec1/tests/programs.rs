@@ -104,7 +104,10 @@ fn programs_compile_and_run() {
     let document = secret.to_sec1_der().unwrap();
     assert_eq!(SecretKey::from_sec1_der(document.as_bytes()), Ok(secret));
     assert_eq!(curve(p256).unwrap().as_deref(), Some("1.2.840.10045.3.1.7"));
-    assert_eq!(curve(&p256[1..]).unwrap_err().0, "SEC1 ASN.1 error: unexpected or unsupported tag");
+    assert_eq!(
+        curve(&p256[1..]).unwrap_err().0,
+        "SEC1 ASN.1 error: unexpected or unsupported tag at DER byte 0"
+    );
     assert_eq!(ALGORITHM_OID.to_string(), "1.2.840.10045.2.1");
     fn is_shared<T: Send + Sync + 'static>() {}
     is_shared::<EncodedPoint<U32>>();
@@ -178,4 +181,56 @@ fn lengths_of_messages() {
     }
     assert_eq!(Tag::Uncompressed.message_len(usize::MAX), usize::MAX);
     assert_eq!(Tag::Compact.message_len(usize::MAX), usize::MAX);
+}
+
+#[test]
+fn curves_have_names() {
+    use sec1::{Curve, der::ErrorKind};
+    for (name, first, text, len) in [
+        ("P-256", "secp256r1", "1.2.840.10045.3.1.7", 32),
+        ("prime256v1", "secp256r1", "1.2.840.10045.3.1.7", 32),
+        ("secp521r1", "secp521r1", "1.3.132.0.35", 66),
+        ("brainpoolP512r1", "brainpoolP512r1", "1.3.36.3.3.2.8.1.1.13", 64),
+    ] {
+        let curve: Curve = name.parse().unwrap();
+        assert_eq!((curve.name(), curve.field_len()), (first, len));
+        assert_eq!((curve.identifier().to_string().as_str(), &*curve.to_string()), (text, first));
+        assert_eq!(Curve::try_from(curve.identifier()), Ok(curve));
+        assert_eq!(Curve::try_from(EcParameters::from(curve)), Ok(curve));
+        assert_eq!(format!("{curve:?}"), format!("Curve({first})"));
+    }
+    for name in ["", "p-256", "P-256\0", "secp256r1 "] {
+        assert_eq!(Curve::new(name).unwrap_err().kind(), ErrorKind::Curve);
+    }
+    let error = Curve::try_from(ALGORITHM_OID).unwrap_err();
+    assert_eq!(error.to_string(), "curve not in the table");
+}
+
+#[test]
+fn faults_have_offsets() {
+    use der::{Decode, ErrorKind, check_tree};
+    let key = [0x30, 6, 2, 1, 1, 4, 1, 9];
+    for (at, value, kind, offset) in [
+        (0, 0x31, ErrorKind::Tag, 0),
+        (3, 2, ErrorKind::Value, 4),
+        (4, 2, ErrorKind::Value, 4),
+        (6, 0x80, ErrorKind::Length, 6),
+    ] {
+        let mut bytes = key;
+        bytes[at] = value;
+        let error = EcPrivateKey::from_der(&bytes).unwrap_err();
+        assert_eq!((error.kind(), error.position().map(u32::from)), (kind, Some(offset)));
+    }
+    for (bytes, kind, offset) in [
+        (&[0x30, 3, 2, 3, 1][..], ErrorKind::Truncated, 3),
+        (&[0x30, 0x80], ErrorKind::Length, 1),
+        (&[5, 0, 0xFF], ErrorKind::TrailingData, 2),
+        (&[0x1F, 0], ErrorKind::Tag, 0),
+        (&[], ErrorKind::Truncated, 0),
+    ] {
+        let error = check_tree(bytes).unwrap_err();
+        assert_eq!((error.kind(), error.position().map(u32::from)), (kind, Some(offset)));
+    }
+    assert_eq!(check_tree(&key), Ok(3));
+    assert_eq!(der::Element::read(&[4, 0x81, 1]).unwrap_err().position(), None);
 }

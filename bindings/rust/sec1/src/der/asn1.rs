@@ -36,7 +36,7 @@ impl ObjectIdentifier {
     pub fn new(text: &str) -> Result<Self> {
         let mut content = [0; CONTENT_MAX];
         let len = raw::identifier_from_text(text, &mut content).map_err(Error::of)?;
-        let len = u8::try_from(len).map_err(|_| Error::new(ErrorKind::Failed))?;
+        let len = u8::try_from(len).map_err(|_| Error::of_kind(ErrorKind::Failed))?;
         Ok(ObjectIdentifier { content, len })
     }
 
@@ -52,7 +52,7 @@ impl ObjectIdentifier {
 
     /// Copies a content that the library has accepted.
     pub(crate) fn of_content(accepted: &[u8]) -> Result<Self> {
-        let failed = Error::new(ErrorKind::Failed);
+        let failed = Error::of_kind(ErrorKind::Failed);
         let mut content = [0; CONTENT_MAX];
         let len = u8::try_from(accepted.len()).map_err(|_| failed)?;
         content.get_mut(..accepted.len()).ok_or(failed)?.copy_from_slice(accepted);

@@ -106,7 +106,7 @@ impl TryFrom<&[u8]> for SecretDocument {
 
     fn try_from(bytes: &[u8]) -> Result<Self> {
         let mut copy = Vec::new();
-        copy.try_reserve_exact(bytes.len()).map_err(|_| Error::new(ErrorKind::Memory))?;
+        copy.try_reserve_exact(bytes.len()).map_err(|_| Error::of_kind(ErrorKind::Memory))?;
         copy.extend_from_slice(bytes);
         Self::try_from(copy)
     }

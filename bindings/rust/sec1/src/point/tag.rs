@@ -1,6 +1,6 @@
 //! The first byte of a point's encoding.
 
-use crate::{Error, Result};
+use crate::{Error, Result, raw};
 
 /// The first byte of a point's encoding.
 ///
@@ -37,10 +37,26 @@ impl Tag {
     ///
     /// # Errors
     ///
-    /// No tag has this byte. The tags 6 and 7 of hybrid points are refused, as the crate `sec1`
-    /// does.
+    /// [`Error::PointEncoding`] if no tag has this byte. So have the tags 6 and 7 of hybrid points,
+    /// as in the crate `sec1`: [`HybridPoint`](super::HybridPoint) reads them.
+    ///
+    /// # Examples
+    ///
+    /// ```
+    /// use sec1::{Error, point::Tag};
+    ///
+    /// assert_eq!(Tag::from_u8(3), Ok(Tag::CompressedOddY));
+    /// assert_eq!(Tag::from_u8(6), Err(Error::PointEncoding));
+    /// ```
     pub fn from_u8(byte: u8) -> Result<Self> {
-        match byte {
+        // Whether the byte is a tag doesn't depend on the length of field elements.
+        raw::point_len(byte, 1).map_err(|_| Error::PointEncoding)?;
+        Self::of_number(byte)
+    }
+
+    /// Returns the name of a tag that the library has accepted, if `sec1` has one for it.
+    pub(super) fn of_number(number: u8) -> Result<Self> {
+        match number {
             sec1_sys::SEC1_POINT_IDENTITY => Ok(Tag::Identity),
             sec1_sys::SEC1_POINT_COMPRESSED_EVEN => Ok(Tag::CompressedEvenY),
             sec1_sys::SEC1_POINT_COMPRESSED_ODD => Ok(Tag::CompressedOddY),
@@ -51,30 +67,63 @@ impl Tag {
     }
 
     /// Returns whether this is the tag of compact points.
+    ///
+    /// # Examples
+    ///
+    /// ```
+    /// use sec1::point::Tag;
+    ///
+    /// assert!(Tag::Compact.is_compact());
+    /// ```
     pub fn is_compact(self) -> bool {
         self == Tag::Compact
     }
 
     /// Returns whether this is a tag of compressed points.
+    ///
+    /// # Examples
+    ///
+    /// ```
+    /// use sec1::point::Tag;
+    ///
+    /// assert!(Tag::CompressedEvenY.is_compressed());
+    /// assert!(!Tag::Compact.is_compressed());
+    /// ```
     pub fn is_compressed(self) -> bool {
         matches!(self, Tag::CompressedEvenY | Tag::CompressedOddY)
     }
 
     /// Returns whether this is the tag of the point at infinity.
+    ///
+    /// # Examples
+    ///
+    /// ```
+    /// use sec1::point::Tag;
+    ///
+    /// assert!(Tag::Identity.is_identity());
+    /// ```
     pub fn is_identity(self) -> bool {
         self == Tag::Identity
     }
 
     /// Returns the length of an encoding with this tag over a field whose elements have this
     /// length. Above the greatest `usize` it is that.
+    ///
+    /// # Examples
+    ///
+    /// ```
+    /// use sec1::point::Tag;
+    ///
+    /// assert_eq!(Tag::Uncompressed.message_len(48), 97);
+    /// assert_eq!(Tag::Identity.message_len(48), 1);
+    /// ```
     pub fn message_len(self, field_element_size: usize) -> usize {
-        match self {
-            Tag::Identity => 1,
-            Tag::CompressedEvenY | Tag::CompressedOddY | Tag::Compact => {
-                field_element_size.saturating_add(1)
-            }
-            Tag::Uncompressed => field_element_size.saturating_mul(2).saturating_add(1),
-        }
+        let tag = self.into();
+        raw::point_len(tag, field_element_size).unwrap_or_else(|_| {
+            // Elements of a length that the library doesn't support: the same number of them.
+            let coordinates = raw::point_len(tag, 1).map_or(0, |len| len.saturating_sub(1));
+            field_element_size.saturating_mul(coordinates).saturating_add(1)
+        })
     }
 }
 

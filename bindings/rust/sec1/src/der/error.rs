@@ -1,0 +1,193 @@
+//! Why a call of this module refuses.
+
+use super::Length;
+use crate::raw::Status;
+use core::fmt;
+#[cfg(feature = "std")]
+use std::io;
+
+/// Why a call refused, and where in the bytes.
+///
+/// # Examples
+///
+/// ```
+/// use sec1::EcPrivateKey;
+/// use sec1::der::{Decode, ErrorKind};
+///
+/// // The length, the second byte, announces more than there is.
+/// let error = EcPrivateKey::from_der(&[0x30, 9, 2, 1, 1]).unwrap_err();
+/// assert_eq!(error.kind(), ErrorKind::Truncated);
+/// assert_eq!(error.to_string(), "input ends inside an element at DER byte 1");
+/// ```
+#[derive(Clone, Copy, Debug, Eq, PartialEq)]
+pub struct Error {
+    kind: ErrorKind,
+    position: Option<Length>,
+}
+
+/// The kinds of refusals. All but the last three are statuses of the library.
+///
+/// # Examples
+///
+/// ```
+/// use sec1::der::{Error, ErrorKind};
+///
+/// let error = Error::from(ErrorKind::Buffer);
+/// assert_eq!(error.kind(), ErrorKind::Buffer);
+/// assert_eq!(error.to_string(), ErrorKind::Buffer.to_string());
+/// ```
+#[derive(Clone, Copy, Debug, Eq, PartialEq)]
+#[non_exhaustive]
+pub enum ErrorKind {
+    /// The input, or the element around a part, ends too early.
+    Truncated,
+    /// A tag that isn't the expected one, or that no element has.
+    Tag,
+    /// A length that isn't in the form of DER, or is above 268,435,455.
+    Length,
+    /// Bytes after the last part.
+    TrailingData,
+    /// A content that isn't valid for its tag, or a text that isn't an identifier's.
+    Value,
+    /// A content to write is above 268,435,455 bytes.
+    Overlength,
+    /// The buffer to write into is too short.
+    Buffer,
+    /// More than 64 nested elements.
+    Depth,
+    /// No curve of the library's table has this identifier or this name.
+    Curve,
+    /// The library returned what its contract rules out.
+    Failed,
+    /// The memory for the result was refused.
+    Memory,
+    /// A file couldn't be read or written.
+    #[cfg(feature = "std")]
+    Io(io::ErrorKind),
+}
+
+impl Error {
+    /// Returns the error of this kind, at this offset in the bytes.
+    ///
+    /// # Examples
+    ///
+    /// ```
+    /// use sec1::der::{Error, ErrorKind, Length};
+    ///
+    /// let error = Error::new(ErrorKind::Value, Length::try_from(4_usize)?);
+    /// assert_eq!(error.to_string(), "content not valid for its tag at DER byte 4");
+    /// # Ok::<(), sec1::der::Error>(())
+    /// ```
+    pub const fn new(kind: ErrorKind, position: Length) -> Error {
+        Error { kind, position: Some(position) }
+    }
+
+    /// Returns the error of this kind, without an offset.
+    pub(crate) const fn of_kind(kind: ErrorKind) -> Error {
+        Error { kind, position: None }
+    }
+
+    /// Returns the error of a status, which isn't one of points.
+    pub(crate) fn of(status: Status) -> Error {
+        Error::of_kind(match status.get() {
+            sec1_sys::SEC1_TRUNCATED => ErrorKind::Truncated,
+            sec1_sys::SEC1_TAG => ErrorKind::Tag,
+            sec1_sys::SEC1_LENGTH => ErrorKind::Length,
+            sec1_sys::SEC1_TRAILING_DATA => ErrorKind::TrailingData,
+            sec1_sys::SEC1_VALUE => ErrorKind::Value,
+            sec1_sys::SEC1_OVERLENGTH => ErrorKind::Overlength,
+            sec1_sys::SEC1_BUFFER => ErrorKind::Buffer,
+            sec1_sys::SEC1_DEPTH => ErrorKind::Depth,
+            sec1_sys::SEC1_CURVE => ErrorKind::Curve,
+            _ => ErrorKind::Failed,
+        })
+    }
+
+    /// Returns the error of a status, at the offset that the library told.
+    pub(crate) fn at(status: Status, offset: Option<usize>) -> Error {
+        let position = offset.and_then(|offset| Length::try_from(offset).ok());
+        Error { position, ..Error::of(status) }
+    }
+
+    /// Returns the kind of the error.
+    ///
+    /// # Examples
+    ///
+    /// ```
+    /// use sec1::der::{ErrorKind, asn1::ObjectIdentifier};
+    ///
+    /// let error = ObjectIdentifier::new("3.1").unwrap_err();
+    /// assert_eq!(error.kind(), ErrorKind::Value);
+    /// ```
+    pub fn kind(self) -> ErrorKind {
+        self.kind
+    }
+
+    /// Returns the offset of the first fault in the bytes that were read, where the library tells
+    /// it: of a private key, and of a tree. It is `None` above 4,294,967,295.
+    ///
+    /// It is the offset of the tag byte, of the first byte of the length or of the content that is
+    /// refused, of the first byte after the last part, or the number of bytes where they end before
+    /// a tag.
+    ///
+    /// # Examples
+    ///
+    /// ```
+    /// use sec1::EcPrivateKey;
+    /// use sec1::der::{Decode, Encode};
+    ///
+    /// let key = EcPrivateKey { private_key: &[9], parameters: None, public_key: None };
+    /// let mut bytes = key.to_der()?;
+    /// bytes[2] = 5;
+    /// let error = EcPrivateKey::from_der(&bytes).unwrap_err();
+    /// assert_eq!(error.position().map(u32::from), Some(2));
+    /// # Ok::<(), sec1::der::Error>(())
+    /// ```
+    pub fn position(self) -> Option<Length> {
+        self.position
+    }
+}
+
+impl core::error::Error for Error {}
+
+impl fmt::Display for Error {
+    fn fmt(&self, f: &mut fmt::Formatter<'_>) -> fmt::Result {
+        match self.position {
+            Some(position) => write!(f, "{} at DER byte {position}", self.kind),
+            None => self.kind.fmt(f),
+        }
+    }
+}
+
+impl fmt::Display for ErrorKind {
+    fn fmt(&self, f: &mut fmt::Formatter<'_>) -> fmt::Result {
+        f.write_str(match self {
+            ErrorKind::Truncated => "input ends inside an element",
+            ErrorKind::Tag => "unexpected or unsupported tag",
+            ErrorKind::Length => "length not in DER form or above the limit",
+            ErrorKind::TrailingData => "bytes after the value",
+            ErrorKind::Value => "content not valid for its tag",
+            ErrorKind::Overlength => "value longer than 268435455 bytes",
+            ErrorKind::Buffer => "output buffer too small",
+            ErrorKind::Depth => "more than 64 nested elements",
+            ErrorKind::Curve => "curve not in the table",
+            ErrorKind::Failed => "the library broke its contract",
+            ErrorKind::Memory => "out of memory",
+            #[cfg(feature = "std")]
+            ErrorKind::Io(_) => "read or write failed",
+        })
+    }
+}
+
+impl From<ErrorKind> for Error {
+    fn from(kind: ErrorKind) -> Error {
+        Error::of_kind(kind)
+    }
+}
+
+#[cfg(feature = "std")]
+impl From<io::Error> for Error {
+    fn from(error: io::Error) -> Error {
+        Error::of_kind(ErrorKind::Io(error.kind()))
+    }
+}
