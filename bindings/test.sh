@@ -45,8 +45,33 @@ rust() {
         env RUSTDOCFLAGS="-D warnings" cargo doc --locked --no-deps --all-features
     refuses "a folder without the library is refused" "there is no libsec1.a in $work/none" \
         env SEC1_LIB_DIR="$work/none" cargo build --locked
+    installed
     check "unsafe code stands in one module" \
         test "$(grep -rl 'unsafe {' sec1/src sec1-sys/src)" = sec1/src/raw.rs
+}
+
+# Puts the library where pkg-config finds it, and the crates where no folder beside them has it.
+installed() {
+    local version away=$work/away/bindings
+    version=$(sed -n 's/^version = "\(.*\)"$/\1/p' Cargo.toml)
+    mkdir -p "$away"
+    cp -R . "$away/rust"
+    cd "$away/rust" || return
+    describe() { # FOLDER VERSION
+        mkdir -p "$1"
+        cp "$top/crates/sec1_c/out/libsec1_c.a" "$1/libsec1.a"
+        sed -e "s|@VERSION@|$2|" -e "s|@LIBDIR@|$1|" "$top/crates/sec1_c/packaging/sec1.pc.in" \
+            >"$1/sec1.pc"
+    }
+    describe "$work/installed" "$version"
+    describe "$work/other" 9.9.9
+    if has pkg-config; then
+        check "the library is found by pkg-config" env PKG_CONFIG_PATH="$work/installed" \
+            cargo test --locked -p bridgeacacia-sec1 --test wiping --all-features
+        refuses "an installed library of another version is refused" \
+            "no library: install libsec1" env PKG_CONFIG_PATH="$work/other" cargo build --locked
+    fi
+    cd "$work/bindings/rust" || return
 }
 
 python() {

@@ -134,14 +134,11 @@ impl Error {
     ///
     /// ```
     /// use sec1::EcPrivateKey;
-    /// use sec1::der::{Decode, Encode};
+    /// use sec1::der::Decode;
     ///
-    /// let key = EcPrivateKey { private_key: &[9], parameters: None, public_key: None };
-    /// let mut bytes = key.to_der()?;
-    /// bytes[2] = 5;
-    /// let error = EcPrivateKey::from_der(&bytes).unwrap_err();
+    /// // The tag of the version, at offset 2, isn't that of an integer.
+    /// let error = EcPrivateKey::from_der(&[0x30, 6, 5, 1, 1, 4, 1, 9]).unwrap_err();
     /// assert_eq!(error.position().map(u32::from), Some(2));
-    /// # Ok::<(), sec1::der::Error>(())
     /// ```
     pub fn position(self) -> Option<Length> {
         self.position
