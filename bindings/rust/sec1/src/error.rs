@@ -4,6 +4,18 @@ use crate::der;
 use core::fmt;
 
 /// A `Result` with this crate's [`Error`].
+///
+/// # Examples
+///
+/// ```
+/// use sec1::{EcPrivateKey, Result};
+///
+/// fn length(bytes: &[u8]) -> Result<usize> {
+///     Ok(EcPrivateKey::try_from(bytes)?.private_key.len())
+/// }
+///
+/// assert_eq!(length(&[0x30, 6, 2, 1, 1, 4, 1, 9]), Ok(1));
+/// ```
 pub type Result<T> = core::result::Result<T, Error>;
 
 /// Why a call refused.

@@ -21,6 +21,14 @@ pub enum EcParameters {
 
 impl EcParameters {
     /// Returns the identifier of the curve.
+    ///
+    /// # Examples
+    ///
+    /// ```
+    /// use sec1::{ALGORITHM_OID, EcParameters};
+    ///
+    /// assert_eq!(EcParameters::from(ALGORITHM_OID).named_curve(), Some(ALGORITHM_OID));
+    /// ```
     pub fn named_curve(self) -> Option<ObjectIdentifier> {
         match self {
             Self::NamedCurve(identifier) => Some(identifier),

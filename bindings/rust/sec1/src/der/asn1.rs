@@ -33,6 +33,15 @@ impl ObjectIdentifier {
     ///
     /// [`ErrorKind::Value`] if the text isn't an identifier's, or its content has more than 39
     /// bytes.
+    ///
+    /// # Examples
+    ///
+    /// ```
+    /// use sec1::der::asn1::ObjectIdentifier;
+    ///
+    /// assert!(ObjectIdentifier::new("2.999").is_ok());
+    /// assert!(ObjectIdentifier::new("2.0999").is_err());
+    /// ```
     pub fn new(text: &str) -> Result<Self> {
         let mut content = [0; CONTENT_MAX];
         let len = raw::identifier_from_text(text, &mut content).map_err(Error::of)?;
@@ -45,6 +54,16 @@ impl ObjectIdentifier {
     /// # Errors
     ///
     /// [`ErrorKind::Value`] if the bytes aren't the content of an identifier.
+    ///
+    /// # Examples
+    ///
+    /// ```
+    /// use sec1::der::asn1::ObjectIdentifier;
+    ///
+    /// assert_eq!(ObjectIdentifier::from_bytes(&[0x2A])?.to_string(), "1.2");
+    /// assert!(ObjectIdentifier::from_bytes(&[]).is_err());
+    /// # Ok::<(), sec1::der::Error>(())
+    /// ```
     pub fn from_bytes(content: &[u8]) -> Result<Self> {
         raw::identifier_check(content).map_err(Error::of)?;
         Self::of_content(content)
@@ -69,6 +88,15 @@ impl ObjectIdentifier {
     }
 
     /// Borrows the content.
+    ///
+    /// # Examples
+    ///
+    /// ```
+    /// use sec1::der::asn1::ObjectIdentifier;
+    ///
+    /// assert_eq!(ObjectIdentifier::new("1.2")?.as_bytes(), [0x2A]);
+    /// # Ok::<(), sec1::der::Error>(())
+    /// ```
     pub fn as_bytes(&self) -> &[u8] {
         self.content.get(..usize::from(self.len)).unwrap_or_default()
     }

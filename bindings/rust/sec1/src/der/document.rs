@@ -31,16 +31,46 @@ pub struct SecretDocument {
 
 impl SecretDocument {
     /// Borrows the bytes.
+    ///
+    /// # Examples
+    ///
+    /// ```
+    /// use sec1::der::SecretDocument;
+    ///
+    /// let document = SecretDocument::try_from(&[0x30, 6, 2, 1, 1, 4, 1, 9][..])?;
+    /// assert_eq!(document.as_bytes()[..2], [0x30, 6]);
+    /// # Ok::<(), sec1::der::Error>(())
+    /// ```
     pub fn as_bytes(&self) -> &[u8] {
         &self.bytes
     }
 
     /// Returns the number of bytes.
+    ///
+    /// # Examples
+    ///
+    /// ```
+    /// use sec1::der::SecretDocument;
+    ///
+    /// let document = SecretDocument::try_from(&[0x30, 6, 2, 1, 1, 4, 1, 9][..])?;
+    /// assert_eq!(u32::from(document.len()), 8);
+    /// # Ok::<(), sec1::der::Error>(())
+    /// ```
     pub fn len(&self) -> Length {
         self.len
     }
 
     /// Returns whether there are no bytes, which is never so.
+    ///
+    /// # Examples
+    ///
+    /// ```
+    /// use sec1::der::SecretDocument;
+    ///
+    /// let document = SecretDocument::try_from(&[0x30, 6, 2, 1, 1, 4, 1, 9][..])?;
+    /// assert!(!document.is_empty());
+    /// # Ok::<(), sec1::der::Error>(())
+    /// ```
     pub fn is_empty(&self) -> bool {
         self.bytes.is_empty()
     }
@@ -50,6 +80,17 @@ impl SecretDocument {
     /// # Errors
     ///
     /// Those of [`Encode::to_der`].
+    ///
+    /// # Examples
+    ///
+    /// ```
+    /// use sec1::EcPrivateKey;
+    /// use sec1::der::SecretDocument;
+    ///
+    /// let key = EcPrivateKey { private_key: &[9], parameters: None, public_key: None };
+    /// assert_eq!(u32::from(SecretDocument::encode_msg(&key)?.len()), 8);
+    /// # Ok::<(), sec1::der::Error>(())
+    /// ```
     pub fn encode_msg<T: Encode>(value: &T) -> Result<Self> {
         Self::try_from(value.to_der()?)
     }
@@ -59,6 +100,17 @@ impl SecretDocument {
     /// # Errors
     ///
     /// Those of [`Decode::from_der`].
+    ///
+    /// # Examples
+    ///
+    /// ```
+    /// use sec1::EcPrivateKey;
+    /// use sec1::der::SecretDocument;
+    ///
+    /// let document = SecretDocument::try_from(&[0x30, 6, 2, 1, 1, 4, 1, 9][..])?;
+    /// assert_eq!(document.decode_msg::<EcPrivateKey<'_>>()?.private_key, [9]);
+    /// # Ok::<(), sec1::der::Error>(())
+    /// ```
     pub fn decode_msg<'a, T: Decode<'a>>(&'a self) -> Result<T, T::Error> {
         T::from_der(self.as_bytes())
     }
@@ -69,6 +121,19 @@ impl SecretDocument {
     ///
     /// [`ErrorKind::Io`] if the file can't be read, and those of `try_from` if it isn't one
     /// element.
+    ///
+    /// # Examples
+    ///
+    /// ```
+    /// use sec1::der::SecretDocument;
+    ///
+    /// let document = SecretDocument::try_from(&[0x30, 6, 2, 1, 1, 4, 1, 9][..])?;
+    /// let path = std::env::temp_dir().join(format!("sec1-read-{}.der", std::process::id()));
+    /// document.write_der_file(&path)?;
+    /// assert_eq!(SecretDocument::read_der_file(&path)?.as_bytes(), document.as_bytes());
+    /// # std::fs::remove_file(&path)?;
+    /// # Ok::<(), sec1::der::Error>(())
+    /// ```
     #[cfg(feature = "std")]
     pub fn read_der_file(path: impl AsRef<Path>) -> Result<Self> {
         Self::try_from(fs::read(path)?)
@@ -80,6 +145,19 @@ impl SecretDocument {
     /// # Errors
     ///
     /// [`ErrorKind::Io`] if the file can't be written.
+    ///
+    /// # Examples
+    ///
+    /// ```
+    /// use sec1::der::SecretDocument;
+    ///
+    /// let document = SecretDocument::try_from(&[0x30, 6, 2, 1, 1, 4, 1, 9][..])?;
+    /// let path = std::env::temp_dir().join(format!("sec1-write-{}.der", std::process::id()));
+    /// document.write_der_file(&path)?;
+    /// assert_eq!(SecretDocument::read_der_file(&path)?.as_bytes(), document.as_bytes());
+    /// # std::fs::remove_file(&path)?;
+    /// # Ok::<(), sec1::der::Error>(())
+    /// ```
     #[cfg(feature = "std")]
     pub fn write_der_file(&self, path: impl AsRef<Path>) -> Result<()> {
         let mut options = fs::OpenOptions::new();

@@ -98,8 +98,8 @@ impl fmt::Debug for Element<'_> {
 /// # Errors
 ///
 /// [`ErrorKind::Truncated`], [`ErrorKind::Tag`], [`ErrorKind::Length`],
-/// [`ErrorKind::TrailingData`] or [`ErrorKind::Depth`], the first fault from left to right, with its
-/// position.
+/// [`ErrorKind::TrailingData`] or [`ErrorKind::Depth`], the first fault from left to right, with
+/// its position.
 ///
 /// # Examples
 ///
