@@ -233,4 +233,8 @@ fn faults_have_offsets() {
     }
     assert_eq!(check_tree(&key), Ok(3));
     assert_eq!(der::Element::read(&[4, 0x81, 1]).unwrap_err().position(), None);
+    let bytes = [4, 2, 9, 8, 5, 0];
+    let (element, rest) = der::Element::read(&bytes).unwrap();
+    assert_eq!((element.tag(), element.content(), rest), (4, &bytes[2..4], &bytes[4..]));
+    assert_eq!(format!("{element:?}"), "Element { tag: 4, .. }");
 }
