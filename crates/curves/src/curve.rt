@@ -278,6 +278,13 @@ impl Curve {
 
     /// Returns the curve with this name, as [`has_name`](Self::has_name) tests it; None if there is
     /// no such curve in the table.
+    ///
+    /// # Examples
+    ///
+    /// ```
+    /// let curve = Curve::from_name(name)?;
+    /// Some(curve.field_len())
+    /// ```
     pub fn from_name(text: &str) -> Option<Curve>
         ensures found { IfSome result (IsNameOf text.now) }
         ensures only { (curve : Curve) → IsNameOf text.now curve → result ≡ Some curve }

@@ -5,6 +5,7 @@
 pub mod algorithm;
 pub mod certificate;
 pub mod curve_names;
+pub mod first_calls;
 pub mod moved_program;
 pub mod own_key;
 pub mod own_part;

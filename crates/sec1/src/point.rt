@@ -74,6 +74,13 @@ impl<const N: usize, const L: usize> EncodedPoint<N, L> {
     ///
     /// PointEncoding if the input isn't the encoding of a point, or if N and L don't
     /// [fit](EncodedPoint::fits).
+    ///
+    /// # Examples
+    ///
+    /// ```
+    /// let point = EncodedPoint32::from_bytes(bytes)?;
+    /// Ok(point.compress())
+    /// ```
     #[tactic(auto, using(crate::proofs::EncodedPointLemmas::encoding_room))]
     pub fn from_bytes(input: &[u8]) -> Result<Self>
         ensures { ReadsBytes input.now result }
@@ -240,6 +247,15 @@ impl<const N: usize, const L: usize> EncodedPoint<N, L> {
     }
 
     /// Borrows the parts of the point.
+    ///
+    /// # Examples
+    ///
+    /// ```
+    /// match point.coordinates() {
+    ///     Coordinates::Uncompressed { y, .. } | Coordinates::Hybrid { y, .. } => Some(y),
+    ///     _ => None,
+    /// }
+    /// ```
     pub fn coordinates(&self) -> Coordinates<'_, N>
         ensures point { coordinates_point result ≡ point_of self.now }
         ensures whole { AreWhole result }

@@ -65,6 +65,13 @@ impl<'a> Model for EcPrivateKey<'a> {
 /// around a part, ends too early; Tag if another tag is expected; Length if a length isn't in the
 /// form of DER; Value if the version isn't 1, the identifier isn't valid, or the public key has
 /// unused bits; TrailingData if bytes follow the last part of an element or of the input.
+///
+/// # Examples
+///
+/// ```
+/// let key = EcPrivateKey::try_from(bytes)?;
+/// Ok(key.public_key.is_some())
+/// ```
 impl<'a> TryFrom<&'a [u8]> for EcPrivateKey<'a> {
     type Error = Error;
 
@@ -101,6 +108,18 @@ impl<'a> EcPrivateKey<'a> {
     ///
     /// Those of [`encoded_len`](EcPrivateKey::encoded_len), then [`Error::Asn1`] of Buffer if the
     /// slice is too short. The whole slice is unchanged then.
+    ///
+    /// # Examples
+    ///
+    /// ```
+    /// let key = EcPrivateKey {
+    ///     private_key,
+    ///     parameters: None,
+    ///     public_key: None,
+    /// };
+    /// let n = key.encode_to_slice(buffer)?;
+    /// Ok(&buffer[..n])
+    /// ```
     pub fn encode_to_slice(&self, buffer: &mut [u8]) -> Result<usize>
         ensures exact { MatchResult result
             (λ n. (n ≤ length buffer.new) × HasEncodingWith self.now (λ bytes.
@@ -118,6 +137,12 @@ impl<'a> EcPrivateKey<'a> {
     ///
     /// Those of [`encoded_len`](EcPrivateKey::encoded_len), then [`Error::Memory`] if the
     /// allocation fails.
+    ///
+    /// # Examples
+    ///
+    /// ```
+    /// let bytes = key.to_der(alloc)?;
+    /// ```
     pub fn to_der(&self, alloc: Global) -> Result<Vec<u8>>
         ensures exact { MatchResult result (λ der. IsKeyOf self.now der.items)
             (HasNoEncodingOr (λ e. e ≡ Error.Memory) self.now (λ _. ⊤)) }

@@ -94,6 +94,13 @@ pub fn encoded_len<T: EncodeValue + Tagged>(value: &T) -> Result<usize>
 ///
 /// Those of [`encoded_len`], then Buffer if the slice is too short. The whole slice is unchanged
 /// then.
+///
+/// # Examples
+///
+/// ```
+/// let octets = OctetStringRef::new(bytes)?;
+/// encode_to_slice(&octets, buffer)
+/// ```
 pub fn encode_to_slice<T: EncodeValue + Tagged>(value: &T, buffer: &mut [u8]) -> Result<usize>
     ensures { WritesInto (element_of T.tag_byte (T.content value.now)) buffer.old buffer.new
         result }

@@ -71,6 +71,12 @@ impl ObjectIdentifier {
     /// # Errors
     ///
     /// Value for any other text, and if the content would have more than 39 bytes.
+    ///
+    /// # Examples
+    ///
+    /// ```
+    /// let identifier = der::ObjectIdentifier::new("1.2.840.10045.3.1.7")?;
+    /// ```
     pub fn new(text: &str) -> Result<ObjectIdentifier>
         ensures found { IfOk result (λ arcs. IsIdentifier arcs (content_of arcs)
             × (text.now ≡ dotted arcs)) }

@@ -23,6 +23,12 @@ pub const MAX_DEPTH: usize = 64;
 /// The first from left to right: Tag or Length if an element has no header of DER; Truncated if the
 /// input ends inside an element, or an element ends after the one around it; Depth if an element at
 /// level 64 contains elements, before they are read; TrailingData if bytes follow the tree.
+///
+/// # Examples
+///
+/// ```
+/// let elements = check_tree(bytes)?;
+/// ```
 pub fn check_tree(input: &[u8]) -> Result<usize>
     // What is counted is a tree, and these are its bytes.
     ensures found { IfOk result (λ n. (t : Tree) × IsTreeOf t input.now

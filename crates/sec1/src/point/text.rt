@@ -132,6 +132,12 @@ fn is_one_case(text: &[u8]) -> bool
 /// # Errors
 ///
 /// PointEncoding for any other text, or if N and L don't [fit](EncodedPoint::fits).
+///
+/// # Examples
+///
+/// ```
+/// let point = EncodedPoint32::from_str(text)?;
+/// ```
 impl<const N: usize, const L: usize> FromStr for EncodedPoint<N, L> {
     type Err = Error;
 

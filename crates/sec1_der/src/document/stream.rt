@@ -62,6 +62,13 @@ impl SecretDocument {
     /// # Errors
     ///
     /// Those of [`SecretDocument::read_der_from`], and Io if the file can't be opened.
+    ///
+    /// # Examples
+    ///
+    /// ```
+    /// let document = SecretDocument::read_der_file(rt, alloc, path)?;
+    /// Ok(document.len())
+    /// ```
     pub fn read_der_file<F: Files>(rt: &F, alloc: Global, path: &str) -> Result<SecretDocument>
         ensures { IfErr result (λ error. IsElementFault error.kind) }
     {
