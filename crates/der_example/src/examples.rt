@@ -43,7 +43,7 @@ pub fn key_on(alloc: Global, curve: ObjectIdentifier, private_key: &[u8]) -> Res
     key.to_der(alloc)
 }
 
-/// Returns whether a point, compressed, is the one of a text in hexadecimal; and the compressed
+/// Returns `true` if a point, compressed, is the one of a text in hexadecimal; and the compressed
 /// point as JSON.
 pub fn compressed(alloc: Global, bytes: &[u8], text: &str) -> Result<(bool, Value)>
     ensures { (p q : Point) → IsPoint 32 p → IsPoint 32 q → bytes.now ≡ encoding 32 p

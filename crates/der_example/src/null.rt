@@ -1,4 +1,4 @@
-//! A DER type of one's own without elements inside: NULL.
+//! Your own DER type without elements inside: NULL.
 ghost use Rattle.std.specs.Prelude.{◌≡◌, ◌==◌, [], Some, length};
 ghost use Rattle.sec1.specs.Der.{value_unless};
 

@@ -15,14 +15,14 @@ use sec1::der::{ID_EC_PUBLIC_KEY, SECP256R1, read_der};
 use sec1::point::EncodedPoint32;
 use sec1::{EcPrivateKey, Error, Result};
 
-/// Returns whether the algorithm is id-ecPublicKey (RFC 5480 section 2.1.1).
+/// Returns `true` if the algorithm is id-ecPublicKey (RFC 5480 section 2.1.1).
 fn is_elliptic(algorithm: &AlgorithmIdentifier) -> bool
     ensures { IsTrue result ↔ (algorithm.now.algorithm ≡ ec_public_key) }
 {
     algorithm.algorithm == ID_EC_PUBLIC_KEY
 }
 
-/// Returns whether the curve is P-256 (RFC 5480 section 2.1.1.1).
+/// Returns `true` if the curve is P-256 (RFC 5480 section 2.1.1.1).
 fn is_p_256(algorithm: &AlgorithmIdentifier) -> bool
     ensures { IsTrue result ↔ (algorithm.now.parameters ≡ secp256r1) }
 {

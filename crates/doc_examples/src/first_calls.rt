@@ -7,7 +7,7 @@ use std::alloc::Global;
 use std::rt::Files;
 use std::str::FromStr;
 
-/// Returns whether a key has its public key.
+/// Returns `true` if a key has its public key.
 pub fn read_key(bytes: &[u8]) -> Result<bool> {
     let key = EcPrivateKey::try_from(bytes)?;
     Ok(key.public_key.is_some())

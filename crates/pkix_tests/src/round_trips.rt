@@ -21,7 +21,7 @@ where
     Ok(again.as_slice() == der)
 }
 
-/// Returns whether the bytes are refused as Value.
+/// Returns `true` if the bytes are refused as Value.
 fn is_refused<'a, T>(der: &'a [u8]) -> bool
 where
     T: DecodeValue<'a> + Tagged + UniqueContent + Drop,

@@ -26,7 +26,7 @@ pub fn sum_of(bytes: &[u8]) -> Outcome {
     Outcome::Bytes(bytes.len(), sum)
 }
 
-/// Asks for so many bytes more than any allocator grants. Returns whether the allocator of the
+/// Asks for `more` bytes above what any allocator grants. Returns `true` if the allocator of the
 /// tests granted them.
 fn signal(alloc: Global, more: u32) -> bool {
     Vec::<u8>::with_capacity(alloc, (1 << 62) + more as usize).is_ok()

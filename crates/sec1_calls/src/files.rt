@@ -66,7 +66,8 @@ pub fn write<H: Files>(rt: &H, alloc: Global, rest: &[u8]) -> Result<String, All
     }
 }
 
-/// Returns the line for the calls on a file of a key with a private key of so many bytes.
+/// Returns the line for the calls on a file of a key. `rest` has the length of its private key and
+/// the path.
 pub fn answer<H: Files>(rt: &H, alloc: Global, rest: &[u8]) -> Result<String, AllocError> {
     let (private_len, path) = word(rest);
     let Ok(path) = str::from_utf8(path) else {

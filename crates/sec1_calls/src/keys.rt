@@ -52,7 +52,7 @@ pub fn der_failed(error: sec1::der::Error) -> Outcome {
     }
 }
 
-/// Returns so many bytes: 0 to 250 over and over.
+/// Returns `len` bytes: 0 to 250 over and over.
 pub fn pattern(alloc: Global, len: usize) -> Result<Vec<u8>, AllocError> {
     let mut bytes = Vec::with_capacity(alloc, len)?;
     for place in 0..len {

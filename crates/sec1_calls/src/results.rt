@@ -14,8 +14,8 @@ fn digits(alloc: Global, bytes: &[u8]) -> Result<String, AllocError> {
     hex::encode(alloc, bytes)
 }
 
-/// Returns the line for a key with a private key of so many bytes that is written into a slice of
-/// so many bytes AA.
+/// Returns the line for a key that is written into a slice of bytes AA. `rest` has the length of
+/// the private key and that of the slice.
 pub fn encode(alloc: Global, rest: &[u8]) -> Result<String, AllocError> {
     let (private_len, room) = word(rest);
     let private_key = pattern(alloc, number(private_len))?;

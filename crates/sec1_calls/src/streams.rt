@@ -8,7 +8,7 @@ use sec1::{DecodeEcPrivateKey, EcPrivateKey, EncodeEcPrivateKey};
 use std::alloc::{AllocError, Global};
 use std::io;
 
-/// How a stream fails, once, and after how many bytes; at most so many bytes are moved at once.
+/// How a stream fails, once, and after how many bytes; at most `step` bytes are moved at once.
 #[derive(Clone, Copy)]
 struct Break {
     kind: Option<io::ErrorKind>,
@@ -17,7 +17,7 @@ struct Break {
 }
 
 impl Break {
-    /// Returns whether the stream fails now, and how many of these bytes it moves otherwise.
+    /// Returns `true` if the stream fails now, and how many of these bytes it moves otherwise.
     fn next(&mut self, moved: usize, wanted: usize) -> io::Result<usize> {
         let mut count = wanted.min(self.step);
         if let Some(kind) = self.kind {

@@ -151,7 +151,7 @@ fn is_content(content: &[u8]) -> bool
     if content.is_empty() {
         return false;
     }
-    // The width of a subidentifier that goes on: how many of its digits were read, where a first
+    // The width of an unfinished subidentifier: how many of its digits were read, where a first
     // digit of 16 or more counts as two; 0 where one begins. A number is below 2^32 exactly if the
     // width of its digits without the last is at most four.
     let mut width: u8 = 0;

@@ -20,7 +20,7 @@ static HEADERS: [(&[u8], usize); 10] = [
     (b"\x04\x83\x10\x00\x00", 1_048_576),
 ];
 
-/// Returns the header, and so many bytes after it.
+/// Returns the header, and `length` bytes after it.
 fn element(alloc: Global, header: &[u8], length: usize) -> Result<Vec<u8>, AllocError> {
     let mut bytes = header.to_vec(alloc)?;
     for place in 0..length {

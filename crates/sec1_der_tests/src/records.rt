@@ -305,7 +305,7 @@ fn refuses_unused_bits(rt: HostRuntime) {
 }
 
 /// Reads an identifier inside an element with this tag byte as one inside the tag of `K`, and
-/// writes it again. Returns whether it has the same bytes.
+/// writes it again. Returns `true` if it has the same bytes.
 fn reads_inside<K: Tagged>(tag: u8) -> sec1_der::Result<bool> {
     let bytes = [tag, 0x03, 0x06, 0x01, 0x07];
     let field: Explicit<K, ObjectIdentifier> = read_der(&bytes)?;

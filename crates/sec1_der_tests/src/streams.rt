@@ -22,11 +22,12 @@ pub const KEY: &[u8] = &[
 enum Then {
     End,
     Fail,
-    /// Fills so many requests with this byte, and fails then.
+    /// Fills this many requests with the byte, and fails then.
     Fill(u8, u32),
 }
 
-/// A reader that gives its bytes, at most so many a call, and counts what is asked for and read.
+/// A reader over a slice that returns at most `step` bytes a call, and counts what is asked for and
+/// read.
 #[derive(Drop)]
 struct Pieces<'a> {
     rest: &'a [u8],
@@ -60,7 +61,7 @@ impl io::Read for Pieces<'_> {
     }
 }
 
-/// The reader's bytes, how many of them it gives, at most so many a call, and what it does then;
+/// The reader's bytes, how many of them it returns, how many at most a call, and what it does then;
 /// why no document is read, and how many bytes are read.
 static READS: [(&[u8], usize, usize, Then, Option<ErrorKind>, usize); 12] = [
     (KEY, 121, 1, Then::End, None, 121),
@@ -158,7 +159,7 @@ fn reports_failed_reads_in_turn(rt: HostRuntime) {
     let _ = println!(&rt; "SecretDocument::read_der_from: each of its 122 reads fails");
 }
 
-/// A writer that takes so many bytes in all, at most so many a call, and then fails or takes none.
+/// A writer that takes `room` bytes, at most `step` a call, and then fails or takes none.
 #[derive(Drop)]
 struct Narrow {
     taken: Vec<u8>,

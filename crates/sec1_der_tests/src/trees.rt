@@ -148,7 +148,7 @@ fn counted_by_recursion(input: &[u8]) -> Result<usize, ErrorKind> {
     Ok(size)
 }
 
-/// The size of the tree that the bytes begin with, of at most so many levels, and the bytes after
+/// The size of the tree that the bytes begin with, of at most `levels` levels, and the bytes after
 /// it.
 fn tree_at(bytes: &[u8], levels: u8) -> Result<(usize, &[u8]), ErrorKind> {
     let Some((tag, rest)) = bytes.split_first() else {

@@ -49,30 +49,30 @@ fn refused(is_kept: bool) -> Outcome {
     }
 }
 
-/// Asks for so many bytes more than any allocator grants. Returns whether the allocator of the
+/// Asks for `more` bytes above what any allocator grants. Returns `true` if the allocator of the
 /// tests granted them.
 fn signal(alloc: Global, more: u32) -> bool {
     Vec::<u8>::with_capacity(alloc, (1 << 62) + more as usize).is_ok()
 }
 
-/// Has the request of this number refused, the first from now on being 1. Returns whether the
+/// Has the request of this number refused, the first from now on being 1. Returns `true` if the
 /// allocator of the tests is there.
 fn refuse(alloc: Global, number: u16) -> bool {
     signal(alloc, u32::from(number))
 }
 
-/// Returns whether so many requests were made since, and none was refused.
+/// Returns `true` if `count` requests were made since, and none was refused.
 fn were_made(alloc: Global, count: u16) -> bool {
     signal(alloc, 0x1_0000 + u32::from(count))
 }
 
-/// Returns whether one of them was refused.
+/// Returns `true` if one of them was refused.
 fn one_was_refused(alloc: Global) -> bool {
     signal(alloc, 0x3_0000)
 }
 
 /// Makes the call with its first request refused, with its second, and so on until it makes no
-/// more, and prints how many it makes. Returns whether each of these calls was refused, or
+/// more, and prints how many it makes. Returns `true` if each of these calls was refused, or
 /// succeeded after a request for less memory.
 fn is_refused_in_turn<F: FnMut() -> Outcome>(
     rt: &impl Print,
@@ -102,7 +102,7 @@ fn is_refused_in_turn<F: FnMut() -> Outcome>(
     false
 }
 
-/// Returns whether the call is right and makes no request.
+/// Returns `true` if the call is right and makes no request.
 fn needs_no_memory<F: FnMut() -> bool>(
     rt: &impl Print,
     alloc: Global,

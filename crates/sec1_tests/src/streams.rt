@@ -25,7 +25,7 @@ impl io::Read for Broken<'_> {
     }
 }
 
-/// A writer that takes so many bytes, one a call, and then fails or takes none.
+/// A writer that takes `room` bytes, one a call, and then fails or takes none.
 #[derive(Drop)]
 struct Narrow {
     taken: Vec<u8>,

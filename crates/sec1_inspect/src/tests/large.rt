@@ -37,7 +37,7 @@ static KEYS: [(&[u8], usize, &str); 5] = [
     ),
 ];
 
-/// Returns these bytes, followed by so many more.
+/// Returns these bytes, followed by `count` more.
 fn longer(alloc: Global, front: &[u8], count: usize) -> Result<Vec<u8>, AllocError> {
     let mut bytes = front.to_vec(alloc)?;
     for place in 0..count {

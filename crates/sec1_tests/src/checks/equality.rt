@@ -12,21 +12,21 @@ use std::alloc::AllocError;
 /// The result of a clone.
 type Cloned<T> = std::result::Result<T, AllocError>;
 
-/// Returns whether two parameters name the same curve.
+/// Returns `true` if two parameters name the same curve.
 pub fn same_parameters(a: EcParameters, b: EcParameters) -> bool
     ensures { IsTrue result ↔ (curve_of a ≡ curve_of b) }
 {
     a == b
 }
 
-/// Returns whether two tags of points are the same.
+/// Returns `true` if two tags of points are the same.
 pub fn same_tag(a: Tag, b: Tag) -> bool
     ensures { IsTrue result ↔ (a ≡ b) }
 {
     a == b
 }
 
-/// Returns whether the coordinates have the same variant, flag and bytes.
+/// Returns `true` if the coordinates have the same variant, flag and bytes.
 pub fn same_coordinates<const N: usize>(a: Coordinates<'_, N>, b: Coordinates<'_, N>) -> bool
     ensures { IsTrue result ↔ (coordinates_bytes a.entry ≡ coordinates_bytes b.entry) }
 {
@@ -50,21 +50,21 @@ pub fn same_point<const N: usize, const L: usize>(
     *a == *b
 }
 
-/// Returns whether two parameters name different curves.
+/// Returns `true` if two parameters name different curves.
 pub fn other_parameters(a: EcParameters, b: EcParameters) -> bool
     ensures { IsTrue result ↔ (curve_of a ≢ curve_of b) }
 {
     a != b
 }
 
-/// Returns whether two tags of points differ.
+/// Returns `true` if two tags of points differ.
 pub fn other_tag(a: Tag, b: Tag) -> bool
     ensures { IsTrue result ↔ (a ≢ b) }
 {
     a != b
 }
 
-/// Returns whether the coordinates differ in their variant, flag or bytes.
+/// Returns `true` if the coordinates differ in their variant, flag or bytes.
 pub fn other_coordinates<const N: usize>(a: Coordinates<'_, N>, b: Coordinates<'_, N>) -> bool
     ensures { IsTrue result ↔ (coordinates_bytes a.entry ≢ coordinates_bytes b.entry) }
 {
