@@ -35,7 +35,7 @@ pub fn octet_string_in<'b>(octets: &OctetStringRef, buffer: &'b mut [u8]) -> der
     Ok(&buffer[..n])
 }
 
-/// Reads a key and makes its document: the bytes that were read.
+/// Reads a key and encodes it again as a document with the same bytes.
 pub fn document_again(alloc: Global, bytes: &[u8]) -> Result<SecretDocument>
     ensures same { IfOk result (λ document. document ≡ bytes.now) }
     ensures kinds { IfErr result (λ e. IsAsn1ReadingFault e ⊎ (e ≡ Error.Memory)) }

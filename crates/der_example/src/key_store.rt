@@ -1,4 +1,4 @@
-//! Private keys, found by their public keys: by any value of the point, whatever is in its buffer
+//! A map from public keys to private keys. A lookup compares points, whatever is in their buffers
 //! after the encoding.
 ghost use Rattle.std.specs.Prelude.{◌≡◌, ◌≢◌, Some, OnOk, OnErr, IfErr, IsOkAnd};
 ghost use Rattle.std.specs.Option.{option_map};

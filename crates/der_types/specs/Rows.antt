@@ -12,7 +12,7 @@ joined tag content [] = Some []
 joined tag content (value ∷ values) =
     join (element_of tag (content value)) (joined tag content values)
 
--- the fault of at most so many elements with this tag
+-- the fault of elements with this tag, up to a greatest number of them
 abbrev pub elements_fault : ℕ → Fault → ℕ → Fault
 elements_fault tag f zero bytes = None
 elements_fault tag f (suc most) [] = None

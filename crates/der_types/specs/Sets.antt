@@ -33,8 +33,8 @@ abbrev pub ascends_by : (List ℕ → List ℕ → Bool) → List ℕ → Option
 ascends_by behind last None = true
 ascends_by behind last (Some x) = is_at_most last x.0 && behind x.0 x.1
 
--- whether at most so many elements ascend from the last one; they end where the bytes begin with no
--- element
+-- whether the elements, up to a greatest number of them, ascend from the last one; they end where
+-- the bytes begin with no element
 abbrev pub ascends : ℕ → List ℕ → List ℕ → Bool
 ascends zero last bytes = true
 ascends (suc most) last bytes = ascends_by (ascends most) last (first_element bytes)

@@ -21,8 +21,8 @@ IsWiped p = All (λ byte. byte ≡ 0) p.bytes
 abbrev pub KeepsBuffer : {N L : ℕ} → EncodedPoint N L → EncodedPoint N L → Type 0
 KeepsBuffer p q = drop 1 q.bytes ≡ drop 1 p.bytes
 
--- reading bytes: the encodings of points are accepted, each as its point, and nothing else is; and
--- no encoding at this size begins another
+-- Reading bytes: Ok of the point if the input is its encoding, and PointEncoding otherwise. No
+-- encoding of one size is a proper prefix of another.
 pub record ReadsBytes {N L : ℕ} (input : List ℕ)
     (result : Result (EncodedPoint N L) Error) : Type 0 where
   pub found : IfOk result

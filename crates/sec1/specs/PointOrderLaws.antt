@@ -1,5 +1,5 @@
 -- The laws of the order of points, which the impls of the comparing traits name: it is total, and
--- only one point ties with another.
+-- two points compare as equal only if they are the same.
 use Rattle.std.proofs.Common.{◌≡◌, ℕ, true, refl, sym, ◌∙◌, arith}
 use Rattle.std.specs.Prelude.{unwrap_or}
 use Rattle.std.specs.Cmp.{IsTotalOrder, IsEquivalence}

@@ -53,8 +53,8 @@ hybrid_point p = p
 
 -- ---- the encoding
 
--- exactly so many base 256 digits, the most significant first: those of n, where n is below 256 ^
--- width (SEC1 v2.0 sections 2.3.5 and 2.3.7)
+-- the last `width` digits of n in base 256, the most significant first, with zeros before them if n
+-- has fewer (SEC1 v2.0 sections 2.3.5 and 2.3.7)
 unfoldable pub fixed_width : ℕ → ℕ → List ℕ
 fixed_width zero n = []
 fixed_width (suc width) n = fixed_width width (n / 256) ++ n % 256 ∷ []

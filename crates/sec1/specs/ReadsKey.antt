@@ -20,7 +20,7 @@ pub record ReadsKey (input : List ℕ) (result : Result Key Error) : Type 0 wher
   pub kinds : IfErr result IsAsn1ReadingFault
   -- whether the bytes are refused, and by which kind, is a function of them
   pub kind : HasAsn1Fault result (key_fault input)
-  -- a proper beginning of a key's bytes is refused as Truncated
+  -- a proper prefix of a key's bytes is refused as Truncated
   pub short : (key : Key) (bytes : List ℕ) → IsKeyOf key bytes → IsProperBeginning input bytes
       → RefusesAsn1 result Truncated
   -- bytes after a key's are refused as TrailingData

@@ -11,7 +11,7 @@ use Rattle.sec1_der.specs.Streams.{AppendsBeginning}
 use Rattle.sec1_der.specs.declared.error.Error.{Error as DerError}
 use Rattle.sec1_der.specs.declared.error.ErrorKind.TheVariants.{Io}
 
--- an element for which this holds
+-- the bytes of one element, for which `P` holds
 pub record IsElementWith (P : List ℕ → Type 0) : Type 0 where
   pub bytes : List ℕ
   pub is_element : IsElement bytes

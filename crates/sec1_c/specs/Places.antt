@@ -22,7 +22,7 @@ pub record IsMissing (part : Part) : Type 0 where
   pub offset : part.offset ≡ 0
   pub len : part.len ≡ 0
 
--- the part with these bytes, or none
+-- the part is the place of these bytes, or no place if there are none
 abbrev pub IsPart : List ℕ → Part → Option (List ℕ) → Type 0
 IsPart input part None = IsMissing part
 IsPart input part (Some bytes) = StandsAt input part bytes

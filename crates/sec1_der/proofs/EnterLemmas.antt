@@ -17,8 +17,7 @@ IsInFront rest inside tag n end =
 pub inside_within : (rest front inside : List ℕ) (room : ℕ) → take room rest ≡ front ++ inside → length inside ≤ room
 inside_within rest front inside room e = omega (arith, ap length e, length-append front inside, length-take room rest)
 
--- if the bytes before the end begin with a front, the slice from its end on is the rest of them and what follows the
--- end
+-- if the input up to `end` is `front ++ inside`, then what is left from `start` on is `inside` and the last `end` bytes
 from_start : (rest front inside : List ℕ) (end start : ℕ) → end ≤ length rest
     → take (length rest - end) rest ≡ front ++ inside
     → start + length inside ≡ length rest - end

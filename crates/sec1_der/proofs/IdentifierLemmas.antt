@@ -146,7 +146,7 @@ own_arcs content (arcs, is) = rw (read_arcs arcs content is) is
 -- what a value that holds a content takes
 pub ruleset held_contents = (read_arcs, own_arcs)
 
--- one byte is read
+-- the state of the walk after one byte
 pub read_byte : (high i : ℕ) (content : List ℕ) → i < length content
     → (goes_on high (drop i content) ≡ goes_on high (get_or content i 0 ∷ drop (i + 1) content))
     × (numbers_after high (drop i content) ≡ numbers_after high (get_or content i 0 ∷ drop (i + 1) content))
@@ -180,7 +180,7 @@ identifier_fits arcs content is = (
 
 -- ---- building
 
--- a content that was made of two arcs is that of its own arcs, which are these
+-- the digits of 40 a + b in base 128 are the content of the arcs a and b, and are decoded to them
 pub first_two : (a b n : ℕ) (content : List ℕ) → AreArcs (a ∷ b ∷ []) → n ≡ 40 * a + b → content ≡ base128 n
     → Spells (arcs_of content) content × (arcs_of content ≡ a ∷ b ∷ [])
 first_two a b n content allowed shared is = grind (arith, goes_on_from_spells (a ∷ b ∷ []) content, append-nil)

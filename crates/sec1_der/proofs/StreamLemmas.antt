@@ -60,7 +60,7 @@ reads_more old mid new start middle end n m sum read is more =
 
 -- ---- the header
 
--- bytes, the last of which came after a header that was cut short
+-- bytes that have one more than an incomplete header
 pub record IsLonger (bytes : List ℕ) : Type 0 where
   pub before : List ℕ
   pub last : ℕ
@@ -71,7 +71,7 @@ pub record IsLonger (bytes : List ℕ) : Type 0 where
 abbrev pub IsReachable : List ℕ → Type 0
 IsReachable bytes = (bytes ≡ []) ⊎ IsLonger bytes
 
--- one byte was read after a header that was cut short
+-- one byte more is read after an incomplete header
 pub one_more : (start k : ℕ) (slice part : List ℕ) → start ≤ length slice → header_fault (take start slice) ≡ Truncated
     → LacksHeader (take start slice)
     → length part ≡ 1 → IsReachable (take (start + 1) (put_mid start k slice part))
@@ -95,7 +95,7 @@ read_alone old new tag n bytes rest is split (inr one) consumed =
     absurd (one.cut.none tag n c.after is c.front))
     (cases_lt (length one.before) (length (header tag n)))
 
--- a header that was cut short has at most five bytes
+-- an incomplete header has at most five bytes
 pub cut_is_short : (bytes : List ℕ) → header_fault bytes ≡ Truncated → length bytes ≤ 5
 cut_is_short [] e = omega arith
 cut_is_short (byte ∷ []) e = omega arith

@@ -28,7 +28,7 @@ deep_or : (above a b : ℕ) → option_or (deep_fault (above + a)) (deep_fault (
 deep_or above a b = grind (arith, nat_tests)
 
 mutual
-  -- a tree below so many levels, and what follows it
+  -- a tree `above` levels down is refused by its depth, or by what follows it
   tree_at : (t : Tree) (above : ℕ) (behind : Fault) (bs rest : List ℕ) → IsTree t → bs ≡ bytes t ++ rest
       → above < max_tree_depth
       → any_fault (nested_fault (row_at (above + 1 + 1))) behind bs ≡ option_or (deep_fault (above + depth t))

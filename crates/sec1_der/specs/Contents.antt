@@ -29,7 +29,7 @@ IsBitString (unused ∷ bytes) = AreBits unused bytes
 pub only_one : (bytes : List ℕ) → Some (1 ∷ []) ≡ Some bytes → IsVersionOne bytes
 only_one bytes same = cc
 
--- a bit string has the content of a bit string
+-- the content of a bit string is that of the standard, `IsBitString`
 pub bits_are_one : (unused : ℕ) (bytes content : List ℕ) → AreBits unused bytes
     → Some (unused ∷ bytes) ≡ Some content → IsBitString content
 bits_are_one unused bytes [] bits same = absurd (cc same)
@@ -56,11 +56,11 @@ abbrev pub is_bit_string : List ℕ → Bool
 is_bit_string [] = false
 is_bit_string (unused ∷ bytes) = are_bits unused bytes
 
--- X.690 sections 8.6 and 11.2.1: Any content other than that of a bit string is refused; any other
--- than that of one without unused bits.
+-- X.690 sections 8.6 and 11.2.1: Value unless this is the content of a bit string
 abbrev pub bit_string_fault : Fault
 bit_string_fault content = value_unless (is_bit_string content)
 
+-- Value unless this is the content of a bit string without unused bits
 abbrev pub whole_bits_fault : Fault
 whole_bits_fault [] = Some Value
 whole_bits_fault (unused ∷ bytes) = value_unless (unused == 0)

@@ -8,7 +8,8 @@ use Rattle.std.specs.Int.Digits.{digits_of}
 use Rattle.sec1_der.specs.Elements.{length_octets}
 use Rattle.sec1_der.specs.Refusals.{number_at}
 
--- lists of one length, each with something after it
+-- if two lists with what follows them are the same, and the lists have one length, then the lists
+-- are the same, and what follows is
 pub split_same : {A : Type 0} (xs ys r s : List A) → length xs ≡ length ys → xs ++ r ≡ ys ++ s
     → (xs ≡ ys) × (r ≡ s)
 split_same xs ys r s l e =

@@ -98,7 +98,7 @@ pub record ReadsHeader (old new : Option (List ℕ)) (tag announced : ℕ) : Typ
   pub is_header : IsHeader tag announced
   pub consumed : Consumes old new (header tag announced)
 
--- reading so many bytes failed with this kind, after fewer of them
+-- reading a content failed with this kind, after fewer bytes than announced
 pub record RefusesContent (kind : ErrorKind) (announced : ℕ)
     (old new : Option (List ℕ)) : Type 0 where
   pub taken : List ℕ

@@ -86,12 +86,12 @@ read_element f g tag content old new h =
     element_at f g tag content old.unread new.unread h.within
     (ap (λ (r : Reader). r.unread) h.read.was_whole)
 
--- the reader goes on: the fault of the bytes that it had is that of the bytes that it has
+-- after an element that is read, the fault of the old input is that of the new one
 pub record GoesOn (fault : Fault → Fault) (old new : Reader) : Type 0 where
   pub whole : new.failed ≡ false
   pub next : (g : Fault) → fault g old.unread ≡ g new.unread
 
--- a reader goes on after an element that is there, and of which nothing is refused
+-- this holds after an element that is there, and of which nothing is refused
 goes_on : (fault : Fault → Fault) (found : Fault) (content : Option (List ℕ)) (P : List ℕ → Type 0)
     (old new : Reader)
     → IsSomeAnd content P
@@ -105,7 +105,7 @@ goes_on fault found (Some inside) P old new some read none =
     let first : found inside ≡ None = sym (alone (found inside)) ∙ (sym (same no_fault) ∙ none) in
     record { whole = whole; next = λ g. same g ∙ rw first refl }
 
--- a reader goes on after an element that was read
+-- this holds after an element that was read
 pub reads_on : (f : Fault) (tag : ℕ) (content : Option (List ℕ)) (P : List ℕ → Type 0)
     (old new : Reader)
     → IsSomeAnd content (λ inside. P inside × HasReadElement tag inside old new)

@@ -93,8 +93,8 @@ document_fault = any_fault (λ _. no_fault) end_fault
 abbrev pub nested_fault : Fault → ℕ → Fault
 nested_fault row tag content = if not (bit_and tag 0x20 == 0) then row content else None
 
--- Elements in a row at this level. There are at most as many, and at most so many inside one
--- another, as there are bytes.
+-- A sequence of elements at this level. There are no more of them, and they are nested no deeper,
+-- than there are bytes.
 abbrev pub row_fault : ℕ → ℕ → Fault
 row_fault zero level bytes = None
 row_fault (suc most) level [] = None

@@ -13,7 +13,7 @@ BytesDetermineTree =
 abbrev pub BytesDetermineRow : Type 0
 BytesDetermineRow = (f g : Forest) → AreTrees f → AreTrees g → joined f ≡ joined g → f ≡ g
 
--- No tree's bytes are a proper beginning of another's.
+-- No tree's bytes are a proper prefix of another's.
 abbrev pub NoTreeBeginsAnother : Type 0
 NoTreeBeginsAnother =
     (t u : Tree) (r : List ℕ) → IsTree t → IsTree u → bytes t ++ r ≡ bytes u → r ≡ []

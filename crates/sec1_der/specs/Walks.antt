@@ -20,7 +20,7 @@ pub record IsOpening (tag n end : ℕ) (rest after : List ℕ) : Type 0 where
   pub row : rest ≡ header tag n ++ after
   pub ends : end + n ≡ length after
 
--- the number of bytes left at the end of the innermost node, or of the input
+-- how many bytes of input follow the innermost open element, or 0 if none is open
 abbrev pub innermost : List ℕ → ℕ
 innermost [] = 0
 innermost (end ∷ ends) = end
@@ -53,7 +53,8 @@ pub record IsTooDeep (ends rest : List ℕ) : Type 0 where
   pub opens : Opens ends rest end after
   pub full : length ends ≡ max_tree_depth - 1
 
--- the ends of so many open nodes, from a table that has the outermost at 1
+-- the ends of the open elements up to this level, the innermost first; the table has the outermost
+-- at index 1
 abbrev pub open_ends : ℕ → List ℕ → List ℕ
 open_ends zero table = []
 open_ends (suc level) table = get_or table (suc level) 0 ∷ open_ends level table

@@ -70,8 +70,8 @@ pub trait DecodePart<'a>: Part + Sized {
             → IsOkAnd result (λ found. Self.bytes found ≡ Some whole)
             × (reader.new ≡ reader_over rest) }
         ensures kinds { reader.old.failed ≡ false → IfErr result (λ e. IsReadingFault e.kind) }
-        // The kind of a refusal is a function of the remaining input; a part that is read leaves
-        // that of what follows.
+        // The error kind depends only on the remaining input; a part that is read leaves that of
+        // what follows.
         ensures passes { reader.old.failed ≡ false
             → OnOk result ((behind : Fault)
             → Self.fault_then behind reader.old.unread ≡ behind reader.new.unread) }

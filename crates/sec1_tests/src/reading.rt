@@ -149,9 +149,9 @@ static REFUSED: [(&str, ErrorKind); 35] = [
     ("300F0201010400A00806062A9080808000", ErrorKind::Value),
     // an arc with a leading 80
     ("300C0201010400A00506032A8001", ErrorKind::Value),
-    // bytes after the bit string are refused before its unused bits
+    // bytes after the bit string are tested before its unused bits
     ("300D0201010400A106030201000500", ErrorKind::TrailingData),
-    // but after a content that isn't a bit string's
+    // but after the bit string's content
     ("300D0201010400A106030201010500", ErrorKind::Value),
     // less than the outer element announces
     ("30840FFFFFFF020101", ErrorKind::Truncated),

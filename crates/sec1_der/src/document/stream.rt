@@ -44,7 +44,8 @@ impl SecretDocument {
         // The kind of a refusal says what was taken.
         ensures refused { IfErr result
             (λ error. RefusesElement error.kind (R.left reader.old) (R.left reader.new)) }
-        // One element that is all there is, is read, unless a read failed or a growth was refused.
+        // If the remaining input is exactly one element, it is read, unless a read or an allocation
+        // fails.
         ensures only { IfErr result (λ error. IsIoOrMemory error.kind
             ⊎ IfSome (R.left reader.old) (λ left. ¬ (IsElement left))) }
         // Whether it is refused, and by which kind, is a function of what the reader had left, as
