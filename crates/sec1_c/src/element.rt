@@ -1,15 +1,18 @@
-//! Elements of DER (X.690): `sec1_check_tree`, `sec1_document_len` and `sec1_element_read`.
-ghost use Rattle.std.specs.Prelude.{◌≡◌, ◌≢◌, ◌≤◌, ◌<◌, ◌++◌, ℕ, List, length};
-ghost use Rattle.sec1_der.specs.Elements.{IsElement, IsHeader, IsProperBeginning, LacksHeader};
-ghost use Rattle.sec1_der.specs.Elements.{element, header};
-ghost use Rattle.sec1_der.specs.Faults.{header_fault};
+//! Elements of DER (X.690): `sec1_check_tree`, `sec1_document_len`, `sec1_element_read` and
+//! `sec1_element_write`.
+ghost use Rattle.std.specs.Prelude.{◌≡◌, ◌≢◌, ◌≤◌, ◌<◌, ◌+◌, ◌++◌, ℕ, List, length};
+ghost use Rattle.std.specs.Prelude.{IfErr, IsOk, OkIff};
+ghost use Rattle.sec1_der.specs.Elements.{IsElement, IsHeader, IsProperBeginning, IsTag};
+ghost use Rattle.sec1_der.specs.Elements.{LacksHeader, element, header, max_length};
+ghost use Rattle.sec1_der.specs.Faults.{Refuses, header_fault};
 ghost use Rattle.sec1_der.specs.Refusals.{any_fault, no_fault, tree_fault};
 ghost use Rattle.sec1_der.specs.Trees.{Tree, IsTree, IsTreeOf, bytes, depth, max_tree_depth, size};
 ghost use Rattle.sec1_c.specs.Documents.{Announces, BeginsWithElement, element_len};
+ghost use Rattle.sec1_c.specs.Outputs.{Writes, WritesNothing};
 ghost use Rattle.sec1_c.specs.Statuses.{IsTreeNumber, fault_number, kind_number};
 
 use crate::status::{OK, kind_number};
-use sec1::der::{self, AnyRef, ErrorKind, Header, SliceReader};
+use sec1::der::{self, AnyRef, ErrorKind, Header, Length, SliceReader, SliceWriter, Tag};
 use std::cmp::Ordering;
 
 /// Checks that all of `input` is a tree of DER elements of depth at most 64, and stores the number
@@ -122,6 +125,82 @@ pub extern "C" fn sec1_element_read(
             *content_len = len;
             OK
         }
+        Err(error) => kind_number(error.kind),
+    }
+}
+
+/// Writes the element with this tag byte and this content at the beginning of `out`, and stores its
+/// length. The rest of `out` is unchanged.
+///
+/// # Errors
+///
+/// Returns the number of Buffer if `out` is too short, and stores the length. Otherwise returns
+/// that of Tag if no element has the tag, or of Overlength if the content is longer than
+/// 268,435,455 bytes, and leaves `len` unchanged. `out` is unchanged in each case.
+#[unsafe(no_mangle)]
+pub extern "C" fn sec1_element_write(
+    tag: usize,
+    content: &[u8],
+    out: &mut [u8],
+    len: &mut usize,
+) -> u32
+    ensures element { IsHeader tag (length content.now)
+        → Writes (element tag content.now) out.old out.new result len.new }
+    ensures no_tag { ¬ IsTag tag
+        → WritesNothing (kind_number ErrorKind.Tag) out.old out.new result len.old len.new }
+    ensures overlength { IsTag tag → max_length < length content.now
+        → WritesNothing (kind_number ErrorKind.Overlength) out.old out.new result len.old len.new }
+{
+    match header_given(tag, content.len()) {
+        Ok(header) => write_element(&header, content, out, len),
+        Err(error) => kind_number(error.kind),
+    }
+}
+
+/// Returns the header with this tag byte, of a content of this length.
+///
+/// # Errors
+///
+/// Tag if no element has the tag; Overlength if the content is longer than 268,435,455 bytes.
+fn header_given(tag: usize, len: usize) -> der::Result<Header>
+    ensures header { OkIff result (IsHeader tag len) (record { tag = tag; length = len }) }
+    ensures no_tag { ¬ IsTag tag → Refuses result ErrorKind.Tag }
+    ensures overlength { IsTag tag → max_length < len → Refuses result ErrorKind.Overlength }
+{
+    let Ok(byte) = u8::try_from(tag) else {
+        return Err(ErrorKind::Tag.into());
+    };
+    Ok(Header {
+        tag: Tag::from_byte(byte)?,
+        length: Length::new(len)?,
+    })
+}
+
+/// Stores the length of the element with this header and this content, and writes it at the
+/// beginning of `out`. Returns the number of Buffer if `out` is too short, which is unchanged then.
+fn write_element(header: &Header, content: &[u8], out: &mut [u8], len: &mut usize) -> u32
+    requires { header.now.length ≡ length content.now }
+    ensures { Writes (element header.now.tag content.now) out.old out.new result len.new }
+{
+    let both = header.encoded_len() + content.len();
+    *len = both;
+    if out.len() < both {
+        return kind_number(ErrorKind::Buffer);
+    }
+    let (front, rest) = out.split_at_mut(header.encoded_len());
+    rest[..content.len()].copy_from_slice(content);
+    write_header(header.tag, header.length, front)
+}
+
+/// Writes the header with this tag and this length into all of `front`.
+fn write_header(tag: Tag, len: Length, front: &mut [u8]) -> u32
+    requires { length front.old ≡ length (header tag len) }
+    ensures status { result ≡ 0 }
+    ensures header { front.new ≡ header tag len }
+{
+    let header = Header { tag, length: len };
+    match header.encode(&mut SliceWriter::new(front)) {
+        Ok(()) => OK,
         Err(error) => kind_number(error.kind),
     }
 }

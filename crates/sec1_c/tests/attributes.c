@@ -40,6 +40,8 @@ uint32_t right_calls(size_t some)
     status |= sec1_document_len(key, sizeof key, &len);
     status |= sec1_element_read(key, sizeof key, &len, &other_len);
     status |= sec1_element_read(NULL, 0, &len, &other_len);
+    status |= sec1_element_write(0x04, key, some, out, sizeof out, &len);
+    status |= sec1_element_write(0x05, NULL, 0, NULL, 0, &len);
     status |= sec1_key_fault_at(key, some, &len);
     status |= sec1_key_fault_at(NULL, 0, &len);
     status |= sec1_tree_fault_at(key, sizeof key, &len);
@@ -95,6 +97,8 @@ uint32_t wrong_call(size_t some)
     return sec1_curve_name(key, some, name, sizeof name + 1, &len);
 #elif WRONG == 13
     return sec1_point_identity(NULL, 1 + 0 * some, &len);
+#elif WRONG == 14
+    return sec1_element_write(0x04, key, sizeof key + 1, out, some, &len);
 #else
     return (uint32_t)some;
 #endif

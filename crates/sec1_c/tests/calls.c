@@ -1076,6 +1076,80 @@ static uint32_t read_element(struct bytes input, size_t *header_len, size_t *con
     return status;
 }
 
+static size_t element_tag;
+
+static uint32_t write_element(const uint8_t *content, size_t content_len, uint8_t *out,
+                              size_t out_len, size_t *len)
+{
+    return sec1_element_write(element_tag, content, content_len, out, out_len, len);
+}
+
+static void expect_written(size_t tag, struct bytes content, struct bytes wanted)
+{
+    element_tag = tag;
+    expect_converted(write_element, content, wanted);
+}
+
+/* The examples of X.690 sections 8.2.2, 8.6.4.2, 8.8.2 and 8.19.5, and elements whose lengths are
+ * in the forms of sections 8.1.3.4 and 8.1.3.5, from the greatest of each to the least of the
+ * next. */
+static void test_written_elements(void)
+{
+    expect_written(0x01, unhex("FF"), unhex("0101FF"));
+    expect_written(0x03, unhex("040A3B5F291CD0"), unhex("0307040A3B5F291CD0"));
+    expect_written(0x05, unhex(""), unhex("0500"));
+    expect_written(0x06, unhex("813403"), unhex("0603813403"));
+    expect_written(0xFE, repeated(7, 127), joined(unhex("FE7F"), repeated(7, 127)));
+    expect_written(0x1E, repeated(7, 128), joined(unhex("1E8180"), repeated(7, 128)));
+    expect_written(0x30, repeated(7, 201), joined(unhex("3081C9"), repeated(7, 201)));
+    expect_written(0xA3, repeated(7, 255), joined(unhex("A381FF"), repeated(7, 255)));
+    expect_written(0x80, repeated(7, 256), joined(unhex("80820100"), repeated(7, 256)));
+
+    /* end of contents, tags of more than one byte, and what is no byte */
+    static const size_t no_tags[] = {0, 0x1F, 0x3F, 0x5F, 0x9F, 0xBF, 0xFF, 256, 0x104, SIZE_MAX};
+    for (size_t i = 0; i < sizeof no_tags / sizeof *no_tags; i++) {
+        element_tag = no_tags[i];
+        expect_refused(write_element, unhex("FF"), SEC1_TAG);
+        expect_refused(write_element, unhex(""), SEC1_TAG);
+    }
+}
+
+/* The header that is written of a content of this length, between zeros. */
+static void expect_long(const uint8_t *zeros, uint8_t *out, size_t len, struct bytes header)
+{
+    size_t all = header.len + len, found = 777777;
+    EXPECT(sec1_element_write(0x04, zeros, len, out, all - 1, &found) == SEC1_BUFFER &&
+           found == all && out[0] == 0);
+    EXPECT(sec1_element_write(0x04, zeros, len, out, all, &found) == SEC1_OK && found == all);
+    EXPECT(memcmp(out, header.data, header.len) == 0 && all_are(out + header.len, len, 0));
+    memset(out, 0, header.len);
+}
+
+static void test_long_elements(void)
+{
+    size_t size = (size_t)1 << 28, room = 0x1000010, found = 777777;
+    uint8_t *zeros =
+        mmap(NULL, size, PROT_READ, MAP_PRIVATE | MAP_ANONYMOUS | MAP_NORESERVE, -1, 0);
+    uint8_t *out = mmap(NULL, room, PROT_READ | PROT_WRITE, MAP_PRIVATE | MAP_ANONYMOUS, -1, 0);
+    if (zeros == MAP_FAILED || out == MAP_FAILED) {
+        perror("mmap");
+        exit(2);
+    }
+    expect_long(zeros, out, 0xFFFF, unhex("0482FFFF"));
+    expect_long(zeros, out, 0x10000, unhex("0483010000"));
+    expect_long(zeros, out, 0xFFFFFF, unhex("0483FFFFFF"));
+    expect_long(zeros, out, 0x1000000, unhex("048401000000"));
+    EXPECT(sec1_element_write(0x04, zeros, 268435455, out, 9, &found) == SEC1_BUFFER &&
+           found == 268435461);
+    found = 777777;
+    EXPECT(sec1_element_write(0x04, zeros, 268435456, out, 9, &found) == SEC1_OVERLENGTH);
+    EXPECT(sec1_element_write(0x04, zeros, 268435456, NULL, 0, &found) == SEC1_OVERLENGTH);
+    EXPECT(sec1_element_write(0x1F, zeros, 268435456, out, 9, &found) == SEC1_TAG);
+    EXPECT(found == 777777 && all_are(out, 9, 0));
+    munmap(zeros, size);
+    munmap(out, room);
+}
+
 /* The status and the offset of the first fault, by the call for keys or by that for trees. */
 static void expect_fault(uint32_t (*fault_at)(const uint8_t *, size_t, size_t *),
                          struct bytes input, uint32_t wanted, size_t wanted_offset)
@@ -1332,6 +1406,8 @@ int main(void)
         {"curves", test_curves},
         {"elements", test_elements},
         {"first elements", test_first_elements},
+        {"written elements", test_written_elements},
+        {"long elements", test_long_elements},
         {"faults", test_faults},
         {"random bytes", test_random_bytes},
     };

@@ -69,6 +69,7 @@ enum call {
     KEY_FAULT,
     TREE_FAULT,
     ELEMENT,
+    ELEMENT_WRITE,
     IDENTIFIER,
     MADE,
     TO_HEX,
@@ -89,6 +90,7 @@ static const char *const names[CALLS] = {
     "sec1_key_fault_at",
     "sec1_tree_fault_at",
     "sec1_element_read",
+    "sec1_element_write",
     "sec1_identifier_check",
     "sec1_point_from_coordinates",
     "sec1_point_to_hex",
@@ -97,7 +99,7 @@ static const char *const names[CALLS] = {
 };
 /* the statuses that each call returns at least once here, as bits */
 static const unsigned wanted[CALLS] = {0x3F, 0xA1, 0x11F, 0x1F,  0x601, 0x681, 0x601, 0xA1,
-                                       0xA1, 0x3F, 0x11F, 0xF, 0x21,  0x481, 0x681, 0x681, 1};
+                                       0xA1, 0x3F, 0x11F, 0xF, 0x85, 0x21,  0x481, 0x681, 0x681, 1};
 static unsigned long counts[CALLS][11], wrong[CALLS];
 static struct {
     uint8_t data[MOST];
@@ -237,6 +239,18 @@ static void check_elements(const uint8_t *bytes, size_t len)
     expect(ELEMENT, status,
            status == refused && *header_len == (refused ? before : e.start)
                && *content_len == (refused ? before : e.end - e.start));
+}
+
+/* Writes an element around the bytes. Its tag is their first one, if they have some. */
+static void check_element_write(const uint8_t *bytes, size_t len)
+{
+    static uint8_t whole[MOST + 64];
+    size_t tag = len && draw(8) ? bytes[0] : draw(300), found = 777777;
+    uint32_t refused = tag == 0 || tag > 255 || tag % 32 == 31 ? SEC1_TAG : SEC1_OK;
+    size_t whole_len = put(whole, (uint8_t)tag, bytes, len), out_len = some_room(whole_len);
+    uint8_t *out = buffer(out_len);
+    uint32_t status = sec1_element_write(tag, bytes, len, out, out_len, &found);
+    expect(ELEMENT_WRITE, status, writes(status, found, out, out_len, refused, whole, whole_len));
 }
 
 static void check_point(const uint8_t *bytes, size_t len, size_t n, const uint8_t *other,
@@ -518,6 +532,7 @@ int main(void)
         const uint8_t *given = now.len == 0 && draw(2) ? NULL : bytes;
         check_key(bytes, now.len);
         check_elements(given, now.len);
+        check_element_write(given, now.len);
         check_point(given, now.len, n, others, other_len);
         check_identifier(given, now.len);
         check_made(given, now.len);

@@ -356,4 +356,18 @@ unsafe extern "C" {
         out_len: usize,
         len: *mut usize,
     ) -> u32;
+    /// Writes the element with this tag byte and this content, and stores its length.
+    ///
+    /// # Safety
+    ///
+    /// `content` is readable for `content_len` bytes. `out` is writable for `out_len` bytes, `len`
+    /// is writable, and neither overlaps another argument.
+    pub fn sec1_element_write(
+        tag: usize,
+        content: *const u8,
+        content_len: usize,
+        out: *mut u8,
+        out_len: usize,
+        len: *mut usize,
+    ) -> u32;
 }
