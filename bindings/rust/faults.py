@@ -53,7 +53,6 @@ FAULTS = [
     ("point.rs", "if bool::from(choice) { *b } else { *a }", "if bool::from(choice) { *a } else { *b }"),
     ("point.rs", "        *self = Self::identity();\n", ""),
     ("point.rs", "Self::of_coordinates(x, y, false)", "Self::of_coordinates(y, x, false)"),
-    ("point/encoding.rs", "raw::point_identity", "|_| Ok(0)"),
     ("point/encoding.rs", "(begin(parts.x)?, begin(parts.y)?)", "(begin(parts.y)?, begin(parts.x)?)"),
     ("point/encoding.rs", "raw::point_compress(self", "raw::point_to_hybrid(self"),
     ("point/encoding.rs", "raw::point_to_hybrid(self", "raw::point_compress(self"),

@@ -179,6 +179,9 @@ fn lengths_of_messages() {
     for (tag, len) in [(0, 1), (2, 33), (3, 33), (4, 65), (5, 33)] {
         assert_eq!(Tag::from_u8(tag).unwrap().message_len(32), len);
     }
+    for (tag, len) in [(0, 1), (2, 101), (4, 201)] {
+        assert_eq!(Tag::from_u8(tag).unwrap().message_len(100), len);
+    }
     assert_eq!(Tag::Uncompressed.message_len(usize::MAX), usize::MAX);
     assert_eq!(Tag::Compact.message_len(usize::MAX), usize::MAX);
 }
