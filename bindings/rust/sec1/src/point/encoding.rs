@@ -60,9 +60,9 @@ impl<Size: ModulusSize> Encoding<Size> {
 
     /// Returns the point at infinity.
     pub(super) fn identity() -> Self {
-        // Not reached: there is room for the one byte.
-        let zeros = Self { bytes: Self::room(), len: 1, tag: 0, x: None, y: None };
-        Self::written(raw::point_identity).unwrap_or(zeros)
+        // Not reached: there is room for the one byte. No bytes are the encoding of no point.
+        let nothing = Self { bytes: Self::room(), len: 0, tag: 0, x: None, y: None };
+        Self::written(raw::point_identity).unwrap_or(nothing)
     }
 
     /// Returns the uncompressed point with these coordinates, or its compressed form.
@@ -114,8 +114,8 @@ impl<Size: ModulusSize> Encoding<Size> {
     /// Compares two points.
     pub(super) fn compare(&self, other: &Self) -> Ordering {
         let (first, second) = (self.as_bytes(), other.as_bytes());
-        // Not reached: the library refuses no two points. The order of the bytes is the same one.
-        raw::point_compare(first, second, Size::USIZE).unwrap_or_else(|_| first.cmp(second))
+        // Not reached: the library refuses no two points.
+        raw::point_compare(first, second, Size::USIZE).unwrap_or(Ordering::Less)
     }
 
     /// Prints the bytes in hexadecimal.
