@@ -46,6 +46,7 @@ rust() {
     refuses "a folder without the library is refused" "there is no libsec1.a in $work/none" \
         env SEC1_LIB_DIR="$work/none" cargo build --locked
     installed
+    built
     check "unsafe code stands in one module" \
         test "$(grep -rl 'unsafe {' sec1/src sec1-sys/src)" = sec1/src/raw.rs
 }
@@ -71,6 +72,33 @@ installed() {
         refuses "an installed library of another version is refused" \
             "no library: install libsec1" env PKG_CONFIG_PATH="$work/other" cargo build --locked
     fi
+    cd "$work/bindings/rust" || return
+}
+
+# Puts the crates into the layout of the repository without the library, and beside them a script in
+# place of crates/sec1_c/build.sh, since that one takes minutes.
+built() {
+    local away=$work/built
+    mkdir -p "$away/bindings" "$away/crates/sec1_c"
+    cp -R . "$away/bindings/rust"
+    cd "$away/bindings/rust" || return
+    script() { # COMMANDS: the script runs them in its own folder
+        printf '#!/usr/bin/env bash\ncd "$(dirname "$0")" || exit\n%s\n' "$1" >"$away/script"
+        install -m 755 "$away/script" "$away/crates/sec1_c/build.sh"
+    }
+    # No pkg-config, so that no installed library is found.
+    local build=(env PKG_CONFIG="$work/none" cargo build --locked)
+    script 'mkdir -p out && exit 3'
+    refuses "a build of the library that fails is told" "sec1_c/build.sh: exit status: 3" \
+        "${build[@]}"
+    script :
+    refuses "a build that makes no library is refused" "there is no libsec1.a in" "${build[@]}"
+    rm "$away/crates/sec1_c/build.sh"
+    refuses "no library and no script to build it is refused" "no library: install libsec1" \
+        "${build[@]}"
+    script "mkdir -p out && cp '$top/crates/sec1_c/out/libsec1_c.a' out"
+    check "the library is built by the repository's script" env PKG_CONFIG="$work/none" \
+        cargo test --locked -p bridgeacacia-sec1 --test wiping --all-features
     cd "$work/bindings/rust" || return
 }
 
