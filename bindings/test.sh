@@ -3,6 +3,8 @@
 # stands in crates/sec1_c/out. The last line is `N passed, M failed`; the status is 1 where anything
 # failed, also where a tool or the library is missing.
 set -uo pipefail
+# Another library than that one isn't tested.
+unset SEC1_LIB_DIR
 here=$(cd "$(dirname "$0")" && pwd)
 top=$(dirname "$here")
 passed=0 failed=0

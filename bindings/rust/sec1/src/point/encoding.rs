@@ -60,9 +60,9 @@ impl<Size: ModulusSize> Encoding<Size> {
 
     /// Returns the point at infinity.
     pub(super) fn identity() -> Self {
-        // Not reached: there is room for the one byte. No bytes are the encoding of no point.
-        let nothing = Self { bytes: Self::room(), len: 0, tag: 0, x: None, y: None };
-        Self::written(raw::point_identity).unwrap_or(nothing)
+        // Not reached: there is room for the one byte. An empty encoding is that of no point.
+        let empty = Self { bytes: Self::room(), len: 0, tag: 0, x: None, y: None };
+        Self::written(raw::point_identity).unwrap_or(empty)
     }
 
     /// Returns the uncompressed point with these coordinates, or its compressed form.
@@ -114,7 +114,7 @@ impl<Size: ModulusSize> Encoding<Size> {
     /// Compares two points.
     pub(super) fn compare(&self, other: &Self) -> Ordering {
         let (first, second) = (self.as_bytes(), other.as_bytes());
-        // Not reached: the library refuses no two points.
+        // Not reached: the library refuses no two points. `Less` never takes two for the same.
         raw::point_compare(first, second, Size::USIZE).unwrap_or(Ordering::Less)
     }
 
