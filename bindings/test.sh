@@ -45,6 +45,8 @@ rust() {
     check "the sources are formatted" cargo fmt --check
     check "the documents have no fault" \
         env RUSTDOCFLAGS="-D warnings" cargo doc --locked --no-deps --all-features
+    check "the documents without std have no fault" \
+        env RUSTDOCFLAGS="-D warnings" cargo doc --locked --no-deps
     refuses "a folder without the library is refused" "there is no libsec1.a in $work/none" \
         env SEC1_LIB_DIR="$work/none" cargo build --locked
     installed
