@@ -1,17 +1,25 @@
-//! What private keys need of DER (X.690): errors, lengths, the two traits of encodings, identifiers
-//! and documents, with the names of the crate `der`; and elements and trees, which are this crate's
-//! own.
+//! What private keys need of DER (X.690): errors, lengths, the traits of elements and of contents,
+//! readers, writers, identifiers and documents, with the names of the crate `der`; and elements and
+//! trees, which are this crate's own.
 
 pub mod asn1;
 #[cfg(feature = "alloc")]
 mod document;
 mod element;
 mod error;
+mod header;
+mod reader;
+mod value;
+mod writer;
 
 #[cfg(feature = "alloc")]
 pub use document::SecretDocument;
 pub use element::{Element, check_tree};
 pub use error::{Error, ErrorKind};
+pub use header::{Header, Tag};
+pub use reader::{Reader, SliceReader};
+pub use value::{DecodeValue, EncodeValue, FixedTag, Sequence};
+pub use writer::{SliceWriter, Writer};
 
 #[cfg(feature = "alloc")]
 use alloc::vec::Vec;
@@ -110,6 +118,32 @@ pub trait Decode<'a>: Sized + 'a {
     /// assert_eq!(error.position().map(u32::from), Some(4));
     /// ```
     fn from_der(bytes: &'a [u8]) -> Result<Self, Self::Error>;
+
+    /// Reads the value from the next element of a reader.
+    ///
+    /// # Errors
+    ///
+    /// Those of [`Header::decode`], and those of `from_der` on the bytes of that element, in which
+    /// a position is counted from its beginning. The reader is unchanged then.
+    ///
+    /// # Examples
+    ///
+    /// ```
+    /// use sec1::EcPrivateKey;
+    /// use sec1::der::{Decode, Reader, SliceReader};
+    ///
+    /// let mut reader = SliceReader::new(&[0x30, 6, 2, 1, 1, 4, 1, 9, 5, 0])?;
+    /// assert_eq!(EcPrivateKey::decode(&mut reader)?.private_key, [9]);
+    /// assert_eq!(u32::from(reader.position()), 8);
+    /// # Ok::<(), sec1::der::Error>(())
+    /// ```
+    fn decode<R: Reader<'a>>(reader: &mut R) -> Result<Self, Self::Error> {
+        let mut ahead = reader.clone();
+        let header = Header::decode(&mut ahead)?;
+        let value = Self::from_der(header.element(&mut ahead)?)?;
+        *reader = ahead;
+        Ok(value)
+    }
 }
 
 /// A value that is written as DER.
@@ -163,6 +197,32 @@ pub trait Encode {
     /// # Ok::<(), sec1::der::Error>(())
     /// ```
     fn encode_to_slice<'b>(&self, buf: &'b mut [u8]) -> Result<&'b [u8]>;
+
+    /// Writes the encoding to a writer. The copy that is made first is wiped.
+    ///
+    /// # Errors
+    ///
+    /// [`ErrorKind::Overlength`], [`ErrorKind::Memory`] if there is no memory, and those of the
+    /// writer.
+    ///
+    /// # Examples
+    ///
+    /// ```
+    /// use sec1::der::{Encode, SliceWriter, asn1::ObjectIdentifier};
+    ///
+    /// let mut room = [0; 10];
+    /// let mut writer = SliceWriter::new(&mut room);
+    /// ObjectIdentifier::new("1.2")?.encode(&mut writer)?;
+    /// assert_eq!(writer.finish()?, [6, 1, 0x2A]);
+    /// # Ok::<(), sec1::der::Error>(())
+    /// ```
+    #[cfg(feature = "alloc")]
+    fn encode(&self, writer: &mut impl Writer) -> Result<()>
+    where
+        Self: Sized,
+    {
+        writer.write(SecretDocument::encode_msg(self)?.as_bytes())
+    }
 
     /// Appends the encoding to a vector, and returns its length. On an error the vector is as
     /// before.

@@ -3,7 +3,9 @@
 #[cfg(feature = "alloc")]
 use crate::der::SecretDocument;
 use crate::der::asn1::ObjectIdentifier;
-use crate::der::{self, Decode, Encode, ErrorKind, Length};
+use crate::der::{self, Decode, DecodeValue, Encode, ErrorKind, Header, Length, Reader};
+#[cfg(feature = "alloc")]
+use crate::der::{Element, EncodeValue, Sequence, Writer};
 use crate::raw::{self, Fields};
 use crate::{EcParameters, Error, Result};
 use core::fmt;
@@ -94,6 +96,31 @@ impl Encode for EcPrivateKey<'_> {
         buf.get(..len).ok_or(der::Error::of_kind(ErrorKind::Failed))
     }
 }
+
+impl<'a> DecodeValue<'a> for EcPrivateKey<'a> {
+    type Error = der::Error;
+
+    fn decode_value<R: Reader<'a>>(reader: &mut R, header: Header) -> der::Result<Self> {
+        Self::from_der(header.element(reader)?)
+    }
+}
+
+/// The content is taken from the encoding, which is wiped.
+#[cfg(feature = "alloc")]
+impl EncodeValue for EcPrivateKey<'_> {
+    fn value_len(&self) -> der::Result<Length> {
+        let document = SecretDocument::encode_msg(self)?;
+        Element::read(document.as_bytes())?.0.content().len().try_into()
+    }
+
+    fn encode_value(&self, writer: &mut impl Writer) -> der::Result<()> {
+        let document = SecretDocument::encode_msg(self)?;
+        writer.write(Element::read(document.as_bytes())?.0.content())
+    }
+}
+
+#[cfg(feature = "alloc")]
+impl<'a> Sequence<'a> for EcPrivateKey<'a> {}
 
 impl<'a> TryFrom<&'a [u8]> for EcPrivateKey<'a> {
     type Error = Error;

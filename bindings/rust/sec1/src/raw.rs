@@ -366,8 +366,48 @@ pub(crate) fn element_read(bytes: &[u8]) -> Result<(usize, usize), Status> {
     answer(status, (header_len, content_len))
 }
 
+/// Returns the length of the element with this tag and this content.
+pub(crate) fn element_len(tag: u8, content: &[u8]) -> Result<usize, Status> {
+    let (none, mut len): (&mut [u8], usize) = (&mut [], 0);
+    // SAFETY: each pointer and length are of one slice, `none` is borrowed by `&mut`, and `len` is
+    // a place of this function.
+    let status = unsafe {
+        sec1_element_write(
+            usize::from(tag),
+            content.as_ptr(),
+            content.len(),
+            none.as_mut_ptr(),
+            none.len(),
+            &mut len,
+        )
+    };
+    match status {
+        // There is no room for an element, and its length was stored.
+        SEC1_BUFFER => Ok(len),
+        status => answer(status, len),
+    }
+}
+
+/// Writes the element with this tag and this content at the beginning of `out`, and returns its
+/// length.
+pub(crate) fn element_write(tag: u8, content: &[u8], out: &mut [u8]) -> Result<usize, Status> {
+    let mut len = 0;
+    // SAFETY: each pointer and length are of one slice, `out` is borrowed by `&mut`, and `len` is a
+    // place of this function.
+    let status = unsafe {
+        sec1_element_write(
+            usize::from(tag),
+            content.as_ptr(),
+            content.len(),
+            out.as_mut_ptr(),
+            out.len(),
+            &mut len,
+        )
+    };
+    answer(status, len)
+}
+
 /// Returns the length of the one element that all of the bytes are.
-#[cfg(feature = "alloc")]
 pub(crate) fn document_len(bytes: &[u8]) -> Result<usize, Status> {
     let mut len = 0;
     // SAFETY: `bytes` is one slice, and `len` is a place of this function.

@@ -1,4 +1,8 @@
-//! Object identifiers (X.690 section 8.19).
+//! Object identifiers (X.690 section 8.19), and elements with any tag.
+
+mod any;
+
+pub use any::AnyRef;
 
 use super::{Error, ErrorKind, Result};
 use crate::raw;
