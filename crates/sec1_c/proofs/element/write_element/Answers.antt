@@ -15,4 +15,4 @@ pub returns : goal.returns
 returns c =
     let octets = header c.args.header.now.tag c.args.header.now.length in
     let whole = both_written octets c.args.content.now c.args.out.now c.split_at_mut-front.result.1.now (grind arith)
-        (grind arith) in grind (arith, whole)
+    (grind arith) in grind (arith, whole)
