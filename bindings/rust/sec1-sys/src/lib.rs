@@ -270,7 +270,8 @@ unsafe extern "C" {
     ///
     /// # Safety
     ///
-    /// `content` is readable for `content_len` bytes, and `field_len` is writable and overlaps none.
+    /// `content` is readable for `content_len` bytes, and `field_len` is writable and overlaps
+    /// none.
     pub fn sec1_curve_field_len(
         content: *const u8,
         content_len: usize,
