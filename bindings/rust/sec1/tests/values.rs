@@ -1,14 +1,14 @@
 //! Elements with their contents, one after the other, in readers and writers. The expected bytes
 //! are made by X.690 by hand.
 #![cfg(feature = "std")]
-#![allow(clippy::unwrap_used, clippy::indexing_slicing)]
+#![allow(clippy::unwrap_used, clippy::indexing_slicing, clippy::arithmetic_side_effects)]
 
 use sec1::der::asn1::{AnyRef, ObjectIdentifier};
 use sec1::der::{
-    Decode, DecodeValue, Element, Encode, EncodeValue, ErrorKind, FixedTag, Header, Reader, Result,
-    SliceReader, SliceWriter, Tag, Writer,
+    Decode, DecodeValue, Element, Encode, EncodeValue, ErrorKind, FixedTag, Header, Length, Reader,
+    Result, Sequence, SliceReader, SliceWriter, Tag, Writer,
 };
-use sec1::{EcParameters, EcPrivateKey};
+use sec1::{ALGORITHM_OID, Curve, EcParameters, EcPrivateKey};
 
 mod support;
 
@@ -192,4 +192,49 @@ fn tags_are_those_of_a_key() {
         assert_eq!(Tag::try_from(byte).unwrap_err().kind(), ErrorKind::Tag);
     }
     assert_eq!(format!("{:?}", AnyRef::from_der(&[4, 1, 9])), "Ok(AnyRef { tag: Tag(4), .. })");
+}
+
+/// The algorithm of a public key on a named curve (RFC 5480 section 2.1.1), as a program's own.
+#[derive(Debug, PartialEq)]
+struct Algorithm {
+    algorithm: ObjectIdentifier,
+    parameters: EcParameters,
+}
+
+impl<'a> DecodeValue<'a> for Algorithm {
+    type Error = sec1::der::Error;
+
+    fn decode_value<R: Reader<'a>>(reader: &mut R, _header: Header) -> Result<Self> {
+        Ok(Algorithm { algorithm: reader.decode()?, parameters: reader.decode()? })
+    }
+}
+
+impl EncodeValue for Algorithm {
+    fn value_len(&self) -> Result<Length> {
+        let len = |len: Length| u32::from(len) as usize;
+        (len(self.algorithm.encoded_len()?) + len(self.parameters.encoded_len()?)).try_into()
+    }
+
+    fn encode_value(&self, writer: &mut impl Writer) -> Result<()> {
+        self.algorithm.encode(writer)?;
+        self.parameters.encode(writer)
+    }
+}
+
+impl Sequence<'_> for Algorithm {}
+
+#[test]
+fn a_program_has_its_own_sequence() {
+    let content = [&[6, 7, 0x2A, 0x86, 0x48, 0xCE, 0x3D, 2, 1], &CURVE[..]].concat();
+    let element = [&[0x30, 19], &content[..]].concat();
+    let mut reader = SliceReader::new(&element).unwrap();
+    let header = Header::decode(&mut reader).unwrap();
+    assert_eq!(header.tag(), Algorithm::TAG);
+    let read = Algorithm::decode_value(&mut reader, header).unwrap();
+    let parameters = Curve::new("P-256").unwrap().into();
+    assert_eq!(read, Algorithm { algorithm: ALGORITHM_OID, parameters });
+    assert_eq!(read.value_len().map(u32::from), Ok(19));
+    let mut kept = Kept(vec![]);
+    read.encode_value(&mut kept).unwrap();
+    assert_eq!(AnyRef::new(Algorithm::TAG, &kept.0).unwrap().to_der(), Ok(element.clone()));
 }
