@@ -51,8 +51,42 @@ rust() {
         env SEC1_LIB_DIR="$work/none" cargo build --locked
     installed
     built
+    program
     check "unsafe code stands in one module" \
         test "$(grep -rl 'unsafe {' sec1/src sec1-sys/src)" = sec1/src/raw.rs
+}
+
+# The program that docs/DIFFERENCES.md has for the crate `sec1` prints the compressed form of the
+# point that README.md has, by the line of Cargo.toml that this package's README has.
+program() {
+    local x
+    mkdir -p "$work/program/src"
+    cd "$work/program" || return
+    {
+        printf '[package]\nname = "program"\nversion = "0.0.0"\nedition = "2024"\n'
+        sed -n '/^```toml$/,/^```$/{/^```/d;p}' "$here/rust/sec1/README.md" |
+            sed "s|path = \"[^\"]*\"|path = \"$work/bindings/rust/sec1\", features = [\"alloc\"]|"
+    } >Cargo.toml
+    {
+        sed -n '/^```rs$/,/^```$/{/^```/d;p}' "$top/docs/DIFFERENCES.md"
+        cat <<'END'
+
+fn main() -> Result<()> {
+    let key = std::fs::read("key.der").unwrap_or_default();
+    for byte in compressed_public_key(&key)? {
+        print!("{byte:02X}");
+    }
+    Ok(())
+}
+END
+    } >src/main.rs
+    python3 -c 'import sys; open("key.der", "wb").write(bytes.fromhex(sys.stdin.read()))' \
+        <"$top/crates/sec1_inspect/stdin"
+    # y is odd
+    x=$(sed -n 's/^ *public_key: 04\(.\{64\}\).*$/\1/p' "$top/README.md")
+    check "the program of docs/DIFFERENCES.md runs over the package for Rust" \
+        bash -c 'test "$(cargo run --offline --quiet)" = "$0"' "03$x"
+    cd "$work/bindings/rust" || return
 }
 
 # Puts the library where pkg-config finds it, and the crates where no folder beside them has it.
