@@ -53,7 +53,7 @@ sec1_identifier_from_text sec1_identifier_to_text sec1_key_fault_at sec1_key_len
 sec1_key_len_of sec1_key_read sec1_key_write sec1_key_write_of sec1_point_check \
 sec1_point_compare sec1_point_compress sec1_point_from_coordinates sec1_point_from_hex \
 sec1_point_identity sec1_point_len sec1_point_read sec1_point_to_hex sec1_point_to_hybrid \
-sec1_status_text sec1_tree_fault_at sec1_version"
+sec1_public_key_read sec1_status_text sec1_tree_fault_at sec1_version"
 same() { [[ $1 == "$2" ]] || { echo "  '$1' isn't '$2'"; false; }; }
 words() { echo $(printf '%s\n' "$@" | LC_ALL=C sort); }
 if command -v nm > "$work/null" && command -v ar > "$work/null"; then

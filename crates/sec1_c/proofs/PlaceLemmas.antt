@@ -12,7 +12,7 @@ use Rattle.sec1_c.specs.KeyPlaces.{ArePartsOf, AreWithin, content_len, key_place
 use Rattle.sec1_c.specs.declared.key.KeyParts.{KeyParts}
 
 -- what is between a front and a rest, by where the rest begins
-stands_before : (input front part rest : List ℕ) (end : ℕ) → input ≡ front ++ (part ++ rest) → end + length rest
+pub stands_before : (input front part rest : List ℕ) (end : ℕ) → input ≡ front ++ (part ++ rest) → end + length rest
     ≡ length input
     → StandsAt input (part_before end (Some (length part))) part
 stands_before input front part rest end split ends = grind (arith, take_at, drop_at, length-append)

@@ -13,3 +13,4 @@ pub mod Subidentifiers
 pub mod Documents
 pub mod FaultPlaces
 pub mod CurveContents
+pub mod PublicKeys

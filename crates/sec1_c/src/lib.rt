@@ -17,4 +17,5 @@ mod identifier;
 mod key;
 mod part;
 mod point;
+mod public_key;
 mod status;

@@ -11,7 +11,7 @@ ghost use Rattle.sec1_c.specs.PointOrders.{IsOrderOf, order_of};
 ghost use Rattle.sec1_c.specs.PointPlaces.{ArePointPartsOf, point_places};
 ghost use Rattle.sec1_c.specs.Statuses.{error_number, field_length_number};
 
-mod encoded;
+pub mod encoded;
 mod hexadecimal;
 mod made;
 

@@ -6,6 +6,7 @@ static uint8_t key[128], out[64];
 static char text[SEC1_IDENTIFIER_TEXT_MAX], name[SEC1_CURVE_NAME_MAX];
 static struct sec1_key_parts parts;
 static struct sec1_point_parts point;
+static struct sec1_public_key_parts public_key;
 static size_t len, other_len;
 static int32_t order;
 static const struct sec1_key given = {key, 32, NULL, 0, key, 65, 1};
@@ -25,6 +26,8 @@ uint32_t right_calls(size_t some)
     status |= sec1_key_len_of(&given, &len);
     status |= sec1_key_write_of(&given, out, sizeof out, &len);
     status |= sec1_key_write_of(&given, NULL, 0, &len);
+    status |= sec1_public_key_read(key, some, &public_key);
+    status |= sec1_public_key_read(NULL, 0, &public_key);
     status |= sec1_point_len(SEC1_POINT_COMPACT, 32, &len);
     status |= sec1_point_check(key, 65, 32);
     status |= sec1_point_check(NULL, 0, 32);
@@ -99,6 +102,8 @@ uint32_t wrong_call(size_t some)
     return sec1_point_identity(NULL, 1 + 0 * some, &len);
 #elif WRONG == 14
     return sec1_element_write(0x04, key, sizeof key + 1, out, some, &len);
+#elif WRONG == 15
+    return sec1_public_key_read(key, sizeof key + 1 + 0 * some, &public_key);
 #else
     return (uint32_t)some;
 #endif

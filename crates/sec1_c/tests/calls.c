@@ -271,6 +271,9 @@ static void test_header(void)
     EXPECT(offsetof(struct sec1_key_parts, private_key) == 0);
     EXPECT(offsetof(struct sec1_key_parts, curve) == 3 * sizeof(size_t));
     EXPECT(offsetof(struct sec1_key_parts, public_key) == 6 * sizeof(size_t));
+    EXPECT(sizeof(struct sec1_public_key_parts) == 6 * sizeof(size_t));
+    EXPECT(offsetof(struct sec1_public_key_parts, curve) == 0);
+    EXPECT(offsetof(struct sec1_public_key_parts, public_key) == 3 * sizeof(size_t));
     EXPECT(sizeof(struct sec1_point_parts) == 7 * sizeof(size_t));
     EXPECT(offsetof(struct sec1_point_parts, tag) == 0);
     EXPECT(offsetof(struct sec1_point_parts, x) == sizeof(size_t));
@@ -494,6 +497,120 @@ static void test_long_keys(void)
            len == 777777);
     EXPECT(all_are(out, 16, 0xEE));
     munmap(zeros, size + 16);
+}
+
+/* ---- public keys */
+
+static uint32_t read_public_key(struct bytes input, struct sec1_public_key_parts *parts)
+{
+    uint32_t status = 0;
+    for (enum side side = AT_END; side <= AT_START; side++) {
+        struct guarded in = map_input(input.data, input.len, side);
+        struct guarded out = map_guarded(sizeof *parts, side);
+        memset(out.data, 0xA5, sizeof *parts);
+        status =
+            sec1_public_key_read(in.data, input.len, (struct sec1_public_key_parts *)out.data);
+        memcpy(parts, out.data, sizeof *parts);
+        EXPECT(status == SEC1_OK || all_are(out.data, sizeof *parts, 0xA5));
+        unmap(in);
+        unmap(out);
+    }
+    return status;
+}
+
+#define EC_KEY "06072A8648CE3D0201"
+#define ON_P256 "3013" EC_KEY "06082A8648CE3D030107"
+#define P521_POINT                                                                                 \
+    "04019E6506DFDFCE91794A56A2BF91BC337769ED96013D8F790448557068A14FB2C5055EF690E8B8AFF28F6686E9" \
+    "9D794455248F6E86DFF5FD34E45A0FA32913061CF9014E2673AF92BEA9CA0E035D0EDE8021BE953550E46CF1B8F5" \
+    "9AB23C392CBCBBE5253011331D53A4FECFB4E31762F1152F9D65273B09D1C7AB73ABAFA32AD86B3605"
+
+/* What `openssl ec -pubout` of OpenSSL 3.0 writes of the key above, in each form of the point, and
+ * of keys on other curves. */
+static const struct public_key {
+    const char *bytes;
+    size_t curve_at, curve_len, key_at, key_len;
+} public_keys[] = {
+    {"3059" ON_P256 "03420004" X Y, 15, 8, 26, 65},
+    {"3039" ON_P256 "03220003" X, 15, 8, 26, 33},
+    {"3059" ON_P256 "03420007" X Y, 15, 8, 26, 65},
+    {"30819B3010" EC_KEY "06052B81040023" "03818600" P521_POINT, 16, 5, 25, 133},
+    {"30563010" EC_KEY "06052B8104000A"
+     "03420004D190D497D2A79A4FAA101E3EA5514AD4ABD6052716C555D1D40BF0C94A69BE56"
+     "1DEDEC4DBBDE0922A65CF152841ABA263B0EF68649FF80D75C7800B2F3B457F0", 15, 5, 23, 65},
+    {"306A3014" EC_KEY "06092B2403030208010109"
+     "03520004931C9E7936E1D183FC98210898EEDDF0DECC2FA43A81232B284124240F574C84AEA50AA905F2A5D5"
+     "3CE93E50B9E2B1C062A28289065FDE87CE5976653C812E5449FCA1710929925A31D9EE3DFEA667C8",
+     15, 9, 27, 81},
+    {"30323010" EC_KEY "06052B81040006"
+     "031E0004AA8DB83E5B08A7CB99F9BBCB08B578656E2DE9814F2134985DFD16E4", 15, 5, 23, 29},
+};
+
+/* Keys that OpenSSL writes on a curve over a binary field, on one by its parameters, for Ed25519,
+ * X25519 and RSA; and, by hand, for id-ecDH (RFC 5480 section 2.1.2), with no parameters, with
+ * NULL, keys that are no points, and records that aren't in DER. */
+static const struct no_public_key {
+    const char *bytes;
+    uint32_t status;
+} no_public_keys[] = {
+    {"30403010" EC_KEY "06052B81040001"
+     "032C000407A6E2883CA7910E92DA6E75EF0C4A4CD52AFC74D4017219FE8147237B8AD83F992160A5107756152A4D",
+     SEC1_CURVE},
+    {"3082014B30820103" EC_KEY "3081F7020101302C06072A8648CE3D0101022100FFFFFFFF00000001"
+     "000000000000000000000000FFFFFFFFFFFFFFFFFFFFFFFF305B0420FFFFFFFF00000001000000000000"
+     "000000000000FFFFFFFFFFFFFFFFFFFFFFFC04205AC635D8AA3A93E7B3EBBD55769886BC651D06B0CC53"
+     "B0F63BCE3C3E27D2604B031500C49D360886E704936A6678E1139D26B7819F7E900441046B17D1F2E12C"
+     "4247F8BCE6E563A440F277037D812DEB33A0F4A13945D898C2964FE342E2FE1A7F9B8EE7EB4A7C0F9E16"
+     "2BCE33576B315ECECBB6406837BF51F5022100FFFFFFFF00000000FFFFFFFFFFFFFFFFBCE6FAADA7179E"
+     "84F3B9CAC2FC632551020101" "03420004" X Y, SEC1_CURVE},
+    {"302A300506032B6570032100FE521583BBAB274CC8D7643AB06061FC94417696801C8B8DACCBDD4EBFC54688",
+     SEC1_CURVE},
+    {"302A300506032B656E03210072836C3B7E257883ACBBBDB56E378367B05DAF77EEBBB99487AE97180B052B5E",
+     SEC1_CURVE},
+    {"305C300D06092A864886F70D0101010500034B003048024100AA0A734FF86335795DBD4D9F04CE1C2A4A91A765"
+     "26DA30120248E40B29D53DD32521224FA531DAD3513158DBD6E608E3B78862139BB352706C625F93CDBAAB65"
+     "0203010001", SEC1_CURVE},
+    {"30573011" "06052B8104010C" "06082A8648CE3D030107" "03420004" X Y, SEC1_CURVE},
+    {"304F3009" EC_KEY "03420004" X Y, SEC1_CURVE},
+    {"3051300B" EC_KEY "0500" "03420004" X Y, SEC1_CURVE},
+    {"3018" ON_P256 "030100", SEC1_POINT_ENCODING},
+    {"3059" ON_P256 "03420005" X Y, SEC1_POINT_ENCODING},
+    {"3059" ON_P256 "03420006" X Y, SEC1_POINT_ENCODING},
+    {"3058" ON_P256 "0341" "00" X Y, SEC1_POINT_ENCODING},
+    {"3038" ON_P256 "0321" "00" X, SEC1_POINT_ENCODING},
+    {"3038" ON_P256 "0321" "01" X, SEC1_VALUE},
+    {"301A" ON_P256 "0303010500", SEC1_POINT_ENCODING},
+    {"3019" ON_P256 "03020800", SEC1_VALUE},
+    {"3017" ON_P256 "0300", SEC1_VALUE},
+    {"3059" ON_P256 "04420004" X Y, SEC1_TAG},
+    {"3159" ON_P256 "03420004" X Y, SEC1_TAG},
+    {"308159" ON_P256 "03420004" X Y, SEC1_LENGTH},
+    {"3059" ON_P256 "03420004" X Y "00", SEC1_TRAILING_DATA},
+    {"305A" ON_P256 "03420004" X Y "00", SEC1_TRAILING_DATA},
+    {"302B300506032B6570032100FE521583BBAB274CC8D7643AB06061FC94417696801C8B8DACCBDD4EBFC5468800",
+     SEC1_TRAILING_DATA},
+    {"", SEC1_TRUNCATED},
+};
+
+static void test_public_keys(void)
+{
+    struct sec1_public_key_parts p;
+    for (size_t i = 0; i < sizeof public_keys / sizeof *public_keys; i++) {
+        const struct public_key *k = &public_keys[i];
+        struct bytes key = unhex(k->bytes);
+        EXPECT(read_public_key(key, &p) == SEC1_OK);
+        EXPECT(p.curve.present == 1 && p.curve.offset == k->curve_at && p.curve.len == k->curve_len);
+        EXPECT(p.public_key.present == 1 && p.public_key.offset == k->key_at &&
+               p.public_key.len == k->key_len);
+        EXPECT(read_public_key(joined(key, repeated(0, 1)), &p) == SEC1_TRAILING_DATA);
+        for (struct bytes cut = key; cut.len-- > 0;)
+            EXPECT(read_public_key(cut, &p) == SEC1_TRUNCATED);
+    }
+    EXPECT(read_public_key(unhex("3019" ON_P256 "03020000"), &p) == SEC1_OK &&
+           p.public_key.offset == 26 && p.public_key.len == 1);
+    for (size_t i = 0; i < sizeof no_public_keys / sizeof *no_public_keys; i++)
+        EXPECT(read_public_key(unhex(no_public_keys[i].bytes), &p) == no_public_keys[i].status);
+    EXPECT(sec1_public_key_read(NULL, 0, &p) == SEC1_TRUNCATED);
 }
 
 /* ---- points */
@@ -1399,6 +1516,7 @@ int main(void)
         {"refused keys", test_refused_keys},
         {"written keys", test_written_keys},
         {"long keys", test_long_keys},
+        {"public keys", test_public_keys},
         {"points", test_points},
         {"made points", test_made_points},
         {"identifiers", test_identifiers},

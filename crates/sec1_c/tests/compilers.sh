@@ -57,7 +57,7 @@ done
 for compiler in gcc clang; do
     has $compiler || continue
     last=5
-    echo '__has_attribute(access)' | $compiler -E - 2> "$work/null" | grep -qx 1 && last=14
+    echo '__has_attribute(access)' | $compiler -E - 2> "$work/null" | grep -qx 1 && last=15
     for wrong in $(seq 0 $last); do
         found=$(warnings $compiler -std=c99 -O2 -Wall -Wextra -DWRONG="$wrong" -I "$include" \
             -c -o "$work/calls.o" attributes.c)

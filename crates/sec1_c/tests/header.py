@@ -4,7 +4,8 @@ import re
 import sys
 
 ROOT = pathlib.Path(__file__).resolve().parent.parent
-STRUCTS = {"Part": "struct sec1_part", "KeyParts": "struct sec1_key_parts", "PointParts": "struct sec1_point_parts"}
+STRUCTS = {"Part": "struct sec1_part", "KeyParts": "struct sec1_key_parts", "PointParts": "struct sec1_point_parts",
+           "PublicKeyParts": "struct sec1_public_key_parts"}
 # What the header alone has: a struct whose members are given to a call by inline functions.
 UNPROVED = {"struct sec1_key", "sec1_key_len_of", "sec1_key_write_of"}
 NUMBERS = {"usize": "size_t", "u32": "uint32_t", "i32": "int32_t"}

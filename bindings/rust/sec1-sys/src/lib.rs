@@ -77,6 +77,16 @@ pub struct sec1_key_parts {
     pub public_key: sec1_part,
 }
 
+/// The places of a public key's parts in its bytes, both always present.
+#[repr(C)]
+#[derive(Clone, Copy, Debug, Default, Eq, PartialEq)]
+pub struct sec1_public_key_parts {
+    /// The content of the curve's object identifier.
+    pub curve: sec1_part,
+    /// The encoding of the point.
+    pub public_key: sec1_part,
+}
+
 /// The tag of a point, and the places of its coordinates.
 #[repr(C)]
 #[derive(Clone, Copy, Debug, Default, Eq, PartialEq)]
@@ -370,5 +380,15 @@ unsafe extern "C" {
         out: *mut u8,
         out_len: usize,
         len: *mut usize,
+    ) -> u32;
+    /// Reads an EC public key from its SubjectPublicKeyInfo, and stores the places of its parts.
+    ///
+    /// # Safety
+    ///
+    /// `bytes` is readable for `bytes_len` bytes, and `parts` is writable and overlaps none.
+    pub fn sec1_public_key_read(
+        bytes: *const u8,
+        bytes_len: usize,
+        parts: *mut sec1_public_key_parts,
     ) -> u32;
 }
