@@ -753,7 +753,8 @@ fn record_lines<'a>() -> Vec<Line<'a>> {
     ]
 }
 
-/// What `f` is given: the bytes, their beginnings, one byte more, and a copy for each byte with another value.
+/// What `f` is given: the bytes, their prefixes, one byte more, and a copy for each byte with
+/// another value.
 fn damaged(bytes: &[u8], mut f: impl FnMut(&[u8])) {
     (0..=bytes.len()).for_each(|len| f(&bytes[..len]));
     f(&[bytes, &[0]].concat());

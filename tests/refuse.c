@@ -1,8 +1,8 @@
-/* An allocator that refuses, laid under a program that was built (LD_PRELOAD).
+/* An allocator that refuses, preloaded into a built program (LD_PRELOAD).
  *
  * Tests: a request of 2^62 bytes and more takes no memory, and is a signal. Below, MORE is what it has above that.
  *   MORE from 1 to 0xFFFF        counting begins anew; the request of this number is refused, the next one being 1
- *   MORE 0x10000 and a count     granted exactly where so many requests were made since, and none was refused; counting ends
+ *   MORE 0x10000 and a count     granted if that number of requests was made since, and none was refused; counting ends
  *   MORE 0x20000 and a size      granted exactly where none of these requests was larger; counting ends
  *   MORE 0x30000                 granted exactly where one of them was refused; counting ends
  *

@@ -46,7 +46,7 @@ def sum_of(data):
 
 
 def doublings(count):
-    """How often a text that grows from 8 bytes is made larger until it has so many."""
+    """How often a text that grows from 8 bytes is made larger until it has this length."""
     steps, room = 1, 8
     while room < count:
         steps, room = steps + 1, 2 * room

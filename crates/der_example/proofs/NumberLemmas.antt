@@ -5,8 +5,8 @@ use Rattle.sec1_der.specs.Contents.{value_unless}
 use Rattle.sec1_der.specs.Elements.{element, element_of}
 use Rattle.sec1_der.specs.ElementLaws.{element_of-some}
 use Rattle.sec1_der.specs.PartLaws.{parted}
-use Rattle.sec1_der.specs.RefusalLaws.{element_at}
-use Rattle.sec1_der.specs.Refusals.{Fault}
+use Rattle.sec1_der.specs.FaultLaws.{element_at}
+use Rattle.sec1_der.specs.Faults.{Fault}
 use Rattle.der_types.specs.Integers.{is_unsigned, unsigned_content}
 use Rattle.der_types.specs.IntegerLaws.{is_unsigned-unsigned_content}
 use Rattle.der_types.specs.Leaves.{content_if}

@@ -9,7 +9,7 @@ ghost use Rattle.sec1.specs.Der.{header_fault, IsElementOf, IsHeader, IsHeaderFa
 ghost use Rattle.sec1.specs.Der.{Refuses};
 ghost use Rattle.sec1.specs.Errors.{IsAsn1ReadingFault};
 ghost use Rattle.sec1.specs.Keys.{Key, IsKeyOf};
-ghost use Rattle.sec1.specs.Der.{IsProperBeginning};
+ghost use Rattle.sec1.specs.Der.{IsProperPrefix};
 
 use sec1::der::{self, AnyRef, ErrorKind, OctetStringRef, SecretDocument, SliceReader, Tag};
 use sec1::{EcPrivateKey, Error, Result};
@@ -62,7 +62,7 @@ pub fn first_content(bytes: &[u8]) -> der::Result<&[u8]>
 /// Reads an octet string. One that ends too early is refused as Truncated.
 pub fn octets_at(bytes: &[u8]) -> der::Result<OctetStringRef<'_>>
     ensures short { (content : List ℕ) → length content ≤ max_length
-        → IsProperBeginning bytes.now (element 0x04 content)
+        → IsProperPrefix bytes.now (element 0x04 content)
         → Refuses result ErrorKind.Truncated }
 {
     der::laws::cut_elements();

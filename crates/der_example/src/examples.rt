@@ -5,7 +5,7 @@ ghost use Rattle.std.specs.Option.{option_map};
 ghost use Rattle.der_example.specs.KeyReading.{curve_key, IsPrivateKeyOf};
 ghost use Rattle.der_example.specs.PrivateKeys.{PrivateKey};
 ghost use Rattle.sec1.specs.HexTexts.{IsHexOf};
-ghost use Rattle.sec1.specs.KeyRefusals.{key_fault};
+ghost use Rattle.sec1.specs.KeyFaults.{key_fault};
 ghost use Rattle.sec1.specs.Keys.{Key, IsKeyOf};
 ghost use Rattle.sec1.specs.Parameters.{curve_of};
 ghost use Rattle.sec1.specs.Points.{IsPoint, Point, compressed_point, encoding};

@@ -5,11 +5,11 @@ use Rattle.std.specs.Prelude.{option_map}
 use Rattle.std.specs.Option.{option_or}
 use Rattle.sec1_der.specs.Contents.{byte_fault, identifier_fault, bit_string_fault, whole_bits_fault}
 use Rattle.sec1_der.specs.Contents.{whole_bits_field_fault}
-use Rattle.sec1_der.specs.Faults.{is_tag}
-use Rattle.sec1_der.specs.Refusals as r
+use Rattle.sec1_der.specs.ErrorKinds.{is_tag}
+use Rattle.sec1_der.specs.Faults as r
 use Rattle.sec1_der.specs.Trees.{max_tree_depth}
 use Rattle.sec1_der.specs.declared.error.ErrorKind.{ErrorKind}
-use Rattle.sec1.specs.KeyRefusals.{key_fault}
+use Rattle.sec1.specs.KeyFaults.{key_fault}
 use Rattle.der_faults.specs.declared.Fault.{Fault}
 use Rattle.der_faults.specs.Places.{Place, before, at_first, end_place, parts_place, element_place, optional_place}
 use Rattle.der_faults.specs.Places.{any_place, nested_place, row_place, tree_place, whole_bits_field_place}

@@ -5,9 +5,9 @@ use Rattle.std.specs.Prelude.{Result, Ok, Err}
 use Rattle.std.specs.Option.{option_or}
 use Rattle.sec1_der.specs.Contents.{byte_fault, identifier_fault, bit_string_fault}
 use Rattle.sec1_der.specs.Contents.{whole_bits_fault}
-use Rattle.sec1_der.specs.Faults.{is_tag}
-use Rattle.sec1_der.specs.Refusals.{no_fault, length_at, within, is_next}
-use Rattle.sec1_der.specs.Refusals as refusals
+use Rattle.sec1_der.specs.ErrorKinds.{is_tag}
+use Rattle.sec1_der.specs.Faults.{no_fault, length_at, within, is_next}
+use Rattle.sec1_der.specs.Faults as faults
 use Rattle.sec1_der.specs.Trees.{max_tree_depth}
 use Rattle.sec1_der.specs.declared.error.ErrorKind.{ErrorKind}
 use Rattle.sec1_der.specs.declared.error.ErrorKind.TheVariants.{Truncated, Tag, Depth}
@@ -22,12 +22,12 @@ abbrev pub before : ℕ → List ℕ → ErrorKind → Fault
 before end left kind = record { offset = end - length left; kind = kind }
 
 -- at the first byte, by a kind of the whole
-abbrev pub at_first : refusals.Fault → Place
+abbrev pub at_first : faults.Fault → Place
 at_first fault end bytes = option_map (before end bytes) (fault bytes)
 
 -- at the first byte behind the end
 abbrev pub end_place : Place
-end_place = at_first refusals.end_fault
+end_place = at_first faults.end_fault
 
 -- at the length, in the content, or in the bytes after it, in this order
 abbrev pub parts_place : Place → Place → ℕ → List ℕ

@@ -1,7 +1,7 @@
 //! The place at which a key is refused.
 ghost use Rattle.std.specs.Prelude.{◌≡◌, ◌≤◌, length, Some, None, IfOk, IfSome, MatchResult};
 ghost use Rattle.std.specs.Prelude.{option_map};
-ghost use Rattle.sec1.specs.KeyRefusals as refusals;
+ghost use Rattle.sec1.specs.KeyFaults as faults;
 ghost use Rattle.der_faults.specs.Places.{Place, components_place, element_place, end_place};
 ghost use Rattle.der_faults.specs.Places.{at_first, key_place, optional_place};
 ghost use Rattle.der_faults.specs.Places.{whole_bits_field_place};
@@ -17,7 +17,7 @@ pub fn key_fault(bytes: &[u8]) -> Option<Fault>
     // Where the fault lies is a function of the bytes.
     ensures place { result ≡ key_place bytes.now }
     // There is one exactly where the bytes are refused as a key's, and it is of the same kind.
-    ensures kind { option_map (λ fault. fault.kind) result ≡ refusals.key_fault bytes.now }
+    ensures kind { option_map (λ fault. fault.kind) result ≡ faults.key_fault bytes.now }
     ensures within { IfSome result (λ fault. fault.offset ≤ length bytes.now) }
 {
     check_key(bytes).err()

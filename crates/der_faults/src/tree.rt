@@ -1,7 +1,7 @@
 //! The place at which a tree is refused.
 ghost use Rattle.std.specs.Prelude.{◌≡◌, ◌≤◌, ℕ, length, Some, None, IfSome, MatchResult};
 ghost use Rattle.std.specs.Prelude.{◌==◌, bit_and, not, option_map};
-ghost use Rattle.sec1_der.specs.Refusals as refusals;
+ghost use Rattle.sec1_der.specs.Faults as faults;
 ghost use Rattle.der_faults.specs.Places.{nested_place, row_place, tree_place};
 
 use crate::Fault;
@@ -15,7 +15,7 @@ pub fn tree_fault(bytes: &[u8]) -> Option<Fault>
     // Where the fault lies is a function of the bytes.
     ensures place { result ≡ tree_place bytes.now }
     // There is one exactly where `check_tree` refuses the bytes, and it is of the same kind.
-    ensures kind { option_map (λ fault. fault.kind) result ≡ refusals.tree_fault bytes.now }
+    ensures kind { option_map (λ fault. fault.kind) result ≡ faults.tree_fault bytes.now }
     ensures within { IfSome result (λ fault. fault.offset ≤ length bytes.now) }
 {
     check_tree(bytes).err()

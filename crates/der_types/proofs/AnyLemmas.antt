@@ -6,16 +6,16 @@ use Rattle.std.proofs.Math.Seq.{drop-append_seam}
 use Rattle.std.proofs.lemmas.Bool.{and_parts, lt-ltb, ltb-true}
 use Rattle.std.proofs.lemmas.Slice.Eq.{bytes_eq-Decides}
 use Rattle.sec1_der.specs.Elements.{max_length, length_octets, element, IsTag, IsHeader, IsElement}
-use Rattle.sec1_der.specs.Faults.{is_tag}
+use Rattle.sec1_der.specs.ErrorKinds.{is_tag}
 use Rattle.sec1_der.specs.Parts.{AreApart, is_among}
 use Rattle.sec1_der.specs.Readers.{Reader, HasRead}
-use Rattle.sec1_der.specs.Refusals.{Fault, no_fault, any_fault, parts_fault, within, length_at}
+use Rattle.sec1_der.specs.Faults.{Fault, no_fault, any_fault, parts_fault, within, length_at}
 use Rattle.sec1_der.specs.declared.error.Error.{Error}
 use Rattle.sec1_der.specs.declared.error.ErrorKind.{ErrorKind}
 use Rattle.sec1_der.specs.declared.error.ErrorKind.TheVariants.{Tag}
 use Rattle.sec1_der.specs.ElementLaws.{is_tag-true}
 use Rattle.sec1_der.specs.LengthLaws.{number_spelled}
-use Rattle.sec1_der.specs.RefusalLaws.{any_at}
+use Rattle.sec1_der.specs.FaultLaws.{any_at}
 use Rattle.sec1_der.specs.ElementLaws.{tag_from_test}
 use Rattle.sec1_der.specs.ElementLaws.{element_apart}
 use Rattle.sec1_der.specs.Values.{tag_of, value_of}

@@ -4,12 +4,12 @@ use Rattle.std.proofs.Common.{Some, None, IsSomeAnd, IfOk, refl, ap, sym, ◌∙
 use Rattle.std.proofs.lemmas.List.{length-take}
 use Rattle.sec1_der.specs.Elements.{max_length, element, element_of}
 use Rattle.sec1_der.specs.Readers.{Reader, reader_over, HasReadElement}
-use Rattle.sec1_der.specs.Refusals.{Fault, HasFault, no_fault, element_fault}
+use Rattle.sec1_der.specs.Faults.{Fault, HasFault, no_fault, element_fault}
 use Rattle.sec1_der.specs.declared.error.Error.{Error}
 use Rattle.sec1_der.specs.declared.error.ErrorKind.{ErrorKind}
 use Rattle.der_types.specs.Rows.{joined, elements_fault, row_fault}
-use Rattle.sec1_der.specs.RefusalLaws.{refused_more}
-use Rattle.sec1_der.specs.RefusalLaws.{reads_on, reader_at}
+use Rattle.sec1_der.specs.FaultLaws.{refused_more}
+use Rattle.sec1_der.specs.FaultLaws.{reads_on, reader_at}
 use Rattle.sec1_der.specs.PartLaws.{parted}
 use Rattle.sec1_der.specs.ElementLaws.{element_of-some, element_of-within}
 

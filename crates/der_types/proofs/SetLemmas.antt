@@ -6,13 +6,13 @@ use Rattle.std.proofs.Math.Seq.{take-append_seam, drop-append_seam}
 use Rattle.std.specs.Cmp.Lexicographic.{slice_cmp, slice_partial_cmp, lists_agrees}
 use Rattle.std.specs.Ordering.{is_le, is_gt, is_some_and, nat_cmp}
 use Rattle.sec1_der.specs.Elements.{max_length, length_octets, element, IsHeader}
-use Rattle.sec1_der.specs.Faults.{is_tag}
+use Rattle.sec1_der.specs.ErrorKinds.{is_tag}
 use Rattle.sec1_der.specs.Readers.{Reader, HasRead}
-use Rattle.sec1_der.specs.Refusals.{no_fault, any_fault, parts_fault, within, length_at}
+use Rattle.sec1_der.specs.Faults.{no_fault, any_fault, parts_fault, within, length_at}
 use Rattle.sec1_der.specs.declared.error.ErrorKind.{ErrorKind}
 use Rattle.sec1_der.specs.declared.error.ErrorKind.TheVariants.{Tag}
 use Rattle.sec1_der.specs.ElementLaws.{is_tag-true}
-use Rattle.sec1_der.specs.RefusalLaws.{length_at_spelled}
+use Rattle.sec1_der.specs.FaultLaws.{length_at_spelled}
 use Rattle.der_types.specs.Sets.{element_behind, first_element, is_at_most, ascends, is_ascending}
 
 -- the length that bytes begin with, and the content behind it, are found

@@ -3,7 +3,7 @@
 use Rattle.std.specs.Prelude.{◌++◌, ◌∷◌, [], ◌||◌, ◌&&◌, ℕ, List, Bool, true, false, Option, Some}
 use Rattle.std.specs.Prelude.{None, if◌then◌else◌}
 use Rattle.sec1_der.specs.Parts.{Tags, is_among, disjoint}
-use Rattle.sec1_der.specs.Refusals.{Fault}
+use Rattle.sec1_der.specs.Faults.{Fault}
 use Rattle.der_types.specs.declared.choice.Choice.{Choice}
 use Rattle.der_types.specs.declared.choice.Choice.TheVariants.{First, Second}
 

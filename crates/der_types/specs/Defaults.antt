@@ -7,7 +7,7 @@ use Rattle.sec1_der.specs.Contents.{value_unless}
 use Rattle.sec1_der.specs.Elements.{element_of}
 use Rattle.sec1_der.specs.Parts.{Begins, optional_tag}
 use Rattle.sec1_der.specs.PartLaws.{optional_begins}
-use Rattle.sec1_der.specs.Refusals.{Fault}
+use Rattle.sec1_der.specs.Faults.{Fault}
 
 -- whether a content is that of the default value
 abbrev pub is_default : List ℕ → Option (List ℕ) → Bool

@@ -3,7 +3,7 @@ use Rattle.std.specs.Prelude.{ℕ, zero, suc, Bool, true, false, List, [], ◌�
 use Rattle.std.specs.Prelude.{None, if◌then◌else◌}
 use Rattle.sec1_der.specs.Elements.{element_of}
 use Rattle.sec1_der.specs.Parts.{join}
-use Rattle.sec1_der.specs.Refusals.{Fault, element_fault}
+use Rattle.sec1_der.specs.Faults.{Fault, element_fault}
 use Rattle.sec1_der.specs.declared.error.ErrorKind.{ErrorKind}
 
 -- X.690 section 8.10.2: the elements of values, in their order

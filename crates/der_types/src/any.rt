@@ -2,10 +2,10 @@
 ghost use Rattle.std.specs.Prelude.{◌≡◌, ◌≤◌, ◌++◌, ℕ, List, length, false, true, refl, IsOk, IfOk};
 ghost use Rattle.std.specs.Prelude.{IfErr, OnOk, OnErr};
 ghost use Rattle.sec1_der.specs.Elements.{element, IsHeader, IsElement};
-ghost use Rattle.sec1_der.specs.Faults.{IsReadingFault, Refuses};
+ghost use Rattle.sec1_der.specs.ErrorKinds.{IsReadingFault, Refuses};
 ghost use Rattle.sec1_der.specs.Parts.{is_among, AreApart};
 ghost use Rattle.sec1_der.specs.Readers.{reader_over, HasRead};
-ghost use Rattle.sec1_der.specs.Refusals.{Fault, HasFault, end_fault};
+ghost use Rattle.sec1_der.specs.Faults.{Fault, HasFault, end_fault};
 ghost use Rattle.sec1_der.specs.Values.{tag_of, value_of};
 ghost use Rattle.der_types.specs.AnyElements.{first_byte, all_tags, any_of, any_tags};
 ghost use Rattle.der_types.specs.AnyElements.{any_element_fault};

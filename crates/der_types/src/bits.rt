@@ -3,7 +3,7 @@ ghost use Rattle.std.specs.Prelude.{◌≡◌, ◌∷◌, ◌<◌, ◌≤◌, �
 ghost use Rattle.std.specs.Prelude.{IsOk, IfOk, IfErr, IsSome, IfSome};
 ghost use Rattle.sec1_der.specs.Contents.{AreBits, is_bit_string, bit_string_fault};
 ghost use Rattle.sec1_der.specs.Elements.{max_length};
-ghost use Rattle.sec1_der.specs.Faults.{Refuses};
+ghost use Rattle.sec1_der.specs.ErrorKinds.{Refuses};
 ghost use Rattle.der_types.specs.BitStrings.{BitString, bit_string_content};
 ghost use Rattle.der_types.specs.Leaves.{content_if, passes-content_if};
 

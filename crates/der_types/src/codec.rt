@@ -1,8 +1,8 @@
 //! A part that is read alone.
 ghost use Rattle.std.specs.Prelude.{◌≡◌, ◌≤◌, List, ℕ, length, Some, true, IfOk, IfErr};
 ghost use Rattle.sec1_der.specs.Elements.{max_length};
-ghost use Rattle.sec1_der.specs.Faults.{IsReadingFault};
-ghost use Rattle.sec1_der.specs.Refusals.{HasFault, end_fault};
+ghost use Rattle.sec1_der.specs.ErrorKinds.{IsReadingFault};
+ghost use Rattle.sec1_der.specs.Faults.{HasFault, end_fault};
 
 use sec1_der::{DecodePart, Result, SliceReader, UniquePart};
 

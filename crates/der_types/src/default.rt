@@ -1,7 +1,7 @@
 //! A component with a default value (X.690 section 11.5).
 ghost use Rattle.std.specs.Prelude.{◌≡◌, ◌↔◌, ℕ, List, Some, IsTrue};
 ghost use Rattle.sec1_der.specs.Parts.{optional_tag};
-ghost use Rattle.sec1_der.specs.Refusals.{optional_fault};
+ghost use Rattle.sec1_der.specs.Faults.{optional_fault};
 ghost use Rattle.der_types.specs.Defaults.{defaulted_of, defaulted_begins, other_content};
 ghost use Rattle.der_types.specs.Defaults.{other_fault};
 

@@ -41,7 +41,7 @@ pub fn signed_integers()
 {}
 
 /// The contents of numbers where these take one byte more.
-pub fn spelled_integers()
+pub fn example_integers()
     ensures zero { signed_content (pos 0) ≡ 0x00 ∷ [] }
     ensures greatest_of_one { signed_content (pos 127) ≡ 0x7F ∷ [] }
     ensures least_of_two { signed_content (pos 128) ≡ 0x00 ∷ 0x80 ∷ [] }

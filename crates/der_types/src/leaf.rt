@@ -2,7 +2,7 @@
 ghost use Rattle.std.specs.Prelude.{◌≡◌, ℕ, List, true, Some, IfOk};
 ghost use Rattle.der_types.specs.Leaves.{content_if, new_fault, passes-content_if};
 ghost use Rattle.sec1_der.specs.Contents.{value_unless};
-ghost use Rattle.sec1_der.specs.Refusals.{HasFault};
+ghost use Rattle.sec1_der.specs.Faults.{HasFault};
 
 use crate::kind::{self, Kind};
 use sec1_der::{

@@ -2,8 +2,8 @@
 ghost use Rattle.std.specs.Prelude.{◌≡◌, ◌<◌, ◌++◌, ◌∷◌, ℕ, List, [], length, Some, None, false};
 ghost use Rattle.std.specs.Prelude.{Ok, IsOk, IfOk, IfErr, OnOk, IsSome, IfSome, IfNone, IsSomeAnd};
 ghost use Rattle.sec1_der.specs.Elements.{element_of};
-ghost use Rattle.sec1_der.specs.Faults.{IsReadingFault};
-ghost use Rattle.sec1_der.specs.Refusals.{HasFault};
+ghost use Rattle.sec1_der.specs.ErrorKinds.{IsReadingFault};
+ghost use Rattle.sec1_der.specs.Faults.{HasFault};
 ghost use Rattle.der_types.specs.Rows.{joined, row_fault, row_of};
 
 use sec1_der::{

@@ -1,7 +1,7 @@
 //! SET OF (X.690 sections 8.12 and 11.6).
 ghost use Rattle.std.specs.Prelude.{◌≡◌, ℕ, List, Some, None, true, Ok, IfOk, IfErr, OnOk};
-ghost use Rattle.sec1_der.specs.Faults.{IsReadingFault};
-ghost use Rattle.sec1_der.specs.Refusals.{HasFault};
+ghost use Rattle.sec1_der.specs.ErrorKinds.{IsReadingFault};
+ghost use Rattle.sec1_der.specs.Faults.{HasFault};
 ghost use Rattle.der_types.specs.Rows.{joined, row_fault};
 ghost use Rattle.der_types.specs.Sets.{is_ascending, set_fault, set_of};
 

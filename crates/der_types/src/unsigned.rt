@@ -4,7 +4,7 @@ ghost use Rattle.std.specs.Prelude.{IsSome, IfSome, MatchOption};
 ghost use Rattle.std.specs.Int.Digits.{digits_of};
 ghost use Rattle.sec1_der.specs.Contents.{value_unless};
 ghost use Rattle.sec1_der.specs.Numbers.{number_of};
-ghost use Rattle.sec1_der.specs.Refusals.{HasFault};
+ghost use Rattle.sec1_der.specs.Faults.{HasFault};
 ghost use Rattle.der_types.specs.Integers.{is_unsigned, unsigned_content};
 ghost use Rattle.der_types.specs.IntegerLaws.{is_unsigned-unsigned_content};
 ghost use Rattle.der_types.specs.Leaves.{new_fault, passes-same};

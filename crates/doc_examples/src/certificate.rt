@@ -1,7 +1,7 @@
 ghost use Rattle.pkix.specs.Records.{certificate_content, certificate_fault};
 ghost use Rattle.pkix.specs.declared.certificate.Certificate.{Certificate};
 ghost use Rattle.sec1_der.specs.Elements.{element_of};
-ghost use Rattle.sec1_der.specs.Refusals.{HasFault, element_fault, end_fault};
+ghost use Rattle.sec1_der.specs.Faults.{HasFault, element_fault, end_fault};
 ghost use Rattle.std.specs.Prelude.{◌≡◌, IfOk, Ok, Some};
 
 use pkix::Certificate;

@@ -1,7 +1,7 @@
 ghost use Rattle.sec1_der.specs.Elements.{element_of};
 ghost use Rattle.sec1_der.specs.PartLaws.{element_begins};
 ghost use Rattle.sec1_der.specs.Parts.{AreApart, one_tag};
-ghost use Rattle.sec1_der.specs.Refusals.{element_fault};
+ghost use Rattle.sec1_der.specs.Faults.{element_fault};
 ghost use Rattle.std.specs.Prelude.{refl};
 
 use sec1_der::{

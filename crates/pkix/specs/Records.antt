@@ -4,7 +4,7 @@ use Rattle.std.specs.Prelude.{◌∷◌, [], ℕ, List, Option, Some}
 use Rattle.std.specs.Option.{option_map}
 use Rattle.sec1_der.specs.Elements.{element_of}
 use Rattle.sec1_der.specs.Parts.{join, optional_of}
-use Rattle.sec1_der.specs.Refusals.{Fault, no_fault, element_fault, end_fault, optional_fault}
+use Rattle.sec1_der.specs.Faults.{Fault, no_fault, element_fault, end_fault, optional_fault}
 use Rattle.der_types.specs.AnyElements.{all_tags, any_of, any_element_fault}
 use Rattle.der_types.specs.BitStrings.{bit_string_content}
 use Rattle.der_types.specs.Choices.{choice_of, choice_fault, optional_bytes, optional_part_fault}

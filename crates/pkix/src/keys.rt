@@ -3,7 +3,7 @@ ghost use Rattle.std.specs.Prelude.{◌≡◌, ◌≢◌, ◌↔◌, ◌⊎◌, 
 ghost use Rattle.std.specs.Prelude.{IsSomeAnd, IfOk, IfErr, IfSome};
 ghost use Rattle.sec1.specs.EncodedPoints.{point_of};
 ghost use Rattle.sec1.specs.Errors.{IsAsn1ReadingFault, RefusesAsn1};
-ghost use Rattle.sec1.specs.KeyRefusals.{key_fault};
+ghost use Rattle.sec1.specs.KeyFaults.{key_fault};
 ghost use Rattle.sec1.specs.Keys.{Key, IsKeyOf};
 ghost use Rattle.sec1.specs.Points.{Fits, Point};
 ghost use Rattle.sec1_der.specs.declared.error.ErrorKind.{ErrorKind};

@@ -11,7 +11,7 @@ use sec1_der::{
 use std::alloc::Global;
 use std::str;
 
-/// Reads the bytes, writes the value, and returns whether that gives the bytes again.
+/// Reads the bytes, writes the value, and returns `true` if that gives the bytes again.
 fn is_same<'a, T>(alloc: Global, der: &'a [u8]) -> Result<bool>
 where
     T: DecodeValue<'a> + EncodeValue + Tagged + UniqueContent + Drop,

@@ -18,7 +18,7 @@ use Rattle.sec1.specs.EncodedPoints.{point_of, ReadsBytes}
 use Rattle.sec1.specs.declared.point.EncodedPoint.{EncodedPoint}
 use Rattle.sec1.proofs.DigitLemmas.{length-fixed_width, num-below, fixed_width-num}
 use Rattle.sec1.proofs.PointLemmas.{half, meaning-enc, meaning-enc-append, meaning-fits, IsBytes-enc, byte_of-tag_of}
-use Rattle.sec1.proofs.PointLemmas.{length-enc-le, no_beginning}
+use Rattle.sec1.proofs.PointLemmas.{length-enc-le, no_prefix}
 use Rattle.sec1.proofs.ByteOrderLemmas.{slice_cmp-enc}
 
 -- ---- the beginning of a buffer
@@ -147,6 +147,6 @@ read_bytes {N} input point front e = record {
   found = (point.sizes, point_fits point, sym (point.encoded ∙ front));
   only = λ p _ fits spelled. rw front (holds N input p fits spelled).means;
   kind = tt;
-  begins_none = λ other _ begins. no_beginning N e.of other (rw e.spelled at begins);
-  begun_by_none = λ other _ begun. no_beginning N other e.of (rw e.spelled at begun);
+  begins_none = λ other _ begins. no_prefix N e.of other (rw e.spelled at begins);
+  begun_by_none = λ other _ begun. no_prefix N other e.of (rw e.spelled at begun);
 }

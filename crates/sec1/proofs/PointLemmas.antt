@@ -5,7 +5,7 @@ use Rattle.std.proofs.Common.{append_assoc, append-nil, ◌↔◌, take_at, drop
 use Rattle.std.proofs.Common.{length-append, length-take, take-append-drop}
 use Rattle.std.proofs.lemmas.List.{nil_from_length}
 use Rattle.hex.specs.Hex.{IsBytes}
-use Rattle.sec1.specs.Der.{number_of, IsProperBeginning}
+use Rattle.sec1.specs.Der.{number_of, IsProperPrefix}
 use Rattle.sec1_der.specs.DigitLaws.{IsBytes-take}
 use Rattle.sec1.specs.Points.{Point, IsPoint, IsEncoding, fixed_width, tag_byte, encoding, meaning}
 use Rattle.sec1.specs.Tags.{byte_of, point_tag, message_len, is_hybrid}
@@ -48,9 +48,9 @@ IsBytes-enc n p zero = grind arith
 IsBytes-enc n p (suc i) = grind (arith, IsBytes-fixed_width, IsBytes-append)
 
 -- No encoding begins another.
-pub no_beginning : (n : ℕ) (p q : Point) → IsProperBeginning (encoding n p) (encoding n q) → ⊥
+pub no_prefix : (n : ℕ) (p q : Point) → IsProperPrefix (encoding n p) (encoding n q) → ⊥
 unfolding encoding
-no_beginning n p q begins =
+no_prefix n p q begins =
     let same = tag_of-byte (point_tag q) p in
     let end = nil_from_length begins.more in
     grind (

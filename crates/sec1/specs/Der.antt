@@ -10,21 +10,21 @@ pub use Rattle.sec1_der.specs.Contents.{value_unless}
 pub use Rattle.sec1_der.specs.Elements.{max_length, IsTag, IsConstructed, length_octets, header}
 pub use Rattle.sec1_der.specs.Elements.{header_of, IsHeader, element, IsElementOf, IsElement}
 pub use Rattle.sec1_der.specs.Elements.{LacksHeader}
-pub use Rattle.sec1_der.specs.Elements.{IsProperBeginning, within_limit, explicit_tag, element_of}
-pub use Rattle.sec1_der.specs.Faults.{Refuses, IsReadingFault, IsHeaderFault, IsTreeFault}
-pub use Rattle.sec1_der.specs.Faults.{IsIoOrMemory, header_fault}
+pub use Rattle.sec1_der.specs.Elements.{IsProperPrefix, within_limit, explicit_tag, element_of}
+pub use Rattle.sec1_der.specs.ErrorKinds.{Refuses, IsReadingFault, IsHeaderFault, IsTreeFault}
+pub use Rattle.sec1_der.specs.ErrorKinds.{IsIoOrMemory, header_fault}
 pub use Rattle.sec1_der.specs.Identifiers.{IsIdentifier, IsIdentifierContent, content_of}
 pub use Rattle.sec1_der.specs.Identifiers.{identifier_content, dotted}
 pub use Rattle.sec1_der.specs.Numbers.{number_of}
 pub use Rattle.sec1_der.specs.Readers.{Reader, reader_over, refused, HasRead, HasReadElement}
-pub use Rattle.sec1_der.specs.Refusals.{Fault, HasFault, no_fault, end_fault, element_fault}
-pub use Rattle.sec1_der.specs.Refusals.{optional_fault, field_fault, any_fault, document_fault}
-pub use Rattle.sec1_der.specs.Refusals.{tree_fault}
+pub use Rattle.sec1_der.specs.Faults.{Fault, HasFault, no_fault, end_fault, element_fault}
+pub use Rattle.sec1_der.specs.Faults.{optional_fault, field_fault, any_fault, document_fault}
+pub use Rattle.sec1_der.specs.Faults.{tree_fault}
 pub use Rattle.sec1_der.specs.ReadsDocument.{IsElementFault, ConsumesElement, RefusesElement}
 pub use Rattle.sec1_der.specs.SliceWriters.{written_by, room_of, IsOver, KeepsSlice, AppendsNothing}
 pub use Rattle.sec1_der.specs.SliceWriters.{Appends, WritesBehind}
 pub use Rattle.sec1_der.specs.StdStreams.{reader_failed, reader_inner, writer_failed, writer_inner}
-pub use Rattle.sec1_der.specs.Streams.{AppendsBeginning}
+pub use Rattle.sec1_der.specs.Streams.{AppendsPrefix}
 pub use Rattle.sec1_der.specs.Trees.{Tree, Forest, leaf, node, bytes, IsTree, IsTreeOf, depth, size}
 pub use Rattle.sec1_der.specs.TreeLaws.{BytesDetermineTree, BytesDetermineRow, NoTreeBeginsAnother}
 pub use Rattle.sec1_der.specs.Trees.{max_tree_depth}

@@ -1,7 +1,7 @@
 -- The point of a value, and the results of reading one.
 use Rattle.std.specs.Prelude.{◌≡◌, ℕ, List, take, drop, Result, IsOkAnd, IfOk, IfErr, OnOk}
 use Rattle.std.specs.List.{All}
-use Rattle.sec1_der.specs.Elements.{IsProperBeginning}
+use Rattle.sec1_der.specs.Elements.{IsProperPrefix}
 use Rattle.serde_json.specs.Data.{Data}
 use Rattle.sec1.specs.Points.{Point, IsPoint, Fits, encoding, meaning}
 use Rattle.sec1.specs.HexTexts.{IsHexOf, IsJsonOf}
@@ -31,9 +31,9 @@ pub record ReadsBytes {N L : ℕ} (input : List ℕ)
       → IsOkAnd result (λ point. point_of point ≡ p)
   pub kind : IfErr result (λ e. e ≡ PointEncoding)
   pub begins_none : OnOk result
-      ((other : Point) → IsPoint N other → ¬ IsProperBeginning input (encoding N other))
+      ((other : Point) → IsPoint N other → ¬ IsProperPrefix input (encoding N other))
   pub begun_by_none : OnOk result
-      ((other : Point) → IsPoint N other → ¬ IsProperBeginning (encoding N other) input)
+      ((other : Point) → IsPoint N other → ¬ IsProperPrefix (encoding N other) input)
 
 -- reading a text: the texts of encodings are accepted, each as the point of its encoding, and
 -- nothing else is

@@ -4,7 +4,7 @@ use Rattle.sec1.specs.Keys.{Key, HasNoEncoding, HasEncodingWith}
 use Rattle.sec1.specs.declared.error.Error.{Error}
 use Rattle.sec1.specs.declared.error.Error.TheVariants.{Asn1, Crypto, PointEncoding, Version}
 use Rattle.sec1.specs.declared.error.Error.TheVariants.{Memory}
-use Rattle.sec1_der.specs.Faults.{IsReadingFault}
+use Rattle.sec1_der.specs.ErrorKinds.{IsReadingFault}
 use Rattle.sec1_der.specs.declared.error.Error.{Error as DerError}
 use Rattle.sec1_der.specs.declared.error.ErrorKind.{ErrorKind}
 use Rattle.sec1_der.specs.declared.error.ErrorKind.TheVariants.{Overlength, Memory as DerMemory}

@@ -2,7 +2,7 @@ pub mod Der
 pub mod Errors
 pub mod Parameters
 pub mod Keys
-pub mod KeyRefusals
+pub mod KeyFaults
 pub mod ReadsKey
 pub mod Traits
 pub mod Points

@@ -1,10 +1,10 @@
 -- What reading a key from bytes means.
 use Rattle.std.specs.Prelude.{◌≡◌, List, ℕ, Result, Ok, IfOk, IfErr}
 use Rattle.sec1.specs.Errors.{RefusesAsn1, IsAsn1ReadingFault, HasAsn1Fault}
-use Rattle.sec1.specs.KeyRefusals.{key_fault}
+use Rattle.sec1.specs.KeyFaults.{key_fault}
 use Rattle.sec1.specs.Keys.{Key, key_tree, IsKeyOf}
 use Rattle.sec1.specs.declared.error.Error.{Error}
-use Rattle.sec1_der.specs.Elements.{IsProperBeginning}
+use Rattle.sec1_der.specs.Elements.{IsProperPrefix}
 use Rattle.sec1_der.specs.Trees.{Tree, IsTreeOf}
 use Rattle.sec1_der.specs.declared.error.ErrorKind.TheVariants.{Truncated, TrailingData}
 
@@ -21,8 +21,8 @@ pub record ReadsKey (input : List ℕ) (result : Result Key Error) : Type 0 wher
   -- whether the bytes are refused, and by which kind, is a function of them
   pub kind : HasAsn1Fault result (key_fault input)
   -- a proper prefix of a key's bytes is refused as Truncated
-  pub short : (key : Key) (bytes : List ℕ) → IsKeyOf key bytes → IsProperBeginning input bytes
+  pub short : (key : Key) (bytes : List ℕ) → IsKeyOf key bytes → IsProperPrefix input bytes
       → RefusesAsn1 result Truncated
   -- bytes after a key's are refused as TrailingData
-  pub long : (key : Key) (bytes : List ℕ) → IsKeyOf key bytes → IsProperBeginning bytes input
+  pub long : (key : Key) (bytes : List ℕ) → IsKeyOf key bytes → IsProperPrefix bytes input
       → RefusesAsn1 result TrailingData

@@ -5,9 +5,9 @@ use Rattle.sec1.specs.Errors.{error_of}
 use Rattle.sec1.specs.declared.error.Error.{Error}
 use Rattle.sec1.specs.declared.error.Error.TheVariants.{Memory}
 use Rattle.sec1_der.specs.Elements.{IsElement}
-use Rattle.sec1_der.specs.Faults.{IsIoOrMemory}
+use Rattle.sec1_der.specs.ErrorKinds.{IsIoOrMemory}
 use Rattle.sec1_der.specs.ReadsDocument.{IsElementFault, ConsumesElement, RefusesElement}
-use Rattle.sec1_der.specs.Streams.{AppendsBeginning}
+use Rattle.sec1_der.specs.Streams.{AppendsPrefix}
 use Rattle.sec1_der.specs.declared.error.Error.{Error as DerError}
 use Rattle.sec1_der.specs.declared.error.ErrorKind.TheVariants.{Io}
 
@@ -55,9 +55,9 @@ pub record WritesKey {K : Type 0} (writes : K → List ℕ → Type 0) (key : K)
   pub of_key : writes key bytes
   pub appended : Appends old new bytes
 
--- a beginning of a key's bytes was written
-pub record WritesKeyBeginning {K : Type 0} (writes : K → List ℕ → Type 0) (key : K)
+-- a prefix of a key's bytes was written
+pub record WritesKeyPrefix {K : Type 0} (writes : K → List ℕ → Type 0) (key : K)
     (old new : Option (List ℕ)) : Type 0 where
   pub bytes : List ℕ
   pub of_key : writes key bytes
-  pub appended : AppendsBeginning old new bytes
+  pub appended : AppendsPrefix old new bytes

@@ -5,7 +5,7 @@ ghost use Rattle.std.specs.Prelude.{ℕ, List, false, ◌≡◌, ◌⊎◌, IsTr
 ghost use Rattle.sec1.specs.Errors.{IsAsn1, RefusesAsn1};
 ghost use Rattle.sec1.specs.Traits.{IsDocumentError, IsElementWith, IsMemoryOr};
 ghost use Rattle.sec1.specs.Traits.{ConsumesElementWith, RefusesDocument, RefusesKey, WritesKey};
-ghost use Rattle.sec1.specs.Traits.{WritesKeyBeginning};
+ghost use Rattle.sec1.specs.Traits.{WritesKeyPrefix};
 ghost use Rattle.sec1.specs.declared.error.Error.{Error};
 ghost use Rattle.sec1_der.specs.declared.error.ErrorKind.TheVariants.{Io};
 
@@ -90,13 +90,13 @@ pub trait EncodeEcPrivateKey {
     /// # Errors
     ///
     /// Those of [`to_sec1_der`](EncodeEcPrivateKey::to_sec1_der), before anything is written; then
-    /// [`Error::Asn1`] of kind Io if a write failed, and a beginning of the bytes is written.
+    /// [`Error::Asn1`] of kind Io if a write failed, and a prefix of the bytes is written.
     fn write_sec1_der_to<W: Write>(&self, alloc: Global, writer: &mut W) -> Result<()>
         requires { W.failed writer.old ≡ false }
         ensures all { OnOk result
             (WritesKey writes self.now (W.written writer.old) (W.written writer.new)) }
-        ensures beginning { IsTrue (W.failed writer.new)
-            → WritesKeyBeginning writes self.now (W.written writer.old) (W.written writer.new) }
+        ensures prefix { IsTrue (W.failed writer.new)
+            → WritesKeyPrefix writes self.now (W.written writer.old) (W.written writer.new) }
         ensures nothing { W.failed writer.new ≡ false
             → OnErr result (W.written writer.new ≡ W.written writer.old) }
         ensures io { IsTrue (W.failed writer.new) → RefusesAsn1 result Io }

@@ -1,8 +1,8 @@
 //! The place at which a key or a tree is refused: `sec1_key_fault_at` and `sec1_tree_fault_at`.
 ghost use Rattle.std.specs.Prelude.{◌≡◌, ◌≢◌, ◌≤◌, length};
 ghost use Rattle.der_faults.specs.Places.{key_place, tree_place};
-ghost use Rattle.sec1.specs.KeyRefusals.{key_fault};
-ghost use Rattle.sec1_der.specs.Refusals.{tree_fault};
+ghost use Rattle.sec1.specs.KeyFaults.{key_fault};
+ghost use Rattle.sec1_der.specs.Faults.{tree_fault};
 ghost use Rattle.sec1_c.specs.FaultPlaces.{Tells};
 ghost use Rattle.sec1_c.specs.Statuses.{fault_number};
 

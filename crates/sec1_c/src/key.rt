@@ -1,8 +1,8 @@
 //! Private keys (RFC 5915 section 3): `sec1_key_read`, `sec1_key_len` and `sec1_key_write`.
 ghost use Rattle.std.specs.Prelude.{◌≡◌, ◌≢◌, List, ℕ, length};
-ghost use Rattle.sec1.specs.KeyRefusals.{key_fault};
+ghost use Rattle.sec1.specs.KeyFaults.{key_fault};
 ghost use Rattle.sec1.specs.Keys.{HasNoEncoding, Key, IsKeyOf};
-ghost use Rattle.sec1_der.specs.Elements.{IsProperBeginning};
+ghost use Rattle.sec1_der.specs.Elements.{IsProperPrefix};
 ghost use Rattle.sec1_c.specs.GivenKeys.{IsGiven, IsNoCurve, IsTooLong};
 ghost use Rattle.sec1_c.specs.KeyPlaces.{AreWithin, ArePartsOf, GiveAgain, IsKey, key_places};
 ghost use Rattle.sec1_c.specs.Outputs.{StoresLength, Writes, WritesNothing};
@@ -54,9 +54,9 @@ pub extern "C" fn sec1_key_read(bytes: &[u8], parts: &mut KeyParts) -> u32
     ensures kind { result ≡ fault_number (key_fault bytes.now) }
     ensures unchanged { result ≢ 0 → parts.new ≡ parts.old }
     ensures short { (key : Key) (whole : List ℕ) → IsKeyOf key whole
-        → IsProperBeginning bytes.now whole → result ≡ kind_number ErrorKind.Truncated }
+        → IsProperPrefix bytes.now whole → result ≡ kind_number ErrorKind.Truncated }
     ensures long { (key : Key) (whole : List ℕ) → IsKeyOf key whole
-        → IsProperBeginning whole bytes.now → result ≡ kind_number ErrorKind.TrailingData }
+        → IsProperPrefix whole bytes.now → result ≡ kind_number ErrorKind.TrailingData }
 {
     match EcPrivateKey::try_from(bytes) {
         Ok(key) => {

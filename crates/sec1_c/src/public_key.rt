@@ -8,7 +8,7 @@ ghost use Rattle.pkix.specs.Records.{public_key_fault};
 ghost use Rattle.pkix.specs.declared.public_key.SubjectPublicKeyInfo.{SubjectPublicKeyInfo};
 ghost use Rattle.sec1.specs.Points.{Point};
 ghost use Rattle.sec1_der.specs.Elements.{element_of};
-ghost use Rattle.sec1_der.specs.Refusals.{element_fault, end_fault};
+ghost use Rattle.sec1_der.specs.Faults.{element_fault, end_fault};
 ghost use Rattle.sec1_c.specs.PublicKeys.{ArePublicKeyPartsOf, IsEcKey, IsEcKeyInfo, IsInfo};
 ghost use Rattle.sec1_c.specs.PublicKeys.{key_field_len, public_key_places};
 ghost use Rattle.sec1_c.specs.Statuses.{curve_number, error_number, kind_number};

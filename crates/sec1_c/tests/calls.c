@@ -1122,7 +1122,7 @@ static void test_curves(void)
     EXPECT(sec1_curve_name(longest.data, longest.len, name, sizeof name, &len) == SEC1_OK &&
            len == SEC1_CURVE_NAME_MAX);
 
-    /* SM2, a curve of WTLS, beginnings of curves, and no identifiers */
+    /* SM2, a curve of WTLS, prefixes of curves, and no identifiers */
     static const char *const no_contents[] = {
         "2A811CCF5501822D",
         "672B010406",

@@ -132,7 +132,7 @@ static int writes(uint32_t status, size_t len, const uint8_t *out, size_t out_le
            && all_are(out + bytes_len, out_len - bytes_len, 0xEE);
 }
 
-/* A length of a buffer for so many bytes: none, one too few, as many, or a few more. */
+/* A length of a buffer for this number of bytes: none, one too few, as many, or a few more. */
 static size_t some_room(size_t len)
 {
     switch (draw(5)) {

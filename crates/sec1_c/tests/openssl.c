@@ -221,7 +221,7 @@ static int openssl_reads(struct bytes key)
     return accepts;
 }
 
-/* Reads a key both ways, and returns whether a difference has a reason. */
+/* Reads a key both ways, and returns 1 if a difference has a reason. */
 static int compare(struct bytes key)
 {
     uint8_t *exact = malloc(key.len ? key.len : 1); /* so that the sanitizer sees each byte beyond */
@@ -281,7 +281,7 @@ static void add_key(EC_KEY *key, unsigned flags, point_conversion_form_t form, i
     OPENSSL_free(der);
 }
 
-/* Adds keys on a curve whose private key spells these digits. */
+/* Adds keys on a curve whose private key has these digits. */
 static void add_keys(int curve, const char *digits)
 {
     EC_KEY *key = EC_KEY_new_by_curve_name(curve);

@@ -3,16 +3,16 @@ use Rattle.std.proofs.Common.{◌≡◌, ◌≢◌, ℕ, suc, ◌+◌, ◌-◌, 
 use Rattle.std.proofs.Common.{sym, ◌∙◌, subst, arith, ⊎_elim}
 use Rattle.std.proofs.lemmas.List.{append_assoc, append-nil, length-append, length-take-le}
 use Rattle.sec1_der.specs.Elements.{header}
-use Rattle.sec1_der.specs.Refusals.{tree_fault}
+use Rattle.sec1_der.specs.Faults.{tree_fault}
 use Rattle.sec1_der.specs.Trees.{Tree, branch, Forest, none, first, bytes, joined, IsTree, AreTrees, IsTreeOf, size}
 use Rattle.sec1_der.specs.Trees.{total_size, depth, max_depth, max_tree_depth}
 use Rattle.sec1_der.specs.Walks.{innermost, Skips, Opens, Enters}
 use Rattle.sec1_der.proofs.TreeLemmas.{some_bytes}
-use Rattle.sec1_der.proofs.TreeRefusals.{row_some, tree_next, open_fault, next_fault, element_passed, node_opened}
+use Rattle.sec1_der.proofs.RowFaultLemmas.{row_some, tree_next, open_fault, next_fault, element_passed, node_opened}
 
 -- ---- what is left makes the input a tree
 
--- the input is a tree of so many elements
+-- the input is a tree of this number of elements
 abbrev pub IsCounted : List ℕ → ℕ → Type 0
 IsCounted input n = (t : Tree) × IsTreeOf t input × (depth t ≤ max_tree_depth) × (size t ≡ n)
 
@@ -38,7 +38,7 @@ pub record IsAt (input ends rest : List ℕ) (count : ℕ) : Type 0 where
   pub inside : innermost ends ≤ length rest
   pub nested : Nested ends
 
--- So many elements were read. What is left completes the input, or is refused as the input is.
+-- This number of elements was read. What is left completes the input, or is refused as the input is.
 pub record Walks (input ends rest : List ℕ) (count : ℕ) : Type 0 where
   pub at : IsAt input ends rest count
   pub completes : Completes input ends rest count

@@ -13,14 +13,14 @@ use borrow.Rule.Slice.PartMut.{put_mid}
 use Rattle.sec1_der.specs.declared.error.ErrorKind.{ErrorKind}
 use Rattle.sec1_der.specs.declared.error.ErrorKind.TheVariants.{Truncated, TrailingData, Io, Memory, Tag, Length}
 use Rattle.sec1_der.specs.Elements.{IsElement, IsHeader, LacksHeader, header}
-use Rattle.sec1_der.specs.Faults.{header_fault, is_tag, IsIoOrMemory}
+use Rattle.sec1_der.specs.ErrorKinds.{header_fault, is_tag, IsIoOrMemory}
 use Rattle.sec1_der.specs.ReadsDocument.{HasHeaderFault, IsCutContent, TakenBeforeRefusal, RefusesElement, ReadsHeader}
 use Rattle.sec1_der.specs.ReadsDocument.{RefusesContent, ConsumesElement}
 use Rattle.sec1_der.specs.Streams.{ReadsOnto}
-use Rattle.sec1_der.specs.Refusals.{no_fault, end_fault, document_fault}
+use Rattle.sec1_der.specs.Faults.{no_fault, end_fault, document_fault}
 use Rattle.sec1_der.proofs.HeaderLemmas.{longer, header_front}
-use Rattle.sec1_der.proofs.RefusalLemmas.{document_element, any_headless, any_short}
-use Rattle.sec1_der.specs.RefusalLaws.{any_at}
+use Rattle.sec1_der.proofs.ElementFaultLemmas.{document_element, any_headless, any_short}
+use Rattle.sec1_der.specs.FaultLaws.{any_at}
 use Rattle.sec1_der.specs.ElementLaws.{tag_from_test}
 
 -- ---- bytes that were read
@@ -67,7 +67,7 @@ pub record IsLonger (bytes : List ℕ) : Type 0 where
   pub joined : bytes ≡ before ++ last ∷ []
   pub cut : HasHeaderFault Truncated before
 
--- no bytes, or one more than some that were cut short
+-- no bytes, or one more than some truncated ones
 abbrev pub IsReachable : List ℕ → Type 0
 IsReachable bytes = (bytes ≡ []) ⊎ IsLonger bytes
 

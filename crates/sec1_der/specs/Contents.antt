@@ -5,7 +5,7 @@ use Rattle.std.specs.Str.{bytes_eq}
 use Rattle.sec1_der.specs.ArcsOf.{arcs_of}
 use Rattle.sec1_der.specs.Identifiers.{is_identifier, content_of}
 use Rattle.std.specs.Option.{option_or}
-use Rattle.sec1_der.specs.Refusals.{Fault, no_fault, end_fault, element_fault}
+use Rattle.sec1_der.specs.Faults.{Fault, no_fault, end_fault, element_fault}
 use Rattle.sec1_der.specs.declared.error.ErrorKind.{ErrorKind}
 use Rattle.sec1_der.specs.declared.error.ErrorKind.TheVariants.{Value}
 

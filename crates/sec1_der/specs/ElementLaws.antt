@@ -4,10 +4,10 @@ use Rattle.std.proofs.Common.{◌≡◌, ℕ, ◌≤◌, List, length, Option, S
 use Rattle.std.proofs.Common.{tests, append_assoc, ne_eqb, ◌%◌, ◌<◌, true, ◌++◌}
 use Rattle.std.proofs.lemmas.Bool.{le-leb, lt-leb, cases_lt}
 use Rattle.sec1_der.specs.Elements.{max_length, header, element, IsElementOf, element_of, IsTag}
-use Rattle.sec1_der.specs.Faults.{is_tag}
+use Rattle.sec1_der.specs.ErrorKinds.{is_tag}
 use Rattle.sec1_der.specs.LengthLaws.{len_apart, split_same}
 use Rattle.sec1_der.specs.Trees.{bytes}
-use Rattle.sec1_der.specs.Refusals.{within}
+use Rattle.sec1_der.specs.Faults.{within}
 
 -- a tag passes the test for one
 pub is_tag-true : (tag : ℕ) → IsTag tag → is_tag tag ≡ true

@@ -64,7 +64,7 @@ abbrev pub LacksHeader : List ℕ → Type 0
 LacksHeader bytes = (tag n : ℕ) (rest : List ℕ) → IsHeader tag n → bytes ≡ header tag n ++ rest → ⊥
 
 -- the bytes are the beginning of others, which are more
-pub record IsProperBeginning (bytes whole : List ℕ) : Type 0 where
+pub record IsProperPrefix (bytes whole : List ℕ) : Type 0 where
   pub more : List ℕ
   pub some : more ≢ []
   pub split : whole ≡ bytes ++ more

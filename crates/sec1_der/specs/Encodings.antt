@@ -1,7 +1,7 @@
 -- What the calls over whole encodings return.
 use Rattle.std.specs.Prelude.{◌≡◌, ◌⊎◌, ℕ, ◌<◌, ◌≤◌, ◌++◌, List, length, drop, Option, Some, None}
 use Rattle.std.specs.Prelude.{Result, Ok, IsSomeAnd, MatchResult}
-use Rattle.sec1_der.specs.Faults.{Refuses}
+use Rattle.sec1_der.specs.ErrorKinds.{Refuses}
 use Rattle.sec1_der.specs.declared.error.Error.{Error}
 use Rattle.sec1_der.specs.declared.error.ErrorKind.{ErrorKind}
 use Rattle.sec1_der.specs.declared.error.ErrorKind.TheVariants.{Overlength, Buffer}

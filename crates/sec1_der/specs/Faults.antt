@@ -1,60 +1,107 @@
--- The kinds of refusals.
-use Rattle.std.specs.Prelude.{◌≡◌, ◌⊎◌, ℕ, ◌-◌, ◌%◌, Bool, ◌&&◌, not, ◌==◌, nat_lt, nat_le}
-use Rattle.std.specs.Prelude.{if◌then◌else◌, List, [], ◌∷◌, length, Result, IsErrAnd}
+-- The kind of a refusal as a function of the bytes: the first fault from left to right.
+use Rattle.std.specs.Prelude.{◌≡◌, ◌==◌, ℕ, zero, suc, ◌+◌, ◌-◌, Bool, false, ◌&&◌, not, nat_lt}
+use Rattle.std.specs.Prelude.{nat_le, if◌then◌else◌, bit_and, List, [], ◌∷◌, length, take, drop}
+use Rattle.std.specs.Prelude.{Option, Some, None, Result, Ok, Err, MatchResult}
+use Rattle.std.specs.Option.{option_or}
+use Rattle.std.specs.Str.{bytes_eq}
+use Rattle.sec1_der.specs.Elements.{max_length, length_octets, explicit_tag}
+use Rattle.sec1_der.specs.ErrorKinds.{is_tag, length_fault}
+use Rattle.sec1_der.specs.Numbers.{number_of}
+use Rattle.sec1_der.specs.Trees.{max_tree_depth}
 use Rattle.sec1_der.specs.declared.error.Error.{Error}
 use Rattle.sec1_der.specs.declared.error.ErrorKind.{ErrorKind}
-use Rattle.sec1_der.specs.declared.error.ErrorKind.TheVariants.{Truncated, Tag, Length}
-use Rattle.sec1_der.specs.declared.error.ErrorKind.TheVariants.{TrailingData, Value, Overlength}
-use Rattle.sec1_der.specs.declared.error.ErrorKind.TheVariants.{Buffer, Failed, Io, Depth, Memory}
+use Rattle.sec1_der.specs.declared.error.ErrorKind.TheVariants.{Truncated, Tag, TrailingData, Depth}
 
--- the call failed with an error of this kind
-abbrev pub Refuses : {T : Type 0} → Result T Error → ErrorKind → Type 0
-Refuses result kind = IsErrAnd result (λ e. e.kind ≡ kind)
+-- The kind by which bytes are refused, or None if they aren't.
+abbrev pub Fault : Type 0
+Fault = List ℕ → Option ErrorKind
 
--- the kinds by which a header is refused, or an element that ends inside its content
-abbrev pub IsHeaderFault : ErrorKind → Type 0
-IsHeaderFault Truncated = Unit {0}
-IsHeaderFault Tag = Unit {0}
-IsHeaderFault Length = Unit {0}
-IsHeaderFault _ = ⊥
+-- the call fails with this kind, or succeeds if there is none
+abbrev pub HasFault : {T : Type 0} → Result T Error → Option ErrorKind → Type 0
+HasFault result fault = MatchResult result (λ _. fault ≡ None) (λ e. fault ≡ Some e.kind)
 
--- the kinds by which bytes are refused that aren't those of a tree, or of one that is too deep
-abbrev pub IsTreeFault : ErrorKind → Type 0
-IsTreeFault kind = IsHeaderFault kind ⊎ (kind ≡ TrailingData) ⊎ (kind ≡ Depth)
+-- refuses no bytes; and the end, which refuses any further byte as TrailingData
+abbrev pub no_fault : Fault
+no_fault bytes = None
 
--- the kinds that bytes are refused by
-abbrev pub IsReadingFault : ErrorKind → Type 0
-IsReadingFault Truncated = Unit {0}
-IsReadingFault Tag = Unit {0}
-IsReadingFault Length = Unit {0}
-IsReadingFault TrailingData = Unit {0}
-IsReadingFault Value = Unit {0}
-IsReadingFault Overlength = ⊥
-IsReadingFault Buffer = ⊥
-IsReadingFault Failed = ⊥
-IsReadingFault Io = ⊥
-IsReadingFault Depth = ⊥
-IsReadingFault Memory = ⊥
+abbrev pub end_fault : Fault
+end_fault [] = None
+end_fault (byte ∷ bytes) = Some TrailingData
 
--- a first byte that announces one to four digits, more than there are
-abbrev pub lacks_digits : ℕ → List ℕ → Bool
-lacks_digits first digits =
-    nat_lt 0x80 first && nat_le first 0x84 && nat_lt (length digits) (first - 0x80)
+-- as many bytes as these have to be there
+abbrev pub count_fault : ℕ → Fault
+count_fault count bytes = if nat_le count (length bytes) then None else Some Truncated
 
--- The kind, if the bytes don't begin with a length: they end inside one, or encode none.
-abbrev pub length_fault : List ℕ → ErrorKind
-length_fault [] = Truncated
-length_fault (first ∷ digits) = if lacks_digits first digits then Truncated else Length
+-- X.690 sections 8.1.3 and 10.1: the length at the beginning of the bytes, if there is one
+abbrev pub number_at : List ℕ → ℕ
+number_at [] = 0
+number_at (first ∷ digits) =
+    if nat_lt first 128 then first else number_of (take (first - 0x80) digits)
 
--- the test for a tag byte
-abbrev pub is_tag : ℕ → Bool
-is_tag byte = not (byte == 0) && not (byte % 32 == 31)
+-- the length at the beginning of the bytes, and the bytes after it
+abbrev pub length_at : List ℕ → Result (ℕ × List ℕ) ErrorKind
+length_at bytes =
+    let n = number_at bytes in
+    let spelled = length_octets n in
+    if nat_le n max_length && bytes_eq (take (length spelled) bytes) spelled
+    then Ok (n, drop (length spelled) bytes) else Err (length_fault bytes)
 
--- The kind, if the bytes don't begin with a header. The tag is checked before the length.
-abbrev pub header_fault : List ℕ → ErrorKind
-header_fault [] = Truncated
-header_fault (byte ∷ rest) = if is_tag byte then length_fault rest else Tag
+-- X.690 section 8.1.4: as many bytes as the length says, and the bytes after them
+abbrev pub within : Result (ℕ × List ℕ) ErrorKind → Result (List ℕ × List ℕ) ErrorKind
+within (Err kind) = Err kind
+within (Ok x) = if nat_le x.0 (length x.1) then Ok (take x.0 x.1, drop x.0 x.1) else Err Truncated
 
--- the kinds that don't depend on the bytes
-abbrev pub IsIoOrMemory : ErrorKind → Type 0
-IsIoOrMemory kind = (kind ≡ Io) ⊎ (kind ≡ Memory)
+-- the fault of the length, of the content, or of the bytes after it, in this order
+abbrev pub parts_fault : Fault → Fault → Result (List ℕ × List ℕ) ErrorKind → Option ErrorKind
+parts_fault content behind (Err kind) = Some kind
+parts_fault content behind (Ok x) = option_or (content x.0) (behind x.1)
+
+-- X.690 section 8.1.1: an element with this tag, and what follows it. The tag is checked before the
+-- length.
+abbrev pub element_fault : ℕ → Fault → Fault → Fault
+element_fault tag content behind [] = Some Truncated
+element_fault tag content behind (byte ∷ bytes) =
+    if byte == tag then parts_fault content behind (within (length_at bytes)) else Some Tag
+
+-- whether this byte is next
+abbrev pub is_next : ℕ → List ℕ → Bool
+is_next tag [] = false
+is_next tag (byte ∷ bytes) = byte == tag
+
+-- an element with this tag, if its tag is next; and what follows it
+abbrev pub optional_fault : ℕ → Fault → Fault → Fault
+optional_fault tag content behind bytes =
+    if is_next tag bytes then element_fault tag content behind bytes else behind bytes
+
+-- X.690 section 8.14: an explicit field [number] around an element with this tag, if its tag is
+-- next; and what follows it
+abbrev pub field_fault : ℕ → ℕ → Fault → Fault → Fault
+field_fault number tag content behind =
+    optional_fault (explicit_tag number) (element_fault tag content end_fault) behind
+
+-- an element of any tag, which decides how its content is checked, and what follows it
+abbrev pub any_fault : (ℕ → Fault) → Fault → Fault
+any_fault content behind [] = Some Truncated
+any_fault content behind (tag ∷ bytes) =
+    if is_tag tag then parts_fault (content tag) behind (within (length_at bytes)) else Some Tag
+
+-- one element of any tag, with any bytes as its content
+abbrev pub document_fault : Fault
+document_fault = any_fault (λ _. no_fault) end_fault
+
+-- X.690 section 8.1.2.5: the content of a constructed element is elements again
+abbrev pub nested_fault : Fault → ℕ → Fault
+nested_fault row tag content = if not (bit_and tag 0x20 == 0) then row content else None
+
+-- A sequence of elements at this level. There are no more of them, and they are nested no deeper,
+-- than there are bytes.
+abbrev pub row_fault : ℕ → ℕ → Fault
+row_fault zero level bytes = None
+row_fault (suc most) level [] = None
+row_fault (suc most) level (byte ∷ bytes) =
+    if nat_lt max_tree_depth level then Some Depth
+    else any_fault (nested_fault (row_fault most (level + 1))) (row_fault most level) (byte ∷ bytes)
+
+-- one tree that isn't too deep
+abbrev pub tree_fault : Fault
+tree_fault bytes = any_fault (nested_fault (row_fault (length bytes) 2)) end_fault bytes

@@ -6,7 +6,7 @@ use Rattle.std.proofs.lemmas.Bool.{cases_lt}
 use Rattle.std.proofs.lemmas.List.{append_cancel_left}
 use Rattle.std.specs.Int.Digits.{digits_of}
 use Rattle.sec1_der.specs.Elements.{length_octets}
-use Rattle.sec1_der.specs.Refusals.{number_at}
+use Rattle.sec1_der.specs.Faults.{number_at}
 
 -- if two lists with what follows them are the same, and the lists have one length, then the lists
 -- are the same, and what follows is

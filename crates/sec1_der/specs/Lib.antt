@@ -10,8 +10,8 @@ pub mod ArcsOf
 pub mod Stored
 pub mod Building
 pub mod Encodings
+pub mod ErrorKinds
 pub mod Faults
-pub mod Refusals
 pub mod LengthLaws
 pub mod ElementLaws
 pub mod Contents
@@ -20,7 +20,7 @@ pub mod Readers
 pub mod SliceWriters
 pub mod BackWriters
 pub mod Parts
-pub mod RefusalLaws
+pub mod FaultLaws
 pub mod PartLaws
 pub mod Streams
 pub mod StdStreams

@@ -1,8 +1,8 @@
 -- The state of a reader: the remaining input, and whether it has failed.
 use Rattle.std.specs.Prelude.{◌≡◌, ◌≤◌, Bool, false, true, List, ◌++◌, length, ℕ, Result, OnErr}
 use Rattle.sec1_der.specs.Elements.{max_length, element}
-use Rattle.sec1_der.specs.Faults.{Refuses}
-use Rattle.sec1_der.specs.Refusals.{Fault, HasFault}
+use Rattle.sec1_der.specs.ErrorKinds.{Refuses}
+use Rattle.sec1_der.specs.Faults.{Fault, HasFault}
 use Rattle.sec1_der.specs.declared.error.Error.{Error}
 use Rattle.sec1_der.specs.declared.error.ErrorKind.TheVariants.{Failed}
 

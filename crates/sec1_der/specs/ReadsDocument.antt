@@ -2,7 +2,7 @@
 use Rattle.std.specs.Prelude.{◌≡◌, ℕ, ◌<◌, ◌⊎◌, List, [], ◌∷◌, ◌++◌, length, Option}
 use Rattle.std.specs.Io.KnownBytes.{Consumes, IsAtEnd}
 use Rattle.sec1_der.specs.Elements.{IsTag, IsHeader, IsElement, LacksHeader, header}
-use Rattle.sec1_der.specs.Faults.{header_fault, IsIoOrMemory}
+use Rattle.sec1_der.specs.ErrorKinds.{header_fault, IsIoOrMemory}
 use Rattle.sec1_der.specs.declared.error.ErrorKind.{ErrorKind}
 use Rattle.sec1_der.specs.declared.error.ErrorKind.TheVariants.{Truncated, Tag, Length}
 use Rattle.sec1_der.specs.declared.error.ErrorKind.TheVariants.{TrailingData, Value, Overlength}

@@ -2,7 +2,7 @@
 use Rattle.std.specs.Prelude.{◌≡◌, ℕ, ◌+◌, ◌<◌, ◌≤◌, List, ◌++◌, length, take, drop}
 use Rattle.std.specs.Prelude.{Option, Some, None, Result, IsOk}
 use Rattle.std.specs.Borrow.{MutBor}
-use Rattle.sec1_der.specs.Faults.{Refuses}
+use Rattle.sec1_der.specs.ErrorKinds.{Refuses}
 use Rattle.sec1_der.specs.declared.error.Error.{Error}
 use Rattle.sec1_der.specs.declared.error.ErrorKind.TheVariants.{Overlength, Buffer}
 use Rattle.sec1_der.specs.declared.slice_writer.SliceWriter.{SliceWriter}

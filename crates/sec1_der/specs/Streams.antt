@@ -9,8 +9,8 @@ pub record ReadsOnto (old new : Option (List ℕ)) (before after : List ℕ) (n 
   pub appended : after ≡ before ++ bytes
   pub count : length bytes ≡ n
 
--- a beginning of the bytes was written
-pub record AppendsBeginning (old new : Option (List ℕ)) (bytes : List ℕ) : Type 0 where
+-- a prefix of the bytes was written
+pub record AppendsPrefix (old new : Option (List ℕ)) (bytes : List ℕ) : Type 0 where
   pub front : List ℕ
   pub rest : List ℕ
   pub joined : bytes ≡ front ++ rest

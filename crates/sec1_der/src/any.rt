@@ -22,9 +22,9 @@ impl<'a> AnyRef<'a> {
     ghost use Rattle.std.specs.Prelude.{◌≡◌, ◌↔◌, ℕ, List, [], ◌++◌, true, false};
     ghost use Rattle.std.specs.Prelude.{IsOk, IfOk, IsOkAnd, IfErr, OnErr};
     ghost use Rattle.sec1_der.specs.Elements.{element, IsHeader, LacksHeader};
-    ghost use Rattle.sec1_der.specs.Faults.{header_fault, Refuses, IsHeaderFault};
+    ghost use Rattle.sec1_der.specs.ErrorKinds.{header_fault, Refuses, IsHeaderFault};
     ghost use Rattle.sec1_der.specs.Readers.{reader_over, HasRead, RefusesBy};
-    ghost use Rattle.sec1_der.specs.Refusals.{any_fault, no_fault};
+    ghost use Rattle.sec1_der.specs.Faults.{any_fault, no_fault};
     ghost use Rattle.sec1_der.specs.Values.{tag_of, value_of};
 
     /// Returns the element with this tag and content.
@@ -143,7 +143,7 @@ impl Eq for AnyRef<'_> {
 
 impl ValueContent for AnyRef<'_> {
     ghost use Rattle.std.specs.Prelude.{Some, ⊤};
-    ghost use Rattle.sec1_der.specs.Refusals.{no_fault};
+    ghost use Rattle.sec1_der.specs.Faults.{no_fault};
     ghost use Rattle.sec1_der.specs.Values.{value_of};
 
     ghost content = { λ any. Some (value_of any) };

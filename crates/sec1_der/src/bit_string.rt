@@ -21,7 +21,7 @@ pub struct BitStringRef<'a> {
 impl<'a> BitStringRef<'a> {
     ghost use Rattle.std.specs.Prelude.{◌+◌, ◌≤◌, Some, None, IsOk, IfOk, IfErr};
     ghost use Rattle.std.specs.Prelude.{IsSome, IfSome};
-    ghost use Rattle.sec1_der.specs.Faults.{Refuses};
+    ghost use Rattle.sec1_der.specs.ErrorKinds.{Refuses};
     ghost use Rattle.sec1_der.specs.Values.{unused_bits_of, bit_bytes_of};
 
     /// Returns a bit string without the lowest `unused` bits of the last byte.

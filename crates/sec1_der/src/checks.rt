@@ -1,7 +1,7 @@
 //! What the constants are, and what the writers leave in a slice. Nothing calls these functions:
 //! their contracts refuse another constant, and a writer that changes what it was not to.
 ghost use Rattle.std.specs.Prelude.{◌≡◌, ◌<◌, ◌≤◌, [], ◌∷◌, ◌++◌, length, take, drop, ◌-◌, IsOk};
-ghost use Rattle.sec1_der.specs.Faults.{Refuses};
+ghost use Rattle.sec1_der.specs.ErrorKinds.{Refuses};
 
 use crate::{
     BackWriter, BitStringRef, ErrorKind, FixedTag, ID_EC_PUBLIC_KEY, ObjectIdentifier,

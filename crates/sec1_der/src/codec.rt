@@ -4,9 +4,9 @@ ghost use Rattle.std.specs.Prelude.{⊤, Option, Some, None, IsOk, IfOk};
 ghost use Rattle.std.specs.Prelude.{IsOkAnd, IfErr, OnOk, OnErr, IsSomeAnd, MatchResult};
 ghost use Rattle.sec1_der.specs.Elements.{max_length, element, element_of, IsTag, IsElementOf};
 ghost use Rattle.sec1_der.specs.Encodings.{IsOverlengthOr, WritesInto};
-ghost use Rattle.sec1_der.specs.Elements.{IsProperBeginning};
-ghost use Rattle.sec1_der.specs.Faults.{Refuses, IsReadingFault};
-ghost use Rattle.sec1_der.specs.Refusals.{HasFault, element_fault, end_fault};
+ghost use Rattle.sec1_der.specs.Elements.{IsProperPrefix};
+ghost use Rattle.sec1_der.specs.ErrorKinds.{Refuses, IsReadingFault};
+ghost use Rattle.sec1_der.specs.Faults.{HasFault, element_fault, end_fault};
 
 use crate::length::check_room;
 use crate::value::element_header;
@@ -35,13 +35,13 @@ pub fn from_der<'a, T: DecodeValue<'a> + Tagged + Drop>(input: &'a [u8]) -> Resu
         → IsOkAnd result (λ found. T.content found ≡ T.content value) }
     ensures long_value { (value : T) (bytes : List ℕ)
         → element_of T.tag_byte (T.content value) ≡ Some bytes
-        → IsProperBeginning bytes input.now → Refuses result ErrorKind.TrailingData }
+        → IsProperPrefix bytes input.now → Refuses result ErrorKind.TrailingData }
 
     ensures short { (content : List ℕ) → length content ≤ max_length
-        → IsProperBeginning input.now (element T.tag_byte content)
+        → IsProperPrefix input.now (element T.tag_byte content)
         → Refuses result ErrorKind.Truncated }
     ensures long { (content : List ℕ) → T.is_content content → length content ≤ max_length
-        → IsProperBeginning (element T.tag_byte content) input.now
+        → IsProperPrefix (element T.tag_byte content) input.now
         → Refuses result ErrorKind.TrailingData }
     ensures kinds { IfErr result (λ e. IsReadingFault e.kind) }
     // Whether the input is refused, and by which kind, is a function of its bytes.

@@ -3,7 +3,7 @@
 ghost use Rattle.std.specs.Prelude.{◌≡◌, ◌∷◌, [], ℕ, List, Some, ⊤};
 ghost use Rattle.sec1_der.specs.Contents.{byte_fault, whole_bits_fault};
 ghost use Rattle.sec1_der.specs.Elements.{element_of};
-ghost use Rattle.sec1_der.specs.Refusals.{element_fault, end_fault, no_fault};
+ghost use Rattle.sec1_der.specs.Faults.{element_fault, end_fault, no_fault};
 
 use crate::{
     BackWriter, BitStringRef, DecodeValue, EncodeValue, ErrorKind, Length, OctetStringRef, Result,

@@ -3,10 +3,10 @@ ghost use Rattle.std.specs.Prelude.{MatchResult, ⊤};
 ghost use Rattle.std.specs.Fmt.{WritesOnOk, WritesStyledOnOk};
 ghost use Rattle.sec1_der.specs.DebugTexts.{document_text};
 ghost use Rattle.sec1_der.specs.Elements.{max_length, element, element_of, IsHeader, IsElement};
-ghost use Rattle.sec1_der.specs.Elements.{IsProperBeginning, LacksHeader};
+ghost use Rattle.sec1_der.specs.Elements.{IsProperPrefix, LacksHeader};
 ghost use Rattle.sec1_der.specs.Encodings.{IsOverlengthOr};
-ghost use Rattle.sec1_der.specs.Faults.{Refuses, IsHeaderFault, header_fault};
-ghost use Rattle.sec1_der.specs.Refusals.{document_fault};
+ghost use Rattle.sec1_der.specs.ErrorKinds.{Refuses, IsHeaderFault, header_fault};
+ghost use Rattle.sec1_der.specs.Faults.{document_fault};
 
 pub(crate) mod stream;
 
@@ -41,7 +41,7 @@ impl SecretDocument {
     ///
     /// Those of [`Header::decode`](crate::Header::decode), then Truncated if the input ends inside
     /// the content, TrailingData if bytes follow it, and Memory if the allocation fails.
-    #[tactic(auto, using(crate::proofs::RefusalLemmas::document_faults))]
+    #[tactic(auto, using(crate::proofs::ElementFaultLemmas::document_faults))]
     pub fn from_der(alloc: Global, bytes: &[u8]) -> Result<SecretDocument>
         ensures found { IfOk result (λ document. (document ≡ bytes.now) × IsElement bytes.now) }
         ensures only { IsElement bytes.now
@@ -49,10 +49,10 @@ impl SecretDocument {
             (λ e. e.kind ≡ ErrorKind.Memory) }
         ensures fault { LacksHeader bytes.now → Refuses result (header_fault bytes.now) }
         ensures short { (tag : ℕ) (content : List ℕ) → IsHeader tag (length content)
-            → IsProperBeginning bytes.now (element tag content)
+            → IsProperPrefix bytes.now (element tag content)
             → Refuses result ErrorKind.Truncated }
         ensures long { (tag : ℕ) (content : List ℕ) → IsHeader tag (length content)
-            → IsProperBeginning (element tag content) bytes.now
+            → IsProperPrefix (element tag content) bytes.now
             → Refuses result ErrorKind.TrailingData }
         ensures kinds { IfErr result (λ e. IsHeaderFault e.kind ⊎ (e.kind ≡ ErrorKind.TrailingData)
             ⊎ ((e.kind ≡ ErrorKind.Memory) × IsElement bytes.now)) }

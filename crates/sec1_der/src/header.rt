@@ -4,11 +4,11 @@ ghost use Rattle.std.specs.Ordering.{eq_of_both, on};
 ghost use Rattle.std.specs.Prelude.{nat_eq, ◌↔◌, IsTrue};
 ghost use Rattle.std.specs.Prelude.{IsOkAnd, IsOk, IsErr, OnErr, false, true, Some};
 ghost use Rattle.sec1_der.specs.Elements.{max_length, length_octets, header, element, IsHeader};
-ghost use Rattle.sec1_der.specs.Elements.{IsProperBeginning, LacksHeader};
-ghost use Rattle.sec1_der.specs.Faults.{length_fault, header_fault, Refuses, IsHeaderFault};
+ghost use Rattle.sec1_der.specs.Elements.{IsProperPrefix, LacksHeader};
+ghost use Rattle.sec1_der.specs.ErrorKinds.{length_fault, header_fault, Refuses, IsHeaderFault};
 ghost use Rattle.sec1_der.specs.Numbers.{number_of};
 ghost use Rattle.sec1_der.specs.Readers.{reader_over, refused, HasRead};
-ghost use Rattle.sec1_der.specs.Refusals.{Fault, any_fault};
+ghost use Rattle.sec1_der.specs.Faults.{Fault, any_fault};
 ghost use Rattle.sec1_der.specs.SliceWriters.{WritesBehind};
 
 use crate::{ErrorKind, Length, Result, SliceReader, SliceWriter, Tag};
@@ -143,7 +143,7 @@ pub(crate) fn element_at(input: &[u8]) -> First<'_, Header>
         → IsOkAnd result (λ x. (x.0 ≡ record { tag = tag; length = length content })
         × (x.1.now ≡ content ++ rest)) }
     ensures short { (tag : ℕ) (content : List ℕ) → IsHeader tag (length content)
-        → IsProperBeginning input.now (element tag content)
+        → IsProperPrefix input.now (element tag content)
         → result ≡ Err ErrorKind.Truncated }
     ensures fault { LacksHeader input.now → result ≡ Err (header_fault input.now) }
     ensures element { IfErr result (λ kind. (content : ℕ → Fault) (behind : Fault)

@@ -2,8 +2,8 @@
 //! for callers to cite. Each law is the contract of a function, which does nothing else.
 ghost use Rattle.std.specs.Prelude.{◌≡◌, ◌⊎◌, ◌≤◌, ℕ, List, length, Some, None, IsSome};
 ghost use Rattle.sec1_der.specs.Elements.{element, element_of, max_length, IsHeader};
-ghost use Rattle.sec1_der.specs.Elements.{IsProperBeginning};
-ghost use Rattle.sec1_der.specs.Refusals.{Fault, any_fault, element_fault};
+ghost use Rattle.sec1_der.specs.Elements.{IsProperPrefix};
+ghost use Rattle.sec1_der.specs.Faults.{Fault, any_fault, element_fault};
 ghost use Rattle.sec1_der.specs.TreeLaws.{BytesDetermineTree, BytesDetermineRow};
 ghost use Rattle.sec1_der.specs.TreeLaws.{NoTreeBeginsAnother};
 ghost use Rattle.sec1_der.specs.Values.{octets_of, unused_bits_of, bit_bytes_of};
@@ -36,13 +36,13 @@ pub fn trees_prefix_free()
 
 /// An element that ends too early is refused as Truncated, whatever its content is tested for and
 /// whatever may follow it.
-#[tactic(auto, using(crate::proofs::RefusalLemmas::element_cut, crate::proofs::RefusalLemmas::any_tag_cut))]
+#[tactic(auto, using(crate::proofs::ElementFaultLemmas::element_cut, crate::proofs::ElementFaultLemmas::any_tag_cut))]
 pub fn cut_elements()
     ensures element { (inside behind : Fault) (tag : ℕ) (content bytes : List ℕ)
-        → length content ≤ max_length → IsProperBeginning bytes (element tag content)
+        → length content ≤ max_length → IsProperPrefix bytes (element tag content)
         → element_fault tag inside behind bytes ≡ Some ErrorKind.Truncated }
     ensures any { (inside : ℕ → Fault) (behind : Fault) (tag : ℕ) (content bytes : List ℕ)
-        → IsHeader tag (length content) → IsProperBeginning bytes (element tag content)
+        → IsHeader tag (length content) → IsProperPrefix bytes (element tag content)
         → any_fault inside behind bytes ≡ Some ErrorKind.Truncated }
 {}
 

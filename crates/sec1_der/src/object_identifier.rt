@@ -265,7 +265,7 @@ impl ValueContent for ObjectIdentifier {
 }
 
 impl<'a> DecodeValue<'a> for ObjectIdentifier {
-    #[tactic(auto, using(crate::proofs::ContentRefusals::identifier_faults))]
+    #[tactic(auto, using(crate::proofs::ContentFaultLemmas::identifier_faults))]
     fn decode_value(reader: &mut SliceReader<'a>) -> Result<Self> {
         match ObjectIdentifier::from_bytes(reader.read_rest()?) {
             Ok(identifier) => Ok(identifier),

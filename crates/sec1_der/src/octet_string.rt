@@ -57,7 +57,7 @@ impl FixedTag for OctetStringRef<'_> {
 
 impl ValueContent for OctetStringRef<'_> {
     ghost use Rattle.std.specs.Prelude.{Some, ⊤};
-    ghost use Rattle.sec1_der.specs.Refusals.{no_fault};
+    ghost use Rattle.sec1_der.specs.Faults.{no_fault};
     ghost use Rattle.sec1_der.specs.Values.{octets_of};
 
     ghost content = { λ octets. Some (octets_of octets) };

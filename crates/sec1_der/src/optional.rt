@@ -3,7 +3,7 @@ ghost use Rattle.std.specs.Option.{option_map};
 ghost use Rattle.std.specs.Prelude.{◌≡◌, Option};
 ghost use Rattle.sec1_der.specs.Parts.{optional_of, optional_tag};
 ghost use Rattle.sec1_der.specs.PartLaws.{optional_begins};
-ghost use Rattle.sec1_der.specs.Refusals.{optional_fault};
+ghost use Rattle.sec1_der.specs.Faults.{optional_fault};
 
 use crate::{
     BackWriter, DecodePart, DecodeValue, EncodePart, EncodeValue, Length, Part, Result,

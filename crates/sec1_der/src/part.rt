@@ -4,11 +4,11 @@ ghost use Rattle.std.specs.Prelude.{IfOk, IfErr, OnOk, OnErr, IsOk, IsOkAnd, IsS
 ghost use Rattle.sec1_der.specs.BackWriters.{Puts};
 ghost use Rattle.sec1_der.specs.Elements.{max_length, within_limit};
 ghost use Rattle.sec1_der.specs.Encodings.{Measures};
-ghost use Rattle.sec1_der.specs.Faults.{Refuses, IsReadingFault};
+ghost use Rattle.sec1_der.specs.ErrorKinds.{Refuses, IsReadingFault};
 ghost use Rattle.sec1_der.specs.Parts.{Tags, Begins, MayFollow, AreApart, join, both_tags};
 ghost use Rattle.sec1_der.specs.PartLaws.{pair_begins};
 ghost use Rattle.sec1_der.specs.Readers.{reader_over, HasRead};
-ghost use Rattle.sec1_der.specs.Refusals.{Fault};
+ghost use Rattle.sec1_der.specs.Faults.{Fault};
 
 use crate::{BackWriter, ErrorKind, Length, Result, SliceReader};
 

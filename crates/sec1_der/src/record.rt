@@ -1,6 +1,6 @@
 //! Your own struct, read and written as a SEQUENCE.
 ghost use Rattle.std.specs.Prelude.{◌≡◌, ℕ, List, Some, true, refl};
-ghost use Rattle.sec1_der.specs.Refusals.{end_fault};
+ghost use Rattle.sec1_der.specs.Faults.{end_fault};
 
 use crate::length::check_room;
 use crate::{

@@ -5,11 +5,11 @@ ghost use Rattle.std.specs.Prelude.{IsOkAnd, IsSomeAnd};
 ghost use Rattle.std.specs.Prelude.{IfOk, IfErr, OnOk, OnErr};
 ghost use Rattle.sec1_der.specs.Elements.{element_of, max_length, within_limit};
 ghost use Rattle.sec1_der.specs.Encodings.{Measures};
-ghost use Rattle.sec1_der.specs.Faults.{Refuses, IsReadingFault};
+ghost use Rattle.sec1_der.specs.ErrorKinds.{Refuses, IsReadingFault};
 ghost use Rattle.sec1_der.specs.Parts.{MayFollow, one_tag};
 ghost use Rattle.sec1_der.specs.PartLaws.{element_begins};
 ghost use Rattle.sec1_der.specs.Readers.{reader_over, HasRead};
-ghost use Rattle.sec1_der.specs.Refusals.{Fault, element_fault};
+ghost use Rattle.sec1_der.specs.Faults.{Fault, element_fault};
 
 use crate::{
     BackWriter, DecodePart, DecodeValue, EncodePart, EncodeValue, ErrorKind, Length, Part, Result,

@@ -2,7 +2,7 @@
 ghost use Rattle.std.specs.Prelude.{ℕ, List, Option, None, Bool, false, IsTrue, IsErr, IfOk, OnOk};
 ghost use Rattle.std.specs.Prelude.{OnErr, ◌≤◌, ◌≡◌, ◌↔◌, length};
 ghost use Rattle.std.specs.Io.KnownBytes.{Appends, ReadConsumes, WriteAppends};
-ghost use Rattle.sec1_der.specs.Streams.{AppendsBeginning};
+ghost use Rattle.sec1_der.specs.Streams.{AppendsPrefix};
 
 /// The error of a failed read or write.
 #[derive(Clone, Copy, Debug, PartialEq, Eq)]
@@ -64,13 +64,13 @@ pub trait Write {
     ///
     /// # Errors
     ///
-    /// [`IoFault`] exactly if a write failed; a beginning of the bytes is written then.
+    /// [`IoFault`] exactly if a write failed; a prefix of the bytes is written then.
     fn write_all(&mut self, bytes: &[u8]) -> Result<(), IoFault>
         requires { failed self.old ≡ false }
         ensures fault { IsErr result ↔ IsTrue (failed self.new) }
         ensures all { OnOk result (Appends (written self.old) (written self.new) bytes.now) }
-        ensures beginning { OnErr result
-            (AppendsBeginning (written self.old) (written self.new) bytes.now) }
+        ensures prefix { OnErr result
+            (AppendsPrefix (written self.old) (written self.new) bytes.now) }
     {
         let mut rest = bytes;
         while !rest.is_empty() {

@@ -1,9 +1,9 @@
 ghost use Rattle.std.specs.Prelude.{◌≡◌, ◌<◌, ◌≤◌, IfOk, IfErr, List, ℕ, get_or, ◌≢◌, ◌-◌, ◌⊎◌};
 ghost use Rattle.std.specs.Prelude.{◌↔◌, ◌++◌, [], ◌∷◌, Some, take, drop, length, IsTrue};
 ghost use Rattle.std.specs.Prelude.{OnOk, OnErr};
-ghost use Rattle.sec1_der.specs.Elements.{IsProperBeginning};
-ghost use Rattle.sec1_der.specs.Faults.{Refuses, IsTreeFault, IsHeaderFault};
-ghost use Rattle.sec1_der.specs.Refusals.{HasFault, tree_fault, Fault, any_fault};
+ghost use Rattle.sec1_der.specs.Elements.{IsProperPrefix};
+ghost use Rattle.sec1_der.specs.ErrorKinds.{Refuses, IsTreeFault, IsHeaderFault};
+ghost use Rattle.sec1_der.specs.Faults.{HasFault, tree_fault, Fault, any_fault};
 ghost use Rattle.sec1_der.specs.Trees.{Tree, IsTree, IsTreeOf, bytes, size, depth, max_tree_depth};
 ghost use Rattle.sec1_der.specs.Walks.{open_ends, innermost, Enters, IsTooDeep};
 
@@ -40,10 +40,10 @@ pub fn check_tree(input: &[u8]) -> Result<usize>
         → Refuses result ErrorKind.Depth }
 
     // The bytes end inside those of a tree of any depth, or go on behind those of a tree.
-    ensures short { (t : Tree) → IsTree t → IsProperBeginning input.now (bytes t)
+    ensures short { (t : Tree) → IsTree t → IsProperPrefix input.now (bytes t)
         → Refuses result ErrorKind.Truncated }
     ensures long { (t : Tree) → IsTree t → depth t ≤ max_tree_depth
-        → IsProperBeginning (bytes t) input.now
+        → IsProperPrefix (bytes t) input.now
         → Refuses result ErrorKind.TrailingData }
     ensures kinds { IfErr result (λ e. IsTreeFault e.kind) }
     // Whether the input is refused, and by which kind, is a function of its bytes.

@@ -4,9 +4,9 @@ ghost use Rattle.std.specs.Prelude.{None, IsOk, IfOk, IfErr, OnOk, OnErr};
 ghost use Rattle.sec1_der.specs.BackWriters.{WritesInFront, Puts};
 ghost use Rattle.sec1_der.specs.Elements.{max_length, element_of, within_limit, IsTag};
 ghost use Rattle.sec1_der.specs.Encodings.{Measures};
-ghost use Rattle.sec1_der.specs.Faults.{Refuses, IsReadingFault};
+ghost use Rattle.sec1_der.specs.ErrorKinds.{Refuses, IsReadingFault};
 ghost use Rattle.sec1_der.specs.Readers.{reader_over};
-ghost use Rattle.sec1_der.specs.Refusals.{Fault, HasFault};
+ghost use Rattle.sec1_der.specs.Faults.{Fault, HasFault};
 ghost use Rattle.sec1_der.specs.SliceWriters.{WritesBehind};
 
 use crate::{BackWriter, ErrorKind, Header, Length, Result, SliceReader, SliceWriter, Tag};
@@ -112,7 +112,7 @@ pub trait EncodeValue: ValueContent {
     }
 }
 
-/// A type whose values have different contents.
+/// A type for which different values have different contents.
 pub trait UniqueContent: ValueContent {
     /// Does nothing: its contract is the law that two values with one content are the same.
     fn one()

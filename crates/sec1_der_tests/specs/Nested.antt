@@ -4,7 +4,7 @@ use Rattle.sec1_der.specs.Contents.{identifier_fault}
 use Rattle.sec1_der.specs.Elements.{element_of}
 use Rattle.sec1_der.specs.Identifiers.{identifier_content}
 use Rattle.sec1_der.specs.Parts.{join}
-use Rattle.sec1_der.specs.Refusals.{Fault, element_fault, end_fault}
+use Rattle.sec1_der.specs.Faults.{Fault, element_fault, end_fault}
 
 -- four values
 abbrev pub Four : Type 0 → Type 0

@@ -7,9 +7,9 @@ ghost use Rattle.sec1_der.specs.Identifiers.{content_of};
 
 pub mod equality;
 
-/// Lengths where their spelling changes its form (X.690 section 8.1.3), and the greatest.
+/// Lengths where their form changes (X.690 section 8.1.3), and the greatest.
 #[tactic(auto, unfolding(sec1_der::specs::Elements::length_octets))]
-pub fn spelled_lengths()
+pub fn example_lengths()
     ensures short { length_octets 127 ≡ 0x7F ∷ [] }
     ensures one_digit { length_octets 128 ≡ 0x81 ∷ 0x80 ∷ [] }
     ensures last_of_one_digit { length_octets 255 ≡ 0x81 ∷ 0xFF ∷ [] }
@@ -20,7 +20,7 @@ pub fn spelled_lengths()
 
 /// The contents of P-256's identifier (RFC 5480 section 2.1.1.1), of 2.999, whose second arc is
 /// above 39 (X.690 section 8.19.4), and of the greatest second arc.
-pub fn spelled_identifiers()
+pub fn example_identifiers()
     ensures p_256 { content_of (1 ∷ 2 ∷ 840 ∷ 10045 ∷ 3 ∷ 1 ∷ 7 ∷ [])
         ≡ 0x2A ∷ 0x86 ∷ 0x48 ∷ 0xCE ∷ 0x3D ∷ 0x03 ∷ 0x01 ∷ 0x07 ∷ [] }
     ensures example { content_of (2 ∷ 999 ∷ []) ≡ 0x88 ∷ 0x37 ∷ [] }

@@ -64,7 +64,7 @@ static LENGTHS: [(usize, [u8; 6], usize); 8] = [
 
 #[test]
 fn writes_headers(rt: HostRuntime) -> Result<(), Fail> {
-    for &(n, spelled, count) in LENGTHS.iter() {
+    for &(n, octets, count) in LENGTHS.iter() {
         let header = Header {
             tag: Tag::OCTET_STRING,
             length: Length::new(n)?,
@@ -72,7 +72,7 @@ fn writes_headers(rt: HostRuntime) -> Result<(), Fail> {
         assert_eq!(rt; header.encoded_len(), count);
         let mut room = [0; 6];
         header.encode(&mut SliceWriter::new(&mut room))?;
-        assert_eq!(rt; room, spelled);
+        assert_eq!(rt; room, octets);
     }
     Ok(())
 }

@@ -1,7 +1,7 @@
 -- What a run reads and writes, and the status of the program.
 use Rattle.std.specs.Prelude.{◌≡◌, ℕ, ◌+◌, ◌≤◌, ◌⊎◌, List, ◌++◌, Option, IfSome, length, codes}
 use Rattle.std.specs.Io.KnownBytes.{Appends, Consumes, IsAtEnd}
-use Rattle.sec1.specs.Der.{AppendsBeginning}
+use Rattle.sec1.specs.Der.{AppendsPrefix}
 use Rattle.sec1_inspect.specs.declared.Failure.{Failure}
 use Rattle.sec1_inspect.specs.declared.Failure.TheVariants.{Run, Paths}
 use Rattle.sec1_inspect.specs.declared.Fault.TheVariants.{Input, Output, Memory}
@@ -33,12 +33,12 @@ pub record WritesReport (IsReport : List ℕ → List ℕ → ℕ → Type 0) (i
   pub appended : Appends old new text
   pub report : IfSome input (λ bytes. IsReport bytes text status)
 
--- a beginning of the text of the report on the input was written
+-- a prefix of the text of the report on the input was written
 pub record WritesBeginning (IsReport : List ℕ → List ℕ → ℕ → Type 0)
     (input old new : Option (List ℕ)) : Type 0 where
   pub text : List ℕ
   pub status : ℕ
-  pub appended : AppendsBeginning old new text
+  pub appended : AppendsPrefix old new text
   pub report : IfSome input (λ bytes. IsReport bytes text status)
 
 -- the report on an input in this form

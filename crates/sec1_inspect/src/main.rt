@@ -10,7 +10,7 @@ ghost use Rattle.std.specs.Prelude.{◌≡◌, ◌≢◌, ◌<◌, ◌≤◌, �
 ghost use Rattle.std.specs.Prelude.{IfErr, OnOk, OnErr, IsErrOf, MatchOption, MatchResult, Ok};
 ghost use Rattle.std.specs.Prelude.{Err, string_bytes};
 ghost use Rattle.std.specs.Io.KnownBytes.{Appends, IsAtEnd};
-ghost use Rattle.sec1.specs.Der.{AppendsBeginning};
+ghost use Rattle.sec1.specs.Der.{AppendsPrefix};
 ghost use Rattle.sec1_inspect.specs.declared.Failure.TheVariants.{Run, Paths};
 ghost use Rattle.sec1_inspect.specs.declared.Fault.TheVariants.{Input, Output, Memory};
 ghost use Rattle.sec1_inspect.specs.declared.Source.TheVariants.{StandardInput, File};
@@ -61,7 +61,7 @@ impl From<AllocError> for Fault {
 /// # Errors
 ///
 /// Input exactly if a read failed, Output exactly if a write failed, Memory if an allocation
-/// failed. After Output a beginning of the report is written, otherwise nothing.
+/// failed. After Output a prefix of the report is written, otherwise nothing.
 pub fn run<R: Read, W: Write>(alloc: Global, reader: &mut R, writer: &mut W) -> Result<u8, Fault>
     requires reader { R.failed reader.old ≡ false }
     requires writer { W.failed writer.old ≡ false }
@@ -75,7 +75,7 @@ pub fn run<R: Read, W: Write>(alloc: Global, reader: &mut R, writer: &mut W) -> 
 
     ensures nothing { IfErr result
         (λ fault. fault ≢ Output → W.written writer.new ≡ W.written writer.old) }
-    ensures beginning { IsErrOf result Fault.Output
+    ensures prefix { IsErrOf result Fault.Output
         → WritesBeginning IsReport (R.left reader.old) (W.written writer.old)
         (W.written writer.new) }
 {
@@ -107,7 +107,7 @@ pub fn run_der<R: Read, W: Write>(
 
     ensures nothing { IfErr result
         (λ fault. fault ≢ Output → W.written writer.new ≡ W.written writer.old) }
-    ensures beginning { IsErrOf result Fault.Output
+    ensures prefix { IsErrOf result Fault.Output
         → WritesBeginning IsDerReport (R.left reader.old) (W.written writer.old)
         (W.written writer.new) }
 {
@@ -169,7 +169,7 @@ fn read_some<R: Read>(reader: &mut R, input: &mut Vec<u8>, missing: usize) -> Re
 /// Writes the report, and returns its status.
 ///
 /// # Errors
-/// Output exactly if a write failed; a beginning of the report is written then.
+/// Output exactly if a write failed; a prefix of the report is written then.
 fn write_report<W: Write>(writer: &mut W, report: &Report) -> Result<u8, Fault>
     requires { W.failed writer.old ≡ false }
     ensures output { IsErrOf result Fault.Output ↔ IsTrue (W.failed writer.new) }
@@ -177,8 +177,8 @@ fn write_report<W: Write>(writer: &mut W, report: &Report) -> Result<u8, Fault>
     ensures status { IfOk result (λ status. status ≡ report.now.status) }
     ensures whole { OnOk result
         (Appends (W.written writer.old) (W.written writer.new) (string_bytes report.now.text)) }
-    ensures beginning { OnErr result
-        (AppendsBeginning (W.written writer.old) (W.written writer.new)
+    ensures prefix { OnErr result
+        (AppendsPrefix (W.written writer.old) (W.written writer.new)
         (string_bytes report.now.text)) }
 {
     match writer.write_all(report.text.as_bytes()) {

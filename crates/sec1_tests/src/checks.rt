@@ -1,7 +1,7 @@
 //! What the definitions of `sec1` say at keys and points of the standards, and what its constants
 //! are. Each is proved from the public contracts and definitions.
 ghost use Rattle.std.specs.Prelude.{◌≡◌, [], ◌∷◌, Some, false};
-ghost use Rattle.sec1.specs.KeyRefusals.{key_fault};
+ghost use Rattle.sec1.specs.KeyFaults.{key_fault};
 ghost use Rattle.sec1.specs.Keys.{IsKeyOf};
 ghost use Rattle.sec1.specs.Points.{compact, compressed, compressed_point, encoding, hybrid};
 ghost use Rattle.sec1.specs.Points.{identity};
@@ -22,15 +22,15 @@ pub fn algorithm_identifier() -> ObjectIdentifier
 
 /// A key on P-256 and its bytes (RFC 5915 section 3).
 #[tactic(auto, unfolding(sec1::specs::Der::length_octets))]
-pub fn spelled_key()
+pub fn example_key()
     ensures { IsKeyOf p_256_key p_256_bytes }
 {
     laws::tree_is_element();
 }
 
 /// Bytes that are refused as a key, and by which kind (RFC 5915 section 3).
-#[tactic(auto, unfolding(sec1::specs::Der::length_octets, sec1::specs::KeyRefusals::key_fault))]
-pub fn spelled_refusals()
+#[tactic(auto, unfolding(sec1::specs::Der::length_octets, sec1::specs::KeyFaults::key_fault))]
+pub fn example_refusals()
     ensures no_byte { key_fault [] ≡ Some ErrorKind.Truncated }
     ensures tag_before_length { key_fault (0x31 ∷ 0x80 ∷ []) ≡ Some ErrorKind.Tag }
     ensures indefinite_length { key_fault (0x30 ∷ 0x80 ∷ []) ≡ Some ErrorKind.Length }
@@ -58,7 +58,7 @@ pub fn spelled_refusals()
 /// base point compressed (SEC 2 v2.0 section 2.4.2), and each other form at field elements of one
 /// byte.
 #[tactic(auto, unfolding(sec1::specs::Points::encoding, sec1::specs::Points::fixed_width))]
-pub fn spelled_points()
+pub fn example_points()
     ensures public_key { Some (encoding 32 p_256_point) ≡ p_256_key.public_key }
     ensures compressed { encoding 32 (compressed_point p_256_base) ≡ p_256_base_compressed }
     ensures compressed_even { encoding 1 (compressed 1 false) ≡ 2 ∷ 1 ∷ [] }

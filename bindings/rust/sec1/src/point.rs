@@ -168,7 +168,7 @@ impl<Size: ModulusSize> EncodedPoint<Size> {
         self.as_bytes().into()
     }
 
-    /// Returns whether the point is compact.
+    /// Returns `true` if the point is compact.
     ///
     /// # Examples
     ///
@@ -182,7 +182,7 @@ impl<Size: ModulusSize> EncodedPoint<Size> {
         self.tag.is_compact()
     }
 
-    /// Returns whether the point is compressed.
+    /// Returns `true` if the point is compressed.
     ///
     /// # Examples
     ///
@@ -197,7 +197,7 @@ impl<Size: ModulusSize> EncodedPoint<Size> {
         self.tag.is_compressed()
     }
 
-    /// Returns whether the point is the one at infinity.
+    /// Returns `true` if the point is the one at infinity.
     ///
     /// # Examples
     ///

@@ -5,11 +5,11 @@ ghost use Rattle.std.specs.Prelude.{IsErr, IfOk, IfErr, IfSome, OnOk, OnErr};
 ghost use Rattle.std.specs.Io.KnownBytes.{Appends, Consumes, IsAtEnd};
 ghost use Rattle.std.specs.List.{All};
 ghost use Rattle.sec1_der.specs.Elements.{IsElement};
-ghost use Rattle.sec1_der.specs.Faults.{IsIoOrMemory, Refuses};
+ghost use Rattle.sec1_der.specs.ErrorKinds.{IsIoOrMemory, Refuses};
 ghost use Rattle.sec1_der.specs.ReadsDocument.{IsElementFault, ConsumesElement, RefusesElement};
 ghost use Rattle.sec1_der.specs.ReadsDocument.{ReadsHeader, RefusesContent};
-ghost use Rattle.sec1_der.specs.Refusals.{document_fault};
-ghost use Rattle.sec1_der.specs.Streams.{AppendsBeginning, ReadsOnto, TakesFewer};
+ghost use Rattle.sec1_der.specs.Faults.{document_fault};
+ghost use Rattle.sec1_der.specs.Streams.{AppendsPrefix, ReadsOnto, TakesFewer};
 ghost use Rattle.sec1_der.specs.declared.error.ErrorKind.TheVariants.{Io};
 
 use super::SecretDocument;
@@ -24,7 +24,7 @@ const STEP: usize = 4096;
 
 impl SecretDocument {
     /// Reads one element up to the end of the input. The header is read one byte at a time, the
-    /// content at most 4,096 bytes at a time, and then one byte more, which must not be there.
+    /// content at most 4,096 bytes at a time. Then one byte more is asked for, to find the end.
     /// Whatever the header announces, memory grows by at most 4,096 bytes at once, and only when it
     /// is full.
     ///
@@ -83,14 +83,14 @@ impl SecretDocument {
     ///
     /// # Errors
     ///
-    /// Io exactly if a write failed; a beginning of the bytes is written then.
+    /// Io exactly if a write failed; a prefix of the bytes is written then.
     pub fn write_der_to<W: Write>(&self, writer: &mut W) -> Result<()>
         requires { W.failed writer.old ≡ false }
         ensures io { IsErr result ↔ IsTrue (W.failed writer.new) }
         ensures kind { IfErr result (λ error. error.kind ≡ Io) }
         ensures all { OnOk result (Appends (W.written writer.old) (W.written writer.new) self.now) }
-        ensures beginning { OnErr result
-            (AppendsBeginning (W.written writer.old) (W.written writer.new) self.now) }
+        ensures prefix { OnErr result
+            (AppendsPrefix (W.written writer.old) (W.written writer.new) self.now) }
     {
         writer.write_all(self.as_bytes())?;
         Ok(())

@@ -2,11 +2,11 @@
 ghost use Rattle.std.specs.Prelude.{◌≡◌, ◌≢◌, ◌≤◌, ◌++◌, [], ℕ, List, length};
 ghost use Rattle.std.specs.Prelude.{slice_get, true, false, IfOk};
 ghost use Rattle.std.specs.Prelude.{IsOkAnd, IfErr, OnOk, OnErr, IfSome, IfNone, IsSomeAnd};
-ghost use Rattle.sec1_der.specs.Elements.{max_length, element, IsProperBeginning, explicit_tag};
-ghost use Rattle.sec1_der.specs.Faults.{Refuses, IsReadingFault};
+ghost use Rattle.sec1_der.specs.Elements.{max_length, element, IsProperPrefix, explicit_tag};
+ghost use Rattle.sec1_der.specs.ErrorKinds.{Refuses, IsReadingFault};
 ghost use Rattle.sec1_der.specs.Readers.{reader_over, HasReadElement, RefusesBy};
-ghost use Rattle.sec1_der.specs.Refusals.{HasFault, element_fault, end_fault, field_fault};
-ghost use Rattle.sec1_der.specs.Refusals.{no_fault};
+ghost use Rattle.sec1_der.specs.Faults.{HasFault, element_fault, end_fault, field_fault};
+ghost use Rattle.sec1_der.specs.Faults.{no_fault};
 
 use crate::header::element_at;
 use crate::{DecodeValue, ErrorKind, Result, SliceReader, Tag, Tagged};
@@ -132,7 +132,7 @@ impl<'a> SliceReader<'a> {
             → IsOkAnd result (λ value. T.content value ≡ Some content) }
         ensures long { (content : List ℕ) → T.is_content content → length content ≤ max_length
             → self.old.failed ≡ false
-            → IsProperBeginning (element T.tag_byte content) self.old.unread
+            → IsProperPrefix (element T.tag_byte content) self.old.unread
             → Refuses result ErrorKind.TrailingData }
         ensures kinds { self.old.failed ≡ false → IfErr result (λ e. IsReadingFault e.kind) }
         ensures kind { self.old.failed ≡ false

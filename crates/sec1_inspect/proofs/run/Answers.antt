@@ -3,8 +3,8 @@ use Rattle.sec1_inspect.specs.Report.{IsReport, IsReportOnDigits, stripped}
 use Rattle.sec1_inspect.proofs.ReportLemmas.{report_on_input}
 use Rattle.sec1_inspect.proofs.run.Goals as goal
 
-pub returns-clause-beginning : goal.returns-clause-beginning
-returns-clause-beginning g c failed =
+pub returns-clause-prefix : goal.returns-clause-prefix
+returns-clause-prefix g c failed =
     let report = c.in_ok-report.report in
     let on_taken : IsReport c.in_ok-input.input.items (string_bytes report.text) report.status =
     rw c.deref.ensures.value at c.in_ok-report.ensures in

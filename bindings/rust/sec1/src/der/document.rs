@@ -60,7 +60,7 @@ impl SecretDocument {
         self.len
     }
 
-    /// Returns whether there are no bytes, which is never so.
+    /// Returns `true` if there are no bytes, which never holds.
     ///
     /// # Examples
     ///

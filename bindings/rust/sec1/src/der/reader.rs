@@ -65,7 +65,7 @@ pub trait Reader<'r>: Clone + sealed::Input<'r> {
     /// ```
     fn remaining_len(&self) -> Length;
 
-    /// Returns whether all bytes were read.
+    /// Returns `true` if all bytes were read.
     ///
     /// # Examples
     ///

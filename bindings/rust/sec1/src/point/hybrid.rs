@@ -101,7 +101,7 @@ impl<Size: ModulusSize> HybridPoint<Size> {
         self.as_bytes().into()
     }
 
-    /// Returns whether the y-coordinate is odd, which the tag says too.
+    /// Returns `true` if the y-coordinate is odd, which the tag says too.
     ///
     /// # Examples
     ///

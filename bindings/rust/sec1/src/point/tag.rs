@@ -66,7 +66,7 @@ impl Tag {
         }
     }
 
-    /// Returns whether this is the tag of compact points.
+    /// Returns `true` if this is the tag of compact points.
     ///
     /// # Examples
     ///
@@ -79,7 +79,7 @@ impl Tag {
         self == Tag::Compact
     }
 
-    /// Returns whether this is a tag of compressed points.
+    /// Returns `true` if this is a tag of compressed points.
     ///
     /// # Examples
     ///
@@ -93,7 +93,7 @@ impl Tag {
         matches!(self, Tag::CompressedEvenY | Tag::CompressedOddY)
     }
 
-    /// Returns whether this is the tag of the point at infinity.
+    /// Returns `true` if this is the tag of the point at infinity.
     ///
     /// # Examples
     ///

@@ -1,5 +1,5 @@
 use Rattle.std.proofs.Common.{◌∙◌}
-use Rattle.sec1_der.specs.Refusals.{no_fault}
+use Rattle.sec1_der.specs.Faults.{no_fault}
 use Rattle.der_faults.specs.Places.{at_first, element_place, end_place}
 use Rattle.der_faults.proofs.KindLemmas.{bits_place, curve_place}
 use Rattle.der_faults.proofs.key.components.Goals as goal

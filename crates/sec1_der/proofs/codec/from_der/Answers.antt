@@ -1,6 +1,6 @@
 use Rattle.std.proofs.Common.{rules}
-use Rattle.sec1_der.specs.Refusals.{end_fault}
-use Rattle.sec1_der.proofs.RefusalLemmas.{element_cut}
+use Rattle.sec1_der.specs.Faults.{end_fault}
+use Rattle.sec1_der.proofs.ElementFaultLemmas.{element_cut}
 use Rattle.sec1_der.proofs.codec.from_der.Goals as goal
 
 pub returns-clause-short : goal.returns-clause-short

@@ -1,6 +1,6 @@
 use Rattle.std.proofs.Common.{length, Err, sym, ap, ◌∙◌, arith, ⊎_elim}
 use Rattle.sec1_der.proofs.HeaderLemmas.{header_front}
-use Rattle.sec1_der.proofs.RefusalLemmas.{any_short}
+use Rattle.sec1_der.proofs.ElementFaultLemmas.{any_short}
 use Rattle.sec1_der.proofs.header.element_at.Goals as goal
 
 pub returns-in-Err-clause-short : goal.returns-in-Err-clause-short

@@ -1,6 +1,6 @@
 use Rattle.std.proofs.Common.{refl}
 use Rattle.sec1_der.specs.ElementLaws.{is_tag-true}
-use Rattle.sec1_der.proofs.RefusalLemmas.{length_at_lacks}
+use Rattle.sec1_der.proofs.ElementFaultLemmas.{length_at_lacks}
 use Rattle.sec1_der.proofs.header.header_at.Goals as goal
 
 pub returns-in-Err-clause-element : goal.returns-in-Err-clause-element

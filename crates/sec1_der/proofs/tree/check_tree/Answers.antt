@@ -1,6 +1,6 @@
 use Rattle.std.proofs.Common.{◌∙◌, arith}
-use Rattle.sec1_der.proofs.RefusalLemmas.{trailing_fault}
-use Rattle.sec1_der.proofs.TreeFaults.{deep_tree, shallow_tree, cut_tree, counted}
+use Rattle.sec1_der.proofs.ElementFaultLemmas.{trailing_fault}
+use Rattle.sec1_der.proofs.TreeFaultLemmas.{deep_tree, shallow_tree, cut_tree, counted}
 use Rattle.sec1_der.proofs.tree.check_tree.Goals as goal
 
 pub returns-clause-only : goal.returns-clause-only

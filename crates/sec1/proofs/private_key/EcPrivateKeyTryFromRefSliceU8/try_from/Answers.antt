@@ -7,7 +7,7 @@ use Rattle.sec1.specs.Der.{IsReadingFault}
 use Rattle.sec1.specs.Errors.{error_of}
 use Rattle.sec1.specs.declared.error.Error.TheVariants.{Asn1}
 use Rattle.sec1_der.specs.ElementLaws.{element_of-some}
-use Rattle.sec1.specs.KeyRefusals.{key_fault}
+use Rattle.sec1.specs.KeyFaults.{key_fault}
 use Rattle.sec1.specs.Keys.{key_tree, fields_of}
 use Rattle.sec1.proofs.KeyLemmas.{key_content, key_found, key_written}
 use Rattle.sec1.proofs.private_key.EcPrivateKeyTryFromRefSliceU8.try_from.Goals as goal

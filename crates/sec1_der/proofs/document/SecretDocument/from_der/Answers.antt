@@ -1,8 +1,8 @@
 use Rattle.std.proofs.Common.{ap, rules, inr}
 use Rattle.std.proofs.lemmas.Result.{err_from_is_err_and}
-use Rattle.sec1_der.specs.Refusals.{no_fault, end_fault}
+use Rattle.sec1_der.specs.Faults.{no_fault, end_fault}
 use Rattle.sec1_der.specs.declared.error.Error.{Error}
-use Rattle.sec1_der.proofs.RefusalLemmas.{document_element}
+use Rattle.sec1_der.proofs.ElementFaultLemmas.{document_element}
 use Rattle.sec1_der.proofs.document.SecretDocument.from_der.Goals as goal
 
 pub returns-in-Err-clause-only : goal.returns-in-Err-clause-only

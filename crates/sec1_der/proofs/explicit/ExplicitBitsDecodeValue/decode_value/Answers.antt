@@ -2,8 +2,8 @@ use Rattle.std.proofs.Common.{◌≡◌, ◌==◌, ◌∷◌, false, ◌∙◌, 
 use Rattle.std.proofs.lemmas.Bool.{ne_eqb, iff_false}
 use Rattle.sec1_der.specs.Readers.{Reader}
 use Rattle.sec1_der.specs.ElementLaws.{element_of-within}
-use Rattle.sec1_der.specs.RefusalLaws.{reader_at}
-use Rattle.sec1_der.proofs.ContentRefusals.{whole_is, whole_inside, bits_inside}
+use Rattle.sec1_der.specs.FaultLaws.{reader_at}
+use Rattle.sec1_der.proofs.ContentFaultLemmas.{whole_is, whole_inside, bits_inside}
 use Rattle.sec1_der.proofs.explicit.ExplicitBitsDecodeValue.decode_value.Goals as goal
 
 pub returns-in_err-bits-clause-only : goal.returns-in_err-bits-clause-only

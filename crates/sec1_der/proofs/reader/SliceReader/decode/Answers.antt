@@ -1,5 +1,5 @@
 use Rattle.std.proofs.Common.{rules}
-use Rattle.sec1_der.proofs.RefusalLemmas.{opened_element}
+use Rattle.sec1_der.proofs.ElementFaultLemmas.{opened_element}
 use Rattle.sec1_der.proofs.reader.SliceReader.decode.Goals as goal
 
 pub returns-in-Ok-clause-refused : goal.returns-in-Ok-clause-refused

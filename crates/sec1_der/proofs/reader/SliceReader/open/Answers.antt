@@ -2,9 +2,9 @@ use Rattle.std.proofs.Common.{◌≡◌, ap, rules, sym, ◌∙◌, slice_get, S
 use Rattle.std.proofs.Math.Seq.{take-append_seam, drop-append_seam}
 use Rattle.sec1_der.specs.Elements.{IsTag}
 use Rattle.sec1_der.specs.Readers.{Reader}
-use Rattle.sec1_der.specs.Refusals.{no_fault}
-use Rattle.sec1_der.specs.RefusalLaws.{any_room}
-use Rattle.sec1_der.proofs.RefusalLemmas.{element_next}
+use Rattle.sec1_der.specs.Faults.{no_fault}
+use Rattle.sec1_der.specs.FaultLaws.{any_room}
+use Rattle.sec1_der.proofs.ElementFaultLemmas.{element_next}
 use Rattle.sec1_der.proofs.reader.SliceReader.open.Goals as goal
 
 pub returns-in-Ok-clause-only : goal.returns-in-Ok-clause-only

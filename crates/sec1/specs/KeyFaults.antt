@@ -1,6 +1,6 @@
 -- The kind by which bytes that aren't a key's are refused.
 use Rattle.sec1_der.specs.Contents.{byte_fault, identifier_fault, whole_bits_field_fault}
-use Rattle.sec1_der.specs.Refusals.{Fault, no_fault, end_fault, element_fault, optional_fault}
+use Rattle.sec1_der.specs.Faults.{Fault, no_fault, end_fault, element_fault, optional_fault}
 
 -- RFC 5915 section 3 (SEC1 v2.0 Appendix C.4): a SEQUENCE of the components of an ECPrivateKey in
 -- their order, and nothing after them

@@ -7,17 +7,17 @@ use Rattle.std.proofs.lemmas.Bool.{lt-leb, and_parts, cases_Bool, cases_lt}
 use Rattle.std.proofs.lemmas.Slice.Eq.{bytes_eq-Decides}
 use Rattle.std.specs.Option.{option_or}
 use Rattle.sec1_der.specs.Elements.{max_length, length_octets, header, element, IsTag, IsHeader, IsElement, LacksHeader}
-use Rattle.sec1_der.specs.Elements.{IsProperBeginning}
-use Rattle.sec1_der.specs.Faults.{is_tag, length_fault, header_fault}
+use Rattle.sec1_der.specs.Elements.{IsProperPrefix}
+use Rattle.sec1_der.specs.ErrorKinds.{is_tag, length_fault, header_fault}
 use Rattle.sec1_der.specs.Readers.{Reader, reader_over, HasReadElement}
-use Rattle.sec1_der.specs.Refusals.{Fault, no_fault, end_fault, number_at, length_at, within, parts_fault}
-use Rattle.sec1_der.specs.Refusals.{element_fault, optional_fault, field_fault, any_fault, document_fault}
+use Rattle.sec1_der.specs.Faults.{Fault, no_fault, end_fault, number_at, length_at, within, parts_fault}
+use Rattle.sec1_der.specs.Faults.{element_fault, optional_fault, field_fault, any_fault, document_fault}
 use Rattle.sec1_der.specs.declared.error.ErrorKind.{ErrorKind}
 use Rattle.sec1_der.specs.declared.error.ErrorKind.TheVariants.{Truncated, TrailingData}
 use Rattle.sec1_der.proofs.HeaderLemmas.{fronts, header_front, longer, some_length}
 use Rattle.sec1_der.specs.ElementLaws.{is_tag-true, header_apart}
 use Rattle.sec1_der.specs.ElementLaws.{tag_from_test}
-use Rattle.sec1_der.specs.RefusalLaws.{length_at_spelled, parts_at, any_room, any_at, alone, read_element}
+use Rattle.sec1_der.specs.FaultLaws.{length_at_spelled, parts_at, any_room, any_at, alone, read_element}
 
 -- ---- lengths
 
@@ -37,7 +37,7 @@ length_at_lacks bytes lacks =
 
 -- ---- elements
 
--- a header with less after it than it announces is cut short
+-- a header with less after it than it announces is truncated
 pub any_short : (f : ℕ → Fault) (g : Fault) (tag n : ℕ) (bytes inside : List ℕ) → IsHeader tag n
     → bytes ≡ header tag n ++ inside → length inside < n
     → any_fault f g bytes ≡ Some Truncated
@@ -60,11 +60,11 @@ any_headless f g (byte ∷ bytes) small lacks = ⊎_elim
     (λ e. rw e refl)
     (cases_Bool (is_tag byte))
 
--- an element that is cut short
+-- a truncated element
 pub any_cut : (f : ℕ → Fault) (g : Fault) (tag : ℕ) (content input : List ℕ)
     → (0 < length input → get_or input 0 0 < 256)
     → IsHeader tag (length content)
-    → IsProperBeginning input (element tag content) → any_fault f g input ≡ Some Truncated
+    → IsProperPrefix input (element tag content) → any_fault f g input ≡ Some Truncated
 any_cut f g tag content input small h cut = ⊎_elim
     (λ l. any_headless f g input small (lacks l) ∙ ⊎_elim
     (λ c. absurd (omega (arith, ap length c.front, length-append (header tag (length content)) c.after)))
@@ -82,9 +82,9 @@ any_cut f g tag content input small h cut = ⊎_elim
         let same = header_apart tag' n tag (length content) (rest ++ cut.more) content joined in
         omega (arith, ap length e, length-append (header tag' n) rest, ap (λ m. length (header tag' m)) same.1)
 
--- the length and the content of an element that is cut short
+-- the length and the content of a truncated element
 parts_cut : (f g : Fault) (tag : ℕ) (content bytes : List ℕ) → IsHeader tag (length content)
-    → IsProperBeginning (tag ∷ bytes) (element tag content)
+    → IsProperPrefix (tag ∷ bytes) (element tag content)
     → parts_fault f g (within (length_at bytes)) ≡ Some Truncated
 parts_cut f g tag content bytes h cut =
     rw (is_tag-true tag h.tag_byte) at (any_cut (λ _. f) g tag content (tag ∷ bytes) (λ _. h.tag_byte.byte) h cut)
@@ -93,9 +93,9 @@ parts_cut f g tag content bytes h cut =
 sequence_tag : IsTag 0x30
 sequence_tag = tag_from_test 0x30 (omega arith) refl
 
--- an element with this tag that is cut short, whatever its tag
+-- a truncated element with this tag, whatever its tag
 pub element_cut : (f g : Fault) (tag : ℕ) (content input : List ℕ) → length content ≤ max_length
-    → IsProperBeginning input (element tag content) → element_fault tag f g input ≡ Some Truncated
+    → IsProperPrefix input (element tag content) → element_fault tag f g input ≡ Some Truncated
 element_cut f g tag content [] fits cut = refl
 element_cut f g tag content (byte ∷ bytes) fits cut =
     let same : tag ≡ byte = cc cut.split in
@@ -104,9 +104,9 @@ element_cut f g tag content (byte ∷ bytes) fits cut =
     (record { more = cut.more; some = cut.some; split = ap (λ xs. 0x30 ∷ xs) rest }) in
     rw (← same, eq-eqb tag tag refl, inside) refl
 
--- an element of any tag that is cut short
+-- a truncated element of any tag
 pub any_tag_cut : (f : ℕ → Fault) (g : Fault) (tag : ℕ) (content input : List ℕ) → IsHeader tag (length content)
-    → IsProperBeginning input (element tag content) → any_fault f g input ≡ Some Truncated
+    → IsProperPrefix input (element tag content) → any_fault f g input ≡ Some Truncated
 any_tag_cut f g tag content [] h cut = refl
 any_tag_cut f g tag content (byte ∷ bytes) h cut =
     let same : tag ≡ byte = cc cut.split in

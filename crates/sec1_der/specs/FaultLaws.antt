@@ -6,8 +6,8 @@ use Rattle.std.proofs.Common.{eq-eqb, ◌≤◌, length, take, drop, arith, le-l
 use Rattle.std.proofs.Common.{append_assoc}
 use Rattle.std.specs.Option.{option_or}
 use Rattle.sec1_der.specs.Readers.{Reader, HasReadElement, reader_over}
-use Rattle.sec1_der.specs.Refusals.{Fault, no_fault, length_at, within, parts_fault, element_fault}
-use Rattle.sec1_der.specs.Refusals.{any_fault}
+use Rattle.sec1_der.specs.Faults.{Fault, no_fault, length_at, within, parts_fault, element_fault}
+use Rattle.sec1_der.specs.Faults.{any_fault}
 use Rattle.sec1_der.specs.declared.error.ErrorKind.{ErrorKind}
 use Rattle.sec1_der.specs.declared.error.ErrorKind.TheVariants.{Tag}
 use Rattle.std.proofs.Math.Seq.{take-append_seam, drop-append_seam}

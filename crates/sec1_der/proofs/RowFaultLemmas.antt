@@ -8,12 +8,12 @@ use Rattle.std.proofs.lemmas.List.{take_all, length-append, length-take, length-
 use Rattle.std.proofs.lemmas.List.{take-append-drop}
 use Rattle.std.specs.Option.{option_or}
 use Rattle.sec1_der.specs.Elements.{length_octets, element, IsConstructed, IsHeader}
-use Rattle.sec1_der.specs.Refusals.{Fault, end_fault, any_fault, nested_fault, row_fault, tree_fault}
+use Rattle.sec1_der.specs.Faults.{Fault, end_fault, any_fault, nested_fault, row_fault, tree_fault}
 use Rattle.sec1_der.specs.Trees.{Tree, leaf, branch, none, first, bytes, max_tree_depth}
 use Rattle.sec1_der.specs.Walks.{IsSingle, innermost, Skips, Opens, IsTooDeep}
 use Rattle.sec1_der.specs.declared.error.ErrorKind.{ErrorKind}
 use Rattle.sec1_der.specs.declared.error.ErrorKind.TheVariants.{Depth}
-use Rattle.sec1_der.specs.RefusalLaws.{any_at}
+use Rattle.sec1_der.specs.FaultLaws.{any_at}
 
 -- the content of a leaf isn't refused
 pub leaf_passes : (f : Fault) (tag : ℕ) (content : List ℕ) → ¬ IsConstructed tag → nested_fault f tag content ≡ None

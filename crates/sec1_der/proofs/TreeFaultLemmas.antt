@@ -5,8 +5,8 @@ use Rattle.std.proofs.lemmas.Bool.{lt-ltb, le-ltb, ne_eqb, cases_lt}
 use Rattle.std.proofs.lemmas.Bool.Decides.{nat_tests}
 use Rattle.std.proofs.lemmas.List.{append-nil, length-append}
 use Rattle.std.specs.Option.{option_or}
-use Rattle.sec1_der.specs.Elements.{IsProperBeginning}
-use Rattle.sec1_der.specs.Refusals.{Fault, HasFault, end_fault, any_fault, nested_fault, tree_fault}
+use Rattle.sec1_der.specs.Elements.{IsProperPrefix}
+use Rattle.sec1_der.specs.Faults.{Fault, HasFault, end_fault, any_fault, nested_fault, tree_fault}
 use Rattle.sec1_der.specs.Trees.{Tree, leaf, branch, Forest, none, first, bytes, joined, IsTree, AreTrees, IsTreeOf}
 use Rattle.sec1_der.specs.Trees.{size, depth, max_depth, max_tree_depth}
 use Rattle.sec1_der.specs.declared.error.Error.{Error}
@@ -14,12 +14,12 @@ use Rattle.sec1_der.specs.declared.error.ErrorKind.{ErrorKind}
 use Rattle.sec1_der.specs.declared.error.ErrorKind.TheVariants.{Truncated, Depth}
 use Rattle.sec1_der.proofs.CheckLemmas.{IsCounted}
 use Rattle.sec1_der.specs.DigitLaws.{IsBytes}
-use Rattle.sec1_der.proofs.RefusalLemmas.{any_cut}
-use Rattle.sec1_der.specs.RefusalLaws.{any_at}
+use Rattle.sec1_der.proofs.ElementFaultLemmas.{any_cut}
+use Rattle.sec1_der.specs.FaultLaws.{any_at}
 use Rattle.sec1_der.proofs.TreeLemmas.{some_bytes, tree_apart}
-use Rattle.sec1_der.proofs.TreeRefusals.{leaf_passes, row_at, row_some, row_deep, tree_next}
+use Rattle.sec1_der.proofs.RowFaultLemmas.{leaf_passes, row_at, row_some, row_deep, tree_next}
 
--- the fault of trees that are so many levels deep
+-- the fault of trees with this number of levels
 abbrev deep_fault : ℕ → Option ErrorKind
 deep_fault level = if nat_lt max_tree_depth level then Some Depth else None
 
@@ -41,7 +41,7 @@ mutual
       ∙ rw (ne_eqb (bit_and tag 0x20) 0 is.1, forest_at f (above + 1) is.3 (omega arith))
       (ap (λ n. option_or (deep_fault n) (behind rest)) (omega arith))
 
-  -- trees in a row, below so many levels
+  -- trees in a row, below this number of levels
   forest_at : (f : Forest) (above : ℕ) → AreTrees f → above ≤ max_tree_depth
       → row_at (above + 1) (joined f) ≡ deep_fault (above + max_depth f)
   forest_at none above are fits = rw (le-ltb max_tree_depth (above + 0) (omega arith)) refl
@@ -77,8 +77,8 @@ pub shallow_tree : (t : Tree) (input rest : List ℕ) → IsTree t → depth t �
 shallow_tree t input rest is shallow e =
     tree_faults t input rest is e ∙ rw (le-ltb max_tree_depth (depth t) shallow) refl
 
--- a tree that is cut short
-pub cut_tree : (t : Tree) (input : List ℕ) → IsBytes input → IsTree t → IsProperBeginning input (bytes t)
+-- a truncated tree
+pub cut_tree : (t : Tree) (input : List ℕ) → IsBytes input → IsTree t → IsProperPrefix input (bytes t)
     → tree_fault input ≡ Some Truncated
 cut_tree (leaf tag content) input all is cut =
     any_cut _ end_fault tag content input (λ _. all 0) (record { tag_byte = is.0; within = is.2 }) cut

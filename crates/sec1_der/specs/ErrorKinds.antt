@@ -1,0 +1,60 @@
+-- The kinds of errors, and the fault of a header.
+use Rattle.std.specs.Prelude.{◌≡◌, ◌⊎◌, ℕ, ◌-◌, ◌%◌, Bool, ◌&&◌, not, ◌==◌, nat_lt, nat_le}
+use Rattle.std.specs.Prelude.{if◌then◌else◌, List, [], ◌∷◌, length, Result, IsErrAnd}
+use Rattle.sec1_der.specs.declared.error.Error.{Error}
+use Rattle.sec1_der.specs.declared.error.ErrorKind.{ErrorKind}
+use Rattle.sec1_der.specs.declared.error.ErrorKind.TheVariants.{Truncated, Tag, Length}
+use Rattle.sec1_der.specs.declared.error.ErrorKind.TheVariants.{TrailingData, Value, Overlength}
+use Rattle.sec1_der.specs.declared.error.ErrorKind.TheVariants.{Buffer, Failed, Io, Depth, Memory}
+
+-- the call failed with an error of this kind
+abbrev pub Refuses : {T : Type 0} → Result T Error → ErrorKind → Type 0
+Refuses result kind = IsErrAnd result (λ e. e.kind ≡ kind)
+
+-- the kinds by which a header is refused, or an element that ends inside its content
+abbrev pub IsHeaderFault : ErrorKind → Type 0
+IsHeaderFault Truncated = Unit {0}
+IsHeaderFault Tag = Unit {0}
+IsHeaderFault Length = Unit {0}
+IsHeaderFault _ = ⊥
+
+-- the kinds by which bytes are refused that aren't those of a tree, or of one that is too deep
+abbrev pub IsTreeFault : ErrorKind → Type 0
+IsTreeFault kind = IsHeaderFault kind ⊎ (kind ≡ TrailingData) ⊎ (kind ≡ Depth)
+
+-- the kinds that bytes are refused by
+abbrev pub IsReadingFault : ErrorKind → Type 0
+IsReadingFault Truncated = Unit {0}
+IsReadingFault Tag = Unit {0}
+IsReadingFault Length = Unit {0}
+IsReadingFault TrailingData = Unit {0}
+IsReadingFault Value = Unit {0}
+IsReadingFault Overlength = ⊥
+IsReadingFault Buffer = ⊥
+IsReadingFault Failed = ⊥
+IsReadingFault Io = ⊥
+IsReadingFault Depth = ⊥
+IsReadingFault Memory = ⊥
+
+-- a first byte that announces one to four digits, more than there are
+abbrev pub lacks_digits : ℕ → List ℕ → Bool
+lacks_digits first digits =
+    nat_lt 0x80 first && nat_le first 0x84 && nat_lt (length digits) (first - 0x80)
+
+-- The kind, if the bytes don't begin with a length: they end inside one, or encode none.
+abbrev pub length_fault : List ℕ → ErrorKind
+length_fault [] = Truncated
+length_fault (first ∷ digits) = if lacks_digits first digits then Truncated else Length
+
+-- the test for a tag byte
+abbrev pub is_tag : ℕ → Bool
+is_tag byte = not (byte == 0) && not (byte % 32 == 31)
+
+-- The kind, if the bytes don't begin with a header. The tag is checked before the length.
+abbrev pub header_fault : List ℕ → ErrorKind
+header_fault [] = Truncated
+header_fault (byte ∷ rest) = if is_tag byte then length_fault rest else Tag
+
+-- the kinds that don't depend on the bytes
+abbrev pub IsIoOrMemory : ErrorKind → Type 0
+IsIoOrMemory kind = (kind ≡ Io) ⊎ (kind ≡ Memory)
