@@ -2,7 +2,7 @@
 //! compared and kept in a set.
 
 ghost use Rattle.std.specs.Prelude.{◌≡◌, ◌≢◌, ◌↔◌, ◌<◌, ◌^◌, IsTrue, IfOk, OnErr, IfErr, IsOkAnd};
-ghost use Rattle.std.specs.Prelude.{not, OnOk};
+ghost use Rattle.std.specs.Prelude.{not, true, OnOk};
 ghost use Rattle.std.specs.BTreeSet.{contains, insert_key};
 ghost use Rattle.sec1.specs.EncodedPoints.{point_of};
 ghost use Rattle.sec1.specs.PointOrder.{IsBelow};
@@ -100,6 +100,26 @@ pub fn differ<const N: usize, const L: usize>(
 {
     points_apart();
     *a != *b
+}
+
+/// Returns `true` if the two points are the same, by their coordinates.
+pub fn has_coordinates_of<const N: usize, const L: usize>(
+    point: &EncodedPoint<N, L>,
+    other: &EncodedPoint<N, L>,
+) -> bool
+    ensures { IsTrue result ↔ (point_of point.now ≡ point_of other.now) }
+{
+    points_apart();
+    one_point(point);
+    one_point(other);
+    point.coordinates() == other.coordinates()
+}
+
+/// Returns `true`, since a point and its compressed form have the same x-coordinate.
+pub fn keeps_x(point: &EncodedPoint32) -> bool
+    ensures { result ≡ true }
+{
+    point.compress().x() == point.x()
 }
 
 /// Returns `true` if the first point is below the second.

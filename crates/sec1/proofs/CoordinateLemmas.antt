@@ -1,13 +1,18 @@
 -- The first bytes of a borrowed coordinate: all of it at its length, their parity, and a comparison of two.
 use Rattle.std.proofs.Common.{◌≡◌, ◌≢◌, add-one, ℕ, zero, suc, ◌+◌, ◌-◌, ◌%◌, ◌<◌, ◌≤◌, false, ◌&&◌, List, [], ◌∷◌}
-use Rattle.std.proofs.Common.{◌++◌, length, get_or, take, bytes_eq, refl}
-use Rattle.std.proofs.Common.{arith, take_all}
-use Rattle.std.proofs.lemmas.List.{take_more, length_push}
+use Rattle.std.proofs.Common.{◌*◌, ◌++◌, length, get_or, take, bytes_eq, refl}
+use Rattle.std.proofs.Common.{arith, take_all, length-append, drop, sym, ap, ◌∙◌}
+use Rattle.std.proofs.Math.Seq.{take-append_seam}
+use Rattle.std.proofs.lemmas.List.{append_cancel_left, take_more, take-append-le, length_push}
 use Rattle.std.proofs.lemmas.Grind.{elements}
 use Rattle.std.proofs.lemmas.Slice.Eq.{bytes_eq-Decides}
 use Rattle.sec1_der.specs.Numbers.{number_of}
-use Rattle.sec1.specs.Coordinates.{first_bytes, coordinate_number}
-use Rattle.sec1.proofs.DigitLemmas.{parity_of_last}
+use Rattle.sec1.specs.Coordinates.{AreDigits, AreWhole, IsCoordinate, coordinate_number, coordinates_bytes}
+use Rattle.sec1.specs.Coordinates.{coordinates_point, first_bytes}
+use Rattle.sec1.specs.Points.{encoding, fixed_width, tag_byte, hybrid}
+use Rattle.sec1.specs.declared.point.coordinates.Coordinates.{Coordinates}
+use Rattle.sec1.specs.declared.point.coordinates.Coordinates.TheVariants as parts
+use Rattle.sec1.proofs.DigitLemmas.{length-fixed_width, parity_of_last}
 
 -- Of no bytes, none are first.
 pub first_none : (xs : List ℕ) → first_bytes 0 xs ≡ []
@@ -27,6 +32,19 @@ first_take (suc n) xs h = grind (arith, take_more xs n 0, first_take n xs)
 -- A borrowed array has the number of all its bytes, where its length is known.
 pub coordinates_whole : (n : ℕ) (xs : List ℕ) → length xs ≡ n → coordinate_number n xs ≡ number_of xs
 coordinates_whole n xs e = grind (arith, first_take n xs, take_all n xs)
+
+-- The bytes of one array are the first of those of two.
+pub one_array : (n m : ℕ) (xs ys : List ℕ) → length xs ≡ n → m ≡ n → first_bytes n xs ≡ take m (xs ++ ys)
+one_array n m xs ys long e = grind (arith, first_take n xs, take-append-le n xs ys)
+
+-- Those of both are all of them.
+pub two_arrays : (n m : ℕ) (xs ys : List ℕ) → length xs ≡ n → length ys ≡ n → m ≡ 2 * n
+    → first_bytes n xs ++ first_bytes n ys ≡ take m (xs ++ ys)
+two_arrays n m xs ys long other_long e =
+    grind (arith, first_take n xs, first_take n ys, take_all, length-append {A = ℕ})
+
+-- The arrays with a tag.
+pub ruleset with_arrays = (coordinates_whole, one_array, two_arrays)
 
 -- There are always n of them.
 pub length-first : (n : ℕ) (xs : List ℕ) → length (first_bytes n xs) ≡ n
@@ -48,6 +66,39 @@ coordinates_parity n xs h =
 pub coordinates_none : (n : ℕ) (xs : List ℕ) → n ≡ 0 → coordinate_number n xs ≡ 0
 coordinates_none n xs e = rw (e, first_none xs) refl
 
+-- An array of its length is all of it.
+all_bytes : (n : ℕ) (xs : List ℕ) → length xs ≡ n → first_bytes n xs ≡ xs
+all_bytes n xs e = grind (arith, first_take n xs, take_all n xs)
+
+-- Two fronts of one length are the same where they and what follows are.
+fronts_same : (n : ℕ) (xs us ys vs : List ℕ) → length xs ≡ n → length us ≡ n → xs ++ ys ≡ us ++ vs
+    → (xs ≡ us) × (ys ≡ vs)
+fronts_same n xs us ys vs long other_long e =
+    let front : xs ≡ us =
+    sym (take-append_seam xs ys) ∙ rw (e, long, ← other_long) (take-append_seam us vs) in
+    (front, append_cancel_left us ys vs (rw front at e))
+
+-- Two arrays with the digits of two numbers, one after the other.
+both_digits : (n : ℕ) (xs ys : List ℕ) → length xs ≡ n → length ys ≡ n
+    → first_bytes n xs ++ first_bytes n ys
+    ≡ fixed_width n (coordinate_number n xs) ++ fixed_width n (coordinate_number n ys)
+    → IsCoordinate n xs × IsCoordinate n ys
+both_digits n xs ys long other_long e =
+    let same =
+    fronts_same n (first_bytes n xs) (fixed_width n (coordinate_number n xs)) _ _ (length-first n xs)
+    (length-fixed_width n (coordinate_number n xs)) e in
+    (sym (all_bytes n xs long) ∙ same.0, sym (all_bytes n ys other_long) ∙ same.1)
+
+-- The arrays of a point's encoding have the digits of its coordinates.
+pub digits_of_encoding : {N : ℕ} (c : Coordinates N) → coordinates_bytes c ≡ encoding N (coordinates_point c)
+    → AreWhole c → AreDigits c
+unfolding encoding
+digits_of_encoding {N} parts.Identity e whole = tt
+digits_of_encoding {N} (parts.Compact x) e whole = grind (arith, all_bytes N x.now whole)
+digits_of_encoding {N} (parts.Compressed x y_is_odd) e whole = grind (arith, all_bytes N x.now whole)
+digits_of_encoding {N} (parts.Uncompressed x y) e whole = both_digits N x.now y.now whole.0 whole.1 (ap (drop 1) e)
+digits_of_encoding {N} (parts.Hybrid x y) e whole = both_digits N x.now y.now whole.0 whole.1 (ap (drop 1) e)
+
 -- ---- comparison
 
 -- One byte differs.
@@ -65,5 +116,19 @@ eq_append xs ys us vs e = absurd (omega arith)
 -- What a comparison byte by byte has seen so far.
 pub ruleset compared_bytes = (first_none, first_more, first_apart, bytes_eq-Decides)
 
+-- Hybrid coordinates with the same bytes have the same tag.
+pub eq_hybrid : (n : ℕ) (xs ys us vs : List ℕ)
+    → (bytes_eq (first_bytes n xs) (first_bytes n us) && bytes_eq (first_bytes n ys) (first_bytes n vs))
+    ≡ bytes_eq
+    (tag_byte (hybrid (coordinate_number n xs) (coordinate_number n ys)) ∷ (first_bytes n xs ++ first_bytes n ys))
+    (tag_byte (hybrid (coordinate_number n us) (coordinate_number n vs)) ∷ (first_bytes n us ++ first_bytes n vs))
+eq_hybrid n xs ys us vs = grind (arith, eq_append, length-first, bytes_eq-Decides)
+
 -- Two coordinates are compared one after the other.
-pub ruleset compared_coordinates = (eq_append, length-first)
+pub ruleset compared_coordinates = (eq_append, eq_hybrid, length-first)
+
+-- The number of the digits of a coordinate, and how many they are.
+pub ruleset coordinate_digits = (coordinates_whole, length-fixed_width)
+
+-- The same bytes are found to be the same.
+pub ruleset same_bytes = bytes_eq-Decides

@@ -4,6 +4,8 @@ use Rattle.std.proofs.Common.{replicate, sym, ap, ◌∙◌, arith}
 use Rattle.std.proofs.Common.{append_assoc, add-one, Some, Ok, nat_cmp, ◌↔◌, take_at, take_all, take-append-drop}
 use Rattle.std.proofs.Common.{length-append, length-drop, length-take}
 use Rattle.std.proofs.Common.{le_of_eq}
+use Rattle.std.proofs.Math.Seq.{take-add}
+use Rattle.std.proofs.lemmas.List.{take-append-le}
 use Rattle.std.specs.Cmp.Lexicographic.{slice_cmp}
 use Rattle.std.proofs.lemmas.Slice.{take-put_mid}
 use borrow.Rule.Slice.PartMut.{put_mid}
@@ -13,12 +15,12 @@ use Rattle.sec1.specs.Points.{Point, identity, uncompressed, is_odd, coordinate_
 use Rattle.sec1.specs.Points.{tag_byte, encoding, meaning, point_from}
 use Rattle.sec1.specs.Points.{compressed_point, hybrid_point, y_of}
 use Rattle.sec1.specs.PointOrder.{point_cmp}
-use Rattle.sec1.specs.Tags.{byte_of, point_tag}
+use Rattle.sec1.specs.Tags.{byte_of, message_len, point_tag}
 use Rattle.sec1.specs.EncodedPoints.{point_of, ReadsBytes}
 use Rattle.sec1.specs.declared.point.EncodedPoint.{EncodedPoint}
 use Rattle.sec1.proofs.DigitLemmas.{length-fixed_width, num-below, fixed_width-num}
 use Rattle.sec1.proofs.PointLemmas.{half, meaning-enc, meaning-enc-append, meaning-fits, IsBytes-enc, byte_of-tag_of}
-use Rattle.sec1.proofs.PointLemmas.{length-enc-le, no_prefix}
+use Rattle.sec1.proofs.PointLemmas.{length-enc, length-enc-le, no_prefix}
 use Rattle.sec1.proofs.ByteOrderLemmas.{slice_cmp-enc}
 
 -- ---- the beginning of a buffer
@@ -59,6 +61,20 @@ pub made_of_halves : {N L : ℕ} (p : EncodedPoint N L) (x y : List ℕ) → x �
 unfolding encoding meaning
 made_of_halves {N} p x y ex ey =
     grind (arith, begins p, meaning-enc-append N (point_of p) (drop p.len p.bytes) (point_fits p), byte_of-tag_of)
+
+-- The halves begin with the bytes after the tag.
+pub coordinates_of : {N L : ℕ} (p : EncodedPoint N L) (x y : List ℕ) → x ≡ take N (drop 1 p.bytes)
+    → y ≡ take N (drop N (drop 1 p.bytes))
+    → take (message_len (point_tag (point_of p)) N - 1) (x ++ y) ≡ coordinate_bytes N (point_of p)
+unfolding encoding
+coordinates_of {N} p x y ex ey =
+    let of = point_of p in
+    let rest = drop p.len p.bytes in
+    let after : drop 1 p.bytes ≡ coordinate_bytes N of ++ rest = ap (drop 1) (begins p) in
+    let both : x ++ y ≡ take (N + N) (drop 1 p.bytes) = rw (ex, ey) (sym (take-add N N (drop 1 p.bytes))) in
+    let len = length-enc N of in
+    let most = length-enc-le N of in
+    rw (both, after) (grind (arith, len, most, take-append-le, take_all, take-append-drop))
 
 -- A buffer that the encoding fills is the encoding.
 pub filled : {N L : ℕ} (p : EncodedPoint N L) → length p.bytes ≤ p.len → p.bytes ≡ encoding N (point_of p)

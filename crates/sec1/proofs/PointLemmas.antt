@@ -78,6 +78,10 @@ meaning-enc-append n p r h =
 pub meaning-enc : (n : ℕ) (p : Point) → IsPoint n p → meaning n (encoding n p) ≡ p
 meaning-enc n p h = rw append-nil at (meaning-enc-append n p [] h)
 
+-- Points with one encoding are the same.
+pub one_encoding : (n : ℕ) (p q : Point) → IsPoint n p → IsPoint n q → encoding n p ≡ encoding n q → p ≡ q
+one_encoding n p q fits other_fits e = sym (meaning-enc n p fits) ∙ ap (meaning n) e ∙ meaning-enc n q other_fits
+
 -- Bytes mean a point of their size.
 pub meaning-fits : (n : ℕ) (bs : List ℕ) → IsBytes bs → IsPoint n (meaning n bs)
 unfolding meaning

@@ -1,8 +1,9 @@
 -- Coordinates borrowed as arrays of bytes.
-use Rattle.std.specs.Prelude.{◌≡◌, ℕ, zero, suc, List, [], ◌∷◌, ◌++◌, if◌then◌else◌, length, ⊤}
+use Rattle.std.specs.Prelude.{◌≡◌, ℕ, zero, suc, List, [], ◌∷◌, ◌++◌, length, ⊤}
 use Rattle.std.specs.Prelude.{get_or}
 use Rattle.sec1_der.specs.Numbers.{number_of}
 use Rattle.sec1.specs.Points.{Point, identity, compact, compressed, uncompressed, hybrid}
+use Rattle.sec1.specs.Points.{fixed_width, tag_byte}
 use Rattle.sec1.specs.declared.point.coordinates.Coordinates.{Coordinates}
 use Rattle.sec1.specs.declared.point.coordinates.Coordinates.TheVariants as parts
 
@@ -35,12 +36,26 @@ AreWhole {N} (parts.Compressed x y_is_odd) = length x.now ≡ N
 AreWhole {N} (parts.Uncompressed x y) = (length x.now ≡ N) × (length y.now ≡ N)
 AreWhole {N} (parts.Hybrid x y) = (length x.now ≡ N) × (length y.now ≡ N)
 
--- the coordinates in one list: a number for the variant and its flag, then the N bytes of each
--- coordinate
+-- the array has the n digits of its number (SEC1 v2.0 section 2.3.7)
+abbrev pub IsCoordinate : ℕ → List ℕ → Type 0
+IsCoordinate n xs = xs ≡ fixed_width n (coordinate_number n xs)
+
+-- the borrowed arrays have the digits of their numbers
+abbrev pub AreDigits : {N : ℕ} → Coordinates N → Type 0
+AreDigits {N} parts.Identity = ⊤
+AreDigits {N} (parts.Compact x) = IsCoordinate N x.now
+AreDigits {N} (parts.Compressed x y_is_odd) = IsCoordinate N x.now
+AreDigits {N} (parts.Uncompressed x y) = IsCoordinate N x.now × IsCoordinate N y.now
+AreDigits {N} (parts.Hybrid x y) = IsCoordinate N x.now × IsCoordinate N y.now
+
+-- the bytes of the borrowed arrays
+abbrev pub array_bytes : {N : ℕ} → Coordinates N → List ℕ
+array_bytes {N} parts.Identity = []
+array_bytes {N} (parts.Compact x) = first_bytes N x.now
+array_bytes {N} (parts.Compressed x y_is_odd) = first_bytes N x.now
+array_bytes {N} (parts.Uncompressed x y) = first_bytes N x.now ++ first_bytes N y.now
+array_bytes {N} (parts.Hybrid x y) = first_bytes N x.now ++ first_bytes N y.now
+
+-- SEC1 v2.0 section 2.3.3: the encoding with these coordinates
 abbrev pub coordinates_bytes : {N : ℕ} → Coordinates N → List ℕ
-coordinates_bytes {N} parts.Identity = 0 ∷ []
-coordinates_bytes {N} (parts.Compact x) = 1 ∷ first_bytes N x.now
-coordinates_bytes {N} (parts.Compressed x y_is_odd) =
-    (if y_is_odd then 3 else 2) ∷ first_bytes N x.now
-coordinates_bytes {N} (parts.Uncompressed x y) = 4 ∷ (first_bytes N x.now ++ first_bytes N y.now)
-coordinates_bytes {N} (parts.Hybrid x y) = 5 ∷ (first_bytes N x.now ++ first_bytes N y.now)
+coordinates_bytes c = tag_byte (coordinates_point c) ∷ array_bytes c

@@ -7,7 +7,7 @@ ghost use Rattle.sec1.specs.Keys.{HasNoEncoding, IsKeyOf, Key};
 ghost use Rattle.sec1.specs.EncodedPoints.{point_of};
 ghost use Rattle.sec1.specs.Parameters.{curve_of};
 ghost use Rattle.sec1.specs.PointOrder.{IsBelow, point_cmp, same_point};
-ghost use Rattle.sec1.specs.Points.{Fits, IsPoint, Point};
+ghost use Rattle.sec1.specs.Points.{Fits, IsPoint, Point, encoding};
 ghost use Rattle.sec1.specs.declared.parameters.EcParameters.{EcParameters};
 
 use crate::der::{UniqueContent, ValueContent, laws};
@@ -59,7 +59,10 @@ pub fn points_ordered()
     ensures same { (p q : Point) → (point_cmp p q ≡ Equal) ↔ (p ≡ q) }
 {}
 
-/// The comparison of points finds them equal exactly where they are the same, also by `!=`.
+/// The comparison of points finds them equal exactly where they are the same, also by `!=`. Two
+/// points of one size with the same encoding are the same.
 pub fn points_apart()
-    ensures { (p q : Point) → IsTrue (same_point p q) ↔ (p ≡ q) }
+    ensures compared { (p q : Point) → IsTrue (same_point p q) ↔ (p ≡ q) }
+    ensures encoding { (n : ℕ) (p q : Point) → IsPoint n p → IsPoint n q
+        → encoding n p ≡ encoding n q → p ≡ q }
 {}

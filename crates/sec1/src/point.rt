@@ -13,11 +13,11 @@ mod text;
 // Definitions that cite `EncodedPoint` are imported in the blocks below: its ghost fields come
 // before them.
 ghost use Rattle.std.specs.Prelude.{◌≡◌, ◌+◌, ◌*◌, ◌<◌, ◌≤◌, ◌^◌, ◌↔◌, if◌then◌else◌, length};
-ghost use Rattle.std.specs.Prelude.{slice_index, take, drop, set, IsTrue, IfSome};
+ghost use Rattle.std.specs.Prelude.{slice_index, take, drop, set, IsTrue};
 ghost use Rattle.std.specs.Option.{option_map};
 ghost use Rattle.sec1_der.specs.Numbers.{number_of};
 ghost use Rattle.sec1.specs.Points.{identity, uncompressed, IsEncoding, meaning, encoding, Fits};
-ghost use Rattle.sec1.specs.Points.{compressed_point, hybrid_point, x_of, y_of};
+ghost use Rattle.sec1.specs.Points.{compressed_point, fixed_width, hybrid_point, x_of, y_of};
 
 use crate::error::{Error, Result};
 pub use coordinates::Coordinates;
@@ -58,7 +58,7 @@ impl<const N: usize, const L: usize> EncodedPoint<N, L> {
     ghost use Rattle.sec1.specs.EncodedPoints.{point_of, IsWiped, KeepsBuffer, ReadsBytes};
     ghost use Rattle.sec1.specs.Tags.{byte_of, message_len, point_tag, is_compact, is_compressed};
     ghost use Rattle.sec1.specs.Tags.{is_hybrid, is_identity};
-    ghost use Rattle.sec1.specs.Coordinates.{coordinates_point, AreWhole};
+    ghost use Rattle.sec1.specs.Coordinates.{coordinates_bytes, coordinates_point, AreDigits};
 
     /// Returns `true` if N is at least 1 and L is 2N + 1. Otherwise there are no points of this
     /// type.
@@ -258,7 +258,8 @@ impl<const N: usize, const L: usize> EncodedPoint<N, L> {
     /// ```
     pub fn coordinates(&self) -> Coordinates<'_, N>
         ensures point { coordinates_point result ≡ point_of self.now }
-        ensures whole { AreWhole result }
+        ensures encoded { coordinates_bytes result ≡ encoding N (point_of self.now) }
+        ensures digits { AreDigits result }
     {
         let (x, y) = self.halves();
         Coordinates::with_tag(self.tag(), x, y)
@@ -283,10 +284,11 @@ impl<const N: usize, const L: usize> EncodedPoint<N, L> {
     }
 
     /// Borrows the x-coordinate; `None` for the identity.
-    #[tactic(auto, using(crate::proofs::CoordinateLemmas::coordinates_whole))]
+    #[tactic(auto, using(crate::proofs::CoordinateLemmas::coordinate_digits))]
     pub fn x(&self) -> Option<&[u8; N]>
         ensures number { option_map (λ x. number_of x.now) result ≡ x_of (point_of self.now) }
-        ensures len { IfSome result (λ x. length x.now ≡ N) }
+        ensures bytes { option_map (λ x. x.now) result
+            ≡ option_map (fixed_width N) (x_of (point_of self.now)) }
     {
         match self.coordinates() {
             Coordinates::Identity => None,
@@ -298,10 +300,11 @@ impl<const N: usize, const L: usize> EncodedPoint<N, L> {
     }
 
     /// Borrows the y-coordinate, if the point is uncompressed or hybrid.
-    #[tactic(auto, using(crate::proofs::CoordinateLemmas::coordinates_whole))]
+    #[tactic(auto, using(crate::proofs::CoordinateLemmas::coordinate_digits))]
     pub fn y(&self) -> Option<&[u8; N]>
         ensures number { option_map (λ y. number_of y.now) result ≡ y_of (point_of self.now) }
-        ensures len { IfSome result (λ y. length y.now ≡ N) }
+        ensures bytes { option_map (λ y. y.now) result
+            ≡ option_map (fixed_width N) (y_of (point_of self.now)) }
     {
         match self.coordinates() {
             Coordinates::Uncompressed { y, .. } => Some(y),

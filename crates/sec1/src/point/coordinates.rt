@@ -1,10 +1,10 @@
 //! The coordinates of a point, by the form of its encoding.
 
-ghost use Rattle.std.specs.Prelude.{◌≡◌, length, bytes_eq};
+ghost use Rattle.std.specs.Prelude.{◌≡◌, ◌↔◌, ◌-◌, ◌++◌, length, take, bytes_eq, IsTrue};
 ghost use Rattle.sec1_der.specs.Numbers.{number_of};
 ghost use Rattle.sec1.specs.Points.{point_from};
-ghost use Rattle.sec1.specs.Tags.{byte_of, point_tag};
-ghost use Rattle.sec1.specs.Coordinates.{AreWhole, first_bytes, coordinates_bytes};
+ghost use Rattle.sec1.specs.Tags.{byte_of, message_len, point_tag};
+ghost use Rattle.sec1.specs.Coordinates.{AreWhole, array_bytes, first_bytes, coordinates_bytes};
 ghost use Rattle.sec1.specs.Coordinates.{coordinates_point};
 ghost use Rattle.std.specs.Cmp.Lexicographic.{on_texts_equal};
 ghost use Rattle.std.specs.Cmp.{partial_equiv_from_equiv};
@@ -30,12 +30,13 @@ pub enum Coordinates<'a, const N: usize> {
 
 impl<'a, const N: usize> Coordinates<'a, N> {
     /// Returns the coordinates with this tag: x, y, both or neither.
-    #[tactic(auto, using(crate::proofs::CoordinateLemmas::coordinates_whole))]
+    #[tactic(auto, using(crate::proofs::CoordinateLemmas::with_arrays))]
     pub(super) fn with_tag(tag: Tag, x: &'a [u8; N], y: &'a [u8; N]) -> Self
         requires x_len { length x.now ≡ N }
         requires y_len { length y.now ≡ N }
         ensures point { coordinates_point result
             ≡ point_from (byte_of tag) (number_of x.now) (number_of y.now) }
+        ensures arrays { array_bytes result ≡ take (message_len tag N - 1) (x.now ++ y.now) }
         ensures whole { AreWhole result }
     {
         match tag {
@@ -71,6 +72,42 @@ impl<'a, const N: usize> Coordinates<'a, N> {
                     Tag::HybridEvenY
                 }
             }
+        }
+    }
+
+    /// Returns `true` if the variant, the flag and each byte are the same.
+    #[tactic(auto, using(crate::proofs::CoordinateLemmas::compared_coordinates))]
+    fn has_bytes_of(self, other: Self) -> bool
+        ensures { result
+            ≡ bytes_eq (coordinates_bytes self.entry) (coordinates_bytes other.entry) }
+    {
+        match (self, other) {
+            (Coordinates::Identity, Coordinates::Identity) => true,
+            (Coordinates::Compact { x }, Coordinates::Compact { x: other_x }) => {
+                Coordinate(x).is(Coordinate(other_x))
+            }
+            (
+                Coordinates::Compressed { x, y_is_odd },
+                Coordinates::Compressed {
+                    x: other_x,
+                    y_is_odd: other_y_is_odd,
+                },
+            ) => y_is_odd == other_y_is_odd && Coordinate(x).is(Coordinate(other_x)),
+            (
+                Coordinates::Uncompressed { x, y },
+                Coordinates::Uncompressed {
+                    x: other_x,
+                    y: other_y,
+                },
+            ) => Coordinate(x).is(Coordinate(other_x)) && Coordinate(y).is(Coordinate(other_y)),
+            (
+                Coordinates::Hybrid { x, y },
+                Coordinates::Hybrid {
+                    x: other_x,
+                    y: other_y,
+                },
+            ) => Coordinate(x).is(Coordinate(other_x)) && Coordinate(y).is(Coordinate(other_y)),
+            _ => false,
         }
     }
 }
@@ -113,36 +150,13 @@ impl<const N: usize> PartialEq for Coordinates<'_, N> {
 
     ghost laws = { partial_equiv_from_equiv (on_texts_equal coordinates_bytes) };
 
-    #[tactic(auto, using(crate::proofs::CoordinateLemmas::compared_coordinates))]
-    fn eq(&self, other: &Self) -> bool {
-        match (*self, *other) {
-            (Coordinates::Identity, Coordinates::Identity) => true,
-            (Coordinates::Compact { x }, Coordinates::Compact { x: other_x }) => {
-                Coordinate(x).is(Coordinate(other_x))
-            }
-            (
-                Coordinates::Compressed { x, y_is_odd },
-                Coordinates::Compressed {
-                    x: other_x,
-                    y_is_odd: other_y_is_odd,
-                },
-            ) => y_is_odd == other_y_is_odd && Coordinate(x).is(Coordinate(other_x)),
-            (
-                Coordinates::Uncompressed { x, y },
-                Coordinates::Uncompressed {
-                    x: other_x,
-                    y: other_y,
-                },
-            )
-            | (
-                Coordinates::Hybrid { x, y },
-                Coordinates::Hybrid {
-                    x: other_x,
-                    y: other_y,
-                },
-            ) => Coordinate(x).is(Coordinate(other_x)) && Coordinate(y).is(Coordinate(other_y)),
-            _ => false,
-        }
+    #[tactic(auto, using(crate::proofs::CoordinateLemmas::same_bytes))]
+    fn eq(&self, other: &Self) -> bool
+        ensures value { result
+            ≡ bytes_eq (coordinates_bytes self.now) (coordinates_bytes other.now) }
+        ensures same { IsTrue result ↔ (coordinates_bytes self.now ≡ coordinates_bytes other.now) }
+    {
+        self.has_bytes_of(*other)
     }
 }
 
