@@ -1,7 +1,7 @@
 -- An element is determined by its bytes, and has a content that it can hold. Further crates cite
 -- these laws.
 use Rattle.std.proofs.Common.{◌≡◌, ℕ, ◌≤◌, List, length, Option, Some, None, refl, arith, ⊎_elim}
-use Rattle.std.proofs.Common.{tests, append_assoc, ne_eqb, ◌%◌, ◌<◌, true, ◌++◌}
+use Rattle.std.proofs.Common.{tests, append_assoc, ne_eqb, ◌%◌, ◌<◌, true, ◌++◌, sym, ◌∙◌}
 use Rattle.std.proofs.lemmas.Bool.{le-leb, lt-leb, cases_lt}
 use Rattle.sec1_der.specs.Elements.{max_length, header, element, IsElementOf, element_of, IsTag}
 use Rattle.sec1_der.specs.ErrorKinds.{is_tag}
@@ -34,7 +34,7 @@ pub element_apart : (tag tag' : ℕ) (b c r s : List ℕ) → element tag b ++ r
     → (tag ≡ tag') × (b ≡ c) × (r ≡ s)
 element_apart tag tag' b c r s e =
     let heads = header_apart tag (length b) tag' (length c) (b ++ r) (c ++ s)
-    (rw (← append_assoc, ← append_assoc) e) in
+    (sym (append_assoc (header tag (length b)) b r) ∙ e ∙ append_assoc (header tag' (length c)) c s) in
     let (contents, behind) = split_same b c r s heads.1 heads.2 in
     (heads.0, contents, behind)
 

@@ -34,7 +34,7 @@ pub record WritesReport (IsReport : List ℕ → List ℕ → ℕ → Type 0) (i
   pub report : IfSome input (λ bytes. IsReport bytes text status)
 
 -- a prefix of the text of the report on the input was written
-pub record WritesBeginning (IsReport : List ℕ → List ℕ → ℕ → Type 0)
+pub record WritesPrefix (IsReport : List ℕ → List ℕ → ℕ → Type 0)
     (input old new : Option (List ℕ)) : Type 0 where
   pub text : List ℕ
   pub status : ℕ

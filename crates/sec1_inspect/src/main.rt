@@ -15,7 +15,7 @@ ghost use Rattle.sec1_inspect.specs.declared.Failure.TheVariants.{Run, Paths};
 ghost use Rattle.sec1_inspect.specs.declared.Fault.TheVariants.{Input, Output, Memory};
 ghost use Rattle.sec1_inspect.specs.declared.Source.TheVariants.{StandardInput, File};
 ghost use Rattle.sec1_inspect.specs.Report.{IsDerReport, IsReport};
-ghost use Rattle.sec1_inspect.specs.Run.{HasStatus, ReadsInput, ReadsOnto, Takes, WritesBeginning};
+ghost use Rattle.sec1_inspect.specs.Run.{HasStatus, ReadsInput, ReadsOnto, Takes, WritesPrefix};
 ghost use Rattle.sec1_inspect.specs.Run.{WritesReport, line_of, report_in};
 
 use crate::report::{LIMIT, Report, report_on_der, report_on_text};
@@ -76,7 +76,7 @@ pub fn run<R: Read, W: Write>(alloc: Global, reader: &mut R, writer: &mut W) -> 
     ensures nothing { IfErr result
         (λ fault. fault ≢ Output → W.written writer.new ≡ W.written writer.old) }
     ensures prefix { IsErrOf result Fault.Output
-        → WritesBeginning IsReport (R.left reader.old) (W.written writer.old)
+        → WritesPrefix IsReport (R.left reader.old) (W.written writer.old)
         (W.written writer.new) }
 {
     let input = read_input(alloc, reader)?;
@@ -108,7 +108,7 @@ pub fn run_der<R: Read, W: Write>(
     ensures nothing { IfErr result
         (λ fault. fault ≢ Output → W.written writer.new ≡ W.written writer.old) }
     ensures prefix { IsErrOf result Fault.Output
-        → WritesBeginning IsDerReport (R.left reader.old) (W.written writer.old)
+        → WritesPrefix IsDerReport (R.left reader.old) (W.written writer.old)
         (W.written writer.new) }
 {
     let input = read_input(alloc, reader)?;

@@ -11,7 +11,7 @@ returns-clause-prefix g c failed =
     record {
       text = string_bytes report.text;
       status = report.status;
-      appended = search (rules, c.write_report.ensures.beginning);
+      appended = search (rules, c.write_report.ensures.prefix);
       report =
           report_on_input (λ bytes. IsReportOnDigits (stripped bytes)) _ _ _ _ _ c.in_ok-input.ensures.read
           on_taken;

@@ -1,4 +1,4 @@
-use Rattle.std.proofs.Common.{◌≡◌, ◌/◌, ◌%◌, [], ◌∷◌, Some, true, ◌<◌, rules, refl, ap, arith, get_or}
+use Rattle.std.proofs.Common.{◌≡◌, ◌/◌, ◌%◌, [], ◌∷◌, Some, true, ◌<◌, rules, ap, arith, get_or}
 use Rattle.std.specs.Fmt.{styled_digits_output, digit_glyph}
 use Rattle.std.proofs.lemmas.Grind.{put_two}
 use Rattle.std.proofs.lemmas.Fmt.{hex_byte}
@@ -20,5 +20,5 @@ loop-byte-preserved g c = λ plain.
     ≡ Some (digit_glyph true (byte / 16) ∷ digit_glyph true (byte % 16) ∷ []) =
     rw (c.laid_out.ensures, c.in_radix.ensures) (ap Some (hex_byte true byte small)) in
     let writes = rw digits at c.in_ok-write.ensures.writes in
-    put_two _ _ _ _ _ _ _ so_far (writes so_far.plain refl)
+    put_two _ _ _ _ _ _ _ so_far (writes so_far.plain cc)
     (encode_more bytes c.loop-byte.byte-index (omega arith) small)
