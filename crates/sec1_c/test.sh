@@ -1,6 +1,7 @@
 #!/usr/bin/env bash
-# Builds the library, and tests it from C, C++, Rust and Python. The last line is `N passed, M failed`;
-# the status is 1 where anything failed, also where a tool that a test needs is missing.
+# Builds the library, and tests it from C, C++, Rust and Python. The last line is
+# `N passed, M failed`; the status is 1 where anything failed, also where a tool that a test needs
+# is missing.
 # RT names the command `rt`; with SEC1_C_BUILT=1 the library that stands in out/ is taken as it is.
 set -uo pipefail
 cd "$(dirname "$0")"
@@ -25,7 +26,9 @@ add() { # NAME COMMAND..: adds what the command counts in its last line
     last=$(tail -n 1 "$work/output")
     if [[ $last =~ ^([0-9]+)\ passed,\ ([0-9]+)\ failed$ ]]; then
         passed=$((passed + BASH_REMATCH[1])) failed=$((failed + BASH_REMATCH[2]))
-        if [[ $status -ne 0 && ${BASH_REMATCH[2]} -eq 0 ]]; then fail "$name ended with status $status"; fi
+        if [[ $status -ne 0 && ${BASH_REMATCH[2]} -eq 0 ]]; then
+            fail "$name ended with status $status"
+        fi
     else
         fail "$name ended with status $status, before its last line"
     fi
@@ -38,7 +41,11 @@ finish() {
 
 # ---- the library, and what it wants
 
-build() { if [[ ${SEC1_C_BUILT:-} ]]; then RT=true ./build.sh "$installed"; else ./build.sh "$installed"; fi; }
+build() {
+    if [[ ${SEC1_C_BUILT:-} ]]; then RT=true ./build.sh "$installed"; else
+        ./build.sh "$installed"
+    fi
+}
 if build > "$work/build" 2>&1; then
     pass "build.sh installs the library"
 else
@@ -47,13 +54,14 @@ else
     finish
 fi
 archive=$installed/lib/libsec1.a
-exported="sec1_check_tree sec1_curve_field_len sec1_curve_from_name sec1_curve_name \
-sec1_document_len sec1_element_read sec1_element_write sec1_identifier_check \
+exported="sec1_certificate_public_key sec1_check_tree sec1_curve_field_len \
+sec1_curve_from_name sec1_curve_name sec1_document_len sec1_element_read \
+sec1_element_write sec1_identifier_check \
 sec1_identifier_from_text sec1_identifier_to_text sec1_key_fault_at sec1_key_len \
 sec1_key_len_of sec1_key_read sec1_key_write sec1_key_write_of sec1_point_check \
 sec1_point_compare sec1_point_compress sec1_point_from_coordinates sec1_point_from_hex \
 sec1_point_identity sec1_point_len sec1_point_read sec1_point_to_hex sec1_point_to_hybrid \
-sec1_public_key_read sec1_status_text sec1_tree_fault_at sec1_version"
+sec1_private_key_info_read sec1_public_key_read sec1_status_text sec1_tree_fault_at sec1_version"
 same() { [[ $1 == "$2" ]] || { echo "  '$1' isn't '$2'"; false; }; }
 words() { echo $(printf '%s\n' "$@" | LC_ALL=C sort); }
 if command -v nm > "$work/null" && command -v ar > "$work/null"; then
@@ -64,7 +72,8 @@ if command -v nm > "$work/null" && command -v ar > "$work/null"; then
         same "$(words $(nm -u "$archive" | awk '$1 == "U" {print $2}' | grep -v ^sec1_))" \
         "memcpy memmove memset"
     check "it exports what the header declares" \
-        same "$(words $(nm -g --defined-only "$archive" | awk 'NF == 3 {print $3}'))" "$(words $exported)"
+        same "$(words $(nm -g --defined-only "$archive" | awk 'NF == 3 {print $3}'))" \
+        "$(words $exported)"
 else
     fail "nm or ar is missing (Debian: binutils)"
 fi
@@ -119,7 +128,8 @@ if [[ ${#compilers[@]} -eq 0 ]]; then
 fi
 for compiler in "${compilers[@]}"; do
     check "$compiler compiles tests/calls.c" \
-        $compiler $warnings $sanitizers -I "$installed/include" -o "$work/calls" tests/calls.c "$archive"
+        $compiler $warnings $sanitizers -I "$installed/include" \
+        -o "$work/calls" tests/calls.c "$archive"
     add "tests/calls.c by $compiler" "$work/calls"
     check "$compiler compiles tests/million.c" \
         $compiler $warnings $sanitizers -I "$installed/include" \

@@ -1,3 +1,5 @@
+pub mod CertificateLemmas
+pub mod ContainerLemmas
 pub mod FieldLemmas
 pub mod HexTextLemmas
 pub mod NameLemmas

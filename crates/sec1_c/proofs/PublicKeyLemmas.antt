@@ -20,7 +20,6 @@ use Rattle.sec1_der.specs.Elements.{element, element_of, header}
 use Rattle.sec1_der.specs.Identifiers.{content_of, identifier_content, is_identifier}
 use Rattle.sec1_der.specs.PartLaws.{parted}
 use Rattle.sec1_c.specs.FieldLengths.{IsFieldLength}
-use Rattle.sec1_c.specs.Places.{StandsAt, part_before}
 use Rattle.sec1_c.specs.PublicKeys.{ArePublicKeyPartsOf, IsInfo, key_field_len, public_key_places}
 use Rattle.sec1_c.proofs.PlaceLemmas.{stands_before}
 
@@ -43,11 +42,11 @@ named curve (Some found) bytes names e =
     rw (← same, content) identifier.at.spelled
 
 -- An algorithm on a curve ends with the content of the curve's identifier.
-record EndsWith (content bytes : List ℕ) : Type 0 where
-  front : List ℕ
-  split : bytes ≡ front ++ content
+pub record EndsWith (content bytes : List ℕ) : Type 0 where
+  pub front : List ℕ
+  pub split : bytes ≡ front ++ content
 
-algorithm_ends : (curve : Curve) (algorithm : AlgorithmIdentifier) (bytes : List ℕ) → IsOnCurve curve algorithm
+pub algorithm_ends : (curve : Curve) (algorithm : AlgorithmIdentifier) (bytes : List ℕ) → IsOnCurve curve algorithm
     → element_of 0x30 (algorithm_content algorithm) ≡ Some bytes
     → EndsWith (curve_content curve) bytes
 algorithm_ends curve algorithm bytes on e =

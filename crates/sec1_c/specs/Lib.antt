@@ -14,3 +14,6 @@ pub mod Documents
 pub mod FaultPlaces
 pub mod CurveContents
 pub mod PublicKeys
+pub mod Fields
+pub mod Certificates
+pub mod Containers

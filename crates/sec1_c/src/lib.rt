@@ -10,9 +10,12 @@
 #![tactic(auto)]
 
 mod buffer;
+mod certificate;
+mod container;
 mod curve;
 mod element;
 mod fault;
+mod fields;
 mod identifier;
 mod key;
 mod part;

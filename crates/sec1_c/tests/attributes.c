@@ -7,6 +7,8 @@ static char text[SEC1_IDENTIFIER_TEXT_MAX], name[SEC1_CURVE_NAME_MAX];
 static struct sec1_key_parts parts;
 static struct sec1_point_parts point;
 static struct sec1_public_key_parts public_key;
+static struct sec1_private_key_info_parts container;
+static struct sec1_part part;
 static size_t len, other_len;
 static int32_t order;
 static const struct sec1_key given = {key, 32, NULL, 0, key, 65, 1};
@@ -28,6 +30,10 @@ uint32_t right_calls(size_t some)
     status |= sec1_key_write_of(&given, NULL, 0, &len);
     status |= sec1_public_key_read(key, some, &public_key);
     status |= sec1_public_key_read(NULL, 0, &public_key);
+    status |= sec1_certificate_public_key(key, some, &part);
+    status |= sec1_certificate_public_key(NULL, 0, &part);
+    status |= sec1_private_key_info_read(key, some, &container);
+    status |= sec1_private_key_info_read(NULL, 0, &container);
     status |= sec1_point_len(SEC1_POINT_COMPACT, 32, &len);
     status |= sec1_point_check(key, 65, 32);
     status |= sec1_point_check(NULL, 0, 32);
@@ -104,6 +110,10 @@ uint32_t wrong_call(size_t some)
     return sec1_element_write(0x04, key, sizeof key + 1, out, some, &len);
 #elif WRONG == 15
     return sec1_public_key_read(key, sizeof key + 1 + 0 * some, &public_key);
+#elif WRONG == 16
+    return sec1_certificate_public_key(key, sizeof key + 1 + 0 * some, &part);
+#elif WRONG == 17
+    return sec1_private_key_info_read(NULL, 1 + 0 * some, &container);
 #else
     return (uint32_t)some;
 #endif

@@ -274,6 +274,9 @@ static void test_header(void)
     EXPECT(sizeof(struct sec1_public_key_parts) == 6 * sizeof(size_t));
     EXPECT(offsetof(struct sec1_public_key_parts, curve) == 0);
     EXPECT(offsetof(struct sec1_public_key_parts, public_key) == 3 * sizeof(size_t));
+    EXPECT(sizeof(struct sec1_private_key_info_parts) == 6 * sizeof(size_t));
+    EXPECT(offsetof(struct sec1_private_key_info_parts, curve) == 0);
+    EXPECT(offsetof(struct sec1_private_key_info_parts, key) == 3 * sizeof(size_t));
     EXPECT(sizeof(struct sec1_point_parts) == 7 * sizeof(size_t));
     EXPECT(offsetof(struct sec1_point_parts, tag) == 0);
     EXPECT(offsetof(struct sec1_point_parts, x) == sizeof(size_t));
@@ -599,9 +602,8 @@ static void test_public_keys(void)
         const struct public_key *k = &public_keys[i];
         struct bytes key = unhex(k->bytes);
         EXPECT(read_public_key(key, &p) == SEC1_OK);
-        EXPECT(p.curve.present == 1 && p.curve.offset == k->curve_at && p.curve.len == k->curve_len);
-        EXPECT(p.public_key.present == 1 && p.public_key.offset == k->key_at &&
-               p.public_key.len == k->key_len);
+        EXPECT(is_part(p.curve, k->curve_at, k->curve_len));
+        EXPECT(is_part(p.public_key, k->key_at, k->key_len));
         EXPECT(read_public_key(joined(key, repeated(0, 1)), &p) == SEC1_TRAILING_DATA);
         for (struct bytes cut = key; cut.len-- > 0;)
             EXPECT(read_public_key(cut, &p) == SEC1_TRUNCATED);
@@ -611,6 +613,209 @@ static void test_public_keys(void)
     for (size_t i = 0; i < sizeof no_public_keys / sizeof *no_public_keys; i++)
         EXPECT(read_public_key(unhex(no_public_keys[i].bytes), &p) == no_public_keys[i].status);
     EXPECT(sec1_public_key_read(NULL, 0, &p) == SEC1_TRUNCATED);
+}
+
+/* ---- private keys in their containers */
+
+static uint32_t read_container(struct bytes input, struct sec1_private_key_info_parts *parts)
+{
+    uint32_t status = 0;
+    for (enum side side = AT_END; side <= AT_START; side++) {
+        struct guarded in = map_input(input.data, input.len, side);
+        struct guarded out = map_guarded(sizeof *parts, side);
+        memset(out.data, 0xA5, sizeof *parts);
+        status = sec1_private_key_info_read(in.data, input.len,
+                                            (struct sec1_private_key_info_parts *)out.data);
+        memcpy(parts, out.data, sizeof *parts);
+        EXPECT(status == SEC1_OK || all_are(out.data, sizeof *parts, 0xA5));
+        unmap(in);
+        unmap(out);
+    }
+    return status;
+}
+
+#define KEY_INSIDE "306B020101" "0420" PRIVATE "A144034200" "04" X Y
+#define ATTRIBUTE "300706032A03043100"
+#define OTHER_ATTRIBUTE "300906032A030431020500"
+
+/* What `openssl pkcs8 -topk8 -nocrypt` of OpenSSL 3.0 writes of the key above, and by hand: the
+ * same in version 1, and containers of either version with attributes and public keys (RFC 5958
+ * section 2), whose private keys aren't examined. */
+static const struct container {
+    const char *bytes;
+    size_t curve_at, curve_len, key_at, key_len;
+} containers[] = {
+    {"308187" "020100" ON_P256 "046D" KEY_INSIDE, 19, 8, 29, 109},
+    {"308187" "020101" ON_P256 "046D" KEY_INSIDE, 19, 8, 29, 109},
+    {"301A" "020100" ON_P256 "0400", 18, 8, 28, 0},
+    {"301C" "020100" ON_P256 "0400" "A000", 18, 8, 28, 0},
+    {"3032" "020100" ON_P256 "0402ABCD" "A014" ATTRIBUTE OTHER_ATTRIBUTE, 18, 8, 28, 2},
+    {"3060" "020101" ON_P256 "0402ABCD" "8142" "0004" X Y, 18, 8, 28, 2},
+    {"302A" "020101" ON_P256 "0402ABCD" "A009" ATTRIBUTE "810100", 18, 8, 28, 2},
+    {"3020" "020101" ON_P256 "0402ABCD" "81020380", 18, 8, 28, 2},
+    {"3019" "020100" "3010" EC_KEY "06052B81040023" "0402ABCD", 18, 5, 25, 2},
+    {"3022" "020101" "3014" EC_KEY "06092B2403030208010109" "0402ABCD" "A000" "810100",
+     18, 9, 29, 2},
+};
+
+/* Other versions, faults of each version behind it, a container of OpenSSL for Ed25519, and, by
+ * hand, other algorithms. */
+static const struct no_container {
+    const char *bytes;
+    uint32_t status;
+} no_containers[] = {
+    {"308187" "020102" ON_P256 "046D" KEY_INSIDE, SEC1_VALUE},
+    {"308187" "0201FF" ON_P256 "046D" KEY_INSIDE, SEC1_VALUE},
+    {"308188" "02020001" ON_P256 "046D" KEY_INSIDE, SEC1_VALUE},
+    {"308186" "0200" ON_P256 "046D" KEY_INSIDE, SEC1_VALUE},
+    {"308187" "030100" ON_P256 "046D" KEY_INSIDE, SEC1_TAG},
+    {"3005" "020102" "0500", SEC1_VALUE},
+    {"3005" "020100" "0500", SEC1_TAG},
+    {"3005" "020101" "0500", SEC1_TAG},
+    {"301D" "020100" ON_P256 "0400" "810100", SEC1_TRAILING_DATA},
+    {"301F" "020101" ON_P256 "0400" "810100" "A000", SEC1_TRAILING_DATA},
+    {"301C" "020101" ON_P256 "0400" "8100", SEC1_VALUE},
+    {"301E" "020101" ON_P256 "0400" "81020181", SEC1_VALUE},
+    {"301F" "020101" ON_P256 "0400" "A103810100", SEC1_TRAILING_DATA},
+    {"3030" "020100" ON_P256 "0400" "A014" OTHER_ATTRIBUTE ATTRIBUTE, SEC1_VALUE},
+    {"3030" "020101" ON_P256 "0400" "A014" OTHER_ATTRIBUTE ATTRIBUTE, SEC1_VALUE},
+    {"301E" "020100" ON_P256 "0400" "A0020500", SEC1_TAG},
+    {"301A" "020100" ON_P256 "0300", SEC1_TAG},
+    {"3018" "020100" ON_P256, SEC1_TRUNCATED},
+    {"301A" "020100" ON_P256 "0401", SEC1_TRUNCATED},
+    {"301B" "020100" "3014" EC_KEY "06082A8648CE3D030107" "00" "0400", SEC1_TRAILING_DATA},
+    {"30820087" "020100" ON_P256 "046D" KEY_INSIDE, SEC1_LENGTH},
+    {"300E" "020100" "3007" "06052B81040023" "0400", SEC1_CURVE},
+    {"3010" "020100" "3009" EC_KEY "0400", SEC1_CURVE},
+    {"3012" "020100" "300B" EC_KEY "0500" "0400", SEC1_CURVE},
+    {"3017" "020101" "3010" EC_KEY "06052B81040001" "0400", SEC1_CURVE},
+    {"3018" "020100" "3011" "06052B8104010C" "06082A8648CE3D030107" "0400", SEC1_CURVE},
+    {"302E020100300506032B6570042204205726D726BB487095B7194E8B12FDF612B2A84461C2693FF919B240B12121"
+     "454D", SEC1_CURVE},
+    {KEY_INSIDE, SEC1_VALUE},
+    {"", SEC1_TRUNCATED},
+};
+
+static void test_containers(void)
+{
+    struct sec1_private_key_info_parts p;
+    struct sec1_key_parts inside;
+    for (size_t i = 0; i < sizeof containers / sizeof *containers; i++) {
+        const struct container *c = &containers[i];
+        struct bytes bytes = unhex(c->bytes);
+        EXPECT(read_container(bytes, &p) == SEC1_OK);
+        EXPECT(is_part(p.curve, c->curve_at, c->curve_len));
+        EXPECT(is_part(p.key, c->key_at, c->key_len));
+        EXPECT(read_container(joined(bytes, repeated(0, 1)), &p) == SEC1_TRAILING_DATA);
+        for (struct bytes cut = bytes; cut.len-- > 0;)
+            EXPECT(read_container(cut, &p) == SEC1_TRUNCATED);
+    }
+    for (size_t i = 0; i < sizeof no_containers / sizeof *no_containers; i++)
+        EXPECT(read_container(unhex(no_containers[i].bytes), &p) == no_containers[i].status);
+    EXPECT(sec1_private_key_info_read(NULL, 0, &p) == SEC1_TRUNCATED);
+
+    struct bytes bytes = unhex(containers[0].bytes);
+    EXPECT(read_container(bytes, &p) == SEC1_OK &&
+           sec1_key_read(bytes.data + p.key.offset, p.key.len, &inside) == SEC1_OK);
+    EXPECT(is_part(inside.private_key, 7, 32) && is_absent(inside.curve) &&
+           is_part(inside.public_key, 44, 65));
+}
+
+/* ---- certificates */
+
+static uint32_t find_key(struct bytes input, struct sec1_part *part)
+{
+    uint32_t status = 0;
+    for (enum side side = AT_END; side <= AT_START; side++) {
+        struct guarded in = map_input(input.data, input.len, side);
+        struct guarded out = map_guarded(sizeof *part, side);
+        memset(out.data, 0xA5, sizeof *part);
+        status = sec1_certificate_public_key(in.data, input.len, (struct sec1_part *)out.data);
+        memcpy(part, out.data, sizeof *part);
+        EXPECT(status == SEC1_OK || all_are(out.data, sizeof *part, 0xA5));
+        unmap(in);
+        unmap(out);
+    }
+    return status;
+}
+
+/* What `openssl req -x509` of OpenSSL 3.0 writes of the key above, and `openssl x509 -req -signkey`
+ * of a key for Ed25519: a certificate of version 3 with extensions, and one of version 1 with the
+ * serial number -1, which is valid until 2054. */
+#define OF_VERSION_3                                                                               \
+    "3082015B30820100A003020102020107300A06082A8648CE3D040302300C310A300806035504030C0161301E"     \
+    "170D3236313132343132313035345A170D3236313132353132313035345A300C310A300806035504030C0161"     \
+    "3059301306072A8648CE3D020106082A8648CE3D03010703420004" X Y                                   \
+    "A3533051301D0603551D0E041604148D07D84F5A4E486A0961F8F8802581615B309780301F0603551D230418"     \
+    "301680148D07D84F5A4E486A0961F8F8802581615B309780300F0603551D130101FF040530030101FF300A06"     \
+    "082A8648CE3D0403020349003046022100A9D8F6323D5ED1D41FE8D1B692D25E6B9CF5EDF8968EF0D737B040"     \
+    "A98DB58B7B022100A5B5B9E0076C91CD2C5400FB7BD55B292F55184EEA0015D48F0A0460D79E76D8"
+#define OF_VERSION_1                                                                               \
+    "3081C030740201FF300506032B6570300C310A300806035504030C01623020170D3236313132343132313035"     \
+    "345A180F32303534303431313132313035345A300C310A300806035504030C0162302A300506032B65700321"     \
+    "009712BFF712C7B7FE15B42327091D590F99237BE66FB98FF46760DFDDCCA4717A300506032B6570034100D5"     \
+    "F3C6A428D64E827006EFB5DFB22E1FE7227B0929813977D73F8A2AEF5DE233F207AC87EAF339EA1C8B2DEC2B"     \
+    "DC5D83E7712D7414F78F0D8DF767A90F686205"
+
+/* Another byte at a place of one of them, and the status of what is then found there. */
+static const struct other_byte {
+    size_t at;
+    uint8_t byte;
+    uint32_t status;
+} in_version_3[] = {
+    {2, 0x00, SEC1_LENGTH}, /* the length of the whole */
+    {12, 0x00, SEC1_VALUE}, /* version 1, which is the default and isn't written */
+    {12, 0x03, SEC1_VALUE}, /* version 4 */
+    {18, 0x02, SEC1_TAG},   /* the tag of an algorithm's identifier */
+    {27, 0x82, SEC1_VALUE}, /* the last byte of this identifier */
+    {30, 0x30, SEC1_TAG},   /* the tag of a SET in a name */
+    {39, 0x1F, SEC1_TAG},   /* the tag of a value in a name */
+    {46, 0x3A, SEC1_VALUE}, /* a digit of a time */
+    {88, 0x31, SEC1_TAG},   /* the tag of the SubjectPublicKeyInfo */
+    {109, 0x08, SEC1_OK},   /* the curve, by which a key isn't refused here */
+    {113, 0x01, SEC1_VALUE}, /* unused bits of the key */
+    {179, 0x82, SEC1_VALUE}, /* a unique identifier with 48 unused bits */
+    {179, 0xA4, SEC1_TRAILING_DATA}, /* a field that there isn't */
+    {256, 0x00, SEC1_VALUE}, /* FALSE, which is the default and isn't written */
+    {264, 0x05, SEC1_TAG},   /* the tag of the signature's algorithm */
+    {275, 0x80, SEC1_VALUE}, /* the last byte of its identifier */
+    {278, 0x08, SEC1_VALUE}, /* unused bits of the signature */
+}, in_version_1[] = {
+    {6, 0x02, SEC1_TAG},    /* a serial number of two bytes */
+    {46, 0x17, SEC1_VALUE}, /* the tag of a UTCTime for a GeneralizedTime */
+    {60, 0x2E, SEC1_VALUE}, /* a fraction of a second */
+    {77, 0xA0, SEC1_TAG},   /* the version behind names */
+    {121, 0x83, SEC1_TAG},  /* a field that there isn't */
+};
+
+static void expect_certificate(struct bytes certificate, size_t info_at, size_t info_len,
+                               const struct other_byte *others, size_t count)
+{
+    struct sec1_part part;
+    EXPECT(find_key(certificate, &part) == SEC1_OK && is_part(part, info_at, info_len));
+    EXPECT(find_key(joined(certificate, repeated(0, 1)), &part) == SEC1_TRAILING_DATA);
+    for (struct bytes cut = certificate; cut.len-- > 0;)
+        EXPECT(find_key(cut, &part) == SEC1_TRUNCATED);
+    for (size_t i = 0; i < count; i++) {
+        struct bytes other = certificate;
+        other.data[others[i].at] = others[i].byte;
+        EXPECT(find_key(other, &part) == others[i].status);
+    }
+}
+
+static void test_certificates(void)
+{
+    struct bytes certificate = unhex(OF_VERSION_3);
+    struct sec1_public_key_parts key;
+    struct sec1_part part;
+    expect_certificate(certificate, 88, 91, in_version_3,
+                       sizeof in_version_3 / sizeof *in_version_3);
+    expect_certificate(unhex(OF_VERSION_1), 77, 44, in_version_1,
+                       sizeof in_version_1 / sizeof *in_version_1);
+    EXPECT(sec1_certificate_public_key(NULL, 0, &part) == SEC1_TRUNCATED);
+    EXPECT(find_key(certificate, &part) == SEC1_OK &&
+           sec1_public_key_read(certificate.data + part.offset, part.len, &key) == SEC1_OK);
+    EXPECT(is_part(key.curve, 15, 8) && is_part(key.public_key, 26, 65));
 }
 
 /* ---- points */
@@ -1517,6 +1722,8 @@ int main(void)
         {"written keys", test_written_keys},
         {"long keys", test_long_keys},
         {"public keys", test_public_keys},
+        {"containers", test_containers},
+        {"certificates", test_certificates},
         {"points", test_points},
         {"made points", test_made_points},
         {"identifiers", test_identifiers},

@@ -31,7 +31,8 @@ standards() { # COMPILER LANGUAGE STANDARD..
     local compiler=$1 language=$2 standard found level count=0
     shift 2
     for standard in "$@"; do
-        $compiler -x "$language" -std="$standard" -E -o "$work/null" /dev/null 2> "$work/null" || continue
+        $compiler -x "$language" -std="$standard" -E -o "$work/null" /dev/null 2> "$work/null" ||
+            continue
         for level in -O0 -O2; do
             found=$(warnings $compiler -x "$language" -std="$standard" "$level" $strict \
                 -I "$include" -c -o "$work/calls.o" attributes.c)
@@ -57,7 +58,7 @@ done
 for compiler in gcc clang; do
     has $compiler || continue
     last=5
-    echo '__has_attribute(access)' | $compiler -E - 2> "$work/null" | grep -qx 1 && last=15
+    echo '__has_attribute(access)' | $compiler -E - 2> "$work/null" | grep -qx 1 && last=17
     for wrong in $(seq 0 $last); do
         found=$(warnings $compiler -std=c99 -O2 -Wall -Wextra -DWRONG="$wrong" -I "$include" \
             -c -o "$work/calls.o" attributes.c)
@@ -69,7 +70,8 @@ done
 # ---- other machines
 
 refused() { # COMPILER..: how often the header itself is refused
-    echo '#include <sec1.h>' | "$@" -x c -fsyntax-only -I "$include" - 2>&1 | grep -c 'error: .*libsec1'
+    echo '#include <sec1.h>' | "$@" -x c -fsyntax-only -I "$include" - 2>&1 |
+        grep -c 'error: .*libsec1'
 }
 has gcc && expect "gcc -m32" "$(refused gcc -m32)" 1
 has gcc && expect "gcc -mx32" "$(refused gcc -mx32)" 1

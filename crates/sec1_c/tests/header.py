@@ -1,11 +1,17 @@
-"""Checks that sec1.h declares each exported function and struct as the source does. The last line counts them."""
+"""Checks that sec1.h declares each exported function and struct as the source does. The last line
+counts them."""
 import pathlib
 import re
 import sys
 
 ROOT = pathlib.Path(__file__).resolve().parent.parent
-STRUCTS = {"Part": "struct sec1_part", "KeyParts": "struct sec1_key_parts", "PointParts": "struct sec1_point_parts",
-           "PublicKeyParts": "struct sec1_public_key_parts"}
+STRUCTS = {
+    "Part": "struct sec1_part",
+    "KeyParts": "struct sec1_key_parts",
+    "PointParts": "struct sec1_point_parts",
+    "PublicKeyParts": "struct sec1_public_key_parts",
+    "PrivateKeyInfoParts": "struct sec1_private_key_info_parts",
+}
 # What the header alone has: a struct whose members are given to a call by inline functions.
 UNPROVED = {"struct sec1_key", "sec1_key_len_of", "sec1_key_write_of"}
 NUMBERS = {"usize": "size_t", "u32": "uint32_t", "i32": "int32_t"}
@@ -28,7 +34,8 @@ def c_type(rust):
 
 def source_items(text):
     """Yields the name, and the types in C, of each exported function and each struct of C."""
-    for name, parameters, result in re.findall(r'pub extern "C" fn (\w+)\((.*?)\) -> (\w+)', text, re.S):
+    function = r'pub extern "C" fn (\w+)\((.*?)\) -> (\w+)'
+    for name, parameters, result in re.findall(function, text, re.S):
         types = [c_type(result)]
         for parameter in filter(None, (p.strip() for p in parameters.split(","))):
             types += c_types(parameter.split(": ", 1)[1])
@@ -41,7 +48,8 @@ def header_items(text):
     """Yields the same of the header. A text crosses as bytes."""
     text = re.sub(r"/\*.*?\*/", "", text, flags=re.S)
     for result, name, parameters in re.findall(r"^(\w+) (sec1_\w+)\(([^)]*)\);", text, re.M):
-        types = [re.sub(r"\s*\w+$", "", " ".join(p.split())).replace(" *", "*") for p in parameters.split(",")]
+        words = [" ".join(p.split()) for p in parameters.split(",")]
+        types = [re.sub(r"\s*\w+$", "", w).replace(" *", "*") for w in words]
         types = [re.sub(r"\bchar\b", "uint8_t", t) for t in types]
         yield name, [result] + types
     for name, body in re.findall(r"^(struct \w+) \{(.*?)\n\};", text, re.S | re.M):

@@ -1,15 +1,14 @@
-/* A million inputs through every call, compared with the second reader of reader.h: the status,
- * what is stored, and that nothing else is written. Each input and each buffer is against a page
- * behind it or before it that can't be touched. */
+/* A million inputs through every call, compared with the second readers of reader.h and records.h:
+ * the status, what is stored, and that nothing else is written. Each input and each buffer is
+ * against a page behind it or before it that can't be touched. */
 #define _GNU_SOURCE
-#include "draw.h"
-#include "reader.h"
+#include "inputs.h"
 #include <stdio.h>
 #include <stdlib.h>
 #include <sys/mman.h>
 #include <unistd.h>
 
-enum { INPUTS = 1000000, MOST = 2048 };
+enum { INPUTS = 1000000, MOST = 2048, STATUSES = 12 };
 
 /* ---- memory between pages that can't be touched */
 
@@ -74,6 +73,9 @@ enum call {
     MADE,
     TO_HEX,
     FROM_HEX,
+    PUBLIC_KEY,
+    CONTAINER,
+    CERTIFICATE,
     INPUT,
     CALLS
 };
@@ -95,12 +97,16 @@ static const char *const names[CALLS] = {
     "sec1_point_from_coordinates",
     "sec1_point_to_hex",
     "sec1_point_from_hex",
+    "sec1_public_key_read",
+    "sec1_private_key_info_read",
+    "sec1_certificate_public_key",
     "inputs that are unchanged",
 };
 /* the statuses that each call returns at least once here, as bits */
-static const unsigned wanted[CALLS] = {0x3F, 0xA1, 0x11F, 0x1F,  0x601, 0x681, 0x601, 0xA1,
-                                       0xA1, 0x3F, 0x11F, 0xF, 0x85, 0x21,  0x481, 0x681, 0x681, 1};
-static unsigned long counts[CALLS][11], wrong[CALLS];
+static const unsigned wanted[CALLS] = {0x3F,  0xA1,  0x11F, 0x1F,  0x601, 0x681, 0x601,
+                                       0xA1,  0xA1,  0x3F,  0x11F, 0xF,   0x85,  0x21,
+                                       0x481, 0x681, 0x681, 0xA3F, 0x83F, 0x3F,  1};
+static unsigned long counts[CALLS][STATUSES], wrong[CALLS];
 static struct {
     uint8_t data[MOST];
     size_t len;
@@ -108,7 +114,7 @@ static struct {
 
 static void expect(enum call call, uint32_t status, int holds)
 {
-    if (status <= 10)
+    if (status < STATUSES)
         counts[call][status]++;
     if (!holds && ++wrong[call] <= 5) {
         printf("FAILED: %s, status %u: ", names[call], (unsigned)status);
@@ -216,6 +222,32 @@ static void check_key(const uint8_t *bytes, size_t len)
             b = a + draw(12);
         check_key_write(bytes, a, b == a ? NULL : bytes + a, b - a, bytes + b, len - b, draw(3));
     }
+}
+
+/* Whether a call that stores a struct returned this status, and stored it on success alone. */
+static int stores(uint32_t status, uint32_t refused, const void *stored, const void *found,
+                  size_t size)
+{
+    return status == refused
+           && (refused ? all_are(stored, size, 0xA5) : memcmp(stored, found, size) == 0);
+}
+
+static void check_records(const uint8_t *bytes, size_t len)
+{
+    struct sec1_public_key_parts key;
+    struct sec1_private_key_info_parts container;
+    struct sec1_part info;
+    void *stored = filled(struct_arena, sizeof key, 0xA5);
+    uint32_t refused = info_of(bytes, len, &key), status = sec1_public_key_read(bytes, len, stored);
+    expect(PUBLIC_KEY, status, stores(status, refused, stored, &key, sizeof key));
+    stored = filled(struct_arena, sizeof container, 0xA5);
+    refused = container_of(bytes, len, &container);
+    status = sec1_private_key_info_read(bytes, len, stored);
+    expect(CONTAINER, status, stores(status, refused, stored, &container, sizeof container));
+    stored = filled(struct_arena, sizeof info, 0xA5);
+    refused = certificate_of(bytes, len, &info);
+    status = sec1_certificate_public_key(bytes, len, stored);
+    expect(CERTIFICATE, status, stores(status, refused, stored, &info, sizeof info));
 }
 
 static void check_elements(const uint8_t *bytes, size_t len)
@@ -382,128 +414,18 @@ static void check_identifier(const uint8_t *bytes, size_t len)
 
 /* ---- inputs */
 
-static void draw_bytes(uint8_t *bytes, size_t len)
-{
-    for (size_t i = 0; i < len; i++)
-        bytes[i] = (uint8_t)draw(256);
-}
-
-static size_t draw_soup(uint8_t *out)
-{
-    static const uint8_t often[] = {0x30, 0x02, 0x01, 0x01, 0x04, 0x00, 0xA0,
-                                    0x06, 0xA1, 0x03, 0x2A, 0x80, 0x81, 0x7F};
-    size_t len = draw(draw(2) ? 12 : 72);
-    for (size_t i = 0; i < len; i++)
-        out[i] = draw(3) ? often[draw(sizeof often)] : (uint8_t)draw(256);
-    return len;
-}
-
-static size_t draw_content(uint8_t *out)
-{
-    size_t len = draw(8) ? 1 + draw(10) : draw(44);
-    for (size_t i = 0; i < len; i++)
-        out[i] = (uint8_t)(draw(3) ? draw(128) : draw(256));
-    if (len && draw(8))
-        out[len - 1] &= 0x7F;
-    return len;
-}
-
-static size_t draw_text(uint8_t *out)
-{
-    static const uint32_t often[] = {0, 1, 2, 39, 40, 47, 48, 127, 128, 4294967215u, 4294967295u};
-    struct arcs arcs;
-    arcs.count = draw(8) ? 1 + draw(12) : draw(45);
-    for (size_t i = 0; i < arcs.count; i++)
-        arcs.arc[i] = i == 0 ? draw(4) : i == 1 ? draw(50) : draw(2) ? draw(300) : often[draw(11)];
-    size_t len = put_text((char *)out, &arcs) - 1;
-    if (len && draw(3) == 0)
-        out[draw((uint32_t)len)] = (uint8_t) ".0129-+ \xC3"[draw(9)];
-    return len;
-}
-
-static size_t draw_point(uint8_t *out, size_t n)
-{
-    uint8_t tag = (uint8_t)draw(draw(8) ? 8 : 256);
-    size_t len = tag == 0 ? 1 : 1 + (tag == 4 || tag >= 6 ? 2 : 1) * n;
-    memset(out, (int)draw(3), len);
-    if (draw(2))
-        draw_bytes(out, len);
-    else
-        out[draw((uint32_t)len)] = (uint8_t)draw(256);
-    out[0] = tag;
-    return draw(8) ? len : len - 1 + draw(3);
-}
-
-static size_t draw_key(uint8_t *out)
-{
-    static const uint8_t lengths[] = {0, 1, 28, 32, 48, 66, 65, 97, 122, 123, 133, 200};
-    uint8_t part[512];
-    size_t len = put(out, 0x02, (const uint8_t *)"\x01", 1), part_len = lengths[draw(12)];
-    draw_bytes(part, part_len);
-    len += put(out + len, 0x04, part, part_len);
-    if (draw(4)) {
-        part_len = wrap(part, 0x06, draw_content(part));
-        len += put(out + len, 0xA0, part, part_len);
-    }
-    if (draw(4)) {
-        part_len = 1 + lengths[draw(12)];
-        draw_bytes(part, part_len);
-        part[0] = draw(8) ? 0 : (uint8_t)draw(9);
-        if (part[0] && draw(2))
-            part[part_len - 1] = 0;
-        len += put(out + len, 0xA1, part, wrap(part, 0x03, part_len));
-    }
-    return wrap(out, 0x30, len);
-}
-
-/* Elements inside one another and beside one another. */
-static size_t draw_tree(uint8_t *out)
-{
-    size_t len = draw(4), levels = draw(4) ? draw(8) : 58 + draw(10);
-    draw_bytes(out, len);
-    len = wrap(out, draw(2) ? 0x04 : 0x30, len);
-    for (size_t i = 0; i < levels && len < 300; i++) {
-        if (draw(4) == 0) {
-            memcpy(out + len, "\x05\x00", 2);
-            len += 2;
-        }
-        len = wrap(out, draw(2) ? 0x30 : 0xA1, len);
-    }
-    return len;
-}
-
-static size_t damage(uint8_t *bytes, size_t len)
-{
-    for (uint32_t times = draw(3); times && len; times--) {
-        size_t at = draw((uint32_t)(draw(2) || len < 16 ? len : 16));
-        switch (draw(6)) {
-        case 0: bytes[at] ^= (uint8_t)(1 << draw(8)); break;
-        case 1: bytes[at] = (uint8_t)draw(256); break;
-        case 2:
-            memmove(bytes + at, bytes + at + 1, len - at - 1);
-            len--;
-            break;
-        case 3:
-            memmove(bytes + at + 1, bytes + at, len - at);
-            bytes[at] = (uint8_t)draw(256);
-            len++;
-            break;
-        case 4: len = at; break;
-        default: bytes[len++] = (uint8_t)draw(256); break;
-        }
-    }
-    return len;
-}
-
 static size_t draw_input(uint8_t *out, size_t n)
 {
-    switch (draw(8)) {
+    switch (draw(11)) {
     case 0: return draw_soup(out);
     case 1: return draw_content(out);
     case 2: return draw_text(out);
     case 3:
     case 4: return draw_point(out, n);
     case 5: return damage(out, draw_tree(out));
+    case 6: return damage(out, draw_info(out));
+    case 7: return damage(out, draw_container(out));
+    case 8: return damage(out, draw_certificate(out));
     default: return damage(out, draw_key(out));
     }
 }
@@ -531,6 +453,7 @@ int main(void)
         uint8_t *others = memcpy(room(other_arena, other_len), other, other_len);
         const uint8_t *given = now.len == 0 && draw(2) ? NULL : bytes;
         check_key(bytes, now.len);
+        check_records(given, now.len);
         check_elements(given, now.len);
         check_element_write(given, now.len);
         check_point(given, now.len, n, others, other_len);
@@ -543,7 +466,7 @@ int main(void)
     for (int call = 0; call < CALLS; call++) {
         unsigned met = 0;
         printf("%s:", names[call]);
-        for (int status = 0; status < 11; status++) {
+        for (int status = 0; status < STATUSES; status++) {
             met |= (unsigned)(counts[call][status] > 0) << status;
             if (counts[call][status])
                 printf(" %lu of %d", counts[call][status], status);

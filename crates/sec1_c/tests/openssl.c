@@ -1,11 +1,14 @@
-/* Reads 100,000 damaged keys with this library and with d2i_ECPrivateKey of OpenSSL. Each key that only one of the two
- * accepts must have one of the reasons below, which are found in its bytes by a reader of this file's own, or by other
- * calls of OpenSSL. */
+/* Reads 100,000 damaged keys with this library and with d2i_ECPrivateKey of OpenSSL. Each key that
+ * only one of the two accepts must have one of the reasons below, which are found in its bytes by a
+ * reader of this file's own, or by other calls of OpenSSL. Then it reads the containers, the public
+ * keys and the certificates that OpenSSL writes on each curve that it has. */
 #define OPENSSL_SUPPRESS_DEPRECATED
 #include <openssl/crypto.h>
 #include <openssl/ec.h>
 #include <openssl/err.h>
+#include <openssl/evp.h>
 #include <openssl/objects.h>
+#include <openssl/x509.h>
 #include "draw.h"
 #include <sec1.h>
 #include <stdio.h>
@@ -60,7 +63,8 @@ struct element {
     int other_length, indefinite;
 };
 
-/* Finds the element that the bytes begin with, also where its length has another form than DER's. */
+/* Finds the element that the bytes begin with, also where its length has another form than that of
+ * DER. */
 static int element_at(const uint8_t *bytes, size_t len, struct element *e, int depth)
 {
     memset(e, 0, sizeof *e);
@@ -174,7 +178,8 @@ static enum reason refused_part(const uint8_t *key, const struct sec1_key_parts 
         return NO_CURVE;
     char name[SEC1_IDENTIFIER_TEXT_MAX];
     size_t name_len;
-    if (sec1_identifier_to_text(key + parts->curve.offset, parts->curve.len, name, sizeof name, &name_len))
+    if (sec1_identifier_to_text(key + parts->curve.offset, parts->curve.len, name, sizeof name,
+                                &name_len))
         return NONE;
     ASN1_OBJECT *object = OBJ_txt2obj(name, 1);
     EC_GROUP *group = object ? EC_GROUP_new_by_curve_name(OBJ_obj2nid(object)) : NULL;
@@ -184,7 +189,8 @@ static enum reason refused_part(const uint8_t *key, const struct sec1_key_parts 
     enum reason reason = NONE;
     if (parts->public_key.present) {
         EC_POINT *point = EC_POINT_new(group);
-        if (!EC_POINT_oct2point(group, point, key + parts->public_key.offset, parts->public_key.len, NULL))
+        if (!EC_POINT_oct2point(group, point, key + parts->public_key.offset,
+                                parts->public_key.len, NULL))
             reason = NO_POINT;
         EC_POINT_free(point);
     }
@@ -224,7 +230,8 @@ static int openssl_reads(struct bytes key)
 /* Reads a key both ways, and returns 1 if a difference has a reason. */
 static int compare(struct bytes key)
 {
-    uint8_t *exact = malloc(key.len ? key.len : 1); /* so that the sanitizer sees each byte beyond */
+    /* so that the sanitizer sees each byte beyond */
+    uint8_t *exact = malloc(key.len ? key.len : 1);
     memcpy(exact, key.data, key.len);
     struct sec1_key_parts parts;
     uint32_t status = sec1_key_read(exact, key.len, &parts);
@@ -253,7 +260,8 @@ static int compare(struct bytes key)
     }
     free(exact);
     if (!found && ++unexplained <= 10) {
-        printf("no reason (sec1 %u, OpenSSL %s): ", (unsigned)status, openssl ? "accepts" : "refuses");
+        printf("no reason (sec1 %u, OpenSSL %s): ", (unsigned)status,
+               openssl ? "accepts" : "refuses");
         print_hex(key.data, key.len);
     }
     return found;
@@ -335,7 +343,8 @@ static void lengthen(struct bytes *key)
 static void leave_bits(struct bytes *key)
 {
     struct sec1_key_parts parts;
-    if (sec1_key_read(key->data, key->len, &parts) || !parts.public_key.present || !parts.public_key.len)
+    if (sec1_key_read(key->data, key->len, &parts) || !parts.public_key.present
+        || !parts.public_key.len)
         return;
     uint8_t count = (uint8_t)(1 + draw(3));
     key->data[parts.public_key.offset - 1] = count;
@@ -357,7 +366,10 @@ static struct bytes damaged(struct bytes key)
         case 0: key.data[at] ^= (uint8_t)(1 << draw(8)); break;
         case 1: key.data[at] = (uint8_t)draw(256); break;
         case 2: insert(&key, at, (uint8_t)draw(256)); break;
-        case 3: memmove(key.data + at, key.data + at + 1, key.len - at - 1); key.len--; break;
+        case 3:
+            memmove(key.data + at, key.data + at + 1, key.len - at - 1);
+            key.len--;
+            break;
         case 4: key.len = at; break;
         case 5: insert(&key, key.len, (uint8_t)draw(256)); break;
         case 6: key.data[at] += draw(2) ? 1 : 255; break;
@@ -376,11 +388,12 @@ static struct bytes damaged(struct bytes key)
 
 /* the parameters of P-256, as OpenSSL writes them */
 #define EXPLICIT \
-    "A081FA3081F7020101302C06072A8648CE3D0101022100FFFFFFFF00000001000000000000000000000000FFFFFFFFFFFFFFFFFFFF" \
-    "FFFF305B0420FFFFFFFF00000001000000000000000000000000FFFFFFFFFFFFFFFFFFFFFFFC04205AC635D8AA3A93E7B3EBBD5576" \
-    "9886BC651D06B0CC53B0F63BCE3C3E27D2604B031500C49D360886E704936A6678E1139D26B7819F7E900441046B17D1F2E12C4247" \
-    "F8BCE6E563A440F277037D812DEB33A0F4A13945D898C2964FE342E2FE1A7F9B8EE7EB4A7C0F9E162BCE33576B315ECECBB6406837" \
-    "BF51F5022100FFFFFFFF00000000FFFFFFFFFFFFFFFFBCE6FAADA7179E84F3B9CAC2FC632551020101"
+    "A081FA3081F7020101302C06072A8648CE3D0101022100FFFFFFFF00000001000000000000000000000000" \
+    "FFFFFFFFFFFFFFFFFFFFFFFF305B0420FFFFFFFF00000001000000000000000000000000FFFFFFFFFFFFFFFF" \
+    "FFFFFFFC04205AC635D8AA3A93E7B3EBBD55769886BC651D06B0CC53B0F63BCE3C3E27D2604B031500C49D36" \
+    "0886E704936A6678E1139D26B7819F7E900441046B17D1F2E12C4247F8BCE6E563A440F277037D812DEB33A0" \
+    "F4A13945D898C2964FE342E2FE1A7F9B8EE7EB4A7C0F9E162BCE33576B315ECECBB6406837BF51F5022100FF" \
+    "FFFFFF00000000FFFFFFFFFFFFFFFFBCE6FAADA7179E84F3B9CAC2FC632551020101"
 
 /* a compressed point on P-224 whose x has two zero bits at its end */
 #define EVEN_POINT "0202F6985E7E7AD78ECF8CACBA2F83C2193FF557E52B258039E5965F6694"
@@ -396,7 +409,8 @@ static const struct example {
     {OTHER_LENGTH, SEC1_LENGTH, 1, "308131" "020101" "0420" SCALAR P_256},
     {OTHER_LENGTH, SEC1_LENGTH, 1, "3080" "020101" "0420" SCALAR P_256 "0000"},
     {OTHER_VERSION, SEC1_VALUE, 1, "3031" "020102" "0420" SCALAR P_256},
-    {UNUSED_BITS, SEC1_VALUE, 1, "3050" "020101" "0420" SCALAR "A00706052B81040021" "A120031E02" EVEN_POINT},
+    {UNUSED_BITS, SEC1_VALUE, 1,
+     "3050" "020101" "0420" SCALAR "A00706052B81040021" "A120031E02" EVEN_POINT},
     {OTHER_PARAMETERS, SEC1_TAG, 1, "30820122" "020101" "0420" SCALAR EXPLICIT},
     {OTHER_FORM, SEC1_TAG, 1, "3033" "020101" "2422" "0420" SCALAR P_256},
     {NO_CURVE, SEC1_OK, 0, "3025" "020101" "0420" SCALAR},
@@ -427,10 +441,146 @@ static int examples_hold(void)
         int holds = status == x.status && openssl == x.openssl && compare(key)
                     && (x.reason == NONE || counts[x.reason] == before + 1);
         if (!holds)
-            printf("FAILED: sec1 %u, OpenSSL %d, %s: %s\n", (unsigned)status, openssl, reason_texts[x.reason], x.key);
+            printf("FAILED: sec1 %u, OpenSSL %d, %s: %s\n", (unsigned)status, openssl,
+                   reason_texts[x.reason], x.key);
         hold &= holds;
     }
     return hold;
+}
+
+/* ---- containers, public keys and certificates */
+
+static unsigned long wrong_records;
+
+static void expect(int holds, const char *what, const char *curve)
+{
+    if (!holds && ++wrong_records <= 10)
+        printf("FAILED: %s of a key on %s\n", what, curve);
+}
+
+#define EXPECT(condition, curve) expect((condition) ? 1 : 0, #condition, curve)
+
+/* What an i2d function of OpenSSL writes of a value. */
+#define DER_OF(i2d, value) (der_len = (der = NULL, i2d(value, &der)), take(der, der_len))
+
+static struct bytes take(unsigned char *der, int len)
+{
+    struct bytes taken = {0};
+    if (len <= 0 || len > MOST) {
+        fprintf(stderr, "OpenSSL wrote nothing\n");
+        exit(2);
+    }
+    taken.len = (size_t)len;
+    memcpy(taken.data, der, taken.len);
+    OPENSSL_free(der);
+    return taken;
+}
+
+static int is_at(struct bytes whole, struct sec1_part part, const unsigned char *bytes, size_t len)
+{
+    return part.present == 1 && part.len == len && part.offset + len <= whole.len
+           && memcmp(whole.data + part.offset, bytes, len) == 0;
+}
+
+/* Reads a public key, and compares its parts with those that OpenSSL gives. */
+static uint32_t read_info(struct bytes info, X509_PUBKEY *wanted, const ASN1_OBJECT *curve,
+                          const char *name)
+{
+    struct sec1_public_key_parts parts;
+    const unsigned char *point;
+    int point_len;
+    uint32_t status = sec1_public_key_read(info.data, info.len, &parts);
+    X509_PUBKEY_get0_param(NULL, &point, &point_len, NULL, wanted);
+    if (status == SEC1_OK) {
+        EXPECT(is_at(info, parts.curve, OBJ_get0_data(curve), OBJ_length(curve)), name);
+        EXPECT(is_at(info, parts.public_key, point, (size_t)point_len), name);
+    }
+    return status;
+}
+
+/* A certificate of this key, which it signs itself. */
+static X509 *certificate_of(EVP_PKEY *key, int curve)
+{
+    X509 *certificate = X509_new();
+    X509_set_version(certificate, curve % 2 ? 2 : 0);
+    ASN1_INTEGER_set(X509_get_serialNumber(certificate), curve);
+    X509_gmtime_adj(X509_getm_notBefore(certificate), 0);
+    X509_gmtime_adj(X509_getm_notAfter(certificate), (long)curve * 100 * 86400);
+    X509_NAME_add_entry_by_txt(X509_get_subject_name(certificate), "CN", MBSTRING_ASC,
+                               (const unsigned char *)OBJ_nid2sn(curve), -1, -1, 0);
+    X509_set_issuer_name(certificate, X509_get_subject_name(certificate));
+    X509_set_pubkey(certificate, key);
+    if (!X509_sign(certificate, key, EVP_sha256())) {
+        fprintf(stderr, "OpenSSL made no certificate\n");
+        exit(2);
+    }
+    return certificate;
+}
+
+static void compare_certificate(EVP_PKEY *key, int curve, struct bytes info)
+{
+    const char *name = OBJ_nid2sn(curve);
+    unsigned char *der;
+    int der_len;
+    X509 *certificate = certificate_of(key, curve);
+    struct bytes whole = DER_OF(i2d_X509, certificate);
+    struct sec1_part part;
+    EXPECT(sec1_certificate_public_key(whole.data, whole.len, &part) == SEC1_OK
+           && is_at(whole, part, info.data, info.len), name);
+    X509_free(certificate);
+}
+
+/* Reads what OpenSSL writes of a key on this curve. Returns whether the table has the curve. */
+static int compare_records(int curve)
+{
+    const char *name = OBJ_nid2sn(curve);
+    unsigned char *der;
+    int der_len, private_len;
+    const unsigned char *private_key;
+    EC_KEY *ec_key = EC_KEY_new_by_curve_name(curve);
+    EVP_PKEY *key = EVP_PKEY_new();
+    if (!EC_KEY_generate_key(ec_key) || !EVP_PKEY_assign_EC_KEY(key, ec_key)) {
+        fprintf(stderr, "OpenSSL made no key\n");
+        exit(2);
+    }
+    PKCS8_PRIV_KEY_INFO *container = EVP_PKEY2PKCS8(key);
+    struct bytes whole = DER_OF(i2d_PKCS8_PRIV_KEY_INFO, container);
+    struct sec1_private_key_info_parts parts;
+    struct sec1_key_parts key_parts;
+    uint32_t status = sec1_private_key_info_read(whole.data, whole.len, &parts);
+    PKCS8_pkey_get0(NULL, &private_key, &private_len, NULL, container);
+    if (status == SEC1_OK) {
+        const ASN1_OBJECT *object = OBJ_nid2obj(curve);
+        EXPECT(is_at(whole, parts.curve, OBJ_get0_data(object), OBJ_length(object)), name);
+        EXPECT(is_at(whole, parts.key, private_key, (size_t)private_len), name);
+        EXPECT(sec1_key_read(whole.data + parts.key.offset, parts.key.len, &key_parts) == SEC1_OK,
+               name);
+    }
+    X509_PUBKEY *public_key = NULL;
+    X509_PUBKEY_set(&public_key, key);
+    struct bytes info = DER_OF(i2d_X509_PUBKEY, public_key);
+    EXPECT(read_info(info, public_key, OBJ_nid2obj(curve), name) == status, name);
+    EXPECT(status == SEC1_OK || status == SEC1_CURVE, name);
+    compare_certificate(key, curve, info);
+    X509_PUBKEY_free(public_key);
+    PKCS8_PRIV_KEY_INFO_free(container);
+    EVP_PKEY_free(key);
+    return status == SEC1_OK;
+}
+
+/* Whether the records of each curve that OpenSSL has were read. Those over prime fields of SEC 2,
+ * ANSI X9.62 and RFC 5639 are 34. */
+static int records_hold(void)
+{
+    size_t count = EC_get_builtin_curves(NULL, 0);
+    EC_builtin_curve *curves = calloc(count, sizeof *curves);
+    int accepted = 0;
+    EC_get_builtin_curves(curves, count);
+    for (size_t i = 0; i < count; i++)
+        accepted += compare_records(curves[i].nid);
+    printf("records of %zu curves, of which the table has %d\n", count, accepted);
+    free(curves);
+    return accepted == 34 && wrong_records == 0;
 }
 
 int main(void)
@@ -438,13 +588,17 @@ int main(void)
     enum { DAMAGED = 100000 };
     unsigned passed = 0, failed = 0;
     printf("%s\n", OpenSSL_version(OPENSSL_VERSION));
-    add_keys(NID_X9_62_prime256v1, "ADF80C72A37F5B3882BD46A1D40358A5F94E211288A3ADBB9F93DE807D4837D1");
+    add_keys(NID_X9_62_prime256v1,
+             "ADF80C72A37F5B3882BD46A1D40358A5F94E211288A3ADBB9F93DE807D4837D1");
     add_keys(NID_secp224r1, "5B0E0A435D2108521301CA7F4173B5D8321FB52BB6F68E9B594D695B");
-    add_keys(NID_secp384r1, "139705C449D5AADB6D3B960FA81479DBC90A920382E293B94F62FDD45ABD282608D7AD5D880122F0");
-    add_keys(NID_secp521r1, "2A2E1F3791720ED3C9A2E8DA21BDE43439A9359E32D02E0E518EB3854EC2AA6D6101D3D6585A4542F1");
+    add_keys(NID_secp384r1, "139705C449D5AADB6D3B960FA81479DBC90A920382E293B94F62FDD45ABD2826"
+                            "08D7AD5D880122F0");
+    add_keys(NID_secp521r1, "2A2E1F3791720ED3C9A2E8DA21BDE43439A9359E32D02E0E518EB3854EC2AA6D"
+                            "6101D3D6585A4542F1");
     add_keys(NID_secp256k1, "FA26A90820C4248B0F41DADC3BAC2A892E020E58AF0F21642A0207FAF519F1B8");
 
     examples_hold() ? passed++ : failed++;
+    records_hold() ? passed++ : failed++;
     memset(counts, 0, sizeof counts);
     both = neither = 0;
     for (int i = 0; i < key_count; i++)

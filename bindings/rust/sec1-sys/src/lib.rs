@@ -87,6 +87,16 @@ pub struct sec1_public_key_parts {
     pub public_key: sec1_part,
 }
 
+/// The places of an EC private key's parts in its container, both always present.
+#[repr(C)]
+#[derive(Clone, Copy, Debug, Default, Eq, PartialEq)]
+pub struct sec1_private_key_info_parts {
+    /// The content of the curve's object identifier.
+    pub curve: sec1_part,
+    /// The content of the OCTET STRING, which is the private key.
+    pub key: sec1_part,
+}
+
 /// The tag of a point, and the places of its coordinates.
 #[repr(C)]
 #[derive(Clone, Copy, Debug, Default, Eq, PartialEq)]
@@ -390,5 +400,25 @@ unsafe extern "C" {
         bytes: *const u8,
         bytes_len: usize,
         parts: *mut sec1_public_key_parts,
+    ) -> u32;
+    /// Stores the place of the SubjectPublicKeyInfo in a certificate.
+    ///
+    /// # Safety
+    ///
+    /// `bytes` is readable for `bytes_len` bytes, and `part` is writable and overlaps none.
+    pub fn sec1_certificate_public_key(
+        bytes: *const u8,
+        bytes_len: usize,
+        part: *mut sec1_part,
+    ) -> u32;
+    /// Reads an EC private key from its container, and stores the places of its parts.
+    ///
+    /// # Safety
+    ///
+    /// `bytes` is readable for `bytes_len` bytes, and `parts` is writable and overlaps none.
+    pub fn sec1_private_key_info_read(
+        bytes: *const u8,
+        bytes_len: usize,
+        parts: *mut sec1_private_key_info_parts,
     ) -> u32;
 }

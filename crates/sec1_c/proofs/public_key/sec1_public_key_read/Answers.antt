@@ -1,5 +1,4 @@
 use Rattle.std.proofs.Common.{◌≡◌, arith}
-use Rattle.curves.specs.Curves.{field_len}
 use Rattle.sec1_c.proofs.PublicKeyLemmas.{are_public_key_parts, field_fits}
 use Rattle.sec1_c.proofs.public_key.sec1_public_key_read.Goals as goal
 
