@@ -21,9 +21,9 @@ use Rattle.sec1_der.specs.ElementLaws.{element_of-some}
 use Rattle.sec1_der.specs.Elements.{element, element_of, header, max_length, within_limit}
 use Rattle.sec1_der.specs.PartLaws.{parted}
 use Rattle.sec1_der.specs.Parts.{join, optional_of}
-use Rattle.sec1_der.specs.RefusalLaws.{element_at}
-use Rattle.sec1_der.specs.Refusals.{Fault, element_fault, end_fault, length_at, no_fault, optional_fault}
-use Rattle.sec1_der.specs.Refusals.{parts_fault, within}
+use Rattle.sec1_der.specs.FaultLaws.{element_at}
+use Rattle.sec1_der.specs.Faults.{Fault, element_fault, end_fault, length_at, no_fault, optional_fault}
+use Rattle.sec1_der.specs.Faults.{parts_fault, within}
 use Rattle.sec1_der.specs.declared.error.Error.{Error}
 use Rattle.sec1_der.specs.declared.error.ErrorKind.{ErrorKind}
 use Rattle.sec1_der.specs.declared.error.ErrorKind.TheVariants.{Tag, Value}

@@ -15,7 +15,7 @@ use Rattle.pkix.specs.declared.private_key.PrivateKeyInfo.{PrivateKeyInfo}
 use Rattle.sec1_der.specs.Contents.{bit_string_fault, byte_fault}
 use Rattle.sec1_der.specs.Elements.{element_of}
 use Rattle.sec1_der.specs.Parts.{join, optional_of}
-use Rattle.sec1_der.specs.Refusals.{Fault, element_fault, end_fault, no_fault, optional_fault}
+use Rattle.sec1_der.specs.Faults.{Fault, element_fault, end_fault, no_fault, optional_fault}
 use Rattle.sec1_c.specs.Fields.{bytes_len}
 use Rattle.sec1_c.specs.Places.{StandsAt, part_before}
 use Rattle.sec1_c.specs.declared.container.PrivateKeyInfoParts.{PrivateKeyInfoParts}

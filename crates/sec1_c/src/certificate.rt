@@ -2,7 +2,7 @@
 ghost use Rattle.std.specs.Prelude.{◌≡◌, ◌≢◌, IsSomeAnd};
 ghost use Rattle.pkix.specs.Records.{certificate_fault};
 ghost use Rattle.pkix.specs.declared.certificate.Certificate.{Certificate};
-ghost use Rattle.sec1_der.specs.Refusals.{element_fault, end_fault};
+ghost use Rattle.sec1_der.specs.Faults.{element_fault, end_fault};
 ghost use Rattle.sec1_c.specs.Certificates.{IsCertificate, info_of, info_place};
 ghost use Rattle.sec1_c.specs.Places.{StandsAt};
 ghost use Rattle.sec1_c.specs.Statuses.{fault_number};

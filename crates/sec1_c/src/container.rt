@@ -3,7 +3,7 @@ ghost use Rattle.std.specs.Prelude.{◌≡◌, ◌≢◌, Ok, Some, IfOk};
 ghost use Rattle.curves.specs.declared.curve.Curve.{Curve};
 ghost use Rattle.pkix.specs.EcKeys.{IsOnCurve};
 ghost use Rattle.pkix.specs.declared.private_key.OneAsymmetricKey.{OneAsymmetricKey};
-ghost use Rattle.sec1_der.specs.Refusals.{HasFault, element_fault, end_fault};
+ghost use Rattle.sec1_der.specs.Faults.{HasFault, element_fault, end_fault};
 ghost use Rattle.sec1_c.specs.Containers.{AreContainerPartsOf, IsContainer, IsEcContainer};
 ghost use Rattle.sec1_c.specs.Containers.{container_fault, container_places, of_version_zero};
 ghost use Rattle.sec1_c.specs.Statuses.{curve_number, kind_number};

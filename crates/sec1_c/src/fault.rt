@@ -3,7 +3,7 @@ ghost use Rattle.std.specs.Prelude.{◌≡◌, ◌≢◌, ◌≤◌, length};
 ghost use Rattle.der_faults.specs.Places.{key_place, tree_place};
 ghost use Rattle.sec1.specs.KeyFaults.{key_fault};
 ghost use Rattle.sec1_der.specs.Faults.{tree_fault};
-ghost use Rattle.sec1_c.specs.FaultPlaces.{Tells};
+ghost use Rattle.sec1_c.specs.FaultPlaces.{StoresFault};
 ghost use Rattle.sec1_c.specs.Statuses.{fault_number};
 
 use crate::status::{OK, kind_number};
@@ -18,7 +18,7 @@ use der_faults::Fault;
 /// Returns the numbers of `sec1_key_read`.
 #[unsafe(no_mangle)]
 pub extern "C" fn sec1_key_fault_at(bytes: &[u8], offset: &mut usize) -> u32
-    ensures place { Tells (key_place bytes.now) result offset.old offset.new }
+    ensures place { StoresFault (key_place bytes.now) result offset.old offset.new }
     ensures kind { result ≡ fault_number (key_fault bytes.now) }
     ensures within { result ≢ 0 → offset.new ≤ length bytes.now }
 {
@@ -34,7 +34,7 @@ pub extern "C" fn sec1_key_fault_at(bytes: &[u8], offset: &mut usize) -> u32
 /// Returns the numbers of `sec1_check_tree`.
 #[unsafe(no_mangle)]
 pub extern "C" fn sec1_tree_fault_at(bytes: &[u8], offset: &mut usize) -> u32
-    ensures place { Tells (tree_place bytes.now) result offset.old offset.new }
+    ensures place { StoresFault (tree_place bytes.now) result offset.old offset.new }
     ensures kind { result ≡ fault_number (tree_fault bytes.now) }
     ensures within { result ≢ 0 → offset.new ≤ length bytes.now }
 {
@@ -43,7 +43,7 @@ pub extern "C" fn sec1_tree_fault_at(bytes: &[u8], offset: &mut usize) -> u32
 
 /// Returns the number of a fault's kind and stores its offset; returns 0 if there is none.
 fn tell(fault: Option<Fault>, offset: &mut usize) -> u32
-    ensures { Tells fault result offset.old offset.new }
+    ensures { StoresFault fault result offset.old offset.new }
 {
     match fault {
         Some(fault) => {

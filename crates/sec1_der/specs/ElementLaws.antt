@@ -33,8 +33,10 @@ tag_from_test byte small e =
 pub element_apart : (tag tag' : ℕ) (b c r s : List ℕ) → element tag b ++ r ≡ element tag' c ++ s
     → (tag ≡ tag') × (b ≡ c) × (r ≡ s)
 element_apart tag tag' b c r s e =
+    let here = append_assoc (header tag (length b)) b r in
+    let there = append_assoc (header tag' (length c)) c s in
     let heads = header_apart tag (length b) tag' (length c) (b ++ r) (c ++ s)
-    (sym (append_assoc (header tag (length b)) b r) ∙ e ∙ append_assoc (header tag' (length c)) c s) in
+    (sym here ∙ e ∙ there) in
     let (contents, behind) = split_same b c r s heads.1 heads.2 in
     (heads.0, contents, behind)
 
