@@ -59,7 +59,7 @@ unfoldable pub fixed_width : ℕ → ℕ → List ℕ
 fixed_width zero n = []
 fixed_width (suc width) n = fixed_width width (n / 256) ++ n % 256 ∷ []
 
--- the first byte: SEC1's 00 to 04, 05 of the compact form, and ANSI X9.62's 06 and 07
+-- the first byte: SEC1's 00, 02, 03 and 04, 05 of the compact form, and ANSI X9.62's 06 and 07
 abbrev pub tag_byte : Point → ℕ
 tag_byte identity = 0
 tag_byte (compact x) = 5
