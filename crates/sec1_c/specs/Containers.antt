@@ -21,12 +21,13 @@ use Rattle.sec1_c.specs.Places.{StandsAt, part_before}
 use Rattle.sec1_c.specs.declared.container.PrivateKeyInfoParts.{PrivateKeyInfoParts}
 
 -- RFC 5958 section 2: Attributes ::= SET OF Attribute; Attribute ::= SEQUENCE {
---   attrType OBJECT IDENTIFIER, attrValues SET OF AttributeValue }
+--   attrType OBJECT IDENTIFIER, attrValues SET OF AttributeValue }. The values aren't examined.
 abbrev pub attribute_fault : Fault
 attribute_fault = element_fault 0x06 identifier_fault (element_fault 0x31 no_fault end_fault)
 
 -- RFC 5958 section 2: what follows the private key, attributes [0] IMPLICIT Attributes OPTIONAL and
--- publicKey [1] IMPLICIT BIT STRING OPTIONAL
+-- publicKey [1] IMPLICIT BIT STRING OPTIONAL. The attributes are in ascending order (X.690 section
+-- 11.6).
 abbrev pub after_key : OneAsymmetricKey → Option (List ℕ)
 after_key container =
     join (optional_of 0xA0 (option_map (set_of 0x30 attribute_fault) container.attributes))
@@ -70,8 +71,8 @@ pub record IsEcContainer (bytes : List ℕ) : Type 0 where
   pub is_container : IsContainer container bytes
   pub on_curve : IsOnCurve curve container.algorithm
 
--- The kind by which a content is refused as that of a container of this version, and what follows
--- its attributes.
+-- The kind by which a content is refused as that of a container of this version; `behind` is that
+-- of what follows the attributes.
 abbrev pub version_fault : ℕ → Fault → Fault
 version_fault version behind =
     element_fault 0x02 (byte_fault version)
