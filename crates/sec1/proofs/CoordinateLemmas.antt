@@ -132,3 +132,6 @@ pub ruleset coordinate_digits = (coordinates_whole, length-fixed_width)
 
 -- The same bytes are found to be the same.
 pub ruleset same_bytes = bytes_eq-Decides
+
+-- The parity of a coordinate, of any length.
+pub ruleset coordinate_parity = (coordinates_parity, coordinates_none)

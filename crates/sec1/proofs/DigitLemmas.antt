@@ -5,7 +5,7 @@ use Rattle.std.proofs.Common.{get_or-drop, take_all}
 use Rattle.std.proofs.Math.Nat.{pow-le-pow_right}
 use Rattle.std.proofs.lemmas.Grind.{elements}
 use Rattle.std.proofs.lemmas.Int.Digits.{number_push, number_more, number_lt}
-use Rattle.std.proofs.lemmas.List.{take_more}
+use Rattle.std.proofs.lemmas.List.{nil_from_length, take_more}
 use Rattle.hex.specs.Hex.{IsBytes}
 use Rattle.sec1_der.specs.Numbers.{number_of}
 use Rattle.sec1_der.specs.DigitLaws.{IsBytes-below}
@@ -61,3 +61,6 @@ fixed_width-num n bs h e = rw (take_all n bs (omega arith)) at (fixed_width-fron
 -- The last byte has the number's parity.
 pub parity_of_last : (bs : List ℕ) → 0 < length bs → number_of bs % 2 ≡ get_or bs (length bs - 1) 0 % 2
 parity_of_last bs some = grind (arith, take_all, number_more 256 bs (length bs - 1))
+
+-- The parity of a number by its last digit, if it has one.
+pub ruleset last_parity = (parity_of_last, nil_from_length)

@@ -166,3 +166,6 @@ read_bytes {N} input point front e = record {
   begins_none = λ other _ begins. no_prefix N e.of other (rw e.spelled at begins);
   begun_by_none = λ other _ begun. no_prefix N other e.of (rw e.spelled at begun);
 }
+
+-- Encodings that are compared as buffers.
+pub ruleset compared_encodings = (filled, same_encodings)

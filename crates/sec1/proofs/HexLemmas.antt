@@ -6,8 +6,8 @@ use Rattle.std.specs.Char.{is_ascii_uppercase, is_ascii_lowercase}
 use Rattle.std.specs.Fmt.{digit_glyph}
 use Rattle.std.specs.List.{list_any}
 use Rattle.std.proofs.lemmas.Bool.{cases_Bool}
-use Rattle.std.proofs.lemmas.List.{take_more}
-use Rattle.std.proofs.lemmas.List.Folds.{list_any_at}
+use Rattle.std.proofs.lemmas.List.{take_all, take_more}
+use Rattle.std.proofs.lemmas.List.Folds.{list_any_at, list_any_more}
 use Rattle.std.proofs.Math.ListN.{get_or-eq_default}
 use Rattle.std.proofs.lemmas.List.FromFn.{get_or-map-range_with_len}
 use Rattle.hex.specs.Hex.{IsBytes, encode_with, encode_upper, upper_digits, lower_digits, hex_digit_value, decode_of}
@@ -117,3 +117,6 @@ pub encode_more : (bytes : List ℕ) (i : ℕ) → i < length bytes → get_or b
     ≡ encode_upper (take (i + 1) bytes)
 encode_more bytes i h small =
     grind (arith, take_more bytes i 0 h, encode_push upper_digits (take i bytes), upper_digits-at)
+
+-- The letters of a text that were seen so far.
+pub ruleset letters_seen = (list_any_more, take_all)

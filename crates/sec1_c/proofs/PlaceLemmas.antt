@@ -61,3 +61,6 @@ are_parts key input is =
 -- the places of a key's parts are within the input
 pub parts_within : (key : Key) (input : List ℕ) (parts : KeyParts) → ArePartsOf key input parts → AreWithin input parts
 parts_within key input parts are = grind arith
+
+-- The parts of a key at their places.
+pub ruleset parts_placed = (are_parts, parts_within)

@@ -13,6 +13,7 @@ use Rattle.std.specs.Str.{IsAscii, IsUtf8}
 use Rattle.sec1_der.specs.Identifiers.{AreArcs, IsIdentifier, dotted}
 use Rattle.sec1_der.specs.Numbers.{base128}
 use Rattle.sec1_c.specs.IdentifierTexts.{further_text}
+use Rattle.sec1_c.proofs.SubidentifierLemmas.{content_arcs, content_fits}
 
 -- a dotted text is the first arc and the text of the further arcs
 pub dotted_text : (n : ℕ) (ns : List ℕ) → dotted (n ∷ ns) ≡ decimal n ++ further_text ns
@@ -67,3 +68,6 @@ pub dotted_utf8 : (arcs : List ℕ) → AreArcs arcs → IsUtf8 (dotted arcs)
 dotted_utf8 (a ∷ b ∷ further) are =
     IsUtf8-from_ascii _ (ascii_dotted a (b ∷ further) (omega (arith, are.0), (omega (arith, are.2), are.3)))
 dotted_utf8 arcs are = absurd are
+
+-- The text of a content, and its room.
+pub ruleset text_of_content = (content_fits, content_arcs, text_room)

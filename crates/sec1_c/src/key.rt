@@ -42,7 +42,7 @@ pub struct KeyParts {
 /// expected; Length if a length isn't in the form of DER; Value if a content isn't valid for its
 /// tag; TrailingData if bytes follow the last part.
 #[unsafe(no_mangle)]
-#[tactic(auto, using(crate::proofs::PlaceLemmas::are_parts, crate::proofs::PlaceLemmas::parts_within))]
+#[tactic(auto, using(crate::proofs::PlaceLemmas::parts_placed))]
 pub extern "C" fn sec1_key_read(bytes: &[u8], parts: &mut KeyParts) -> u32
     ensures found { result ≡ 0 → IsKey bytes.now }
     ensures only { (key : Key) → IsKeyOf key bytes.now → result ≡ 0 }

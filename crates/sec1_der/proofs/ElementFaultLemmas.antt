@@ -170,3 +170,6 @@ opened_field number tag f opened old new content found is same kind =
 
 -- by these, a document is refused by the kind that its bytes have, and only then
 pub ruleset document_faults = (fronts, document_element, document_long)
+
+-- the faults of truncated elements
+pub ruleset cut_elements = (element_cut, any_tag_cut)

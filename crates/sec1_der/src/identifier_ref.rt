@@ -94,7 +94,7 @@ impl ValueContent for IdentifierRef<'_> {
 }
 
 impl<'a> DecodeValue<'a> for IdentifierRef<'a> {
-    #[tactic(auto, using(crate::proofs::ContentFaultLemmas::identifier_taken, crate::proofs::ContentFaultLemmas::identifier_refused))]
+    #[tactic(auto, using(crate::proofs::ContentFaultLemmas::identifier_faults))]
     fn decode_value(reader: &mut SliceReader<'a>) -> Result<Self> {
         match IdentifierRef::from_bytes(reader.read_rest()?) {
             Ok(identifier) => Ok(identifier),

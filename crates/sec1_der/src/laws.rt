@@ -36,7 +36,7 @@ pub fn trees_prefix_free()
 
 /// An element that ends too early is refused as Truncated, whatever its content is tested for and
 /// whatever may follow it.
-#[tactic(auto, using(crate::proofs::ElementFaultLemmas::element_cut, crate::proofs::ElementFaultLemmas::any_tag_cut))]
+#[tactic(auto, using(crate::proofs::ElementFaultLemmas::cut_elements))]
 pub fn cut_elements()
     ensures element { (inside behind : Fault) (tag : ℕ) (content bytes : List ℕ)
         → length content ≤ max_length → IsProperPrefix bytes (element tag content)

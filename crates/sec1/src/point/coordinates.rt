@@ -50,7 +50,7 @@ impl<'a, const N: usize> Coordinates<'a, N> {
     }
 
     /// Returns the tag of the encoding.
-    #[tactic(auto, using(crate::proofs::CoordinateLemmas::coordinates_parity, crate::proofs::CoordinateLemmas::coordinates_none))]
+    #[tactic(auto, using(crate::proofs::CoordinateLemmas::coordinate_parity))]
     pub fn tag(&self) -> Tag
         ensures { result ≡ point_tag (coordinates_point self.now) }
     {

@@ -8,7 +8,7 @@ use super::EncodedPoint;
 
 impl<const N: usize, const L: usize> EncodedPoint<N, L> {
     /// Returns `true` if the points are the same.
-    #[tactic(auto, using(crate::proofs::EncodedPointLemmas::filled, crate::proofs::EncodedPointLemmas::same_encodings))]
+    #[tactic(auto, using(crate::proofs::EncodedPointLemmas::compared_encodings))]
     pub fn ct_eq(&self, other: &Self) -> bool
         ensures same { IsTrue result ↔ (point_of self.now ≡ point_of other.now) }
         ensures bytes { IsTrue result

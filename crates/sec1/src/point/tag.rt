@@ -117,7 +117,7 @@ impl Tag {
 
 /// Returns `true` if the number in the bytes, the most significant first, is odd. Without bytes it
 /// is 0.
-#[tactic(auto, using(crate::proofs::DigitLemmas::parity_of_last, std::proofs::lemmas::List::nil_from_length))]
+#[tactic(auto, using(crate::proofs::DigitLemmas::last_parity))]
 fn is_odd<const N: usize>(y: &[u8; N]) -> bool
     ensures { result ≡ is_odd (number_of y.now) }
 {

@@ -113,7 +113,7 @@ fn decode_digits(text: &[u8], out: &mut [u8]) -> bool
 }
 
 /// Returns `true` if no letter is upper case, or none is lower case.
-#[tactic(auto, using(std::proofs::lemmas::List::Folds::list_any_more, std::proofs::lemmas::List::take_all))]
+#[tactic(auto, using(crate::proofs::HexLemmas::letters_seen))]
 fn is_one_case(text: &[u8]) -> bool
     ensures { result ≡ is_one_case text.now }
 {

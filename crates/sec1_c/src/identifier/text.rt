@@ -18,7 +18,7 @@ const MAX: usize = 158;
 pub type Text = ArrayString<MAX>;
 
 /// Returns the dotted text of an identifier: its arcs in decimal digits, joined by full stops.
-#[tactic(auto, using(crate::proofs::SubidentifierLemmas::content_fits, crate::proofs::SubidentifierLemmas::content_arcs, crate::proofs::TextLemmas::text_room))]
+#[tactic(auto, using(crate::proofs::TextLemmas::text_of_content))]
 pub fn dotted(identifier: &ObjectIdentifier) -> Text
     ensures text { result.bytes ≡ dotted identifier.now }
     ensures room { length result.bytes < 158 }
