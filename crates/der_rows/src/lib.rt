@@ -1,0 +1,12 @@
+//! The rows of a picture of elements in DER: one for each header, in the order of the bytes. No
+//! call allocates.
+#![tactic(auto)]
+
+mod element;
+pub mod laws;
+mod levels;
+mod rows;
+#[cfg(test)]
+mod tests;
+
+pub use rows::{Row, Rows};

@@ -1,0 +1,98 @@
+//! Rows counted by hand in bytes that OpenSSL 3.0.19 made.
+use crate::Rows;
+use std::test::Fail;
+
+/// A key on P-256 of 32 bytes, with its curve and no public key.
+static KEY: [u8; 51] = [
+    0x30, 0x31, 0x02, 0x01, 0x01, 0x04, 0x20, 0x53, 0xA2, 0x93, 0xA2, 0x75, 0x42, 0x3E, 0xA1, 0x4B,
+    0xE8, 0xC5, 0x17, 0x6B, 0x92, 0x1E, 0xC5, 0x7B, 0x15, 0xB7, 0x8F, 0x70, 0xAA, 0x10, 0xAE, 0x43,
+    0x0C, 0x9E, 0x98, 0x08, 0x01, 0xB7, 0x66, 0xA0, 0x0A, 0x06, 0x08, 0x2A, 0x86, 0x48, 0xCE, 0x3D,
+    0x03, 0x01, 0x07,
+];
+
+/// The offset, the depth, the tag, the length of the header, that of the content and that of the
+/// drawn content of each row of the key.
+static KEY_ROWS: [(usize, usize, u8, usize, usize, usize); 5] = [
+    (0, 0, 0x30, 2, 49, 0),
+    (2, 1, 0x02, 2, 1, 1),
+    (5, 1, 0x04, 2, 32, 32),
+    (39, 1, 0xA0, 2, 10, 0),
+    (41, 2, 0x06, 2, 8, 8),
+];
+
+#[test]
+fn draws_a_key(rt: HostRuntime) -> Result<(), Fail> {
+    let mut rows = Rows::new(&KEY);
+    for &(offset, depth, tag, header_len, content_len, drawn_len) in KEY_ROWS.iter() {
+        let Some(row) = rows.next_row() else {
+            assert!(rt; false, "no row at {offset}");
+            return Ok(());
+        };
+        assert_eq!(rt; row.offset, offset);
+        assert_eq!(rt; row.depth, depth, "at {offset}");
+        assert_eq!(rt; row.tag, tag, "at {offset}");
+        assert_eq!(rt;
+            row.header,
+            &KEY[offset..offset + header_len],
+            "at {offset}"
+        );
+        assert_eq!(rt; row.content_len, content_len, "at {offset}");
+        let start = offset + header_len;
+        assert_eq!(rt; row.content, &KEY[start..start + drawn_len], "at {offset}");
+    }
+    assert!(rt; rows.next_row().is_none());
+    Ok(())
+}
+
+/// Returns the number of rows of these bytes.
+fn count_rows(bytes: &[u8]) -> usize {
+    let mut rows = Rows::new(bytes);
+    let mut count = 0usize;
+    for _ in 0..1000 {
+        if rows.next_row().is_none() {
+            break;
+        }
+        count = count.saturating_add(1);
+    }
+    count
+}
+
+/// Bytes, and how many rows they have: the walk stops at the first element that isn't there.
+static STOPS: [(&[u8], usize); 9] = [
+    (&[], 0),
+    (&[0x00, 0x00], 0),
+    (&[0x30, 0x00], 1),
+    (&[0x30, 0x80, 0x00, 0x00], 0),
+    (&[0x30, 0x02, 0x05, 0x00], 2),
+    (&[0x30, 0x02, 0x05, 0x01, 0x00], 1),
+    (&[0x30, 0x03, 0x05, 0x00], 0),
+    (&[0x05, 0x00, 0x04, 0x01, 0xFF], 2),
+    (&[0x30, 0x04, 0x30, 0x00, 0x1F, 0x01, 0x05, 0x00], 2),
+];
+
+#[test]
+fn stops_at_what_is_no_element(rt: HostRuntime) -> Result<(), Fail> {
+    for &(bytes, count) in STOPS.iter() {
+        assert_eq!(rt; count_rows(bytes), count, "of {bytes:?}");
+    }
+    Ok(())
+}
+
+#[test]
+fn stops_below_64_levels(rt: HostRuntime) -> Result<(), Fail> {
+    for (levels, count) in [(1usize, 1usize), (63, 63), (64, 64), (65, 64), (80, 64)] {
+        // each of these elements contains the next, and all of them fit one byte of length
+        let mut bytes = [0x30u8; 160];
+        for level in 0..levels {
+            bytes[2 * level + 1] = (2 * (levels - level - 1)) as u8;
+        }
+        // from 128 bytes on a length has two bytes: leave out the outermost of these
+        let start = 2 * levels.saturating_sub(64);
+        assert_eq!(rt;
+            count_rows(&bytes[start..2 * levels]),
+            count.min(64),
+            "of {levels} levels"
+        );
+    }
+    Ok(())
+}
