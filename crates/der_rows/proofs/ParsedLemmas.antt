@@ -1,5 +1,6 @@
 -- The element at the beginning of some bytes.
-use Rattle.std.proofs.Common.{◌≡◌, ◌∷◌, [], ◌++◌, ℕ, ◌-◌, ◌≤◌, List, Bool, true, false, length, take, drop, refl, ap, arith}
+use Rattle.std.proofs.Common.{◌≡◌, ◌∷◌, [], ◌++◌, ℕ, ◌-◌, ◌≤◌, List, Bool, true, false, length, take, drop, refl}
+use Rattle.std.proofs.Common.{ap, arith}
 use Rattle.std.proofs.Common.{if◌then◌else◌, Some, None, Result, Ok, Err, append_assoc, ◌∙◌, sym}
 use Rattle.std.proofs.Math.Seq.{take-append_seam, drop-append_seam}
 use Rattle.std.proofs.lemmas.Bool.{le-leb}
@@ -88,7 +89,8 @@ parsed_whole (tag ∷ bytes) x e =
         rw (← is, size, append_assoc octets content behind, take-append-drop n rest) (ap (λ more. tag ∷ more) whole)
 
     by : (a b c : Bool) → (c ≡ true → take (length octets) bytes ≡ octets)
-        → (if a then parsed_from tag (within (if b && c then Ok (n, rest) else Err (length_fault bytes))) else None) ≡ Some x
+        → (if a then parsed_from tag (within (if b && c then Ok (n, rest) else Err (length_fault bytes))) else None)
+        ≡ Some x
         → tag ∷ bytes ≡ element x.tag x.content ++ x.behind
     by false b c same e = absurd (cc e)
     by true false c same e = absurd (cc e)

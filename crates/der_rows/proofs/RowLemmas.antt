@@ -1,6 +1,7 @@
 -- The rows of bytes, and those of a tree.
 use Rattle.std.proofs.Common.{◌≡◌, ◌∷◌, [], ◌++◌, ℕ, ◌+◌, ◌<◌, ◌≤◌, List, Bool, true, false, length}
-use Rattle.std.proofs.Common.{if◌then◌else◌, drop, Option, Some, None, append_assoc, append-nil, ◌∙◌, sym, refl, ap, arith}
+use Rattle.std.proofs.Common.{if◌then◌else◌, drop, Option, Some, None, append_assoc, append-nil, ◌∙◌, sym, refl}
+use Rattle.std.proofs.Common.{ap, arith}
 use Rattle.std.proofs.Common.{bit_and, add-one, nat_lt, subst, ne_eqb, ⊎_elim}
 use Rattle.std.proofs.lemmas.Bool.{lt-ltb, cases_eq}
 use Rattle.std.proofs.lemmas.List.{length-append}
@@ -26,7 +27,10 @@ pub row_bytes : (tag : ℕ) (content behind : List ℕ) (outer : List (List ℕ)
     ++ concatenated (closed (levels_after tag content behind outer)))
 row_bytes tag content behind outer =
     let head = header tag (length content) in
-    rw (append_assoc (head ++ content) behind (concatenated outer), append_assoc head content (behind ++ concatenated outer))
+    rw (
+      append_assoc (head ++ content) behind (concatenated outer),
+      append_assoc head content (behind ++ concatenated outer),
+    )
     (ap (λ rest. head ++ rest) (by (is_constructed tag)))
   where
     by : (b : Bool)
@@ -54,10 +58,12 @@ fits_after offset limit old header content after whole fits =
     omega (arith, ap length whole, length-append header (content ++ after), length-append content after)
 
 -- what is left before a row is its bytes, and what is left after it
-pub next_bytes : (offset : ℕ) (levels : List (List ℕ)) (row : RowView) (new : Undrawn) → next_of offset levels ≡ Some (row, new)
+pub next_bytes : (offset : ℕ) (levels : List (List ℕ)) (row : RowView) (new : Undrawn)
+    → next_of offset levels ≡ Some (row, new)
     → concatenated levels ≡ row.header ++ (row.content ++ left new)
 next_bytes offset [] row new e = absurd (cc e)
-next_bytes offset (bytes ∷ outer) row new e = by (nat_lt (length outer) max_tree_depth) (parsed bytes) (parsed_whole bytes) e
+next_bytes offset (bytes ∷ outer) row new e =
+    by (nat_lt (length outer) max_tree_depth) (parsed bytes) (parsed_whole bytes) e
   where
     by : (b : Bool) (o : Option Parsed)
         → ((x : Parsed) → o ≡ Some x → bytes ≡ element x.tag x.content ++ x.behind)
@@ -179,8 +185,8 @@ mutual
       (subst (λ at. behind_drawn at behind outer rows new) at more) in
       rw (
         append_assoc (bytes t) (joined rest) behind,
-        append_assoc (rows_of_tree offset (length outer) t) (rows_of_forest (offset + length (bytes t)) (length outer) rest)
-            rows,
+        append_assoc (rows_of_tree offset (length outer) t)
+            (rows_of_forest (offset + length (bytes t)) (length outer) rest) rows,
       )
       (tree_rows t offset (joined rest ++ behind) outer _ new is.0 (omega arith) others)
 

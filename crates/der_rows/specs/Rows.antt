@@ -1,6 +1,7 @@
 -- The picture of elements: a row for each header, in the order of the bytes.
 use Rattle.std.specs.Prelude.{◌≡◌, ℕ, ◌+◌, Bool, ◌==◌, not, nat_lt, bit_and, if◌then◌else◌, get_or}
-use Rattle.std.specs.Prelude.{List, [], ◌∷◌, ◌++◌, length, Option, Some, None, Result, Ok, Err, zero, suc}
+use Rattle.std.specs.Prelude.{List, [], ◌∷◌, ◌++◌, length, Option, Some, None, Result, Ok, Err}
+use Rattle.std.specs.Prelude.{zero, suc}
 use Rattle.sec1_der.specs.Elements.{header}
 use Rattle.sec1_der.specs.Faults.{is_tag}
 use Rattle.sec1_der.specs.Refusals.{length_at, within}

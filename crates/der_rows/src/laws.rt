@@ -1,5 +1,5 @@
-//! Laws of the rows, for callers to cite. Each law is the contract of a function, which does nothing
-//! else.
+//! Laws of the rows, for callers to cite. Each law is the contract of a function, which does
+//! nothing else.
 ghost use Rattle.der_rows.specs.RowLaws.{RowsAreInput, TreeIsDrawn};
 
 /// The bytes of the rows, in their order, and then those that have no row, are the input: none is

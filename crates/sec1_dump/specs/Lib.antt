@@ -1,0 +1,7 @@
+pub mod Text
+pub mod Names
+pub mod Notes
+pub mod Lines
+pub mod Forms
+pub mod Picture
+pub mod Hiding

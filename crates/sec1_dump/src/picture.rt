@@ -1,0 +1,122 @@
+//! The picture of bytes.
+ghost use Rattle.std.specs.Prelude.{◌≡◌, false, IfOk, codes, map, string_bytes};
+ghost use Rattle.der_faults.specs.Places.{key_place, tree_place};
+ghost use Rattle.der_rows.specs.Rows.{row_view};
+ghost use Rattle.sec1_dump.specs.Hiding.{HidesOctets};
+ghost use Rattle.sec1_dump.specs.Picture.{AreRows, IsPicture, advice_of, fault_line, kind_words};
+ghost use Rattle.sec1_dump.specs.Picture.{verdict};
+
+use crate::forms::{Form, advice, form_of};
+use crate::lines::lines;
+use der_faults::{Fault, key_fault, tree_fault};
+use der_rows::{Row, Rows};
+use sec1_der::ErrorKind;
+use std::alloc::{AllocError, Global};
+
+/// A picture, and the status that the program ends with.
+#[derive(Drop)]
+pub struct Picture {
+    /// The lines.
+    pub text: String,
+    /// 0 for a key, 1 for anything else.
+    pub status: u8,
+}
+
+/// Returns all rows of these bytes. Fails only if an allocation fails.
+fn all_rows(alloc: Global, bytes: &[u8]) -> Result<Vec<Row<'_>>, AllocError>
+    ensures { IfOk result (λ rows. AreRows bytes.now (map row_view rows.items)) }
+{
+    let mut rows = Rows::new(bytes);
+    let mut drawn = Vec::new(alloc);
+    while let Some(row) = rows.next_row() {
+        drawn.push(row)?;
+    }
+    Ok(drawn)
+}
+
+/// Returns the words for a kind.
+fn kind_words(kind: ErrorKind) -> &'static str
+    ensures { result.now ≡ kind_words kind }
+{
+    match kind {
+        ErrorKind::Truncated => "the bytes, or the element around it, end too early",
+        ErrorKind::Tag => "another tag than can be here",
+        ErrorKind::Length => "no length of DER",
+        ErrorKind::TrailingData => "more bytes than can be here",
+        ErrorKind::Value => "another content than can be here",
+        ErrorKind::Depth => "more than 64 elements in one another",
+        _ => "another fault",
+    }
+}
+
+/// Returns the line for a fault, if there is one, behind what the bytes aren't. Fails only if an
+/// allocation fails.
+fn fault_line(alloc: Global, words: &str, fault: Option<Fault>) -> Result<String, AllocError>
+    ensures { IfOk result (λ text. string_bytes text ≡ fault_line words.now fault) }
+{
+    match fault {
+        None => Ok(String::new(alloc)),
+        Some(fault) => {
+            let offset = fault.offset;
+            let kind = kind_words(fault.kind);
+            format!(in alloc; "{words} at offset {offset}: {kind}\n")
+        }
+    }
+}
+
+/// Returns what helps, if that is known.
+fn advice_of(form: Option<Form>) -> &'static str
+    ensures { result.now ≡ advice_of form }
+{
+    match form {
+        Some(form) => advice(form),
+        None => "",
+    }
+}
+
+/// Returns what is said of bytes with these faults as a key and as a tree, and with these rows:
+/// nothing of a key. Fails only if an allocation fails.
+fn verdict(
+    alloc: Global,
+    key: Option<Fault>,
+    tree: Option<Fault>,
+    rows: &[Row],
+) -> Result<String, AllocError>
+    ensures { IfOk result
+        (λ text. string_bytes text ≡ verdict key tree (map row_view rows.now)) }
+{
+    if key.is_none() {
+        return Ok(String::new(alloc));
+    }
+    let tree_line = fault_line(alloc, "no tree of DER", tree)?;
+    let key_line = fault_line(alloc, "no EC private key", key)?;
+    let advice = advice_of(form_of(rows));
+    format!(in alloc; "{tree_line}{key_line}{advice}")
+}
+
+/// Returns the picture of bytes. Fails only if an allocation fails.
+pub(crate) fn draw(alloc: Global, all: bool, bytes: &[u8]) -> Result<Picture, AllocError>
+    ensures picture { IfOk result
+        (λ picture. IsPicture all bytes.now (string_bytes picture.text) picture.status) }
+    // Where not all is shown, the picture of a key doesn't depend on the private key's bytes.
+    ensures hidden { all ≡ false → IfOk result (λ picture. picture.status ≡ 0
+        → HidesOctets bytes.now (string_bytes picture.text)) }
+{
+    // A function of its own: the second clause follows from the first.
+    put_together(alloc, all, bytes)
+}
+
+/// Puts the lines and the verdict together. Fails only if an allocation fails.
+fn put_together(alloc: Global, all: bool, bytes: &[u8]) -> Result<Picture, AllocError>
+    ensures { IfOk result
+        (λ picture. IsPicture all bytes.now (string_bytes picture.text) picture.status) }
+{
+    let rows = all_rows(alloc, bytes)?;
+    let key = key_fault(bytes);
+    let lines = lines(alloc, all, key.is_none(), &rows)?;
+    let verdict = verdict(alloc, key, tree_fault(bytes), &rows)?;
+    Ok(Picture {
+        text: format!(in alloc; "{lines}{verdict}")?,
+        status: if key.is_none() { 0 } else { 1 },
+    })
+}

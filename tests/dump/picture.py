@@ -1,0 +1,309 @@
+"""Draws DER as `sec1_dump` does, by a reader of its own: written from X.690, RFC 5915 and
+docs/FORMATS.md alone.
+
+    python3 tests/dump/picture.py [--all] FILE
+"""
+import string
+import sys
+
+LIMIT = 1 << 20
+TYPES = {
+    1: "BOOLEAN", 2: "INTEGER", 3: "BIT STRING", 4: "OCTET STRING", 5: "NULL",
+    6: "OBJECT IDENTIFIER", 10: "ENUMERATED", 12: "UTF8String", 19: "PrintableString",
+    22: "IA5String", 23: "UTCTime", 24: "GeneralizedTime", 48: "SEQUENCE", 49: "SET",
+}
+CLASSES = ("UNIVERSAL ", "APPLICATION ", "", "PRIVATE ")
+SECG = {
+    6: "secp112r1", 7: "secp112r2", 28: "secp128r1", 29: "secp128r2", 9: "secp160k1",
+    8: "secp160r1", 30: "secp160r2", 31: "secp192k1", 32: "secp224k1", 33: "P-224",
+    10: "secp256k1", 34: "P-384", 35: "P-521",
+}
+X962 = ("P-192", "prime192v2", "prime192v3", "prime239v1", "prime239v2", "prime239v3", "P-256")
+BRAINPOOL = (160, 192, 224, 256, 320, 384, 512)
+CURVES = {f"1.3.132.0.{n}": name for n, name in SECG.items()}
+CURVES |= {f"1.2.840.10045.3.1.{n}": name for n, name in enumerate(X962, 1)}
+CURVES |= {
+    f"1.3.36.3.3.2.8.1.1.{2 * n + t}": f"brainpoolP{bits}{'rt'[t - 1]}1"
+    for n, bits in enumerate(BRAINPOOL) for t in (1, 2)
+}
+WORDS = {
+    "Truncated": "the bytes, or the element around it, end too early",
+    "Tag": "another tag than can be here",
+    "Length": "no length of DER",
+    "TrailingData": "more bytes than can be here",
+    "Value": "another content than can be here",
+    "Depth": "more than 64 elements in one another",
+}
+COMMAND = "  openssl ec %s-outform DER -out key.der\n"
+OF_DER = COMMAND % "-inform DER -in FILE "
+OF_PEM = COMMAND % "-in FILE "
+NAMED = COMMAND % "-inform DER -in FILE -param_enc named_curve "
+LABELS = {
+    "EC PRIVATE KEY-----": "This is an EC private key in PEM. It is made DER by:\n" + OF_PEM,
+    "PRIVATE KEY-----": "This is PKCS #8 in PEM. It is made a key by:\n" + OF_PEM,
+    "ENCRYPTED PRIVATE KEY-----":
+        "This is PKCS #8, encrypted, in PEM. It is made a key, with its password, by:\n" + OF_PEM,
+    "OPENSSH PRIVATE KEY-----":
+        "This is OpenSSH's own form. A copy of it is made PEM by:\n  ssh-keygen -p -m PEM -f COPY\n",
+    "": "This is PEM, of another kind than a private key.\n",
+}
+
+
+class Fault(Exception):
+    """The offset of a refusal, and its kind."""
+
+
+def header(data, at, end):
+    """Returns the tag, where the content begins, and where it ends."""
+    if at >= end:
+        raise Fault(end, "Truncated")
+    tag = data[at]
+    if tag == 0 or tag % 32 == 31:
+        raise Fault(at, "Tag")
+    return (tag,) + extent(data, at + 1, end)
+
+
+def extent(data, at, end):
+    """Returns where the content with the length at this offset begins, and where it ends."""
+    if at >= end:
+        raise Fault(end, "Truncated")
+    count, start = data[at], at + 1
+    if count > 127:
+        digits = data[start:min(end, start + count - 128)]
+        if 129 <= count <= 132 and len(digits) < count - 128:
+            raise Fault(at, "Truncated")
+        number = int.from_bytes(digits, "big")
+        least = max(1, (number.bit_length() + 7) // 8)
+        if not 129 <= count <= 132 or number < 128 or least != len(digits) or number >> 28:
+            raise Fault(at, "Length")
+        count, start = number, start + len(digits)
+    if start + count > end:
+        raise Fault(at, "Truncated")
+    return start, start + count
+
+
+def rows_of(data):
+    """Returns all rows up to the first place where no element is: offset, depth, tag, content."""
+    rows, at, ends = [], 0, [len(data)]
+    while True:
+        while ends and at == ends[-1]:
+            ends.pop()
+        if not ends or len(ends) > 64:
+            return rows
+        try:
+            tag, start, stop = header(data, at, ends[-1])
+        except Fault:
+            return rows
+        rows.append((at, len(ends) - 1, tag, start, stop))
+        if tag & 32:
+            at = start
+            ends.append(stop)
+        else:
+            at = stop
+
+
+def check_row(data, at, end, level):
+    """Raises the first fault of elements in a row."""
+    while at < end:
+        if level > 64:
+            raise Fault(at, "Depth")
+        tag, start, stop = header(data, at, end)
+        if tag & 32:
+            check_row(data, start, stop, level + 1)
+        at = stop
+
+
+def check_tree(data):
+    """Raises the first fault of bytes that aren't those of one tree."""
+    tag, start, stop = header(data, 0, len(data))
+    if tag & 32:
+        check_row(data, start, stop, 2)
+    finish(stop, len(data))
+
+
+def finish(at, end):
+    if at < end:
+        raise Fault(at, "TrailingData")
+
+
+def tagged(data, wanted, at, end):
+    """Returns where the content of the element with this tag begins and ends."""
+    if at >= end:
+        raise Fault(end, "Truncated")
+    if data[at] != wanted:
+        raise Fault(at, "Tag")
+    return extent(data, at + 1, end)
+
+
+def arcs(content):
+    """Returns the arcs of an identifier, or None."""
+    if not 0 < len(content) <= 39 or content[-1] > 127:
+        return None
+    numbers, number, fresh = [], 0, True
+    for byte in content:
+        if fresh and byte == 128:
+            return None
+        number = number * 128 + byte % 128
+        fresh = byte < 128
+        if fresh:
+            numbers.append(number)
+            number = 0
+    if max(numbers) >> 32:
+        return None
+    first = min(numbers[0] // 40, 2)
+    return [first, numbers[0] - 40 * first] + numbers[1:]
+
+
+def check_bits(data, at, end):
+    start, stop = tagged(data, 3, at, end)
+    content = data[start:stop]
+    if not content or content[0] > 7 or (len(content) == 1 and content[0]) or (
+            len(content) > 1 and content[-1] % (1 << content[0])):
+        raise Fault(start, "Value")
+    finish(stop, end)
+    if content[0]:
+        raise Fault(start, "Value")
+
+
+def check_key(data):
+    """Raises the first fault of bytes that aren't those of a key."""
+    at, end = tagged(data, 0x30, 0, len(data))
+    start, stop = tagged(data, 2, at, end)
+    if data[start:stop] != b"\1":
+        raise Fault(start, "Value")
+    at = tagged(data, 4, stop, end)[1]
+    if at < end and data[at] == 0xA0:
+        inside, at = tagged(data, 0xA0, at, end)
+        start, stop = tagged(data, 6, inside, at)
+        if arcs(data[start:stop]) is None:
+            raise Fault(start, "Value")
+        finish(stop, at)
+    if at < end and data[at] == 0xA1:
+        inside, at = tagged(data, 0xA1, at, end)
+        check_bits(data, inside, at)
+    finish(at, end)
+    finish(end, len(data))
+
+
+def fault_of(check, data):
+    try:
+        check(data)
+    except Fault as fault:
+        return fault.args
+    return None
+
+
+def type_name(tag):
+    return TYPES.get(tag) or f"[{CLASSES[tag // 64]}{tag % 32}]"
+
+
+def label(tag, content):
+    sized = f"{type_name(tag)}, {len(content)} byte{'s' * (len(content) != 1)}"
+    if tag & 32 or tag == 6:
+        return type_name(tag)
+    if tag == 2 and len(content) == 1 and content[0] < 128:
+        return f"INTEGER {content[0]}"
+    if tag == 3 and content:
+        return f"BIT STRING, {f'{content[0]} unused bits' if content[0] else 'whole'}"
+    return sized
+
+
+def point(content):
+    if len(content) < 2:
+        return "no point"
+    tag, count = content[1], len(content) - 2
+    if tag in (4, 6, 7) and count and count % 2 == 0:
+        return f"{'uncompressed' if tag == 4 else 'hybrid'} point of 2 x {count // 2} bytes"
+    if tag in (2, 3, 5) and count:
+        return f"{'compact' if tag == 5 else 'compressed'} point of {count} bytes"
+    return "point at infinity" if tag == 0 and count == 0 else "no point"
+
+
+def note(depth, tag, content, is_key, whole):
+    if tag == 6:
+        found = arcs(content)
+        if found is None:
+            return "no identifier"
+        text = ".".join(map(str, found))
+        return text + (f", {CURVES[text]}" if text in CURVES else "")
+    if not is_key:
+        return ""
+    if depth == 0:
+        return "ECPrivateKey"
+    if depth == 1:
+        secret = "private key" if whole else "private key, not shown"
+        return {2: "version", 4: secret, 0xA0: "parameters", 0xA1: "public key"}[tag]
+    return point(content) if tag == 3 else ""
+
+
+def line(data, row, is_key, whole):
+    offset, depth, tag, start, stop = row
+    head = "".join(f" {byte:02X}" for byte in data[offset:start])
+    count = str(stop - start)
+    between = " " * max(1, 20 - len(head) - len(count))
+    columns = f"{offset:>4}{head}{between}{count}  "
+    content = b"" if tag & 32 else data[start:stop]
+    words = "  " * depth + label(tag, data[start:stop])
+    remark = note(depth, tag, content, is_key, whole)
+    if remark:
+        words += " " * max(1, 29 - len(words)) + remark
+    if whole:
+        for at in range(0, len(content), 16):
+            words += "\n" + " " * 25 + "".join(f" {byte:02X}" for byte in content[at:at + 16])
+    return columns + words + "\n"
+
+
+def advice(data, rows):
+    shape = [row[1:3] for row in rows[:5]]
+    contents = [data[row[3]:row[4]].hex() for row in rows[:3]]
+    if len(rows) < 3 or shape[0] != (0, 0x30):
+        return ""
+    if shape[1] == (1, 0x30):
+        if shape[2] == (2, 6) and contents[2] == "2a8648ce3d0201":
+            return "This is a public key, SubjectPublicKeyInfo: it has no private key.\n"
+        if shape[2] == (2, 6) and contents[2] == "2a864886f70d01050d":
+            words = "This is PKCS #8, encrypted. It is made a key, with its password, by:\n"
+            return words + OF_DER
+        if shape[2] == (2, 0xA0):
+            return "This looks like a certificate: it has no private key.\n"
+    if shape[1] == (1, 2) and contents[1] == "00":
+        if shape[2] == (1, 0x30):
+            return "This is PKCS #8. It is made a key by:\n" + OF_DER
+        if shape[2] == (1, 2):
+            return "This looks like an RSA key: it is no EC key.\n"
+    if shape[1] == (1, 2) and contents[1] == "03" and shape[2] == (1, 0x30):
+        words = "This looks like PKCS #12. The keys in it are written as PEM by:\n"
+        return words + "  openssl pkcs12 -in FILE -nodes -nocerts\n"
+    if shape[1:] == [(1, 2), (1, 4), (1, 0xA0), (2, 0x30)] and contents[1] == "01":
+        words = "This is a key whose curve is given by its parameters. "
+        return words + "It is made one with a named curve by:\n" + NAMED
+    return ""
+
+
+def picture(given, whole=False):
+    """Returns what is printed of an input, and the status."""
+    if len(given) > LIMIT:
+        return "input too long\n", 1
+    if given.startswith(b"-----BEGIN "):
+        for front, words in LABELS.items():
+            if given.startswith(b"-----BEGIN " + front.encode()):
+                return words, 1
+    digits = given.translate(None, b" \t\r\n")
+    data = given
+    if len(digits) % 2 == 0 and all(chr(byte) in string.hexdigits for byte in digits):
+        data = bytes.fromhex(digits.decode())
+    key, tree, rows = fault_of(check_key, data), fault_of(check_tree, data), rows_of(data)
+    text = "".join(line(data, row, key is None, whole) for row in rows)
+    if key is None:
+        return text, 0
+    for words, fault in (("no tree of DER", tree), ("no EC private key", key)):
+        if fault is not None:
+            text += f"{words} at offset {fault[0]}: {WORDS[fault[1]]}\n"
+    return text + advice(data, rows), 1
+
+
+if __name__ == "__main__":
+    with open(sys.argv[-1], "rb") as file:
+        drawn, ended = picture(file.read(), "--all" in sys.argv)
+    sys.stdout.write(drawn)
+    sys.exit(ended)
