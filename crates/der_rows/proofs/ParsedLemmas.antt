@@ -7,16 +7,16 @@ use Rattle.std.proofs.lemmas.Bool.{le-leb}
 use Rattle.std.proofs.lemmas.List.{length-append}
 use Rattle.sec1_der.specs.ElementLaws.{is_tag-true}
 use Rattle.sec1_der.specs.Elements.{max_length, length_octets, header, element, IsHeader}
-use Rattle.sec1_der.specs.Faults.{is_tag}
-use Rattle.sec1_der.specs.RefusalLaws.{length_at_spelled}
-use Rattle.sec1_der.specs.Refusals.{no_fault, any_fault, parts_fault, length_at, within}
+use Rattle.sec1_der.specs.ErrorKinds.{is_tag}
+use Rattle.sec1_der.specs.FaultLaws.{length_at_spelled}
+use Rattle.sec1_der.specs.Faults.{no_fault, any_fault, parts_fault, length_at, within}
 use Rattle.std.specs.Prelude.{nat_le, ◌&&◌}
 use Rattle.std.proofs.lemmas.Bool.{leb-true}
 use Rattle.std.proofs.lemmas.Slice.Eq.{bytes_eq-Decides}
 use Rattle.std.specs.Str.{bytes_eq}
 use Rattle.std.proofs.lemmas.List.{take-append-drop, length-take-le}
-use Rattle.sec1_der.specs.Faults.{length_fault}
-use Rattle.sec1_der.specs.Refusals.{number_at}
+use Rattle.sec1_der.specs.ErrorKinds.{length_fault}
+use Rattle.sec1_der.specs.Faults.{number_at}
 use Rattle.sec1_der.specs.declared.error.ErrorKind.{ErrorKind}
 use Rattle.der_rows.specs.Rows.{parsed, parsed_from, Parsed}
 

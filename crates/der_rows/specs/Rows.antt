@@ -3,8 +3,8 @@ use Rattle.std.specs.Prelude.{◌≡◌, ℕ, ◌+◌, Bool, ◌==◌, not, nat_
 use Rattle.std.specs.Prelude.{List, [], ◌∷◌, ◌++◌, length, Option, Some, None, Result, Ok, Err}
 use Rattle.std.specs.Prelude.{zero, suc}
 use Rattle.sec1_der.specs.Elements.{header}
-use Rattle.sec1_der.specs.Faults.{is_tag}
-use Rattle.sec1_der.specs.Refusals.{length_at, within}
+use Rattle.sec1_der.specs.ErrorKinds.{is_tag}
+use Rattle.sec1_der.specs.Faults.{length_at, within}
 use Rattle.sec1_der.specs.Trees.{Tree, Forest, leaf, branch, none, first, bytes, joined}
 use Rattle.sec1_der.specs.Trees.{max_tree_depth}
 use Rattle.sec1_der.specs.declared.error.ErrorKind.{ErrorKind}
