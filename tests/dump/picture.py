@@ -37,6 +37,7 @@ WORDS = {
 COMMAND = "  openssl ec %s-outform DER -out key.der\n"
 OF_DER = COMMAND % "-inform DER -in FILE "
 OF_PEM = COMMAND % "-in FILE "
+PKCS12 = "  openssl pkcs12 -in FILE -nodes -nocerts\n"
 NAMED = COMMAND % "-inform DER -in FILE -param_enc named_curve "
 LABELS = {
     "EC PRIVATE KEY-----": "This is an EC private key in PEM. It is made DER by:\n" + OF_PEM,
@@ -273,7 +274,7 @@ def advice(data, rows):
             return "This looks like an RSA key: it is no EC key.\n"
     if shape[1] == (1, 2) and contents[1] == "03" and shape[2] == (1, 0x30):
         words = "This looks like PKCS #12. The keys in it are written as PEM by:\n"
-        return words + "  openssl pkcs12 -in FILE -nodes -nocerts\n"
+        return words + PKCS12
     if shape[1:] == [(1, 2), (1, 4), (1, 0xA0), (2, 0x30)] and contents[1] == "01":
         words = "This is a key whose curve is given by its parameters. "
         return words + "It is made one with a named curve by:\n" + NAMED
