@@ -40,12 +40,12 @@ OF_PEM = COMMAND % "-in FILE "
 PKCS12 = "  openssl pkcs12 -in FILE -nodes -nocerts\n"
 NAMED = COMMAND % "-inform DER -in FILE -param_enc named_curve "
 LABELS = {
-    "EC PRIVATE KEY-----": "This is an EC private key in PEM. It is made DER by:\n" + OF_PEM,
-    "PRIVATE KEY-----": "This is PKCS #8 in PEM. It is made a key by:\n" + OF_PEM,
+    "EC PRIVATE KEY-----": "This is an EC private key in PEM. This makes DER of it:\n" + OF_PEM,
+    "PRIVATE KEY-----": "This is PKCS #8 in PEM. This makes a key of it:\n" + OF_PEM,
     "ENCRYPTED PRIVATE KEY-----":
-        "This is PKCS #8, encrypted, in PEM. It is made a key, with its password, by:\n" + OF_PEM,
+        "This is PKCS #8, encrypted, in PEM. This makes a key of it, with its password:\n" + OF_PEM,
     "OPENSSH PRIVATE KEY-----":
-        "This is OpenSSH's own form. A copy of it is made PEM by:\n  ssh-keygen -p -m PEM -f COPY\n",
+        "This is OpenSSH's own form. This makes PEM of a copy of it:\n  ssh-keygen -p -m PEM -f COPY\n",
     "": "This is PEM, of another kind than a private key.\n",
 }
 
@@ -263,21 +263,21 @@ def advice(data, rows):
         if shape[2] == (2, 6) and contents[2] == "2a8648ce3d0201":
             return "This is a public key, SubjectPublicKeyInfo: it has no private key.\n"
         if shape[2] == (2, 6) and contents[2] == "2a864886f70d01050d":
-            words = "This is PKCS #8, encrypted. It is made a key, with its password, by:\n"
+            words = "This is PKCS #8, encrypted. This makes a key of it, with its password:\n"
             return words + OF_DER
         if shape[2] == (2, 0xA0):
             return "This looks like a certificate: it has no private key.\n"
     if shape[1] == (1, 2) and contents[1] == "00":
         if shape[2] == (1, 0x30):
-            return "This is PKCS #8. It is made a key by:\n" + OF_DER
+            return "This is PKCS #8. This makes a key of it:\n" + OF_DER
         if shape[2] == (1, 2):
             return "This looks like an RSA key: it is no EC key.\n"
     if shape[1] == (1, 2) and contents[1] == "03" and shape[2] == (1, 0x30):
-        words = "This looks like PKCS #12. The keys in it are written as PEM by:\n"
+        words = "This looks like PKCS #12. This writes its keys as PEM:\n"
         return words + PKCS12
     if shape[1:] == [(1, 2), (1, 4), (1, 0xA0), (2, 0x30)] and contents[1] == "01":
         words = "This is a key whose curve is given by its parameters. "
-        return words + "It is made one with a named curve by:\n" + NAMED
+        return words + "This names the curve instead:\n" + NAMED
     return ""
 
 

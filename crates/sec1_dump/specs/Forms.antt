@@ -81,26 +81,26 @@ of_pem = codes "  openssl ec -in FILE -outform DER -out key.der\n"
 
 -- what helps
 abbrev pub advice : Form → List ℕ
-advice Pkcs8 = codes "This is PKCS #8. It is made a key by:\n" ++ of_der
+advice Pkcs8 = codes "This is PKCS #8. This makes a key of it:\n" ++ of_der
 advice Encrypted =
-    codes "This is PKCS #8, encrypted. It is made a key, with its password, by:\n" ++ of_der
+    codes "This is PKCS #8, encrypted. This makes a key of it, with its password:\n" ++ of_der
 advice PublicKey = codes "This is a public key, SubjectPublicKeyInfo: it has no private key.\n"
 advice Certificate = codes "This looks like a certificate: it has no private key.\n"
 advice Rsa = codes "This looks like an RSA key: it is no EC key.\n"
 advice Pkcs12 =
-    codes "This looks like PKCS #12. The keys in it are written as PEM by:\n"
+    codes "This looks like PKCS #12. This writes its keys as PEM:\n"
     ++ codes "  openssl pkcs12 -in FILE -nodes -nocerts\n"
 advice Explicit =
     codes "This is a key whose curve is given by its parameters. "
-    ++ (codes "It is made one with a named curve by:\n"
+    ++ (codes "This names the curve instead:\n"
     ++ (codes "  openssl ec -inform DER -in FILE -param_enc named_curve "
     ++ codes "-outform DER -out key.der\n"))
-advice PemKey = codes "This is an EC private key in PEM. It is made DER by:\n" ++ of_pem
-advice PemPkcs8 = codes "This is PKCS #8 in PEM. It is made a key by:\n" ++ of_pem
+advice PemKey = codes "This is an EC private key in PEM. This makes DER of it:\n" ++ of_pem
+advice PemPkcs8 = codes "This is PKCS #8 in PEM. This makes a key of it:\n" ++ of_pem
 advice PemEncrypted =
-    codes "This is PKCS #8, encrypted, in PEM. It is made a key, with its password, by:\n"
+    codes "This is PKCS #8, encrypted, in PEM. This makes a key of it, with its password:\n"
     ++ of_pem
 advice OpenSsh =
-    codes "This is OpenSSH's own form. A copy of it is made PEM by:\n"
+    codes "This is OpenSSH's own form. This makes PEM of a copy of it:\n"
     ++ codes "  ssh-keygen -p -m PEM -f COPY\n"
 advice Pem = codes "This is PEM, of another kind than a private key.\n"

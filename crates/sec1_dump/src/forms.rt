@@ -154,28 +154,28 @@ pub(crate) fn advice(form: Form) -> &'static str
     ensures { result.now ≡ advice form }
 {
     match form {
-        Form::Pkcs8 => "This is PKCS #8. It is made a key by:\n  \
+        Form::Pkcs8 => "This is PKCS #8. This makes a key of it:\n  \
              openssl ec -inform DER -in FILE -outform DER -out key.der\n",
         Form::Encrypted =>
-            "This is PKCS #8, encrypted. It is made a key, with its password, by:\n  \
+            "This is PKCS #8, encrypted. This makes a key of it, with its password:\n  \
              openssl ec -inform DER -in FILE -outform DER -out key.der\n",
         Form::PublicKey => "This is a public key, SubjectPublicKeyInfo: it has no private key.\n",
         Form::Certificate => "This looks like a certificate: it has no private key.\n",
         Form::Rsa => "This looks like an RSA key: it is no EC key.\n",
-        Form::Pkcs12 => "This looks like PKCS #12. The keys in it are written as PEM by:\n  \
+        Form::Pkcs12 => "This looks like PKCS #12. This writes its keys as PEM:\n  \
              openssl pkcs12 -in FILE -nodes -nocerts\n",
         Form::Explicit => "This is a key whose curve is given by its parameters. \
-             It is made one with a named curve by:\n  \
+             This names the curve instead:\n  \
              openssl ec -inform DER -in FILE -param_enc named_curve \
              -outform DER -out key.der\n",
-        Form::PemKey => "This is an EC private key in PEM. It is made DER by:\n  \
+        Form::PemKey => "This is an EC private key in PEM. This makes DER of it:\n  \
              openssl ec -in FILE -outform DER -out key.der\n",
-        Form::PemPkcs8 => "This is PKCS #8 in PEM. It is made a key by:\n  \
+        Form::PemPkcs8 => "This is PKCS #8 in PEM. This makes a key of it:\n  \
              openssl ec -in FILE -outform DER -out key.der\n",
         Form::PemEncrypted =>
-            "This is PKCS #8, encrypted, in PEM. It is made a key, with its password, by:\n  \
+            "This is PKCS #8, encrypted, in PEM. This makes a key of it, with its password:\n  \
              openssl ec -in FILE -outform DER -out key.der\n",
-        Form::OpenSsh => "This is OpenSSH's own form. A copy of it is made PEM by:\n  \
+        Form::OpenSsh => "This is OpenSSH's own form. This makes PEM of a copy of it:\n  \
              ssh-keygen -p -m PEM -f COPY\n",
         Form::Pem => "This is PEM, of another kind than a private key.\n",
     }
