@@ -294,14 +294,11 @@ fn has_identities(rt: HostRuntime) {
     assert_eq!(rt; Point1::identity().len(), 1);
 }
 
-// The length of an uncompressed point with coordinates of 66 bytes, known to the compiler.
-const LONGEST: usize = Tag::Uncompressed.message_len(66);
-
 #[test]
 fn has_tags(rt: HostRuntime) -> Result<(), Fail> {
     assert_eq!(rt; Tag::Identity.message_len(66), 1);
     assert_eq!(rt; Tag::Compact.message_len(66), 67);
-    assert_eq!(rt; LONGEST, 133);
+    assert_eq!(rt; Tag::Uncompressed.message_len(66), 133);
     assert_eq!(rt; Tag::from_u8(6)?, Tag::HybridEvenY);
     assert_eq!(rt; Tag::try_from(7)?, Tag::HybridOddY);
     assert_eq!(rt; u8::from(Tag::HybridOddY), 7);
