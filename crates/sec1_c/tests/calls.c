@@ -134,23 +134,47 @@ static struct bytes repeated(uint8_t value, size_t len)
 
 /* ---- calls with guarded arguments */
 
-static uint32_t read_key(struct bytes input, struct sec1_key_parts *parts)
+/* A call that stores what it read, and the size of that. */
+typedef uint32_t reader(const uint8_t *bytes, size_t bytes_len, void *stored);
+
+/* Reads an input that ends, and then one that begins, beside a page that can't be read. The result
+ * is stored in the same way, by the same bytes both times, or not at all. */
+static uint32_t read_guarded(reader *read, struct bytes input, void *stored, size_t size)
 {
     uint32_t status[2];
-    struct sec1_key_parts stored[2];
     for (enum side side = AT_END; side <= AT_START; side++) {
         struct guarded in = map_input(input.data, input.len, side);
-        struct guarded out = map_guarded(sizeof *parts, side);
-        memset(out.data, 0xA5, sizeof *parts);
-        status[side] = sec1_key_read(in.data, input.len, (struct sec1_key_parts *)out.data);
-        memcpy(&stored[side], out.data, sizeof *parts);
-        EXPECT(status[side] == SEC1_OK || all_are(out.data, sizeof *parts, 0xA5));
+        struct guarded out = map_guarded(size, side);
+        memset(out.data, 0xA5, size);
+        status[side] = read(in.data, input.len, out.data);
+        EXPECT(status[side] == SEC1_OK || all_are(out.data, size, 0xA5));
+        EXPECT(side == AT_END || memcmp(stored, out.data, size) == 0);
+        memcpy(stored, out.data, size);
         unmap(in);
         unmap(out);
     }
-    EXPECT(status[0] == status[1] && memcmp(&stored[0], &stored[1], sizeof *parts) == 0);
-    *parts = stored[0];
+    EXPECT(status[0] == status[1]);
     return status[0];
+}
+
+/* Expects that these bytes are read, and neither with a byte behind them nor cut off anywhere. */
+static void expect_whole(reader *read, struct bytes whole, void *stored, size_t size)
+{
+    EXPECT(read_guarded(read, joined(whole, repeated(0, 1)), stored, size) == SEC1_TRAILING_DATA);
+    for (struct bytes cut = whole; cut.len-- > 0;)
+        EXPECT(read_guarded(read, cut, stored, size) == SEC1_TRUNCATED);
+    EXPECT(read(NULL, 0, stored) == SEC1_TRUNCATED);
+    EXPECT(read_guarded(read, whole, stored, size) == SEC1_OK);
+}
+
+static uint32_t key_parts(const uint8_t *bytes, size_t bytes_len, void *stored)
+{
+    return sec1_key_read(bytes, bytes_len, stored);
+}
+
+static uint32_t read_key(struct bytes input, struct sec1_key_parts *parts)
+{
+    return read_guarded(key_parts, input, parts, sizeof *parts);
 }
 
 struct given {
@@ -411,14 +435,7 @@ static void test_refused_keys(void)
     for (size_t i = 0; i < sizeof refused_keys / sizeof *refused_keys; i++)
         EXPECT(read_key(unhex(refused_keys[i].bytes), &parts) == refused_keys[i].status);
 
-    struct bytes key = unhex(WHOLE_KEY);
-    for (size_t len = 0; len < key.len; len++) {
-        struct bytes beginning = key;
-        beginning.len = len;
-        EXPECT(read_key(beginning, &parts) == SEC1_TRUNCATED);
-    }
-    EXPECT(read_key(joined(key, unhex("00")), &parts) == SEC1_TRAILING_DATA);
-    EXPECT(sec1_key_read(NULL, 0, &parts) == SEC1_TRUNCATED);
+    expect_whole(key_parts, unhex(WHOLE_KEY), &parts, sizeof parts);
 }
 
 static void test_written_keys(void)
@@ -504,21 +521,14 @@ static void test_long_keys(void)
 
 /* ---- public keys */
 
+static uint32_t public_key_parts(const uint8_t *bytes, size_t bytes_len, void *stored)
+{
+    return sec1_public_key_read(bytes, bytes_len, stored);
+}
+
 static uint32_t read_public_key(struct bytes input, struct sec1_public_key_parts *parts)
 {
-    uint32_t status = 0;
-    for (enum side side = AT_END; side <= AT_START; side++) {
-        struct guarded in = map_input(input.data, input.len, side);
-        struct guarded out = map_guarded(sizeof *parts, side);
-        memset(out.data, 0xA5, sizeof *parts);
-        status =
-            sec1_public_key_read(in.data, input.len, (struct sec1_public_key_parts *)out.data);
-        memcpy(parts, out.data, sizeof *parts);
-        EXPECT(status == SEC1_OK || all_are(out.data, sizeof *parts, 0xA5));
-        unmap(in);
-        unmap(out);
-    }
-    return status;
+    return read_guarded(public_key_parts, input, parts, sizeof *parts);
 }
 
 #define EC_KEY "06072A8648CE3D0201"
@@ -600,38 +610,26 @@ static void test_public_keys(void)
     struct sec1_public_key_parts p;
     for (size_t i = 0; i < sizeof public_keys / sizeof *public_keys; i++) {
         const struct public_key *k = &public_keys[i];
-        struct bytes key = unhex(k->bytes);
-        EXPECT(read_public_key(key, &p) == SEC1_OK);
+        expect_whole(public_key_parts, unhex(k->bytes), &p, sizeof p);
         EXPECT(is_part(p.curve, k->curve_at, k->curve_len));
         EXPECT(is_part(p.public_key, k->key_at, k->key_len));
-        EXPECT(read_public_key(joined(key, repeated(0, 1)), &p) == SEC1_TRAILING_DATA);
-        for (struct bytes cut = key; cut.len-- > 0;)
-            EXPECT(read_public_key(cut, &p) == SEC1_TRUNCATED);
     }
     EXPECT(read_public_key(unhex("3019" ON_P256 "03020000"), &p) == SEC1_OK &&
            p.public_key.offset == 26 && p.public_key.len == 1);
     for (size_t i = 0; i < sizeof no_public_keys / sizeof *no_public_keys; i++)
         EXPECT(read_public_key(unhex(no_public_keys[i].bytes), &p) == no_public_keys[i].status);
-    EXPECT(sec1_public_key_read(NULL, 0, &p) == SEC1_TRUNCATED);
 }
 
 /* ---- private keys in their containers */
 
+static uint32_t container_parts(const uint8_t *bytes, size_t bytes_len, void *stored)
+{
+    return sec1_private_key_info_read(bytes, bytes_len, stored);
+}
+
 static uint32_t read_container(struct bytes input, struct sec1_private_key_info_parts *parts)
 {
-    uint32_t status = 0;
-    for (enum side side = AT_END; side <= AT_START; side++) {
-        struct guarded in = map_input(input.data, input.len, side);
-        struct guarded out = map_guarded(sizeof *parts, side);
-        memset(out.data, 0xA5, sizeof *parts);
-        status = sec1_private_key_info_read(in.data, input.len,
-                                            (struct sec1_private_key_info_parts *)out.data);
-        memcpy(parts, out.data, sizeof *parts);
-        EXPECT(status == SEC1_OK || all_are(out.data, sizeof *parts, 0xA5));
-        unmap(in);
-        unmap(out);
-    }
-    return status;
+    return read_guarded(container_parts, input, parts, sizeof *parts);
 }
 
 #define KEY_INSIDE "306B020101" "0420" PRIVATE "A144034200" "04" X Y
@@ -702,17 +700,12 @@ static void test_containers(void)
     struct sec1_key_parts inside;
     for (size_t i = 0; i < sizeof containers / sizeof *containers; i++) {
         const struct container *c = &containers[i];
-        struct bytes bytes = unhex(c->bytes);
-        EXPECT(read_container(bytes, &p) == SEC1_OK);
+        expect_whole(container_parts, unhex(c->bytes), &p, sizeof p);
         EXPECT(is_part(p.curve, c->curve_at, c->curve_len));
         EXPECT(is_part(p.key, c->key_at, c->key_len));
-        EXPECT(read_container(joined(bytes, repeated(0, 1)), &p) == SEC1_TRAILING_DATA);
-        for (struct bytes cut = bytes; cut.len-- > 0;)
-            EXPECT(read_container(cut, &p) == SEC1_TRUNCATED);
     }
     for (size_t i = 0; i < sizeof no_containers / sizeof *no_containers; i++)
         EXPECT(read_container(unhex(no_containers[i].bytes), &p) == no_containers[i].status);
-    EXPECT(sec1_private_key_info_read(NULL, 0, &p) == SEC1_TRUNCATED);
 
     struct bytes bytes = unhex(containers[0].bytes);
     EXPECT(read_container(bytes, &p) == SEC1_OK &&
@@ -723,20 +716,14 @@ static void test_containers(void)
 
 /* ---- certificates */
 
+static uint32_t key_place(const uint8_t *bytes, size_t bytes_len, void *stored)
+{
+    return sec1_certificate_public_key(bytes, bytes_len, stored);
+}
+
 static uint32_t find_key(struct bytes input, struct sec1_part *part)
 {
-    uint32_t status = 0;
-    for (enum side side = AT_END; side <= AT_START; side++) {
-        struct guarded in = map_input(input.data, input.len, side);
-        struct guarded out = map_guarded(sizeof *part, side);
-        memset(out.data, 0xA5, sizeof *part);
-        status = sec1_certificate_public_key(in.data, input.len, (struct sec1_part *)out.data);
-        memcpy(part, out.data, sizeof *part);
-        EXPECT(status == SEC1_OK || all_are(out.data, sizeof *part, 0xA5));
-        unmap(in);
-        unmap(out);
-    }
-    return status;
+    return read_guarded(key_place, input, part, sizeof *part);
 }
 
 /* What `openssl req -x509` of OpenSSL 3.0 writes of the key above, and `openssl x509 -req -signkey`
@@ -792,10 +779,8 @@ static void expect_certificate(struct bytes certificate, size_t info_at, size_t 
                                const struct other_byte *others, size_t count)
 {
     struct sec1_part part;
-    EXPECT(find_key(certificate, &part) == SEC1_OK && is_part(part, info_at, info_len));
-    EXPECT(find_key(joined(certificate, repeated(0, 1)), &part) == SEC1_TRAILING_DATA);
-    for (struct bytes cut = certificate; cut.len-- > 0;)
-        EXPECT(find_key(cut, &part) == SEC1_TRUNCATED);
+    expect_whole(key_place, certificate, &part, sizeof part);
+    EXPECT(is_part(part, info_at, info_len));
     for (size_t i = 0; i < count; i++) {
         struct bytes other = certificate;
         other.data[others[i].at] = others[i].byte;
@@ -812,7 +797,6 @@ static void test_certificates(void)
                        sizeof in_version_3 / sizeof *in_version_3);
     expect_certificate(unhex(OF_VERSION_1), 77, 44, in_version_1,
                        sizeof in_version_1 / sizeof *in_version_1);
-    EXPECT(sec1_certificate_public_key(NULL, 0, &part) == SEC1_TRUNCATED);
     EXPECT(find_key(certificate, &part) == SEC1_OK &&
            sec1_public_key_read(certificate.data + part.offset, part.len, &key) == SEC1_OK);
     EXPECT(is_part(key.curve, 15, 8) && is_part(key.public_key, 26, 65));
@@ -834,21 +818,16 @@ static uint32_t to_hybrid(const uint8_t *bytes, size_t bytes_len, uint8_t *out, 
     return sec1_point_to_hybrid(bytes, bytes_len, field, out, out_len, len);
 }
 
+static uint32_t point_parts(const uint8_t *bytes, size_t bytes_len, void *stored)
+{
+    uint32_t status = sec1_point_read(bytes, bytes_len, field, stored);
+    EXPECT(sec1_point_check(bytes, bytes_len, field) == status);
+    return status;
+}
+
 static uint32_t read_point(struct bytes input, struct sec1_point_parts *parts)
 {
-    uint32_t status = 0;
-    for (enum side side = AT_END; side <= AT_START; side++) {
-        struct guarded in = map_input(input.data, input.len, side);
-        struct guarded out = map_guarded(sizeof *parts, side);
-        memset(out.data, 0xA5, sizeof *parts);
-        status = sec1_point_read(in.data, input.len, field, (struct sec1_point_parts *)out.data);
-        memcpy(parts, out.data, sizeof *parts);
-        EXPECT(status == SEC1_OK || all_are(out.data, sizeof *parts, 0xA5));
-        EXPECT(sec1_point_check(in.data, input.len, field) == status);
-        unmap(in);
-        unmap(out);
-    }
-    return status;
+    return read_guarded(point_parts, input, parts, sizeof *parts);
 }
 
 /* A tag, x where it isn't NULL and y where it isn't NULL. */
