@@ -3,9 +3,9 @@ use Rattle.std.proofs.Common.{◌≡◌, ◌++◌, ◌∷◌, [], ℕ, zero, suc
 use Rattle.std.proofs.Common.{option_and_then}
 use Rattle.sec1_der.specs.Contents.{value_unless}
 use Rattle.sec1_der.specs.Elements.{element, element_of}
-use Rattle.sec1_der.specs.ElementLaws.{element_of-some}
+use Rattle.sec1_der.proofs.ElementLaws.{element_of-some}
 use Rattle.sec1_der.specs.PartLaws.{parted}
-use Rattle.sec1_der.specs.FaultLaws.{element_at}
+use Rattle.sec1_der.proofs.FaultLaws.{element_at}
 use Rattle.sec1_der.specs.Faults.{Fault}
 use Rattle.der_types.specs.Integers.{is_unsigned, unsigned_content}
 use Rattle.der_types.specs.IntegerLaws.{is_unsigned-unsigned_content}

@@ -6,9 +6,9 @@ use Rattle.std.proofs.lemmas.Bool.{le-leb}
 use Rattle.std.proofs.lemmas.List.{length-append}
 use Rattle.std.specs.Option.{option_or}
 use Rattle.std.specs.Prelude.{option_map, IfOk, IfErr}
-use Rattle.sec1_der.specs.ElementLaws.{is_tag-true}
+use Rattle.sec1_der.proofs.ElementLaws.{is_tag-true}
 use Rattle.sec1_der.specs.Elements.{max_length, length_octets, element, IsHeader, IsTag}
-use Rattle.sec1_der.specs.FaultLaws.{length_at_spelled}
+use Rattle.sec1_der.proofs.FaultLaws.{length_at_spelled}
 use Rattle.sec1_der.specs.Faults.{no_fault, any_fault, parts_fault, length_at, within}
 use Rattle.sec1_der.specs.declared.error.ErrorKind.{ErrorKind}
 use Rattle.der_faults.specs.Places.{Place, before, parts_place, any_place, element_place}

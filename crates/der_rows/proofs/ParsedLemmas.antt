@@ -5,10 +5,10 @@ use Rattle.std.proofs.Common.{if◌then◌else◌, Some, None, Result, Ok, Err, 
 use Rattle.std.proofs.Math.Seq.{take-append_seam, drop-append_seam}
 use Rattle.std.proofs.lemmas.Bool.{le-leb}
 use Rattle.std.proofs.lemmas.List.{length-append}
-use Rattle.sec1_der.specs.ElementLaws.{is_tag-true}
+use Rattle.sec1_der.proofs.ElementLaws.{is_tag-true}
 use Rattle.sec1_der.specs.Elements.{max_length, length_octets, header, element, IsHeader}
 use Rattle.sec1_der.specs.ErrorKinds.{is_tag}
-use Rattle.sec1_der.specs.FaultLaws.{length_at_spelled}
+use Rattle.sec1_der.proofs.FaultLaws.{length_at_spelled}
 use Rattle.sec1_der.specs.Faults.{no_fault, any_fault, parts_fault, length_at, within}
 use Rattle.std.specs.Prelude.{nat_le, ◌&&◌}
 use Rattle.std.proofs.lemmas.Bool.{leb-true}

@@ -13,11 +13,11 @@ use Rattle.sec1_der.specs.Faults.{Fault, no_fault, any_fault, parts_fault, withi
 use Rattle.sec1_der.specs.declared.error.Error.{Error}
 use Rattle.sec1_der.specs.declared.error.ErrorKind.{ErrorKind}
 use Rattle.sec1_der.specs.declared.error.ErrorKind.TheVariants.{Tag}
-use Rattle.sec1_der.specs.ElementLaws.{is_tag-true}
-use Rattle.sec1_der.specs.LengthLaws.{number_spelled}
-use Rattle.sec1_der.specs.FaultLaws.{any_at}
-use Rattle.sec1_der.specs.ElementLaws.{tag_from_test}
-use Rattle.sec1_der.specs.ElementLaws.{element_apart}
+use Rattle.sec1_der.proofs.ElementLaws.{is_tag-true}
+use Rattle.sec1_der.proofs.LengthLaws.{number_spelled}
+use Rattle.sec1_der.proofs.FaultLaws.{any_at}
+use Rattle.sec1_der.proofs.ElementLaws.{tag_from_test}
+use Rattle.sec1_der.proofs.ElementLaws.{element_apart}
 use Rattle.sec1_der.specs.Values.{tag_of, value_of}
 use Rattle.sec1_der.specs.declared.any.AnyRef.{AnyRef}
 use Rattle.der_types.specs.AnyLaws.{among_all}

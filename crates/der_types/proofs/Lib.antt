@@ -1,3 +1,6 @@
+pub mod StringLaws
+pub mod ObjectIdentifierLaws
+pub mod TimeLaws
 pub mod StringLemmas
 pub mod UnsignedLemmas
 pub mod ChoiceLemmas

@@ -8,10 +8,10 @@ use Rattle.sec1_der.specs.Faults.{Fault, HasFault, no_fault, element_fault}
 use Rattle.sec1_der.specs.declared.error.Error.{Error}
 use Rattle.sec1_der.specs.declared.error.ErrorKind.{ErrorKind}
 use Rattle.der_types.specs.Rows.{joined, elements_fault, row_fault}
-use Rattle.sec1_der.specs.FaultLaws.{refused_more}
-use Rattle.sec1_der.specs.FaultLaws.{reads_on, reader_at}
+use Rattle.sec1_der.proofs.FaultLaws.{refused_more}
+use Rattle.sec1_der.proofs.FaultLaws.{reads_on, reader_at}
 use Rattle.sec1_der.specs.PartLaws.{parted}
-use Rattle.sec1_der.specs.ElementLaws.{element_of-some, element_of-within}
+use Rattle.sec1_der.proofs.ElementLaws.{element_of-some, element_of-within}
 
 -- the reader stands before some of the elements: the fault of all of them is that of these
 pub record IsRowRest (tag : ℕ) (f : Fault) (start : List ℕ) (now : Reader) : Type 0 where

@@ -11,8 +11,8 @@ use Rattle.sec1_der.specs.Readers.{Reader, HasRead}
 use Rattle.sec1_der.specs.Faults.{no_fault, any_fault, parts_fault, within, length_at}
 use Rattle.sec1_der.specs.declared.error.ErrorKind.{ErrorKind}
 use Rattle.sec1_der.specs.declared.error.ErrorKind.TheVariants.{Tag}
-use Rattle.sec1_der.specs.ElementLaws.{is_tag-true}
-use Rattle.sec1_der.specs.FaultLaws.{length_at_spelled}
+use Rattle.sec1_der.proofs.ElementLaws.{is_tag-true}
+use Rattle.sec1_der.proofs.FaultLaws.{length_at_spelled}
 use Rattle.der_types.specs.Sets.{element_behind, first_element, is_at_most, ascends, is_ascending}
 
 -- the length that bytes begin with, and the content behind it, are found

@@ -3,11 +3,8 @@ pub mod IntegerLaws
 pub mod Booleans
 pub mod BooleanLaws
 pub mod ObjectIdentifiers
-pub mod ObjectIdentifierLaws
 pub mod Times
 pub mod Strings
-pub mod TimeLaws
-pub mod StringLaws
 pub mod Leaves
 pub mod BitStrings
 pub mod Choices

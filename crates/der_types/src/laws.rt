@@ -63,7 +63,7 @@ pub fn booleans()
 
 /// An identifier has one content, and the bytes that pass the test are the contents (X.690
 /// section 8.19).
-#[tactic(auto, using(crate::specs::ObjectIdentifierLaws::identifier_laws))]
+#[tactic(auto, using(crate::proofs::ObjectIdentifierLaws::identifier_laws))]
 pub fn object_identifiers()
     ensures passes { (arcs : List ℕ) → AreArcsOfAnySize arcs
         → (is_object_identifier (content_of arcs) ≡ true) × (arcs_of (content_of arcs) ≡ arcs) }
@@ -73,7 +73,7 @@ pub fn object_identifiers()
 
 /// The content of a NumericString is that of a PrintableString too; and so on to a VisibleString,
 /// an IA5String and a UTF8String (X.680 section 41).
-#[tactic(auto, using(crate::specs::StringLaws::string_laws))]
+#[tactic(auto, using(crate::proofs::StringLaws::string_laws))]
 pub fn strings()
     ensures printable { (bytes : List ℕ) → is_numeric_string bytes ≡ true
         → is_printable bytes ≡ true }
@@ -84,7 +84,7 @@ pub fn strings()
 
 /// A time of the years 1950 to 2049 has one content, and the bytes that pass the test are the
 /// contents (X.690 section 11.8).
-#[tactic(auto, using(crate::specs::TimeLaws::utc_laws))]
+#[tactic(auto, using(crate::proofs::TimeLaws::utc_laws))]
 pub fn utc_times()
     ensures passes { (time : DateTime) → is_date_time time ≡ true → 1950 ≤ time.year
         → time.year < 2050
@@ -100,7 +100,7 @@ pub fn utc_times()
 
 /// A time of the years 0 to 9999 and the digits of a fraction have one content, and the bytes that
 /// pass the test are the contents (X.690 section 11.7).
-#[tactic(auto, using(crate::specs::TimeLaws::generalized_laws))]
+#[tactic(auto, using(crate::proofs::TimeLaws::generalized_laws))]
 pub fn generalized_times()
     ensures passes { (time : DateTime) (fraction : List ℕ) → is_date_time time ≡ true
         → time.year < 10000

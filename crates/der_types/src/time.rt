@@ -172,7 +172,7 @@ pub(crate) fn is_generalized_time(bytes: &[u8]) -> bool
 
 /// Returns the time that the content of a UTCTime encodes. Years from 50 on are in the twentieth
 /// century (RFC 5280 section 4.1.2.5.1).
-#[tactic(auto, using(crate::specs::TimeLaws::utc_digits))]
+#[tactic(auto, using(crate::proofs::TimeLaws::utc_digits))]
 pub(crate) fn utc_date_time(bytes: &[u8]) -> DateTime
     requires { is_utc_time bytes.now ≡ true }
     ensures { result ≡ utc_date_time bytes.now }
@@ -182,7 +182,7 @@ pub(crate) fn utc_date_time(bytes: &[u8]) -> DateTime
 
 /// Returns the time that the content of a GeneralizedTime encodes, without the fraction of a
 /// second.
-#[tactic(auto, using(crate::specs::TimeLaws::generalized_digits))]
+#[tactic(auto, using(crate::proofs::TimeLaws::generalized_digits))]
 pub(crate) fn generalized_date_time(bytes: &[u8]) -> DateTime
     requires { is_generalized_time bytes.now ≡ true }
     ensures { result ≡ generalized_date_time bytes.now }

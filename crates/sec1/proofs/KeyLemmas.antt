@@ -7,7 +7,7 @@ use Rattle.sec1_der.specs.declared.error.ErrorKind.TheVariants.{Overlength, Buff
 use Rattle.sec1.specs.declared.error.Error.{Error}
 use Rattle.sec1.specs.declared.error.Error.TheVariants.{Memory}
 use Rattle.sec1.specs.Errors.{IsAsn1, HasNoEncodingOr, error_of}
-use Rattle.sec1_der.specs.ElementLaws.{element_of-within}
+use Rattle.sec1_der.proofs.ElementLaws.{element_of-within}
 use Rattle.sec1.specs.Der.{join, element_of, optional_of, IsTreeOf}
 use Rattle.sec1_der.specs.Identifiers.{content_of, identifier_content}
 use Rattle.sec1_der.specs.IdentifierLaws.{is_identifier-true, identifier_content-valid}

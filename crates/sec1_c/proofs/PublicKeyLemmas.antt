@@ -15,7 +15,7 @@ use Rattle.pkix.specs.Records.{algorithm_content, public_key_content}
 use Rattle.pkix.specs.declared.algorithm.AlgorithmIdentifier.{AlgorithmIdentifier}
 use Rattle.pkix.specs.declared.public_key.SubjectPublicKeyInfo.{SubjectPublicKeyInfo}
 use Rattle.sec1_der.specs.Contents.{is_bit_string}
-use Rattle.sec1_der.specs.ElementLaws.{element_of-some}
+use Rattle.sec1_der.proofs.ElementLaws.{element_of-some}
 use Rattle.sec1_der.specs.Elements.{element, element_of, header}
 use Rattle.sec1_der.specs.Identifiers.{content_of, identifier_content, is_identifier}
 use Rattle.sec1_der.specs.PartLaws.{parted}

@@ -5,14 +5,14 @@ use Rattle.std.proofs.lemmas.Bool.{and_parts, cases_Bool}
 use Rattle.std.proofs.lemmas.Slice.Eq.{bytes_eq-Decides}
 use Rattle.sec1_der.specs.ArcsOf.{arcs_of}
 use Rattle.sec1_der.specs.Elements.{max_length, element, element_of}
-use Rattle.sec1_der.specs.ElementLaws.{element_of-some}
+use Rattle.sec1_der.proofs.ElementLaws.{element_of-some}
 use Rattle.sec1_der.specs.Faults.{no_fault, end_fault, element_fault}
 use Rattle.sec1_der.specs.Contents.{AreBits, bit_string_fault, whole_bits_fault, whole_bits_field_fault}
 use Rattle.sec1_der.specs.Contents.{identifier_fault}
 use Rattle.sec1_der.specs.Identifiers.{IsIdentifier, is_identifier, content_of}
 use Rattle.sec1_der.specs.IdentifierLaws.{is_identifier-true, is_identifier-valid}
 use Rattle.sec1_der.specs.declared.error.ErrorKind.TheVariants.{Value}
-use Rattle.sec1_der.specs.FaultLaws.{alone, element_at}
+use Rattle.sec1_der.proofs.FaultLaws.{alone, element_at}
 use Rattle.sec1_der.proofs.IdentifierLemmas.{goes_on_from_spells}
 
 -- the content of an identifier isn't refused

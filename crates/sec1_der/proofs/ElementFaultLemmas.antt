@@ -15,9 +15,9 @@ use Rattle.sec1_der.specs.Faults.{element_fault, optional_fault, field_fault, an
 use Rattle.sec1_der.specs.declared.error.ErrorKind.{ErrorKind}
 use Rattle.sec1_der.specs.declared.error.ErrorKind.TheVariants.{Truncated, TrailingData}
 use Rattle.sec1_der.proofs.HeaderLemmas.{fronts, header_front, longer, some_length}
-use Rattle.sec1_der.specs.ElementLaws.{is_tag-true, header_apart}
-use Rattle.sec1_der.specs.ElementLaws.{tag_from_test}
-use Rattle.sec1_der.specs.FaultLaws.{length_at_spelled, parts_at, any_room, any_at, alone, read_element}
+use Rattle.sec1_der.proofs.ElementLaws.{is_tag-true, header_apart}
+use Rattle.sec1_der.proofs.ElementLaws.{tag_from_test}
+use Rattle.sec1_der.proofs.FaultLaws.{length_at_spelled, parts_at, any_room, any_at, alone, read_element}
 
 -- ---- lengths
 

@@ -1,3 +1,6 @@
+pub mod LengthLaws
+pub mod ElementLaws
+pub mod FaultLaws
 pub mod DigitLemmas
 pub mod LengthLemmas
 pub mod ElementLemmas

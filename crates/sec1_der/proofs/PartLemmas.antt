@@ -7,8 +7,8 @@ use Rattle.sec1_der.specs.PartLaws.{among_left, among_right}
 use Rattle.sec1_der.specs.Readers.{Reader, HasReadElement}
 use Rattle.sec1_der.specs.Faults.{Fault, no_fault, optional_fault, is_next}
 use Rattle.sec1_der.specs.Faults.{element_fault}
-use Rattle.sec1_der.specs.ElementLaws.{element_of-some, element_of-within}
-use Rattle.sec1_der.specs.FaultLaws.{reads_on}
+use Rattle.sec1_der.proofs.ElementLaws.{element_of-some, element_of-within}
+use Rattle.sec1_der.proofs.FaultLaws.{reads_on}
 
 pub ruleset one_element = (element_of-some, element_of-within)
 

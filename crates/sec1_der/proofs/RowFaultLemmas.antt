@@ -13,7 +13,7 @@ use Rattle.sec1_der.specs.Trees.{Tree, leaf, branch, none, first, bytes, max_tre
 use Rattle.sec1_der.specs.Walks.{IsSingle, innermost, Skips, Opens, IsTooDeep}
 use Rattle.sec1_der.specs.declared.error.ErrorKind.{ErrorKind}
 use Rattle.sec1_der.specs.declared.error.ErrorKind.TheVariants.{Depth}
-use Rattle.sec1_der.specs.FaultLaws.{any_at}
+use Rattle.sec1_der.proofs.FaultLaws.{any_at}
 
 -- the content of a leaf isn't refused
 pub leaf_passes : (f : Fault) (tag : ℕ) (content : List ℕ) → ¬ IsConstructed tag → nested_fault f tag content ≡ None

@@ -20,8 +20,8 @@ use Rattle.sec1_der.specs.Streams.{ReadsOnto}
 use Rattle.sec1_der.specs.Faults.{no_fault, end_fault, document_fault}
 use Rattle.sec1_der.proofs.HeaderLemmas.{longer, header_front}
 use Rattle.sec1_der.proofs.ElementFaultLemmas.{document_element, any_headless, any_short}
-use Rattle.sec1_der.specs.FaultLaws.{any_at}
-use Rattle.sec1_der.specs.ElementLaws.{tag_from_test}
+use Rattle.sec1_der.proofs.FaultLaws.{any_at}
+use Rattle.sec1_der.proofs.ElementLaws.{tag_from_test}
 
 -- ---- bytes that were read
 

@@ -15,7 +15,7 @@ use Rattle.sec1_der.specs.declared.error.ErrorKind.TheVariants.{Truncated, Depth
 use Rattle.sec1_der.proofs.CheckLemmas.{IsCounted}
 use Rattle.sec1_der.specs.DigitLaws.{IsBytes}
 use Rattle.sec1_der.proofs.ElementFaultLemmas.{any_cut}
-use Rattle.sec1_der.specs.FaultLaws.{any_at}
+use Rattle.sec1_der.proofs.FaultLaws.{any_at}
 use Rattle.sec1_der.proofs.TreeLemmas.{some_bytes, tree_apart}
 use Rattle.sec1_der.proofs.RowFaultLemmas.{leaf_passes, row_at, row_some, row_deep, tree_next}
 

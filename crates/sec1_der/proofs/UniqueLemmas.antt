@@ -10,9 +10,9 @@ use Rattle.sec1_der.proofs.PartLemmas.{next_first, next_second}
 use Rattle.sec1_der.specs.IdentifierLaws.{identifier_content-some}
 use Rattle.sec1_der.specs.Identifiers.{identifier_content}
 use Rattle.sec1_der.specs.PartLaws.{parted}
-use Rattle.sec1_der.specs.ElementLaws.{element_of-some}
+use Rattle.sec1_der.proofs.ElementLaws.{element_of-some}
 use Rattle.sec1_der.proofs.DottedLemmas.{same_arcs}
-use Rattle.sec1_der.specs.ElementLaws.{element_apart}
+use Rattle.sec1_der.proofs.ElementLaws.{element_apart}
 
 -- no two values have one content
 abbrev pub IsUnique : {A : Type 0} → (A → Option (List ℕ)) → Type 0

@@ -5,7 +5,7 @@ use Rattle.std.proofs.Common.{Option, Some, None, IsSomeAnd, Result, IsOk, refl,
 use Rattle.std.proofs.Common.{append_assoc, length-append}
 use Rattle.std.proofs.lemmas.Bool.{le-leb, cases_lt}
 use Rattle.std.proofs.lemmas.List.{drop-drop, take-take}
-use Rattle.sec1_der.specs.ElementLaws.{FoundContent, element_of-some}
+use Rattle.sec1_der.proofs.ElementLaws.{FoundContent, element_of-some}
 use Rattle.sec1_der.specs.BackWriters.{PutsInFront, WritesInFront, Puts, front_of, end_of}
 use Rattle.sec1_der.specs.Elements.{max_length, header, header_of, element_of, within_limit}
 use Rattle.sec1_der.specs.SliceWriters.{Appends, WritesBehind, room_of}

@@ -12,15 +12,12 @@ pub mod Building
 pub mod Encodings
 pub mod ErrorKinds
 pub mod Faults
-pub mod LengthLaws
-pub mod ElementLaws
 pub mod Contents
 pub mod Values
 pub mod Readers
 pub mod SliceWriters
 pub mod BackWriters
 pub mod Parts
-pub mod FaultLaws
 pub mod PartLaws
 pub mod Streams
 pub mod StdStreams

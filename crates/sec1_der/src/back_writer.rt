@@ -68,7 +68,7 @@ impl<'b> BackWriter<'b> {
     /// # Errors
     ///
     /// Overlength if that is more than 268,435,455 bytes, then Buffer if the header has no room.
-    #[tactic(auto, using(crate::specs::LengthLaws::len_1))]
+    #[tactic(auto, using(crate::proofs::LengthLaws::len_1))]
     pub fn header(&mut self, tag: Tag, since: usize) -> Result<()>
         requires { since ≤ length (end_of self.old) }
         ensures { WritesInFront (header_of tag (length (end_of self.old) - since)) self.old self.new

@@ -1,5 +1,5 @@
 use Rattle.std.proofs.Common.{refl}
-use Rattle.sec1_der.specs.ElementLaws.{is_tag-true}
+use Rattle.sec1_der.proofs.ElementLaws.{is_tag-true}
 use Rattle.sec1_der.proofs.ElementFaultLemmas.{length_at_lacks}
 use Rattle.sec1_der.proofs.header.header_at.Goals as goal
 

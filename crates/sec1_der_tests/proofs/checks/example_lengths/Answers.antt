@@ -1,6 +1,6 @@
 use Rattle.std.proofs.Common.{◌∷◌, [], lit<, lit≤}
 use Rattle.sec1_der.specs.DigitLaws.{digits_of-number}
-use Rattle.sec1_der.specs.LengthLaws.{len_long}
+use Rattle.sec1_der.proofs.LengthLaws.{len_long}
 use Rattle.sec1_der_tests.proofs.checks.example_lengths.Goals as goal
 
 pub returns-clause-greatest : goal.returns-clause-greatest

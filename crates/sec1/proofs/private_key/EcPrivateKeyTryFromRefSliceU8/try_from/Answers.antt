@@ -6,7 +6,7 @@ use Rattle.sec1_der.specs.declared.error.ErrorKind.TheVariants.{Memory as DerMem
 use Rattle.sec1.specs.Der.{IsReadingFault}
 use Rattle.sec1.specs.Errors.{error_of}
 use Rattle.sec1.specs.declared.error.Error.TheVariants.{Asn1}
-use Rattle.sec1_der.specs.ElementLaws.{element_of-some}
+use Rattle.sec1_der.proofs.ElementLaws.{element_of-some}
 use Rattle.sec1.specs.KeyFaults.{key_fault}
 use Rattle.sec1.specs.Keys.{key_tree, fields_of}
 use Rattle.sec1.proofs.KeyLemmas.{key_content, key_found, key_written}

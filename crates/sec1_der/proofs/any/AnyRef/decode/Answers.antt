@@ -2,7 +2,7 @@ use Rattle.std.proofs.Common.{ap, rules, ◌∙◌}
 use Rattle.std.proofs.Math.Seq.{take-append_seam, drop-append_seam}
 use Rattle.sec1_der.specs.Readers.{Reader}
 use Rattle.sec1_der.specs.Faults.{no_fault}
-use Rattle.sec1_der.specs.FaultLaws.{any_room}
+use Rattle.sec1_der.proofs.FaultLaws.{any_room}
 use Rattle.sec1_der.proofs.any.AnyRef.decode.Goals as goal
 
 pub returns-in-Ok-clause-only : goal.returns-in-Ok-clause-only

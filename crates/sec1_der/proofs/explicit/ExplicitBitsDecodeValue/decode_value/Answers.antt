@@ -1,8 +1,8 @@
 use Rattle.std.proofs.Common.{◌≡◌, ◌==◌, ◌∷◌, false, ◌∙◌, refl, ap}
 use Rattle.std.proofs.lemmas.Bool.{ne_eqb, iff_false}
 use Rattle.sec1_der.specs.Readers.{Reader}
-use Rattle.sec1_der.specs.ElementLaws.{element_of-within}
-use Rattle.sec1_der.specs.FaultLaws.{reader_at}
+use Rattle.sec1_der.proofs.ElementLaws.{element_of-within}
+use Rattle.sec1_der.proofs.FaultLaws.{reader_at}
 use Rattle.sec1_der.proofs.ContentFaultLemmas.{whole_is, whole_inside, bits_inside}
 use Rattle.sec1_der.proofs.explicit.ExplicitBitsDecodeValue.decode_value.Goals as goal
 

@@ -3,7 +3,7 @@ use Rattle.std.proofs.lemmas.Bool.{false≢true}
 use Rattle.std.proofs.lemmas.Result.{err_from_is_err_and}
 use Rattle.sec1_der.specs.Readers.{Reader}
 use Rattle.sec1_der.specs.Faults.{end_fault}
-use Rattle.sec1_der.specs.FaultLaws.{reads_on}
+use Rattle.sec1_der.proofs.FaultLaws.{reads_on}
 use Rattle.sec1_der.proofs.reader.SliceReader.only_element.Goals as goal
 
 pub returns-in_err-value-clause-only : goal.returns-in_err-value-clause-only

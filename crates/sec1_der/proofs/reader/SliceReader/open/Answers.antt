@@ -3,7 +3,7 @@ use Rattle.std.proofs.Math.Seq.{take-append_seam, drop-append_seam}
 use Rattle.sec1_der.specs.Elements.{IsTag}
 use Rattle.sec1_der.specs.Readers.{Reader}
 use Rattle.sec1_der.specs.Faults.{no_fault}
-use Rattle.sec1_der.specs.FaultLaws.{any_room}
+use Rattle.sec1_der.proofs.FaultLaws.{any_room}
 use Rattle.sec1_der.proofs.ElementFaultLemmas.{element_next}
 use Rattle.sec1_der.proofs.reader.SliceReader.open.Goals as goal
 

@@ -1,6 +1,6 @@
 use Rattle.std.proofs.Common.{[], refl, append-nil}
 use Rattle.std.proofs.lemmas.Bool.{false≢true}
-use Rattle.sec1_der.specs.FaultLaws.{reader_at}
+use Rattle.sec1_der.proofs.FaultLaws.{reader_at}
 use Rattle.sec1_der.proofs.record.AnyDecodeValue.decode_value.Goals as goal
 
 pub returns-in_err-parts-clause-only : goal.returns-in_err-parts-clause-only

@@ -1,4 +1,4 @@
-use Rattle.sec1_der.specs.FaultLaws.{reads_on, refused_more}
+use Rattle.sec1_der.proofs.FaultLaws.{reads_on, refused_more}
 use Rattle.sec1_der.proofs.required.RequiredDecodePart.decode_part.Goals as goal
 
 pub returns-in-Err-clause-refuses : goal.returns-in-Err-clause-refuses

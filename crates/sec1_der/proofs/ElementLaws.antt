@@ -5,7 +5,7 @@ use Rattle.std.proofs.Common.{tests, append_assoc, ne_eqb, ◌%◌, ◌<◌, tru
 use Rattle.std.proofs.lemmas.Bool.{le-leb, lt-leb, cases_lt}
 use Rattle.sec1_der.specs.Elements.{max_length, header, element, IsElementOf, element_of, IsTag}
 use Rattle.sec1_der.specs.ErrorKinds.{is_tag}
-use Rattle.sec1_der.specs.LengthLaws.{len_apart, split_same}
+use Rattle.sec1_der.proofs.LengthLaws.{len_apart, split_same}
 use Rattle.sec1_der.specs.Trees.{bytes}
 use Rattle.sec1_der.specs.Faults.{within}
 

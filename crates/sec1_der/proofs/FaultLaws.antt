@@ -13,8 +13,8 @@ use Rattle.sec1_der.specs.declared.error.ErrorKind.TheVariants.{Tag}
 use Rattle.std.proofs.Math.Seq.{take-append_seam, drop-append_seam}
 use Rattle.std.proofs.lemmas.Slice.Eq.{bytes_eq-Decides}
 use Rattle.sec1_der.specs.Elements.{max_length, length_octets, header, element, IsHeader}
-use Rattle.sec1_der.specs.ElementLaws.{is_tag-true}
-use Rattle.sec1_der.specs.LengthLaws.{number_spelled}
+use Rattle.sec1_der.proofs.ElementLaws.{is_tag-true}
+use Rattle.sec1_der.proofs.LengthLaws.{number_spelled}
 
 -- the length that the bytes begin with is found, and what follows it
 pub length_at_spelled : (n : ℕ) (rest : List ℕ) → n ≤ max_length
