@@ -1,37 +1,22 @@
 -- The places of the faults of one element.
 use Rattle.std.proofs.Common.{◌≡◌, ◌∷◌, ◌++◌, ℕ, ◌-◌, ◌≤◌, List, length, refl, ap}
-use Rattle.std.proofs.Common.{Option, Some, Result, Ok, Err, arith, eq-eqb, append_assoc}
-use Rattle.std.proofs.Math.Seq.{take-append_seam, drop-append_seam}
-use Rattle.std.proofs.lemmas.Bool.{le-leb}
+use Rattle.std.proofs.Common.{Option, Some, Result, Ok, Err, arith, eq-eqb}
 use Rattle.std.proofs.lemmas.List.{length-append}
 use Rattle.std.specs.Option.{option_or}
 use Rattle.std.specs.Prelude.{option_map, IfOk, IfErr}
 use Rattle.sec1_der.proofs.ElementLaws.{is_tag-true}
-use Rattle.sec1_der.specs.Elements.{max_length, length_octets, element, IsHeader, IsTag}
-use Rattle.sec1_der.proofs.FaultLaws.{length_at_spelled}
+use Rattle.sec1_der.specs.Elements.{length_octets, element, IsHeader, IsTag}
+use Rattle.sec1_der.proofs.FaultLaws.{within_octets}
 use Rattle.sec1_der.specs.Faults.{no_fault, any_fault, parts_fault, length_at, within}
 use Rattle.sec1_der.specs.declared.error.ErrorKind.{ErrorKind}
 use Rattle.der_faults.specs.Places.{Place, before, parts_place, any_place, element_place}
-
--- the parts of an element that is there
-within_spelled : (content rest : List ℕ) → length content ≤ max_length
-    → within (length_at ((length_octets (length content) ++ content) ++ rest)) ≡ Ok (content, rest)
-within_spelled content rest fits =
-    let n = length content in
-    let room = le-leb n (length (content ++ rest)) (omega (arith, length-append content rest)) in
-    rw (
-      append_assoc (length_octets n) content rest,
-      length_at_spelled n (content ++ rest) fits,
-      room,
-    )
-    (rw (take-append_seam content rest, drop-append_seam content rest) refl)
 
 -- the place of an element that is there is in its content, or else in the bytes after it
 pub any_found : (f : ℕ → Place) (g : Place) (end tag : ℕ) (content bytes rest : List ℕ)
     → IsHeader tag (length content) → bytes ≡ element tag content ++ rest
     → any_place f g end bytes ≡ option_or (f tag (end - length rest) content) (g end rest)
 any_found f g end tag content bytes rest h e =
-    rw (e, is_tag-true tag h.tag_byte, within_spelled content rest h.within) refl
+    rw (e, is_tag-true tag h.tag_byte, within_octets content rest h.within) refl
 
 -- the place of an element whose length or content isn't there is at its length
 pub any_refused : (f : ℕ → Place) (g : Place) (end tag : ℕ) (bytes : List ℕ) (k : ErrorKind) → IsTag tag

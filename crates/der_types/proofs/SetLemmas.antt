@@ -1,34 +1,24 @@
 -- Elements in ascending order.
 use Rattle.std.proofs.Common.{◌≡◌, ◌&&◌, Result, Ok, Err, ℕ, zero, suc, ◌<◌, ◌≤◌, Bool, true, false, not, List, [], ◌∷◌}
 use Rattle.std.proofs.Common.{◌++◌, length, Some, None, if◌then◌else◌, Ordering, Less, Equal, Greater}
-use Rattle.std.proofs.Common.{refl, ap, sym, ◌∙◌, arith, length-append, append_assoc, le-leb}
-use Rattle.std.proofs.Math.Seq.{take-append_seam, drop-append_seam}
+use Rattle.std.proofs.Common.{refl, ap, sym, ◌∙◌, arith, length-append}
 use Rattle.std.specs.Cmp.Lexicographic.{slice_cmp, slice_partial_cmp, lists_agrees}
 use Rattle.std.specs.Ordering.{is_le, is_gt, is_some_and, nat_cmp}
-use Rattle.sec1_der.specs.Elements.{max_length, length_octets, element, IsHeader}
+use Rattle.sec1_der.specs.Elements.{element, IsHeader}
 use Rattle.sec1_der.specs.ErrorKinds.{is_tag}
 use Rattle.sec1_der.specs.Readers.{Reader, HasRead}
 use Rattle.sec1_der.specs.Faults.{no_fault, any_fault, parts_fault, within, length_at}
 use Rattle.sec1_der.specs.declared.error.ErrorKind.{ErrorKind}
 use Rattle.sec1_der.specs.declared.error.ErrorKind.TheVariants.{Tag}
 use Rattle.sec1_der.proofs.ElementLaws.{is_tag-true}
-use Rattle.sec1_der.proofs.FaultLaws.{length_at_spelled}
+use Rattle.sec1_der.proofs.FaultLaws.{within_octets}
 use Rattle.der_types.specs.Sets.{element_behind, first_element, is_at_most, ascends, is_ascending}
-
--- the length that bytes begin with, and the content behind it, are found
-parts_found : (tag : ℕ) (content rest : List ℕ) → length content ≤ max_length
-    → element_behind tag (within (length_at ((length_octets (length content) ++ content) ++ rest)))
-    ≡ Some (element tag content, rest)
-parts_found tag content rest fits =
-    let n = length content in
-    let room = le-leb n (length (content ++ rest)) (omega (arith, length-append content rest)) in
-    rw (append_assoc (length_octets n) content rest, length_at_spelled n (content ++ rest) fits, room)
-    (rw (take-append_seam content rest, drop-append_seam content rest) refl)
 
 -- the element that bytes begin with is found
 pub first_found : (tag : ℕ) (content bytes rest : List ℕ) → IsHeader tag (length content)
     → bytes ≡ element tag content ++ rest → first_element bytes ≡ Some (element tag content, rest)
-first_found tag content bytes rest h e = rw (e, is_tag-true tag h.tag_byte) (parts_found tag content rest h.within)
+first_found tag content bytes rest h e =
+    rw (e, is_tag-true tag h.tag_byte, within_octets content rest h.within) refl
 
 -- where an element is refused, none is found
 pub first_missing : (bytes : List ℕ) (k : ErrorKind) → any_fault (λ _. no_fault) no_fault bytes ≡ Some k

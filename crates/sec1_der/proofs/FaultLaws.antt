@@ -30,12 +30,10 @@ length_at_spelled n rest fits =
       drop-append_seam (length_octets n) rest,
     ) refl
 
--- the fault after the first byte of an element is that of its content, or else of the bytes after
--- it
-pub parts_at : (f g : Fault) (content rest : List ℕ) → length content ≤ max_length
-    → parts_fault f g (within (length_at ((length_octets (length content) ++ content) ++ rest)))
-    ≡ option_or (f content) (g rest)
-parts_at f g content rest fits =
+-- the content behind a length is found, and what follows it
+pub within_octets : (content rest : List ℕ) → length content ≤ max_length
+    → within (length_at ((length_octets (length content) ++ content) ++ rest)) ≡ Ok (content, rest)
+within_octets content rest fits =
     let n = length content in
     let room = le-leb n (length (content ++ rest)) (omega (arith, length-append content rest)) in
     rw (
@@ -44,6 +42,13 @@ parts_at f g content rest fits =
       room,
     )
     (rw (take-append_seam content rest, drop-append_seam content rest) refl)
+
+-- the fault after the first byte of an element is that of its content, or else of the bytes after
+-- it
+pub parts_at : (f g : Fault) (content rest : List ℕ) → length content ≤ max_length
+    → parts_fault f g (within (length_at ((length_octets (length content) ++ content) ++ rest)))
+    ≡ option_or (f content) (g rest)
+parts_at f g content rest fits = rw (within_octets content rest fits) refl
 
 -- where a header has room for its content, the fault is that of the content, or else of the bytes
 -- after it
