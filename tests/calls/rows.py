@@ -179,7 +179,7 @@ def document_rows():
 
 
 def failed_rows():
-    """A reader of which a call failed: each further call answers Failed, and moves nothing."""
+    """A reader of which a call failed: each further call returns Failed, and moves nothing."""
     after = "true None Failed Failed Failed Failed Failed true"
     tests = [("05000400", "Tag"), ("", "Truncated"), ("0402aa", "Truncated")]
     tests += [("04800000", "Length"), ("1f000400", "Tag"), ("048105aabbccddee", "Length")]

@@ -37,7 +37,7 @@ def header(data, at, end, tag=None):
 
 
 def arcs(content):
-    """Returns the arcs that the content of an identifier spells."""
+    """Returns the arcs that the content of an identifier encodes."""
     if not 1 <= len(content) <= 39:
         raise Refused("Value")
     numbers, number, is_inside = [], 0, False

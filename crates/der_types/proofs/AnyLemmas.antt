@@ -14,7 +14,7 @@ use Rattle.sec1_der.specs.declared.error.Error.{Error}
 use Rattle.sec1_der.specs.declared.error.ErrorKind.{ErrorKind}
 use Rattle.sec1_der.specs.declared.error.ErrorKind.TheVariants.{Tag}
 use Rattle.sec1_der.proofs.ElementLaws.{is_tag-true}
-use Rattle.sec1_der.proofs.LengthLaws.{number_spelled}
+use Rattle.sec1_der.proofs.LengthLaws.{number_at_octets}
 use Rattle.sec1_der.proofs.FaultLaws.{any_at}
 use Rattle.sec1_der.proofs.ElementLaws.{tag_from_test}
 use Rattle.sec1_der.proofs.ElementLaws.{element_apart}
@@ -42,14 +42,14 @@ element_tested bytes e =
         within =
             leb-true _ _ more.0;
       };
-      spelled = sym ((bytes_eq-Decides (element (first_byte bytes) (content_in bytes)) bytes).0 more.1);
+      encoded = sym ((bytes_eq-Decides (element (first_byte bytes) (content_in bytes)) bytes).0 more.1);
     }
 
 -- the content of an element is found
 content_found : (tag : ℕ) (content : List ℕ) → content_in (element tag content) ≡ content
 unfolding content_in
 content_found tag content =
-    rw (number_spelled (length content) content, drop-append_seam (length_octets (length content)) content) refl
+    rw (number_at_octets (length content) content, drop-append_seam (length_octets (length content)) content) refl
 
 -- an element passes the test
 passes_at : (tag : ℕ) (content : List ℕ) → IsHeader tag (length content) → is_element (element tag content) ≡ true
@@ -63,7 +63,7 @@ passes_at tag content is =
     (ap (λ c. bytes_eq (element tag c) (element tag content)) found ∙ same))
 
 pub element_passes : (bytes : List ℕ) → IsElement bytes → is_element bytes ≡ true
-element_passes bytes is = rw is.spelled (passes_at is.tag is.content is.is_header)
+element_passes bytes is = rw is.encoded (passes_at is.tag is.content is.is_header)
 
 -- what has bytes is an element
 pub any_some : (bytes whole : List ℕ) → any_of bytes ≡ Some whole → (bytes ≡ whole) × IsElement whole
@@ -83,8 +83,8 @@ pub any_apart : AreApart any_tags any_of
 any_apart a b x y r s apart e f before behind same =
     let (is, p) = any_some a x e in
     let (at, q) = any_some b y f in
-    let all = element_apart p.tag q.tag p.content q.content r s (rw (p.spelled, q.spelled) at same) in
-    (is ∙ (p.spelled ∙ (rw (all.0, all.1) (sym (at ∙ q.spelled)))), all.2)
+    let all = element_apart p.tag q.tag p.content q.content r s (rw (p.encoded, q.encoded) at same) in
+    (is ∙ (p.encoded ∙ (rw (all.0, all.1) (sym (at ∙ q.encoded)))), all.2)
 
 -- the fault of an element that was read is that of what follows it
 pub any_passes : (bytes : List ℕ) (old new : Reader) → IsElement bytes → HasRead bytes old new → (behind : Fault)
@@ -92,7 +92,7 @@ pub any_passes : (bytes : List ℕ) (old new : Reader) → IsElement bytes → H
 unfolding any_element_fault
 any_passes bytes old new is read behind =
     any_at (λ _. no_fault) behind is.tag is.content old.unread new.unread is.is_header
-    (ap (λ (r : Reader). r.unread) read.was_whole ∙ ap (λ xs. xs ++ new.unread) is.spelled)
+    (ap (λ (r : Reader). r.unread) read.was_whole ∙ ap (λ xs. xs ++ new.unread) is.encoded)
 
 -- what is refused stays so where more is tested behind it
 pub any_refused : (behind : Fault) (bytes : List ℕ) (k : ErrorKind) → any_fault (λ _. no_fault) no_fault bytes ≡ Some k
@@ -111,8 +111,8 @@ any_refused behind (byte ∷ bytes) k e = by (is_tag byte) (within (length_at by
 -- the bytes of an element that was read
 pub element_from : (any : AnyRef) (bytes : List ℕ) → IsHeader (tag_of any) (length (value_of any))
     → bytes ≡ element (tag_of any) (value_of any) → IsElement bytes
-element_from any bytes header spelled =
-    record { tag = tag_of any; content = value_of any; is_header = header; spelled = spelled }
+element_from any bytes header encoded =
+    record { tag = tag_of any; content = value_of any; is_header = header; encoded = encoded }
 
 -- a byte that begins an element
 pub begins_any : (byte : ℕ) (b : Bool) → (b ≡ true → IsTag byte) → (IsTag byte → b ≡ true) → byte < 256

@@ -14,23 +14,23 @@ use Rattle.sec1_der.specs.DigitLaws.{marked_step}
 use Rattle.der_types.specs.ObjectIdentifiers.{AreArcsOfAnySize, are_subidentifiers}
 use Rattle.der_types.specs.ObjectIdentifiers.{is_object_identifier}
 
--- ---- what passes the test is spelled
+-- ---- what passes the test is encoded
 
--- after the digits of a number, bytes that pass the test spell the numbers that are read of them
-spelled_after : (high : ℕ) (bytes : List ℕ) → AllBelowBase 256 bytes
+-- after the digits of a number, bytes that pass the test encode the numbers that are read of them
+encoded_after : (high : ℕ) (bytes : List ℕ) → AllBelowBase 256 bytes
     → are_subidentifiers (high == 0) bytes ≡ true
     → marked (digits_of 128 high) ++ bytes ≡ flat_map base128 (numbers_after high bytes)
-spelled_after high [] below passes = grind (arith, nat_tests)
-spelled_after high (b ∷ bytes) below passes =
+encoded_after high [] below passes = grind (arith, nat_tests)
+encoded_after high (b ∷ bytes) below passes =
     let n = high * 128 + b % 128 in
     let digits = digits_of-push 128 high (b % 128) in
-    let ends = spelled_after 0 bytes below.1 in
-    let goes_on = spelled_after n bytes below.1 in
+    let ends = encoded_after 0 bytes below.1 in
+    let continues = encoded_after n bytes below.1 in
     grind (
       arith,
       nat_tests,
       ends,
-      goes_on,
+      continues,
       digits,
       div-mul-add,
       mod-mul-add,
@@ -38,7 +38,7 @@ spelled_after high (b ∷ bytes) below passes =
       append_assoc,
     )
 
--- ---- what is spelled passes the test
+-- ---- what is encoded passes the test
 
 -- all digits but the last are read
 read_marked : (most n : ℕ) (rest : List ℕ) → n ≤ most
@@ -51,7 +51,7 @@ read_marked (suc most) (suc n) rest l =
     let before = read_marked most (suc n / 128) ((128 + suc n % 128) ∷ rest) in
     rw (marked_step (suc n) (omega arith), append_assoc) (grind (arith, nat_tests, before))
 
--- the numbers that are spelled are read
+-- the numbers that are encoded are read
 read_all : (ns : List ℕ) → (numbers_after 0 (flat_map base128 ns) ≡ ns)
     × (are_subidentifiers true (flat_map base128 ns) ≡ true)
 read_all [] = (refl, refl)
@@ -70,10 +70,10 @@ is_object_identifier-content_of (a ∷ []) are = absurd are
 is_object_identifier-content_of (a ∷ b ∷ further) are =
     grind (arith, nat_tests, read_all ((40 * a + b) ∷ further), length-append)
 
-spelled_arcs : (numbers bytes : List ℕ) → 0 < length bytes → bytes ≡ flat_map base128 numbers
+encoded_arcs : (numbers bytes : List ℕ) → 0 < length bytes → bytes ≡ flat_map base128 numbers
     → AreArcsOfAnySize (arcs_of_numbers numbers) × (content_of (arcs_of_numbers numbers) ≡ bytes)
-spelled_arcs [] bytes some spelled = absurd (omega (arith, ap length spelled))
-spelled_arcs (n ∷ numbers) bytes some spelled = grind (arith, nat_tests)
+encoded_arcs [] bytes some encoded = absurd (omega (arith, ap length encoded))
+encoded_arcs (n ∷ numbers) bytes some encoded = grind (arith, nat_tests)
 
 -- bytes that pass the test are the content of the arcs that are read of them
 pub content_of-arcs_of : (bytes : List ℕ) → AllBelowBase 256 bytes
@@ -82,8 +82,8 @@ pub content_of-arcs_of : (bytes : List ℕ) → AllBelowBase 256 bytes
 content_of-arcs_of [] below passes = absurd (cc passes)
 content_of-arcs_of (b ∷ bytes) below passes =
     let whole : are_subidentifiers true (b ∷ bytes) ≡ true = grind (arith, nat_tests) in
-    spelled_arcs (numbers_after 0 (b ∷ bytes)) (b ∷ bytes) (omega arith)
-    (spelled_after 0 (b ∷ bytes) below whole)
+    encoded_arcs (numbers_after 0 (b ∷ bytes)) (b ∷ bytes) (omega arith)
+    (encoded_after 0 (b ∷ bytes) below whole)
 
 -- what the laws of the crate cite
 pub ruleset identifier_laws = (is_object_identifier-content_of, content_of-arcs_of)

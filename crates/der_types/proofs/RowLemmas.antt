@@ -52,11 +52,11 @@ shorter_read tag None P old new found = absurd found
 shorter_read tag (Some inside) P old new found = shorter tag inside old new found.1
 
 -- the reader stands behind one more element
-pub row_goes_on : (tag : ℕ) (f : Fault) (start : List ℕ) (content : Option (List ℕ)) (P : List ℕ → Type 0)
+pub row_continues : (tag : ℕ) (f : Fault) (start : List ℕ) (content : Option (List ℕ)) (P : List ℕ → Type 0)
     (old new : Reader) → IsRowRest tag f start old
     → 0 < length old.unread → IsSomeAnd content (λ inside. P inside × HasReadElement tag inside old new)
     → element_fault tag f no_fault old.unread ≡ None → IsRowRest tag f start new
-row_goes_on tag f start content P old new at some found none = by at.most at.room at.same
+row_continues tag f start content P old new at some found none = by at.most at.room at.same
   where
     by : (most : ℕ) → length old.unread ≤ most → row_fault tag f start ≡ elements_fault tag f most old.unread
         → IsRowRest tag f start new
@@ -152,7 +152,7 @@ first_value tag content bytes some (value ∷ values, e) =
       left = all.back;
       same = first.same;
       within = first.at.within;
-      split = all.joined ∙ ap (λ xs. xs ++ all.back) first.at.spelled;
+      split = all.joined ∙ ap (λ xs. xs ++ all.back) first.at.encoded;
       behind = (values, all.second_there);
     }
 

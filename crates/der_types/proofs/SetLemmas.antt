@@ -71,9 +71,9 @@ set_step most tag last this content old new next =
     rw (first_found tag content old.unread new.unread next.is_header whole, next.bytes) refl
 
 -- the reader stands behind one more element, which isn't below the last one
-pub set_goes_on : (start last this content : List ℕ) (tag : ℕ) (old new : Reader) → IsSetRest start last old
+pub set_continues : (start last this content : List ℕ) (tag : ℕ) (old new : Reader) → IsSetRest start last old
     → 0 < length old.unread → IsNext this tag content old new → is_at_most last this ≡ true → IsSetRest start this new
-set_goes_on start last this content tag old new at some next above = by at.most at.room at.same
+set_continues start last this content tag old new at some next above = by at.most at.room at.same
   where
     by : (most : ℕ) → length old.unread ≤ most → is_ascending start ≡ ascends most last old.unread
         → IsSetRest start this new

@@ -112,8 +112,8 @@ fields_small time is = grind (arith, nat_tests)
 
 -- ---- UTCTime
 
-utc_spelled : (bytes : List ℕ) → IsUtcTime bytes → utc_content (utc_date_time bytes) ≡ bytes
-utc_spelled (y ∷ z ∷ a ∷ b ∷ c ∷ d ∷ e ∷ f ∷ g ∷ h ∷ i ∷ j ∷ end ∷ []) parts =
+utc_encoded : (bytes : List ℕ) → IsUtcTime bytes → utc_content (utc_date_time bytes) ≡ bytes
+utc_encoded (y ∷ z ∷ a ∷ b ∷ c ∷ d ∷ e ∷ f ∷ g ∷ h ∷ i ∷ j ∷ end ∷ []) parts =
     let is = λ (k : ℕ) (l : k < 12). parts.digits k 0 l in
     let ends : end ≡ 0x5A = parts.ends in
     let small = two_digits_small y z (is 0 (omega arith)) (is 1 (omega arith)) in
@@ -125,14 +125,14 @@ utc_spelled (y ∷ z ∷ a ∷ b ∷ c ∷ d ∷ e ∷ f ∷ g ∷ h ∷ i ∷ j
     let t = pair g h (is 8 (omega arith)) (is 9 (omega arith)) in
     let u = pair i j (is 10 (omega arith)) (is 11 (omega arith)) in
     cc
-utc_spelled bytes parts = absurd (omega (arith, parts.long))
+utc_encoded bytes parts = absurd (omega (arith, parts.long))
 
--- what a UTCTime spells has this content
+-- what a UTCTime encodes has this content
 pub utc_content-utc_date_time : (bytes : List ℕ) → is_utc_time bytes ≡ true
     → utc_content (utc_date_time bytes) ≡ bytes
-utc_content-utc_date_time bytes passes = utc_spelled bytes (utc_parts bytes passes)
+utc_content-utc_date_time bytes passes = utc_encoded bytes (utc_parts bytes passes)
 
--- a UTCTime spells a time in the years 1950 to 2049
+-- a UTCTime encodes a time in the years 1950 to 2049
 pub utc_date_time-is : (bytes : List ℕ) → is_utc_time bytes ≡ true
     → (is_date_time (utc_date_time bytes) ≡ true) × (1950 ≤ (utc_date_time bytes).year)
     × ((utc_date_time bytes).year < 2050)
@@ -144,7 +144,7 @@ utc_date_time-is bytes passes =
     let within = utc_year_within _ small in
     ((utc_parts bytes passes).date, within.0, within.1)
 
--- the content of a time in the years 1950 to 2049 spells it
+-- the content of a time in the years 1950 to 2049 encodes it
 pub utc_date_time-utc_content : (time : DateTime) → 1950 ≤ time.year → time.year < 2050
     → utc_date_time (utc_content time) ≡ time
 utc_date_time-utc_content time low high =
@@ -164,9 +164,9 @@ pub is_utc_time-utc_content : (time : DateTime) → is_date_time time ≡ true �
     → is_utc_time (utc_content time) ≡ true
 is_utc_time-utc_content time is low high =
     let below = fields_small time is in
-    let spelled = ap is_date_time (utc_date_time-utc_content time low high) ∙ is in
+    let encoded = ap is_date_time (utc_date_time-utc_content time low high) ∙ is in
     rw (
-      spelled,
+      encoded,
       tens_digit (time.year % 100) (omega arith),
       ones_digit (time.year % 100),
       tens_digit time.month below.0,
@@ -201,12 +201,12 @@ fraction_text-some [] some = absurd (omega arith)
 fraction_text-some (digit ∷ fraction) some = refl
 
 -- what follows the seconds is a fraction, or none, and Z
-end_spelled : (bytes : List ℕ) → ends_time bytes ≡ true
+end_encoded : (bytes : List ℕ) → ends_time bytes ≡ true
     → fraction_text (inner bytes) ++ codes "Z" ≡ bytes
 unfolding ends_time
-end_spelled [] passes = absurd (cc passes)
-end_spelled (x ∷ []) passes = grind (arith, nat_tests)
-end_spelled (x ∷ y ∷ rest) passes =
+end_encoded [] passes = absurd (cc passes)
+end_encoded (x ∷ []) passes = grind (arith, nat_tests)
+end_encoded (x ∷ y ∷ rest) passes =
     let parts = end_parts (x ∷ y ∷ rest) (omega arith) passes in
     let place : length (x ∷ y ∷ rest) - 1 ≡ suc (length rest) = omega arith in
     let count : length (x ∷ y ∷ rest) - 1 - 1 ≡ length rest = omega arith in
@@ -215,11 +215,11 @@ end_spelled (x ∷ y ∷ rest) passes =
     let first : x ≡ 0x2E = parts.0 in
     rw (fraction_text-some (inner (x ∷ y ∷ rest)) parts.2, count, whole, first) refl
 
-generalized_spelled : (bytes : List ℕ) → IsGeneralizedTime bytes
+generalized_encoded : (bytes : List ℕ) → IsGeneralizedTime bytes
     → generalized_content (generalized_date_time bytes) (fraction_of bytes) ≡ bytes
-generalized_spelled (w ∷ x ∷ y ∷ z ∷ a ∷ b ∷ c ∷ d ∷ e ∷ f ∷ g ∷ h ∷ i ∷ j ∷ end) parts =
+generalized_encoded (w ∷ x ∷ y ∷ z ∷ a ∷ b ∷ c ∷ d ∷ e ∷ f ∷ g ∷ h ∷ i ∷ j ∷ end) parts =
     let is = λ (k : ℕ) (l : k < 14). parts.digits k 0 l in
-    let ends = end_spelled end parts.ends in
+    let ends = end_encoded end parts.ends in
     let small = two_digits_small y z (is 2 (omega arith)) (is 3 (omega arith)) in
     let year = four_digits (10 * (w - 0x30) + (x - 0x30)) (10 * (y - 0x30) + (z - 0x30)) small in
     let o = pair w x (is 0 (omega arith)) (is 1 (omega arith)) in
@@ -230,15 +230,15 @@ generalized_spelled (w ∷ x ∷ y ∷ z ∷ a ∷ b ∷ c ∷ d ∷ e ∷ f ∷
     let t = pair g h (is 10 (omega arith)) (is 11 (omega arith)) in
     let u = pair i j (is 12 (omega arith)) (is 13 (omega arith)) in
     cc
-generalized_spelled bytes parts = absurd (omega (arith, parts.long))
+generalized_encoded bytes parts = absurd (omega (arith, parts.long))
 
--- what a GeneralizedTime and its fraction spell have this content
+-- what a GeneralizedTime and its fraction encode have this content
 pub generalized_content-generalized_date_time : (bytes : List ℕ) → is_generalized_time bytes ≡ true
     → generalized_content (generalized_date_time bytes) (fraction_of bytes) ≡ bytes
 generalized_content-generalized_date_time bytes passes =
-    generalized_spelled bytes (generalized_parts bytes passes)
+    generalized_encoded bytes (generalized_parts bytes passes)
 
--- a GeneralizedTime spells a time in the years 0 to 9999
+-- a GeneralizedTime encodes a time in the years 0 to 9999
 pub generalized_date_time-is : (bytes : List ℕ) → is_generalized_time bytes ≡ true
     → (is_date_time (generalized_date_time bytes) ≡ true)
     × ((generalized_date_time bytes).year < 10000)
@@ -250,7 +250,7 @@ generalized_date_time-is bytes passes =
     let low = two_digits_small (digit 2) (digit 3) (is 2 (omega arith)) (is 3 (omega arith)) in
     ((generalized_parts bytes passes).date, omega arith)
 
--- the content of a time in the years 0 to 9999 spells it
+-- the content of a time in the years 0 to 9999 encodes it
 pub generalized_date_time-generalized_content : (time : DateTime) (fraction : List ℕ)
     → generalized_date_time (generalized_content time fraction) ≡ time
 generalized_date_time-generalized_content time fraction =
@@ -271,7 +271,7 @@ inner-fraction fraction =
     let whole = length-append fraction (0x5A ∷ []) in
     take_at fraction (0x5A ∷ []) (length (0x2E ∷ fraction ++ 0x5A ∷ []) - 1 - 1) (omega arith)
 
--- the content of a time spells its fraction
+-- the content of a time encodes its fraction
 pub fraction_of-generalized_content : (time : DateTime) (fraction : List ℕ)
     → fraction_of (generalized_content time fraction) ≡ fraction
 fraction_of-generalized_content time [] = refl
@@ -309,12 +309,12 @@ pub is_generalized_time-generalized_content : (time : DateTime) (fraction : List
     → is_generalized_time (generalized_content time fraction) ≡ true
 is_generalized_time-generalized_content time fraction is small ends =
     let below = fields_small time is in
-    let spelled = ap is_date_time (generalized_date_time-generalized_content time fraction) ∙ is in
+    let encoded = ap is_date_time (generalized_date_time-generalized_content time fraction) ∙ is in
     let end = fraction_text fraction ++ codes "Z" in
     let long = more_than_fourteen (length end) (omega (arith, length-append {A = ℕ})) in
     rw (
       long,
-      spelled,
+      encoded,
       end_is fraction ends,
       tens_digit (time.year / 100) (omega arith),
       ones_digit (time.year / 100),

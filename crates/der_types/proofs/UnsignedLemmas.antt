@@ -10,7 +10,7 @@ use Rattle.der_types.specs.Integers.{is_unsigned, unsigned_content, with_sign}
 use Rattle.der_types.specs.IntegerLaws.{is_unsigned-unsigned_content, number_of-unsigned_content}
 use Rattle.der_types.specs.IntegerLaws.{unsigned_content-number_of, unsigned_content-injective}
 
--- bytes that pass the test are the content of the number that they spell
+-- bytes that pass the test are the content of the number that they encode
 pub content-number : (bytes : List ℕ) → IsBytes bytes → is_unsigned bytes ≡ true
     → unsigned_content (number_of bytes) ≡ bytes
 content-number bytes are passes = unsigned_content-number_of bytes (IsBytes-below bytes are) passes

@@ -1,4 +1,4 @@
--- The contents of an INTEGER and the numbers that they spell determine each other.
+-- The contents of an INTEGER and the numbers that they encode determine each other.
 use Rattle.std.specs.Prelude.{◌≡◌, ℕ, zero, suc, ◌+◌, ◌-◌, ◌*◌, ◌/◌, ◌%◌, ◌^◌, ◌<◌, ◌≤◌, true}
 use Rattle.std.specs.Prelude.{List, [], ◌∷◌, length, map, slice_index, ℤ, pos, negsuc, refl}
 use Rattle.std.proofs.Common.{arith, ap, sym, ◌∙◌}
@@ -41,12 +41,12 @@ pub below-unsigned_content : (n : ℕ) → AllBelowBase 256 (unsigned_content n)
 below-unsigned_content n =
     below-with_sign (digits_of 256 n) (all_below_base_digits_of 256 n (omega arith))
 
--- the content of a number spells it
+-- the content of a number encodes it
 pub number_of-unsigned_content : (n : ℕ) → number_of (unsigned_content n) ≡ n
 number_of-unsigned_content n =
     number_of-with_sign (digits_of 256 n) ∙ number_digits_of 256 n (omega arith)
 
--- bytes that pass the test are the content of the number that they spell
+-- bytes that pass the test are the content of the number that they encode
 pub unsigned_content-number_of : (bytes : List ℕ) → AllBelowBase 256 bytes
     → is_unsigned bytes ≡ true
     → unsigned_content (number_of bytes) ≡ bytes
@@ -155,7 +155,7 @@ signed_content_high first bytes below passes high =
     (below-flipped (first ∷ bytes)) unsigned)
     ∙ flipped-flipped (first ∷ bytes) below)
 
--- bytes that pass the test are the content of the number that they spell
+-- bytes that pass the test are the content of the number that they encode
 pub signed_content-signed_number : (bytes : List ℕ) → AllBelowBase 256 bytes
     → is_integer bytes ≡ true
     → signed_content (signed_number bytes) ≡ bytes
@@ -181,7 +181,7 @@ signed_number_negative (first ∷ bytes) below passes =
     (grind (arith, nat_tests))
     ∙ ap (λ all. negsuc (number_of all)) (flipped-flipped (first ∷ bytes) below)
 
--- the content of a number spells it
+-- the content of a number encodes it
 pub signed_number-signed_content : (z : ℤ) → signed_number (signed_content z) ≡ z
 signed_number-signed_content (pos n) =
     signed_number_unsigned (unsigned_content n) (is_unsigned-unsigned_content n)

@@ -3,8 +3,8 @@ use Rattle.std.specs.Prelude.{◌==◌, ℕ, ◌<◌, ◌≤◌, nat_lt, Bool, t
 use Rattle.std.specs.Prelude.{length}
 
 -- X.690 section 8.19.2: bit 8 of the last byte of a subidentifier is zero, and bit 8 of each byte
--- before it is one; its first byte isn't 80. These bytes begin with a subidentifier, or go on with
--- one that began before them.
+-- before it is one; its first byte isn't 80. These bytes begin with a subidentifier, or
+-- continue one that began before them.
 abbrev pub are_subidentifiers : Bool → List ℕ → Bool
 are_subidentifiers begins [] = begins
 are_subidentifiers begins (byte ∷ bytes) =

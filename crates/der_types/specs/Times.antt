@@ -24,7 +24,7 @@ is_date_time time =
     && ((nat_le 1 time.day && nat_le time.day (days_in_month time.year time.month))
     && (nat_lt time.hour 24 && (nat_lt time.minute 60 && nat_lt time.second 60)))
 
--- The number that the digits at a place and the next spell. 30 (hexadecimal) is the digit 0.
+-- The number that the digits at a place and the next encode. 30 (hexadecimal) is the digit 0.
 abbrev pub two_digits : List ℕ → ℕ → ℕ
 two_digits digits at = 10 * (slice_index digits at - 0x30) + (slice_index digits (at + 1) - 0x30)
 
@@ -52,16 +52,15 @@ abbrev pub generalized_fields : List ℕ → DateTime
 generalized_fields digits =
     date_time_after (100 * two_digits digits 0 + two_digits digits 2) (drop 4 digits)
 
--- the time that the content of a UTCTime spells
+-- the time that the content of a UTCTime encodes
 abbrev pub utc_date_time : List ℕ → DateTime
 utc_date_time bytes = utc_fields (take 12 bytes)
 
--- the time that the content of a GeneralizedTime spells, without the fraction of a second
+-- the time that the content of a GeneralizedTime encodes, without the fraction of a second
 abbrev pub generalized_date_time : List ℕ → DateTime
 generalized_date_time bytes = generalized_fields (take 14 bytes)
 
--- X.680 section 47.3 and X.690 section 11.8: twelve digits, which spell a time to the second, and Z
--- (5A).
+-- X.680 section 47.3 and X.690 section 11.8: twelve digits, a time to the second, and Z (5A).
 abbrev pub is_utc_time : List ℕ → Bool
 is_utc_time bytes =
     length bytes == 13
@@ -86,8 +85,7 @@ ends_time bytes =
     || ((nat_lt 1 (length bytes) && slice_index bytes 0 == 0x2E)
     && (slice_index bytes (length bytes - 1) == 0x5A && is_fraction (inner bytes)))
 
--- X.680 section 46.2 and X.690 section 11.7: fourteen digits, which spell a time to the second, and
--- the end.
+-- X.680 section 46.2 and X.690 section 11.7: fourteen digits, a time to the second, and the end.
 abbrev pub is_generalized_time : List ℕ → Bool
 is_generalized_time bytes =
     nat_lt 14 (length bytes)

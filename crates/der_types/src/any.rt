@@ -26,7 +26,7 @@ pub struct Any<'a> {
     bytes: &'a [u8],
     inside: AnyRef<'a>,
     ghost header: { IsHeader (tag_of inside) (length (value_of inside)) },
-    ghost spelled: { bytes.now ≡ element (tag_of inside) (value_of inside) },
+    ghost encoded: { bytes.now ≡ element (tag_of inside) (value_of inside) },
 }
 
 impl<'a> Model for Any<'a> {
@@ -74,7 +74,7 @@ impl<'a> Any<'a> {
     /// Borrows the content.
     pub fn content(&self) -> &'a [u8]
         ensures header { IsHeader (first_byte self.now) (length result.now) }
-        ensures spelled { self.now ≡ element (first_byte self.now) result.now }
+        ensures encoded { self.now ≡ element (first_byte self.now) result.now }
     {
         self.inside.value()
     }

@@ -75,7 +75,7 @@ fn are_digits(bytes: &[u8]) -> bool
     bytes.iter().all(|byte| byte.is_ascii_digit())
 }
 
-/// Returns the number that the two digits from a place on spell.
+/// Returns the number that the two digits from a place on encode.
 fn two_digits(digits: &[u8], at: usize) -> u8
     requires within { at + 1 < length digits.now }
     requires digits { AllPass is_ascii_digit digits.now }
@@ -85,7 +85,7 @@ fn two_digits(digits: &[u8], at: usize) -> u8
     10 * (digits[at] - b'0') + (digits[at + 1] - b'0')
 }
 
-/// Returns the time in the year whose month, day, hour, minute and second these digits spell, two
+/// Returns the time in the year whose month, day, hour, minute and second these digits encode, two
 /// each.
 fn date_time_after(year: u16, digits: &[u8]) -> DateTime
     requires ten { length digits.now ≡ 10 }
@@ -102,7 +102,7 @@ fn date_time_after(year: u16, digits: &[u8]) -> DateTime
     }
 }
 
-/// Returns the time that the digits of a UTCTime spell. Years from 50 on are in the twentieth
+/// Returns the time that the digits of a UTCTime encode. Years from 50 on are in the twentieth
 /// century.
 fn utc_fields(digits: &[u8]) -> DateTime
     requires twelve { length digits.now ≡ 12 }
@@ -114,7 +114,7 @@ fn utc_fields(digits: &[u8]) -> DateTime
     date_time_after(century + year, &digits[2..])
 }
 
-/// Returns the time that the digits of a GeneralizedTime spell.
+/// Returns the time that the digits of a GeneralizedTime encode.
 fn generalized_fields(digits: &[u8]) -> DateTime
     requires fourteen { length digits.now ≡ 14 }
     requires digits { AllPass is_ascii_digit digits.now }

@@ -1,4 +1,4 @@
-//! Times whose contents spell a date and a time of day.
+//! Times whose contents encode a date and a time of day.
 ghost use Rattle.std.specs.Prelude.{◌≡◌, ℕ, List, true, Some, None, if◌then◌else◌};
 ghost use Rattle.der_types.specs.Times.{generalized_date_time, utc_date_time};
 ghost use Rattle.der_types.specs.declared.time.DateTime.{DateTime};
@@ -6,7 +6,7 @@ ghost use Rattle.der_types.specs.declared.time.DateTime.{DateTime};
 use crate::time::{generalized_date_time, utc_date_time};
 use crate::{DateTime, Kind, Leaf, kind};
 
-/// A kind of times whose contents spell a date and a time of day.
+/// A kind of times whose contents encode a date and a time of day.
 pub trait TimeKind: Kind {
     /// The time that a content encodes.
     ghost time: { List ℕ → DateTime };

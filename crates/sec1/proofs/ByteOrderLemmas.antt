@@ -1,4 +1,4 @@
--- Bytes of one length are ordered as the numbers that they spell, and encodings as their points.
+-- Bytes of one length are ordered as the numbers that they encode, and encodings as their points.
 use Rattle.std.proofs.Common.{◌≡◌, ℕ, suc, ◌+◌, ◌*◌, ◌^◌, ◌<◌, ◌≤◌, take, drop, w64, List, [], ◌∷◌, ◌++◌, length, refl}
 use Rattle.std.proofs.Common.{arith, Ordering, Less, Equal, nat_cmp}
 use Rattle.std.proofs.Common.{take-append-drop, length-take-le}

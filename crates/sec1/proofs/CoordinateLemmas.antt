@@ -62,7 +62,7 @@ pub coordinates_parity : (n : ℕ) (xs : List ℕ) → 0 < n → coordinate_numb
 coordinates_parity n xs h =
     grind (arith, length-first n xs, get_or-first n (n - 1) xs, parity_of_last (first_bytes n xs))
 
--- No bytes spell 0.
+-- No bytes encode 0.
 pub coordinates_none : (n : ℕ) (xs : List ℕ) → n ≡ 0 → coordinate_number n xs ≡ 0
 coordinates_none n xs e = rw (e, first_none xs) refl
 

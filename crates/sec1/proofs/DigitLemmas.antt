@@ -1,4 +1,4 @@
--- Bytes, the numbers that they spell and the digits that spell a number.
+-- Bytes, the numbers that they encode and the digits that encode a number.
 use Rattle.std.proofs.Common.{◌≡◌, ℕ, zero, suc, ◌+◌, ◌-◌, ◌/◌, ◌%◌, ◌^◌, ◌<◌, ◌≤◌, List, ◌++◌, length, get_or, take}
 use Rattle.std.proofs.Common.{drop, refl, arith, pow-suc, length-append}
 use Rattle.std.proofs.Common.{get_or-drop, take_all}
@@ -41,7 +41,7 @@ num-below width bs h fits =
     let wide : 256 ^ length bs ≤ 256 ^ width = pow-le-pow_right (omega arith) fits in
     omega (arith, number_lt 256 bs (IsBytes-below bs h))
 
--- A number below 256 ^ width is spelled by that many digits.
+-- A number below 256 ^ width is encoded by that many digits.
 pub num-fixed_width : (width n : ℕ) → n < 256 ^ width → number_of (fixed_width width n) ≡ n
 unfolding fixed_width
 num-fixed_width zero n h = grind arith
@@ -54,7 +54,7 @@ unfolding fixed_width
 fixed_width-front bs h zero le = refl
 fixed_width-front bs h (suc i) le = grind (arith, h i, number_more 256 bs i, take_more bs i 0, fixed_width-front bs h i)
 
--- Bytes are the digits of the number that they spell.
+-- Bytes are the digits of the number that they encode.
 pub fixed_width-num : (n : ℕ) (bs : List ℕ) → IsBytes bs → length bs ≡ n → fixed_width n (number_of bs) ≡ bs
 fixed_width-num n bs h e = rw (take_all n bs (omega arith)) at (fixed_width-front bs h n (omega arith))
 

@@ -154,17 +154,17 @@ halves_hold n l k (b ∷ buffer) x y el eb ex ey hx hy =
 
 -- An encoding is no longer than the buffer.
 pub encoding_room : (n l : ℕ) (input : List ℕ) → Fits n l → IsEncoding n input → length input ≤ l
-encoding_room n l input fits e = omega (arith, length-enc-le n e.of, ap length e.spelled, fits.1)
+encoding_room n l input fits e = omega (arith, length-enc-le n e.of, ap length e.encoded, fits.1)
 
 -- A value whose encoding is the input was read from it.
 pub read_bytes : {N L : ℕ} (input : List ℕ) (point : EncodedPoint N L) → take point.len point.bytes ≡ input
     → IsEncoding N input → ReadsBytes input (Ok point)
 read_bytes {N} input point front e = record {
   found = (point.sizes, point_fits point, sym (point.encoded ∙ front));
-  only = λ p _ fits spelled. rw front (holds N input p fits spelled).means;
+  only = λ p _ fits encoded. rw front (holds N input p fits encoded).means;
   kind = tt;
-  begins_none = λ other _ begins. no_prefix N e.of other (rw e.spelled at begins);
-  begun_by_none = λ other _ begun. no_prefix N other e.of (rw e.spelled at begun);
+  begins_none = λ other _ begins. no_prefix N e.of other (rw e.encoded at begins);
+  begun_by_none = λ other _ begun. no_prefix N other e.of (rw e.encoded at begun);
 }
 
 -- Encodings that are compared as buffers.

@@ -44,36 +44,36 @@ none_encoded f table [] h z = refl
 none_encoded f table (x ∷ xs) h z =
     grind (arith, list_any_at f table, get_or-eq_default table 0, none_encoded f table xs h z)
 
--- The digits that spell bytes are of one case.
+-- The digits that encode bytes are of one case.
 pub hex_is_one_case : (text bytes : List ℕ) → IsHexOf text bytes → is_one_case text ≡ true
 hex_is_one_case text bytes (inl e) = grind (arith, none_encoded is_ascii_lowercase upper_digits bytes refl refl)
 hex_is_one_case text bytes (inr e) = grind (arith, none_encoded is_ascii_uppercase lower_digits bytes refl refl)
 
--- ---- what decodes in one case is spelled in that case
+-- ---- what decodes in one case is encoded in that case
 
 module _ (table : List ℕ) (other : ℕ → Bool)
     (at : (c v : ℕ) → hex_digit_value c ≡ Some v → other c ≡ false → (v < 16) × (slice_index table v ≡ c)) where
-  respell_pair : (i a b : ℕ) (rest bs : List ℕ) (oa ob : Option ℕ) (r : Result (List ℕ) FromHexError)
+  recode_pair : (i a b : ℕ) (rest bs : List ℕ) (oa ob : Option ℕ) (r : Result (List ℕ) FromHexError)
       → (hex_digit_value a ≡ oa) × (other a ≡ false) → (hex_digit_value b ≡ ob) × (other b ≡ false)
       → ((digit_or_error a i oa >>= λ h. digit_or_error b (i + 1) ob >>= λ l. Ok (h * 16 + l))
       >>= λ v. r >>= λ bytes. Ok (v ∷ bytes)) ≡ Ok bs
       → ((rs : List ℕ) → r ≡ Ok rs → rest ≡ encode_with table rs)
       → a ∷ b ∷ rest ≡ encode_with table bs
   unfolding encode_with
-  respell_pair i a b rest bs (Some x) (Some y) (Ok rs) first second h more =
+  recode_pair i a b rest bs (Some x) (Some y) (Ok rs) first second h more =
       grind (arith, at a x first.0 first.1, at b y second.0 second.1, more rs refl)
-  respell_pair i a b rest bs oa ob r first second h more = absurd cc
+  recode_pair i a b rest bs oa ob r first second h more = absurd cc
 
-  respell : (i : ℕ) (s bs : List ℕ) → decode_pairs i s ≡ Ok bs → list_any other s ≡ false → s ≡ encode_with table bs
+  recode : (i : ℕ) (s bs : List ℕ) → decode_pairs i s ≡ Ok bs → list_any other s ≡ false → s ≡ encode_with table bs
   unfolding decode_pairs encode_with
-  respell i [] bs h c = grind arith
-  respell i (a ∷ []) bs h c = absurd cc
-  respell i (a ∷ b ∷ rest) bs h c =
-      respell_pair i a b rest bs (hex_digit_value a) (hex_digit_value b) (decode_pairs (i + 2) rest) (refl, grind arith)
+  recode i [] bs h c = grind arith
+  recode i (a ∷ []) bs h c = absurd cc
+  recode i (a ∷ b ∷ rest) bs h c =
+      recode_pair i a b rest bs (hex_digit_value a) (hex_digit_value b) (decode_pairs (i + 2) rest) (refl, grind arith)
       (refl, grind arith) h
-      (λ rs e. respell (i + 2) rest rs e (grind arith))
+      (λ rs e. recode (i + 2) rest rs e (grind arith))
 
--- What is decoded from a text of one case is spelled by it.
+-- What is decoded from a text of one case is encoded by it.
 pub decoded : (text bytes : List ℕ) (n : ℕ) → decode_sized text n ≡ Ok bytes → is_one_case text ≡ true
     → IsHexOf text bytes × IsBytes bytes
 decoded text bytes n e c =
@@ -81,17 +81,17 @@ decoded text bytes n e c =
     let ok = decode_of-ok text bytes all in
     let pairs = sym (decode_of-even text ok.0) ∙ all in
     elim (cases_Bool (list_any is_ascii_uppercase text)) [
-      | inl upper ↦ (inl (respell upper_digits is_ascii_lowercase upper_at 0 text bytes pairs (grind arith)), ok.3)
-      | inr none ↦ (inr (respell lower_digits is_ascii_uppercase lower_at 0 text bytes pairs none), ok.3)
+      | inl upper ↦ (inl (recode upper_digits is_ascii_lowercase upper_at 0 text bytes pairs (grind arith)), ok.3)
+      | inr none ↦ (inr (recode lower_digits is_ascii_uppercase lower_at 0 text bytes pairs none), ok.3)
     ]
 
--- ---- what a text spells is decoded
+-- ---- what a text encodes is decoded
 
 -- A text has two digits for each byte.
 pub text_len : (text bytes : List ℕ) → IsHexOf text bytes → length text ≡ 2 * length bytes
 text_len text bytes h = grind (arith, length-encode_with)
 
--- What a text spells is decoded.
+-- What a text encodes is decoded.
 pub decodes : (text bytes : List ℕ) (n : ℕ) → n ≡ length text / 2 → IsHexOf text bytes → IsBytes bytes
     → decode_sized text n ≡ Ok bytes
 decodes text bytes n k (inl e) f =

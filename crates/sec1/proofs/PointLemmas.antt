@@ -47,7 +47,7 @@ unfolding encoding
 IsBytes-enc n p zero = grind arith
 IsBytes-enc n p (suc i) = grind (arith, IsBytes-fixed_width, IsBytes-append)
 
--- No encoding begins another.
+-- No encoding is a prefix of another.
 pub no_prefix : (n : ℕ) (p q : Point) → IsProperPrefix (encoding n p) (encoding n q) → ⊥
 unfolding encoding
 no_prefix n p q begins =
@@ -105,9 +105,9 @@ Skips n tag rest =
 pub half : (n : ℕ) (rest : List ℕ) → length rest ≡ 2 * n → take n (drop n rest) ≡ drop n rest
 half n rest e = take_all n (drop n rest) (omega (arith, length-drop n rest))
 
-spelled_xy : (n : ℕ) (rest : List ℕ) → IsBytes rest → length rest ≡ 2 * n
+encoded_xy : (n : ℕ) (rest : List ℕ) → IsBytes rest → length rest ≡ 2 * n
     → fixed_width n (number_of (take n rest)) ++ fixed_width n (number_of (take n (drop n rest))) ≡ rest
-spelled_xy n rest h e =
+encoded_xy n rest h e =
     let x = fixed_width-num n (take n rest) (IsBytes-take n rest h) in
     let y = fixed_width-num n (drop n rest) (IsBytes-drop n rest h) in
     grind (arith, x, y, half n rest e, take-append-drop n rest, length-take {A = ℕ}, length-drop {A = ℕ})
@@ -119,34 +119,34 @@ parity_rest n rest some e =
     grind (arith, half n rest e, parity_of_last (drop n rest), get_or-drop {A = ℕ}, length-drop n rest)
 
 -- What passes the test is an encoding.
-passes_spelled : (n : ℕ) (tag : Tag) (rest : List ℕ) → 1 ≤ n → IsBytes rest → Skips n tag rest
+passes_encoded : (n : ℕ) (tag : Tag) (rest : List ℕ) → 1 ≤ n → IsBytes rest → Skips n tag rest
     → encoding n (meaning n (byte_of tag ∷ rest)) ≡ byte_of tag ∷ rest
 unfolding encoding meaning
-passes_spelled n tag rest some h p =
+passes_encoded n tag rest some h p =
     grind (
       arith,
       nil_from_length rest,
       take_all n rest,
       fixed_width-num n rest h,
-      spelled_xy n rest h,
+      encoded_xy n rest h,
       parity_rest n rest some,
     )
 
 -- An encoding is that of its meaning.
-pub encoding_spelled : (n : ℕ) (bs : List ℕ) → IsEncoding n bs → encoding n (meaning n bs) ≡ bs
-encoding_spelled n bs e = rw e.spelled (ap (encoding n) (meaning-enc n e.of e.fits))
+pub encoding_of_meaning : (n : ℕ) (bs : List ℕ) → IsEncoding n bs → encoding n (meaning n bs) ≡ bs
+encoding_of_meaning n bs e = rw e.encoded (ap (encoding n) (meaning-enc n e.of e.fits))
 
 encoding_passes : (n : ℕ) (tag : Tag) (rest : List ℕ) → 1 ≤ n → IsEncoding n (byte_of tag ∷ rest) → Skips n tag rest
 unfolding encoding meaning
 encoding_passes n tag rest some e =
     grind (
       arith,
-      encoding_spelled n
+      encoding_of_meaning n
           (byte_of tag ∷ rest) e,
       length-enc n e.of,
       tag_of-byte tag e.of,
       parity_rest n rest some,
-      e.spelled,
+      e.encoded,
     )
 
 -- The bytes after a tag pass the test exactly if the tag and they are an encoding.
@@ -157,7 +157,7 @@ passing_encodings n tag rest input some h is =
       λ p. record {
         of = meaning n input;
         fits = meaning-fits n input h;
-        spelled = rw is (sym (passes_spelled n tag rest some (λ i. bytes (suc i)) p));
+        encoded = rw is (sym (passes_encoded n tag rest some (λ i. bytes (suc i)) p));
       },
       λ e. encoding_passes n tag rest some (rw is at e),
     )

@@ -83,7 +83,7 @@ encoding n p = tag_byte p ∷ coordinate_bytes n p
 pub record IsEncoding (n : ℕ) (bytes : List ℕ) : Type 0 where
   pub of : Point
   pub fits : IsPoint n of
-  pub spelled : bytes ≡ encoding n of
+  pub encoded : bytes ≡ encoding n of
 
 -- the point with this first byte and these coordinates
 abbrev pub point_from : ℕ → ℕ → ℕ → Point

@@ -154,7 +154,7 @@ other_version container bytes is =
     let split : whole.inside ≡ element 0x02 (1 ∷ []) ++ rest.back = grind (arith, rest.joined, version) in
     let first = element_at (byte_fault 0) behind_version 0x02 (1 ∷ []) whole.inside rest.back (lit≤ tt) split in
     let outer = element_at (version_fault 0 end_fault) end_fault 0x30 whole.inside bytes []
-    whole.at.within (grind (arith, append-nil, whole.at.spelled)) in
+    whole.at.within (grind (arith, append-nil, whole.at.encoded)) in
     outer ∙ ap (λ (fault : Option ErrorKind). option_or fault None) first
 
 join_assoc : (a b c : Option (List ℕ)) → join (join a b) c ≡ join a (join b c)
@@ -264,7 +264,7 @@ split_version version curve container bytes is on =
     let algorithm = algorithm_ends curve container.algorithm parts.front on parts.first_there in
     let key = element_of-some 0x04 (Some container.private_key) parts.back parts.second_there in
     let content : key.inside ≡ container.private_key = cc key.same in
-    let field : parts.back ≡ element 0x04 container.private_key = key.at.spelled ∙ ap (element 0x04) content in
+    let field : parts.back ≡ element 0x04 container.private_key = key.at.encoded ∙ ap (element 0x04) content in
     record {
       front = header 0x30 (length whole.inside) ++ (rest.front ++ algorithm.front);
       behind = fields.back;

@@ -38,7 +38,7 @@ byte_put (x ∷ xs) some = refl
 pub written_text : (lower_case : ℕ) (bytes buffer text rest : List ℕ) → 2 * length bytes < length buffer
     → text ≡ hex_text lower_case bytes → rest ≡ drop (2 * length bytes) buffer → 0 < length rest
     → Writes (ended (hex_text lower_case bytes)) buffer (text ++ slice_set rest 0 0) 0 (2 * length bytes + 1)
-written_text lower_case bytes buffer text rest fits spelled is some =
+written_text lower_case bytes buffer text rest fits encoded is some =
     let digits = hex_text_len lower_case bytes in
     let len = length-append (hex_text lower_case bytes) (0 ∷ []) in
     let all : length (ended (hex_text lower_case bytes)) ≡ 2 * length bytes + 1 = omega (arith, digits, len) in
@@ -48,7 +48,7 @@ written_text lower_case bytes buffer text rest fits spelled is some =
       len = omega (arith, all);
       fits = λ _. (
         refl,
-        rw (all, behind, spelled, byte_put rest some)
+        rw (all, behind, encoded, byte_put rest some)
             (sym (append_assoc (hex_text lower_case bytes) (0 ∷ []) (drop 1 rest))),
       );
       short = λ short. absurd (omega (arith, all, short, fits));
@@ -63,7 +63,7 @@ point_text_len n p text len is =
 
 -- the text of an encoding is that of a point
 pub text_of_encoding : (n : ℕ) (text bytes : List ℕ) → IsEncoding n bytes → IsHexOf text bytes → IsPointText n text
-text_of_encoding n text bytes e is = (e.of, e.fits, rw e.spelled at is)
+text_of_encoding n text bytes e is = (e.of, e.fits, rw e.encoded at is)
 
 -- the texts of points, by their encodings
 pub ruleset point_texts = (point_text_len, text_of_encoding, IsBytes-enc, encoded)

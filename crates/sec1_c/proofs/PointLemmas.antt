@@ -31,7 +31,7 @@ are_point_parts n p input e =
 
 -- the encoding of a point is an encoding
 pub encoded : (n : ℕ) (p : Point) (input : List ℕ) → Encodes n p input → IsEncoding n input
-encoded n p input e = record { of = p; fits = e.fits; spelled = e.spelled }
+encoded n p input e = record { of = p; fits = e.fits; encoded = e.encoded }
 
 -- what an encoding is, and what is at its places
 pub ruleset encodings = (encoded, are_point_parts)
@@ -58,49 +58,49 @@ first_half : (n x y : ℕ)
 first_half n x y = grind (arith, length-append {A = ℕ}, length-fixed_width, take_at {A = ℕ})
 
 -- the compressed form of a point that has y is its parity and x
-pub compressed_spelled : (n : ℕ) (p : Point) (input : List ℕ) → IsFieldLength n → Encodes n p input
+pub compressed_encoded : (n : ℕ) (p : Point) (input : List ℕ) → IsFieldLength n → Encodes n p input
     → 4 ≤ tag_byte p → tag_byte p ≢ 5
     → encoding n (compressed_point p)
     ≡ (2 + get_or (drop 1 input) (length (drop 1 input) - 1) 0 % 2) ∷ take (length (drop 1 input) / 2) (drop 1 input)
 unfolding encoding
-compressed_spelled n (uncompressed x y) input len e above other =
-    rw e.spelled (grind (arith, first_half n x y, parity_of_y n x y len.0 e.fits.1))
-compressed_spelled n (hybrid x y) input len e above other =
-    rw e.spelled (grind (arith, first_half n x y, parity_of_y n x y len.0 e.fits.1))
-compressed_spelled n p input len e above other = grind arith
+compressed_encoded n (uncompressed x y) input len e above other =
+    rw e.encoded (grind (arith, first_half n x y, parity_of_y n x y len.0 e.fits.1))
+compressed_encoded n (hybrid x y) input len e above other =
+    rw e.encoded (grind (arith, first_half n x y, parity_of_y n x y len.0 e.fits.1))
+compressed_encoded n p input len e above other = grind arith
 
 -- any other point is its compressed form
 pub compressed_same : (n : ℕ) (p : Point) (input : List ℕ) → Encodes n p input → tag_byte p < 6 → tag_byte p ≢ 4
     → encoding n (compressed_point p) ≡ input
-compressed_same n p input e below other = grind (arith, e.spelled)
+compressed_same n p input e below other = grind (arith, e.encoded)
 
 -- the hybrid form of an uncompressed point has another tag
-pub hybrid_spelled : (n : ℕ) (p : Point) (input : List ℕ) → IsFieldLength n → Encodes n p input → tag_byte p ≡ 4
+pub hybrid_encoded : (n : ℕ) (p : Point) (input : List ℕ) → IsFieldLength n → Encodes n p input → tag_byte p ≡ 4
     → encoding n (hybrid_point p) ≡ (6 + get_or (drop 1 input) (length (drop 1 input) - 1) 0 % 2) ∷ drop 1 input
 unfolding encoding
-hybrid_spelled n (uncompressed x y) input len e is = rw e.spelled (grind (arith, parity_of_y n x y len.0 e.fits.1))
-hybrid_spelled n p input len e is = grind arith
+hybrid_encoded n (uncompressed x y) input len e is = rw e.encoded (grind (arith, parity_of_y n x y len.0 e.fits.1))
+hybrid_encoded n p input len e is = grind arith
 
 -- any other point is its hybrid form
 pub hybrid_same : (n : ℕ) (p : Point) (input : List ℕ) → Encodes n p input → tag_byte p ≢ 4
     → encoding n (hybrid_point p) ≡ input
-hybrid_same n p input e other = grind (arith, e.spelled)
+hybrid_same n p input e other = grind (arith, e.encoded)
 
 -- what the other forms of a point are
-pub ruleset compressed_forms = (compressed_spelled, compressed_same)
+pub ruleset compressed_forms = (compressed_encoded, compressed_same)
 
-pub ruleset hybrid_forms = (hybrid_spelled, hybrid_same)
+pub ruleset hybrid_forms = (hybrid_encoded, hybrid_same)
 
 -- ---- points made of coordinates
 
--- the uncompressed point is spelled by the bytes of its coordinates
-pub coordinates_spelled : (x y : List ℕ) → IsBytes x → IsBytes y → length y ≡ length x
+-- the uncompressed point is encoded by the bytes of its coordinates
+pub coordinates_encoded : (x y : List ℕ) → IsBytes x → IsBytes y → length y ≡ length x
     → encoding (length x) (uncompressed (number_of x) (number_of y)) ≡ 4 ∷ (x ++ y)
 unfolding encoding
-coordinates_spelled x y in_x in_y same =
+coordinates_encoded x y in_x in_y same =
     rw (fixed_width-num (length x) x in_x refl, fixed_width-num (length x) y in_y same) refl
 
--- its compressed form is spelled by the parity of y and the bytes of x
+-- its compressed form is encoded by the parity of y and the bytes of x
 pub compressed_coordinates : (x y : List ℕ) → IsBytes x → 0 < length y
     → encoding (length x) (compressed_point (uncompressed (number_of x) (number_of y)))
     ≡ (2 + get_or y (length y - 1) 0 % 2) ∷ x
@@ -108,15 +108,15 @@ unfolding encoding
 compressed_coordinates x y in_x some =
     rw (fixed_width-num (length x) x in_x refl) (grind (arith, parity_of_last y some))
 
--- how points are spelled by the bytes of coordinates
-pub ruleset made_forms = (coordinates_spelled, compressed_coordinates)
+-- how points are encoded by the bytes of coordinates
+pub ruleset made_forms = (coordinates_encoded, compressed_coordinates)
 
 -- ---- the order
 
 -- the encodings of points are ordered as the points
 pub encodings_ordered : (n : ℕ) (p q : Point) (first second : List ℕ) → Encodes n p first → Encodes n q second
     → slice_cmp nat_cmp first second ≡ point_cmp p q
-encodings_ordered n p q first second e f = rw (e.spelled, f.spelled) (slice_cmp-enc n p q e.fits f.fits)
+encodings_ordered n p q first second e f = rw (e.encoded, f.encoded) (slice_cmp-enc n p q e.fits f.fits)
 
 -- an encoding is less than another exactly if the point is
 encodings_below : (n : ℕ) (p q : Point) (first second : List ℕ) → Encodes n p first → Encodes n q second

@@ -39,7 +39,7 @@ named curve (Some found) bytes names e =
     let identifier = element_of-some 0x06 (identifier_content (curve_arcs curve)) found names in
     let arcs = curve_arcs curve in
     let content = passed (is_identifier arcs) (content_of arcs) identifier.inside identifier.same in
-    rw (← same, content) identifier.at.spelled
+    rw (← same, content) identifier.at.encoded
 
 -- An algorithm on a curve ends with the content of the curve's identifier.
 pub record EndsWith (content bytes : List ℕ) : Type 0 where
@@ -75,7 +75,7 @@ split_info curve info bytes is on =
     let algorithm = algorithm_ends curve info.algorithm parts.front on parts.first_there in
     let bits = element_of-some 0x03 (bit_string_content key) parts.back parts.second_there in
     let content = passed (is_bit_string (key.unused ∷ key.bytes)) (key.unused ∷ key.bytes) bits.inside bits.same in
-    let back : parts.back ≡ element 0x03 (key.unused ∷ key.bytes) = rw (← content) at bits.at.spelled in
+    let back : parts.back ≡ element 0x03 (key.unused ∷ key.bytes) = rw (← content) at bits.at.encoded in
     record {
       front = header 0x30 (length whole.inside) ++ algorithm.front;
       split = grind (arith, append_assoc);
@@ -104,7 +104,7 @@ pub bit_string_len : (key : BitString) (bytes : List ℕ) → element_of 0x03 (b
 bit_string_len key bytes e =
     let bits = element_of-some 0x03 (bit_string_content key) bytes e in
     let content = passed (is_bit_string (key.unused ∷ key.bytes)) (key.unused ∷ key.bytes) bits.inside bits.same in
-    let spelled : bytes ≡ element 0x03 (key.unused ∷ key.bytes) = rw (← content) at bits.at.spelled in
+    let encoded : bytes ≡ element 0x03 (key.unused ∷ key.bytes) = rw (← content) at bits.at.encoded in
     grind (arith, length-append)
 
 -- The parts have room in the bytes of a public key.

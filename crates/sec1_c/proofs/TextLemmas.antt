@@ -48,11 +48,11 @@ further_room m n (k ∷ ks) le small =
 -- the text of an identifier is shorter than 158 bytes
 pub text_room : (arcs content : List ℕ) → IsIdentifier arcs content → length (dotted arcs) < 158
 text_room (a ∷ b ∷ further) content is =
-    let allowed = is.spells.allowed in
+    let allowed = is.encodes.allowed in
     let others = further_room b (40 * a + b) further (omega arith) (allowed.2, allowed.3) in
-    let short = rw is.spells.spelled at is.short in
+    let short = rw is.encodes.encoded at is.short in
     rw (dotted_text a (b ∷ further), length-append) (omega (arith, allowed.0, length-decimal-le 1 a))
-text_room arcs content is = absurd is.spells.allowed
+text_room arcs content is = absurd is.encodes.allowed
 
 -- ---- the text is UTF-8
 

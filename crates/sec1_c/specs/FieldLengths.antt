@@ -9,7 +9,7 @@ IsFieldLength n = (1 ≤ n) × (n ≤ 66)
 -- the bytes are the encoding of this point (SEC1 v2.0 section 2.3.3)
 pub record Encodes (n : ℕ) (p : Point) (bytes : List ℕ) : Type 0 where
   pub fits : IsPoint n p
-  pub spelled : bytes ≡ encoding n p
+  pub encoded : bytes ≡ encoding n p
 
 -- the bytes are the encodings of these two points
 pub record EncodesBoth (n : ℕ) (p q : Point) (first second : List ℕ) : Type 0 where

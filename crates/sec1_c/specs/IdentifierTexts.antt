@@ -11,7 +11,7 @@ c_text arcs = dotted arcs ++ 0 ∷ []
 -- the text is the dotted text of the identifier with these arcs
 pub record IsTextOf (arcs text : List ℕ) : Type 0 where
   pub identifier : IsIdentifier arcs (content_of arcs)
-  pub spelled : text ≡ dotted arcs
+  pub encoded : text ≡ dotted arcs
 
 -- the text is the dotted text of some identifier
 abbrev pub IsIdentifierText : List ℕ → Type 0

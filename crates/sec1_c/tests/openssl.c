@@ -322,7 +322,7 @@ static void insert(struct bytes *key, size_t at, uint8_t byte)
     key->len++;
 }
 
-/* Spells the length of the whole key in one byte more than is needed, or as the indefinite form. */
+/* Encodes the length of the whole key in one byte more than is needed, or as the indefinite form. */
 static void lengthen(struct bytes *key)
 {
     if (key->len < 3)

@@ -59,7 +59,7 @@ static uint32_t header_of(const uint8_t *data, size_t at, size_t end, int tag, s
     return SEC1_OK;
 }
 
-/* Reads an element with this tag that ends inside what is left, and goes on behind it. */
+/* Reads an element with this tag that ends inside what is left, with bytes behind it. */
 static uint32_t element_of(struct rest *rest, int tag, struct element *e)
 {
     uint32_t status = header_of(rest->data, rest->at, rest->end, tag, e);

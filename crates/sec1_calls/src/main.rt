@@ -31,7 +31,7 @@ use std::io::{BufRead, BufReader};
 use std::rt::Files;
 use words::word;
 
-/// Returns the line that answers this one.
+/// Returns the line that is printed for this one.
 fn answer<H: Files>(rt: &H, alloc: Global, line: &str) -> Result<String, AllocError> {
     let (name, rest) = word(line.as_bytes());
     match name {

@@ -1,4 +1,4 @@
-//! Keys and documents over readers and writers that fail once and would then go on.
+//! Keys and documents over readers and writers that fail once and would then continue.
 
 use crate::calls::{Outcome, sum_of};
 use crate::keys::{Copied, pattern};

@@ -78,7 +78,7 @@ child_next {input = input} {ends = end ∷ ends} {rest = rest} w some apart =
           ∙ rw (row_some (length ends + 2) (take (length rest - end) rest) (omega arith) (omega arith)) refl;
     }
 
--- the walk goes on after an element without children
+-- the walk continues after an element without children
 passed : (input ends rest after : List ℕ) (count : ℕ) → IsNext input ends rest count → Skips ends rest after
     → Walks input ends after (count + 1)
 passed input ends rest after count next p =
@@ -98,7 +98,7 @@ passed input ends rest after count next p =
       fault_is = next.fault_is ∙ element_passed ends rest after p;
     }
 
--- the walk goes on inside a node with a content, where there is room for one more
+-- the walk continues inside a node with a content, where there is room for one more
 opened : (input ends rest after : List ℕ) (end count : ℕ) → IsNext input ends rest count → Opens ends rest end after
     → length ends < max_tree_depth - 1
     → Walks input (end ∷ ends) after (count + 1)
@@ -124,13 +124,13 @@ opened input ends rest after end count next o room =
       fault_is = next.fault_is ∙ node_opened ends rest after end o;
     }
 
--- the walk goes on where an element was skipped or opened
+-- the walk continues where an element was skipped or opened
 pub entered : {input ends rest ends' after : List ℕ} {count : ℕ} → IsNext input ends rest count
     → Enters ends rest ends' after
     → Walks input ends' after (count + 1)
 entered next e = ⊎_elim (λ p. rw (p.1) (passed _ _ _ _ _ next p.0)) (λ o. rw (o.2) (opened _ _ _ _ _ _ next o.1 o.3)) e
 
--- the walk goes on where a node has ended
+-- the walk continues where a node has ended
 pub closed : {input ends ends' rest : List ℕ} {count : ℕ} → Walks input ends rest count → ends ≢ []
     → ends' ≡ drop 1 ends → length rest ≡ innermost ends
     → Walks input ends' rest count

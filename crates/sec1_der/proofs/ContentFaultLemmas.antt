@@ -13,13 +13,13 @@ use Rattle.sec1_der.specs.Identifiers.{IsIdentifier, is_identifier, content_of}
 use Rattle.sec1_der.specs.IdentifierLaws.{is_identifier-true, is_identifier-valid}
 use Rattle.sec1_der.specs.declared.error.ErrorKind.TheVariants.{Value}
 use Rattle.sec1_der.proofs.FaultLaws.{alone, element_at}
-use Rattle.sec1_der.proofs.IdentifierLemmas.{goes_on_from_spells}
+use Rattle.sec1_der.proofs.IdentifierLemmas.{continues_from_arcs}
 
 -- the content of an identifier isn't refused
 pub identifier_taken : (arcs content : List ℕ) → IsIdentifier arcs content → identifier_fault content ≡ None
 identifier_taken arcs content h =
-    let spelled = (bytes_eq-Decides (content_of arcs) content).1 (sym h.spells.spelled) in
-    rw ((goes_on_from_spells arcs content h.spells).1, is_identifier-valid arcs content h, spelled) refl
+    let encoded = (bytes_eq-Decides (content_of arcs) content).1 (sym h.encodes.encoded) in
+    rw ((continues_from_arcs arcs content h.encodes).1, is_identifier-valid arcs content h, encoded) refl
 
 -- a content of no identifier is refused as Value
 pub identifier_refused : (content : List ℕ) → ((arcs : List ℕ) → IsIdentifier arcs content → ⊥)
@@ -47,13 +47,13 @@ pub whole_inside : (inside bytes : List ℕ) → element_of 0x03 (Some (0 ∷ in
 whole_inside inside bytes e =
     let is = element_of-some 0x03 (Some (0 ∷ inside)) bytes e in
     let same : 0 ∷ inside ≡ is.inside = cc (is.same) in
-    (omega (arith, ap length same, is.at.within), is.at.spelled ∙ ap (λ content. element 0x03 content) (sym same))
+    (omega (arith, ap length same, is.at.within), is.at.encoded ∙ ap (λ content. element 0x03 content) (sym same))
 
 -- where the content of a field is a bit string, its fault is that of its unused bits
 pub bits_inside : (content bytes : List ℕ) → length content ≤ max_length → bytes ≡ element 0x03 content
     → element_fault 0x03 bit_string_fault end_fault bytes ≡ None
     → whole_bits_field_fault bytes ≡ whole_bits_fault content
-bits_inside content bytes fits spelled none =
+bits_inside content bytes fits encoded none =
     let second = element_at whole_bits_fault no_fault 0x03 content bytes [] fits
-    (spelled ∙ sym (append-nil (element 0x03 content))) in
+    (encoded ∙ sym (append-nil (element 0x03 content))) in
     rw none (second ∙ alone (whole_bits_fault content))

@@ -17,7 +17,7 @@ use Rattle.sec1_der.specs.declared.error.ErrorKind.TheVariants.{Truncated, Trail
 use Rattle.sec1_der.proofs.HeaderLemmas.{fronts, header_front, longer, some_length}
 use Rattle.sec1_der.proofs.ElementLaws.{is_tag-true, header_apart}
 use Rattle.sec1_der.proofs.ElementLaws.{tag_from_test}
-use Rattle.sec1_der.proofs.FaultLaws.{length_at_spelled, parts_at, any_room, any_at, alone, read_element}
+use Rattle.sec1_der.proofs.FaultLaws.{length_at_octets, parts_at, any_room, any_at, alone, read_element}
 
 -- ---- lengths
 
@@ -30,8 +30,8 @@ length_at_lacks bytes lacks =
     let front = take (length octets) bytes in
     ⊎_elim
     (λ e. let (fits, same) = and_parts _ _ e in
-    let spelled = rw ((bytes_eq-Decides front octets).0 same) at (sym (take-append-drop (length octets) bytes)) in
-    absurd (lacks _ _ (leb-true (number_at bytes) max_length fits) spelled))
+    let encoded = rw ((bytes_eq-Decides front octets).0 same) at (sym (take-append-drop (length octets) bytes)) in
+    absurd (lacks _ _ (leb-true (number_at bytes) max_length fits) encoded))
     (λ e. rw e refl)
     (cases_Bool (nat_le (number_at bytes) max_length && bytes_eq front octets))
 
@@ -42,14 +42,14 @@ pub any_short : (f : ℕ → Fault) (g : Fault) (tag n : ℕ) (bytes inside : Li
     → bytes ≡ header tag n ++ inside → length inside < n
     → any_fault f g bytes ≡ Some Truncated
 any_short f g tag n bytes inside h e few =
-    rw (e, is_tag-true tag h.tag_byte, length_at_spelled n inside h.within, lt-leb n (length inside) few) refl
+    rw (e, is_tag-true tag h.tag_byte, length_at_octets n inside h.within, lt-leb n (length inside) few) refl
 
 -- bytes that begin with no header are refused by the fault of their header, if the first is a byte
-pub any_headless : (f : ℕ → Fault) (g : Fault) (bytes : List ℕ) → (0 < length bytes → get_or bytes 0 0 < 256)
+pub any_without_header : (f : ℕ → Fault) (g : Fault) (bytes : List ℕ) → (0 < length bytes → get_or bytes 0 0 < 256)
     → LacksHeader bytes
     → any_fault f g bytes ≡ Some (header_fault bytes)
-any_headless f g [] small lacks = refl
-any_headless f g (byte ∷ bytes) small lacks = ⊎_elim
+any_without_header f g [] small lacks = refl
+any_without_header f g (byte ∷ bytes) small lacks = ⊎_elim
     (λ e. let is : IsTag byte = tag_from_test byte (small (omega arith)) e in
     rw (
       e,
@@ -66,7 +66,7 @@ pub any_cut : (f : ℕ → Fault) (g : Fault) (tag : ℕ) (content input : List 
     → IsHeader tag (length content)
     → IsProperPrefix input (element tag content) → any_fault f g input ≡ Some Truncated
 any_cut f g tag content input small h cut = ⊎_elim
-    (λ l. any_headless f g input small (lacks l) ∙ ⊎_elim
+    (λ l. any_without_header f g input small (lacks l) ∙ ⊎_elim
     (λ c. absurd (omega (arith, ap length c.front, length-append (header tag (length content)) c.after)))
     (λ k. ap Some k)
     (header_front tag (length content) input cut.more content h (sym cut.split)))
@@ -139,7 +139,7 @@ trailing_fault (byte ∷ bytes) some = refl
 pub document_element : (bytes : List ℕ) → IsElement bytes → document_fault bytes ≡ None
 document_element bytes is =
     any_at (λ _. no_fault) end_fault is.tag is.content bytes [] is.is_header
-    (is.spelled ∙ sym (append-nil (element is.tag is.content)))
+    (is.encoded ∙ sym (append-nil (element is.tag is.content)))
 
 -- a header and more than the content that it announces are refused as trailing data
 pub document_long : (tag n : ℕ) (bytes inside : List ℕ) → IsHeader tag n → bytes ≡ header tag n ++ inside

@@ -57,7 +57,7 @@ element_of-some tag (Some inside) bytes e = ⊎_elim
       inside = inside;
       same = refl;
       at =
-          record { within = fits; spelled = cc (rw (le-leb (length inside) max_length fits) at e) };
+          record { within = fits; encoded = cc (rw (le-leb (length inside) max_length fits) at e) };
     })
     (cases_lt max_length (length inside))
 

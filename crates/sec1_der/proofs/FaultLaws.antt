@@ -1,4 +1,4 @@
--- What the bytes of an element are refused by, and a reader that goes on behind one. Further crates
+-- What the bytes of an element are refused by, and a reader that continues behind one. Further crates
 -- cite these laws.
 use Rattle.std.proofs.Common.{◌≡◌, ◌==◌, ◌++◌, ◌∷◌, [], ℕ, List, Bool, true, false, refl, sym, ◌∙◌}
 use Rattle.std.proofs.Common.{ap, if◌then◌else◌, Option, Some, None, IsSomeAnd, Result, Ok, Err}
@@ -14,17 +14,17 @@ use Rattle.std.proofs.Math.Seq.{take-append_seam, drop-append_seam}
 use Rattle.std.proofs.lemmas.Slice.Eq.{bytes_eq-Decides}
 use Rattle.sec1_der.specs.Elements.{max_length, length_octets, header, element, IsHeader}
 use Rattle.sec1_der.proofs.ElementLaws.{is_tag-true}
-use Rattle.sec1_der.proofs.LengthLaws.{number_spelled}
+use Rattle.sec1_der.proofs.LengthLaws.{number_at_octets}
 
 -- the length that the bytes begin with is found, and what follows it
-pub length_at_spelled : (n : ℕ) (rest : List ℕ) → n ≤ max_length
+pub length_at_octets : (n : ℕ) (rest : List ℕ) → n ≤ max_length
     → length_at (length_octets n ++ rest) ≡ Ok (n, rest)
-length_at_spelled n rest fits =
+length_at_octets n rest fits =
     let same = (bytes_eq-Decides (take (length (length_octets n)) (length_octets n ++ rest))
     (length_octets n)).1
     (take-append_seam (length_octets n) rest) in
     rw (
-      number_spelled n rest,
+      number_at_octets n rest,
       le-leb n max_length fits,
       same,
       drop-append_seam (length_octets n) rest,
@@ -38,7 +38,7 @@ within_octets content rest fits =
     let room = le-leb n (length (content ++ rest)) (omega (arith, length-append content rest)) in
     rw (
       append_assoc (length_octets n) content rest,
-      length_at_spelled n (content ++ rest) fits,
+      length_at_octets n (content ++ rest) fits,
       room,
     )
     (rw (take-append_seam content rest, drop-append_seam content rest) refl)
@@ -59,7 +59,7 @@ any_room f g tag n bytes inside h e fits =
     rw (
       e,
       is_tag-true tag h.tag_byte,
-      length_at_spelled n inside h.within,
+      length_at_octets n inside h.within,
       le-leb n (length inside) fits,
     ) refl
 
@@ -92,20 +92,20 @@ read_element f g tag content old new h =
     (ap (λ (r : Reader). r.unread) h.read.was_whole)
 
 -- after an element that is read, the fault of the old input is that of the new one
-pub record GoesOn (fault : Fault → Fault) (old new : Reader) : Type 0 where
+pub record PassesOver (fault : Fault → Fault) (old new : Reader) : Type 0 where
   pub whole : new.failed ≡ false
   pub next : (g : Fault) → fault g old.unread ≡ g new.unread
 
 -- this holds after an element that is there, and of which nothing is refused
-goes_on : (fault : Fault → Fault) (found : Fault) (content : Option (List ℕ)) (P : List ℕ → Type 0)
+passes_over : (fault : Fault → Fault) (found : Fault) (content : Option (List ℕ)) (P : List ℕ → Type 0)
     (old new : Reader)
     → IsSomeAnd content P
     → ((inside : List ℕ) → P inside
     → (new.failed ≡ false)
     × ((g : Fault) → fault g old.unread ≡ option_or (found inside) (g new.unread)))
-    → fault no_fault old.unread ≡ None → GoesOn fault old new
-goes_on fault found None P old new some read none = absurd some
-goes_on fault found (Some inside) P old new some read none =
+    → fault no_fault old.unread ≡ None → PassesOver fault old new
+passes_over fault found None P old new some read none = absurd some
+passes_over fault found (Some inside) P old new some read none =
     let (whole, same) = read inside some in
     let first : found inside ≡ None = sym (alone (found inside)) ∙ (sym (same no_fault) ∙ none) in
     record { whole = whole; next = λ g. same g ∙ rw first refl }
@@ -115,8 +115,8 @@ pub reads_on : (f : Fault) (tag : ℕ) (content : Option (List ℕ)) (P : List �
     (old new : Reader)
     → IsSomeAnd content (λ inside. P inside × HasReadElement tag inside old new)
     → element_fault tag f no_fault old.unread ≡ None
-    → GoesOn (element_fault tag f) old new
-reads_on f tag content P old new some none = goes_on (element_fault tag f) f content _ old new some
+    → PassesOver (element_fault tag f) old new
+reads_on f tag content P old new some none = passes_over (element_fault tag f) f content _ old new some
     (λ inside is. (
       ap (λ (r : Reader). r.failed) is.1.read.is_whole,
       λ g.

@@ -13,17 +13,17 @@ use Rattle.sec1_der.specs.Numbers.{base128, marked}
 use Rattle.sec1_der.specs.Stored.{arcs_stored, IsStored}
 use Rattle.sec1_der.specs.declared.object_identifier.ObjectIdentifier.TheInside.{Inside}
 use Rattle.sec1_der.specs.ArcsOf.{padded, numbers_after, arcs_of_numbers, arcs_of}
-use Rattle.sec1_der.specs.Identifiers.{AreArcs, Spells, IsIdentifier, IsIdentifierContent, identifier_content}
+use Rattle.sec1_der.specs.Identifiers.{AreArcs, EncodesArcs, IsIdentifier, IsIdentifierContent, identifier_content}
 use Rattle.sec1_der.specs.IdentifierLaws.{identifier_content-valid}
 use Rattle.sec1_der.specs.Identifiers.{max_identifier_length}
 use Rattle.sec1_der.specs.DigitLaws.{IsBytes, digits_of-push, marked_step}
 
--- the bytes go on a spelling whose digits so far are those of high, and end one
-abbrev pub goes_on : ℕ → List ℕ → Bool
-goes_on high [] = eqb high 0
-goes_on high (b ∷ bs) =
+-- the bytes continue an encoding whose digits so far are those of high, and end one
+abbrev pub continues : ℕ → List ℕ → Bool
+continues high [] = eqb high 0
+continues high (b ∷ bs) =
     cond (eqb high 0 && eqb b 128) false
-    (cond (ltb high (2 ^ 25)) (goes_on (cond (ltb b 128) 0 (high * 128 + b % 128)) bs) false)
+    (cond (ltb high (2 ^ 25)) (continues (cond (ltb b 128) 0 (high * 128 + b % 128)) bs) false)
 
 -- the width of the digits of a number below 2^25: how many they are, where a first one of 16 or more counts as two
 abbrev pub width_of : ℕ → ℕ
@@ -46,18 +46,18 @@ pub small_push : (ns : List ℕ) (n : ℕ) → AreSmall ns → n < 2 ^ 32 → Ar
 small_push [] n s h = (h, tt)
 small_push (m ∷ ns) n s h = (s.0, small_push ns n s.1 h)
 
--- ---- what goes on is spelled so
+-- ---- what continues is encoded so
 
--- after the digits so far the bytes spell these numbers
-record IsSpelled (high : ℕ) (bs ns : List ℕ) : Type 0 where
+-- after the digits so far the bytes encode these numbers
+record IsEncoded (high : ℕ) (bs ns : List ℕ) : Type 0 where
   pub row : marked (digits_of 128 high) ++ bs ≡ flat_map base128 ns
   pub small : AreSmall ns
 
--- bytes that pass the test spell the numbers that are read of them
-spelled_after : (high : ℕ) (bs : List ℕ) → IsBytes bs → goes_on high bs ≡ true
-    → IsSpelled high bs (numbers_after high bs)
-spelled_after high [] h e = grind (arith, nat_tests)
-spelled_after high (b ∷ bs) h e =
+-- bytes that pass the test encode the numbers that are read of them
+encoded_after : (high : ℕ) (bs : List ℕ) → IsBytes bs → continues high bs ≡ true
+    → IsEncoded high bs (numbers_after high bs)
+encoded_after high [] h e = grind (arith, nat_tests)
+encoded_after high (b ∷ bs) h e =
     let n = high * 128 + b % 128 in
     let tail = λ (i : ℕ). h (suc i) in
     let digits = digits_of-push 128 high (b % 128) in
@@ -65,8 +65,8 @@ spelled_after high (b ∷ bs) h e =
       arith,
       nat_tests,
       h 0,
-      spelled_after 0 bs tail,
-      spelled_after n bs tail,
+      encoded_after 0 bs tail,
+      encoded_after n bs tail,
       digits,
       div-mul-add,
       mod-mul-add,
@@ -76,36 +76,37 @@ spelled_after high (b ∷ bs) h e =
 
 -- ---- widths
 
--- no bytes go on a number of too many digits
-too_long : (high : ℕ) (bs : List ℕ) → 2 ^ 25 ≤ high → goes_on high bs ≡ false
+-- no bytes continue a number of too many digits
+too_long : (high : ℕ) (bs : List ℕ) → 2 ^ 25 ≤ high → continues high bs ≡ false
 too_long high [] l = grind (arith, nat_tests)
 too_long high (b ∷ bs) l = grind (arith, nat_tests)
 
 -- the width of the digits says as much as their number
-goes_on-width : (high : ℕ) (bs : List ℕ) → IsBytes bs → high < 2 ^ 25 → goes_on high bs ≡ is_narrow (width_of high) bs
-goes_on-width high [] h l = grind (arith, nat_tests)
-goes_on-width high (b ∷ bs) h l =
+continues-width : (high : ℕ) (bs : List ℕ) → IsBytes bs → high < 2 ^ 25
+    → continues high bs ≡ is_narrow (width_of high) bs
+continues-width high [] h l = grind (arith, nat_tests)
+continues-width high (b ∷ bs) h l =
     let n = high * 128 + b % 128 in
     let tail = λ (i : ℕ). h (suc i) in
-    grind (arith, nat_tests, h 0, goes_on-width 0 bs tail, goes_on-width n bs tail, too_long n bs)
+    grind (arith, nat_tests, h 0, continues-width 0 bs tail, continues-width n bs tail, too_long n bs)
 
--- ---- what is spelled goes on
+-- ---- what is encoded continues
 
 -- what the function that writes the digits takes
 pub ruleset marked_steps = (marked_step, append_assoc, length-append)
 
 -- all digits but the last are read
 read_marked : (most n : ℕ) (rest : List ℕ) → n ≤ most → n < 2 ^ 32 → let bytes = marked (digits_of 128 n) ++ rest in
-    (numbers_after 0 bytes ≡ numbers_after n rest) × (goes_on 0 bytes ≡ goes_on n rest)
+    (numbers_after 0 bytes ≡ numbers_after n rest) × (continues 0 bytes ≡ continues n rest)
 read_marked most zero rest l small = (refl, refl)
 read_marked zero (suc n) rest l small = absurd (omega arith)
 read_marked (suc most) (suc n) rest l small =
     rw (marked_step (suc n) (omega arith), append_assoc)
     (grind (arith, nat_tests, read_marked most (suc n / 128) ((128 + suc n % 128) ∷ rest)))
 
--- the numbers that are spelled are read
+-- the numbers that are encoded are read
 read_all : (ns : List ℕ) → AreSmall ns → (numbers_after 0 (flat_map base128 ns) ≡ ns)
-    × (goes_on 0 (flat_map base128 ns) ≡ true)
+    × (continues 0 (flat_map base128 ns) ≡ true)
 read_all [] small = (refl, refl)
 read_all (n ∷ ns) small =
     let rest = flat_map base128 ns in
@@ -113,31 +114,32 @@ read_all (n ∷ ns) small =
 
 -- ---- contents
 
--- a content of arcs goes on, and the arcs are its own
-pub goes_on_from_spells : (arcs content : List ℕ) → Spells arcs content
-    → (goes_on 0 content ≡ true) × (arcs_of content ≡ arcs)
-goes_on_from_spells [] content s = absurd s.allowed
-goes_on_from_spells (a ∷ []) content s = absurd s.allowed
-goes_on_from_spells (a ∷ b ∷ cs) content s =
-    rw s.spelled (grind (arith, nat_tests, read_all ((40 * a + b) ∷ cs) (s.allowed.2, s.allowed.3)))
+-- a content of arcs continues to its end, and the arcs are its own
+pub continues_from_arcs : (arcs content : List ℕ) → EncodesArcs arcs content
+    → (continues 0 content ≡ true) × (arcs_of content ≡ arcs)
+continues_from_arcs [] content s = absurd s.allowed
+continues_from_arcs (a ∷ []) content s = absurd s.allowed
+continues_from_arcs (a ∷ b ∷ cs) content s =
+    rw s.encoded (grind (arith, nat_tests, read_all ((40 * a + b) ∷ cs) (s.allowed.2, s.allowed.3)))
 
--- numbers that are spelled are those of arcs
-spells_arcs : (content ns : List ℕ) → 0 < length content → IsSpelled 0 content ns → Spells (arcs_of_numbers ns) content
-spells_arcs content [] some s = absurd (omega (arith, ap length s.row))
-spells_arcs content (n ∷ ns) some s = grind (arith, nat_tests)
+-- numbers that are encoded are those of arcs
+encodes_arcs : (content ns : List ℕ) → 0 < length content → IsEncoded 0 content ns
+    → EncodesArcs (arcs_of_numbers ns) content
+encodes_arcs content [] some s = absurd (omega (arith, ap length s.row))
+encodes_arcs content (n ∷ ns) some s = grind (arith, nat_tests)
 
--- the test by widths decides whether bytes spell arcs
+-- the test by widths decides whether bytes encode arcs
 pub is_narrow-decides : (content : List ℕ) → IsBytes content → 0 < length content
-    → (is_narrow 0 content ≡ true) ↔ ((arcs : List ℕ) × Spells arcs content)
+    → (is_narrow 0 content ≡ true) ↔ ((arcs : List ℕ) × EncodesArcs arcs content)
 is_narrow-decides content h some =
-    rw (sym (goes_on-width 0 content h (omega arith))) (
-      λ e. (arcs_of content, spells_arcs content (numbers_after 0 content) some (spelled_after 0 content h e)),
-      λ s. (goes_on_from_spells s.0 content s.1).0,
+    rw (sym (continues-width 0 content h (omega arith))) (
+      λ e. (arcs_of content, encodes_arcs content (numbers_after 0 content) some (encoded_after 0 content h e)),
+      λ s. (continues_from_arcs s.0 content s.1).0,
     )
 
 -- the arcs that are read of an identifier's content are the identifier's
 pub read_arcs : (arcs content : List ℕ) → IsIdentifier arcs content → arcs_of content ≡ arcs
-read_arcs arcs content is = (goes_on_from_spells arcs content is.spells).1
+read_arcs arcs content is = (continues_from_arcs arcs content is.encodes).1
 
 -- an identifier's content is that of the arcs that are read of it
 pub own_arcs : (content : List ℕ) → IsIdentifierContent content → IsIdentifier (arcs_of content) content
@@ -148,7 +150,7 @@ pub ruleset held_contents = (read_arcs, own_arcs)
 
 -- the state of the walk after one byte
 pub read_byte : (high i : ℕ) (content : List ℕ) → i < length content
-    → (goes_on high (drop i content) ≡ goes_on high (get_or content i 0 ∷ drop (i + 1) content))
+    → (continues high (drop i content) ≡ continues high (get_or content i 0 ∷ drop (i + 1) content))
     × (numbers_after high (drop i content) ≡ numbers_after high (get_or content i 0 ∷ drop (i + 1) content))
 read_byte high i content l = rw (drop_more content i 0 l) (refl, refl)
 
@@ -166,7 +168,7 @@ narrow_end width (b ∷ bs) e = absurd (omega arith)
 pub content_is_stored : (arcs content : List ℕ) → IsIdentifier arcs content → let o : Inside =
     record { bytes = padded content; len = length content } in
     IsStored o × (arcs_stored o ≡ arcs)
-content_is_stored arcs content is = grind (arith, goes_on_from_spells arcs content is.spells, take_at)
+content_is_stored arcs content is = grind (arith, continues_from_arcs arcs content is.encodes, take_at)
 
 -- ---- writing
 
@@ -182,22 +184,22 @@ identifier_fits arcs content is = (
 
 -- the digits of 40 a + b in base 128 are the content of the arcs a and b, and are decoded to them
 pub first_two : (a b n : ℕ) (content : List ℕ) → AreArcs (a ∷ b ∷ []) → n ≡ 40 * a + b → content ≡ base128 n
-    → Spells (arcs_of content) content × (arcs_of content ≡ a ∷ b ∷ [])
-first_two a b n content allowed shared is = grind (arith, goes_on_from_spells (a ∷ b ∷ []) content, append-nil)
+    → EncodesArcs (arcs_of content) content × (arcs_of content ≡ a ∷ b ∷ [])
+first_two a b n content allowed shared is = grind (arith, continues_from_arcs (a ∷ b ∷ []) content, append-nil)
 
 -- the same of a content with one more arc after it
-pub one_more_arc : (arcs content : List ℕ) (n : ℕ) (more : List ℕ) → Spells arcs content → n < 2 ^ 32
+pub one_more_arc : (arcs content : List ℕ) (n : ℕ) (more : List ℕ) → EncodesArcs arcs content → n < 2 ^ 32
     → more ≡ content ++ base128 n
-    → Spells (arcs_of more) more × (arcs_of more ≡ arcs ++ n ∷ [])
+    → EncodesArcs (arcs_of more) more × (arcs_of more ≡ arcs ++ n ∷ [])
 one_more_arc [] content n more s small is = absurd s.allowed
 one_more_arc (a ∷ []) content n more s small is = absurd s.allowed
 one_more_arc (a ∷ b ∷ cs) content n more s small is =
     grind (
       arith,
-      goes_on_from_spells (a ∷ b ∷ (cs ++ n ∷ [])) more,
+      continues_from_arcs (a ∷ b ∷ (cs ++ n ∷ [])) more,
       small_push cs n s.allowed.3 small,
       flat_map_more base128 (base128 (40 * a + b)) cs n,
     )
 
 -- by these, the test of contents is exact
-pub ruleset content_tests = (content_steps, goes_on_from_spells)
+pub ruleset content_tests = (content_steps, continues_from_arcs)

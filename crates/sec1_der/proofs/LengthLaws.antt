@@ -1,4 +1,4 @@
--- A length is read back from its spelling, so that no spelling of a length begins another.
+-- A length is read back from its encoding, so that no encoding of a length is a prefix of another.
 use Rattle.std.proofs.Common.{⊎_elim, ◌≡◌, ℕ, ◌+◌, ◌<◌, ◌≤◌, List, [], ◌∷◌, ◌++◌, length, take, ◌-◌}
 use Rattle.std.proofs.Common.{refl, ap, sym, ◌∙◌, arith, le-ltb, lt-ltb, take_at}
 use Rattle.std.proofs.lemmas.Int.Digits.{number_digits_of}
@@ -28,9 +28,9 @@ pub len_long : (n : ℕ) (digits : List ℕ) → 128 ≤ n → digits_of 256 n �
 unfolding length_octets
 len_long n digits large e = rw (le-ltb n 128 large, e) refl
 
--- what a length spells is its number
-pub number_spelled : (n : ℕ) (rest : List ℕ) → number_at (length_octets n ++ rest) ≡ n
-number_spelled n rest = ⊎_elim
+-- what a length encodes is its number
+pub number_at_octets : (n : ℕ) (rest : List ℕ) → number_at (length_octets n ++ rest) ≡ n
+number_at_octets n rest = ⊎_elim
     (λ small. rw (len_1 n small, lt-ltb n 128 small) refl)
     (λ large. let digits = digits_of 256 n in
     let k = 128 + length digits in
@@ -42,9 +42,9 @@ number_spelled n rest = ⊎_elim
     ) refl)
     (cases_lt n 128)
 
--- no spelling of a length begins another
+-- no encoding of a length is a prefix of another
 pub len_apart : (m n : ℕ) (r s : List ℕ) → length_octets m ++ r ≡ length_octets n ++ s
     → (m ≡ n) × (r ≡ s)
 len_apart m n r s e =
-    let same : m ≡ n = sym (number_spelled m r) ∙ (ap number_at e ∙ number_spelled n s) in
+    let same : m ≡ n = sym (number_at_octets m r) ∙ (ap number_at e ∙ number_at_octets n s) in
     (same, append_cancel_left (length_octets n) r s (rw same at e))

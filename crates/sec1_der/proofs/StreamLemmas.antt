@@ -19,7 +19,7 @@ use Rattle.sec1_der.specs.ReadsDocument.{RefusesContent, ConsumesElement}
 use Rattle.sec1_der.specs.Streams.{ReadsOnto}
 use Rattle.sec1_der.specs.Faults.{no_fault, end_fault, document_fault}
 use Rattle.sec1_der.proofs.HeaderLemmas.{longer, header_front}
-use Rattle.sec1_der.proofs.ElementFaultLemmas.{document_element, any_headless, any_short}
+use Rattle.sec1_der.proofs.ElementFaultLemmas.{document_element, any_without_header, any_short}
 use Rattle.sec1_der.proofs.FaultLaws.{any_at}
 use Rattle.sec1_der.proofs.ElementLaws.{tag_from_test}
 
@@ -125,7 +125,7 @@ cut_content tag n content is few =
 whole_element : (tag n : ℕ) (content : List ℕ) → IsHeader tag n → length content ≡ n
     → IsElement (header tag n ++ content)
 whole_element tag n content is count =
-    record { tag = tag; content = content; is_header = rw count is; spelled = rw count refl }
+    record { tag = tag; content = content; is_header = rw count is; encoded = rw count refl }
 
 -- an element is refused by what was taken after its header
 refused_after : (kind : ErrorKind) (old mid new : Option (List ℕ)) (tag n : ℕ) (taken : List ℕ)
@@ -200,7 +200,7 @@ taken_fault : (kind : ErrorKind) (bytes more : List ℕ) → (kind ≡ Truncated
 taken_fault Io bytes more end taken = inl (inl refl)
 taken_fault Memory bytes more end taken = inl (inr refl)
 taken_fault Truncated bytes more end (inl lacks) = rw (end refl, append-nil bytes)
-    (inr (λ small. any_headless (λ _. no_fault) end_fault bytes small lacks.none
+    (inr (λ small. any_without_header (λ _. no_fault) end_fault bytes small lacks.none
     ∙ ap (λ kind. Some kind) lacks.fault_is))
 taken_fault Truncated bytes more end (inr cut) = rw (end refl, append-nil bytes)
     (inr (λ small. any_short (λ _. no_fault) end_fault cut.tag cut.announced bytes cut.content cut.is_header
@@ -209,7 +209,7 @@ taken_fault Tag bytes more end bad =
     inr (rw bad.alone (λ small.
     rw (false_from_ne_true (is_tag bad.byte) (λ e. bad.bad (tag_from_test bad.byte (small (omega arith)) e))) refl))
 taken_fault Length bytes more end bad = inr (λ small.
-    any_headless (λ _. no_fault) end_fault (bytes ++ more) small (λ tag n rest is e. ⊎_elim
+    any_without_header (λ _. no_fault) end_fault (bytes ++ more) small (λ tag n rest is e. ⊎_elim
     (λ longer. bad.bad.none tag n longer.after is longer.front)
     (λ cut. cc (cut, bad.bad.fault_is))
     (header_front tag n bytes more rest is e))
@@ -217,7 +217,7 @@ taken_fault Length bytes more end bad = inr (λ small.
 taken_fault TrailingData bytes more end longer = inr (λ small.
     let whole = longer.is_element in
     any_at (λ _. no_fault) end_fault whole.tag whole.content (bytes ++ more) (longer.byte ∷ more) whole.is_header
-    (rw (longer.joined, append_assoc longer.front (longer.byte ∷ []) more, whole.spelled) refl))
+    (rw (longer.joined, append_assoc longer.front (longer.byte ∷ []) more, whole.encoded) refl))
 taken_fault kind bytes more end taken = absurd taken
 
 -- what is read isn't refused
@@ -248,7 +248,7 @@ pub refused_none : (kind : ErrorKind) (old new : Option (List ℕ)) → RefusesE
     → IsIoOrMemory kind ⊎ IfSome old (λ left. ¬ (IsElement left))
 refused_none kind old new r =
     refused_fault kind _ old new r
-    (λ left fault is. cc (document_element left is, fault (λ _. rw is.spelled is.is_header.tag_byte.byte)))
+    (λ left fault is. cc (document_element left is, fault (λ _. rw is.encoded is.is_header.tag_byte.byte)))
 
 -- by these, an element from a stream is refused by the kind that its bytes have
 pub ruleset element_faults = (refused_kind, refused_none, read_fault)

@@ -25,7 +25,7 @@ same_values : (tag : ℕ) {A : Type 0} (content : A → Option (List ℕ)) → I
 same_values tag content one a b x y r s e f same =
     let p = element_of-some tag (content a) x e in
     let q = element_of-some tag (content b) y f in
-    let is = element_apart tag tag p.inside q.inside r s (cc (p.at.spelled, q.at.spelled, same)) in
+    let is = element_apart tag tag p.inside q.inside r s (cc (p.at.encoded, q.at.encoded, same)) in
     (one a b p.inside p.same (rw is.1 q.same), is.2)
 
 -- elements of one tag are apart
@@ -95,4 +95,4 @@ unique_parts tags bytes one apart a b whole e f = (one a b whole whole [] [] apa
 -- two lists of arcs with one content are the same
 pub unique_identifier : IsUnique identifier_content
 unique_identifier a b bytes e f =
-    same_arcs a b bytes (identifier_content-some a bytes e).spells (identifier_content-some b bytes f).spells
+    same_arcs a b bytes (identifier_content-some a bytes e).encodes (identifier_content-some b bytes f).encodes

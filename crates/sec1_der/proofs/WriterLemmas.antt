@@ -76,11 +76,11 @@ inside_element tag content bytes is = rw (is.same, le-leb (length is.inside) max
 abbrev pub Found : ℕ → ℕ → Header → Type 0
 Found tag n found = let result : Result Header Error = Ok found in result ≡ Ok (record { tag = tag; length = n })
 
-spelled_by : (tag : ℕ) (found : Header) (bytes inside : List ℕ) → Found tag (length inside) found
+encoded_by : (tag : ℕ) (found : Header) (bytes inside : List ℕ) → Found tag (length inside) found
     → bytes ≡ header tag (length inside) ++ inside → bytes ≡ header found.tag found.length ++ inside
-spelled_by tag found bytes inside same spelled =
+encoded_by tag found bytes inside same encoded =
     let is : found ≡ record { tag = tag; length = length inside } = cc same in
-    rw is spelled
+    rw is encoded
 
 -- a header that is written where its element has room
 pub header_written : (tag total : ℕ) (found : Header) (content : Option (List ℕ)) (old between : SliceWriter)
@@ -97,10 +97,10 @@ header_written tag total found content old between first measured room same p =
     by (Some bytes) e h =
         let is = element_of-some tag content bytes e in
         let same_length = same is.inside (inside_element tag content bytes is) in
-        let spelled : bytes ≡ header found.tag found.length ++ is.inside =
-        spelled_by tag found bytes is.inside same_length is.at.spelled in
+        let encoded : bytes ≡ header found.tag found.length ++ is.inside =
+        encoded_by tag found bytes is.inside same_length is.at.encoded in
         (p.fits (header found.tag found.length) refl
-        (omega (arith, ap length spelled, length-append (header found.tag found.length) is.inside, h, room))).0
+        (omega (arith, ap length encoded, length-append (header found.tag found.length) is.inside, h, room))).0
 
 -- an element whose header and content are written
 pub element_written : (tag total : ℕ) (found : Header) (content : Option (List ℕ)) (old between new : SliceWriter)
@@ -120,10 +120,10 @@ element_written tag total found content old between new first second measured ro
         let is = element_of-some tag content bytes e in
         let held = inside_element tag content bytes is in
         let same_length = same is.inside held in
-        let spelled : bytes ≡ header found.tag found.length ++ is.inside =
-        spelled_by tag found bytes is.inside same_length is.at.spelled in
-        rw spelled (both_written old between new (header found.tag found.length) is.inside first second
-        (omega (arith, ap length spelled, length-append (header found.tag found.length) is.inside, h, room))
+        let encoded : bytes ≡ header found.tag found.length ++ is.inside =
+        encoded_by tag found bytes is.inside same_length is.at.encoded in
+        rw encoded (both_written old between new (header found.tag found.length) is.inside first second
+        (omega (arith, ap length encoded, length-append (header found.tag found.length) is.inside, h, room))
         p (rw held at q))
 
 -- the errors of a writer
@@ -154,13 +154,13 @@ element_put tag content old between new first second written_tag since is_tag is
           let first_bytes = header tag (length is.inside) in
           let count = length-append first_bytes is.inside in
           let behind = p.fits is.inside (inside_element tag content whole is)
-          (omega (arith, ap length is.at.spelled, count, room)) in
+          (omega (arith, ap length is.at.encoded, count, room)) in
           let since_then : length (end_of between) - since ≡ length is.inside =
           omega (arith, is_old, ap length behind.1.written, length-append is.inside (end_of old)) in
           let over = rw since_then at any in
           let front = over.fits first_bytes (rw (le-leb (length is.inside) max_length is.at.within) refl)
-          (omega (arith, ap length is.at.spelled, count, room, behind.1.front)) in
-          (front.0, rw is.at.spelled (puts_both old between new is.inside first_bytes behind.1 front.1));
+          (omega (arith, ap length is.at.encoded, count, room, behind.1.front)) in
+          (front.0, rw is.at.encoded (puts_both old between new is.inside first_bytes behind.1 front.1));
       kinds = writing_kinds _ between new second any;
     }
 

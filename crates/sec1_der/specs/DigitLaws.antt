@@ -1,4 +1,4 @@
--- Digits of a number, and the number that digits spell. Further crates cite these laws.
+-- Digits of a number, and the number that digits encode. Further crates cite these laws.
 use Rattle.std.proofs.Common.{◌≡◌, ℕ, suc, ◌+◌, ◌*◌, ◌/◌, ◌%◌, ◌<◌, ◌≤◌, List, [], ◌∷◌, ◌++◌}
 use Rattle.std.proofs.Common.{get_or, arith, take, sym}
 use Rattle.std.proofs.lemmas.List.{append_assoc, append-nil, map-append, get_or-take, get_or_past}

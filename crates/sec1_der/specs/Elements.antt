@@ -50,14 +50,14 @@ element tag content = header tag (length content) ++ content
 -- the bytes are those of the element with this tag and content, and no more
 pub record IsElementOf (tag : ℕ) (content bytes : List ℕ) : Type 0 where
   pub within : length content ≤ max_length
-  pub spelled : bytes ≡ element tag content
+  pub encoded : bytes ≡ element tag content
 
 -- the bytes are those of an element, and no more
 pub record IsElement (bytes : List ℕ) : Type 0 where
   pub tag : ℕ
   pub content : List ℕ
   pub is_header : IsHeader tag (length content)
-  pub spelled : bytes ≡ element tag content
+  pub encoded : bytes ≡ element tag content
 
 -- the bytes don't begin with a header
 abbrev pub LacksHeader : List ℕ → Type 0

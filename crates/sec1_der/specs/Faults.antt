@@ -42,9 +42,9 @@ number_at (first ∷ digits) =
 abbrev pub length_at : List ℕ → Result (ℕ × List ℕ) ErrorKind
 length_at bytes =
     let n = number_at bytes in
-    let spelled = length_octets n in
-    if nat_le n max_length && bytes_eq (take (length spelled) bytes) spelled
-    then Ok (n, drop (length spelled) bytes) else Err (length_fault bytes)
+    let encoded = length_octets n in
+    if nat_le n max_length && bytes_eq (take (length encoded) bytes) encoded
+    then Ok (n, drop (length encoded) bytes) else Err (length_fault bytes)
 
 -- X.690 section 8.1.4: as many bytes as the length says, and the bytes after them
 abbrev pub within : Result (ℕ × List ℕ) ErrorKind → Result (List ℕ × List ℕ) ErrorKind

@@ -45,13 +45,13 @@ pub is_identifier-true : (arcs : List ℕ) → is_identifier arcs ≡ true
     → IsIdentifier arcs (content_of arcs)
 is_identifier-true arcs e =
     let h = (is_identifier-decides arcs).0 e in
-    record { spells = record { allowed = h.0; spelled = refl }; short = h.1 }
+    record { encodes = record { allowed = h.0; encoded = refl }; short = h.1 }
 
 -- the test succeeds for the arcs of an identifier
 pub is_identifier-valid : (arcs content : List ℕ) → IsIdentifier arcs content
     → is_identifier arcs ≡ true
 is_identifier-valid arcs content h =
-    (is_identifier-decides arcs).1 (h.spells.allowed, rw (← h.spells.spelled) h.short)
+    (is_identifier-decides arcs).1 (h.encodes.allowed, rw (← h.encodes.encoded) h.short)
 
 chosen : (b : Bool) (v c : List ℕ) → (if b then Some v else None) ≡ Some c → (b ≡ true) × (v ≡ c)
 chosen true v c e = (refl, cc)
@@ -68,4 +68,4 @@ identifier_content-some arcs content e =
 pub identifier_content-valid : (arcs content : List ℕ) → IsIdentifier arcs content
     → identifier_content arcs ≡ Some content
 identifier_content-valid arcs content h =
-    rw (is_identifier-valid arcs content h, ← h.spells.spelled) refl
+    rw (is_identifier-valid arcs content h, ← h.encodes.encoded) refl

@@ -1,4 +1,4 @@
--- Object identifiers: their arcs, the content that spells them, and their dotted text.
+-- Object identifiers: their arcs, the content that encodes them, and their dotted text.
 use Rattle.std.specs.Prelude.{◌≡◌, ℕ, ◌+◌, ◌*◌, ◌^◌, ◌<◌, ◌≤◌, Bool, false, ◌&&◌, ◌||◌, nat_lt}
 use Rattle.std.specs.Prelude.{nat_le, List, [], ◌∷◌, length, map, Option, Some, None, if◌then◌else◌}
 use Rattle.std.specs.List.{AllByRecursion, list_all, flat_map, join_with_byte}
@@ -25,9 +25,9 @@ abbrev pub content_of : List ℕ → List ℕ
 content_of arcs = flat_map base128 (subidentifiers arcs)
 
 -- the bytes are the encoding of these arcs, of any length
-pub record Spells (arcs content : List ℕ) : Type 0 where
+pub record EncodesArcs (arcs content : List ℕ) : Type 0 where
   pub allowed : AreArcs arcs
-  pub spelled : content ≡ content_of arcs
+  pub encoded : content ≡ content_of arcs
 
 -- the greatest length of the content of an identifier in bytes
 abbrev pub max_identifier_length : ℕ
@@ -35,7 +35,7 @@ max_identifier_length = 39
 
 -- the bytes are the content of the identifier with these arcs, and not too many
 pub record IsIdentifier (arcs content : List ℕ) : Type 0 where
-  pub spells : Spells arcs content
+  pub encodes : EncodesArcs arcs content
   pub short : length content ≤ max_identifier_length
 
 -- the bytes are the content of some identifier

@@ -1,4 +1,4 @@
--- Whole numbers and the digits that spell them, the most significant first.
+-- Whole numbers and the digits that encode them, the most significant first.
 use Rattle.std.specs.Prelude.{ℕ, ◌+◌, ◌/◌, ◌%◌, List, [], ◌∷◌, ◌++◌, map}
 use Rattle.std.specs.Int.Digits.{digits_of, number_from_digits}
 

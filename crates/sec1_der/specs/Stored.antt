@@ -23,7 +23,7 @@ store arcs = record { bytes = padded (content_of arcs); len = length (content_of
 pub store_arcs_stored : (o : Inside) → IsStored o → store (arcs_stored o) ≡ o
 store_arcs_stored o h =
     let content : content_of (arcs_stored o)
-    ≡ take o.len o.bytes = sym h.identifier.spells.spelled in
+    ≡ take o.len o.bytes = sym h.identifier.encodes.encoded in
     let bytes : padded (content_of (arcs_stored o)) ≡ o.bytes = ap padded content ∙ sym h.zeros in
     let len : length (content_of (arcs_stored o)) ≡ o.len = ap length content ∙ h.length_kept in
     let with_bytes : List ℕ

@@ -87,7 +87,7 @@ impl Header {
     }
 
     /// Returns the bytes of the header, followed by zeros, and their number.
-    #[tactic(auto, using(crate::proofs::LengthLemmas::spellings))]
+    #[tactic(auto, using(crate::proofs::LengthLemmas::length_forms))]
     pub(crate) fn octets(&self) -> ([u8; 6], usize)
         ensures bytes { take result.1 result.0 ≡ header self.now.tag self.now.length }
         ensures count { result.1 ≡ length (header self.now.tag self.now.length) }

@@ -6,7 +6,8 @@ ghost use Rattle.sec1_der.specs.DebugTexts.{identifier_text};
 ghost use Rattle.sec1_der.specs.ArcsOf.{padded, arcs_of_numbers};
 ghost use Rattle.sec1_der.specs.Contents.{identifier_fault};
 ghost use Rattle.sec1_der.specs.IdentifierLaws.{identifier_content-some};
-ghost use Rattle.sec1_der.specs.Identifiers.{IsIdentifier, IsIdentifierContent, Spells, content_of};
+ghost use Rattle.sec1_der.specs.Identifiers.{IsIdentifier, IsIdentifierContent};
+ghost use Rattle.sec1_der.specs.Identifiers.{EncodesArcs, content_of};
 ghost use Rattle.sec1_der.specs.Identifiers.{dotted, identifier_content};
 ghost use Rattle.sec1_der.specs.Stored.{arcs_stored, IsStored, store, store_arcs_stored};
 
@@ -146,7 +147,7 @@ pub(crate) fn is_identifier(content: &[u8]) -> bool
 /// 8.19.2).
 #[tactic(auto, using(std::proofs::lemmas::Bool::Decides::nat_tests))]
 fn is_content(content: &[u8]) -> bool
-    ensures { IsTrue result ↔ ((arcs : List ℕ) × Spells arcs content.now) }
+    ensures { IsTrue result ↔ ((arcs : List ℕ) × EncodesArcs arcs content.now) }
 {
     if content.is_empty() {
         return false;

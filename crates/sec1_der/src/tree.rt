@@ -39,7 +39,7 @@ pub fn check_tree(input: &[u8]) -> Result<usize>
     ensures deeper { (t : Tree) → IsTreeOf t input.now → max_tree_depth < depth t
         → Refuses result ErrorKind.Depth }
 
-    // The bytes end inside those of a tree of any depth, or go on behind those of a tree.
+    // The bytes end inside those of a tree of any depth, or continue behind those of a tree.
     ensures short { (t : Tree) → IsTree t → IsProperPrefix input.now (bytes t)
         → Refuses result ErrorKind.Truncated }
     ensures long { (t : Tree) → IsTree t → depth t ≤ max_tree_depth

@@ -170,29 +170,29 @@ fn refuses_other_records(rt: HostRuntime) {
 
 /// Bytes that are borrowed.
 #[derive(Drop)]
-struct Lent<'a> {
+struct Borrowed<'a> {
     octets: &'a [u8],
     bits: Option<&'a [u8]>,
     public_key: Option<&'a [u8]>,
     field: Option<&'a [u8]>,
 }
 
-impl<'a> Model for Lent<'a> {
+impl<'a> Model for Borrowed<'a> {
     ghost Value = { List ℕ × (Option (List ℕ) × (Option (List ℕ) × Option (List ℕ))) };
 
-    ghost view = { λ lent. (
-      lent.octets.now,
+    ghost view = { λ borrowed. (
+      borrowed.octets.now,
       (
-        option_map (λ bytes. bytes.now) lent.bits,
+        option_map (λ bytes. bytes.now) borrowed.bits,
         (
-          option_map (λ bytes. bytes.now) lent.public_key,
-          option_map (λ bytes. bytes.now) lent.field,
+          option_map (λ bytes. bytes.now) borrowed.public_key,
+          option_map (λ bytes. bytes.now) borrowed.field,
         ),
       ),
     ) };
 }
 
-impl<'a> Record for Lent<'a> {
+impl<'a> Record for Borrowed<'a> {
     type Parts = (
         Required<Octets<'a>>,
         (
@@ -204,13 +204,13 @@ impl<'a> Record for Lent<'a> {
         ),
     );
 
-    ghost parts = { λ lent. lent };
+    ghost parts = { λ borrowed. borrowed };
 
     ghost of_parts = { λ row. row };
 
     fn from_parts(row: Self::Parts) -> Self {
         let (Required(octets), (Optional(bits), (Optional(public_key), Optional(field)))) = row;
-        Lent {
+        Borrowed {
             octets: octets.bytes,
             bits: match bits {
                 Some(bits) => Some(bits.bytes),
@@ -250,30 +250,32 @@ impl<'a> Record for Lent<'a> {
     ghost same = { λ _. refl };
 }
 
-impl Distinct for Lent<'_> {
+impl Distinct for Borrowed<'_> {
     ghost apart = { refl };
 }
 
-/// A [`Lent`] with all parts.
-static LENT: [u8; 20] = [
+/// A [`Borrowed`] with all parts.
+static BORROWED: [u8; 20] = [
     0x30, 0x12, 0x04, 0x02, 0xAA, 0xBB, 0x03, 0x02, 0x00, 0xCC, 0xA1, 0x04, 0x03, 0x02, 0x00, 0xDD,
     0xA3, 0x02, 0x04, 0x00,
 ];
 
 #[test]
 fn reads_and_writes_borrowed_parts(rt: HostRuntime) -> Result<(), Fail> {
-    let lent: Lent = read_der(&LENT)?;
-    assert_eq!(rt; lent.octets, b"\xAA\xBB".as_slice());
-    assert_eq!(rt; lent.bits, Some(b"\xCC".as_slice()));
-    assert_eq!(rt; lent.public_key, Some(b"\xDD".as_slice()));
-    assert_eq!(rt; lent.field, Some(b"".as_slice()));
+    let borrowed: Borrowed = read_der(&BORROWED)?;
+    assert_eq!(rt; borrowed.octets, b"\xAA\xBB".as_slice());
+    assert_eq!(rt; borrowed.bits, Some(b"\xCC".as_slice()));
+    assert_eq!(rt; borrowed.public_key, Some(b"\xDD".as_slice()));
+    assert_eq!(rt; borrowed.field, Some(b"".as_slice()));
     let mut room = [0; 20];
-    assert_eq!(rt; encode_to_slice(&lent, &mut room)?, 20);
-    assert_eq!(rt; room, LENT);
+    assert_eq!(rt; encode_to_slice(&borrowed, &mut room)?, 20);
+    assert_eq!(rt; room, BORROWED);
     let bytes = [0x30, 0x02, 0x04, 0x00];
-    let lent: Lent = read_der(&bytes)?;
-    assert!(rt; lent.bits.is_none() && lent.public_key.is_none() && lent.field.is_none());
-    assert_eq!(rt; to_der(rt.alloc(), &lent)?.as_slice(), bytes.as_slice());
+    let borrowed: Borrowed = read_der(&bytes)?;
+    assert!(rt;
+        borrowed.bits.is_none() && borrowed.public_key.is_none() && borrowed.field.is_none()
+    );
+    assert_eq!(rt; to_der(rt.alloc(), &borrowed)?.as_slice(), bytes.as_slice());
     Ok(())
 }
 
@@ -297,7 +299,7 @@ static UNUSED_BITS: [(&[u8], ErrorKind); 4] = [
 #[test]
 fn refuses_unused_bits(rt: HostRuntime) {
     for &(bytes, kind) in UNUSED_BITS.iter() {
-        match from_der::<Lent>(bytes) {
+        match from_der::<Borrowed>(bytes) {
             Ok(_) => assert!(rt; false, "of {bytes:?}"),
             Err(e) => assert_eq!(rt; e.kind, kind, "of {bytes:?}"),
         }

@@ -142,12 +142,12 @@ fn read_digits(text: &[u8], bytes: &mut [u8]) -> bool
         → IsTrue result × (bytes.new ≡ known) }
 {
     hex::decode_to_slice(text, bytes).is_ok()
-        && (is_spelled(text, bytes, 0) || is_spelled(text, bytes, 1))
+        && (is_text_of(text, bytes, 0) || is_text_of(text, bytes, 1))
 }
 
 /// Returns `true` if the text is that of these bytes, with the letters of this case.
 #[tactic(auto, unfolding(hex::specs::Hex::encode_with))]
-fn is_spelled(text: &[u8], bytes: &[u8], lower_case: usize) -> bool
+fn is_text_of(text: &[u8], bytes: &[u8], lower_case: usize) -> bool
     ensures { IsTrue result ↔ (text.now ≡ hex_text lower_case bytes.now) }
 {
     let Some((byte, others)) = bytes.split_first() else {
@@ -159,5 +159,5 @@ fn is_spelled(text: &[u8], bytes: &[u8], lower_case: usize) -> bool
     let (pair, rest) = text.split_at(2);
     pair[0] == digit(*byte / 16, lower_case)
         && pair[1] == digit(*byte % 16, lower_case)
-        && is_spelled(rest, others, lower_case)
+        && is_text_of(rest, others, lower_case)
 }

@@ -1,5 +1,5 @@
 use Rattle.std.proofs.Common.{arith}
-use Rattle.der_types.proofs.RowLemmas.{row_goes_on, row_refused, row_ends, values_read, value_there, values_end}
+use Rattle.der_types.proofs.RowLemmas.{row_continues, row_refused, row_ends, values_read, value_there, values_end}
 use Rattle.der_types.proofs.sequence_of.check_elements.Goals as goal
 
 pub returns-in_err-_value-clause-kind : goal.returns-in_err-_value-clause-kind
@@ -13,7 +13,7 @@ pub loop-elements-preserved : goal.loop-elements-preserved
 loop-elements-preserved g c =
     let at = c.loop-elements.invariant.rest in
     record {
-      rest = row_goes_on _ _ _ _ _ _ _ at (omega (arith, c.loop-elements-test.true, c.remaining_len.ensures))
+      rest = row_continues _ _ _ _ _ _ _ at (omega (arith, c.loop-elements-test.true, c.remaining_len.ensures))
           c.in_ok-_value.ensures.found (c.in_ok-_value.ensures.refused.kind at.whole);
       values = values_read _ _ _ _ _ _ _ c.loop-elements.invariant.values
           (omega (arith, c.loop-elements-test.true, c.remaining_len.ensures)) at.whole

@@ -1,6 +1,6 @@
 use Rattle.std.proofs.Common.{◌<◌, length, arith, ap, sym, ◌∙◌}
 use Rattle.sec1_der.specs.Readers.{Reader}
-use Rattle.der_types.proofs.SetLemmas.{next_read, set_goes_on, set_falls, set_stops, set_ends, not_above}
+use Rattle.der_types.proofs.SetLemmas.{next_read, set_continues, set_falls, set_stops, set_ends, not_above}
 use Rattle.der_types.proofs.set_of.is_ascending.Goals as goal
 
 pub returns-in_default : goal.returns-in_default
@@ -28,7 +28,7 @@ loop-elements-preserved c =
     let this = c.read_since-element.ensures _ (c.remaining_input-input.ensures ∙ whole) in
     let above = not_above c.loop-elements.last.now c.read_since-element.result.now _ c.if-gt.ensures in
     let next = next_read _ _ _ _ _ found this in
-    record { rest = set_goes_on _ _ _ _ _ _ _ c.loop-elements.invariant.rest some next above }
+    record { rest = set_continues _ _ _ _ _ _ _ c.loop-elements.invariant.rest some next above }
 
 pub returns : goal.returns
 returns c =

@@ -14,4 +14,4 @@ returns-else-status-eq-OK-clause-no_point c info curve is on lacks =
     let found : c.in-Some.curve ≡ curve = cc (c.in-Some.ensures.only curve (rw same on)) in
     let fits = field_fits c.in-Some.curve in
     c.status_of-status.ensures.no_point (rw c.field_len.ensures fits)
-    (λ is. lacks is.of (grind (arith, is.fits), grind arith, grind (arith, is.spelled)))
+    (λ is. lacks is.of (grind (arith, is.fits), grind arith, grind (arith, is.encoded)))

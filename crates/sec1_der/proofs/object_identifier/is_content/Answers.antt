@@ -16,5 +16,5 @@ returns c =
     let decides = is_narrow-decides c.args.content.now (λ i. omega (arith, c.type_inv.content i)) (grind arith) in
     let end = narrow_end c.loop-byte.width c.loop-byte.rest.now in (
       λ is. decides.0 (grind (arith, nat_tests, end)),
-      λ spells. let narrow = decides.1 spells in grind (arith, nat_tests, end),
+      λ encodes. let narrow = decides.1 encodes in grind (arith, nat_tests, end),
     )

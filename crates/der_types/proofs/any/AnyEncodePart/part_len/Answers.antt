@@ -4,5 +4,5 @@ use Rattle.der_types.proofs.any.AnyEncodePart.part_len.Goals as goal
 
 pub returns : goal.returns
 returns c =
-    let is = rw c.self.view_is at (element_from c.self.inside.inside _ c.self.inside.header c.self.inside.spelled) in
+    let is = rw c.self.view_is at (element_from c.self.inside.inside _ c.self.inside.header c.self.inside.encoded) in
     rw (any_there _ is) (search rules)

@@ -1,6 +1,6 @@
 use Rattle.std.proofs.Common.{ℕ, length, drop, replicate, ap, take_at, arith}
 use Rattle.sec1.proofs.EncodedPointLemmas.{read_bytes}
-use Rattle.sec1.proofs.PointLemmas.{encoding_spelled}
+use Rattle.sec1.proofs.PointLemmas.{encoding_of_meaning}
 use Rattle.sec1.proofs.point.EncodedPoint.from_bytes.Goals as goal
 
 pub invariant_of-result-clause-encoded : goal.invariant_of-result-clause-encoded
@@ -10,7 +10,7 @@ invariant_of-result-clause-encoded g c =
     take_at c.copy_from_slice.new.self (drop len (replicate {A = ℕ} g.row.L 0)) len
     (ap length c.copy_from_slice.ensures.after) in
     rw (front, c.copy_from_slice.ensures.after)
-    (encoding_spelled g.row.N c.args.input.now (c.is_encoding.ensures.0 c.if-not-is_encoding.false))
+    (encoding_of_meaning g.row.N c.args.input.now (c.is_encoding.ensures.0 c.if-not-is_encoding.false))
 
 pub returns : goal.returns
 returns g c =

@@ -8,11 +8,11 @@ use Rattle.sec1.proofs.point.EncodedPoint.from_digits.Goals as goal
 pub returns-then-len : goal.returns-then-len
 returns-then-len g c = record {
   found = tt;
-  only = λ p fit _ spelled.
+  only = λ p fit _ encoded.
       let bytes = encoding g.row.N p in
       let room : length c.args.text.now / 2 ≤ g.row.L =
-      omega (arith, fit.1, text_len c.args.text.now bytes spelled, length-enc-le g.row.N p) in
-      grind (arith, IsBytes-enc g.row.N p, spelled);
+      omega (arith, fit.1, text_len c.args.text.now bytes encoded, length-enc-le g.row.N p) in
+      grind (arith, IsBytes-enc g.row.N p, encoded);
   kind = refl;
 }
 
@@ -25,8 +25,8 @@ returns g c =
     let front = take_at c.decode_digits.new.out (drop half buffer) half len in
     record {
       found = search rules;
-      only = λ p fit fits spelled.
+      only = λ p fit fits encoded.
           c.from_bytes.ensures.only p fit fits
-          (front ∙ (c.decode_digits.ensures.only (encoding g.row.N p) (IsBytes-enc g.row.N p) spelled).1);
+          (front ∙ (c.decode_digits.ensures.only (encoding g.row.N p) (IsBytes-enc g.row.N p) encoded).1);
       kind = c.from_bytes.ensures.kind;
     }

@@ -6,14 +6,14 @@ use Rattle.sec1_c.proofs.point.encoded.is_encoding.Goals as goal
 
 pub returns-in_default : goal.returns-in_default
 unfolding encoding
-returns-in_default c = (λ h. absurd cc, λ h. absurd (omega (arith, c.in_default.ensures.cases, ap length h.spelled)))
+returns-in_default c = (λ h. absurd cc, λ h. absurd (omega (arith, c.in_default.ensures.cases, ap length h.encoded)))
 
 pub returns-in_default-from_u8 : goal.returns-in_default-from_u8
 unfolding encoding
 returns-in_default-from_u8 c = (
   λ h. absurd cc,
   λ h. absurd (c.in_default-from_u8.ensures.none (point_tag h.of)
-      (byte_of-tag_of h.of ∙ cc (h.spelled, c.in-Some.ensures.cases.0))),
+      (byte_of-tag_of h.of ∙ cc (h.encoded, c.in-Some.ensures.cases.0))),
 )
 
 pub returns-then-bytes-message_len : goal.returns-then-bytes-message_len
