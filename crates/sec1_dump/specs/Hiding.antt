@@ -1,15 +1,28 @@
--- What the picture of a key doesn't depend on.
-use Rattle.std.specs.Prelude.{ℕ, ◌==◌, if◌then◌else◌, List, [], map, false, true}
+-- What isn't shown of an input, unless all is shown.
+use Rattle.std.specs.Prelude.{◌≡◌, ◌⊎◌, ℕ, ◌==◌, if◌then◌else◌, List, [], ◌++◌, map, false, codes}
+use Rattle.der_faults.specs.Places.{key_place, tree_place}
 use Rattle.der_rows.specs.Rows.{RowView}
+use Rattle.sec1_dump.specs.Forms.{advice}
 use Rattle.sec1_dump.specs.Lines.{AreLines}
-use Rattle.sec1_dump.specs.Picture.{AreRows}
+use Rattle.sec1_dump.specs.Picture.{AreRows, bytes_of, is_faultless, verdict}
+use Rattle.sec1_dump.specs.declared.forms.Form.{Form}
 
 -- a row with no content if it is an OCTET STRING, as the private key is
 abbrev pub without_octets : RowView → RowView
 without_octets row = if row.tag == 0x04 then record row { content = [] } else row
 
--- the text is that of the rows of a key with no content in an OCTET STRING
+-- The text is a picture of the rows with no content in an OCTET STRING. Of the bytes themselves
+-- it has the places where they are refused, which are an offset and a kind each.
 pub record HidesOctets (bytes text : List ℕ) : Type 0 where
   pub rows : List RowView
+  pub lines : List ℕ
   pub are_rows : AreRows bytes rows
-  pub are_lines : AreLines false true (map without_octets rows) text
+  pub are_lines : AreLines false (is_faultless (key_place bytes)) (map without_octets rows) lines
+  pub whole :
+      text ≡ lines ++ verdict (key_place bytes) (tree_place bytes) (map without_octets rows)
+
+-- the same of an input, or one of the texts on inputs that aren't drawn
+abbrev pub HidesOctetsOfInput : List ℕ → List ℕ → Type 0
+HidesOctetsOfInput input text =
+    (text ≡ codes "input too long\n")
+    ⊎ (((form : Form) × (text ≡ advice form)) ⊎ HidesOctets (bytes_of input) text)

@@ -1,5 +1,6 @@
 //! What is printed of an input.
-ghost use Rattle.std.specs.Prelude.{◌≡◌, IfOk, codes, string_bytes};
+ghost use Rattle.std.specs.Prelude.{◌≡◌, false, IfOk, codes, string_bytes};
+ghost use Rattle.sec1_dump.specs.Hiding.{HidesOctetsOfInput};
 ghost use Rattle.sec1_dump.specs.Picture.{IsPictureOfInput, IsRemark, bytes_of, stripped};
 
 use crate::forms::{advice, pem_form};
@@ -13,6 +14,18 @@ pub const LIMIT: usize = 1_048_576;
 /// Returns what is printed of an input: in DER, in hexadecimal or in PEM. Fails only if an
 /// allocation fails.
 pub fn picture_of_input(alloc: Global, all: bool, input: &[u8]) -> Result<Picture, AllocError>
+    ensures picture { IfOk result (λ picture.
+        IsPictureOfInput all input.now (string_bytes picture.text) picture.status) }
+    // Where not all is shown, no byte of an OCTET STRING is, whatever the input is.
+    ensures hidden { all ≡ false → IfOk result
+        (λ picture. HidesOctetsOfInput input.now (string_bytes picture.text)) }
+{
+    // A function of its own: the second clause follows from the first.
+    draw_input(alloc, all, input)
+}
+
+/// Draws an input, or says why not. Fails only if an allocation fails.
+fn draw_input(alloc: Global, all: bool, input: &[u8]) -> Result<Picture, AllocError>
     ensures { IfOk result (λ picture.
         IsPictureOfInput all input.now (string_bytes picture.text) picture.status) }
 {

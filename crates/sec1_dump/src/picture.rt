@@ -1,8 +1,7 @@
 //! The picture of bytes.
-ghost use Rattle.std.specs.Prelude.{◌≡◌, false, IfOk, codes, map, string_bytes};
+ghost use Rattle.std.specs.Prelude.{◌≡◌, IfOk, codes, map, string_bytes};
 ghost use Rattle.der_faults.specs.Places.{key_place, tree_place};
 ghost use Rattle.der_rows.specs.Rows.{row_view};
-ghost use Rattle.sec1_dump.specs.Hiding.{HidesOctets};
 ghost use Rattle.sec1_dump.specs.Picture.{AreRows, IsPicture, advice_of, fault_line, kind_words};
 ghost use Rattle.sec1_dump.specs.Picture.{verdict};
 
@@ -96,18 +95,6 @@ fn verdict(
 
 /// Returns the picture of bytes. Fails only if an allocation fails.
 pub(crate) fn draw(alloc: Global, all: bool, bytes: &[u8]) -> Result<Picture, AllocError>
-    ensures picture { IfOk result
-        (λ picture. IsPicture all bytes.now (string_bytes picture.text) picture.status) }
-    // Where not all is shown, the picture of a key doesn't depend on the private key's bytes.
-    ensures hidden { all ≡ false → IfOk result (λ picture. picture.status ≡ 0
-        → HidesOctets bytes.now (string_bytes picture.text)) }
-{
-    // A function of its own: the second clause follows from the first.
-    put_together(alloc, all, bytes)
-}
-
-/// Puts the lines and the verdict together. Fails only if an allocation fails.
-fn put_together(alloc: Global, all: bool, bytes: &[u8]) -> Result<Picture, AllocError>
     ensures { IfOk result
         (λ picture. IsPicture all bytes.now (string_bytes picture.text) picture.status) }
 {
