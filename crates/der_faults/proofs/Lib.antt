@@ -2,3 +2,4 @@ pub mod PlaceLemmas
 pub mod KindLemmas
 pub mod RowLemmas
 pub mod WithinLemmas
+pub mod PartLemmas

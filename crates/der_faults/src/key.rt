@@ -48,7 +48,7 @@ fn components(end: usize, bytes: &[u8]) -> Step<()>
 }
 
 /// Checks the parameters, if present, and returns the bytes behind them.
-fn parameters(end: usize, bytes: &[u8]) -> Step<&[u8]>
+pub(crate) fn parameters(end: usize, bytes: &[u8]) -> Step<&[u8]>
     requires { length bytes.now ≤ end }
     ensures place { MatchResult result
         (λ rest. (behind : Place)
@@ -70,7 +70,7 @@ fn parameters(end: usize, bytes: &[u8]) -> Step<&[u8]>
 }
 
 /// Checks the public key, if present, and returns the bytes behind it.
-fn public_key(end: usize, bytes: &[u8]) -> Step<&[u8]>
+pub(crate) fn public_key(end: usize, bytes: &[u8]) -> Step<&[u8]>
     requires { length bytes.now ≤ end }
     ensures place { MatchResult result
         (λ rest. (behind : Place)

@@ -4,11 +4,13 @@
 
 mod element;
 mod key;
+mod part;
 #[cfg(test)]
 mod tests;
 mod tree;
 
 pub use key::key_fault;
+pub use part::{KeyPart, key_part};
 use sec1_der::ErrorKind;
 pub use tree::tree_fault;
 
