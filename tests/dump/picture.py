@@ -27,7 +27,7 @@ CURVES |= {
     for n, bits in enumerate(BRAINPOOL) for t in (1, 2)
 }
 WORDS = {
-    "Truncated": "the bytes, or the element around it, end too early",
+    "Truncated": "the input or an element around ends too early",
     "Tag": "another tag than can be here",
     "Length": "no length of DER",
     "TrailingData": "more bytes than can be here",
@@ -166,29 +166,48 @@ def check_bits(data, at, end):
         raise Fault(start, "Value")
 
 
-def check_key(data):
-    """Raises the first fault of bytes that aren't those of a key."""
+def parts_of_key(data):
+    """Reads a key, and yields what it has in each part before the part is read."""
+    yield "a SEQUENCE (30) around its fields"
     at, end = tagged(data, 0x30, 0, len(data))
+    yield "the version, INTEGER 1 (02 01 01)"
     start, stop = tagged(data, 2, at, end)
     if data[start:stop] != b"\1":
         raise Fault(start, "Value")
+    yield "the private key, an OCTET STRING (04)"
     at = tagged(data, 4, stop, end)[1]
+    yield "[0] (A0) with an OBJECT IDENTIFIER (06), that of its curve"
     if at < end and data[at] == 0xA0:
         inside, at = tagged(data, 0xA0, at, end)
         start, stop = tagged(data, 6, inside, at)
         if arcs(data[start:stop]) is None:
             raise Fault(start, "Value")
         finish(stop, at)
+    yield "[1] (A1) with a BIT STRING (03), the public key, of whole bytes"
     if at < end and data[at] == 0xA1:
         inside, at = tagged(data, 0xA1, at, end)
         check_bits(data, inside, at)
+    yield "at most [0] (A0), and then [1] (A1), after the private key"
     finish(at, end)
+    yield "nothing, after its SEQUENCE"
     finish(end, len(data))
 
 
-def fault_of(check, data):
+def key_fault(data):
+    """Returns the first fault of bytes that aren't those of a key, and what a key has there."""
+    part = None
     try:
-        check(data)
+        for part in parts_of_key(data):
+            pass
+    except Fault as fault:
+        return fault.args, part
+    return None, None
+
+
+def tree_fault(data):
+    """Returns the first fault of bytes that aren't those of one tree."""
+    try:
+        check_tree(data)
     except Fault as fault:
         return fault.args
     return None
@@ -293,14 +312,14 @@ def picture(given, whole=False):
     data = given
     if len(digits) % 2 == 0 and all(chr(byte) in string.hexdigits for byte in digits):
         data = bytes.fromhex(digits.decode())
-    key, tree, rows = fault_of(check_key, data), fault_of(check_tree, data), rows_of(data)
+    (key, part), tree, rows = key_fault(data), tree_fault(data), rows_of(data)
     text = "".join(line(data, row, key is None, whole) for row in rows)
     if key is None:
         return text, 0
     for words, fault in (("no tree of DER", tree), ("no EC private key", key)):
         if fault is not None:
             text += f"{words} at offset {fault[0]}: {WORDS[fault[1]]}\n"
-    return text + advice(data, rows), 1
+    return text + f"a key has here: {part}\n" + advice(data, rows), 1
 
 
 if __name__ == "__main__":

@@ -4,6 +4,8 @@ use Rattle.std.proofs.Common.{Option, Some, None, eq-eqb, ne_eqb, ⊎_elim, arit
 use Rattle.std.proofs.Math.Bool.{and-false}
 use Rattle.std.proofs.lemmas.Bool.{cases_eq}
 use Rattle.der_faults.specs.declared.Fault.{Fault}
+use Rattle.der_faults.specs.declared.part.KeyPart.{KeyPart}
+use Rattle.der_faults.specs.KeyParts.{key_part}
 use Rattle.der_faults.specs.Places.{key_place, tree_place}
 use Rattle.der_rows.specs.Rows.{RowView}
 use Rattle.sec1_dump.specs.Forms.{advice, ec_public_key, explicit_form, form_of, has, inner_form, is_at, pbes2}
@@ -89,10 +91,10 @@ form_hidden (root ∷ (second ∷ [])) = refl
 form_hidden (root ∷ (second ∷ (third ∷ rows))) =
     rw (at_hidden 0 0x30 root, inner_hidden second third rows) refl
 
-verdict_hidden : (key tree : Option Fault) (rows : List RowView)
-    → verdict key tree rows ≡ verdict key tree (map without_octets rows)
-verdict_hidden None tree rows = refl
-verdict_hidden (Some fault) tree rows = rw (form_hidden rows) refl
+verdict_hidden : (key : Option Fault) (part : Option KeyPart) (tree : Option Fault) (rows : List RowView)
+    → verdict key part tree rows ≡ verdict key part tree (map without_octets rows)
+verdict_hidden None part tree rows = refl
+verdict_hidden (Some fault) part tree rows = rw (form_hidden rows) refl
 
 -- a picture hides the octets
 pub octets_are_hidden : (bytes text : List ℕ) (status : ℕ) → IsPicture false bytes text status → HidesOctets bytes text
@@ -101,7 +103,8 @@ octets_are_hidden bytes text status p = record {
   lines = p.lines;
   are_rows = p.are_rows;
   are_lines = lines_hidden (is_faultless (key_place bytes)) p.rows p.lines p.are_lines;
-  whole = p.whole ∙ ap (λ said. p.lines ++ said) (verdict_hidden (key_place bytes) (tree_place bytes) p.rows);
+  whole = p.whole ∙ ap (λ said. p.lines ++ said)
+      (verdict_hidden (key_place bytes) (key_part bytes) (tree_place bytes) p.rows);
 }
 
 -- and so does what is printed of an input

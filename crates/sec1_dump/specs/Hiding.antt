@@ -1,5 +1,6 @@
 -- What isn't shown of an input, unless all is shown.
 use Rattle.std.specs.Prelude.{◌≡◌, ◌⊎◌, ℕ, ◌==◌, if◌then◌else◌, List, [], ◌++◌, map, false, codes}
+use Rattle.der_faults.specs.KeyParts.{key_part}
 use Rattle.der_faults.specs.Places.{key_place, tree_place}
 use Rattle.der_rows.specs.Rows.{RowView}
 use Rattle.sec1_dump.specs.Forms.{advice}
@@ -12,14 +13,16 @@ abbrev pub without_octets : RowView → RowView
 without_octets row = if row.tag == 0x04 then record row { content = [] } else row
 
 -- The text is a picture of the rows with no content in an OCTET STRING. Of the bytes themselves
--- it has the places where they are refused, which are an offset and a kind each.
+-- it has the places where they are refused, which are an offset and a kind each, and the part of a
+-- key that they don't have.
 pub record HidesOctets (bytes text : List ℕ) : Type 0 where
   pub rows : List RowView
   pub lines : List ℕ
   pub are_rows : AreRows bytes rows
   pub are_lines : AreLines false (is_faultless (key_place bytes)) (map without_octets rows) lines
   pub whole :
-      text ≡ lines ++ verdict (key_place bytes) (tree_place bytes) (map without_octets rows)
+      text ≡ lines
+      ++ verdict (key_place bytes) (key_part bytes) (tree_place bytes) (map without_octets rows)
 
 -- the same of an input, or one of the texts on inputs that aren't drawn
 abbrev pub HidesOctetsOfInput : List ℕ → List ℕ → Type 0

@@ -1,17 +1,16 @@
 -- The picture of an input, and the status that the program ends with.
 use Rattle.std.specs.Prelude.{◌≡◌, ◌<◌, ◌≤◌, ◌⊎◌, ℕ, ◌==◌, ◌||◌, not, Bool, true, false, List, []}
 use Rattle.std.specs.Prelude.{◌++◌, length, filter, codes, Option, Some, None, Result, Ok, Err}
-use Rattle.std.specs.Fmt.{decimal}
+use Rattle.der_faults.specs.KeyParts.{key_part}
 use Rattle.der_faults.specs.Places.{key_place, tree_place}
 use Rattle.der_faults.specs.declared.Fault.{Fault}
+use Rattle.der_faults.specs.declared.part.KeyPart.{KeyPart}
 use Rattle.der_rows.specs.Rows.{RowView, Undrawn, Draws, next, undrawn}
 use Rattle.hex.specs.Hex.{decode_of}
 use Rattle.hex.specs.declared.error.FromHexError.{FromHexError}
-use Rattle.sec1_der.specs.declared.error.ErrorKind.{ErrorKind}
-use Rattle.sec1_der.specs.declared.error.ErrorKind.TheVariants.{Truncated, Tag, Length}
-use Rattle.sec1_der.specs.declared.error.ErrorKind.TheVariants.{TrailingData, Value, Depth}
 use Rattle.sec1_dump.specs.Forms.{advice, form_of, pem_form}
 use Rattle.sec1_dump.specs.Lines.{AreLines}
+use Rattle.sec1_dump.specs.Reasons.{expected_line, fault_line}
 use Rattle.sec1_dump.specs.declared.forms.Form.{Form}
 
 -- all rows of some bytes, up to the first place where there is no element
@@ -20,34 +19,19 @@ pub record AreRows (bytes : List ℕ) (rows : List RowView) : Type 0 where
   pub drawn : Draws rows (undrawn bytes) last
   pub ended : next last ≡ None
 
--- the words for a kind
-abbrev pub kind_words : ErrorKind → List ℕ
-kind_words Truncated = codes "the bytes, or the element around it, end too early"
-kind_words Tag = codes "another tag than can be here"
-kind_words Length = codes "no length of DER"
-kind_words TrailingData = codes "more bytes than can be here"
-kind_words Value = codes "another content than can be here"
-kind_words Depth = codes "more than 64 elements in one another"
-kind_words kind = codes "another fault"
-
--- the line for a fault, if there is one, behind what the bytes aren't
-abbrev pub fault_line : List ℕ → Option Fault → List ℕ
-fault_line words None = []
-fault_line words (Some fault) =
-    words ++ (codes " at offset " ++ (decimal fault.offset
-    ++ (codes ": " ++ (kind_words fault.kind ++ codes "\n"))))
-
 -- what helps, if that is known
 abbrev pub advice_of : Option Form → List ℕ
 advice_of None = []
 advice_of (Some form) = advice form
 
--- what is said of bytes with these faults as a key and as a tree: nothing of a key
-abbrev pub verdict : Option Fault → Option Fault → List RowView → List ℕ
-verdict None tree rows = []
-verdict (Some fault) tree rows =
+-- what is said of bytes with these faults as a key and as a tree, that don't have this part of a
+-- key: nothing of a key
+abbrev pub verdict : Option Fault → Option KeyPart → Option Fault → List RowView → List ℕ
+verdict None part tree rows = []
+verdict (Some fault) part tree rows =
     fault_line (codes "no tree of DER") tree
-    ++ (fault_line (codes "no EC private key") (Some fault) ++ advice_of (form_of rows))
+    ++ (fault_line (codes "no EC private key") (Some fault)
+    ++ (expected_line part ++ advice_of (form_of rows)))
 
 -- whether there is no fault
 abbrev pub is_faultless : Option Fault → Bool
@@ -65,7 +49,7 @@ pub record IsPicture (all : Bool) (bytes text : List ℕ) (status : ℕ) : Type 
   pub lines : List ℕ
   pub are_rows : AreRows bytes rows
   pub are_lines : AreLines all (is_faultless (key_place bytes)) rows lines
-  pub whole : text ≡ lines ++ verdict (key_place bytes) (tree_place bytes) rows
+  pub whole : text ≡ lines ++ verdict (key_place bytes) (key_part bytes) (tree_place bytes) rows
   pub ends_with : status ≡ status_of (key_place bytes)
 
 -- the greatest length of an input in bytes

@@ -7,6 +7,7 @@ mod lines;
 mod names;
 mod notes;
 mod picture;
+mod reasons;
 mod text;
 
 use crate::input::{LIMIT, picture_of_input};

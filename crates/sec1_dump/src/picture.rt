@@ -2,14 +2,13 @@
 ghost use Rattle.std.specs.Prelude.{◌≡◌, IfOk, codes, map, string_bytes};
 ghost use Rattle.der_faults.specs.Places.{key_place, tree_place};
 ghost use Rattle.der_rows.specs.Rows.{row_view};
-ghost use Rattle.sec1_dump.specs.Picture.{AreRows, IsPicture, advice_of, fault_line, kind_words};
-ghost use Rattle.sec1_dump.specs.Picture.{verdict};
+ghost use Rattle.sec1_dump.specs.Picture.{AreRows, IsPicture, advice_of, verdict};
 
 use crate::forms::{Form, advice, form_of};
 use crate::lines::lines;
-use der_faults::{Fault, key_fault, tree_fault};
+use crate::reasons::{expected_line, fault_line};
+use der_faults::{Fault, KeyPart, key_fault, key_part, tree_fault};
 use der_rows::{Row, Rows};
-use sec1_der::ErrorKind;
 use std::alloc::{AllocError, Global};
 
 /// A picture, and the status that the program ends with.
@@ -33,36 +32,6 @@ fn all_rows(alloc: Global, bytes: &[u8]) -> Result<Vec<Row<'_>>, AllocError>
     Ok(drawn)
 }
 
-/// Returns the words for a kind.
-fn kind_words(kind: ErrorKind) -> &'static str
-    ensures { result.now ≡ kind_words kind }
-{
-    match kind {
-        ErrorKind::Truncated => "the bytes, or the element around it, end too early",
-        ErrorKind::Tag => "another tag than can be here",
-        ErrorKind::Length => "no length of DER",
-        ErrorKind::TrailingData => "more bytes than can be here",
-        ErrorKind::Value => "another content than can be here",
-        ErrorKind::Depth => "more than 64 elements in one another",
-        _ => "another fault",
-    }
-}
-
-/// Returns the line for a fault, if there is one, behind what the bytes aren't. Fails only if an
-/// allocation fails.
-fn fault_line(alloc: Global, words: &str, fault: Option<Fault>) -> Result<String, AllocError>
-    ensures { IfOk result (λ text. string_bytes text ≡ fault_line words.now fault) }
-{
-    match fault {
-        None => Ok(String::new(alloc)),
-        Some(fault) => {
-            let offset = fault.offset;
-            let kind = kind_words(fault.kind);
-            format!(in alloc; "{words} at offset {offset}: {kind}\n")
-        }
-    }
-}
-
 /// Returns what helps, if that is known.
 fn advice_of(form: Option<Form>) -> &'static str
     ensures { result.now ≡ advice_of form }
@@ -73,24 +42,26 @@ fn advice_of(form: Option<Form>) -> &'static str
     }
 }
 
-/// Returns what is said of bytes with these faults as a key and as a tree, and with these rows:
-/// nothing of a key. Fails only if an allocation fails.
+/// Returns what is said of bytes with these faults as a key and as a tree, that don't have this
+/// part of a key, and with these rows: nothing of a key. Fails only if an allocation fails.
 fn verdict(
     alloc: Global,
     key: Option<Fault>,
+    part: Option<KeyPart>,
     tree: Option<Fault>,
     rows: &[Row],
 ) -> Result<String, AllocError>
     ensures { IfOk result
-        (λ text. string_bytes text ≡ verdict key tree (map row_view rows.now)) }
+        (λ text. string_bytes text ≡ verdict key part tree (map row_view rows.now)) }
 {
     if key.is_none() {
         return Ok(String::new(alloc));
     }
     let tree_line = fault_line(alloc, "no tree of DER", tree)?;
     let key_line = fault_line(alloc, "no EC private key", key)?;
+    let expected = expected_line(alloc, part)?;
     let advice = advice_of(form_of(rows));
-    format!(in alloc; "{tree_line}{key_line}{advice}")
+    format!(in alloc; "{tree_line}{key_line}{expected}{advice}")
 }
 
 /// Returns the picture of bytes. Fails only if an allocation fails.
@@ -101,7 +72,7 @@ pub(crate) fn draw(alloc: Global, all: bool, bytes: &[u8]) -> Result<Picture, Al
     let rows = all_rows(alloc, bytes)?;
     let key = key_fault(bytes);
     let lines = lines(alloc, all, key.is_none(), &rows)?;
-    let verdict = verdict(alloc, key, tree_fault(bytes), &rows)?;
+    let verdict = verdict(alloc, key, key_part(bytes), tree_fault(bytes), &rows)?;
     Ok(Picture {
         text: format!(in alloc; "{lines}{verdict}")?,
         status: if key.is_none() { 0 } else { 1 },
