@@ -5,6 +5,11 @@ use Rattle.std.proofs.lemmas.Bool.{le-leb}
 use Rattle.std.proofs.lemmas.Bool.Decides.{nat_tests}
 use Rattle.std.proofs.lemmas.List.{append_assoc, append-nil, flat_map_more, map-append, length-append, drop_more}
 use Rattle.std.proofs.lemmas.List.{take_at}
+use Rattle.std.proofs.Common.{◌||◌, map, max, bit_or, ◌∙◌}
+use Rattle.std.specs.Int.{bit_at}
+use Rattle.std.specs.Simd.Lanes.{mask_l}
+use Rattle.std.proofs.lemmas.Simd.{bit_mask_l}
+use Rattle.std.proofs.lemmas.Nat.Bits.{bit_at-suc, bit_at-zero, bit_at_or, bit_at_ones}
 use Rattle.std.proofs.lemmas.Nat.{div-mul-add, mod-mul-add}
 use Rattle.std.specs.Int.Digits.{digits_of}
 use Rattle.std.specs.List.{flat_map, AllByRecursion}
@@ -161,6 +166,51 @@ pub ruleset content_steps = (nat_tests, read_byte)
 pub narrow_end : (width : ℕ) (bs : List ℕ) → length bs ≡ 0 → is_narrow width bs ≡ eqb width 0
 narrow_end width [] e = refl
 narrow_end width (b ∷ bs) e = absurd (omega arith)
+
+-- ---- subidentifiers of one byte or two
+
+-- the bytes that end a subidentifier
+abbrev pub ends_at : List ℕ → List Bool
+ends_at bs = map (λ b. ltb b 0x80) bs
+
+-- the bytes that would be a zero in front of a subidentifier
+abbrev pub zeros_at : List ℕ → List Bool
+zeros_at bs = map (λ b. eqb b 0x80) bs
+
+-- of two neighbours one ends a subidentifier, and none is a zero in front
+pub narrow_pairs : (bs : List ℕ)
+    → ((i : ℕ) → i < length bs → (get_or (ends_at bs) i false || get_or (ends_at bs) (suc i) false) ≡ true)
+    → ((i : ℕ) → get_or (zeros_at bs) i false ≡ false) → is_narrow 0 bs ≡ true
+narrow_pairs [] ends some = refl
+narrow_pairs (b ∷ []) ends some = grind (arith, nat_tests, ends 0 (omega arith))
+narrow_pairs (b ∷ c ∷ bs) ends some =
+    let next = narrow_pairs (c ∷ bs) (λ i l. ends (suc i) (omega arith)) (λ i. some (suc i)) in
+    let behind = narrow_pairs bs (λ i l. ends (suc (suc i)) (omega arith)) (λ i. some (suc (suc i))) in
+    grind (arith, nat_tests, ends 0 (omega arith), some 0, next, behind)
+
+-- one of two bits is set
+one_of : (x y : Bool) → max (cond x 1 0) (cond y 1 0) ≡ 1 → (x || y) ≡ true
+one_of true y e = refl
+one_of false true e = refl
+one_of false false e = absurd (omega arith)
+
+-- a bit isn't set
+none_of : (x : Bool) → cond {A = ℕ} x 1 0 ≡ 0 → x ≡ false
+none_of true e = absurd (omega arith)
+none_of false e = refl
+
+-- a mask that covers all places together with itself, shifted by one
+pub mask_of_pairs : (ms : List Bool) → bit_or (mask_l ms) (mask_l ms / 2) ≡ 255 → (i : ℕ) → i < 8
+    → (get_or ms i false || get_or ms (suc i) false) ≡ true
+mask_of_pairs ms e i l =
+    one_of _ _
+    (ap (λ x. max x (cond (get_or ms (suc i) false) 1 0)) (sym (bit_mask_l ms i))
+    ∙ ap (max (bit_at (mask_l ms) i)) (sym (bit_mask_l ms (suc i)) ∙ bit_at-suc (mask_l ms) i)
+    ∙ (sym (bit_at_or (mask_l ms) (mask_l ms / 2) i) ∙ (ap (λ n. bit_at n i) e ∙ bit_at_ones 8 i l)))
+
+-- an empty mask
+pub mask_of_none : (ms : List Bool) → mask_l ms ≡ 0 → (i : ℕ) → get_or ms i false ≡ false
+mask_of_none ms e i = none_of _ (sym (bit_mask_l ms i) ∙ (ap (λ n. bit_at n i) e ∙ bit_at-zero i))
 
 -- ---- the stored form
 

@@ -20,6 +20,7 @@ use crate::{
 use builder::{Builder, arc};
 use std::fmt;
 use std::marker::Model;
+use std::simd::prelude::*;
 
 /// The greatest length of a content in bytes.
 const MAX_CONTENT: usize = 39;
@@ -140,7 +141,26 @@ impl ObjectIdentifier {
 pub(crate) fn is_identifier(content: &[u8]) -> bool
     ensures { IsTrue result ↔ IsIdentifierContent content.now }
 {
+    if are_pairs(content) {
+        return true;
+    }
     content.len() <= MAX_CONTENT && is_content(content)
+}
+
+/// Returns `true` if there are eight bytes, as the identifier of P-256 has, and each subidentifier
+/// has one or two (X.690 section 8.19.2). They are tested all at once.
+fn are_pairs(content: &[u8]) -> bool
+    ensures content { IsTrue result → (arcs : List ℕ) × EncodesArcs arcs content.now }
+    ensures len { IsTrue result → length content.now ≡ 8 }
+{
+    let Some(bytes) = content.as_array::<8>() else {
+        return false;
+    };
+    let bytes = u8x8::from_array(*bytes);
+    // A bit for each byte, which is set where a subidentifier ends; and where one begins by zero.
+    let ends = bytes.simd_lt(u8x8::splat(0x80)).to_bitmask();
+    let zeros = bytes.simd_eq(u8x8::splat(0x80)).to_bitmask();
+    ends | ends >> 1 == 0xFF && zeros == 0
 }
 
 /// Returns `true` if the bytes are one or more subidentifiers, each below 2^32 (X.690 section
