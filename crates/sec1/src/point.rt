@@ -89,6 +89,10 @@ impl<const N: usize, const L: usize> EncodedPoint<N, L> {
             return Err(Error::PointEncoding);
         }
         let len = input.len();
+        // The compiler knows the length of a whole buffer, and copies it without a call.
+        if let Some(whole) = input.as_array::<L>() {
+            return Ok(EncodedPoint { bytes: *whole, len });
+        }
         let mut bytes = [0; L];
         bytes[..len].copy_from_slice(input);
         Ok(EncodedPoint { bytes, len })

@@ -81,7 +81,7 @@ impl<const N: usize, const L: usize> Ord for EncodedPoint<N, L> {
 /// that the compiler sees the lengths that the caller knows.
 #[inline(always)]
 #[tactic(auto, using(crate::proofs::ByteOrderLemmas::word_steps))]
-fn words_cmp(a: &[u8], b: &[u8]) -> Ordering
+pub(super) fn words_cmp(a: &[u8], b: &[u8]) -> Ordering
     ensures { result ≡ slice_cmp nat_cmp a.now b.now }
 {
     let mut rest = a;

@@ -5,6 +5,7 @@ ghost use Rattle.sec1.specs.EncodedPoints.{point_of, IsWiped};
 ghost use Rattle.sec1.specs.Points.{identity, encoding};
 
 use super::EncodedPoint;
+use super::order::words_cmp;
 
 impl<const N: usize, const L: usize> EncodedPoint<N, L> {
     /// Returns `true` if the points are the same.
@@ -14,7 +15,7 @@ impl<const N: usize, const L: usize> EncodedPoint<N, L> {
         ensures bytes { IsTrue result
             ↔ (encoding N (point_of self.now) ≡ encoding N (point_of other.now)) }
     {
-        // Two arrays are compared without a loop.
+        // The compiler knows the length of these, and compares them without a loop or a call.
         if self.len == L && other.len == L {
             return self.is_filled_as(other);
         }
@@ -25,9 +26,7 @@ impl<const N: usize, const L: usize> EncodedPoint<N, L> {
     fn is_filled_as(&self, other: &Self) -> bool
         ensures { IsTrue result ↔ (self.now.bytes ≡ other.now.bytes) }
     {
-        let (x, y) = self.halves();
-        let (other_x, other_y) = other.halves();
-        self.bytes[0] == other.bytes[0] && x == other_x && y == other_y
+        words_cmp(&self.bytes, &other.bytes).is_eq()
     }
 
     /// Returns this point if the choice is `false`, and the other if it is `true`.
