@@ -1,12 +1,13 @@
 -- The places of the faults of elements in a row.
 use Rattle.std.proofs.Common.{◌≡◌, ◌==◌, ◌∷◌, [], ℕ, zero, suc, ◌+◌, ◌-◌, ◌<◌, ◌≤◌}
 use Rattle.std.proofs.Common.{List, Bool, true, false, length, refl, ◌∙◌}
-use Rattle.std.proofs.Common.{Option, None, arith, bit_and, not}
-use Rattle.std.proofs.lemmas.Bool.{le-ltb}
+use Rattle.std.proofs.Common.{Option, None, Some, arith, bit_and, not}
+use Rattle.std.proofs.lemmas.Bool.{le-ltb, lt-ltb}
 use Rattle.std.specs.Option.{option_or}
 use Rattle.sec1_der.specs.Trees.{max_tree_depth}
 use Rattle.der_faults.specs.declared.Fault.{Fault}
-use Rattle.der_faults.specs.Places.{Place, any_place, nested_place, row_place}
+use Rattle.sec1_der.specs.declared.error.ErrorKind.TheVariants.{Depth}
+use Rattle.der_faults.specs.Places.{Place, any_place, before, nested_place, row_place}
 
 -- a row within the greatest depth is its first element, and a row
 pub row_next : (most level end : ℕ) (rest : List ℕ) → 0 < most → (rest ≡ [] → ⊥) → level ≤ 64
@@ -16,6 +17,13 @@ row_next zero level end rest some more fits = absurd (omega arith)
 row_next (suc most) level end [] some more fits = absurd (more refl)
 row_next (suc most) level end (byte ∷ rest) some more fits =
     let one : suc most - 1 ≡ most = omega arith in rw (one, le-ltb max_tree_depth level fits) refl
+
+-- a row below it is refused before its first element
+pub row_deep : (most level end : ℕ) (rest : List ℕ) → 0 < most → (rest ≡ [] → ⊥) → 64 < level
+    → row_place most level end rest ≡ Some (before end rest Depth)
+row_deep zero level end rest some more deep = absurd (omega arith)
+row_deep (suc most) level end [] some more deep = absurd (more refl)
+row_deep (suc most) level end (byte ∷ rest) some more deep = rw (lt-ltb max_tree_depth level deep) refl
 
 -- the fault of a row is that of its first element's content, or else of the row behind it
 pub row_step : (most level end : ℕ) (rest content behind : List ℕ) (tag : ℕ) (inner : Option Fault) → 0 < most

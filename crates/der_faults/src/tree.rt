@@ -35,6 +35,7 @@ fn check_tree(bytes: &[u8]) -> Step<()>
 }
 
 /// Checks elements in a row at this level, at most as many.
+#[tactic(auto, using(crate::proofs::RowLemmas::row_deep))]
 fn check_row(most: usize, level: usize, end: usize, bytes: &[u8]) -> Step<()>
     requires within { length bytes.now ≤ end }
     requires level { level ≤ 65 }

@@ -3,7 +3,7 @@ use Rattle.std.proofs.Common.{◌≡◌, ◌++◌, ◌∷◌, [], ◌&&◌, ℕ,
 use Rattle.std.proofs.Common.{None, Result, Ok, Err, if◌then◌else◌}
 use Rattle.std.proofs.Common.{IfOk, IsSomeAnd, refl, sym, ◌∙◌, ap, le-leb, leb-true, bytes_eq}
 use Rattle.std.proofs.Math.Seq.{drop-append_seam}
-use Rattle.std.proofs.lemmas.Bool.{and_parts, lt-ltb, ltb-true}
+use Rattle.std.proofs.lemmas.Bool.{and_parts, lt-ltb}
 use Rattle.std.proofs.lemmas.Slice.Eq.{bytes_eq-Decides}
 use Rattle.sec1_der.specs.Elements.{max_length, length_octets, element, IsTag, IsHeader, IsElement}
 use Rattle.sec1_der.specs.ErrorKinds.{is_tag}
@@ -38,7 +38,7 @@ element_tested bytes e =
       tag = first_byte bytes;
       content = content_in bytes;
       is_header = record {
-        tag_byte = tag_from_test (first_byte bytes) (ltb-true _ _ tag.0) tag.1;
+        tag_byte = tag_from_test (first_byte bytes) tag.1;
         within =
             leb-true _ _ more.0;
       };
@@ -121,7 +121,7 @@ begins_any byte b f g small = by b (is_tag byte) refl f g ∙ (rw (lt-ltb byte 2
   where
     by : (b c : Bool) → is_tag byte ≡ c → (b ≡ true → IsTag byte) → (IsTag byte → b ≡ true) → b ≡ c
     by true true e f g = refl
-    by false true e f g = g (tag_from_test byte small e)
+    by false true e f g = g (tag_from_test byte e)
     by true false e f g = absurd (cc (e, is_tag-true byte (f refl)))
     by false false e f g = refl
 

@@ -1,6 +1,6 @@
 -- What the bytes of an element, and bytes that begin with none, are refused by.
 use Rattle.std.proofs.Common.{◌≡◌, ℕ, ◌+◌, ◌<◌, ◌≤◌, false, ◌&&◌, nat_le, List, [], ◌∷◌, ◌++◌, length, take, drop}
-use Rattle.std.proofs.Common.{slice_get, get_or, Option, Some, None, Err, ⊎_elim, refl, ap, sym, ◌∙◌, arith}
+use Rattle.std.proofs.Common.{slice_get, Option, Some, None, Err, ⊎_elim, refl, ap, sym, ◌∙◌, arith}
 use Rattle.std.proofs.Common.{leb-true, eq-eqb, length-drop, append-nil, append_assoc, length-append}
 use Rattle.std.proofs.Common.{take-append-drop, bytes_eq}
 use Rattle.std.proofs.lemmas.Bool.{lt-leb, and_parts, cases_Bool, cases_lt}
@@ -44,13 +44,12 @@ pub any_short : (f : ℕ → Fault) (g : Fault) (tag n : ℕ) (bytes inside : Li
 any_short f g tag n bytes inside h e few =
     rw (e, is_tag-true tag h.tag_byte, length_at_octets n inside h.within, lt-leb n (length inside) few) refl
 
--- bytes that begin with no header are refused by the fault of their header, if the first is a byte
-pub any_without_header : (f : ℕ → Fault) (g : Fault) (bytes : List ℕ) → (0 < length bytes → get_or bytes 0 0 < 256)
-    → LacksHeader bytes
+-- bytes that begin with no header are refused by the fault of their header
+pub any_without_header : (f : ℕ → Fault) (g : Fault) (bytes : List ℕ) → LacksHeader bytes
     → any_fault f g bytes ≡ Some (header_fault bytes)
-any_without_header f g [] small lacks = refl
-any_without_header f g (byte ∷ bytes) small lacks = ⊎_elim
-    (λ e. let is : IsTag byte = tag_from_test byte (small (omega arith)) e in
+any_without_header f g [] lacks = refl
+any_without_header f g (byte ∷ bytes) lacks = ⊎_elim
+    (λ e. let is : IsTag byte = tag_from_test byte e in
     rw (
       e,
       length_at_lacks bytes
@@ -62,11 +61,10 @@ any_without_header f g (byte ∷ bytes) small lacks = ⊎_elim
 
 -- a truncated element
 pub any_cut : (f : ℕ → Fault) (g : Fault) (tag : ℕ) (content input : List ℕ)
-    → (0 < length input → get_or input 0 0 < 256)
     → IsHeader tag (length content)
     → IsProperPrefix input (element tag content) → any_fault f g input ≡ Some Truncated
-any_cut f g tag content input small h cut = ⊎_elim
-    (λ l. any_without_header f g input small (lacks l) ∙ ⊎_elim
+any_cut f g tag content input h cut = ⊎_elim
+    (λ l. any_without_header f g input (lacks l) ∙ ⊎_elim
     (λ c. absurd (omega (arith, ap length c.front, length-append (header tag (length content)) c.after)))
     (λ k. ap Some k)
     (header_front tag (length content) input cut.more content h (sym cut.split)))
@@ -87,11 +85,11 @@ parts_cut : (f g : Fault) (tag : ℕ) (content bytes : List ℕ) → IsHeader ta
     → IsProperPrefix (tag ∷ bytes) (element tag content)
     → parts_fault f g (within (length_at bytes)) ≡ Some Truncated
 parts_cut f g tag content bytes h cut =
-    rw (is_tag-true tag h.tag_byte) at (any_cut (λ _. f) g tag content (tag ∷ bytes) (λ _. h.tag_byte.byte) h cut)
+    rw (is_tag-true tag h.tag_byte) at (any_cut (λ _. f) g tag content (tag ∷ bytes) h cut)
 
 -- the tag of a SEQUENCE is a tag
 sequence_tag : IsTag 0x30
-sequence_tag = tag_from_test 0x30 (omega arith) refl
+sequence_tag = tag_from_test 0x30 refl
 
 -- a truncated element with this tag, whatever its tag
 pub element_cut : (f g : Fault) (tag : ℕ) (content input : List ℕ) → length content ≤ max_length
@@ -103,14 +101,6 @@ element_cut f g tag content (byte ∷ bytes) fits cut =
     let inside = parts_cut f g 0x30 content bytes (record { tag_byte = sequence_tag; within = fits })
     (record { more = cut.more; some = cut.some; split = ap (λ xs. 0x30 ∷ xs) rest }) in
     rw (← same, eq-eqb tag tag refl, inside) refl
-
--- a truncated element of any tag
-pub any_tag_cut : (f : ℕ → Fault) (g : Fault) (tag : ℕ) (content input : List ℕ) → IsHeader tag (length content)
-    → IsProperPrefix input (element tag content) → any_fault f g input ≡ Some Truncated
-any_tag_cut f g tag content [] h cut = refl
-any_tag_cut f g tag content (byte ∷ bytes) h cut =
-    let same : tag ≡ byte = cc cut.split in
-    any_cut f g tag content (byte ∷ bytes) (λ _. rw (← same) h.tag_byte.byte) h cut
 
 -- where the tag is next, an element with this tag is refused as one of any tag is
 pub element_next : (f g : Fault) (tag : ℕ) (bytes : List ℕ) → IsTag tag → slice_get bytes 0 ≡ Some tag
@@ -172,4 +162,4 @@ opened_field number tag f opened old new content found is same kind =
 pub ruleset document_faults = (fronts, document_element, document_long)
 
 -- the faults of truncated elements
-pub ruleset cut_elements = (element_cut, any_tag_cut)
+pub ruleset cut_elements = (element_cut, any_cut)

@@ -1,8 +1,8 @@
 -- An element is determined by its bytes, and has a content that it can hold. Further crates cite
 -- these laws.
 use Rattle.std.proofs.Common.{◌≡◌, ℕ, ◌≤◌, List, length, Option, Some, None, refl, arith, ⊎_elim}
-use Rattle.std.proofs.Common.{tests, append_assoc, ne_eqb, ◌%◌, ◌<◌, true, ◌++◌, sym, ◌∙◌}
-use Rattle.std.proofs.lemmas.Bool.{le-leb, lt-leb, cases_lt}
+use Rattle.std.proofs.Common.{tests, append_assoc, ne_eqb, ◌%◌, true, ◌++◌, sym, ◌∙◌}
+use Rattle.std.proofs.lemmas.Bool.{le-leb, lt-leb, lt-ltb, cases_lt}
 use Rattle.sec1_der.specs.Elements.{max_length, header, element, IsElementOf, element_of, IsTag}
 use Rattle.sec1_der.specs.ErrorKinds.{is_tag}
 use Rattle.sec1_der.proofs.LengthLaws.{len_apart, split_same}
@@ -11,7 +11,9 @@ use Rattle.sec1_der.specs.Faults.{within}
 
 -- a tag passes the test for one
 pub is_tag-true : (tag : ℕ) → IsTag tag → is_tag tag ≡ true
-is_tag-true tag h = rw (ne_eqb tag 0 h.not_end_of_contents, ne_eqb (tag % 32) 31 h.not_high) refl
+is_tag-true tag h =
+    rw (lt-ltb tag 256 h.byte, ne_eqb tag 0 h.not_end_of_contents, ne_eqb (tag % 32) 31 h.not_high)
+    refl
 
 -- two headers that begin one list
 pub header_apart : (tag n tag' n' : ℕ) (r s : List ℕ) → header tag n ++ r ≡ header tag' n' ++ s
@@ -20,10 +22,10 @@ header_apart tag n tag' n' r s e =
     let (lengths, rests) = len_apart n n' r s (cc) in (cc, lengths, rests)
 
 -- a byte that passes the test is a tag
-pub tag_from_test : (byte : ℕ) → byte < 256 → is_tag byte ≡ true → IsTag byte
-tag_from_test byte small e =
+pub tag_from_test : (byte : ℕ) → is_tag byte ≡ true → IsTag byte
+tag_from_test byte e =
     record {
-      byte = small;
+      byte = grind (arith, tests);
       not_end_of_contents = λ zero. grind (arith, tests);
       not_high =
           λ ones. grind (arith, tests);

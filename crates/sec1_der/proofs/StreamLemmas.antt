@@ -6,14 +6,14 @@ use Rattle.std.proofs.Common.{append-nil, append_assoc, length-append, tests, le
 use Rattle.std.proofs.KnownBytes.{Consumes-nil, Consumes-trans, Consumes-kept}
 use Rattle.std.proofs.Math.Seq.{take-append-add}
 use Rattle.std.proofs.lemmas.Grind.{common_steps}
-use Rattle.std.proofs.lemmas.Bool.{cases_lt, false_from_ne_true}
+use Rattle.std.proofs.lemmas.Bool.{cases_Bool, cases_lt, false_from_ne_true}
 use Rattle.std.proofs.lemmas.List.{nil_from_length, take_more, take-append-le}
 use Rattle.std.specs.Io.KnownBytes.{Consumes, Keeps, IsAtEnd}
 use borrow.Rule.Slice.PartMut.{put_mid}
 use Rattle.sec1_der.specs.declared.error.ErrorKind.{ErrorKind}
 use Rattle.sec1_der.specs.declared.error.ErrorKind.TheVariants.{Truncated, TrailingData, Io, Memory, Tag, Length}
 use Rattle.sec1_der.specs.Elements.{IsElement, IsHeader, LacksHeader, header}
-use Rattle.sec1_der.specs.ErrorKinds.{header_fault, is_tag, IsIoOrMemory}
+use Rattle.sec1_der.specs.ErrorKinds.{header_fault, length_fault, is_tag, IsIoOrMemory}
 use Rattle.sec1_der.specs.ReadsDocument.{HasHeaderFault, IsCutContent, TakenBeforeRefusal, RefusesElement, ReadsHeader}
 use Rattle.sec1_der.specs.ReadsDocument.{RefusesContent, ConsumesElement}
 use Rattle.sec1_der.specs.Streams.{ReadsOnto}
@@ -96,10 +96,16 @@ read_alone old new tag n bytes rest is split (inr one) consumed =
     (cases_lt (length one.before) (length (header tag n)))
 
 -- an incomplete header has at most five bytes
+digits_are_few : (first : ℕ) (digits : List ℕ) → length_fault (first ∷ digits) ≡ Truncated → length digits ≤ 3
+digits_are_few first digits e = grind (arith, tests)
+
 pub cut_is_short : (bytes : List ℕ) → header_fault bytes ≡ Truncated → length bytes ≤ 5
 cut_is_short [] e = omega arith
 cut_is_short (byte ∷ []) e = omega arith
-cut_is_short (byte ∷ first ∷ digits) e = grind (arith, tests)
+cut_is_short (byte ∷ first ∷ digits) e = ⊎_elim
+    (λ tag. omega (arith, digits_are_few first digits (rw tag at e)))
+    (λ other. absurd (cc (rw other at e)))
+    (cases_Bool (is_tag byte))
 
 -- ---- the content
 
@@ -193,28 +199,26 @@ length_stays [] more e = absurd (cc e)
 length_stays (byte ∷ []) more e = grind (arith, tests)
 length_stays (byte ∷ first ∷ digits) more e = grind (arith, tests, length-append)
 
--- the kind by which all the bytes are refused is a function of what was read, if the first is a byte
+-- the kind by which all the bytes are refused is a function of what was read
 taken_fault : (kind : ErrorKind) (bytes more : List ℕ) → (kind ≡ Truncated → more ≡ []) → TakenBeforeRefusal kind bytes
-    → IsIoOrMemory kind
-    ⊎ ((0 < length (bytes ++ more) → get_or (bytes ++ more) 0 0 < 256) → document_fault (bytes ++ more) ≡ Some kind)
+    → IsIoOrMemory kind ⊎ (document_fault (bytes ++ more) ≡ Some kind)
 taken_fault Io bytes more end taken = inl (inl refl)
 taken_fault Memory bytes more end taken = inl (inr refl)
 taken_fault Truncated bytes more end (inl lacks) = rw (end refl, append-nil bytes)
-    (inr (λ small. any_without_header (λ _. no_fault) end_fault bytes small lacks.none
-    ∙ ap (λ kind. Some kind) lacks.fault_is))
+    (inr (any_without_header (λ _. no_fault) end_fault bytes lacks.none ∙ ap (λ kind. Some kind) lacks.fault_is))
 taken_fault Truncated bytes more end (inr cut) = rw (end refl, append-nil bytes)
-    (inr (λ small. any_short (λ _. no_fault) end_fault cut.tag cut.announced bytes cut.content cut.is_header
+    (inr (any_short (λ _. no_fault) end_fault cut.tag cut.announced bytes cut.content cut.is_header
     cut.joined cut.few))
 taken_fault Tag bytes more end bad =
-    inr (rw bad.alone (λ small.
-    rw (false_from_ne_true (is_tag bad.byte) (λ e. bad.bad (tag_from_test bad.byte (small (omega arith)) e))) refl))
-taken_fault Length bytes more end bad = inr (λ small.
-    any_without_header (λ _. no_fault) end_fault (bytes ++ more) small (λ tag n rest is e. ⊎_elim
+    inr (rw bad.alone
+    (rw (false_from_ne_true (is_tag bad.byte) (λ e. bad.bad (tag_from_test bad.byte e))) refl))
+taken_fault Length bytes more end bad = inr (
+    any_without_header (λ _. no_fault) end_fault (bytes ++ more) (λ tag n rest is e. ⊎_elim
     (λ longer. bad.bad.none tag n longer.after is longer.front)
     (λ cut. cc (cut, bad.bad.fault_is))
     (header_front tag n bytes more rest is e))
     ∙ ap (λ kind. Some kind) (length_stays bytes more bad.bad.fault_is))
-taken_fault TrailingData bytes more end longer = inr (λ small.
+taken_fault TrailingData bytes more end longer = inr (
     let whole = longer.is_element in
     any_at (λ _. no_fault) end_fault whole.tag whole.content (bytes ++ more) (longer.byte ∷ more) whole.is_header
     (rw (longer.joined, append_assoc longer.front (longer.byte ∷ []) more, whole.encoded) refl))
@@ -228,9 +232,9 @@ read_fault (Some all) None bytes r = absurd r.consumed
 read_fault (Some all) (Some left) bytes r =
     rw (r.consumed, r.at_end, append-nil bytes) (document_element bytes r.is_element)
 
--- a kind that says something of the bytes is the fault of them all, if the first is a byte, and then P holds of them
+-- a kind that says something of the bytes is the fault of them all, and then P holds of them
 refused_fault : (kind : ErrorKind) (P : List ℕ → Type 0) (old new : Option (List ℕ)) → RefusesElement kind old new
-    → ((left : List ℕ) → ((0 < length left → get_or left 0 0 < 256) → document_fault left ≡ Some kind) → P left)
+    → ((left : List ℕ) → document_fault left ≡ Some kind → P left)
     → IsIoOrMemory kind ⊎ IfSome old P
 refused_fault kind P None new r from = inr tt
 refused_fault kind P (Some all) None r from = absurd r.consumed
@@ -238,17 +242,17 @@ refused_fault kind P (Some all) (Some left) r from =
     rw r.consumed (⊎_elim (λ other. inl other) (λ fault. inr (from (r.taken ++ left) fault))
     (taken_fault kind r.taken left r.at_end r.by_kind))
 
--- a kind that says something of the bytes is the fault of them all, where each is a byte
+-- a kind that says something of the bytes is the fault of them all
 pub refused_kind : (kind : ErrorKind) (old new : Option (List ℕ)) → RefusesElement kind old new
-    → IsIoOrMemory kind ⊎ IfSome old (λ left. All (λ byte. byte < 256) left → document_fault left ≡ Some kind)
-refused_kind kind old new r = refused_fault kind _ old new r (λ left fault all. fault (all 0 0))
+    → IsIoOrMemory kind ⊎ IfSome old (λ left. document_fault left ≡ Some kind)
+refused_kind kind old new r = refused_fault kind _ old new r (λ left fault. fault)
 
 -- bytes that are refused by such a kind are no element
 pub refused_none : (kind : ErrorKind) (old new : Option (List ℕ)) → RefusesElement kind old new
     → IsIoOrMemory kind ⊎ IfSome old (λ left. ¬ (IsElement left))
 refused_none kind old new r =
     refused_fault kind _ old new r
-    (λ left fault is. cc (document_element left is, fault (λ _. rw is.encoded is.is_header.tag_byte.byte)))
+    (λ left fault is. cc (document_element left is, fault))
 
 -- by these, an element from a stream is refused by the kind that its bytes have
 pub ruleset element_faults = (refused_kind, refused_none, read_fault)

@@ -13,7 +13,6 @@ use Rattle.sec1_der.specs.declared.error.Error.{Error}
 use Rattle.sec1_der.specs.declared.error.ErrorKind.{ErrorKind}
 use Rattle.sec1_der.specs.declared.error.ErrorKind.TheVariants.{Truncated, Depth}
 use Rattle.sec1_der.proofs.CheckLemmas.{IsCounted}
-use Rattle.sec1_der.specs.DigitLaws.{IsBytes}
 use Rattle.sec1_der.proofs.ElementFaultLemmas.{any_cut}
 use Rattle.sec1_der.proofs.FaultLaws.{any_at}
 use Rattle.sec1_der.proofs.TreeLemmas.{some_bytes, tree_apart}
@@ -78,12 +77,12 @@ shallow_tree t input rest is shallow e =
     tree_faults t input rest is e ∙ rw (le-ltb max_tree_depth (depth t) shallow) refl
 
 -- a truncated tree
-pub cut_tree : (t : Tree) (input : List ℕ) → IsBytes input → IsTree t → IsProperPrefix input (bytes t)
+pub cut_tree : (t : Tree) (input : List ℕ) → IsTree t → IsProperPrefix input (bytes t)
     → tree_fault input ≡ Some Truncated
-cut_tree (leaf tag content) input all is cut =
-    any_cut _ end_fault tag content input (λ _. all 0) (record { tag_byte = is.0; within = is.2 }) cut
-cut_tree (branch tag f) input all is cut =
-    any_cut _ end_fault tag (joined f) input (λ _. all 0) (record { tag_byte = is.0; within = is.2 }) cut
+cut_tree (leaf tag content) input is cut =
+    any_cut _ end_fault tag content input (record { tag_byte = is.0; within = is.2 }) cut
+cut_tree (branch tag f) input is cut =
+    any_cut _ end_fault tag (joined f) input (record { tag_byte = is.0; within = is.2 }) cut
 
 -- a count of a tree's elements
 pub counted : (result : Result ℕ Error) (input : List ℕ) (t : Tree) → IfOk result (IsCounted input)

@@ -48,7 +48,7 @@ length_fault (first ∷ digits) = if lacks_digits first digits then Truncated el
 
 -- the test for a tag byte
 abbrev pub is_tag : ℕ → Bool
-is_tag byte = not (byte == 0) && not (byte % 32 == 31)
+is_tag byte = nat_lt byte 256 && not (byte == 0) && not (byte % 32 == 31)
 
 -- The kind, if the bytes don't begin with a header. The tag is checked before the length.
 abbrev pub header_fault : List ℕ → ErrorKind

@@ -3,7 +3,6 @@ ghost use Rattle.std.specs.Prelude.{Some, None, MatchResult};
 ghost use Rattle.std.specs.Prelude.{ℕ, List, false, ◌≡◌, ◌<◌, ◌≤◌, ◌↔◌, ◌⊎◌, length, take, IsTrue};
 ghost use Rattle.std.specs.Prelude.{IsErr, IfOk, IfErr, IfSome, OnOk, OnErr};
 ghost use Rattle.std.specs.Io.KnownBytes.{Appends, Consumes, IsAtEnd};
-ghost use Rattle.std.specs.List.{All};
 ghost use Rattle.sec1_der.specs.Elements.{IsElement};
 ghost use Rattle.sec1_der.specs.ErrorKinds.{IsIoOrMemory, Refuses};
 ghost use Rattle.sec1_der.specs.ReadsDocument.{IsElementFault, ConsumesElement, RefusesElement};
@@ -52,8 +51,8 @@ impl SecretDocument {
         // of a slice.
         ensures kind { MatchResult result
             (λ _. IfSome (R.left reader.old) (λ left. document_fault left ≡ None))
-            (λ error. IsIoOrMemory error.kind ⊎ IfSome (R.left reader.old) (λ left.
-            All (λ byte. byte < 256) left → document_fault left ≡ Some error.kind)) }
+            (λ error. IsIoOrMemory error.kind ⊎ IfSome (R.left reader.old)
+            (λ left. document_fault left ≡ Some error.kind)) }
     {
         read_element(alloc, reader)
     }

@@ -12,7 +12,7 @@ returns-clause-deeper c t p deep = let fault = deep_tree t c.args.input.now p de
 
 pub returns-clause-short : goal.returns-clause-short
 returns-clause-short c t p short =
-    let fault = cut_tree t c.args.input.now (λ i. omega (arith, c.type_inv.input i)) p short in grind arith
+    let fault = cut_tree t c.args.input.now p short in grind arith
 
 pub returns-clause-long : goal.returns-clause-long
 returns-clause-long c t p shallow long =
