@@ -1,7 +1,8 @@
 -- X.680 section 29 and X.690 section 8.13: a CHOICE has the bytes of the alternative that was
 -- chosen.
 use Rattle.std.specs.Prelude.{◌++◌, ◌∷◌, [], ◌||◌, ◌&&◌, ℕ, List, Bool, true, false, Option, Some}
-use Rattle.std.specs.Prelude.{None, if◌then◌else◌}
+use Rattle.std.specs.Prelude.{None, codes, if◌then◌else◌}
+use Rattle.std.specs.Fmt.{debug_variant}
 use Rattle.sec1_der.specs.Parts.{Tags, is_among, disjoint}
 use Rattle.sec1_der.specs.Faults.{Fault}
 use Rattle.der_types.specs.declared.choice.Choice.{Choice}
@@ -12,6 +13,12 @@ abbrev pub choice_of : {P Q : Type 0} → (P → Option (List ℕ)) → (Q → O
     → Option (List ℕ)
 choice_of first second (First part) = first part
 choice_of first second (Second part) = second part
+
+-- what `{:?}` prints of the alternative that was chosen
+abbrev pub choice_text : {P Q : Type 0} → (P → Option (List ℕ)) → (Q → Option (List ℕ))
+    → Choice P Q → Option (List ℕ)
+choice_text first second (First part) = debug_variant (codes "First") (first part)
+choice_text first second (Second part) = debug_variant (codes "Second") (second part)
 
 -- X.680 section 29.3: the tags of the alternatives must differ
 abbrev pub choice_tags : Tags → Tags → Tags

@@ -12,6 +12,7 @@ mod boolean;
 mod choice;
 mod codec;
 mod constant;
+mod debug_text;
 mod default;
 mod implicit;
 mod integer;

@@ -1,5 +1,5 @@
 -- RFC 5280 section 4.1.2.1: the versions of certificates.
-use Rattle.std.specs.Prelude.{◌||◌, ℕ, List, [], ◌∷◌, Bool}
+use Rattle.std.specs.Prelude.{◌||◌, ℕ, List, [], ◌∷◌, Bool, codes}
 use Rattle.std.specs.Str.{bytes_eq}
 use Rattle.pkix.specs.declared.version.LaterVersion.{LaterVersion}
 use Rattle.pkix.specs.declared.version.LaterVersion.TheVariants.{V2, V3}
@@ -8,6 +8,11 @@ use Rattle.pkix.specs.declared.version.LaterVersion.TheVariants.{V2, V3}
 abbrev pub later_version_content : LaterVersion → List ℕ
 later_version_content V2 = 1 ∷ []
 later_version_content V3 = 2 ∷ []
+
+-- what `{:?}` prints of a version
+abbrev pub later_version_text : LaterVersion → List ℕ
+later_version_text V2 = codes "V2"
+later_version_text V3 = codes "V3"
 
 -- whether the bytes are the content of v2 or v3
 abbrev pub is_later_version : List ℕ → Bool

@@ -2,20 +2,34 @@
 ghost use Rattle.std.specs.Prelude.{◌≡◌, [], ◌∷◌, true, Some, refl};
 ghost use Rattle.sec1_der.specs.Contents.{value_unless};
 ghost use Rattle.pkix.specs.Versions.{is_later_version, later_version_content};
+ghost use Rattle.pkix.specs.Versions.{later_version_text};
 
 use sec1_der::{
     BackWriter, DecodeValue, EncodeValue, ErrorKind, Length, Result, SliceReader, SliceWriter, Tag,
     Tagged, UniqueContent, ValueContent,
 };
+use std::fmt;
 
 /// The version of a certificate that isn't v1: an INTEGER that is 1 or 2 (RFC 5280 section
 /// 4.1.2.1).
-#[derive(Clone, Copy, PartialEq, Eq, Debug)]
+#[derive(Clone, Copy, PartialEq, Eq)]
 pub enum LaterVersion {
     /// Version 2, whose number is 1.
     V2,
     /// Version 3, whose number is 2.
     V3,
+}
+
+/// Prints the name of the version.
+impl fmt::Debug for LaterVersion {
+    ghost debug_output = { λ version. Some (later_version_text version) };
+
+    fn fmt<W: fmt::Write>(&self, f: &mut fmt::Formatter<W>) -> fmt::Result {
+        f.write_str(match self {
+            LaterVersion::V2 => "V2",
+            LaterVersion::V3 => "V3",
+        })
+    }
 }
 
 impl LaterVersion {

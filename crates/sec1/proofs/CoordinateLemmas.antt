@@ -1,11 +1,17 @@
 -- The first bytes of a borrowed coordinate: all of it at its length, their parity, and a comparison of two.
 use Rattle.std.proofs.Common.{◌≡◌, ◌≢◌, add-one, ℕ, zero, suc, ◌+◌, ◌-◌, ◌%◌, ◌<◌, ◌≤◌, false, ◌&&◌, List, [], ◌∷◌}
 use Rattle.std.proofs.Common.{◌*◌, ◌++◌, length, get_or, take, bytes_eq, refl}
-use Rattle.std.proofs.Common.{arith, take_all, length-append, drop, sym, ap, ◌∙◌}
+use Rattle.std.proofs.Common.{arith, take_all, length-append, drop, sym, ap, ◌∙◌, append-nil, append_assoc}
+use Rattle.std.proofs.Common.{Some, nat_lt, if◌then◌else◌}
+use Rattle.std.specs.Prelude.{codes}
 use Rattle.std.proofs.Math.Seq.{take-append_seam}
 use Rattle.std.proofs.lemmas.List.{append_cancel_left, take_more, take-append-le, length_push}
+use Rattle.std.proofs.lemmas.Bool.{lt-ltb}
 use Rattle.std.proofs.lemmas.Grind.{elements}
 use Rattle.std.proofs.lemmas.Slice.Eq.{bytes_eq-Decides}
+use Rattle.std.specs.Fmt.{comma_space, debug_items, decimal}
+use Rattle.sec1_der.specs.DebugTexts.{bytes_text, number_text}
+use Rattle.sec1.specs.DebugTexts.{both_text, coordinates_text, form_text, parity_text, x_text}
 use Rattle.sec1_der.specs.Numbers.{number_of}
 use Rattle.sec1.specs.Coordinates.{AreDigits, AreWhole, IsCoordinate, coordinate_number, coordinates_bytes}
 use Rattle.sec1.specs.Coordinates.{coordinates_point, first_bytes}
@@ -135,3 +141,69 @@ pub ruleset same_bytes = bytes_eq-Decides
 
 -- The parity of a coordinate, of any length.
 pub ruleset coordinate_parity = (coordinates_parity, coordinates_none)
+
+-- ---- texts
+
+-- The numbers of bytes in decimal, the first after `lead`, each other after a comma.
+abbrev pub items : List ℕ → List ℕ → List ℕ
+items lead [] = []
+items lead (x ∷ xs) = lead ++ (decimal x ++ items comma_space xs)
+
+-- What stands before one more.
+abbrev next : List ℕ → List ℕ → List ℕ
+next lead [] = lead
+next lead (x ∷ xs) = comma_space
+
+next_comma : (xs : List ℕ) → next comma_space xs ≡ comma_space
+next_comma [] = refl
+next_comma (x ∷ xs) = refl
+
+items_text : (lead xs : List ℕ) → debug_items number_text lead xs ≡ Some (items lead xs)
+items_text lead [] = refl
+items_text lead (x ∷ xs) = rw (items_text comma_space xs) refl
+
+items_push : (lead xs : List ℕ) (x : ℕ) → items lead (xs ++ x ∷ []) ≡ items lead xs ++ (next lead xs ++ decimal x)
+items_push lead [] x = ap (λ ds. lead ++ ds) (append-nil (decimal x))
+items_push lead (y ∷ ys) x = rw (items_push comma_space ys x, next_comma ys)
+    (simp append_assoc)
+
+next_first : (n : ℕ) (xs : List ℕ) → next [] (first_bytes n xs) ≡ (if nat_lt 0 n then comma_space else [])
+next_first zero xs = rw (first_none xs) refl
+next_first (suc n) xs =
+    rw (lt-ltb 0 (suc n) (omega arith)) (by (first_bytes (suc n) xs) (length-first (suc n) xs))
+  where
+    by : (ys : List ℕ) → length ys ≡ suc n → next [] ys ≡ comma_space
+    by [] e = absurd (omega arith)
+    by (y ∷ ys) e = refl
+
+-- One byte more is printed.
+pub one_item : (n : ℕ) (xs : List ℕ) → items [] (first_bytes n xs)
+    ++ ((if nat_lt 0 n then comma_space else []) ++ decimal (get_or xs n 0)) ≡ items [] (first_bytes (n + 1) xs)
+one_item n xs =
+    rw (first_more n xs, ← next_first n xs) (sym (items_push [] (first_bytes n xs) (get_or xs n 0)))
+
+-- All bytes are printed, in brackets.
+pub all_items : (xs : List ℕ) → bytes_text xs ≡ Some (91 ∷ (items [] xs ++ 93 ∷ []))
+all_items xs = rw (items_text [] xs) refl
+
+-- An array with the digits of its number has as many bytes.
+digits_first : (n : ℕ) (xs : List ℕ) → IsCoordinate n xs → first_bytes n xs ≡ fixed_width n (coordinate_number n xs)
+digits_first n xs is =
+    let long : length xs ≡ n = ap length is ∙ length-fixed_width n (coordinate_number n xs) in all_bytes n xs long ∙ is
+
+both_form : (n : ℕ) (name xs ys : List ℕ) → IsCoordinate n xs × IsCoordinate n ys
+    → both_text name (first_bytes n xs) (first_bytes n ys)
+    ≡ both_text name (fixed_width n (coordinate_number n xs)) (fixed_width n (coordinate_number n ys))
+both_form n name xs ys are =
+    ap (λ us. both_text name us (first_bytes n ys)) (digits_first n xs are.0)
+    ∙ ap (λ vs. both_text name (fixed_width n (coordinate_number n xs)) vs) (digits_first n ys are.1)
+
+-- The text of borrowed coordinates is that of their point.
+pub coordinates_form : {N : ℕ} (c : Coordinates N) → AreDigits c
+    → coordinates_text c ≡ form_text N (coordinates_point c)
+coordinates_form {N} parts.Identity are = refl
+coordinates_form {N} (parts.Compact x) are = ap (x_text (codes "Compact")) (digits_first N x.now are)
+coordinates_form {N} (parts.Compressed x y_is_odd) are =
+    ap (λ xs. parity_text xs y_is_odd) (digits_first N x.now are)
+coordinates_form {N} (parts.Uncompressed x y) are = both_form N (codes "Uncompressed") x.now y.now are
+coordinates_form {N} (parts.Hybrid x y) are = both_form N (codes "Hybrid") x.now y.now are

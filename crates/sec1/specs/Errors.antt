@@ -1,10 +1,12 @@
 -- The errors of this crate.
-use Rattle.std.specs.Prelude.{◌≡◌, ◌⊎◌, List, ℕ, Option, Some, None, Result, IsErrAnd, MatchResult}
+use Rattle.std.specs.Prelude.{◌≡◌, ◌⊎◌, ◌++◌, codes, List, ℕ, Option, Some, None, Result}
+use Rattle.std.specs.Prelude.{IsErrAnd, MatchResult}
 use Rattle.sec1.specs.Keys.{Key, HasNoEncoding, HasEncodingWith}
 use Rattle.sec1.specs.declared.error.Error.{Error}
 use Rattle.sec1.specs.declared.error.Error.TheVariants.{Asn1, Crypto, PointEncoding, Version}
 use Rattle.sec1.specs.declared.error.Error.TheVariants.{Memory}
 use Rattle.sec1_der.specs.ErrorKinds.{IsReadingFault}
+use Rattle.sec1_der.specs.ErrorTexts.{kind_message}
 use Rattle.sec1_der.specs.declared.error.Error.{Error as DerError}
 use Rattle.sec1_der.specs.declared.error.ErrorKind.{ErrorKind}
 use Rattle.sec1_der.specs.declared.error.ErrorKind.TheVariants.{Overlength, Memory as DerMemory}
@@ -50,3 +52,11 @@ HasAsn1Fault result fault = MatchResult result (λ _. fault ≡ None) (IsAsn1Fau
 abbrev pub HasNoEncodingOr : (Error → Type 0) → Key → (List ℕ → Type 0) → Error → Type 0
 HasNoEncodingOr IsSuch key P e =
     (IsAsn1 Overlength e × HasNoEncoding key) ⊎ (IsSuch e × HasEncodingWith key P)
+
+-- what `{}` prints of an error
+abbrev pub error_message : Error → List ℕ
+error_message (Asn1 cause) = codes "SEC1 ASN.1 error: " ++ kind_message cause.kind
+error_message Crypto = codes "SEC1 cryptographic error"
+error_message PointEncoding = codes "elliptic curve point encoding error"
+error_message Version = codes "SEC1 version error"
+error_message Memory = codes "out of memory"

@@ -1,34 +1,68 @@
-ghost use Rattle.std.specs.Prelude.{◌≡◌};
-ghost use Rattle.sec1.specs.Errors.{error_of};
+ghost use Rattle.std.specs.Prelude.{◌≡◌, Some};
+ghost use Rattle.sec1.specs.DebugTexts.{error_text};
+ghost use Rattle.sec1.specs.Errors.{error_message, error_of};
 ghost use Rattle.sec1.specs.declared.error.Error.TheVariants.{Memory};
 
 use sec1_der as der;
 use std::alloc::{AllocError, AllocFailed};
+use std::fmt;
 
 /// The error type of this crate.
-#[derive(Debug, PartialEq, Eq, Drop, thiserror::Error)]
+#[derive(PartialEq, Eq, Drop, thiserror::Error)]
 pub enum Error {
     /// The input isn't a value in DER, or a value can't be encoded in it. If the kind is Io, a read
     /// or write failed or a file couldn't be opened.
-    #[error("SEC1 ASN.1 error: {0}")]
     Asn1(der::Error),
 
     /// For users of the crate: a value isn't valid cryptographically. No call of this crate returns
     /// it.
-    #[error("SEC1 cryptographic error")]
     Crypto,
 
     /// The bytes or the text aren't the encoding of a point.
-    #[error("elliptic curve point encoding error")]
     PointEncoding,
 
     /// For users of the crate: a version isn't supported. No call of this crate returns it.
-    #[error("SEC1 version error")]
     Version,
 
     /// An allocation failed.
-    #[error("out of memory")]
     Memory,
+}
+
+/// Prints the text of the error, whatever options are set.
+impl fmt::Display for Error {
+    ghost output = { λ error. Some (error_message error) };
+
+    ghost styled_output = { λ error _. Some (error_message error) };
+
+    #[tactic(auto, using(crate::proofs::HexLemmas::printed))]
+    fn fmt<W: fmt::Write>(&self, f: &mut fmt::Formatter<W>) -> fmt::Result {
+        let text = match self {
+            Error::Asn1(cause) => {
+                f.write_str("SEC1 ASN.1 error: ")?;
+                return fmt::Display::fmt(cause, f);
+            }
+            Error::Crypto => "SEC1 cryptographic error",
+            Error::PointEncoding => "elliptic curve point encoding error",
+            Error::Version => "SEC1 version error",
+            Error::Memory => "out of memory",
+        };
+        f.write_str(text)
+    }
+}
+
+impl fmt::Debug for Error {
+    ghost debug_output = { error_text };
+
+    fn fmt<W: fmt::Write>(&self, f: &mut fmt::Formatter<W>) -> fmt::Result {
+        match self {
+            Error::Asn1(cause) if f.alternate() => f.debug_tuple("Asn1").field(cause).finish(),
+            Error::Asn1(cause) => write!(f, "Asn1({cause:?})"),
+            Error::Crypto => f.write_str("Crypto"),
+            Error::PointEncoding => f.write_str("PointEncoding"),
+            Error::Version => f.write_str("Version"),
+            Error::Memory => f.write_str("Memory"),
+        }
+    }
 }
 
 /// A [`Result`](std::result::Result) with the [`Error`] of this crate.

@@ -390,7 +390,13 @@ impl Default for EncodedPoint<66, 133> {
     }
 }
 
+/// Prints the coordinates, each as its bytes in decimal.
 impl<const N: usize, const L: usize> fmt::Debug for EncodedPoint<N, L> {
+    ghost use Rattle.sec1.specs.DebugTexts.{point_text};
+    ghost use Rattle.sec1.specs.EncodedPoints.{point_of};
+
+    ghost debug_output = { λ point. point_text N (point_of point) };
+
     fn fmt<W: fmt::Write>(&self, f: &mut fmt::Formatter<W>) -> fmt::Result {
         let coordinates = self.coordinates();
         write!(f, "EncodedPoint({coordinates:?})")

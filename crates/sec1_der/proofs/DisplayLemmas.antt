@@ -1,12 +1,14 @@
 -- The dotted text of the numbers that are left.
-use Rattle.std.proofs.Common.{◌≡◌, ℕ, Bool, cond, List, [], ◌∷◌, ◌++◌, map, refl, ap, sym, arith, rules, append_assoc}
+use Rattle.std.proofs.Common.{◌≡◌, ℕ, Bool, cond, List, [], ◌∷◌, ◌++◌, map, refl, ap, sym, ◌∙◌, arith, append_assoc}
 use Rattle.std.proofs.Common.{append-nil}
 use Rattle.std.specs.List.{flat_map, join_with_byte}
-use Rattle.std.specs.Fmt.{decimal, HasWritten, IsPlainFormatter}
-use Rattle.std.proofs.Output.{has_written_append}
+use Rattle.std.specs.Fmt.{decimal, HasWrittenStyled, IsFlush}
+use Rattle.std.proofs.Output.{has_written_styled_append, has_written_styled_nil}
 use Rattle.std.specs.declared.fmt.Formatter.{Formatter}
 use Rattle.sec1_der.specs.ArcsOf.{arcs_of_numbers}
 use Rattle.sec1_der.specs.Identifiers.{dotted}
+use Rattle.sec1_der.specs.TextLaws.{plain_of_styled, flush_of_plain}
+use Rattle.sec1_der.proofs.IdentifierLemmas.{content_steps}
 
 -- each number after a full stop
 abbrev pub further_text : List ℕ → List ℕ
@@ -24,22 +26,33 @@ joined_text x (n ∷ ns) = ap (λ xs. x ++ (46 ∷ xs)) (joined_text (decimal n)
 -- all of a text but the rest was written
 pub record IsShown {W : Type 0} (took : W → List ℕ → W → Type 0) (f g : Formatter W) (rest all : List ℕ) : Type 0 where
   pub written : List ℕ
-  pub wrote : HasWritten took f written g
+  pub wrote : HasWrittenStyled took f written g
   pub row : written ++ rest ≡ all
 
 -- at the beginning all is left
-pub shown_none : {W : Type 0} (took : W → List ℕ → W → Type 0) (f : Formatter W) (all : List ℕ) → IsPlainFormatter f
+pub shown_none : {W : Type 0} (took : W → List ℕ → W → Type 0) (f : Formatter W) (all : List ℕ) → IsFlush f
     → IsShown took f f all all
-shown_none took f all plain = record { written = []; wrote = search rules; row = refl }
+shown_none took f all flush =
+    record { written = []; wrote = has_written_styled_nil took f flush; row = refl }
 
 -- a further piece is written
 pub shown_more : {W : Type 0} (took : W → List ℕ → W → Type 0) (e f g : Formatter W) (text piece rest all : List ℕ)
     → IsShown took e f text all
-    → HasWritten took f piece g → text ≡ piece ++ rest → IsShown took e g rest all
+    → HasWrittenStyled took f piece g → text ≡ piece ++ rest → IsShown took e g rest all
 shown_more took e f g text piece rest all s wrote parts =
     record {
       written = s.written ++ piece;
-      wrote = has_written_append _ _ _ _ _ _ s.wrote wrote;
+      wrote = has_written_styled_append _ _ _ _ _ _ s.wrote wrote;
       row =
           grind (arith, append_assoc, s.row);
     }
+
+-- where nothing is left, all was written
+pub shown_all : {W : Type 0} (took : W → List ℕ → W → Type 0) (f g : Formatter W) (rest all : List ℕ)
+    → IsShown took f g rest all → rest ≡ [] → HasWrittenStyled took f all g
+shown_all took f g rest all s e =
+    let same : s.written ≡ all = sym (append-nil s.written) ∙ (ap (λ xs. s.written ++ xs) (sym e) ∙ s.row) in
+    rw (← same) s.wrote
+
+-- an identifier was printed
+pub ruleset shown_texts = (content_steps, shown_all, plain_of_styled, flush_of_plain)

@@ -1,6 +1,7 @@
 pub mod Numbers
 pub mod DigitLaws
 pub mod Elements
+pub mod TextLaws
 pub mod Trees
 pub mod TreeLaws
 pub mod Walks
@@ -18,6 +19,7 @@ pub mod Readers
 pub mod SliceWriters
 pub mod BackWriters
 pub mod Parts
+pub mod ErrorTexts
 pub mod PartLaws
 pub mod Streams
 pub mod StdStreams

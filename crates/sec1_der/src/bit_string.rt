@@ -2,15 +2,17 @@ ghost use Rattle.std.specs.Prelude.{◌≡◌, ◌↔◌, ◌<◌, length, IsTru
 ghost use Rattle.sec1_der.specs.Contents.{AreBits};
 ghost use Rattle.sec1_der.specs.Elements.{max_length};
 
+use crate::debug_text::write_pair;
 use crate::length::check_room;
 use crate::{
     BackWriter, DecodeValue, EncodeValue, ErrorKind, FixedTag, Length, Result, SliceReader,
     SliceWriter, Tag, Tagged, ValueContent,
 };
+use std::fmt;
 
 /// A BIT STRING, which borrows its bytes (X.690 section 8.6). Its content is the number of unused
 /// bits of the last byte, and the bytes.
-#[derive(Clone, Copy, PartialEq, Eq, Debug)]
+#[derive(Clone, Copy, PartialEq, Eq)]
 pub struct BitStringRef<'a> {
     unused: u8,
     bytes: &'a [u8],
@@ -96,6 +98,25 @@ fn are_bits(unused: u8, bytes: &[u8]) -> bool
     match bytes.last() {
         None => unused == 0,
         Some(last) => unused < 8 && *last % (1 << unused) == 0,
+    }
+}
+
+/// Prints the number of unused bits, and the bytes, in decimal.
+impl fmt::Debug for BitStringRef<'_> {
+    ghost use Rattle.std.specs.Prelude.{codes};
+    ghost use Rattle.sec1_der.specs.DebugTexts.{bytes_text, number_text, pair_text};
+    ghost use Rattle.sec1_der.specs.Values.{unused_bits_of, bit_bytes_of};
+
+    ghost debug_output = { λ bits. pair_text (codes "BitStringRef") (codes "unused")
+        (number_text (unused_bits_of bits)) (codes "bytes") (bytes_text (bit_bytes_of bits)) };
+
+    fn fmt<W: fmt::Write>(&self, f: &mut fmt::Formatter<W>) -> fmt::Result {
+        write_pair(
+            f,
+            "BitStringRef",
+            ("unused", &self.unused),
+            ("bytes", &self.bytes),
+        )
     }
 }
 

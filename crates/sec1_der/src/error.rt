@@ -1,51 +1,92 @@
-ghost use Rattle.std.specs.Prelude.{◌≡◌};
+ghost use Rattle.std.specs.Fmt.{WritesOnOk, WritesStyledOnOk};
+ghost use Rattle.std.specs.Prelude.{◌≡◌, Some};
+ghost use Rattle.sec1_der.specs.DebugTexts.{error_text, kind_text};
+ghost use Rattle.sec1_der.specs.ErrorTexts.{kind_message};
 ghost use Rattle.sec1_der.specs.declared.error.ErrorKind.TheVariants.{Io, Memory};
 
 use crate::IoFault;
+use crate::debug_text::write_struct;
 use std::alloc::{AllocError, AllocFailed};
+use std::fmt;
 
 /// The reason of an [`Error`].
-#[derive(Clone, Copy, Debug, PartialEq, Eq, thiserror::Error)]
+#[derive(Clone, Copy, PartialEq, Eq, thiserror::Error)]
 pub enum ErrorKind {
     /// The input, or the surrounding element, ends too early.
-    #[error("input ends inside an element")]
     Truncated,
     /// A byte that isn't a valid tag, or isn't the expected one.
-    #[error("unexpected or unsupported tag")]
     Tag,
     /// A length that isn't in the form of DER, or is above [`Length::MAX`](crate::Length::MAX).
-    #[error("length not in DER form or above the limit")]
     Length,
     /// Bytes after the end of the value.
-    #[error("bytes after the value")]
     TrailingData,
     /// A content that isn't valid for its tag, a text that isn't an identifier's, or unused bits
     /// that a bit string can't have.
-    #[error("content not valid for its tag")]
     Value,
     /// A content to write, or a number, above [`Length::MAX`](crate::Length::MAX).
-    #[error("value longer than 268435455 bytes")]
     Overlength,
     /// The slice to write into is too small.
-    #[error("output buffer too small")]
     Buffer,
     /// The reader failed before.
-    #[error("reader has already refused")]
     Failed,
     /// A read, a write or the opening of a file failed.
-    #[error("read or write failed")]
     Io,
     /// More than 64 nested elements.
-    #[error("more than 64 nested elements")]
     Depth,
     /// An allocation failed.
-    #[error("out of memory")]
     Memory,
 }
 
+/// Prints the text of the kind, whatever options are set.
+impl fmt::Display for ErrorKind {
+    ghost output = { λ kind. Some (kind_message kind) };
+
+    ghost styled_output = { λ kind _. Some (kind_message kind) };
+
+    fn fmt<W: fmt::Write>(&self, f: &mut fmt::Formatter<W>) -> fmt::Result {
+        f.write_str(match self {
+            ErrorKind::Truncated => "input ends inside an element",
+            ErrorKind::Tag => "unexpected or unsupported tag",
+            ErrorKind::Length => "length not in DER form or above the limit",
+            ErrorKind::TrailingData => "bytes after the value",
+            ErrorKind::Value => "content not valid for its tag",
+            ErrorKind::Overlength => "value longer than 268435455 bytes",
+            ErrorKind::Buffer => "output buffer too small",
+            ErrorKind::Failed => "reader has already refused",
+            ErrorKind::Io => "read or write failed",
+            ErrorKind::Depth => "more than 64 nested elements",
+            ErrorKind::Memory => "out of memory",
+        })
+    }
+}
+
+/// Prints the name of the kind, whatever options are set.
+impl fmt::Debug for ErrorKind {
+    ghost debug_output = { λ kind. Some (kind_text kind) };
+
+    fn fmt<W: fmt::Write>(&self, f: &mut fmt::Formatter<W>) -> fmt::Result
+        ensures writes { WritesOnOk W.write_str_gives f.old result (kind_text self.now) f.new }
+        ensures styled { WritesStyledOnOk W.write_str_gives f.old result (kind_text self.now)
+            f.new }
+    {
+        f.write_str(match self {
+            ErrorKind::Truncated => "Truncated",
+            ErrorKind::Tag => "Tag",
+            ErrorKind::Length => "Length",
+            ErrorKind::TrailingData => "TrailingData",
+            ErrorKind::Value => "Value",
+            ErrorKind::Overlength => "Overlength",
+            ErrorKind::Buffer => "Buffer",
+            ErrorKind::Failed => "Failed",
+            ErrorKind::Io => "Io",
+            ErrorKind::Depth => "Depth",
+            ErrorKind::Memory => "Memory",
+        })
+    }
+}
+
 /// The error type of this crate. Its text is that of its kind.
-#[derive(Debug, PartialEq, Eq, Drop, thiserror::Error)]
-#[error("{kind}")]
+#[derive(PartialEq, Eq, Drop, thiserror::Error)]
 pub struct Error {
     /// The reason.
     pub kind: ErrorKind,
@@ -57,6 +98,25 @@ impl Error {
         ensures { result ≡ self.now.kind }
     {
         self.kind
+    }
+}
+
+/// Prints the text of the kind.
+impl fmt::Display for Error {
+    ghost output = { λ e. Some (kind_message e.kind) };
+
+    ghost styled_output = { λ e _. Some (kind_message e.kind) };
+
+    fn fmt<W: fmt::Write>(&self, f: &mut fmt::Formatter<W>) -> fmt::Result {
+        fmt::Display::fmt(&self.kind, f)
+    }
+}
+
+impl fmt::Debug for Error {
+    ghost debug_output = { λ e. error_text e.kind };
+
+    fn fmt<W: fmt::Write>(&self, f: &mut fmt::Formatter<W>) -> fmt::Result {
+        write_struct(f, "Error", "kind", &self.kind)
     }
 }
 

@@ -2,7 +2,8 @@ ghost use Rattle.std.specs.Prelude.{◌≡◌, ℕ, ◌<◌, ◌≤◌, ◌^◌,
 ghost use Rattle.std.specs.Cmp.{and_equiv, nat_eq_equiv, on_equiv, partial_equiv_from_equiv};
 ghost use Rattle.std.specs.Ordering.{eq_of_both, on};
 ghost use Rattle.std.specs.Prelude.{nat_eq, ◌↔◌, IsTrue};
-ghost use Rattle.std.specs.Prelude.{IsOkAnd, IsOk, IsErr, OnErr, false, true, Some};
+ghost use Rattle.std.specs.Prelude.{IsOkAnd, IsOk, IsErr, OnErr, codes, false, true, Some};
+ghost use Rattle.sec1_der.specs.DebugTexts.{pair_text, tag_text, length_text};
 ghost use Rattle.sec1_der.specs.Elements.{max_length, length_octets, header, element, IsHeader};
 ghost use Rattle.sec1_der.specs.Elements.{IsProperPrefix, LacksHeader};
 ghost use Rattle.sec1_der.specs.ErrorKinds.{length_fault, header_fault, Refuses, IsHeaderFault};
@@ -11,7 +12,9 @@ ghost use Rattle.sec1_der.specs.Readers.{reader_over, refused, HasRead};
 ghost use Rattle.sec1_der.specs.Faults.{Fault, any_fault};
 ghost use Rattle.sec1_der.specs.SliceWriters.{WritesBehind};
 
+use crate::debug_text::write_pair;
 use crate::{ErrorKind, Length, Result, SliceReader, SliceWriter, Tag};
+use std::fmt;
 
 /// The least length in the long form (X.690 section 8.1.3.5).
 pub(crate) const LONG_FORM: usize = 0x80;
@@ -20,12 +23,21 @@ pub(crate) const LONG_FORM: usize = 0x80;
 pub(crate) type First<'a, T> = std::result::Result<(T, &'a [u8]), ErrorKind>;
 
 /// The tag and the length of an element (X.690 sections 8.1.2 and 8.1.3).
-#[derive(Clone, Copy, Debug)]
+#[derive(Clone, Copy)]
 pub struct Header {
     /// The tag.
     pub tag: Tag,
     /// The length of the content.
     pub length: Length,
+}
+
+impl fmt::Debug for Header {
+    ghost debug_output = { λ h. pair_text (codes "Header") (codes "tag") (tag_text h.tag)
+        (codes "length") (length_text h.length) };
+
+    fn fmt<W: fmt::Write>(&self, f: &mut fmt::Formatter<W>) -> fmt::Result {
+        write_pair(f, "Header", ("tag", &self.tag), ("length", &self.length))
+    }
 }
 
 impl Header {

@@ -1,11 +1,14 @@
 ghost use Rattle.std.specs.Prelude.{◌≡◌, ◌≤◌, ◌<◌, ◌↔◌, OkIff, IsOk, IfErr, ℕ};
+ghost use Rattle.sec1_der.specs.DebugTexts.{length_text};
 ghost use Rattle.sec1_der.specs.Elements.{max_length};
 
+use crate::debug_text::write_struct;
 use crate::{ErrorKind, Result};
+use std::fmt;
 use std::marker::Model;
 
 /// The number of bytes of a content, from 0 to [`Length::MAX`]. A contract sees the number.
-#[derive(Clone, Copy, Debug, PartialEq, Eq)]
+#[derive(Clone, Copy, PartialEq, Eq)]
 pub struct Length {
     bytes: usize,
 }
@@ -54,6 +57,14 @@ impl Length {
         ensures within { result ≤ max_length }
     {
         self.bytes
+    }
+}
+
+impl fmt::Debug for Length {
+    ghost debug_output = { length_text };
+
+    fn fmt<W: fmt::Write>(&self, f: &mut fmt::Formatter<W>) -> fmt::Result {
+        write_struct(f, "Length", "bytes", &self.bytes)
     }
 }
 

@@ -1,6 +1,7 @@
 ghost use Rattle.std.specs.Prelude.{◌≡◌, ℕ, ◌<◌, ◌≤◌, ◌↔◌, List, length, IsTrue, IfOk, IfErr, Some};
-ghost use Rattle.std.specs.Prelude.{◌∷◌, bytes_eq};
+ghost use Rattle.std.specs.Prelude.{◌∷◌, ◌++◌, bytes_eq};
 ghost use Rattle.std.specs.Cmp.{partial_equiv_from_equiv};
+ghost use Rattle.std.specs.Fmt.{WritesStyledOnOk, decimal};
 ghost use Rattle.std.specs.Cmp.Lexicographic.{nat_list_eq_equiv};
 ghost use Rattle.sec1_der.specs.DebugTexts.{identifier_text};
 ghost use Rattle.sec1_der.specs.ArcsOf.{padded, arcs_of_numbers};
@@ -19,6 +20,7 @@ use crate::{
 };
 use builder::{Builder, arc};
 use std::fmt;
+use std::fmt::{InlineText, Write};
 use std::marker::Model;
 use std::simd::prelude::*;
 
@@ -213,11 +215,13 @@ impl Eq for ObjectIdentifier {
     ghost laws = { nat_list_eq_equiv };
 }
 
-/// Prints the arcs in decimal digits, joined by full stops.
+/// Prints the arcs in decimal digits, joined by full stops, whatever options are set.
 impl fmt::Display for ObjectIdentifier {
     ghost output = { λ arcs. Some (dotted arcs) };
 
-    #[tactic(auto, using(crate::proofs::IdentifierLemmas::content_steps))]
+    ghost styled_output = { λ arcs _. Some (dotted arcs) };
+
+    #[tactic(auto, using(crate::proofs::DisplayLemmas::shown_texts))]
     fn fmt<W: fmt::Write>(&self, f: &mut fmt::Formatter<W>) -> fmt::Result {
         let content = self.as_bytes();
         let mut first = true;
@@ -231,14 +235,43 @@ impl fmt::Display for ObjectIdentifier {
                 if first {
                     first = false;
                     let arcs = first_arcs(n);
-                    write!(f, "{}.{}", arcs.0, arcs.1)?;
+                    write_first(f, arcs.0, arcs.1)?;
                 } else {
-                    write!(f, ".{n}")?;
+                    write_further(f, n)?;
                 }
             }
         }
         Ok(())
     }
+}
+
+/// Prints a number in decimal digits, whatever options are set.
+#[tactic(auto, using(crate::specs::TextLaws::short_text))]
+fn write_number<W: fmt::Write>(f: &mut fmt::Formatter<W>, n: u32) -> fmt::Result
+    ensures { WritesStyledOnOk W.write_str_gives f.old result (decimal n) f.new }
+{
+    let mut digits = InlineText::<10>::new();
+    digits.write(n)?;
+    f.write_str(digits.as_str())
+}
+
+/// Prints two numbers, with a full stop between them.
+#[tactic(auto, using(crate::specs::TextLaws::join_two))]
+fn write_first<W: fmt::Write>(f: &mut fmt::Formatter<W>, first: u32, second: u32) -> fmt::Result
+    ensures { WritesStyledOnOk W.write_str_gives f.old result
+        (decimal first ++ 46 ∷ decimal second) f.new }
+{
+    write_number(f, first)?;
+    write_further(f, second)
+}
+
+/// Prints a full stop and a number.
+#[tactic(auto, using(crate::specs::TextLaws::join_two))]
+fn write_further<W: fmt::Write>(f: &mut fmt::Formatter<W>, n: u32) -> fmt::Result
+    ensures { WritesStyledOnOk W.write_str_gives f.old result (46 ∷ decimal n) f.new }
+{
+    f.write_str(".")?;
+    write_number(f, n)
 }
 
 /// Returns the two arcs in the first subidentifier (X.690 section 8.19.4).

@@ -1,6 +1,7 @@
 //! A component that is always present, and the element of a value as a part: what [`Required`]
 //! does, for a type that is a part by itself.
-ghost use Rattle.std.specs.Prelude.{◌≡◌, ◌≤◌, ◌++◌, ℕ, List, length, false, true, Some, Ok};
+ghost use Rattle.std.specs.Fmt.{debug_variant};
+ghost use Rattle.std.specs.Prelude.{codes, ◌≡◌, ◌≤◌, ◌++◌, ℕ, List, length, false, true, Some, Ok};
 ghost use Rattle.std.specs.Prelude.{IsOkAnd, IsSomeAnd};
 ghost use Rattle.std.specs.Prelude.{IfOk, IfErr, OnOk, OnErr};
 ghost use Rattle.sec1_der.specs.Elements.{element_of, max_length, within_limit};
@@ -11,14 +12,16 @@ ghost use Rattle.sec1_der.specs.PartLaws.{element_begins};
 ghost use Rattle.sec1_der.specs.Readers.{reader_over, HasRead};
 ghost use Rattle.sec1_der.specs.Faults.{Fault, element_fault};
 
+use crate::debug_text::write_tuple;
 use crate::{
     BackWriter, DecodePart, DecodeValue, EncodePart, EncodeValue, ErrorKind, Length, Part, Result,
     SliceReader, Tagged, UniqueContent, UniquePart, ValueContent, encoded_len,
 };
+use std::fmt;
 use std::marker::Model;
 
 /// A component that is always present: the element of a value. A contract sees the value.
-#[derive(Clone, Copy, PartialEq, Eq, Debug, Drop)]
+#[derive(Clone, Copy, PartialEq, Eq, Drop)]
 pub struct Required<A>(pub A);
 
 impl<A> Model for Required<A> {
@@ -27,6 +30,14 @@ impl<A> Model for Required<A> {
     ghost view = { λ part. part.0 };
 
     ghost inverse = { λ value. record { 0 = value } };
+}
+
+impl<A: fmt::Debug> fmt::Debug for Required<A> {
+    ghost debug_output = { λ value. debug_variant (codes "Required") (A.debug_output value) };
+
+    fn fmt<W: fmt::Write>(&self, f: &mut fmt::Formatter<W>) -> fmt::Result {
+        write_tuple(f, "Required", &self.0)
+    }
 }
 
 impl<A: ValueContent + Tagged> Part for Required<A> {

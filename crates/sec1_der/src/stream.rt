@@ -1,12 +1,22 @@
 //! Byte readers and writers that remember a failure.
 ghost use Rattle.std.specs.Prelude.{ℕ, List, Option, None, Bool, false, IsTrue, IsErr, IfOk, OnOk};
-ghost use Rattle.std.specs.Prelude.{OnErr, ◌≤◌, ◌≡◌, ◌↔◌, length};
+ghost use Rattle.std.specs.Prelude.{Some, codes, OnErr, ◌≤◌, ◌≡◌, ◌↔◌, length};
 ghost use Rattle.std.specs.Io.KnownBytes.{Appends, ReadConsumes, WriteAppends};
 ghost use Rattle.sec1_der.specs.Streams.{AppendsPrefix};
 
+use std::fmt;
+
 /// The error of a failed read or write.
-#[derive(Clone, Copy, Debug, PartialEq, Eq)]
+#[derive(Clone, Copy, PartialEq, Eq)]
 pub struct IoFault;
+
+impl fmt::Debug for IoFault {
+    ghost debug_output = { λ _. Some (codes "IoFault") };
+
+    fn fmt<W: fmt::Write>(&self, f: &mut fmt::Formatter<W>) -> fmt::Result {
+        f.write_str("IoFault")
+    }
+}
 
 /// A reader that remembers a failure. Calls that take one require that it hasn't failed.
 pub trait Read {

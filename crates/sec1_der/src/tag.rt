@@ -1,11 +1,14 @@
 ghost use Rattle.std.specs.Prelude.{◌≡◌, ◌+◌, ◌≤◌, ◌↔◌, OkIff, IfErr, IsTrue, ℕ};
+ghost use Rattle.sec1_der.specs.DebugTexts.{tag_text};
 ghost use Rattle.sec1_der.specs.Elements.{IsTag, IsConstructed, explicit_tag};
 
+use crate::debug_text::write_struct;
 use crate::{ErrorKind, Result};
+use std::fmt;
 use std::marker::Model;
 
 /// The tag byte of an element (X.690 section 8.1.2). A contract sees its number.
-#[derive(Clone, Copy, Debug, PartialEq, Eq)]
+#[derive(Clone, Copy, PartialEq, Eq)]
 pub struct Tag {
     byte: u8,
 }
@@ -154,5 +157,14 @@ impl Tag {
         ensures { IsTrue result ↔ IsConstructed self }
     {
         self.byte & 0x20 != 0
+    }
+}
+
+/// Prints the byte in decimal.
+impl fmt::Debug for Tag {
+    ghost debug_output = { tag_text };
+
+    fn fmt<W: fmt::Write>(&self, f: &mut fmt::Formatter<W>) -> fmt::Result {
+        write_struct(f, "Tag", "byte", &self.byte)
     }
 }

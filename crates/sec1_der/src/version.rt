@@ -1,15 +1,24 @@
-ghost use Rattle.std.specs.Prelude.{◌≡◌, Some, [], ◌∷◌};
+ghost use Rattle.std.specs.Prelude.{◌≡◌, Some, [], ◌∷◌, codes};
 ghost use Rattle.sec1_der.specs.Contents.{IsVersionOne, byte_fault, only_one};
 
 use crate::{
     BackWriter, DecodeValue, EncodeValue, ErrorKind, FixedTag, Length, Result, SliceReader,
     SliceWriter, Tag, Tagged, UniqueContent, ValueContent,
 };
+use std::fmt;
 
 /// The version of an ECPrivateKey, the INTEGER 1 (RFC 5915 section 3). Its content is the byte
 /// `01`; any other is refused as Value.
-#[derive(Clone, Copy, PartialEq, Eq, Debug)]
+#[derive(Clone, Copy, PartialEq, Eq)]
 pub struct VersionOne;
+
+impl fmt::Debug for VersionOne {
+    ghost debug_output = { λ _. Some (codes "VersionOne") };
+
+    fn fmt<W: fmt::Write>(&self, f: &mut fmt::Formatter<W>) -> fmt::Result {
+        f.write_str("VersionOne")
+    }
+}
 
 impl Tagged for VersionOne {
     ghost tag_byte = { 0x02 };

@@ -13,6 +13,7 @@ mod memory;
 #[cfg(test)]
 mod nested;
 #[cfg(test)]
+mod printing;
 mod reading;
 #[cfg(test)]
 mod records;

@@ -3,6 +3,7 @@
 ghost use Rattle.std.specs.Prelude.{◌+◌, ◌*◌, ◌%◌, ◌^◌, fold};
 
 use sec1::Error;
+use sec1::der::{self, ErrorKind};
 use sec1::point::Coordinates::{Compressed, Identity};
 use sec1::point::{
     Coordinates, EncodedPoint, EncodedPoint28, EncodedPoint32, EncodedPoint48, EncodedPoint66, Tag,
@@ -194,32 +195,54 @@ fn lends_coordinates(rt: HostRuntime) -> Result<(), Fail> {
     Ok(())
 }
 
-// Prints coordinates.
+/// Returns the texts of coordinates by `{:?}` and by `{:#?}`, the second on the lines after the
+/// first.
 fn printed(alloc: Global, coordinates: Coordinates<'_, 2>) -> Result<String, Fail> {
-    Ok(format!(in alloc; "{coordinates:?}")?)
+    Ok(format!(in alloc; "{coordinates:?}\n{coordinates:#?}")?)
 }
 
 #[test]
 fn prints_coordinates(rt: HostRuntime) -> Result<(), Fail> {
     let alloc = rt.alloc();
     let (x, y) = (&[1, 255], &[0, 3]);
-    assert_eq!(rt; printed(alloc, Identity)?.as_str(), "Identity");
+    assert_eq!(rt; printed(alloc, Identity)?.as_str(), "Identity\nIdentity");
     assert_eq!(rt;
         printed(alloc, Coordinates::Compact { x })?.as_str(),
-        "Compact { x: [1, 255] }"
+        "Compact { x: [1, 255] }\nCompact {\n    x: [\n        1,\n        255,\n    ],\n}"
     );
     let y_is_odd = true;
     assert_eq!(rt;
         printed(alloc, Compressed { x, y_is_odd })?.as_str(),
-        "Compressed { x: [1, 255], y_is_odd: true }"
+        "Compressed { x: [1, 255], y_is_odd: true }\nCompressed {\n    x: [\n        1,\n        255,\n    ],\n    y_is_odd: true,\n}"
     );
     assert_eq!(rt;
         printed(alloc, Coordinates::Uncompressed { x, y })?.as_str(),
-        "Uncompressed { x: [1, 255], y: [0, 3] }"
+        "Uncompressed { x: [1, 255], y: [0, 3] }\nUncompressed {\n    x: [\n        1,\n        255,\n    ],\n    y: [\n        0,\n        3,\n    ],\n}"
     );
     assert_eq!(rt;
         printed(alloc, Coordinates::Hybrid { x, y })?.as_str(),
-        "Hybrid { x: [1, 255], y: [0, 3] }"
+        "Hybrid { x: [1, 255], y: [0, 3] }\nHybrid {\n    x: [\n        1,\n        255,\n    ],\n    y: [\n        0,\n        3,\n    ],\n}"
+    );
+    Ok(())
+}
+
+#[test]
+fn prints_the_same_whatever_is_asked(rt: HostRuntime) -> Result<(), Fail> {
+    let alloc = rt.alloc();
+    let point = Point1::from_bytes(&[2, 0xAF])?;
+    assert_eq!(rt;
+        format!(in alloc; "{point:>9}|{point:.1}|{point:<+09}|{point:#}")?.as_str(),
+        "02AF|02AF|02AF|02AF"
+    );
+    let error = Error::Asn1(der::Error::from(ErrorKind::Value));
+    assert_eq!(rt;
+        format!(in alloc; "{error:>60}|{error:.3}|{error:?}|{error:#?}")?.as_str(),
+        "SEC1 ASN.1 error: content not valid for its tag|SEC1 ASN.1 error: content not valid for its tag|Asn1(Error { kind: Value })|Asn1(\n    Error {\n        kind: Value,\n    },\n)"
+    );
+    let tag = Tag::HybridOddY;
+    assert_eq!(rt;
+        format!(in alloc; "{tag:?}|{tag:#?}|{tag:>20?}")?.as_str(),
+        "HybridOddY|HybridOddY|HybridOddY"
     );
     Ok(())
 }

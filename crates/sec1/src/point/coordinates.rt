@@ -1,11 +1,15 @@
 //! The coordinates of a point, by the form of its encoding.
 
+ghost use Rattle.std.specs.Fmt.{WritesOnOk, comma_space, decimal};
 ghost use Rattle.std.specs.Prelude.{◌≡◌, ◌↔◌, ◌-◌, ◌++◌, length, take, bytes_eq, IsTrue};
+ghost use Rattle.std.specs.Prelude.{[], if◌then◌else◌, nat_lt};
+ghost use Rattle.sec1_der.specs.DebugTexts.{bytes_text};
 ghost use Rattle.sec1_der.specs.Numbers.{number_of};
 ghost use Rattle.sec1.specs.Points.{point_from};
 ghost use Rattle.sec1.specs.Tags.{byte_of, message_len, point_tag};
 ghost use Rattle.sec1.specs.Coordinates.{AreWhole, array_bytes, first_bytes, coordinates_bytes};
 ghost use Rattle.sec1.specs.Coordinates.{coordinates_point};
+ghost use Rattle.sec1.specs.DebugTexts.{coordinates_text};
 ghost use Rattle.std.specs.Cmp.Lexicographic.{on_texts_equal};
 ghost use Rattle.std.specs.Cmp.{partial_equiv_from_equiv};
 
@@ -118,6 +122,15 @@ impl<'a, const N: usize> Coordinates<'a, N> {
 struct Coordinate<'a, const N: usize>(&'a [u8; N]);
 
 impl<const N: usize> Coordinate<'_, N> {
+    /// Prints each byte on a line of its own.
+    fn write_lines<W: fmt::Write>(&self, f: &mut fmt::Formatter<W>) -> fmt::Result {
+        let mut list = f.debug_list();
+        for i in 0..N {
+            list.entry(&self.0[i]);
+        }
+        list.finish()
+    }
+
     /// Returns `true` if the bytes are the same.
     #[tactic(auto, using(crate::proofs::CoordinateLemmas::compared_bytes))]
     fn is(self, other: Self) -> bool
@@ -135,12 +148,29 @@ impl<const N: usize> Coordinate<'_, N> {
 
 /// Prints the bytes as those of an array are printed.
 impl<const N: usize> fmt::Debug for Coordinate<'_, N> {
+    ghost debug_output = { λ coordinate. bytes_text (first_bytes N coordinate.0.now) };
+
     fn fmt<W: fmt::Write>(&self, f: &mut fmt::Formatter<W>) -> fmt::Result {
-        let mut list = f.debug_list();
-        for i in 0..N {
-            list.entry(&self.0[i]);
+        if f.alternate() {
+            return self.write_lines(f);
         }
-        list.finish()
+        f.write_str("[")?;
+        for i in 0..N {
+            write_item(f, i, self.0[i])?;
+        }
+        f.write_str("]")
+    }
+}
+
+/// Prints a byte in decimal, after a comma if it isn't the first.
+fn write_item<W: fmt::Write>(f: &mut fmt::Formatter<W>, index: usize, byte: u8) -> fmt::Result
+    ensures { WritesOnOk W.write_str_gives f.old result
+        ((if nat_lt 0 index then comma_space else []) ++ decimal byte) f.new }
+{
+    if index > 0 {
+        write!(f, ", {byte}")
+    } else {
+        write!(f, "{byte}")
     }
 }
 
@@ -164,8 +194,9 @@ impl<const N: usize> Eq for Coordinates<'_, N> {
     ghost laws = { on_texts_equal coordinates_bytes };
 }
 
-impl<const N: usize> fmt::Debug for Coordinates<'_, N> {
-    fn fmt<W: fmt::Write>(&self, f: &mut fmt::Formatter<W>) -> fmt::Result {
+impl<'a, const N: usize> Coordinates<'a, N> {
+    /// Prints the coordinates over several lines.
+    fn write_lines<W: fmt::Write>(&self, f: &mut fmt::Formatter<W>) -> fmt::Result {
         match *self {
             Coordinates::Identity => f.write_str("Identity"),
             Coordinates::Compact { x } => f
@@ -187,6 +218,32 @@ impl<const N: usize> fmt::Debug for Coordinates<'_, N> {
                 .field("x", &Coordinate(x))
                 .field("y", &Coordinate(y))
                 .finish(),
+        }
+    }
+}
+
+impl<const N: usize> fmt::Debug for Coordinates<'_, N> {
+    ghost debug_output = { coordinates_text };
+
+    fn fmt<W: fmt::Write>(&self, f: &mut fmt::Formatter<W>) -> fmt::Result {
+        if f.alternate() {
+            return self.write_lines(f);
+        }
+        match *self {
+            Coordinates::Identity => f.write_str("Identity"),
+            Coordinates::Compact { x } => write!(f, "Compact {{ x: {:?} }}", Coordinate(x)),
+            Coordinates::Compressed { x, y_is_odd } => {
+                let x = Coordinate(x);
+                write!(f, "Compressed {{ x: {x:?}, y_is_odd: {y_is_odd} }}")
+            }
+            Coordinates::Uncompressed { x, y } => {
+                let (x, y) = (Coordinate(x), Coordinate(y));
+                write!(f, "Uncompressed {{ x: {x:?}, y: {y:?} }}")
+            }
+            Coordinates::Hybrid { x, y } => {
+                let (x, y) = (Coordinate(x), Coordinate(y));
+                write!(f, "Hybrid {{ x: {x:?}, y: {y:?} }}")
+            }
         }
     }
 }

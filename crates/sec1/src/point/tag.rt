@@ -1,16 +1,19 @@
 //! The first byte of a point's encoding.
 
-ghost use Rattle.std.specs.Prelude.{◌≡◌, ◌<◌, ◌^◌, if◌then◌else◌};
+ghost use Rattle.std.specs.Fmt.{WritesOnOk, WritesStyledOnOk};
+ghost use Rattle.std.specs.Prelude.{◌≡◌, ◌<◌, ◌^◌, if◌then◌else◌, Some};
 ghost use Rattle.sec1_der.specs.Numbers.{number_of};
+ghost use Rattle.sec1.specs.DebugTexts.{tag_text};
 ghost use Rattle.sec1.specs.Points.{is_odd};
 ghost use Rattle.sec1.specs.Tags.{byte_of, ReadsTag, message_len, is_compact, is_compressed};
 ghost use Rattle.sec1.specs.Tags.{is_hybrid, is_identity};
 
 use crate::error::{Error, Result};
+use std::fmt;
 
 /// The first byte of a point's encoding: identity, compressed and uncompressed (SEC1 v2.0 section
 /// 2.3.3), compact, which has x alone, and hybrid, which has y and its parity (ANSI X9.62).
-#[derive(Clone, Copy, Debug, PartialEq, Eq)]
+#[derive(Clone, Copy, PartialEq, Eq)]
 pub enum Tag {
     /// The point at infinity.
     Identity = 0,
@@ -122,6 +125,26 @@ fn is_odd<const N: usize>(y: &[u8; N]) -> bool
     ensures { result ≡ is_odd (number_of y.now) }
 {
     N != 0 && y[N - 1] % 2 == 1
+}
+
+/// Prints the name of the tag, whatever options are set.
+impl fmt::Debug for Tag {
+    ghost debug_output = { λ tag. Some (tag_text tag) };
+
+    fn fmt<W: fmt::Write>(&self, f: &mut fmt::Formatter<W>) -> fmt::Result
+        ensures writes { WritesOnOk W.write_str_gives f.old result (tag_text self.now) f.new }
+        ensures styled { WritesStyledOnOk W.write_str_gives f.old result (tag_text self.now) f.new }
+    {
+        f.write_str(match self {
+            Tag::Identity => "Identity",
+            Tag::CompressedEvenY => "CompressedEvenY",
+            Tag::CompressedOddY => "CompressedOddY",
+            Tag::Uncompressed => "Uncompressed",
+            Tag::Compact => "Compact",
+            Tag::HybridEvenY => "HybridEvenY",
+            Tag::HybridOddY => "HybridOddY",
+        })
+    }
 }
 
 /// Returns a tag as [`Tag::from_u8`] does.

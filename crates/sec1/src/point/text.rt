@@ -1,6 +1,8 @@
 //! Points as hexadecimal text, JSON and owned bytes.
 
-ghost use Rattle.std.specs.Prelude.{◌≡◌, ◌/◌, ℕ, List, length, Some, IsTrue, IfOk, IfErr};
+ghost use Rattle.std.specs.Fmt.{WritesStyledOnOk, digit_glyph};
+ghost use Rattle.std.specs.Prelude.{◌≡◌, ◌/◌, ◌%◌, [], ◌∷◌, true, ℕ, List, length, Some};
+ghost use Rattle.std.specs.Prelude.{IsTrue, IfOk, IfErr};
 ghost use Rattle.std.specs.String.{string_bytes};
 ghost use Rattle.std.specs.Box.{boxed_slice_items};
 ghost use Rattle.hex.specs.Hex.{encode_upper, encode_lower, IsBytes};
@@ -17,6 +19,7 @@ use serde_json::Value;
 use std::alloc::Global;
 use std::boxed::BoxedSlice;
 use std::fmt;
+use std::fmt::{InlineText, Write};
 use std::str::FromStr;
 
 impl<const N: usize, const L: usize> EncodedPoint<N, L> {
@@ -148,15 +151,28 @@ impl<const N: usize, const L: usize> FromStr for EncodedPoint<N, L> {
     }
 }
 
-/// Prints the encoding in hexadecimal, with the letters A to F. A width is ignored.
+/// Prints the encoding in hexadecimal, with the letters A to F, whatever options are set.
 impl<const N: usize, const L: usize> fmt::Display for EncodedPoint<N, L> {
     ghost output = { λ point. Some (encode_upper (encoding N (point_of point))) };
 
+    ghost styled_output = { λ point _. Some (encode_upper (encoding N (point_of point))) };
+
+    #[tactic(auto, using(crate::proofs::HexLemmas::printed))]
     fn fmt<W: fmt::Write>(&self, f: &mut fmt::Formatter<W>) -> fmt::Result {
         let bytes = self.as_bytes();
         for byte in bytes {
-            write!(f, "{byte:02X}")?;
+            write_byte(f, *byte)?;
         }
         Ok(())
     }
+}
+
+/// Prints a byte as two digits, with the letters A to F, whatever options are set.
+fn write_byte<W: fmt::Write>(f: &mut fmt::Formatter<W>, byte: u8) -> fmt::Result
+    ensures { WritesStyledOnOk W.write_str_gives f.old result
+        (digit_glyph true (byte / 16) ∷ digit_glyph true (byte % 16) ∷ []) f.new }
+{
+    let mut digits = InlineText::<2>::new();
+    write!(digits, "{byte:02X}")?;
+    f.write_str(digits.as_str())
 }

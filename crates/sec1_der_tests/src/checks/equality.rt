@@ -3,8 +3,8 @@ ghost use Rattle.std.specs.Prelude.{◌≡◌, ◌≢◌, ◌↔◌, IsTrue, IsO
 ghost use Rattle.sec1_der.specs.Values.{octets_of, unused_bits_of, bit_bytes_of, tag_of, value_of};
 
 use sec1_der::{
-    AnyRef, BitStringRef, Error, ErrorKind, Header, ID_EC_PUBLIC_KEY, Length, ObjectIdentifier,
-    OctetStringRef, Tag, VersionOne,
+    AnyRef, BitStringRef, Containing, Error, ErrorKind, Header, ID_EC_PUBLIC_KEY, IoFault, Length,
+    ObjectIdentifier, OctetStringRef, Optional, Required, SmallInteger, Tag, VersionOne,
 };
 use std::alloc::AllocError;
 
@@ -240,6 +240,78 @@ pub fn cloned_identifier(value: &ObjectIdentifier) -> Cloned<ObjectIdentifier>
 
 /// The clone of a kind is the same, and never fails.
 pub fn cloned_kind(value: &ErrorKind) -> Cloned<ErrorKind>
+    ensures { IsOkAnd result (λ cloned. cloned ≡ value.now) }
+{
+    value.clone()
+}
+
+/// Two required components are equal exactly where what they hold is.
+pub fn same_required(a: &Required<ObjectIdentifier>, b: &Required<ObjectIdentifier>) -> bool
+    ensures { IsTrue result ↔ (a.now ≡ b.now) }
+{
+    a == b
+}
+
+/// Two optional components are equal exactly where what they hold is.
+pub fn same_optional(a: &Optional<ObjectIdentifier>, b: &Optional<ObjectIdentifier>) -> bool
+    ensures { IsTrue result ↔ (a.now ≡ b.now) }
+{
+    a == b
+}
+
+/// Two octet strings around an element are equal exactly where what they hold is.
+pub fn same_containing(a: &Containing<ObjectIdentifier>, b: &Containing<ObjectIdentifier>) -> bool
+    ensures { IsTrue result ↔ (a.now.value ≡ b.now.value) }
+{
+    a == b
+}
+
+/// All numbers of one type are equal.
+pub fn same_small_integer(a: &SmallInteger<1>, b: &SmallInteger<1>) -> bool
+    ensures { IsTrue result }
+{
+    a == b
+}
+
+/// All faults of a stream are equal.
+pub fn same_fault(a: IoFault, b: IoFault) -> bool
+    ensures { IsTrue result }
+{
+    a == b
+}
+
+/// The clone of a required component is the same, and never fails.
+pub fn cloned_required(value: &Required<ObjectIdentifier>) -> Cloned<Required<ObjectIdentifier>>
+    ensures { IsOkAnd result (λ cloned. cloned ≡ value.now) }
+{
+    value.clone()
+}
+
+/// The clone of an optional component is the same, and never fails.
+pub fn cloned_optional(value: &Optional<ObjectIdentifier>) -> Cloned<Optional<ObjectIdentifier>>
+    ensures { IsOkAnd result (λ cloned. cloned ≡ value.now) }
+{
+    value.clone()
+}
+
+/// The clone of an octet string around an element is the same, and never fails.
+pub fn cloned_containing(
+    value: &Containing<ObjectIdentifier>,
+) -> Cloned<Containing<ObjectIdentifier>>
+    ensures { IsOkAnd result (λ cloned. cloned ≡ value.now) }
+{
+    value.clone()
+}
+
+/// The clone of a number is the same, and never fails.
+pub fn cloned_small_integer(value: &SmallInteger<1>) -> Cloned<SmallInteger<1>>
+    ensures { IsOkAnd result (λ cloned. cloned ≡ value.now) }
+{
+    value.clone()
+}
+
+/// The clone of a fault of a stream is the same, and never fails.
+pub fn cloned_fault(value: &IoFault) -> Cloned<IoFault>
     ensures { IsOkAnd result (λ cloned. cloned ≡ value.now) }
 {
     value.clone()
