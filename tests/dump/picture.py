@@ -1,8 +1,9 @@
 """Draws DER as `sec1_dump` does, by a reader of its own: written from X.690, RFC 5915 and
 docs/FORMATS.md alone.
 
-    python3 tests/dump/picture.py [--all] FILE
+    python3 tests/dump/picture.py [--all] [--json] FILE
 """
+import json
 import string
 import sys
 
@@ -300,18 +301,30 @@ def advice(data, rows):
     return ""
 
 
-def picture(given, whole=False):
-    """Returns what is printed of an input, and the status."""
+def remark(given):
+    """Returns what is said of an input that isn't drawn, or None."""
     if len(given) > LIMIT:
-        return "input too long\n", 1
+        return "input too long\n"
     if given.startswith(b"-----BEGIN "):
         for front, words in LABELS.items():
             if given.startswith(b"-----BEGIN " + front.encode()):
-                return words, 1
+                return words
+    return None
+
+
+def decoded(given):
+    """Returns the bytes of an input."""
     digits = given.translate(None, b" \t\r\n")
-    data = given
     if len(digits) % 2 == 0 and all(chr(byte) in string.hexdigits for byte in digits):
-        data = bytes.fromhex(digits.decode())
+        return bytes.fromhex(digits.decode())
+    return given
+
+
+def picture(given, whole=False):
+    """Returns what is printed of an input, and the status."""
+    if remark(given) is not None:
+        return remark(given), 1
+    data = decoded(given)
     (key, part), tree, rows = key_fault(data), tree_fault(data), rows_of(data)
     text = "".join(line(data, row, key is None, whole) for row in rows)
     if key is None:
@@ -322,8 +335,36 @@ def picture(given, whole=False):
     return text + f"a key has here: {part}\n" + advice(data, rows), 1
 
 
+def row_value(data, row, is_key, whole):
+    """Returns an element as a value of JSON."""
+    offset, depth, tag, start, stop = row
+    content = b"" if tag & 32 else data[start:stop]
+    return {
+        "content": content.hex().upper() if whole else None, "depth": depth,
+        "header": data[offset:start].hex().upper(), "label": label(tag, data[start:stop]),
+        "length": stop - start, "note": note(depth, tag, content, is_key, whole), "offset": offset,
+    }
+
+
+def json_picture(given, whole=False):
+    """Returns the line of JSON that is printed of an input, and the status."""
+    said, key, part, tree, rows, is_key = remark(given), None, None, None, [], False
+    if said is None:
+        data = decoded(given)
+        (key, part), tree, drawn = key_fault(data), tree_fault(data), rows_of(data)
+        said, is_key = advice(data, drawn), key is None
+        rows = [row_value(data, row, is_key, whole) for row in drawn]
+    faults = [fault and {"offset": fault[0], "reason": WORDS[fault[1]]} for fault in (key, tree)]
+    value = {
+        "advice": said, "expected": part or "", "key": is_key, "key_fault": faults[0],
+        "rows": rows, "tree_fault": faults[1],
+    }
+    return json.dumps(value, separators=(",", ":")) + "\n", int(not is_key)
+
+
 if __name__ == "__main__":
     with open(sys.argv[-1], "rb") as file:
-        drawn, ended = picture(file.read(), "--all" in sys.argv)
+        draw = json_picture if "--json" in sys.argv else picture
+        drawn, ended = draw(file.read(), "--all" in sys.argv)
     sys.stdout.write(drawn)
     sys.exit(ended)

@@ -10,7 +10,10 @@ use Rattle.der_faults.specs.Places.{key_place, tree_place}
 use Rattle.der_rows.specs.Rows.{RowView}
 use Rattle.sec1_dump.specs.Forms.{advice, ec_public_key, explicit_form, form_of, has, inner_form, is_at, pbes2}
 use Rattle.sec1_dump.specs.Forms.{pem_form, sequence_form, zero_form}
-use Rattle.sec1_dump.specs.Hiding.{without_octets, HidesOctets, HidesOctetsOfInput}
+use Rattle.serde_json.specs.Data.{Data}
+use Rattle.sec1_dump.specs.Hiding.{without_octets, HidesOctets, HidesOctetsOfInput, HidesOctetsInJson}
+use Rattle.sec1_dump.specs.Hiding.{HidesOctetsOfJson}
+use Rattle.sec1_dump.specs.Json.{AreRowsData, IsJson, IsJsonLine, IsJsonOfInput, IsJsonUnlessPem, remark_data, row_data}
 use Rattle.sec1_dump.specs.Lines.{AreLines, line}
 use Rattle.sec1_dump.specs.Notes.{IsNote}
 use Rattle.sec1_dump.specs.Picture.{IsPicture, IsPictureOfInput, IsPictureUnlessPem, bytes_of, is_faultless, verdict}
@@ -117,3 +120,38 @@ input_hidden input text status (inr (short, printed)) = inr (by (pem_form input)
         → ((form : Form) × (text ≡ advice form)) ⊎ HidesOctets (bytes_of input) text
     by None picture = inr (octets_are_hidden (bytes_of input) text status picture)
     by (Some form) remark = inl (form, remark.said)
+
+-- the elements of JSON are those of rows with no content in an OCTET STRING
+data_hidden : (row : RowView) (note : List ℕ) → row_data false row note ≡ row_data false (without_octets row) note
+data_hidden row note = ⊎_elim
+    (λ four. rw four refl)
+    (λ other. let same : without_octets row ≡ row = rw (ne_eqb row.tag 4 other) refl in
+    ap (λ r. row_data false r note) (sym same))
+    (cases_eq row.tag 4)
+
+values_hidden : (is_key : Bool) (rows : List RowView) (values : List Data) → AreRowsData false is_key rows values
+    → AreRowsData false is_key (map without_octets rows) values
+values_hidden is_key [] values none = none
+values_hidden is_key (row ∷ rows) values (value, more, (note, is, same), rest, whole) =
+    let h = row_hidden is_key row note is in
+    (value, more, (note, h.note_is, same ∙ data_hidden row note), values_hidden is_key rows more rest, whole)
+
+json_hidden : (bytes text : List ℕ) (status : ℕ) → IsJson false bytes text status → HidesOctetsInJson bytes text
+json_hidden bytes text status p = record {
+  rows = p.rows;
+  values = p.values;
+  are_rows = p.are_rows;
+  are_values = values_hidden (is_faultless (key_place bytes)) p.rows p.values p.are_values;
+  whole = rw (form_hidden p.rows) p.whole;
+}
+
+-- and so does the JSON of an input
+pub json_of_input_hidden : (input text : List ℕ) (status : ℕ) → IsJsonOfInput false input text status
+    → HidesOctetsOfJson input text
+json_of_input_hidden input text status (inl (long, remark)) = inl remark.line
+json_of_input_hidden input text status (inr (short, printed)) = inr (by (pem_form input) printed)
+  where
+    by : (form : Option Form) → IsJsonUnlessPem false form input text status
+        → ((form : Form) × IsJsonLine (remark_data (advice form)) text) ⊎ HidesOctetsInJson (bytes_of input) text
+    by None json = inr (json_hidden (bytes_of input) text status json)
+    by (Some form) remark = inl (form, remark.line)

@@ -2,3 +2,4 @@ pub mod TextLemmas
 pub mod LineLemmas
 pub mod PictureLemmas
 pub mod HidingLemmas
+pub mod JsonLemmas

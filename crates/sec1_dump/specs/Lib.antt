@@ -5,4 +5,5 @@ pub mod Lines
 pub mod Forms
 pub mod Reasons
 pub mod Picture
+pub mod Json
 pub mod Hiding

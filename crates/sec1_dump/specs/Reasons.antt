@@ -36,6 +36,10 @@ expected PublicKey = codes "[1] (A1) with a BIT STRING (03), the public key, of 
 expected Fields = codes "at most [0] (A0), and then [1] (A1), after the private key"
 expected End = codes "nothing, after its SEQUENCE"
 
+abbrev pub expected_text : Option KeyPart → List ℕ
+expected_text None = []
+expected_text (Some part) = expected part
+
 -- the line for the part of a key that bytes don't have, if there is one
 abbrev pub expected_line : Option KeyPart → List ℕ
 expected_line None = []

@@ -54,7 +54,7 @@ fn remark(alloc: Global, text: &str) -> Result<Picture, AllocError>
 
 /// Returns the bytes of an input: those that its digits encode, if it is hexadecimal, or else its
 /// own. Fails only if an allocation fails.
-fn bytes_of(alloc: Global, input: &[u8]) -> Result<Vec<u8>, AllocError>
+pub(crate) fn bytes_of(alloc: Global, input: &[u8]) -> Result<Vec<u8>, AllocError>
     ensures { IfOk result (λ bytes. bytes.items ≡ bytes_of input.now) }
 {
     let digits = without_blanks(alloc, input)?;

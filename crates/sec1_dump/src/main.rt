@@ -9,8 +9,10 @@ mod notes;
 mod picture;
 mod reasons;
 mod text;
+mod values;
 
 use crate::input::{LIMIT, picture_of_input};
+use crate::values::json_of_input;
 use clap::{Arg, ArgAction, ArgMatches, Command, Error};
 use std::alloc::{AllocError, Global};
 use std::io::Read as _;
@@ -55,11 +57,16 @@ fn parsed<'a>(alloc: Global, words: &'a [String]) -> Result<ArgMatches<'a>, Erro
         .long("all")
         .action(ArgAction::SetTrue)
         .help("Shows the content of each element too, private keys among them");
+    let json = Arg::new(alloc, "json")
+        .long("json")
+        .action(ArgAction::SetTrue)
+        .help("Prints a line of JSON");
     let file = Arg::new(alloc, "FILE").help("DER, hexadecimal or PEM; standard input if absent");
     Command::new(alloc, "sec1_dump")
         .version("0.1.0")
         .about("Draws the elements of DER, and names the fields of an EC private key")
         .arg(all)?
+        .arg(json)?
         .arg(file)?
         .try_get_matches_from(words)
 }
@@ -94,7 +101,12 @@ fn dump<H: AllocGlobal + Files + Input + Print>(
             read_input(alloc, file)?
         }
     };
-    let picture = picture_of_input(alloc, matches.get_flag("all"), &input)?;
+    let all = matches.get_flag("all");
+    let picture = if matches.get_flag("json") {
+        json_of_input(alloc, all, &input)?
+    } else {
+        picture_of_input(alloc, all, &input)?
+    };
     match print!(rt; "{}", picture.text) {
         Ok(()) => Ok(picture.status),
         Err(_) => Err(Failure::Output),

@@ -21,7 +21,7 @@ pub struct Picture {
 }
 
 /// Returns all rows of these bytes. Fails only if an allocation fails.
-fn all_rows(alloc: Global, bytes: &[u8]) -> Result<Vec<Row<'_>>, AllocError>
+pub(crate) fn all_rows(alloc: Global, bytes: &[u8]) -> Result<Vec<Row<'_>>, AllocError>
     ensures { IfOk result (λ rows. AreRows bytes.now (map row_view rows.items)) }
 {
     let mut rows = Rows::new(bytes);
@@ -33,7 +33,7 @@ fn all_rows(alloc: Global, bytes: &[u8]) -> Result<Vec<Row<'_>>, AllocError>
 }
 
 /// Returns what helps, if that is known.
-fn advice_of(form: Option<Form>) -> &'static str
+pub(crate) fn advice_of(form: Option<Form>) -> &'static str
     ensures { result.now ≡ advice_of form }
 {
     match form {

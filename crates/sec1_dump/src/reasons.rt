@@ -1,13 +1,14 @@
 //! Why bytes are refused.
 ghost use Rattle.std.specs.Prelude.{◌≡◌, IfOk, codes, string_bytes};
-ghost use Rattle.sec1_dump.specs.Reasons.{expected, expected_line, fault_line, kind_words};
+ghost use Rattle.sec1_dump.specs.Reasons.{expected, expected_line, expected_text, fault_line};
+ghost use Rattle.sec1_dump.specs.Reasons.{kind_words};
 
 use der_faults::{Fault, KeyPart};
 use sec1_der::ErrorKind;
 use std::alloc::{AllocError, Global};
 
 /// Returns the words for a kind.
-fn kind_words(kind: ErrorKind) -> &'static str
+pub(crate) fn kind_words(kind: ErrorKind) -> &'static str
     ensures { result.now ≡ kind_words kind }
 {
     match kind {
@@ -52,6 +53,16 @@ fn expected(part: KeyPart) -> &'static str
         KeyPart::PublicKey => "[1] (A1) with a BIT STRING (03), the public key, of whole bytes",
         KeyPart::Fields => "at most [0] (A0), and then [1] (A1), after the private key",
         KeyPart::End => "nothing, after its SEQUENCE",
+    }
+}
+
+/// Returns what a key has where bytes are refused, if they are.
+pub(crate) fn expected_text(part: Option<KeyPart>) -> &'static str
+    ensures { result.now ≡ expected_text part }
+{
+    match part {
+        None => "",
+        Some(part) => expected(part),
     }
 }
 
