@@ -1,9 +1,9 @@
 ghost use Rattle.std.specs.Prelude.{◌≡◌, ◌+◌, ◌<◌, ◌^◌, ◌++◌, Some, None, length, IfSome};
 ghost use Rattle.std.specs.Prelude.{MatchOption};
-ghost use Rattle.der_rows.specs.Rows.{Undrawn, concatenated, left, next, row_view};
-ghost use Rattle.der_rows.specs.Rows.{undrawn};
+ghost use Rattle.der_rows.specs.Rows.{Undrawn, concatenated, is_constructed, left, next};
+ghost use Rattle.der_rows.specs.Rows.{row_view, undrawn};
 
-use crate::element::element_at;
+use crate::element::{element_at, is_constructed};
 use crate::levels::Levels;
 use sec1_der::MAX_DEPTH;
 use std::marker::Model;
@@ -25,6 +25,16 @@ pub struct Row<'a> {
     /// The content of a primitive element. It is empty for a constructed one, whose content has
     /// rows of its own (X.690 section 8.1.2.5).
     pub content: &'a [u8],
+}
+
+impl<'a> Row<'a> {
+    /// Returns `true` if the content of the element is elements, which have rows of their own
+    /// (X.690 section 8.1.2.5).
+    pub fn is_constructed(&self) -> bool
+        ensures { result ≡ is_constructed self.now.tag }
+    {
+        is_constructed(self.tag)
+    }
 }
 
 /// The rows of some bytes that are still to come. A contract sees the bytes that have no row yet.

@@ -8,9 +8,6 @@ ghost use Rattle.sec1_dump.specs.Names.{type_name, universal_name, value_label};
 use der_rows::Row;
 use std::alloc::{AllocError, Global};
 
-/// The bit of a tag byte that marks a constructed element (X.690 section 8.1.2.5).
-const CONSTRUCTED: u8 = 0x20;
-
 /// Returns the name of the universal type with this tag byte (X.680 section 8.4); `None` if the
 /// table has none.
 fn universal_name(tag: u8) -> Option<&'static str>
@@ -123,7 +120,7 @@ fn value_label(alloc: Global, row: &Row) -> Result<String, AllocError>
 pub(crate) fn label(alloc: Global, row: &Row) -> Result<String, AllocError>
     ensures { IfOk result (λ text. string_bytes text ≡ label (row_view row.now)) }
 {
-    if row.tag & CONSTRUCTED != 0 {
+    if row.is_constructed() {
         type_name(alloc, row.tag)
     } else {
         value_label(alloc, row)
