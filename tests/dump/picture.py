@@ -266,6 +266,8 @@ def line(data, row, is_key, whole):
     content = b"" if tag & 32 else data[start:stop]
     words = "  " * depth + label(tag, data[start:stop])
     remark = note(depth, tag, content, is_key, whole)
+    if len(remark) > 40:
+        remark = f"{remark[:37]}... ({len(remark)} characters)"
     if remark:
         words += " " * max(1, 29 - len(words)) + remark
     if whole:

@@ -1,7 +1,8 @@
 -- The lines of a picture.
 use Rattle.std.specs.Prelude.{◌≡◌, ℕ, ◌+◌, ◌-◌, ◌*◌, max, Bool, if◌then◌else◌, List, [], ◌∷◌, ◌++◌}
-use Rattle.std.specs.Prelude.{length, codes}
+use Rattle.std.specs.Prelude.{length, codes, nat_le}
 use Rattle.std.specs.Fmt.{decimal}
+use Rattle.std.specs.Fmt.Cut.{cut_to}
 use Rattle.der_rows.specs.Rows.{RowView}
 use Rattle.sec1_dump.specs.Names.{label}
 use Rattle.sec1_dump.specs.Notes.{IsNote}
@@ -16,6 +17,12 @@ columns row =
     spaces (4 - length offset) ++ (offset ++ (header
     ++ (spaces (max 1 (20 - (length header + length count))) ++ (count ++ codes "  "))))
 
+-- a note of at most 40 characters, or the first 37 of a longer one, three dots, and its length
+abbrev pub cut_note : List ℕ → List ℕ
+cut_note note =
+    if nat_le (length note) 40 then note
+    else cut_to 40 note ++ (codes " (" ++ (decimal (length note) ++ codes " characters)"))
+
 -- a label, and a note in a column of its own if there is one
 abbrev pub with_note : List ℕ → List ℕ → List ℕ
 with_note label [] = label
@@ -29,7 +36,7 @@ shown all content = if all then hex_lines (codes "\n" ++ spaces 25) 0 content el
 -- the line of an element, with this note
 abbrev pub line : Bool → RowView → List ℕ → List ℕ
 line all row note =
-    columns row ++ (with_note (spaces (2 * row.depth) ++ label row) note
+    columns row ++ (with_note (spaces (2 * row.depth) ++ label row) (cut_note note)
     ++ (shown all row.content ++ codes "\n"))
 
 -- the lines of elements, one after the other

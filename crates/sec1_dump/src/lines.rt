@@ -3,13 +3,14 @@ ghost use Rattle.std.specs.Prelude.{◌≡◌, ◌*◌, ◌++◌, IfOk, codes, m
 ghost use Rattle.der_rows.specs.Rows.{row_view};
 ghost use Rattle.sec1_dump.specs.Names.{label};
 ghost use Rattle.sec1_dump.specs.Text.{spaces};
-ghost use Rattle.sec1_dump.specs.Lines.{AreLines, columns, line, shown, with_note};
+ghost use Rattle.sec1_dump.specs.Lines.{AreLines, columns, cut_note, line, shown, with_note};
 
 use crate::names::label;
 use crate::notes::note;
 use crate::text::{hex_lines, hex_words, spaces};
 use der_rows::Row;
 use std::alloc::{AllocError, Global};
+use std::fmt::InlineText;
 
 /// The width of an offset.
 const OFFSET_WIDTH: usize = 4;
@@ -19,6 +20,9 @@ const HEADER_WIDTH: usize = 20;
 
 /// The width of a label.
 const LABEL_WIDTH: usize = 29;
+
+/// The greatest width of a note.
+const NOTE_WIDTH: usize = 40;
 
 /// Returns the offset, the bytes of the header, and the length of the content. Fails only if an
 /// allocation fails.
@@ -32,6 +36,20 @@ fn columns(alloc: Global, row: &Row) -> Result<String, AllocError>
     let width = header.len().saturating_add(count.len());
     let between = spaces(alloc, HEADER_WIDTH.saturating_sub(width).max(1))?;
     format!(in alloc; "{before}{offset}{header}{between}{count}  ")
+}
+
+/// Returns the note, or the beginning of a long one and its length. Fails only if an allocation
+/// fails.
+fn cut_note(alloc: Global, note: &str) -> Result<String, AllocError>
+    ensures { IfOk result (λ text. string_bytes text ≡ cut_note note.now) }
+{
+    let count = note.len();
+    if count <= NOTE_WIDTH {
+        return note.to_string(alloc);
+    }
+    let front = InlineText::<64>::new().and_str(note, NOTE_WIDTH);
+    let front = front.as_str();
+    format!(in alloc; "{front} ({count} characters)")
 }
 
 /// Returns the label, and the note in a column of its own if there is one. Fails only if an
@@ -74,7 +92,8 @@ fn line(alloc: Global, all: bool, row: &Row, note: &str) -> Result<String, Alloc
 {
     let columns = columns(alloc, row)?;
     let label = indented_label(alloc, row)?;
-    let labels = with_note(alloc, label, note)?;
+    let note = cut_note(alloc, note)?;
+    let labels = with_note(alloc, label, note.as_str())?;
     let shown = shown(alloc, all, row.content)?;
     format!(in alloc; "{columns}{labels}{shown}\n")
 }
