@@ -8,7 +8,7 @@ use Rattle.sec1_der.specs.PartLaws.{parted}
 use Rattle.sec1_der.proofs.FaultLaws.{element_at}
 use Rattle.sec1_der.specs.Faults.{Fault}
 use Rattle.der_types.specs.Integers.{is_unsigned, unsigned_content}
-use Rattle.der_types.specs.IntegerLaws.{is_unsigned-unsigned_content}
+use Rattle.der_types.proofs.IntegerLaws.{is_unsigned-unsigned_content}
 use Rattle.der_types.specs.Leaves.{content_if}
 use Rattle.der_types.specs.Rows.{elements_fault, row_of}
 use Rattle.der_types.specs.Sets.{is_ascending, set_of}

@@ -55,6 +55,7 @@ pub fn first_content(bytes: &[u8]) -> der::Result<&[u8]>
     ensures kinds { IfErr result (λ e. IsHeaderFault e.kind) }
     ensures fault { LacksHeader bytes.now → Refuses result (header_fault bytes.now) }
 {
+    der::laws::bytes_without_header();
     let any = AnyRef::decode(&mut SliceReader::new(bytes))?;
     Ok(any.value())
 }

@@ -28,10 +28,6 @@ impl FixedTag for Null {
 impl ValueContent for Null {
     ghost content = { λ _. Some [] };
 
-    ghost is_content = { λ bytes. Some [] ≡ Some bytes };
-
-    ghost content_is_valid = { λ _ _ same _. same };
-
     ghost fault = { λ bytes. value_unless (length bytes == 0) };
 }
 

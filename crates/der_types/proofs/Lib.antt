@@ -1,4 +1,6 @@
 pub mod StringLaws
+pub mod IntegerLaws
+pub mod BooleanLaws
 pub mod ObjectIdentifierLaws
 pub mod TimeLaws
 pub mod StringLemmas

@@ -9,8 +9,8 @@ use Rattle.std.specs.Int.Digits.{digits_of, AllBelowBase}
 use Rattle.sec1_der.specs.Numbers.{base128, marked}
 use Rattle.sec1_der.specs.Identifiers.{content_of}
 use Rattle.sec1_der.specs.ArcsOf.{numbers_after, arcs_of_numbers, arcs_of}
-use Rattle.sec1_der.specs.DigitLaws.{digits_of-push}
-use Rattle.sec1_der.specs.DigitLaws.{marked_step}
+use Rattle.sec1_der.proofs.DigitLaws.{digits_of-push}
+use Rattle.sec1_der.proofs.DigitLaws.{marked_step}
 use Rattle.der_types.specs.ObjectIdentifiers.{AreArcsOfAnySize, are_subidentifiers}
 use Rattle.der_types.specs.ObjectIdentifiers.{is_object_identifier}
 

@@ -4,11 +4,11 @@ use Rattle.std.proofs.Common.{List, [], ◌∷◌, length, take, drop, get_or, s
 use Rattle.std.proofs.lemmas.Bool.Decides.{nat_tests}
 use Rattle.std.proofs.lemmas.Int.Digits.{first_digits_of}
 use Rattle.std.specs.Int.Digits.{digits_of, number_from_digits_after}
-use Rattle.sec1_der.specs.DigitLaws.{IsBytes, IsBytes-below}
+use Rattle.sec1_der.proofs.DigitLaws.{IsBytes, IsBytes-below}
 use Rattle.sec1_der.specs.Numbers.{number_of}
 use Rattle.der_types.specs.Integers.{is_unsigned, unsigned_content, with_sign}
-use Rattle.der_types.specs.IntegerLaws.{is_unsigned-unsigned_content, number_of-unsigned_content}
-use Rattle.der_types.specs.IntegerLaws.{unsigned_content-number_of, unsigned_content-injective}
+use Rattle.der_types.proofs.IntegerLaws.{is_unsigned-unsigned_content, number_of-unsigned_content}
+use Rattle.der_types.proofs.IntegerLaws.{unsigned_content-number_of, unsigned_content-injective}
 
 -- bytes that pass the test are the content of the number that they encode
 pub content-number : (bytes : List ℕ) → IsBytes bytes → is_unsigned bytes ≡ true

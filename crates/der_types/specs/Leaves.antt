@@ -1,7 +1,6 @@
 -- Values that are known by their contents.
-use Rattle.std.specs.Prelude.{◌≡◌, ℕ, nat_lt, Bool, true, if◌then◌else◌, List, length}
+use Rattle.std.specs.Prelude.{ℕ, nat_lt, Bool, if◌then◌else◌, List, length}
 use Rattle.std.specs.Prelude.{Option, Some, None}
-use Rattle.std.proofs.Common.{arith}
 use Rattle.sec1_der.specs.Contents.{value_unless}
 use Rattle.sec1_der.specs.Elements.{max_length}
 use Rattle.sec1_der.specs.declared.error.ErrorKind.{ErrorKind}
@@ -15,15 +14,3 @@ content_if passes bytes = if passes bytes then Some bytes else None
 abbrev pub new_fault : (List ℕ → Bool) → List ℕ → Option ErrorKind
 new_fault passes content =
     if nat_lt max_length (length content) then Some Overlength else value_unless (passes content)
-
--- a content passes the test
-pub passes-content_if : (passes : List ℕ → Bool) (bytes content : List ℕ)
-    → content_if passes bytes ≡ Some content → passes content ≡ true
-passes-content_if passes bytes content same = grind arith
-
--- bytes that are a content which passes the test pass it
-pub passes-same : (passes : List ℕ → Bool) (content bytes : List ℕ)
-    → passes content ≡ true → Some content ≡ Some bytes → passes bytes ≡ true
-passes-same passes content bytes passed same =
-    let bytes_are : content ≡ bytes = cc in
-    rw (← bytes_are) passed

@@ -1,7 +1,5 @@
 pub mod Integers
-pub mod IntegerLaws
 pub mod Booleans
-pub mod BooleanLaws
 pub mod ObjectIdentifiers
 pub mod Times
 pub mod Strings

@@ -5,7 +5,7 @@ ghost use Rattle.sec1_der.specs.Contents.{AreBits, is_bit_string, bit_string_fau
 ghost use Rattle.sec1_der.specs.Elements.{max_length};
 ghost use Rattle.sec1_der.specs.ErrorKinds.{Refuses};
 ghost use Rattle.der_types.specs.BitStrings.{BitString, bit_string_content};
-ghost use Rattle.der_types.specs.Leaves.{content_if, passes-content_if};
+ghost use Rattle.der_types.specs.Leaves.{content_if};
 
 use sec1_der::{
     BackWriter, BitStringRef, DecodeValue, EncodeValue, ErrorKind, Length, Result, SliceReader,
@@ -92,11 +92,6 @@ impl Tagged for Bits<'_> {
 
 impl ValueContent for Bits<'_> {
     ghost content = { bit_string_content };
-
-    ghost is_content = { λ bytes. is_bit_string bytes ≡ true };
-
-    ghost content_is_valid = { λ bits bytes same _.
-        passes-content_if is_bit_string (bits.unused ∷ bits.bytes) bytes same };
 
     ghost fault = { bit_string_fault };
 }

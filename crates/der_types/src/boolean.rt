@@ -2,8 +2,6 @@
 ghost use Rattle.std.specs.Prelude.{◌≡◌, [], ◌∷◌, true, false, Some, refl};
 ghost use Rattle.sec1_der.specs.Contents.{value_unless};
 ghost use Rattle.der_types.specs.Booleans.{boolean_content, is_boolean};
-ghost use Rattle.der_types.specs.BooleanLaws.{is_boolean-boolean_content};
-ghost use Rattle.der_types.specs.Leaves.{passes-same};
 
 use crate::HasDefault;
 use crate::debug_text::write_tuple;
@@ -58,12 +56,6 @@ impl Tagged for Boolean {
 
 impl ValueContent for Boolean {
     ghost content = { λ value. Some (boolean_content value) };
-
-    ghost is_content = { λ bytes. is_boolean bytes ≡ true };
-
-    ghost content_is_valid = { λ value bytes same _.
-        passes-same is_boolean (boolean_content value) bytes
-        (is_boolean-boolean_content value) same };
 
     ghost fault = { λ bytes. value_unless (is_boolean bytes) };
 }

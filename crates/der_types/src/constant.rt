@@ -44,10 +44,6 @@ impl<K: ConstantContent> Tagged for Constant<K> {
 impl<K: ConstantContent> ValueContent for Constant<K> {
     ghost content = { λ _. Some K.constant };
 
-    ghost is_content = { λ bytes. Some K.constant ≡ Some bytes };
-
-    ghost content_is_valid = { λ _ _ same _. same };
-
     ghost fault = { λ bytes. value_unless (bytes_eq bytes K.constant) };
 }
 

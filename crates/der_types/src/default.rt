@@ -126,11 +126,6 @@ impl<A: Tagged> Tagged for NotDefault<A> {
 impl<A: HasDefault> ValueContent for NotDefault<A> {
     ghost content = { λ value. other_content A.default_content (A.content value) };
 
-    ghost is_content = { λ bytes. (value : A)
-        × (other_content A.default_content (A.content value) ≡ Some bytes) };
-
-    ghost content_is_valid = { λ value _ same _. (value, same) };
-
     ghost fault = { other_fault A.default_content A.fault };
 }
 

@@ -48,10 +48,6 @@ impl<K: Tagged, A> Tagged for Implicit<K, A> {
 impl<K, A: ValueContent> ValueContent for Implicit<K, A> {
     ghost content = { A.content };
 
-    ghost is_content = { A.is_content };
-
-    ghost content_is_valid = { A.content_is_valid };
-
     ghost fault = { A.fault };
 }
 

@@ -19,7 +19,7 @@ ghost use Rattle.der_types.specs.declared.time.DateTime.{DateTime};
 
 /// A number that isn't negative has one content, and the bytes that pass the test are the contents
 /// (X.690 section 8.3).
-#[tactic(auto, using(crate::specs::IntegerLaws::unsigned_laws))]
+#[tactic(auto, using(crate::proofs::IntegerLaws::unsigned_laws))]
 pub fn unsigned_integers()
     ensures passes { (n : ℕ) → is_unsigned (unsigned_content n) ≡ true }
     ensures number { (n : ℕ) → number_of (unsigned_content n) ≡ n }
@@ -29,7 +29,7 @@ pub fn unsigned_integers()
 {}
 
 /// A number has one content, and the bytes that pass the test are the contents (X.690 section 8.3).
-#[tactic(auto, using(crate::specs::IntegerLaws::signed_laws))]
+#[tactic(auto, using(crate::proofs::IntegerLaws::signed_laws))]
 pub fn signed_integers()
     ensures passes { (z : ℤ) → is_integer (signed_content z) ≡ true }
     ensures number { (z : ℤ) → signed_number (signed_content z) ≡ z }
@@ -53,7 +53,7 @@ pub fn example_integers()
 
 /// FALSE and TRUE have one content each, and the bytes that pass the test are these two (X.690
 /// section 11.1).
-#[tactic(auto, using(crate::specs::BooleanLaws::boolean_laws))]
+#[tactic(auto, using(crate::proofs::BooleanLaws::boolean_laws))]
 pub fn booleans()
     ensures passes { (value : Bool) → is_boolean (boolean_content value) ≡ true }
     ensures content { (bytes : List ℕ) → is_boolean bytes ≡ true

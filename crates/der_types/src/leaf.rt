@@ -1,6 +1,6 @@
 //! A value that is known by its content: a tag, and a test of contents.
 ghost use Rattle.std.specs.Prelude.{◌≡◌, ℕ, List, true, Some, IfOk};
-ghost use Rattle.der_types.specs.Leaves.{content_if, new_fault, passes-content_if};
+ghost use Rattle.der_types.specs.Leaves.{content_if, new_fault};
 ghost use Rattle.sec1_der.specs.Contents.{value_unless};
 ghost use Rattle.sec1_der.specs.Faults.{HasFault};
 
@@ -77,11 +77,6 @@ impl<K: Kind + Tagged> Tagged for Leaf<'_, K> {
 
 impl<K: Kind> ValueContent for Leaf<'_, K> {
     ghost content = { content_if K.passes };
-
-    ghost is_content = { λ content. K.passes content ≡ true };
-
-    ghost content_is_valid = { λ bytes content same _.
-        passes-content_if K.passes bytes content same };
 
     ghost fault = { λ content. value_unless (K.passes content) };
 }

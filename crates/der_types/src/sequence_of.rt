@@ -165,11 +165,6 @@ impl<T> Tagged for SequenceOf<'_, T> {
 impl<T: ValueContent + Tagged> ValueContent for SequenceOf<'_, T> {
     ghost content = { row_of T.tag_byte T.fault };
 
-    ghost is_content = { λ content. (bytes : List ℕ)
-        × (row_of T.tag_byte T.fault bytes ≡ Some content) };
-
-    ghost content_is_valid = { λ bytes _ same _. (bytes, same) };
-
     ghost fault = { row_fault T.tag_byte T.fault };
 }
 

@@ -118,11 +118,6 @@ impl<T> Tagged for SetOf<'_, T> {
 impl<T: ValueContent + Tagged> ValueContent for SetOf<'_, T> {
     ghost content = { set_of T.tag_byte T.fault };
 
-    ghost is_content = { λ content. (bytes : List ℕ)
-        × (set_of T.tag_byte T.fault bytes ≡ Some content) };
-
-    ghost content_is_valid = { λ bytes _ same _. (bytes, same) };
-
     ghost fault = { set_fault T.tag_byte T.fault };
 }
 

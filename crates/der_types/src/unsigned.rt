@@ -6,8 +6,7 @@ ghost use Rattle.sec1_der.specs.Contents.{value_unless};
 ghost use Rattle.sec1_der.specs.Numbers.{number_of};
 ghost use Rattle.sec1_der.specs.Faults.{HasFault};
 ghost use Rattle.der_types.specs.Integers.{is_unsigned, unsigned_content};
-ghost use Rattle.der_types.specs.IntegerLaws.{is_unsigned-unsigned_content};
-ghost use Rattle.der_types.specs.Leaves.{new_fault, passes-same};
+ghost use Rattle.der_types.specs.Leaves.{new_fault};
 
 use crate::integer::is_unsigned;
 use sec1_der::{
@@ -124,12 +123,6 @@ impl Tagged for Unsigned<'_> {
 
 impl ValueContent for Unsigned<'_> {
     ghost content = { λ number. Some (unsigned_content number) };
-
-    ghost is_content = { λ bytes. is_unsigned bytes ≡ true };
-
-    ghost content_is_valid = { λ number bytes same _.
-        passes-same is_unsigned (unsigned_content number) bytes
-        (is_unsigned-unsigned_content number) same };
 
     ghost fault = { λ bytes. value_unless (is_unsigned bytes) };
 }

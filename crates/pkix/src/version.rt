@@ -57,11 +57,6 @@ impl ValueContent for LaterVersion {
 
     ghost content = { λ version. Some (later_version_content version) };
 
-    ghost is_content = { λ content. (version : LaterVersion)
-        × (Some (later_version_content version) ≡ Some content) };
-
-    ghost content_is_valid = { λ version _ same _. (version, same) };
-
     ghost fault = { λ content. value_unless (is_later_version content) };
 }
 

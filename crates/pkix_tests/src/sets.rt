@@ -1,7 +1,5 @@
 //! SET OF: elements in order, out of order and of unequal lengths.
 ghost use Rattle.std.specs.Prelude.{◌≡◌, ◌==◌, ◌∷◌, [], length, Some};
-ghost use Rattle.std.proofs.Common.{ap};
-ghost use Rattle.std.specs.Option.{option_map};
 ghost use Rattle.sec1_der.specs.Contents.{value_unless};
 
 use der_types::SetOf;
@@ -28,10 +26,6 @@ impl Tagged for Digit {
 
 impl ValueContent for Digit {
     ghost content = { λ digit. Some (digit.byte ∷ []) };
-
-    ghost is_content = { λ bytes. Some 1 ≡ Some (length bytes) };
-
-    ghost content_is_valid = { λ _ _ same _. ap (option_map length) same };
 
     ghost fault = { λ bytes. value_unless (length bytes == 1) };
 }

@@ -10,7 +10,7 @@ use Rattle.sec1.specs.Errors.{IsAsn1, HasNoEncodingOr, error_of}
 use Rattle.sec1_der.proofs.ElementLaws.{element_of-within}
 use Rattle.sec1.specs.Der.{join, element_of, optional_of, IsTreeOf}
 use Rattle.sec1_der.specs.Identifiers.{content_of, identifier_content}
-use Rattle.sec1_der.specs.IdentifierLaws.{is_identifier-true, identifier_content-valid}
+use Rattle.sec1_der.proofs.IdentifierLaws.{is_identifier-true, identifier_content-valid}
 use Rattle.sec1.specs.Keys.{Key, key_tree, IsNamedCurve, IsKeyOf, HasNoEncoding, HasEncodingWith}
 
 -- the content of a key with this element of the identifier of its curve

@@ -6,7 +6,7 @@ use Rattle.std.proofs.Common.{length-append, length-take, take-append-drop}
 use Rattle.std.proofs.lemmas.List.{nil_from_length}
 use Rattle.hex.specs.Hex.{IsBytes}
 use Rattle.sec1.specs.Der.{number_of, IsProperPrefix}
-use Rattle.sec1_der.specs.DigitLaws.{IsBytes-take}
+use Rattle.sec1_der.proofs.DigitLaws.{IsBytes-take}
 use Rattle.sec1.specs.Points.{Point, IsPoint, IsEncoding, fixed_width, tag_byte, encoding, meaning}
 use Rattle.sec1.specs.Tags.{byte_of, point_tag, message_len, is_hybrid}
 use Rattle.sec1.specs.declared.point.tag.Tag.{Tag}

@@ -3,7 +3,7 @@ pub use Rattle.sec1_der.specs.BackWriters.{end_of, front_of, IsOverEnd, KeepsEnd
 pub use Rattle.sec1_der.specs.BackWriters.{PutsInFront, WritesInFront, Puts}
 pub use Rattle.sec1_der.specs.Encodings.{Measures}
 pub use Rattle.sec1_der.specs.Parts.{join, optional_of}
-pub use Rattle.sec1_der.specs.Contents.{IsVersionOne, AreBits, IsBitString}
+pub use Rattle.sec1_der.specs.Contents.{AreBits}
 pub use Rattle.sec1_der.specs.Contents.{byte_fault, identifier_fault, bit_string_fault}
 pub use Rattle.sec1_der.specs.Contents.{is_bit_string, whole_bits_fault, whole_bits_field_fault}
 pub use Rattle.sec1_der.specs.Contents.{value_unless}

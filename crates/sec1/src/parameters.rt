@@ -4,7 +4,6 @@ ghost use Rattle.sec1.specs.Parameters.{curve_of};
 ghost use Rattle.sec1_der.specs.Contents.{identifier_fault};
 ghost use Rattle.sec1_der.specs.Identifiers.{identifier_content, IsIdentifierContent, IsIdentifier};
 ghost use Rattle.sec1_der.specs.Values.{tag_of, value_of};
-ghost use Rattle.sec1_der.specs.IdentifierLaws.{identifier_content-some};
 
 use sec1_der as der;
 use sec1_der::{
@@ -78,11 +77,6 @@ impl FixedTag for EcParameters {
 
 impl ValueContent for EcParameters {
     ghost content = { λ parameters. identifier_content (curve_of parameters) };
-
-    ghost is_content = { IsIdentifierContent };
-
-    ghost content_is_valid = { λ parameters bytes same _.
-        (curve_of parameters, identifier_content-some (curve_of parameters) bytes same) };
 
     ghost fault = { identifier_fault };
 }

@@ -80,6 +80,7 @@ impl<'a> TryFrom<&'a [u8]> for EcPrivateKey<'a> {
     fn try_from(bytes: &'a [u8]) -> Result<EcPrivateKey<'a>> {
         EcPrivateKey::one();
         der::laws::trees_unique();
+        der::laws::cut_elements();
         let key: BorrowedKey = der::from_der(bytes)?;
         Ok(key.to_key())
     }

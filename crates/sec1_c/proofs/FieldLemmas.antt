@@ -5,7 +5,7 @@ use Rattle.std.proofs.lemmas.List.{append-nil}
 use Rattle.sec1_der.proofs.ElementLemmas.{length-header}
 use Rattle.sec1_der.specs.Elements.{element_of, max_length, within_limit}
 use Rattle.sec1_der.specs.Identifiers.{content_of, identifier_content}
-use Rattle.sec1_der.specs.IdentifierLaws.{identifier_content-valid}
+use Rattle.sec1_der.proofs.IdentifierLaws.{identifier_content-valid}
 use Rattle.sec1.specs.declared.parameters.EcParameters.{EcParameters}
 use Rattle.sec1.specs.Keys.{parameters_field, IsNamedCurve, bytes_of}
 use Rattle.sec1.specs.Parameters.{curve_of}

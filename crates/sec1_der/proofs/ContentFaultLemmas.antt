@@ -1,5 +1,6 @@
 -- What the contents of identifiers and of bit strings are refused by.
-use Rattle.std.proofs.Common.{◌≡◌, ℕ, ◌&&◌, ◌≤◌, List, [], ◌∷◌, length, append-nil, Some, None, refl, sym, ap, ◌∙◌}
+use Rattle.std.proofs.Common.{◌≡◌, ℕ, ◌%◌, ◌≤◌, true, ◌&&◌, List, [], ◌∷◌, length, slice_index, append-nil}
+use Rattle.std.proofs.Common.{Some, None, refl, sym, ap, ◌∙◌}
 use Rattle.std.proofs.Common.{arith, ⊎_elim, bytes_eq}
 use Rattle.std.proofs.lemmas.Bool.{and_parts, cases_Bool}
 use Rattle.std.proofs.lemmas.Slice.Eq.{bytes_eq-Decides}
@@ -7,10 +8,10 @@ use Rattle.sec1_der.specs.ArcsOf.{arcs_of}
 use Rattle.sec1_der.specs.Elements.{max_length, element, element_of}
 use Rattle.sec1_der.proofs.ElementLaws.{element_of-some}
 use Rattle.sec1_der.specs.Faults.{no_fault, end_fault, element_fault}
-use Rattle.sec1_der.specs.Contents.{AreBits, bit_string_fault, whole_bits_fault, whole_bits_field_fault}
+use Rattle.sec1_der.specs.Contents.{are_bits, bit_string_fault, whole_bits_fault, whole_bits_field_fault}
 use Rattle.sec1_der.specs.Contents.{identifier_fault}
 use Rattle.sec1_der.specs.Identifiers.{IsIdentifier, is_identifier, content_of}
-use Rattle.sec1_der.specs.IdentifierLaws.{is_identifier-true, is_identifier-valid}
+use Rattle.sec1_der.proofs.IdentifierLaws.{is_identifier-true, is_identifier-valid}
 use Rattle.sec1_der.specs.declared.error.ErrorKind.TheVariants.{Value}
 use Rattle.sec1_der.proofs.FaultLaws.{alone, element_at}
 use Rattle.sec1_der.proofs.IdentifierLemmas.{continues_from_arcs}
@@ -38,8 +39,10 @@ identifier_refused content none =
 pub ruleset identifier_faults = (identifier_taken, identifier_refused)
 
 -- any bytes are a bit string without unused bits
-pub whole_is : (bytes : List ℕ) → AreBits 0 bytes
-whole_is bytes = record { count = omega arith; empty = λ _. refl; zeros = λ _. omega arith }
+pub whole_is : (bytes : List ℕ) → are_bits 0 bytes ≡ true
+whole_is [] = refl
+whole_is (byte ∷ bytes) =
+    let zeros : slice_index (byte ∷ bytes) (length bytes) % 1 ≡ 0 = omega arith in rw zeros refl
 
 -- the content of a field around a bit string without unused bits
 pub whole_inside : (inside bytes : List ℕ) → element_of 0x03 (Some (0 ∷ inside)) ≡ Some bytes
@@ -48,6 +51,15 @@ whole_inside inside bytes e =
     let is = element_of-some 0x03 (Some (0 ∷ inside)) bytes e in
     let same : 0 ∷ inside ≡ is.inside = cc (is.same) in
     (omega (arith, ap length same, is.at.within), is.at.encoded ∙ ap (λ content. element 0x03 content) (sym same))
+
+-- the element of a bit string without unused bits isn't refused
+pub whole_taken : (inside bytes : List ℕ) → element_of 0x03 (Some (0 ∷ inside)) ≡ Some bytes
+    → element_fault 0x03 bit_string_fault end_fault bytes ≡ None
+whole_taken inside bytes e =
+    let (fits, encoded) = whole_inside inside bytes e in
+    element_at bit_string_fault end_fault 0x03 (0 ∷ inside) bytes [] fits
+    (encoded ∙ sym (append-nil (element 0x03 (0 ∷ inside))))
+    ∙ rw (whole_is inside) refl
 
 -- where the content of a field is a bit string, its fault is that of its unused bits
 pub bits_inside : (content bytes : List ℕ) → length content ≤ max_length → bytes ≡ element 0x03 content

@@ -111,16 +111,15 @@ passes_over fault found (Some inside) P old new some read none =
     record { whole = whole; next = λ g. same g ∙ rw first refl }
 
 -- this holds after an element that was read
-pub reads_on : (f : Fault) (tag : ℕ) (content : Option (List ℕ)) (P : List ℕ → Type 0)
-    (old new : Reader)
-    → IsSomeAnd content (λ inside. P inside × HasReadElement tag inside old new)
+pub reads_on : (f : Fault) (tag : ℕ) (content : Option (List ℕ)) (old new : Reader)
+    → IsSomeAnd content (λ inside. HasReadElement tag inside old new)
     → element_fault tag f no_fault old.unread ≡ None
     → PassesOver (element_fault tag f) old new
-reads_on f tag content P old new some none = passes_over (element_fault tag f) f content _ old new some
+reads_on f tag content old new some none = passes_over (element_fault tag f) f content _ old new some
     (λ inside is. (
-      ap (λ (r : Reader). r.failed) is.1.read.is_whole,
+      ap (λ (r : Reader). r.failed) is.read.is_whole,
       λ g.
-          read_element f g tag inside old new is.1,
+          read_element f g tag inside old new is,
     ))
     none
 

@@ -19,9 +19,9 @@ use Rattle.sec1_der.specs.Stored.{arcs_stored, IsStored}
 use Rattle.sec1_der.specs.declared.object_identifier.ObjectIdentifier.TheInside.{Inside}
 use Rattle.sec1_der.specs.ArcsOf.{padded, numbers_after, arcs_of_numbers, arcs_of}
 use Rattle.sec1_der.specs.Identifiers.{AreArcs, EncodesArcs, IsIdentifier, IsIdentifierContent, identifier_content}
-use Rattle.sec1_der.specs.IdentifierLaws.{identifier_content-valid}
+use Rattle.sec1_der.proofs.IdentifierLaws.{identifier_content-valid}
 use Rattle.sec1_der.specs.Identifiers.{max_identifier_length}
-use Rattle.sec1_der.specs.DigitLaws.{IsBytes, digits_of-push, marked_step}
+use Rattle.sec1_der.proofs.DigitLaws.{IsBytes, digits_of-push, marked_step}
 
 -- the bytes continue an encoding whose digits so far are those of high, and end one
 abbrev pub continues : ℕ → List ℕ → Bool

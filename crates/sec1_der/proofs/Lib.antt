@@ -1,4 +1,6 @@
 pub mod LengthLaws
+pub mod DigitLaws
+pub mod IdentifierLaws
 pub mod ElementLaws
 pub mod FaultLaws
 pub mod DigitLemmas

@@ -62,17 +62,17 @@ next_second p q rest n =
     second_by p.firsts p.barred q.firsts q.barred p.may_be_empty q.may_be_empty p.apart q.apart rest n
 
 -- a reader that read an element had its tag next
-next_read : (tag : ℕ) (content : Option (List ℕ)) (P : List ℕ → Type 0) (old new : Reader)
-    → IsSomeAnd content (λ inside. P inside × HasReadElement tag inside old new)
+next_read : (tag : ℕ) (content : Option (List ℕ)) (old new : Reader)
+    → IsSomeAnd content (λ inside. HasReadElement tag inside old new)
     → is_next tag old.unread ≡ true
-next_read tag None P old new found = absurd found
-next_read tag (Some inside) P old new found =
-    rw (ap (λ (r : Reader). r.unread) found.1.read.was_whole) (eq-eqb tag tag refl)
+next_read tag None old new found = absurd found
+next_read tag (Some inside) old new found =
+    rw (ap (λ (r : Reader). r.unread) found.read.was_whole) (eq-eqb tag tag refl)
 
 -- the fault of an optional element that was read is that of what follows it
-pub optional_passes : (f : Fault) (tag : ℕ) (content : Option (List ℕ)) (P : List ℕ → Type 0) (old new : Reader)
-    → IsSomeAnd content (λ inside. P inside × HasReadElement tag inside old new)
+pub optional_passes : (f : Fault) (tag : ℕ) (content : Option (List ℕ)) (old new : Reader)
+    → IsSomeAnd content (λ inside. HasReadElement tag inside old new)
     → element_fault tag f no_fault old.unread ≡ None
     → (behind : Fault) → optional_fault tag f behind old.unread ≡ behind new.unread
-optional_passes f tag content P old new found none behind =
-    rw (next_read tag content P old new found) ((reads_on f tag content P old new found none).next behind)
+optional_passes f tag content old new found none behind =
+    rw (next_read tag content old new found) ((reads_on f tag content old new found none).next behind)

@@ -7,7 +7,7 @@ use Rattle.sec1_der.specs.Elements.{element_of}
 use Rattle.sec1_der.specs.Parts.{Tags, AreApart, Begins, MayFollow, join, one_tag, optional_tag, both_tags, optional_of}
 use Rattle.sec1_der.specs.PartLaws.{element_begins}
 use Rattle.sec1_der.proofs.PartLemmas.{next_first, next_second}
-use Rattle.sec1_der.specs.IdentifierLaws.{identifier_content-some}
+use Rattle.sec1_der.proofs.IdentifierLaws.{identifier_content-some}
 use Rattle.sec1_der.specs.Identifiers.{identifier_content}
 use Rattle.sec1_der.specs.PartLaws.{parted}
 use Rattle.sec1_der.proofs.ElementLaws.{element_of-some}

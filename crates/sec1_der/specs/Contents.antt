@@ -1,5 +1,5 @@
 -- The contents of the primitive types.
-use Rattle.std.specs.Prelude.{◌≡◌, ◌==◌, ℕ, ◌-◌, ◌^◌, ◌%◌, ◌<◌, ◌≤◌, nat_le, Bool, false, ◌&&◌}
+use Rattle.std.specs.Prelude.{◌==◌, ℕ, ◌^◌, ◌%◌, nat_le, Bool, false, ◌&&◌, IsTrue}
 use Rattle.std.specs.Prelude.{if◌then◌else◌, List, [], ◌∷◌, length, slice_index, Option, Some, None}
 use Rattle.std.specs.Str.{bytes_eq}
 use Rattle.sec1_der.specs.ArcsOf.{arcs_of}
@@ -9,35 +9,6 @@ use Rattle.sec1_der.specs.Faults.{Fault, no_fault, end_fault, element_fault}
 use Rattle.sec1_der.specs.declared.error.ErrorKind.{ErrorKind}
 use Rattle.sec1_der.specs.declared.error.ErrorKind.TheVariants.{Value}
 
--- RFC 5915 section 3: the version is the INTEGER one, by X.690 section 8.3 the one byte 01.
-abbrev pub IsVersionOne : List ℕ → Type 0
-IsVersionOne content = content ≡ 1 ∷ []
-
--- X.690 sections 8.6 and 11.2.1: a number of unused bits. It is 0 if there are no bytes, and the
--- unused bits, the lowest of the last byte, are zero.
-pub record AreBits (unused : ℕ) (bytes : List ℕ) : Type 0 where
-  pub count : unused ≤ 7
-  pub empty : length bytes ≡ 0 → unused ≡ 0
-  pub zeros : 0 < length bytes → slice_index bytes (length bytes - 1) % 2 ^ unused ≡ 0
-
--- X.690 section 8.6.2: the content of a bit string is the number of unused bits, and the bytes.
-abbrev pub IsBitString : List ℕ → Type 0
-IsBitString [] = ⊥
-IsBitString (unused ∷ bytes) = AreBits unused bytes
-
--- a version has no other content
-pub only_one : (bytes : List ℕ) → Some (1 ∷ []) ≡ Some bytes → IsVersionOne bytes
-only_one bytes same = cc
-
--- the content of a bit string is that of the standard, `IsBitString`
-pub bits_are_one : (unused : ℕ) (bytes content : List ℕ) → AreBits unused bytes
-    → Some (unused ∷ bytes) ≡ Some content → IsBitString content
-bits_are_one unused bytes [] bits same = absurd (cc same)
-bits_are_one unused bytes (count ∷ rest) bits same =
-    let counts : unused ≡ count = cc in
-    let rests : bytes ≡ rest = cc in
-    rw (← counts, ← rests) bits
-
 -- Value if the test fails
 abbrev pub value_unless : Bool → Option ErrorKind
 value_unless passes = if passes then None else Some Value
@@ -46,17 +17,22 @@ value_unless passes = if passes then None else Some Value
 abbrev pub byte_fault : ℕ → Fault
 byte_fault n content = value_unless (bytes_eq content (n ∷ []))
 
--- the test for a number of unused bits
+-- X.690 sections 8.6 and 11.2.1: a number of unused bits. It is 0 if there are no bytes, otherwise
+-- at most 7, and the unused bits, the lowest of the last byte, are zero.
 abbrev pub are_bits : ℕ → List ℕ → Bool
 are_bits unused [] = unused == 0
 are_bits unused (byte ∷ bytes) =
     nat_le unused 7 && slice_index (byte ∷ bytes) (length bytes) % 2 ^ unused == 0
 
+abbrev pub AreBits : ℕ → List ℕ → Type 0
+AreBits unused bytes = IsTrue (are_bits unused bytes)
+
+-- X.690 section 8.6.2: the content of a bit string is the number of unused bits, and the bytes.
 abbrev pub is_bit_string : List ℕ → Bool
 is_bit_string [] = false
 is_bit_string (unused ∷ bytes) = are_bits unused bytes
 
--- X.690 sections 8.6 and 11.2.1: Value unless this is the content of a bit string
+-- Value unless this is the content of a bit string
 abbrev pub bit_string_fault : Fault
 bit_string_fault content = value_unless (is_bit_string content)
 

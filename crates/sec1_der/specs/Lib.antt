@@ -1,12 +1,10 @@
 pub mod Numbers
-pub mod DigitLaws
 pub mod Elements
 pub mod TextLaws
 pub mod Trees
 pub mod TreeLaws
 pub mod Walks
 pub mod Identifiers
-pub mod IdentifierLaws
 pub mod ArcsOf
 pub mod Stored
 pub mod Building

@@ -21,10 +21,10 @@ pub struct AnyRef<'a> {
 }
 
 impl<'a> AnyRef<'a> {
-    ghost use Rattle.std.specs.Prelude.{◌≡◌, ◌↔◌, ℕ, List, [], ◌++◌, true, false};
-    ghost use Rattle.std.specs.Prelude.{IsOk, IfOk, IsOkAnd, IfErr, OnErr};
-    ghost use Rattle.sec1_der.specs.Elements.{element, IsHeader, LacksHeader};
-    ghost use Rattle.sec1_der.specs.ErrorKinds.{header_fault, Refuses, IsHeaderFault};
+    ghost use Rattle.std.specs.Prelude.{◌≡◌, ◌<◌, ℕ, List, ◌++◌, false};
+    ghost use Rattle.std.specs.Prelude.{IfOk, IsOkAnd, IfErr, MatchResult};
+    ghost use Rattle.sec1_der.specs.Elements.{element, IsHeader};
+    ghost use Rattle.sec1_der.specs.ErrorKinds.{IsHeaderFault};
     ghost use Rattle.sec1_der.specs.Readers.{reader_over, HasRead, RefusesBy};
     ghost use Rattle.sec1_der.specs.Faults.{any_fault, no_fault};
     ghost use Rattle.sec1_der.specs.Values.{tag_of, value_of};
@@ -35,10 +35,10 @@ impl<'a> AnyRef<'a> {
     ///
     /// Overlength if the content is longer than 268,435,455 bytes.
     pub fn new(tag: Tag, value: &'a [u8]) -> Result<AnyRef<'a>>
-        ensures within { IsOk result ↔ (length value.now ≤ max_length) }
-        ensures tag { IfOk result (λ any. tag_of any ≡ tag) }
-        ensures value { IfOk result (λ any. value_of any ≡ value.now) }
-        ensures kind { IfErr result (λ e. e.kind ≡ ErrorKind.Overlength) }
+        ensures { MatchResult result
+            (λ any. (tag_of any ≡ tag) × (value_of any ≡ value.now)
+            × (length value.now ≤ max_length))
+            (λ e. (e.kind ≡ ErrorKind.Overlength) × (max_length < length value.now)) }
     {
         Length::new(value.len())?;
         Ok(AnyRef {
@@ -60,8 +60,6 @@ impl<'a> AnyRef<'a> {
             → reader.old ≡ reader_over (element tag content ++ rest)
             → IsOkAnd result (λ any. (tag_of any ≡ tag) × (value_of any ≡ content))
             × (reader.new ≡ reader_over rest) }
-        ensures fault { reader.old.failed ≡ false → LacksHeader reader.old.unread
-            → Refuses result (header_fault reader.old.unread) }
         ensures kinds { reader.old.failed ≡ false → IfErr result (λ e. IsHeaderFault e.kind) }
         ensures refused { RefusesBy (any_fault (λ _. no_fault) no_fault) result reader.old
             reader.new }
@@ -163,10 +161,6 @@ impl ValueContent for AnyRef<'_> {
     ghost use Rattle.sec1_der.specs.Values.{value_of};
 
     ghost content = { λ any. Some (value_of any) };
-
-    ghost is_content = { λ _. ⊤ };
-
-    ghost content_is_valid = { λ _ _ _ _. tt };
 
     ghost fault = { no_fault };
 }

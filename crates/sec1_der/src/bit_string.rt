@@ -21,9 +21,7 @@ pub struct BitStringRef<'a> {
 }
 
 impl<'a> BitStringRef<'a> {
-    ghost use Rattle.std.specs.Prelude.{◌+◌, ◌≤◌, Some, None, IsOk, IfOk, IfErr};
-    ghost use Rattle.std.specs.Prelude.{IsSome, IfSome};
-    ghost use Rattle.sec1_der.specs.ErrorKinds.{Refuses};
+    ghost use Rattle.std.specs.Prelude.{◌≤◌, ◌⊎◌, MatchResult, IsSome, IfSome};
     ghost use Rattle.sec1_der.specs.Values.{unused_bits_of, bit_bytes_of};
 
     /// Returns a bit string without the lowest `unused` bits of the last byte.
@@ -33,12 +31,12 @@ impl<'a> BitStringRef<'a> {
     /// Overlength if there are more than 268,435,454 bytes; then Value if `unused` is above 7, or
     /// isn't 0 without bytes, or if an unused bit is set (X.690 section 11.2.1).
     pub fn new(unused: u8, bytes: &'a [u8]) -> Result<BitStringRef<'a>>
-        ensures bits { IsOk result ↔ ((length bytes.now < max_length) × AreBits unused bytes.now) }
-        ensures count { IfOk result (λ bits. unused_bits_of bits ≡ unused) }
-        ensures bytes { IfOk result (λ bits. bit_bytes_of bits ≡ bytes.now) }
-        ensures overlength { max_length ≤ length bytes.now → Refuses result ErrorKind.Overlength }
-        ensures value { length bytes.now < max_length
-            → IfErr result (λ e. e.kind ≡ ErrorKind.Value) }
+        ensures { MatchResult result
+            (λ bits. (unused_bits_of bits ≡ unused) × (bit_bytes_of bits ≡ bytes.now)
+            × (length bytes.now < max_length) × AreBits unused bytes.now)
+            (λ e. ((e.kind ≡ ErrorKind.Overlength) × (max_length ≤ length bytes.now))
+            ⊎ ((e.kind ≡ ErrorKind.Value) × (length bytes.now < max_length)
+            × ¬ AreBits unused bytes.now)) }
     {
         if bytes.len() >= Length::MAX {
             return Err(ErrorKind::Overlength.into());
@@ -54,11 +52,12 @@ impl<'a> BitStringRef<'a> {
     /// # Errors
     ///
     /// Overlength if there are more than 268,435,454 bytes.
+    #[tactic(auto, using(crate::proofs::ContentFaultLemmas::whole_is))]
     pub fn from_bytes(bytes: &'a [u8]) -> Result<BitStringRef<'a>>
-        ensures within { IsOk result ↔ (length bytes.now < max_length) }
-        ensures count { IfOk result (λ bits. unused_bits_of bits ≡ 0) }
-        ensures bytes { IfOk result (λ bits. bit_bytes_of bits ≡ bytes.now) }
-        ensures kind { IfErr result (λ e. e.kind ≡ ErrorKind.Overlength) }
+        ensures { MatchResult result
+            (λ bits. (unused_bits_of bits ≡ 0) × (bit_bytes_of bits ≡ bytes.now)
+            × (length bytes.now < max_length))
+            (λ e. (e.kind ≡ ErrorKind.Overlength) × (max_length ≤ length bytes.now)) }
     {
         BitStringRef::new(0, bytes)
     }
@@ -136,14 +135,9 @@ impl FixedTag for BitStringRef<'_> {
 
 impl ValueContent for BitStringRef<'_> {
     ghost use Rattle.std.specs.Prelude.{Some, ◌∷◌};
-    ghost use Rattle.sec1_der.specs.Contents.{IsBitString, bit_string_fault, bits_are_one};
+    ghost use Rattle.sec1_der.specs.Contents.{bit_string_fault};
 
     ghost content = { λ bits. Some (bits.unused ∷ bits.bytes.now) };
-
-    ghost is_content = { IsBitString };
-
-    ghost content_is_valid = { λ bits bytes same _.
-        bits_are_one bits.unused bits.bytes.now bytes bits.are_bits same };
 
     ghost fault = { bit_string_fault };
 }

@@ -21,28 +21,14 @@ use std::alloc::Global;
 ///
 /// Those of [`SliceReader::decode`], then TrailingData if bytes follow the element.
 pub fn from_der<'a, T: DecodeValue<'a> + Tagged + Drop>(input: &'a [u8]) -> Result<T>
+    // What is read has these bytes, and the bytes of a value are read as one with its content.
     ensures found { IfOk result
-        (λ value. IsSomeAnd (T.content value) (λ content. T.is_content content
-        × IsElementOf T.tag_byte content input.now)) }
-    ensures only { (content : List ℕ) → T.is_content content
-        → IsElementOf T.tag_byte content input.now
-        → IsOkAnd result (λ value. T.content value ≡ Some content) }
-    // The same of values: what is read has these bytes, and the bytes of a value are read as one
-    // with its content.
-    ensures found_value { IfOk result
         (λ value. element_of T.tag_byte (T.content value) ≡ Some input.now) }
-    ensures only_value { (value : T) → element_of T.tag_byte (T.content value) ≡ Some input.now
+    ensures only { (value : T) → element_of T.tag_byte (T.content value) ≡ Some input.now
         → IsOkAnd result (λ found. T.content found ≡ T.content value) }
-    ensures long_value { (value : T) (bytes : List ℕ)
+    ensures long { (value : T) (bytes : List ℕ)
         → element_of T.tag_byte (T.content value) ≡ Some bytes
         → IsProperPrefix bytes input.now → Refuses result ErrorKind.TrailingData }
-
-    ensures short { (content : List ℕ) → length content ≤ max_length
-        → IsProperPrefix input.now (element T.tag_byte content)
-        → Refuses result ErrorKind.Truncated }
-    ensures long { (content : List ℕ) → T.is_content content → length content ≤ max_length
-        → IsProperPrefix (element T.tag_byte content) input.now
-        → Refuses result ErrorKind.TrailingData }
     ensures kinds { IfErr result (λ e. IsReadingFault e.kind) }
     // Whether the input is refused, and by which kind, is a function of its bytes.
     ensures kind { HasFault result (element_fault T.tag_byte T.fault end_fault input.now) }

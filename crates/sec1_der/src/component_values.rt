@@ -38,10 +38,6 @@ impl<const N: u8> Tagged for SmallInteger<N> {
 impl<const N: u8> ValueContent for SmallInteger<N> {
     ghost content = { λ _. Some (N ∷ []) };
 
-    ghost is_content = { λ bytes. Some (N ∷ []) ≡ Some bytes };
-
-    ghost content_is_valid = { λ _ _ same _. same };
-
     ghost fault = { byte_fault N };
 }
 
@@ -97,10 +93,6 @@ impl Tagged for Octets<'_> {
 
 impl ValueContent for Octets<'_> {
     ghost content = { λ bytes. Some bytes };
-
-    ghost is_content = { λ _. ⊤ };
-
-    ghost content_is_valid = { λ _ _ _ _. tt };
 
     ghost fault = { no_fault };
 }
@@ -158,10 +150,6 @@ impl Tagged for WholeBits<'_> {
 
 impl ValueContent for WholeBits<'_> {
     ghost content = { λ bytes. Some (0 ∷ bytes) };
-
-    ghost is_content = { λ content. (bytes : List ℕ) × (Some (0 ∷ bytes) ≡ Some content) };
-
-    ghost content_is_valid = { λ bytes _ same _. (bytes, same) };
 
     ghost fault = { whole_bits_fault };
 }
@@ -224,11 +212,6 @@ impl<T> Tagged for Containing<T> {
 
 impl<T: ValueContent + Tagged> ValueContent for Containing<T> {
     ghost content = { λ outside. element_of T.tag_byte (T.content outside.value) };
-
-    ghost is_content = { λ bytes. (value : T)
-        × (element_of T.tag_byte (T.content value) ≡ Some bytes) };
-
-    ghost content_is_valid = { λ outside _ same _. (outside.value, same) };
 
     ghost fault = { element_fault T.tag_byte T.fault end_fault };
 }

@@ -1,11 +1,10 @@
-ghost use Rattle.std.specs.Prelude.{◌≡◌, ◌≤◌, ◌⊎◌, ℕ, List, length, Some, None, IfOk, IfErr};
+ghost use Rattle.std.specs.Prelude.{◌≡◌, ◌⊎◌, ℕ, List, length, Some, None, IfOk, IfErr};
 ghost use Rattle.std.specs.Prelude.{MatchResult, ⊤};
 ghost use Rattle.std.specs.Fmt.{WritesOnOk, WritesStyledOnOk};
 ghost use Rattle.sec1_der.specs.DebugTexts.{document_text};
-ghost use Rattle.sec1_der.specs.Elements.{max_length, element, element_of, IsHeader, IsElement};
-ghost use Rattle.sec1_der.specs.Elements.{IsProperPrefix, LacksHeader};
+ghost use Rattle.sec1_der.specs.Elements.{element_of, IsElement};
 ghost use Rattle.sec1_der.specs.Encodings.{IsOverlengthOr};
-ghost use Rattle.sec1_der.specs.ErrorKinds.{Refuses, IsHeaderFault, header_fault};
+ghost use Rattle.sec1_der.specs.ErrorKinds.{IsHeaderFault};
 ghost use Rattle.sec1_der.specs.Faults.{document_fault};
 
 pub(crate) mod stream;
@@ -47,13 +46,6 @@ impl SecretDocument {
         ensures only { IsElement bytes.now
             → MatchResult result (λ document. document ≡ bytes.now)
             (λ e. e.kind ≡ ErrorKind.Memory) }
-        ensures fault { LacksHeader bytes.now → Refuses result (header_fault bytes.now) }
-        ensures short { (tag : ℕ) (content : List ℕ) → IsHeader tag (length content)
-            → IsProperPrefix bytes.now (element tag content)
-            → Refuses result ErrorKind.Truncated }
-        ensures long { (tag : ℕ) (content : List ℕ) → IsHeader tag (length content)
-            → IsProperPrefix (element tag content) bytes.now
-            → Refuses result ErrorKind.TrailingData }
         ensures kinds { IfErr result (λ e. IsHeaderFault e.kind ⊎ (e.kind ≡ ErrorKind.TrailingData)
             ⊎ ((e.kind ≡ ErrorKind.Memory) × IsElement bytes.now)) }
         // Whether the input is refused, and by which kind, is a function of its bytes; otherwise

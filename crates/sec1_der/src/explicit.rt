@@ -50,11 +50,6 @@ impl<K: Tagged, A> Tagged for Explicit<K, A> {
 impl<K, A: ValueContent + Tagged> ValueContent for Explicit<K, A> {
     ghost content = { λ value. element_of A.tag_byte (A.content value) };
 
-    ghost is_content = { λ bytes. (value : A)
-        × (element_of A.tag_byte (A.content value) ≡ Some bytes) };
-
-    ghost content_is_valid = { λ value _ same _. (value, same) };
-
     ghost fault = { element_fault A.tag_byte A.fault end_fault };
 }
 
@@ -120,11 +115,6 @@ impl Tagged for ExplicitBits<'_> {
 
 impl ValueContent for ExplicitBits<'_> {
     ghost content = { λ bytes. element_of 0x03 (Some (0 ∷ bytes)) };
-
-    ghost is_content = { λ content. (bytes : List ℕ)
-        × (element_of 0x03 (Some (0 ∷ bytes)) ≡ Some content) };
-
-    ghost content_is_valid = { λ bytes _ same _. (bytes, same) };
 
     ghost fault = { whole_bits_field_fault };
 }

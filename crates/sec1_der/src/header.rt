@@ -59,10 +59,6 @@ impl Header {
         // Where they begin with none, the kind is a function of the bytes.
         ensures kind { reader.old.failed ≡ false → IsErr result
             → Refuses result (header_fault reader.old.unread) }
-        // An element of any tag is refused there by the same kind.
-        ensures element { reader.old.failed ≡ false
-            → IfErr result (λ e. (content : ℕ → Fault) (behind : Fault)
-            → any_fault content behind reader.old.unread ≡ Some e.kind) }
         ensures failed { reader.old.failed ≡ true → Refuses result ErrorKind.Failed }
         ensures refused { OnErr result (reader.new ≡ refused reader.old) }
     {

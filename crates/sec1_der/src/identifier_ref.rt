@@ -2,7 +2,6 @@
 ghost use Rattle.std.specs.Prelude.{◌≡◌, ℕ, List, Some, IfOk, IfErr};
 ghost use Rattle.sec1_der.specs.ArcsOf.{arcs_of};
 ghost use Rattle.sec1_der.specs.Contents.{identifier_fault};
-ghost use Rattle.sec1_der.specs.IdentifierLaws.{identifier_content-some};
 ghost use Rattle.sec1_der.specs.Identifiers.{IsIdentifier, IsIdentifierContent, identifier_content};
 
 use crate::object_identifier::is_identifier;
@@ -84,11 +83,6 @@ impl FixedTag for IdentifierRef<'_> {
 
 impl ValueContent for IdentifierRef<'_> {
     ghost content = { identifier_content };
-
-    ghost is_content = { IsIdentifierContent };
-
-    ghost content_is_valid = { λ arcs bytes same _.
-        (arcs, identifier_content-some arcs bytes same) };
 
     ghost fault = { identifier_fault };
 }

@@ -1,8 +1,10 @@
-//! Laws of trees and of elements that end too early, and that a value is determined by its bytes,
-//! for callers to cite. Each law is the contract of a function, which does nothing else.
-ghost use Rattle.std.specs.Prelude.{◌≡◌, ◌⊎◌, ◌≤◌, ℕ, List, length, Some, None, IsSome};
+//! Laws of trees, of the kinds by which elements are refused, and that a value is determined by its
+//! bytes, for callers to cite. Each law is the contract of a function, which does nothing else.
+ghost use Rattle.std.specs.Option.{option_or};
+ghost use Rattle.std.specs.Prelude.{◌≡◌, ◌⊎◌, ◌≤◌, ◌++◌, ℕ, List, length, Some, None, IsSome};
 ghost use Rattle.sec1_der.specs.Elements.{element, element_of, max_length, IsHeader};
-ghost use Rattle.sec1_der.specs.Elements.{IsProperPrefix};
+ghost use Rattle.sec1_der.specs.Elements.{IsProperPrefix, LacksHeader};
+ghost use Rattle.sec1_der.specs.ErrorKinds.{header_fault};
 ghost use Rattle.sec1_der.specs.Faults.{Fault, any_fault, element_fault};
 ghost use Rattle.sec1_der.specs.TreeLaws.{BytesDetermineTree, BytesDetermineRow};
 ghost use Rattle.sec1_der.specs.TreeLaws.{NoTreeBeginsAnother};
@@ -44,6 +46,27 @@ pub fn cut_elements()
     ensures any { (inside : ℕ → Fault) (behind : Fault) (tag : ℕ) (content bytes : List ℕ)
         → IsHeader tag (length content) → IsProperPrefix bytes (element tag content)
         → any_fault inside behind bytes ≡ Some ErrorKind.Truncated }
+{}
+
+/// The fault of an element with this tag, and of what follows it, is that of its content, or else
+/// of what follows it.
+pub fn whole_elements()
+    ensures element { (inside behind : Fault) (tag : ℕ) (content rest : List ℕ)
+        → length content ≤ max_length
+        → element_fault tag inside behind (element tag content ++ rest)
+        ≡ option_or (inside content) (behind rest) }
+    ensures any { (inside : ℕ → Fault) (behind : Fault) (tag : ℕ) (content rest : List ℕ)
+        → IsHeader tag (length content)
+        → any_fault inside behind (element tag content ++ rest)
+        ≡ option_or (inside tag content) (behind rest) }
+{}
+
+/// Bytes that begin with no header are refused by the kind of their header, whatever a content is
+/// tested for and whatever may follow it.
+#[tactic(auto, using(crate::proofs::ElementFaultLemmas::any_without_header))]
+pub fn bytes_without_header()
+    ensures { (inside : ℕ → Fault) (behind : Fault) (bytes : List ℕ) → LacksHeader bytes
+        → any_fault inside behind bytes ≡ Some (header_fault bytes) }
 {}
 
 /// Two versions with one content are the same.

@@ -6,7 +6,6 @@ ghost use Rattle.std.specs.Cmp.Lexicographic.{nat_list_eq_equiv};
 ghost use Rattle.sec1_der.specs.DebugTexts.{identifier_text};
 ghost use Rattle.sec1_der.specs.ArcsOf.{padded, arcs_of_numbers};
 ghost use Rattle.sec1_der.specs.Contents.{identifier_fault};
-ghost use Rattle.sec1_der.specs.IdentifierLaws.{identifier_content-some};
 ghost use Rattle.sec1_der.specs.Identifiers.{IsIdentifier, IsIdentifierContent};
 ghost use Rattle.sec1_der.specs.Identifiers.{EncodesArcs, content_of};
 ghost use Rattle.sec1_der.specs.Identifiers.{dotted, identifier_content};
@@ -309,11 +308,6 @@ impl FixedTag for ObjectIdentifier {
 
 impl ValueContent for ObjectIdentifier {
     ghost content = { identifier_content };
-
-    ghost is_content = { IsIdentifierContent };
-
-    ghost content_is_valid = { λ arcs bytes same _.
-        (arcs, identifier_content-some arcs bytes same) };
 
     ghost fault = { identifier_fault };
 }

@@ -16,7 +16,7 @@ pub struct OctetStringRef<'a> {
 }
 
 impl<'a> OctetStringRef<'a> {
-    ghost use Rattle.std.specs.Prelude.{◌≡◌, ◌↔◌, IsOk, IfOk, IfErr};
+    ghost use Rattle.std.specs.Prelude.{◌≡◌, ◌<◌, MatchResult};
     ghost use Rattle.sec1_der.specs.Values.{octets_of};
 
     /// Returns an octet string of these bytes.
@@ -25,9 +25,9 @@ impl<'a> OctetStringRef<'a> {
     ///
     /// Overlength if there are more than 268,435,455.
     pub fn new(bytes: &'a [u8]) -> Result<OctetStringRef<'a>>
-        ensures within { IsOk result ↔ (length bytes.now ≤ max_length) }
-        ensures value { IfOk result (λ octets. octets_of octets ≡ bytes.now) }
-        ensures kind { IfErr result (λ e. e.kind ≡ ErrorKind.Overlength) }
+        ensures { MatchResult result
+            (λ octets. (octets_of octets ≡ bytes.now) × (length bytes.now ≤ max_length))
+            (λ e. (e.kind ≡ ErrorKind.Overlength) × (max_length < length bytes.now)) }
     {
         Length::new(bytes.len())?;
         Ok(OctetStringRef { bytes })
@@ -77,10 +77,6 @@ impl ValueContent for OctetStringRef<'_> {
     ghost use Rattle.sec1_der.specs.Values.{octets_of};
 
     ghost content = { λ octets. Some (octets_of octets) };
-
-    ghost is_content = { λ _. ⊤ };
-
-    ghost content_is_valid = { λ _ _ _ _. tt };
 
     ghost fault = { no_fault };
 }

@@ -71,10 +71,6 @@ where
 {
     ghost content = { λ value. T.Parts.bytes (T.parts value) };
 
-    ghost is_content = { λ content. (parts : T.Parts) × (T.Parts.bytes parts ≡ Some content) };
-
-    ghost content_is_valid = { λ value _ same _. (T.parts value, same) };
-
     ghost fault = { T.Parts.fault_then end_fault };
 }
 

@@ -32,15 +32,8 @@ pub trait ValueContent {
     /// The content of a value, if it has one.
     ghost content: { Self → Option (List ℕ) };
 
-    /// Which bytes are contents of the type.
-    ghost is_content: { List ℕ → Type 0 };
-
-    /// The content of a value is a content of the type, if an element can hold it.
-    ghost content_is_valid: { (value : Self) (bytes : List ℕ) → content value ≡ Some bytes
-        → length bytes ≤ max_length → is_content bytes };
-
-    /// The kind of the error by which bytes are refused as a content of the type, or None if they
-    /// are a content.
+    /// Which bytes are contents of the type: None if these are, otherwise the kind of the error by
+    /// which they are refused.
     ghost fault: { Fault };
 }
 
@@ -56,9 +49,10 @@ pub trait DecodeValue<'a>: ValueContent + Sized {
     fn decode_value(reader: &mut SliceReader<'a>) -> Result<Self>
         requires { length reader.old.unread ≤ max_length }
         ensures found { IfOk result (λ value. Self.content value ≡ Some reader.old.unread) }
-        ensures allowed { OnOk result (Self.is_content reader.old.unread) }
         ensures read { OnOk result (reader.new ≡ reader_over []) }
-        ensures only { reader.old.failed ≡ false → Self.is_content reader.old.unread → IsOk result }
+        // The content of each value is read.
+        ensures only { reader.old.failed ≡ false → (value : Self)
+            → Self.content value ≡ Some reader.old.unread → IsOk result }
         ensures kinds { reader.old.failed ≡ false → IfErr result (λ e. IsReadingFault e.kind) }
         ensures kind { reader.old.failed ≡ false → HasFault result (Self.fault reader.old.unread) }
         ensures failed { reader.old.failed ≡ true → Refuses result ErrorKind.Failed

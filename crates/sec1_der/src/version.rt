@@ -1,5 +1,5 @@
 ghost use Rattle.std.specs.Prelude.{◌≡◌, Some, [], ◌∷◌, codes};
-ghost use Rattle.sec1_der.specs.Contents.{IsVersionOne, byte_fault, only_one};
+ghost use Rattle.sec1_der.specs.Contents.{byte_fault};
 
 use crate::{
     BackWriter, DecodeValue, EncodeValue, ErrorKind, FixedTag, Length, Result, SliceReader,
@@ -34,10 +34,6 @@ impl FixedTag for VersionOne {
 
 impl ValueContent for VersionOne {
     ghost content = { λ _. Some (1 ∷ []) };
-
-    ghost is_content = { IsVersionOne };
-
-    ghost content_is_valid = { λ _ bytes same _. only_one bytes same };
 
     ghost fault = { byte_fault 1 };
 }

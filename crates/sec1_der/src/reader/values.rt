@@ -23,11 +23,12 @@ impl<'a> SliceReader<'a> {
     pub fn decode<T: DecodeValue<'a> + Tagged>(&mut self) -> Result<T>
         // What is read is the element of the value, and just its bytes are read.
         ensures found { IfOk result (λ value. IsSomeAnd (T.content value) (λ content.
-            T.is_content content × HasReadElement T.tag_byte content self.old self.new)) }
+            HasReadElement T.tag_byte content self.old self.new)) }
         // Where the unread bytes begin with the element of a value, it is read.
-        ensures only { (content rest : List ℕ) → T.is_content content → length content ≤ max_length
+        ensures only { (value : T) (content rest : List ℕ) → T.content value ≡ Some content
+            → length content ≤ max_length
             → self.old ≡ reader_over (element T.tag_byte content ++ rest)
-            → IsOkAnd result (λ value. T.content value ≡ Some content)
+            → IsOkAnd result (λ found. T.content found ≡ Some content)
             × (self.new ≡ reader_over rest) }
 
         ensures kinds { self.old.failed ≡ false → IfErr result (λ e. IsReadingFault e.kind) }
@@ -58,8 +59,7 @@ impl<'a> SliceReader<'a> {
         // What is read is the field around the element of the value, and just its bytes are read.
         ensures found { IfOk result
             (λ field. IfSome field (λ value. IsSomeAnd (T.content value) (λ content.
-            T.is_content content
-            × (length content ≤ max_length)
+            (length content ≤ max_length)
             × HasReadElement (explicit_tag number) (element T.tag_byte content) self.old
             self.new))) }
         // None means that no such field is next.
@@ -71,11 +71,11 @@ impl<'a> SliceReader<'a> {
             → slice_get self.old.unread 0 ≢ Some (explicit_tag number)
             → (result ≡ Ok None) × (self.new ≡ self.old) }
         // Where the unread bytes begin with such a field, it is read.
-        ensures only { (content rest : List ℕ) → T.is_content content → length content ≤ max_length
-            → length (element T.tag_byte content) ≤ max_length
+        ensures only { (value : T) (content rest : List ℕ) → T.content value ≡ Some content
+            → length content ≤ max_length → length (element T.tag_byte content) ≤ max_length
             → self.old ≡ reader_over
             (element (explicit_tag number) (element T.tag_byte content) ++ rest)
-            → IsOkAnd result (λ field. IsSomeAnd field (λ value. T.content value ≡ Some content))
+            → IsOkAnd result (λ field. IsSomeAnd field (λ found. T.content found ≡ Some content))
             × (self.new ≡ reader_over rest) }
 
         ensures kinds { self.old.failed ≡ false → IfErr result (λ e. IsReadingFault e.kind) }
@@ -125,13 +125,13 @@ impl<'a> SliceReader<'a> {
     /// Reads the one element in the remaining input.
     pub(crate) fn only_element<T: DecodeValue<'a> + Tagged + Drop>(&mut self) -> Result<T>
         ensures found { IfOk result (λ value. IsSomeAnd (T.content value) (λ content.
-            T.is_content content × (length content ≤ max_length)
+            (length content ≤ max_length)
             × (self.old ≡ reader_over (element T.tag_byte content)))) }
-        ensures only { (content : List ℕ) → T.is_content content → length content ≤ max_length
-            → self.old ≡ reader_over (element T.tag_byte content)
-            → IsOkAnd result (λ value. T.content value ≡ Some content) }
-        ensures long { (content : List ℕ) → T.is_content content → length content ≤ max_length
-            → self.old.failed ≡ false
+        ensures only { (value : T) (content : List ℕ) → T.content value ≡ Some content
+            → length content ≤ max_length → self.old ≡ reader_over (element T.tag_byte content)
+            → IsOkAnd result (λ found. T.content found ≡ Some content) }
+        ensures long { (value : T) (content : List ℕ) → T.content value ≡ Some content
+            → length content ≤ max_length → self.old.failed ≡ false
             → IsProperPrefix (element T.tag_byte content) self.old.unread
             → Refuses result ErrorKind.TrailingData }
         ensures kinds { self.old.failed ≡ false → IfErr result (λ e. IsReadingFault e.kind) }

@@ -2,7 +2,7 @@ use Rattle.std.proofs.Common.{◌≡◌, ◌<◌, ◌+◌, ℕ, List, Option, So
 use Rattle.std.proofs.Common.{length, sum, arith, ap, refl, sym}
 use Rattle.std.proofs.lemmas.Grind.{common_steps}
 use Rattle.der_types.specs.Integers.{unsigned_content}
-use Rattle.der_types.specs.IntegerLaws.{unsigned_content-injective}
+use Rattle.der_types.proofs.IntegerLaws.{unsigned_content-injective}
 use Rattle.der_example.specs.Numbers.{numbers_content}
 use Rattle.der_example.proofs.numbers.sum_of.Goals as goal
 

@@ -13,14 +13,13 @@ pub loop-elements-preserved : goal.loop-elements-preserved
 loop-elements-preserved g c =
     let at = c.loop-elements.invariant.rest in
     record {
-      rest = row_continues _ _ _ _ _ _ _ at (omega (arith, c.loop-elements-test.true, c.remaining_len.ensures))
+      rest = row_continues _ _ _ _ _ _ at (omega (arith, c.loop-elements-test.true, c.remaining_len.ensures))
           c.in_ok-_value.ensures.found (c.in_ok-_value.ensures.refused.kind at.whole);
-      values = values_read _ _ _ _ _ _ _ c.loop-elements.invariant.values
+      values = values_read _ _ _ _ _ _ c.loop-elements.invariant.values
           (omega (arith, c.loop-elements-test.true, c.remaining_len.ensures)) at.whole
           c.in_ok-_value.ensures.found
           (λ a inside left same within is.
-          (c.in_ok-_value.ensures.only inside left (g.T.ValueContent.content_is_valid a inside same within)
-          within is).1);
+          (c.in_ok-_value.ensures.only a inside left same within is).1);
     }
 
 pub returns-clause-kind : goal.returns-clause-kind
@@ -38,5 +37,4 @@ returns-in_err-_value-clause-only g c values same =
     absurd (value_there _ _ _ _ ⊥ c.loop-elements.invariant.values
     (omega (arith, c.loop-elements-test.true, c.remaining_len.ensures)) at.whole (values, same)
     (λ a inside left same within is.
-    (c.in_err-_value.ensures.only inside left (g.T.ValueContent.content_is_valid a inside same within)
-    within is).0))
+    (c.in_err-_value.ensures.only a inside left same within is).0))

@@ -1,5 +1,5 @@
 use Rattle.std.proofs.Common.{◌∷◌, [], lit<, lit≤}
-use Rattle.sec1_der.specs.DigitLaws.{digits_of-number}
+use Rattle.sec1_der.proofs.DigitLaws.{digits_of-number}
 use Rattle.sec1_der.proofs.LengthLaws.{len_long}
 use Rattle.sec1_der_tests.proofs.checks.example_lengths.Goals as goal
 

@@ -1,5 +1,5 @@
 use Rattle.std.proofs.lemmas.Option.{IfSome_then}
-use Rattle.sec1_der.specs.IdentifierLaws.{identifier_content-valid}
+use Rattle.sec1_der.proofs.IdentifierLaws.{identifier_content-valid}
 use Rattle.curves.specs.Curves.{curve_arcs}
 use Rattle.curves.proofs.CurveLemmas.{content-curve_arcs}
 use Rattle.curves.proofs.curve.Curve.from_identifier.Goals as goal

@@ -6,6 +6,7 @@ use Rattle.sec1_der.specs.declared.error.ErrorKind.TheVariants.{Memory as DerMem
 use Rattle.sec1.specs.Der.{IsReadingFault}
 use Rattle.sec1.specs.Errors.{error_of}
 use Rattle.sec1.specs.declared.error.Error.TheVariants.{Asn1}
+use Rattle.sec1_der.specs.Faults.{end_fault}
 use Rattle.sec1_der.proofs.ElementLaws.{element_of-some}
 use Rattle.sec1.specs.KeyFaults.{key_fault}
 use Rattle.sec1.specs.Keys.{key_tree, fields_of}
@@ -26,12 +27,15 @@ returns-in_err-key c =
     let cause = c.in_err-key.field-0.0 in
     rw (answered.1, answered.2, asn1 cause.kind cause refl from_der.kinds) (record {
       found = tt;
-      only = λ key is. absurd (from_der.only_value key (key_written key c.args.bytes.now is));
+      only = λ key is. absurd (from_der.only key (key_written key c.args.bytes.now is));
       one_tree = tt;
       kinds = from_der.kinds;
       kind = from_der.kind;
-      short = λ key bytes is begins. from_der.short (fields_of key) is.tree.tree.2 (rw is.tree.whole at begins);
-      long = λ key bytes is begins. from_der.long_value key bytes (key_written key bytes is) begins;
+      short = λ key bytes is begins.
+          let cut = c.cut_elements.ensures.element _ end_fault 0x30 (fields_of key) c.args.bytes.now is.tree.tree.2
+          (rw is.tree.whole at begins) in
+          cc (sym cut ∙ from_der.kind);
+      long = λ key bytes is begins. from_der.long key bytes (key_written key bytes is) begins;
     })
 
 pub returns : goal.returns
@@ -40,20 +44,22 @@ returns c =
     let input = c.args.bytes.now in
     let key = c.in_ok-key.key in
     let from_der = c.in_ok-key.ensures in
-    let found = key_found key input from_der.found_value in
+    let found = key_found key input from_der.found in
     rw c.to_key.ensures (record {
       found = found;
       only = λ other at.
           let there = element_of-some 0x30 (key_content other) input (key_written other input at) in
           ap Ok
           (c.one.ensures key other there.inside
-          (from_der.only_value other (key_written other input at) ∙ there.same) there.same);
+          (from_der.only other (key_written other input at) ∙ there.same) there.same);
       one_tree = λ t at.
           (c.trees_unique.ensures t (key_tree key) [] [] at.tree found.tree.tree
           (ap (λ xs. xs ++ []) (sym at.whole ∙ found.tree.whole))).0;
       kinds = tt;
       kind = from_der.kind;
-      short = λ other bytes at begins. absurd
-          (from_der.short (fields_of other) at.tree.tree.2 (rw at.tree.whole at begins));
-      long = λ other bytes at begins. absurd (from_der.long_value other bytes (key_written other bytes at) begins);
+      short = λ other bytes at begins.
+          let cut = c.cut_elements.ensures.element _ end_fault 0x30 (fields_of other) input at.tree.tree.2
+          (rw at.tree.whole at begins) in
+          absurd (cc (sym cut ∙ from_der.kind));
+      long = λ other bytes at begins. absurd (from_der.long other bytes (key_written other bytes at) begins);
     })

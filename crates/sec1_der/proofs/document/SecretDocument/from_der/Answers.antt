@@ -9,9 +9,6 @@ pub returns-in-Err-clause-only : goal.returns-in-Err-clause-only
 returns-in-Err-clause-only c is =
     absurd (cc (c.in-Err.ensures.element (λ _. no_fault) end_fault, document_element c.args.bytes.now is))
 
-pub returns-in-Err-clause-short : goal.returns-in-Err-clause-short
-returns-in-Err-clause-short c tag content allowed short = cc (c.in-Err.ensures.short tag content allowed short)
-
 pub returns-in_err-bytes-clause-kind : goal.returns-in_err-bytes-clause-kind
 returns-in_err-bytes-clause-kind c =
     let refusal = err_from_is_err_and c.from_residual.result c.from_residual.ensures.1 in

@@ -8,5 +8,5 @@ returns-in-Err-clause-refuses g c fresh =
 
 pub returns-in-Ok-clause-passes : goal.returns-in-Ok-clause-passes
 returns-in-Ok-clause-passes g c fresh =
-    λ behind. (reads_on g.A.ValueContent.fault _ _ _ _ _ c.in-Ok.ensures.found
+    λ behind. (reads_on g.A.ValueContent.fault _ _ _ _ c.in-Ok.ensures.found
     (c.in-Ok.ensures.refused.kind fresh)).next behind
