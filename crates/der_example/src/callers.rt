@@ -70,6 +70,15 @@ pub fn octets_at(bytes: &[u8]) -> der::Result<OctetStringRef<'_>>
     SliceReader::new(bytes).decode()
 }
 
+/// Reads an octet string. Each element with its tag is one.
+pub fn octets_of_element(bytes: &[u8]) -> der::Result<OctetStringRef<'_>>
+    ensures { (content : List ℕ) → IsElementOf 0x04 content bytes.now
+        → IsOkAnd result (λ octets. octets_of octets ≡ content) }
+{
+    der::laws::whole_elements();
+    SliceReader::new(bytes).decode()
+}
+
 /// Returns the element of this tag and content.
 pub fn any_of(tag: Tag, content: &[u8]) -> der::Result<AnyRef<'_>>
     ensures within { IsOk result ↔ (length content.now ≤ max_length) }
