@@ -128,7 +128,7 @@ value_read tag content value old new found left = (value ∷ left.0, by (content
     by None e found = absurd found
     by (Some inside) e found =
         let element = element_of-within tag (content value) inside e found.within in
-        rw (element, left.1, ap (λ (r : Reader). r.unread) found.1.read.was_whole) refl
+        rw (element, left.1, ap (λ (r : Reader). r.unread) found.read.was_whole) refl
 
 -- the first of the values that are left
 pub record FirstValue {A : Type 0} (tag : ℕ) (content : A → Option (List ℕ)) (bytes : List ℕ) : Type 0 where

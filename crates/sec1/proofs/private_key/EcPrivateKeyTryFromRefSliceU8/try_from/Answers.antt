@@ -1,8 +1,8 @@
-use Rattle.std.proofs.Common.{◌≡◌, Ok, refl, [], ◌++◌, sym, ap, ◌∙◌}
+use Rattle.std.proofs.Common.{◌≡◌, Ok, Option, Some, None, refl, [], ◌++◌, sym, ap, ◌∙◌}
 use Rattle.std.proofs.lemmas.Result.{err_from_is_err_and}
 use Rattle.sec1_der.specs.declared.error.Error.{Error as DerError}
 use Rattle.sec1_der.specs.declared.error.ErrorKind.{ErrorKind}
-use Rattle.sec1_der.specs.declared.error.ErrorKind.TheVariants.{Memory as DerMemory}
+use Rattle.sec1_der.specs.declared.error.ErrorKind.TheVariants.{Memory as DerMemory, Truncated}
 use Rattle.sec1.specs.Der.{IsReadingFault}
 use Rattle.sec1.specs.Errors.{error_of}
 use Rattle.sec1.specs.declared.error.Error.TheVariants.{Asn1}
@@ -19,6 +19,13 @@ asn1 : (kind : ErrorKind) (cause : DerError) → cause.kind ≡ kind → IsReadi
 asn1 DerMemory cause is fault = absurd fault
 asn1 kind cause is fault = rw is refl
 
+-- Bytes have one fault, or none.
+one_kind : {fault : Option ErrorKind} (found kind : ErrorKind) → fault ≡ Some found → fault ≡ Some kind → found ≡ kind
+one_kind found kind e f = cc (sym e ∙ f)
+
+no_kind : {fault : Option ErrorKind} {A : Type 0} (kind : ErrorKind) → fault ≡ None → fault ≡ Some kind → A
+no_kind kind e f = absurd (cc (sym e ∙ f))
+
 pub returns-in_err-key : goal.returns-in_err-key
 unfolding key_fault
 returns-in_err-key c =
@@ -32,9 +39,9 @@ returns-in_err-key c =
       kinds = from_der.kinds;
       kind = from_der.kind;
       short = λ key bytes is begins.
-          let cut = c.cut_elements.ensures.element _ end_fault 0x30 (fields_of key) c.args.bytes.now is.tree.tree.2
-          (rw is.tree.whole at begins) in
-          cc (sym cut ∙ from_der.kind);
+          one_kind cause.kind Truncated from_der.kind
+          (c.cut_elements.ensures.element _ end_fault 0x30 (fields_of key) c.args.bytes.now is.tree.tree.2
+          (rw is.tree.whole at begins));
       long = λ key bytes is begins. from_der.long key bytes (key_written key bytes is) begins;
     })
 
@@ -58,8 +65,8 @@ returns c =
       kinds = tt;
       kind = from_der.kind;
       short = λ other bytes at begins.
-          let cut = c.cut_elements.ensures.element _ end_fault 0x30 (fields_of other) input at.tree.tree.2
-          (rw at.tree.whole at begins) in
-          absurd (cc (sym cut ∙ from_der.kind));
+          no_kind Truncated from_der.kind
+          (c.cut_elements.ensures.element _ end_fault 0x30 (fields_of other) input at.tree.tree.2
+          (rw at.tree.whole at begins));
       long = λ other bytes at begins. absurd (from_der.long other bytes (key_written other bytes at) begins);
     })
