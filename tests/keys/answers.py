@@ -3,15 +3,6 @@ import sys
 
 import reader
 
-TEXTS = {
-    "Truncated": "input ends inside an element",
-    "Tag": "unexpected or unsupported tag",
-    "Length": "length not in DER form or above the limit",
-    "TrailingData": "bytes after the value",
-    "Value": "content not valid for its tag",
-}
-
-
 def digits(data):
     return data.hex().upper() or "-"
 
@@ -20,7 +11,7 @@ def answer(data):
     try:
         private, curve, public = reader.key(data)
     except reader.Refused as refused:
-        return f"SEC1 ASN.1 error: {TEXTS[refused.args[0]]}"
+        return f"refused: {refused.args[0]}"
     curve = "none" if curve is None else ".".join(map(str, curve))
     public = "none" if public is None else digits(public)
     return f"{digits(private)} {curve} {public} same"

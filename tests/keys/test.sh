@@ -31,7 +31,7 @@ lines=$(grep -vc '^#' "$crate/stdin")
 if command -v openssl >/dev/null; then
     count=0 total=0
     while read -r digits && read -r private _ <&3; do
-        case $private in SEC1) continue ;; esac
+        case $private in refused:) continue ;; esac
         total=$((total + 1))
         printf '%b' "$(echo "$digits" | sed 's/../\\x&/g')" >"$room/key"
         if openssl asn1parse -inform DER -in "$room/key" -noout 2>"$room/error" &&

@@ -12,7 +12,7 @@ use Rattle.std.specs.List.{AllByRecursion, flat_map}
 use Rattle.std.specs.Str.{IsAscii, IsUtf8}
 use Rattle.sec1_der.specs.Identifiers.{AreArcs, IsIdentifier, dotted}
 use Rattle.sec1_der.specs.Numbers.{base128}
-use Rattle.sec1_c.specs.IdentifierTexts.{further_text}
+use Rattle.sec1_c.specs.IdentifierTexts.{further_text, max_text_length}
 use Rattle.sec1_c.proofs.SubidentifierLemmas.{content_arcs, content_fits}
 
 -- a dotted text is the first arc and the text of the further arcs
@@ -45,8 +45,8 @@ further_room m n [] le small = grind (arith, append-nil, arc_room m n le small.0
 further_room m n (k ∷ ks) le small =
     grind (arith, length-append, arc_room m n le small.0, further_room k k ks (omega arith) small.1)
 
--- the text of an identifier is shorter than 158 bytes
-pub text_room : (arcs content : List ℕ) → IsIdentifier arcs content → length (dotted arcs) < 158
+-- the text of an identifier has room for a byte 0
+pub text_room : (arcs content : List ℕ) → IsIdentifier arcs content → length (dotted arcs) < max_text_length
 text_room (a ∷ b ∷ further) content is =
     let allowed = is.encodes.allowed in
     let others = further_room b (40 * a + b) further (omega arith) (allowed.2, allowed.3) in

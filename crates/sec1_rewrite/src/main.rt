@@ -3,7 +3,7 @@
 #![tactic(auto)]
 
 use hex::ToHex;
-use sec1::{EcParameters, EcPrivateKey};
+use sec1::{EcParameters, EcPrivateKey, Error};
 use std::alloc::{AllocError, Global};
 use std::io;
 use std::io::{BufRead, BufReader};
@@ -61,7 +61,8 @@ fn answer(alloc: Global, line: &str) -> Result<String, AllocError> {
             };
             format!(in alloc; "{parts} {written}")
         }
-        Err(error) => format!(in alloc; "{error}"),
+        Err(Error::Asn1(error)) => format!(in alloc; "refused: {:?}", error.kind),
+        Err(error) => format!(in alloc; "refused: {error:?}"),
     }
 }
 

@@ -3,16 +3,16 @@ ghost use Rattle.std.specs.Prelude.{◌≡◌, ◌<◌, ◌+◌, ℕ, List, ◌�
 ghost use Rattle.std.specs.Fmt.{decimal};
 ghost use Rattle.sec1_der.specs.ArcsOf.{arcs_of_numbers, numbers_after};
 ghost use Rattle.sec1_der.specs.Identifiers.{dotted};
-ghost use Rattle.sec1_c.specs.IdentifierTexts.{further_text};
+ghost use Rattle.sec1_c.specs.IdentifierTexts.{further_text, max_text_length};
 ghost use Rattle.sec1_c.specs.Subidentifiers.{SubidentifiersFit};
 
 use arrayvec::ArrayString;
 use itoa::Buffer;
 use sec1::der::ObjectIdentifier;
 
-/// The greatest length of a text in bytes: that of the longest dotted text of an identifier, and a
-/// byte 0.
-const MAX: usize = 158;
+/// The greatest length of a text in bytes, with a byte 0: a byte of the content takes four at most,
+/// three digits and a full stop, and the first arc and the byte 0 two more.
+const MAX: usize = 4 * 39 + 2;
 
 /// A text of at most 158 bytes.
 pub type Text = ArrayString<MAX>;
@@ -21,7 +21,7 @@ pub type Text = ArrayString<MAX>;
 #[tactic(auto, using(crate::proofs::TextLemmas::text_of_content))]
 pub fn dotted(identifier: &ObjectIdentifier) -> Text
     ensures text { result.bytes ≡ dotted identifier.now }
-    ensures room { length result.bytes < 158 }
+    ensures room { length result.bytes < max_text_length }
 {
     first_text(0, identifier.as_bytes())
 }
@@ -31,7 +31,7 @@ pub fn dotted(identifier: &ObjectIdentifier) -> Text
 #[tactic(auto, using(crate::proofs::TextLemmas::text_pieces))]
 fn first_text(high: u32, bytes: &[u8]) -> Text
     requires fit { SubidentifiersFit high bytes.now }
-    requires room { length (dotted (arcs_of_numbers (numbers_after high bytes.now))) < 158 }
+    requires room { length (dotted (arcs_of_numbers (numbers_after high bytes.now))) < max_text_length }
     ensures { result.bytes ≡ dotted (arcs_of_numbers (numbers_after high bytes.now)) }
 {
     let mut text = Text::new();
@@ -68,7 +68,7 @@ fn first_arcs(number: u32) -> (u32, u32)
 fn push_arcs(text: &mut Text, high: u32, bytes: &[u8])
     requires fit { SubidentifiersFit high bytes.now }
     requires room { length text.old.bytes + length
-        (further_text (numbers_after high bytes.now)) < 158 }
+        (further_text (numbers_after high bytes.now)) < max_text_length }
     ensures { text.new.bytes ≡ text.old.bytes ++ further_text (numbers_after high bytes.now) }
 {
     let Some((byte, rest)) = bytes.split_first() else {
@@ -84,7 +84,7 @@ fn push_arcs(text: &mut Text, high: u32, bytes: &[u8])
 
 /// Appends a full stop and the number in decimal digits.
 fn push_arc(text: &mut Text, arc: u32)
-    requires { length text.old.bytes + (1 + length (decimal arc)) < 158 }
+    requires { length text.old.bytes + (1 + length (decimal arc)) < max_text_length }
     ensures { text.new.bytes ≡ text.old.bytes ++ 46 ∷ decimal arc }
 {
     text.push_str(".");
@@ -93,7 +93,7 @@ fn push_arc(text: &mut Text, arc: u32)
 
 /// Appends the number in decimal digits.
 fn push_number(text: &mut Text, number: u32)
-    requires { length text.old.bytes + length (decimal number) < 158 }
+    requires { length text.old.bytes + length (decimal number) < max_text_length }
     ensures { text.new.bytes ≡ text.old.bytes ++ decimal number }
 {
     text.push_str(Buffer::new().format(number));
