@@ -31,7 +31,8 @@ pub fn dotted(identifier: &ObjectIdentifier) -> Text
 #[tactic(auto, using(crate::proofs::TextLemmas::text_pieces))]
 fn first_text(high: u32, bytes: &[u8]) -> Text
     requires fit { SubidentifiersFit high bytes.now }
-    requires room { length (dotted (arcs_of_numbers (numbers_after high bytes.now))) < max_text_length }
+    requires room { length (dotted (arcs_of_numbers (numbers_after high bytes.now)))
+        < max_text_length }
     ensures { result.bytes ≡ dotted (arcs_of_numbers (numbers_after high bytes.now)) }
 {
     let mut text = Text::new();
