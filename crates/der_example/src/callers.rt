@@ -75,8 +75,7 @@ pub fn octets_of_element(bytes: &[u8]) -> der::Result<OctetStringRef<'_>>
     ensures { (content : List ℕ) → IsElementOf 0x04 content bytes.now
         → IsOkAnd result (λ octets. octets_of octets ≡ content) }
 {
-    der::laws::whole_elements();
-    SliceReader::new(bytes).decode()
+    der::from_der(bytes)
 }
 
 /// Returns the element of this tag and content.

@@ -26,6 +26,10 @@ pub fn from_der<'a, T: DecodeValue<'a> + Tagged + Drop>(input: &'a [u8]) -> Resu
         (λ value. element_of T.tag_byte (T.content value) ≡ Some input.now) }
     ensures only { (value : T) → element_of T.tag_byte (T.content value) ≡ Some input.now
         → IsOkAnd result (λ found. T.content found ≡ T.content value) }
+    // An element whose content the rule of the type accepts is read.
+    ensures rule { (content : List ℕ) → T.fault content ≡ None
+        → IsElementOf T.tag_byte content input.now
+        → IsOkAnd result (λ found. T.content found ≡ Some content) }
     ensures long { (value : T) (bytes : List ℕ)
         → element_of T.tag_byte (T.content value) ≡ Some bytes
         → IsProperPrefix bytes input.now → Refuses result ErrorKind.TrailingData }

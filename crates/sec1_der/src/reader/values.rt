@@ -30,6 +30,12 @@ impl<'a> SliceReader<'a> {
             → self.old ≡ reader_over (element T.tag_byte content ++ rest)
             → IsOkAnd result (λ found. T.content found ≡ Some content)
             × (self.new ≡ reader_over rest) }
+        // Where they begin with an element whose content the rule of the type accepts, it is read.
+        ensures rule { (content rest : List ℕ) → T.fault content ≡ None
+            → length content ≤ max_length
+            → self.old ≡ reader_over (element T.tag_byte content ++ rest)
+            → IsOkAnd result (λ found. T.content found ≡ Some content)
+            × (self.new ≡ reader_over rest) }
 
         ensures kinds { self.old.failed ≡ false → IfErr result (λ e. IsReadingFault e.kind) }
         ensures refused { RefusesBy (element_fault T.tag_byte T.fault no_fault) result self.old
@@ -72,6 +78,12 @@ impl<'a> SliceReader<'a> {
             → (result ≡ Ok None) × (self.new ≡ self.old) }
         // Where the unread bytes begin with such a field, it is read.
         ensures only { (value : T) (content rest : List ℕ) → T.content value ≡ Some content
+            → length content ≤ max_length → length (element T.tag_byte content) ≤ max_length
+            → self.old ≡ reader_over
+            (element (explicit_tag number) (element T.tag_byte content) ++ rest)
+            → IsOkAnd result (λ field. IsSomeAnd field (λ found. T.content found ≡ Some content))
+            × (self.new ≡ reader_over rest) }
+        ensures rule { (content rest : List ℕ) → T.fault content ≡ None
             → length content ≤ max_length → length (element T.tag_byte content) ≤ max_length
             → self.old ≡ reader_over
             (element (explicit_tag number) (element T.tag_byte content) ++ rest)
@@ -129,6 +141,9 @@ impl<'a> SliceReader<'a> {
             × (self.old ≡ reader_over (element T.tag_byte content)))) }
         ensures only { (value : T) (content : List ℕ) → T.content value ≡ Some content
             → length content ≤ max_length → self.old ≡ reader_over (element T.tag_byte content)
+            → IsOkAnd result (λ found. T.content found ≡ Some content) }
+        ensures rule { (content : List ℕ) → T.fault content ≡ None → length content ≤ max_length
+            → self.old ≡ reader_over (element T.tag_byte content)
             → IsOkAnd result (λ found. T.content found ≡ Some content) }
         ensures long { (value : T) (content : List ℕ) → T.content value ≡ Some content
             → length content ≤ max_length → self.old.failed ≡ false

@@ -10,6 +10,15 @@ pub returns-in_err-value-clause-only : goal.returns-in_err-value-clause-only
 returns-in_err-value-clause-only g c value content is within e =
     absurd (c.in_err-value.ensures.only value content [] is within (rw append-nil e)).0
 
+pub returns-in_err-value-clause-rule : goal.returns-in_err-value-clause-rule
+returns-in_err-value-clause-rule g c content allowed within e =
+    absurd (c.in_err-value.ensures.rule content [] allowed within (rw append-nil e)).0
+
+pub returns-in_err-finish-clause-rule : goal.returns-in_err-finish-clause-rule
+returns-in_err-finish-clause-rule g c content allowed within e =
+    absurd (false≢true
+    (c.in_err-finish.ensures.only (c.in_ok-value.ensures.rule content [] allowed within (rw append-nil e)).1))
+
 pub returns-in_err-finish-clause-only : goal.returns-in_err-finish-clause-only
 returns-in_err-finish-clause-only g c value content is within e =
     absurd (false≢true
