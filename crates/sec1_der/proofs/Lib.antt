@@ -1,6 +1,7 @@
 pub mod LengthLaws
 pub mod ElementLaws
 pub mod FaultLaws
+pub mod StreamLaws
 pub mod DigitLemmas
 pub mod LengthLemmas
 pub mod ElementLemmas

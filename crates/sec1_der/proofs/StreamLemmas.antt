@@ -3,12 +3,11 @@
 use Rattle.std.proofs.Common.{◌≡◌, ℕ, ◌+◌, ◌<◌, ◌≤◌, List, [], ◌∷◌, ◌++◌, length, take, get_or, Option, ◌⊎◌, inl, inr}
 use Rattle.std.proofs.Common.{⊎_elim, arith, refl, sym, ap, ◌∙◌}
 use Rattle.std.proofs.Common.{Result, Ok, Err, IfOk, IfErr, MatchResult, append-nil, append_assoc, length-append, tests, length-take-le, Some, None, IfSome, All}
-use Rattle.std.proofs.KnownBytes.{Consumes-nil, Consumes-trans, Consumes-kept, Appends-nil, Appends-trans, Appends-kept}
 use Rattle.std.proofs.Math.Seq.{take-append-add}
 use Rattle.std.proofs.lemmas.Grind.{common_steps}
 use Rattle.std.proofs.lemmas.Bool.{cases_Bool, cases_lt, false_from_ne_true}
 use Rattle.std.proofs.lemmas.List.{nil_from_length, take_more, take-append-le}
-use Rattle.std.specs.Io.KnownBytes.{Appends, Consumes, Keeps, IsAtEnd}
+use Rattle.std.specs.Io.KnownBytes.{Consumes, Keeps, IsAtEnd}
 use borrow.Rule.Slice.PartMut.{put_mid}
 use Rattle.sec1_der.specs.declared.error.Error.{Error}
 use Rattle.sec1_der.specs.declared.error.ErrorKind.{ErrorKind}
@@ -23,30 +22,9 @@ use Rattle.sec1_der.proofs.HeaderLemmas.{longer, header_front}
 use Rattle.sec1_der.proofs.ElementFaultLemmas.{document_element, any_without_header, any_short}
 use Rattle.sec1_der.proofs.FaultLaws.{any_at}
 use Rattle.sec1_der.proofs.ElementLaws.{tag_from_test}
+use Rattle.sec1_der.proofs.StreamLaws.{takes_more, takes_nothing, takes_kept}
 
 -- ---- bytes that were taken
-
--- what was taken, and then more, was taken together
-pub takes_more : {S : Type 0} (left taken : S → Option (List ℕ)) (old mid new : S) (bytes more : List ℕ)
-    → Takes left taken old mid bytes → Takes left taken mid new more → Takes left taken old new (bytes ++ more)
-takes_more left taken old mid new bytes more first next = record {
-  consumed = Consumes-trans _ _ _ bytes more first.consumed next.consumed;
-  appended = Appends-trans _ _ _ bytes more first.appended next.appended;
-}
-
--- nothing is taken where nothing happens
-pub takes_nothing : {S : Type 0} (left taken : S → Option (List ℕ)) (reader : S) → Takes left taken reader reader []
-takes_nothing left taken reader =
-    record { consumed = Consumes-nil (left reader); appended = Appends-nil (taken reader) }
-
--- a call that keeps what is known takes nothing more
-pub takes_kept : {S : Type 0} (left taken : S → Option (List ℕ)) (old mid new : S) (bytes : List ℕ)
-    → Takes left taken old mid bytes → Keeps (left mid) (left new) → Keeps (taken mid) (taken new)
-    → Takes left taken old new bytes
-takes_kept left taken old mid new bytes first left_kept taken_kept = record {
-  consumed = Consumes-kept _ _ _ bytes first.consumed left_kept;
-  appended = Appends-kept _ _ _ bytes first.appended taken_kept;
-}
 
 -- a slice into a part of which was written begins with what stood before the part, and the first bytes of the part
 take_part : (start k : ℕ) (slice part : List ℕ) (n : ℕ) → start ≤ length slice → n ≤ length part
