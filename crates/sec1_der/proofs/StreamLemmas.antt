@@ -2,7 +2,8 @@
 -- left.
 use Rattle.std.proofs.Common.{◌≡◌, ℕ, ◌+◌, ◌<◌, ◌≤◌, List, [], ◌∷◌, ◌++◌, length, take, get_or, Option, ◌⊎◌, inl, inr}
 use Rattle.std.proofs.Common.{⊎_elim, arith, refl, sym, ap, ◌∙◌}
-use Rattle.std.proofs.Common.{Result, Ok, Err, IfOk, IfErr, MatchResult, append-nil, append_assoc, length-append, tests, length-take-le, Some, None, IfSome, All}
+use Rattle.std.proofs.Common.{append-nil, append_assoc, length-append, tests, length-take-le, Some, None, IfSome}
+use Rattle.std.proofs.Common.{Result, Ok, Err, IfOk, IfErr, MatchResult}
 use Rattle.std.proofs.Math.Seq.{take-append-add}
 use Rattle.std.proofs.lemmas.Grind.{common_steps}
 use Rattle.std.proofs.lemmas.Bool.{cases_Bool, cases_lt, false_from_ne_true}

@@ -20,17 +20,16 @@ impl fmt::Debug for IoFault {
 
 /// A reader that remembers a failure. Calls that take one require that it hasn't failed.
 ///
-/// A reader says what is known of its input, before and behind the place where it stands. All three
-/// members may be left out.
+/// Its members `left`, `taken` and `ended` say what is known of the input. Each may be left out.
 pub trait Read {
     /// The remaining input, if it is known.
     ghost left: { Self → Option (List ℕ) } = { λ _. None };
 
-    /// The bytes that were taken, if they are known. A reader can say this whose remaining input
-    /// nobody knows, or never ends.
+    /// The bytes that were taken, if they are known. They can be known of an input of which nobody
+    /// knows what remains, or that never ends.
     ghost taken: { Self → Option (List ℕ) } = { λ _. None };
 
-    /// What is known where the input has ended; nothing holds at an input without end.
+    /// What holds where the input has ended: `⊥` if it never ends.
     ghost ended: { Self → Type 0 } = { λ _. ⊤ };
 
     /// Whether a read has failed.

@@ -25,7 +25,7 @@ impl SecretDocument {
     /// Reads one element up to the end of the input. The header is read one byte at a time, the
     /// content at most 4,096 bytes at a time. Then one byte more is asked for, to find the end.
     /// Whatever the header announces, memory grows by at most 4,096 bytes at once, and only when it
-    /// is full.
+    /// is full. No reader gives more than the element and this byte.
     ///
     /// # Errors
     ///

@@ -9,7 +9,8 @@ pub returns-in_err-fill-clause-refused : goal.returns-in_err-fill-clause-refused
 returns-in_err-fill-clause-refused g c =
     let fewer = c.in_err-fill.ensures.few in
     let p = err_from_is_err_and c.from_residual-in_err-fill.result c.from_residual-in_err-fill.ensures.1 in
-    rw (p.1, p.2) (refused_part Io _ _ _ _ _ _ _ _ _ c.loop-missing.missing _ c.loop-missing.invariant.read (omega arith)
+    rw (p.1, p.2) (refused_part Io _ _ _ _ _ _ _ _ _ c.loop-missing.missing _ c.loop-missing.invariant.read
+    (omega arith)
     (record {
       bytes = fewer.bytes;
       taken = fewer.taken;
