@@ -1,7 +1,8 @@
 //! What a user writes over `sec1`, its layer `sec1_der` and `der_types`, by their public contracts
 //! and the laws of their `specs/` alone: records of other shapes, the public key of a certificate
 //! (RFC 5280 section 4.1) and a private key container (RFC 5208); keys read from them, and a store
-//! of keys; numbers of a SEQUENCE OF INTEGER and of a SET OF INTEGER.
+//! of keys; numbers of a SEQUENCE OF INTEGER and of a SET OF INTEGER; what is taken from inputs
+//! that never end, or whose bytes nobody knows.
 #![tactic(auto)]
 
 mod algorithm;
@@ -16,6 +17,7 @@ pub mod points;
 mod private_key_info;
 mod public_key_info;
 mod reading;
+pub mod streams;
 #[cfg(test)]
 mod tests;
 

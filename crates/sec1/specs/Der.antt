@@ -21,10 +21,11 @@ pub use Rattle.sec1_der.specs.Faults.{Fault, HasFault, no_fault, end_fault, elem
 pub use Rattle.sec1_der.specs.Faults.{optional_fault, field_fault, any_fault, document_fault}
 pub use Rattle.sec1_der.specs.Faults.{tree_fault}
 pub use Rattle.sec1_der.specs.ReadsDocument.{IsElementFault, ConsumesElement, RefusesElement}
+pub use Rattle.sec1_der.specs.ReadsDocument.{TakenBeforeRefusal}
 pub use Rattle.sec1_der.specs.SliceWriters.{written_by, room_of, IsOver, KeepsSlice, AppendsNothing}
 pub use Rattle.sec1_der.specs.SliceWriters.{Appends, WritesBehind}
 pub use Rattle.sec1_der.specs.StdStreams.{reader_failed, reader_inner, writer_failed, writer_inner}
-pub use Rattle.sec1_der.specs.Streams.{AppendsPrefix}
+pub use Rattle.sec1_der.specs.Streams.{AppendsPrefix, Ends, ReadAppends, Takes}
 pub use Rattle.sec1_der.specs.Trees.{Tree, Forest, leaf, node, bytes, IsTree, IsTreeOf, depth, size}
 pub use Rattle.sec1_der.specs.TreeLaws.{BytesDetermineTree, BytesDetermineRow, NoTreeBeginsAnother}
 pub use Rattle.sec1_der.specs.Trees.{max_tree_depth}

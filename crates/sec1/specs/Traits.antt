@@ -1,4 +1,5 @@
--- What a key type reads from a stream, and what it writes to one.
+-- What a key type reads from a stream, and what it writes to one. Here `Taken` says of bytes that
+-- they and no others were taken, and `Ended` that the input has ended.
 use Rattle.std.specs.Prelude.{◌≡◌, ◌⊎◌, ◌↔◌, ℕ, List, Option, Bool, false, IsTrue, IfSome}
 use Rattle.std.specs.Io.KnownBytes.{Appends}
 use Rattle.sec1.specs.Errors.{error_of}
@@ -17,29 +18,30 @@ pub record IsElementWith (P : List ℕ → Type 0) : Type 0 where
   pub is_element : IsElement bytes
   pub holds : P bytes
 
--- one element for which this holds was read, and no input remains
-pub record ConsumesElementWith (P : List ℕ → Type 0) (old new : Option (List ℕ)) : Type 0 where
+-- one element for which this holds was taken, and no input remains
+pub record ConsumesElementWith (P Taken : List ℕ → Type 0) (Ended : Type 0) : Type 0 where
   pub bytes : List ℕ
-  pub read : ConsumesElement old new bytes
+  pub read : ConsumesElement Taken Ended bytes
   pub holds : P bytes
 
 -- an allocation failed, or the key type refused
 abbrev pub IsMemoryOr : (Error → Type 0) → Error → Type 0
 IsMemoryOr refuses error = (error ≡ Memory) ⊎ refuses error
 
--- No element was read: the remaining input isn't one, a read failed, or an allocation failed.
-pub record RefusesDocument (old new : Option (List ℕ)) (failed : Bool)
-    (error : Error) : Type 0 where
+-- No element was read: the remaining input isn't one, a read failed, or an allocation failed. The
+-- kind says which bytes were taken.
+pub record RefusesDocument (left : Option (List ℕ)) (Taken : List ℕ → Type 0) (Ended : Type 0)
+    (failed : Bool) (error : Error) : Type 0 where
   pub cause : DerError
   pub is : error ≡ error_of cause
-  pub refused : RefusesElement cause.kind old new
-  pub only : IsIoOrMemory cause.kind ⊎ IfSome old (λ left. ¬ (IsElement left))
+  pub refused : RefusesElement cause.kind Taken Ended
+  pub only : IsIoOrMemory cause.kind ⊎ IfSome left (λ all. ¬ (IsElement all))
   pub io : cause.kind ≡ Io ↔ IsTrue failed
 
 -- One element was read and refused as a key, and no read failed.
-pub record RefusesKey (refuses : List ℕ → Error → Type 0) (old new : Option (List ℕ))
-    (failed : Bool) (error : Error) : Type 0 where
-  pub of_element : ConsumesElementWith (λ bytes. IsMemoryOr (refuses bytes) error) old new
+pub record RefusesKey (refuses : List ℕ → Error → Type 0) (Taken : List ℕ → Type 0)
+    (Ended : Type 0) (failed : Bool) (error : Error) : Type 0 where
+  pub of_element : ConsumesElementWith (λ bytes. IsMemoryOr (refuses bytes) error) Taken Ended
   pub unfailed : failed ≡ false
 
 -- an error by which the element of a file is refused

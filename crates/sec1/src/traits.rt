@@ -7,6 +7,7 @@ ghost use Rattle.sec1.specs.Traits.{IsDocumentError, IsElementWith, IsMemoryOr};
 ghost use Rattle.sec1.specs.Traits.{ConsumesElementWith, RefusesDocument, RefusesKey, WritesKey};
 ghost use Rattle.sec1.specs.Traits.{WritesKeyPrefix};
 ghost use Rattle.sec1.specs.declared.error.Error.{Error};
+ghost use Rattle.sec1_der.specs.Streams.{Ends, Takes};
 ghost use Rattle.sec1_der.specs.declared.error.ErrorKind.TheVariants.{Io};
 
 use crate::{Error, Result};
@@ -39,14 +40,15 @@ pub trait DecodeEcPrivateKey: Sized {
     /// failed; then those of [`from_sec1_der`](DecodeEcPrivateKey::from_sec1_der).
     fn read_sec1_der_from<R: Read>(alloc: Global, reader: &mut R) -> Result<Self>
         requires { R.failed reader.old ≡ false }
-        ensures found { IfOk result (λ key.
-            ConsumesElementWith (λ bytes. reads bytes key) (R.left reader.old)
-            (R.left reader.new)) }
+        ensures found { IfOk result (λ key. ConsumesElementWith (λ bytes. reads bytes key)
+            (Takes R.left R.taken reader.old reader.new)
+            (Ends R.left R.ended reader.new)) }
         ensures io { IsTrue (R.failed reader.new) → RefusesAsn1 result Io }
         ensures refused { IfErr result (λ error.
-            RefusesDocument (R.left reader.old) (R.left reader.new) (R.failed reader.new) error
-            ⊎ RefusesKey refuses (R.left reader.old) (R.left reader.new)
-            (R.failed reader.new) error) }
+            RefusesDocument (R.left reader.old) (Takes R.left R.taken reader.old reader.new)
+            (Ends R.left R.ended reader.new) (R.failed reader.new) error
+            ⊎ RefusesKey refuses (Takes R.left R.taken reader.old reader.new)
+            (Ends R.left R.ended reader.new) (R.failed reader.new) error) }
     {
         let document = SecretDocument::read_der_from(alloc, reader)?;
         Self::from_sec1_der(alloc, document.as_bytes())

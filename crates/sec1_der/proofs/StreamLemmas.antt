@@ -2,28 +2,30 @@
 -- left.
 use Rattle.std.proofs.Common.{◌≡◌, ℕ, ◌+◌, ◌<◌, ◌≤◌, List, [], ◌∷◌, ◌++◌, length, take, get_or, Option, ◌⊎◌, inl, inr}
 use Rattle.std.proofs.Common.{⊎_elim, arith, refl, sym, ap, ◌∙◌}
-use Rattle.std.proofs.Common.{append-nil, append_assoc, length-append, tests, length-take-le, Some, None, IfSome, All}
-use Rattle.std.proofs.KnownBytes.{Consumes-nil, Consumes-trans, Consumes-kept}
+use Rattle.std.proofs.Common.{append-nil, append_assoc, length-append, tests, length-take-le, Some, None, IfSome}
+use Rattle.std.proofs.Common.{Result, Ok, Err, IfOk, IfErr, MatchResult}
 use Rattle.std.proofs.Math.Seq.{take-append-add}
 use Rattle.std.proofs.lemmas.Grind.{common_steps}
 use Rattle.std.proofs.lemmas.Bool.{cases_Bool, cases_lt, false_from_ne_true}
 use Rattle.std.proofs.lemmas.List.{nil_from_length, take_more, take-append-le}
 use Rattle.std.specs.Io.KnownBytes.{Consumes, Keeps, IsAtEnd}
 use borrow.Rule.Slice.PartMut.{put_mid}
+use Rattle.sec1_der.specs.declared.error.Error.{Error}
 use Rattle.sec1_der.specs.declared.error.ErrorKind.{ErrorKind}
 use Rattle.sec1_der.specs.declared.error.ErrorKind.TheVariants.{Truncated, TrailingData, Io, Memory, Tag, Length}
 use Rattle.sec1_der.specs.Elements.{IsElement, IsHeader, LacksHeader, header}
 use Rattle.sec1_der.specs.ErrorKinds.{header_fault, length_fault, is_tag, IsIoOrMemory}
 use Rattle.sec1_der.specs.ReadsDocument.{HasHeaderFault, IsCutContent, TakenBeforeRefusal, RefusesElement, ReadsHeader}
 use Rattle.sec1_der.specs.ReadsDocument.{RefusesContent, ConsumesElement}
-use Rattle.sec1_der.specs.Streams.{ReadsOnto}
+use Rattle.sec1_der.specs.Streams.{ReadsOnto, Takes, Ends}
 use Rattle.sec1_der.specs.Faults.{no_fault, end_fault, document_fault}
 use Rattle.sec1_der.proofs.HeaderLemmas.{longer, header_front}
 use Rattle.sec1_der.proofs.ElementFaultLemmas.{document_element, any_without_header, any_short}
 use Rattle.sec1_der.proofs.FaultLaws.{any_at}
 use Rattle.sec1_der.proofs.ElementLaws.{tag_from_test}
+use Rattle.sec1_der.proofs.StreamLaws.{takes_more, takes_nothing, takes_kept}
 
--- ---- bytes that were read
+-- ---- bytes that were taken
 
 -- a slice into a part of which was written begins with what stood before the part, and the first bytes of the part
 take_part : (start k : ℕ) (slice part : List ℕ) (n : ℕ) → start ≤ length slice → n ≤ length part
@@ -31,28 +33,27 @@ take_part : (start k : ℕ) (slice part : List ℕ) (n : ℕ) → start ≤ leng
 take_part start k slice part n inside few = grind (arith, common_steps, take-append-add, take-append-le, length-take-le)
 
 -- what was read into the beginning of a slice, and then into the part after it, was read into both
-pub reads_part : (old mid new : Option (List ℕ)) (start k : ℕ) (slice part : List ℕ) (n : ℕ) → start ≤ length slice
-    → n ≤ length part
-    → Consumes old mid (take start slice) → Consumes mid new (take n part)
-    → Consumes old new (take (start + n) (put_mid start k slice part))
-reads_part old mid new start k slice part n inside few first next =
+pub reads_part : {S : Type 0} (left taken : S → Option (List ℕ)) (old mid new : S) (start k : ℕ)
+    (slice part : List ℕ) (n : ℕ) → start ≤ length slice → n ≤ length part
+    → Takes left taken old mid (take start slice) → Takes left taken mid new (take n part)
+    → Takes left taken old new (take (start + n) (put_mid start k slice part))
+reads_part left taken old mid new start k slice part n inside few first next =
     rw (take_part start k slice part n inside few)
-    (Consumes-trans old mid new (take start slice) (take n part) first next)
+    (takes_more left taken old mid new (take start slice) (take n part) first next)
 
 -- what was read into a buffer of one byte is this byte
 pub take_byte : (buf : List ℕ) (n : ℕ) → length buf ≡ 1 → n ≤ length buf → 0 < n → take n buf ≡ get_or buf 0 0 ∷ []
 take_byte buf n one most some = grind (arith, common_steps, take_more)
 
 -- what was read onto bytes, and then more, was read onto them together
-pub reads_more : (old mid new : Option (List ℕ)) (start middle end : List ℕ) (n m sum : ℕ)
-    → ReadsOnto old mid start middle n → n + m ≡ sum
-    → ReadsOnto mid new middle end m → ReadsOnto old new start end sum
-reads_more old mid new start middle end n m sum read is more =
-    let consumed = Consumes-trans old mid new read.bytes more.bytes read.consumed more.consumed in
+pub reads_more : {S : Type 0} (left taken : S → Option (List ℕ)) (old mid new : S) (start middle end : List ℕ)
+    (n m sum : ℕ) → ReadsOnto (Takes left taken old mid) start middle n → n + m ≡ sum
+    → ReadsOnto (Takes left taken mid new) middle end m → ReadsOnto (Takes left taken old new) start end sum
+reads_more left taken old mid new start middle end n m sum read is more =
     let lengths = length-append read.bytes more.bytes in
     record {
       bytes = _;
-      consumed = consumed;
+      taken = takes_more left taken old mid new read.bytes more.bytes read.taken more.taken;
       appended =
           rw (more.appended, read.appended) (append_assoc start _ _);
       count = omega arith;
@@ -81,19 +82,32 @@ one_more start k slice part inside short none size =
     inr (record { before = _; last = _; joined = joined; cut = record { fault_is = short; none = none } })
 
 -- a header that came with its last byte is all that was read
-pub read_alone : (old new : Option (List ℕ)) (tag n : ℕ) (bytes rest : List ℕ) → IsHeader tag n
+pub read_alone : (Taken : List ℕ → Type 0) (tag n : ℕ) (bytes rest : List ℕ) → IsHeader tag n
     → bytes ≡ header tag n ++ rest → IsReachable bytes
-    → Consumes old new bytes → ReadsHeader old new tag n
-read_alone old new tag n bytes rest is split (inl empty) consumed = absurd (cc (empty, split))
-read_alone old new tag n bytes rest is split (inr one) consumed =
+    → Taken bytes → ReadsHeader Taken tag n
+read_alone Taken tag n bytes rest is split (inl empty) taken = absurd (cc (empty, split))
+read_alone Taken tag n bytes rest is split (inr one) taken =
     let joined = sym one.joined ∙ split in
     ⊎_elim
     (λ short. let none = nil_from_length rest (omega (arith, simp length-append at (ap length joined))) in
-    record { is_header = is; consumed = rw (split, none, append-nil (header tag n)) at consumed })
+    record { is_header = is; taken = rw (split, none, append-nil (header tag n)) at taken })
     (λ within. let c =
     longer one.before (header tag n) (one.last ∷ []) rest joined within in
     absurd (one.cut.none tag n c.after is c.front))
     (cases_lt (length one.before) (length (header tag n)))
+
+-- where the input ends in a header, an element is refused as Truncated
+pub refused_header : {S : Type 0} (left taken : S → Option (List ℕ)) (Ended : Type 0) (old mid new : S)
+    (bytes buf : List ℕ) (n : ℕ) → HasHeaderFault Truncated bytes → Takes left taken old mid bytes
+    → Takes left taken mid new (take n buf) → n ≡ 0 → Ended → RefusesElement Truncated (Takes left taken old new) Ended
+refused_header left taken Ended old mid new bytes buf n cut first next none end =
+    let both = takes_more left taken old mid new bytes (take n buf) first next in
+    record {
+      bytes = bytes;
+      taken = rw (none, append-nil bytes) at both;
+      by_kind = inl cut;
+      at_end = λ _. end;
+    }
 
 -- an incomplete header has at most five bytes
 digits_are_few : (first : ℕ) (digits : List ℕ) → length_fault (first ∷ digits) ≡ Truncated → length digits ≤ 3
@@ -110,14 +124,16 @@ cut_is_short (byte ∷ first ∷ digits) e = ⊎_elim
 -- ---- the content
 
 -- a content of which a part was read is refused where what is missing is
-pub refused_part : (kind : ErrorKind) (old mid new : Option (List ℕ)) (start middle : List ℕ) (n missing announced : ℕ)
-    → ReadsOnto old mid start middle n → n + missing ≡ announced → RefusesContent kind missing mid new
-    → RefusesContent kind announced old new
-refused_part kind old mid new start middle n missing announced read sum refused =
-    let consumed = Consumes-trans old mid new read.bytes refused.taken read.consumed refused.consumed in
-    let few : length (read.bytes ++ refused.taken) < announced = omega
-    (arith, length-append read.bytes refused.taken) in
-    record { taken = _; consumed = consumed; few = few; kinds = refused.kinds; at_end = refused.at_end }
+pub refused_part : (kind : ErrorKind) {S : Type 0} (left taken : S → Option (List ℕ)) (Ended : Type 0)
+    (old mid new : S) (start middle : List ℕ) (n missing announced : ℕ)
+    → ReadsOnto (Takes left taken old mid) start middle n → n + missing ≡ announced
+    → RefusesContent kind missing (Takes left taken mid new) Ended
+    → RefusesContent kind announced (Takes left taken old new) Ended
+refused_part kind left taken Ended old mid new start middle n missing announced read sum refused =
+    let both = takes_more left taken old mid new read.bytes refused.bytes read.taken refused.taken in
+    let few : length (read.bytes ++ refused.bytes) < announced = omega
+    (arith, length-append read.bytes refused.bytes) in
+    record { bytes = _; taken = both; few = few; kinds = refused.kinds; at_end = refused.at_end }
 
 -- ---- the element
 
@@ -134,52 +150,59 @@ whole_element tag n content is count =
     record { tag = tag; content = content; is_header = rw count is; encoded = rw count refl }
 
 -- an element is refused by what was taken after its header
-refused_after : (kind : ErrorKind) (old mid new : Option (List ℕ)) (tag n : ℕ) (taken : List ℕ)
-    → ReadsHeader old mid tag n → Consumes mid new taken
-    → TakenBeforeRefusal kind (header tag n ++ taken) → (kind ≡ Truncated → IsAtEnd new) → RefusesElement kind old new
-refused_after kind old mid new tag n taken h consumed by_kind at_end =
+refused_after : (kind : ErrorKind) {S : Type 0} (left taken : S → Option (List ℕ)) (Ended : Type 0) (old mid new : S)
+    (tag n : ℕ) (bytes : List ℕ) → ReadsHeader (Takes left taken old mid) tag n → Takes left taken mid new bytes
+    → TakenBeforeRefusal kind (header tag n ++ bytes) → (kind ≡ Truncated → Ended)
+    → RefusesElement kind (Takes left taken old new) Ended
+refused_after kind left taken Ended old mid new tag n bytes h more by_kind at_end =
     record {
-      taken = _;
-      consumed = Consumes-trans old mid new (header tag n) taken h.consumed consumed;
-      by_kind =
-          by_kind;
+      bytes = _;
+      taken = takes_more left taken old mid new (header tag n) bytes h.taken more;
+      by_kind = by_kind;
       at_end = at_end;
     }
 
 -- where a content is refused, so is the element
-pub refused_content : (kind : ErrorKind) (old mid new : Option (List ℕ)) (tag n : ℕ) → ReadsHeader old mid tag n
-    → RefusesContent kind n mid new
-    → RefusesElement kind old new
-refused_content kind old mid new tag n h r =
-    let part = cut_content tag n r.taken h.is_header r.few in
-    refused_after kind old mid new tag n r.taken h r.consumed
-    (⊎_elim (λ cut. rw cut (inr part)) (⊎_elim (λ io. rw io (inl (inr part))) (λ memory. rw memory (inl (inr part))))
+pub refused_content : (kind : ErrorKind) {S : Type 0} (left taken : S → Option (List ℕ)) (Ended : Type 0)
+    (old mid new : S) (tag n : ℕ) → ReadsHeader (Takes left taken old mid) tag n
+    → RefusesContent kind n (Takes left taken mid new) Ended
+    → RefusesElement kind (Takes left taken old new) Ended
+refused_content kind left taken Ended old mid new tag n h r =
+    let part = cut_content tag n r.bytes h.is_header r.few in
+    refused_after kind left taken Ended old mid new tag n r.bytes h r.taken
+    (⊎_elim (λ cut. rw cut (inr part)) (⊎_elim (λ io. rw io (inl (inr part))) (λ memory. rw memory (inl part)))
     r.kinds) r.at_end
 
 -- where the memory for a content is refused, so is the element
-pub refused_growth : (old new : Option (List ℕ)) (tag n : ℕ) → ReadsHeader old new tag n → RefusesElement Memory old new
-refused_growth old new tag n h = refused_after Memory old new new tag n [] h (Consumes-nil new)
-    (⊎_elim (λ some. inl (inr (cut_content tag n [] h.is_header some)))
+pub refused_growth : {S : Type 0} (left taken : S → Option (List ℕ)) (Ended : Type 0) (old new : S) (tag n : ℕ)
+    → ReadsHeader (Takes left taken old new) tag n → RefusesElement Memory (Takes left taken old new) Ended
+refused_growth left taken Ended old new tag n h =
+    refused_after Memory left taken Ended old new new tag n [] h (takes_nothing left taken new)
+    (⊎_elim (λ some. inl (cut_content tag n [] h.is_header some))
     (λ (none : n ≤ 0). inr (whole_element tag n [] h.is_header (omega arith)))
     (cases_lt 0 n)) (λ e. absurd (cc e))
 
 -- an element after which a read failed is refused as Io
-pub refused_behind : (old mid next new : Option (List ℕ)) (tag n : ℕ) (after : List ℕ) → ReadsHeader old mid tag n
-    → ReadsOnto mid next (header tag n) after n → Keeps next new → RefusesElement Io old new
-refused_behind old mid next new tag n after h r kept =
-    refused_after Io old mid new tag n r.bytes h (Consumes-kept mid next new r.bytes r.consumed kept)
+pub refused_behind : {S : Type 0} (left taken : S → Option (List ℕ)) (Ended : Type 0) (old mid next new : S) (tag n : ℕ)
+    (after : List ℕ) → ReadsHeader (Takes left taken old mid) tag n
+    → ReadsOnto (Takes left taken mid next) (header tag n) after n → Keeps (left next) (left new)
+    → Keeps (taken next) (taken new) → RefusesElement Io (Takes left taken old new) Ended
+refused_behind left taken Ended old mid next new tag n after h r left_kept taken_kept =
+    refused_after Io left taken Ended old mid new tag n r.bytes h
+    (takes_kept left taken mid next new r.bytes r.taken left_kept taken_kept)
     (inr (whole_element tag n r.bytes h.is_header r.count)) (λ e. absurd (cc e))
 
 -- an element after which a byte was read is refused as TrailingData
-pub byte_behind : (old mid next new : Option (List ℕ)) (tag n : ℕ) (after taken : List ℕ) → ReadsHeader old mid tag n
-    → ReadsOnto mid next (header tag n) after n → Consumes next new taken → length taken ≡ 1
-    → RefusesElement TrailingData old new
-byte_behind old mid next new tag n after [] h r more one = absurd (omega arith)
-byte_behind old mid next new tag n after (byte ∷ b ∷ bs) h r more one = absurd (omega arith)
-byte_behind old mid next new tag n after (byte ∷ []) h r more one =
+pub byte_behind : {S : Type 0} (left taken : S → Option (List ℕ)) (Ended : Type 0) (old mid next new : S) (tag n : ℕ)
+    (after last : List ℕ) → ReadsHeader (Takes left taken old mid) tag n
+    → ReadsOnto (Takes left taken mid next) (header tag n) after n → Takes left taken next new last → length last ≡ 1
+    → RefusesElement TrailingData (Takes left taken old new) Ended
+byte_behind left taken Ended old mid next new tag n after [] h r more one = absurd (omega arith)
+byte_behind left taken Ended old mid next new tag n after (byte ∷ b ∷ bs) h r more one = absurd (omega arith)
+byte_behind left taken Ended old mid next new tag n after (byte ∷ []) h r more one =
     let element = whole_element tag n r.bytes h.is_header r.count in
-    refused_after TrailingData old mid new tag n (r.bytes ++ byte ∷ []) h
-    (Consumes-trans mid next new r.bytes (byte ∷ []) r.consumed more)
+    refused_after TrailingData left taken Ended old mid new tag n (r.bytes ++ byte ∷ []) h
+    (takes_more left taken mid next new r.bytes (byte ∷ []) r.taken more)
     (record {
       front = _;
       byte = _;
@@ -224,35 +247,58 @@ taken_fault TrailingData bytes more end longer = inr (
     (rw (longer.joined, append_assoc longer.front (longer.byte ∷ []) more, whole.encoded) refl))
 taken_fault kind bytes more end taken = absurd taken
 
--- what is read isn't refused
-pub read_fault : (old new : Option (List ℕ)) (bytes : List ℕ) → ConsumesElement old new bytes
-    → IfSome old (λ left. document_fault left ≡ None)
-read_fault None new bytes r = tt
-read_fault (Some all) None bytes r = absurd r.consumed
-read_fault (Some all) (Some left) bytes r =
-    rw (r.consumed, r.at_end, append-nil bytes) (document_element bytes r.is_element)
+-- an element that was all that was left isn't refused
+read_known : (old new : Option (List ℕ)) (bytes : List ℕ) → IsElement bytes → Consumes old new bytes → IsAtEnd new
+    → IfSome old (λ all. document_fault all ≡ None)
+read_known None new bytes is consumed end = tt
+read_known (Some all) None bytes is consumed end = absurd consumed
+read_known (Some all) (Some left) bytes is consumed end =
+    rw (consumed, end, append-nil bytes) (document_element bytes is)
 
 -- a kind that says something of the bytes is the fault of them all, and then P holds of them
-refused_fault : (kind : ErrorKind) (P : List ℕ → Type 0) (old new : Option (List ℕ)) → RefusesElement kind old new
-    → ((left : List ℕ) → document_fault left ≡ Some kind → P left)
+refused_fault : (kind : ErrorKind) (P : List ℕ → Type 0) (old new : Option (List ℕ)) (bytes : List ℕ)
+    → Consumes old new bytes → TakenBeforeRefusal kind bytes → (kind ≡ Truncated → IsAtEnd new)
+    → ((all : List ℕ) → document_fault all ≡ Some kind → P all)
     → IsIoOrMemory kind ⊎ IfSome old P
-refused_fault kind P None new r from = inr tt
-refused_fault kind P (Some all) None r from = absurd r.consumed
-refused_fault kind P (Some all) (Some left) r from =
-    rw r.consumed (⊎_elim (λ other. inl other) (λ fault. inr (from (r.taken ++ left) fault))
-    (taken_fault kind r.taken left r.at_end r.by_kind))
+refused_fault kind P None new bytes consumed by_kind end from = inr tt
+refused_fault kind P (Some all) None bytes consumed by_kind end from = absurd consumed
+refused_fault kind P (Some all) (Some left) bytes consumed by_kind end from =
+    rw consumed (⊎_elim (λ other. inl other) (λ fault. inr (from (bytes ++ left) fault))
+    (taken_fault kind bytes left end by_kind))
+
+-- what is read isn't refused
+pub read_fault : {S : Type 0} (left taken : S → Option (List ℕ)) (ended : S → Type 0) (old new : S) (bytes : List ℕ)
+    → ConsumesElement (Takes left taken old new) (Ends left ended new) bytes
+    → IfSome (left old) (λ all. document_fault all ≡ None)
+read_fault left taken ended old new bytes r =
+    read_known (left old) (left new) bytes r.is_element r.taken.consumed r.at_end.none_left
 
 -- a kind that says something of the bytes is the fault of them all
-pub refused_kind : (kind : ErrorKind) (old new : Option (List ℕ)) → RefusesElement kind old new
-    → IsIoOrMemory kind ⊎ IfSome old (λ left. document_fault left ≡ Some kind)
-refused_kind kind old new r = refused_fault kind _ old new r (λ left fault. fault)
+pub refused_kind : (kind : ErrorKind) {S : Type 0} (left taken : S → Option (List ℕ)) (ended : S → Type 0) (old new : S)
+    → RefusesElement kind (Takes left taken old new) (Ends left ended new)
+    → IsIoOrMemory kind ⊎ IfSome (left old) (λ all. document_fault all ≡ Some kind)
+refused_kind kind left taken ended old new r =
+    refused_fault kind _ (left old) (left new) r.bytes r.taken.consumed r.by_kind (λ e. (r.at_end e).none_left)
+    (λ all fault. fault)
 
 -- bytes that are refused by such a kind are no element
-pub refused_none : (kind : ErrorKind) (old new : Option (List ℕ)) → RefusesElement kind old new
-    → IsIoOrMemory kind ⊎ IfSome old (λ left. ¬ (IsElement left))
-refused_none kind old new r =
-    refused_fault kind _ old new r
-    (λ left fault is. cc (document_element left is, fault))
+pub refused_none : (kind : ErrorKind) {S : Type 0} (left taken : S → Option (List ℕ)) (ended : S → Type 0) (old new : S)
+    → RefusesElement kind (Takes left taken old new) (Ends left ended new)
+    → IsIoOrMemory kind ⊎ IfSome (left old) (λ all. ¬ (IsElement all))
+refused_none kind left taken ended old new r =
+    refused_fault kind _ (left old) (left new) r.bytes r.taken.consumed r.by_kind (λ e. (r.at_end e).none_left)
+    (λ all fault is. cc (document_element all is, fault))
+
+-- the kind of a refusal is a function of all that was left
+pub document_kind : {S : Type 0} (left taken : S → Option (List ℕ)) (ended : S → Type 0) (old new : S)
+    (result : Result (List ℕ) Error)
+    → IfOk result (ConsumesElement (Takes left taken old new) (Ends left ended new))
+    → IfErr result (λ error. RefusesElement error.kind (Takes left taken old new) (Ends left ended new))
+    → MatchResult result (λ _. IfSome (left old) (λ all. document_fault all ≡ None))
+    (λ error. IsIoOrMemory error.kind ⊎ IfSome (left old) (λ all. document_fault all ≡ Some error.kind))
+document_kind left taken ended old new (Ok bytes) found refused = read_fault left taken ended old new bytes found
+document_kind left taken ended old new (Err error) found refused =
+    refused_kind error.kind left taken ended old new refused
 
 -- by these, an element from a stream is refused by the kind that its bytes have
-pub ruleset element_faults = (refused_kind, refused_none, read_fault)
+pub ruleset element_faults = (document_kind, refused_none)

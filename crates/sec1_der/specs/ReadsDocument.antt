@@ -1,6 +1,6 @@
--- What reading one element from a stream takes from it, and why it is refused.
-use Rattle.std.specs.Prelude.{◌≡◌, ℕ, ◌<◌, ◌⊎◌, List, [], ◌∷◌, ◌++◌, length, Option}
-use Rattle.std.specs.Io.KnownBytes.{Consumes, IsAtEnd}
+-- What reading one element from a stream takes from it, and why it is refused. Here `Taken` says of
+-- bytes that they and no others were taken, and `Ended` that the input has ended.
+use Rattle.std.specs.Prelude.{◌≡◌, ℕ, ◌<◌, ◌⊎◌, List, [], ◌∷◌, ◌++◌, length}
 use Rattle.sec1_der.specs.Elements.{IsTag, IsHeader, IsElement, LacksHeader, header}
 use Rattle.sec1_der.specs.ErrorKinds.{header_fault, IsIoOrMemory}
 use Rattle.sec1_der.specs.declared.error.ErrorKind.{ErrorKind}
@@ -8,11 +8,12 @@ use Rattle.sec1_der.specs.declared.error.ErrorKind.TheVariants.{Truncated, Tag, 
 use Rattle.sec1_der.specs.declared.error.ErrorKind.TheVariants.{TrailingData, Value, Overlength}
 use Rattle.sec1_der.specs.declared.error.ErrorKind.TheVariants.{Buffer, Failed, Io, Depth, Memory}
 
--- one element was read, and no input remains
-pub record ConsumesElement (old new : Option (List ℕ)) (bytes : List ℕ) : Type 0 where
+-- one element was taken, and no input remains
+pub record ConsumesElement (Taken : List ℕ → Type 0) (Ended : Type 0)
+    (bytes : List ℕ) : Type 0 where
   pub is_element : IsElement bytes
-  pub consumed : Consumes old new bytes
-  pub at_end : IsAtEnd new
+  pub taken : Taken bytes
+  pub at_end : Ended
 
 -- the kinds by which an element is refused
 abbrev pub IsElementFault : ErrorKind → Type 0
@@ -71,6 +72,10 @@ pub record IsElementAndByte (bytes : List ℕ) : Type 0 where
 abbrev pub IsUpToElement : List ℕ → Type 0
 IsUpToElement bytes = IsCutShort bytes ⊎ IsElement bytes
 
+-- a header, and at most as many bytes as it announces
+abbrev pub IsPastHeader : List ℕ → Type 0
+IsPastHeader bytes = IsCutContent bytes ⊎ IsElement bytes
+
 -- the bytes that were read before an element is refused by this kind
 abbrev pub TakenBeforeRefusal : ErrorKind → List ℕ → Type 0
 TakenBeforeRefusal Truncated taken = IsCutShort taken
@@ -83,26 +88,27 @@ TakenBeforeRefusal Buffer taken = ⊥
 TakenBeforeRefusal Failed taken = ⊥
 TakenBeforeRefusal Io taken = IsUpToElement taken
 TakenBeforeRefusal Depth taken = ⊥
-TakenBeforeRefusal Memory taken = IsUpToElement taken
+TakenBeforeRefusal Memory taken = IsPastHeader taken
 
 -- an element was refused by this kind after these bytes were read; if it was Truncated, no input
 -- remains
-pub record RefusesElement (kind : ErrorKind) (old new : Option (List ℕ)) : Type 0 where
-  pub taken : List ℕ
-  pub consumed : Consumes old new taken
-  pub by_kind : TakenBeforeRefusal kind taken
-  pub at_end : kind ≡ Truncated → IsAtEnd new
+pub record RefusesElement (kind : ErrorKind) (Taken : List ℕ → Type 0)
+    (Ended : Type 0) : Type 0 where
+  pub bytes : List ℕ
+  pub taken : Taken bytes
+  pub by_kind : TakenBeforeRefusal kind bytes
+  pub at_end : kind ≡ Truncated → Ended
 
 -- a header was read
-pub record ReadsHeader (old new : Option (List ℕ)) (tag announced : ℕ) : Type 0 where
+pub record ReadsHeader (Taken : List ℕ → Type 0) (tag announced : ℕ) : Type 0 where
   pub is_header : IsHeader tag announced
-  pub consumed : Consumes old new (header tag announced)
+  pub taken : Taken (header tag announced)
 
 -- reading a content failed with this kind, after fewer bytes than announced
-pub record RefusesContent (kind : ErrorKind) (announced : ℕ)
-    (old new : Option (List ℕ)) : Type 0 where
-  pub taken : List ℕ
-  pub consumed : Consumes old new taken
-  pub few : length taken < announced
+pub record RefusesContent (kind : ErrorKind) (announced : ℕ) (Taken : List ℕ → Type 0)
+    (Ended : Type 0) : Type 0 where
+  pub bytes : List ℕ
+  pub taken : Taken bytes
+  pub few : length bytes < announced
   pub kinds : (kind ≡ Truncated) ⊎ IsIoOrMemory kind
-  pub at_end : kind ≡ Truncated → IsAtEnd new
+  pub at_end : kind ≡ Truncated → Ended

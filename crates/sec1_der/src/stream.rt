@@ -1,8 +1,8 @@
 //! Byte readers and writers that remember a failure.
 ghost use Rattle.std.specs.Prelude.{ℕ, List, Option, None, Bool, false, IsTrue, IsErr, IfOk, OnOk};
-ghost use Rattle.std.specs.Prelude.{Some, codes, OnErr, ◌≤◌, ◌≡◌, ◌↔◌, length};
+ghost use Rattle.std.specs.Prelude.{Some, codes, OnErr, ◌≤◌, ◌<◌, ◌≡◌, ◌↔◌, length, ⊤};
 ghost use Rattle.std.specs.Io.KnownBytes.{Appends, ReadConsumes, WriteAppends};
-ghost use Rattle.sec1_der.specs.Streams.{AppendsPrefix};
+ghost use Rattle.sec1_der.specs.Streams.{AppendsPrefix, ReadAppends};
 
 use std::fmt;
 
@@ -19,9 +19,18 @@ impl fmt::Debug for IoFault {
 }
 
 /// A reader that remembers a failure. Calls that take one require that it hasn't failed.
+///
+/// Its members `left`, `taken` and `ended` say what is known of the input. Each may be left out.
 pub trait Read {
     /// The remaining input, if it is known.
     ghost left: { Self → Option (List ℕ) } = { λ _. None };
+
+    /// The bytes that were taken, if they are known. They can be known of an input of which nobody
+    /// knows what remains, or that never ends.
+    ghost taken: { Self → Option (List ℕ) } = { λ _. None };
+
+    /// What holds where the input has ended: `⊥` if it never ends.
+    ghost ended: { Self → Type 0 } = { λ _. ⊤ };
 
     /// Whether a read has failed.
     ghost failed: { Self → Bool };
@@ -37,7 +46,9 @@ pub trait Read {
         ensures bound { IfOk result (λ n. n ≤ length buf.new) }
         ensures fault { IsErr result ↔ IsTrue (failed self.new) }
         ensures stays { IsTrue (failed self.old) → IsTrue (failed self.new) }
-        ensures bytes { ReadConsumes (left self.old) (left self.new) result buf.new };
+        ensures bytes { ReadConsumes (left self.old) (left self.new) result buf.new }
+        ensures taken { ReadAppends (taken self.old) (taken self.new) result buf.new }
+        ensures end { IfOk result (λ n. n ≡ 0 → 0 < length buf.new → ended self.new) };
 
     /// Returns `true` if a read has failed.
     fn has_failed(&self) -> bool

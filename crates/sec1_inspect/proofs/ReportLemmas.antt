@@ -1,11 +1,13 @@
 -- What was read and written is the report on the whole input.
 use Rattle.std.proofs.Common.{◌≡◌, ◌+◌, ◌⊎◌, ℕ, inl, inr, List, ◌++◌, length, Option, Some, None, IfSome, Result, Ok}
-use Rattle.std.proofs.Common.{Err, IfOk, OnOk, arith, sym, ap}
+use Rattle.std.proofs.Common.{⊎_elim, Err, IfOk, OnOk, arith, sym, ap}
 use Rattle.std.proofs.Common.{subst, ◌∙◌, append-nil, length-append}
+use Rattle.std.proofs.KnownBytes.{Appends-trans, Consumes-trans}
 use Rattle.std.specs.Io.KnownBytes.{Appends, Consumes, IsAtEnd}
+use Rattle.sec1.specs.Der.{Ends, Takes}
 use Rattle.sec1_inspect.specs.declared.Fault.{Fault}
 use Rattle.sec1_inspect.specs.Report.{IsReportUnlessLong, limit}
-use Rattle.sec1_inspect.specs.Run.{Takes, WritesReport}
+use Rattle.sec1_inspect.specs.Run.{ReadsOnto, TakesInput, WritesReport}
 
 report_on_known : (IsReportOn : List ℕ → List ℕ → ℕ → Type 0) (old new : Option (List ℕ))
     (taken text : List ℕ) (status : ℕ)
@@ -23,12 +25,24 @@ report_on_known IsReportOn (Some xs) (Some ys) taken text status consumed (inl l
     absurd (omega (arith, report.0))
 
 -- The report on what was read is that on the input.
-pub report_on_input : (IsReportOn : List ℕ → List ℕ → ℕ → Type 0) (old new : Option (List ℕ))
-    (taken text : List ℕ) (status : ℕ)
-    → Takes old new taken → IsReportUnlessLong IsReportOn taken text status
-    → IfSome old (λ input. IsReportUnlessLong IsReportOn input text status)
-report_on_input IsReportOn old new taken text status read report =
-    report_on_known IsReportOn old new taken text status read.consumed read.whole report
+pub report_on_input : (IsReportOn : List ℕ → List ℕ → ℕ → Type 0) {S : Type 0} (left taken : S → Option (List ℕ))
+    (ended : S → Type 0) (old new : S) (bytes text : List ℕ) (status : ℕ)
+    → TakesInput (Takes left taken old new) (Ends left ended new) bytes
+    → IsReportUnlessLong IsReportOn bytes text status
+    → IfSome (left old) (λ input. IsReportUnlessLong IsReportOn input text status)
+report_on_input IsReportOn left taken ended old new bytes text status read report =
+    report_on_known IsReportOn (left old) (left new) bytes text status read.taken.consumed
+    (⊎_elim (λ long. inl long) (λ end. inr end.none_left) read.whole) report
+
+-- A read appends what it takes to what was taken.
+pub takes_onto : {S : Type 0} (left taken : S → Option (List ℕ)) (old mid new : S) (before after : List ℕ) (n : ℕ)
+    → Takes left taken old mid before → ReadsOnto (Takes left taken mid new) before after n
+    → Takes left taken old new after
+takes_onto left taken old mid new before after n first read = rw read.appended
+    (record {
+      consumed = Consumes-trans _ _ _ before read.bytes first.consumed read.taken.consumed;
+      appended = Appends-trans _ _ _ before read.bytes first.appended read.taken.appended;
+    })
 
 -- The whole text of the report was written, and its status returned.
 pub whole_report : (IsReportOn : List ℕ → List ℕ → ℕ → Type 0) (input old new : Option (List ℕ))

@@ -1,6 +1,7 @@
--- What a run reads and writes, and the status of the program.
+-- What a run reads and writes, and the status of the program. Here `Taken` says of bytes that they
+-- and no others were taken, and `Ended` that the input has ended.
 use Rattle.std.specs.Prelude.{◌≡◌, ℕ, ◌+◌, ◌≤◌, ◌⊎◌, List, ◌++◌, Option, IfSome, length, codes}
-use Rattle.std.specs.Io.KnownBytes.{Appends, Consumes, IsAtEnd}
+use Rattle.std.specs.Io.KnownBytes.{Appends}
 use Rattle.sec1.specs.Der.{AppendsPrefix}
 use Rattle.sec1_inspect.specs.declared.Failure.{Failure}
 use Rattle.sec1_inspect.specs.declared.Failure.TheVariants.{Run, Paths}
@@ -10,21 +11,21 @@ use Rattle.sec1_inspect.specs.declared.Form.TheVariants.{Text, Der}
 use Rattle.sec1_inspect.specs.Report.{IsDerReport, IsReport, limit}
 
 -- n bytes were read, and appended to those that were there
-pub record ReadsOnto (old new : Option (List ℕ)) (before after : List ℕ) (n : ℕ) : Type 0 where
+pub record ReadsOnto (Taken : List ℕ → Type 0) (before after : List ℕ) (n : ℕ) : Type 0 where
   pub bytes : List ℕ
-  pub consumed : Consumes old new bytes
+  pub taken : Taken bytes
   pub appended : after ≡ before ++ bytes
   pub count : length bytes ≡ n
 
--- these bytes were read: all of the input, or one byte more than an input may have
-pub record Takes (old new : Option (List ℕ)) (taken : List ℕ) : Type 0 where
-  pub consumed : Consumes old new taken
-  pub bounded : length taken ≤ limit + 1
-  pub whole : (length taken ≡ limit + 1) ⊎ IsAtEnd new
+-- these bytes were taken: all of the input, or one byte more than an input may have
+pub record TakesInput (Taken : List ℕ → Type 0) (Ended : Type 0) (bytes : List ℕ) : Type 0 where
+  pub taken : Taken bytes
+  pub bounded : length bytes ≤ limit + 1
+  pub whole : (length bytes ≡ limit + 1) ⊎ Ended
 
 -- an input was read
-abbrev pub ReadsInput : Option (List ℕ) → Option (List ℕ) → Type 0
-ReadsInput old new = (taken : List ℕ) × Takes old new taken
+abbrev pub ReadsInput : (List ℕ → Type 0) → Type 0 → Type 0
+ReadsInput Taken Ended = (bytes : List ℕ) × TakesInput Taken Ended bytes
 
 -- the whole text of the report on the input was written, and this is its status
 pub record WritesReport (IsReport : List ℕ → List ℕ → ℕ → Type 0) (input old new : Option (List ℕ))

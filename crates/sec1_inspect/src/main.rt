@@ -9,14 +9,14 @@ mod tests;
 ghost use Rattle.std.specs.Prelude.{◌≡◌, ◌≢◌, ◌<◌, ◌≤◌, ℕ, List, false, ◌↔◌, ◌⊎◌, IsTrue, IfOk};
 ghost use Rattle.std.specs.Prelude.{IfErr, OnOk, OnErr, IsErrOf, MatchOption, MatchResult, Ok};
 ghost use Rattle.std.specs.Prelude.{Err, string_bytes};
-ghost use Rattle.std.specs.Io.KnownBytes.{Appends, IsAtEnd};
-ghost use Rattle.sec1.specs.Der.{AppendsPrefix};
+ghost use Rattle.std.specs.Io.KnownBytes.{Appends};
+ghost use Rattle.sec1.specs.Der.{AppendsPrefix, Ends, Takes};
 ghost use Rattle.sec1_inspect.specs.declared.Failure.TheVariants.{Run, Paths};
 ghost use Rattle.sec1_inspect.specs.declared.Fault.TheVariants.{Input, Output, Memory};
 ghost use Rattle.sec1_inspect.specs.declared.Source.TheVariants.{StandardInput, File};
 ghost use Rattle.sec1_inspect.specs.Report.{IsDerReport, IsReport};
-ghost use Rattle.sec1_inspect.specs.Run.{HasStatus, ReadsInput, ReadsOnto, Takes, WritesPrefix};
-ghost use Rattle.sec1_inspect.specs.Run.{WritesReport, line_of, report_in};
+ghost use Rattle.sec1_inspect.specs.Run.{HasStatus, ReadsInput, ReadsOnto, TakesInput};
+ghost use Rattle.sec1_inspect.specs.Run.{WritesPrefix, WritesReport, line_of, report_in};
 
 use crate::report::{LIMIT, Report, report_on_der, report_on_text};
 use sec1::der::{Read, StdReader, StdWriter, Write};
@@ -69,7 +69,8 @@ pub fn run<R: Read, W: Write>(alloc: Global, reader: &mut R, writer: &mut W) -> 
     ensures input { IsErrOf result Fault.Input ↔ IsTrue (R.failed reader.new) }
     ensures output { IsErrOf result Fault.Output ↔ IsTrue (W.failed writer.new) }
 
-    ensures read { OnOk result (ReadsInput (R.left reader.old) (R.left reader.new)) }
+    ensures read { OnOk result (ReadsInput (Takes R.left R.taken reader.old reader.new)
+        (Ends R.left R.ended reader.new)) }
     ensures report { IfOk result
         (WritesReport IsReport (R.left reader.old) (W.written writer.old) (W.written writer.new)) }
 
@@ -100,7 +101,8 @@ pub fn run_der<R: Read, W: Write>(
     ensures input { IsErrOf result Fault.Input ↔ IsTrue (R.failed reader.new) }
     ensures output { IsErrOf result Fault.Output ↔ IsTrue (W.failed writer.new) }
 
-    ensures read { OnOk result (ReadsInput (R.left reader.old) (R.left reader.new)) }
+    ensures read { OnOk result (ReadsInput (Takes R.left R.taken reader.old reader.new)
+        (Ends R.left R.ended reader.new)) }
     ensures report { IfOk result
         (WritesReport IsDerReport (R.left reader.old) (W.written writer.old)
         (W.written writer.new)) }
@@ -120,12 +122,14 @@ pub fn run_der<R: Read, W: Write>(
 ///
 /// # Errors
 /// Input exactly if a read failed, Memory if an allocation failed.
+#[tactic(auto, using(crate::proofs::ReportLemmas::takes_onto))]
 fn read_input<R: Read>(alloc: Global, reader: &mut R) -> Result<Vec<u8>, Fault>
     requires { R.failed reader.old ≡ false }
     ensures input { IsErrOf result Fault.Input ↔ IsTrue (R.failed reader.new) }
     ensures kind { IfErr result (λ fault. (fault ≡ Input) ⊎ (fault ≡ Memory)) }
     ensures read { IfOk result
-        (λ input. Takes (R.left reader.old) (R.left reader.new) input.items) }
+        (λ input. TakesInput (Takes R.left R.taken reader.old reader.new)
+        (Ends R.left R.ended reader.new) input.items) }
 {
     let mut input = Vec::new(alloc);
     while input.len() <= LIMIT {
@@ -152,8 +156,9 @@ fn read_some<R: Read>(reader: &mut R, input: &mut Vec<u8>, missing: usize) -> Re
     ensures kind { IfErr result (λ fault. (fault ≡ Input) ⊎ (fault ≡ Memory)) }
     ensures bound { IfOk result (λ n. n ≤ missing) }
     ensures bytes { IfOk result
-        (ReadsOnto (R.left reader.old) (R.left reader.new) input.old.items input.new.items) }
-    ensures end { IfOk result (λ n. n ≡ 0 → IsAtEnd (R.left reader.new)) }
+        (ReadsOnto (Takes R.left R.taken reader.old reader.new) input.old.items
+        input.new.items) }
+    ensures end { IfOk result (λ n. n ≡ 0 → Ends R.left R.ended reader.new) }
     ensures unchanged { OnErr result (input.new.items ≡ input.old.items) }
 {
     let mut chunk = [0u8; STEP];

@@ -2,13 +2,13 @@
 ghost use Rattle.std.specs.Prelude.{Some, None, MatchResult};
 ghost use Rattle.std.specs.Prelude.{ℕ, List, false, ◌≡◌, ◌<◌, ◌≤◌, ◌↔◌, ◌⊎◌, length, take, IsTrue};
 ghost use Rattle.std.specs.Prelude.{IsErr, IfOk, IfErr, IfSome, OnOk, OnErr};
-ghost use Rattle.std.specs.Io.KnownBytes.{Appends, Consumes, IsAtEnd};
+ghost use Rattle.std.specs.Io.KnownBytes.{Appends};
 ghost use Rattle.sec1_der.specs.Elements.{IsElement};
 ghost use Rattle.sec1_der.specs.ErrorKinds.{IsIoOrMemory, Refuses};
 ghost use Rattle.sec1_der.specs.ReadsDocument.{IsElementFault, ConsumesElement, RefusesElement};
 ghost use Rattle.sec1_der.specs.ReadsDocument.{ReadsHeader, RefusesContent};
 ghost use Rattle.sec1_der.specs.Faults.{document_fault};
-ghost use Rattle.sec1_der.specs.Streams.{AppendsPrefix, ReadsOnto, TakesFewer};
+ghost use Rattle.sec1_der.specs.Streams.{AppendsPrefix, Ends, ReadsOnto, Takes, TakesFewer};
 ghost use Rattle.sec1_der.specs.declared.error.ErrorKind.TheVariants.{Io};
 
 use super::SecretDocument;
@@ -25,7 +25,7 @@ impl SecretDocument {
     /// Reads one element up to the end of the input. The header is read one byte at a time, the
     /// content at most 4,096 bytes at a time. Then one byte more is asked for, to find the end.
     /// Whatever the header announces, memory grows by at most 4,096 bytes at once, and only when it
-    /// is full.
+    /// is full. No reader gives more than the element and this byte.
     ///
     /// # Errors
     ///
@@ -38,11 +38,13 @@ impl SecretDocument {
         requires { R.failed reader.old ≡ false }
         // Io comes exactly where a read failed.
         ensures io { Refuses result Io ↔ IsTrue (R.failed reader.new) }
-        // The document is all that the reader had left.
-        ensures found { IfOk result (ConsumesElement (R.left reader.old) (R.left reader.new)) }
-        // The kind of a refusal says what was taken.
-        ensures refused { IfErr result
-            (λ error. RefusesElement error.kind (R.left reader.old) (R.left reader.new)) }
+        // The document is all that was taken, and the input has ended.
+        ensures found { IfOk result (ConsumesElement (Takes R.left R.taken reader.old reader.new)
+            (Ends R.left R.ended reader.new)) }
+        // The kind of a refusal says what was taken, of any input.
+        ensures refused { IfErr result (λ error.
+            RefusesElement error.kind (Takes R.left R.taken reader.old reader.new)
+            (Ends R.left R.ended reader.new)) }
         // If the remaining input is exactly one element, it is read, unless a read or an allocation
         // fails.
         ensures only { IfErr result (λ error. IsIoOrMemory error.kind
@@ -115,9 +117,11 @@ impl SecretDocument {
 fn read_element<R: Read>(alloc: Global, reader: &mut R) -> Result<SecretDocument>
     requires { R.failed reader.old ≡ false }
     ensures io { Refuses result Io ↔ IsTrue (R.failed reader.new) }
-    ensures found { IfOk result (ConsumesElement (R.left reader.old) (R.left reader.new)) }
-    ensures refused { IfErr result
-        (λ error. RefusesElement error.kind (R.left reader.old) (R.left reader.new)) }
+    ensures found { IfOk result (ConsumesElement (Takes R.left R.taken reader.old reader.new)
+        (Ends R.left R.ended reader.new)) }
+    ensures refused { IfErr result (λ error.
+        RefusesElement error.kind (Takes R.left R.taken reader.old reader.new)
+        (Ends R.left R.ended reader.new)) }
 {
     let header = read_header(reader)?;
     let (octets, count) = header.octets();
@@ -136,9 +140,10 @@ fn read_header<R: Read>(reader: &mut R) -> Result<Header>
     requires { R.failed reader.old ≡ false }
     ensures io { Refuses result Io ↔ IsTrue (R.failed reader.new) }
     ensures found { IfOk result
-        (λ h. ReadsHeader (R.left reader.old) (R.left reader.new) h.tag h.length) }
-    ensures refused { IfErr result
-        (λ error. RefusesElement error.kind (R.left reader.old) (R.left reader.new)) }
+        (λ h. ReadsHeader (Takes R.left R.taken reader.old reader.new) h.tag h.length) }
+    ensures refused { IfErr result (λ error.
+        RefusesElement error.kind (Takes R.left R.taken reader.old reader.new)
+        (Ends R.left R.ended reader.new)) }
 {
     let mut octets = [0; 6];
     let mut count = 0;
@@ -165,10 +170,11 @@ pub(crate) fn read_content<R: Read>(
     requires { R.failed reader.old ≡ false }
     ensures io { Refuses result Io ↔ IsTrue (R.failed reader.new) }
     ensures found { OnOk result
-        (ReadsOnto (R.left reader.old) (R.left reader.new) bytes.old.items bytes.new.items
-        announced) }
+        (ReadsOnto (Takes R.left R.taken reader.old reader.new) bytes.old.items
+        bytes.new.items announced) }
     ensures refused { IfErr result (λ error.
-        RefusesContent error.kind announced (R.left reader.old) (R.left reader.new)) }
+        RefusesContent error.kind announced (Takes R.left R.taken reader.old reader.new)
+        (Ends R.left R.ended reader.new)) }
 {
     let mut missing = announced;
     while missing > 0 {
@@ -195,10 +201,11 @@ fn fill<R: Read>(reader: &mut R, buf: &mut [u8]) -> std::result::Result<usize, I
     ensures io { IsErr result ↔ IsTrue (R.failed reader.new) }
     ensures bound { IfOk result (λ n. n ≤ length buf.new) }
     ensures bytes { IfOk result
-        (λ n. Consumes (R.left reader.old) (R.left reader.new) (take n buf.new)) }
-    ensures end { IfOk result (λ n. n < length buf.new → IsAtEnd (R.left reader.new)) }
+        (λ n. Takes R.left R.taken reader.old reader.new (take n buf.new)) }
+    ensures end { IfOk result
+        (λ n. n < length buf.new → Ends R.left R.ended reader.new) }
     ensures few { OnErr result
-        (TakesFewer (R.left reader.old) (R.left reader.new) (length buf.old)) }
+        (TakesFewer (Takes R.left R.taken reader.old reader.new) (length buf.old)) }
 {
     let mut count = 0;
     while count < buf.len() {

@@ -1,11 +1,11 @@
 use Rattle.std.proofs.Common.{◌≡◌, ◌-◌, ◌+◌, ◌≤◌, length, false}
-use Rattle.std.specs.Io.KnownBytes.{Consumes}
+use Rattle.sec1.specs.Der.{Takes}
 use Rattle.sec1_inspect.specs.Report.{limit}
 use Rattle.sec1_inspect.proofs.read_input.Given as goal
 
 abbrev pub invariant-loop-input : goal.invariant-loop-input
 invariant-loop-input g l =
-    Consumes (g.R.Read.left l.initial.reader) (g.R.Read.left l.reader) l.input.items
+    Takes g.R.Read.left g.R.Read.taken l.initial.reader l.reader l.input.items
     × (g.R.Read.failed l.reader ≡ false)
     × (length l.input.items ≤ limit + 1)
 

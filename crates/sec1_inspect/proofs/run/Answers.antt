@@ -13,6 +13,6 @@ returns-clause-prefix g c failed =
       status = report.status;
       appended = search (rules, c.write_report.ensures.prefix);
       report =
-          report_on_input (λ bytes. IsReportOnDigits (stripped bytes)) _ _ _ _ _ c.in_ok-input.ensures.read
+          report_on_input (λ bytes. IsReportOnDigits (stripped bytes)) _ _ _ _ _ _ _ _ c.in_ok-input.ensures.read
           on_taken;
     }

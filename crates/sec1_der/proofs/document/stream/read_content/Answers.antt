@@ -9,10 +9,11 @@ pub returns-in_err-fill-clause-refused : goal.returns-in_err-fill-clause-refused
 returns-in_err-fill-clause-refused g c =
     let fewer = c.in_err-fill.ensures.few in
     let p = err_from_is_err_and c.from_residual-in_err-fill.result c.from_residual-in_err-fill.ensures.1 in
-    rw (p.1, p.2) (refused_part Io _ _ _ _ _ _ c.loop-missing.missing _ c.loop-missing.invariant.read (omega arith)
+    rw (p.1, p.2) (refused_part Io _ _ _ _ _ _ _ _ _ c.loop-missing.missing _ c.loop-missing.invariant.read
+    (omega arith)
     (record {
-      taken = fewer.bytes;
-      consumed = fewer.consumed;
+      bytes = fewer.bytes;
+      taken = fewer.taken;
       few =
           grind (arith, common_steps);
       kinds = inr (inl refl);
@@ -22,11 +23,11 @@ returns-in_err-fill-clause-refused g c =
 pub returns-then-branch-step-clause-refused : goal.returns-then-branch-step-clause-refused
 returns-then-branch-step-clause-refused g c =
     let fill = c.in_ok-fill.ensures in
-    rw c.into.ensures (refused_part Truncated _ _ _ _ _ _ c.loop-missing.missing _ c.loop-missing.invariant.read
+    rw c.into.ensures (refused_part Truncated _ _ _ _ _ _ _ _ _ c.loop-missing.missing _ c.loop-missing.invariant.read
     (omega arith)
     (record {
-      taken = _;
-      consumed = fill.bytes;
+      bytes = _;
+      taken = fill.bytes;
       few = grind (arith, common_steps);
       kinds = inl refl;
       at_end =
@@ -40,10 +41,10 @@ loop-missing-preserved g c =
     (arith, common_steps) in
     let all = take_all c.in_ok-fill.field-0 c.fill.new.buf (omega arith) in
     record {
-      read = reads_more _ _ _ _ _ _ _ _ _ c.loop-missing.invariant.read (omega arith)
+      read = reads_more _ _ _ _ _ _ _ _ _ _ _ c.loop-missing.invariant.read (omega arith)
           (record {
             bytes = _;
-            consumed = rw all at c.in_ok-fill.ensures.bytes;
+            taken = rw all at c.in_ok-fill.ensures.bytes;
             appended =
                 grind (arith, common_steps);
             count = size;

@@ -1,10 +1,10 @@
 use Rattle.std.proofs.Common.{◌≡◌, ◌≤◌, ◌-◌, false}
-use Rattle.sec1_der.specs.Streams.{ReadsOnto}
+use Rattle.sec1_der.specs.Streams.{ReadsOnto, Takes}
 use Rattle.sec1_der.proofs.document.stream.read_content.Given as goal
 
 abbrev pub invariant-loop-missing : goal.invariant-loop-missing
 invariant-loop-missing g l = record {
-  read : ReadsOnto (g.R.Read.left l.initial.reader) (g.R.Read.left l.reader) l.initial.bytes.items l.bytes.items
+  read : ReadsOnto (Takes g.R.Read.left g.R.Read.taken l.initial.reader l.reader) l.initial.bytes.items l.bytes.items
       (l.announced - l.missing);
   few : l.missing ≤ l.announced;
   unfailed : g.R.Read.failed l.reader ≡ false;

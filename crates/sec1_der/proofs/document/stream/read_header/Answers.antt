@@ -1,12 +1,12 @@
-use Rattle.std.proofs.Common.{◌≡◌, ◌≤◌, ◌+◌, ◌-◌, ◌∙◌, length, take, arith, rules, sym}
+use Rattle.std.proofs.Common.{◌≡◌, ◌≤◌, ◌+◌, ◌-◌, ◌<◌, ◌∙◌, length, take, arith, rules, sym}
 use Rattle.std.proofs.lemmas.Grind.{common_steps}
-use Rattle.sec1_der.proofs.StreamLemmas.{cut_is_short, one_more, read_alone, reads_part}
+use Rattle.sec1_der.proofs.StreamLemmas.{cut_is_short, one_more, read_alone, reads_part, refused_header}
 use Rattle.sec1_der.proofs.document.stream.read_header.Goals as goal
 
 pub returns-in-Ok-clause-found : goal.returns-in-Ok-clause-found
 returns-in-Ok-clause-found g c =
     let (is, split) = c.in-Ok.ensures.found in
-    read_alone _ _ _ _ _ _ is split c.loop-header.invariant.reached c.loop-header.invariant.consumed
+    read_alone _ _ _ _ _ is split c.loop-header.invariant.reached c.loop-header.invariant.taken
 
 pub loop-header-preserved : goal.loop-header-preserved
 loop-header-preserved g c =
@@ -19,10 +19,27 @@ loop-header-preserved g c =
     let size : length c.read.new.buf ≡ 1 = grind (arith, common_steps) in
     let reached = one_more count (count + 1 - count) octets c.read.new.buf (omega arith) short
     (λ tag n rest is e. fault.only tag n rest is e) size in
+    let read = c.in_ok-read.ensures in
+    let one : c.in_ok-read.field-0 ≡ 1 = omega (arith, read.bound, size, c.if-branch-eq0.false) in
+    let taken = reads_part g.R.Read.left g.R.Read.taken _ _ _ count (count + 1 - count) octets c.read.new.buf _
+    (omega arith) read.bound c.loop-header.invariant.taken
+    (record { consumed = read.bytes.0; appended = read.taken }) in
     record {
-      consumed = grind (arith, common_steps, reads_part);
+      taken = rw one at taken;
       reached = reached;
       few = omega arith;
       unfailed =
           search rules;
     }
+
+pub returns-then-branch-eq0-clause-refused : goal.returns-then-branch-eq0-clause-refused
+returns-then-branch-eq0-clause-refused g c =
+    let fault = c.in-Err-Truncated.ensures in
+    let short = sym (sym c.in-Err-Truncated.field-0-is ∙ fault.kind) in
+    let read = c.in_ok-read.ensures in
+    let none = c.if-branch-eq0.true in
+    let size : 0 < length c.read.new.buf = grind (arith, common_steps) in
+    rw c.into-then-branch-eq0.ensures (refused_header g.R.Read.left g.R.Read.taken _ _ _ _ _ c.read.new.buf _
+    (record { fault_is = short; none = λ tag n rest is e. fault.only tag n rest is e })
+    c.loop-header.invariant.taken (record { consumed = read.bytes.0; appended = read.taken }) none
+    (record { none_left = read.bytes.1 none size; known = read.end none size }))

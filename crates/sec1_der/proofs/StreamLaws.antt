@@ -1,0 +1,27 @@
+-- What a reader says of the bytes that were taken, call by call.
+use Rattle.std.proofs.Common.{ℕ, List, [], ◌++◌, Option}
+use Rattle.std.proofs.KnownBytes.{Consumes-nil, Consumes-trans, Consumes-kept, Appends-nil, Appends-trans, Appends-kept}
+use Rattle.std.specs.Io.KnownBytes.{Keeps}
+use Rattle.sec1_der.specs.Streams.{Takes}
+
+-- what was taken, and then more, was taken together
+pub takes_more : {S : Type 0} (left taken : S → Option (List ℕ)) (old mid new : S) (bytes more : List ℕ)
+    → Takes left taken old mid bytes → Takes left taken mid new more → Takes left taken old new (bytes ++ more)
+takes_more left taken old mid new bytes more first next = record {
+  consumed = Consumes-trans _ _ _ bytes more first.consumed next.consumed;
+  appended = Appends-trans _ _ _ bytes more first.appended next.appended;
+}
+
+-- nothing is taken where nothing happens
+pub takes_nothing : {S : Type 0} (left taken : S → Option (List ℕ)) (reader : S) → Takes left taken reader reader []
+takes_nothing left taken reader =
+    record { consumed = Consumes-nil (left reader); appended = Appends-nil (taken reader) }
+
+-- a call that keeps what is known takes nothing more
+pub takes_kept : {S : Type 0} (left taken : S → Option (List ℕ)) (old mid new : S) (bytes : List ℕ)
+    → Takes left taken old mid bytes → Keeps (left mid) (left new) → Keeps (taken mid) (taken new)
+    → Takes left taken old new bytes
+takes_kept left taken old mid new bytes first left_kept taken_kept = record {
+  consumed = Consumes-kept _ _ _ bytes first.consumed left_kept;
+  appended = Appends-kept _ _ _ bytes first.appended taken_kept;
+}
