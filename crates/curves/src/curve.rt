@@ -175,10 +175,15 @@ impl Curve {
 
     /// Returns the curve with this content of its OBJECT IDENTIFIER; None if there is no such curve
     /// in the table.
+    #[tactic(auto, using(crate::proofs::CurveLemmas::one_content))]
     pub fn from_content(content: &[u8]) -> Option<Curve>
         ensures found { IfSome result (λ curve. curve_content curve ≡ content.now) }
         ensures only { (curve : Curve) → curve_content curve ≡ content.now → result ≡ Some curve }
     {
+        // The curve of most keys is tried first.
+        if content == Curve::Secp256r1.content() {
+            return Some(Curve::Secp256r1);
+        }
         Curve::ALL
             .iter()
             .copied()

@@ -18,9 +18,9 @@ pub(crate) type KeyParts<'a, I> = (
     ),
 );
 
-/// An EC private key that borrows the curve's identifier too. An `EcPrivateKey` is made of it once
-/// all of it was read: its identifier has bytes of its own, which would be moved from each part of
-/// the record to the next. A contract sees the three parts of the key.
+/// An EC private key that borrows the curve's identifier too. It is what is read and written: the
+/// identifier of an `EcPrivateKey` has bytes of its own, which would be moved from each part of the
+/// record to the next. A contract sees the three parts of the key.
 #[derive(Drop)]
 pub(crate) struct BorrowedKey<'a> {
     /// The bytes of the private key.

@@ -8,6 +8,7 @@
 mod borrowed_key;
 mod checks;
 mod error;
+mod in_place;
 pub mod laws;
 mod parameters;
 pub mod point;

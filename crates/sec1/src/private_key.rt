@@ -10,11 +10,13 @@ ghost use Rattle.sec1.specs.ReadsKey.{ReadsKey};
 ghost use Rattle.sec1.specs.Errors.{IsAsn1, HasNoEncodingOr};
 
 use crate::borrowed_key::{BorrowedKey, KeyParts};
+use crate::in_place::{ReadInPlace, read_in_place};
 use crate::{EcParameters, Error, Result};
 use sec1_der as der;
 use sec1_der::{
-    Distinct, ErrorKind, Explicit, ExplicitBits, ObjectIdentifier, Octets, Optional, Record,
-    Required, SecretDocument, UniqueContent, ValueContent, VersionOne,
+    DecodeValue, Distinct, ErrorKind, Explicit, ExplicitBits, IdentifierRef, ObjectIdentifier,
+    Octets, Optional, Record, Required, SecretDocument, SliceReader, UniqueContent, ValueContent,
+    VersionOne,
 };
 use std::alloc::Global;
 use std::fmt;
@@ -77,12 +79,14 @@ impl<'a> TryFrom<&'a [u8]> for EcPrivateKey<'a> {
 
     ghost try_from_gives = { λ bytes result. ReadsKey bytes.now result };
 
+    // Inlined, so that a refusal doesn't return the place of a key by memory.
+    #[inline(always)]
     fn try_from(bytes: &'a [u8]) -> Result<EcPrivateKey<'a>> {
         EcPrivateKey::one();
         der::laws::trees_unique();
-        der::laws::cut_elements();
-        let key: BorrowedKey = der::from_der(bytes)?;
-        Ok(key.to_key())
+        let mut key = EcPrivateKey::empty();
+        read_in_place(&mut key, bytes)?;
+        Ok(key)
     }
 }
 
@@ -99,7 +103,7 @@ impl<'a> EcPrivateKey<'a> {
             (λ e. IsAsn1 ErrorKind.Overlength e × HasNoEncoding self.now) }
     {
         tree_is_element();
-        Ok(der::encoded_len(self)?)
+        Ok(der::encoded_len(&self.borrow())?)
     }
 
     /// Writes the key's DER encoding at the beginning of the slice, and returns the number of bytes
@@ -129,7 +133,7 @@ impl<'a> EcPrivateKey<'a> {
             (λ bytes. length buffer.old < length bytes) e) }
     {
         tree_is_element();
-        Ok(der::encode_to_slice(self, buffer)?)
+        Ok(der::encode_to_slice(&self.borrow(), buffer)?)
     }
 
     /// Returns the key's DER encoding.
@@ -149,7 +153,7 @@ impl<'a> EcPrivateKey<'a> {
             (HasNoEncodingOr (λ e. e ≡ Error.Memory) self.now (λ _. ⊤)) }
     {
         tree_is_element();
-        Ok(der::to_der(alloc, self)?)
+        Ok(der::to_der(alloc, &self.borrow())?)
     }
 
     /// Returns a document of the key's DER encoding. Consumes the key, even on error.
@@ -174,23 +178,56 @@ impl<'a> EcPrivateKey<'a> {
             (HasNoEncodingOr (λ e. e ≡ Error.Memory) self.now (λ _. ⊤)) }
     {
         tree_is_element();
-        Ok(SecretDocument::encode_msg(alloc, self)?)
+        Ok(SecretDocument::encode_msg(alloc, &self.borrow())?)
     }
-}
 
-impl<'a> BorrowedKey<'a> {
-    /// Returns the key with a copy of the identifier.
-    pub(crate) fn to_key(&self) -> EcPrivateKey<'a>
+    /// Returns the key, which borrows the identifier that this one holds.
+    fn borrow(&self) -> BorrowedKey<'_>
         ensures { result ≡ self.now }
     {
-        EcPrivateKey {
+        BorrowedKey {
             private_key: self.private_key,
-            parameters: match &self.curve {
-                Some(curve) => Some(EcParameters::NamedCurve(curve.to_identifier())),
+            curve: match &self.parameters {
+                Some(EcParameters::NamedCurve(curve)) => Some(IdentifierRef::of(curve)),
                 None => None,
             },
             public_key: self.public_key,
         }
+    }
+}
+
+impl<'a> EcPrivateKey<'a> {
+    /// Returns a key without bytes and options, the place for another.
+    fn empty() -> EcPrivateKey<'a>
+        ensures { (result.parameters ≡ None) × (result.public_key ≡ None) }
+    {
+        EcPrivateKey {
+            private_key: &[],
+            parameters: None,
+            public_key: None,
+        }
+    }
+}
+
+impl<'a> ReadInPlace<'a> for EcPrivateKey<'a> {
+    ghost is_empty = { λ key. (key.parameters ≡ None) × (key.public_key ≡ None) };
+
+    #[inline(never)]
+    fn read_content(&mut self, content: &'a [u8]) -> der::Result<()> {
+        let BorrowedKey {
+            private_key,
+            curve,
+            public_key,
+        } = BorrowedKey::decode_value(&mut SliceReader::new(content))?;
+        self.private_key = private_key;
+        // What is absent isn't stored.
+        if let Some(curve) = curve {
+            self.parameters = Some(EcParameters::NamedCurve(curve.to_identifier()));
+        }
+        if let Some(bytes) = public_key {
+            self.public_key = Some(bytes);
+        }
+        Ok(())
     }
 }
 

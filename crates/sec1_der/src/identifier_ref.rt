@@ -45,6 +45,16 @@ impl<'a> IdentifierRef<'a> {
         Ok(IdentifierRef { bytes })
     }
 
+    /// Returns the identifier, which borrows the content that the other one holds.
+    #[tactic(auto, using(crate::proofs::IdentifierLemmas::held_contents))]
+    pub fn of(identifier: &'a ObjectIdentifier) -> IdentifierRef<'a>
+        ensures { result ≡ identifier.now }
+    {
+        IdentifierRef {
+            bytes: identifier.as_bytes(),
+        }
+    }
+
     /// Returns the identifier again. It borrows the same content.
     pub fn reborrow(&self) -> Self
         ensures { result ≡ self.now }

@@ -108,7 +108,13 @@ impl<'a> SliceReader<'a> {
     }
 
     /// Reads the next element, which has this tag, and returns a reader over its content.
-    fn open(&mut self, tag: Tag) -> Result<SliceReader<'a>>
+    ///
+    /// # Errors
+    ///
+    /// Truncated if no input remains; Tag if the next byte isn't that tag; then Length or Truncated
+    /// if no length in the form of DER follows, or if the input ends inside the content; Failed if
+    /// the reader failed before. The reader has failed then, and its remaining input is as it was.
+    pub fn open(&mut self, tag: Tag) -> Result<SliceReader<'a>>
         ensures found { IfOk result (λ content. (content ≡ reader_over content.unread)
             × HasReadElement tag content.unread self.old self.new) }
         ensures only { (content rest : List ℕ) → length content ≤ max_length

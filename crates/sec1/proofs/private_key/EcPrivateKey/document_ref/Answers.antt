@@ -4,8 +4,8 @@ use Rattle.sec1.proofs.private_key.EcPrivateKey.document_ref.Goals as goal
 pub returns-in_err-encode_msg : goal.returns-in_err-encode_msg
 returns-in_err-encode_msg c = record {
   exact = fails_with c.from_residual.result c.in_err-encode_msg.field-0.0 _ _ c.from_residual.ensures.1
-      (key_without_memory c.args.self.now _ _ c.in_err-encode_msg.ensures);
+      (key_without_memory c.args.self.now _ _ (rw c.borrow.ensures at c.in_err-encode_msg.ensures));
 }
 
 pub returns : goal.returns
-returns c = record { exact = key_found c.args.self.now _ c.in_ok-encode_msg.ensures }
+returns c = record { exact = key_found c.args.self.now _ (rw c.borrow.ensures at c.in_ok-encode_msg.ensures) }
