@@ -5,7 +5,7 @@ stored input: points, keys, streams that fail once, and single calls.
 """
 import functools
 
-SIZES = (5, 28, 32, 48, 66)
+SIZES = (5, 20, 24, 28, 32, 40, 48, 64, 66)
 LENGTHS = (0, 1, 28, 32, 48, 66, 300, 5000, 100000, 2000000)
 CURVE = "2a8648ce3d030107"
 # the most that a document grows by at once, in bytes
@@ -92,6 +92,10 @@ def key_shapes():
         for more in (-1, 0, 1):
             wanted = steps * GROWTH + more
             yield next(p for p in range(wanted) if len(key(p)) == wanted), None, None
+    # each length up to 140, and those beside powers of two
+    powers = (2**place + more for place in range(8, 17) for more in (-1, 0, 1))
+    for count in sorted({*range(141), *powers}):
+        yield count, None, None
     yield 0, None, 0
     yield 0, CURVE, 100000
 
@@ -122,7 +126,20 @@ def break_row(how, after, step, private_len):
     return asked, f"break, {reads}, {reads}, {writes}, {writes}"
 
 
+# the kinds of std's errors, but for one that can't be named
+KINDS = """NotFound PermissionDenied ConnectionRefused ConnectionReset HostUnreachable
+    NetworkUnreachable ConnectionAborted NotConnected AddrInUse AddrNotAvailable NetworkDown BrokenPipe
+    AlreadyExists WouldBlock NotADirectory IsADirectory DirectoryNotEmpty ReadOnlyFilesystem
+    FilesystemLoop StaleNetworkFileHandle InvalidInput InvalidData TimedOut WriteZero StorageFull
+    NotSeekable QuotaExceeded FileTooLarge ResourceBusy ExecutableFileBusy Deadlock CrossesDevices
+    TooManyLinks InvalidFilename ArgumentListTooLong Interrupted Unsupported UnexpectedEof OutOfMemory
+    InProgress Other""".split()
+
+
 def break_rows():
+    for how in KINDS:
+        for after in (0, 1, 2, 5, 11, 12):
+            yield break_row(how, after, 4, 4)
     for how in ("WouldBlock", "Interrupted", "Other"):
         for step in (1, 3, 100):
             for after in range(13):
@@ -155,7 +172,7 @@ def encode_rows():
 
 
 def document_rows():
-    """Documents, and whether the bytes are a tree."""
+    """Documents, and whether the bytes are a tree; over a stream they are what they are in memory."""
     wrapped = b""
     for _ in range(64):
         wrapped = element(0x30, wrapped)
@@ -174,8 +191,14 @@ def document_rows():
     for inner in (wrapped, octet):
         outer = element(0x30, inner)
         tests += [(outer.hex(), f"{len(outer)} Depth")]
+    for tag in range(256):
+        for der in (bytes([tag, 0]), element(tag, element(4, bytes(130)))):
+            # of a constructed element the content is one element more (X.690 section 8.1.2.5)
+            count = 1 + (tag & 0x20 != 0 and len(der) > 2)
+            is_tag = tag != 0 and tag % 32 != 31
+            tests += [(der.hex(), f"{len(der)} {count}" if is_tag else "Tag Tag")]
     for digits, found in tests:
-        yield f"document {digits}", f"document {found}"
+        yield f"document {digits}", f"document {found} {found.split()[0]}"
 
 
 def failed_rows():
@@ -276,6 +299,12 @@ def show_rows():
                 texts = [*shown_key(curve, public_len), "SecretDocument { .. }", "SecretDocument { .. }"]
                 shape = f"show_key {count} {curve or '-'} {'-' if public_len is None else public_len}"
                 yield shape, "\n".join(texts).encode().hex()
+    # by a width, a precision and other options: of the private key nothing either
+    for count in (0, 1, 2, 28, 32, 48, 66, 300, 5000):
+        for curve in CURVES:
+            for public_len in (None, 0, 65):
+                shape = f"{curve or '-'} {'-' if public_len is None else public_len}"
+                yield f"hidden {count} {shape}", "hidden true"
     for size, encoding in points():
         first, x, y = encoding[0], list(encoding[1 : 1 + size]), list(encoding[1 + size :])
         is_odd = "true" if first == 3 else "false"

@@ -8,6 +8,8 @@
 //! `break HOW AT STEP P`: the key with a private key of P bytes over a reader and a writer that
 //! fail once, after AT bytes.
 //! `show_key P C Q`, `show_point N DIGITS`: what is printed by `{:?}`.
+//! `hidden P C Q`: whether what is printed by `{:?}` with options is that of a key that has no
+//! private bytes.
 //! `encode P ROOM`, `document DIGITS`, `failed DIGITS`, `parts N DIGITS`: single calls.
 //! `write KIND P PATH`, `read KIND PATH`: one call on a file, of a `key` or a `document`.
 //! `file P PATH`: each call on a file. `refuse PATH`: a key type that refuses.
@@ -46,6 +48,7 @@ fn answer<H: Files>(rt: &H, alloc: Global, line: &str) -> Result<String, AllocEr
         b"failed" => results::failed(alloc, rest),
         b"parts" => results::parts(alloc, rest),
         b"show_key" => shown::key(alloc, rest),
+        b"hidden" => shown::hidden(alloc, rest),
         b"show_point" => shown::point(alloc, rest),
         b"refuse" => refusals::answer(rt, alloc, rest),
         _ => "no such line".to_string(alloc),

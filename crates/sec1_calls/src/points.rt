@@ -70,9 +70,13 @@ pub fn answer(alloc: Global, rest: &[u8]) -> Result<String, AllocError> {
     };
     match number(size) {
         5 => ends_of::<5, 11>(alloc, &bytes),
+        20 => ends_of::<20, 41>(alloc, &bytes),
+        24 => ends_of::<24, 49>(alloc, &bytes),
         28 => ends_of::<28, 57>(alloc, &bytes),
         32 => ends_of::<32, 65>(alloc, &bytes),
+        40 => ends_of::<40, 81>(alloc, &bytes),
         48 => ends_of::<48, 97>(alloc, &bytes),
+        64 => ends_of::<64, 129>(alloc, &bytes),
         66 => ends_of::<66, 133>(alloc, &bytes),
         _ => "no such size".to_string(alloc),
     }

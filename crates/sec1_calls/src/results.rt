@@ -5,7 +5,9 @@ ghost use Rattle.sec1.specs.Points.{Fits};
 use crate::keys::pattern;
 use crate::streams::error_name;
 use crate::words::{number, word};
-use sec1::der::{Error, Length, OctetStringRef, SecretDocument, SliceReader, check_tree};
+use sec1::der::{
+    Error, Length, OctetStringRef, SecretDocument, SliceReader, StdReader, check_tree,
+};
 use sec1::{EcPrivateKey, EncodedPoint};
 use std::alloc::{AllocError, Global};
 
@@ -42,7 +44,7 @@ fn end<T: Drop>(alloc: Global, res: Result<T, Error>) -> Result<String, AllocErr
     }
 }
 
-/// Returns the line for a document of these bytes.
+/// Returns the line for a document of these bytes: from memory, as a tree, and over a stream.
 pub fn document(alloc: Global, rest: &[u8]) -> Result<String, AllocError> {
     let Ok(bytes) = hex::decode(alloc, rest) else {
         return "not hexadecimal".to_string(alloc);
@@ -51,9 +53,14 @@ pub fn document(alloc: Global, rest: &[u8]) -> Result<String, AllocError> {
         Ok(count) => format!(in alloc; "{count}")?,
         Err(error) => format!(in alloc; "{:?}", error.kind)?,
     };
+    let mut reader = StdReader::new(bytes.as_slice());
+    let streamed = match SecretDocument::read_der_from(alloc, &mut reader) {
+        Ok(document) => format!(in alloc; "{}", document.len())?,
+        Err(error) => format!(in alloc; "{:?}", error.kind)?,
+    };
     match SecretDocument::from_der(alloc, &bytes) {
-        Ok(document) => format!(in alloc; "document {} {tree}", document.len()),
-        Err(error) => format!(in alloc; "document {:?} {tree}", error.kind),
+        Ok(document) => format!(in alloc; "document {} {tree} {streamed}", document.len()),
+        Err(error) => format!(in alloc; "document {:?} {tree} {streamed}", error.kind),
     }
 }
 
@@ -124,9 +131,13 @@ pub fn parts(alloc: Global, rest: &[u8]) -> Result<String, AllocError> {
         1 => parts_of::<1, 3>(alloc, &bytes),
         2 => parts_of::<2, 5>(alloc, &bytes),
         5 => parts_of::<5, 11>(alloc, &bytes),
+        20 => parts_of::<20, 41>(alloc, &bytes),
+        24 => parts_of::<24, 49>(alloc, &bytes),
         28 => parts_of::<28, 57>(alloc, &bytes),
         32 => parts_of::<32, 65>(alloc, &bytes),
+        40 => parts_of::<40, 81>(alloc, &bytes),
         48 => parts_of::<48, 97>(alloc, &bytes),
+        64 => parts_of::<64, 129>(alloc, &bytes),
         66 => parts_of::<66, 133>(alloc, &bytes),
         _ => "no such size".to_string(alloc),
     }

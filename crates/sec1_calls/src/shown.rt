@@ -33,6 +33,43 @@ pub fn key(alloc: Global, rest: &[u8]) -> Result<String, AllocError> {
     hex::encode(alloc, text.as_bytes())
 }
 
+/// Returns the texts of the key by `{:?}` with a width, a precision and other options.
+fn styled(alloc: Global, key: &EcPrivateKey) -> Result<String, AllocError> {
+    let widths = format!(in alloc; "{key:1?}|{key:>9?}|{key:<90?}|{key:*^7?}|{key:09?}")?;
+    let others = format!(in alloc; "{key:.1?}|{key:+?}|{key:#1?}|{key:#.1?}|{key:+#09.1?}")?;
+    format!(in alloc; "{widths}|{others}")
+}
+
+/// Returns the line for the texts of a key by options: whether they are those of a key that has no
+/// private bytes, and is the same otherwise.
+pub fn hidden(alloc: Global, rest: &[u8]) -> Result<String, AllocError> {
+    let (private_len, rest) = word(rest);
+    let (curve, public_len) = word(rest);
+    let private_key = pattern(alloc, number(private_len))?;
+    let public_key = pattern(alloc, number(public_len))?;
+    let parameters = match hex::decode(alloc, curve) {
+        Ok(content) => curve_of(&content),
+        Err(_) => None,
+    };
+    let public_key = if public_len == b"-".as_slice() {
+        None
+    } else {
+        Some(public_key.as_slice())
+    };
+    let key = EcPrivateKey {
+        private_key: &private_key,
+        parameters,
+        public_key,
+    };
+    let other = EcPrivateKey {
+        private_key: b"",
+        parameters,
+        public_key,
+    };
+    let is_same = styled(alloc, &key)? == styled(alloc, &other)?;
+    format!(in alloc; "hidden {is_same}")
+}
+
 /// Returns the texts of the point with these bytes.
 fn texts_of<const N: usize, const L: usize>(
     alloc: Global,
@@ -55,9 +92,13 @@ pub fn point(alloc: Global, rest: &[u8]) -> Result<String, AllocError> {
     };
     match number(size) {
         5 => texts_of::<5, 11>(alloc, &bytes),
+        20 => texts_of::<20, 41>(alloc, &bytes),
+        24 => texts_of::<24, 49>(alloc, &bytes),
         28 => texts_of::<28, 57>(alloc, &bytes),
         32 => texts_of::<32, 65>(alloc, &bytes),
+        40 => texts_of::<40, 81>(alloc, &bytes),
         48 => texts_of::<48, 97>(alloc, &bytes),
+        64 => texts_of::<64, 129>(alloc, &bytes),
         66 => texts_of::<66, 133>(alloc, &bytes),
         _ => "no such size".to_string(alloc),
     }

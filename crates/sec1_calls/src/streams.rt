@@ -8,6 +8,64 @@ use sec1::{DecodeEcPrivateKey, EcPrivateKey, EncodeEcPrivateKey};
 use std::alloc::{AllocError, Global};
 use std::io;
 
+/// The kinds of std's errors, by their names.
+static KINDS: [(&[u8], io::ErrorKind); 41] = [
+    (b"NotFound", io::ErrorKind::NotFound),
+    (b"PermissionDenied", io::ErrorKind::PermissionDenied),
+    (b"ConnectionRefused", io::ErrorKind::ConnectionRefused),
+    (b"ConnectionReset", io::ErrorKind::ConnectionReset),
+    (b"HostUnreachable", io::ErrorKind::HostUnreachable),
+    (b"NetworkUnreachable", io::ErrorKind::NetworkUnreachable),
+    (b"ConnectionAborted", io::ErrorKind::ConnectionAborted),
+    (b"NotConnected", io::ErrorKind::NotConnected),
+    (b"AddrInUse", io::ErrorKind::AddrInUse),
+    (b"AddrNotAvailable", io::ErrorKind::AddrNotAvailable),
+    (b"NetworkDown", io::ErrorKind::NetworkDown),
+    (b"BrokenPipe", io::ErrorKind::BrokenPipe),
+    (b"AlreadyExists", io::ErrorKind::AlreadyExists),
+    (b"WouldBlock", io::ErrorKind::WouldBlock),
+    (b"NotADirectory", io::ErrorKind::NotADirectory),
+    (b"IsADirectory", io::ErrorKind::IsADirectory),
+    (b"DirectoryNotEmpty", io::ErrorKind::DirectoryNotEmpty),
+    (b"ReadOnlyFilesystem", io::ErrorKind::ReadOnlyFilesystem),
+    (b"FilesystemLoop", io::ErrorKind::FilesystemLoop),
+    (
+        b"StaleNetworkFileHandle",
+        io::ErrorKind::StaleNetworkFileHandle,
+    ),
+    (b"InvalidInput", io::ErrorKind::InvalidInput),
+    (b"InvalidData", io::ErrorKind::InvalidData),
+    (b"TimedOut", io::ErrorKind::TimedOut),
+    (b"WriteZero", io::ErrorKind::WriteZero),
+    (b"StorageFull", io::ErrorKind::StorageFull),
+    (b"NotSeekable", io::ErrorKind::NotSeekable),
+    (b"QuotaExceeded", io::ErrorKind::QuotaExceeded),
+    (b"FileTooLarge", io::ErrorKind::FileTooLarge),
+    (b"ResourceBusy", io::ErrorKind::ResourceBusy),
+    (b"ExecutableFileBusy", io::ErrorKind::ExecutableFileBusy),
+    (b"Deadlock", io::ErrorKind::Deadlock),
+    (b"CrossesDevices", io::ErrorKind::CrossesDevices),
+    (b"TooManyLinks", io::ErrorKind::TooManyLinks),
+    (b"InvalidFilename", io::ErrorKind::InvalidFilename),
+    (b"ArgumentListTooLong", io::ErrorKind::ArgumentListTooLong),
+    (b"Interrupted", io::ErrorKind::Interrupted),
+    (b"Unsupported", io::ErrorKind::Unsupported),
+    (b"UnexpectedEof", io::ErrorKind::UnexpectedEof),
+    (b"OutOfMemory", io::ErrorKind::OutOfMemory),
+    (b"InProgress", io::ErrorKind::InProgress),
+    (b"Other", io::ErrorKind::Other),
+];
+
+/// Returns the kind with this name.
+fn kind_of(name: &[u8]) -> Option<io::ErrorKind> {
+    for &(text, kind) in KINDS.iter() {
+        if text == name {
+            return Some(kind);
+        }
+    }
+    None
+}
+
 /// How a stream fails, once, and after how many bytes; at most `step` bytes are moved at once.
 #[derive(Clone, Copy)]
 struct Break {
@@ -160,14 +218,8 @@ pub fn answer(alloc: Global, rest: &[u8]) -> Result<String, AllocError> {
     let (how, rest) = word(rest);
     let (at, rest) = word(rest);
     let (step, private_len) = word(rest);
-    let kind = match how {
-        b"WouldBlock" => Some(io::ErrorKind::WouldBlock),
-        b"Interrupted" => Some(io::ErrorKind::Interrupted),
-        b"Other" => Some(io::ErrorKind::Other),
-        _ => None,
-    };
     let breaks = Break {
-        kind,
+        kind: kind_of(how),
         at: number(at),
         step: number(step),
     };
