@@ -16,8 +16,6 @@ pub mod points;
 mod private_key_info;
 mod public_key_info;
 mod reading;
-#[cfg(test)]
-mod tests;
 
 pub use algorithm::AlgorithmIdentifier;
 pub use key_store::{KeyStore, find, find_by_public_key, keep};
