@@ -2,7 +2,5 @@
 
 mod curve;
 pub mod laws;
-#[cfg(test)]
-mod tests;
 
 pub use curve::Curve;

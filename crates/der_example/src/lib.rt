@@ -18,8 +18,6 @@ mod private_key_info;
 mod public_key_info;
 mod reading;
 pub mod streams;
-#[cfg(test)]
-mod tests;
 
 pub use algorithm::AlgorithmIdentifier;
 pub use key_store::{KeyStore, find, find_by_public_key, keep};

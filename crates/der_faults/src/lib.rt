@@ -5,8 +5,6 @@
 mod element;
 mod key;
 mod part;
-#[cfg(test)]
-mod tests;
 mod tree;
 
 pub use key::key_fault;

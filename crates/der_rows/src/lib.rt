@@ -6,7 +6,5 @@ mod element;
 pub mod laws;
 mod levels;
 mod rows;
-#[cfg(test)]
-mod tests;
 
 pub use rows::{Row, Rows};

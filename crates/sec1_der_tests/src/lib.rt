@@ -2,9 +2,11 @@
 //! memory, and values from outside. [`checks`] has what is proved of its definitions, its constants
 //! and of `==`.
 //!
-//! They are in a crate of their own, so that `sec1_der` is proved once.
+//! They are in a crate of their own, so that `sec1_der` is proved once, and all of it is under
+//! `cfg(test)`, so that [`checks`] is proved once too.
 #![tactic(auto)]
 
+#[cfg(test)]
 pub mod checks;
 #[cfg(test)]
 mod large;
@@ -14,6 +16,7 @@ mod memory;
 mod nested;
 #[cfg(test)]
 mod printing;
+#[cfg(test)]
 mod reading;
 #[cfg(test)]
 mod records;

@@ -2,9 +2,11 @@
 //! texts, and keys and points from outside. [`checks`] has what is proved of its definitions, its
 //! constants and of `==`.
 //!
-//! They are in a crate of their own, so that `sec1` is proved once.
+//! They are in a crate of their own, so that `sec1` is proved once, and all of it is under
+//! `cfg(test)`, so that [`checks`] is proved once too.
 #![tactic(auto)]
 
+#[cfg(test)]
 pub mod checks;
 #[cfg(test)]
 mod files;

@@ -1,6 +1,6 @@
 //! Keys in containers, read and written by examples that were made by openssl; a point, read again.
-use crate::points::{from_own_bytes, from_own_json, from_own_lower_hex, from_own_upper_hex};
-use crate::{
+use der_example::points::{from_own_bytes, from_own_json, from_own_lower_hex, from_own_upper_hex};
+use der_example::{
     KeyStore, PrivateKeyInfo, SubjectPublicKeyInfo, find, find_by_public_key, keep,
     read_private_key, read_public_key,
 };

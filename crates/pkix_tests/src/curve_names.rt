@@ -1,5 +1,5 @@
 //! The table beside the named curves of OpenSSL.
-use crate::Curve;
+use curves::Curve;
 use sec1_der::{ObjectIdentifier, from_der, to_der};
 use std::test::Fail;
 

@@ -1,5 +1,5 @@
 //! Places of faults, counted by hand in bytes that OpenSSL 3.0.19 made and that were then damaged.
-use crate::{Fault, KeyPart, key_fault, key_part, tree_fault};
+use der_faults::{Fault, KeyPart, key_fault, key_part, tree_fault};
 use sec1_der::ErrorKind;
 use std::test::Fail;
 

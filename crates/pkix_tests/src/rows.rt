@@ -1,5 +1,5 @@
 //! Rows counted by hand in bytes that OpenSSL 3.0.19 made.
-use crate::Rows;
+use der_rows::Rows;
 use std::test::Fail;
 
 /// A key on P-256 of 32 bytes, with its curve and no public key.
