@@ -34,8 +34,7 @@ fn agrees_on_keys_of_openssl() {
             }
             Err(Error::Asn1(error)) => {
                 refused += 1;
-                assert!(answer.starts_with("SEC1 ASN.1 error: "), "{answer}: {digits}");
-                assert_eq!(answer, format!("SEC1 ASN.1 error: {}", error.kind()), "{digits}");
+                assert_eq!(answer, format!("refused: {:?}", error.kind()), "{digits}");
                 assert!(error.position().is_some(), "{digits}");
                 assert_ne!(error.kind(), ErrorKind::Failed);
             }
