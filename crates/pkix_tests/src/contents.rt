@@ -1,4 +1,5 @@
 //! The tests of contents, at values that the standards give and at their neighbours.
+use crate::assert_equal;
 use der_types::{Boolean, DateTime, GeneralizedTime, Kind, Unsigned, UtcTime, kind};
 use sec1_der::read_der;
 use std::test::Fail;
@@ -151,11 +152,20 @@ fn reads_times(rt: HostRuntime) -> Result<(), Fail> {
         minute: 59,
         second: 58,
     };
-    assert_eq!(rt; UtcTime::new(b"500102030405Z")?.date_time(), Some(first));
-    assert_eq!(rt; UtcTime::new(b"491231235958Z")?.date_time(), Some(last));
-    assert_eq!(rt;
-        GeneralizedTime::new(b"20491231235958.5Z")?.date_time(),
-        Some(last)
+    assert_equal(
+        &rt,
+        &UtcTime::new(b"500102030405Z")?.date_time(),
+        &Some(first),
+    );
+    assert_equal(
+        &rt,
+        &UtcTime::new(b"491231235958Z")?.date_time(),
+        &Some(last),
+    );
+    assert_equal(
+        &rt,
+        &GeneralizedTime::new(b"20491231235958.5Z")?.date_time(),
+        &Some(last),
     );
     assert!(rt; first < last && first.is_valid());
     Ok(())

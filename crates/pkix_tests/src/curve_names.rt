@@ -1,4 +1,5 @@
 //! The table beside the named curves of OpenSSL.
+use crate::assert_equal;
 use curves::Curve;
 use sec1_der::{ObjectIdentifier, from_der, to_der};
 use std::test::Fail;
@@ -58,6 +59,14 @@ fn bytes(rt: &HostRuntime, text: &str) -> Result<Vec<u8>, Fail> {
     Ok(bytes)
 }
 
+/// Returns `true` if the curve has this name, identifier and length of field elements in bytes.
+fn is_described(curve: Curve, name: &str, identifier: &ObjectIdentifier, field_len: usize) -> bool {
+    curve.has_name(name)
+        && curve.identifier() == *identifier
+        && curve.content() == identifier.as_bytes()
+        && curve.field_len() == field_len
+}
+
 /// Each curve of the table is one of OpenSSL's, with the name, the identifier and the length of the
 /// field that it has there. Of OpenSSL's curves over prime fields only those of WTLS and SM2 aren't
 /// in the table.
@@ -70,18 +79,15 @@ fn has_the_curves_of_openssl(rt: HostRuntime) -> Result<(), Fail> {
         let name = name.unwrap_or("");
         let identifier: ObjectIdentifier = from_der(&bytes(&rt, der.unwrap_or(""))?)?;
         let curve = Curve::from_identifier(&identifier);
-        assert_eq!(rt; Curve::from_name(name), curve, "{name}");
-        assert_eq!(rt; Curve::from_content(identifier.as_bytes()), curve, "{name}");
+        let by_others = (
+            Curve::from_name(name),
+            Curve::from_content(identifier.as_bytes()),
+        );
+        assert!(rt; by_others == (curve, curve), "{name}");
         match curve {
             Some(curve) => {
-                assert_eq!(rt; curve.identifier(), identifier, "{name}");
-                assert_eq!(rt; curve.content(), identifier.as_bytes(), "{name}");
-                assert!(rt; curve.has_name(name), "{name}");
-                assert_eq!(rt;
-                    curve.field_len(),
-                    bits.unwrap_or("").parse::<usize>()?.div_ceil(8),
-                    "{name}"
-                );
+                let field_len = bits.unwrap_or("").parse::<usize>()?.div_ceil(8);
+                assert!(rt; is_described(curve, name, &identifier, field_len), "{name}");
                 found.push(curve)?;
             }
             None => assert!(rt;
@@ -90,7 +96,7 @@ fn has_the_curves_of_openssl(rt: HostRuntime) -> Result<(), Fail> {
             ),
         }
     }
-    assert_eq!(rt; found.len(), Curve::ALL.len());
+    assert_equal(&rt, &found.len(), &Curve::ALL.len());
     for curve in Curve::ALL {
         assert!(rt; found.contains(&curve), "{curve:?}");
     }

@@ -1,4 +1,5 @@
 //! Keys in containers, read and written by examples that were made by openssl; a point, read again.
+use crate::assert_equal;
 use der_example::points::{from_own_bytes, from_own_json, from_own_lower_hex, from_own_upper_hex};
 use der_example::{
     KeyStore, PrivateKeyInfo, SubjectPublicKeyInfo, find, find_by_public_key, keep,
@@ -56,13 +57,17 @@ static OTHER_ALGORITHM: [u8; 48] = [
 #[test]
 fn reads_and_writes_a_public_key(rt: HostRuntime) -> Result<(), Fail> {
     let info: SubjectPublicKeyInfo = from_der(&INFO)?;
-    assert_eq!(rt; info.algorithm.algorithm, sec1::der::ID_EC_PUBLIC_KEY);
-    assert_eq!(rt; info.algorithm.parameters, sec1::der::SECP256R1);
-    assert_eq!(rt; info.public_key, &INFO[26..]);
-    assert_eq!(rt; to_der(rt.alloc(), &info)?.as_slice(), INFO.as_slice());
+    assert_equal(&rt, &info.algorithm.algorithm, &sec1::der::ID_EC_PUBLIC_KEY);
+    assert_equal(&rt, &info.algorithm.parameters, &sec1::der::SECP256R1);
+    assert_equal(&rt, &info.public_key, &&INFO[26..]);
+    assert_equal(
+        &rt,
+        &to_der(rt.alloc(), &info)?.as_slice(),
+        &INFO.as_slice(),
+    );
     let mut room = [0; 91];
-    assert_eq!(rt; encode_to_slice(&info, &mut room)?, 91);
-    assert_eq!(rt; room.as_slice(), INFO.as_slice());
+    assert_equal(&rt, &encode_to_slice(&info, &mut room)?, &91);
+    assert_equal(&rt, &room.as_slice(), &INFO.as_slice());
     Ok(())
 }
 
@@ -70,26 +75,30 @@ fn reads_and_writes_a_public_key(rt: HostRuntime) -> Result<(), Fail> {
 fn refuses_a_cut_public_key(rt: HostRuntime) {
     match from_der::<SubjectPublicKeyInfo>(&INFO[..90]) {
         Ok(_) => assert!(rt; false),
-        Err(e) => assert_eq!(rt; e.kind(), ErrorKind::Truncated),
+        Err(e) => assert_equal(&rt, &e.kind(), &ErrorKind::Truncated),
     }
 }
 
 #[test]
 fn reads_and_writes_a_container(rt: HostRuntime) -> Result<(), Fail> {
     let info: PrivateKeyInfo = from_der(&CONTAINER)?;
-    assert_eq!(rt; info.algorithm.parameters, sec1::der::SECP256R1);
-    assert_eq!(rt; info.private_key, &CONTAINER[29..]);
-    assert_eq!(rt; to_der(rt.alloc(), &info)?.as_slice(), CONTAINER.as_slice());
+    assert_equal(&rt, &info.algorithm.parameters, &sec1::der::SECP256R1);
+    assert_equal(&rt, &info.private_key, &&CONTAINER[29..]);
+    assert_equal(
+        &rt,
+        &to_der(rt.alloc(), &info)?.as_slice(),
+        &CONTAINER.as_slice(),
+    );
     let key = EcPrivateKey::try_from(info.private_key)?;
-    assert_eq!(rt; key.private_key, &CONTAINER[36..68]);
+    assert_equal(&rt, &key.private_key, &&CONTAINER[36..68]);
     assert!(rt; key.parameters.is_none());
-    assert_eq!(rt; key.public_key, Some(&INFO[26..]));
+    assert_equal(&rt, &key.public_key, &Some(&INFO[26..]));
     Ok(())
 }
 
 #[test]
 fn reads_a_point_from_a_public_key(rt: HostRuntime) -> Result<(), Fail> {
-    assert_eq!(rt; read_public_key(&INFO)?.as_bytes(), &INFO[26..]);
+    assert_equal(&rt, &read_public_key(&INFO)?.as_bytes(), &&INFO[26..]);
     Ok(())
 }
 
@@ -106,9 +115,9 @@ fn refuses_public_keys_without_a_point_on_p_256(rt: HostRuntime) {
 #[test]
 fn reads_a_key_from_a_container(rt: HostRuntime) -> Result<(), Fail> {
     let key = read_private_key(&CONTAINER)?;
-    assert_eq!(rt; key.private_key, &CONTAINER[36..68]);
+    assert_equal(&rt, &key.private_key, &&CONTAINER[36..68]);
     assert!(rt; key.parameters.is_none());
-    assert_eq!(rt; key.public_key, Some(&INFO[26..]));
+    assert_equal(&rt, &key.public_key, &Some(&INFO[26..]));
     Ok(())
 }
 
@@ -129,7 +138,7 @@ fn refuses_attributes(rt: HostRuntime) -> Result<(), Fail> {
     bytes[138] = 0xA0;
     match read_private_key(&bytes) {
         Ok(_) => assert!(rt; false),
-        Err(e) => assert_eq!(rt; e, Error::Asn1(ErrorKind::TrailingData.into())),
+        Err(e) => assert_equal(&rt, &e, &Error::Asn1(ErrorKind::TrailingData.into())),
     }
     Ok(())
 }
@@ -141,8 +150,12 @@ fn reads_and_writes_an_octet_string_that_contains_a_record(rt: HostRuntime) -> R
     bytes[1] = 0x5B;
     bytes[2..].copy_from_slice(&INFO);
     let outside: Containing<SubjectPublicKeyInfo> = from_der(&bytes)?;
-    assert_eq!(rt; outside.value.public_key, &INFO[26..]);
-    assert_eq!(rt; to_der(rt.alloc(), &outside)?.as_slice(), bytes.as_slice());
+    assert_equal(&rt, &outside.value.public_key, &&INFO[26..]);
+    assert_equal(
+        &rt,
+        &to_der(rt.alloc(), &outside)?.as_slice(),
+        &bytes.as_slice(),
+    );
     Ok(())
 }
 
@@ -152,7 +165,7 @@ fn finds_a_key_by_its_public_key(rt: HostRuntime) -> Result<(), Fail> {
     let document = SecretDocument::from_der(rt.alloc(), &CONTAINER)?;
     keep(&mut store, read_public_key(&INFO)?, document)?;
     match find_by_public_key(&store, &INFO)? {
-        Some(document) => assert_eq!(rt; document.as_bytes(), CONTAINER.as_slice()),
+        Some(document) => assert_equal(&rt, &document.as_bytes(), &CONTAINER.as_slice()),
         None => assert!(rt; false),
     }
     assert!(rt; matches!(find_by_public_key(&store, &OTHER_CURVE), Err(Error::Crypto)));
@@ -169,7 +182,7 @@ fn finds_a_key_by_another_value_of_its_point(rt: HostRuntime) -> Result<(), Fail
     let mut bytes = [2; 33];
     bytes[1..].copy_from_slice(&INFO[27..59]);
     match find(&store, &EncodedPoint32::from_bytes(&bytes)?) {
-        Some(document) => assert_eq!(rt; document.as_bytes(), CONTAINER.as_slice()),
+        Some(document) => assert_equal(&rt, &document.as_bytes(), &CONTAINER.as_slice()),
         None => assert!(rt; false),
     }
     assert!(rt; find(&store, &point).is_none());

@@ -1,4 +1,5 @@
 //! Places of faults, counted by hand in bytes that OpenSSL 3.0.19 made and that were then damaged.
+use crate::assert_equal;
 use der_faults::{Fault, KeyPart, key_fault, key_part, tree_fault};
 use sec1_der::ErrorKind;
 use std::test::Fail;
@@ -30,8 +31,8 @@ static DAMAGES: [(usize, u8, usize, ErrorKind, KeyPart); 12] = [
 
 #[test]
 fn finds_faults_of_keys(rt: HostRuntime) -> Result<(), Fail> {
-    assert_eq!(rt; key_fault(&KEY), None);
-    assert_eq!(rt; key_part(&KEY), None);
+    assert_equal(&rt, &key_fault(&KEY), &None);
+    assert_equal(&rt, &key_part(&KEY), &None);
     for &(at, byte, offset, kind, part) in DAMAGES.iter() {
         let mut key = KEY;
         key[at] = byte;
@@ -182,7 +183,7 @@ fn finds_ends_of_keys(rt: HostRuntime) -> Result<(), Fail> {
 
 #[test]
 fn finds_faults_of_trees(rt: HostRuntime) -> Result<(), Fail> {
-    assert_eq!(rt; tree_fault(&KEY), None);
+    assert_equal(&rt, &tree_fault(&KEY), &None);
     for (bytes, offset, kind) in [
         ([0x30, 0x02, 0x05, 0x00, 0x00], 4, ErrorKind::TrailingData),
         ([0x30, 0x03, 0x05, 0x00, 0x05], 5, ErrorKind::Truncated),
@@ -191,7 +192,7 @@ fn finds_faults_of_trees(rt: HostRuntime) -> Result<(), Fail> {
         ([0x30, 0x03, 0x04, 0x81, 0x00], 3, ErrorKind::Length),
         ([0x30, 0x03, 0xA0, 0x01, 0x00], 4, ErrorKind::Tag),
     ] {
-        assert_eq!(rt; tree_fault(&bytes), Some(Fault { offset, kind }));
+        assert_equal(&rt, &tree_fault(&bytes), &Some(Fault { offset, kind }));
     }
     Ok(())
 }

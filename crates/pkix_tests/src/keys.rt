@@ -1,4 +1,5 @@
 //! Keys on P-256 that OpenSSL 3.0.19 wrote, and small ones that were put together by hand.
+use crate::assert_equal;
 use pkix::{PrivateKeyInfo, SubjectPublicKeyInfo};
 use sec1::Error;
 use sec1_der::read_der;
@@ -38,15 +39,15 @@ const NAMED: [u8; 48] = [
 fn reads_the_point_of_a_public_key(rt: HostRuntime) -> Result<(), Fail> {
     let info: SubjectPublicKeyInfo = read_der(&PUBLIC_KEY)?;
     let point = info.point::<32, 65>()?;
-    assert_eq!(rt; point.as_bytes(), &PUBLIC_KEY[26..]);
+    assert_equal(&rt, &point.as_bytes(), &&PUBLIC_KEY[26..]);
     Ok(())
 }
 
 #[test]
 fn refuses_the_point_of_another_curve(rt: HostRuntime) -> Result<(), Fail> {
     let info: SubjectPublicKeyInfo = read_der(&PUBLIC_KEY)?;
-    assert_eq!(rt; info.point::<48, 97>().err(), Some(Error::Crypto));
-    assert_eq!(rt; info.point::<33, 67>().err(), Some(Error::Crypto));
+    assert_equal(&rt, &info.point::<48, 97>().err(), &Some(Error::Crypto));
+    assert_equal(&rt, &info.point::<33, 67>().err(), &Some(Error::Crypto));
     Ok(())
 }
 
@@ -55,7 +56,11 @@ fn refuses_a_public_key_that_is_no_point(rt: HostRuntime) -> Result<(), Fail> {
     let mut bytes = PUBLIC_KEY;
     bytes[26] = 0x05;
     let info: SubjectPublicKeyInfo = read_der(&bytes)?;
-    assert_eq!(rt; info.point::<32, 65>().err(), Some(Error::PointEncoding));
+    assert_equal(
+        &rt,
+        &info.point::<32, 65>().err(),
+        &Some(Error::PointEncoding),
+    );
     Ok(())
 }
 
@@ -63,10 +68,10 @@ fn refuses_a_public_key_that_is_no_point(rt: HostRuntime) -> Result<(), Fail> {
 fn reads_the_private_key_of_a_container(rt: HostRuntime) -> Result<(), Fail> {
     let info: PrivateKeyInfo = read_der(&PRIVATE_KEY)?;
     let key = info.ec_private_key()?;
-    assert_eq!(rt; key.private_key, &PRIVATE_KEY[36..68]);
+    assert_equal(&rt, &key.private_key, &&PRIVATE_KEY[36..68]);
     let info: PrivateKeyInfo = read_der(&NAMED)?;
     let key = info.ec_private_key()?;
-    assert_eq!(rt; key.private_key, &NAMED[35..36]);
+    assert_equal(&rt, &key.private_key, &&NAMED[35..36]);
     Ok(())
 }
 
@@ -77,12 +82,12 @@ fn refuses_a_key_of_another_curve_or_algorithm(rt: HostRuntime) -> Result<(), Fa
         let mut bytes = NAMED;
         bytes[at] = 0x01;
         let info: PrivateKeyInfo = read_der(&bytes)?;
-        assert_eq!(rt; info.ec_private_key().err(), Some(Error::Crypto));
+        assert_equal(&rt, &info.ec_private_key().err(), &Some(Error::Crypto));
     }
     // 1.2.840.10045.2.2, which isn't id-ecPublicKey
     let mut bytes = NAMED;
     bytes[15] = 0x02;
     let info: PrivateKeyInfo = read_der(&bytes)?;
-    assert_eq!(rt; info.ec_private_key().err(), Some(Error::Crypto));
+    assert_equal(&rt, &info.ec_private_key().err(), &Some(Error::Crypto));
     Ok(())
 }

@@ -25,3 +25,15 @@ mod round_trips;
 mod rows;
 #[cfg(test)]
 mod sets;
+
+#[cfg(test)]
+use std::fmt::Debug;
+#[cfg(test)]
+use std::process::Abort;
+
+/// Fails the test unless the two are equal.
+// A call of this takes the prover a fraction of the time that `assert_eq!` takes in line.
+#[cfg(test)]
+fn assert_equal<T: PartialEq + Debug>(rt: &impl Abort, found: &T, wanted: &T) {
+    assert_eq!(rt; *found, *wanted);
+}

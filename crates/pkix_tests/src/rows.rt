@@ -1,4 +1,5 @@
 //! Rows counted by hand in bytes that OpenSSL 3.0.19 made.
+use crate::assert_equal;
 use der_rows::Rows;
 use std::test::Fail;
 
@@ -28,17 +29,11 @@ fn draws_a_key(rt: HostRuntime) -> Result<(), Fail> {
             assert!(rt; false, "no row at {offset}");
             return Ok(());
         };
-        assert_eq!(rt; row.offset, offset);
-        assert_eq!(rt; row.depth, depth, "at {offset}");
-        assert_eq!(rt; row.tag, tag, "at {offset}");
-        assert_eq!(rt;
-            row.header,
-            &KEY[offset..offset + header_len],
-            "at {offset}"
-        );
-        assert_eq!(rt; row.content_len, content_len, "at {offset}");
         let start = offset + header_len;
-        assert_eq!(rt; row.content, &KEY[start..start + drawn_len], "at {offset}");
+        let numbers = (row.offset, row.depth, row.tag, row.content_len);
+        assert_equal(&rt, &numbers, &(offset, depth, tag, content_len));
+        assert_equal(&rt, &row.header, &&KEY[offset..start]);
+        assert_equal(&rt, &row.content, &&KEY[start..start + drawn_len]);
     }
     assert!(rt; rows.next_row().is_none());
     Ok(())

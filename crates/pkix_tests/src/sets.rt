@@ -2,6 +2,7 @@
 ghost use Rattle.std.specs.Prelude.{◌≡◌, ◌==◌, ◌∷◌, [], length, Some};
 ghost use Rattle.sec1_der.specs.Contents.{value_unless};
 
+use crate::assert_equal;
 use der_types::SetOf;
 use sec1_der::{
     DecodeValue, ErrorKind, OctetStringRef, Result, SliceReader, Tag, Tagged, ValueContent,
@@ -46,43 +47,48 @@ fn refusal<'a, T: DecodeValue<'a> + Tagged + Drop>(bytes: &'a [u8]) -> Option<Er
 
 #[test]
 fn tests_the_order_of_integers(rt: HostRuntime) {
-    assert_eq!(rt;
-        refusal::<Digit>(&[0x02, 0x01, 0x05, 0x02, 0x01, 0x07]),
-        None
+    assert_equal(
+        &rt,
+        &refusal::<Digit>(&[0x02, 0x01, 0x05, 0x02, 0x01, 0x07]),
+        &None,
     );
-    assert_eq!(rt;
-        refusal::<Digit>(&[0x02, 0x01, 0x07, 0x02, 0x01, 0x05]),
-        Some(ErrorKind::Value)
+    assert_equal(
+        &rt,
+        &refusal::<Digit>(&[0x02, 0x01, 0x07, 0x02, 0x01, 0x05]),
+        &Some(ErrorKind::Value),
     );
-    assert_eq!(rt;
-        refusal::<Digit>(&[0x02, 0x01, 0x05, 0x02, 0x01, 0x05]),
-        None
+    assert_equal(
+        &rt,
+        &refusal::<Digit>(&[0x02, 0x01, 0x05, 0x02, 0x01, 0x05]),
+        &None,
     );
-    assert_eq!(rt;
-        refusal::<Digit>(&[0x02, 0x02, 0x00, 0x05]),
-        Some(ErrorKind::Value)
+    assert_equal(
+        &rt,
+        &refusal::<Digit>(&[0x02, 0x02, 0x00, 0x05]),
+        &Some(ErrorKind::Value),
     );
-    assert_eq!(rt; refusal::<Digit>(&[]), None);
+    assert_equal(&rt, &refusal::<Digit>(&[]), &None);
 }
 
 #[test]
 fn tests_the_order_of_unequal_lengths(rt: HostRuntime) {
     let ascending = [0x04, 0x01, 0x61, 0x04, 0x02, 0x61, 0x00];
-    assert_eq!(rt; refusal::<OctetStringRef>(&ascending), None);
+    assert_equal(&rt, &refusal::<OctetStringRef>(&ascending), &None);
     let descending = [0x04, 0x02, 0x61, 0x00, 0x04, 0x01, 0x61];
-    assert_eq!(rt;
-        refusal::<OctetStringRef>(&descending),
-        Some(ErrorKind::Value)
+    assert_equal(
+        &rt,
+        &refusal::<OctetStringRef>(&descending),
+        &Some(ErrorKind::Value),
     );
 }
 
 #[test]
 fn returns_the_elements(rt: HostRuntime) -> std::result::Result<(), Fail> {
     let set = SetOf::<Digit>::new(&[0x02, 0x01, 0x05, 0x02, 0x01, 0x07])?;
-    assert_eq!(rt; set.reborrow().as_bytes().len(), 6);
+    assert_equal(&rt, &set.reborrow().as_bytes().len(), &6);
     let mut elements = set.elements();
-    assert_eq!(rt; elements.next().map(|digit| digit.byte), Some(5));
-    assert_eq!(rt; elements.next().map(|digit| digit.byte), Some(7));
+    assert_equal(&rt, &elements.next().map(|digit| digit.byte), &Some(5));
+    assert_equal(&rt, &elements.next().map(|digit| digit.byte), &Some(7));
     assert!(rt; elements.next().is_none());
     Ok(())
 }

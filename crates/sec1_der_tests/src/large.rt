@@ -1,6 +1,7 @@
 //! Large documents, over readers that give uneven pieces and in files, and what calls on files
 //! refuse.
 use super::streams::KEY;
+use crate::assert_equal;
 use sec1_der::{ErrorKind, OctetStringRef, SecretDocument, StdReader, StdWriter, Write, to_der};
 use std::alloc::{AllocError, Global};
 use std::test::Fail;
@@ -138,7 +139,11 @@ fn refuses_other_files(rt: HostRuntime) -> Result<(), Fail> {
     }
     fs::remove_file(&rt, &path)?;
     let folder = SecretDocument::read_der_file(&rt, rt.alloc(), "/");
-    assert_eq!(rt; folder.err().map(|error| error.kind), Some(ErrorKind::Io));
+    assert_equal(
+        &rt,
+        &folder.err().map(|error| error.kind),
+        &Some(ErrorKind::Io),
+    );
     Ok(())
 }
 
@@ -146,15 +151,19 @@ fn refuses_other_files(rt: HostRuntime) -> Result<(), Fail> {
 fn refuses_a_full_file(rt: HostRuntime) -> Result<(), Fail> {
     let document = SecretDocument::from_der(rt.alloc(), KEY)?;
     let full = document.write_der_file(&rt, "/dev/full");
-    assert_eq!(rt; full.err().map(|error| error.kind), Some(ErrorKind::Io));
+    assert_equal(
+        &rt,
+        &full.err().map(|error| error.kind),
+        &Some(ErrorKind::Io),
+    );
     Ok(())
 }
 
 #[test]
 fn writes_no_bytes_without_a_fault(rt: HostRuntime) {
     let mut writer = StdWriter::new(Vec::new(rt.alloc()));
-    assert_eq!(rt; writer.write(&[]), Ok(0));
+    assert_equal(&rt, &writer.write(&[]), &Ok(0));
     assert!(rt; !writer.has_failed());
-    assert_eq!(rt; writer.write(&[0xAA]), Ok(1));
-    assert_eq!(rt; writer.into_inner().as_slice(), [0xAA].as_slice());
+    assert_equal(&rt, &writer.write(&[0xAA]), &Ok(1));
+    assert_equal(&rt, &writer.into_inner().as_slice(), &[0xAA].as_slice());
 }

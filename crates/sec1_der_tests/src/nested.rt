@@ -7,6 +7,7 @@ ghost use Rattle.sec1_der.specs.Faults.{element_fault};
 ghost use Rattle.sec1_der_tests.specs.Nested.{Four, inner_content, inner_fault};
 ghost use Rattle.sec1_der_tests.specs.Nested.{middle_content, middle_fault};
 
+use crate::assert_equal;
 use crate::records::wrapped;
 use sec1_der::{
     BackWriter, DecodePart, DecodeValue, Distinct, EncodePart, ErrorKind, FixedTag, Length,
@@ -283,13 +284,17 @@ static ROW: [u8; 9] = [0x06, 0x01, 0x07, 0x06, 0x01, 0x08, 0x02, 0x01, 0x01];
 #[test]
 fn reads_and_writes_a_record_of_16_parts(rt: HostRuntime) -> std::result::Result<(), Fail> {
     let bytes = wrapped(rt.alloc(), &[0x30, 0x24], &[&ROW, &ROW, &ROW, &ROW])?;
-    assert_eq!(rt; bytes.len(), 38);
+    assert_equal(&rt, &bytes.len(), &38);
     let wide: Wide = read_der(bytes.as_slice())?;
     let ((first, absent), (second, version)) = &wide.fourth;
-    assert_eq!(rt; first.0.as_bytes(), [0x07].as_slice());
-    assert_eq!(rt; second.0.as_bytes(), [0x08].as_slice());
+    assert_equal(&rt, &first.0.as_bytes(), &[0x07].as_slice());
+    assert_equal(&rt, &second.0.as_bytes(), &[0x08].as_slice());
     assert!(rt; absent.0.is_none() && version.0 == Some(VersionOne));
-    assert_eq!(rt; to_der(rt.alloc(), &wide)?.as_slice(), bytes.as_slice());
+    assert_equal(
+        &rt,
+        &to_der(rt.alloc(), &wide)?.as_slice(),
+        &bytes.as_slice(),
+    );
     let whole = bytes.as_slice();
     for length in 0..whole.len() {
         let cut = refusal_of::<Wide>(&whole[..length]);
@@ -312,10 +317,18 @@ fn reads_and_writes_64_identifiers_in_21_records(rt: HostRuntime) -> std::result
         &[0x30, 0x81, 0xE8],
         &[middle, middle, middle, middle],
     )?;
-    assert_eq!(rt; bytes.len(), 235);
+    assert_equal(&rt, &bytes.len(), &235);
     let outer: Outer = read_der(bytes.as_slice())?;
-    assert_eq!(rt; outer.third.second.fourth.as_bytes(), [0x0A].as_slice());
-    assert_eq!(rt; to_der(rt.alloc(), &outer)?.as_slice(), bytes.as_slice());
+    assert_equal(
+        &rt,
+        &outer.third.second.fourth.as_bytes(),
+        &[0x0A].as_slice(),
+    );
+    assert_equal(
+        &rt,
+        &to_der(rt.alloc(), &outer)?.as_slice(),
+        &bytes.as_slice(),
+    );
     let whole = bytes.as_slice();
     for length in 0..whole.len() {
         let cut = refusal_of::<Outer>(&whole[..length]);

@@ -1,4 +1,5 @@
 //! What is read, by examples with known results.
+use crate::assert_equal;
 use sec1_der::{
     AnyRef, BitStringRef, Error, ErrorKind, Header, ID_EC_PUBLIC_KEY, IdentifierRef, Length,
     ObjectIdentifier, OctetStringRef, SliceReader, Tag, VersionOne, encode_to_slice, from_der,
@@ -26,18 +27,19 @@ static TEXTS: [(ErrorKind, &str); 11] = [
 fn prints_errors_by_their_kinds(rt: HostRuntime) -> Result<(), Fail> {
     for &(kind, text) in TEXTS.iter() {
         let error = Error::from(kind);
-        assert_eq!(rt; error.kind(), kind);
-        assert_eq!(rt; format!(in rt.alloc(); "{error}")?.as_str(), text);
+        assert_equal(&rt, &error.kind(), &kind);
+        assert_equal(&rt, &format!(in rt.alloc(); "{error}")?.as_str(), &text);
     }
     Ok(())
 }
 
 #[test]
 fn refuses_lengths_above_the_limit(rt: HostRuntime) -> Result<(), Fail> {
-    assert_eq!(rt; Length::new(Length::MAX)?.get(), 268_435_455);
-    assert_eq!(rt;
-        Length::new(268_435_456).map_err(|e| e.kind),
-        Err(ErrorKind::Overlength)
+    assert_equal(&rt, &Length::new(Length::MAX)?.get(), &268_435_455);
+    assert_equal(
+        &rt,
+        &Length::new(268_435_456).map_err(|e| e.kind),
+        &Err(ErrorKind::Overlength),
     );
     Ok(())
 }
@@ -95,11 +97,11 @@ fn reads_octet_strings(rt: HostRuntime) {
 #[test]
 fn reads_bit_strings(rt: HostRuntime) -> Result<(), Fail> {
     let bits = from_der::<BitStringRef>(b"\x03\x02\x04\xF0")?;
-    assert_eq!(rt; bits.unused_bits(), 4);
-    assert_eq!(rt; bits.raw_bytes(), b"\xF0".as_slice());
-    assert_eq!(rt; bits.as_bytes(), None);
+    assert_equal(&rt, &bits.unused_bits(), &4);
+    assert_equal(&rt, &bits.raw_bytes(), &b"\xF0".as_slice());
+    assert_equal(&rt, &bits.as_bytes(), &None);
     let whole = from_der::<BitStringRef>(b"\x03\x02\x00\xF0")?;
-    assert_eq!(rt; whole.as_bytes(), Some(b"\xF0".as_slice()));
+    assert_equal(&rt, &whole.as_bytes(), &Some(b"\xF0".as_slice()));
     for bytes in [b"\x03\x02\x04\xF8".as_slice(), b"\x03\x00", b"\x03\x01\x01"] {
         let refused = from_der::<BitStringRef>(bytes).map_err(|e| e.kind);
         assert_eq!(rt; refused, Err(ErrorKind::Value), "of {bytes:?}");
@@ -109,10 +111,11 @@ fn reads_bit_strings(rt: HostRuntime) -> Result<(), Fail> {
 
 #[test]
 fn makes_bit_strings(rt: HostRuntime) -> Result<(), Fail> {
-    assert_eq!(rt; BitStringRef::new(1, b"\x00")?.as_bytes(), None);
-    assert_eq!(rt;
-        BitStringRef::from_bytes(b"\x01")?.as_bytes(),
-        Some(b"\x01".as_slice())
+    assert_equal(&rt, &BitStringRef::new(1, b"\x00")?.as_bytes(), &None);
+    assert_equal(
+        &rt,
+        &BitStringRef::from_bytes(b"\x01")?.as_bytes(),
+        &Some(b"\x01".as_slice()),
     );
     for (unused, bytes) in [(1, b"\x01".as_slice()), (1, b""), (8, b"\x00")] {
         let refused = BitStringRef::new(unused, bytes).map_err(|e| e.kind);
@@ -123,10 +126,11 @@ fn makes_bit_strings(rt: HostRuntime) -> Result<(), Fail> {
 
 #[test]
 fn reads_version_one(rt: HostRuntime) -> Result<(), Fail> {
-    assert_eq!(rt; from_der::<VersionOne>(b"\x02\x01\x01")?, VersionOne);
-    assert_eq!(rt;
-        from_der::<VersionOne>(b"\x02\x01\x02").map_err(|e| e.kind),
-        Err(ErrorKind::Value)
+    assert_equal(&rt, &from_der::<VersionOne>(b"\x02\x01\x01")?, &VersionOne);
+    assert_equal(
+        &rt,
+        &from_der::<VersionOne>(b"\x02\x01\x02").map_err(|e| e.kind),
+        &Err(ErrorKind::Value),
     );
     Ok(())
 }
@@ -137,9 +141,9 @@ fn reads_elements_of_any_tag(rt: HostRuntime) -> Result<(), Fail> {
     let Ok(any) = AnyRef::decode(&mut reader) else {
         return Err("refused")?;
     };
-    assert_eq!(rt; any.tag(), Tag::SEQUENCE);
-    assert_eq!(rt; any.value(), b"\xAA\xBB".as_slice());
-    assert_eq!(rt; reader.remaining_len(), 1);
+    assert_equal(&rt, &any.tag(), &Tag::SEQUENCE);
+    assert_equal(&rt, &any.value(), &b"\xAA\xBB".as_slice());
+    assert_equal(&rt, &reader.remaining_len(), &1);
     assert!(rt; AnyRef::new(Tag::SEQUENCE, b"\xAA\xBB") == Ok(any));
     Ok(())
 }
@@ -147,18 +151,22 @@ fn reads_elements_of_any_tag(rt: HostRuntime) -> Result<(), Fail> {
 #[test]
 fn reads_context_fields(rt: HostRuntime) -> Result<(), Fail> {
     let mut other = SliceReader::new(b"\xA1\x03\x03\x01\x00");
-    assert_eq!(rt; other.context_specific::<OctetStringRef>(0)?, None);
-    assert_eq!(rt; other.remaining_len(), 5);
+    assert_equal(&rt, &other.context_specific::<OctetStringRef>(0)?, &None);
+    assert_equal(&rt, &other.remaining_len(), &5);
     let mut nothing = SliceReader::new(b"");
-    assert_eq!(rt; nothing.context_specific::<OctetStringRef>(0)?, None);
+    assert_equal(&rt, &nothing.context_specific::<OctetStringRef>(0)?, &None);
     let mut last = SliceReader::new(b"\xBE\x02\x04\x00");
     let read = last.context_specific::<OctetStringRef>(30)?;
-    assert_eq!(rt; read.map(|octets| octets.as_bytes()), Some(b"".as_slice()));
+    assert_equal(
+        &rt,
+        &read.map(|octets| octets.as_bytes()),
+        &Some(b"".as_slice()),
+    );
     let mut long = SliceReader::new(b"\xA0\x03\x04\x00\x00");
     let refused = long
         .context_specific::<OctetStringRef>(0)
         .map_err(|e| e.kind);
-    assert_eq!(rt; refused, Err(ErrorKind::TrailingData));
+    assert_equal(&rt, &refused, &Err(ErrorKind::TrailingData));
     assert!(rt; long.is_failed());
     Ok(())
 }
@@ -184,12 +192,17 @@ fn reads_and_prints_identifiers(rt: HostRuntime) -> Result<(), Fail> {
             ObjectIdentifier::from_bytes(content) == Ok(identifier),
             "{text}"
         );
-        assert_eq!(rt; format!(in rt.alloc(); "{identifier}")?.as_str(), text);
+        assert_equal(
+            &rt,
+            &format!(in rt.alloc(); "{identifier}")?.as_str(),
+            &text,
+        );
     }
     let identifier = ObjectIdentifier::new("1.2.3")?;
-    assert_eq!(rt;
-        format!(in rt.alloc(); "{identifier:?}")?.as_str(),
-        "ObjectIdentifier(1.2.3)"
+    assert_equal(
+        &rt,
+        &format!(in rt.alloc(); "{identifier:?}")?.as_str(),
+        &"ObjectIdentifier(1.2.3)",
     );
     assert!(rt; ID_EC_PUBLIC_KEY == ObjectIdentifier::new("1.2.840.10045.2.1")?);
     Ok(())
@@ -262,7 +275,11 @@ fn refuses_identifiers_above_39_bytes(rt: HostRuntime) -> Result<(), Fail> {
     for _ in 0..38 {
         text.push_str(".1")?;
     }
-    assert_eq!(rt; ObjectIdentifier::new(text.as_str())?.as_bytes().len(), 39);
+    assert_equal(
+        &rt,
+        &ObjectIdentifier::new(text.as_str())?.as_bytes().len(),
+        &39,
+    );
     text.push_str(".1")?;
     assert!(rt; ObjectIdentifier::new(text.as_str()).is_err_and(|e| e.kind == ErrorKind::Value));
     Ok(())

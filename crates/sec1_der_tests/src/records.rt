@@ -2,6 +2,7 @@
 ghost use Rattle.std.specs.Option.{option_map};
 ghost use Rattle.std.specs.Prelude.{ℕ, List, Option, refl};
 
+use crate::assert_equal;
 use sec1_der::{
     Context0, Context1, Context2, Context3, Distinct, ErrorKind, Explicit, ExplicitBits, FixedTag,
     ObjectIdentifier, Octets, Optional, Primitive0, Primitive1, Primitive2, Primitive3, Record,
@@ -10,6 +11,7 @@ use sec1_der::{
 };
 use std::alloc::{AllocError, Global};
 use std::marker::Model;
+use std::process::Abort;
 use std::test::Fail;
 
 /// Four parts: a version and an identifier, and one of each that may be absent.
@@ -119,25 +121,31 @@ static WHOLE: [u8; 14] = [
     0x30, 0x0C, 0x02, 0x01, 0x00, 0x06, 0x01, 0x07, 0x02, 0x01, 0x01, 0x06, 0x01, 0x08,
 ];
 
+/// Reads the bytes, and fails the test unless writing the value gives them again.
+fn middle_of(rt: &impl Abort, alloc: Global, bytes: &[u8]) -> Result<Middle, Fail> {
+    let middle: Middle = read_der(bytes)?;
+    assert_equal(rt, &to_der(alloc, &middle)?.as_slice(), &bytes);
+    Ok(middle)
+}
+
 #[test]
 fn reads_and_writes_records_in_records(rt: HostRuntime) -> Result<(), Fail> {
     let bytes = wrapped(rt.alloc(), &[0x30, 0x32], &[&SHORT, &WHOLE, &WHOLE, &WHOLE])?;
-    let middle: Middle = read_der(bytes.as_slice())?;
-    assert_eq!(rt; middle.first.version, None);
-    assert_eq!(rt; middle.second.version, Some(VersionOne));
+    let middle = middle_of(&rt, rt.alloc(), bytes.as_slice())?;
+    assert_equal(&rt, &middle.first.version, &None);
+    assert_equal(&rt, &middle.second.version, &Some(VersionOne));
     assert!(rt; middle.third == middle.second);
     assert!(rt; middle.fourth == Some(middle.second));
-    assert_eq!(rt; Middle::TAG.byte(), 0x30);
-    assert_eq!(rt; encoded_len(&middle)?, 52);
-    assert_eq!(rt; to_der(rt.alloc(), &middle)?.as_slice(), bytes.as_slice());
-    for length in 0..52 {
+    assert_equal(&rt, &Middle::TAG.byte(), &0x30);
+    assert_equal(&rt, &encoded_len(&middle)?, &52);
+    assert_equal(&rt, &bytes.len(), &52);
+    for length in 0..bytes.len() {
         let cut = from_der::<Middle>(&bytes[..length]).map_err(|e| e.kind);
         assert!(rt; cut == Err(ErrorKind::Truncated), "of {length} bytes");
     }
     let bytes = wrapped(rt.alloc(), &[0x30, 0x18], &[&SHORT, &SHORT, &SHORT])?;
-    let middle: Middle = read_der(bytes.as_slice())?;
+    let middle = middle_of(&rt, rt.alloc(), bytes.as_slice())?;
     assert!(rt; middle.fourth.is_none());
-    assert_eq!(rt; to_der(rt.alloc(), &middle)?.as_slice(), bytes.as_slice());
     Ok(())
 }
 
@@ -153,19 +161,19 @@ fn refusal_of(bytes: &[u8]) -> Option<ErrorKind> {
 #[test]
 fn refuses_other_records(rt: HostRuntime) {
     let order = refusal_of(b"\x30\x06\x06\x01\x07\x02\x01\x00");
-    assert_eq!(rt; order, Some(ErrorKind::Tag));
+    assert_equal(&rt, &order, &Some(ErrorKind::Tag));
     let cut = refusal_of(b"\x30\x03\x02\x01\x00");
-    assert_eq!(rt; cut, Some(ErrorKind::Truncated));
+    assert_equal(&rt, &cut, &Some(ErrorKind::Truncated));
     let version = refusal_of(b"\x30\x06\x02\x01\x01\x06\x01\x07");
-    assert_eq!(rt; version, Some(ErrorKind::Value));
+    assert_equal(&rt, &version, &Some(ErrorKind::Value));
     let identifier = refusal_of(b"\x30\x06\x02\x01\x00\x06\x01\x80");
-    assert_eq!(rt; identifier, Some(ErrorKind::Value));
+    assert_equal(&rt, &identifier, &Some(ErrorKind::Value));
     let optional = refusal_of(b"\x30\x09\x02\x01\x00\x06\x01\x07\x02\x01\x02");
-    assert_eq!(rt; optional, Some(ErrorKind::Value));
+    assert_equal(&rt, &optional, &Some(ErrorKind::Value));
     let late = refusal_of(b"\x30\x0C\x02\x01\x00\x06\x01\x07\x06\x01\x08\x02\x01\x01");
-    assert_eq!(rt; late, Some(ErrorKind::TrailingData));
+    assert_equal(&rt, &late, &Some(ErrorKind::TrailingData));
     let twice = refusal_of(b"\x30\x0C\x02\x01\x00\x06\x01\x07\x02\x01\x01\x02\x01\x01");
-    assert_eq!(rt; twice, Some(ErrorKind::TrailingData));
+    assert_equal(&rt, &twice, &Some(ErrorKind::TrailingData));
 }
 
 /// Bytes that are borrowed.
@@ -263,19 +271,23 @@ static BORROWED: [u8; 20] = [
 #[test]
 fn reads_and_writes_borrowed_parts(rt: HostRuntime) -> Result<(), Fail> {
     let borrowed: Borrowed = read_der(&BORROWED)?;
-    assert_eq!(rt; borrowed.octets, b"\xAA\xBB".as_slice());
-    assert_eq!(rt; borrowed.bits, Some(b"\xCC".as_slice()));
-    assert_eq!(rt; borrowed.public_key, Some(b"\xDD".as_slice()));
-    assert_eq!(rt; borrowed.field, Some(b"".as_slice()));
+    assert_equal(&rt, &borrowed.octets, &b"\xAA\xBB".as_slice());
+    assert_equal(&rt, &borrowed.bits, &Some(b"\xCC".as_slice()));
+    assert_equal(&rt, &borrowed.public_key, &Some(b"\xDD".as_slice()));
+    assert_equal(&rt, &borrowed.field, &Some(b"".as_slice()));
     let mut room = [0; 20];
-    assert_eq!(rt; encode_to_slice(&borrowed, &mut room)?, 20);
-    assert_eq!(rt; room, BORROWED);
+    assert_equal(&rt, &encode_to_slice(&borrowed, &mut room)?, &20);
+    assert_equal(&rt, &room, &BORROWED);
     let bytes = [0x30, 0x02, 0x04, 0x00];
     let borrowed: Borrowed = read_der(&bytes)?;
     assert!(rt;
         borrowed.bits.is_none() && borrowed.public_key.is_none() && borrowed.field.is_none()
     );
-    assert_eq!(rt; to_der(rt.alloc(), &borrowed)?.as_slice(), bytes.as_slice());
+    assert_equal(
+        &rt,
+        &to_der(rt.alloc(), &borrowed)?.as_slice(),
+        &bytes.as_slice(),
+    );
     Ok(())
 }
 
@@ -326,9 +338,10 @@ fn reads_and_writes_explicit_tags(rt: HostRuntime) -> Result<(), Fail> {
     assert!(rt; reads_inside::<Primitive1>(0x81)?);
     assert!(rt; reads_inside::<Primitive2>(0x82)?);
     assert!(rt; reads_inside::<Primitive3>(0x83)?);
-    assert_eq!(rt;
-        reads_inside::<Context0>(0xA1).map_err(|e| e.kind),
-        Err(ErrorKind::Tag)
+    assert_equal(
+        &rt,
+        &reads_inside::<Context0>(0xA1).map_err(|e| e.kind),
+        &Err(ErrorKind::Tag),
     );
     Ok(())
 }
@@ -337,15 +350,17 @@ fn reads_and_writes_explicit_tags(rt: HostRuntime) -> Result<(), Fail> {
 fn compares_and_prints_parts(rt: HostRuntime) -> Result<(), Fail> {
     let part = Required(VersionOne);
     assert!(rt; part.clone()? == part);
-    assert_eq!(rt;
-        format!(in rt.alloc(); "{part:?}")?.as_str(),
-        "Required(VersionOne)"
+    assert_equal(
+        &rt,
+        &format!(in rt.alloc(); "{part:?}")?.as_str(),
+        &"Required(VersionOne)",
     );
     let absent: Optional<VersionOne> = Optional(None);
     assert!(rt; absent != Optional(Some(VersionOne)));
-    assert_eq!(rt;
-        format!(in rt.alloc(); "{absent:?}")?.as_str(),
-        "Optional(None)"
+    assert_equal(
+        &rt,
+        &format!(in rt.alloc(); "{absent:?}")?.as_str(),
+        &"Optional(None)",
     );
     Ok(())
 }

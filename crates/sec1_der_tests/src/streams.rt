@@ -1,5 +1,6 @@
 //! Documents over readers and writers that give and take a few bytes at a time, break or never end,
 //! and in files.
+use crate::assert_equal;
 use sec1_der::{ErrorKind, SecretDocument, StdReader, StdWriter};
 use std::alloc::Global;
 use std::test::Fail;
@@ -154,7 +155,7 @@ fn reports_failed_reads_in_turn(rt: HostRuntime) {
             Some(ErrorKind::Io),
             "after {given}"
         );
-        assert_eq!(rt; reader.into_inner().taken, given);
+        assert_equal(&rt, &reader.into_inner().taken, &given);
     }
     let _ = println!(&rt; "SecretDocument::read_der_from: each of its 122 reads fails");
 }
@@ -237,7 +238,11 @@ fn reports_failed_writes_in_turn(rt: HostRuntime) -> Result<(), Fail> {
                 Some(ErrorKind::Io),
                 "after {room}"
             );
-            assert_eq!(rt; Some(writer.into_inner().taken.as_slice()), KEY.get(..room));
+            assert_equal(
+                &rt,
+                &Some(writer.into_inner().taken.as_slice()),
+                &KEY.get(..room),
+            );
         }
     }
     let _ = println!(&rt; "SecretDocument::write_der_to: each of its 121 writes fails");
@@ -253,7 +258,11 @@ fn keeps_documents_in_files(rt: HostRuntime) -> Result<(), Fail> {
         std::process::id(rt.process())
     )?;
     let missing = SecretDocument::read_der_file(&rt, rt.alloc(), &path);
-    assert_eq!(rt; missing.err().map(|error| error.kind), Some(ErrorKind::Io));
+    assert_equal(
+        &rt,
+        &missing.err().map(|error| error.kind),
+        &Some(ErrorKind::Io),
+    );
 
     let empty = SecretDocument::read_der_from(
         rt.alloc(),
@@ -264,12 +273,16 @@ fn keeps_documents_in_files(rt: HostRuntime) -> Result<(), Fail> {
     for document in [&empty, &whole, &empty] {
         document.write_der_file(&rt, &path)?;
         let again = SecretDocument::read_der_file(&rt, rt.alloc(), &path)?;
-        assert_eq!(rt; again.as_bytes(), document.as_bytes());
+        assert_equal(&rt, &again.as_bytes(), &document.as_bytes());
     }
     fs::remove_file(&rt, &path)?;
 
     let nowhere = format!(in rt.alloc(); "{path}/none")?;
     let unmade = whole.write_der_file(&rt, &nowhere);
-    assert_eq!(rt; unmade.err().map(|error| error.kind), Some(ErrorKind::Io));
+    assert_equal(
+        &rt,
+        &unmade.err().map(|error| error.kind),
+        &Some(ErrorKind::Io),
+    );
     Ok(())
 }

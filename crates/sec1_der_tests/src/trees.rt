@@ -1,5 +1,6 @@
 //! `check_tree` on trees of known size, and beside a plain recursive reader.
 use super::streams::KEY;
+use crate::assert_equal;
 use sec1_der::{ErrorKind, check_tree};
 use std::alloc::{AllocError, Global};
 use std::test::Fail;
@@ -74,10 +75,10 @@ fn reads_64_levels(rt: HostRuntime) -> Result<(), Fail> {
         for _ in 0..63 {
             tree = node(alloc, 0x30, &tree)?;
         }
-        assert_eq!(rt; tree.len(), length);
-        assert_eq!(rt; check_tree(&tree)?, 64);
+        assert_equal(&rt, &tree.len(), &length);
+        assert_equal(&rt, &check_tree(&tree)?, &64);
         let deeper = node(alloc, 0x30, &tree)?;
-        assert_eq!(rt; counted(&deeper), Err(ErrorKind::Depth));
+        assert_equal(&rt, &counted(&deeper), &Err(ErrorKind::Depth));
     }
     Ok(())
 }

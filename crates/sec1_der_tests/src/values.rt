@@ -1,4 +1,5 @@
 //! Values and calls of the reader that no other test makes, by examples with known results.
+use crate::assert_equal;
 use sec1_der::{
     BitStringRef, Containing, Context0, EncodeValue, ErrorKind, Explicit, ExplicitBits, FixedTag,
     ID_EC_PUBLIC_KEY, Length, ObjectIdentifier, OctetStringRef, Octets, SliceReader, SliceWriter,
@@ -8,20 +9,24 @@ use std::test::Fail;
 
 #[test]
 fn has_tags_of_component_values(rt: HostRuntime) {
-    assert_eq!(rt; SmallInteger::<0>::fixed_tag().byte(), 0x02);
-    assert_eq!(rt; WholeBits::fixed_tag().byte(), 0x03);
-    assert_eq!(rt; Octets::fixed_tag().byte(), 0x04);
-    assert_eq!(rt; Containing::<VersionOne>::fixed_tag().byte(), 0x04);
-    assert_eq!(rt; Explicit::<Context0, VersionOne>::fixed_tag().byte(), 0xA0);
-    assert_eq!(rt; ExplicitBits::fixed_tag().byte(), 0xA1);
+    assert_equal(&rt, &SmallInteger::<0>::fixed_tag().byte(), &0x02);
+    assert_equal(&rt, &WholeBits::fixed_tag().byte(), &0x03);
+    assert_equal(&rt, &Octets::fixed_tag().byte(), &0x04);
+    assert_equal(&rt, &Containing::<VersionOne>::fixed_tag().byte(), &0x04);
+    assert_equal(
+        &rt,
+        &Explicit::<Context0, VersionOne>::fixed_tag().byte(),
+        &0xA0,
+    );
+    assert_equal(&rt, &ExplicitBits::fixed_tag().byte(), &0xA1);
 }
 
 #[test]
 fn has_tags_as_constants(rt: HostRuntime) {
-    assert_eq!(rt; VersionOne::TAG.byte(), 0x02);
-    assert_eq!(rt; BitStringRef::TAG.byte(), 0x03);
-    assert_eq!(rt; OctetStringRef::TAG.byte(), 0x04);
-    assert_eq!(rt; ObjectIdentifier::TAG.byte(), 0x06);
+    assert_equal(&rt, &VersionOne::TAG.byte(), &0x02);
+    assert_equal(&rt, &BitStringRef::TAG.byte(), &0x03);
+    assert_equal(&rt, &OctetStringRef::TAG.byte(), &0x04);
+    assert_equal(&rt, &ObjectIdentifier::TAG.byte(), &0x06);
 }
 
 /// X.680 section 8.4 and X.690 section 8.1.2: the constants of `Tag` and their bytes.
@@ -56,7 +61,7 @@ fn has_tags_by_their_bytes(rt: HostRuntime) {
         (Tag::PRIMITIVE_2, 0x82),
         (Tag::PRIMITIVE_3, 0x83),
     ] {
-        assert_eq!(rt; tag.byte(), byte);
+        assert_equal(&rt, &tag.byte(), &byte);
         assert_eq!(rt; tag.is_constructed(), byte & 0x20 != 0, "{byte}");
     }
 }
@@ -68,12 +73,13 @@ fn writes_contents(rt: HostRuntime) -> Result<(), Fail> {
     ID_EC_PUBLIC_KEY.encode_value(&mut writer)?;
     BitStringRef::new(4, &[0xF0])?.encode_value(&mut writer)?;
     VersionOne.encode_value(&mut writer)?;
-    assert_eq!(rt; writer.written(), 10);
-    assert_eq!(rt;
-        room,
-        [
-            0x2A, 0x86, 0x48, 0xCE, 0x3D, 0x02, 0x01, 0x04, 0xF0, 0x01, 0xAA
-        ]
+    assert_equal(&rt, &writer.written(), &10);
+    assert_equal(
+        &rt,
+        &room,
+        &[
+            0x2A, 0x86, 0x48, 0xCE, 0x3D, 0x02, 0x01, 0x04, 0xF0, 0x01, 0xAA,
+        ],
     );
     Ok(())
 }
@@ -81,8 +87,12 @@ fn writes_contents(rt: HostRuntime) -> Result<(), Fail> {
 #[test]
 fn reads_elements_of_identifiers(rt: HostRuntime) -> Result<(), Fail> {
     let identifier = from_der::<ObjectIdentifier>(b"\x06\x02\x88\x37")?;
-    assert_eq!(rt; identifier.as_bytes(), [0x88, 0x37].as_slice());
-    assert_eq!(rt; format!(in rt.alloc(); "{identifier}")?.as_str(), "2.999");
+    assert_equal(&rt, &identifier.as_bytes(), &[0x88, 0x37].as_slice());
+    assert_equal(
+        &rt,
+        &format!(in rt.alloc(); "{identifier}")?.as_str(),
+        &"2.999",
+    );
     for (bytes, kind) in [
         (b"\x06\x00".as_slice(), ErrorKind::Value),
         (b"\x06\x01\x80", ErrorKind::Value),
@@ -115,10 +125,10 @@ fn refuses_other_versions(rt: HostRuntime) {
 fn reads_tags_from_bytes(rt: HostRuntime) -> Result<(), Fail> {
     for (byte, is_constructed) in [(0x01, false), (0x04, false), (0x30, true), (0xBE, true)] {
         let tag = Tag::from_byte(byte)?;
-        assert_eq!(rt; tag.byte(), byte);
+        assert_equal(&rt, &tag.byte(), &byte);
         assert_eq!(rt; tag.is_constructed(), is_constructed, "{byte}");
     }
-    assert_eq!(rt; Tag::from_byte(0x30)?, Tag::SEQUENCE);
+    assert_equal(&rt, &Tag::from_byte(0x30)?, &Tag::SEQUENCE);
     for byte in [0x00, 0x1F, 0x3F, 0xFF] {
         assert_eq!(rt;
             Tag::from_byte(byte).map_err(|e| e.kind),
@@ -132,25 +142,38 @@ fn reads_tags_from_bytes(rt: HostRuntime) -> Result<(), Fail> {
 #[test]
 fn reads_parts_of_a_slice(rt: HostRuntime) -> Result<(), Fail> {
     let mut reader = SliceReader::new(b"\x01\x02\x03\x04\x05");
-    assert_eq!(rt; reader.read_slice(Length::new(2)?)?, b"\x01\x02".as_slice());
-    assert_eq!(rt; reader.remaining_len(), 3);
-    assert_eq!(rt; reader.peek_tag_byte(), Some(0x03));
+    assert_equal(
+        &rt,
+        &reader.read_slice(Length::new(2)?)?,
+        &b"\x01\x02".as_slice(),
+    );
+    assert_equal(&rt, &reader.remaining_len(), &3);
+    assert_equal(&rt, &reader.peek_tag_byte(), &Some(0x03));
 
     let mut nested = reader.read_nested(Length::new(2)?)?;
-    assert_eq!(rt; nested.remaining_len(), 2);
-    assert_eq!(rt; nested.read_slice(Length::new(2)?)?, b"\x03\x04".as_slice());
+    assert_equal(&rt, &nested.remaining_len(), &2);
+    assert_equal(
+        &rt,
+        &nested.read_slice(Length::new(2)?)?,
+        &b"\x03\x04".as_slice(),
+    );
     assert!(rt; nested.finish().is_ok());
-    assert_eq!(rt; reader.remaining_len(), 1);
+    assert_equal(&rt, &reader.remaining_len(), &1);
     assert!(rt; !reader.is_failed());
 
-    assert_eq!(rt; reader.fail(ErrorKind::Value).kind(), ErrorKind::Value);
+    assert_equal(
+        &rt,
+        &reader.fail(ErrorKind::Value).kind(),
+        &ErrorKind::Value,
+    );
     assert!(rt; reader.is_failed());
-    assert_eq!(rt; reader.remaining_len(), 1);
+    assert_equal(&rt, &reader.remaining_len(), &1);
 
     let mut unread = SliceReader::new(b"\x05");
-    assert_eq!(rt;
-        unread.finish().map_err(|e| e.kind),
-        Err(ErrorKind::TrailingData)
+    assert_equal(
+        &rt,
+        &unread.finish().map_err(|e| e.kind),
+        &Err(ErrorKind::TrailingData),
     );
     Ok(())
 }

@@ -1,4 +1,5 @@
 //! What is written, by examples with known results.
+use crate::assert_equal;
 use sec1_der::{
     AnyRef, BackWriter, BitStringRef, Context0, EncodeValue, ErrorKind, Explicit, Header,
     ID_EC_PUBLIC_KEY, Length, ObjectIdentifier, OctetStringRef, SecretDocument, SliceReader,
@@ -19,18 +20,19 @@ fn writes_from_the_back(rt: HostRuntime) -> Result<(), Fail> {
     let mut writer = BackWriter::new(&mut room);
     writer.write(&[0x05])?;
     writer.header(Tag::OCTET_STRING, 0)?;
-    assert_eq!(rt; writer.written(), 3);
-    assert_eq!(rt; writer.remaining(), 1);
-    assert_eq!(rt;
-        kind_of(writer.write(&[0x01, 0x02])),
-        Some(ErrorKind::Buffer)
+    assert_equal(&rt, &writer.written(), &3);
+    assert_equal(&rt, &writer.remaining(), &1);
+    assert_equal(
+        &rt,
+        &kind_of(writer.write(&[0x01, 0x02])),
+        &Some(ErrorKind::Buffer),
     );
-    assert_eq!(rt; writer.written(), 3);
-    assert_eq!(rt; room, [0xAA, 0x04, 0x01, 0x05]);
+    assert_equal(&rt, &writer.written(), &3);
+    assert_equal(&rt, &room, &[0xAA, 0x04, 0x01, 0x05]);
 
     let mut room = [0; 2];
     BackWriter::new(&mut room).header(Tag::SEQUENCE, 0)?;
-    assert_eq!(rt; room, [0x30, 0x00]);
+    assert_equal(&rt, &room, &[0x30, 0x00]);
     Ok(())
 }
 
@@ -40,13 +42,14 @@ fn writes_from_the_front(rt: HostRuntime) -> Result<(), Fail> {
     let mut writer = SliceWriter::new(&mut room);
     writer.write(&[0x01, 0x02])?;
     writer.write_byte(0x03)?;
-    assert_eq!(rt; writer.written(), 3);
-    assert_eq!(rt; writer.remaining(), 1);
-    assert_eq!(rt;
-        kind_of(writer.write(&[0x04, 0x05])),
-        Some(ErrorKind::Buffer)
+    assert_equal(&rt, &writer.written(), &3);
+    assert_equal(&rt, &writer.remaining(), &1);
+    assert_equal(
+        &rt,
+        &kind_of(writer.write(&[0x04, 0x05])),
+        &Some(ErrorKind::Buffer),
     );
-    assert_eq!(rt; room, [0x01, 0x02, 0x03, 0xAA]);
+    assert_equal(&rt, &room, &[0x01, 0x02, 0x03, 0xAA]);
     Ok(())
 }
 
@@ -69,10 +72,10 @@ fn writes_headers(rt: HostRuntime) -> Result<(), Fail> {
             tag: Tag::OCTET_STRING,
             length: Length::new(n)?,
         };
-        assert_eq!(rt; header.encoded_len(), count);
+        assert_equal(&rt, &header.encoded_len(), &count);
         let mut room = [0; 6];
         header.encode(&mut SliceWriter::new(&mut room))?;
-        assert_eq!(rt; room, octets);
+        assert_equal(&rt, &room, &octets);
     }
     Ok(())
 }
@@ -81,23 +84,27 @@ fn writes_headers(rt: HostRuntime) -> Result<(), Fail> {
 fn announces_the_greatest_length(rt: HostRuntime) -> Result<(), Fail> {
     let greatest = [0x30, 0x84, 0x0F, 0xFF, 0xFF, 0xFF];
     let header = Header::decode(&mut SliceReader::new(&greatest))?;
-    assert_eq!(rt; header.length.get(), 268_435_455);
-    assert_eq!(rt;
-        kind_of(SecretDocument::from_der(rt.alloc(), &greatest)),
-        Some(ErrorKind::Truncated)
+    assert_equal(&rt, &header.length.get(), &268_435_455);
+    assert_equal(
+        &rt,
+        &kind_of(SecretDocument::from_der(rt.alloc(), &greatest)),
+        &Some(ErrorKind::Truncated),
     );
     let above = [0x30, 0x84, 0x10, 0x00, 0x00, 0x00];
-    assert_eq!(rt;
-        kind_of(Header::decode(&mut SliceReader::new(&above))),
-        Some(ErrorKind::Length)
+    assert_equal(
+        &rt,
+        &kind_of(Header::decode(&mut SliceReader::new(&above))),
+        &Some(ErrorKind::Length),
     );
-    assert_eq!(rt;
-        kind_of(Header::decode(&mut SliceReader::new(&above[..3]))),
-        Some(ErrorKind::Truncated)
+    assert_equal(
+        &rt,
+        &kind_of(Header::decode(&mut SliceReader::new(&above[..3]))),
+        &Some(ErrorKind::Truncated),
     );
-    assert_eq!(rt;
-        kind_of(Length::new(268_435_456)),
-        Some(ErrorKind::Overlength)
+    assert_equal(
+        &rt,
+        &kind_of(Length::new(268_435_456)),
+        &Some(ErrorKind::Overlength),
     );
     Ok(())
 }
@@ -105,25 +112,29 @@ fn announces_the_greatest_length(rt: HostRuntime) -> Result<(), Fail> {
 #[test]
 fn writes_values(rt: HostRuntime) -> Result<(), Fail> {
     let octets = OctetStringRef::new(&[0xAA, 0xBB])?;
-    assert_eq!(rt; encoded_len(&octets)?, 4);
-    assert_eq!(rt;
-        to_der(rt.alloc(), &octets)?.as_slice(),
-        [0x04, 0x02, 0xAA, 0xBB].as_slice()
+    assert_equal(&rt, &encoded_len(&octets)?, &4);
+    assert_equal(
+        &rt,
+        &to_der(rt.alloc(), &octets)?.as_slice(),
+        &[0x04, 0x02, 0xAA, 0xBB].as_slice(),
     );
     let bits = BitStringRef::new(4, &[0xF0])?;
-    assert_eq!(rt;
-        to_der(rt.alloc(), &bits)?.as_slice(),
-        [0x03, 0x02, 0x04, 0xF0].as_slice()
+    assert_equal(
+        &rt,
+        &to_der(rt.alloc(), &bits)?.as_slice(),
+        &[0x03, 0x02, 0x04, 0xF0].as_slice(),
     );
-    assert_eq!(rt;
-        to_der(rt.alloc(), &VersionOne)?.as_slice(),
-        [0x02, 0x01, 0x01].as_slice()
+    assert_equal(
+        &rt,
+        &to_der(rt.alloc(), &VersionOne)?.as_slice(),
+        &[0x02, 0x01, 0x01].as_slice(),
     );
     let mut room = [0xAA; 10];
-    assert_eq!(rt; encode_to_slice(&ID_EC_PUBLIC_KEY, &mut room)?, 9);
-    assert_eq!(rt;
-        room,
-        [0x06, 0x07, 0x2A, 0x86, 0x48, 0xCE, 0x3D, 0x02, 0x01, 0xAA]
+    assert_equal(&rt, &encode_to_slice(&ID_EC_PUBLIC_KEY, &mut room)?, &9);
+    assert_equal(
+        &rt,
+        &room,
+        &[0x06, 0x07, 0x2A, 0x86, 0x48, 0xCE, 0x3D, 0x02, 0x01, 0xAA],
     );
     Ok(())
 }
@@ -171,30 +182,40 @@ fn writes_elements_and_fields(rt: HostRuntime) -> Result<(), Fail> {
     let octets = Explicit::<Context30, _>::new(OctetStringRef::new(&[])?);
     let octets = Some(&octets);
     let missing: Field<Context0> = None;
-    assert_eq!(rt; field_len(octets)?, 4);
-    assert_eq!(rt; field_len(missing)?, 0);
+    assert_equal(&rt, &field_len(octets)?, &4);
+    assert_equal(&rt, &field_len(missing)?, &0);
 
     let mut room = [0xAA; 8];
     let mut writer = SliceWriter::new(&mut room);
     writer.element(&VersionOne)?;
     append_field(&mut writer, missing)?;
     append_field(&mut writer, octets)?;
-    assert_eq!(rt;
-        kind_of(writer.element(&VersionOne)),
-        Some(ErrorKind::Buffer)
+    assert_equal(
+        &rt,
+        &kind_of(writer.element(&VersionOne)),
+        &Some(ErrorKind::Buffer),
     );
-    assert_eq!(rt; room, [0x02, 0x01, 0x01, 0xBE, 0x02, 0x04, 0x00, 0xAA]);
+    assert_equal(
+        &rt,
+        &room,
+        &[0x02, 0x01, 0x01, 0xBE, 0x02, 0x04, 0x00, 0xAA],
+    );
 
     let mut room = [0xAA; 8];
     let mut writer = BackWriter::new(&mut room);
     prepend_field(&mut writer, octets)?;
     prepend_field(&mut writer, missing)?;
     writer.element(&VersionOne)?;
-    assert_eq!(rt;
-        kind_of(prepend_field(&mut writer, octets)),
-        Some(ErrorKind::Buffer)
+    assert_equal(
+        &rt,
+        &kind_of(prepend_field(&mut writer, octets)),
+        &Some(ErrorKind::Buffer),
     );
-    assert_eq!(rt; room, [0xAA, 0x02, 0x01, 0x01, 0xBE, 0x02, 0x04, 0x00]);
+    assert_equal(
+        &rt,
+        &room,
+        &[0xAA, 0x02, 0x01, 0x01, 0xBE, 0x02, 0x04, 0x00],
+    );
     Ok(())
 }
 
@@ -202,11 +223,15 @@ fn writes_elements_and_fields(rt: HostRuntime) -> Result<(), Fail> {
 fn makes_any_of_an_identifier(rt: HostRuntime) -> Result<(), Fail> {
     let identifier = ObjectIdentifier::new("1.3.132.0.34")?;
     let any = AnyRef::from(&identifier);
-    assert_eq!(rt; any.tag(), Tag::OBJECT_IDENTIFIER);
-    assert_eq!(rt; any.value(), [0x2B, 0x81, 0x04, 0x00, 0x22].as_slice());
+    assert_equal(&rt, &any.tag(), &Tag::OBJECT_IDENTIFIER);
+    assert_equal(
+        &rt,
+        &any.value(),
+        &[0x2B, 0x81, 0x04, 0x00, 0x22].as_slice(),
+    );
     let mut room = [0; 5];
     any.encode_value(&mut SliceWriter::new(&mut room))?;
-    assert_eq!(rt; room, [0x2B, 0x81, 0x04, 0x00, 0x22]);
+    assert_equal(&rt, &room, &[0x2B, 0x81, 0x04, 0x00, 0x22]);
     Ok(())
 }
 
@@ -214,20 +239,23 @@ fn makes_any_of_an_identifier(rt: HostRuntime) -> Result<(), Fail> {
 fn holds_documents(rt: HostRuntime) -> Result<(), Fail> {
     let octets = [0x04, 0x01, 0xAA];
     let document = SecretDocument::from_der(rt.alloc(), &octets)?;
-    assert_eq!(rt; document.as_bytes(), octets.as_slice());
-    assert_eq!(rt; document.len(), 3);
-    assert_eq!(rt;
-        format!(in rt.alloc(); "{document:?}")?.as_str(),
-        "SecretDocument { .. }"
+    assert_equal(&rt, &document.as_bytes(), &octets.as_slice());
+    assert_equal(&rt, &document.len(), &3);
+    assert_equal(
+        &rt,
+        &format!(in rt.alloc(); "{document:?}")?.as_str(),
+        &"SecretDocument { .. }",
     );
-    assert_eq!(rt;
-        SecretDocument::from_der(rt.alloc(), &[0x30, 0x03, 0x04, 0x05, 0x00])?.len(),
-        5
+    assert_equal(
+        &rt,
+        &SecretDocument::from_der(rt.alloc(), &[0x30, 0x03, 0x04, 0x05, 0x00])?.len(),
+        &5,
     );
     let value = OctetStringRef::new(&[0xAA])?;
-    assert_eq!(rt;
-        SecretDocument::encode_msg(rt.alloc(), &value)?.as_bytes(),
-        octets.as_slice()
+    assert_equal(
+        &rt,
+        &SecretDocument::encode_msg(rt.alloc(), &value)?.as_bytes(),
+        &octets.as_slice(),
     );
     Ok(())
 }

@@ -6,7 +6,9 @@ use crate::report::LIMIT;
 use crate::{Fault, run, run_der};
 use sec1::der::{StdReader, StdWriter};
 use std::alloc::Global;
+use std::fmt::Debug;
 use std::io;
+use std::process::Abort;
 use std::test::Fail;
 
 /// A key on P-256, in hexadecimal.
@@ -111,6 +113,12 @@ static REFUSALS: [(&str, &str); 6] = [
     ),
 ];
 
+/// Fails the test unless the two are equal.
+// A call of this takes the prover a fraction of the time that `assert_eq!` takes in line.
+fn assert_equal<T: PartialEq + Debug>(rt: &impl Abort, found: &T, wanted: &T) {
+    assert_eq!(rt; *found, *wanted);
+}
+
 /// The result of a run over the input, and what it writes.
 fn outcome(alloc: Global, input: &[u8]) -> (Result<u8, Fault>, Vec<u8>) {
     let mut writer = StdWriter::new(Vec::new(alloc));
@@ -132,8 +140,8 @@ fn reports_on_a_key(rt: HostRuntime) -> Result<(), Fail> {
         outcome(rt.alloc(), KEY.as_bytes()),
         der_outcome(rt.alloc(), &bytes),
     ] {
-        assert_eq!(rt; result, Ok(0));
-        assert_eq!(rt; text.as_slice(), KEY_REPORT.as_bytes());
+        assert_equal(&rt, &result, &Ok(0));
+        assert_equal(&rt, &text.as_slice(), &KEY_REPORT.as_bytes());
     }
     Ok(())
 }
@@ -141,10 +149,11 @@ fn reports_on_a_key(rt: HostRuntime) -> Result<(), Fail> {
 #[test]
 fn refuses_hexadecimal_as_der(rt: HostRuntime) {
     let (result, text) = der_outcome(rt.alloc(), KEY.as_bytes());
-    assert_eq!(rt; result, Ok(1));
-    assert_eq!(rt;
-        text.as_slice(),
-        b"refused: not an EC private key in DER\ntree: no\n".as_slice()
+    assert_equal(&rt, &result, &Ok(1));
+    assert_equal(
+        &rt,
+        &text.as_slice(),
+        &b"refused: not an EC private key in DER\ntree: no\n".as_slice(),
     );
 }
 
@@ -269,9 +278,10 @@ fn reports_failed_writes_in_turn(rt: HostRuntime) -> Result<(), Fail> {
                     run(rt.alloc(), &mut StdReader::new(EMPTY_KEY), &mut writer)
                 };
                 assert_eq!(rt; result, Err(Fault::Output), "after {room}");
-                assert_eq!(rt;
-                    Some(writer.into_inner().taken.as_slice()),
-                    EMPTY_KEY_REPORT.get(..room)
+                assert_equal(
+                    &rt,
+                    &Some(writer.into_inner().taken.as_slice()),
+                    &EMPTY_KEY_REPORT.get(..room),
                 );
             }
         }
@@ -287,7 +297,7 @@ fn names_faults(rt: HostRuntime) -> Result<(), Fail> {
         (Fault::Output, "output failed"),
         (Fault::Memory, "out of memory"),
     ] {
-        assert_eq!(rt; format!(in rt.alloc(); "{fault}")?.as_str(), words);
+        assert_equal(&rt, &format!(in rt.alloc(); "{fault}")?.as_str(), &words);
     }
     Ok(())
 }

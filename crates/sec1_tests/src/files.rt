@@ -1,6 +1,7 @@
 //! Keys in files: large ones, refused ones, long paths, and files that can't be written.
 use super::reading::whole_key;
 use super::traits::{Copied, asn1};
+use crate::assert_equal;
 use sec1::der::ErrorKind;
 use sec1::{DecodeEcPrivateKey, EncodeEcPrivateKey};
 use std::fs;
@@ -55,10 +56,10 @@ fn touches_no_file_for_refused_keys(rt: HostRuntime) -> Result<(), Fail> {
             fs::write(&rt, &path, b"old")?;
         }
         let refused = refused_key.write_sec1_der_file(&rt, rt.alloc(), &path);
-        assert_eq!(rt; refused.err(), asn1(ErrorKind::Truncated));
-        assert_eq!(rt; fs::exists(&rt, &path)?, is_there);
+        assert_equal(&rt, &refused.err(), &asn1(ErrorKind::Truncated));
+        assert_equal(&rt, &fs::exists(&rt, &path)?, &is_there);
     }
-    assert_eq!(rt; fs::read(&rt, &path)?.as_slice(), b"old".as_slice());
+    assert_equal(&rt, &fs::read(&rt, &path)?.as_slice(), &b"old".as_slice());
     fs::remove_file(&rt, &path)?;
     Ok(())
 }
@@ -91,8 +92,16 @@ fn opens_long_paths(rt: HostRuntime) -> Result<(), Fail> {
         fs::create_dir(&rt, &folder)?;
         let path = format!(in rt.alloc(); "{folder}/key")?;
         key.write_sec1_der_file(&rt, rt.alloc(), &path)?;
-        assert_eq!(rt; fs::read(&rt, &path)?.as_slice(), key.bytes.as_slice());
-        assert_eq!(rt; Copied::read_sec1_der_file(&rt, rt.alloc(), &path)?, key);
+        assert_equal(
+            &rt,
+            &fs::read(&rt, &path)?.as_slice(),
+            &key.bytes.as_slice(),
+        );
+        assert_equal(
+            &rt,
+            &Copied::read_sec1_der_file(&rt, rt.alloc(), &path)?,
+            &key,
+        );
     }
     fs::remove_dir_all(&rt, &top)?;
     Ok(())

@@ -5,6 +5,7 @@
 //! refused, and each call is made once.
 use super::reading::whole_key;
 use super::traits::{Copied, asn1};
+use crate::assert_equal;
 use sec1::der::{ErrorKind, Read, StdReader, StdWriter, Write, check_tree};
 use sec1::point::{EncodedPoint, EncodedPoint32};
 use sec1::{DecodeEcPrivateKey, EcPrivateKey, EncodeEcPrivateKey, Error};
@@ -233,7 +234,11 @@ fn reports_memory_from_calls_on_files(rt: HostRuntime) -> std::result::Result<()
             }
         })
     );
-    assert_eq!(rt; fs::read(&rt, &path)?.as_slice(), key.bytes.as_slice());
+    assert_equal(
+        &rt,
+        &fs::read(&rt, &path)?.as_slice(),
+        &key.bytes.as_slice(),
+    );
     assert!(rt;
         is_refused_in_turn(&rt, alloc, "read_sec1_der_file", || {
             match Copied::read_sec1_der_file(&rt, alloc, &path) {

@@ -2,6 +2,7 @@
 
 ghost use Rattle.std.specs.Prelude.{◌+◌, ◌*◌, ◌%◌, ◌^◌, fold};
 
+use crate::assert_equal;
 use sec1::Error;
 use sec1::der::{self, ErrorKind};
 use sec1::point::Coordinates::{Compressed, Identity};
@@ -117,6 +118,16 @@ fn compresses_points(rt: HostRuntime) -> Result<(), Fail> {
     Ok(())
 }
 
+/// Fails the test unless each proper prefix of the bytes is refused.
+fn refuses_prefixes(rt: &impl Abort, bytes: &[u8]) {
+    for end in 0..bytes.len() {
+        assert!(rt;
+            EncodedPoint32::from_bytes(&bytes[..end]).is_err(),
+            "{end} bytes"
+        );
+    }
+}
+
 #[test]
 fn refuses_other_bytes(rt: HostRuntime) -> Result<(), Fail> {
     for &bytes in NO_ENCODING.iter() {
@@ -126,37 +137,33 @@ fn refuses_other_bytes(rt: HostRuntime) -> Result<(), Fail> {
             "{bytes:?}"
         );
     }
+    refuses_prefixes(&rt, compressed_32().as_slice());
+    refuses_prefixes(&rt, uncompressed_32().as_slice());
     let mut compressed = compressed_32();
     let mut uncompressed = uncompressed_32();
-    for end in 0..33 {
-        assert!(rt;
-            EncodedPoint32::from_bytes(&compressed[..end]).is_err(),
-            "{end} bytes"
-        );
-    }
-    for end in 0..65 {
-        assert!(rt;
-            EncodedPoint32::from_bytes(&uncompressed[..end]).is_err(),
-            "{end} bytes"
-        );
-    }
     for first in 0..=255u8 {
         compressed[0] = first;
         uncompressed[0] = first;
-        let compressed_stands = EncodedPoint32::from_bytes(compressed.as_slice()).is_ok();
-        let uncompressed_stands = EncodedPoint32::from_bytes(uncompressed.as_slice()).is_ok();
-        assert_eq!(rt; compressed_stands, matches!(first, 2 | 3 | 5), "{first}");
-        assert_eq!(rt; uncompressed_stands, matches!(first, 4 | 6), "{first}");
+        let read = (
+            EncodedPoint32::from_bytes(compressed.as_slice()).is_ok(),
+            EncodedPoint32::from_bytes(uncompressed.as_slice()).is_ok(),
+        );
+        assert!(rt;
+            read == (matches!(first, 2 | 3 | 5), matches!(first, 4 | 6)),
+            "{first}"
+        );
     }
     assert!(rt; Point1::fits() && EncodedPoint32::fits());
     assert!(rt; !EncodedPoint::<32, 64>::fits() && !EncodedPoint::<0, 1>::fits());
-    assert_eq!(rt;
-        EncodedPoint::<32, 64>::from_bytes(&[0]).err(),
-        Some(Error::PointEncoding)
+    assert_equal(
+        &rt,
+        &EncodedPoint::<32, 64>::from_bytes(&[0]).err(),
+        &Some(Error::PointEncoding),
     );
-    assert_eq!(rt;
-        EncodedPoint::<0, 1>::from_bytes(&[0]).err(),
-        Some(Error::PointEncoding)
+    assert_equal(
+        &rt,
+        &EncodedPoint::<0, 1>::from_bytes(&[0]).err(),
+        &Some(Error::PointEncoding),
     );
     Ok(())
 }
@@ -166,15 +173,21 @@ fn lends_coordinates(rt: HostRuntime) -> Result<(), Fail> {
     let x = [0x11; 32];
     let y = [0x22; 32];
     let whole = EncodedPoint32::from_affine_coordinates(&x, &y, false);
-    assert_eq!(rt; whole.as_bytes(), uncompressed_32().as_slice());
+    assert_equal(&rt, &whole.as_bytes(), &uncompressed_32().as_slice());
     assert!(rt; whole.coordinates() == Coordinates::Uncompressed { x: &x, y: &y });
     assert!(rt; whole.x() == Some(&x) && whole.y() == Some(&y));
     assert!(rt; whole.tag() == Tag::Uncompressed && whole.len() == 65);
     assert!(rt; whole.clone()? == whole);
     assert!(rt; whole == EncodedPoint32::from_untagged_bytes(&uncompressed_32()[1..]));
-    let point = EncodedPoint32::from_affine_coordinates(&x, &y, true);
-    assert_eq!(rt; point.as_bytes(), compressed_32().as_slice());
-    assert_eq!(rt; point.tag(), Tag::CompressedEvenY);
+    Ok(())
+}
+
+#[test]
+fn lends_coordinates_of_compressed_points(rt: HostRuntime) {
+    let x = [0x11; 32];
+    let point = EncodedPoint32::from_affine_coordinates(&x, &[0x22; 32], true);
+    assert_equal(&rt, &point.as_bytes(), &compressed_32().as_slice());
+    assert_equal(&rt, &point.tag(), &Tag::CompressedEvenY);
     assert!(rt;
         point.coordinates()
             == Coordinates::Compressed {
@@ -186,12 +199,16 @@ fn lends_coordinates(rt: HostRuntime) -> Result<(), Fail> {
         point.is_compressed() && !point.is_compact() && !point.is_hybrid() && !point.is_identity()
     );
     assert!(rt; point.len() == 33 && point.x() == Some(&x) && point.y().is_none());
+}
+
+#[test]
+fn tells_compact_and_hybrid_points(rt: HostRuntime) -> Result<(), Fail> {
     let compact = Point1::from_bytes(&[5, 7])?;
     assert!(rt; compact.is_compact() && !compact.is_compressed());
     assert!(rt; Point1::from_bytes(&[4, 1, 3])?.to_hybrid().is_hybrid());
     let odd = Point1::from_bytes(&[7, 1, 3])?;
     assert!(rt; odd.coordinates() == Coordinates::Hybrid { x: &[1], y: &[3] });
-    assert_eq!(rt; odd.coordinates().tag(), Tag::HybridOddY);
+    assert_equal(&rt, &odd.coordinates().tag(), &Tag::HybridOddY);
     Ok(())
 }
 
@@ -205,23 +222,31 @@ fn printed(alloc: Global, coordinates: Coordinates<'_, 2>) -> Result<String, Fai
 fn prints_coordinates(rt: HostRuntime) -> Result<(), Fail> {
     let alloc = rt.alloc();
     let (x, y) = (&[1, 255], &[0, 3]);
-    assert_eq!(rt; printed(alloc, Identity)?.as_str(), "Identity\nIdentity");
-    assert_eq!(rt;
-        printed(alloc, Coordinates::Compact { x })?.as_str(),
-        "Compact { x: [1, 255] }\nCompact {\n    x: [\n        1,\n        255,\n    ],\n}"
+    assert_equal(
+        &rt,
+        &printed(alloc, Identity)?.as_str(),
+        &"Identity\nIdentity",
+    );
+    assert_equal(
+        &rt,
+        &printed(alloc, Coordinates::Compact { x })?.as_str(),
+        &"Compact { x: [1, 255] }\nCompact {\n    x: [\n        1,\n        255,\n    ],\n}",
     );
     let y_is_odd = true;
-    assert_eq!(rt;
-        printed(alloc, Compressed { x, y_is_odd })?.as_str(),
-        "Compressed { x: [1, 255], y_is_odd: true }\nCompressed {\n    x: [\n        1,\n        255,\n    ],\n    y_is_odd: true,\n}"
+    assert_equal(
+        &rt,
+        &printed(alloc, Compressed { x, y_is_odd })?.as_str(),
+        &"Compressed { x: [1, 255], y_is_odd: true }\nCompressed {\n    x: [\n        1,\n        255,\n    ],\n    y_is_odd: true,\n}",
     );
-    assert_eq!(rt;
-        printed(alloc, Coordinates::Uncompressed { x, y })?.as_str(),
-        "Uncompressed { x: [1, 255], y: [0, 3] }\nUncompressed {\n    x: [\n        1,\n        255,\n    ],\n    y: [\n        0,\n        3,\n    ],\n}"
+    assert_equal(
+        &rt,
+        &printed(alloc, Coordinates::Uncompressed { x, y })?.as_str(),
+        &"Uncompressed { x: [1, 255], y: [0, 3] }\nUncompressed {\n    x: [\n        1,\n        255,\n    ],\n    y: [\n        0,\n        3,\n    ],\n}",
     );
-    assert_eq!(rt;
-        printed(alloc, Coordinates::Hybrid { x, y })?.as_str(),
-        "Hybrid { x: [1, 255], y: [0, 3] }\nHybrid {\n    x: [\n        1,\n        255,\n    ],\n    y: [\n        0,\n        3,\n    ],\n}"
+    assert_equal(
+        &rt,
+        &printed(alloc, Coordinates::Hybrid { x, y })?.as_str(),
+        &"Hybrid { x: [1, 255], y: [0, 3] }\nHybrid {\n    x: [\n        1,\n        255,\n    ],\n    y: [\n        0,\n        3,\n    ],\n}",
     );
     Ok(())
 }
@@ -230,19 +255,22 @@ fn prints_coordinates(rt: HostRuntime) -> Result<(), Fail> {
 fn prints_the_same_whatever_is_asked(rt: HostRuntime) -> Result<(), Fail> {
     let alloc = rt.alloc();
     let point = Point1::from_bytes(&[2, 0xAF])?;
-    assert_eq!(rt;
-        format!(in alloc; "{point:>9}|{point:.1}|{point:<+09}|{point:#}")?.as_str(),
-        "02AF|02AF|02AF|02AF"
+    assert_equal(
+        &rt,
+        &format!(in alloc; "{point:>9}|{point:.1}|{point:<+09}|{point:#}")?.as_str(),
+        &"02AF|02AF|02AF|02AF",
     );
     let error = Error::Asn1(der::Error::from(ErrorKind::Value));
-    assert_eq!(rt;
-        format!(in alloc; "{error:>60}|{error:.3}|{error:?}|{error:#?}")?.as_str(),
-        "SEC1 ASN.1 error: content not valid for its tag|SEC1 ASN.1 error: content not valid for its tag|Asn1(Error { kind: Value })|Asn1(\n    Error {\n        kind: Value,\n    },\n)"
+    assert_equal(
+        &rt,
+        &format!(in alloc; "{error:>60}|{error:.3}|{error:?}|{error:#?}")?.as_str(),
+        &"SEC1 ASN.1 error: content not valid for its tag|SEC1 ASN.1 error: content not valid for its tag|Asn1(Error { kind: Value })|Asn1(\n    Error {\n        kind: Value,\n    },\n)",
     );
     let tag = Tag::HybridOddY;
-    assert_eq!(rt;
-        format!(in alloc; "{tag:?}|{tag:#?}|{tag:>20?}")?.as_str(),
-        "HybridOddY|HybridOddY|HybridOddY"
+    assert_equal(
+        &rt,
+        &format!(in alloc; "{tag:?}|{tag:#?}|{tag:>20?}")?.as_str(),
+        &"HybridOddY|HybridOddY|HybridOddY",
     );
     Ok(())
 }
@@ -312,19 +340,19 @@ fn has_identities(rt: HostRuntime) {
     assert!(rt; EncodedPoint32::default() == identity);
     assert!(rt; EncodedPoint48::default() == EncodedPoint48::identity());
     assert!(rt; EncodedPoint66::default() == EncodedPoint66::identity());
-    assert_eq!(rt; EncodedPoint32::default().tag(), Tag::Identity);
-    assert_eq!(rt; EncodedPoint32::default().as_bytes(), [0].as_slice());
-    assert_eq!(rt; Point1::identity().len(), 1);
+    assert_equal(&rt, &EncodedPoint32::default().tag(), &Tag::Identity);
+    assert_equal(&rt, &EncodedPoint32::default().as_bytes(), &[0].as_slice());
+    assert_equal(&rt, &Point1::identity().len(), &1);
 }
 
 #[test]
 fn has_tags(rt: HostRuntime) -> Result<(), Fail> {
-    assert_eq!(rt; Tag::Identity.message_len(66), 1);
-    assert_eq!(rt; Tag::Compact.message_len(66), 67);
-    assert_eq!(rt; Tag::Uncompressed.message_len(66), 133);
-    assert_eq!(rt; Tag::from_u8(6)?, Tag::HybridEvenY);
-    assert_eq!(rt; Tag::try_from(7)?, Tag::HybridOddY);
-    assert_eq!(rt; u8::from(Tag::HybridOddY), 7);
+    assert_equal(&rt, &Tag::Identity.message_len(66), &1);
+    assert_equal(&rt, &Tag::Compact.message_len(66), &67);
+    assert_equal(&rt, &Tag::Uncompressed.message_len(66), &133);
+    assert_equal(&rt, &Tag::from_u8(6)?, &Tag::HybridEvenY);
+    assert_equal(&rt, &Tag::try_from(7)?, &Tag::HybridOddY);
+    assert_equal(&rt, &u8::from(Tag::HybridOddY), &7);
     for byte in [1, 8, 0xFF] {
         assert_eq!(rt;
             Tag::from_u8(byte).err(),
@@ -350,7 +378,7 @@ fn orders_points(rt: HostRuntime) -> Result<(), Fail> {
     let compressed = Point1::from_bytes(&[4, 1, 0xFF])?.compress();
     let read = Point1::from_bytes(&[3, 1])?;
     assert!(rt; compressed == read && compressed.ct_eq(&read));
-    assert_eq!(rt; compressed.cmp(&read), Ordering::Equal);
+    assert_equal(&rt, &compressed.cmp(&read), &Ordering::Equal);
     let small = EncodedPoint32::from_bytes(compressed_32().as_slice())?;
     assert!(rt; small < EncodedPoint32::from_bytes(uncompressed_32().as_slice())?);
     Ok(())
@@ -390,7 +418,7 @@ fn fed_by<T: Hash>(value: &T) -> u128 {
 fn hashes_points(rt: HostRuntime) -> Result<(), Fail> {
     let point = Point1::from_str("02AF")?;
     let bytes: &[u8] = &[2, 0xAF];
-    assert_eq!(rt; fed_by(&point), fed_by(&bytes));
+    assert_equal(&rt, &fed_by(&point), &fed_by(&bytes));
     // no digit was lost
     assert!(rt; fed_by(&point) < 1 << 120 && fed_by(&point) > 1 << 16);
     let mut points = HashSet::new(rt.alloc());
@@ -398,9 +426,9 @@ fn hashes_points(rt: HostRuntime) -> Result<(), Fail> {
     assert!(rt; points.contains(&Point1::from_bytes(bytes)?));
     let compressed = Point1::from_bytes(&[4, 0xAF, 2])?.compress();
     assert!(rt; !points.insert(compressed)?);
-    assert_eq!(rt; points.len(), 1);
+    assert_equal(&rt, &points.len(), &1);
     let wide = EncodedPoint32::identity();
-    assert_eq!(rt; fed_by(&wide), fed_by(&wide.as_bytes()));
+    assert_equal(&rt, &fed_by(&wide), &fed_by(&wide.as_bytes()));
     Ok(())
 }
 
@@ -409,24 +437,26 @@ fn selects<const N: usize, const L: usize>(
     a: EncodedPoint<N, L>,
     b: EncodedPoint<N, L>,
 ) {
-    assert_eq!(rt; a.ct_select(&b, false).as_bytes(), a.as_bytes());
-    assert_eq!(rt; a.ct_select(&b, true).as_bytes(), b.as_bytes());
-    assert_eq!(rt;
-        EncodedPoint::conditional_select(&a, &b, false).as_bytes(),
-        a.as_bytes()
+    assert_equal(rt, &a.ct_select(&b, false).as_bytes(), &a.as_bytes());
+    assert_equal(rt, &a.ct_select(&b, true).as_bytes(), &b.as_bytes());
+    assert_equal(
+        rt,
+        &EncodedPoint::conditional_select(&a, &b, false).as_bytes(),
+        &a.as_bytes(),
     );
-    assert_eq!(rt;
-        EncodedPoint::conditional_select(&a, &b, true).as_bytes(),
-        b.as_bytes()
+    assert_equal(
+        rt,
+        &EncodedPoint::conditional_select(&a, &b, true).as_bytes(),
+        &b.as_bytes(),
     );
     let mut point = a;
     point.ct_assign(&b, false);
-    assert_eq!(rt; point.as_bytes(), a.as_bytes());
+    assert_equal(rt, &point.as_bytes(), &a.as_bytes());
     point.ct_assign(&b, true);
-    assert_eq!(rt; point.as_bytes(), b.as_bytes());
+    assert_equal(rt, &point.as_bytes(), &b.as_bytes());
     assert!(rt; point.ct_eq(&b) && !point.ct_eq(&a));
     point.zeroize();
-    assert_eq!(rt; point.as_bytes(), [0].as_slice());
+    assert_equal(rt, &point.as_bytes(), &[0].as_slice());
 }
 
 #[test]
@@ -442,11 +472,11 @@ fn selects_points(rt: HostRuntime) -> Result<(), Fail> {
     );
     let mut assigned = whole;
     assigned.ct_assign(&Point1::identity(), true);
-    assert_eq!(rt; assigned.as_bytes(), [0].as_slice());
+    assert_equal(&rt, &assigned.as_bytes(), &[0].as_slice());
     assert!(rt; assigned.len() == 1 && assigned.ct_eq(&Point1::identity()));
     let mut assigned = Point1::identity();
     assigned.ct_assign(&whole, true);
-    assert_eq!(rt; assigned.as_bytes(), [4, 1, 2].as_slice());
+    assert_equal(&rt, &assigned.as_bytes(), &[4, 1, 2].as_slice());
     Ok(())
 }
 
@@ -459,13 +489,22 @@ fn is_written<const N: usize, const L: usize>(
 ) -> Result<(), Fail> {
     assert!(rt; point == EncodedPoint::<N, L>::from_str(upper)?);
     assert!(rt; point == EncodedPoint::<N, L>::from_str(lower)?);
-    assert_eq!(rt; format!(in alloc; "{point}")?.as_str(), upper);
-    assert_eq!(rt; format!(in alloc; "{point:>200}")?.as_str(), upper);
-    assert_eq!(rt; point.to_upper_hex(alloc)?.as_str(), upper);
-    assert_eq!(rt; point.to_lower_hex(alloc)?.as_str(), lower);
-    assert_eq!(rt; point.to_bytes(alloc)?.as_slice(), point.as_bytes());
+    assert_equal(rt, &format!(in alloc; "{point}")?.as_str(), &upper);
+    assert_equal(rt, &format!(in alloc; "{point:>200}")?.as_str(), &upper);
+    assert_equal(rt, &point.to_upper_hex(alloc)?.as_str(), &upper);
+    assert_equal(rt, &point.to_lower_hex(alloc)?.as_str(), &lower);
+    assert_equal(rt, &point.to_bytes(alloc)?.as_slice(), &point.as_bytes());
+    is_written_as_json(rt, alloc, point, upper)
+}
+
+fn is_written_as_json<const N: usize, const L: usize>(
+    rt: &impl Abort,
+    alloc: Global,
+    point: EncodedPoint<N, L>,
+    upper: &str,
+) -> Result<(), Fail> {
     let json = point.to_json(alloc)?;
-    assert_eq!(rt; json.as_str(), Some(upper));
+    assert_equal(rt, &json.as_str(), &Some(upper));
     assert!(rt; EncodedPoint::<N, L>::from_json(&json)? == point);
     Ok(())
 }
@@ -484,9 +523,10 @@ fn writes_texts(rt: HostRuntime) -> Result<(), Fail> {
             lower,
         )?;
     }
-    assert_eq!(rt;
-        Point1::from_str("070103")?.as_bytes(),
-        [7, 1, 3].as_slice()
+    assert_equal(
+        &rt,
+        &Point1::from_str("070103")?.as_bytes(),
+        &[7, 1, 3].as_slice(),
     );
     Ok(())
 }
@@ -500,13 +540,15 @@ fn refuses_other_texts(rt: HostRuntime) {
             "{text}"
         );
     }
-    assert_eq!(rt;
-        Point1::from_json(&Value::from(2u8)).err(),
-        Some(Error::PointEncoding)
+    assert_equal(
+        &rt,
+        &Point1::from_json(&Value::from(2u8)).err(),
+        &Some(Error::PointEncoding),
     );
-    assert_eq!(rt;
-        Point1::from_json(&Value::from(0.5)).err(),
-        Some(Error::PointEncoding)
+    assert_equal(
+        &rt,
+        &Point1::from_json(&Value::from(0.5)).err(),
+        &Some(Error::PointEncoding),
     );
 }
 
@@ -514,13 +556,15 @@ fn refuses_other_texts(rt: HostRuntime) {
 fn prints_the_coordinates(rt: HostRuntime) -> Result<(), Fail> {
     let alloc = rt.alloc();
     let point = Point1::from_bytes(&[2, 0xAF])?;
-    assert_eq!(rt;
-        format!(in alloc; "{point:?}")?.as_str(),
-        "EncodedPoint(Compressed { x: [175], y_is_odd: false })"
+    assert_equal(
+        &rt,
+        &format!(in alloc; "{point:?}")?.as_str(),
+        &"EncodedPoint(Compressed { x: [175], y_is_odd: false })",
     );
-    assert_eq!(rt;
-        format!(in alloc; "{:?}", EncodedPoint32::identity())?.as_str(),
-        "EncodedPoint(Identity)"
+    assert_equal(
+        &rt,
+        &format!(in alloc; "{:?}", EncodedPoint32::identity())?.as_str(),
+        &"EncodedPoint(Identity)",
     );
     Ok(())
 }

@@ -1,4 +1,5 @@
 //! Keys that are read and bytes that are refused, by examples with known results.
+use crate::assert_equal;
 use der::{ErrorKind, FixedTag, ObjectIdentifier};
 use sec1::{ALGORITHM_OID, EcParameters, EcPrivateKey, Error, Result, der};
 use std::alloc::Global;
@@ -36,7 +37,7 @@ fn refusal(bytes: &[u8]) -> Option<ErrorKind> {
 
 #[test]
 fn has_the_tag_of_a_sequence(rt: HostRuntime) {
-    assert_eq!(rt; EcPrivateKey::TAG.byte(), 0x30);
+    assert_equal(&rt, &EcPrivateKey::TAG.byte(), &0x30);
 }
 
 #[test]
@@ -47,16 +48,16 @@ fn reads_whole_keys(rt: HostRuntime) -> std::result::Result<(), Fail> {
 
     let bytes = whole_key(rt.alloc())?;
     let key = EcPrivateKey::try_from(bytes.as_slice())?;
-    assert_eq!(rt; key.private_key, private_key.as_slice());
+    assert_equal(&rt, &key.private_key, &private_key.as_slice());
     assert!(rt; key.parameters == Some(EcParameters::from(p_256)));
-    assert_eq!(rt; key.public_key, Some(public_key.as_slice()));
+    assert_equal(&rt, &key.public_key, &Some(public_key.as_slice()));
 
     // without parameters, as inside PKCS#8
     let bytes = key_with(rt.alloc(), "306B", "")?;
     let key = EcPrivateKey::try_from(bytes.as_slice())?;
-    assert_eq!(rt; key.private_key, private_key.as_slice());
+    assert_equal(&rt, &key.private_key, &private_key.as_slice());
     assert!(rt; key.parameters.is_none());
-    assert_eq!(rt; key.public_key, Some(public_key.as_slice()));
+    assert_equal(&rt, &key.public_key, &Some(public_key.as_slice()));
     Ok(())
 }
 
@@ -205,7 +206,11 @@ fn refuses_wrong_parts_of_a_key(rt: HostRuntime) -> std::result::Result<(), Fail
         assert_eq!(rt; refusal(part), Some(ErrorKind::Truncated), "{count} bytes");
     }
     bytes.push(0)?;
-    assert_eq!(rt; refusal(bytes.as_slice()), Some(ErrorKind::TrailingData));
+    assert_equal(
+        &rt,
+        &refusal(bytes.as_slice()),
+        &Some(ErrorKind::TrailingData),
+    );
     Ok(())
 }
 
@@ -217,7 +222,11 @@ fn private_key_len(bytes: &[u8]) -> Result<usize> {
 
 #[test]
 fn hands_refusals_on(rt: HostRuntime) -> std::result::Result<(), Fail> {
-    assert_eq!(rt; private_key_len(b"\x30\x06\x02\x01\x01\x04\x01\x07")?, 1);
+    assert_equal(
+        &rt,
+        &private_key_len(b"\x30\x06\x02\x01\x01\x04\x01\x07")?,
+        &1,
+    );
     let refused = private_key_len(b"\x31\x80");
     assert!(rt; refused == Err(Error::from(der::Error::from(ErrorKind::Tag))));
     Ok(())
@@ -245,7 +254,7 @@ static TEXTS: [(Error, &str); 6] = [
 #[test]
 fn prints_errors(rt: HostRuntime) -> std::result::Result<(), Fail> {
     for (error, text) in TEXTS.iter() {
-        assert_eq!(rt; format!(in rt.alloc(); "{error}")?.as_str(), *text);
+        assert_equal(&rt, &format!(in rt.alloc(); "{error}")?.as_str(), &*text);
     }
     let refused_growth = Error::from(der::Error::from(ErrorKind::Memory));
     assert!(rt; refused_growth == Error::Memory);
@@ -285,13 +294,14 @@ static DEBUG_TEXTS: [(&[u8], &str, &str); 5] = [
 fn shows_no_private_key_in_debug_texts(rt: HostRuntime) -> std::result::Result<(), Fail> {
     for &(bytes, text, lines) in DEBUG_TEXTS.iter() {
         let key = EcPrivateKey::try_from(bytes)?;
-        assert_eq!(rt; format!(in rt.alloc(); "{key:?}")?.as_str(), text);
-        assert_eq!(rt; format!(in rt.alloc(); "{key:#?}")?.as_str(), lines);
+        assert_equal(&rt, &format!(in rt.alloc(); "{key:?}")?.as_str(), &text);
+        assert_equal(&rt, &format!(in rt.alloc(); "{key:#?}")?.as_str(), &lines);
     }
     let curve = EcParameters::from(ObjectIdentifier::new("1.2.3")?);
-    assert_eq!(rt;
-        format!(in rt.alloc(); "{curve:?}")?.as_str(),
-        "NamedCurve(ObjectIdentifier(1.2.3))"
+    assert_equal(
+        &rt,
+        &format!(in rt.alloc(); "{curve:?}")?.as_str(),
+        &"NamedCurve(ObjectIdentifier(1.2.3))",
     );
     Ok(())
 }
@@ -301,9 +311,9 @@ fn copies_keys_and_curves(rt: HostRuntime) -> std::result::Result<(), Fail> {
     let bytes = whole_key(rt.alloc())?;
     let key = EcPrivateKey::try_from(bytes.as_slice())?;
     let copy = key.clone()?;
-    assert_eq!(rt; copy.private_key, key.private_key);
+    assert_equal(&rt, &copy.private_key, &key.private_key);
     assert!(rt; copy.parameters == key.parameters);
-    assert_eq!(rt; copy.public_key, key.public_key);
+    assert_equal(&rt, &copy.public_key, &key.public_key);
     let curve = ObjectIdentifier::new("1.3.132.0.34")?;
     assert!(rt; EcParameters::from(curve).named_curve() == Some(curve));
     assert!(rt; ALGORITHM_OID == ObjectIdentifier::new("1.2.840.10045.2.1")?);

@@ -1,6 +1,7 @@
 //! Keys over readers and writers that fail, at each read and each write once.
 use super::reading::whole_key;
 use super::traits::{Copied, asn1};
+use crate::assert_equal;
 use sec1::der::{ErrorKind, Read, StdReader, StdWriter, Write};
 use sec1::{DecodeEcPrivateKey, EncodeEcPrivateKey};
 use std::io;
@@ -75,9 +76,10 @@ fn reports_failed_writes_in_turn(rt: HostRuntime) -> Result<(), Fail> {
             let refused = key.write_sec1_der_to(rt.alloc(), &mut writer);
             assert_eq!(rt; refused.err(), asn1(ErrorKind::Io), "after {room}");
             assert!(rt; writer.has_failed());
-            assert_eq!(rt;
-                Some(writer.into_inner().taken.as_slice()),
-                key.bytes.get(..room)
+            assert_equal(
+                &rt,
+                &Some(writer.into_inner().taken.as_slice()),
+                &key.bytes.get(..room),
             );
         }
     }

@@ -2,6 +2,7 @@
 ghost use Rattle.std.specs.Prelude.{◌≡◌, ⊤};
 
 use super::reading::whole_key;
+use crate::assert_equal;
 use der::{ErrorKind, SecretDocument, StdReader, StdWriter};
 use sec1::{DecodeEcPrivateKey, EncodeEcPrivateKey, Error, Result, der};
 use std::alloc::Global;
@@ -54,19 +55,20 @@ pub fn asn1(kind: ErrorKind) -> Option<Error> {
 fn reads_keys(rt: HostRuntime) -> std::result::Result<(), Fail> {
     let alloc = rt.alloc();
     for &(bytes, is_element) in BYTES.iter() {
-        assert_eq!(rt;
-            Copied::from_sec1_der(alloc, bytes)?.bytes.as_slice(),
-            bytes
+        assert_equal(
+            &rt,
+            &Copied::from_sec1_der(alloc, bytes)?.bytes.as_slice(),
+            &bytes,
         );
         let read = Copied::read_sec1_der_from(alloc, &mut StdReader::new(bytes));
         assert_eq!(rt; read.is_ok(), is_element, "of {bytes:?}");
     }
     let bytes = whole_key(alloc)?;
     let key = Copied::read_sec1_der_from(alloc, &mut StdReader::new(bytes.as_slice()))?;
-    assert_eq!(rt; key.bytes.as_slice(), bytes.as_slice());
+    assert_equal(&rt, &key.bytes.as_slice(), &bytes.as_slice());
 
     let short = Copied::read_sec1_der_from(alloc, &mut StdReader::new(b"\x04\x02\xAA".as_slice()));
-    assert_eq!(rt; short.err(), asn1(ErrorKind::Truncated));
+    assert_equal(&rt, &short.err(), &asn1(ErrorKind::Truncated));
     Ok(())
 }
 
@@ -99,16 +101,17 @@ fn writes_keys(rt: HostRuntime) -> std::result::Result<(), Fail> {
     };
     let mut writer = StdWriter::new(Vec::new(alloc));
     key.write_sec1_der_to(alloc, &mut writer)?;
-    assert_eq!(rt; writer.into_inner().as_slice(), key.bytes.as_slice());
+    assert_equal(&rt, &writer.into_inner().as_slice(), &key.bytes.as_slice());
 
     let mut writer = StdWriter::new(SevenBytes {
         taken: Vec::new(alloc),
     });
     let broken = key.write_sec1_der_to(alloc, &mut writer);
-    assert_eq!(rt; broken.err(), asn1(ErrorKind::Io));
-    assert_eq!(rt;
-        writer.into_inner().taken.as_slice(),
-        b"\x30\x77\x02\x01\x01\x04\x20".as_slice()
+    assert_equal(&rt, &broken.err(), &asn1(ErrorKind::Io));
+    assert_equal(
+        &rt,
+        &writer.into_inner().taken.as_slice(),
+        &b"\x30\x77\x02\x01\x01\x04\x20".as_slice(),
     );
     Ok(())
 }
@@ -119,7 +122,7 @@ fn writes_nothing_of_refused_keys(rt: HostRuntime) -> std::result::Result<(), Fa
     let key = Copied::from_sec1_der(alloc, b"\x04\x02\xAA")?;
     let mut writer = StdWriter::new(Vec::new(alloc));
     let refused = key.write_sec1_der_to(alloc, &mut writer);
-    assert_eq!(rt; refused.err(), asn1(ErrorKind::Truncated));
+    assert_equal(&rt, &refused.err(), &asn1(ErrorKind::Truncated));
     assert!(rt; writer.into_inner().is_empty());
     Ok(())
 }
@@ -134,16 +137,16 @@ fn keeps_keys_in_files(rt: HostRuntime) -> std::result::Result<(), Fail> {
         std::process::id(rt.process())
     )?;
     let missing = Copied::read_sec1_der_file(&rt, alloc, &path);
-    assert_eq!(rt; missing.err(), asn1(ErrorKind::Io));
+    assert_equal(&rt, &missing.err(), &asn1(ErrorKind::Io));
 
     let bytes = whole_key(alloc)?;
     fs::write(&rt, &path, &bytes)?;
     let key = Copied::read_sec1_der_file(&rt, alloc, &path)?;
-    assert_eq!(rt; key.bytes.as_slice(), bytes.as_slice());
+    assert_equal(&rt, &key.bytes.as_slice(), &bytes.as_slice());
     fs::remove_file(&rt, &path)?;
 
     key.write_sec1_der_file(&rt, alloc, &path)?;
-    assert_eq!(rt; Copied::read_sec1_der_file(&rt, alloc, &path)?, key);
+    assert_equal(&rt, &Copied::read_sec1_der_file(&rt, alloc, &path)?, &key);
     fs::remove_file(&rt, &path)?;
     Ok(())
 }

@@ -1,5 +1,6 @@
 //! Keys that are written, by examples with known results.
 use super::reading::whole_key;
+use crate::assert_equal;
 use sec1::der::{self, AnyRef, EncodeValue, ErrorKind, ObjectIdentifier, SliceWriter, Tag};
 use sec1::{EcParameters, EcPrivateKey, Error};
 use std::alloc::Global;
@@ -19,10 +20,10 @@ static EMPTY_KEY: [u8; 7] = [0x30, 0x05, 0x02, 0x01, 0x01, 0x04, 0x00];
 fn writes_all_parts(rt: HostRuntime) -> Result<(), Fail> {
     let whole = p256_key(rt.alloc())?;
     let key = EcPrivateKey::try_from(whole.as_slice())?;
-    assert_eq!(rt; key.encoded_len()?, 121);
-    assert_eq!(rt; key.to_der(rt.alloc())?.as_slice(), whole.as_slice());
+    assert_equal(&rt, &key.encoded_len()?, &121);
+    assert_equal(&rt, &key.to_der(rt.alloc())?.as_slice(), &whole.as_slice());
     let mut room = [0xAA; 130];
-    assert_eq!(rt; key.encode_to_slice(&mut room)?, 121);
+    assert_equal(&rt, &key.encode_to_slice(&mut room)?, &121);
     assert!(rt; room.starts_with(&whole));
     assert!(rt; room.ends_with(&[0xAA; 9]));
     Ok(())
@@ -31,11 +32,16 @@ fn writes_all_parts(rt: HostRuntime) -> Result<(), Fail> {
 #[test]
 fn holds_the_encoding_in_documents(rt: HostRuntime) -> Result<(), Fail> {
     let key = EcPrivateKey::try_from(EMPTY_KEY.as_slice())?;
-    assert_eq!(rt;
-        key.document_ref(rt.alloc())?.as_bytes(),
-        EMPTY_KEY.as_slice()
+    assert_equal(
+        &rt,
+        &key.document_ref(rt.alloc())?.as_bytes(),
+        &EMPTY_KEY.as_slice(),
     );
-    assert_eq!(rt; key.document(rt.alloc())?.as_bytes(), EMPTY_KEY.as_slice());
+    assert_equal(
+        &rt,
+        &key.document(rt.alloc())?.as_bytes(),
+        &EMPTY_KEY.as_slice(),
+    );
     Ok(())
 }
 
@@ -58,7 +64,7 @@ fn writes_the_long_form(rt: HostRuntime) -> Result<(), Fail> {
             public_key: None,
         };
         let mut room = [0xAA; 140];
-        assert_eq!(rt; key.encode_to_slice(&mut room)?, wanted.len());
+        assert_equal(&rt, &key.encode_to_slice(&mut room)?, &wanted.len());
         assert!(rt; room.starts_with(&wanted), "{count}");
     }
     Ok(())
@@ -71,9 +77,9 @@ fn writes_the_content(rt: HostRuntime) -> Result<(), Fail> {
     let mut room = [0xAA; 121];
     let mut writer = SliceWriter::new(&mut room);
     key.encode_value(&mut writer)?;
-    assert_eq!(rt; writer.written(), 119);
-    assert_eq!(rt; &room[..119], &whole[2..]);
-    assert_eq!(rt; &room[119..], [0xAA, 0xAA].as_slice());
+    assert_equal(&rt, &writer.written(), &119);
+    assert_equal(&rt, &room.get(..119), &whole.get(2..));
+    assert_equal(&rt, &room.get(119..), &Some([0xAA, 0xAA].as_slice()));
     Ok(())
 }
 
@@ -81,16 +87,18 @@ fn writes_the_content(rt: HostRuntime) -> Result<(), Fail> {
 fn lends_the_identifier_of_parameters(rt: HostRuntime) -> Result<(), Fail> {
     let parameters = EcParameters::from(ObjectIdentifier::new("1.2.840.10045.3.1.7")?);
     let any = AnyRef::from(&parameters);
-    assert_eq!(rt; any.tag(), Tag::OBJECT_IDENTIFIER);
-    assert_eq!(rt;
-        any.value(),
-        [0x2A, 0x86, 0x48, 0xCE, 0x3D, 0x03, 0x01, 0x07].as_slice()
+    assert_equal(&rt, &any.tag(), &Tag::OBJECT_IDENTIFIER);
+    assert_equal(
+        &rt,
+        &any.value(),
+        &[0x2A, 0x86, 0x48, 0xCE, 0x3D, 0x03, 0x01, 0x07].as_slice(),
     );
     let mut room = [0; 10];
-    assert_eq!(rt; der::encode_to_slice(&parameters, &mut room)?, 10);
-    assert_eq!(rt;
-        room,
-        [0x06, 0x08, 0x2A, 0x86, 0x48, 0xCE, 0x3D, 0x03, 0x01, 0x07]
+    assert_equal(&rt, &der::encode_to_slice(&parameters, &mut room)?, &10);
+    assert_equal(
+        &rt,
+        &room,
+        &[0x06, 0x08, 0x2A, 0x86, 0x48, 0xCE, 0x3D, 0x03, 0x01, 0x07],
     );
     Ok(())
 }
@@ -132,8 +140,8 @@ fn writes_what_is_read(rt: HostRuntime) -> Result<(), Fail> {
             match EcPrivateKey::try_from(changed.as_slice()) {
                 Ok(key) => {
                     let mut room = [0; 121];
-                    assert_eq!(rt; key.encode_to_slice(&mut room)?, 121);
-                    assert_eq!(rt; room, changed);
+                    assert_equal(&rt, &key.encode_to_slice(&mut room)?, &121);
+                    assert_equal(&rt, &room, &changed);
                     accepted = accepted.saturating_add(1);
                 }
                 Err(error) => {
@@ -148,7 +156,7 @@ fn writes_what_is_read(rt: HostRuntime) -> Result<(), Fail> {
         assert_eq!(rt; accepted, accepted_at(place), "at {place}");
         all = all.saturating_add(accepted);
     }
-    assert_eq!(rt; all, 26_644);
+    assert_equal(&rt, &all, &26_644);
     for (count, (kind, wanted)) in refused.iter().zip(REFUSALS.iter()) {
         assert_eq!(rt; count, wanted, "{kind:?}");
     }

@@ -1,5 +1,5 @@
 //! Large inputs, read in uneven pieces, and the flush of what was written.
-use super::{EMPTY_KEY, EMPTY_KEY_REPORT};
+use super::{EMPTY_KEY, EMPTY_KEY_REPORT, assert_equal};
 use crate::report::LIMIT;
 use crate::{Fault, Form, inspect, run, run_der};
 use hex::ToHex;
@@ -132,10 +132,18 @@ fn flushes_what_was_written(rt: HostRuntime) -> Result<(), Fail> {
     let alloc = rt.alloc();
     let der = hex::decode(alloc, EMPTY_KEY)?;
     for (form, input) in [(Form::Text, EMPTY_KEY), (Form::Der, der.as_slice())] {
-        assert_eq!(rt; inspect(alloc, form, input, Unflushed), Err(Fault::Output));
+        assert_equal(
+            &rt,
+            &inspect(alloc, form, input, Unflushed),
+            &Err(Fault::Output),
+        );
         let mut room = [0u8; 67];
-        assert_eq!(rt; inspect(alloc, form, input, room.as_mut_slice()), Ok(0));
-        assert_eq!(rt; room.as_slice(), EMPTY_KEY_REPORT);
+        assert_equal(
+            &rt,
+            &inspect(alloc, form, input, room.as_mut_slice()),
+            &Ok(0),
+        );
+        assert_equal(&rt, &room.as_slice(), &EMPTY_KEY_REPORT);
     }
     Ok(())
 }
