@@ -1,4 +1,4 @@
-//! Finds the library, and has it linked. The README says in which order places are tried.
+//! Finds the library and links it. The README says in which order places are tried.
 
 use std::path::{Path, PathBuf};
 use std::process::Command;

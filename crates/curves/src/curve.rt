@@ -173,8 +173,7 @@ impl Curve {
         }
     }
 
-    /// Returns the curve with this content of its OBJECT IDENTIFIER; None if there is no such curve
-    /// in the table.
+    /// Returns the curve with this content of its OBJECT IDENTIFIER; `None` if the table has none.
     #[tactic(auto, using(crate::proofs::CurveLemmas::one_content))]
     pub fn from_content(content: &[u8]) -> Option<Curve>
         ensures found { IfSome result (λ curve. curve_content curve ≡ content.now) }
@@ -190,7 +189,7 @@ impl Curve {
             .find(|curve| curve.content() == content)
     }
 
-    /// Returns the curve with this identifier; None if there is no such curve in the table.
+    /// Returns the curve with this identifier; `None` if the table has none.
     pub fn from_identifier(identifier: &ObjectIdentifier) -> Option<Curve>
         ensures found { IfSome result (λ curve. curve_arcs curve ≡ identifier.now) }
         ensures only { (curve : Curve) → curve_arcs curve ≡ identifier.now → result ≡ Some curve }
@@ -199,7 +198,7 @@ impl Curve {
         Curve::from_content(identifier.as_bytes())
     }
 
-    /// Returns the curve's name in SEC 2, as secp256r1; of a curve that isn't in SEC 2, the name in
+    /// Returns the curve's name in SEC 2, such as secp256r1, or if it isn't in SEC 2, its name in
     /// ANSI X9.62 or RFC 5639.
     pub const fn name(self) -> &'static str
         ensures { result.now ≡ curve_name self }
@@ -242,7 +241,7 @@ impl Curve {
         }
     }
 
-    /// Returns the curve's name in FIPS 186-4 appendix D.1.2, as P-256; None if it has none.
+    /// Returns the curve's name in FIPS 186-4 appendix D.1.2, such as P-256; `None` if it has none.
     pub const fn alias(self) -> Option<&'static str>
         ensures { option_map (λ text. text.now) result ≡ curve_alias self }
     {
@@ -256,8 +255,8 @@ impl Curve {
         }
     }
 
-    /// Returns the curve's name in ANSI X9.62 (RFC 3279 section 2.3.5), as prime256v1; None if it
-    /// has none.
+    /// Returns the curve's name in ANSI X9.62 (RFC 3279 section 2.3.5), such as prime256v1; `None`
+    /// if it has none.
     pub const fn x962_name(self) -> Option<&'static str>
         ensures { option_map (λ text. text.now) result ≡ x962_name self }
     {
@@ -281,8 +280,8 @@ impl Curve {
         self.name() == text || self.alias() == Some(text) || self.x962_name() == Some(text)
     }
 
-    /// Returns the curve with this name, as [`has_name`](Self::has_name) tests it; None if there is
-    /// no such curve in the table.
+    /// Returns the curve with this name, as [`has_name`](Self::has_name) tests it; `None` if the
+    /// table has none.
     ///
     /// # Examples
     ///

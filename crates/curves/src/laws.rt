@@ -6,13 +6,13 @@ ghost use Rattle.curves.specs.declared.curve.Curve.{Curve};
 
 use crate::Curve;
 
-/// [`Curve::ALL`] has each curve.
+/// [`Curve::ALL`] has every curve.
 #[tactic(auto, using(crate::proofs::CurveLemmas::all_curves))]
 pub fn all_curves()
     ensures { (curve : Curve) → Contains Curve.ALL curve }
 {}
 
-/// No two curves have one identifier.
+/// No two curves have the same identifier.
 #[tactic(auto, using(crate::proofs::CurveLemmas::one_identifier))]
 pub fn one_identifier()
     ensures arcs { (a b : Curve) → curve_arcs a ≡ curve_arcs b → a ≡ b }

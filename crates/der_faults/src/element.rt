@@ -11,7 +11,7 @@ use sec1_der::{AnyRef, DecodeValue, ErrorKind, SliceReader, Tag, Tagged};
 /// The result of a step, or the place at which the bytes are refused.
 pub(crate) type Step<T> = std::result::Result<T, Fault>;
 
-/// An element, and the bytes behind it.
+/// An element, and the bytes after it.
 #[derive(Drop)]
 pub(crate) struct Element<'a> {
     // A value that holds both a reference and a type with a `Model` can't be passed by `?`.
@@ -19,7 +19,7 @@ pub(crate) struct Element<'a> {
     pub tag: u8,
     /// The content.
     pub content: &'a [u8],
-    /// The bytes behind the element.
+    /// The bytes after the element.
     pub behind: &'a [u8],
 }
 
@@ -38,7 +38,7 @@ pub(crate) fn before(end: usize, left: &[u8], kind: ErrorKind) -> Fault
 ///
 /// # Errors
 ///
-/// Truncated, Tag or Length where the bytes begin with no element.
+/// Truncated, Tag or Length if the bytes begin with no element.
 #[tactic(auto, using(crate::proofs::PlaceLemmas::placed))]
 pub(crate) fn any_element(end: usize, bytes: &[u8]) -> Step<Element<'_>>
     requires { length bytes.now ≤ end }
@@ -74,7 +74,7 @@ pub(crate) fn any_element(end: usize, bytes: &[u8]) -> Step<Element<'_>>
 ///
 /// # Errors
 ///
-/// Truncated, Tag or Length where the bytes begin with no such element.
+/// Truncated, Tag or Length if the bytes begin with no such element.
 pub(crate) fn tagged_element(tag: Tag, end: usize, bytes: &[u8]) -> Step<Element<'_>>
     requires { length bytes.now ≤ end }
     ensures found { IfOk result (λ x. (content behind : Place)
@@ -98,7 +98,7 @@ pub(crate) fn tagged_element(tag: Tag, end: usize, bytes: &[u8]) -> Step<Element
 }
 
 /// Reads the element of a value of T at the beginning of the bytes, which end at this offset.
-/// Returns the bytes behind it.
+/// Returns the bytes after it.
 ///
 /// # Errors
 ///

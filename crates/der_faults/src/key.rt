@@ -11,12 +11,12 @@ use crate::Fault;
 use crate::element::{Step, finish, tagged_element, value};
 use sec1_der::{BitStringRef, IdentifierRef, Octets, SmallInteger, Tag, WholeBits};
 
-/// Returns the first fault from left to right of bytes that aren't a key's, and `None` for a key's.
+/// Returns the first fault of the bytes as a key's, from left to right; `None` if they are a key's.
 #[tactic(auto, using(crate::proofs::KindLemmas::key_kind))]
 pub fn key_fault(bytes: &[u8]) -> Option<Fault>
     // Where the fault lies is a function of the bytes.
     ensures place { result ≡ key_place bytes.now }
-    // There is one exactly where the bytes are refused as a key's, and it is of the same kind.
+    // There is one exactly when the bytes are refused as a key's, and it has the same kind.
     ensures kind { option_map (λ fault. fault.kind) result ≡ faults.key_fault bytes.now }
     ensures within { IfSome result (λ fault. fault.offset ≤ length bytes.now) }
 {
@@ -47,7 +47,7 @@ fn components(end: usize, bytes: &[u8]) -> Step<()>
     finish(end, rest)
 }
 
-/// Checks the parameters, if present, and returns the bytes behind them.
+/// Checks the parameters, if present, and returns the bytes after them.
 pub(crate) fn parameters(end: usize, bytes: &[u8]) -> Step<&[u8]>
     requires { length bytes.now ≤ end }
     ensures place { MatchResult result
@@ -69,7 +69,7 @@ pub(crate) fn parameters(end: usize, bytes: &[u8]) -> Step<&[u8]>
     Ok(field.behind)
 }
 
-/// Checks the public key, if present, and returns the bytes behind it.
+/// Checks the public key, if present, and returns the bytes after it.
 pub(crate) fn public_key(end: usize, bytes: &[u8]) -> Step<&[u8]>
     requires { length bytes.now ≤ end }
     ensures place { MatchResult result

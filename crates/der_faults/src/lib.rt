@@ -1,5 +1,5 @@
-//! The place of a refusal: at which offset the first fault of a key's bytes lies, or of a tree's,
-//! and of which kind it is. No call allocates.
+//! Where bytes are refused as a key's or as a tree's: the offset and the kind of the first fault.
+//! No call allocates.
 #![tactic(auto)]
 
 mod element;
@@ -12,7 +12,7 @@ pub use part::{KeyPart, key_part};
 use sec1_der::ErrorKind;
 pub use tree::tree_fault;
 
-/// A fault of some bytes, and where it lies.
+/// Why bytes are refused, and where.
 #[derive(Clone, Copy, Debug, PartialEq, Eq)]
 pub struct Fault {
     /// The number of bytes before it.

@@ -25,8 +25,8 @@ pub enum KeyPart {
     End,
 }
 
-/// Returns the part of a key at which bytes are refused as one's: the first that they don't have;
-/// `None` for a key's.
+/// Returns the first part of a key that the bytes don't have, at which they are refused; `None` for
+/// a key's.
 pub fn key_part(bytes: &[u8]) -> Option<KeyPart>
     ensures { result ≡ key_part bytes.now }
 {
@@ -43,7 +43,7 @@ pub fn key_part(bytes: &[u8]) -> Option<KeyPart>
     }
 }
 
-/// Returns the first field of a key that components don't have; `None` if they have all.
+/// Returns the first field of a key that the components don't have; `None` if they have all.
 fn field_part(end: usize, bytes: &[u8]) -> Option<KeyPart>
     requires { length bytes.now ≤ end }
     ensures { result ≡ first_refused fields end bytes.now }

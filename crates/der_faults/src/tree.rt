@@ -8,13 +8,13 @@ use crate::Fault;
 use crate::element::{Step, any_element, before, finish};
 use sec1_der::{ErrorKind, MAX_DEPTH};
 
-/// Returns the first fault from left to right of bytes that aren't those of one tree with at most
-/// 64 levels, and `None` for those of one.
+/// Returns the first fault of the bytes as those of one tree with at most 64 levels, from left to
+/// right; `None` if they are.
 #[tactic(auto, using(crate::proofs::KindLemmas::tree_kind))]
 pub fn tree_fault(bytes: &[u8]) -> Option<Fault>
     // Where the fault lies is a function of the bytes.
     ensures place { result ≡ tree_place bytes.now }
-    // There is one exactly where `check_tree` refuses the bytes, and it is of the same kind.
+    // There is one exactly when `check_tree` refuses the bytes, and it has the same kind.
     ensures kind { option_map (λ fault. fault.kind) result ≡ faults.tree_fault bytes.now }
     ensures within { IfSome result (λ fault. fault.offset ≤ length bytes.now) }
 {

@@ -5,7 +5,7 @@ ghost use Rattle.der_rows.specs.Rows.{parsed, is_constructed};
 
 use sec1_der::{AnyRef, SliceReader};
 
-/// An element, and the bytes behind it.
+/// An element, and the bytes after it.
 #[derive(Clone, Copy)]
 pub(crate) struct Element<'a> {
     /// The tag byte.
@@ -14,7 +14,7 @@ pub(crate) struct Element<'a> {
     pub header: &'a [u8],
     /// The content.
     pub content: &'a [u8],
-    /// The bytes behind the element.
+    /// The bytes after the element.
     pub behind: &'a [u8],
 }
 

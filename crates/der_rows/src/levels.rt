@@ -54,7 +54,7 @@ impl<'a> Levels<'a> {
         self.table[self.count - 1]
     }
 
-    /// Has these bytes left of the innermost level.
+    /// Sets what is left of the innermost level.
     #[tactic(auto, using(crate::proofs::LevelLemmas::level_left))]
     pub(crate) fn leave(&mut self, behind: &'a [u8])
         requires { self.old ≢ [] }

@@ -8,8 +8,8 @@ use crate::levels::Levels;
 use sec1_der::MAX_DEPTH;
 use std::marker::Model;
 
-/// One row of the picture of some elements: the header of an element, and its content if that isn't
-/// elements again.
+/// One row of a picture of elements: the header of an element, and its content unless that is
+/// elements.
 #[derive(Clone, Copy, Debug)]
 pub struct Row<'a> {
     /// The number of bytes before the element.
@@ -64,13 +64,13 @@ impl<'a> Rows<'a> {
         Rows { offset: 0, levels }
     }
 
-    /// Returns the next row. `None` if no bytes are left, if no element is next in the innermost
-    /// element that is open, or if more than 64 elements would be nested; nothing changes then.
+    /// Returns the next row; `None`, changing nothing, if no bytes are left, if no element is next
+    /// in the innermost open element, or if more than 64 elements would be nested.
     pub fn next_row(&mut self) -> Option<Row<'a>>
         ensures next { MatchOption result
             ((next self.old ≡ None) × (self.new ≡ self.old))
             (λ row. next self.old ≡ Some (row_view row, self.new)) }
-        // The bytes of the row, and then those that have none, are those that had none.
+        // The bytes of the row, and then those that still have none, are those that had none.
         ensures bytes { IfSome result (λ row.
             left self.old ≡ row.header.now ++ (row.content.now ++ left self.new)) }
         ensures header { IfSome result (λ row. 0 < length row.header.now) }

@@ -40,8 +40,8 @@ impl<'a> Any<'a> {
     ///
     /// # Errors
     ///
-    /// Truncated, Tag or Length if the bytes don't begin with an element; TrailingData if they go
-    /// on after it.
+    /// Truncated, Tag or Length if the bytes don't begin with an element; TrailingData if bytes
+    /// follow it.
     pub fn new(bytes: &'a [u8]) -> Result<Any<'a>>
         ensures found { IfOk result (λ any. (any ≡ bytes.now) × IsElement bytes.now) }
         ensures only { IsElement bytes.now → result ≡ Ok bytes.now }

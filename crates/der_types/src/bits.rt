@@ -1,4 +1,4 @@
-//! BIT STRING with unused bits.
+//! BIT STRING that may have unused bits.
 ghost use Rattle.std.specs.Prelude.{◌≡◌, ◌∷◌, ◌<◌, ◌≤◌, ◌↔◌, ℕ, List, length, true, Some};
 ghost use Rattle.std.specs.Prelude.{IsOk, IfOk, IfErr, IsSome, IfSome};
 ghost use Rattle.sec1_der.specs.Contents.{AreBits, is_bit_string, bit_string_fault};
@@ -35,8 +35,8 @@ impl<'a> Bits<'a> {
     ///
     /// # Errors
     ///
-    /// Overlength if there are more than 268,435,454 bytes; then Value if `unused` is above 7, or
-    /// isn't 0 without bytes, or if an unused bit is set (X.690 section 11.2.1).
+    /// Overlength if there are more than 268,435,454 bytes; then Value if `unused` is above 7, if
+    /// it isn't 0 and there are no bytes, or if an unused bit is set (X.690 section 11.2.1).
     pub fn new(unused: u8, bytes: &'a [u8]) -> Result<Self>
         ensures within { IsOk result
             ↔ ((length bytes.now < max_length) × AreBits unused bytes.now) }
@@ -64,7 +64,7 @@ impl<'a> Bits<'a> {
         self.bits.raw_bytes()
     }
 
-    /// Borrows the bytes, if there are no unused bits.
+    /// Borrows the bytes; `None` if there are unused bits.
     pub fn as_bytes(&self) -> Option<&'a [u8]>
         ensures within { IsSome result ↔ (self.now.unused ≡ 0) }
         ensures bytes { IfSome result (λ bytes. bytes.now ≡ self.now.bytes) }

@@ -18,7 +18,7 @@ pub trait Alternative: Part {
     fn may_begin(byte: u8) -> bool
         ensures { result ≡ is_among byte Self.tags.firsts };
 
-    /// The part has some bytes.
+    /// The part is never empty.
     ghost never_empty: { Self.tags.may_be_empty ≡ false };
 }
 
@@ -43,10 +43,9 @@ pub(crate) fn is_absent<P: Alternative>(reader: &SliceReader) -> bool
 }
 
 /// A CHOICE of two parts: `P` if the next byte is one that `P` may begin with, otherwise `Q`. A
-/// CHOICE of more is nested, as `Choice<P, Choice<Q, R>>`.
+/// CHOICE of more is nested: `Choice<P, Choice<Q, R>>`.
 ///
-/// Its tags aren't apart if a part of each may begin with the same byte, so that no
-/// [`Record`](sec1_der::Record) can have it.
+/// If both may begin with the same byte, no [`Record`](sec1_der::Record) can have it.
 #[derive(Clone, Copy, PartialEq, Eq, Drop)]
 pub enum Choice<P, Q> {
     /// The first part.

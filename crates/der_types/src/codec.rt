@@ -1,4 +1,4 @@
-//! A part that is read alone.
+//! A part that isn't in a record.
 ghost use Rattle.std.specs.Prelude.{◌≡◌, ◌≤◌, List, ℕ, length, Some, true, IfOk, IfErr};
 ghost use Rattle.sec1_der.specs.Elements.{max_length};
 ghost use Rattle.sec1_der.specs.ErrorKinds.{IsReadingFault};
@@ -6,7 +6,7 @@ ghost use Rattle.sec1_der.specs.Faults.{HasFault, end_fault};
 
 use sec1_der::{DecodePart, Result, SliceReader, UniquePart};
 
-/// Reads a part from its whole DER encoding, such as a CHOICE that stands in no record.
+/// Reads a part from its whole DER encoding, such as a CHOICE that isn't in a record.
 ///
 /// # Errors
 ///

@@ -14,8 +14,8 @@ use sec1_der::{
 use std::fmt;
 use std::marker::Model;
 
-/// A type with a default value. Your own type that wraps another gives it the default of a
-/// component.
+/// A type with a default value. To give a type another default in a component, wrap it in a type of
+/// your own.
 pub trait HasDefault: UniqueContent + Sized {
     /// The default value.
     ghost default: { Self };
@@ -31,14 +31,14 @@ pub trait HasDefault: UniqueContent + Sized {
     fn is_default(&self) -> bool
         ensures { IsTrue result ↔ (self.now ≡ default) };
 
-    /// The default value has its content.
+    /// The content is that of the default value.
     ghost has_content: { Self.content default ≡ Some default_content };
 }
 
 /// A component with a default value, `A DEFAULT v`: absent if the value is the default, otherwise
 /// the element of the value. A contract sees the value.
 ///
-/// An element of the default value is refused as Value after it was read.
+/// An element with the default value is refused as Value, after it has been read.
 #[derive(Clone, Copy, PartialEq, Eq, Drop)]
 pub struct Defaulted<A>(pub A);
 

@@ -7,9 +7,9 @@ use sec1_der::{
 };
 use std::marker::{Model, PhantomData};
 
-/// A value with the tag of `K` in the place of its own: `[0] IMPLICIT A` is
-/// `Implicit<Primitive0, A>`, or `Implicit<Context0, A>` if the content of `A` consists of
-/// elements. A contract sees the value.
+/// A value with the tag of `K` instead of its own: `[0] IMPLICIT A` is `Implicit<Primitive0, A>`,
+/// or `Implicit<Context0, A>` if the content of `A` consists of elements. A contract sees the
+/// value.
 #[derive(Drop)]
 pub struct Implicit<K, A> {
     /// The value.

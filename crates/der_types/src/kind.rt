@@ -1,4 +1,4 @@
-//! The kinds of [`Leaf`](crate::Leaf): a tag and a test of contents each.
+//! The kinds of [`Leaf`](crate::Leaf), each a tag and a test of contents.
 ghost use Rattle.std.specs.Prelude.{◌≡◌, ◌==◌, ◌%◌, ℕ, List, Bool, true, length};
 ghost use Rattle.std.specs.Str.{is_utf8};
 ghost use Rattle.der_types.specs.Integers.{is_integer};
@@ -12,8 +12,9 @@ use crate::string::{is_ia5, is_numeric_string, is_printable, is_utf8, is_visible
 use crate::time::{is_generalized_time, is_utc_time};
 use sec1_der::{Tag, Tagged};
 
-/// A type of values that are known by their contents: which bytes are one. It is [`Tagged`] too.
-// `Tagged` isn't a supertrait: the bound of a struct must be met by one impl alone, and each
+/// A kind of values that are given by their contents: which bytes are a content. It is [`Tagged`]
+/// too.
+// `Tagged` isn't a supertrait: the bound of a struct must be met by only one impl, and each
 // `Record` is `Tagged`.
 pub trait Kind {
     /// The test of contents.

@@ -40,7 +40,7 @@ pub fn signed_integers()
         → signed_number xs ≡ signed_number ys → xs ≡ ys }
 {}
 
-/// The contents of numbers where these take one byte more.
+/// The contents of numbers where one more byte is needed.
 pub fn example_integers()
     ensures zero { signed_content (pos 0) ≡ 0x00 ∷ [] }
     ensures greatest_of_one { signed_content (pos 127) ≡ 0x7F ∷ [] }
@@ -71,8 +71,8 @@ pub fn object_identifiers()
         → AreArcsOfAnySize (arcs_of bytes) × (content_of (arcs_of bytes) ≡ bytes) }
 {}
 
-/// The content of a NumericString is that of a PrintableString too; and so on to a VisibleString,
-/// an IA5String and a UTF8String (X.680 section 41).
+/// A content of a NumericString is one of a PrintableString too, and so on to VisibleString,
+/// IA5String and UTF8String (X.680 section 41).
 #[tactic(auto, using(crate::proofs::StringLaws::string_laws))]
 pub fn strings()
     ensures printable { (bytes : List ℕ) → is_numeric_string bytes ≡ true

@@ -1,4 +1,4 @@
-//! The bytes that were read.
+//! Borrowing the bytes that were read.
 ghost use Rattle.std.specs.Prelude.{◌≡◌, ◌≤◌, ◌++◌, ℕ, List, length};
 
 use sec1_der::SliceReader;

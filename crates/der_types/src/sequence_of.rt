@@ -18,7 +18,7 @@ use std::marker::{Model, PhantomData};
 ///
 /// Those of [`SliceReader::decode`] for the first element that is refused.
 pub fn check_elements<'a, T: DecodeValue<'a> + Tagged + Drop>(bytes: &'a [u8]) -> Result<()>
-    // It succeeds for the elements of a list of values, and only for these.
+    // It succeeds if and only if the bytes are the elements of a list of values.
     ensures found { OnOk result
         ((values : List T) × (joined T.tag_byte T.content values ≡ Some bytes.now)) }
     ensures only { (values : List T) → joined T.tag_byte T.content values ≡ Some bytes.now
@@ -33,8 +33,8 @@ pub fn check_elements<'a, T: DecodeValue<'a> + Tagged + Drop>(bytes: &'a [u8]) -
     Ok(())
 }
 
-/// The elements of values of `T`, one after another, which are borrowed unread after they were
-/// checked. A contract sees their bytes.
+/// The elements of values of `T`, one after another, which have been checked and are borrowed as
+/// bytes. A contract sees these.
 #[derive(Drop)]
 pub struct SequenceOf<'a, T> {
     bytes: &'a [u8],
@@ -57,7 +57,7 @@ impl<'a, T> SequenceOf<'a, T> {
     where
         T: DecodeValue<'a> + Tagged + Drop,
         ensures found { IfOk result (λ elements. elements ≡ bytes.now) }
-        // It succeeds for the elements of a list of values, and only for these.
+        // It succeeds if and only if the bytes are the elements of a list of values.
         ensures values { OnOk result
             ((values : List T) × (joined T.tag_byte T.content values ≡ Some bytes.now)) }
         ensures only { (values : List T) → joined T.tag_byte T.content values ≡ Some bytes.now
@@ -135,8 +135,8 @@ impl<'a, T> Elements<'a, T> {
         ensures end { IfNone result ((self.old ≡ []) × (self.new ≡ [])) }
         ensures checked { row_fault T.tag_byte T.fault self.new ≡ None }
         ensures shorter { IsSome result → length self.new < length self.old }
-        // The same of the elements of a list of values: what is returned stands before those that
-        // are left, and is the first of them.
+        // The same for a list of values: what is returned comes before those that are left, and is
+        // the first of the list.
         ensures values { IfSome result (λ value. (values : List T)
             → joined T.tag_byte T.content values ≡ Some self.new
             → joined T.tag_byte T.content (value ∷ values) ≡ Some self.old) }

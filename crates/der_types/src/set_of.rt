@@ -35,8 +35,8 @@ pub(crate) fn is_ascending(bytes: &[u8]) -> bool
     true
 }
 
-/// The elements of values of `T` in ascending order, one after another, which are borrowed unread
-/// after they were checked. A contract sees their bytes.
+/// The elements of values of `T` in ascending order, one after another, which have been checked and
+/// are borrowed as bytes. A contract sees these.
 #[derive(Drop)]
 pub struct SetOf<'a, T> {
     bytes: &'a [u8],
@@ -60,8 +60,8 @@ impl<'a, T> SetOf<'a, T> {
     where
         T: DecodeValue<'a> + Tagged + Drop,
         ensures found { IfOk result (λ elements. elements ≡ bytes.now) }
-        // It succeeds for the elements of a list of values that are in ascending order, and only
-        // for these.
+        // It succeeds if and only if the bytes are the elements of a list of values, in ascending
+        // order.
         ensures values { OnOk result
             ((values : List T) × (joined T.tag_byte T.content values ≡ Some bytes.now)) }
         ensures ascending { OnOk result (is_ascending bytes.now ≡ true) }

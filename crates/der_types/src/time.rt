@@ -1,4 +1,4 @@
-//! UTCTime and GeneralizedTime: the tests of their contents, and the times that these are.
+//! UTCTime and GeneralizedTime: the tests of their contents, and the times that these encode.
 ghost use Rattle.std.specs.Prelude.{◌≡◌, ◌+◌, ◌<◌, true, length};
 ghost use Rattle.std.specs.Char.{is_ascii_digit};
 ghost use Rattle.std.specs.List.{AllPass, list_all};
@@ -36,8 +36,8 @@ pub struct DateTime {
 }
 
 impl DateTime {
-    /// Returns `true` if there is this day in the Gregorian calendar, and this hour, minute and
-    /// second in a day.
+    /// Returns `true` if the Gregorian calendar has this day, and a day this hour, minute and
+    /// second.
     pub fn is_valid(&self) -> bool
         ensures { result ≡ is_date_time self.now }
     {

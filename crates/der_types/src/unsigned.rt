@@ -1,4 +1,4 @@
-//! INTEGER that is not negative, as a number.
+//! INTEGER that isn't negative, as a number.
 ghost use Rattle.std.specs.Prelude.{◌≡◌, ◌<◌, ◌^◌, ◌↔◌, ℕ, List, true, false, Some, IfOk};
 ghost use Rattle.std.specs.Prelude.{IsSome, IfSome, MatchOption};
 ghost use Rattle.std.specs.Int.Digits.{digits_of};

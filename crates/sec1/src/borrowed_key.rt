@@ -1,4 +1,4 @@
-//! EC private keys as they are read.
+//! EC private keys that borrow all of their parts.
 ghost use Rattle.std.specs.Prelude.{refl};
 ghost use Rattle.std.specs.Option.{option_map};
 ghost use Rattle.sec1.specs.Keys.{Key};
@@ -18,9 +18,9 @@ pub(crate) type KeyParts<'a, I> = (
     ),
 );
 
-/// An EC private key that borrows the curve's identifier too. It is what is read and written: the
-/// identifier of an `EcPrivateKey` has bytes of its own, which would be moved from each part of the
-/// record to the next. A contract sees the three parts of the key.
+/// An EC private key that borrows the curve's identifier too. Keys are read and written as this
+/// type: the identifier of an `EcPrivateKey` owns its bytes, which would be moved from each part of
+/// the record to the next. A contract sees the three parts of the key.
 #[derive(Drop)]
 pub(crate) struct BorrowedKey<'a> {
     /// The bytes of the private key.

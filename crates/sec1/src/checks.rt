@@ -1,4 +1,5 @@
-//! What a constant is. Nothing calls the function: its contract refuses another constant.
+//! States the value of a constant. Nothing calls the function: its contract refuses any other
+//! value.
 ghost use Rattle.std.specs.Prelude.{◌≡◌};
 
 use crate::EcParameters;

@@ -1,5 +1,4 @@
-//! Reading a value into a place that is there already: a refusal moves no value, and a success
-//! moves one less.
+//! Reads a value into an existing place: a refusal moves no value, and a success moves one less.
 ghost use Rattle.std.specs.Prelude.{◌≡◌, ◌≤◌, ℕ, List, length, Some, IsOk, IfErr, OnOk};
 ghost use Rattle.sec1_der.specs.ErrorKinds.{Refuses, IsReadingFault};
 ghost use Rattle.sec1_der.specs.Elements.{max_length, element, element_of, IsProperPrefix};
@@ -7,9 +6,9 @@ ghost use Rattle.sec1_der.specs.Faults.{HasFault, element_fault, end_fault};
 
 use sec1_der::{ErrorKind, Result, SliceReader, Tagged, ValueContent};
 
-/// A value that is read in its place.
+/// A value that is read into an existing place.
 pub(crate) trait ReadInPlace<'a>: ValueContent {
-    /// Whether the place is as it is before anything is read in it.
+    /// Whether nothing has been read into the place yet.
     ghost is_empty: { Self → Type 0 };
 
     /// Reads a value from its content into an empty place.

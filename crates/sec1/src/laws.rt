@@ -14,7 +14,7 @@ use crate::der::{UniqueContent, ValueContent, laws};
 pub use crate::private_key::tree_is_element;
 use crate::{EcParameters, EcPrivateKey, EncodedPoint};
 
-/// Two parameters with one content name the same curve.
+/// Two parameters with the same content name the same curve.
 pub fn one_curve()
     ensures { (a b : EcParameters) (bytes : List ℕ)
         → ⟦<EcParameters as ValueContent>⟧.content a ≡ Some bytes
@@ -24,7 +24,7 @@ pub fn one_curve()
     laws::one_identifier();
 }
 
-/// Two keys with one content have the same parts.
+/// Two keys with the same content have the same parts.
 pub fn one_key()
     ensures { (a b : Key) (bytes : List ℕ)
         → ⟦<EcPrivateKey<'static> as ValueContent>⟧.content a ≡ Some bytes
@@ -34,7 +34,7 @@ pub fn one_key()
     EcPrivateKey::one();
 }
 
-/// A key has an encoding, or it has none.
+/// A key either has an encoding or has none.
 pub fn bytes_or_none(key: &EcPrivateKey)
     ensures { HasNoEncoding key.now ⊎ ((bytes : List ℕ) × IsKeyOf key.now bytes) }
 {
@@ -49,9 +49,8 @@ pub fn one_point<const N: usize, const L: usize>(point: &EncodedPoint<N, L>)
     let _len = point.len();
 }
 
-/// The comparison of points, also by `<`, `<=`, `max` and `min`, is Less exactly where the first is
-/// below the second, Greater where the second is below the first, and Equal where they are the
-/// same.
+/// Comparing points, also by `<`, `<=`, `max` and `min`, gives Less exactly when the first is below
+/// the second, Greater when the second is below the first, and Equal when they are the same.
 #[tactic(auto, using(crate::proofs::PointOrderLemmas::orders))]
 pub fn points_ordered()
     ensures below { (p q : Point) → (point_cmp p q ≡ Less) ↔ IsBelow p q }
@@ -59,8 +58,8 @@ pub fn points_ordered()
     ensures same { (p q : Point) → (point_cmp p q ≡ Equal) ↔ (p ≡ q) }
 {}
 
-/// The comparison of points finds them equal exactly where they are the same, also by `!=`. Two
-/// points of one size with the same encoding are the same.
+/// Comparing points, also by `!=`, finds them equal exactly when they are the same. Two points of
+/// one size with the same encoding are the same.
 pub fn points_apart()
     ensures compared { (p q : Point) → IsTrue (same_point p q) ↔ (p ≡ q) }
     ensures encoding { (n : ℕ) (p q : Point) → IsPoint n p → IsPoint n q

@@ -63,10 +63,11 @@ impl<'a> Model for EcPrivateKey<'a> {
 ///
 /// # Errors
 ///
-/// [`Error::Asn1`] of the first fault from left to right: Truncated if the input, or the element
-/// around a part, ends too early; Tag if another tag is expected; Length if a length isn't in the
-/// form of DER; Value if the version isn't 1, the identifier isn't valid, or the public key has
-/// unused bits; TrailingData if bytes follow the last part of an element or of the input.
+/// [`Error::Asn1`] with the kind of the first fault from left to right: Truncated if the input, or
+/// the element around a part, ends too early; Tag if a tag isn't the expected one; Length if a
+/// length isn't in the form of DER; Value if the version isn't 1, the curve's identifier isn't
+/// valid, or the public key isn't whole bytes; TrailingData if bytes follow the last part of an
+/// element or of the input.
 ///
 /// # Examples
 ///
@@ -79,7 +80,7 @@ impl<'a> TryFrom<&'a [u8]> for EcPrivateKey<'a> {
 
     ghost try_from_gives = { λ bytes result. ReadsKey bytes.now result };
 
-    // Inlined, so that a refusal doesn't return the place of a key by memory.
+    // Inlined, so that a refusal doesn't pass a whole key's place through memory.
     #[inline(always)]
     fn try_from(bytes: &'a [u8]) -> Result<EcPrivateKey<'a>> {
         EcPrivateKey::one();
@@ -181,7 +182,7 @@ impl<'a> EcPrivateKey<'a> {
         Ok(SecretDocument::encode_msg(alloc, &self.borrow())?)
     }
 
-    /// Returns the key, which borrows the identifier that this one holds.
+    /// Returns the key with its identifier borrowed from this one.
     fn borrow(&self) -> BorrowedKey<'_>
         ensures { result ≡ self.now }
     {
@@ -197,7 +198,7 @@ impl<'a> EcPrivateKey<'a> {
 }
 
 impl<'a> EcPrivateKey<'a> {
-    /// Returns a key without bytes and options, the place for another.
+    /// Returns a key without bytes and optional fields: a place to read a key into.
     fn empty() -> EcPrivateKey<'a>
         ensures { (result.parameters ≡ None) × (result.public_key ≡ None) }
     {
@@ -231,7 +232,7 @@ impl<'a> ReadInPlace<'a> for EcPrivateKey<'a> {
     }
 }
 
-/// Doesn't print the private key.
+/// Prints the key without the bytes of the private key.
 impl fmt::Debug for EcPrivateKey<'_> {
     ghost debug_output = { λ key. key_text key.parameters key.public_key };
 

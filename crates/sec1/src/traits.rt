@@ -1,5 +1,5 @@
-//! Key types that are read from and written in the DER of an EC private key. A key type says which
-//! bytes are read as which key, which bytes a key is written as, and what is an error.
+//! Key types that are read from, and written as, the DER of an EC private key. A key type says
+//! which bytes are read as which key, which bytes a key is written as, and which errors there are.
 
 ghost use Rattle.std.specs.Prelude.{ℕ, List, false, ◌≡◌, ◌⊎◌, IsTrue, IfOk, IfErr, OnOk, OnErr};
 ghost use Rattle.sec1.specs.Errors.{IsAsn1, RefusesAsn1};
@@ -32,7 +32,7 @@ pub trait DecodeEcPrivateKey: Sized {
         ensures found { IfOk result (reads bytes.now) }
         ensures kinds { IfErr result (IsMemoryOr (refuses bytes.now)) };
 
-    /// Reads a key from a reader up to the end of the input.
+    /// Reads a key from the whole remaining input of a reader.
     ///
     /// # Errors
     ///
@@ -70,7 +70,7 @@ pub trait DecodeEcPrivateKey: Sized {
     }
 }
 
-/// A key type that is written in the DER of an EC private key (RFC 5915 section 3).
+/// A key type that is written as the DER of an EC private key (RFC 5915 section 3).
 pub trait EncodeEcPrivateKey {
     /// The encoding of a key.
     ghost writes: { Self → List ℕ → Type 0 };
@@ -92,7 +92,7 @@ pub trait EncodeEcPrivateKey {
     /// # Errors
     ///
     /// Those of [`to_sec1_der`](EncodeEcPrivateKey::to_sec1_der), before anything is written; then
-    /// [`Error::Asn1`] of kind Io if a write failed, and a prefix of the bytes is written.
+    /// [`Error::Asn1`] of kind Io if a write failed, after a prefix of the bytes was written.
     fn write_sec1_der_to<W: Write>(&self, alloc: Global, writer: &mut W) -> Result<()>
         requires { W.failed writer.old ≡ false }
         ensures all { OnOk result

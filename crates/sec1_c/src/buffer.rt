@@ -10,7 +10,7 @@ use sec1::der::ErrorKind;
 ///
 /// # Errors
 ///
-/// Returns the number of Buffer if the buffer is shorter than the bytes. It is unchanged then.
+/// Returns the number of Buffer if the buffer is shorter than the bytes, and leaves it unchanged.
 pub fn write_bytes(bytes: &[u8], buffer: &mut [u8], len: &mut usize) -> u32
     ensures { Writes bytes.now buffer.old buffer.new result len.new }
 {
@@ -27,7 +27,7 @@ pub fn write_bytes(bytes: &[u8], buffer: &mut [u8], len: &mut usize) -> u32
 ///
 /// # Errors
 ///
-/// Returns the number of Buffer if the buffer is shorter than both. It is unchanged then.
+/// Returns the number of Buffer if the buffer is shorter than both, and leaves it unchanged.
 pub fn write_tagged(tag: u8, bytes: &[u8], buffer: &mut [u8], len: &mut usize) -> u32
     ensures { Writes (tag ∷ bytes.now) buffer.old buffer.new result len.new }
 {
@@ -46,7 +46,7 @@ pub fn write_tagged(tag: u8, bytes: &[u8], buffer: &mut [u8], len: &mut usize) -
 ///
 /// # Errors
 ///
-/// Returns the number of Buffer if the buffer is shorter than the three. It is unchanged then.
+/// Returns the number of Buffer if the buffer is shorter than the three, and leaves it unchanged.
 pub fn write_coordinates(tag: u8, x: &[u8], y: &[u8], buffer: &mut [u8], len: &mut usize) -> u32
     requires x_len { length x.now ≤ 66 }
     requires y_len { length y.now ≤ 66 }
@@ -64,12 +64,12 @@ pub fn write_coordinates(tag: u8, x: &[u8], y: &[u8], buffer: &mut [u8], len: &m
     OK
 }
 
-/// Stores the length of a text and a byte 0 behind it, and writes both at the beginning of
-/// `buffer`. The rest of the buffer is unchanged.
+/// Stores the length of a text and a byte 0 after it, and writes both at the beginning of `buffer`.
+/// The rest of the buffer is unchanged.
 ///
 /// # Errors
 ///
-/// Returns the number of Buffer if the buffer is shorter than both. It is unchanged then.
+/// Returns the number of Buffer if the buffer is shorter than both, and leaves it unchanged.
 pub fn write_ended(text: &str, buffer: &mut [u8], len: &mut usize) -> u32
     ensures { Writes (ended text.now) buffer.old buffer.new result len.new }
 {

@@ -32,9 +32,9 @@ pub struct PrivateKeyInfoParts {
 ///
 /// # Errors
 ///
-/// Leaves `parts` unchanged, and returns the number of the first fault from left to right if the
-/// bytes aren't a container of their version, or if that is neither 0 nor 1; that of a curve that
-/// isn't in the table if the algorithm isn't id-ecPublicKey with such a curve.
+/// Returns the number of the first fault from left to right if the bytes aren't a container of
+/// their version, or if that is neither 0 nor 1; or that of a curve that isn't in the table if the
+/// algorithm isn't id-ecPublicKey with one that is. `parts` is unchanged in both cases.
 #[unsafe(no_mangle)]
 pub extern "C" fn sec1_private_key_info_read(bytes: &[u8], parts: &mut PrivateKeyInfoParts) -> u32
     ensures found { result ≡ 0 → IsEcContainer bytes.now }
@@ -68,8 +68,8 @@ pub extern "C" fn sec1_private_key_info_read(bytes: &[u8], parts: &mut PrivateKe
 ///
 /// # Errors
 ///
-/// The first fault from left to right of the version that the bytes have; Value if they have
-/// another one.
+/// The first fault from left to right of the version that the bytes have; Value if they have any
+/// other version.
 fn read_container(bytes: &[u8]) -> Result<OneAsymmetricKey<'_>>
     ensures found { IfOk result (λ container. IsContainer container bytes.now) }
     ensures only { (container : OneAsymmetricKey) → IsContainer container bytes.now
@@ -79,7 +79,7 @@ fn read_container(bytes: &[u8]) -> Result<OneAsymmetricKey<'_>>
     match read_der::<PrivateKeyInfo>(bytes) {
         Ok(info) => Ok(of_version_zero(info)),
         Err(error) => match error.kind {
-            // The version comes first, and another one than 0 is refused as Value.
+            // The version comes first, and any but 0 is refused as Value.
             ErrorKind::Value => read_der(bytes),
             _ => Err(error),
         },

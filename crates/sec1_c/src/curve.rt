@@ -34,9 +34,9 @@ pub extern "C" fn sec1_curve_field_len(content: &[u8], field_len: &mut usize) ->
 }
 
 /// Writes the name of the curve whose identifier has this content, followed by a byte 0, at the
-/// beginning of `name`, and stores their length in bytes, at most 16. The name is that of SEC 2, as
-/// secp256r1; of a curve that isn't in SEC 2, that of ANSI X9.62 or RFC 5639. The rest of `name` is
-/// unchanged.
+/// beginning of `name`, and stores their length in bytes, at most 16. The name is that of SEC 2,
+/// such as secp256r1, or if the curve isn't in SEC 2, that of ANSI X9.62 or RFC 5639. The rest of
+/// `name` is unchanged.
 ///
 /// # Errors
 ///
@@ -56,9 +56,9 @@ pub extern "C" fn sec1_curve_name(content: &[u8], name: &mut [u8], len: &mut usi
 }
 
 /// Writes the content of the identifier of the curve with this name, which is all of `name`, at the
-/// beginning of `content`, and stores its length, at most 9. The names are those of SEC 2, as
-/// secp256r1, of FIPS 186-4, as P-256, of ANSI X9.62, as prime256v1, and of RFC 5639; the case of
-/// letters counts. The rest of `content` is unchanged.
+/// beginning of `content`, and stores its length, at most 9. The names are those of SEC 2
+/// (secp256r1), FIPS 186-4 (P-256), ANSI X9.62 (prime256v1) and RFC 5639; the case of letters
+/// counts. The rest of `content` is unchanged.
 ///
 /// # Errors
 ///

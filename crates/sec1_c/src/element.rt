@@ -51,7 +51,8 @@ pub extern "C" fn sec1_check_tree(input: &[u8], elements: &mut usize) -> u32
 }
 
 /// Checks that all of `input` is one element, with any content, and stores the length that its
-/// header announces, header and content together; 0 if the input doesn't begin with a whole header.
+/// header announces, header and content together, or 0 if the input doesn't begin with a whole
+/// header.
 ///
 /// # Errors
 ///
@@ -97,8 +98,8 @@ pub extern "C" fn sec1_document_len(input: &[u8], len: &mut usize) -> u32
 /// # Errors
 ///
 /// Returns the number of Tag or Length if the input doesn't begin with a header of DER, or of
-/// Truncated if it ends inside the header or the content. `header_len` and `content_len` are
-/// unchanged then.
+/// Truncated if it ends inside the header or the content. On an error `header_len` and
+/// `content_len` are unchanged.
 #[unsafe(no_mangle)]
 pub extern "C" fn sec1_element_read(
     input: &[u8],

@@ -11,7 +11,7 @@ use der_faults::Fault;
 
 /// Returns what `sec1_key_read` returns, and stores the offset of the first fault from left to
 /// right: of the tag byte, of the first byte of the length or of the content that is refused, or of
-/// the first byte after the last part. `offset` is unchanged where the bytes are those of a key.
+/// the first byte after the last part. `offset` is unchanged if the bytes are those of a key.
 ///
 /// # Errors
 ///
@@ -27,7 +27,7 @@ pub extern "C" fn sec1_key_fault_at(bytes: &[u8], offset: &mut usize) -> u32
 
 /// Returns what `sec1_check_tree` returns, and stores the offset of the first fault from left to
 /// right: of the tag byte, of the first byte of the length or of the element that is refused, or of
-/// the first byte after the tree. `offset` is unchanged where the bytes are those of a tree.
+/// the first byte after the tree. `offset` is unchanged if the bytes are those of a tree.
 ///
 /// # Errors
 ///

@@ -68,14 +68,14 @@ pub extern "C" fn sec1_key_read(bytes: &[u8], parts: &mut KeyParts) -> u32
 }
 
 /// Stores the length in bytes of the DER encoding of the private key with these parts. An empty
-/// `curve` names none, any other is the content of an object identifier. There is no public key if
+/// `curve` names none; any other is the content of an object identifier. There is no public key if
 /// `has_public_key` is 0.
 ///
 /// # Errors
 ///
-/// Leaves `len` unchanged, and returns the number of Value if `curve` isn't the content of an
-/// identifier, or of Overlength if the private key, the public key or all of it is longer than an
-/// element can be.
+/// Returns the number of Value if `curve` isn't the content of an identifier, or of Overlength if
+/// the private key, the public key or the whole key is longer than an element can be. `len` is
+/// unchanged in both cases.
 #[unsafe(no_mangle)]
 pub extern "C" fn sec1_key_len(
     private_key: &[u8],

@@ -1,6 +1,6 @@
-//! EC private keys and points of `sec1` for C. Each exported function takes slices as a pointer and
-//! a length, stores what it finds through references, and returns 0, or a number that says why it
-//! refused.
+//! The library for C: keys, points and DER of `sec1`. Each exported function takes slices as a
+//! pointer and a length, stores what it finds through references, and returns 0, or a number that
+//! says why it refused.
 //!
 //! For a slice a caller in C may pass NULL with the length 0, and never with another length. No
 //! other pointer is NULL.

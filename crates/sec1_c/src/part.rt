@@ -12,7 +12,7 @@ pub struct Part {
     /// The number of the part's bytes, which may be 0.
     pub len: usize,
 
-    /// 1 if the part is present, also without bytes, and 0 if it is absent.
+    /// 1 if the part is present, even if it is empty, and 0 if it is absent.
     pub present: usize,
 }
 

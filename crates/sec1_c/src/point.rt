@@ -40,8 +40,7 @@ pub struct PointParts {
 ///
 /// # Errors
 ///
-/// Returns the number of PointEncoding if it isn't, and another one if the field length isn't
-/// supported.
+/// Returns the number of PointEncoding if it isn't, or that of a field length that isn't supported.
 #[unsafe(no_mangle)]
 #[tactic(auto, using(crate::proofs::PointLemmas::encodings))]
 pub extern "C" fn sec1_point_check(bytes: &[u8], field_len: usize) -> u32
@@ -88,7 +87,7 @@ pub extern "C" fn sec1_point_read(bytes: &[u8], field_len: usize, parts: &mut Po
 ///
 /// # Errors
 ///
-/// Returns the number of PointEncoding if no point has the tag, and another one if the field length
+/// Returns the number of PointEncoding if no point has the tag, or that of a field length that
 /// isn't supported. `len` is unchanged in both cases.
 #[unsafe(no_mangle)]
 pub extern "C" fn sec1_point_len(tag: usize, field_len: usize, len: &mut usize) -> u32
@@ -169,8 +168,8 @@ pub extern "C" fn sec1_point_to_hybrid(
     to_hybrid(bytes, out, len)
 }
 
-/// Compares two points by tag, then by coordinates as whole numbers, and stores -1, 0 or 1: whether
-/// the first is less than the second, the same, or greater.
+/// Compares two points by tag, then by coordinates as whole numbers, and stores -1, 0 or 1 if the
+/// first is less than the second, the same, or greater.
 ///
 /// # Errors
 ///

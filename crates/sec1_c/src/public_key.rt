@@ -38,10 +38,10 @@ pub struct PublicKeyParts {
 ///
 /// # Errors
 ///
-/// Leaves `parts` unchanged, and returns the number of the first fault from left to right if the
-/// bytes aren't a SubjectPublicKeyInfo; that of a curve that isn't in the table if its algorithm
-/// isn't id-ecPublicKey with such a curve; that of PointEncoding if its key has unused bits, or
-/// isn't the encoding of a point at the field length of the curve.
+/// Returns the number of the first fault from left to right if the bytes aren't a
+/// SubjectPublicKeyInfo; that of a curve that isn't in the table if its algorithm isn't
+/// id-ecPublicKey with one that is; or that of PointEncoding if its key has unused bits, or isn't
+/// the encoding of a point at the field length of the curve. `parts` is unchanged in each case.
 #[unsafe(no_mangle)]
 pub extern "C" fn sec1_public_key_read(bytes: &[u8], parts: &mut PublicKeyParts) -> u32
     ensures found { result ≡ 0 → IsEcKeyInfo bytes.now }

@@ -52,7 +52,7 @@ impl<'a> AnyRef<'a> {
     /// # Errors
     ///
     /// Those of [`Header::decode`](crate::Header::decode), then Truncated if the input ends inside
-    /// the content. The reader has failed then, and its remaining input is as it was.
+    /// the content. On an error the reader has failed, and its remaining input is as it was.
     pub fn decode(reader: &mut SliceReader<'a>) -> Result<AnyRef<'a>>
         ensures found { IfOk result (λ any. IsHeader (tag_of any) (length (value_of any))
             × HasRead (element (tag_of any) (value_of any)) reader.old reader.new) }
@@ -124,7 +124,7 @@ impl<'a> From<&'a ObjectIdentifier> for AnyRef<'a> {
     }
 }
 
-/// Two are equal exactly where their tags and their contents are.
+/// Elements are equal exactly when their tags and their contents are.
 impl PartialEq for AnyRef<'_> {
     ghost use Rattle.std.specs.Cmp.{and_equiv, nat_eq_equiv, on_equiv, partial_equiv_from_equiv};
     ghost use Rattle.std.specs.Cmp.Lexicographic.{on_texts_equal};

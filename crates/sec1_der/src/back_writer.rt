@@ -9,8 +9,8 @@ mod values;
 /// A writer that fills a slice from its end, so that a content is written before its header.
 ///
 /// On an error nothing is written. The bytes of the slice in front of what was written are never
-/// changed. [`put_element`](BackWriter::put_element) promises neither if there is no room, which
-/// its caller tests.
+/// changed. [`put_element`](BackWriter::put_element) promises neither if there isn't enough room:
+/// its caller tests that.
 #[derive(Drop)]
 pub struct BackWriter<'b> {
     buffer: &'b mut [u8],
@@ -67,7 +67,8 @@ impl<'b> BackWriter<'b> {
     ///
     /// # Errors
     ///
-    /// Overlength if that is more than 268,435,455 bytes, then Buffer if the header has no room.
+    /// Overlength if that is more than 268,435,455 bytes; then Buffer if there is no room for the
+    /// header.
     #[tactic(auto, using(crate::proofs::LengthLaws::len_1))]
     pub fn header(&mut self, tag: Tag, since: usize) -> Result<()>
         requires { since ≤ length (end_of self.old) }

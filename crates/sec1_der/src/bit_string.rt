@@ -28,8 +28,8 @@ impl<'a> BitStringRef<'a> {
     ///
     /// # Errors
     ///
-    /// Overlength if there are more than 268,435,454 bytes; then Value if `unused` is above 7, or
-    /// isn't 0 without bytes, or if an unused bit is set (X.690 section 11.2.1).
+    /// Overlength if there are more than 268,435,454 bytes; then Value if `unused` is above 7, if
+    /// it isn't 0 and there are no bytes, or if an unused bit is set (X.690 section 11.2.1).
     pub fn new(unused: u8, bytes: &'a [u8]) -> Result<BitStringRef<'a>>
         ensures { MatchResult result
             (λ bits. (unused_bits_of bits ≡ unused) × (bit_bytes_of bits ≡ bytes.now)
@@ -62,7 +62,7 @@ impl<'a> BitStringRef<'a> {
         BitStringRef::new(0, bytes)
     }
 
-    /// Borrows the bytes, if there are no unused bits.
+    /// Borrows the bytes; `None` if there are unused bits.
     pub fn as_bytes(&self) -> Option<&'a [u8]>
         ensures within { IsSome result ↔ (unused_bits_of self.now ≡ 0) }
         ensures bytes { IfSome result (λ bytes. bytes.now ≡ bit_bytes_of self.now) }

@@ -1,5 +1,5 @@
-//! What the constants are, and what the writers leave in a slice. Nothing calls these functions:
-//! their contracts refuse another constant, and a writer that changes what it was not to.
+//! States the values of the constants, and what the writers leave in a slice. Nothing calls these
+//! functions: their contracts refuse other values, and a writer that changes the rest of the slice.
 ghost use Rattle.std.specs.Prelude.{◌≡◌, ◌<◌, ◌≤◌, [], ◌∷◌, ◌++◌, length, take, drop, ◌-◌, IsOk};
 ghost use Rattle.sec1_der.specs.ErrorKinds.{Refuses};
 

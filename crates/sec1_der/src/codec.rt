@@ -40,7 +40,8 @@ pub fn from_der<'a, T: DecodeValue<'a> + Tagged + Drop>(input: &'a [u8]) -> Resu
     SliceReader::new(input).only_element()
 }
 
-/// Reads a value from its whole DER encoding. The value is determined by its content.
+/// Reads a value from its whole DER encoding. The values of its type are determined by their
+/// contents.
 ///
 /// # Errors
 ///

@@ -89,8 +89,8 @@ impl<K, A: UniqueContent + Tagged> UniqueContent for Explicit<K, A> {
 }
 
 /// The explicit tag `[1]` around a BIT STRING without unused bits, as an ECPrivateKey has it (RFC
-/// 5915 section 3). Unused bits are refused as Value after the end of the field was checked. A
-/// contract sees the bytes.
+/// 5915 section 3). Unused bits are refused as Value, after the end of the field has been checked.
+/// A contract sees the bytes.
 #[derive(Drop)]
 pub struct ExplicitBits<'a> {
     /// The bytes.

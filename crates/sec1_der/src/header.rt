@@ -19,7 +19,7 @@ use std::fmt;
 /// The least length in the long form (X.690 section 8.1.3.5).
 pub(crate) const LONG_FORM: usize = 0x80;
 
-/// What some bytes begin with, and the bytes after it; or the reason why they don't.
+/// What bytes begin with and the bytes after it, or the kind by which they are refused.
 pub(crate) type First<'a, T> = std::result::Result<(T, &'a [u8]), ErrorKind>;
 
 /// The tag and the length of an element (X.690 sections 8.1.2 and 8.1.3).
@@ -47,16 +47,16 @@ impl Header {
     ///
     /// Tag if the first byte isn't a valid tag; Length if no length in the form of DER follows it;
     /// Truncated if the input ends inside the header; Failed if the reader failed before. The tag
-    /// is checked before the length. On an error the reader is marked as failed.
+    /// is checked before the length. On an error the reader has failed.
     pub fn decode(reader: &mut SliceReader) -> Result<Header>
         // What is read is a header, and just its bytes are read.
         ensures found { IfOk result (λ h. IsHeader h.tag h.length
             × HasRead (header h.tag h.length) reader.old reader.new) }
-        // Where the unread bytes begin with a header, it is read.
+        // If the unread bytes begin with a header, it is read.
         ensures only { (tag n : ℕ) (rest : List ℕ) → IsHeader tag n
             → reader.old ≡ reader_over (header tag n ++ rest)
             → (result ≡ Ok (record { tag = tag; length = n })) × (reader.new ≡ reader_over rest) }
-        // Where they begin with none, the kind is a function of the bytes.
+        // If they begin with none, the kind of the error is a function of the bytes.
         ensures kind { reader.old.failed ≡ false → IsErr result
             → Refuses result (header_fault reader.old.unread) }
         ensures failed { reader.old.failed ≡ true → Refuses result ErrorKind.Failed }
@@ -118,7 +118,7 @@ impl Header {
     }
 }
 
-/// Two are equal exactly where their tags and their lengths are.
+/// Headers are equal exactly when their tags and their lengths are.
 impl PartialEq for Header {
     ghost eq = { eq_of_both (on (λ h. h.tag) nat_eq) (on (λ h. h.length) nat_eq) };
 
@@ -139,8 +139,8 @@ impl Eq for Header {
         (on_equiv (λ h. h.length) nat_eq_equiv) };
 }
 
-/// Returns the header at the beginning of the bytes, and the bytes after it, which are at least as
-/// many as it announces.
+/// Returns the header at the beginning of the bytes, and the bytes after it, of which there are at
+/// least as many as it announces.
 #[tactic(auto, using(crate::proofs::HeaderLemmas::header_fronts))]
 pub(crate) fn element_at(input: &[u8]) -> First<'_, Header>
     ensures kinds { IfErr result IsHeaderFault }

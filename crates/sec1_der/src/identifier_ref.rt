@@ -12,7 +12,7 @@ use crate::{
 use std::marker::Model;
 
 /// An OBJECT IDENTIFIER that borrows its content, which has 1 to 39 bytes (X.690 section 8.19). A
-/// contract sees the arcs. They are those of an [`ObjectIdentifier`], and so are the refusals.
+/// contract sees the arcs. The same contents are accepted as for an [`ObjectIdentifier`].
 #[derive(Drop)]
 pub struct IdentifierRef<'a> {
     bytes: &'a [u8],
@@ -45,7 +45,7 @@ impl<'a> IdentifierRef<'a> {
         Ok(IdentifierRef { bytes })
     }
 
-    /// Returns the identifier, which borrows the content that the other one holds.
+    /// Borrows the identifier that an [`ObjectIdentifier`] holds.
     #[tactic(auto, using(crate::proofs::IdentifierLemmas::held_contents))]
     pub fn of(identifier: &'a ObjectIdentifier) -> IdentifierRef<'a>
         ensures { result ≡ identifier.now }

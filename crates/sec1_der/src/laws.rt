@@ -1,5 +1,5 @@
-//! Laws of trees, of the kinds by which elements are refused, and that a value is determined by its
-//! bytes, for callers to cite. Each law is the contract of a function, which does nothing else.
+//! Laws for callers to cite: of trees, of the kinds by which elements are refused, and that a value
+//! is determined by its bytes. Each law is the contract of a function, which does nothing else.
 ghost use Rattle.std.specs.Option.{option_or};
 ghost use Rattle.std.specs.Prelude.{◌≡◌, ◌⊎◌, ◌≤◌, ◌++◌, ℕ, List, length, Some, None, IsSome};
 ghost use Rattle.sec1_der.specs.Elements.{element, element_of, max_length, IsHeader};
@@ -36,8 +36,8 @@ pub fn trees_prefix_free()
     ensures { NoTreeBeginsAnother }
 {}
 
-/// An element that ends too early is refused as Truncated, whatever its content is tested for and
-/// whatever may follow it.
+/// An element that ends too early is refused as Truncated, whatever rule its content has to meet
+/// and whatever may follow it.
 #[tactic(auto, using(crate::proofs::ElementFaultLemmas::cut_elements))]
 pub fn cut_elements()
     ensures element { (inside behind : Fault) (tag : ℕ) (content bytes : List ℕ)
@@ -61,15 +61,15 @@ pub fn whole_elements()
         ≡ option_or (inside tag content) (behind rest) }
 {}
 
-/// Bytes that begin with no header are refused by the kind of their header, whatever a content is
-/// tested for and whatever may follow it.
+/// Bytes that begin with no header are refused by the kind of the header's fault, whatever rule a
+/// content has to meet and whatever may follow it.
 #[tactic(auto, using(crate::proofs::ElementFaultLemmas::any_without_header))]
 pub fn bytes_without_header()
     ensures { (inside : ℕ → Fault) (behind : Fault) (bytes : List ℕ) → LacksHeader bytes
         → any_fault inside behind bytes ≡ Some (header_fault bytes) }
 {}
 
-/// Two versions with one content are the same.
+/// Two versions with the same content are the same.
 pub fn one_version()
     ensures { (a b : VersionOne) (bytes : List ℕ)
         → ⟦<VersionOne as ValueContent>⟧.content a ≡ Some bytes
@@ -77,7 +77,7 @@ pub fn one_version()
         → a ≡ b }
 {}
 
-/// Two octet strings with one content have the same bytes.
+/// Two octet strings with the same content have the same bytes.
 pub fn one_octet_string()
     ensures { (a b : OctetStringRef) (bytes : List ℕ)
         → ⟦<OctetStringRef<'static> as ValueContent>⟧.content a ≡ Some bytes
@@ -85,7 +85,7 @@ pub fn one_octet_string()
         → octets_of a ≡ octets_of b }
 {}
 
-/// Two bit strings with one content have the same bytes, and as many unused bits.
+/// Two bit strings with the same content have the same bytes, and as many unused bits.
 pub fn one_bit_string()
     ensures { (a b : BitStringRef) (bytes : List ℕ)
         → ⟦<BitStringRef<'static> as ValueContent>⟧.content a ≡ Some bytes
@@ -93,7 +93,7 @@ pub fn one_bit_string()
         → (unused_bits_of a ≡ unused_bits_of b) × (bit_bytes_of a ≡ bit_bytes_of b) }
 {}
 
-/// Two identifiers with one content have the same arcs.
+/// Two identifiers with the same content have the same arcs.
 #[tactic(auto, using(crate::proofs::UniqueLemmas::unique_identifier))]
 pub fn one_identifier()
     ensures { (a b bytes : List ℕ) → ⟦<ObjectIdentifier as ValueContent>⟧.content a ≡ Some bytes
@@ -101,7 +101,7 @@ pub fn one_identifier()
         → a ≡ b }
 {}
 
-/// A value has an encoding, or it has none.
+/// A value either has an encoding or has none.
 pub fn element_or_none<T: EncodeValue + Tagged>(value: &T)
     ensures { (element_of T.tag_byte (T.content value.now) ≡ None)
         ⊎ IsSome (element_of T.tag_byte (T.content value.now)) }

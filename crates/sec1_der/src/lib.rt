@@ -2,9 +2,9 @@
 //! else is refused.
 //!
 //! Lengths, tags and headers; a reader and two writers over slices; the values that a key is made
-//! of; traits by which a type is read from its element and written as it, and the calls that are
-//! generic over these; records, which are read and written by the parts that they have; documents,
-//! which are read from streams and files and written to them; a check of whole trees; laws.
+//! of; traits by which a type is read from and written as its element, and the calls that are
+//! generic over them; records, which are read and written by their parts; documents, which are read
+//! from and written to streams and files; a check of whole trees; laws.
 #![tactic(auto)]
 
 mod any;

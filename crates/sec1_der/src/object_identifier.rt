@@ -174,8 +174,8 @@ fn is_content(content: &[u8]) -> bool
         return false;
     }
     // The width of an unfinished subidentifier: how many of its digits were read, where a first
-    // digit of 16 or more counts as two; 0 where one begins. A number is below 2^32 exactly if the
-    // width of its digits without the last is at most four.
+    // digit of 16 or more counts as two; 0 where one begins. A number is below 2^32 exactly when
+    // the width of its digits without the last is at most four.
     let mut width: u8 = 0;
     let mut rest = content;
     while let Some((byte, behind)) = rest.split_first() {
@@ -196,7 +196,7 @@ fn is_content(content: &[u8]) -> bool
     width == 0
 }
 
-/// Two are equal exactly where their arcs are.
+/// Identifiers are equal exactly when their arcs are.
 impl PartialEq for ObjectIdentifier {
     ghost eq = { bytes_eq };
 

@@ -1,4 +1,4 @@
-//! The parts of a SEQUENCE (X.690 section 8.9), and two parts one after the other.
+//! The parts of a SEQUENCE (X.690 section 8.9), and two parts in a row.
 ghost use Rattle.std.specs.Prelude.{◌≡◌, ◌≤◌, ◌++◌, ℕ, List, length, Option, Some, true, false};
 ghost use Rattle.std.specs.Prelude.{IfOk, IfErr, OnOk, OnErr, IsOk, IsOkAnd, IsSomeAnd};
 ghost use Rattle.sec1_der.specs.BackWriters.{Puts};
@@ -17,8 +17,8 @@ pub trait Part {
     /// The bytes of a part, if it has an encoding.
     ghost bytes: { Self → Option (List ℕ) };
 
-    /// The kind of the error by which bytes are refused as a part and what follows it, from that of
-    /// what follows.
+    /// The kind of error by which bytes are refused as a part and what follows it, given the rule
+    /// of what follows.
     ghost fault_then: { Fault → Fault };
 
     /// The tags that a part may begin with, and those that mustn't follow it.
@@ -38,13 +38,12 @@ pub trait EncodePart: Part {
     fn part_len(&self) -> Result<Length>
         ensures { Measures (within_limit (Self.bytes self.now)) result };
 
-    /// Prepends the part to what was written, without testing the room first. If there is less
-    /// room, or no encoding, any bytes may be prepended.
+    /// Prepends the part to what was written, without testing the room first. On an error any bytes
+    /// may have been prepended.
     ///
     /// # Errors
     ///
-    /// Overlength or Buffer if there is no encoding, or if the part has no room. Succeeds
-    /// otherwise.
+    /// Overlength or Buffer, exactly when the part has no encoding or there is no room for it.
     fn put_part(&self, writer: &mut BackWriter) -> Result<()>
         ensures { Puts (Self.bytes self.now) writer.old writer.new result };
 }
@@ -56,7 +55,7 @@ pub trait DecodePart<'a>: Part + Sized {
     /// # Errors
     ///
     /// Truncated, Tag, Length, TrailingData or Value if the remaining input doesn't begin with a
-    /// part; Failed if the reader failed before. The reader has failed then.
+    /// part; Failed if the reader failed before. On an error the reader has failed.
     fn decode_part(reader: &mut SliceReader<'a>) -> Result<Self>
         requires { length reader.old.unread ≤ max_length }
         // What is read is the part, and just its bytes are read.
@@ -70,8 +69,8 @@ pub trait DecodePart<'a>: Part + Sized {
             → IsOkAnd result (λ found. Self.bytes found ≡ Some whole)
             × (reader.new ≡ reader_over rest) }
         ensures kinds { reader.old.failed ≡ false → IfErr result (λ e. IsReadingFault e.kind) }
-        // The error kind depends only on the remaining input; a part that is read leaves that of
-        // what follows.
+        // The kind of the error depends only on the remaining input; after a part that is read it
+        // is that of what follows.
         ensures passes { reader.old.failed ≡ false
             → OnOk result ((behind : Fault)
             → Self.fault_then behind reader.old.unread ≡ behind reader.new.unread) }

@@ -44,7 +44,7 @@ impl<'a> SliceReader<'a> {
         self.unread.len()
     }
 
-    /// Borrows the remaining input without reading it, also if the reader has failed.
+    /// Borrows the remaining input without reading it, even if the reader has failed.
     pub fn remaining_input(&self) -> &'a [u8]
         ensures { result.now ≡ self.now.unread }
     {

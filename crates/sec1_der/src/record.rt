@@ -11,9 +11,9 @@ use crate::{
 /// A struct that is read and written as the SEQUENCE of its parts (X.690 section 8.9).
 ///
 /// Its [`Parts`](Record::Parts) describe the shape once: [`Required`](crate::Required) and
-/// [`Optional`](crate::Optional) components, and a pair `(P, Q)` of two parts one after the other.
-/// From them the struct gets [`FixedTag`], [`ValueContent`], [`DecodeValue`], [`EncodeValue`],
-/// [`Sequence`] and [`UniqueContent`], each as far as its parts have it.
+/// [`Optional`](crate::Optional) components, and a pair `(P, Q)` of two parts in a row. From them
+/// the struct gets [`FixedTag`], [`ValueContent`], [`DecodeValue`], [`EncodeValue`], [`Sequence`]
+/// and [`UniqueContent`], each if its parts have what it needs.
 pub trait Record: Sized {
     /// The parts in their order, as nested pairs.
     type Parts;
@@ -32,7 +32,7 @@ pub trait Record: Sized {
     fn to_parts(&self) -> Self::Parts
         ensures { result ≡ parts self.now };
 
-    /// A record is the one with its parts.
+    /// A record is determined by its parts.
     ghost same: { (value : Self) → of_parts (parts value) ≡ value };
 
     /// Returns the record again. It borrows what this one borrows.
@@ -43,8 +43,8 @@ pub trait Record: Sized {
     }
 }
 
-/// A record whose parts are told apart by their tags (X.680 section 25.6). Only such a record is
-/// read and written.
+/// A record whose parts are told apart by their tags (X.680 section 25.6). Only such a record can
+/// be read and written.
 pub trait Distinct: Record
 where
     Self::Parts: Part,

@@ -1,5 +1,5 @@
-//! A component that is always present, and the element of a value as a part: what [`Required`]
-//! does, for a type that is a part by itself.
+//! A component that is always present; and the calls that [`Required`] makes, for a type that is a
+//! part by itself.
 ghost use Rattle.std.specs.Fmt.{debug_variant};
 ghost use Rattle.std.specs.Prelude.{codes, ◌≡◌, ◌≤◌, ◌++◌, ℕ, List, length, false, true, Some, Ok};
 ghost use Rattle.std.specs.Prelude.{IsOkAnd, IsSomeAnd};

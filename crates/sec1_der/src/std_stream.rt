@@ -60,8 +60,8 @@ impl<R: io::Read> Read for StdReader<R> {
     }
 }
 
-/// Wraps a writer of the standard library, and remembers whether a write failed, or wrote none of
-/// some bytes.
+/// Wraps a writer of the standard library, and remembers whether a write failed, or wrote nothing
+/// of a slice that wasn't empty.
 #[derive(Drop)]
 pub struct StdWriter<W> {
     inner: W,

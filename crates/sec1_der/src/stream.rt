@@ -25,11 +25,11 @@ pub trait Read {
     /// The remaining input, if it is known.
     ghost left: { Self → Option (List ℕ) } = { λ _. None };
 
-    /// The bytes that were taken, if they are known. They can be known of an input of which nobody
-    /// knows what remains, or that never ends.
+    /// The bytes that were taken, if they are known, even if what remains isn't known, or never
+    /// ends.
     ghost taken: { Self → Option (List ℕ) } = { λ _. None };
 
-    /// What holds where the input has ended: `⊥` if it never ends.
+    /// What holds when the input has ended: `⊥` if it never ends.
     ghost ended: { Self → Type 0 } = { λ _. ⊤ };
 
     /// Whether a read has failed.
@@ -40,7 +40,7 @@ pub trait Read {
     ///
     /// # Errors
     ///
-    /// [`IoFault`] exactly if the reader has failed after the call; nothing is read then. It stays
+    /// [`IoFault`] exactly when the reader has failed after the call: nothing is read, and it stays
     /// failed.
     fn read(&mut self, buf: &mut [u8]) -> Result<usize, IoFault>
         ensures bound { IfOk result (λ n. n ≤ length buf.new) }
@@ -68,7 +68,7 @@ pub trait Write {
     ///
     /// # Errors
     ///
-    /// [`IoFault`] exactly if the writer has failed after the call; nothing is written then. It
+    /// [`IoFault`] exactly when the writer has failed after the call: nothing is written, and it
     /// stays failed.
     fn write(&mut self, buf: &[u8]) -> Result<usize, IoFault>
         ensures bound { IfOk result (λ n. n ≤ length buf.now) }
@@ -85,7 +85,7 @@ pub trait Write {
     ///
     /// # Errors
     ///
-    /// [`IoFault`] exactly if a write failed; a prefix of the bytes is written then.
+    /// [`IoFault`] exactly when a write failed, after a prefix of the bytes was written.
     fn write_all(&mut self, bytes: &[u8]) -> Result<(), IoFault>
         requires { failed self.old ≡ false }
         ensures fault { IsErr result ↔ IsTrue (failed self.new) }

@@ -20,9 +20,10 @@ pub const MAX_DEPTH: usize = 64;
 ///
 /// # Errors
 ///
-/// The first from left to right: Tag or Length if an element has no header of DER; Truncated if the
-/// input ends inside an element, or an element ends after the one around it; Depth if an element at
-/// level 64 contains elements, before they are read; TrailingData if bytes follow the tree.
+/// The first fault from left to right: Tag or Length if an element has no header of DER; Truncated
+/// if the input ends inside an element, or an element ends after the one around it; Depth if an
+/// element at level 64 contains elements, before they are read; TrailingData if bytes follow the
+/// tree.
 ///
 /// # Examples
 ///
@@ -33,13 +34,13 @@ pub fn check_tree(input: &[u8]) -> Result<usize>
     // What is counted is a tree, and these are its bytes.
     ensures found { IfOk result (λ n. (t : Tree) × IsTreeOf t input.now
         × (depth t ≤ max_tree_depth) × (size t ≡ n)) }
-    // Where they are the bytes of such a tree, it is counted.
+    // If they are the bytes of such a tree, it is counted.
     ensures only { (t : Tree) → IsTreeOf t input.now → depth t ≤ max_tree_depth
         → result ≡ Ok (size t) }
     ensures deeper { (t : Tree) → IsTreeOf t input.now → max_tree_depth < depth t
         → Refuses result ErrorKind.Depth }
 
-    // The bytes end inside those of a tree of any depth, or continue behind those of a tree.
+    // The bytes end inside a tree of any depth, or continue after one.
     ensures short { (t : Tree) → IsTree t → IsProperPrefix input.now (bytes t)
         → Refuses result ErrorKind.Truncated }
     ensures long { (t : Tree) → IsTree t → depth t ≤ max_tree_depth
@@ -49,7 +50,7 @@ pub fn check_tree(input: &[u8]) -> Result<usize>
     // Whether the input is refused, and by which kind, is a function of its bytes.
     ensures kind { HasFault result (tree_fault input.now) }
 {
-    // A function of its own: the clauses above follow from its three.
+    // A separate function: the clauses above follow from its three.
     count_elements(input)
 }
 

@@ -32,20 +32,20 @@ pub trait ValueContent {
     /// The content of a value, if it has one.
     ghost content: { Self → Option (List ℕ) };
 
-    /// Which bytes are contents of the type: None if these are, otherwise the kind of the error by
-    /// which they are refused.
+    /// The rule of the type: `None` for bytes that are a content of it, otherwise the kind of error
+    /// by which they are refused.
     ghost fault: { Fault };
 }
 
 /// A value that is read from the content of its element.
 pub trait DecodeValue<'a>: ValueContent + Sized {
-    /// Reads a value from its content, which is all of the remaining input, at most 268,435,455
+    /// Reads a value from its content, which is all of the remaining input: at most 268,435,455
     /// bytes.
     ///
     /// # Errors
     ///
     /// Truncated, Tag, Length, TrailingData or Value if the remaining input isn't a content of the
-    /// type; Failed if the reader failed before. The reader has failed then.
+    /// type; Failed if the reader failed before. On an error the reader has failed.
     fn decode_value(reader: &mut SliceReader<'a>) -> Result<Self>
         requires { length reader.old.unread ≤ max_length }
         ensures found { IfOk result (λ value. Self.content value ≡ Some reader.old.unread) }
@@ -74,8 +74,8 @@ pub trait EncodeValue: ValueContent {
     ///
     /// # Errors
     ///
-    /// Those of [`value_len`](EncodeValue::value_len), then Buffer if the content has no room.
-    /// Nothing is written then.
+    /// Those of [`value_len`](EncodeValue::value_len), then Buffer if there is no room for the
+    /// content. On an error nothing is written.
     fn encode_value(&self, writer: &mut SliceWriter) -> Result<()>
         ensures { WritesBehind (within_limit (Self.content self.now)) writer.old writer.new
             result };
@@ -84,21 +84,20 @@ pub trait EncodeValue: ValueContent {
     ///
     /// # Errors
     ///
-    /// Those of [`encode_value`](EncodeValue::encode_value). Nothing is written then.
+    /// Those of [`encode_value`](EncodeValue::encode_value). On an error nothing is written.
     fn encode_back(&self, writer: &mut BackWriter) -> Result<()>
         ensures { WritesInFront (within_limit (Self.content self.now)) writer.old writer.new
             result };
 
-    /// Prepends the content to what was written, without testing the room first. If there is less
-    /// room, or no content, any bytes may be prepended.
+    /// Prepends the content to what was written, without testing the room first. On an error any
+    /// bytes may have been prepended.
     ///
     /// A type that contains other elements overrides this with calls of
     /// [`BackWriter::put_element`], so that an element is measured once, however deep it is nested.
     ///
     /// # Errors
     ///
-    /// Overlength or Buffer if there is no content, or if the content has no room. Succeeds
-    /// otherwise.
+    /// Overlength or Buffer, exactly when there is no content or no room for it.
     fn put_value(&self, writer: &mut BackWriter) -> Result<()>
         ensures { Puts (within_limit (Self.content self.now)) writer.old writer.new result }
     {
@@ -108,7 +107,7 @@ pub trait EncodeValue: ValueContent {
 
 /// A type for which different values have different contents.
 pub trait UniqueContent: ValueContent {
-    /// Does nothing: its contract is the law that two values with one content are the same.
+    /// Does nothing: its contract is the law that two values with the same content are the same.
     fn one()
         ensures { (a b : Self) (bytes : List ℕ) → Self.content a ≡ Some bytes
             → Self.content b ≡ Some bytes → a ≡ b };

@@ -1,4 +1,4 @@
-//! Files that people have in place of a key.
+//! Files that people have instead of a key in DER.
 ghost use Rattle.std.specs.Prelude.{◌≡◌, map};
 ghost use Rattle.der_rows.specs.Rows.{row_view};
 ghost use Rattle.sec1_dump.specs.Forms.{advice, begins, explicit_form, form_of, has, inner_form};
@@ -83,7 +83,7 @@ fn zero_form(third: &Row) -> Option<Form>
     }
 }
 
-/// Returns the form by the elements behind the private key.
+/// Returns the form by the elements after the private key.
 fn explicit_form(rows: &[Row]) -> Option<Form>
     ensures { result ≡ explicit_form (map row_view rows.now) }
 {
@@ -149,7 +149,7 @@ pub(crate) fn pem_form(text: &[u8]) -> Option<Form>
     }
 }
 
-/// Returns what helps.
+/// Returns what the file is, and what helps.
 pub(crate) fn advice(form: Form) -> &'static str
     ensures { result.now ≡ advice form }
 {

@@ -16,11 +16,11 @@ pub const LIMIT: usize = 1_048_576;
 pub fn picture_of_input(alloc: Global, all: bool, input: &[u8]) -> Result<Picture, AllocError>
     ensures picture { IfOk result (λ picture.
         IsPictureOfInput all input.now (string_bytes picture.text) picture.status) }
-    // Where not all is shown, no byte of an OCTET STRING is, whatever the input is.
+    // Unless all is shown, no byte of an OCTET STRING is, whatever the input is.
     ensures hidden { all ≡ false → IfOk result
         (λ picture. HidesOctetsOfInput input.now (string_bytes picture.text)) }
 {
-    // A function of its own: the second clause follows from the first.
+    // A separate function: the second clause follows from the first.
     draw_input(alloc, all, input)
 }
 
@@ -41,7 +41,7 @@ fn draw_input(alloc: Global, all: bool, input: &[u8]) -> Result<Picture, AllocEr
     }
 }
 
-/// Returns this text in place of a picture. Fails only if an allocation fails.
+/// Returns this text instead of a picture. Fails only if an allocation fails.
 fn remark(alloc: Global, text: &str) -> Result<Picture, AllocError>
     ensures { IfOk result (λ picture.
         IsRemark text.now (string_bytes picture.text) picture.status) }

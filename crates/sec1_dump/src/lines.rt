@@ -75,7 +75,7 @@ fn shown(alloc: Global, all: bool, content: &[u8]) -> Result<String, AllocError>
     hex_lines(alloc, "\n                         ", content)
 }
 
-/// Returns the label of an element, behind two spaces for each element around it. Fails only if an
+/// Returns the label of an element, after two spaces for each element around it. Fails only if an
 /// allocation fails.
 fn indented_label(alloc: Global, row: &Row) -> Result<String, AllocError>
     ensures { IfOk result (λ text. string_bytes text
@@ -98,7 +98,7 @@ fn line(alloc: Global, all: bool, row: &Row, note: &str) -> Result<String, Alloc
     format!(in alloc; "{columns}{labels}{shown}\n")
 }
 
-/// Returns the lines of elements, one after the other. Fails only if an allocation fails.
+/// Returns the lines of elements, in order. Fails only if an allocation fails.
 pub(crate) fn lines(
     alloc: Global,
     all: bool,

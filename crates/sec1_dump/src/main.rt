@@ -47,7 +47,7 @@ impl From<AllocError> for Failure {
     }
 }
 
-/// Returns the arguments that these words stand for.
+/// Returns the arguments that these words give.
 ///
 /// # Errors
 ///

@@ -1,4 +1,4 @@
-//! The names of types, and what is shown of short values.
+//! The names of types, and how short values are shown.
 ghost use Rattle.std.specs.Prelude.{◌≡◌, IfOk, option_map, string_bytes};
 ghost use Rattle.der_rows.specs.Rows.{row_view};
 ghost use Rattle.sec1_dump.specs.Names.{bits_label, class_name, counted, integer_label, label};

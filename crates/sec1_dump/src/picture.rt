@@ -32,7 +32,7 @@ pub(crate) fn all_rows(alloc: Global, bytes: &[u8]) -> Result<Vec<Row<'_>>, Allo
     Ok(drawn)
 }
 
-/// Returns what helps, if that is known.
+/// Returns what the file is and what helps, if that is known.
 pub(crate) fn advice_of(form: Option<Form>) -> &'static str
     ensures { result.now ≡ advice_of form }
 {
@@ -42,8 +42,8 @@ pub(crate) fn advice_of(form: Option<Form>) -> &'static str
     }
 }
 
-/// Returns what is said of bytes with these faults as a key and as a tree, that don't have this
-/// part of a key, and with these rows: nothing of a key. Fails only if an allocation fails.
+/// Returns what is said of bytes with these faults as a key and as a tree, which lack this part of
+/// a key, and with these rows; nothing of a key. Fails only if an allocation fails.
 fn verdict(
     alloc: Global,
     key: Option<Fault>,

@@ -22,8 +22,8 @@ pub(crate) fn kind_words(kind: ErrorKind) -> &'static str
     }
 }
 
-/// Returns the line for a fault, if there is one, behind what the bytes aren't. Fails only if an
-/// allocation fails.
+/// Returns the line for a fault, if there is one, after these words for what the bytes aren't.
+/// Fails only if an allocation fails.
 pub(crate) fn fault_line(
     alloc: Global,
     words: &str,
@@ -41,7 +41,7 @@ pub(crate) fn fault_line(
     }
 }
 
-/// Returns what a key has in this part of it.
+/// Returns what a key has in this part.
 fn expected(part: KeyPart) -> &'static str
     ensures { result.now ≡ expected part }
 {

@@ -52,7 +52,7 @@ fn row_value(alloc: Global, all: bool, is_key: bool, row: &Row) -> Result<Value,
     })
 }
 
-/// Returns elements, one after the other. Fails only if an allocation fails.
+/// Returns elements, in order. Fails only if an allocation fails.
 fn row_values(
     alloc: Global,
     all: bool,
@@ -170,7 +170,7 @@ fn draw_json(alloc: Global, all: bool, bytes: &[u8]) -> Result<Picture, AllocErr
     Ok(Picture { text, status })
 }
 
-/// Returns this text in place of elements. Fails only if an allocation fails.
+/// Returns this text instead of elements. Fails only if an allocation fails.
 fn json_remark(alloc: Global, text: &str) -> Result<Picture, AllocError>
     ensures { IfOk result (λ picture.
         IsJsonRemark text.now (string_bytes picture.text) picture.status) }
@@ -193,11 +193,11 @@ fn json_remark(alloc: Global, text: &str) -> Result<Picture, AllocError>
 pub fn json_of_input(alloc: Global, all: bool, input: &[u8]) -> Result<Picture, AllocError>
     ensures json { IfOk result (λ picture.
         IsJsonOfInput all input.now (string_bytes picture.text) picture.status) }
-    // Where not all is shown, no byte of an OCTET STRING is, whatever the input is.
+    // Unless all is shown, no byte of an OCTET STRING is, whatever the input is.
     ensures hidden { all ≡ false → IfOk result
         (λ picture. HidesOctetsOfJson input.now (string_bytes picture.text)) }
 {
-    // A function of its own: the second clause follows from the first.
+    // A separate function: the second clause follows from the first.
     draw_input_json(alloc, all, input)
 }
 

@@ -60,8 +60,8 @@ impl From<AllocError> for Fault {
 ///
 /// # Errors
 ///
-/// Input exactly if a read failed, Output exactly if a write failed, Memory if an allocation
-/// failed. After Output a prefix of the report is written, otherwise nothing.
+/// Input exactly when a read failed, Output exactly when a write failed, Memory if an allocation
+/// failed. After Output a prefix of the report has been written, otherwise nothing.
 pub fn run<R: Read, W: Write>(alloc: Global, reader: &mut R, writer: &mut W) -> Result<u8, Fault>
     requires reader { R.failed reader.old ≡ false }
     requires writer { W.failed writer.old ≡ false }
@@ -121,7 +121,7 @@ pub fn run_der<R: Read, W: Write>(
 /// Reads the remaining input, at most one byte more than the limit.
 ///
 /// # Errors
-/// Input exactly if a read failed, Memory if an allocation failed.
+/// Input exactly when a read failed, Memory if an allocation failed.
 #[tactic(auto, using(crate::proofs::ReportLemmas::takes_onto))]
 fn read_input<R: Read>(alloc: Global, reader: &mut R) -> Result<Vec<u8>, Fault>
     requires { R.failed reader.old ≡ false }
@@ -148,7 +148,8 @@ const STEP: usize = 4096;
 /// their number: 0 only at the end. The vector grows by no more.
 ///
 /// # Errors
-/// Input exactly if the read failed, Memory if the allocation failed. The vector is unchanged then.
+/// Input exactly when the read failed, Memory if the allocation failed. On an error the vector is
+/// unchanged.
 fn read_some<R: Read>(reader: &mut R, input: &mut Vec<u8>, missing: usize) -> Result<usize, Fault>
     requires unfailed { R.failed reader.old ≡ false }
     requires some { 0 < missing }
@@ -174,7 +175,7 @@ fn read_some<R: Read>(reader: &mut R, input: &mut Vec<u8>, missing: usize) -> Re
 /// Writes the report, and returns its status.
 ///
 /// # Errors
-/// Output exactly if a write failed; a prefix of the report is written then.
+/// Output exactly when a write failed, after a prefix of the report was written.
 fn write_report<W: Write>(writer: &mut W, report: &Report) -> Result<u8, Fault>
     requires { W.failed writer.old ≡ false }
     ensures output { IsErrOf result Fault.Output ↔ IsTrue (W.failed writer.new) }

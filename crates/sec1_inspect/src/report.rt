@@ -62,7 +62,7 @@ fn without_blanks(alloc: Global, input: &[u8]) -> Result<Vec<u8>, AllocError>
         .collect(alloc)
 }
 
-/// Returns the report on bytes that may be a key's.
+/// Returns the report on bytes, which may be a key's.
 fn report_on_bytes(alloc: Global, bytes: &[u8]) -> Result<Report, AllocError>
     ensures { IfOk result
         (λ report. IsReportOnBytes bytes.now (string_bytes report.text) report.status) }

@@ -1,5 +1,5 @@
 """Reads and writes EC private keys in DER (RFC 5915) and points of elliptic curves (SEC1 v2.0 section
-2.3.3). What is accepted and what is written is decided by a library that is proved to meet its contracts."""
+2.3.3). A library that is proved to meet its contracts decides what is accepted and what is written."""
 from __future__ import annotations
 
 import functools
@@ -34,11 +34,11 @@ __all__ = [
 
 
 class Error(ValueError):
-    """A refusal. Each kind of refusal is a class of its own below this one.
+    """A refusal. Each kind of refusal is a subclass.
 
-    `offset` is that of the first fault in the bytes of a key or of a tree, and None elsewhere: of the tag
-    byte, of the first byte of the length or of the content that is refused, of the first byte after the
-    last part, or the number of bytes where they end before a tag."""
+    `offset` is that of the first fault in the bytes of a key or of a tree, and None for other calls: of the
+    tag byte, of the first byte of the length or of the content that is refused, of the first byte after
+    the last part, or the number of bytes if they end before a tag."""
 
     text = "the library broke its contract"
 
@@ -124,12 +124,12 @@ _ERRORS: "tuple[Type[Error], ...]" = (
 
 
 def _bytes(data: bytes) -> bytes:
-    """Returns a copy of `bytes`, `bytearray` or `memoryview`. Anything else is a TypeError."""
+    """Returns `bytes` as they are, and any other buffer as a copy. Anything else is a TypeError."""
     return data if isinstance(data, bytes) else bytes(memoryview(data))
 
 
 def _check(status: int, fault_at: Optional[str] = None, data: bytes = b"") -> None:
-    """Raises the error of a status other than 0, with the offset that the other function tells."""
+    """Raises the error of a status other than 0, with the offset that `fault_at` stores."""
     if not status:
         return
     offset = c_size_t()
@@ -188,7 +188,7 @@ class ObjectIdentifier:
 @dataclass(frozen=True)
 class Curve:
     """A curve of the library's table, which has the 34 curves over prime fields of SEC 2, ANSI X9.62 and
-    RFC 5639, by its identifier. Raises CurveError if the table hasn't it."""
+    RFC 5639, by its identifier. Raises CurveError if the table doesn't have it."""
 
     identifier: ObjectIdentifier
     name: str = field(init=False)
@@ -203,8 +203,8 @@ class Curve:
 
     @classmethod
     def from_name(cls, name: str) -> Curve:
-        """Returns the curve with this name, as secp256r1, P-256 or prime256v1, or raises CurveError. The
-        case of letters counts."""
+        """Returns the curve with this name, such as secp256r1, P-256 or prime256v1, or raises CurveError.
+        The case of letters counts."""
         data = name.encode("utf-8", "surrogatepass")
         return cls(ObjectIdentifier(_written("sec1_curve_from_name", data, len(data))))
 
@@ -336,7 +336,7 @@ def check_tree(data: bytes) -> int:
 
 def document_length(data: bytes) -> Optional[int]:
     """Returns the length, header and content together, that the header at the beginning announces, or
-    None if the bytes don't begin with a whole header. More or fewer bytes may follow it."""
+    None if the bytes don't begin with a whole header. The content may be cut, and bytes may follow it."""
     data, length = _bytes(data), c_size_t()
     _library.call("sec1_document_len", data, len(data), byref(length))
     return length.value or None

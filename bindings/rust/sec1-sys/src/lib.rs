@@ -215,8 +215,7 @@ unsafe extern "C" {
         field_len: usize,
         order: *mut i32,
     ) -> u32;
-    /// Writes the dotted text of an identifier with a byte 0 behind it, and stores the length of
-    /// both.
+    /// Writes the dotted text of an identifier and a byte 0, and stores the length of both.
     ///
     /// # Safety
     ///
@@ -297,8 +296,8 @@ unsafe extern "C" {
         content_len: usize,
         field_len: *mut usize,
     ) -> u32;
-    /// Writes the name of the curve whose identifier has this content with a byte 0 behind it, and
-    /// stores the length of both.
+    /// Writes the name of the curve whose identifier has this content and a byte 0, and stores the
+    /// length of both.
     ///
     /// # Safety
     ///
@@ -347,8 +346,7 @@ unsafe extern "C" {
     ///
     /// `out` is writable for `out_len` bytes, `len` is writable, and they don't overlap.
     pub fn sec1_point_identity(out: *mut u8, out_len: usize, len: *mut usize) -> u32;
-    /// Writes the hexadecimal text of a point with a byte 0 behind it, and stores the length of
-    /// both.
+    /// Writes the hexadecimal text of a point and a byte 0, and stores the length of both.
     ///
     /// # Safety
     ///

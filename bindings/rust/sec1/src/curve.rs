@@ -29,15 +29,15 @@ use sec1_sys::{SEC1_CURVE_NAME_MAX as NAME_MAX, SEC1_IDENTIFIER_CONTENT_MAX as C
 #[derive(Clone, Copy, Eq, Hash, PartialEq)]
 pub struct Curve {
     identifier: ObjectIdentifier,
-    // The name, with zeros behind it.
+    // The name, followed by zeros.
     name: [u8; NAME_MAX],
     name_len: u8,
     field_len: u8,
 }
 
 impl Curve {
-    /// Returns the curve with this name: that of SEC 2, as `secp256r1`, of FIPS 186-4, as `P-256`,
-    /// of ANSI X9.62, as `prime256v1`, or of RFC 5639. The case of letters counts.
+    /// Returns the curve with this name: that of SEC 2 (`secp256r1`), FIPS 186-4 (`P-256`), ANSI
+    /// X9.62 (`prime256v1`) or RFC 5639. The case of letters counts.
     ///
     /// # Errors
     ///

@@ -1,6 +1,6 @@
-//! What private keys need of DER (X.690): errors, lengths, the traits of elements and of contents,
-//! readers, writers, identifiers and documents, with the names of the crate `der`; and elements and
-//! trees, which are this crate's own.
+//! The part of DER (X.690) that private keys need: errors, lengths, the traits of elements and of
+//! contents, readers, writers, identifiers and documents, with the names of the crate `der`; and
+//! elements and trees, which are this crate's own.
 
 pub mod asn1;
 #[cfg(feature = "alloc")]
@@ -104,8 +104,8 @@ pub trait Decode<'a>: Sized + 'a {
     ///
     /// # Errors
     ///
-    /// The bytes aren't the encoding of such a value. The kind and the position are those of the
-    /// first fault.
+    /// An error if the bytes aren't the encoding of such a value. The kind and the position are
+    /// those of the first fault.
     ///
     /// # Examples
     ///
@@ -124,7 +124,7 @@ pub trait Decode<'a>: Sized + 'a {
     /// # Errors
     ///
     /// Those of [`Header::decode`], and those of `from_der` on the bytes of that element, in which
-    /// a position is counted from its beginning. The reader is unchanged then.
+    /// a position is counted from its beginning. On an error the reader is unchanged.
     ///
     /// # Examples
     ///

@@ -68,12 +68,12 @@ impl<Size: ModulusSize> EncodedPoint<Size> {
         Encoding::read(input.as_ref()).and_then(Self::of)
     }
 
-    /// Returns the point of an encoding that hasn't the tag of a hybrid one.
+    /// Returns the point of an encoding that doesn't have the tag of a hybrid point.
     fn of(encoding: Encoding<Size>) -> Result<Self> {
         Ok(Self { encoding, tag: Tag::of_number(encoding.tag())? })
     }
 
-    /// Returns the uncompressed point with these coordinates, one after the other.
+    /// Returns the uncompressed point with these coordinates, x and then y.
     ///
     /// # Examples
     ///
@@ -228,7 +228,7 @@ impl<Size: ModulusSize> EncodedPoint<Size> {
         self.encoding.compress().and_then(Self::of).unwrap_or(*self)
     }
 
-    /// Returns the hybrid form of an uncompressed point, and `None` of any other.
+    /// Returns the hybrid form of an uncompressed point, and `None` for any other.
     ///
     /// The crate `sec1` has no such call.
     ///
@@ -284,7 +284,7 @@ impl<Size: ModulusSize> EncodedPoint<Size> {
         }
     }
 
-    /// Borrows the x-coordinate, which only the point at infinity hasn't.
+    /// Borrows the x-coordinate; `None` for the point at infinity.
     ///
     /// # Examples
     ///
@@ -298,7 +298,7 @@ impl<Size: ModulusSize> EncodedPoint<Size> {
         self.encoding.x()
     }
 
-    /// Borrows the y-coordinate, which only uncompressed points have.
+    /// Borrows the y-coordinate; `None` unless the point is uncompressed.
     ///
     /// # Examples
     ///
@@ -313,7 +313,7 @@ impl<Size: ModulusSize> EncodedPoint<Size> {
         self.encoding.y()
     }
 
-    /// Makes this the point at infinity, and overwrites its bytes with zeros.
+    /// Turns this into the point at infinity, and overwrites its bytes with zeros.
     ///
     /// # Examples
     ///

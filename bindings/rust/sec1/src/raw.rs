@@ -415,7 +415,7 @@ pub(crate) fn document_len(bytes: &[u8]) -> Result<usize, Status> {
     answer(status, len)
 }
 
-/// Overwrites the bytes with zeros, also where nobody reads them again.
+/// Overwrites the bytes with zeros, even if nobody reads them again.
 pub(crate) fn wipe(bytes: &mut [u8]) {
     for byte in bytes {
         // SAFETY: a `&mut u8` is valid to be written and aligned. A volatile write is never left

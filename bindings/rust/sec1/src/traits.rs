@@ -29,14 +29,14 @@ pub trait DecodeEcPrivateKey: Sized {
     ///
     /// # Errors
     ///
-    /// The bytes aren't such a key.
+    /// An error if the bytes aren't such a key.
     fn from_sec1_der(bytes: &[u8]) -> Result<Self>;
 
     /// Reads the key from a file of DER.
     ///
     /// # Errors
     ///
-    /// The file can't be read, isn't one element, or isn't such a key.
+    /// An error if the file can't be read, isn't one element, or isn't such a key.
     #[cfg(feature = "std")]
     fn read_sec1_der_file(path: impl AsRef<Path>) -> Result<Self> {
         Self::from_sec1_der(SecretDocument::read_der_file(path)?.as_bytes())
@@ -68,14 +68,14 @@ pub trait EncodeEcPrivateKey {
     ///
     /// # Errors
     ///
-    /// The key can't be written.
+    /// An error if the key can't be written.
     fn to_sec1_der(&self) -> Result<SecretDocument>;
 
     /// Writes the key in DER to a file.
     ///
     /// # Errors
     ///
-    /// The key, or the file, can't be written.
+    /// An error if the key or the file can't be written.
     #[cfg(feature = "std")]
     fn write_sec1_der_file(&self, path: impl AsRef<Path>) -> Result<()> {
         Ok(self.to_sec1_der()?.write_der_file(path)?)

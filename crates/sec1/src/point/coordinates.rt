@@ -116,8 +116,7 @@ impl<'a, const N: usize> Coordinates<'a, N> {
     }
 }
 
-/// A coordinate, which is passed on in this form: the size of a bare array would have to be known
-/// at each call.
+/// A coordinate as a type of its own: for a bare array, each call would have to know its size.
 #[derive(Clone, Copy)]
 struct Coordinate<'a, const N: usize>(&'a [u8; N]);
 
@@ -174,7 +173,7 @@ fn write_item<W: fmt::Write>(f: &mut fmt::Formatter<W>, index: usize, byte: u8) 
     }
 }
 
-/// Two are equal if the variant, the flag and each byte are the same.
+/// Coordinates are equal if the variant, the flag and each byte are the same.
 impl<const N: usize> PartialEq for Coordinates<'_, N> {
     ghost eq = { λ c d. bytes_eq (coordinates_bytes c) (coordinates_bytes d) };
 

@@ -69,7 +69,7 @@ impl<const N: usize, const L: usize> Ord for EncodedPoint<N, L> {
         ensures bytes { result
             ≡ slice_cmp nat_cmp (encoding N (point_of self.now)) (encoding N (point_of other.now)) }
     {
-        // The compiler knows the length of these, and compares them without a loop or a call.
+        // The compiler knows the lengths here, and compares without a loop or a call.
         if self.len == L && other.len == L {
             return words_cmp(&self.bytes, &other.bytes);
         }
@@ -77,8 +77,8 @@ impl<const N: usize, const L: usize> Ord for EncodedPoint<N, L> {
     }
 }
 
-/// Compares the bytes: eight at a time, and then those that are left one by one. It is inlined, so
-/// that the compiler sees the lengths that the caller knows.
+/// Compares the bytes, eight at a time, and the rest one by one. Inlined, so that the compiler sees
+/// the lengths that the caller knows.
 #[inline(always)]
 #[tactic(auto, using(crate::proofs::ByteOrderLemmas::word_steps))]
 pub(super) fn words_cmp(a: &[u8], b: &[u8]) -> Ordering
@@ -116,7 +116,7 @@ pub(super) fn words_cmp(a: &[u8], b: &[u8]) -> Ordering
 }
 
 impl<const N: usize, const L: usize> Hash for EncodedPoint<N, L> {
-    // What the slice of the encoding feeds.
+    // The same as for the slice of the encoding.
     ghost hash_input = { λ p. fed.slice fed.u8 (encoding N (point_of p)) };
 
     ghost respects_eq = { λ p q h. ap (λ (r : Point). fed.slice fed.u8 (encoding N r))

@@ -15,7 +15,7 @@ impl<const N: usize, const L: usize> EncodedPoint<N, L> {
         ensures bytes { IsTrue result
             ↔ (encoding N (point_of self.now) ≡ encoding N (point_of other.now)) }
     {
-        // The compiler knows the length of these, and compares them without a loop or a call.
+        // The compiler knows the lengths here, and compares without a loop or a call.
         if self.len == L && other.len == L {
             return self.is_filled_as(other);
         }
@@ -45,7 +45,7 @@ impl<const N: usize, const L: usize> EncodedPoint<N, L> {
         EncodedPoint { bytes, len }
     }
 
-    /// Assigns the other point if the choice is `true`.
+    /// Replaces this point by the other if the choice is `true`.
     pub fn ct_assign(&mut self, other: &Self, choice: bool)
         ensures { point_of self.new ≡ (if choice then point_of other.now else point_of self.old) }
     {
@@ -59,7 +59,7 @@ impl<const N: usize, const L: usize> EncodedPoint<N, L> {
         a.ct_select(b, choice)
     }
 
-    /// Assigns the identity, with `00` in each byte of the buffer.
+    /// Turns the point into the identity, and sets each byte of the buffer to `00`.
     pub fn zeroize(&mut self)
         ensures point { point_of self.new ≡ identity }
         ensures wiped { IsWiped self.new }

@@ -120,7 +120,7 @@ fn decode_digits(text: &[u8], out: &mut [u8]) -> bool
 fn is_one_case(text: &[u8]) -> bool
     ensures { result ≡ is_one_case text.now }
 {
-    // No early end, so that the compiler tests many bytes at once.
+    // No early exit, so that the compiler tests many bytes at once.
     let mut has_upper = false;
     let mut has_lower = false;
     for c in text {

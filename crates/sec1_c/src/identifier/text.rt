@@ -10,8 +10,8 @@ use arrayvec::ArrayString;
 use itoa::Buffer;
 use sec1::der::ObjectIdentifier;
 
-/// The greatest length of a text in bytes, with a byte 0: a byte of the content takes four at most,
-/// three digits and a full stop, and the first arc and the byte 0 two more.
+/// The greatest length of a text in bytes, with a byte 0: a byte of the content takes at most four,
+/// for three digits and a full stop, and the first arc and the byte 0 take two more.
 const MAX: usize = 4 * 39 + 2;
 
 /// A text of at most 158 bytes.

@@ -95,9 +95,9 @@ fn digit(value: u8, lower_case: usize) -> u8
 ///
 /// # Errors
 ///
-/// Returns the number of Buffer if `out` is too short, and stores the length; or that of
-/// PointEncoding if it isn't the text of a point, and another one if the field length isn't
-/// supported, and leaves `len` unchanged. `out` is unchanged in each case.
+/// Returns the number of Buffer if `out` is too short, and stores the length; otherwise that of
+/// PointEncoding if it isn't the text of a point, or that of a field length that isn't supported,
+/// and leaves `len` unchanged. `out` is unchanged in each case.
 #[unsafe(no_mangle)]
 #[tactic(auto, using(crate::proofs::HexTextLemmas::point_texts))]
 pub extern "C" fn sec1_point_from_hex(

@@ -18,7 +18,7 @@ use crate::status::field_length_number;
 /// # Errors
 ///
 /// Returns the number of Buffer if `out` is too short, and stores the length; or that of a field
-/// length that isn't supported if `x` has no bytes or more than 66, or `y` has another length than
+/// length that isn't supported if `x` has no bytes or more than 66, or if `y` is not as long as
 /// `x`, and leaves `len` unchanged. `out` is unchanged in both cases.
 #[unsafe(no_mangle)]
 #[tactic(auto, using(crate::proofs::PointLemmas::made_forms))]

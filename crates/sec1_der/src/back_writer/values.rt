@@ -11,7 +11,7 @@ impl<'b> BackWriter<'b> {
     ///
     /// # Errors
     ///
-    /// Those of [`encoded_len`], then Buffer if the element has no room.
+    /// Those of [`encoded_len`], then Buffer if there is no room for the element.
     pub fn element<T: EncodeValue + Tagged>(&mut self, value: &T) -> Result<()>
         ensures { WritesInFront (element_of T.tag_byte (T.content value.now)) self.old self.new
             result }
@@ -20,13 +20,13 @@ impl<'b> BackWriter<'b> {
         self.put_element(value)
     }
 
-    /// Prepends the element of a value, without testing the room first. If there is less room, or
-    /// if the value has no encoding, any bytes may have been prepended.
+    /// Prepends the element of a value, without testing the room first. On an error any bytes may
+    /// have been prepended.
     ///
     /// # Errors
     ///
-    /// Overlength or Buffer if there is no encoding, or if the element has no room. Succeeds
-    /// otherwise.
+    /// Overlength or Buffer, exactly when the value has no encoding or there is no room for the
+    /// element.
     pub fn put_element<T: EncodeValue + Tagged>(&mut self, value: &T) -> Result<()>
         ensures { Puts (element_of T.tag_byte (T.content value.now)) self.old self.new result }
     {

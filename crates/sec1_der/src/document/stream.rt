@@ -22,10 +22,10 @@ use std::rt::Files;
 const STEP: usize = 4096;
 
 impl SecretDocument {
-    /// Reads one element up to the end of the input. The header is read one byte at a time, the
-    /// content at most 4,096 bytes at a time. Then one byte more is asked for, to find the end.
-    /// Whatever the header announces, memory grows by at most 4,096 bytes at once, and only when it
-    /// is full. No reader gives more than the element and this byte.
+    /// Reads the one element that is all of the remaining input. The header is read one byte at a
+    /// time, the content at most 4,096 bytes at a time; then one more byte is asked for, to find
+    /// the end, and nothing after it. Whatever the header announces, memory grows by at most 4,096
+    /// bytes at once, and only when it is full.
     ///
     /// # Errors
     ///
@@ -36,7 +36,7 @@ impl SecretDocument {
     #[tactic(auto, using(crate::proofs::StreamLemmas::element_faults))]
     pub fn read_der_from<R: Read>(alloc: Global, reader: &mut R) -> Result<SecretDocument>
         requires { R.failed reader.old ≡ false }
-        // Io comes exactly where a read failed.
+        // Io is returned exactly when a read failed.
         ensures io { Refuses result Io ↔ IsTrue (R.failed reader.new) }
         // The document is all that was taken, and the input has ended.
         ensures found { IfOk result (ConsumesElement (Takes R.left R.taken reader.old reader.new)
@@ -84,7 +84,7 @@ impl SecretDocument {
     ///
     /// # Errors
     ///
-    /// Io exactly if a write failed; a prefix of the bytes is written then.
+    /// Io exactly when a write failed, after a prefix of the bytes was written.
     pub fn write_der_to<W: Write>(&self, writer: &mut W) -> Result<()>
         requires { W.failed writer.old ≡ false }
         ensures io { IsErr result ↔ IsTrue (W.failed writer.new) }
@@ -112,7 +112,7 @@ impl SecretDocument {
     }
 }
 
-/// Reads one element up to the end of the input.
+/// Reads the one element that is all of the remaining input.
 #[tactic(auto, using(crate::proofs::StreamLemmas::element_refusals))]
 fn read_element<R: Read>(alloc: Global, reader: &mut R) -> Result<SecretDocument>
     requires { R.failed reader.old ≡ false }
@@ -194,7 +194,7 @@ pub(crate) fn read_content<R: Read>(
 ///
 /// # Errors
 ///
-/// [`IoFault`] exactly if a read failed; fewer bytes than the slice has are read then.
+/// [`IoFault`] exactly when a read failed, after fewer bytes than the slice has.
 #[tactic(auto, using(crate::proofs::StreamLemmas::reads_part))]
 fn fill<R: Read>(reader: &mut R, buf: &mut [u8]) -> std::result::Result<usize, IoFault>
     requires { R.failed reader.old ≡ false }

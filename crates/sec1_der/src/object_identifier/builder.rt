@@ -17,7 +17,7 @@ pub(crate) struct Builder {
     arcs: Arcs,
 }
 
-/// The arcs that were added.
+/// The arcs that have been added.
 #[derive(Drop)]
 enum Arcs {
     /// None.
@@ -40,7 +40,7 @@ impl Model for Builder {
 }
 
 impl Builder {
-    /// Creates a builder with no arc.
+    /// Creates a builder without arcs.
     pub(crate) fn new() -> Builder
         ensures { result ≡ [] }
     {

@@ -16,21 +16,21 @@ impl<'a> SliceReader<'a> {
     ///
     /// # Errors
     ///
-    /// Truncated if no input remains; Tag if the next byte isn't that tag; then Length or Truncated
-    /// if no length in the form of DER follows, or if the input ends inside the content; then those
-    /// of [`DecodeValue::decode_value`]; Failed if the reader failed before. The reader has failed
-    /// then, and its remaining input is as it was.
+    /// Truncated if no input remains; Tag if the next byte isn't that tag; then Length if no length
+    /// in the form of DER follows, or Truncated if the input ends inside the header or the content;
+    /// then those of [`DecodeValue::decode_value`]; Failed if the reader failed before. On an error
+    /// the reader has failed, and its remaining input is as it was.
     pub fn decode<T: DecodeValue<'a> + Tagged>(&mut self) -> Result<T>
         // What is read is the element of the value, and just its bytes are read.
         ensures found { IfOk result (λ value. IsSomeAnd (T.content value) (λ content.
             HasReadElement T.tag_byte content self.old self.new)) }
-        // Where the unread bytes begin with the element of a value, it is read.
+        // If the unread bytes begin with the element of a value, it is read.
         ensures only { (value : T) (content rest : List ℕ) → T.content value ≡ Some content
             → length content ≤ max_length
             → self.old ≡ reader_over (element T.tag_byte content ++ rest)
             → IsOkAnd result (λ found. T.content found ≡ Some content)
             × (self.new ≡ reader_over rest) }
-        // Where they begin with an element whose content the rule of the type accepts, it is read.
+        // If they begin with an element whose content the rule of the type accepts, it is read.
         ensures rule { (content rest : List ℕ) → T.fault content ≡ None
             → length content ≤ max_length
             → self.old ≡ reader_over (element T.tag_byte content ++ rest)
@@ -56,7 +56,7 @@ impl<'a> SliceReader<'a> {
     ///
     /// Those of [`decode`](SliceReader::decode) for the field and for the element inside;
     /// TrailingData if bytes follow that element inside the field; Failed if the reader failed
-    /// before. The reader has failed then, and its remaining input is as it was.
+    /// before. On an error the reader has failed, and its remaining input is as it was.
     pub fn context_specific<T: DecodeValue<'a> + Tagged + Drop>(
         &mut self,
         number: u8,
@@ -68,15 +68,15 @@ impl<'a> SliceReader<'a> {
             (length content ≤ max_length)
             × HasReadElement (explicit_tag number) (element T.tag_byte content) self.old
             self.new))) }
-        // None means that no such field is next.
+        // `None` means that no such field is next.
         ensures missing { IfOk result (λ field. IfNone field ((self.new ≡ self.old)
             × (slice_get self.old.unread 0 ≢ Some (explicit_tag number)))) }
 
-        // Where another byte is next, or none, nothing is read.
+        // If another byte is next, or none, nothing is read.
         ensures absent { self.old.failed ≡ false
             → slice_get self.old.unread 0 ≢ Some (explicit_tag number)
             → (result ≡ Ok None) × (self.new ≡ self.old) }
-        // Where the unread bytes begin with such a field, it is read.
+        // If the unread bytes begin with such a field, it is read.
         ensures only { (value : T) (content rest : List ℕ) → T.content value ≡ Some content
             → length content ≤ max_length → length (element T.tag_byte content) ≤ max_length
             → self.old ≡ reader_over
@@ -111,9 +111,10 @@ impl<'a> SliceReader<'a> {
     ///
     /// # Errors
     ///
-    /// Truncated if no input remains; Tag if the next byte isn't that tag; then Length or Truncated
-    /// if no length in the form of DER follows, or if the input ends inside the content; Failed if
-    /// the reader failed before. The reader has failed then, and its remaining input is as it was.
+    /// Truncated if no input remains; Tag if the next byte isn't that tag; then Length if no length
+    /// in the form of DER follows, or Truncated if the input ends inside the header or the content;
+    /// Failed if the reader failed before. On an error the reader has failed, and its remaining
+    /// input is as it was.
     pub fn open(&mut self, tag: Tag) -> Result<SliceReader<'a>>
         ensures found { IfOk result (λ content. (content ≡ reader_over content.unread)
             × HasReadElement tag content.unread self.old self.new) }

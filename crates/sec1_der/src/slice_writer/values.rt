@@ -15,7 +15,7 @@ impl<'b> SliceWriter<'b> {
     ///
     /// # Errors
     ///
-    /// Those of [`EncodePart::part_len`], then Buffer if the content has no room.
+    /// Those of [`EncodePart::part_len`], then Buffer if there is no room for the content.
     #[tactic(auto, using(std::proofs::lemmas::Slice::overwrites))]
     pub(crate) fn parts<P: EncodePart>(&mut self, parts: &P) -> Result<()>
         ensures { WritesBehind (within_limit (P.bytes parts.now)) self.old self.new result }
@@ -32,7 +32,7 @@ impl<'b> SliceWriter<'b> {
     ///
     /// # Errors
     ///
-    /// Those of [`encoded_len`], then Buffer if the element has no room.
+    /// Those of [`encoded_len`], then Buffer if there is no room for the element.
     pub fn element<T: EncodeValue + Tagged>(&mut self, value: &T) -> Result<()>
         ensures { WritesBehind (element_of T.tag_byte (T.content value.now)) self.old self.new
             result }

@@ -113,7 +113,7 @@ fn refuses_long_inputs_in_der(rt: HostRuntime) -> Result<(), Fail> {
     Ok(())
 }
 
-/// A writer that takes all bytes, and can't be flushed.
+/// A writer that takes all bytes, and fails when it is flushed.
 #[derive(Drop)]
 struct Unflushed;
 

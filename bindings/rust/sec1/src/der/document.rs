@@ -60,7 +60,7 @@ impl SecretDocument {
         self.len
     }
 
-    /// Returns `true` if there are no bytes, which never holds.
+    /// Returns `true` if there are no bytes, which is never so.
     ///
     /// # Examples
     ///
@@ -139,8 +139,8 @@ impl SecretDocument {
         Self::try_from(fs::read(path)?)
     }
 
-    /// Writes the document to a file. A file that is made here may be read and written by its owner
-    /// alone; one that was there keeps its permissions.
+    /// Writes the document to a file. A new file can be read and written only by its owner; an
+    /// existing one keeps its permissions.
     ///
     /// # Errors
     ///

@@ -1,4 +1,4 @@
-//! Elements and trees of DER, for programs that look into other documents than keys.
+//! Elements and trees of DER, for programs that read documents other than keys.
 
 use super::{Error, ErrorKind, Result};
 use crate::raw;
@@ -15,7 +15,7 @@ use core::fmt;
 /// use sec1::EcPrivateKey;
 /// use sec1::der::{Element, Result};
 ///
-/// // A key within a container: the content of an octet string behind an integer.
+/// // A key within a container: the content of an octet string after an integer.
 /// let bytes = [2, 1, 0, 4, 8, 0x30, 6, 2, 1, 1, 4, 1, 9];
 /// let (version, rest) = Element::read(&bytes)?;
 /// let (wrapped, rest) = Element::read(rest)?;
@@ -31,7 +31,7 @@ pub struct Element<'a> {
 
 impl<'a> Element<'a> {
     /// Reads the element at the beginning of the bytes, with any content, and returns it and the
-    /// bytes behind it.
+    /// bytes after it.
     ///
     /// # Errors
     ///

@@ -59,7 +59,7 @@ pub enum ErrorKind {
     Curve,
     /// The library returned what its contract rules out.
     Failed,
-    /// The memory for the result was refused.
+    /// The memory for the result couldn't be allocated.
     Memory,
     /// A file couldn't be read or written.
     #[cfg(feature = "std")]
@@ -103,7 +103,7 @@ impl Error {
         })
     }
 
-    /// Returns the error of a status, at the offset that the library told.
+    /// Returns the error of a status, at the offset that the library stored.
     pub(crate) fn at(status: Status, offset: Option<usize>) -> Error {
         let position = offset.and_then(|offset| Length::try_from(offset).ok());
         Error { position, ..Error::of(status) }
@@ -123,12 +123,12 @@ impl Error {
         self.kind
     }
 
-    /// Returns the offset of the first fault in the bytes that were read, where the library tells
-    /// it: of a private key, and of a tree. It is `None` above 4,294,967,295.
+    /// Returns the offset of the first fault in the bytes that were read, for a private key or a
+    /// tree; otherwise, and above 4,294,967,295, `None`.
     ///
     /// It is the offset of the tag byte, of the first byte of the length or of the content that is
-    /// refused, of the first byte after the last part, or the number of bytes where they end before
-    /// a tag.
+    /// refused, of the first byte after the last part, or the number of bytes if they end before a
+    /// tag.
     ///
     /// # Examples
     ///

@@ -13,7 +13,7 @@ use crate::raw;
 /// assert_eq!(ObjectIdentifier::TAG, Tag::ObjectIdentifier);
 /// assert_eq!(Tag::try_from(0x30), Ok(Tag::Sequence));
 /// assert_eq!(u8::from(Tag::Integer), 2);
-/// // This byte begins a tag of more bytes.
+/// // This byte begins a tag of several bytes.
 /// assert!(Tag::try_from(0x1F).is_err());
 /// ```
 #[derive(Clone, Copy, Debug, Eq, Hash, Ord, PartialEq, PartialOrd)]
@@ -78,11 +78,11 @@ pub struct Header {
 }
 
 impl Header {
-    /// Reads the header of the next element, whose content has to be there too.
+    /// Reads the header of the next element. The content has to be there too.
     ///
     /// # Errors
     ///
-    /// Those of [`Element::read`](super::Element::read). The reader is unchanged then.
+    /// Those of [`Element::read`](super::Element::read). On an error the reader is unchanged.
     ///
     /// # Examples
     ///
@@ -133,7 +133,7 @@ impl Header {
         self.length
     }
 
-    /// Reads the content behind this header, which the reader has just read, and borrows both.
+    /// Reads the content after this header, which the reader has just read, and borrows both.
     ///
     /// # Errors
     ///
@@ -148,7 +148,7 @@ impl Header {
     }
 }
 
-/// Borrows the bytes that aren't read yet.
+/// Borrows the bytes that haven't been read.
 fn unread<'r, R: Reader<'r>>(reader: &R) -> Result<&'r [u8]> {
     let start = usize::try_from(reader.position())?;
     reader.input().get(start..).ok_or(Error::of_kind(ErrorKind::Failed))

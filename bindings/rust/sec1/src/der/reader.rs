@@ -5,12 +5,12 @@ use super::{Decode, Error, ErrorKind, Length, Result};
 mod sealed {
     /// What this crate needs of a reader.
     pub trait Input<'r> {
-        /// Borrows all of the bytes, also those that were read.
+        /// Borrows all of the bytes, including those that were read.
         fn input(&self) -> &'r [u8];
     }
 }
 
-/// A position in some bytes. [`SliceReader`] alone implements it.
+/// A position in some bytes. Only [`SliceReader`] implements it.
 ///
 /// # Examples
 ///
@@ -18,7 +18,7 @@ mod sealed {
 /// use sec1::der::{Reader, SliceReader, asn1::ObjectIdentifier};
 /// use sec1::EcPrivateKey;
 ///
-/// // A key behind an identifier.
+/// // A key after an identifier.
 /// let mut reader = SliceReader::new(&[6, 1, 0x2A, 0x30, 6, 2, 1, 1, 4, 1, 9])?;
 /// let identifier: ObjectIdentifier = reader.decode()?;
 /// let key: EcPrivateKey<'_> = reader.decode()?;
@@ -51,7 +51,7 @@ pub trait Reader<'r>: Clone + sealed::Input<'r> {
     /// ```
     fn position(&self) -> Length;
 
-    /// Returns the number of bytes that aren't read yet.
+    /// Returns the number of bytes that haven't been read.
     ///
     /// # Examples
     ///
@@ -79,11 +79,11 @@ pub trait Reader<'r>: Clone + sealed::Input<'r> {
         self.remaining_len() == Length::default()
     }
 
-    /// Borrows this number of the next bytes, and reads them.
+    /// Reads and borrows this number of bytes.
     ///
     /// # Errors
     ///
-    /// [`ErrorKind::Truncated`] if there are fewer. The reader is unchanged then.
+    /// [`ErrorKind::Truncated`] if there are fewer. On an error the reader is unchanged.
     ///
     /// # Examples
     ///
@@ -101,7 +101,7 @@ pub trait Reader<'r>: Clone + sealed::Input<'r> {
     ///
     /// # Errors
     ///
-    /// Those of [`Decode::decode`]. The reader is unchanged then.
+    /// Those of [`Decode::decode`]. On an error the reader is unchanged.
     ///
     /// # Examples
     ///
@@ -117,11 +117,11 @@ pub trait Reader<'r>: Clone + sealed::Input<'r> {
         T::decode(self)
     }
 
-    /// Ends the reading.
+    /// Checks that all bytes were read.
     ///
     /// # Errors
     ///
-    /// [`ErrorKind::TrailingData`] if some bytes aren't read.
+    /// [`ErrorKind::TrailingData`] if some weren't.
     ///
     /// # Examples
     ///

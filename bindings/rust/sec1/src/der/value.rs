@@ -37,11 +37,11 @@ pub trait DecodeValue<'a>: Sized {
     /// The error of a refusal.
     type Error: From<Error> + 'static;
 
-    /// Reads the value from the content behind a header, which the reader has just read.
+    /// Reads the value from the content after a header, which the reader has just read.
     ///
     /// # Errors
     ///
-    /// The bytes aren't the content of such a value.
+    /// An error if the bytes aren't the content of such a value.
     ///
     /// # Examples
     ///
@@ -76,7 +76,7 @@ pub trait EncodeValue {
     ///
     /// # Errors
     ///
-    /// The value can't be encoded.
+    /// An error if the value can't be encoded.
     ///
     /// # Examples
     ///
@@ -92,7 +92,7 @@ pub trait EncodeValue {
     ///
     /// # Errors
     ///
-    /// The value can't be encoded, or the writer can't write it.
+    /// An error if the value can't be encoded, or the writer can't write it.
     ///
     /// # Examples
     ///

@@ -29,7 +29,7 @@ pub trait Writer {
     ///
     /// # Errors
     ///
-    /// They can't be written.
+    /// An error if they can't be written.
     ///
     /// # Examples
     ///
@@ -49,7 +49,7 @@ pub trait Writer {
     ///
     /// # Errors
     ///
-    /// It can't be written.
+    /// An error if it can't be written.
     ///
     /// # Examples
     ///
@@ -67,7 +67,7 @@ pub trait Writer {
     }
 }
 
-/// A writer into a slice, from its beginning on.
+/// A writer into a slice, from its beginning.
 ///
 /// # Examples
 ///

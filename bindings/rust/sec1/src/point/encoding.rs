@@ -13,7 +13,7 @@ type Room<Size> = Array<u8, <Size as ModulusSize>::UncompressedPointSize>;
 /// The encoding of a point of any tag.
 #[derive(Clone, Copy)]
 pub(super) struct Encoding<Size: ModulusSize> {
-    // The encoding, with zeros behind it.
+    // The encoding, followed by zeros.
     bytes: Room<Size>,
     // What the library returned: the length and the tag, and where the coordinates begin.
     len: u8,
@@ -47,7 +47,7 @@ impl<Size: ModulusSize> Encoding<Size> {
         Self::of_parts(bytes, len, parts)
     }
 
-    /// Keeps what the library told of an encoding.
+    /// Keeps what the library stored for an encoding.
     fn of_parts(bytes: Room<Size>, len: usize, parts: PointParts) -> Result<Self> {
         let small = |number: usize| u8::try_from(number).map_err(|_| Error::PointEncoding);
         let begin = |part: Part| match part.present {
@@ -114,7 +114,7 @@ impl<Size: ModulusSize> Encoding<Size> {
     /// Compares two points.
     pub(super) fn compare(&self, other: &Self) -> Ordering {
         let (first, second) = (self.as_bytes(), other.as_bytes());
-        // Not reached: the library refuses no two points. `Less` never takes two for the same.
+        // Not reached: the library compares any two points. `Less` never takes two for the same.
         raw::point_compare(first, second, Size::USIZE).unwrap_or(Ordering::Less)
     }
 

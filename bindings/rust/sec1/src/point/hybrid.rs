@@ -11,12 +11,11 @@ use core::fmt::{self, Debug};
 use core::hash::{Hash, Hasher};
 use core::str::FromStr;
 
-/// A hybrid point (ANSI X9.62): both coordinates behind the tag 6 or 7, which says whether y is
-/// odd.
+/// A hybrid point (ANSI X9.62): both coordinates after the tag 6 or 7, which says whether y is odd.
 ///
 /// The crate `sec1` refuses these, and so does [`EncodedPoint`], whose tags are those of `sec1`. A
-/// program that accepts them says so by this type. An encoding whose tag isn't that of its y is
-/// refused. It isn't tested that the point lies on a curve.
+/// program that accepts them uses this type. An encoding whose tag isn't that of its y is refused.
+/// It isn't tested that the point lies on a curve.
 ///
 /// # Examples
 ///

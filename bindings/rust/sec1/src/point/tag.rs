@@ -37,8 +37,8 @@ impl Tag {
     ///
     /// # Errors
     ///
-    /// [`Error::PointEncoding`] if no tag has this byte. So have the tags 6 and 7 of hybrid points,
-    /// as in the crate `sec1`: [`HybridPoint`](super::HybridPoint) reads them.
+    /// [`Error::PointEncoding`] if no tag has this byte. That includes 6 and 7, the tags of hybrid
+    /// points, as in the crate `sec1`: [`HybridPoint`](super::HybridPoint) reads these.
     ///
     /// # Examples
     ///
@@ -107,7 +107,7 @@ impl Tag {
     }
 
     /// Returns the length of an encoding with this tag over a field whose elements have this
-    /// length. Above the greatest `usize` it is that.
+    /// length, at most `usize::MAX`.
     ///
     /// # Examples
     ///
