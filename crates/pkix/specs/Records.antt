@@ -1,5 +1,5 @@
--- The structures of certificates and containers: the content of each SEQUENCE, and the kind by which
--- bytes are refused as one.
+-- The structures of certificates and containers: the content of each SEQUENCE, and the kind by
+-- which bytes are refused as one.
 use Rattle.std.specs.Prelude.{◌≡◌, ◌∷◌, [], ℕ, List, Option, Some, Result, Ok, IfOk, IfErr}
 use Rattle.std.specs.Option.{option_map}
 use Rattle.sec1_der.specs.Elements.{element_of}
