@@ -11,26 +11,9 @@ ghost use Rattle.sec1.specs.Points.{Point};
 ghost use Rattle.sec1.specs.Der.{HasFault, IsReadingFault, element_fault, element_of, end_fault};
 
 use pkix::Certificate;
-use sec1::der::{ErrorKind, read_der};
+use sec1::der::ErrorKind;
 use sec1::point::EncodedPoint32;
-use sec1::{Error, Result, der};
-
-/// Reads a certificate (RFC 5280 section 4.1).
-///
-/// # Errors
-///
-/// Those of [`read_der`].
-pub fn read_certificate<'a>(bytes: &'a [u8]) -> der::Result<Certificate<'a>>
-    ensures found { IfOk result (λ certificate.
-        element_of 0x30 (certificate_content certificate) ≡ Some bytes.now) }
-    ensures only { (certificate : Certificate)
-        → element_of 0x30 (certificate_content certificate) ≡ Some bytes.now
-        → result ≡ Ok certificate }
-    ensures kinds { IfErr result (λ e. IsReadingFault e.kind) }
-    ensures kind { HasFault result (element_fault 0x30 certificate_fault end_fault bytes.now) }
-{
-    read_der(bytes)
-}
+use sec1::{Error, Result};
 
 /// Returns the public key of a certificate on a curve whose field has 32 bytes, such as P-256.
 ///
@@ -67,6 +50,6 @@ pub fn public_point(bytes: &[u8]) -> Result<EncodedPoint32>
         → element_of 0x30 (certificate_content certificate) ≡ Some bytes.now
         → IfErr result (λ e. (e ≡ Error.Crypto) ⊎ (e ≡ Error.PointEncoding)) }
 {
-    let certificate = read_certificate(bytes)?;
+    let certificate = Certificate::from_der(bytes)?;
     certificate.tbs_certificate.public_key.point()
 }

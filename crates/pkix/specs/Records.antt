@@ -1,22 +1,25 @@
--- The structures of certificates: the content of each SEQUENCE, and the kind by which bytes are
--- refused as one.
-use Rattle.std.specs.Prelude.{◌∷◌, [], ℕ, List, Option, Some}
+-- The structures of certificates and containers: the content of each SEQUENCE, and the kind by
+-- which bytes are refused as one.
+use Rattle.std.specs.Prelude.{◌≡◌, ◌∷◌, [], ℕ, List, Option, Some, Result, Ok, IfOk, IfErr}
 use Rattle.std.specs.Option.{option_map}
 use Rattle.sec1_der.specs.Elements.{element_of}
 use Rattle.sec1_der.specs.Parts.{join, optional_of}
-use Rattle.sec1_der.specs.Faults.{Fault, no_fault, element_fault, end_fault, optional_fault}
+use Rattle.sec1_der.specs.ErrorKinds.{IsReadingFault}
+use Rattle.sec1_der.specs.Faults.{Fault, HasFault, no_fault, element_fault, end_fault}
+use Rattle.sec1_der.specs.Faults.{optional_fault}
+use Rattle.sec1_der.specs.declared.error.Error.{Error}
 use Rattle.der_types.specs.AnyElements.{all_tags, any_of, any_element_fault}
 use Rattle.der_types.specs.BitStrings.{bit_string_content}
 use Rattle.der_types.specs.Choices.{choice_of, choice_fault, optional_bytes, optional_part_fault}
 use Rattle.der_types.specs.Booleans.{boolean_content, is_boolean}
 use Rattle.der_types.specs.Defaults.{defaulted_of, other_fault}
-use Rattle.der_types.specs.Integers.{is_integer}
+use Rattle.der_types.specs.Integers.{is_integer, is_unsigned, unsigned_content}
 use Rattle.der_types.specs.Leaves.{content_if}
 use Rattle.der_types.specs.ObjectIdentifiers.{is_object_identifier}
 use Rattle.der_types.specs.Rows.{row_fault, row_of}
-use Rattle.der_types.specs.Sets.{set_fault}
+use Rattle.der_types.specs.Sets.{set_fault, set_of}
 use Rattle.der_types.specs.Times.{is_utc_time, is_generalized_time}
-use Rattle.sec1_der.specs.Contents.{bit_string_fault, value_unless}
+use Rattle.sec1_der.specs.Contents.{bit_string_fault, byte_fault, value_unless}
 use Rattle.der_types.specs.declared.choice.Choice.{Choice}
 use Rattle.pkix.specs.declared.algorithm.AlgorithmIdentifier.{AlgorithmIdentifier}
 use Rattle.pkix.specs.Versions.{is_later_version, later_version_content}
@@ -24,7 +27,10 @@ use Rattle.pkix.specs.declared.certificate.Certificate.{Certificate}
 use Rattle.pkix.specs.declared.certificate.TbsCertificate.{TbsCertificate}
 use Rattle.pkix.specs.declared.extension.Extension.{Extension}
 use Rattle.pkix.specs.declared.name.AttributeTypeAndValue.{AttributeTypeAndValue}
+use Rattle.pkix.specs.declared.private_key.OneAsymmetricKey.{OneAsymmetricKey}
+use Rattle.pkix.specs.declared.private_key.PrivateKeyInfo.{PrivateKeyInfo}
 use Rattle.pkix.specs.declared.public_key.SubjectPublicKeyInfo.{SubjectPublicKeyInfo}
+use Rattle.pkix.specs.declared.signature.EcdsaSigValue.{EcdsaSigValue}
 use Rattle.pkix.specs.declared.validity.Validity.{Validity}
 
 -- RFC 5280 section 4.1.1.2: AlgorithmIdentifier ::= SEQUENCE {
@@ -151,3 +157,69 @@ abbrev pub certificate_fault : Fault
 certificate_fault =
     element_fault 0x30 tbs_fault
     (element_fault 0x30 algorithm_fault (element_fault 0x03 bit_string_fault end_fault))
+
+-- RFC 5958 section 2: Attribute ::= SEQUENCE { attrType OBJECT IDENTIFIER, attrValues SET OF
+-- AttributeValue }. The values aren't examined.
+abbrev pub key_attribute_fault : Fault
+key_attribute_fault =
+    element_fault 0x06 identifier_fault (element_fault 0x31 no_fault end_fault)
+
+-- RFC 5208 section 5: PrivateKeyInfo ::= SEQUENCE {
+--   version INTEGER { v1(0) }, privateKeyAlgorithm AlgorithmIdentifier, privateKey OCTET STRING,
+--   attributes [0] IMPLICIT SET OF Attribute OPTIONAL }
+abbrev pub private_key_content : PrivateKeyInfo → Option (List ℕ)
+private_key_content value =
+    join (element_of 0x02 (Some (0 ∷ [])))
+    (join (element_of 0x30 (algorithm_content value.algorithm))
+    (join (element_of 0x04 (Some value.private_key))
+    (optional_of 0xA0 (option_map (set_of 0x30 key_attribute_fault) value.attributes))))
+
+abbrev pub private_key_fault : Fault
+private_key_fault =
+    element_fault 0x02 (byte_fault 0)
+    (element_fault 0x30 algorithm_fault
+    (element_fault 0x04 no_fault
+    (optional_fault 0xA0 (set_fault 0x30 key_attribute_fault) end_fault)))
+
+-- RFC 5958 section 2: OneAsymmetricKey ::= SEQUENCE {
+--   version INTEGER { v2(1) }, privateKeyAlgorithm AlgorithmIdentifier, privateKey OCTET STRING,
+--   attributes [0] IMPLICIT SET OF Attribute OPTIONAL, publicKey [1] IMPLICIT BIT STRING OPTIONAL }
+abbrev pub asymmetric_key_content : OneAsymmetricKey → Option (List ℕ)
+asymmetric_key_content value =
+    join (element_of 0x02 (Some (1 ∷ [])))
+    (join
+    (join (element_of 0x30 (algorithm_content value.algorithm))
+    (element_of 0x04 (Some value.private_key)))
+    (join (optional_of 0xA0 (option_map (set_of 0x30 key_attribute_fault) value.attributes))
+    (optional_of 0x81 (option_map bit_string_content value.public_key))))
+
+abbrev pub asymmetric_key_fault : Fault
+asymmetric_key_fault =
+    element_fault 0x02 (byte_fault 1)
+    (element_fault 0x30 algorithm_fault
+    (element_fault 0x04 no_fault
+    (optional_fault 0xA0 (set_fault 0x30 key_attribute_fault)
+    (optional_fault 0x81 bit_string_fault end_fault))))
+
+-- RFC 3279 section 2.2.3: Ecdsa-Sig-Value ::= SEQUENCE { r INTEGER, s INTEGER }
+abbrev pub signature_content : EcdsaSigValue → Option (List ℕ)
+signature_content value =
+    join (element_of 0x02 (Some (unsigned_content value.r)))
+    (element_of 0x02 (Some (unsigned_content value.s)))
+
+abbrev pub unsigned_fault : Fault
+unsigned_fault number = value_unless (is_unsigned number)
+
+abbrev pub signature_fault : Fault
+signature_fault = element_fault 0x02 unsigned_fault (element_fault 0x02 unsigned_fault end_fault)
+
+-- how a whole structure is read, by its content and its fault
+pub record Reads {T : Type 0} (content : T → Option (List ℕ)) (fault : Fault) (bytes : List ℕ)
+    (result : Result T Error) : Type 0 where
+  -- what is read has these bytes
+  pub found : IfOk result (λ value. element_of 0x30 (content value) ≡ Some bytes)
+  -- the value with these bytes is read
+  pub only : (value : T) → element_of 0x30 (content value) ≡ Some bytes → result ≡ Ok value
+  pub kinds : IfErr result (λ e. IsReadingFault e.kind)
+  -- whether the bytes are refused, and by which kind, is a function of them
+  pub kind : HasFault result (element_fault 0x30 fault end_fault bytes)

@@ -4,6 +4,7 @@ ghost use Rattle.sec1_der.specs.Elements.{element_of};
 ghost use Rattle.sec1_der.specs.Parts.{AreApart, one_tag};
 ghost use Rattle.sec1_der.specs.PartLaws.{element_begins};
 ghost use Rattle.sec1_der.specs.Faults.{element_fault};
+ghost use Rattle.pkix.specs.Records.{Reads, certificate_content, certificate_fault};
 ghost use Rattle.pkix.specs.Records.{tbs_content, tbs_fault};
 
 use crate::{AlgorithmIdentifier, Extension, LaterVersion, Name, SubjectPublicKeyInfo, Validity};
@@ -11,7 +12,7 @@ use der_types::{Bits, Implicit, Integer, SequenceOf};
 use sec1_der::{
     BackWriter, Context0, Context3, DecodePart, Distinct, EncodePart, Explicit, Length, Optional,
     Part, Primitive1, Primitive2, Record, Required, Result, SliceReader, UniquePart, component_len,
-    decode_component,
+    decode_component, read_der,
 };
 
 /// A TBSCertificate (RFC 5280 section 4.1.2).
@@ -230,4 +231,17 @@ impl<'a> Record for Certificate<'a> {
 
 impl Distinct for Certificate<'_> {
     ghost apart = { refl };
+}
+
+impl<'a> Certificate<'a> {
+    /// Reads a certificate from its whole DER encoding.
+    ///
+    /// # Errors
+    ///
+    /// Those of [`read_der`].
+    pub fn from_der(bytes: &'a [u8]) -> Result<Certificate<'a>>
+        ensures { Reads certificate_content certificate_fault bytes.now result }
+    {
+        read_der(bytes)
+    }
 }

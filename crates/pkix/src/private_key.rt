@@ -1,10 +1,13 @@
 //! Containers of private keys.
 ghost use Rattle.std.specs.Prelude.{refl, true};
+ghost use Rattle.pkix.specs.Records.{Reads, asymmetric_key_content, asymmetric_key_fault};
+ghost use Rattle.pkix.specs.Records.{private_key_content, private_key_fault};
 
 use crate::AlgorithmIdentifier;
 use der_types::{Bits, Implicit, Kind, Leaf, ObjectIdentifierRef, SetOf};
 use sec1_der::{
-    Context0, Distinct, Octets, Optional, Primitive1, Record, Required, SmallInteger, Tag, Tagged,
+    Context0, Distinct, Octets, Optional, Primitive1, Record, Required, Result, SmallInteger, Tag,
+    Tagged, read_der,
 };
 
 /// The SET of the values of an attribute, whose content isn't examined.
@@ -197,4 +200,30 @@ impl<'a> Record for OneAsymmetricKey<'a> {
 
 impl Distinct for OneAsymmetricKey<'_> {
     ghost apart = { refl };
+}
+
+impl<'a> PrivateKeyInfo<'a> {
+    /// Reads a container of version 0 from its whole DER encoding.
+    ///
+    /// # Errors
+    ///
+    /// Those of [`read_der`].
+    pub fn from_der(bytes: &'a [u8]) -> Result<PrivateKeyInfo<'a>>
+        ensures { Reads private_key_content private_key_fault bytes.now result }
+    {
+        read_der(bytes)
+    }
+}
+
+impl<'a> OneAsymmetricKey<'a> {
+    /// Reads a container of version 1 from its whole DER encoding.
+    ///
+    /// # Errors
+    ///
+    /// Those of [`read_der`].
+    pub fn from_der(bytes: &'a [u8]) -> Result<OneAsymmetricKey<'a>>
+        ensures { Reads asymmetric_key_content asymmetric_key_fault bytes.now result }
+    {
+        read_der(bytes)
+    }
 }

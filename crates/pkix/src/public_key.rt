@@ -4,13 +4,13 @@ ghost use Rattle.sec1_der.specs.Elements.{element_of};
 ghost use Rattle.sec1_der.specs.Parts.{AreApart, one_tag};
 ghost use Rattle.sec1_der.specs.PartLaws.{element_begins};
 ghost use Rattle.sec1_der.specs.Faults.{element_fault};
-ghost use Rattle.pkix.specs.Records.{public_key_content, public_key_fault};
+ghost use Rattle.pkix.specs.Records.{Reads, public_key_content, public_key_fault};
 
 use crate::AlgorithmIdentifier;
 use der_types::Bits;
 use sec1_der::{
     BackWriter, DecodePart, Distinct, EncodePart, Length, Part, Record, Required, Result,
-    SliceReader, UniquePart, component_len, decode_component,
+    SliceReader, UniquePart, component_len, decode_component, read_der,
 };
 
 /// A SubjectPublicKeyInfo (RFC 5280 section 4.1).
@@ -81,5 +81,18 @@ impl UniquePart for SubjectPublicKeyInfo<'_> {
         ensures { AreApart (one_tag 0x30) (λ value. element_of 0x30 (public_key_content value)) }
     {
         Required::<SubjectPublicKeyInfo>::one_part();
+    }
+}
+
+impl<'a> SubjectPublicKeyInfo<'a> {
+    /// Reads a public key with its algorithm from its whole DER encoding.
+    ///
+    /// # Errors
+    ///
+    /// Those of [`read_der`].
+    pub fn from_der(bytes: &'a [u8]) -> Result<SubjectPublicKeyInfo<'a>>
+        ensures { Reads public_key_content public_key_fault bytes.now result }
+    {
+        read_der(bytes)
     }
 }

@@ -1,8 +1,9 @@
 //! Signatures of ECDSA.
 ghost use Rattle.std.specs.Prelude.{refl};
+ghost use Rattle.pkix.specs.Records.{Reads, signature_content, signature_fault};
 
 use der_types::Unsigned;
-use sec1_der::{Distinct, Record, Required};
+use sec1_der::{Distinct, Record, Required, Result, read_der};
 
 /// An ECDSA-Sig-Value (RFC 3279 section 2.2.3). A contract sees the numbers.
 #[derive(Drop)]
@@ -33,4 +34,17 @@ impl<'a> Record for EcdsaSigValue<'a> {
 
 impl Distinct for EcdsaSigValue<'_> {
     ghost apart = { refl };
+}
+
+impl<'a> EcdsaSigValue<'a> {
+    /// Reads a signature from its whole DER encoding.
+    ///
+    /// # Errors
+    ///
+    /// Those of [`read_der`].
+    pub fn from_der(bytes: &'a [u8]) -> Result<EcdsaSigValue<'a>>
+        ensures { Reads signature_content signature_fault bytes.now result }
+    {
+        read_der(bytes)
+    }
 }

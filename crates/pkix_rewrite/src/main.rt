@@ -7,7 +7,7 @@ mod fields;
 
 use fields::{certificate, one_asymmetric_key, private_key_info, public_key_info, signature};
 use pkix::{Certificate, EcdsaSigValue, OneAsymmetricKey, PrivateKeyInfo, SubjectPublicKeyInfo};
-use sec1_der::{EncodeValue, ErrorKind, Tagged, read_der, to_der};
+use sec1_der::{EncodeValue, ErrorKind, Tagged, to_der};
 use std::alloc::{AllocError, Global};
 use std::io;
 use std::io::{BufRead, BufReader};
@@ -27,7 +27,7 @@ fn refused(alloc: Global, kind: ErrorKind) -> Result<String, AllocError> {
 
 /// Returns the line for a certificate.
 fn certificate_line(alloc: Global, bytes: &[u8]) -> Result<String, AllocError> {
-    match read_der::<Certificate>(bytes) {
+    match Certificate::from_der(bytes) {
         Ok(value) => {
             let fields = certificate(alloc, &value)?;
             let written = written(alloc, &value, bytes);
@@ -39,7 +39,7 @@ fn certificate_line(alloc: Global, bytes: &[u8]) -> Result<String, AllocError> {
 
 /// Returns the line for a public key.
 fn public_key_line(alloc: Global, bytes: &[u8]) -> Result<String, AllocError> {
-    match read_der::<SubjectPublicKeyInfo>(bytes) {
+    match SubjectPublicKeyInfo::from_der(bytes) {
         Ok(value) => {
             let fields = public_key_info(alloc, &value)?;
             let written = written(alloc, &value, bytes);
@@ -51,7 +51,7 @@ fn public_key_line(alloc: Global, bytes: &[u8]) -> Result<String, AllocError> {
 
 /// Returns the line for a container of a private key, of version 0 or 1.
 fn private_key_line(alloc: Global, bytes: &[u8]) -> Result<String, AllocError> {
-    match read_der::<PrivateKeyInfo>(bytes) {
+    match PrivateKeyInfo::from_der(bytes) {
         Ok(value) => {
             let fields = private_key_info(alloc, &value)?;
             let written = written(alloc, &value, bytes);
@@ -65,7 +65,7 @@ fn private_key_line(alloc: Global, bytes: &[u8]) -> Result<String, AllocError> {
 
 /// Returns the line for a container of version 1.
 fn one_asymmetric_key_line(alloc: Global, bytes: &[u8]) -> Result<String, AllocError> {
-    match read_der::<OneAsymmetricKey>(bytes) {
+    match OneAsymmetricKey::from_der(bytes) {
         Ok(value) => {
             let fields = one_asymmetric_key(alloc, &value)?;
             let written = written(alloc, &value, bytes);
@@ -77,7 +77,7 @@ fn one_asymmetric_key_line(alloc: Global, bytes: &[u8]) -> Result<String, AllocE
 
 /// Returns the line for a signature.
 fn signature_line(alloc: Global, bytes: &[u8]) -> Result<String, AllocError> {
-    match read_der::<EcdsaSigValue>(bytes) {
+    match EcdsaSigValue::from_der(bytes) {
         Ok(value) => {
             let fields = signature(alloc, &value)?;
             let written = written(alloc, &value, bytes);

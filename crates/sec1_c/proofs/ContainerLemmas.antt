@@ -12,7 +12,7 @@ use Rattle.der_types.specs.BitStrings.{BitString}
 use Rattle.der_types.specs.Rows.{is_whole}
 use Rattle.der_types.specs.Sets.{set_fault, set_of}
 use Rattle.pkix.specs.EcKeys.{IsOnCurve}
-use Rattle.pkix.specs.Records.{algorithm_content, algorithm_fault}
+use Rattle.pkix.specs.Records.{algorithm_content, algorithm_fault, key_attribute_fault, private_key_content}
 use Rattle.pkix.specs.declared.private_key.OneAsymmetricKey.{OneAsymmetricKey}
 use Rattle.pkix.specs.declared.private_key.PrivateKeyInfo.{PrivateKeyInfo}
 use Rattle.sec1_der.proofs.ComponentLemmas as components
@@ -27,7 +27,7 @@ use Rattle.sec1_der.specs.Faults.{parts_fault, within}
 use Rattle.sec1_der.specs.declared.error.Error.{Error}
 use Rattle.sec1_der.specs.declared.error.ErrorKind.{ErrorKind}
 use Rattle.sec1_der.specs.declared.error.ErrorKind.TheVariants.{Tag, Value}
-use Rattle.sec1_c.specs.Containers.{AreContainerPartsOf, IsContainer, IsVersionZero, after_key, attribute_fault}
+use Rattle.sec1_c.specs.Containers.{AreContainerPartsOf, IsContainer, IsVersionZero, after_key}
 use Rattle.sec1_c.specs.Containers.{container_content, container_fault, container_places, has_version_one}
 use Rattle.sec1_c.specs.Containers.{of_version_zero, version_fault}
 use Rattle.sec1_c.specs.Fields.{bytes_len}
@@ -119,7 +119,7 @@ version_chosen f g (byte ∷ bytes) = by (byte == 0x02) (within (length_at bytes
 abbrev behind_version : Fault
 behind_version =
     element_fault 0x30 algorithm_fault
-    (element_fault 0x04 no_fault (optional_fault 0xA0 (set_fault 0x30 attribute_fault) end_fault))
+    (element_fault 0x04 no_fault (optional_fault 0xA0 (set_fault 0x30 key_attribute_fault) end_fault))
 
 -- the kinds by which bytes are refused as a container of version 0 and of version 1
 abbrev pub zero_fault : Fault
@@ -163,24 +163,16 @@ join_assoc (Some a) None c = refl
 join_assoc (Some a) (Some b) None = refl
 join_assoc (Some a) (Some b) (Some c) = ap Some (append_assoc a b c)
 
--- the content of a PrivateKeyInfo, as its parts are grouped
-abbrev pub info_content : PrivateKeyInfo → Option (List ℕ)
-info_content info =
-    join (element_of 0x02 (Some (0 ∷ [])))
-    (join (element_of 0x30 (algorithm_content info.algorithm))
-    (join (element_of 0x04 (Some info.private_key))
-    (optional_of 0xA0 (option_map (set_of 0x30 attribute_fault) info.attributes))))
-
-regrouped : (info : PrivateKeyInfo) → info_content info ≡ container_content 0 (of_version_zero info)
+regrouped : (info : PrivateKeyInfo) → private_key_content info ≡ container_content 0 (of_version_zero info)
 regrouped info =
     let algorithm = element_of 0x30 (algorithm_content info.algorithm) in
     let key = element_of 0x04 (Some info.private_key) in
-    let attributes = optional_of 0xA0 (option_map (set_of 0x30 attribute_fault) info.attributes) in
+    let attributes = optional_of 0xA0 (option_map (set_of 0x30 key_attribute_fault) info.attributes) in
     ap (join (element_of 0x02 (Some (0 ∷ []))))
     (sym (join_assoc algorithm key attributes) ∙ ap (join (join algorithm key)) (sym (components.alone attributes)))
 
 -- a PrivateKeyInfo is a container of version 0
-pub is_container : (info : PrivateKeyInfo) (bytes : List ℕ) → element_of 0x30 (info_content info) ≡ Some bytes
+pub is_container : (info : PrivateKeyInfo) (bytes : List ℕ) → element_of 0x30 (private_key_content info) ≡ Some bytes
     → IsContainer (of_version_zero info) bytes
 is_container info bytes is =
     inl (record { no_public_key = refl; bytes_are = sym (ap (element_of 0x30) (regrouped info)) ∙ is })
@@ -189,7 +181,7 @@ is_container info bytes is =
 record IsInfo (container : OneAsymmetricKey) (bytes : List ℕ) : Type 0 where
   info : PrivateKeyInfo
   same : of_version_zero info ≡ container
-  bytes_are : element_of 0x30 (info_content info) ≡ Some bytes
+  bytes_are : element_of 0x30 (private_key_content info) ≡ Some bytes
 
 is_info : (container : OneAsymmetricKey) (bytes : List ℕ) → IsVersionZero container bytes → IsInfo container bytes
 is_info container bytes is =
@@ -213,7 +205,7 @@ is_info container bytes is =
 
 -- what is read as a PrivateKeyInfo is the only container
 pub only_zero : (info : PrivateKeyInfo) (container : OneAsymmetricKey) (bytes : List ℕ) → zero_fault bytes ≡ None
-    → ((found : PrivateKeyInfo) → element_of 0x30 (info_content found) ≡ Some bytes
+    → ((found : PrivateKeyInfo) → element_of 0x30 (private_key_content found) ≡ Some bytes
     → ◌≡◌ {A = Result PrivateKeyInfo Error} (Ok info) (Ok found))
     → IsContainer container bytes
     → of_version_zero info ≡ container
@@ -225,7 +217,7 @@ only_zero info container bytes passes only (inr is) = absurd (cc (sym passes ∙
 
 -- a container that isn't read as a PrivateKeyInfo is of version 1
 pub only_one : (error : Error) (container : OneAsymmetricKey) (bytes : List ℕ)
-    → ((found : PrivateKeyInfo) → element_of 0x30 (info_content found) ≡ Some bytes → Err error ≡ Ok found)
+    → ((found : PrivateKeyInfo) → element_of 0x30 (private_key_content found) ≡ Some bytes → Err error ≡ Ok found)
     → IsContainer container bytes
     → element_of 0x30 (container_content 1 container) ≡ Some bytes
 only_one error container bytes only (inl is) =
@@ -235,7 +227,7 @@ only_one error container bytes only (inr is) = is
 
 -- what is refused by another kind than Value is no container
 pub no_other : (error : Error) (container : OneAsymmetricKey) (bytes : List ℕ)
-    → ((found : PrivateKeyInfo) → element_of 0x30 (info_content found) ≡ Some bytes → Err error ≡ Ok found)
+    → ((found : PrivateKeyInfo) → element_of 0x30 (private_key_content found) ≡ Some bytes → Err error ≡ Ok found)
     → zero_fault bytes ≡ Some error.kind → error.kind ≢ Value → IsContainer container bytes → ⊥
 no_other error container bytes only e other is =
     other (cc (sym e ∙ other_version container bytes (only_one error container bytes only is)))

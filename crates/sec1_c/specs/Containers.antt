@@ -9,7 +9,7 @@ use Rattle.der_types.specs.BitStrings.{bit_string_content}
 use Rattle.der_types.specs.Rows.{is_whole}
 use Rattle.der_types.specs.Sets.{set_fault, set_of}
 use Rattle.pkix.specs.EcKeys.{IsOnCurve}
-use Rattle.pkix.specs.Records.{algorithm_content, algorithm_fault, identifier_fault}
+use Rattle.pkix.specs.Records.{algorithm_content, algorithm_fault, key_attribute_fault}
 use Rattle.pkix.specs.declared.private_key.OneAsymmetricKey.{OneAsymmetricKey}
 use Rattle.pkix.specs.declared.private_key.PrivateKeyInfo.{PrivateKeyInfo}
 use Rattle.sec1_der.specs.Contents.{bit_string_fault, byte_fault}
@@ -20,17 +20,12 @@ use Rattle.sec1_c.specs.Fields.{bytes_len}
 use Rattle.sec1_c.specs.Places.{StandsAt, part_before}
 use Rattle.sec1_c.specs.declared.container.PrivateKeyInfoParts.{PrivateKeyInfoParts}
 
--- RFC 5958 section 2: Attributes ::= SET OF Attribute; Attribute ::= SEQUENCE {
---   attrType OBJECT IDENTIFIER, attrValues SET OF AttributeValue }. The values aren't examined.
-abbrev pub attribute_fault : Fault
-attribute_fault = element_fault 0x06 identifier_fault (element_fault 0x31 no_fault end_fault)
-
 -- RFC 5958 section 2: what follows the private key, attributes [0] IMPLICIT Attributes OPTIONAL and
 -- publicKey [1] IMPLICIT BIT STRING OPTIONAL. The attributes are in ascending order (X.690 section
 -- 11.6).
 abbrev pub after_key : OneAsymmetricKey → Option (List ℕ)
 after_key container =
-    join (optional_of 0xA0 (option_map (set_of 0x30 attribute_fault) container.attributes))
+    join (optional_of 0xA0 (option_map (set_of 0x30 key_attribute_fault) container.attributes))
     (optional_of 0x81 (option_map bit_string_content container.public_key))
 
 -- RFC 5958 section 2: OneAsymmetricKey ::= SEQUENCE { version INTEGER,
@@ -78,7 +73,7 @@ version_fault version behind =
     element_fault 0x02 (byte_fault version)
     (element_fault 0x30 algorithm_fault
     (element_fault 0x04 no_fault
-    (optional_fault 0xA0 (set_fault 0x30 attribute_fault) behind)))
+    (optional_fault 0xA0 (set_fault 0x30 key_attribute_fault) behind)))
 
 -- whether the content begins with the INTEGER 1
 abbrev pub has_version_one : List ℕ → Bool

@@ -11,7 +11,7 @@ use crate::fields::fields_len;
 use crate::part::Part;
 use crate::status::{OK, kind_number};
 use pkix::Certificate;
-use sec1_der::{Record, read_der};
+use sec1_der::Record;
 
 /// Stores the place of the SubjectPublicKeyInfo in a certificate, which is all of `bytes`. It is
 /// the place of a whole element, from which `sec1_public_key_read` reads an EC public key.
@@ -34,7 +34,7 @@ pub extern "C" fn sec1_certificate_public_key(bytes: &[u8], part: &mut Part) -> 
         ≡ fault_number (element_fault 0x30 certificate_fault end_fault bytes.now) }
     ensures unchanged { result ≢ 0 → part.new ≡ part.old }
 {
-    match read_der::<Certificate>(bytes) {
+    match Certificate::from_der(bytes) {
         Ok(certificate) => {
             *part = public_key_place(bytes, &certificate);
             OK

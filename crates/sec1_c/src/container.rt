@@ -13,7 +13,7 @@ use crate::part::Part;
 use crate::status::{OK, curve_number, kind_number};
 use curves::Curve;
 use pkix::{OneAsymmetricKey, PrivateKeyInfo};
-use sec1_der::{ErrorKind, Record, Result, read_der};
+use sec1_der::{ErrorKind, Record, Result};
 
 /// The places of an EC private key's parts in its container.
 #[repr(C)]
@@ -76,11 +76,11 @@ fn read_container(bytes: &[u8]) -> Result<OneAsymmetricKey<'_>>
         → result ≡ Ok container }
     ensures kind { HasFault result (element_fault 0x30 container_fault end_fault bytes.now) }
 {
-    match read_der::<PrivateKeyInfo>(bytes) {
+    match PrivateKeyInfo::from_der(bytes) {
         Ok(info) => Ok(of_version_zero(info)),
         Err(error) => match error.kind {
             // The version comes first, and any but 0 is refused as Value.
-            ErrorKind::Value => read_der(bytes),
+            ErrorKind::Value => OneAsymmetricKey::from_der(bytes),
             _ => Err(error),
         },
     }

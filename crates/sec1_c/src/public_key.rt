@@ -64,7 +64,7 @@ pub extern "C" fn sec1_public_key_read(bytes: &[u8], parts: &mut PublicKeyParts)
         → result ≡ error_number Error.PointEncoding }
     ensures unchanged { result ≢ 0 → parts.new ≡ parts.old }
 {
-    let info = match der::read_der::<SubjectPublicKeyInfo>(bytes) {
+    let info = match SubjectPublicKeyInfo::from_der(bytes) {
         Ok(info) => info,
         Err(error) => return kind_number(error.kind),
     };

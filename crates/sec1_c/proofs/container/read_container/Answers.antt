@@ -13,13 +13,13 @@ returns-in-Ok-clause-only c container is =
 
 pub returns-in-Value-clause-only : goal.returns-in-Value-clause-only
 returns-in-Value-clause-only c container is =
-    c.read_der-in-Value.ensures.only container
+    c.from_der-in-Value.ensures.only container
     (only_one c.in-Err.error container c.args.bytes.now c.in-Err.ensures.only is)
 
 pub returns-in-Value-clause-kind : goal.returns-in-Value-clause-kind
 returns-in-Value-clause-kind c =
     rw (by_value c.args.bytes.now c.in-Err.error.kind c.in-Err.ensures.kind c.in-Value.is)
-    c.read_der-in-Value.ensures.kind
+    c.from_der-in-Value.ensures.kind
 
 pub returns-in_default : goal.returns-in_default
 returns-in_default c =
