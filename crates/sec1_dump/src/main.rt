@@ -63,7 +63,7 @@ fn parsed<'a>(alloc: Global, words: &'a [String]) -> Result<ArgMatches<'a>, Erro
         .help("Prints a line of JSON");
     let file = Arg::new(alloc, "FILE").help("DER, hexadecimal or PEM; standard input if absent");
     Command::new(alloc, "sec1_dump")
-        .version("0.1.0")
+        .version("0.2.0")
         .about("Draws the elements of DER, and names the fields of an EC private key")
         .arg(all)?
         .arg(json)?
