@@ -33,6 +33,7 @@ converted() {
 {
     openssl ecparam -name prime256v1 -genkey -noout -out ec.pem
     openssl ec -in ec.pem -outform DER -out whole.der
+    { openssl ecparam -name prime256v1 && cat ec.pem; } >curve_and_key.pem
     openssl pkcs8 -topk8 -nocrypt -in ec.pem -out pkcs8.pem
     openssl pkcs8 -topk8 -nocrypt -in ec.pem -outform DER -out pkcs8.der
     openssl pkcs8 -topk8 -passout pass:x -in ec.pem -out encrypted.pem
@@ -49,11 +50,12 @@ converted() {
 } >made 2>&1
 
 "$program" whole.der >output && tell 'the key is read' yes || tell 'the key is read' no
-for file in ec.pem pkcs8.pem pkcs8.der encrypted.pem encrypted.der explicit.der key.p12 public.der \
-    certificate.der rsa.der openssh; do
+for file in ec.pem curve_and_key.pem pkcs8.pem pkcs8.der encrypted.pem encrypted.der explicit.der \
+    key.p12 public.der certificate.der rsa.der openssh; do
     refused "$file"
 done
 converted openssl ec -in ec.pem -outform DER -out key.der
+converted openssl ec -in curve_and_key.pem -outform DER -out key.der
 converted openssl ec -in pkcs8.pem -outform DER -out key.der
 converted openssl ec -in encrypted.pem -passin pass:x -outform DER -out key.der
 converted openssl ec -inform DER -in pkcs8.der -outform DER -out key.der

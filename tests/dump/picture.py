@@ -42,6 +42,8 @@ PKCS12 = "  openssl pkcs12 -in FILE -nodes -nocerts\n"
 NAMED = COMMAND % "-inform DER -in FILE -param_enc named_curve "
 LABELS = {
     "EC PRIVATE KEY-----": "This is an EC private key in PEM. This makes DER of it:\n" + OF_PEM,
+    "EC PARAMETERS-----":
+        "This is a curve in PEM. If a key follows it, this makes DER of that:\n" + OF_PEM,
     "PRIVATE KEY-----": "This is PKCS #8 in PEM. This makes a key of it:\n" + OF_PEM,
     "ENCRYPTED PRIVATE KEY-----":
         "This is PKCS #8, encrypted, in PEM. This makes a key of it, with its password:\n" + OF_PEM,
