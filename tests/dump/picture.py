@@ -28,12 +28,12 @@ CURVES |= {
     for n, bits in enumerate(BRAINPOOL) for t in (1, 2)
 }
 WORDS = {
-    "Truncated": "the input or an element around ends too early",
-    "Tag": "another tag than can be here",
-    "Length": "no length of DER",
-    "TrailingData": "more bytes than can be here",
-    "Value": "another content than can be here",
-    "Depth": "more than 64 elements in one another",
+    "Truncated": "the input or an enclosing element ends too early",
+    "Tag": "a tag that can't be here",
+    "Length": "no length in the form of DER",
+    "TrailingData": "bytes that can't be here",
+    "Value": "a content that can't be here",
+    "Depth": "more than 64 nested elements",
 }
 COMMAND = "  openssl ec %s-outform DER -out key.der\n"
 OF_DER = COMMAND % "-inform DER -in FILE "
@@ -44,9 +44,10 @@ LABELS = {
     "EC PRIVATE KEY-----": "This is an EC private key in PEM. This makes DER of it:\n" + OF_PEM,
     "EC PARAMETERS-----":
         "This is a curve in PEM. If a key follows it, this makes DER of that:\n" + OF_PEM,
-    "PRIVATE KEY-----": "This is PKCS #8 in PEM. This makes a key of it:\n" + OF_PEM,
+    "PRIVATE KEY-----": "This is PKCS #8 in PEM. If it holds an EC key, this writes it:\n" + OF_PEM,
     "ENCRYPTED PRIVATE KEY-----":
-        "This is PKCS #8, encrypted, in PEM. This makes a key of it, with its password:\n" + OF_PEM,
+        "This is encrypted PKCS #8 in PEM. If it holds an EC key, "
+        "this asks for the password and writes it:\n" + OF_PEM,
     "OPENSSH PRIVATE KEY-----":
         "This is OpenSSH's own form. This makes PEM of a copy of it:\n  ssh-keygen -p -m PEM -f COPY\n",
     "": "This is PEM, of another kind than a private key.\n",
@@ -287,15 +288,15 @@ def advice(data, rows):
         if shape[2] == (2, 6) and contents[2] == "2a8648ce3d0201":
             return "This is a public key, SubjectPublicKeyInfo: it has no private key.\n"
         if shape[2] == (2, 6) and contents[2] == "2a864886f70d01050d":
-            words = "This is PKCS #8, encrypted. This makes a key of it, with its password:\n"
-            return words + OF_DER
+            words = "This is encrypted PKCS #8. If it holds an EC key, "
+            return words + "this asks for the password and writes it:\n" + OF_DER
         if shape[2] == (2, 0xA0):
             return "This looks like a certificate: it has no private key.\n"
     if shape[1] == (1, 2) and contents[1] == "00":
         if shape[2] == (1, 0x30):
-            return "This is PKCS #8. This makes a key of it:\n" + OF_DER
+            return "This is PKCS #8. If it holds an EC key, this writes it:\n" + OF_DER
         if shape[2] == (1, 2):
-            return "This looks like an RSA key: it is no EC key.\n"
+            return "This looks like an RSA key, not an EC key.\n"
     if shape[1] == (1, 2) and contents[1] == "03" and shape[2] == (1, 0x30):
         words = "This looks like PKCS #12. This writes its keys as PEM:\n"
         return words + PKCS12

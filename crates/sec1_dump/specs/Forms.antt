@@ -83,12 +83,13 @@ of_pem = codes "  openssl ec -in FILE -outform DER -out key.der\n"
 
 -- what helps
 abbrev pub advice : Form → List ℕ
-advice Pkcs8 = codes "This is PKCS #8. This makes a key of it:\n" ++ of_der
+advice Pkcs8 = codes "This is PKCS #8. If it holds an EC key, this writes it:\n" ++ of_der
 advice Encrypted =
-    codes "This is PKCS #8, encrypted. This makes a key of it, with its password:\n" ++ of_der
+    codes "This is encrypted PKCS #8. If it holds an EC key, "
+    ++ (codes "this asks for the password and writes it:\n" ++ of_der)
 advice PublicKey = codes "This is a public key, SubjectPublicKeyInfo: it has no private key.\n"
 advice Certificate = codes "This looks like a certificate: it has no private key.\n"
-advice Rsa = codes "This looks like an RSA key: it is no EC key.\n"
+advice Rsa = codes "This looks like an RSA key, not an EC key.\n"
 advice Pkcs12 =
     codes "This looks like PKCS #12. This writes its keys as PEM:\n"
     ++ codes "  openssl pkcs12 -in FILE -nodes -nocerts\n"
@@ -100,10 +101,10 @@ advice Explicit =
 advice PemKey = codes "This is an EC private key in PEM. This makes DER of it:\n" ++ of_pem
 advice PemParameters =
     codes "This is a curve in PEM. If a key follows it, this makes DER of that:\n" ++ of_pem
-advice PemPkcs8 = codes "This is PKCS #8 in PEM. This makes a key of it:\n" ++ of_pem
+advice PemPkcs8 = codes "This is PKCS #8 in PEM. If it holds an EC key, this writes it:\n" ++ of_pem
 advice PemEncrypted =
-    codes "This is PKCS #8, encrypted, in PEM. This makes a key of it, with its password:\n"
-    ++ of_pem
+    codes "This is encrypted PKCS #8 in PEM. If it holds an EC key, "
+    ++ (codes "this asks for the password and writes it:\n" ++ of_pem)
 advice OpenSsh =
     codes "This is OpenSSH's own form. This makes PEM of a copy of it:\n"
     ++ codes "  ssh-keygen -p -m PEM -f COPY\n"

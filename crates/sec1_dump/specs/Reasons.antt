@@ -11,12 +11,12 @@ use Rattle.sec1_der.specs.declared.error.ErrorKind.TheVariants.{TrailingData, Va
 
 -- the words for a kind
 abbrev pub kind_words : ErrorKind → List ℕ
-kind_words Truncated = codes "the input or an element around ends too early"
-kind_words Tag = codes "another tag than can be here"
-kind_words Length = codes "no length of DER"
-kind_words TrailingData = codes "more bytes than can be here"
-kind_words Value = codes "another content than can be here"
-kind_words Depth = codes "more than 64 elements in one another"
+kind_words Truncated = codes "the input or an enclosing element ends too early"
+kind_words Tag = codes "a tag that can't be here"
+kind_words Length = codes "no length in the form of DER"
+kind_words TrailingData = codes "bytes that can't be here"
+kind_words Value = codes "a content that can't be here"
+kind_words Depth = codes "more than 64 nested elements"
 kind_words kind = codes "another fault"
 
 -- the line for a fault, if there is one, behind what the bytes aren't

@@ -158,14 +158,14 @@ pub(crate) fn advice(form: Form) -> &'static str
     ensures { result.now ≡ advice form }
 {
     match form {
-        Form::Pkcs8 => "This is PKCS #8. This makes a key of it:\n  \
+        Form::Pkcs8 => "This is PKCS #8. If it holds an EC key, this writes it:\n  \
              openssl ec -inform DER -in FILE -outform DER -out key.der\n",
-        Form::Encrypted =>
-            "This is PKCS #8, encrypted. This makes a key of it, with its password:\n  \
+        Form::Encrypted => "This is encrypted PKCS #8. If it holds an EC key, \
+             this asks for the password and writes it:\n  \
              openssl ec -inform DER -in FILE -outform DER -out key.der\n",
         Form::PublicKey => "This is a public key, SubjectPublicKeyInfo: it has no private key.\n",
         Form::Certificate => "This looks like a certificate: it has no private key.\n",
-        Form::Rsa => "This looks like an RSA key: it is no EC key.\n",
+        Form::Rsa => "This looks like an RSA key, not an EC key.\n",
         Form::Pkcs12 => "This looks like PKCS #12. This writes its keys as PEM:\n  \
              openssl pkcs12 -in FILE -nodes -nocerts\n",
         Form::Explicit => "This is a key whose curve is given by its parameters. \
@@ -177,10 +177,10 @@ pub(crate) fn advice(form: Form) -> &'static str
         Form::PemParameters =>
             "This is a curve in PEM. If a key follows it, this makes DER of that:\n  \
              openssl ec -in FILE -outform DER -out key.der\n",
-        Form::PemPkcs8 => "This is PKCS #8 in PEM. This makes a key of it:\n  \
+        Form::PemPkcs8 => "This is PKCS #8 in PEM. If it holds an EC key, this writes it:\n  \
              openssl ec -in FILE -outform DER -out key.der\n",
-        Form::PemEncrypted =>
-            "This is PKCS #8, encrypted, in PEM. This makes a key of it, with its password:\n  \
+        Form::PemEncrypted => "This is encrypted PKCS #8 in PEM. If it holds an EC key, \
+             this asks for the password and writes it:\n  \
              openssl ec -in FILE -outform DER -out key.der\n",
         Form::OpenSsh => "This is OpenSSH's own form. This makes PEM of a copy of it:\n  \
              ssh-keygen -p -m PEM -f COPY\n",

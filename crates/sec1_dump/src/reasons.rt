@@ -12,12 +12,12 @@ pub(crate) fn kind_words(kind: ErrorKind) -> &'static str
     ensures { result.now ≡ kind_words kind }
 {
     match kind {
-        ErrorKind::Truncated => "the input or an element around ends too early",
-        ErrorKind::Tag => "another tag than can be here",
-        ErrorKind::Length => "no length of DER",
-        ErrorKind::TrailingData => "more bytes than can be here",
-        ErrorKind::Value => "another content than can be here",
-        ErrorKind::Depth => "more than 64 elements in one another",
+        ErrorKind::Truncated => "the input or an enclosing element ends too early",
+        ErrorKind::Tag => "a tag that can't be here",
+        ErrorKind::Length => "no length in the form of DER",
+        ErrorKind::TrailingData => "bytes that can't be here",
+        ErrorKind::Value => "a content that can't be here",
+        ErrorKind::Depth => "more than 64 nested elements",
         _ => "another fault",
     }
 }
