@@ -75,11 +75,12 @@ fn parsed<'a>(alloc: Global, words: &'a [String]) -> Result<ArgMatches<'a>, Erro
 ///
 /// # Errors
 ///
-/// Input if a read failed, or an allocation.
+/// Input if a read failed, Memory if an allocation did.
 fn read_input<R: io::Read + Drop>(alloc: Global, reader: R) -> Result<Vec<u8>, Failure> {
     let mut input = Vec::new(alloc);
     match reader.take(LIMIT as u64 + 1).read_to_end(&mut input) {
         Ok(_) => Ok(input),
+        Err(e) if e.kind() == io::ErrorKind::OutOfMemory => Err(Failure::Memory),
         Err(_) => Err(Failure::Input),
     }
 }
