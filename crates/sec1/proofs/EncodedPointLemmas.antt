@@ -1,6 +1,6 @@
 -- The point of a buffer that begins with its encoding.
-use Rattle.std.proofs.Common.{◌≡◌, ℕ, ◌+◌, ◌-◌, ◌*◌, ◌≤◌, cond, List, [], ◌∷◌, ◌++◌, length, get_or, take, drop, set}
-use Rattle.std.proofs.Common.{replicate, sym, ap, ◌∙◌, arith}
+use Rattle.std.proofs.Common.{◌≡◌, ℕ, ◌+◌, ◌-◌, ◌*◌, ◌<◌, ◌≤◌, cond, List, [], ◌∷◌, ◌++◌, length, get_or}
+use Rattle.std.proofs.Common.{take, drop, set, replicate, sym, ap, refl, ◌∙◌, arith}
 use Rattle.std.proofs.Common.{append_assoc, add-one, Some, Ok, nat_cmp, ◌↔◌, take_at, take_all, take-append-drop}
 use Rattle.std.proofs.Common.{length-append, length-drop, length-take}
 use Rattle.std.proofs.Common.{le_of_eq}
@@ -114,10 +114,39 @@ unfolding encoding
 compress_of n p rest y tag h e = grind (arith, add-one, append_assoc {A = ℕ}, take_at {A = ℕ}, length-fixed_width)
 
 -- With the tag of y's parity in front, the tag and x are the compressed form.
-pub compress_front : {N L : ℕ} (p : EncodedPoint N L) (y tag : ℕ) → Some y ≡ y_of (point_of p)
+compress_front : {N L : ℕ} (p : EncodedPoint N L) (y tag : ℕ) → Some y ≡ y_of (point_of p)
     → tag ≡ cond (is_odd y) 3 2
     → take (N + 1) (set p.bytes 0 tag) ≡ encoding N (compressed_point (point_of p))
 compress_front {N} p y tag h e = grind (arith, begins p, compress_of N (point_of p) (drop p.len p.bytes) y tag h e)
+
+-- An encoding of the greatest length has y behind x, and a shorter one has no y.
+whole_of : (n : ℕ) (p : Point) (x y : ℕ) → 1 ≤ n → length (encoding n p) ≡ 2 * n + 1
+    → point_from (byte_of (point_tag p)) x y ≡ p → Some y ≡ y_of p
+whole_of n p x y some e h = grind (arith, length-enc n p)
+
+short_of : (n : ℕ) (p : Point) → length (encoding n p) < 2 * n + 1 → compressed_point p ≡ p
+short_of n p short = grind (arith, length-enc n p)
+
+-- Of a point that doesn't fill the buffer, the compressed form is the encoding.
+pub short_front : {N L : ℕ} (p : EncodedPoint N L) → (p.len ≡ L → ⊥)
+    → take p.len (set p.bytes 0 (get_or p.bytes 0 0)) ≡ encoding N (compressed_point (point_of p))
+short_front {N} p short =
+    let len : length (encoding N (point_of p)) ≤ p.len = rw p.encoded (omega (arith, length-take {A = ℕ})) in
+    let same = short_of N (point_of p) (omega (arith, len, short, p.room, p.sizes.1)) in
+    rw same (grind (arith, p.encoded))
+
+-- Of a point that fills it, the compressed form is x behind the tag of y's parity.
+pub whole_front : {N L : ℕ} (p : EncodedPoint N L) (y : List ℕ) (tag : ℕ) → p.len ≡ L
+    → y ≡ take N (drop N (drop 1 p.bytes)) → length y ≡ N → tag ≡ cond (is_odd (number_of y)) 3 2
+    → take (N + 1) (set p.bytes 0 tag) ≡ encoding N (compressed_point (point_of p))
+whole_front {N} p y tag whole is long e =
+    let x = take N (drop 1 p.bytes) in
+    let room : 2 * N + 1 ≤ length p.bytes =
+    omega (arith, ap length is, long, length-take {A = ℕ}, length-drop {A = ℕ}, p.sizes.0) in
+    let len : length (encoding N (point_of p)) ≡ 2 * N + 1 =
+    rw p.encoded (omega (arith, length-take {A = ℕ}, room, whole, p.sizes.1)) in
+    let has = whole_of N (point_of p) (number_of x) (number_of y) p.sizes.0 len (made_of_halves p x y refl is) in
+    compress_front p (number_of y) tag has e
 
 hybrid_of : (n : ℕ) (p : Point) (rest : List ℕ) (tag : ℕ) → tag ≡ tag_byte (hybrid_point p)
     → take (length (encoding n p)) (set (encoding n p ++ rest) 0 tag) ≡ encoding n (hybrid_point p)

@@ -217,10 +217,12 @@ impl<const N: usize, const L: usize> EncodedPoint<N, L> {
         ensures front { take result.1 (set self.now.bytes 0 result.0)
             ≡ encoding N (compressed_point (point_of self.now)) }
     {
-        match self.y() {
-            Some(y) => (u8::from(Tag::compress_y(y)), N + 1),
-            None => (self.bytes[0], self.len),
+        // Uncompressed and hybrid points fill the buffer, and no others.
+        if self.len != L {
+            return (self.bytes[0], self.len);
         }
+        let (_, y) = self.halves();
+        (u8::from(Tag::compress_y(y)), N + 1)
     }
 
     /// Returns the hybrid form of an uncompressed point. Any other point is returned as it is.

@@ -1,5 +1,5 @@
 //! Parts of DER: headers, trees, identifiers, and documents from streams.
-ghost use Rattle.std.specs.Prelude.{false};
+ghost use Rattle.std.specs.Prelude.{◌<◌, false, length, OnOk};
 
 use crate::length_and_last;
 use sec1::der::{
@@ -10,7 +10,9 @@ use std::str::from_utf8;
 
 /// Returns a header, as a call that isn't inlined does.
 #[inline(never)]
-fn header(reader: &mut SliceReader) -> Result<Header> {
+fn header(reader: &mut SliceReader) -> Result<Header>
+    ensures { OnOk result (length reader.new.unread < length reader.old.unread) }
+{
     Header::decode(reader)
 }
 
@@ -26,11 +28,8 @@ fn identifier(content: &[u8]) -> Result<ObjectIdentifier> {
 pub extern "C" fn bench_headers_read(input: &[u8]) -> usize {
     let mut reader = SliceReader::new(input);
     let mut sum: usize = 0;
-    for _ in 0..input.len() {
-        match header(&mut reader) {
-            Ok(header) => sum = sum.wrapping_add(header.length.get()),
-            Err(_) => break,
-        }
+    while let Ok(header) = header(&mut reader) {
+        sum = sum.wrapping_add(header.length.get());
     }
     sum
 }
@@ -40,11 +39,8 @@ pub extern "C" fn bench_headers_read(input: &[u8]) -> usize {
 pub extern "C" fn bench_headers_read_inline(input: &[u8]) -> usize {
     let mut reader = SliceReader::new(input);
     let mut sum: usize = 0;
-    for _ in 0..input.len() {
-        match Header::decode(&mut reader) {
-            Ok(header) => sum = sum.wrapping_add(header.length.get()),
-            Err(_) => break,
-        }
+    while let Ok(header) = Header::decode(&mut reader) {
+        sum = sum.wrapping_add(header.length.get());
     }
     sum
 }

@@ -113,6 +113,26 @@ fn points(input: &[u8]) -> [EncodedPoint32; COUNT] {
     points
 }
 
+/// Copies the encoding of the point to the beginning of the slice, if it has room. Returns the
+/// length of the encoding.
+fn copy_front(point: &EncodedPoint32, out: &mut [u8]) -> usize {
+    let bytes = point.as_bytes();
+    if bytes.len() <= out.len() {
+        out[..bytes.len()].copy_from_slice(bytes);
+    }
+    bytes.len()
+}
+
+/// Compresses a point by a call that isn't inlined, and copies the encoding.
+fn copy_compressed(point: &EncodedPoint32, out: &mut [u8]) -> usize {
+    copy_front(&compress(point), out)
+}
+
+/// Compresses a point by a call that may be inlined, and copies the encoding.
+fn copy_compressed_inline(point: &EncodedPoint32, out: &mut [u8]) -> usize {
+    copy_front(&point.compress(), out)
+}
+
 /// Compresses 64 points, `rounds` times, and copies each encoding into the slice. Returns the sum
 /// of the lengths.
 #[unsafe(no_mangle)]
@@ -121,12 +141,7 @@ pub extern "C" fn bench_points_compress(input: &[u8], out: &mut [u8], rounds: us
     let mut sum: usize = 0;
     for _ in 0..rounds {
         for i in 0..COUNT {
-            let compressed = compress(&points[i]);
-            let bytes = compressed.as_bytes();
-            if bytes.len() <= out.len() {
-                out[..bytes.len()].copy_from_slice(bytes);
-            }
-            sum = sum.wrapping_add(bytes.len());
+            sum = sum.wrapping_add(copy_compressed(&points[i], out));
         }
     }
     sum
@@ -173,12 +188,7 @@ pub extern "C" fn bench_points_compress_inline(
     let mut sum: usize = 0;
     for _ in 0..rounds {
         for i in 0..COUNT {
-            let compressed = points[i].compress();
-            let bytes = compressed.as_bytes();
-            if bytes.len() <= out.len() {
-                out[..bytes.len()].copy_from_slice(bytes);
-            }
-            sum = sum.wrapping_add(bytes.len());
+            sum = sum.wrapping_add(copy_compressed_inline(&points[i], out));
         }
     }
     sum

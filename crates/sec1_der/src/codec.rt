@@ -1,7 +1,8 @@
 //! Reading and writing values of any type, by their whole DER encoding.
 ghost use Rattle.std.specs.Prelude.{◌≡◌, ◌<◌, ◌≤◌, ◌+◌, ◌⊎◌, ◌↔◌, ◌++◌, ℕ, List, length};
 ghost use Rattle.std.specs.Prelude.{⊤, Option, Some, None, IsOk, IfOk};
-ghost use Rattle.std.specs.Prelude.{IsOkAnd, IfErr, OnOk, OnErr, IsSomeAnd, MatchResult};
+ghost use Rattle.std.specs.Prelude.{IsOkAnd, IfErr, OnOk, OnErr, IfSome, IsSomeAnd};
+ghost use Rattle.std.specs.Prelude.{MatchOption, MatchResult};
 ghost use Rattle.sec1_der.specs.Elements.{max_length, element, element_of, IsTag, IsElementOf};
 ghost use Rattle.sec1_der.specs.Encodings.{IsOverlengthOr, WritesInto};
 ghost use Rattle.sec1_der.specs.Elements.{IsProperPrefix};
@@ -66,6 +67,8 @@ pub fn read_der<'a, T: DecodeValue<'a> + Tagged + UniqueContent + Drop>(
 /// # Errors
 ///
 /// Overlength if the value has no content, or one that is longer than 268,435,455 bytes.
+// Inlined, so that what is called returns an option, in registers.
+#[inline(always)]
 pub fn encoded_len<T: EncodeValue + Tagged>(value: &T) -> Result<usize>
     ensures exact { MatchResult result
         (λ n. IsSomeAnd (element_of T.tag_byte (T.content value.now)) (λ bytes. n ≡ length bytes))
@@ -74,8 +77,24 @@ pub fn encoded_len<T: EncodeValue + Tagged>(value: &T) -> Result<usize>
     ensures most { IfOk result (λ n. n ≤ max_length + 6) }
     ensures tag { OnOk result (IsTag T.tag_byte) }
 {
-    let header = element_header(value)?;
-    Ok(header.encoded_len() + header.length.get())
+    match measured(value) {
+        Some(total) => Ok(total),
+        None => Err(ErrorKind::Overlength.into()),
+    }
+}
+
+/// Returns what [`encoded_len`] returns, or `None` for its error. A result with that error would be
+/// returned by memory.
+fn measured<T: EncodeValue + Tagged>(value: &T) -> Option<usize>
+    ensures exact { MatchOption result (element_of T.tag_byte (T.content value.now) ≡ None)
+        (λ n. IsSomeAnd (element_of T.tag_byte (T.content value.now)) (λ bytes. n ≡ length bytes)) }
+    ensures most { IfSome result (λ n. n ≤ max_length + 6) }
+    ensures tag { IfSome result (λ _. IsTag T.tag_byte) }
+{
+    match element_header(value) {
+        Ok(header) => Some(header.encoded_len() + header.length.get()),
+        Err(_) => None,
+    }
 }
 
 /// Writes the value's DER encoding at the beginning of the slice, and returns the number of bytes

@@ -62,8 +62,12 @@ impl Header {
         ensures failed { reader.old.failed ≡ true → Refuses result ErrorKind.Failed }
         ensures refused { OnErr result (reader.new ≡ refused reader.old) }
     {
-        reader.check()?;
-        match header_at(reader.remaining_input()) {
+        // One way out, so that the result is moved once.
+        let found = match reader.check() {
+            Ok(()) => header_at(reader.remaining_input()),
+            Err(e) => Err(e.kind),
+        };
+        match found {
             Ok((header, rest)) => {
                 reader.set_unread(rest);
                 Ok(header)
