@@ -7,14 +7,16 @@ ghost use Rattle.sec1.specs.KeyFaults.{key_fault};
 ghost use Rattle.sec1.specs.Keys.{Key, IsKeyOf};
 ghost use Rattle.sec1.specs.Points.{Fits, Point};
 ghost use Rattle.sec1_der.specs.declared.error.ErrorKind.{ErrorKind};
-ghost use Rattle.curves.specs.Curves.{field_len};
+ghost use Rattle.sec1_der.specs.Elements.{element_of};
+ghost use Rattle.sec1_der.specs.Identifiers.{identifier_content};
+ghost use Rattle.curves.specs.Curves.{curve_arcs, field_len};
 ghost use Rattle.pkix.specs.EcKeys.{IsOnCurve, NamesCurve, HasPoint};
 
 use crate::{AlgorithmIdentifier, Curve, PrivateKeyInfo, SubjectPublicKeyInfo};
-use curves::laws;
+use der_types::Any;
 use sec1::point::EncodedPoint;
 use sec1::{EcParameters, EcPrivateKey, Error, Result};
-use sec1_der::{ObjectIdentifier, read_der};
+use sec1_der::Tag;
 
 /// The content of id-ecPublicKey (RFC 5480 section 2.1.1).
 const EC_PUBLIC_KEY: [u8; 7] = [0x2A, 0x86, 0x48, 0xCE, 0x3D, 0x02, 0x01];
@@ -29,14 +31,27 @@ impl AlgorithmIdentifier<'_> {
         if self.algorithm.as_bytes() != EC_PUBLIC_KEY.as_slice() {
             return None;
         }
-        let Some(parameters) = &self.parameters else {
-            return None;
-        };
-        match read_der::<ObjectIdentifier>(parameters.element()) {
-            Ok(identifier) => Curve::from_identifier(&identifier),
-            Err(_) => None,
+        match &self.parameters {
+            Some(parameters) => named_curve(parameters),
+            None => None,
         }
     }
+}
+
+/// Returns the curve of the table whose identifier this element is. Its content is compared where
+/// it stands, and isn't copied.
+#[tactic(auto, using(crate::proofs::CurveLemmas::curve_elements))]
+fn named_curve(element: &Any) -> Option<Curve>
+    ensures found { IfSome result (λ curve.
+        element_of 0x06 (identifier_content (curve_arcs curve)) ≡ Some element.now) }
+    ensures only { (curve : Curve)
+        → element_of 0x06 (identifier_content (curve_arcs curve)) ≡ Some element.now
+        → result ≡ Some curve }
+{
+    if element.tag() != Tag::OBJECT_IDENTIFIER {
+        return None;
+    }
+    Curve::from_content(element.content())
 }
 
 /// Returns `true` if the key names this curve or none.
