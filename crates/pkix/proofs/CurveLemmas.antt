@@ -1,5 +1,5 @@
 -- The identifier of a curve, as an element.
-use Rattle.std.proofs.Common.{◌≡◌, ℕ, List, [], length, Some, refl, ◌++◌}
+use Rattle.std.proofs.Common.{◌≡◌, ℕ, List, [], length, Some, refl}
 use Rattle.curves.proofs.CurveLemmas.{content-curve_arcs}
 use Rattle.curves.specs.Curves.{curve_arcs, curve_content}
 use Rattle.curves.specs.declared.curve.Curve.{Curve}
