@@ -2,13 +2,12 @@
 use crate::keys::point_sum;
 use crate::length_and_last;
 use pkix::{Certificate, PrivateKeyInfo};
-use sec1::der::read_der;
 
 /// Reads a certificate and the point of its public key. Returns the length of the point and its
 /// last byte, added up.
 #[unsafe(no_mangle)]
 pub extern "C" fn bench_certificate_point(input: &[u8]) -> usize {
-    let Ok(certificate) = read_der::<Certificate>(input) else {
+    let Ok(certificate) = Certificate::from_der(input) else {
         return 0;
     };
     match certificate.tbs_certificate.public_key.point::<32, 65>() {
@@ -21,7 +20,7 @@ pub extern "C" fn bench_certificate_point(input: &[u8]) -> usize {
 /// last byte, added up.
 #[unsafe(no_mangle)]
 pub extern "C" fn bench_container_point(input: &[u8]) -> usize {
-    let Ok(container) = read_der::<PrivateKeyInfo>(input) else {
+    let Ok(container) = PrivateKeyInfo::from_der(input) else {
         return 0;
     };
     match container.ec_private_key() {
