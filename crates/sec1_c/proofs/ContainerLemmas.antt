@@ -12,7 +12,8 @@ use Rattle.der_types.specs.BitStrings.{BitString}
 use Rattle.der_types.specs.Rows.{is_whole}
 use Rattle.der_types.specs.Sets.{set_fault, set_of}
 use Rattle.pkix.specs.EcKeys.{IsOnCurve}
-use Rattle.pkix.specs.Records.{algorithm_content, algorithm_fault, key_attribute_fault, private_key_content}
+use Rattle.pkix.specs.Records.{algorithm_content, algorithm_fault, asymmetric_key_fault, key_attribute_fault}
+use Rattle.pkix.specs.Records.{private_key_content, private_key_fault}
 use Rattle.pkix.specs.declared.private_key.OneAsymmetricKey.{OneAsymmetricKey}
 use Rattle.pkix.specs.declared.private_key.PrivateKeyInfo.{PrivateKeyInfo}
 use Rattle.sec1_der.proofs.ComponentLemmas as components
@@ -29,7 +30,7 @@ use Rattle.sec1_der.specs.declared.error.ErrorKind.{ErrorKind}
 use Rattle.sec1_der.specs.declared.error.ErrorKind.TheVariants.{Tag, Value}
 use Rattle.sec1_c.specs.Containers.{AreContainerPartsOf, IsContainer, IsVersionZero, after_key}
 use Rattle.sec1_c.specs.Containers.{container_content, container_fault, container_places, has_version_one}
-use Rattle.sec1_c.specs.Containers.{of_version_zero, version_fault}
+use Rattle.sec1_c.specs.Containers.{of_version_zero}
 use Rattle.sec1_c.specs.Fields.{bytes_len}
 use Rattle.sec1_c.proofs.FieldLemmas.{limited}
 use Rattle.sec1_c.proofs.PlaceLemmas.{stands_before}
@@ -123,17 +124,16 @@ behind_version =
 
 -- the kinds by which bytes are refused as a container of version 0 and of version 1
 abbrev pub zero_fault : Fault
-zero_fault = element_fault 0x30 (version_fault 0 end_fault) end_fault
+zero_fault = element_fault 0x30 private_key_fault end_fault
 
 abbrev pub one_fault : Fault
-one_fault = element_fault 0x30 (version_fault 1 (optional_fault 0x81 bit_string_fault end_fault)) end_fault
+one_fault = element_fault 0x30 asymmetric_key_fault end_fault
 
 -- a container is refused by the fault of version 0, or by that of version 1 where the first is Value
 chosen : (bytes : List ℕ)
     → IsChosen (zero_fault bytes) (one_fault bytes) (element_fault 0x30 container_fault end_fault bytes)
 chosen bytes =
-    whole_chosen (version_fault 0 end_fault) (version_fault 1 (optional_fault 0x81 bit_string_fault end_fault))
-    container_fault 0x30 bytes (version_chosen _ _)
+    whole_chosen private_key_fault asymmetric_key_fault container_fault 0x30 bytes (version_chosen _ _)
 
 pub by_value : (bytes : List ℕ) (kind : ErrorKind) → zero_fault bytes ≡ Some kind → kind ≡ Value
     → element_fault 0x30 container_fault end_fault bytes ≡ one_fault bytes
@@ -153,7 +153,7 @@ other_version container bytes is =
     let version : rest.front ≡ element 0x02 (1 ∷ []) = cc rest.first_there in
     let split : whole.inside ≡ element 0x02 (1 ∷ []) ++ rest.back = grind (arith, rest.joined, version) in
     let first = element_at (byte_fault 0) behind_version 0x02 (1 ∷ []) whole.inside rest.back (lit≤ tt) split in
-    let outer = element_at (version_fault 0 end_fault) end_fault 0x30 whole.inside bytes []
+    let outer = element_at private_key_fault end_fault 0x30 whole.inside bytes []
     whole.at.within (grind (arith, append-nil, whole.at.encoded)) in
     outer ∙ ap (λ (fault : Option ErrorKind). option_or fault None) first
 

@@ -7,15 +7,16 @@ use Rattle.curves.specs.Curves.{curve_content}
 use Rattle.curves.specs.declared.curve.Curve.{Curve}
 use Rattle.der_types.specs.BitStrings.{bit_string_content}
 use Rattle.der_types.specs.Rows.{is_whole}
-use Rattle.der_types.specs.Sets.{set_fault, set_of}
+use Rattle.der_types.specs.Sets.{set_of}
 use Rattle.pkix.specs.EcKeys.{IsOnCurve}
-use Rattle.pkix.specs.Records.{algorithm_content, algorithm_fault, key_attribute_fault}
+use Rattle.pkix.specs.Records.{algorithm_content, asymmetric_key_fault, key_attribute_fault}
+use Rattle.pkix.specs.Records.{private_key_fault}
 use Rattle.pkix.specs.declared.private_key.OneAsymmetricKey.{OneAsymmetricKey}
 use Rattle.pkix.specs.declared.private_key.PrivateKeyInfo.{PrivateKeyInfo}
-use Rattle.sec1_der.specs.Contents.{bit_string_fault, byte_fault}
+use Rattle.sec1_der.specs.Contents.{byte_fault}
 use Rattle.sec1_der.specs.Elements.{element_of}
 use Rattle.sec1_der.specs.Parts.{join, optional_of}
-use Rattle.sec1_der.specs.Faults.{Fault, element_fault, end_fault, no_fault, optional_fault}
+use Rattle.sec1_der.specs.Faults.{Fault, element_fault, no_fault}
 use Rattle.sec1_c.specs.Fields.{bytes_len}
 use Rattle.sec1_c.specs.Places.{StandsAt, part_before}
 use Rattle.sec1_c.specs.declared.container.PrivateKeyInfoParts.{PrivateKeyInfoParts}
@@ -66,15 +67,6 @@ pub record IsEcContainer (bytes : List ℕ) : Type 0 where
   pub is_container : IsContainer container bytes
   pub on_curve : IsOnCurve curve container.algorithm
 
--- The kind by which a content is refused as that of a container of this version; `behind` is that
--- of what follows the attributes.
-abbrev pub version_fault : ℕ → Fault → Fault
-version_fault version behind =
-    element_fault 0x02 (byte_fault version)
-    (element_fault 0x30 algorithm_fault
-    (element_fault 0x04 no_fault
-    (optional_fault 0xA0 (set_fault 0x30 key_attribute_fault) behind)))
-
 -- whether the content begins with the INTEGER 1
 abbrev pub has_version_one : List ℕ → Bool
 has_version_one content = is_whole (element_fault 0x02 (byte_fault 1) no_fault content)
@@ -83,9 +75,7 @@ has_version_one content = is_whole (element_fault 0x02 (byte_fault 1) no_fault c
 -- version 1 may have a public key. A content with neither version is refused as one of version 0.
 abbrev pub container_fault : Fault
 container_fault content =
-    if has_version_one content
-    then version_fault 1 (optional_fault 0x81 bit_string_fault end_fault) content
-    else version_fault 0 end_fault content
+    if has_version_one content then asymmetric_key_fault content else private_key_fault content
 
 -- The parts are those of the container. The curve's is the content of its identifier.
 pub record AreContainerPartsOf (curve : Curve) (container : OneAsymmetricKey) (input : List ℕ)
