@@ -213,8 +213,8 @@ unsigned_fault number = value_unless (is_unsigned number)
 abbrev pub signature_fault : Fault
 signature_fault = element_fault 0x02 unsigned_fault (element_fault 0x02 unsigned_fault end_fault)
 
--- how a whole structure is read, by its content and its fault
-pub record Reads {T : Type 0} (content : T → Option (List ℕ)) (fault : Fault) (bytes : List ℕ)
+-- how a whole record is read, by its content and its fault
+pub record ReadsRecord {T : Type 0} (content : T → Option (List ℕ)) (fault : Fault) (bytes : List ℕ)
     (result : Result T Error) : Type 0 where
   -- what is read has these bytes
   pub found : IfOk result (λ value. element_of 0x30 (content value) ≡ Some bytes)

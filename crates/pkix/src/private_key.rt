@@ -1,6 +1,6 @@
 //! Containers of private keys.
 ghost use Rattle.std.specs.Prelude.{refl, true};
-ghost use Rattle.pkix.specs.Records.{Reads, asymmetric_key_content, asymmetric_key_fault};
+ghost use Rattle.pkix.specs.Records.{ReadsRecord, asymmetric_key_content, asymmetric_key_fault};
 ghost use Rattle.pkix.specs.Records.{private_key_content, private_key_fault};
 
 use crate::AlgorithmIdentifier;
@@ -209,9 +209,9 @@ impl<'a> PrivateKeyInfo<'a> {
     ///
     /// Those of [`read_der`].
     pub fn from_der(bytes: &'a [u8]) -> Result<PrivateKeyInfo<'a>>
-        ensures { Reads private_key_content private_key_fault bytes.now result }
+        ensures { ReadsRecord private_key_content private_key_fault bytes.now result }
     {
-        read_der(bytes)
+        read_der::<PrivateKeyInfo>(bytes)
     }
 }
 
@@ -222,8 +222,8 @@ impl<'a> OneAsymmetricKey<'a> {
     ///
     /// Those of [`read_der`].
     pub fn from_der(bytes: &'a [u8]) -> Result<OneAsymmetricKey<'a>>
-        ensures { Reads asymmetric_key_content asymmetric_key_fault bytes.now result }
+        ensures { ReadsRecord asymmetric_key_content asymmetric_key_fault bytes.now result }
     {
-        read_der(bytes)
+        read_der::<OneAsymmetricKey>(bytes)
     }
 }

@@ -4,7 +4,7 @@ ghost use Rattle.sec1_der.specs.Elements.{element_of};
 ghost use Rattle.sec1_der.specs.Parts.{AreApart, one_tag};
 ghost use Rattle.sec1_der.specs.PartLaws.{element_begins};
 ghost use Rattle.sec1_der.specs.Faults.{element_fault};
-ghost use Rattle.pkix.specs.Records.{Reads, public_key_content, public_key_fault};
+ghost use Rattle.pkix.specs.Records.{ReadsRecord, public_key_content, public_key_fault};
 
 use crate::AlgorithmIdentifier;
 use der_types::Bits;
@@ -91,7 +91,7 @@ impl<'a> SubjectPublicKeyInfo<'a> {
     ///
     /// Those of [`read_der`].
     pub fn from_der(bytes: &'a [u8]) -> Result<SubjectPublicKeyInfo<'a>>
-        ensures { Reads public_key_content public_key_fault bytes.now result }
+        ensures { ReadsRecord public_key_content public_key_fault bytes.now result }
     {
         read_der(bytes)
     }

@@ -1,6 +1,6 @@
 //! Signatures of ECDSA.
 ghost use Rattle.std.specs.Prelude.{refl};
-ghost use Rattle.pkix.specs.Records.{Reads, signature_content, signature_fault};
+ghost use Rattle.pkix.specs.Records.{ReadsRecord, signature_content, signature_fault};
 
 use der_types::Unsigned;
 use sec1_der::{Distinct, Record, Required, Result, read_der};
@@ -43,7 +43,7 @@ impl<'a> EcdsaSigValue<'a> {
     ///
     /// Those of [`read_der`].
     pub fn from_der(bytes: &'a [u8]) -> Result<EcdsaSigValue<'a>>
-        ensures { Reads signature_content signature_fault bytes.now result }
+        ensures { ReadsRecord signature_content signature_fault bytes.now result }
     {
         read_der(bytes)
     }
