@@ -22,7 +22,7 @@ static INTEGERS: [(&[u8], bool, bool); 12] = [
 ];
 
 #[test]
-fn tells_integers(rt: HostRuntime) {
+fn recognizes_integers(rt: HostRuntime) {
     for &(bytes, integer, unsigned) in INTEGERS.iter() {
         assert_eq!(rt; kind::Integer::test(bytes), integer, "{bytes:?}");
         assert_eq!(rt; Unsigned::new(bytes).is_ok(), unsigned, "{bytes:?}");
@@ -39,7 +39,7 @@ static BOOLEANS: [(&[u8], bool); 5] = [
 ];
 
 #[test]
-fn tells_booleans(rt: HostRuntime) {
+fn recognizes_booleans(rt: HostRuntime) {
     for &(bytes, boolean) in BOOLEANS.iter() {
         assert_eq!(rt; read_der::<Boolean>(bytes).is_ok(), boolean, "{bytes:?}");
     }
@@ -62,7 +62,7 @@ static IDENTIFIERS: [(&[u8], bool); 8] = [
 ];
 
 #[test]
-fn tells_identifiers(rt: HostRuntime) {
+fn recognizes_identifiers(rt: HostRuntime) {
     for &(bytes, identifier) in IDENTIFIERS.iter() {
         assert_eq!(rt;
             kind::ObjectIdentifier::test(bytes),
@@ -94,7 +94,7 @@ static UTC_TIMES: [(&str, bool); 16] = [
 ];
 
 #[test]
-fn tells_utc_times(rt: HostRuntime) {
+fn recognizes_utc_times(rt: HostRuntime) {
     for &(text, time) in UTC_TIMES.iter() {
         assert_eq!(rt; kind::UtcTime::test(text.as_bytes()), time, "{text}");
     }
@@ -124,7 +124,7 @@ static GENERALIZED_TIMES: [(&str, bool); 17] = [
 ];
 
 #[test]
-fn tells_generalized_times(rt: HostRuntime) {
+fn recognizes_generalized_times(rt: HostRuntime) {
     for &(text, time) in GENERALIZED_TIMES.iter() {
         assert_eq!(rt;
             kind::GeneralizedTime::test(text.as_bytes()),
@@ -194,7 +194,7 @@ static STRINGS: [(&[u8], [bool; 5]); 13] = [
 ];
 
 #[test]
-fn tells_strings(rt: HostRuntime) {
+fn recognizes_strings(rt: HostRuntime) {
     for &(bytes, [numeric, printable, visible, ia5, utf8]) in STRINGS.iter() {
         assert_eq!(rt; kind::NumericString::test(bytes), numeric, "{bytes:?}");
         assert_eq!(rt; kind::PrintableString::test(bytes), printable, "{bytes:?}");

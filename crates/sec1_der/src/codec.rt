@@ -67,7 +67,7 @@ pub fn read_der<'a, T: DecodeValue<'a> + Tagged + UniqueContent + Drop>(
 /// # Errors
 ///
 /// Overlength if the value has no content, or one that is longer than 268,435,455 bytes.
-// Inlined, so that what is called returns an option, in registers.
+// Inlined, so that what is called returns an option, which fits in registers.
 #[inline(always)]
 pub fn encoded_len<T: EncodeValue + Tagged>(value: &T) -> Result<usize>
     ensures exact { MatchResult result
@@ -77,15 +77,15 @@ pub fn encoded_len<T: EncodeValue + Tagged>(value: &T) -> Result<usize>
     ensures most { IfOk result (λ n. n ≤ max_length + 6) }
     ensures tag { OnOk result (IsTag T.tag_byte) }
 {
-    match measured(value) {
+    match element_len(value) {
         Some(total) => Ok(total),
         None => Err(ErrorKind::Overlength.into()),
     }
 }
 
-/// Returns what [`encoded_len`] returns, or `None` for its error. A result with that error would be
-/// returned by memory.
-fn measured<T: EncodeValue + Tagged>(value: &T) -> Option<usize>
+/// Returns the length of the value's element in bytes; `None` if the value has no encoding. As a
+/// `Result` it would be returned through memory.
+fn element_len<T: EncodeValue + Tagged>(value: &T) -> Option<usize>
     ensures exact { MatchOption result (element_of T.tag_byte (T.content value.now) ≡ None)
         (λ n. IsSomeAnd (element_of T.tag_byte (T.content value.now)) (λ bytes. n ≡ length bytes)) }
     ensures most { IfSome result (λ n. n ≤ max_length + 6) }

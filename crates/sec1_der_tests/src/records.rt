@@ -121,8 +121,8 @@ static WHOLE: [u8; 14] = [
     0x30, 0x0C, 0x02, 0x01, 0x00, 0x06, 0x01, 0x07, 0x02, 0x01, 0x01, 0x06, 0x01, 0x08,
 ];
 
-/// Reads the bytes, and fails the test unless writing the value gives them again.
-fn middle_of(rt: &impl Abort, alloc: Global, bytes: &[u8]) -> Result<Middle, Fail> {
+/// Reads a [`Middle`], and fails the test unless writing it gives the bytes again.
+fn read_middle(rt: &impl Abort, alloc: Global, bytes: &[u8]) -> Result<Middle, Fail> {
     let middle: Middle = read_der(bytes)?;
     assert_equal(rt, &to_der(alloc, &middle)?.as_slice(), &bytes);
     Ok(middle)
@@ -131,7 +131,7 @@ fn middle_of(rt: &impl Abort, alloc: Global, bytes: &[u8]) -> Result<Middle, Fai
 #[test]
 fn reads_and_writes_records_in_records(rt: HostRuntime) -> Result<(), Fail> {
     let bytes = wrapped(rt.alloc(), &[0x30, 0x32], &[&SHORT, &WHOLE, &WHOLE, &WHOLE])?;
-    let middle = middle_of(&rt, rt.alloc(), bytes.as_slice())?;
+    let middle = read_middle(&rt, rt.alloc(), bytes.as_slice())?;
     assert_equal(&rt, &middle.first.version, &None);
     assert_equal(&rt, &middle.second.version, &Some(VersionOne));
     assert!(rt; middle.third == middle.second);
@@ -144,7 +144,7 @@ fn reads_and_writes_records_in_records(rt: HostRuntime) -> Result<(), Fail> {
         assert!(rt; cut == Err(ErrorKind::Truncated), "of {length} bytes");
     }
     let bytes = wrapped(rt.alloc(), &[0x30, 0x18], &[&SHORT, &SHORT, &SHORT])?;
-    let middle = middle_of(&rt, rt.alloc(), bytes.as_slice())?;
+    let middle = read_middle(&rt, rt.alloc(), bytes.as_slice())?;
     assert!(rt; middle.fourth.is_none());
     Ok(())
 }

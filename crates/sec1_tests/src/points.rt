@@ -169,7 +169,7 @@ fn refuses_other_bytes(rt: HostRuntime) -> Result<(), Fail> {
 }
 
 #[test]
-fn lends_coordinates(rt: HostRuntime) -> Result<(), Fail> {
+fn borrows_coordinates(rt: HostRuntime) -> Result<(), Fail> {
     let x = [0x11; 32];
     let y = [0x22; 32];
     let whole = EncodedPoint32::from_affine_coordinates(&x, &y, false);
@@ -183,7 +183,7 @@ fn lends_coordinates(rt: HostRuntime) -> Result<(), Fail> {
 }
 
 #[test]
-fn lends_coordinates_of_compressed_points(rt: HostRuntime) {
+fn borrows_coordinates_of_compressed_points(rt: HostRuntime) {
     let x = [0x11; 32];
     let point = EncodedPoint32::from_affine_coordinates(&x, &[0x22; 32], true);
     assert_equal(&rt, &point.as_bytes(), &compressed_32().as_slice());
@@ -202,7 +202,7 @@ fn lends_coordinates_of_compressed_points(rt: HostRuntime) {
 }
 
 #[test]
-fn tells_compact_and_hybrid_points(rt: HostRuntime) -> Result<(), Fail> {
+fn distinguishes_compact_and_hybrid_points(rt: HostRuntime) -> Result<(), Fail> {
     let compact = Point1::from_bytes(&[5, 7])?;
     assert!(rt; compact.is_compact() && !compact.is_compressed());
     assert!(rt; Point1::from_bytes(&[4, 1, 3])?.to_hybrid().is_hybrid());

@@ -84,7 +84,7 @@ fn writes_the_content(rt: HostRuntime) -> Result<(), Fail> {
 }
 
 #[test]
-fn lends_the_identifier_of_parameters(rt: HostRuntime) -> Result<(), Fail> {
+fn borrows_the_identifier_of_parameters(rt: HostRuntime) -> Result<(), Fail> {
     let parameters = EcParameters::from(ObjectIdentifier::new("1.2.840.10045.3.1.7")?);
     let any = AnyRef::from(&parameters);
     assert_equal(&rt, &any.tag(), &Tag::OBJECT_IDENTIFIER);
