@@ -39,6 +39,8 @@ converted() {
     openssl pkcs8 -topk8 -passout pass:x -in ec.pem -out encrypted.pem
     openssl pkcs8 -topk8 -passout pass:x -in ec.pem -outform DER -out encrypted.der
     openssl ec -in ec.pem -param_enc explicit -outform DER -out explicit.der
+    { printf '\x30\x81' && tail -c +2 whole.der; } >long_length.der
+    { cat whole.der && printf '\0'; } >followed.der
     openssl pkcs12 -export -nocerts -inkey ec.pem -passout pass:x -out key.p12
     openssl ec -in ec.pem -pubout -outform DER -out public.der
     openssl req -new -x509 -key ec.pem -subj /CN=a -days 1 -outform DER -out certificate.der
@@ -51,7 +53,7 @@ converted() {
 
 "$program" whole.der >output && tell 'the key is read' yes || tell 'the key is read' no
 for file in ec.pem curve_and_key.pem pkcs8.pem pkcs8.der encrypted.pem encrypted.der explicit.der \
-    key.p12 public.der certificate.der rsa.der openssh; do
+    long_length.der followed.der key.p12 public.der certificate.der rsa.der openssh; do
     refused "$file"
 done
 converted openssl ec -in ec.pem -outform DER -out key.der
@@ -61,6 +63,8 @@ converted openssl ec -in encrypted.pem -passin pass:x -outform DER -out key.der
 converted openssl ec -inform DER -in pkcs8.der -outform DER -out key.der
 converted openssl ec -inform DER -in encrypted.der -passin pass:x -outform DER -out key.der
 converted openssl ec -inform DER -in explicit.der -param_enc named_curve -outform DER -out key.der
+converted openssl ec -inform DER -in long_length.der -outform DER -out key.der
+converted openssl ec -inform DER -in followed.der -outform DER -out key.der
 ssh-keygen -q -p -m PEM -f openssh -N '' >output 2>&1
 converted openssl ec -in openssh -outform DER -out key.der
 openssl pkcs12 -in key.p12 -passin pass:x -nodes -nocerts -out from_p12.pem >output 2>&1
