@@ -1,7 +1,7 @@
 //! What is taken from inputs that never end, or whose bytes nobody knows.
-ghost use Rattle.std.specs.Prelude.{◌≡◌, ◌+◌, ℕ, Some, false, IfOk, IfErr, List, [], length};
-ghost use Rattle.std.specs.Prelude.{replicate};
-ghost use Rattle.sec1.specs.Der.{TakenBeforeRefusal};
+ghost use Rattle.std.specs.Prelude.{◌≡◌, ◌+◌, ◌∷◌, ◌++◌, ℕ, Some, false, IfOk, IfErr, List, []};
+ghost use Rattle.std.specs.Prelude.{length, replicate};
+ghost use Rattle.sec1.specs.Der.{IsElement, TakenBeforeRefusal, document_fault};
 
 use sec1::der::{ErrorKind, IoFault, Read, Result, SecretDocument};
 use std::alloc::Global;
@@ -100,7 +100,8 @@ impl<R: Read> Read for Recorder<R> {
 }
 
 /// Reads a document from a reader of unknown bytes. What was recorded is the document, or what the
-/// kind of the refusal says.
+/// kind of the refusal says: one byte that is no tag; nothing after the byte that shows a bad
+/// length; one byte behind an element; or all that there was of a truncated element.
 pub fn read_recorded<R: Read>(alloc: Global, recorder: &mut Recorder<R>) -> Result<SecretDocument>
     requires unfailed { recorder.old.is_failed ≡ false }
     requires fresh { recorder.old.given.items ≡ [] }
@@ -109,6 +110,15 @@ pub fn read_recorded<R: Read>(alloc: Global, recorder: &mut Recorder<R>) -> Resu
         (λ error. TakenBeforeRefusal error.kind recorder.new.given.items) }
     ensures one { IfErr result
         (λ error. error.kind ≡ ErrorKind.Tag → length recorder.new.given.items ≡ 1) }
+    ensures bad_length { IfErr result (λ error. error.kind ≡ ErrorKind.Length
+        → (front : List ℕ) × (last : ℕ) × (document_fault front ≡ Some ErrorKind.Truncated)
+        × (recorder.new.given.items ≡ front ++ last ∷ [])) }
+    ensures behind { IfErr result (λ error. error.kind ≡ ErrorKind.TrailingData
+        → (front : List ℕ) × (last : ℕ) × IsElement front
+        × (recorder.new.given.items ≡ front ++ last ∷ [])) }
+    ensures all { IfErr result (λ error. error.kind ≡ ErrorKind.Truncated
+        → R.ended recorder.new.inner
+        × (document_fault recorder.new.given.items ≡ Some ErrorKind.Truncated)) }
 {
     SecretDocument::read_der_from(alloc, recorder)
 }

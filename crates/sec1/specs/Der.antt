@@ -24,7 +24,7 @@ pub use Rattle.sec1_der.specs.ReadsDocument.{IsElementFault, ConsumesElement, Re
 pub use Rattle.sec1_der.specs.ReadsDocument.{TakenBeforeRefusal}
 pub use Rattle.sec1_der.specs.SliceWriters.{written_by, room_of, IsOver, KeepsSlice, AppendsNothing}
 pub use Rattle.sec1_der.specs.SliceWriters.{Appends, WritesBehind}
-pub use Rattle.sec1_der.specs.StdStreams.{reader_failed, reader_inner, writer_failed, writer_inner}
+pub use Rattle.sec1_der.specs.StdStreams.{StdStream}
 pub use Rattle.sec1_der.specs.Streams.{AppendsPrefix, Ends, ReadAppends, Takes}
 pub use Rattle.sec1_der.specs.Trees.{Tree, Forest, leaf, node, bytes, IsTree, IsTreeOf, depth, size}
 pub use Rattle.sec1_der.specs.TreeLaws.{BytesDetermineTree, BytesDetermineRow, NoTreeBeginsAnother}

@@ -1,12 +1,12 @@
 -- Reading one element from a stream: what was taken, step by step, and what a refusal says of all the bytes that were
 -- left.
-use Rattle.std.proofs.Common.{◌≡◌, ℕ, ◌+◌, ◌<◌, ◌≤◌, List, [], ◌∷◌, ◌++◌, length, take, get_or, Option, ◌⊎◌, inl, inr}
-use Rattle.std.proofs.Common.{⊎_elim, arith, refl, sym, ap, ◌∙◌}
+use Rattle.std.proofs.Common.{◌≡◌, ℕ, ◌+◌, ◌<◌, ◌≤◌, List, [], ◌∷◌, ◌++◌, length, take, drop, get_or, Option, ◌⊎◌, inl}
+use Rattle.std.proofs.Common.{inr, ⊎_elim, arith, refl, subst, sym, ap, ◌∙◌}
 use Rattle.std.proofs.Common.{append-nil, append_assoc, length-append, tests, length-take-le, Some, None, IfSome}
 use Rattle.std.proofs.Common.{Result, Ok, Err, IfOk, IfErr, MatchResult}
 use Rattle.std.proofs.Math.Seq.{take-append-add}
 use Rattle.std.proofs.lemmas.Grind.{common_steps}
-use Rattle.std.proofs.lemmas.Bool.{cases_Bool, cases_lt, false_from_ne_true}
+use Rattle.std.proofs.lemmas.Bool.{cases_Bool, cases_lt}
 use Rattle.std.proofs.lemmas.List.{nil_from_length, take_more, take-append-le}
 use Rattle.std.specs.Io.KnownBytes.{Consumes, Keeps, IsAtEnd}
 use borrow.Rule.Slice.PartMut.{put_mid}
@@ -15,14 +15,12 @@ use Rattle.sec1_der.specs.declared.error.ErrorKind.{ErrorKind}
 use Rattle.sec1_der.specs.declared.error.ErrorKind.TheVariants.{Truncated, TrailingData, Io, Memory, Tag, Length}
 use Rattle.sec1_der.specs.Elements.{IsElement, IsHeader, LacksHeader, header}
 use Rattle.sec1_der.specs.ErrorKinds.{header_fault, length_fault, is_tag, IsIoOrMemory}
-use Rattle.sec1_der.specs.ReadsDocument.{HasHeaderFault, IsCutContent, TakenBeforeRefusal, RefusesElement, ReadsHeader}
-use Rattle.sec1_der.specs.ReadsDocument.{RefusesContent, ConsumesElement}
-use Rattle.sec1_der.specs.Streams.{ReadsOnto, Takes, Ends}
+use Rattle.sec1_der.specs.ReadsDocument.{IsCutContent, TakenBeforeRefusal, RefusesElement, ConsumesElement}
+use Rattle.sec1_der.specs.Streams.{ReadsOnto, Takes, TakesFewer, Ends}
 use Rattle.sec1_der.specs.Faults.{no_fault, end_fault, document_fault}
-use Rattle.sec1_der.proofs.HeaderLemmas.{longer, header_front}
+use Rattle.sec1_der.proofs.HeaderLemmas.{longer, header_front, header_fault_kinds}
 use Rattle.sec1_der.proofs.ElementFaultLemmas.{document_element, any_without_header, any_short}
-use Rattle.sec1_der.proofs.FaultLaws.{any_at}
-use Rattle.sec1_der.proofs.ElementLaws.{tag_from_test}
+use Rattle.sec1_der.proofs.FaultLaws.{any_at, any_room}
 use Rattle.sec1_der.proofs.StreamLaws.{takes_more, takes_nothing, takes_kept}
 
 -- ---- bytes that were taken
@@ -61,12 +59,22 @@ reads_more left taken old mid new start middle end n m sum read is more =
 
 -- ---- the header
 
+-- the bytes end inside a header
+pub record IsCutHeader (bytes : List ℕ) : Type 0 where
+  pub fault_is : header_fault bytes ≡ Truncated
+  pub none : LacksHeader bytes
+
+-- such bytes are truncated
+cut_fault : (bytes : List ℕ) → IsCutHeader bytes → document_fault bytes ≡ Some Truncated
+cut_fault bytes cut =
+    any_without_header (λ _. no_fault) end_fault bytes cut.none ∙ ap (λ kind. Some kind) cut.fault_is
+
 -- bytes that have one more than an incomplete header
 pub record IsLonger (bytes : List ℕ) : Type 0 where
   pub before : List ℕ
   pub last : ℕ
   pub joined : bytes ≡ before ++ last ∷ []
-  pub cut : HasHeaderFault Truncated before
+  pub cut : IsCutHeader before
 
 -- no bytes, or one more than some truncated ones
 abbrev pub IsReachable : List ℕ → Type 0
@@ -84,28 +92,80 @@ one_more start k slice part inside short none size =
 -- a header that came with its last byte is all that was read
 pub read_alone : (Taken : List ℕ → Type 0) (tag n : ℕ) (bytes rest : List ℕ) → IsHeader tag n
     → bytes ≡ header tag n ++ rest → IsReachable bytes
-    → Taken bytes → ReadsHeader Taken tag n
+    → Taken bytes → IsHeader tag n × Taken (header tag n)
 read_alone Taken tag n bytes rest is split (inl empty) taken = absurd (cc (empty, split))
 read_alone Taken tag n bytes rest is split (inr one) taken =
     let joined = sym one.joined ∙ split in
     ⊎_elim
     (λ short. let none = nil_from_length rest (omega (arith, simp length-append at (ap length joined))) in
-    record { is_header = is; taken = rw (split, none, append-nil (header tag n)) at taken })
+    (is, rw (split, none, append-nil (header tag n)) at taken))
     (λ within. let c =
     longer one.before (header tag n) (one.last ∷ []) rest joined within in
     absurd (one.cut.none tag n c.after is c.front))
     (cases_lt (length one.before) (length (header tag n)))
 
+-- the fault of a first byte that is no tag comes with this byte
+tag_alone : (front : List ℕ) (last : ℕ) → header_fault front ≡ Truncated → header_fault (front ++ last ∷ []) ≡ Tag
+    → front ≡ []
+tag_alone [] last cut bad = refl
+tag_alone (byte ∷ []) last cut bad = grind (arith, tests)
+tag_alone (byte ∷ first ∷ digits) last cut bad = grind (arith, tests)
+
+-- a byte that begins no header, or continues none, is refused as soon as it was taken
+taken_here : (kind : ErrorKind) (bytes : List ℕ) → IsReachable bytes → LacksHeader bytes → header_fault bytes ≡ kind
+    → (kind ≡ Truncated → ⊥) → TakenBeforeRefusal kind bytes
+taken_here kind bytes (inl empty) none is other = absurd (other (sym is ∙ ap header_fault empty))
+taken_here Truncated bytes (inr one) none is other = absurd (other refl)
+taken_here Tag bytes (inr one) none is other = record {
+  front = one.before;
+  last = one.last;
+  joined = one.joined;
+  before = tag_alone one.before one.last one.cut.fault_is (rw one.joined at is);
+  fault =
+      any_without_header (λ _. no_fault) end_fault bytes none ∙ ap (λ k. Some k) is;
+}
+taken_here Length bytes (inr one) none is other = record {
+  front = one.before;
+  last = one.last;
+  joined = one.joined;
+  before = cut_fault one.before one.cut;
+  fault =
+      any_without_header (λ _. no_fault) end_fault bytes none ∙ ap (λ k. Some k) is;
+}
+taken_here kind bytes (inr one) none is other = absurd (rw is at (header_fault_kinds bytes))
+
+-- so is the element
+pub refused_here : (kind : ErrorKind) (Taken : List ℕ → Type 0) (Ended : Type 0) (bytes : List ℕ)
+    → IsReachable bytes → LacksHeader bytes → header_fault bytes ≡ kind → (kind ≡ Truncated → ⊥) → Taken bytes
+    → RefusesElement kind Taken Ended
+refused_here kind Taken Ended bytes reached none is other taken = record {
+  bytes = bytes;
+  taken = taken;
+  by_kind = taken_here kind bytes reached none is other;
+  at_end = λ e. absurd (other e);
+}
+
+-- a read that failed after an incomplete header refuses the element as Io
+pub refused_read : {S : Type 0} (left taken : S → Option (List ℕ)) (Ended : Type 0) (old mid new : S) (bytes : List ℕ)
+    → IsCutHeader bytes → Takes left taken old mid bytes → Keeps (left mid) (left new) → Keeps (taken mid) (taken new)
+    → RefusesElement Io (Takes left taken old new) Ended
+refused_read left taken Ended old mid new bytes cut first left_kept taken_kept = record {
+  bytes = bytes;
+  taken = takes_kept left taken old mid new bytes first left_kept taken_kept;
+  by_kind = inl (cut_fault bytes cut);
+  at_end = λ e. absurd (cc e);
+}
+
 -- where the input ends in a header, an element is refused as Truncated
 pub refused_header : {S : Type 0} (left taken : S → Option (List ℕ)) (Ended : Type 0) (old mid new : S)
-    (bytes buf : List ℕ) (n : ℕ) → HasHeaderFault Truncated bytes → Takes left taken old mid bytes
+    (bytes buf : List ℕ) (n : ℕ) → IsCutHeader bytes → Takes left taken old mid bytes
     → Takes left taken mid new (take n buf) → n ≡ 0 → Ended → RefusesElement Truncated (Takes left taken old new) Ended
 refused_header left taken Ended old mid new bytes buf n cut first next none end =
     let both = takes_more left taken old mid new bytes (take n buf) first next in
     record {
       bytes = bytes;
       taken = rw (none, append-nil bytes) at both;
-      by_kind = inl cut;
+      by_kind = cut_fault bytes cut;
       at_end = λ _. end;
     }
 
@@ -123,17 +183,15 @@ cut_is_short (byte ∷ first ∷ digits) e = ⊎_elim
 
 -- ---- the content
 
--- a content of which a part was read is refused where what is missing is
-pub refused_part : (kind : ErrorKind) {S : Type 0} (left taken : S → Option (List ℕ)) (Ended : Type 0)
-    (old mid new : S) (start middle : List ℕ) (n missing announced : ℕ)
-    → ReadsOnto (Takes left taken old mid) start middle n → n + missing ≡ announced
-    → RefusesContent kind missing (Takes left taken mid new) Ended
-    → RefusesContent kind announced (Takes left taken old new) Ended
-refused_part kind left taken Ended old mid new start middle n missing announced read sum refused =
-    let both = takes_more left taken old mid new read.bytes refused.bytes read.taken refused.taken in
-    let few : length (read.bytes ++ refused.bytes) < announced = omega
-    (arith, length-append read.bytes refused.bytes) in
-    record { bytes = _; taken = both; few = few; kinds = refused.kinds; at_end = refused.at_end }
+-- fewer bytes than are missing were read, and so fewer than were announced
+pub fewer_in_all : {S : Type 0} (left taken : S → Option (List ℕ)) (old mid new : S) (start middle : List ℕ)
+    (n missing announced : ℕ) → ReadsOnto (Takes left taken old mid) start middle n → n + missing ≡ announced
+    → TakesFewer (Takes left taken mid new) missing → TakesFewer (Takes left taken old new) announced
+fewer_in_all left taken old mid new start middle n missing announced read sum fewer =
+    let both = takes_more left taken old mid new read.bytes fewer.bytes read.taken fewer.taken in
+    let few : length (read.bytes ++ fewer.bytes) < announced = omega
+    (arith, length-append read.bytes fewer.bytes) in
+    record { bytes = _; taken = both; few = few }
 
 -- ---- the element
 
@@ -143,72 +201,90 @@ cut_content : (tag n : ℕ) (content : List ℕ) → IsHeader tag n → length c
 cut_content tag n content is few =
     record { tag = tag; announced = n; content = content; is_header = is; few = few; joined = refl }
 
+-- such bytes are truncated
+content_fault : (tag n : ℕ) (content : List ℕ) → IsHeader tag n → length content < n
+    → document_fault (header tag n ++ content) ≡ Some Truncated
+content_fault tag n content is few = any_short (λ _. no_fault) end_fault tag n _ content is refl few
+
 -- a header and the content that it announces are an element
 whole_element : (tag n : ℕ) (content : List ℕ) → IsHeader tag n → length content ≡ n
     → IsElement (header tag n ++ content)
 whole_element tag n content is count =
     record { tag = tag; content = content; is_header = rw count is; encoded = rw count refl }
 
+-- bytes behind an element are trailing data
+byte_fault : (front : List ℕ) (byte : ℕ) (more : List ℕ) → IsElement front
+    → document_fault (front ++ byte ∷ more) ≡ Some TrailingData
+byte_fault front byte more is =
+    any_at (λ _. no_fault) end_fault is.tag is.content (front ++ byte ∷ more) (byte ∷ more) is.is_header
+    (rw is.encoded refl)
+
 -- an element is refused by what was taken after its header
 refused_after : (kind : ErrorKind) {S : Type 0} (left taken : S → Option (List ℕ)) (Ended : Type 0) (old mid new : S)
-    (tag n : ℕ) (bytes : List ℕ) → ReadsHeader (Takes left taken old mid) tag n → Takes left taken mid new bytes
+    (tag n : ℕ) (bytes : List ℕ) → Takes left taken old mid (header tag n) → Takes left taken mid new bytes
     → TakenBeforeRefusal kind (header tag n ++ bytes) → (kind ≡ Truncated → Ended)
     → RefusesElement kind (Takes left taken old new) Ended
-refused_after kind left taken Ended old mid new tag n bytes h more by_kind at_end =
+refused_after kind left taken Ended old mid new tag n bytes first more by_kind at_end =
     record {
       bytes = _;
-      taken = takes_more left taken old mid new (header tag n) bytes h.taken more;
+      taken = takes_more left taken old mid new (header tag n) bytes first more;
       by_kind = by_kind;
       at_end = at_end;
     }
 
 -- where a content is refused, so is the element
 pub refused_content : (kind : ErrorKind) {S : Type 0} (left taken : S → Option (List ℕ)) (Ended : Type 0)
-    (old mid new : S) (tag n : ℕ) → ReadsHeader (Takes left taken old mid) tag n
-    → RefusesContent kind n (Takes left taken mid new) Ended
+    (old mid new : S) (tag n : ℕ) → IsHeader tag n → Takes left taken old mid (header tag n)
+    → TakesFewer (Takes left taken mid new) n → IsIoOrMemory kind ⊎ ((kind ≡ Truncated) × Ended)
     → RefusesElement kind (Takes left taken old new) Ended
-refused_content kind left taken Ended old mid new tag n h r =
-    let part = cut_content tag n r.bytes h.is_header r.few in
-    refused_after kind left taken Ended old mid new tag n r.bytes h r.taken
-    (⊎_elim (λ cut. rw cut (inr part)) (⊎_elim (λ io. rw io (inl (inr part))) (λ memory. rw memory (inl part)))
-    r.kinds) r.at_end
+refused_content kind left taken Ended old mid new tag n is first fewer (inl (inl io)) =
+    refused_after kind left taken Ended old mid new tag n fewer.bytes first fewer.taken
+    (rw io (inl (content_fault tag n fewer.bytes is fewer.few))) (λ e. absurd (cc (io, e)))
+refused_content kind left taken Ended old mid new tag n is first fewer (inl (inr memory)) =
+    refused_after kind left taken Ended old mid new tag n fewer.bytes first fewer.taken
+    (rw memory (inl (cut_content tag n fewer.bytes is fewer.few))) (λ e. absurd (cc (memory, e)))
+refused_content kind left taken Ended old mid new tag n is first fewer (inr cut) =
+    refused_after kind left taken Ended old mid new tag n fewer.bytes first fewer.taken
+    (rw cut.0 (content_fault tag n fewer.bytes is fewer.few)) (λ _. cut.1)
 
 -- where the memory for a content is refused, so is the element
 pub refused_growth : {S : Type 0} (left taken : S → Option (List ℕ)) (Ended : Type 0) (old new : S) (tag n : ℕ)
-    → ReadsHeader (Takes left taken old new) tag n → RefusesElement Memory (Takes left taken old new) Ended
-refused_growth left taken Ended old new tag n h =
-    refused_after Memory left taken Ended old new new tag n [] h (takes_nothing left taken new)
-    (⊎_elim (λ some. inl (cut_content tag n [] h.is_header some))
-    (λ (none : n ≤ 0). inr (whole_element tag n [] h.is_header (omega arith)))
+    → IsHeader tag n → Takes left taken old new (header tag n) → RefusesElement Memory (Takes left taken old new) Ended
+refused_growth left taken Ended old new tag n is first =
+    refused_after Memory left taken Ended old new new tag n [] first (takes_nothing left taken new)
+    (⊎_elim (λ some. inl (cut_content tag n [] is some))
+    (λ (none : n ≤ 0). inr (whole_element tag n [] is (omega arith)))
     (cases_lt 0 n)) (λ e. absurd (cc e))
 
 -- an element after which a read failed is refused as Io
 pub refused_behind : {S : Type 0} (left taken : S → Option (List ℕ)) (Ended : Type 0) (old mid next new : S) (tag n : ℕ)
-    (after : List ℕ) → ReadsHeader (Takes left taken old mid) tag n
+    (after : List ℕ) → IsHeader tag n → Takes left taken old mid (header tag n)
     → ReadsOnto (Takes left taken mid next) (header tag n) after n → Keeps (left next) (left new)
     → Keeps (taken next) (taken new) → RefusesElement Io (Takes left taken old new) Ended
-refused_behind left taken Ended old mid next new tag n after h r left_kept taken_kept =
-    refused_after Io left taken Ended old mid new tag n r.bytes h
+refused_behind left taken Ended old mid next new tag n after is first r left_kept taken_kept =
+    refused_after Io left taken Ended old mid new tag n r.bytes first
     (takes_kept left taken mid next new r.bytes r.taken left_kept taken_kept)
-    (inr (whole_element tag n r.bytes h.is_header r.count)) (λ e. absurd (cc e))
+    (inr (whole_element tag n r.bytes is r.count)) (λ e. absurd (cc e))
 
 -- an element after which a byte was read is refused as TrailingData
 pub byte_behind : {S : Type 0} (left taken : S → Option (List ℕ)) (Ended : Type 0) (old mid next new : S) (tag n : ℕ)
-    (after last : List ℕ) → ReadsHeader (Takes left taken old mid) tag n
+    (after last : List ℕ) → IsHeader tag n → Takes left taken old mid (header tag n)
     → ReadsOnto (Takes left taken mid next) (header tag n) after n → Takes left taken next new last → length last ≡ 1
     → RefusesElement TrailingData (Takes left taken old new) Ended
-byte_behind left taken Ended old mid next new tag n after [] h r more one = absurd (omega arith)
-byte_behind left taken Ended old mid next new tag n after (byte ∷ b ∷ bs) h r more one = absurd (omega arith)
-byte_behind left taken Ended old mid next new tag n after (byte ∷ []) h r more one =
-    let element = whole_element tag n r.bytes h.is_header r.count in
-    refused_after TrailingData left taken Ended old mid new tag n (r.bytes ++ byte ∷ []) h
+byte_behind left taken Ended old mid next new tag n after [] is first r more one = absurd (omega arith)
+byte_behind left taken Ended old mid next new tag n after (byte ∷ b ∷ bs) is first r more one = absurd (omega arith)
+byte_behind left taken Ended old mid next new tag n after (byte ∷ []) is first r more one =
+    let front = header tag n ++ r.bytes in
+    let whole = whole_element tag n r.bytes is r.count in
+    let P : List ℕ → Type 0 = λ xs. document_fault xs ≡ Some TrailingData in
+    refused_after TrailingData left taken Ended old mid new tag n (r.bytes ++ byte ∷ []) first
     (takes_more left taken mid next new r.bytes (byte ∷ []) r.taken more)
     (record {
-      front = _;
-      byte = _;
-      is_element = element;
-      joined =
-          sym (append_assoc (header tag n) r.bytes (byte ∷ []));
+      front = front;
+      last = byte;
+      joined = sym (append_assoc (header tag n) r.bytes (byte ∷ []));
+      before = whole;
+      fault = subst P (append_assoc (header tag n) r.bytes (byte ∷ [])) (byte_fault front byte [] whole);
     }) (λ e. absurd (cc e))
 
 -- the ways in which an element is refused after its header
@@ -216,35 +292,51 @@ pub ruleset element_refusals = (refused_growth, refused_content, refused_behind,
 
 -- ---- what a refusal says of all the bytes
 
--- a bad length stays one whatever follows it
-length_stays : (bytes more : List ℕ) → header_fault bytes ≡ Length → header_fault (bytes ++ more) ≡ Length
-length_stays [] more e = absurd (cc e)
-length_stays (byte ∷ []) more e = grind (arith, tests)
-length_stays (byte ∷ first ∷ digits) more e = grind (arith, tests, length-append)
+-- a bad tag or length stays one whatever follows it
+header_stays : (kind : ErrorKind) (bytes more : List ℕ) → header_fault bytes ≡ kind → (kind ≡ Truncated → ⊥)
+    → header_fault (bytes ++ more) ≡ kind
+header_stays kind [] more is other = absurd (other (sym is))
+header_stays kind (byte ∷ []) more is other = grind (arith, tests)
+header_stays kind (byte ∷ first ∷ digits) more is other = grind (arith, tests, length-append)
+
+-- bytes that are refused neither as truncated nor for what follows begin with no header
+no_header : (kind : ErrorKind) (bytes : List ℕ) → document_fault bytes ≡ Some kind → (kind ≡ Truncated → ⊥)
+    → (kind ≡ TrailingData → ⊥) → LacksHeader bytes
+no_header kind bytes fault first second tag n rest is e = ⊎_elim
+    (λ few. first (cc (fault, any_short (λ _. no_fault) end_fault tag n bytes rest is e few)))
+    (λ room. behind (drop n rest)
+    (sym (any_room (λ _. no_fault) end_fault tag n bytes rest is e room) ∙ fault))
+    (cases_lt (length rest) n)
+  where
+    behind : (xs : List ℕ) → end_fault xs ≡ Some kind → ⊥
+    behind [] e = cc e
+    behind (x ∷ xs) e = second (cc e)
+
+-- a fault of a header stays, whatever follows it
+fault_stays : (kind : ErrorKind) (bytes more : List ℕ) → document_fault bytes ≡ Some kind → (kind ≡ Truncated → ⊥)
+    → (kind ≡ TrailingData → ⊥) → document_fault (bytes ++ more) ≡ Some kind
+fault_stays kind bytes more fault first second =
+    let none = no_header kind bytes fault first second in
+    let is : header_fault bytes ≡ kind = cc (fault, any_without_header (λ _. no_fault) end_fault bytes none) in
+    any_without_header (λ _. no_fault) end_fault (bytes ++ more) (λ tag n rest h e. ⊎_elim
+    (λ longer. none tag n longer.after h longer.front)
+    (λ cut. first (sym is ∙ cut))
+    (header_front tag n bytes more rest h e))
+    ∙ ap (λ k. Some k) (header_stays kind bytes more is first)
 
 -- the kind by which all the bytes are refused is a function of what was read
 taken_fault : (kind : ErrorKind) (bytes more : List ℕ) → (kind ≡ Truncated → more ≡ []) → TakenBeforeRefusal kind bytes
     → IsIoOrMemory kind ⊎ (document_fault (bytes ++ more) ≡ Some kind)
 taken_fault Io bytes more end taken = inl (inl refl)
 taken_fault Memory bytes more end taken = inl (inr refl)
-taken_fault Truncated bytes more end (inl lacks) = rw (end refl, append-nil bytes)
-    (inr (any_without_header (λ _. no_fault) end_fault bytes lacks.none ∙ ap (λ kind. Some kind) lacks.fault_is))
-taken_fault Truncated bytes more end (inr cut) = rw (end refl, append-nil bytes)
-    (inr (any_short (λ _. no_fault) end_fault cut.tag cut.announced bytes cut.content cut.is_header
-    cut.joined cut.few))
+taken_fault Truncated bytes more end fault = rw (end refl, append-nil bytes) (inr fault)
 taken_fault Tag bytes more end bad =
-    inr (rw bad.alone
-    (rw (false_from_ne_true (is_tag bad.byte) (λ e. bad.bad (tag_from_test bad.byte e))) refl))
-taken_fault Length bytes more end bad = inr (
-    any_without_header (λ _. no_fault) end_fault (bytes ++ more) (λ tag n rest is e. ⊎_elim
-    (λ longer. bad.bad.none tag n longer.after is longer.front)
-    (λ cut. cc (cut, bad.bad.fault_is))
-    (header_front tag n bytes more rest is e))
-    ∙ ap (λ kind. Some kind) (length_stays bytes more bad.bad.fault_is))
+    inr (fault_stays Tag bytes more bad.fault (λ e. cc e) (λ e. cc e))
+taken_fault Length bytes more end bad =
+    inr (fault_stays Length bytes more bad.fault (λ e. cc e) (λ e. cc e))
 taken_fault TrailingData bytes more end longer = inr (
-    let whole = longer.is_element in
-    any_at (λ _. no_fault) end_fault whole.tag whole.content (bytes ++ more) (longer.byte ∷ more) whole.is_header
-    (rw (longer.joined, append_assoc longer.front (longer.byte ∷ []) more, whole.encoded) refl))
+    rw (longer.joined, append_assoc longer.front (longer.last ∷ []) more)
+    (byte_fault longer.front longer.last more longer.before))
 taken_fault kind bytes more end taken = absurd taken
 
 -- an element that was all that was left isn't refused

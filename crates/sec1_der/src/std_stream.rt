@@ -1,23 +1,29 @@
 //! The standard library's readers and writers, as readers and writers that remember a failure.
 ghost use Rattle.std.specs.Prelude.{◌≡◌, false};
-ghost use Rattle.sec1_der.specs.StdStreams.{reader_failed, reader_inner, writer_failed};
-ghost use Rattle.sec1_der.specs.StdStreams.{writer_inner};
+ghost use Rattle.sec1_der.specs.StdStreams.{StdStream};
 
 use crate::stream::{IoFault, Read, Write};
 use std::io;
+use std::marker::Model;
 
-/// Wraps a reader of the standard library, and remembers whether a read failed.
+/// Wraps a reader of the standard library, and remembers whether a read failed. A contract sees the
+/// reader, and whether a read of it has failed.
 #[derive(Drop)]
 pub struct StdReader<R> {
     inner: R,
     is_failed: bool,
 }
 
+impl<R> Model for StdReader<R> {
+    ghost Value = { StdStream R };
+
+    ghost view = { λ reader. record { inner = reader.inner; failed = reader.is_failed } };
+}
+
 impl<R> StdReader<R> {
     /// Creates a reader that hasn't failed.
     pub fn new(inner: R) -> StdReader<R>
-        ensures inner { reader_inner result ≡ inner }
-        ensures unfailed { reader_failed result ≡ false }
+        ensures { result ≡ record { inner = inner; failed = false } }
     {
         StdReader {
             inner,
@@ -27,7 +33,7 @@ impl<R> StdReader<R> {
 
     /// Returns the standard library's reader.
     pub fn into_inner(self) -> R
-        ensures { result ≡ reader_inner self }
+        ensures { result ≡ self.inner }
     {
         let StdReader {
             inner,
@@ -38,9 +44,9 @@ impl<R> StdReader<R> {
 }
 
 impl<R: io::Read> Read for StdReader<R> {
-    ghost left = { λ reader. R.remaining (reader_inner reader) };
+    ghost left = { λ reader. R.remaining reader.inner };
 
-    ghost failed = { reader_failed };
+    ghost failed = { λ reader. reader.failed };
 
     fn read(&mut self, buf: &mut [u8]) -> Result<usize, IoFault> {
         if self.is_failed {
@@ -61,18 +67,23 @@ impl<R: io::Read> Read for StdReader<R> {
 }
 
 /// Wraps a writer of the standard library, and remembers whether a write failed, or wrote nothing
-/// of a slice that wasn't empty.
+/// of a slice that wasn't empty. A contract sees the writer, and whether a write of it has failed.
 #[derive(Drop)]
 pub struct StdWriter<W> {
     inner: W,
     is_failed: bool,
 }
 
+impl<W> Model for StdWriter<W> {
+    ghost Value = { StdStream W };
+
+    ghost view = { λ writer. record { inner = writer.inner; failed = writer.is_failed } };
+}
+
 impl<W> StdWriter<W> {
     /// Creates a writer that hasn't failed.
     pub fn new(inner: W) -> StdWriter<W>
-        ensures inner { writer_inner result ≡ inner }
-        ensures unfailed { writer_failed result ≡ false }
+        ensures { result ≡ record { inner = inner; failed = false } }
     {
         StdWriter {
             inner,
@@ -82,7 +93,7 @@ impl<W> StdWriter<W> {
 
     /// Returns the standard library's writer.
     pub fn into_inner(self) -> W
-        ensures { result ≡ writer_inner self }
+        ensures { result ≡ self.inner }
     {
         let StdWriter {
             inner,
@@ -93,9 +104,9 @@ impl<W> StdWriter<W> {
 }
 
 impl<W: io::Write> Write for StdWriter<W> {
-    ghost written = { λ writer. W.contents (writer_inner writer) };
+    ghost written = { λ writer. W.contents writer.inner };
 
-    ghost failed = { writer_failed };
+    ghost failed = { λ writer. writer.failed };
 
     fn write(&mut self, buf: &[u8]) -> Result<usize, IoFault> {
         if self.is_failed {

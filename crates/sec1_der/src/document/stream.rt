@@ -3,10 +3,9 @@ ghost use Rattle.std.specs.Prelude.{Some, None, MatchResult};
 ghost use Rattle.std.specs.Prelude.{ℕ, List, false, ◌≡◌, ◌<◌, ◌≤◌, ◌↔◌, ◌⊎◌, length, take, IsTrue};
 ghost use Rattle.std.specs.Prelude.{IsErr, IfOk, IfErr, IfSome, OnOk, OnErr};
 ghost use Rattle.std.specs.Io.KnownBytes.{Appends};
-ghost use Rattle.sec1_der.specs.Elements.{IsElement};
+ghost use Rattle.sec1_der.specs.Elements.{IsElement, IsHeader, header};
 ghost use Rattle.sec1_der.specs.ErrorKinds.{IsIoOrMemory, Refuses};
 ghost use Rattle.sec1_der.specs.ReadsDocument.{IsElementFault, ConsumesElement, RefusesElement};
-ghost use Rattle.sec1_der.specs.ReadsDocument.{ReadsHeader, RefusesContent};
 ghost use Rattle.sec1_der.specs.Faults.{document_fault};
 ghost use Rattle.sec1_der.specs.Streams.{AppendsPrefix, Ends, ReadsOnto, Takes, TakesFewer};
 ghost use Rattle.sec1_der.specs.declared.error.ErrorKind.TheVariants.{Io};
@@ -139,8 +138,8 @@ fn read_element<R: Read>(alloc: Global, reader: &mut R) -> Result<SecretDocument
 fn read_header<R: Read>(reader: &mut R) -> Result<Header>
     requires { R.failed reader.old ≡ false }
     ensures io { Refuses result Io ↔ IsTrue (R.failed reader.new) }
-    ensures found { IfOk result
-        (λ h. ReadsHeader (Takes R.left R.taken reader.old reader.new) h.tag h.length) }
+    ensures found { IfOk result (λ h. IsHeader h.tag h.length
+        × Takes R.left R.taken reader.old reader.new (header h.tag h.length)) }
     ensures refused { IfErr result (λ error.
         RefusesElement error.kind (Takes R.left R.taken reader.old reader.new)
         (Ends R.left R.ended reader.new)) }
@@ -172,9 +171,10 @@ pub(crate) fn read_content<R: Read>(
     ensures found { OnOk result
         (ReadsOnto (Takes R.left R.taken reader.old reader.new) bytes.old.items
         bytes.new.items announced) }
-    ensures refused { IfErr result (λ error.
-        RefusesContent error.kind announced (Takes R.left R.taken reader.old reader.new)
-        (Ends R.left R.ended reader.new)) }
+    ensures few { OnErr result
+        (TakesFewer (Takes R.left R.taken reader.old reader.new) announced) }
+    ensures kinds { IfErr result (λ error. IsIoOrMemory error.kind
+        ⊎ ((error.kind ≡ ErrorKind.Truncated) × Ends R.left R.ended reader.new)) }
 {
     let mut missing = announced;
     while missing > 0 {

@@ -1,38 +1,20 @@
-use Rattle.std.proofs.Common.{◌≡◌, length, take, arith, rules, refl, inl, inr, take_all}
+use Rattle.std.proofs.Common.{◌≡◌, length, take, arith, rules, take_all}
 use Rattle.std.proofs.lemmas.Grind.{common_steps}
 use Rattle.std.proofs.lemmas.Result.{err_from_is_err_and}
-use Rattle.sec1_der.specs.declared.error.ErrorKind.TheVariants.{Truncated, Io}
-use Rattle.sec1_der.proofs.StreamLemmas.{reads_more, refused_part}
+use Rattle.sec1_der.proofs.StreamLemmas.{reads_more, fewer_in_all}
 use Rattle.sec1_der.proofs.document.stream.read_content.Goals as goal
 
-pub returns-in_err-fill-clause-refused : goal.returns-in_err-fill-clause-refused
-returns-in_err-fill-clause-refused g c =
+pub returns-in_err-fill-clause-few : goal.returns-in_err-fill-clause-few
+returns-in_err-fill-clause-few g c =
     let fewer = c.in_err-fill.ensures.few in
     let p = err_from_is_err_and c.from_residual-in_err-fill.result c.from_residual-in_err-fill.ensures.1 in
-    rw (p.1, p.2) (refused_part Io _ _ _ _ _ _ _ _ _ c.loop-missing.missing _ c.loop-missing.invariant.read
-    (omega arith)
-    (record {
-      bytes = fewer.bytes;
-      taken = fewer.taken;
-      few =
-          grind (arith, common_steps);
-      kinds = inr (inl refl);
-      at_end = λ e. absurd (cc e);
-    }))
+    rw p.1 (fewer_in_all _ _ _ _ _ _ _ _ c.loop-missing.missing _ c.loop-missing.invariant.read (omega arith)
+    (record { bytes = fewer.bytes; taken = fewer.taken; few = grind (arith, common_steps) }))
 
-pub returns-then-branch-step-clause-refused : goal.returns-then-branch-step-clause-refused
-returns-then-branch-step-clause-refused g c =
-    let fill = c.in_ok-fill.ensures in
-    rw c.into.ensures (refused_part Truncated _ _ _ _ _ _ _ _ _ c.loop-missing.missing _ c.loop-missing.invariant.read
-    (omega arith)
-    (record {
-      bytes = _;
-      taken = fill.bytes;
-      few = grind (arith, common_steps);
-      kinds = inl refl;
-      at_end =
-          λ _. fill.end (grind (arith, common_steps));
-    }))
+pub returns-then-branch-step-clause-few : goal.returns-then-branch-step-clause-few
+returns-then-branch-step-clause-few g c =
+    fewer_in_all _ _ _ _ _ _ _ _ c.loop-missing.missing _ c.loop-missing.invariant.read (omega arith)
+    (record { bytes = _; taken = c.in_ok-fill.ensures.bytes; few = grind (arith, common_steps) })
 
 pub loop-missing-preserved : goal.loop-missing-preserved
 loop-missing-preserved g c =

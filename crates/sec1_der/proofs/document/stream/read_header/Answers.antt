@@ -1,12 +1,17 @@
 use Rattle.std.proofs.Common.{◌≡◌, ◌≤◌, ◌+◌, ◌-◌, ◌<◌, ◌∙◌, length, take, arith, rules, sym}
 use Rattle.std.proofs.lemmas.Grind.{common_steps}
+use Rattle.std.proofs.lemmas.Result.{err_from_is_err_and}
+use Rattle.sec1_der.specs.Streams.{Takes}
+use Rattle.sec1_der.specs.declared.error.ErrorKind.TheVariants.{Truncated}
 use Rattle.sec1_der.proofs.StreamLemmas.{cut_is_short, one_more, read_alone, reads_part, refused_header}
+use Rattle.sec1_der.proofs.StreamLemmas.{refused_here, refused_read}
 use Rattle.sec1_der.proofs.document.stream.read_header.Goals as goal
 
 pub returns-in-Ok-clause-found : goal.returns-in-Ok-clause-found
 returns-in-Ok-clause-found g c =
     let (is, split) = c.in-Ok.ensures.found in
-    read_alone _ _ _ _ _ is split c.loop-header.invariant.reached c.loop-header.invariant.taken
+    read_alone (Takes g.R.Read.left g.R.Read.taken c.args.reader.now c.loop-header.reader) _ _ _ _ is split
+    c.loop-header.invariant.reached c.loop-header.invariant.taken
 
 pub loop-header-preserved : goal.loop-header-preserved
 loop-header-preserved g c =
@@ -43,3 +48,20 @@ returns-then-branch-eq0-clause-refused g c =
     (record { fault_is = short; none = λ tag n rest is e. fault.only tag n rest is e })
     c.loop-header.invariant.taken (record { consumed = read.bytes.0; appended = read.taken }) none
     (record { none_left = read.bytes.1 none size; known = read.end none size }))
+
+pub returns-in_err-read-clause-refused : goal.returns-in_err-read-clause-refused
+returns-in_err-read-clause-refused g c =
+    let fault = c.in-Err-Truncated.ensures in
+    let short = sym (sym c.in-Err-Truncated.field-0-is ∙ fault.kind) in
+    let p = err_from_is_err_and c.from_residual.result c.from_residual.ensures.1 in
+    rw (p.1, p.2) (refused_read g.R.Read.left g.R.Read.taken _ _ _ _ _
+    (record { fault_is = short; none = λ tag n rest is e. fault.only tag n rest is e })
+    c.loop-header.invariant.taken c.in_err-read.ensures.bytes c.in_err-read.ensures.taken)
+
+pub returns-in-Err-clause-refused : goal.returns-in-Err-clause-refused
+returns-in-Err-clause-refused g c =
+    let fault = c.in-Err.ensures in
+    let other : c.in-Err.kind ≡ Truncated → ⊥ = search rules in
+    rw c.into.ensures (refused_here _ (Takes g.R.Read.left g.R.Read.taken c.args.reader.now c.loop-header.reader) _ _
+    c.loop-header.invariant.reached (λ tag n rest is e. fault.only tag n rest is e) (sym fault.kind)
+    other c.loop-header.invariant.taken)
