@@ -10,7 +10,7 @@ use Rattle.hex.specs.Hex.{encode_upper}
 use Rattle.serde_json.specs.Data.{Data, null, boolean, number, unsigned, string, array, object}
 use Rattle.serde_json.specs.Data.{no_members, put}
 use Rattle.serde_json.specs.View.{items_of}
-use Rattle.serde_json.specs.Written.{IsInOrder}
+use Rattle.serde_json.specs.Written.{compact_text}
 use Rattle.sec1_dump.specs.Forms.{advice, form_of, pem_form}
 use Rattle.sec1_dump.specs.Names.{label}
 use Rattle.sec1_dump.specs.Notes.{IsNote}
@@ -62,11 +62,9 @@ picture_data is_key key part tree said values =
     (put (codes "expected") (string (expected_text part))
     (put (codes "advice") (string said) no_members))))))
 
--- a line of JSON with this data
-pub record IsJsonLine (json : Data) (line : List ℕ) : Type 0 where
-  pub text : List ℕ
-  pub in_order : IsInOrder text json
-  pub whole : line ≡ text ++ codes "\n"
+-- a line of JSON with this data: its text with no space between two tokens
+abbrev pub IsJsonLine : Data → List ℕ → Type 0
+IsJsonLine json line = line ≡ compact_text json ++ codes "\n"
 
 -- the JSON of bytes
 pub record IsJson (all : Bool) (bytes text : List ℕ) (status : ℕ) : Type 0 where

@@ -4,6 +4,7 @@ ghost use Rattle.der_faults.specs.KeyParts.{key_part};
 ghost use Rattle.der_faults.specs.Places.{key_place, tree_place};
 ghost use Rattle.der_rows.specs.Rows.{row_view};
 ghost use Rattle.serde_json.specs.View.{view};
+ghost use Rattle.serde_json.specs.Written.{has_float};
 ghost use Rattle.sec1_dump.specs.Hiding.{HidesOctetsOfJson};
 ghost use Rattle.sec1_dump.specs.Json.{AreRowsData, IsJson, IsJsonLine, IsJsonOfInput};
 ghost use Rattle.sec1_dump.specs.Json.{IsJsonRemark, IsRowData, content_data, fault_data};
@@ -121,6 +122,7 @@ fn picture_value(
 
 /// Returns a line of JSON. Fails only if an allocation fails.
 fn json_line(alloc: Global, value: &Value) -> Result<String, AllocError>
+    requires { has_float (view value.now) ≡ false }
     ensures { IfOk result (λ text. IsJsonLine (view value.now) (string_bytes text)) }
 {
     let text = value.to_string(alloc)?;
