@@ -2,7 +2,7 @@
 //! and the laws of their `specs/` alone: records of other shapes, the public key of a certificate
 //! (RFC 5280 section 4.1) and a private key container (RFC 5208); keys read from them, and a store
 //! of keys; numbers of a SEQUENCE OF INTEGER and of a SET OF INTEGER; what is taken from inputs
-//! that never end, or whose bytes nobody knows.
+//! that never end, or whose bytes nobody knows; what writers leave in a slice.
 #![tactic(auto)]
 
 mod algorithm;
@@ -18,6 +18,7 @@ mod private_key_info;
 mod public_key_info;
 mod reading;
 pub mod streams;
+pub mod writers;
 
 pub use algorithm::AlgorithmIdentifier;
 pub use key_store::{KeyStore, find, find_by_public_key, keep};

@@ -5,7 +5,7 @@ use Rattle.std.proofs.Common.{arith, append-nil}
 use Rattle.std.proofs.Math.Seq.{take-append_seam}
 use Rattle.std.proofs.lemmas.Slice.Eq.{bytes_eq-Decides}
 use Rattle.std.specs.Option.{option_map}
-use Rattle.sec1_der.specs.BackWriters.{Puts, front_of}
+use Rattle.sec1_der.specs.BackWriters.{Puts, back_state}
 use Rattle.sec1_der.specs.Elements.{element_of}
 use Rattle.sec1_der.specs.declared.back_writer.BackWriter.{BackWriter}
 use Rattle.sec1_der.specs.Parts.{AreApart, optional_tag, optional_of}
@@ -83,8 +83,8 @@ puts_nothing writer =
         refl,
         rw (← none) (record {
           written = refl;
-          front = omega arith;
-          unchanged = sym (rw append-nil at (take-append_seam (front_of writer) []));
+          room = omega arith;
+          unchanged = sym (rw append-nil at (take-append_seam (back_state writer).room []));
         }),
       );
       kinds = tt;

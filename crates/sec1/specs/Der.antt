@@ -1,6 +1,5 @@
 -- The definitions of `sec1_der` that contracts use, for a crate that depends on `sec1` alone.
-pub use Rattle.sec1_der.specs.BackWriters.{end_of, front_of, IsOverEnd, KeepsEnd, PutsNothing}
-pub use Rattle.sec1_der.specs.BackWriters.{PutsInFront, WritesInFront, Puts}
+pub use Rattle.sec1_der.specs.BackWriters.{back_state, Prepends, WritesInFront, Puts}
 pub use Rattle.sec1_der.specs.Encodings.{Measures}
 pub use Rattle.sec1_der.specs.Parts.{join, optional_of}
 pub use Rattle.sec1_der.specs.Contents.{AreBits}
@@ -22,11 +21,11 @@ pub use Rattle.sec1_der.specs.Faults.{optional_fault, field_fault, any_fault, do
 pub use Rattle.sec1_der.specs.Faults.{tree_fault}
 pub use Rattle.sec1_der.specs.ReadsDocument.{IsElementFault, ConsumesElement, RefusesElement}
 pub use Rattle.sec1_der.specs.ReadsDocument.{TakenBeforeRefusal}
-pub use Rattle.sec1_der.specs.SliceWriters.{written_by, room_of, IsOver, KeepsSlice, AppendsNothing}
-pub use Rattle.sec1_der.specs.SliceWriters.{Appends, WritesBehind}
+pub use Rattle.sec1_der.specs.SliceWriters.{slice_state, Appends, WritesBehind}
 pub use Rattle.sec1_der.specs.StdStreams.{StdStream}
 pub use Rattle.sec1_der.specs.Streams.{AppendsPrefix, Ends, ReadAppends, Takes}
 pub use Rattle.sec1_der.specs.Trees.{Tree, Forest, leaf, node, bytes, IsTree, IsTreeOf, depth, size}
 pub use Rattle.sec1_der.specs.TreeLaws.{BytesDetermineTree, BytesDetermineRow, NoTreeBeginsAnother}
 pub use Rattle.sec1_der.specs.Trees.{max_tree_depth}
 pub use Rattle.sec1_der.specs.Values.{octets_of, unused_bits_of, bit_bytes_of, tag_of, value_of}
+pub use Rattle.sec1_der.specs.Writers.{Writer, WritesNothing}

@@ -6,9 +6,10 @@ use Rattle.std.proofs.Common.{append_assoc, length-append}
 use Rattle.std.proofs.lemmas.Bool.{le-leb, cases_lt}
 use Rattle.std.proofs.lemmas.List.{drop-drop, take-take}
 use Rattle.sec1_der.proofs.ElementLaws.{FoundContent, element_of-some}
-use Rattle.sec1_der.specs.BackWriters.{PutsInFront, WritesInFront, Puts, front_of, end_of}
+use Rattle.sec1_der.specs.BackWriters.{back_state, Prepends, WritesInFront, Puts}
 use Rattle.sec1_der.specs.Elements.{max_length, header, header_of, element_of, within_limit}
-use Rattle.sec1_der.specs.SliceWriters.{Appends, WritesBehind, room_of}
+use Rattle.sec1_der.specs.SliceWriters.{slice_state, Appends, WritesBehind}
+use Rattle.sec1_der.specs.Writers.{Writer}
 use Rattle.sec1_der.specs.declared.back_writer.BackWriter.{BackWriter}
 use Rattle.sec1_der.specs.declared.error.Error.{Error}
 use Rattle.sec1_der.specs.declared.error.ErrorKind.TheVariants.{Overlength, Buffer}
@@ -23,18 +24,18 @@ failed_ok ok = absurd (cc ok)
 pub ruleset element_parts = (element_of-some, length-append)
 
 -- bytes, and then more after them
-pub appends_both : (old between new : SliceWriter) (xs ys : List ℕ) → Appends old between xs → Appends between new ys
+pub appends_both : (old between new : Writer) (xs ys : List ℕ) → Appends old between xs → Appends between new ys
     → Appends old new (xs ++ ys)
 appends_both old between new xs ys p q = grind (arith, append_assoc, length-append, drop-drop)
 
 -- bytes, and then more in front of them
-pub puts_both : (old between new : BackWriter) (xs ys : List ℕ) → PutsInFront old between xs
-    → PutsInFront between new ys → PutsInFront old new (ys ++ xs)
+pub puts_both : (old between new : Writer) (xs ys : List ℕ) → Prepends old between xs
+    → Prepends between new ys → Prepends old new (ys ++ xs)
 puts_both old between new xs ys p q = grind (arith, append_assoc, length-append, take-take)
 
 -- bytes that have room, and then more that have room
 pub both_written : (old between new : SliceWriter) (xs ys : List ℕ) (first second : Result Unit Error)
-    → length xs + length ys ≤ length (room_of old)
+    → length xs + length ys ≤ length (slice_state old).room
     → WritesBehind (Some xs) old between first → WritesBehind (Some ys) between new second
     → WritesBehind (Some (xs ++ ys)) old new second
 both_written old between new xs ys first second room p q =
@@ -43,26 +44,32 @@ both_written old between new xs ys first second room p q =
     record {
       slice = grind (arith, p.slice, q.slice);
       overlength = λ none. absurd (cc none);
-      fits = λ whole same _. let is : xs ++ ys ≡ whole = cc same in
-          (behind.0, rw (← is) (appends_both old between new xs ys front.1 behind.1));
+      fits = λ whole same _. let is : xs ++ ys ≡ whole = cc same in (
+        behind.0,
+        rw (← is)
+            (appends_both (slice_state old) (slice_state between) (slice_state new) xs ys front.1 behind.1),
+      );
       buffer = λ whole same less. let is : xs ++ ys ≡ whole = cc same in
           absurd (omega (arith, rw (← is, length-append) at less));
     }
 
 -- bytes that have room, and then more that have room in front of them
 pub both_put : (old between new : BackWriter) (xs ys : List ℕ) (first second : Result Unit Error)
-    → length xs + length ys ≤ length (front_of old)
+    → length xs + length ys ≤ length (back_state old).room
     → WritesInFront (Some xs) old between first → WritesInFront (Some ys) between new second
     → WritesInFront (Some (ys ++ xs)) old new second
 both_put old between new xs ys first second room p q =
     let behind = p.fits xs refl (omega arith) in
-    let front = q.fits ys refl (omega (arith, behind.1.front)) in
+    let front = q.fits ys refl (omega (arith, behind.1.room)) in
     record {
       slice = grind (arith, p.slice, q.slice);
       grows = omega (arith, p.grows, q.grows);
       overlength = λ none. absurd (cc none);
-      fits = λ whole same _. let is : ys ++ xs ≡ whole = cc same in
-          (front.0, rw (← is) (puts_both old between new xs ys behind.1 front.1));
+      fits = λ whole same _. let is : ys ++ xs ≡ whole = cc same in (
+        front.0,
+        rw (← is)
+            (puts_both (back_state old) (back_state between) (back_state new) xs ys behind.1 front.1),
+      );
       buffer = λ whole same less. let is : ys ++ xs ≡ whole = cc same in
           absurd (omega (arith, rw (← is, length-append) at less));
     }
@@ -85,7 +92,7 @@ encoded_by tag found bytes inside same encoded =
 -- a header that is written where its element has room
 pub header_written : (tag total : ℕ) (found : Header) (content : Option (List ℕ)) (old between : SliceWriter)
     (first : Result Unit Error)
-    → IsSomeAnd (element_of tag content) (λ bytes. total ≡ length bytes) → total ≤ length (room_of old)
+    → IsSomeAnd (element_of tag content) (λ bytes. total ≡ length bytes) → total ≤ length (slice_state old).room
     → ((inside : List ℕ) → within_limit content ≡ Some inside → Found tag (length inside) found)
     → WritesBehind (Some (header found.tag found.length)) old between first → IsOk first
 header_written tag total found content old between first measured room same p =
@@ -105,7 +112,7 @@ header_written tag total found content old between first measured room same p =
 -- an element whose header and content are written
 pub element_written : (tag total : ℕ) (found : Header) (content : Option (List ℕ)) (old between new : SliceWriter)
     (first second : Result Unit Error)
-    → IsSomeAnd (element_of tag content) (λ bytes. total ≡ length bytes) → total ≤ length (room_of old)
+    → IsSomeAnd (element_of tag content) (λ bytes. total ≡ length bytes) → total ≤ length (slice_state old).room
     → ((inside : List ℕ) → within_limit content ≡ Some inside → Found tag (length inside) found)
     → WritesBehind (Some (header found.tag found.length)) old between first
     → WritesBehind (within_limit content) between new second
@@ -134,17 +141,17 @@ writing_kinds None old new (Err e) is = inl (is.overlength refl).0
 writing_kinds (Some bytes) old new (Err e) is = ⊎_elim
     (λ less. inr (is.buffer bytes refl less).0)
     (λ fits. absurd (cc (is.fits bytes refl fits).0))
-    (cases_lt (length (front_of old)) (length bytes))
+    (cases_lt (length (back_state old).room) (length bytes))
 
 -- an element whose content and header are written
 pub element_put : (tag : ℕ) (content : Option (List ℕ)) (old between new : BackWriter)
     (first second : Result Unit Error)
-    → (written_tag since : ℕ) → written_tag ≡ tag → since ≡ length (end_of old)
+    → (written_tag since : ℕ) → written_tag ≡ tag → since ≡ length (back_state old).written
     → Puts (within_limit content) old between first
-    → WritesInFront (header_of written_tag (length (end_of between) - since)) between new second
+    → WritesInFront (header_of written_tag (length (back_state between).written - since)) between new second
     → Puts (element_of tag content) old new second
 element_put tag content old between new first second written_tag since is_tag is_old p over_tag =
-    let any : WritesInFront (header_of tag (length (end_of between) - since)) between new second =
+    let any : WritesInFront (header_of tag (length (back_state between).written - since)) between new second =
     rw (← is_tag) over_tag in
     record {
       slice = grind (arith, p.slice, any.slice);
@@ -155,12 +162,16 @@ element_put tag content old between new first second written_tag since is_tag is
           let count = length-append first_bytes is.inside in
           let behind = p.fits is.inside (inside_element tag content whole is)
           (omega (arith, ap length is.at.encoded, count, room)) in
-          let since_then : length (end_of between) - since ≡ length is.inside =
-          omega (arith, is_old, ap length behind.1.written, length-append is.inside (end_of old)) in
+          let since_then : length (back_state between).written - since ≡ length is.inside =
+          omega (arith, is_old, ap length behind.1.written, length-append is.inside (back_state old).written) in
           let over = rw since_then at any in
           let front = over.fits first_bytes (rw (le-leb (length is.inside) max_length is.at.within) refl)
-          (omega (arith, ap length is.at.encoded, count, room, behind.1.front)) in
-          (front.0, rw is.at.encoded (puts_both old between new is.inside first_bytes behind.1 front.1));
+          (omega (arith, ap length is.at.encoded, count, room, behind.1.room)) in (
+            front.0,
+            rw is.at.encoded
+                (puts_both (back_state old) (back_state between) (back_state new) is.inside
+                first_bytes behind.1 front.1),
+          );
       kinds = writing_kinds _ between new second any;
     }
 

@@ -1,57 +1,48 @@
 -- The state of a writer that fills a slice from its end, and what its calls change.
 use Rattle.std.specs.Prelude.{◌≡◌, ◌⊎◌, ℕ, ◌+◌, ◌<◌, ◌≤◌, List, ◌++◌, length, take, drop}
 use Rattle.std.specs.Prelude.{Option, Some, None, Result, IsOk, IfErr}
-use Rattle.std.specs.Borrow.{MutBor}
 use Rattle.sec1_der.specs.ErrorKinds.{Refuses}
+use Rattle.sec1_der.specs.Writers.{Writer, WritesNothing}
+use Rattle.sec1_der.specs.declared.back_writer.BackWriter.{BackWriter}
 use Rattle.sec1_der.specs.declared.error.Error.{Error}
 use Rattle.sec1_der.specs.declared.error.ErrorKind.TheVariants.{Overlength, Buffer}
-use Rattle.sec1_der.specs.declared.back_writer.BackWriter.{BackWriter}
 
--- the bytes that were written
-abbrev pub end_of : BackWriter → List ℕ
-end_of writer = drop writer.start writer.buffer.now
-
--- the bytes of the slice in front of them
-abbrev pub front_of : BackWriter → List ℕ
-front_of writer = take writer.start writer.buffer.now
-
--- the writer writes into this slice
-abbrev pub IsOverEnd : MutBor (List ℕ) → BackWriter → Type 0
-IsOverEnd slice writer = writer.buffer.ghost_name ≡ slice.ghost_name
-
--- the writer still writes into the same slice
-abbrev pub KeepsEnd : BackWriter → BackWriter → Type 0
-KeepsEnd old new = new.buffer.ghost_name ≡ old.buffer.ghost_name
-
--- nothing was written
-pub record PutsNothing (old new : BackWriter) : Type 0 where
-  pub written : end_of new ≡ end_of old
-  pub front : front_of new ≡ front_of old
+-- the state of the writer: the bytes that weren't written are in front of those that were
+abbrev pub back_state : BackWriter → Writer
+back_state writer = record {
+  written = drop writer.start writer.buffer.now;
+  room = take writer.start writer.buffer.now;
+  slice = writer.buffer.ghost_name;
+}
 
 -- these bytes were prepended to what was written, and the bytes in front of them are unchanged
-pub record PutsInFront (old new : BackWriter) (bytes : List ℕ) : Type 0 where
-  pub written : end_of new ≡ bytes ++ end_of old
-  pub front : length (front_of old) ≡ length (front_of new) + length bytes
-  pub unchanged : front_of new ≡ take (length (front_of new)) (front_of old)
+pub record Prepends (old new : Writer) (bytes : List ℕ) : Type 0 where
+  pub written : new.written ≡ bytes ++ old.written
+  pub room : length old.room ≡ length new.room + length bytes
+  pub unchanged : new.room ≡ take (length new.room) old.room
 
 -- The bytes were prepended, if there are any and they have room. Otherwise nothing was written, and
 -- the error is Overlength if there are none, and Buffer if there is less room.
 pub record WritesInFront (bytes : Option (List ℕ)) (old new : BackWriter)
     (result : Result (Unit {0}) Error) : Type 0 where
-  pub slice : KeepsEnd old new
-  pub grows : length (end_of old) ≤ length (end_of new)
-  pub overlength : bytes ≡ None → Refuses result Overlength × PutsNothing old new
-  pub fits : (whole : List ℕ) → bytes ≡ Some whole → length whole ≤ length (front_of old)
-      → IsOk result × PutsInFront old new whole
-  pub buffer : (whole : List ℕ) → bytes ≡ Some whole → length (front_of old) < length whole
-      → Refuses result Buffer × PutsNothing old new
+  pub slice : (back_state new).slice ≡ (back_state old).slice
+  pub grows : length (back_state old).written ≤ length (back_state new).written
+  pub overlength : bytes ≡ None
+      → Refuses result Overlength × WritesNothing (back_state old) (back_state new)
+  pub fits : (whole : List ℕ) → bytes ≡ Some whole
+      → length whole ≤ length (back_state old).room
+      → IsOk result × Prepends (back_state old) (back_state new) whole
+  pub buffer : (whole : List ℕ) → bytes ≡ Some whole
+      → length (back_state old).room < length whole
+      → Refuses result Buffer × WritesNothing (back_state old) (back_state new)
 
 -- The bytes were prepended, if there are any and they have room. Otherwise any bytes may have been
 -- prepended, and an error is Overlength or Buffer.
 pub record Puts (bytes : Option (List ℕ)) (old new : BackWriter)
     (result : Result (Unit {0}) Error) : Type 0 where
-  pub slice : KeepsEnd old new
-  pub grows : length (end_of old) ≤ length (end_of new)
-  pub fits : (whole : List ℕ) → bytes ≡ Some whole → length whole ≤ length (front_of old)
-      → IsOk result × PutsInFront old new whole
+  pub slice : (back_state new).slice ≡ (back_state old).slice
+  pub grows : length (back_state old).written ≤ length (back_state new).written
+  pub fits : (whole : List ℕ) → bytes ≡ Some whole
+      → length whole ≤ length (back_state old).room
+      → IsOk result × Prepends (back_state old) (back_state new) whole
   pub kinds : IfErr result (λ e. (e.kind ≡ Overlength) ⊎ (e.kind ≡ Buffer))

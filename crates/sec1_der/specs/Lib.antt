@@ -13,6 +13,7 @@ pub mod ErrorKinds
 pub mod Faults
 pub mod Contents
 pub mod Values
+pub mod Writers
 pub mod Readers
 pub mod SliceWriters
 pub mod BackWriters

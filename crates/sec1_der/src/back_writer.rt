@@ -20,14 +20,14 @@ pub struct BackWriter<'b> {
 
 impl<'b> BackWriter<'b> {
     ghost use Rattle.std.specs.Prelude.{◌≡◌, ◌-◌, [], Some};
-    ghost use Rattle.sec1_der.specs.BackWriters.{end_of, front_of, IsOverEnd, WritesInFront};
+    ghost use Rattle.sec1_der.specs.BackWriters.{back_state, WritesInFront};
     ghost use Rattle.sec1_der.specs.Elements.{header_of};
 
     /// Creates a writer at the end of a slice.
     pub fn new(buffer: &'b mut [u8]) -> BackWriter<'b>
-        ensures slice { IsOverEnd buffer.entry result }
-        ensures written { end_of result ≡ [] }
-        ensures front { front_of result ≡ buffer.old }
+        ensures slice { (back_state result).slice ≡ buffer.entry.ghost_name }
+        ensures written { (back_state result).written ≡ [] }
+        ensures room { (back_state result).room ≡ buffer.old }
     {
         let start = buffer.len();
         BackWriter { buffer, start }
@@ -35,14 +35,14 @@ impl<'b> BackWriter<'b> {
 
     /// Returns the number of bytes written.
     pub fn written(&self) -> usize
-        ensures { result ≡ length (end_of self.now) }
+        ensures { result ≡ length (back_state self.now).written }
     {
         self.buffer.len() - self.start
     }
 
     /// Returns the number of bytes of the slice in front of what was written.
     pub fn remaining(&self) -> usize
-        ensures { result ≡ length (front_of self.now) }
+        ensures { result ≡ length (back_state self.now).room }
     {
         self.start
     }
@@ -71,9 +71,9 @@ impl<'b> BackWriter<'b> {
     /// header.
     #[tactic(auto, using(crate::proofs::LengthLaws::len_1))]
     pub fn header(&mut self, tag: Tag, since: usize) -> Result<()>
-        requires { since ≤ length (end_of self.old) }
-        ensures { WritesInFront (header_of tag (length (end_of self.old) - since)) self.old self.new
-            result }
+        requires { since ≤ length (back_state self.old).written }
+        ensures { WritesInFront (header_of tag (length (back_state self.old).written - since))
+            self.old self.new result }
     {
         let length = Length::new(self.written() - since)?;
         if length.get() < LONG_FORM {

@@ -17,13 +17,13 @@ pub struct SliceWriter<'b> {
 
 impl<'b> SliceWriter<'b> {
     ghost use Rattle.std.specs.Prelude.{◌≡◌, [], ◌∷◌, Some};
-    ghost use Rattle.sec1_der.specs.SliceWriters.{written_by, room_of, IsOver, WritesBehind};
+    ghost use Rattle.sec1_der.specs.SliceWriters.{slice_state, WritesBehind};
 
     /// Creates a writer at the beginning of a slice.
     pub fn new(buffer: &'b mut [u8]) -> SliceWriter<'b>
-        ensures slice { IsOver buffer.entry result }
-        ensures written { written_by result ≡ [] }
-        ensures room { room_of result ≡ buffer.old }
+        ensures slice { (slice_state result).slice ≡ buffer.entry.ghost_name }
+        ensures written { (slice_state result).written ≡ [] }
+        ensures room { (slice_state result).room ≡ buffer.old }
     {
         SliceWriter {
             buffer,
@@ -33,14 +33,14 @@ impl<'b> SliceWriter<'b> {
 
     /// Returns the number of bytes written.
     pub fn written(&self) -> usize
-        ensures { result ≡ length (written_by self.now) }
+        ensures { result ≡ length (slice_state self.now).written }
     {
         self.position
     }
 
     /// Returns the number of bytes of the slice after the written part.
     pub fn remaining(&self) -> usize
-        ensures { result ≡ length (room_of self.now) }
+        ensures { result ≡ length (slice_state self.now).room }
     {
         self.buffer.len() - self.position
     }
