@@ -171,6 +171,32 @@ fn reads_times(rt: HostRuntime) -> Result<(), Fail> {
     Ok(())
 }
 
+/// Times in ascending order. Of two in a row, the first field in which they differ decides, and
+/// each field behind it is the other way round.
+static ASCENDING_TIMES: [&[u8]; 7] = [
+    b"20231231235959Z",
+    b"20241130225858Z",
+    b"20241229215757Z",
+    b"20241230205656Z",
+    b"20241230215555Z",
+    b"20241230215654Z",
+    b"20241230215655Z",
+];
+
+#[test]
+fn orders_times(rt: HostRuntime) -> Result<(), Fail> {
+    let mut last: Option<DateTime> = None;
+    for text in ASCENDING_TIMES.iter() {
+        let time = GeneralizedTime::new(text)?.date_time();
+        if let (Some(before), Some(after)) = (last, time) {
+            assert!(rt; before < after && after > before && before.max(after) == after);
+        }
+        assert!(rt; time.is_some());
+        last = time;
+    }
+    Ok(())
+}
+
 /// Contents, and whether they are a NumericString's, a PrintableString's, a VisibleString's, an
 /// IA5String's and a UTF8String's. Jones is the example of X.690 section 8.23; the UTF-8 is from
 /// RFC 3629 sections 3, 7 and 10.

@@ -20,6 +20,8 @@ mod faults;
 #[cfg(test)]
 mod keys;
 #[cfg(test)]
+mod printing;
+#[cfg(test)]
 mod round_trips;
 #[cfg(test)]
 mod rows;
