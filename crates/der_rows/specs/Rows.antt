@@ -1,7 +1,8 @@
 -- The picture of elements: a row for each header, in the order of the bytes.
 use Rattle.std.specs.Prelude.{◌≡◌, ℕ, ◌+◌, Bool, ◌==◌, not, nat_lt, bit_and, if◌then◌else◌, get_or}
 use Rattle.std.specs.Prelude.{List, [], ◌∷◌, ◌++◌, length, Option, Some, None, Result, Ok, Err}
-use Rattle.std.specs.Prelude.{zero, suc}
+use Rattle.std.specs.Prelude.{zero, suc, codes}
+use Rattle.std.specs.Fmt.{◌++?◌, decimal}
 use Rattle.sec1_der.specs.Elements.{header}
 use Rattle.sec1_der.specs.ErrorKinds.{is_tag}
 use Rattle.sec1_der.specs.Faults.{length_at, within}
@@ -20,6 +21,15 @@ pub record RowView : Type 0 where
   pub header : List ℕ
   pub content_len : ℕ
   pub content : List ℕ
+
+-- what `{:?}` prints of a row: none of its bytes
+abbrev pub row_text : RowView → Option (List ℕ)
+row_text row =
+    Some (codes "Row { offset: ") ++? Some (decimal row.offset)
+    ++? Some (codes ", depth: ") ++? Some (decimal row.depth)
+    ++? Some (codes ", tag: ") ++? Some (decimal row.tag)
+    ++? Some (codes ", content_len: ") ++? Some (decimal row.content_len)
+    ++? Some (codes ", .. }")
 
 -- The bytes that have no row yet: how many are before them, and those that are left in each element
 -- that is open, the innermost first. The last of these are those behind all elements.

@@ -1,16 +1,17 @@
 ghost use Rattle.std.specs.Prelude.{◌≡◌, ◌+◌, ◌<◌, ◌^◌, ◌++◌, Some, None, length, IfSome};
 ghost use Rattle.std.specs.Prelude.{MatchOption};
 ghost use Rattle.der_rows.specs.Rows.{Undrawn, concatenated, is_constructed, left, next};
-ghost use Rattle.der_rows.specs.Rows.{row_view, undrawn};
+ghost use Rattle.der_rows.specs.Rows.{row_text, row_view, undrawn};
 
 use crate::element::{element_at, is_constructed};
 use crate::levels::Levels;
 use sec1_der::MAX_DEPTH;
+use std::fmt;
 use std::marker::Model;
 
 /// One row of a picture of elements: the header of an element, and its content unless that is
 /// elements.
-#[derive(Clone, Copy, Debug)]
+#[derive(Clone, Copy)]
 pub struct Row<'a> {
     /// The number of bytes before the element.
     pub offset: usize,
@@ -34,6 +35,34 @@ impl<'a> Row<'a> {
         ensures { result ≡ is_constructed self.now.tag }
     {
         is_constructed(self.tag)
+    }
+}
+
+/// Prints no byte of the element, which may be part of a private key.
+impl fmt::Debug for Row<'_> {
+    ghost debug_output = { λ row. row_text (row_view row) };
+
+    fn fmt<W: fmt::Write>(&self, f: &mut fmt::Formatter<W>) -> fmt::Result {
+        let Row {
+            offset,
+            depth,
+            tag,
+            content_len,
+            ..
+        } = self;
+        if f.alternate() {
+            return f
+                .debug_struct("Row")
+                .field("offset", offset)
+                .field("depth", depth)
+                .field("tag", tag)
+                .field("content_len", content_len)
+                .finish_non_exhaustive();
+        }
+        write!(
+            f,
+            "Row {{ offset: {offset:?}, depth: {depth:?}, tag: {tag:?}, content_len: {content_len:?}, .. }}"
+        )
     }
 }
 

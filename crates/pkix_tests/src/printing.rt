@@ -1,9 +1,12 @@
 //! What is printed of values by `{:?}` and by `{:#?}`, as rustc prints derived types of these
 //! shapes.
 use crate::assert_equal;
+use curves::Curve;
+use der_faults::Fault;
+use der_rows::Row;
 use der_types::{Boolean, Choice, DateTime, Defaulted, OptionalPart};
 use pkix::LaterVersion;
-use sec1_der::{Required, VersionOne};
+use sec1_der::{ErrorKind, Required, VersionOne};
 use std::alloc::{AllocError, Global};
 use std::fmt;
 use std::test::Fail;
@@ -77,6 +80,44 @@ fn prints_parts(rt: HostRuntime) -> Result<(), Fail> {
         &rt,
         &printed(alloc, &OptionalPart(Some(Required(Boolean(false)))))?.as_str(),
         &"OptionalPart(Some(Required(Boolean(false))))\nOptionalPart(\n    Some(\n        Required(\n            Boolean(\n                false,\n            ),\n        ),\n    ),\n)",
+    );
+    Ok(())
+}
+
+#[test]
+fn prints_curves_and_faults(rt: HostRuntime) -> Result<(), Fail> {
+    let alloc = rt.alloc();
+    assert_equal(
+        &rt,
+        &printed(alloc, &[Curve::Secp112r1, Curve::BrainpoolP512t1])?.as_str(),
+        &"[Secp112r1, BrainpoolP512t1]\n[\n    Secp112r1,\n    BrainpoolP512t1,\n]",
+    );
+    let fault = Fault {
+        offset: 34,
+        kind: ErrorKind::Value,
+    };
+    assert_equal(
+        &rt,
+        &printed(alloc, &fault)?.as_str(),
+        &"Fault { offset: 34, kind: Value }\nFault {\n    offset: 34,\n    kind: Value,\n}",
+    );
+    Ok(())
+}
+
+#[test]
+fn prints_no_byte_of_a_row(rt: HostRuntime) -> Result<(), Fail> {
+    let row = Row {
+        offset: 5,
+        depth: 1,
+        tag: 4,
+        header: &[4, 2],
+        content_len: 2,
+        content: &[0xAA, 0xBB],
+    };
+    assert_equal(
+        &rt,
+        &printed(rt.alloc(), &row)?.as_str(),
+        &"Row { offset: 5, depth: 1, tag: 4, content_len: 2, .. }\nRow {\n    offset: 5,\n    depth: 1,\n    tag: 4,\n    content_len: 2,\n    ..\n}",
     );
     Ok(())
 }

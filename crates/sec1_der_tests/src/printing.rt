@@ -124,5 +124,13 @@ fn prints_the_same_whatever_is_asked(rt: HostRuntime) -> Result<(), Fail> {
         &format!(in alloc; "{kind:*^40}|{kind:.3}|{kind:#}|{kind:9?}")?.as_str(),
         &"read or write failed|read or write failed|read or write failed|Io",
     );
+    let (version, number) = (VersionOne, SmallInteger::<3>);
+    assert_equal(
+        &rt,
+        &format!(in alloc;
+            "{version:>20?}|{version:.3?}|{number:*^20?}|{number:.3?}|{IoFault:>9?}|{identifier:>99?}"
+        )?.as_str(),
+        &"VersionOne|VersionOne|SmallInteger|SmallInteger|IoFault|ObjectIdentifier(1.2.4294967295)",
+    );
     Ok(())
 }

@@ -280,6 +280,48 @@ pub fn same_fault(a: IoFault, b: IoFault) -> bool
     a == b
 }
 
+/// No two versions differ.
+pub fn other_version(a: VersionOne, b: VersionOne) -> bool
+    ensures { ¬ IsTrue result }
+{
+    a != b
+}
+
+/// Two required components differ exactly where what they hold does.
+pub fn other_required(a: &Required<ObjectIdentifier>, b: &Required<ObjectIdentifier>) -> bool
+    ensures { IsTrue result ↔ (a.now ≢ b.now) }
+{
+    a != b
+}
+
+/// Two optional components differ exactly where what they hold does.
+pub fn other_optional(a: &Optional<ObjectIdentifier>, b: &Optional<ObjectIdentifier>) -> bool
+    ensures { IsTrue result ↔ (a.now ≢ b.now) }
+{
+    a != b
+}
+
+/// Two octet strings around an element differ exactly where what they hold does.
+pub fn other_containing(a: &Containing<ObjectIdentifier>, b: &Containing<ObjectIdentifier>) -> bool
+    ensures { IsTrue result ↔ (a.now.value ≢ b.now.value) }
+{
+    a != b
+}
+
+/// No two numbers of one type differ.
+pub fn other_small_integer(a: &SmallInteger<1>, b: &SmallInteger<1>) -> bool
+    ensures { ¬ IsTrue result }
+{
+    a != b
+}
+
+/// No two faults of a stream differ.
+pub fn other_fault(a: IoFault, b: IoFault) -> bool
+    ensures { ¬ IsTrue result }
+{
+    a != b
+}
+
 /// The clone of a required component is the same, and never fails.
 pub fn cloned_required(value: &Required<ObjectIdentifier>) -> Cloned<Required<ObjectIdentifier>>
     ensures { IsOkAnd result (λ cloned. cloned ≡ value.now) }
