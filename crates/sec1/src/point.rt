@@ -22,6 +22,7 @@ ghost use Rattle.sec1.specs.Points.{compressed_point, fixed_width, hybrid_point,
 use crate::error::{Error, Result};
 pub use coordinates::Coordinates;
 use std::fmt;
+use std::simd::prelude::*;
 pub use tag::Tag;
 
 /// The encoding of a point, for field elements of N bytes.
@@ -205,9 +206,10 @@ impl<const N: usize, const L: usize> EncodedPoint<N, L> {
         ensures kept { KeepsBuffer self.now result }
     {
         let (tag, len) = self.compressed_front();
-        let mut bytes = self.bytes;
-        bytes[0] = tag;
-        EncodedPoint { bytes, len }
+        EncodedPoint {
+            bytes: with_first(&self.bytes, tag),
+            len,
+        }
     }
 
     /// Returns the tag byte and the length of the compressed form, whose other bytes are those of
@@ -318,6 +320,22 @@ impl<const N: usize, const L: usize> EncodedPoint<N, L> {
             _ => None,
         }
     }
+}
+
+/// Returns a copy of the bytes with another first byte.
+fn with_first<const L: usize>(bytes: &[u8; L], first: u8) -> [u8; L]
+    requires { 1 ≤ L }
+    ensures { result ≡ set bytes.now 0 first }
+{
+    let mut copy = *bytes;
+    copy[0] = first;
+    // The 64 bytes after the tag of a point over 256 bits, once more, as a vector: it is read before
+    // the tag is written. Otherwise they go by the stack, since LLVM doesn't know that the caller's
+    // place for the result isn't the point itself.
+    if let Some(rest) = bytes.as_slice()[1..].as_array::<64>() {
+        u8x64::from_array(*rest).copy_to_slice(&mut copy.as_mut_slice()[1..]);
+    }
+    copy
 }
 
 /// Returns `true` if the input is the encoding of a point for field elements of n bytes.
