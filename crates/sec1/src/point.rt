@@ -199,6 +199,8 @@ impl<const N: usize, const L: usize> EncodedPoint<N, L> {
 
     /// Returns the compressed form of an uncompressed or hybrid point. Any other point is returned
     /// as it is. y stays in the buffer, after the encoding.
+    // Inlined: otherwise the result is moved once more.
+    #[inline(always)]
     pub fn compress(&self) -> Self
         ensures point { point_of result ≡ compressed_point (point_of self.now) }
         ensures same_x { x_of (point_of result) ≡ x_of (point_of self.now) }
@@ -323,6 +325,7 @@ impl<const N: usize, const L: usize> EncodedPoint<N, L> {
 }
 
 /// Returns a copy of the bytes with another first byte.
+#[inline(always)]
 fn with_first<const L: usize>(bytes: &[u8; L], first: u8) -> [u8; L]
     requires { 1 ≤ L }
     ensures { result ≡ set bytes.now 0 first }
