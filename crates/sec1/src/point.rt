@@ -332,9 +332,9 @@ fn with_first<const L: usize>(bytes: &[u8; L], first: u8) -> [u8; L]
 {
     let mut copy = *bytes;
     copy[0] = first;
-    // The 64 bytes after the tag of a point over 256 bits, once more, as a vector: it is read before
-    // the tag is written. Otherwise they go by the stack, since LLVM doesn't know that the caller's
-    // place for the result isn't the point itself.
+    // The 64 bytes after the tag of a point over 256 bits, once more, as a vector: they are read
+    // before the tag is written. Otherwise they go by the stack, since LLVM doesn't know that the
+    // caller's place for the result isn't the point itself.
     if let Some(rest) = bytes.as_slice()[1..].as_array::<64>() {
         u8x64::from_array(*rest).copy_to_slice(&mut copy.as_mut_slice()[1..]);
     }
