@@ -1,8 +1,8 @@
-ghost use Rattle.std.specs.Prelude.{◌≡◌, ℕ, ◌<◌, ◌≤◌, ◌^◌, length, take, List, ◌++◌, IfOk, IfErr};
+ghost use Rattle.std.specs.Prelude.{◌≡◌, ℕ, ◌<◌, ◌≤◌, ◌^◌, length, take, List, ◌++◌, ◌∷◌};
 ghost use Rattle.std.specs.Cmp.{and_equiv, nat_eq_equiv, on_equiv, partial_equiv_from_equiv};
 ghost use Rattle.std.specs.Ordering.{eq_of_both, on};
-ghost use Rattle.std.specs.Prelude.{nat_eq, ◌↔◌, IsTrue};
-ghost use Rattle.std.specs.Prelude.{IsOkAnd, IsOk, IsErr, OnErr, codes, false, true, Some};
+ghost use Rattle.std.specs.Prelude.{nat_eq, ◌↔◌, IsTrue, false, true, Some, codes};
+ghost use Rattle.std.specs.Prelude.{IfOk, IfErr, IsOkAnd, IsOk, IsErr, OnErr};
 ghost use Rattle.sec1_der.specs.DebugTexts.{pair_text, tag_text, length_text};
 ghost use Rattle.sec1_der.specs.Elements.{max_length, length_octets, header, element, IsHeader};
 ghost use Rattle.sec1_der.specs.Elements.{IsProperPrefix, LacksHeader};
@@ -182,46 +182,51 @@ pub(crate) fn header_at(bytes: &[u8]) -> First<'_, Header>
     ensures element { IfErr result (λ kind. (content : ℕ → Fault) (behind : Fault)
         → any_fault content behind bytes.now ≡ Some kind) }
 {
-    let Some((first, rest)) = bytes.split_first() else {
-        return Err(ErrorKind::Truncated);
+    let [first, second, rest @ ..] = bytes else {
+        return Err(short_fault(bytes));
     };
     let Ok(tag) = Tag::from_byte(*first) else {
         return Err(ErrorKind::Tag);
     };
-    let (length, rest) = match length_at(rest) {
+    let (length, rest) = match length_at(*second, rest) {
         Ok(found) => found,
         Err(kind) => return Err(kind),
     };
     Ok((Header { tag, length }, rest))
 }
 
-/// Returns the length at the beginning of the bytes, and the bytes after it.
-#[tactic(auto, using(crate::proofs::LengthLemmas::len_shape), unfolding(crate::specs::Elements::length_octets))]
-fn length_at(bytes: &[u8]) -> First<'_, Length>
-    ensures found { IfOk result
-        (λ x. (x.0 ≤ max_length) × (bytes.now ≡ length_octets x.0 ++ x.1.now)) }
-    ensures only { (n : ℕ) (rest : List ℕ) → n ≤ max_length → bytes.now ≡ length_octets n ++ rest
-        → IsOk result }
-    ensures kind { IfErr result (λ kind. kind ≡ length_fault bytes.now) }
+/// Returns the kind by which fewer than two bytes are refused as a header.
+fn short_fault(bytes: &[u8]) -> ErrorKind
+    requires { length bytes.now < 2 }
+    ensures { result ≡ header_fault bytes.now }
 {
-    let Some((first, rest)) = bytes.split_first() else {
-        return Err(ErrorKind::Truncated);
-    };
-    let first = *first;
-    if usize::from(first) < LONG_FORM {
-        return Ok((Length::of_byte(first), rest));
+    match bytes {
+        [first, ..] if Tag::from_byte(*first).is_err() => ErrorKind::Tag,
+        _ => ErrorKind::Truncated,
     }
-    if first == 0x80 || first > 0x84 {
+}
+
+/// Returns the length that begins with this byte, and the bytes after it.
+#[tactic(auto, using(crate::proofs::LengthLemmas::len_shape), unfolding(crate::specs::Elements::length_octets))]
+fn length_at(first: u8, rest: &[u8]) -> First<'_, Length>
+    ensures found { IfOk result
+        (λ x. (x.0 ≤ max_length) × (first ∷ rest.now ≡ length_octets x.0 ++ x.1.now)) }
+    ensures only { (n : ℕ) (after : List ℕ) → n ≤ max_length
+        → first ∷ rest.now ≡ length_octets n ++ after → IsOk result }
+    ensures kind { IfErr result (λ kind. kind ≡ length_fault (first ∷ rest.now)) }
+{
+    if first < 0x80 {
+        return Ok((Length::of_number(u32::from(first)), rest));
+    }
+    // 0 to 3 for the first bytes that are followed by 1 to 4 digits.
+    let more = first.wrapping_sub(0x81);
+    if more > 3 {
         return Err(ErrorKind::Length);
     }
-    // 1 to 4. A remainder, so that the compiler knows how few digits there are, and `number`
-    // becomes code without a loop.
-    let count = usize::from(first % 8);
-    if rest.len() < count {
+    let Some((digits, rest)) = rest.split_at_checked(usize::from(more) + 1) else {
         return Err(ErrorKind::Truncated);
-    }
-    let (digits, rest) = rest.split_at(count);
-    let n = number(digits);
+    };
+    let n = number(digits) as usize;
     if digits[0] == 0 || n < LONG_FORM {
         return Err(ErrorKind::Length);
     }
@@ -232,14 +237,14 @@ fn length_at(bytes: &[u8]) -> First<'_, Length>
 }
 
 /// Returns the number in at most four bytes, the most significant first.
-fn number(digits: &[u8]) -> usize
+fn number(digits: &[u8]) -> u32
     requires { length digits.now ≤ 4 }
     ensures value { result ≡ number_of digits.now }
     ensures bound { result < 256 ^ length digits.now }
 {
     let mut n = 0;
     for digit in digits {
-        n = n * 256 + usize::from(*digit);
+        n = n * 256 + u32::from(*digit);
     }
     n
 }

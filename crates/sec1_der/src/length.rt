@@ -10,7 +10,8 @@ use std::marker::Model;
 /// The number of bytes of a content, from 0 to [`Length::MAX`]. A contract sees the number.
 #[derive(Clone, Copy, PartialEq, Eq)]
 pub struct Length {
-    bytes: usize,
+    // 32 bits, so that a header moves as one word.
+    bytes: u32,
 }
 
 impl Model for Length {
@@ -39,16 +40,15 @@ impl Length {
         if n > Length::MAX {
             return Err(ErrorKind::Overlength.into());
         }
-        Ok(Length { bytes: n })
+        Ok(Length { bytes: n as u32 })
     }
 
-    /// Returns the length that a single byte encodes.
-    pub(crate) fn of_byte(n: u8) -> Length
+    /// Returns the length of `n` bytes, at most [`Length::MAX`].
+    pub(crate) fn of_number(n: u32) -> Length
+        requires { n ≤ max_length }
         ensures { result ≡ n }
     {
-        Length {
-            bytes: usize::from(n),
-        }
+        Length { bytes: n }
     }
 
     /// Returns the number of bytes.
@@ -56,7 +56,7 @@ impl Length {
         ensures value { result ≡ self }
         ensures within { result ≤ max_length }
     {
-        self.bytes
+        self.bytes as usize
     }
 }
 

@@ -115,14 +115,17 @@ impl Tag {
     ///
     /// Tag if the byte is `00`, which is reserved for end-of-contents (X.690 section 8.1.5), or if
     /// its low five bits are all ones, since it begins a high tag number (section 8.1.2.4).
+    // In line and by two arms, so that LLVM makes two branches of them and not one of their sum.
+    #[inline(always)]
     pub fn from_byte(byte: u8) -> Result<Tag>
         ensures tag { OkIff result (IsTag byte) byte }
         ensures kind { IfErr result (λ e. e.kind ≡ ErrorKind.Tag) }
     {
-        if byte == 0 || byte % 32 == 31 {
-            return Err(ErrorKind::Tag.into());
+        match byte {
+            0 => Err(ErrorKind::Tag.into()),
+            _ if byte % 32 == 31 => Err(ErrorKind::Tag.into()),
+            _ => Ok(Tag { byte }),
         }
-        Ok(Tag { byte })
     }
 
     /// Returns the tag with this byte, which is that of a tag.

@@ -49,7 +49,7 @@ impl<'a> DecodeValue<'a> for VersionOne {
 
 impl EncodeValue for VersionOne {
     fn value_len(&self) -> Result<Length> {
-        Ok(Length::of_byte(1))
+        Ok(Length::of_number(1))
     }
 
     fn encode_value(&self, writer: &mut SliceWriter) -> Result<()> {
