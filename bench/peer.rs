@@ -68,6 +68,12 @@ struct Reader<'a> {
 }
 
 impl<'a> Reader<'a> {
+    fn header(&mut self) -> Result<(u8, usize)> {
+        let (tag, length, inside) = header(self.rest)?;
+        self.rest = inside;
+        Ok((tag, length))
+    }
+
     fn element(&mut self) -> Result<(u8, &'a [u8])> {
         let (tag, length, inside) = header(self.rest)?;
         let (content, rest) = inside.split_at_checked(length).ok_or(Error::Truncated)?;
@@ -1120,7 +1126,12 @@ pub mod calls {
     }
 
     #[inline(never)]
-    fn front(bytes: &[u8]) -> Result<(u8, usize, &[u8])> {
+    fn front(reader: &mut Reader) -> Result<(u8, usize)> {
+        reader.header()
+    }
+
+    #[inline(never)]
+    fn front_of_slice(bytes: &[u8]) -> Result<(u8, usize, &[u8])> {
         header(bytes)
     }
 
@@ -1155,8 +1166,29 @@ pub mod calls {
     #[inline(never)]
     pub fn headers_read(input: &[u8]) -> usize {
         let mut sum = 0;
+        let mut reader = Reader { rest: input };
+        while let Ok((_, length)) = front(&mut reader) {
+            sum += length;
+        }
+        sum
+    }
+
+    #[inline(never)]
+    pub fn headers_read_inline(input: &[u8]) -> usize {
+        let mut sum = 0;
+        let mut reader = Reader { rest: input };
+        while let Ok((_, length)) = reader.header() {
+            sum += length;
+        }
+        sum
+    }
+
+    /// The best for headers: a slice goes in by registers, and what is behind the header comes back with it.
+    #[inline(never)]
+    pub fn headers_read_of_slice(input: &[u8]) -> usize {
+        let mut sum = 0;
         let mut rest = input;
-        while let Ok((_, length, behind)) = front(rest) {
+        while let Ok((_, length, behind)) = front_of_slice(rest) {
             sum += length;
             rest = behind;
         }
@@ -1164,7 +1196,7 @@ pub mod calls {
     }
 
     #[inline(never)]
-    pub fn headers_read_inline(input: &[u8]) -> usize {
+    pub fn headers_read_of_slice_inline(input: &[u8]) -> usize {
         let mut sum = 0;
         let mut rest = input;
         while let Ok((_, length, behind)) = header(rest) {
