@@ -5,6 +5,7 @@ use Rattle.std.specs.Io.KnownBytes.{Appends}
 use Rattle.sec1.specs.Der.{AppendsPrefix}
 use Rattle.sec1_inspect.specs.declared.Failure.{Failure}
 use Rattle.sec1_inspect.specs.declared.Failure.TheVariants.{Run, Paths}
+use Rattle.sec1_inspect.specs.declared.Fault.{Fault}
 use Rattle.sec1_inspect.specs.declared.Fault.TheVariants.{Input, Output, Memory}
 use Rattle.sec1_inspect.specs.declared.Form.{Form}
 use Rattle.sec1_inspect.specs.declared.Form.TheVariants.{Text, Der}
@@ -53,9 +54,13 @@ pub record HasStatus (IsReport : List ℕ → List ℕ → ℕ → Type 0) (inpu
   pub text : List ℕ
   pub report : IfSome input (λ bytes. IsReport bytes text status)
 
+-- the text of a fault
+abbrev pub fault_text : Fault → List ℕ
+fault_text Input = codes "input failed"
+fault_text Output = codes "output failed"
+fault_text Memory = codes "out of memory"
+
 -- the line that is printed if there is no report
 abbrev pub line_of : Failure → List ℕ
-line_of (Run Input) = codes "sec1_inspect: input failed"
-line_of (Run Output) = codes "sec1_inspect: output failed"
-line_of (Run Memory) = codes "sec1_inspect: out of memory"
+line_of (Run fault) = codes "sec1_inspect: " ++ fault_text fault
 line_of Paths = codes "sec1_inspect: at most one path"

@@ -8,7 +8,7 @@ mod tests;
 
 ghost use Rattle.std.specs.Prelude.{◌≡◌, ◌≢◌, ◌<◌, ◌≤◌, ℕ, List, false, ◌↔◌, ◌⊎◌, IsTrue, IfOk};
 ghost use Rattle.std.specs.Prelude.{IfErr, OnOk, OnErr, IsErrOf, MatchOption, MatchResult, Ok};
-ghost use Rattle.std.specs.Prelude.{Err, string_bytes};
+ghost use Rattle.std.specs.Prelude.{Err, Some, string_bytes};
 ghost use Rattle.std.specs.Io.KnownBytes.{Appends};
 ghost use Rattle.sec1.specs.Der.{AppendsPrefix, Ends, Takes};
 ghost use Rattle.sec1_inspect.specs.declared.Failure.TheVariants.{Run, Paths};
@@ -16,7 +16,8 @@ ghost use Rattle.sec1_inspect.specs.declared.Fault.TheVariants.{Input, Output, M
 ghost use Rattle.sec1_inspect.specs.declared.Source.TheVariants.{StandardInput, File};
 ghost use Rattle.sec1_inspect.specs.Report.{IsDerReport, IsReport};
 ghost use Rattle.sec1_inspect.specs.Run.{HasStatus, ReadsInput, ReadsOnto, TakesInput};
-ghost use Rattle.sec1_inspect.specs.Run.{WritesPrefix, WritesReport, line_of, report_in};
+ghost use Rattle.sec1_inspect.specs.Run.{WritesPrefix, WritesReport, fault_text, line_of};
+ghost use Rattle.sec1_inspect.specs.Run.{report_in};
 
 use crate::report::{LIMIT, Report, report_on_der, report_on_text};
 use sec1::der::{Read, StdReader, StdWriter, Write};
@@ -37,7 +38,12 @@ pub enum Fault {
     Memory,
 }
 
+/// Prints the text of the fault, whatever options are set.
 impl fmt::Display for Fault {
+    ghost output = { λ fault. Some (fault_text fault) };
+
+    ghost styled_output = { λ fault _. Some (fault_text fault) };
+
     fn fmt<W: fmt::Write>(&self, f: &mut fmt::Formatter<W>) -> fmt::Result {
         f.write_str(match self {
             Fault::Input => "input failed",
