@@ -445,9 +445,13 @@ fn der_lines(inputs: &Inputs) -> Vec<Line<'_>> {
             calls::headers_read,
             headers,
         )
-        .side("best", 1, move || {
-            calls::headers_read_of_slice(black_box(headers))
-        })
+        .jobs(64),
+        by_peer(
+            "a header, of 64, by hand from a reader",
+            bench_headers_read,
+            calls::headers_read_by_reader,
+            headers,
+        )
         .jobs(64),
         by_peer(
             "a header, of 64, inlined",
@@ -455,9 +459,6 @@ fn der_lines(inputs: &Inputs) -> Vec<Line<'_>> {
             calls::headers_read_inline,
             headers,
         )
-        .side("best", 1, move || {
-            calls::headers_read_of_slice_inline(black_box(headers))
-        })
         .jobs(64),
         by_peer(
             "check a key's tree",

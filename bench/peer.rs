@@ -1126,13 +1126,13 @@ pub mod calls {
     }
 
     #[inline(never)]
-    fn front(reader: &mut Reader) -> Result<(u8, usize)> {
-        reader.header()
+    fn front(bytes: &[u8]) -> Result<(u8, usize, &[u8])> {
+        header(bytes)
     }
 
     #[inline(never)]
-    fn front_of_slice(bytes: &[u8]) -> Result<(u8, usize, &[u8])> {
-        header(bytes)
+    fn front_by_reader(reader: &mut Reader) -> Result<(u8, usize)> {
+        reader.header()
     }
 
     #[inline(never)]
@@ -1166,29 +1166,8 @@ pub mod calls {
     #[inline(never)]
     pub fn headers_read(input: &[u8]) -> usize {
         let mut sum = 0;
-        let mut reader = Reader { rest: input };
-        while let Ok((_, length)) = front(&mut reader) {
-            sum += length;
-        }
-        sum
-    }
-
-    #[inline(never)]
-    pub fn headers_read_inline(input: &[u8]) -> usize {
-        let mut sum = 0;
-        let mut reader = Reader { rest: input };
-        while let Ok((_, length)) = reader.header() {
-            sum += length;
-        }
-        sum
-    }
-
-    /// The best for headers: a slice goes in by registers, and what is behind the header comes back with it.
-    #[inline(never)]
-    pub fn headers_read_of_slice(input: &[u8]) -> usize {
-        let mut sum = 0;
         let mut rest = input;
-        while let Ok((_, length, behind)) = front_of_slice(rest) {
+        while let Ok((_, length, behind)) = front(rest) {
             sum += length;
             rest = behind;
         }
@@ -1196,7 +1175,17 @@ pub mod calls {
     }
 
     #[inline(never)]
-    pub fn headers_read_of_slice_inline(input: &[u8]) -> usize {
+    pub fn headers_read_by_reader(input: &[u8]) -> usize {
+        let mut sum = 0;
+        let mut reader = Reader { rest: input };
+        while let Ok((_, length)) = front_by_reader(&mut reader) {
+            sum += length;
+        }
+        sum
+    }
+
+    #[inline(never)]
+    pub fn headers_read_inline(input: &[u8]) -> usize {
         let mut sum = 0;
         let mut rest = input;
         while let Ok((_, length, behind)) = header(rest) {
