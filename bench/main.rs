@@ -30,6 +30,7 @@ unsafe extern "C" {
     fn bench_document_copy(input: *const u8, len: usize) -> usize;
     fn bench_document_read(input: *const u8, len: usize) -> usize;
     fn bench_headers_read(input: *const u8, len: usize) -> usize;
+    fn bench_headers_read_by_reader(input: *const u8, len: usize) -> usize;
     fn bench_headers_read_inline(input: *const u8, len: usize) -> usize;
     fn bench_tree_check(input: *const u8, len: usize) -> usize;
     fn bench_identifier_read(input: *const u8, len: usize) -> usize;
@@ -447,8 +448,8 @@ fn der_lines(inputs: &Inputs) -> Vec<Line<'_>> {
         )
         .jobs(64),
         by_peer(
-            "a header, of 64, by hand from a reader",
-            bench_headers_read,
+            "a header, of 64, from a reader",
+            bench_headers_read_by_reader,
             calls::headers_read_by_reader,
             headers,
         )

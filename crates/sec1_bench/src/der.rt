@@ -1,5 +1,5 @@
 //! Parts of DER: headers, trees, identifiers, and documents from streams.
-ghost use Rattle.std.specs.Prelude.{◌<◌, false, length, OnOk};
+ghost use Rattle.std.specs.Prelude.{◌<◌, false, length, IfOk, OnOk};
 
 use crate::length_and_last;
 use sec1::der::{
@@ -8,9 +8,20 @@ use sec1::der::{
 use std::alloc::Global;
 use std::str::from_utf8;
 
-/// Returns a header, as a call that isn't inlined does.
+/// Returns the header at the beginning of the bytes and the bytes after it, as a call that isn't
+/// inlined does.
 #[inline(never)]
-fn header(reader: &mut SliceReader) -> Result<Header>
+fn header(bytes: &[u8]) -> Result<(Header, &[u8])>
+    ensures { IfOk result (λ x. length x.1.now < length bytes.now) }
+{
+    let mut reader = SliceReader::new(bytes);
+    let header = Header::decode(&mut reader)?;
+    Ok((header, reader.remaining_input()))
+}
+
+/// Reads a header from a reader in memory, as a call that isn't inlined does.
+#[inline(never)]
+fn header_of(reader: &mut SliceReader) -> Result<Header>
     ensures { OnOk result (length reader.new.unread < length reader.old.unread) }
 {
     Header::decode(reader)
@@ -26,9 +37,21 @@ fn identifier(content: &[u8]) -> Result<ObjectIdentifier> {
 /// announce.
 #[unsafe(no_mangle)]
 pub extern "C" fn bench_headers_read(input: &[u8]) -> usize {
+    let mut rest = input;
+    let mut sum: usize = 0;
+    while let Ok((header, behind)) = header(rest) {
+        sum = sum.wrapping_add(header.length.get());
+        rest = behind;
+    }
+    sum
+}
+
+/// Reads headers as [`bench_headers_read`] does, by calls that move one reader.
+#[unsafe(no_mangle)]
+pub extern "C" fn bench_headers_read_by_reader(input: &[u8]) -> usize {
     let mut reader = SliceReader::new(input);
     let mut sum: usize = 0;
-    while let Ok(header) = header(&mut reader) {
+    while let Ok(header) = header_of(&mut reader) {
         sum = sum.wrapping_add(header.length.get());
     }
     sum
