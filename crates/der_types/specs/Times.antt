@@ -1,5 +1,6 @@
 -- The contents of a UTCTime and of a GeneralizedTime.
-use Rattle.std.specs.Prelude.{◌==◌, ℕ, ◌+◌, ◌-◌, ◌*◌, ◌/◌, ◌%◌, nat_lt, nat_le, Bool, not, ◌&&◌}
+use Rattle.std.specs.Prelude.{◌≡◌, ◌==◌, ◌<◌, ◌⊎◌, ℕ, ◌+◌, ◌-◌, ◌*◌, ◌/◌, ◌%◌, nat_lt, nat_le}
+use Rattle.std.specs.Prelude.{Bool, not, ◌&&◌}
 use Rattle.std.specs.Prelude.{◌||◌, if◌then◌else◌, List, [], ◌∷◌, ◌++◌, length, take, drop}
 use Rattle.std.specs.Prelude.{slice_index, slice_range, codes}
 use Rattle.std.specs.Char.{is_ascii_digit}
@@ -16,6 +17,14 @@ abbrev pub days_in_month : ℕ → ℕ → ℕ
 days_in_month year month =
     if month == 2 then (if is_leap_year year then 29 else 28)
     else (if month == 4 || (month == 6 || (month == 9 || month == 11)) then 30 else 31)
+
+-- The first is earlier: it has the lesser year, or in the same year the lesser month, and so on to
+-- the second.
+abbrev pub IsEarlier : DateTime → DateTime → Type 0
+IsEarlier a b =
+    (a.year < b.year) ⊎ ((a.year ≡ b.year) × ((a.month < b.month) ⊎ ((a.month ≡ b.month)
+    × ((a.day < b.day) ⊎ ((a.day ≡ b.day) × ((a.hour < b.hour) ⊎ ((a.hour ≡ b.hour)
+    × ((a.minute < b.minute) ⊎ ((a.minute ≡ b.minute) × (a.second < b.second))))))))))
 
 -- a day of the calendar, and an hour, a minute and a second of a day
 abbrev pub is_date_time : DateTime → Bool

@@ -1,11 +1,12 @@
 //! UTCTime and GeneralizedTime: the tests of their contents, and the times that these encode.
-ghost use Rattle.std.specs.Prelude.{◌≡◌, ◌+◌, ◌<◌, true, length};
+ghost use Rattle.std.specs.Prelude.{◌≡◌, ◌↔◌, ◌+◌, ◌<◌, IsTrue, true, length};
 ghost use Rattle.std.specs.Char.{is_ascii_digit};
 ghost use Rattle.std.specs.List.{AllPass, list_all};
 ghost use Rattle.der_types.specs.Times.{
   is_leap_year,
   days_in_month,
   is_date_time,
+  IsEarlier,
   two_digits,
   date_time_after,
   utc_fields,
@@ -47,6 +48,13 @@ impl DateTime {
             && self.minute < 60
             && self.second < 60
     }
+}
+
+/// Returns `true` if the first time is earlier. Nothing calls it: its contract says what `<` means.
+fn is_earlier(a: DateTime, b: DateTime) -> bool
+    ensures { IsTrue result ↔ IsEarlier a b }
+{
+    a < b
 }
 
 /// Returns `true` if the year has a 29 February.

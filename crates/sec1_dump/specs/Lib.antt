@@ -7,3 +7,4 @@ pub mod Reasons
 pub mod Picture
 pub mod Json
 pub mod Hiding
+pub mod Shown

@@ -6,46 +6,18 @@ mod input;
 mod lines;
 mod names;
 mod notes;
+mod output;
 mod picture;
 mod reasons;
 mod text;
 mod values;
 
-use crate::input::{LIMIT, picture_of_input};
-use crate::values::json_of_input;
+use crate::output::{Failure, Style, show};
 use clap::{Arg, ArgAction, ArgMatches, Command, Error};
-use std::alloc::{AllocError, Global};
-use std::io::Read as _;
+use std::alloc::Global;
 use std::process::ExitCode;
 use std::rt::{Env, Files};
-use std::{env, fmt, fs, io};
-
-/// Why the program draws nothing.
-#[derive(Clone, Copy, Debug, PartialEq, Eq)]
-enum Failure {
-    /// The input isn't there, or a read failed.
-    Input,
-    /// A write failed.
-    Output,
-    /// An allocation failed.
-    Memory,
-}
-
-impl fmt::Display for Failure {
-    fn fmt<W: fmt::Write>(&self, f: &mut fmt::Formatter<W>) -> fmt::Result {
-        f.write_str(match self {
-            Failure::Input => "input failed",
-            Failure::Output => "output failed",
-            Failure::Memory => "out of memory",
-        })
-    }
-}
-
-impl From<AllocError> for Failure {
-    fn from(_: AllocError) -> Failure {
-        Failure::Memory
-    }
-}
+use std::{env, fs, io};
 
 /// Returns the arguments that these words give.
 ///
@@ -71,20 +43,6 @@ fn parsed<'a>(alloc: Global, words: &'a [String]) -> Result<ArgMatches<'a>, Erro
         .try_get_matches_from(words)
 }
 
-/// Reads an input, at most one byte more than the limit.
-///
-/// # Errors
-///
-/// Input if a read failed, Memory if an allocation did.
-fn read_input<R: io::Read + Drop>(alloc: Global, reader: R) -> Result<Vec<u8>, Failure> {
-    let mut input = Vec::new(alloc);
-    match reader.take(LIMIT as u64 + 1).read_to_end(&mut input) {
-        Ok(_) => Ok(input),
-        Err(e) if e.kind() == io::ErrorKind::OutOfMemory => Err(Failure::Memory),
-        Err(_) => Err(Failure::Input),
-    }
-}
-
 /// Draws the input that the arguments name, and returns the status.
 ///
 /// # Errors
@@ -94,23 +52,17 @@ fn dump<H: AllocGlobal + Files + Input + Print>(
     rt: &H,
     matches: &ArgMatches,
 ) -> Result<u8, Failure> {
-    let alloc = rt.alloc();
-    let input = match matches.get_str("FILE") {
-        None => read_input(alloc, rt.reader())?,
+    let style = Style {
+        all: matches.get_flag("all"),
+        json: matches.get_flag("json"),
+    };
+    let mut writer = io::writer(rt);
+    match matches.get_str("FILE") {
+        None => show(rt.alloc(), style, rt.reader(), &mut writer),
         Some(path) => {
             let file = fs::open(rt, path).map_err(|_| Failure::Input)?;
-            read_input(alloc, file)?
+            show(rt.alloc(), style, file, &mut writer)
         }
-    };
-    let all = matches.get_flag("all");
-    let picture = if matches.get_flag("json") {
-        json_of_input(alloc, all, &input)?
-    } else {
-        picture_of_input(alloc, all, &input)?
-    };
-    match print!(rt; "{}", picture.text) {
-        Ok(()) => Ok(picture.status),
-        Err(_) => Err(Failure::Output),
     }
 }
 
