@@ -1,11 +1,9 @@
 //! An element of any tag.
-ghost use Rattle.std.specs.Prelude.{◌≡◌, ◌≤◌, ◌++◌, ℕ, List, length, false, true, refl, IsOk, IfOk};
-ghost use Rattle.std.specs.Prelude.{IfErr, OnOk, OnErr};
+ghost use Rattle.std.specs.Prelude.{◌≡◌, ℕ, List, length, refl, IfOk, IfErr};
 ghost use Rattle.sec1_der.specs.Elements.{element, IsHeader, IsElement};
-ghost use Rattle.sec1_der.specs.ErrorKinds.{IsReadingFault, Refuses};
-ghost use Rattle.sec1_der.specs.Parts.{is_among, AreApart};
-ghost use Rattle.sec1_der.specs.Readers.{reader_over, HasRead};
-ghost use Rattle.sec1_der.specs.Faults.{Fault, HasFault, end_fault};
+ghost use Rattle.sec1_der.specs.ErrorKinds.{IsReadingFault};
+ghost use Rattle.sec1_der.specs.Parts.{is_among, AreApart, ReadsPart};
+ghost use Rattle.sec1_der.specs.Faults.{HasFault, end_fault};
 ghost use Rattle.sec1_der.specs.Values.{tag_of, value_of};
 ghost use Rattle.der_types.specs.AnyElements.{first_byte, all_tags, any_of, any_tags};
 ghost use Rattle.der_types.specs.AnyElements.{any_element_fault};
@@ -14,8 +12,7 @@ ghost use Rattle.der_types.specs.AnyLaws.{any_begins};
 use crate::Alternative;
 use crate::lend::read_since;
 use sec1_der::{
-    AnyRef, BackWriter, DecodePart, EncodePart, ErrorKind, Length, Part, Result, SliceReader, Tag,
-    UniquePart,
+    AnyRef, BackWriter, DecodePart, EncodePart, Length, Part, Result, SliceReader, Tag, UniquePart,
 };
 use std::marker::Model;
 
@@ -88,20 +85,7 @@ impl<'a> Any<'a> {
 
     /// Reads one element of any tag.
     fn read(reader: &mut SliceReader<'a>) -> Result<Any<'a>>
-        ensures found { IfOk result (λ any. IsElement any × HasRead any reader.old reader.new) }
-        ensures only { (bytes rest : List ℕ) → IsElement bytes
-            → reader.old ≡ reader_over (bytes ++ rest)
-            → (result ≡ Ok bytes) × (reader.new ≡ reader_over rest) }
-        ensures kinds { reader.old.failed ≡ false → IfErr result (λ e. IsReadingFault e.kind) }
-        ensures passes { reader.old.failed ≡ false
-            → OnOk result ((behind : Fault)
-            → any_element_fault behind reader.old.unread ≡ behind reader.new.unread) }
-        ensures refuses { reader.old.failed ≡ false
-            → IfErr result (λ e. (behind : Fault)
-            → any_element_fault behind reader.old.unread ≡ Some e.kind) }
-        ensures failed { reader.old.failed ≡ true → Refuses result ErrorKind.Failed
-            × (reader.new ≡ reader.old) }
-        ensures refused { OnErr result (reader.new.failed ≡ true) }
+        ensures { ReadsPart any_of any_element_fault any_tags result reader.old reader.new }
     {
         let input = reader.remaining_input();
         match AnyRef::decode(reader) {

@@ -62,10 +62,12 @@ whole_taken inside bytes e =
     ∙ rw (whole_is inside) refl
 
 -- where the content of a field is a bit string, its fault is that of its unused bits
-pub bits_inside : (content bytes : List ℕ) → length content ≤ max_length → bytes ≡ element 0x03 content
+pub bits_inside : (content bytes : List ℕ) → element_of 0x03 (Some content) ≡ Some bytes
     → element_fault 0x03 bit_string_fault end_fault bytes ≡ None
     → whole_bits_field_fault bytes ≡ whole_bits_fault content
-bits_inside content bytes fits encoded none =
-    let second = element_at whole_bits_fault no_fault 0x03 content bytes [] fits
-    (encoded ∙ sym (append-nil (element 0x03 content))) in
-    rw none (second ∙ alone (whole_bits_fault content))
+bits_inside content bytes is none =
+    let there = element_of-some 0x03 (Some content) bytes is in
+    let same : content ≡ there.inside = cc (there.same) in
+    let second = element_at whole_bits_fault no_fault 0x03 there.inside bytes [] there.at.within
+    (there.at.encoded ∙ sym (append-nil (element 0x03 there.inside))) in
+    rw (none, same) (second ∙ alone (whole_bits_fault there.inside))

@@ -1,13 +1,13 @@
 -- What the bytes of an element, and bytes that begin with none, are refused by.
 use Rattle.std.proofs.Common.{◌≡◌, ℕ, ◌+◌, ◌<◌, ◌≤◌, false, ◌&&◌, nat_le, List, [], ◌∷◌, ◌++◌, length, take, drop}
-use Rattle.std.proofs.Common.{slice_get, Option, Some, None, Err, ⊎_elim, refl, ap, sym, ◌∙◌, arith}
+use Rattle.std.proofs.Common.{slice_get, Option, Some, None, IsSomeAnd, Err, ⊎_elim, refl, ap, sym, ◌∙◌, arith}
 use Rattle.std.proofs.Common.{leb-true, eq-eqb, length-drop, append-nil, append_assoc, length-append}
 use Rattle.std.proofs.Common.{take-append-drop, bytes_eq}
 use Rattle.std.proofs.lemmas.Bool.{lt-leb, and_parts, cases_Bool, cases_lt}
 use Rattle.std.proofs.lemmas.Slice.Eq.{bytes_eq-Decides}
 use Rattle.std.specs.Option.{option_or}
-use Rattle.sec1_der.specs.Elements.{max_length, length_octets, header, element, IsTag, IsHeader, IsElement, LacksHeader}
-use Rattle.sec1_der.specs.Elements.{IsProperPrefix}
+use Rattle.sec1_der.specs.Elements.{max_length, length_octets, header, element, element_of, IsTag, IsHeader, IsElement}
+use Rattle.sec1_der.specs.Elements.{IsProperPrefix, LacksHeader}
 use Rattle.sec1_der.specs.ErrorKinds.{is_tag, length_fault, header_fault}
 use Rattle.sec1_der.specs.Readers.{Reader, reader_over, HasReadElement}
 use Rattle.sec1_der.specs.Faults.{Fault, no_fault, end_fault, number_at, length_at, within, parts_fault}
@@ -15,7 +15,7 @@ use Rattle.sec1_der.specs.Faults.{element_fault, optional_fault, field_fault, an
 use Rattle.sec1_der.specs.declared.error.ErrorKind.{ErrorKind}
 use Rattle.sec1_der.specs.declared.error.ErrorKind.TheVariants.{Truncated, TrailingData}
 use Rattle.sec1_der.proofs.HeaderLemmas.{fronts, header_front, longer, some_length}
-use Rattle.sec1_der.proofs.ElementLaws.{is_tag-true, header_apart}
+use Rattle.sec1_der.proofs.ElementLaws.{is_tag-true, header_apart, element_of-within}
 use Rattle.sec1_der.proofs.ElementLaws.{tag_from_test}
 use Rattle.sec1_der.proofs.FaultLaws.{length_at_octets, parts_at, any_room, any_at, alone, read_element}
 
@@ -111,6 +111,17 @@ element_next f g tag (byte ∷ bytes) is next =
     rw (same, eq-eqb tag tag refl, is_tag-true tag is) refl
 
 -- ---- one element after another
+
+-- an element that was read to the end is all that there was
+pub read_whole : (tag : ℕ) (content : Option (List ℕ)) (old new : Reader)
+    → IsSomeAnd content (λ inside. HasReadElement tag inside old new) → new ≡ reader_over []
+    → element_of tag content ≡ Some old.unread
+read_whole tag None old new is end = absurd is
+read_whole tag (Some inside) old new is end =
+    let none : new.unread ≡ [] = ap (λ (r : Reader). r.unread) end in
+    let all : old.unread ≡ element tag inside =
+    ap (λ (r : Reader). r.unread) is.read.was_whole ∙ rw none (append-nil (element tag inside)) in
+    element_of-within tag (Some inside) inside refl is.within ∙ ap Some (sym all)
 
 -- where the content of an element was opened, the fault of the element is that of the content
 pub opened_element : (f : Fault) (tag opened : ℕ) (old new content : Reader) (found : Option ErrorKind)

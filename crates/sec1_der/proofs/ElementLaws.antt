@@ -1,7 +1,7 @@
 -- An element is determined by its bytes, and has a content that it can hold. Further crates cite
 -- these laws.
 use Rattle.std.proofs.Common.{◌≡◌, ℕ, ◌≤◌, List, length, Option, Some, None, refl, arith, ⊎_elim}
-use Rattle.std.proofs.Common.{tests, append_assoc, ne_eqb, ◌%◌, true, ◌++◌, sym, ◌∙◌}
+use Rattle.std.proofs.Common.{tests, append_assoc, ne_eqb, ◌%◌, true, ◌++◌, [], sym, ap, ◌∙◌}
 use Rattle.std.proofs.lemmas.Bool.{le-leb, lt-leb, lt-ltb, cases_lt}
 use Rattle.sec1_der.specs.Elements.{max_length, header, element, IsElementOf, element_of, IsTag}
 use Rattle.sec1_der.specs.ErrorKinds.{is_tag}
@@ -70,3 +70,12 @@ pub element_of-within : (tag : ℕ) (content : Option (List ℕ)) (inside : List
     → element_of tag content ≡ Some (element tag inside)
 element_of-within tag content inside e within =
     rw (e, le-leb (length inside) max_length within) refl
+
+-- the content of a value whose element is this one
+pub element_of-inside : (tag : ℕ) (content : Option (List ℕ)) (inside : List ℕ)
+    → element_of tag content ≡ Some (element tag inside) → content ≡ Some inside
+element_of-inside tag content inside e =
+    let there = element_of-some tag content (element tag inside) e in
+    let same = element_apart tag tag there.inside inside [] []
+    (ap (λ xs. xs ++ []) (sym there.at.encoded)) in
+    there.same ∙ ap Some same.1

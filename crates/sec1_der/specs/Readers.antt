@@ -1,7 +1,8 @@
 -- The state of a reader: the remaining input, and whether it has failed.
-use Rattle.std.specs.Prelude.{◌≡◌, ◌≤◌, Bool, false, true, List, ◌++◌, length, ℕ, Result, OnErr}
+use Rattle.std.specs.Prelude.{◌≡◌, ◌≤◌, Bool, false, true, List, [], ◌++◌, length, ℕ, Option, Some}
+use Rattle.std.specs.Prelude.{Result, IsOk, IfOk, IfErr, OnOk, OnErr}
 use Rattle.sec1_der.specs.Elements.{max_length, element}
-use Rattle.sec1_der.specs.ErrorKinds.{Refuses}
+use Rattle.sec1_der.specs.ErrorKinds.{Refuses, IsReadingFault}
 use Rattle.sec1_der.specs.Faults.{Fault, HasFault}
 use Rattle.sec1_der.specs.declared.error.Error.{Error}
 use Rattle.sec1_der.specs.declared.error.ErrorKind.TheVariants.{Failed}
@@ -37,3 +38,19 @@ pub record RefusesBy {T : Type 0} (fault : Fault) (result : Result T Error)
   pub failed : old.failed ≡ true → Refuses result Failed
   -- the reader is as it was, but it has failed
   pub left : OnErr result (new ≡ refused old)
+
+-- The remaining input is read as the content of a value. `content` gives that of a value, and
+-- `fault` is the rule by which bytes are refused.
+pub record ReadsContent {T : Type 0} (content : T → Option (List ℕ)) (fault : Fault)
+    (result : Result T Error) (old new : Reader) : Type 0 where
+  pub found : IfOk result (λ value. content value ≡ Some old.unread)
+  pub read : OnOk result (new ≡ reader_over [])
+  -- the content of each value is read
+  pub only : old.failed ≡ false → (value : T) → content value ≡ Some old.unread → IsOk result
+  pub kinds : old.failed ≡ false → IfErr result (λ e. IsReadingFault e.kind)
+  -- the kind is a function of the remaining input
+  pub kind : old.failed ≡ false → HasFault result (fault old.unread)
+  -- a reader that had failed stays as it was
+  pub failed : old.failed ≡ true → Refuses result Failed × (new ≡ old)
+  -- the reader has failed after an error
+  pub refused : OnErr result (new.failed ≡ true)

@@ -215,7 +215,7 @@ fn length_at(first: u8, rest: &[u8]) -> First<'_, Length>
         → first ∷ rest.now ≡ length_octets n ++ after → IsOk result }
     ensures kind { IfErr result (λ kind. kind ≡ length_fault (first ∷ rest.now)) }
 {
-    if first < 0x80 {
+    if usize::from(first) < LONG_FORM {
         return Ok((Length::of_number(u32::from(first)), rest));
     }
     // 0 to 3 for the first bytes that are followed by 1 to 4 digits.

@@ -1,8 +1,8 @@
 //! OBJECT IDENTIFIER that borrows its content.
-ghost use Rattle.std.specs.Prelude.{◌≡◌, ℕ, List, Some, IfOk, IfErr};
+ghost use Rattle.std.specs.Prelude.{◌≡◌, ℕ, List, Some, MatchResult};
 ghost use Rattle.sec1_der.specs.ArcsOf.{arcs_of};
 ghost use Rattle.sec1_der.specs.Contents.{identifier_fault};
-ghost use Rattle.sec1_der.specs.Identifiers.{IsIdentifier, IsIdentifierContent, identifier_content};
+ghost use Rattle.sec1_der.specs.Identifiers.{IsIdentifier, identifier_content};
 
 use crate::object_identifier::is_identifier;
 use crate::{
@@ -35,9 +35,9 @@ impl<'a> IdentifierRef<'a> {
     /// Value if no identifier has this content, or if it has more than 39 bytes.
     #[tactic(auto, using(crate::proofs::IdentifierLemmas::held_contents))]
     pub fn from_bytes(bytes: &'a [u8]) -> Result<IdentifierRef<'a>>
-        ensures found { IfOk result (λ arcs. IsIdentifier arcs bytes.now) }
+        ensures exact { MatchResult result (λ arcs. IsIdentifier arcs bytes.now)
+            (λ e. e.kind ≡ ErrorKind.Value) }
         ensures only { (arcs : List ℕ) → IsIdentifier arcs bytes.now → result ≡ Ok arcs }
-        ensures kind { IfErr result (λ e. e.kind ≡ ErrorKind.Value) }
     {
         if !is_identifier(bytes) {
             return Err(ErrorKind::Value.into());

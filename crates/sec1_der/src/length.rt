@@ -1,4 +1,4 @@
-ghost use Rattle.std.specs.Prelude.{◌≡◌, ◌≤◌, ◌<◌, ◌↔◌, OkIff, IsOk, IfErr, ℕ};
+ghost use Rattle.std.specs.Prelude.{◌≡◌, ◌≤◌, ◌<◌, MatchResult, OkIff, IfErr, ℕ};
 ghost use Rattle.sec1_der.specs.DebugTexts.{length_text};
 ghost use Rattle.sec1_der.specs.Elements.{max_length};
 
@@ -74,8 +74,8 @@ impl fmt::Debug for Length {
 ///
 /// Buffer if they don't.
 pub(crate) fn check_room(count: usize, room: usize) -> Result<()>
-    ensures within { IsOk result ↔ (count ≤ room) }
-    ensures kind { IfErr result (λ e. e.kind ≡ ErrorKind.Buffer) }
+    ensures { MatchResult result (λ _. count ≤ room)
+        (λ e. (e.kind ≡ ErrorKind.Buffer) × (room < count)) }
 {
     if room < count {
         return Err(ErrorKind::Buffer.into());

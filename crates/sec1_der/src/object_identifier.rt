@@ -1,10 +1,10 @@
-ghost use Rattle.std.specs.Prelude.{◌≡◌, ℕ, ◌<◌, ◌≤◌, ◌↔◌, List, length, IsTrue, IfOk, IfErr, Some};
+ghost use Rattle.std.specs.Prelude.{◌≡◌, ℕ, ◌<◌, ◌↔◌, List, length, IsTrue, MatchResult, Some};
 ghost use Rattle.std.specs.Prelude.{◌∷◌, ◌++◌, bytes_eq};
 ghost use Rattle.std.specs.Cmp.{partial_equiv_from_equiv};
 ghost use Rattle.std.specs.Fmt.{WritesStyledOnOk, decimal};
 ghost use Rattle.std.specs.Cmp.Lexicographic.{nat_list_eq_equiv};
 ghost use Rattle.sec1_der.specs.DebugTexts.{identifier_text};
-ghost use Rattle.sec1_der.specs.ArcsOf.{padded, arcs_of_numbers};
+ghost use Rattle.sec1_der.specs.ArcsOf.{arcs_of_numbers};
 ghost use Rattle.sec1_der.specs.Contents.{identifier_fault};
 ghost use Rattle.sec1_der.specs.Identifiers.{IsIdentifier, IsIdentifierContent};
 ghost use Rattle.sec1_der.specs.Identifiers.{EncodesArcs, content_of};
@@ -81,12 +81,12 @@ impl ObjectIdentifier {
     /// let identifier = der::ObjectIdentifier::new("1.2.840.10045.3.1.7")?;
     /// ```
     pub fn new(text: &str) -> Result<ObjectIdentifier>
-        ensures found { IfOk result (λ arcs. IsIdentifier arcs (content_of arcs)
-            × (text.now ≡ dotted arcs)) }
+        ensures exact { MatchResult result
+            (λ arcs. IsIdentifier arcs (content_of arcs) × (text.now ≡ dotted arcs))
+            (λ e. e.kind ≡ ErrorKind.Value) }
         ensures only { (arcs : List ℕ) → IsIdentifier arcs (content_of arcs)
             → text.now ≡ dotted arcs
             → result ≡ Ok arcs }
-        ensures kind { IfErr result (λ e. e.kind ≡ ErrorKind.Value) }
     {
         let mut builder = Builder::new();
         for piece in text.split('.') {
@@ -107,9 +107,9 @@ impl ObjectIdentifier {
     ///
     /// Value if no identifier has this content, or if it has more than 39 bytes.
     pub fn from_bytes(content: &[u8]) -> Result<ObjectIdentifier>
-        ensures found { IfOk result (λ arcs. IsIdentifier arcs content.now) }
+        ensures exact { MatchResult result (λ arcs. IsIdentifier arcs content.now)
+            (λ e. e.kind ≡ ErrorKind.Value) }
         ensures only { (arcs : List ℕ) → IsIdentifier arcs content.now → result ≡ Ok arcs }
-        ensures kind { IfErr result (λ e. e.kind ≡ ErrorKind.Value) }
     {
         if !is_identifier(content) {
             return Err(ErrorKind::Value.into());

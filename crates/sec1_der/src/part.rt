@@ -1,16 +1,13 @@
 //! The parts of a SEQUENCE (X.690 section 8.9), and two parts in a row.
-ghost use Rattle.std.specs.Prelude.{◌≡◌, ◌≤◌, ◌++◌, ℕ, List, length, Option, Some, true, false};
-ghost use Rattle.std.specs.Prelude.{IfOk, IfErr, OnOk, OnErr, IsOk, IsOkAnd, IsSomeAnd};
+ghost use Rattle.std.specs.Prelude.{◌≡◌, ◌≤◌, ℕ, List, length, Option, Some};
 ghost use Rattle.sec1_der.specs.BackWriters.{Puts};
 ghost use Rattle.sec1_der.specs.Elements.{max_length, within_limit};
 ghost use Rattle.sec1_der.specs.Encodings.{Measures};
-ghost use Rattle.sec1_der.specs.ErrorKinds.{Refuses, IsReadingFault};
-ghost use Rattle.sec1_der.specs.Parts.{Tags, Begins, MayFollow, AreApart, join, both_tags};
+ghost use Rattle.sec1_der.specs.Parts.{Tags, Begins, ReadsPart, AreApart, join, both_tags};
 ghost use Rattle.sec1_der.specs.PartLaws.{pair_begins};
-ghost use Rattle.sec1_der.specs.Readers.{reader_over, HasRead};
 ghost use Rattle.sec1_der.specs.Faults.{Fault};
 
-use crate::{BackWriter, ErrorKind, Length, Result, SliceReader};
+use crate::{BackWriter, Length, Result, SliceReader};
 
 /// A part of the content of a SEQUENCE: the bytes of some components in a row.
 pub trait Part {
@@ -58,28 +55,7 @@ pub trait DecodePart<'a>: Part + Sized {
     /// part; Failed if the reader failed before. On an error the reader has failed.
     fn decode_part(reader: &mut SliceReader<'a>) -> Result<Self>
         requires { length reader.old.unread ≤ max_length }
-        // What is read is the part, and just its bytes are read.
-        ensures found { IfOk result
-            (λ part. IsSomeAnd (Self.bytes part) (λ whole. HasRead whole reader.old reader.new)) }
-        // If the unread bytes begin with a part, and what follows can't be confused with it, that
-        // part is read.
-        ensures only { (part : Self) (whole rest : List ℕ) → Self.tags.apart ≡ true
-            → Self.bytes part ≡ Some whole
-            → MayFollow Self.tags rest → reader.old ≡ reader_over (whole ++ rest)
-            → IsOkAnd result (λ found. Self.bytes found ≡ Some whole)
-            × (reader.new ≡ reader_over rest) }
-        ensures kinds { reader.old.failed ≡ false → IfErr result (λ e. IsReadingFault e.kind) }
-        // The kind of the error depends only on the remaining input; after a part that is read it
-        // is that of what follows.
-        ensures passes { reader.old.failed ≡ false
-            → OnOk result ((behind : Fault)
-            → Self.fault_then behind reader.old.unread ≡ behind reader.new.unread) }
-        ensures refuses { reader.old.failed ≡ false
-            → IfErr result (λ e. (behind : Fault)
-            → Self.fault_then behind reader.old.unread ≡ Some e.kind) }
-        ensures failed { reader.old.failed ≡ true → Refuses result ErrorKind.Failed
-            × (reader.new ≡ reader.old) }
-        ensures refused { OnErr result (reader.new.failed ≡ true) };
+        ensures { ReadsPart Self.bytes Self.fault_then Self.tags result reader.old reader.new };
 }
 
 /// A part that is determined by the bytes that begin with it.

@@ -1,6 +1,6 @@
-ghost use Rattle.std.specs.Prelude.{◌≡◌, ◌↔◌, ◌≤◌, ◌++◌, [], ℕ, List, length};
+ghost use Rattle.std.specs.Prelude.{◌≡◌, ◌++◌, [], ℕ, List, length};
 ghost use Rattle.std.specs.Prelude.{slice_get, true, false, if◌then◌else◌, IsOk, IfOk};
-ghost use Rattle.std.specs.Prelude.{IsOkAnd, IsErr, IfErr, OnOk, OnErr};
+ghost use Rattle.std.specs.Prelude.{IsOkAnd, MatchResult, OnOk};
 ghost use Rattle.sec1_der.specs.ErrorKinds.{Refuses};
 ghost use Rattle.sec1_der.specs.Readers.{reader_over, refused, HasRead, Reader, RefusesBy};
 ghost use Rattle.sec1_der.specs.Faults.{count_fault, end_fault, no_fault};
@@ -151,8 +151,8 @@ impl<'a> SliceReader<'a> {
     ///
     /// Failed if it has.
     pub(crate) fn check(&self) -> Result<()>
-        ensures within { IsOk result ↔ (self.now.failed ≡ false) }
-        ensures kind { IfErr result (λ e. e.kind ≡ ErrorKind.Failed) }
+        ensures { MatchResult result (λ _. self.now.failed ≡ false)
+            (λ e. (e.kind ≡ ErrorKind.Failed) × (self.now.failed ≡ true)) }
     {
         if self.failed {
             return Err(ErrorKind::Failed.into());

@@ -1,20 +1,16 @@
 //! A component that is always present; and the calls that [`Required`] makes, for a type that is a
 //! part by itself.
 ghost use Rattle.std.specs.Fmt.{debug_variant};
-ghost use Rattle.std.specs.Prelude.{codes, ◌≡◌, ◌≤◌, ◌++◌, ℕ, List, length, false, true, Some, Ok};
-ghost use Rattle.std.specs.Prelude.{IsOkAnd, IsSomeAnd};
-ghost use Rattle.std.specs.Prelude.{IfOk, IfErr, OnOk, OnErr};
+ghost use Rattle.std.specs.Prelude.{codes, ◌≤◌, length, Ok};
 ghost use Rattle.sec1_der.specs.Elements.{element_of, max_length, within_limit};
 ghost use Rattle.sec1_der.specs.Encodings.{Measures};
-ghost use Rattle.sec1_der.specs.ErrorKinds.{Refuses, IsReadingFault};
-ghost use Rattle.sec1_der.specs.Parts.{MayFollow, one_tag};
+ghost use Rattle.sec1_der.specs.Parts.{ReadsPart, one_tag};
 ghost use Rattle.sec1_der.specs.PartLaws.{element_begins};
-ghost use Rattle.sec1_der.specs.Readers.{reader_over, HasRead};
-ghost use Rattle.sec1_der.specs.Faults.{Fault, element_fault};
+ghost use Rattle.sec1_der.specs.Faults.{element_fault};
 
 use crate::debug_text::write_tuple;
 use crate::{
-    BackWriter, DecodePart, DecodeValue, EncodePart, EncodeValue, ErrorKind, Length, Part, Result,
+    BackWriter, DecodePart, DecodeValue, EncodePart, EncodeValue, Length, Part, Result,
     SliceReader, Tagged, UniqueContent, UniquePart, ValueContent, encoded_len,
 };
 use std::fmt;
@@ -96,22 +92,8 @@ pub fn decode_component<'a, A: DecodeValue<'a> + Tagged + Drop>(
     reader: &mut SliceReader<'a>,
 ) -> Result<A>
     requires { length reader.old.unread ≤ max_length }
-    ensures found { IfOk result (λ value.
-        IsSomeAnd (element_of A.tag_byte (A.content value)) (λ whole.
-        HasRead whole reader.old reader.new)) }
-    ensures only { (value : A) (whole rest : List ℕ) → (one_tag A.tag_byte).apart ≡ true
-        → element_of A.tag_byte (A.content value) ≡ Some whole
-        → MayFollow (one_tag A.tag_byte) rest → reader.old ≡ reader_over (whole ++ rest)
-        → IsOkAnd result (λ found. element_of A.tag_byte (A.content found) ≡ Some whole)
-        × (reader.new ≡ reader_over rest) }
-    ensures kinds { reader.old.failed ≡ false → IfErr result (λ e. IsReadingFault e.kind) }
-    ensures passes { reader.old.failed ≡ false → OnOk result ((behind : Fault)
-        → element_fault A.tag_byte A.fault behind reader.old.unread ≡ behind reader.new.unread) }
-    ensures refuses { reader.old.failed ≡ false → IfErr result (λ e. (behind : Fault)
-        → element_fault A.tag_byte A.fault behind reader.old.unread ≡ Some e.kind) }
-    ensures failed { reader.old.failed ≡ true → Refuses result ErrorKind.Failed
-        × (reader.new ≡ reader.old) }
-    ensures refused { OnErr result (reader.new.failed ≡ true) }
+    ensures { ReadsPart (λ value. element_of A.tag_byte (A.content value))
+        (element_fault A.tag_byte A.fault) (one_tag A.tag_byte) result reader.old reader.new }
 {
     match Required::<A>::decode_part(reader) {
         Ok(part) => Ok(part.0),

@@ -115,7 +115,8 @@ impl Tag {
     ///
     /// Tag if the byte is `00`, which is reserved for end-of-contents (X.690 section 8.1.5), or if
     /// its low five bits are all ones, since it begins a high tag number (section 8.1.2.4).
-    // In line and by two arms, so that LLVM makes two branches of them and not one of their sum.
+    // Each of the two arms becomes a branch. Of one test with `||` LLVM makes both comparisons and
+    // joins their results, which takes more instructions.
     #[inline(always)]
     pub fn from_byte(byte: u8) -> Result<Tag>
         ensures tag { OkIff result (IsTag byte) byte }

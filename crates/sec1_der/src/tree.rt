@@ -1,6 +1,6 @@
 ghost use Rattle.std.specs.Prelude.{◌≡◌, ◌<◌, ◌≤◌, IfOk, IfErr, List, ℕ, get_or, ◌≢◌, ◌-◌, ◌⊎◌};
-ghost use Rattle.std.specs.Prelude.{◌↔◌, ◌++◌, [], ◌∷◌, Some, take, drop, length, IsTrue};
-ghost use Rattle.std.specs.Prelude.{OnOk, OnErr};
+ghost use Rattle.std.specs.Prelude.{◌↔◌, [], ◌∷◌, Some, take, drop, length, IsTrue};
+ghost use Rattle.std.specs.Prelude.{MatchResult};
 ghost use Rattle.sec1_der.specs.Elements.{IsProperPrefix};
 ghost use Rattle.sec1_der.specs.ErrorKinds.{Refuses, IsTreeFault, IsHeaderFault};
 ghost use Rattle.sec1_der.specs.Faults.{HasFault, tree_fault, Fault, any_fault};
@@ -131,10 +131,9 @@ impl OpenNodes {
     /// Depth if that is level 64.
     #[tactic(auto, using(crate::proofs::WalkLemmas::opened_ends))]
     fn open(&mut self, end: usize) -> Result<()>
-        ensures found { OnOk result
-            ((length self.old < max_tree_depth - 1) × (self.new ≡ end ∷ self.old)) }
-        ensures only { OnErr result (length self.old ≡ max_tree_depth - 1) }
-        ensures kind { IfErr result (λ e. e.kind ≡ ErrorKind.Depth) }
+        ensures { MatchResult result
+            (λ _. (length self.old < max_tree_depth - 1) × (self.new ≡ end ∷ self.old))
+            (λ e. (e.kind ≡ ErrorKind.Depth) × (length self.old ≡ max_tree_depth - 1)) }
     {
         if self.level == MAX_DEPTH - 1 {
             return Err(ErrorKind::Depth.into());

@@ -1,12 +1,11 @@
 //! The traits of DER values: with them the generic calls read and write a type.
-ghost use Rattle.std.specs.Prelude.{◌≡◌, ◌<◌, ◌≤◌, ℕ, List, [], length, true, false, Option, Some};
-ghost use Rattle.std.specs.Prelude.{None, IsOk, IfOk, IfErr, OnOk, OnErr};
+ghost use Rattle.std.specs.Prelude.{◌≡◌, ◌≤◌, ℕ, List, length, Option, Some, None, OnOk};
 ghost use Rattle.sec1_der.specs.BackWriters.{WritesInFront, Puts};
 ghost use Rattle.sec1_der.specs.Elements.{max_length, element_of, within_limit, IsTag};
 ghost use Rattle.sec1_der.specs.Encodings.{Measures};
-ghost use Rattle.sec1_der.specs.ErrorKinds.{Refuses, IsReadingFault};
-ghost use Rattle.sec1_der.specs.Readers.{reader_over};
-ghost use Rattle.sec1_der.specs.Faults.{Fault, HasFault};
+ghost use Rattle.sec1_der.specs.ErrorKinds.{Refuses};
+ghost use Rattle.sec1_der.specs.Readers.{ReadsContent};
+ghost use Rattle.sec1_der.specs.Faults.{Fault};
 ghost use Rattle.sec1_der.specs.SliceWriters.{WritesBehind};
 
 use crate::{BackWriter, ErrorKind, Header, Length, Result, SliceReader, SliceWriter, Tag};
@@ -48,16 +47,7 @@ pub trait DecodeValue<'a>: ValueContent + Sized {
     /// type; Failed if the reader failed before. On an error the reader has failed.
     fn decode_value(reader: &mut SliceReader<'a>) -> Result<Self>
         requires { length reader.old.unread ≤ max_length }
-        ensures found { IfOk result (λ value. Self.content value ≡ Some reader.old.unread) }
-        ensures read { OnOk result (reader.new ≡ reader_over []) }
-        // The content of each value is read.
-        ensures only { reader.old.failed ≡ false → (value : Self)
-            → Self.content value ≡ Some reader.old.unread → IsOk result }
-        ensures kinds { reader.old.failed ≡ false → IfErr result (λ e. IsReadingFault e.kind) }
-        ensures kind { reader.old.failed ≡ false → HasFault result (Self.fault reader.old.unread) }
-        ensures failed { reader.old.failed ≡ true → Refuses result ErrorKind.Failed
-            × (reader.new ≡ reader.old) }
-        ensures refused { OnErr result (reader.new.failed ≡ true) };
+        ensures { ReadsContent Self.content Self.fault result reader.old reader.new };
 }
 
 /// A value whose content is written.

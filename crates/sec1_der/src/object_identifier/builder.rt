@@ -1,6 +1,6 @@
 //! Builds an identifier from the arcs of its text.
 ghost use Rattle.std.specs.Prelude.{◌≡◌, ℕ, ◌<◌, ◌≤◌, ◌+◌, ◌*◌, ◌^◌, List, [], ◌∷◌, ◌++◌, length};
-ghost use Rattle.std.specs.Prelude.{IsErr, IfOk, OnOk, IfErr, IfSome, IfNone};
+ghost use Rattle.std.specs.Prelude.{MatchOption, MatchResult};
 ghost use Rattle.std.specs.Fmt.{decimal};
 ghost use Rattle.std.specs.Int.Digits.{digits_of};
 ghost use Rattle.sec1_der.specs.Identifiers.{AreArcs, IsIdentifier, content_of};
@@ -53,10 +53,9 @@ impl Builder {
     ///
     /// Value if no identifier begins with these arcs.
     pub(crate) fn add(self, arc: u32) -> Result<Builder>
-        ensures found { IfOk result (λ builder. builder ≡ self ++ arc ∷ []) }
-        ensures only { IsErr result → (further : List ℕ)
-            → IsIdentifier (self ++ arc ∷ further) (content_of (self ++ arc ∷ further)) → ⊥ }
-        ensures kind { IfErr result (λ e. e.kind ≡ ErrorKind.Value) }
+        ensures { MatchResult result (λ builder. builder ≡ self ++ arc ∷ [])
+            (λ e. (e.kind ≡ ErrorKind.Value) × ((further : List ℕ)
+            → IsIdentifier (self ++ arc ∷ further) (content_of (self ++ arc ∷ further)) → ⊥)) }
     {
         match self.arcs {
             Arcs::Empty => Ok(Builder {
@@ -76,8 +75,8 @@ impl Builder {
 
     /// Returns the content of the identifier; `None` if it has fewer than two arcs.
     pub(crate) fn content(&self) -> Option<&[u8]>
-        ensures found { IfSome result (λ content. IsIdentifier self.now content.now) }
-        ensures none { IfNone result (length self.now < 2) }
+        ensures { MatchOption result (length self.now < 2)
+            (λ content. IsIdentifier self.now content.now) }
     {
         match &self.arcs {
             Arcs::Several(content) => Some(content.as_bytes()),
@@ -89,8 +88,8 @@ impl Builder {
 /// Returns the first subidentifier, which encodes the first two arcs; `None` if no identifier
 /// begins with them (X.690 section 8.19.4).
 fn shared_number(a: u32, b: u32) -> Option<u32>
-    ensures found { IfSome result (λ n. (n ≡ 40 * a + b) × AreArcs (a ∷ b ∷ [])) }
-    ensures none { IfNone result (¬ AreArcs (a ∷ b ∷ [])) }
+    ensures { MatchOption result (¬ AreArcs (a ∷ b ∷ []))
+        (λ n. (n ≡ 40 * a + b) × AreArcs (a ∷ b ∷ [])) }
 {
     if a > 2 || a < 2 && b >= 40 {
         return None;
@@ -101,8 +100,8 @@ fn shared_number(a: u32, b: u32) -> Option<u32>
 /// Parses an arc: decimal digits without a sign or a leading zero.
 #[tactic(auto, using(crate::proofs::ArcLemmas::arc_digits))]
 pub(crate) fn arc(text: &str) -> Option<u32>
-    ensures found { IfSome result (λ n. (n < 2 ^ 32) × (text.now ≡ decimal n)) }
-    ensures none { IfNone result ((n : ℕ) → n < 2 ^ 32 → text.now ≡ decimal n → ⊥) }
+    ensures { MatchOption result ((n : ℕ) → n < 2 ^ 32 → text.now ≡ decimal n → ⊥)
+        (λ n. (n < 2 ^ 32) × (text.now ≡ decimal n)) }
 {
     let bytes = text.as_bytes();
     if bytes.is_empty() {
@@ -151,8 +150,7 @@ impl Content {
 
     /// Borrows the bytes.
     fn as_bytes(&self) -> &[u8]
-        ensures whole { result.now ≡ self.now }
-        ensures short { length result.now ≤ max_identifier_length }
+        ensures { (result.now ≡ self.now) × (length result.now ≤ max_identifier_length) }
     {
         &self.bytes[..self.len]
     }
@@ -163,9 +161,9 @@ impl Content {
     ///
     /// Value if it has no room.
     fn with_number(mut self, n: u32) -> Result<Content>
-        ensures found { IfOk result (λ content. content ≡ self ++ base128 n) }
-        ensures only { IsErr result → max_identifier_length < length self + length (base128 n) }
-        ensures kind { IfErr result (λ e. e.kind ≡ ErrorKind.Value) }
+        ensures { MatchResult result (λ content. content ≡ self ++ base128 n)
+            (λ e. (e.kind ≡ ErrorKind.Value)
+            × (max_identifier_length < length self + length (base128 n))) }
     {
         self.push_marked(n / 128)?;
         self.push((n % 128) as u8)?;
@@ -175,10 +173,9 @@ impl Content {
     /// Appends the base 128 digits of a number, none for 0, each with bit 80 (hexadecimal) set.
     #[tactic(auto, using(crate::proofs::IdentifierLemmas::marked_steps))]
     fn push_marked(&mut self, n: u32) -> Result<()>
-        ensures found { OnOk result (self.new ≡ self.old ++ marked (digits_of 128 n)) }
-        ensures only { IsErr result
-            → max_identifier_length < length self.old + length (marked (digits_of 128 n)) }
-        ensures kind { IfErr result (λ e. e.kind ≡ ErrorKind.Value) }
+        ensures { MatchResult result (λ _. self.new ≡ self.old ++ marked (digits_of 128 n))
+            (λ e. (e.kind ≡ ErrorKind.Value)
+            × (max_identifier_length < length self.old + length (marked (digits_of 128 n)))) }
     {
         if n == 0 {
             return Ok(());
@@ -193,9 +190,8 @@ impl Content {
     ///
     /// Value if the content is full.
     fn push(&mut self, byte: u8) -> Result<()>
-        ensures found { OnOk result (self.new ≡ self.old ++ byte ∷ []) }
-        ensures only { IsErr result → max_identifier_length ≤ length self.old }
-        ensures kind { IfErr result (λ e. e.kind ≡ ErrorKind.Value) }
+        ensures { MatchResult result (λ _. self.new ≡ self.old ++ byte ∷ [])
+            (λ e. (e.kind ≡ ErrorKind.Value) × (max_identifier_length ≤ length self.old)) }
     {
         if self.len == MAX_CONTENT {
             return Err(ErrorKind::Value.into());

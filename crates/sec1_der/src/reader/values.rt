@@ -1,11 +1,13 @@
 //! The generic calls of a reader, which read values and explicit fields.
-ghost use Rattle.std.specs.Prelude.{◌≡◌, ◌≢◌, ◌≤◌, ◌++◌, [], ℕ, List, length};
-ghost use Rattle.std.specs.Prelude.{slice_get, true, false, IfOk};
-ghost use Rattle.std.specs.Prelude.{IsOkAnd, IfErr, OnOk, OnErr, IfSome, IfNone, IsSomeAnd};
-ghost use Rattle.sec1_der.specs.Elements.{max_length, element, IsProperPrefix, explicit_tag};
+ghost use Rattle.std.specs.Prelude.{◌≡◌, ◌≢◌, ◌≤◌, ◌++◌, ℕ, List, length};
+ghost use Rattle.std.specs.Prelude.{slice_get, false, IfOk};
+ghost use Rattle.std.specs.Prelude.{IsOkAnd, IfErr, IfSome, IfNone, IsSomeAnd};
+ghost use Rattle.sec1_der.specs.Elements.{max_length, element, element_of, explicit_tag};
+ghost use Rattle.sec1_der.specs.Elements.{IsProperPrefix};
 ghost use Rattle.sec1_der.specs.ErrorKinds.{Refuses, IsReadingFault};
-ghost use Rattle.sec1_der.specs.Readers.{reader_over, HasReadElement, RefusesBy};
-ghost use Rattle.sec1_der.specs.Faults.{HasFault, element_fault, end_fault, field_fault};
+ghost use Rattle.sec1_der.specs.Readers.{reader_over, HasReadElement, ReadsContent};
+ghost use Rattle.sec1_der.specs.Readers.{RefusesBy};
+ghost use Rattle.sec1_der.specs.Faults.{element_fault, end_fault, field_fault};
 ghost use Rattle.sec1_der.specs.Faults.{no_fault};
 
 use crate::header::element_at;
@@ -143,12 +145,8 @@ impl<'a> SliceReader<'a> {
 
     /// Reads the one element in the remaining input.
     pub(crate) fn only_element<T: DecodeValue<'a> + Tagged + Drop>(&mut self) -> Result<T>
-        ensures found { IfOk result (λ value. IsSomeAnd (T.content value) (λ content.
-            (length content ≤ max_length)
-            × (self.old ≡ reader_over (element T.tag_byte content)))) }
-        ensures only { (value : T) (content : List ℕ) → T.content value ≡ Some content
-            → length content ≤ max_length → self.old ≡ reader_over (element T.tag_byte content)
-            → IsOkAnd result (λ found. T.content found ≡ Some content) }
+        ensures reads { ReadsContent (λ value. element_of T.tag_byte (T.content value))
+            (element_fault T.tag_byte T.fault end_fault) result self.old self.new }
         ensures rule { (content : List ℕ) → T.fault content ≡ None → length content ≤ max_length
             → self.old ≡ reader_over (element T.tag_byte content)
             → IsOkAnd result (λ found. T.content found ≡ Some content) }
@@ -156,13 +154,6 @@ impl<'a> SliceReader<'a> {
             → length content ≤ max_length → self.old.failed ≡ false
             → IsProperPrefix (element T.tag_byte content) self.old.unread
             → Refuses result ErrorKind.TrailingData }
-        ensures kinds { self.old.failed ≡ false → IfErr result (λ e. IsReadingFault e.kind) }
-        ensures kind { self.old.failed ≡ false
-            → HasFault result (element_fault T.tag_byte T.fault end_fault self.old.unread) }
-        ensures read { OnOk result (self.new ≡ reader_over []) }
-        ensures failed { self.old.failed ≡ true → Refuses result ErrorKind.Failed
-            × (self.new ≡ self.old) }
-        ensures refused { OnErr result (self.new.failed ≡ true) }
     {
         let value = self.decode::<T>()?;
         self.finish()?;

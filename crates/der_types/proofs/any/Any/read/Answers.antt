@@ -1,10 +1,7 @@
-use Rattle.std.proofs.Common.{ap, ◌∙◌, refl}
+use Rattle.std.proofs.Common.{ap, ◌∙◌, refl, rules}
 use Rattle.sec1_der.specs.Readers.{Reader}
-use Rattle.der_types.proofs.AnyLemmas.{element_from, any_passes, any_refused}
+use Rattle.der_types.proofs.AnyLemmas.{element_from, any_some, any_there, any_passes, any_refused}
 use Rattle.der_types.proofs.any.Any.read.Goals as goal
-
-pub returns-in-Err-clause-refuses : goal.returns-in-Err-clause-refuses
-returns-in-Err-clause-refuses c fresh = λ behind. any_refused behind _ _ (c.in-Err.ensures.refused.kind fresh)
 
 pub invariant_of-result : goal.invariant_of-result
 invariant_of-result c =
@@ -17,7 +14,34 @@ invariant_of-result c =
       ),
     )
 
-pub returns-in-Ok-clause-passes : goal.returns-in-Ok-clause-passes
-returns-in-Ok-clause-passes c fresh =
+pub returns-in-Err : goal.returns-in-Err
+returns-in-Err c = record {
+  found = tt;
+  only = λ part whole rest apart same may is.
+      let element = (any_some part whole same).1 in
+      absurd (c.in-Err.ensures.only element.tag element.content rest element.is_header
+      (rw element.encoded at is)).0;
+  kinds = search rules;
+  passes = λ _. tt;
+  refuses = λ fresh behind. any_refused behind _ _ (c.in-Err.ensures.refused.kind fresh);
+  failed = search rules;
+  refused = search rules;
+}
+
+pub returns-in-Ok : goal.returns-in-Ok
+returns-in-Ok c =
     let found = c.in-Ok.ensures.found in
-    any_passes _ _ _ (element_from c.in-Ok.inside _ found.0 refl) found.1
+    let element = element_from c.in-Ok.inside _ found.0 refl in
+    record {
+      found = search (rules, any_there);
+      only = λ part whole rest apart same may is.
+          let element = (any_some part whole same).1 in
+          let read = c.in-Ok.ensures.only element.tag element.content rest element.is_header
+          (rw element.encoded at is) in
+          search (rules, any_there, element, read);
+      kinds = λ _. tt;
+      passes = λ fresh. any_passes _ _ _ element found.1;
+      refuses = λ _. tt;
+      failed = search rules;
+      refused = tt;
+    }

@@ -1,28 +1,52 @@
-use Rattle.std.proofs.Common.{refl, ◌∙◌}
+use Rattle.std.proofs.Common.{refl, ◌∙◌, rules}
 use Rattle.der_types.proofs.DefaultLemmas.{as_optional, from_optional, default_empty}
 use Rattle.der_types.proofs.default.DefaultedDecodePart.decode_part.Goals as goal
 
-pub returns-in_err-part-clause-only : goal.returns-in_err-part-clause-only
-returns-in_err-part-clause-only g c part whole rest apart same may is =
-    let there = as_optional g.A.Tagged.tag_byte g.A.HasDefault.default_content g.A.ValueContent.content part ∙ same in
-    absurd (c.in_err-part.ensures.only _ whole rest refl there may is).0
+pub returns-in_err-part : goal.returns-in_err-part
+returns-in_err-part g c = record {
+  found = search rules;
+  only = λ part whole rest apart same may is.
+      let there = as_optional g.A.Tagged.tag_byte g.A.HasDefault.default_content g.A.ValueContent.content part ∙ same in
+      absurd (c.in_err-part.ensures.only _ whole rest refl there may is).0;
+  kinds = search rules;
+  passes = search rules;
+  refuses = search rules;
+  failed = search rules;
+  refused = search rules;
+}
 
-pub returns-in-Some-clause-only : goal.returns-in-Some-clause-only
-returns-in-Some-clause-only g c part whole rest apart same may is =
-    let there = as_optional g.A.Tagged.tag_byte g.A.HasDefault.default_content g.A.ValueContent.content part ∙ same in
-    let read = c.in_ok-part.ensures.only _ whole rest refl there may is in
-    let found = rw (← c.part.view_is, c.in-Some.is) at read.0 in (
-      from_optional _ _ (g.A.ValueContent.content c.value.inside.0) whole
-          (rw (← (c.value.view_is ∙ c.in-Some.value-is)) at found),
-      read.1,
-    )
+pub returns-in-Some : goal.returns-in-Some
+returns-in-Some g c = record {
+  found = search rules;
+  only = λ part whole rest apart same may is.
+      let there = as_optional g.A.Tagged.tag_byte g.A.HasDefault.default_content g.A.ValueContent.content part ∙ same in
+      let read = c.in_ok-part.ensures.only _ whole rest refl there may is in
+      let found = rw (← c.part.view_is, c.in-Some.is) at read.0 in (
+        from_optional _ _ (g.A.ValueContent.content c.value.inside.0) whole
+            (rw (← (c.value.view_is ∙ c.in-Some.value-is)) at found),
+        read.1,
+      );
+  kinds = search rules;
+  passes = search rules;
+  refuses = search rules;
+  failed = search rules;
+  refused = search rules;
+}
 
-pub returns-in-None-clause-only : goal.returns-in-None-clause-only
-returns-in-None-clause-only g c part whole rest apart same may is =
-    let there = as_optional g.A.Tagged.tag_byte g.A.HasDefault.default_content g.A.ValueContent.content part ∙ same in
-    let read = c.in_ok-part.ensures.only _ whole rest refl there may is in
-    let found = rw (← c.part.view_is, c.in-None.is) at read.0 in (
-      default_empty g.A.Tagged.tag_byte g.A.HasDefault.default_content g.A.ValueContent.content _ c.default_value.result
-          g.met.A.HasDefault.has_content c.default_value.ensures ∙ found,
-      read.1,
-    )
+pub returns-in-None : goal.returns-in-None
+returns-in-None g c = record {
+  found = search rules;
+  only = λ part whole rest apart same may is.
+      let there = as_optional g.A.Tagged.tag_byte g.A.HasDefault.default_content g.A.ValueContent.content part ∙ same in
+      let read = c.in_ok-part.ensures.only _ whole rest refl there may is in
+      let found = rw (← c.part.view_is, c.in-None.is) at read.0 in (
+        default_empty g.A.Tagged.tag_byte g.A.HasDefault.default_content g.A.ValueContent.content _
+            c.default_value.result g.met.A.HasDefault.has_content c.default_value.ensures ∙ found,
+        read.1,
+      );
+  kinds = search rules;
+  passes = search rules;
+  refuses = search rules;
+  failed = search rules;
+  refused = search rules;
+}

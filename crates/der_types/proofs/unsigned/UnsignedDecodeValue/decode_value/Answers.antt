@@ -1,6 +1,14 @@
-use Rattle.std.proofs.Common.{arith}
+use Rattle.std.proofs.Common.{arith, rules}
 use Rattle.der_types.proofs.IntegerLaws.{is_unsigned-unsigned_content}
 use Rattle.der_types.proofs.unsigned.UnsignedDecodeValue.decode_value.Goals as goal
 
-pub returns-in-None-clause-only : goal.returns-in-None-clause-only
-returns-in-None-clause-only c fresh number is = grind (arith, is_unsigned-unsigned_content number)
+pub returns-in-None : goal.returns-in-None
+returns-in-None c = record {
+  found = tt;
+  read = tt;
+  only = λ fresh number is. grind (arith, is_unsigned-unsigned_content number);
+  kinds = search rules;
+  kind = search rules;
+  failed = search rules;
+  refused = search rules;
+}

@@ -1,36 +1,51 @@
-use Rattle.std.proofs.Common.{◌≡◌, ◌==◌, ◌∷◌, ◌++◌, [], false, ◌∙◌, refl, ap, sym}
+use Rattle.std.proofs.Common.{◌≡◌, ◌==◌, ◌∷◌, Some, List, ℕ, false, ◌∙◌, refl, rules, arith}
 use Rattle.std.proofs.lemmas.Bool.{ne_eqb, iff_false}
-use Rattle.sec1_der.specs.Readers.{Reader}
-use Rattle.sec1_der.proofs.ElementLaws.{element_apart}
-use Rattle.sec1_der.proofs.ContentFaultLemmas.{whole_inside, whole_taken, bits_inside}
+use Rattle.std.proofs.lemmas.Grind.{common_steps}
+use Rattle.sec1_der.proofs.ContentFaultLemmas.{whole_taken, bits_inside}
+use Rattle.sec1_der.proofs.UniqueLemmas.{unique_inside}
 use Rattle.sec1_der.proofs.explicit.ExplicitBitsDecodeValue.decode_value.Goals as goal
 
-pub returns-in_err-bits-clause-only : goal.returns-in_err-bits-clause-only
-returns-in_err-bits-clause-only c fresh value is =
-    absurd (cc (c.in_err-bits.ensures.kind fresh, whole_taken value _ is))
+pub returns-in_err-bits : goal.returns-in_err-bits
+returns-in_err-bits c = record {
+  found = grind (arith, common_steps);
+  read = grind (arith, common_steps);
+  only = λ fresh value is. absurd (cc (c.in_err-bits.ensures.reads.kind fresh, whole_taken value _ is));
+  kinds = search rules;
+  kind = search rules;
+  failed = search rules;
+  refused = search rules;
+}
 
-pub returns-in-Some-clause-kind : goal.returns-in-Some-clause-kind
-returns-in-Some-clause-kind c fresh =
+pub returns-in-Some : goal.returns-in-Some
+returns-in-Some c =
     let bytes = c.in-Some.ensures in
-    let found = rw (bytes.within.0 refl, ← bytes.bytes) at c.in_ok-bits.ensures.found in
-    bits_inside (0 ∷ c.in-Some.bytes.now) _ found.0 (ap (λ (r : Reader). r.unread) found.1)
-    (c.in_ok-bits.ensures.kind fresh)
+    let found = rw (bytes.within.0 refl, ← bytes.bytes) at c.in_ok-bits.ensures.reads.found in
+    record {
+      found = found;
+      read = c.in_ok-bits.ensures.reads.read;
+      only = search rules;
+      kinds = λ _. tt;
+      kind = λ fresh. bits_inside (0 ∷ c.in-Some.bytes.now) _ found (c.in_ok-bits.ensures.reads.kind fresh);
+      failed = search rules;
+      refused = tt;
+    }
 
-pub returns-in-None-clause-only : goal.returns-in-None-clause-only
-returns-in-None-clause-only c fresh value is =
+pub returns-in-None : goal.returns-in-None
+returns-in-None c =
     let bits = c.in_ok-bits.bits in
-    let found = ap (λ (r : Reader). r.unread) c.in_ok-bits.ensures.found.1 in
-    let written = (whole_inside value _ is).1 in
-    let same = element_apart 0x03 0x03 (bits.unused ∷ bits.bytes.now) (0 ∷ value) [] []
-    (ap (λ xs. xs ++ []) (sym found ∙ written)) in
-    let zero : bits.unused ≡ 0 = cc same.1 in
-    c.in-None.ensures.within.1 zero
-
-pub returns-in-None-clause-kind : goal.returns-in-None-clause-kind
-returns-in-None-clause-kind c fresh =
-    let bits = c.in_ok-bits.bits in
-    let found = c.in_ok-bits.ensures.found in
-    let unused : (bits.unused == 0) ≡ false = ne_eqb bits.unused 0 (iff_false c.in-None.ensures.within refl) in
-    bits_inside (bits.unused ∷ bits.bytes.now) _ found.0 (ap (λ (r : Reader). r.unread) found.1)
-    (c.in_ok-bits.ensures.kind fresh)
-    ∙ rw (unused, c.fail.ensures.error) refl
+    let found = c.in_ok-bits.ensures.reads.found in
+    let some : (bits.unused == 0) ≡ false = ne_eqb bits.unused 0 (iff_false c.in-None.ensures.within refl) in
+    record {
+      found = tt;
+      read = tt;
+      only = λ fresh value is.
+          let same = unique_inside 0x03 (λ (content : List ℕ). Some content) (λ a b x e f. cc (e, f))
+          (bits.unused ∷ bits.bytes.now) (0 ∷ value) _ found is in
+          let zero : bits.unused ≡ 0 = cc same in
+          c.in-None.ensures.within.1 zero;
+      kinds = search rules;
+      kind = λ fresh. bits_inside (bits.unused ∷ bits.bytes.now) _ found (c.in_ok-bits.ensures.reads.kind fresh)
+          ∙ rw (some, c.fail.ensures.error) refl;
+      failed = search rules;
+      refused = search rules;
+    }

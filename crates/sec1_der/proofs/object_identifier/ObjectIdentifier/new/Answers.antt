@@ -1,4 +1,4 @@
-use Rattle.std.proofs.Common.{lit<, refl, arith}
+use Rattle.std.proofs.Common.{lit<, arith}
 use Rattle.std.proofs.lemmas.List.{length_push}
 use Rattle.std.proofs.lemmas.Iterator.Splits.{YieldsList-from_str_split}
 use Rattle.std.proofs.lemmas.Iterator.Consumers.{YieldsList-turn, YieldsList-end}
@@ -12,7 +12,7 @@ returns-in_default-clause-only c arcs id e =
     (cc) (cc) in
     let next = next_piece c.loop-piece.invariant
     (YieldsList-turn split _ _ c.loop-piece.yielded_by _ _ _ c.in-Some.is c.next.ensures.steps) in
-    grind (arith, piece_is_arc arcs next id.encodes.allowed e, c.in_default.ensures.none)
+    grind (arith, piece_is_arc arcs next id.encodes.allowed e, c.in_default.ensures)
 
 pub returns-in_err-builder-clause-only : goal.returns-in_err-builder-clause-only
 returns-in_err-builder-clause-only c arcs id e =
@@ -20,7 +20,7 @@ returns-in_err-builder-clause-only c arcs id e =
     (cc) (cc) in
     let next = next_piece c.loop-piece.invariant
     (YieldsList-turn split _ _ c.loop-piece.yielded_by _ _ _ c.in-Some.is c.next.ensures.steps) in
-    grind (arith, identifier_continues c.in-Some-arc.n arcs next, c.in_err-builder.ensures.only refl)
+    grind (arith, identifier_continues c.in-Some-arc.n arcs next, c.in_err-builder.ensures.1)
 
 pub loop-piece-preserved : goal.loop-piece-preserved
 loop-piece-preserved c =
@@ -30,8 +30,8 @@ loop-piece-preserved c =
     (YieldsList-turn split _ _ c.loop-piece.yielded_by _ _ _ c.in-Some.is c.next.ensures.steps) in
     grind (arith, read_arc c.in-Some-arc.n next, length_push c.loop-piece.yielded c.in-Some.piece)
 
-pub returns-in-Some-content-clause-found : goal.returns-in-Some-content-clause-found
-returns-in-Some-content-clause-found c =
+pub returns-in-Some-content-clause-exact : goal.returns-in-Some-content-clause-exact
+returns-in-Some-content-clause-exact c =
     let split = YieldsList-from_str_split {s = c.into_iter-piece-iterator.result} 46 c.args.text.now (lit< tt) (cc)
     (cc) (cc) in
     let read = no_piece c.loop-piece.invariant

@@ -1,41 +1,66 @@
-use Rattle.std.proofs.Common.{◌++◌, append_assoc}
+use Rattle.std.proofs.Common.{◌++◌, append_assoc, rules, arith}
 use Rattle.std.proofs.lemmas.Bool.{and_parts}
+use Rattle.std.proofs.lemmas.Grind.{common_steps}
 use Rattle.sec1_der.proofs.ComponentLemmas.{joined}
 use Rattle.sec1_der.specs.PartLaws.{parted}
 use Rattle.sec1_der.proofs.PartLemmas.{next_first, next_second}
 use Rattle.sec1_der.proofs.part.Tuple2DecodePart.decode_part.Goals as goal
 
-pub returns-in_err-first-clause-only : goal.returns-in_err-first-clause-only
-returns-in_err-first-clause-only g c part whole rest apart same next is =
-    let all = parted _ _ whole same in
-    let tags = and_parts _ _ apart in
-    let more = and_parts _ _ tags.1 in
-    let behind = next_first g.P.Part.tags g.Q.Part.tags all.back rest more.1
-    (g.Q.Part.begins part.1 all.back all.second_there) next in
-    absurd (c.in_err-first.ensures.only part.0 all.front (all.back ++ rest) tags.0 all.first_there behind
-    (rw (all.joined, append_assoc) at is)).0
+pub returns-in_err-first : goal.returns-in_err-first
+returns-in_err-first g c = record {
+  found = grind (arith, common_steps);
+  only = λ part whole rest apart same next is.
+      let all = parted _ _ whole same in
+      let tags = and_parts _ _ apart in
+      let more = and_parts _ _ tags.1 in
+      let behind = next_first g.P.Part.tags g.Q.Part.tags all.back rest more.1
+      (g.Q.Part.begins part.1 all.back all.second_there) next in
+      absurd (c.in_err-first.ensures.only part.0 all.front (all.back ++ rest) tags.0 all.first_there behind
+      (rw (all.joined, append_assoc) at is)).0;
+  kinds = search rules;
+  passes = search rules;
+  refuses = search rules;
+  failed = search rules;
+  refused = search rules;
+}
 
-pub returns-in_err-second-clause-only : goal.returns-in_err-second-clause-only
-returns-in_err-second-clause-only g c part whole rest apart same next is =
-    let all = parted _ _ whole same in
-    let tags = and_parts _ _ apart in
-    let more = and_parts _ _ tags.1 in
-    let behind = next_first g.P.Part.tags g.Q.Part.tags all.back rest more.1
-    (g.Q.Part.begins part.1 all.back all.second_there) next in
-    let first = c.in_ok-first.ensures.only part.0 all.front (all.back ++ rest) tags.0 all.first_there behind
-    (rw (all.joined, append_assoc) at is) in
-    absurd (c.in_err-second.ensures.only part.1 all.back rest more.0 all.second_there
-    (next_second g.P.Part.tags g.Q.Part.tags rest next) first.1).0
+pub returns-in_err-second : goal.returns-in_err-second
+returns-in_err-second g c = record {
+  found = grind (arith, common_steps);
+  only = λ part whole rest apart same next is.
+      let all = parted _ _ whole same in
+      let tags = and_parts _ _ apart in
+      let more = and_parts _ _ tags.1 in
+      let behind = next_first g.P.Part.tags g.Q.Part.tags all.back rest more.1
+      (g.Q.Part.begins part.1 all.back all.second_there) next in
+      let first = c.in_ok-first.ensures.only part.0 all.front (all.back ++ rest) tags.0 all.first_there behind
+      (rw (all.joined, append_assoc) at is) in
+      absurd (c.in_err-second.ensures.only part.1 all.back rest more.0 all.second_there
+      (next_second g.P.Part.tags g.Q.Part.tags rest next) first.1).0;
+  kinds = search rules;
+  passes = search rules;
+  refuses = search rules;
+  failed = search rules;
+  refused = search rules;
+}
 
-pub returns-clause-only : goal.returns-clause-only
-returns-clause-only g c part whole rest apart same next is =
-    let all = parted _ _ whole same in
-    let tags = and_parts _ _ apart in
-    let more = and_parts _ _ tags.1 in
-    let behind = next_first g.P.Part.tags g.Q.Part.tags all.back rest more.1
-    (g.Q.Part.begins part.1 all.back all.second_there) next in
-    let first = c.in_ok-first.ensures.only part.0 all.front (all.back ++ rest) tags.0 all.first_there behind
-    (rw (all.joined, append_assoc) at is) in
-    let second = c.in_ok-second.ensures.only part.1 all.back rest more.0 all.second_there
-    (next_second g.P.Part.tags g.Q.Part.tags rest next) first.1 in
-    (rw all.joined (joined _ _ all.front all.back first.0 second.0), second.1)
+pub returns : goal.returns
+returns g c = record {
+  found = grind (arith, common_steps, joined);
+  only = λ part whole rest apart same next is.
+      let all = parted _ _ whole same in
+      let tags = and_parts _ _ apart in
+      let more = and_parts _ _ tags.1 in
+      let behind = next_first g.P.Part.tags g.Q.Part.tags all.back rest more.1
+      (g.Q.Part.begins part.1 all.back all.second_there) next in
+      let first = c.in_ok-first.ensures.only part.0 all.front (all.back ++ rest) tags.0 all.first_there behind
+      (rw (all.joined, append_assoc) at is) in
+      let second = c.in_ok-second.ensures.only part.1 all.back rest more.0 all.second_there
+      (next_second g.P.Part.tags g.Q.Part.tags rest next) first.1 in
+      (rw all.joined (joined _ _ all.front all.back first.0 second.0), second.1);
+  kinds = search rules;
+  passes = search rules;
+  refuses = search rules;
+  failed = search rules;
+  refused = tt;
+}

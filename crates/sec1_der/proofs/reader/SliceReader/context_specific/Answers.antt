@@ -1,11 +1,16 @@
-use Rattle.std.proofs.Common.{rules}
+use Rattle.std.proofs.Common.{rules, arith}
+use Rattle.std.proofs.lemmas.Grind.{common_steps}
+use Rattle.sec1_der.proofs.ElementLaws.{element_of-inside}
 use Rattle.sec1_der.proofs.ElementFaultLemmas.{opened_field}
 use Rattle.sec1_der.proofs.reader.SliceReader.context_specific.Goals as goal
+
+pub returns-in-Ok-clause-only : goal.returns-in-Ok-clause-only
+returns-in-Ok-clause-only g c = grind (arith, common_steps, element_of-inside)
 
 pub returns-in-Ok-clause-refused : goal.returns-in-Ok-clause-refused
 returns-in-Ok-clause-refused g c = record {
   kind = λ fresh.
-      opened_field _ _ _ _ _ _ _ _ c.in_ok-field.ensures.found c.context-tag.ensures c.in-Ok.ensures.kind;
+      opened_field _ _ _ _ _ _ _ _ c.in_ok-field.ensures.found c.context-tag.ensures c.in-Ok.ensures.reads.kind;
   failed = λ failed. search rules;
   left = tt;
 }
@@ -13,7 +18,7 @@ returns-in-Ok-clause-refused g c = record {
 pub returns-in-Err-clause-refused : goal.returns-in-Err-clause-refused
 returns-in-Err-clause-refused g c = record {
   kind = λ fresh. rw c.fail_at.ensures.error
-      (opened_field _ _ _ _ _ _ _ _ c.in_ok-field.ensures.found c.context-tag.ensures c.in-Err.ensures.kind);
+      (opened_field _ _ _ _ _ _ _ _ c.in_ok-field.ensures.found c.context-tag.ensures c.in-Err.ensures.reads.kind);
   failed = λ failed. search rules;
   left = rw c.remaining_input-input.ensures at c.fail_at.ensures.after;
 }

@@ -1,38 +1,66 @@
-use Rattle.std.proofs.Common.{[], ap, ◌∙◌, append-nil}
+use Rattle.std.proofs.Common.{[], ap, ◌∙◌, append-nil, rules, arith}
 use Rattle.std.proofs.lemmas.Bool.{false≢true}
+use Rattle.std.proofs.lemmas.Grind.{common_steps}
 use Rattle.std.proofs.lemmas.Result.{err_from_is_err_and}
 use Rattle.sec1_der.specs.Readers.{Reader}
 use Rattle.sec1_der.specs.Faults.{end_fault}
-use Rattle.sec1_der.proofs.FaultLaws.{reads_on}
+use Rattle.sec1_der.proofs.ElementFaultLemmas.{read_whole}
+use Rattle.sec1_der.proofs.ElementLaws.{element_of-some}
+use Rattle.sec1_der.proofs.FaultLaws.{reads_on, reader_at}
 use Rattle.sec1_der.proofs.reader.SliceReader.only_element.Goals as goal
 
-pub returns-in_err-value-clause-only : goal.returns-in_err-value-clause-only
-returns-in_err-value-clause-only g c value content is within e =
-    absurd (c.in_err-value.ensures.only value content [] is within (rw append-nil e)).0
+pub returns-in_err-value-clause-reads : goal.returns-in_err-value-clause-reads
+returns-in_err-value-clause-reads g c = record {
+  found = grind (arith, common_steps);
+  read = grind (arith, common_steps);
+  only = λ fresh value is.
+      let there = element_of-some g.T.Tagged.tag_byte (g.T.ValueContent.content value) c.args.self.now.unread is in
+      absurd (c.in_err-value.ensures.only value there.inside [] there.same there.at.within
+      (rw append-nil (reader_at _ _ there.at.encoded fresh))).0;
+  kinds = search rules;
+  kind = search rules;
+  failed = search rules;
+  refused = search rules;
+}
 
 pub returns-in_err-value-clause-rule : goal.returns-in_err-value-clause-rule
 returns-in_err-value-clause-rule g c content allowed within e =
     absurd (c.in_err-value.ensures.rule content [] allowed within (rw append-nil e)).0
+
+pub returns-in_err-finish-clause-reads : goal.returns-in_err-finish-clause-reads
+returns-in_err-finish-clause-reads g c = record {
+  found = grind (arith, common_steps);
+  read = grind (arith, common_steps);
+  only = λ fresh value is.
+      let there = element_of-some g.T.Tagged.tag_byte (g.T.ValueContent.content value) c.args.self.now.unread is in
+      absurd (false≢true
+      (c.in_err-finish.ensures.only (c.in_ok-value.ensures.only value there.inside [] there.same there.at.within
+      (rw append-nil (reader_at _ _ there.at.encoded fresh))).1));
+  kinds = search rules;
+  kind = λ fresh.
+      let first = reads_on g.T.ValueContent.fault _ _ _ _ c.in_ok-value.ensures.found
+      (c.in_ok-value.ensures.refused.kind fresh) in
+      let refusal = err_from_is_err_and c.from_residual-in_err-finish.result c.from_residual-in_err-finish.ensures.1 in
+      rw (refusal.1, refusal.2) (first.next end_fault ∙ c.in_err-finish.ensures.refused.kind first.whole);
+  failed = search rules;
+  refused = search rules;
+}
 
 pub returns-in_err-finish-clause-rule : goal.returns-in_err-finish-clause-rule
 returns-in_err-finish-clause-rule g c content allowed within e =
     absurd (false≢true
     (c.in_err-finish.ensures.only (c.in_ok-value.ensures.rule content [] allowed within (rw append-nil e)).1))
 
-pub returns-in_err-finish-clause-only : goal.returns-in_err-finish-clause-only
-returns-in_err-finish-clause-only g c value content is within e =
-    absurd (false≢true
-    (c.in_err-finish.ensures.only (c.in_ok-value.ensures.only value content [] is within (rw append-nil e)).1))
-
-pub returns-in_err-finish-clause-kind : goal.returns-in_err-finish-clause-kind
-returns-in_err-finish-clause-kind g c fresh =
-    let first = reads_on g.T.ValueContent.fault _ _ _ _ c.in_ok-value.ensures.found
-    (c.in_ok-value.ensures.refused.kind fresh) in
-    let refusal = err_from_is_err_and c.from_residual-in_err-finish.result c.from_residual-in_err-finish.ensures.1 in
-    rw (refusal.1, refusal.2) (first.next end_fault ∙ c.in_err-finish.ensures.refused.kind first.whole)
-
-pub returns-clause-kind : goal.returns-clause-kind
-returns-clause-kind g c fresh =
-    let first = reads_on g.T.ValueContent.fault _ _ _ _ c.in_ok-value.ensures.found
-    (c.in_ok-value.ensures.refused.kind fresh) in
-    first.next end_fault ∙ ap (λ (r : Reader). end_fault r.unread) c.in_ok-finish.ensures.found.0
+pub returns-clause-reads : goal.returns-clause-reads
+returns-clause-reads g c = record {
+  found = read_whole _ _ _ _ c.in_ok-value.ensures.found c.in_ok-finish.ensures.found.0;
+  read = search rules;
+  only = search rules;
+  kinds = λ _. tt;
+  kind = λ fresh.
+      let first = reads_on g.T.ValueContent.fault _ _ _ _ c.in_ok-value.ensures.found
+      (c.in_ok-value.ensures.refused.kind fresh) in
+      first.next end_fault ∙ ap (λ (r : Reader). end_fault r.unread) c.in_ok-finish.ensures.found.0;
+  failed = search rules;
+  refused = tt;
+}

@@ -8,7 +8,7 @@ returns-in_err-encode g c =
     failed_ok (header_written g.T.Tagged.tag_byte c.in_ok-encoded_len.field-0 c.in_ok-element_header.field-0
     content c.args.self.now c.encode.new.writer (Err c.in_err-encode.field-0.0)
     c.in_ok-encoded_len.ensures.exact
-    (omega (arith, c.in_ok-check_room.ensures.within.0 cc, c.remaining.ensures))
+    (omega (arith, c.in_ok-check_room.ensures, c.remaining.ensures))
     c.in_ok-element_header.ensures.only c.in_err-encode.ensures)
 
 pub returns : goal.returns
@@ -17,5 +17,5 @@ returns g c =
     element_written g.T.Tagged.tag_byte c.in_ok-encoded_len.field-0 c.in_ok-element_header.field-0
     content c.args.self.now c.encode.new.writer c.encode_value.new.writer c.encode.result c.encode_value.result
     c.in_ok-encoded_len.ensures.exact
-    (omega (arith, c.in_ok-check_room.ensures.within.0 cc, c.remaining.ensures))
+    (omega (arith, c.in_ok-check_room.ensures, c.remaining.ensures))
     c.in_ok-element_header.ensures.only c.encode.ensures c.encode_value.ensures

@@ -12,14 +12,14 @@ returns-in_err-open-clause-deep c _ = record {
   after = _;
   opens = opens_at _ _ _ _ _ _ _ c.in-Ok.ensures.found c.end-end.ensures c.get-length.ensures.value
       (omega (arith, c.if-length-gt0.true, c.get-length.ensures.value)) (c.if-is_constructed.ensures.0 refl);
-  full = c.in_err-open.ensures.only;
+  full = c.in_err-open.ensures.1;
 }
 
 pub returns-in_ok-open-clause-found : goal.returns-in_ok-open-clause-found
 returns-in_ok-open-clause-found c =
     let opens = opens_at _ _ _ _ _ _ _ c.in-Ok.ensures.found c.end-end.ensures c.get-length.ensures.value
     (omega (arith, c.if-length-gt0.true, c.get-length.ensures.value)) (c.if-is_constructed.ensures.0 refl) in
-    let opened = c.in_ok-open.ensures.found in
+    let opened = c.in_ok-open.ensures in
     inr (_, opens, opened.1, opened.0)
 
 pub returns-else-length-gt0-clause-found : goal.returns-else-length-gt0-clause-found
