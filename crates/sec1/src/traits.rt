@@ -2,6 +2,7 @@
 //! which bytes are read as which key, which bytes a key is written as, and which errors there are.
 
 ghost use Rattle.std.specs.Prelude.{ℕ, List, false, ◌≡◌, ◌⊎◌, IsTrue, IfOk, IfErr, OnOk, OnErr};
+ghost use Rattle.std.specs.Prelude.{MatchResult};
 ghost use Rattle.sec1.specs.Errors.{IsAsn1, RefusesAsn1};
 ghost use Rattle.sec1.specs.Traits.{IsDocumentError, IsElementWith, IsMemoryOr};
 ghost use Rattle.sec1.specs.Traits.{ConsumesElementWith, RefusesDocument, RefusesKey, WritesKey};
@@ -29,8 +30,7 @@ pub trait DecodeEcPrivateKey: Sized {
     ///
     /// Those of the key type, or [`Error::Memory`] if an allocation fails.
     fn from_sec1_der(alloc: Global, bytes: &[u8]) -> Result<Self>
-        ensures found { IfOk result (reads bytes.now) }
-        ensures kinds { IfErr result (IsMemoryOr (refuses bytes.now)) };
+        ensures { MatchResult result (reads bytes.now) (IsMemoryOr (refuses bytes.now)) };
 
     /// Reads a key from the whole remaining input of a reader.
     ///
@@ -61,8 +61,8 @@ pub trait DecodeEcPrivateKey: Sized {
     /// Those of [`SecretDocument::read_der_file`], then those of
     /// [`from_sec1_der`](DecodeEcPrivateKey::from_sec1_der).
     fn read_sec1_der_file<F: Files>(rt: &F, alloc: Global, path: &str) -> Result<Self>
-        ensures found { IfOk result (λ key. IsElementWith (λ bytes. reads bytes key)) }
-        ensures kinds { IfErr result (λ error. IsDocumentError error
+        ensures { MatchResult result (λ key. IsElementWith (λ bytes. reads bytes key))
+            (λ error. IsDocumentError error
             ⊎ IsElementWith (λ bytes. IsMemoryOr (refuses bytes) error)) }
     {
         let document = SecretDocument::read_der_file(rt, alloc, path)?;
@@ -84,8 +84,7 @@ pub trait EncodeEcPrivateKey {
     ///
     /// Those of the key type, or [`Error::Memory`] if an allocation fails.
     fn to_sec1_der(&self, alloc: Global) -> Result<SecretDocument>
-        ensures found { IfOk result (writes self.now) }
-        ensures kinds { IfErr result (IsMemoryOr (refuses self.now)) };
+        ensures { MatchResult result (writes self.now) (IsMemoryOr (refuses self.now)) };
 
     /// Writes the key's DER encoding.
     ///
@@ -116,8 +115,7 @@ pub trait EncodeEcPrivateKey {
     /// Those of [`to_sec1_der`](EncodeEcPrivateKey::to_sec1_der), before the file is opened, then
     /// those of [`SecretDocument::write_der_file`].
     fn write_sec1_der_file<F: Files>(&self, rt: &F, alloc: Global, path: &str) -> Result<()>
-        ensures written { OnOk result (IsElementWith (writes self.now)) }
-        ensures kinds { IfErr result
+        ensures { MatchResult result (λ _. IsElementWith (writes self.now))
             (λ error. IsAsn1 Io error ⊎ IsMemoryOr (refuses self.now) error) }
     {
         let document = self.to_sec1_der(alloc)?;

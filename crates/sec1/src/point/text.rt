@@ -2,7 +2,7 @@
 
 ghost use Rattle.std.specs.Fmt.{WritesStyledOnOk, digit_glyph};
 ghost use Rattle.std.specs.Prelude.{◌≡◌, ◌/◌, ◌%◌, [], ◌∷◌, true, ℕ, List, length, Some};
-ghost use Rattle.std.specs.Prelude.{IsTrue, IfOk, IfErr};
+ghost use Rattle.std.specs.Prelude.{IsTrue, MatchResult};
 ghost use Rattle.std.specs.String.{string_bytes};
 ghost use Rattle.std.specs.Box.{boxed_slice_items};
 ghost use Rattle.hex.specs.Hex.{encode_upper, encode_lower, IsBytes};
@@ -29,9 +29,9 @@ impl<const N: usize, const L: usize> EncodedPoint<N, L> {
     ///
     /// Memory if the allocation fails.
     pub fn to_bytes(&self, alloc: Global) -> Result<BoxedSlice<u8>>
-        ensures found { IfOk result
-            (λ bytes. boxed_slice_items bytes ≡ encoding N (point_of self.now)) }
-        ensures kind { IfErr result (λ e. e ≡ Memory) }
+        ensures { MatchResult result
+            (λ bytes. boxed_slice_items bytes ≡ encoding N (point_of self.now))
+            (λ e. e ≡ Memory) }
     {
         BoxedSlice::from_slice(alloc, self.as_bytes()).map_err(|_| Error::Memory)
     }
@@ -42,9 +42,9 @@ impl<const N: usize, const L: usize> EncodedPoint<N, L> {
     ///
     /// Memory if the allocation fails.
     pub fn to_lower_hex(&self, alloc: Global) -> Result<String>
-        ensures found { IfOk result
-            (λ text. string_bytes text ≡ encode_lower (encoding N (point_of self.now))) }
-        ensures kind { IfErr result (λ e. e ≡ Memory) }
+        ensures { MatchResult result
+            (λ text. string_bytes text ≡ encode_lower (encoding N (point_of self.now)))
+            (λ e. e ≡ Memory) }
     {
         hex::encode(alloc, self.as_bytes()).map_err(|_| Error::Memory)
     }
@@ -55,9 +55,9 @@ impl<const N: usize, const L: usize> EncodedPoint<N, L> {
     ///
     /// Memory if the allocation fails.
     pub fn to_upper_hex(&self, alloc: Global) -> Result<String>
-        ensures found { IfOk result
-            (λ text. string_bytes text ≡ encode_upper (encoding N (point_of self.now))) }
-        ensures kind { IfErr result (λ e. e ≡ Memory) }
+        ensures { MatchResult result
+            (λ text. string_bytes text ≡ encode_upper (encoding N (point_of self.now)))
+            (λ e. e ≡ Memory) }
     {
         hex::encode_upper(alloc, self.as_bytes()).map_err(|_| Error::Memory)
     }
@@ -68,9 +68,9 @@ impl<const N: usize, const L: usize> EncodedPoint<N, L> {
     ///
     /// Memory if the allocation fails.
     pub fn to_json(&self, alloc: Global) -> Result<Value>
-        ensures found { IfOk result
-            (λ json. view json ≡ string (encode_upper (encoding N (point_of self.now)))) }
-        ensures kind { IfErr result (λ e. e ≡ Memory) }
+        ensures { MatchResult result
+            (λ json. view json ≡ string (encode_upper (encoding N (point_of self.now))))
+            (λ e. e ≡ Memory) }
     {
         Ok(Value::String(self.to_upper_hex(alloc)?))
     }
