@@ -35,14 +35,8 @@ plain_of_styled took f bs g plain w =
 pub flush_of_plain : {W : Type 0} (f : Formatter W) → IsPlainFormatter f → IsFlush f
 flush_of_plain f plain = plain.flush
 
--- two texts that are written one after the other, and three
+-- two texts that are written one after the other
 pub join_two : {W : Type 0} (took : W → List ℕ → W → Type 0) (f g h : Formatter W)
     (a b all : List ℕ) → HasWrittenStyled took f a g → HasWrittenStyled took g b h
     → a ++ b ≡ all → HasWrittenStyled took f all h
 join_two took f g h a b all p q e = rw (← e) (has_written_styled_append took f a g b h p q)
-
-pub join_three : {W : Type 0} (took : W → List ℕ → W → Type 0) (f g h i : Formatter W)
-    (a b c all : List ℕ) → HasWrittenStyled took f a g → HasWrittenStyled took g b h
-    → HasWrittenStyled took h c i → a ++ (b ++ c) ≡ all → HasWrittenStyled took f all i
-join_three took f g h i a b c all p q r e =
-    join_two took f g i a (b ++ c) all p (has_written_styled_append took g b h c i q r) e
