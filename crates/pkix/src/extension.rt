@@ -1,8 +1,9 @@
 //! Extensions of certificates.
 ghost use Rattle.std.specs.Prelude.{refl};
+ghost use Rattle.pkix.specs.Records.{ReadsRecord, extension_content, extension_fault};
 
 use der_types::{Boolean, Defaulted, ObjectIdentifierRef};
-use sec1_der::{Distinct, Octets, Record, Required};
+use sec1_der::{Distinct, Octets, Record, Required, Result, read_der};
 
 /// An Extension (RFC 5280 section 4.1).
 #[derive(Drop)]
@@ -47,4 +48,17 @@ impl<'a> Record for Extension<'a> {
 
 impl Distinct for Extension<'_> {
     ghost apart = { refl };
+}
+
+impl<'a> Extension<'a> {
+    /// Reads an extension from its whole DER encoding.
+    ///
+    /// # Errors
+    ///
+    /// Those of [`read_der`].
+    pub fn from_der(bytes: &'a [u8]) -> Result<Extension<'a>>
+        ensures { ReadsRecord extension_content extension_fault bytes.now result }
+    {
+        read_der(bytes)
+    }
 }

@@ -1,8 +1,9 @@
 //! Names, which are rows of sets of attributes.
 ghost use Rattle.std.specs.Prelude.{refl};
+ghost use Rattle.pkix.specs.Records.{ReadsRecord, attribute_content, attribute_fault};
 
 use der_types::{Any, ObjectIdentifierRef, SequenceOf, SetOf};
-use sec1_der::{Distinct, Record, Required};
+use sec1_der::{Distinct, Record, Required, Result, read_der};
 
 /// An AttributeTypeAndValue (RFC 5280 section 4.1.2.4). Its value is any element.
 #[derive(Drop)]
@@ -36,6 +37,19 @@ impl<'a> Record for AttributeTypeAndValue<'a> {
 
 impl Distinct for AttributeTypeAndValue<'_> {
     ghost apart = { refl };
+}
+
+impl<'a> AttributeTypeAndValue<'a> {
+    /// Reads an attribute from its whole DER encoding.
+    ///
+    /// # Errors
+    ///
+    /// Those of [`read_der`].
+    pub fn from_der(bytes: &'a [u8]) -> Result<AttributeTypeAndValue<'a>>
+        ensures { ReadsRecord attribute_content attribute_fault bytes.now result }
+    {
+        read_der(bytes)
+    }
 }
 
 /// A RelativeDistinguishedName (RFC 5280 section 4.1.2.4).
