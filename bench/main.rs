@@ -29,6 +29,7 @@ unsafe extern "C" {
     fn bench_key_point(input: *const u8, len: usize) -> usize;
     fn bench_document_copy(input: *const u8, len: usize) -> usize;
     fn bench_document_read(input: *const u8, len: usize) -> usize;
+    fn bench_document_read_bytes(input: *const u8, len: usize) -> usize;
     fn bench_headers_read(input: *const u8, len: usize) -> usize;
     fn bench_headers_read_by_reader(input: *const u8, len: usize) -> usize;
     fn bench_headers_read_inline(input: *const u8, len: usize) -> usize;
@@ -497,6 +498,18 @@ fn der_lines(inputs: &Inputs) -> Vec<Line<'_>> {
             "a document of 10 KB, read whole",
             bench_document_read,
             calls::document_read,
+            long,
+        ),
+        by_peer(
+            "a key's document, read by bytes",
+            bench_document_read_bytes,
+            calls::document_read_bytes,
+            key,
+        ),
+        by_peer(
+            "a document of 10 KB, read by bytes",
+            bench_document_read_bytes,
+            calls::document_read_bytes,
             long,
         ),
         line!(
