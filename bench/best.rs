@@ -382,12 +382,16 @@ impl Point {
     }
 
     /// Writes two characters at once, from a table of all bytes.
-    pub fn to_upper_hex(&self) -> String {
+    fn with_digits<T>(&self, take: impl FnOnce(&str) -> T) -> T {
         let mut text = [0; 130];
         for (pair, &byte) in text.chunks_exact_mut(2).zip(self.as_bytes()) {
             pair.copy_from_slice(&PAIRS[usize::from(byte)]);
         }
-        String::from(std::str::from_utf8(&text[..2 * self.as_bytes().len()]).expect("digits"))
+        take(std::str::from_utf8(&text[..2 * self.as_bytes().len()]).expect("digits"))
+    }
+
+    pub fn to_upper_hex(&self) -> String {
+        self.with_digits(|text| String::from(text))
     }
 
     #[inline(always)]
@@ -446,6 +450,12 @@ const PAIRS: [[u8; 2]; 256] = {
 };
 
 const ID_EC_PUBLIC_KEY: Identifier = Identifier(&[0x2A, 0x86, 0x48, 0xCE, 0x3D, 0x02, 0x01]);
+
+impl std::fmt::Display for Point {
+    fn fmt(&self, f: &mut std::fmt::Formatter) -> std::fmt::Result {
+        self.with_digits(|text| f.write_str(text))
+    }
+}
 
 impl Identifier<'_> {
     pub fn text(&self) -> String {

@@ -42,6 +42,7 @@ unsafe extern "C" {
     fn bench_point_read_inline(input: *const u8, len: usize) -> usize;
     fn bench_point_copy(input: *const u8, len: usize) -> usize;
     fn bench_point_text(input: *const u8, len: usize) -> usize;
+    fn bench_point_print(input: *const u8, len: usize) -> usize;
     fn bench_certificate_point(input: *const u8, len: usize) -> usize;
     fn bench_container_point(input: *const u8, len: usize) -> usize;
     fn bench_point_parse(input: *const u8, len: usize, rounds: usize) -> usize;
@@ -593,6 +594,11 @@ fn point_lines(inputs: &Inputs) -> Vec<Line<'_>> {
             "a point from bytes, and to text",
             on(bench_point_text, point),
             point_text(black_box(point))
+        ),
+        line!(
+            "a point from bytes, and printed",
+            on(bench_point_print, point),
+            point_print(black_box(point))
         ),
         line!(
             "compress a point",

@@ -552,6 +552,15 @@ impl Point {
     }
 }
 
+impl std::fmt::Display for Point {
+    fn fmt(&self, f: &mut std::fmt::Formatter) -> std::fmt::Result {
+        for byte in self.as_bytes() {
+            write!(f, "{byte:02X}")?;
+        }
+        Ok(())
+    }
+}
+
 impl PartialEq for Point {
     fn eq(&self, other: &Point) -> bool {
         self.as_bytes() == other.as_bytes()
@@ -907,6 +916,11 @@ macro_rules! calls {
         pub fn point_text(input: &[u8]) -> usize {
             Point::from_bytes(input)
                 .map_or(0, |point| std::hint::black_box(point.to_upper_hex()).len())
+        }
+
+        pub fn point_print(input: &[u8]) -> usize {
+            Point::from_bytes(input)
+                .map_or(0, |point| std::hint::black_box(point.to_string()).len())
         }
 
         fn points(input: &[u8]) -> [Point; 64] {

@@ -96,6 +96,18 @@ pub extern "C" fn bench_point_text(alloc: Global, input: &[u8]) -> usize {
     }
 }
 
+/// Reads a point and prints it to a text. Returns the length of the text.
+#[unsafe(no_mangle)]
+pub extern "C" fn bench_point_print(alloc: Global, input: &[u8]) -> usize {
+    match EncodedPoint32::from_bytes(input) {
+        Ok(point) => match point.to_string(alloc) {
+            Ok(text) => text.len(),
+            Err(_) => 0,
+        },
+        Err(_) => 0,
+    }
+}
+
 /// The points with these encodings, one after the other; the identity if one is missing.
 fn points(input: &[u8]) -> [EncodedPoint32; COUNT] {
     let mut points = [EncodedPoint32::identity(); COUNT];

@@ -1,7 +1,7 @@
 //! Points as hexadecimal text, JSON and owned bytes.
 
 ghost use Rattle.std.specs.Fmt.{WritesStyledOnOk, digit_glyph};
-ghost use Rattle.std.specs.Prelude.{◌≡◌, ◌/◌, ◌%◌, [], ◌∷◌, true, ℕ, List, length, Some};
+ghost use Rattle.std.specs.Prelude.{◌≡◌, ◌/◌, ◌%◌, ◌<◌, [], ◌∷◌, true, ℕ, List, length, Some};
 ghost use Rattle.std.specs.Prelude.{IsTrue, MatchResult};
 ghost use Rattle.std.specs.String.{string_bytes};
 ghost use Rattle.std.specs.Box.{boxed_slice_items};
@@ -19,7 +19,6 @@ use serde_json::Value;
 use std::alloc::Global;
 use std::boxed::BoxedSlice;
 use std::fmt;
-use std::fmt::{InlineText, Write};
 use std::str::FromStr;
 
 impl<const N: usize, const L: usize> EncodedPoint<N, L> {
@@ -168,11 +167,37 @@ impl<const N: usize, const L: usize> fmt::Display for EncodedPoint<N, L> {
 }
 
 /// Prints a byte as two digits, with the letters A to F, whatever options are set.
+#[tactic(auto, using(sec1_der::specs::TextLaws::join_two))]
 fn write_byte<W: fmt::Write>(f: &mut fmt::Formatter<W>, byte: u8) -> fmt::Result
     ensures { WritesStyledOnOk W.write_str_gives f.old result
         (digit_glyph true (byte / 16) ∷ digit_glyph true (byte % 16) ∷ []) f.new }
 {
-    let mut digits = InlineText::<2>::new();
-    write!(digits, "{byte:02X}")?;
-    f.write_str(digits.as_str())
+    f.write_str(upper_digit(byte / 16))?;
+    f.write_str(upper_digit(byte % 16))
+}
+
+/// Returns the hexadecimal digit of a number below 16, with the letters A to F. Formatting the
+/// number takes six times as long.
+fn upper_digit(n: u8) -> &'static str
+    requires { n < 16 }
+    ensures { result.now ≡ digit_glyph true n ∷ [] }
+{
+    match n {
+        0 => "0",
+        1 => "1",
+        2 => "2",
+        3 => "3",
+        4 => "4",
+        5 => "5",
+        6 => "6",
+        7 => "7",
+        8 => "8",
+        9 => "9",
+        10 => "A",
+        11 => "B",
+        12 => "C",
+        13 => "D",
+        14 => "E",
+        _ => "F",
+    }
 }
