@@ -34,6 +34,7 @@ pub record RefusesBy {T : Type 0} (fault : Fault) (result : Result T Error)
     (old new : Reader) : Type 0 where
   -- the kind is a function of the remaining input
   pub kind : old.failed ≡ false → HasFault result (fault old.unread)
+  pub kinds : old.failed ≡ false → IfErr result (λ e. IsReadingFault e.kind)
   -- a reader that had failed refuses every call
   pub failed : old.failed ≡ true → Refuses result Failed
   -- the reader is as it was, but it has failed

@@ -60,7 +60,6 @@ impl<'a> AnyRef<'a> {
             → reader.old ≡ reader_over (element tag content ++ rest)
             → IsOkAnd result (λ any. (tag_of any ≡ tag) × (value_of any ≡ content))
             × (reader.new ≡ reader_over rest) }
-        ensures kinds { reader.old.failed ≡ false → IfErr result (λ e. IsHeaderFault e.kind) }
         ensures refused { RefusesBy (any_fault (λ _. no_fault) no_fault) result reader.old
             reader.new }
     {

@@ -25,9 +25,9 @@ impl<'b> BackWriter<'b> {
 
     /// Creates a writer at the end of a slice.
     pub fn new(buffer: &'b mut [u8]) -> BackWriter<'b>
-        ensures slice { (back_state result).slice ≡ buffer.entry.ghost_name }
-        ensures written { (back_state result).written ≡ [] }
-        ensures room { (back_state result).room ≡ buffer.old }
+        ensures { back_state result ≡ record {
+            written = []; room = buffer.old; slice = buffer.entry.ghost_name;
+        } }
     {
         let start = buffer.len();
         BackWriter { buffer, start }

@@ -128,8 +128,7 @@ impl<'a> SliceReader<'a> {
 
     /// Marks the reader as failed, and returns an error of this kind.
     pub fn fail(&mut self, kind: ErrorKind) -> Error
-        ensures error { result.kind ≡ kind }
-        ensures after { self.new ≡ refused self.old }
+        ensures { (result.kind ≡ kind) × (self.new ≡ refused self.old) }
     {
         self.failed = true;
         kind.into()
@@ -138,8 +137,8 @@ impl<'a> SliceReader<'a> {
     /// Goes back to this remaining input, marks the reader as failed, and returns an error of this
     /// kind.
     pub(crate) fn fail_at(&mut self, start: &'a [u8], kind: ErrorKind) -> Error
-        ensures error { result.kind ≡ kind }
-        ensures after { self.new ≡ record { unread = start.now; failed = true } }
+        ensures { (result.kind ≡ kind)
+            × (self.new ≡ record { unread = start.now; failed = true }) }
     {
         self.unread = start;
         self.fail(kind)

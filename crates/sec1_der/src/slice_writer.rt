@@ -21,9 +21,9 @@ impl<'b> SliceWriter<'b> {
 
     /// Creates a writer at the beginning of a slice.
     pub fn new(buffer: &'b mut [u8]) -> SliceWriter<'b>
-        ensures slice { (slice_state result).slice ≡ buffer.entry.ghost_name }
-        ensures written { (slice_state result).written ≡ [] }
-        ensures room { (slice_state result).room ≡ buffer.old }
+        ensures { slice_state result ≡ record {
+            written = []; room = buffer.old; slice = buffer.entry.ghost_name;
+        } }
     {
         SliceWriter {
             buffer,

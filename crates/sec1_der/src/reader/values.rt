@@ -1,10 +1,10 @@
 //! The generic calls of a reader, which read values and explicit fields.
 ghost use Rattle.std.specs.Prelude.{◌≡◌, ◌≢◌, ◌≤◌, ◌++◌, ℕ, List, length};
 ghost use Rattle.std.specs.Prelude.{slice_get, false, IfOk};
-ghost use Rattle.std.specs.Prelude.{IsOkAnd, IfErr, IfSome, IfNone, IsSomeAnd};
+ghost use Rattle.std.specs.Prelude.{IsOkAnd, IsSomeAnd, MatchOption};
 ghost use Rattle.sec1_der.specs.Elements.{max_length, element, element_of, explicit_tag};
 ghost use Rattle.sec1_der.specs.Elements.{IsProperPrefix};
-ghost use Rattle.sec1_der.specs.ErrorKinds.{Refuses, IsReadingFault};
+ghost use Rattle.sec1_der.specs.ErrorKinds.{Refuses};
 ghost use Rattle.sec1_der.specs.Readers.{reader_over, HasReadElement, ReadsContent};
 ghost use Rattle.sec1_der.specs.Readers.{RefusesBy};
 ghost use Rattle.sec1_der.specs.Faults.{element_fault, end_fault, field_fault};
@@ -38,8 +38,6 @@ impl<'a> SliceReader<'a> {
             → self.old ≡ reader_over (element T.tag_byte content ++ rest)
             → IsOkAnd result (λ found. T.content found ≡ Some content)
             × (self.new ≡ reader_over rest) }
-
-        ensures kinds { self.old.failed ≡ false → IfErr result (λ e. IsReadingFault e.kind) }
         ensures refused { RefusesBy (element_fault T.tag_byte T.fault no_fault) result self.old
             self.new }
     {
@@ -65,15 +63,12 @@ impl<'a> SliceReader<'a> {
     ) -> Result<Option<T>>
         requires { number ≤ 30 }
         // What is read is the field around the element of the value, and just its bytes are read.
-        ensures found { IfOk result
-            (λ field. IfSome field (λ value. IsSomeAnd (T.content value) (λ content.
-            (length content ≤ max_length)
+        // `None` means that no such field is next.
+        ensures found { IfOk result (λ field. MatchOption field
+            ((self.new ≡ self.old) × (slice_get self.old.unread 0 ≢ Some (explicit_tag number)))
+            (λ value. IsSomeAnd (T.content value) (λ content. (length content ≤ max_length)
             × HasReadElement (explicit_tag number) (element T.tag_byte content) self.old
             self.new))) }
-        // `None` means that no such field is next.
-        ensures missing { IfOk result (λ field. IfNone field ((self.new ≡ self.old)
-            × (slice_get self.old.unread 0 ≢ Some (explicit_tag number)))) }
-
         // If another byte is next, or none, nothing is read.
         ensures absent { self.old.failed ≡ false
             → slice_get self.old.unread 0 ≢ Some (explicit_tag number)
@@ -91,8 +86,6 @@ impl<'a> SliceReader<'a> {
             (element (explicit_tag number) (element T.tag_byte content) ++ rest)
             → IsOkAnd result (λ field. IsSomeAnd field (λ found. T.content found ≡ Some content))
             × (self.new ≡ reader_over rest) }
-
-        ensures kinds { self.old.failed ≡ false → IfErr result (λ e. IsReadingFault e.kind) }
         ensures refused { RefusesBy (field_fault number T.tag_byte T.fault no_fault) result self.old
             self.new }
     {
@@ -123,7 +116,6 @@ impl<'a> SliceReader<'a> {
         ensures only { (content rest : List ℕ) → length content ≤ max_length
             → self.old ≡ reader_over (element tag content ++ rest)
             → (result ≡ Ok (reader_over content)) × (self.new ≡ reader_over rest) }
-        ensures kinds { self.old.failed ≡ false → IfErr result (λ e. IsReadingFault e.kind) }
         ensures refused { RefusesBy (element_fault tag no_fault no_fault) result self.old self.new }
     {
         self.check()?;

@@ -45,7 +45,7 @@ returns-in-None c =
           c.in-None.ensures.within.1 zero;
       kinds = search rules;
       kind = λ fresh. bits_inside (bits.unused ∷ bits.bytes.now) _ found (c.in_ok-bits.ensures.reads.kind fresh)
-          ∙ rw (some, c.fail.ensures.error) refl;
+          ∙ rw (some, c.fail.ensures.0) refl;
       failed = search rules;
       refused = search rules;
     }

@@ -23,7 +23,7 @@ returns-in-Err c = let read = ap (λ (r : Reader). r.unread) c.in_ok-read_rest.e
   kinds = search rules;
   kind = λ fresh. rw read (identifier_refused c.in_ok-read_rest.field-0.now
       (λ arcs h. absurd (cc (c.in-Err.ensures.only arcs h))))
-      ∙ ap Some (sym (c.fail.ensures.error ∙ c.in-Err.ensures.exact));
+      ∙ ap Some (sym (c.fail.ensures.0 ∙ c.in-Err.ensures.exact));
   failed = search rules;
   refused = search rules;
 }

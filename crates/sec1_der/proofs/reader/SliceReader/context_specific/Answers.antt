@@ -11,14 +11,16 @@ pub returns-in-Ok-clause-refused : goal.returns-in-Ok-clause-refused
 returns-in-Ok-clause-refused g c = record {
   kind = λ fresh.
       opened_field _ _ _ _ _ _ _ _ c.in_ok-field.ensures.found c.context-tag.ensures c.in-Ok.ensures.reads.kind;
+  kinds = search rules;
   failed = λ failed. search rules;
   left = tt;
 }
 
 pub returns-in-Err-clause-refused : goal.returns-in-Err-clause-refused
 returns-in-Err-clause-refused g c = record {
-  kind = λ fresh. rw c.fail_at.ensures.error
+  kind = λ fresh. rw c.fail_at.ensures.0
       (opened_field _ _ _ _ _ _ _ _ c.in_ok-field.ensures.found c.context-tag.ensures c.in-Err.ensures.reads.kind);
+  kinds = search rules;
   failed = λ failed. search rules;
-  left = rw c.remaining_input-input.ensures at c.fail_at.ensures.after;
+  left = rw c.remaining_input-input.ensures at c.fail_at.ensures.1;
 }

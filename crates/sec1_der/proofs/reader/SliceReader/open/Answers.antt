@@ -23,7 +23,7 @@ returns-in-Ok-clause-refused c =
     let none = any_room (λ _. no_fault) no_fault _ _ _ _ is (sym c.remaining_input-2.ensures ∙ read) room in
     let first : slice_get c.args.self.now.unread 0 ≡ Some c.args.tag = search rules in
     let next = element_next no_fault no_fault c.args.tag c.args.self.now.unread tag first in
-    record { kind = λ fresh. next ∙ none; failed = λ f. search rules; left = tt }
+    record { kind = λ fresh. next ∙ none; kinds = search rules; failed = λ f. search rules; left = tt }
 
 pub returns-in-Err-clause-refused : goal.returns-in-Err-clause-refused
 returns-in-Err-clause-refused c =
@@ -32,7 +32,8 @@ returns-in-Err-clause-refused c =
     let next = element_next no_fault no_fault c.args.tag c.args.self.now.unread tag first in
     let kind = rw c.remaining_input-2.ensures at (c.in-Err.ensures.element (λ _. no_fault) no_fault) in
     record {
-      kind = λ fresh. next ∙ (kind ∙ ap Some (sym c.fail-in-Err.ensures.error));
+      kind = λ fresh. next ∙ (kind ∙ ap Some (sym c.fail-in-Err.ensures.0));
+      kinds = search rules;
       failed = λ f. search rules;
-      left = c.fail-in-Err.ensures.after;
+      left = c.fail-in-Err.ensures.1;
     }
