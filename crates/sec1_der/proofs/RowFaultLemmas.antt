@@ -8,6 +8,7 @@ use Rattle.std.proofs.lemmas.List.{take_all, length-append, length-take, length-
 use Rattle.std.proofs.lemmas.List.{take-append-drop}
 use Rattle.std.specs.Option.{option_or}
 use Rattle.sec1_der.specs.Elements.{length_octets, element, IsConstructed, IsHeader}
+use Rattle.sec1_der.specs.ErrorKinds.{IsHeaderFault}
 use Rattle.sec1_der.specs.Faults.{Fault, end_fault, any_fault, nested_fault, row_fault, tree_fault}
 use Rattle.sec1_der.specs.Trees.{Tree, leaf, branch, none, first, bytes, max_tree_depth}
 use Rattle.sec1_der.specs.Walks.{IsSingle, innermost, Skips, Opens, IsTooDeep}
@@ -145,12 +146,12 @@ next_deep ends rest d =
     (omega (arith, d.full))) refl
 
 -- what is next is refused as too deep, or by its own bytes
-pub next_refused : (ends rest : List ℕ) (k : ErrorKind) → (k ≡ Depth → IsTooDeep ends rest)
-    → (k ≡ Depth) ⊎ ((content : ℕ → Fault) (behind : Fault)
-    → any_fault content behind (take (length rest - innermost ends) rest) ≡ Some k)
+pub next_refused : (ends rest : List ℕ) (k : ErrorKind)
+    → ((k ≡ Depth) × IsTooDeep ends rest) ⊎ (IsHeaderFault k × ((content : ℕ → Fault) (behind : Fault)
+    → any_fault content behind (take (length rest - innermost ends) rest) ≡ Some k))
     → next_fault ends rest ≡ Some k
-next_refused ends rest k deep kinds =
-    ⊎_elim (λ is. next_deep ends rest (deep is) ∙ ap (λ j. Some j) (sym is)) (λ any. by ends any) kinds
+next_refused ends rest k kinds =
+    ⊎_elim (λ deep. next_deep ends rest deep.1 ∙ ap (λ j. Some j) (sym deep.0)) (λ any. by ends any.1) kinds
   where
     by : (ends : List ℕ)
         → ((content : ℕ → Fault) (behind : Fault)

@@ -1,11 +1,12 @@
 -- What the bytes of trees are refused by.
 use Rattle.std.proofs.Common.{◌≡◌, ℕ, ◌+◌, ◌<◌, ◌≤◌, max, nat_lt, if◌then◌else◌, List, [], ◌++◌, Option, Some}
-use Rattle.std.proofs.Common.{None, Result, Ok, Err, IfOk, bit_and, refl, ap, sym, ◌∙◌, arith, ⊎_elim}
+use Rattle.std.proofs.Common.{None, Result, Ok, Err, MatchResult, bit_and, refl, ap, sym, ◌∙◌, arith, ⊎_elim}
 use Rattle.std.proofs.lemmas.Bool.{lt-ltb, le-ltb, ne_eqb, cases_lt}
 use Rattle.std.proofs.lemmas.Bool.Decides.{nat_tests}
 use Rattle.std.proofs.lemmas.List.{append-nil, length-append}
 use Rattle.std.specs.Option.{option_or}
 use Rattle.sec1_der.specs.Elements.{IsProperPrefix}
+use Rattle.sec1_der.specs.ErrorKinds.{IsTreeFault}
 use Rattle.sec1_der.specs.Faults.{Fault, HasFault, end_fault, any_fault, nested_fault, tree_fault}
 use Rattle.sec1_der.specs.Trees.{Tree, leaf, branch, Forest, none, first, bytes, joined, IsTree, AreTrees, IsTreeOf}
 use Rattle.sec1_der.specs.Trees.{size, depth, max_depth, max_tree_depth}
@@ -85,8 +86,8 @@ cut_tree (branch tag f) input is cut =
     any_cut _ end_fault tag (joined f) input (record { tag_byte = is.0; within = is.2 }) cut
 
 -- a count of a tree's elements
-pub counted : (result : Result ℕ Error) (input : List ℕ) (t : Tree) → IfOk result (IsCounted input)
-    → HasFault result (tree_fault input)
+pub counted : (result : Result ℕ Error) (input : List ℕ) (t : Tree)
+    → MatchResult result (IsCounted input) (λ e. IsTreeFault e.kind) → HasFault result (tree_fault input)
     → IsTreeOf t input → depth t ≤ max_tree_depth → result ≡ Ok (size t)
 counted (Ok n) input t found h is shallow =
     let same = tree_apart found.0 t [] [] found.1.tree is.tree (cc (found.1.whole, is.whole)) in

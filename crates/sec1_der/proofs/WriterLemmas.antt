@@ -79,21 +79,16 @@ inside_element : (tag : ℕ) (content : Option (List ℕ)) (bytes : List ℕ) �
     → within_limit content ≡ Some is.inside
 inside_element tag content bytes is = rw (is.same, le-leb (length is.inside) max_length is.at.within) refl
 
--- this header was returned
-abbrev pub Found : ℕ → ℕ → Header → Type 0
-Found tag n found = let result : Result Header Error = Ok found in result ≡ Ok (record { tag = tag; length = n })
-
-encoded_by : (tag : ℕ) (found : Header) (bytes inside : List ℕ) → Found tag (length inside) found
-    → bytes ≡ header tag (length inside) ++ inside → bytes ≡ header found.tag found.length ++ inside
-encoded_by tag found bytes inside same encoded =
-    let is : found ≡ record { tag = tag; length = length inside } = cc same in
-    rw is encoded
+-- the header of the element with this tag and content
+abbrev pub IsHeaderOf : ℕ → Option (List ℕ) → Header → Type 0
+IsHeaderOf tag content found =
+    IsSomeAnd (within_limit content) (λ inside. found ≡ record { tag = tag; length = length inside })
 
 -- a header that is written where its element has room
 pub header_written : (tag total : ℕ) (found : Header) (content : Option (List ℕ)) (old between : SliceWriter)
     (first : Result Unit Error)
     → IsSomeAnd (element_of tag content) (λ bytes. total ≡ length bytes) → total ≤ length (slice_state old).room
-    → ((inside : List ℕ) → within_limit content ≡ Some inside → Found tag (length inside) found)
+    → IsHeaderOf tag content found
     → WritesBehind (Some (header found.tag found.length)) old between first → IsOk first
 header_written tag total found content old between first measured room same p =
     by (element_of tag content) refl measured
@@ -103,9 +98,8 @@ header_written tag total found content old between first measured room same p =
     by None e h = absurd h
     by (Some bytes) e h =
         let is = element_of-some tag content bytes e in
-        let same_length = same is.inside (inside_element tag content bytes is) in
         let encoded : bytes ≡ header found.tag found.length ++ is.inside =
-        encoded_by tag found bytes is.inside same_length is.at.encoded in
+        rw (rw (inside_element tag content bytes is) at same) is.at.encoded in
         (p.fits (header found.tag found.length) refl
         (omega (arith, ap length encoded, length-append (header found.tag found.length) is.inside, h, room))).0
 
@@ -113,7 +107,7 @@ header_written tag total found content old between first measured room same p =
 pub element_written : (tag total : ℕ) (found : Header) (content : Option (List ℕ)) (old between new : SliceWriter)
     (first second : Result Unit Error)
     → IsSomeAnd (element_of tag content) (λ bytes. total ≡ length bytes) → total ≤ length (slice_state old).room
-    → ((inside : List ℕ) → within_limit content ≡ Some inside → Found tag (length inside) found)
+    → IsHeaderOf tag content found
     → WritesBehind (Some (header found.tag found.length)) old between first
     → WritesBehind (within_limit content) between new second
     → WritesBehind (element_of tag content) old new second
@@ -126,9 +120,7 @@ element_written tag total found content old between new first second measured ro
     by (Some bytes) e h =
         let is = element_of-some tag content bytes e in
         let held = inside_element tag content bytes is in
-        let same_length = same is.inside held in
-        let encoded : bytes ≡ header found.tag found.length ++ is.inside =
-        encoded_by tag found bytes is.inside same_length is.at.encoded in
+        let encoded : bytes ≡ header found.tag found.length ++ is.inside = rw (rw held at same) is.at.encoded in
         rw encoded (both_written old between new (header found.tag found.length) is.inside first second
         (omega (arith, ap length encoded, length-append (header found.tag found.length) is.inside, h, room))
         p (rw held at q))

@@ -1,10 +1,24 @@
 -- What the calls over whole encodings return.
 use Rattle.std.specs.Prelude.{◌≡◌, ◌⊎◌, ℕ, ◌<◌, ◌≤◌, ◌++◌, List, length, drop, Option, Some, None}
-use Rattle.std.specs.Prelude.{Result, Ok, IsSomeAnd, MatchResult}
-use Rattle.sec1_der.specs.ErrorKinds.{Refuses}
+use Rattle.std.specs.Prelude.{Result, Ok, IfOk, IfErr, IsSomeAnd, MatchResult}
+use Rattle.sec1_der.specs.Elements.{element_of}
+use Rattle.sec1_der.specs.ErrorKinds.{IsReadingFault, Refuses}
+use Rattle.sec1_der.specs.Faults.{Fault, HasFault, element_fault, end_fault}
 use Rattle.sec1_der.specs.declared.error.Error.{Error}
 use Rattle.sec1_der.specs.declared.error.ErrorKind.{ErrorKind}
 use Rattle.sec1_der.specs.declared.error.ErrorKind.TheVariants.{Overlength, Buffer}
+
+-- The bytes are read as the element of a value. `content` gives that of a value, and `fault` is the
+-- rule by which contents are refused.
+pub record ReadsElement {T : Type 0} (tag : ℕ) (content : T → Option (List ℕ)) (fault : Fault)
+    (bytes : List ℕ) (result : Result T Error) : Type 0 where
+  -- what is read has these bytes
+  pub found : IfOk result (λ value. element_of tag (content value) ≡ Some bytes)
+  -- the value with these bytes is read
+  pub only : (value : T) → element_of tag (content value) ≡ Some bytes → result ≡ Ok value
+  pub kinds : IfErr result (λ e. IsReadingFault e.kind)
+  -- whether the bytes are refused, and by which kind, is a function of them
+  pub kind : HasFault result (element_fault tag fault end_fault bytes)
 
 -- The length of the bytes is returned, or Overlength if there are none.
 pub record Measures (bytes : Option (List ℕ)) (result : Result ℕ Error) : Type 0 where

@@ -1,8 +1,11 @@
 -- What reading one element from a stream takes from it, and why it is refused. Here `Taken` says of
 -- bytes that they and no others were taken, and `Ended` that the input has ended.
-use Rattle.std.specs.Prelude.{◌≡◌, ℕ, ◌<◌, ◌⊎◌, List, [], ◌∷◌, ◌++◌, length, Some}
+use Rattle.std.specs.Prelude.{◌≡◌, ◌↔◌, ℕ, ◌<◌, ◌⊎◌, List, [], ◌∷◌, ◌++◌, length, Some, Bool}
+use Rattle.std.specs.Prelude.{IsTrue, Result, IfOk, IfErr}
 use Rattle.sec1_der.specs.Elements.{IsHeader, IsElement, header}
+use Rattle.sec1_der.specs.ErrorKinds.{Refuses}
 use Rattle.sec1_der.specs.Faults.{document_fault}
+use Rattle.sec1_der.specs.declared.error.Error.{Error}
 use Rattle.sec1_der.specs.declared.error.ErrorKind.{ErrorKind}
 use Rattle.sec1_der.specs.declared.error.ErrorKind.TheVariants.{Truncated, Tag, Length}
 use Rattle.sec1_der.specs.declared.error.ErrorKind.TheVariants.{TrailingData, Io, Memory}
@@ -64,3 +67,11 @@ pub record RefusesElement (kind : ErrorKind) (Taken : List ℕ → Type 0)
   pub taken : Taken bytes
   pub by_kind : TakenBeforeRefusal kind bytes
   pub at_end : kind ≡ Truncated → Ended
+
+-- The result of a call that reads an element, or its header, from a stream: what is found, or which
+-- bytes were taken before it was refused. The kind is Io exactly if a read failed.
+pub record ReadsStream {T : Type 0} (Found : T → Type 0) (Taken : List ℕ → Type 0) (Ended : Type 0)
+    (failed : Bool) (result : Result T Error) : Type 0 where
+  pub io : Refuses result Io ↔ IsTrue failed
+  pub found : IfOk result Found
+  pub refused : IfErr result (λ error. RefusesElement error.kind Taken Ended)

@@ -21,7 +21,7 @@ pub struct BitStringRef<'a> {
 }
 
 impl<'a> BitStringRef<'a> {
-    ghost use Rattle.std.specs.Prelude.{◌≤◌, ◌⊎◌, MatchResult, IsSome, IfSome};
+    ghost use Rattle.std.specs.Prelude.{◌≤◌, ◌⊎◌, ◌≢◌, MatchOption, MatchResult};
     ghost use Rattle.sec1_der.specs.Values.{unused_bits_of, bit_bytes_of};
 
     /// Returns a bit string without the lowest `unused` bits of the last byte.
@@ -64,8 +64,8 @@ impl<'a> BitStringRef<'a> {
 
     /// Borrows the bytes; `None` if there are unused bits.
     pub fn as_bytes(&self) -> Option<&'a [u8]>
-        ensures within { IsSome result ↔ (unused_bits_of self.now ≡ 0) }
-        ensures bytes { IfSome result (λ bytes. bytes.now ≡ bit_bytes_of self.now) }
+        ensures { MatchOption result (unused_bits_of self.now ≢ 0)
+            (λ bytes. (unused_bits_of self.now ≡ 0) × (bytes.now ≡ bit_bytes_of self.now)) }
     {
         if self.unused == 0 {
             Some(self.bytes)
@@ -83,8 +83,7 @@ impl<'a> BitStringRef<'a> {
 
     /// Returns the number of unused bits of the last byte, from 0 to 7.
     pub fn unused_bits(&self) -> u8
-        ensures count { result ≡ unused_bits_of self.now }
-        ensures bits { AreBits result (bit_bytes_of self.now) }
+        ensures { (result ≡ unused_bits_of self.now) × AreBits result (bit_bytes_of self.now) }
     {
         self.unused
     }

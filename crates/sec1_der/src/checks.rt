@@ -1,7 +1,6 @@
 //! States the values of the constants, and what the writers leave in a slice. Nothing calls these
 //! functions: their contracts refuse other values, and a writer that changes the rest of the slice.
-ghost use Rattle.std.specs.Prelude.{◌≡◌, ◌<◌, ◌≤◌, [], ◌∷◌, ◌++◌, length, take, drop, ◌-◌, IsOk};
-ghost use Rattle.sec1_der.specs.ErrorKinds.{Refuses};
+ghost use Rattle.std.specs.Prelude.{◌≡◌, ◌<◌, ◌≤◌, [], ◌∷◌, ◌++◌, length, take, drop, ◌-◌, MatchResult};
 
 use crate::{
     BackWriter, BitStringRef, ErrorKind, FixedTag, ID_EC_PUBLIC_KEY, ObjectIdentifier,
@@ -104,10 +103,11 @@ pub fn identifier_tag() -> Tag
 ///
 /// Buffer if the slice is too short. The whole slice is unchanged then.
 pub fn writes_forwards(buffer: &mut [u8], bytes: &[u8]) -> Result<()>
-    ensures fits { length bytes.now ≤ length buffer.old
-        → IsOk result × (buffer.new ≡ bytes.now ++ drop (length bytes.now) buffer.old) }
-    ensures buffer { length buffer.old < length bytes.now
-        → Refuses result ErrorKind.Buffer × (buffer.new ≡ buffer.old) }
+    ensures { MatchResult result
+        (λ _. (length bytes.now ≤ length buffer.old)
+        × (buffer.new ≡ bytes.now ++ drop (length bytes.now) buffer.old))
+        (λ e. (e.kind ≡ ErrorKind.Buffer) × (length buffer.old < length bytes.now)
+        × (buffer.new ≡ buffer.old)) }
 {
     SliceWriter::new(buffer).write(bytes)
 }
@@ -119,11 +119,11 @@ pub fn writes_forwards(buffer: &mut [u8], bytes: &[u8]) -> Result<()>
 ///
 /// Buffer if the slice is too short. The whole slice is unchanged then.
 pub fn writes_backwards(buffer: &mut [u8], bytes: &[u8]) -> Result<()>
-    ensures fits { length bytes.now ≤ length buffer.old
-        → IsOk result × (buffer.new ≡ take (length buffer.old - length bytes.now) buffer.old
-        ++ bytes.now) }
-    ensures buffer { length buffer.old < length bytes.now
-        → Refuses result ErrorKind.Buffer × (buffer.new ≡ buffer.old) }
+    ensures { MatchResult result
+        (λ _. (length bytes.now ≤ length buffer.old)
+        × (buffer.new ≡ take (length buffer.old - length bytes.now) buffer.old ++ bytes.now))
+        (λ e. (e.kind ≡ ErrorKind.Buffer) × (length buffer.old < length bytes.now)
+        × (buffer.new ≡ buffer.old)) }
 {
     BackWriter::new(buffer).write(bytes)
 }

@@ -4,7 +4,7 @@ ghost use Rattle.std.specs.Prelude.{⊤, Option, Some, None, IsOk, IfOk};
 ghost use Rattle.std.specs.Prelude.{IsOkAnd, IfErr, OnOk, OnErr, IfSome, IsSomeAnd};
 ghost use Rattle.std.specs.Prelude.{MatchOption, MatchResult};
 ghost use Rattle.sec1_der.specs.Elements.{max_length, element, element_of, IsTag, IsElementOf};
-ghost use Rattle.sec1_der.specs.Encodings.{IsOverlengthOr, WritesInto};
+ghost use Rattle.sec1_der.specs.Encodings.{IsOverlengthOr, ReadsElement, WritesInto};
 ghost use Rattle.sec1_der.specs.Elements.{IsProperPrefix};
 ghost use Rattle.sec1_der.specs.ErrorKinds.{Refuses, IsReadingFault};
 ghost use Rattle.sec1_der.specs.Faults.{HasFault, element_fault, end_fault};
@@ -23,8 +23,9 @@ use std::alloc::Global;
 /// Those of [`SliceReader::decode`], then TrailingData if bytes follow the element.
 pub fn from_der<'a, T: DecodeValue<'a> + Tagged + Drop>(input: &'a [u8]) -> Result<T>
     // What is read has these bytes, and the bytes of a value are read as one with its content.
-    ensures found { IfOk result
-        (λ value. element_of T.tag_byte (T.content value) ≡ Some input.now) }
+    ensures found { MatchResult result
+        (λ value. element_of T.tag_byte (T.content value) ≡ Some input.now)
+        (λ e. IsReadingFault e.kind) }
     ensures only { (value : T) → element_of T.tag_byte (T.content value) ≡ Some input.now
         → IsOkAnd result (λ found. T.content found ≡ T.content value) }
     // An element whose content the rule of the type accepts is read.
@@ -34,7 +35,6 @@ pub fn from_der<'a, T: DecodeValue<'a> + Tagged + Drop>(input: &'a [u8]) -> Resu
     ensures long { (value : T) (bytes : List ℕ)
         → element_of T.tag_byte (T.content value) ≡ Some bytes
         → IsProperPrefix bytes input.now → Refuses result ErrorKind.TrailingData }
-    ensures kinds { IfErr result (λ e. IsReadingFault e.kind) }
     // Whether the input is refused, and by which kind, is a function of its bytes.
     ensures kind { HasFault result (element_fault T.tag_byte T.fault end_fault input.now) }
 {
@@ -50,13 +50,7 @@ pub fn from_der<'a, T: DecodeValue<'a> + Tagged + Drop>(input: &'a [u8]) -> Resu
 pub fn read_der<'a, T: DecodeValue<'a> + Tagged + UniqueContent + Drop>(
     input: &'a [u8],
 ) -> Result<T>
-    // What is read has these bytes, and a value with these bytes is read.
-    ensures found { IfOk result
-        (λ value. element_of T.tag_byte (T.content value) ≡ Some input.now) }
-    ensures only { (value : T) → element_of T.tag_byte (T.content value) ≡ Some input.now
-        → result ≡ Ok value }
-    ensures kinds { IfErr result (λ e. IsReadingFault e.kind) }
-    ensures kind { HasFault result (element_fault T.tag_byte T.fault end_fault input.now) }
+    ensures { ReadsElement T.tag_byte T.content T.fault input.now result }
 {
     T::one();
     from_der(input)
@@ -70,12 +64,11 @@ pub fn read_der<'a, T: DecodeValue<'a> + Tagged + UniqueContent + Drop>(
 // Inlined, so that what is called returns an option, which fits in registers.
 #[inline(always)]
 pub fn encoded_len<T: EncodeValue + Tagged>(value: &T) -> Result<usize>
-    ensures exact { MatchResult result
-        (λ n. IsSomeAnd (element_of T.tag_byte (T.content value.now)) (λ bytes. n ≡ length bytes))
+    ensures { MatchResult result
+        (λ n. IsTag T.tag_byte × (n ≤ max_length + 6)
+        × IsSomeAnd (element_of T.tag_byte (T.content value.now)) (λ bytes. n ≡ length bytes))
         (λ e. (e.kind ≡ ErrorKind.Overlength)
         × (element_of T.tag_byte (T.content value.now) ≡ None)) }
-    ensures most { IfOk result (λ n. n ≤ max_length + 6) }
-    ensures tag { OnOk result (IsTag T.tag_byte) }
 {
     match element_len(value) {
         Some(total) => Ok(total),
@@ -86,10 +79,9 @@ pub fn encoded_len<T: EncodeValue + Tagged>(value: &T) -> Result<usize>
 /// Returns the length of the value's element in bytes; `None` if the value has no encoding. As a
 /// `Result` it would be returned through memory.
 fn element_len<T: EncodeValue + Tagged>(value: &T) -> Option<usize>
-    ensures exact { MatchOption result (element_of T.tag_byte (T.content value.now) ≡ None)
-        (λ n. IsSomeAnd (element_of T.tag_byte (T.content value.now)) (λ bytes. n ≡ length bytes)) }
-    ensures most { IfSome result (λ n. n ≤ max_length + 6) }
-    ensures tag { IfSome result (λ _. IsTag T.tag_byte) }
+    ensures { MatchOption result (element_of T.tag_byte (T.content value.now) ≡ None)
+        (λ n. IsTag T.tag_byte × (n ≤ max_length + 6)
+        × IsSomeAnd (element_of T.tag_byte (T.content value.now)) (λ bytes. n ≡ length bytes)) }
 {
     match element_header(value) {
         Ok(header) => Some(header.encoded_len() + header.length.get()),
@@ -127,10 +119,9 @@ pub fn encode_to_slice<T: EncodeValue + Tagged>(value: &T, buffer: &mut [u8]) ->
 ///
 /// Those of [`encoded_len`], then Memory if the allocation fails.
 pub fn to_der<T: EncodeValue + Tagged>(alloc: Global, value: &T) -> Result<Vec<u8>>
-    ensures exact { MatchResult result
-        (λ der. element_of T.tag_byte (T.content value.now) ≡ Some der.items)
+    ensures { MatchResult result (λ der. IsTag T.tag_byte
+        × (element_of T.tag_byte (T.content value.now) ≡ Some der.items))
         (IsOverlengthOr ErrorKind.Memory (element_of T.tag_byte (T.content value.now)) (λ _. ⊤)) }
-    ensures tag { OnOk result (IsTag T.tag_byte) }
 {
     let total = encoded_len(value)?;
     let mut bytes = vec![in alloc; 0; total]?;

@@ -1,4 +1,4 @@
-ghost use Rattle.std.specs.Prelude.{◌≡◌, ◌⊎◌, ℕ, List, length, Some, None, IfOk, IfErr};
+ghost use Rattle.std.specs.Prelude.{◌≡◌, ◌⊎◌, ℕ, List, length, Some, None};
 ghost use Rattle.std.specs.Prelude.{MatchResult, ⊤};
 ghost use Rattle.std.specs.Fmt.{WritesOnOk, WritesStyledOnOk};
 ghost use Rattle.sec1_der.specs.DebugTexts.{document_text};
@@ -42,17 +42,15 @@ impl SecretDocument {
     /// the content, TrailingData if bytes follow it, and Memory if the allocation fails.
     #[tactic(auto, using(crate::proofs::ElementFaultLemmas::document_faults))]
     pub fn from_der(alloc: Global, bytes: &[u8]) -> Result<SecretDocument>
-        ensures found { IfOk result (λ document. (document ≡ bytes.now) × IsElement bytes.now) }
-        ensures only { IsElement bytes.now
-            → MatchResult result (λ document. document ≡ bytes.now)
-            (λ e. e.kind ≡ ErrorKind.Memory) }
-        ensures kinds { IfErr result (λ e. IsHeaderFault e.kind ⊎ (e.kind ≡ ErrorKind.TrailingData)
-            ⊎ ((e.kind ≡ ErrorKind.Memory) × IsElement bytes.now)) }
         // Whether the input is refused, and by which kind, is a function of its bytes; otherwise
         // the allocation may fail.
-        ensures kind { MatchResult result (λ _. document_fault bytes.now ≡ None) (λ e.
-            (document_fault bytes.now ≡ Some e.kind)
-            ⊎ ((e.kind ≡ ErrorKind.Memory) × (document_fault bytes.now ≡ None))) }
+        ensures { MatchResult result
+            (λ document. (document ≡ bytes.now) × IsElement bytes.now
+            × (document_fault bytes.now ≡ None))
+            (λ e. (¬ (IsElement bytes.now) × (document_fault bytes.now ≡ Some e.kind)
+            × (IsHeaderFault e.kind ⊎ (e.kind ≡ ErrorKind.TrailingData)))
+            ⊎ (IsElement bytes.now × (document_fault bytes.now ≡ None)
+            × (e.kind ≡ ErrorKind.Memory))) }
     {
         let (header, inside) = match element_at(bytes) {
             Ok(found) => found,

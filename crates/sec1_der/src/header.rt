@@ -2,7 +2,7 @@ ghost use Rattle.std.specs.Prelude.{◌≡◌, ℕ, ◌<◌, ◌≤◌, ◌^◌,
 ghost use Rattle.std.specs.Cmp.{and_equiv, nat_eq_equiv, on_equiv, partial_equiv_from_equiv};
 ghost use Rattle.std.specs.Ordering.{eq_of_both, on};
 ghost use Rattle.std.specs.Prelude.{nat_eq, ◌↔◌, IsTrue, false, true, Some, codes};
-ghost use Rattle.std.specs.Prelude.{IfOk, IfErr, IsOkAnd, IsOk, IsErr, OnErr};
+ghost use Rattle.std.specs.Prelude.{IfOk, IsOkAnd, IsOk, IsErr, MatchResult, OnErr};
 ghost use Rattle.sec1_der.specs.DebugTexts.{pair_text, tag_text, length_text};
 ghost use Rattle.sec1_der.specs.Elements.{max_length, length_octets, header, element, IsHeader};
 ghost use Rattle.sec1_der.specs.Elements.{IsProperPrefix, LacksHeader};
@@ -78,9 +78,8 @@ impl Header {
 
     /// Returns the length of the header in bytes, from 2 to 6.
     pub fn encoded_len(&self) -> usize
-        ensures value { result ≡ length (header self.now.tag self.now.length) }
-        ensures least { 2 ≤ result }
-        ensures most { result ≤ 6 }
+        ensures { (result ≡ length (header self.now.tag self.now.length)) × (2 ≤ result)
+            × (result ≤ 6) }
     {
         self.octets().1
     }
@@ -101,10 +100,9 @@ impl Header {
     /// Returns the bytes of the header, followed by zeros, and their number.
     #[tactic(auto, using(crate::proofs::LengthLemmas::length_forms))]
     pub(crate) fn octets(&self) -> ([u8; 6], usize)
-        ensures bytes { take result.1 result.0 ≡ header self.now.tag self.now.length }
-        ensures count { result.1 ≡ length (header self.now.tag self.now.length) }
-        ensures least { 2 ≤ result.1 }
-        ensures most { result.1 ≤ 6 }
+        ensures { (take result.1 result.0 ≡ header self.now.tag self.now.length)
+            × (result.1 ≡ length (header self.now.tag self.now.length)) × (2 ≤ result.1)
+            × (result.1 ≤ 6) }
     {
         let tag = self.tag.byte();
         let n = self.length.get();
@@ -147,19 +145,15 @@ impl Eq for Header {
 /// least as many as it announces.
 #[tactic(auto, using(crate::proofs::HeaderLemmas::header_fronts))]
 pub(crate) fn element_at(input: &[u8]) -> First<'_, Header>
-    ensures kinds { IfErr result IsHeaderFault }
-    ensures found { IfOk result (λ x. IsHeader x.0.tag x.0.length
-        × (input.now ≡ header x.0.tag x.0.length ++ x.1.now) × (x.0.length ≤ length x.1.now)) }
+    ensures found { MatchResult result
+        (λ x. IsHeader x.0.tag x.0.length
+        × (input.now ≡ header x.0.tag x.0.length ++ x.1.now) × (x.0.length ≤ length x.1.now))
+        (λ kind. IsHeaderFault kind × ((content : ℕ → Fault) (behind : Fault)
+        → any_fault content behind input.now ≡ Some kind)) }
     ensures only { (tag : ℕ) (content rest : List ℕ) → IsHeader tag (length content)
         → input.now ≡ element tag content ++ rest
         → IsOkAnd result (λ x. (x.0 ≡ record { tag = tag; length = length content })
         × (x.1.now ≡ content ++ rest)) }
-    ensures short { (tag : ℕ) (content : List ℕ) → IsHeader tag (length content)
-        → IsProperPrefix input.now (element tag content)
-        → result ≡ Err ErrorKind.Truncated }
-    ensures fault { LacksHeader input.now → result ≡ Err (header_fault input.now) }
-    ensures element { IfErr result (λ kind. (content : ℕ → Fault) (behind : Fault)
-        → any_fault content behind input.now ≡ Some kind) }
 {
     let (header, inside) = match header_at(input) {
         Ok(found) => found,
@@ -174,13 +168,12 @@ pub(crate) fn element_at(input: &[u8]) -> First<'_, Header>
 /// Returns the header at the beginning of the bytes, and the bytes after it.
 #[tactic(auto, using(crate::proofs::LengthLemmas::length_front))]
 pub(crate) fn header_at(bytes: &[u8]) -> First<'_, Header>
-    ensures found { IfOk result (λ x. IsHeader x.0.tag x.0.length
-        × (bytes.now ≡ header x.0.tag x.0.length ++ x.1.now)) }
+    ensures found { MatchResult result
+        (λ x. IsHeader x.0.tag x.0.length × (bytes.now ≡ header x.0.tag x.0.length ++ x.1.now))
+        (λ kind. (kind ≡ header_fault bytes.now) × ((content : ℕ → Fault) (behind : Fault)
+        → any_fault content behind bytes.now ≡ Some kind)) }
     ensures only { (tag n : ℕ) (rest : List ℕ) → IsHeader tag n → bytes.now ≡ header tag n ++ rest
         → IsOkAnd result (λ x. (x.0 ≡ record { tag = tag; length = n }) × (x.1.now ≡ rest)) }
-    ensures kind { IfErr result (λ kind. kind ≡ header_fault bytes.now) }
-    ensures element { IfErr result (λ kind. (content : ℕ → Fault) (behind : Fault)
-        → any_fault content behind bytes.now ≡ Some kind) }
 {
     let [first, second, rest @ ..] = bytes else {
         return Err(short_fault(bytes));
@@ -209,11 +202,11 @@ fn short_fault(bytes: &[u8]) -> ErrorKind
 /// Returns the length that begins with this byte, and the bytes after it.
 #[tactic(auto, using(crate::proofs::LengthLemmas::len_shape), unfolding(crate::specs::Elements::length_octets))]
 fn length_at(first: u8, rest: &[u8]) -> First<'_, Length>
-    ensures found { IfOk result
-        (λ x. (x.0 ≤ max_length) × (first ∷ rest.now ≡ length_octets x.0 ++ x.1.now)) }
+    ensures found { MatchResult result
+        (λ x. (x.0 ≤ max_length) × (first ∷ rest.now ≡ length_octets x.0 ++ x.1.now))
+        (λ kind. kind ≡ length_fault (first ∷ rest.now)) }
     ensures only { (n : ℕ) (after : List ℕ) → n ≤ max_length
         → first ∷ rest.now ≡ length_octets n ++ after → IsOk result }
-    ensures kind { IfErr result (λ kind. kind ≡ length_fault (first ∷ rest.now)) }
 {
     if usize::from(first) < LONG_FORM {
         return Ok((Length::of_number(u32::from(first)), rest));
@@ -239,8 +232,7 @@ fn length_at(first: u8, rest: &[u8]) -> First<'_, Length>
 /// Returns the number in at most four bytes, the most significant first.
 fn number(digits: &[u8]) -> u32
     requires { length digits.now ≤ 4 }
-    ensures value { result ≡ number_of digits.now }
-    ensures bound { result < 256 ^ length digits.now }
+    ensures { result ≡ number_of digits.now }
 {
     let mut n = 0;
     for digit in digits {

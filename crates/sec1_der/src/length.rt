@@ -1,4 +1,4 @@
-ghost use Rattle.std.specs.Prelude.{◌≡◌, ◌≤◌, ◌<◌, MatchResult, OkIff, IfErr, ℕ};
+ghost use Rattle.std.specs.Prelude.{◌≡◌, ◌≤◌, ◌<◌, MatchResult, ℕ};
 ghost use Rattle.sec1_der.specs.DebugTexts.{length_text};
 ghost use Rattle.sec1_der.specs.Elements.{max_length};
 
@@ -34,8 +34,8 @@ impl Length {
     ///
     /// Overlength if `n` is above [`Length::MAX`].
     pub fn new(n: usize) -> Result<Length>
-        ensures within { OkIff result (n ≤ max_length) n }
-        ensures kind { IfErr result (λ e. e.kind ≡ ErrorKind.Overlength) }
+        ensures { MatchResult result (λ length. (n ≤ max_length) × (length ≡ n))
+            (λ e. (max_length < n) × (e.kind ≡ ErrorKind.Overlength)) }
     {
         if n > Length::MAX {
             return Err(ErrorKind::Overlength.into());
@@ -53,8 +53,7 @@ impl Length {
 
     /// Returns the number of bytes.
     pub fn get(self) -> usize
-        ensures value { result ≡ self }
-        ensures within { result ≤ max_length }
+        ensures { (result ≡ self) × (result ≤ max_length) }
     {
         self.bytes as usize
     }

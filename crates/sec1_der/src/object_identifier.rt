@@ -151,8 +151,7 @@ pub(crate) fn is_identifier(content: &[u8]) -> bool
 /// Returns `true` if there are eight bytes, as the identifier of P-256 has, and each subidentifier
 /// has one or two (X.690 section 8.19.2). They are tested all at once.
 fn are_pairs(content: &[u8]) -> bool
-    ensures content { IsTrue result → (arcs : List ℕ) × EncodesArcs arcs content.now }
-    ensures len { IsTrue result → length content.now ≡ 8 }
+    ensures { IsTrue result → IsIdentifierContent content.now }
 {
     let Some(bytes) = content.as_array::<8>() else {
         return false;

@@ -1,6 +1,6 @@
 //! Byte readers and writers that remember a failure.
-ghost use Rattle.std.specs.Prelude.{ℕ, List, Option, None, Bool, false, IsTrue, IsErr, IfOk, OnOk};
-ghost use Rattle.std.specs.Prelude.{Some, codes, OnErr, ◌≤◌, ◌<◌, ◌≡◌, ◌↔◌, length, ⊤};
+ghost use Rattle.std.specs.Prelude.{ℕ, List, Option, None, Bool, false, IsTrue, IsErr, IfOk};
+ghost use Rattle.std.specs.Prelude.{MatchResult, Some, codes, ◌≤◌, ◌<◌, ◌≡◌, ◌↔◌, length, ⊤};
 ghost use Rattle.std.specs.Io.KnownBytes.{Appends, ReadConsumes, WriteAppends};
 ghost use Rattle.sec1_der.specs.Streams.{AppendsPrefix, ReadAppends};
 
@@ -88,10 +88,11 @@ pub trait Write {
     /// [`IoFault`] exactly when a write failed, after a prefix of the bytes was written.
     fn write_all(&mut self, bytes: &[u8]) -> Result<(), IoFault>
         requires { failed self.old ≡ false }
-        ensures fault { IsErr result ↔ IsTrue (failed self.new) }
-        ensures all { OnOk result (Appends (written self.old) (written self.new) bytes.now) }
-        ensures prefix { OnErr result
-            (AppendsPrefix (written self.old) (written self.new) bytes.now) }
+        ensures { MatchResult result
+            (λ _. (failed self.new ≡ false)
+            × Appends (written self.old) (written self.new) bytes.now)
+            (λ _. IsTrue (failed self.new)
+            × AppendsPrefix (written self.old) (written self.new) bytes.now) }
     {
         let mut rest = bytes;
         while !rest.is_empty() {

@@ -1,4 +1,4 @@
-ghost use Rattle.std.specs.Prelude.{◌≡◌, ◌+◌, ◌≤◌, ◌↔◌, OkIff, IfErr, IsTrue, ℕ};
+ghost use Rattle.std.specs.Prelude.{◌≡◌, ◌+◌, ◌≤◌, ◌↔◌, MatchResult, IsTrue, ℕ};
 ghost use Rattle.sec1_der.specs.DebugTexts.{tag_text};
 ghost use Rattle.sec1_der.specs.Elements.{IsTag, IsConstructed, explicit_tag};
 
@@ -119,8 +119,8 @@ impl Tag {
     // joins their results, which takes more instructions.
     #[inline(always)]
     pub fn from_byte(byte: u8) -> Result<Tag>
-        ensures tag { OkIff result (IsTag byte) byte }
-        ensures kind { IfErr result (λ e. e.kind ≡ ErrorKind.Tag) }
+        ensures { MatchResult result (λ tag. IsTag byte × (tag ≡ byte))
+            (λ e. ¬ IsTag byte × (e.kind ≡ ErrorKind.Tag)) }
     {
         match byte {
             0 => Err(ErrorKind::Tag.into()),
@@ -149,8 +149,7 @@ impl Tag {
 
     /// Returns the tag byte.
     pub fn byte(self) -> u8
-        ensures value { result ≡ self }
-        ensures tag { IsTag result }
+        ensures { (result ≡ self) × IsTag result }
     {
         self.byte
     }

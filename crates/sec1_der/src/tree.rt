@@ -1,10 +1,9 @@
-ghost use Rattle.std.specs.Prelude.{◌≡◌, ◌<◌, ◌≤◌, IfOk, IfErr, List, ℕ, get_or, ◌≢◌, ◌-◌, ◌⊎◌};
+ghost use Rattle.std.specs.Prelude.{◌≡◌, ◌<◌, ◌≤◌, List, ℕ, get_or, ◌≢◌, ◌-◌, ◌⊎◌};
 ghost use Rattle.std.specs.Prelude.{◌↔◌, [], ◌∷◌, Some, take, drop, length, IsTrue};
 ghost use Rattle.std.specs.Prelude.{MatchResult};
-ghost use Rattle.sec1_der.specs.Elements.{IsProperPrefix};
-ghost use Rattle.sec1_der.specs.ErrorKinds.{Refuses, IsTreeFault, IsHeaderFault};
+ghost use Rattle.sec1_der.specs.ErrorKinds.{IsTreeFault, IsHeaderFault};
 ghost use Rattle.sec1_der.specs.Faults.{HasFault, tree_fault, Fault, any_fault};
-ghost use Rattle.sec1_der.specs.Trees.{Tree, IsTree, IsTreeOf, bytes, size, depth, max_tree_depth};
+ghost use Rattle.sec1_der.specs.Trees.{Tree, IsTreeOf, size, depth, max_tree_depth};
 ghost use Rattle.sec1_der.specs.Walks.{open_ends, innermost, Enters, IsTooDeep};
 
 use crate::header::element_at;
@@ -32,21 +31,11 @@ pub const MAX_DEPTH: usize = 64;
 /// ```
 pub fn check_tree(input: &[u8]) -> Result<usize>
     // What is counted is a tree, and these are its bytes.
-    ensures found { IfOk result (λ n. (t : Tree) × IsTreeOf t input.now
-        × (depth t ≤ max_tree_depth) × (size t ≡ n)) }
+    ensures found { MatchResult result (λ n. (t : Tree) × IsTreeOf t input.now
+        × (depth t ≤ max_tree_depth) × (size t ≡ n)) (λ e. IsTreeFault e.kind) }
     // If they are the bytes of such a tree, it is counted.
     ensures only { (t : Tree) → IsTreeOf t input.now → depth t ≤ max_tree_depth
         → result ≡ Ok (size t) }
-    ensures deeper { (t : Tree) → IsTreeOf t input.now → max_tree_depth < depth t
-        → Refuses result ErrorKind.Depth }
-
-    // The bytes end inside a tree of any depth, or continue after one.
-    ensures short { (t : Tree) → IsTree t → IsProperPrefix input.now (bytes t)
-        → Refuses result ErrorKind.Truncated }
-    ensures long { (t : Tree) → IsTree t → depth t ≤ max_tree_depth
-        → IsProperPrefix (bytes t) input.now
-        → Refuses result ErrorKind.TrailingData }
-    ensures kinds { IfErr result (λ e. IsTreeFault e.kind) }
     // Whether the input is refused, and by which kind, is a function of its bytes.
     ensures kind { HasFault result (tree_fault input.now) }
 {
@@ -57,9 +46,8 @@ pub fn check_tree(input: &[u8]) -> Result<usize>
 /// Walks over the elements of a tree, and counts them.
 #[tactic(auto, using(crate::proofs::CheckLemmas::tree_read))]
 fn count_elements(input: &[u8]) -> Result<usize>
-    ensures found { IfOk result (λ n. (t : Tree) × IsTreeOf t input.now
-        × (depth t ≤ max_tree_depth) × (size t ≡ n)) }
-    ensures kinds { IfErr result (λ e. IsTreeFault e.kind) }
+    ensures found { MatchResult result (λ n. (t : Tree) × IsTreeOf t input.now
+        × (depth t ≤ max_tree_depth) × (size t ≡ n)) (λ e. IsTreeFault e.kind) }
     ensures kind { HasFault result (tree_fault input.now) }
 {
     let mut nodes = OpenNodes::new();
@@ -157,12 +145,11 @@ impl OpenNodes {
     #[tactic(auto, using(crate::proofs::EnterLemmas::inside_within))]
     fn enter<'a>(&mut self, rest: &'a [u8]) -> Result<&'a [u8]>
         requires { innermost self.old ≤ length rest.now }
-        ensures found { IfOk result (λ after. Enters self.old rest.now self.new after.now) }
-        ensures deep { Refuses result ErrorKind.Depth → IsTooDeep self.old rest.now }
-        ensures kinds { IfErr result (λ e. (e.kind ≡ ErrorKind.Depth) ⊎ IsHeaderFault e.kind) }
-        ensures refusal { IfErr result (λ e. (e.kind ≡ ErrorKind.Depth)
-            ⊎ ((content : ℕ → Fault) (behind : Fault) → any_fault content behind
-            (take (length rest.now - innermost self.old) rest.now) ≡ Some e.kind)) }
+        ensures { MatchResult result (λ after. Enters self.old rest.now self.new after.now)
+            (λ e. ((e.kind ≡ ErrorKind.Depth) × IsTooDeep self.old rest.now)
+            ⊎ (IsHeaderFault e.kind × ((content : ℕ → Fault) (behind : Fault)
+            → any_fault content behind (take (length rest.now - innermost self.old) rest.now)
+            ≡ Some e.kind))) }
     {
         let end = self.end();
         let room = rest.len() - end;

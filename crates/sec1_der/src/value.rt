@@ -1,9 +1,9 @@
 //! The traits of DER values: with them the generic calls read and write a type.
-ghost use Rattle.std.specs.Prelude.{◌≡◌, ◌≤◌, ℕ, List, length, Option, Some, None, OnOk};
+ghost use Rattle.std.specs.Prelude.{◌≡◌, ◌≤◌, ℕ, List, length, Option, Some, None, IsSomeAnd};
+ghost use Rattle.std.specs.Prelude.{MatchResult};
 ghost use Rattle.sec1_der.specs.BackWriters.{WritesInFront, Puts};
-ghost use Rattle.sec1_der.specs.Elements.{max_length, element_of, within_limit, IsTag};
+ghost use Rattle.sec1_der.specs.Elements.{max_length, within_limit, IsTag};
 ghost use Rattle.sec1_der.specs.Encodings.{Measures};
-ghost use Rattle.sec1_der.specs.ErrorKinds.{Refuses};
 ghost use Rattle.sec1_der.specs.Readers.{ReadsContent};
 ghost use Rattle.sec1_der.specs.Faults.{Fault};
 ghost use Rattle.sec1_der.specs.SliceWriters.{WritesBehind};
@@ -111,11 +111,10 @@ pub trait Sequence<'a>: DecodeValue<'a> + EncodeValue + FixedTag {
 
 /// Returns the header of the value's element.
 pub(crate) fn element_header<T: EncodeValue + Tagged>(value: &T) -> Result<Header>
-    ensures overlength { element_of T.tag_byte (T.content value.now) ≡ None
-        → Refuses result ErrorKind.Overlength }
-    ensures only { (content : List ℕ) → within_limit (T.content value.now) ≡ Some content
-        → result ≡ Ok (record { tag = T.tag_byte; length = length content }) }
-    ensures tag { OnOk result (IsTag T.tag_byte) }
+    ensures { MatchResult result
+        (λ header. IsTag T.tag_byte × IsSomeAnd (within_limit (T.content value.now))
+        (λ content. header ≡ record { tag = T.tag_byte; length = length content }))
+        (λ e. (e.kind ≡ ErrorKind.Overlength) × (within_limit (T.content value.now) ≡ None)) }
 {
     Ok(Header {
         tag: T::fixed_tag(),

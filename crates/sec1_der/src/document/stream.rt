@@ -1,11 +1,11 @@
 //! Documents that are read from streams and files, and written to them.
 ghost use Rattle.std.specs.Prelude.{Some, None, MatchResult};
 ghost use Rattle.std.specs.Prelude.{ℕ, List, false, ◌≡◌, ◌<◌, ◌≤◌, ◌↔◌, ◌⊎◌, length, take, IsTrue};
-ghost use Rattle.std.specs.Prelude.{IsErr, IfOk, IfErr, IfSome, OnOk, OnErr};
+ghost use Rattle.std.specs.Prelude.{IfErr, IfSome};
 ghost use Rattle.std.specs.Io.KnownBytes.{Appends};
 ghost use Rattle.sec1_der.specs.Elements.{IsElement, IsHeader, header};
 ghost use Rattle.sec1_der.specs.ErrorKinds.{IsIoOrMemory, Refuses};
-ghost use Rattle.sec1_der.specs.ReadsDocument.{IsElementFault, ConsumesElement, RefusesElement};
+ghost use Rattle.sec1_der.specs.ReadsDocument.{IsElementFault, ConsumesElement, ReadsStream};
 ghost use Rattle.sec1_der.specs.Faults.{document_fault};
 ghost use Rattle.sec1_der.specs.Streams.{AppendsPrefix, Ends, ReadsOnto, Takes, TakesFewer};
 ghost use Rattle.sec1_der.specs.declared.error.ErrorKind.TheVariants.{Io};
@@ -35,15 +35,11 @@ impl SecretDocument {
     #[tactic(auto, using(crate::proofs::StreamLemmas::element_faults))]
     pub fn read_der_from<R: Read>(alloc: Global, reader: &mut R) -> Result<SecretDocument>
         requires { R.failed reader.old ≡ false }
-        // Io is returned exactly when a read failed.
-        ensures io { Refuses result Io ↔ IsTrue (R.failed reader.new) }
-        // The document is all that was taken, and the input has ended.
-        ensures found { IfOk result (ConsumesElement (Takes R.left R.taken reader.old reader.new)
-            (Ends R.left R.ended reader.new)) }
-        // The kind of a refusal says what was taken, of any input.
-        ensures refused { IfErr result (λ error.
-            RefusesElement error.kind (Takes R.left R.taken reader.old reader.new)
-            (Ends R.left R.ended reader.new)) }
+        // The document is all that was taken, and the input has ended. The kind of a refusal says
+        // what was taken, of any input.
+        ensures reads { let Taken = Takes R.left R.taken reader.old reader.new in
+            let Ended = Ends R.left R.ended reader.new in
+            ReadsStream (ConsumesElement Taken Ended) Taken Ended (R.failed reader.new) result }
         // If the remaining input is exactly one element, it is read, unless a read or an allocation
         // fails.
         ensures only { IfErr result (λ error. IsIoOrMemory error.kind
@@ -86,11 +82,11 @@ impl SecretDocument {
     /// Io exactly when a write failed, after a prefix of the bytes was written.
     pub fn write_der_to<W: Write>(&self, writer: &mut W) -> Result<()>
         requires { W.failed writer.old ≡ false }
-        ensures io { IsErr result ↔ IsTrue (W.failed writer.new) }
-        ensures kind { IfErr result (λ error. error.kind ≡ Io) }
-        ensures all { OnOk result (Appends (W.written writer.old) (W.written writer.new) self.now) }
-        ensures prefix { OnErr result
-            (AppendsPrefix (W.written writer.old) (W.written writer.new) self.now) }
+        ensures { MatchResult result
+            (λ _. (W.failed writer.new ≡ false)
+            × Appends (W.written writer.old) (W.written writer.new) self.now)
+            (λ error. IsTrue (W.failed writer.new) × (error.kind ≡ Io)
+            × AppendsPrefix (W.written writer.old) (W.written writer.new) self.now) }
     {
         writer.write_all(self.as_bytes())?;
         Ok(())
@@ -115,12 +111,9 @@ impl SecretDocument {
 #[tactic(auto, using(crate::proofs::StreamLemmas::element_refusals))]
 fn read_element<R: Read>(alloc: Global, reader: &mut R) -> Result<SecretDocument>
     requires { R.failed reader.old ≡ false }
-    ensures io { Refuses result Io ↔ IsTrue (R.failed reader.new) }
-    ensures found { IfOk result (ConsumesElement (Takes R.left R.taken reader.old reader.new)
-        (Ends R.left R.ended reader.new)) }
-    ensures refused { IfErr result (λ error.
-        RefusesElement error.kind (Takes R.left R.taken reader.old reader.new)
-        (Ends R.left R.ended reader.new)) }
+    ensures { let Taken = Takes R.left R.taken reader.old reader.new in
+        let Ended = Ends R.left R.ended reader.new in
+        ReadsStream (ConsumesElement Taken Ended) Taken Ended (R.failed reader.new) result }
 {
     let header = read_header(reader)?;
     let (octets, count) = header.octets();
@@ -137,12 +130,9 @@ fn read_element<R: Read>(alloc: Global, reader: &mut R) -> Result<SecretDocument
 /// Reads a header, one byte at a time.
 fn read_header<R: Read>(reader: &mut R) -> Result<Header>
     requires { R.failed reader.old ≡ false }
-    ensures io { Refuses result Io ↔ IsTrue (R.failed reader.new) }
-    ensures found { IfOk result (λ h. IsHeader h.tag h.length
-        × Takes R.left R.taken reader.old reader.new (header h.tag h.length)) }
-    ensures refused { IfErr result (λ error.
-        RefusesElement error.kind (Takes R.left R.taken reader.old reader.new)
-        (Ends R.left R.ended reader.new)) }
+    ensures { let Taken = Takes R.left R.taken reader.old reader.new in
+        ReadsStream (λ h. IsHeader h.tag h.length × Taken (header h.tag h.length)) Taken
+        (Ends R.left R.ended reader.new) (R.failed reader.new) result }
 {
     let mut octets = [0; 6];
     let mut count = 0;
@@ -168,13 +158,10 @@ pub(crate) fn read_content<R: Read>(
 ) -> Result<()>
     requires { R.failed reader.old ≡ false }
     ensures io { Refuses result Io ↔ IsTrue (R.failed reader.new) }
-    ensures found { OnOk result
-        (ReadsOnto (Takes R.left R.taken reader.old reader.new) bytes.old.items
-        bytes.new.items announced) }
-    ensures few { OnErr result
-        (TakesFewer (Takes R.left R.taken reader.old reader.new) announced) }
-    ensures kinds { IfErr result (λ error. IsIoOrMemory error.kind
-        ⊎ ((error.kind ≡ ErrorKind.Truncated) × Ends R.left R.ended reader.new)) }
+    ensures found { let Taken = Takes R.left R.taken reader.old reader.new in
+        MatchResult result (λ _. ReadsOnto Taken bytes.old.items bytes.new.items announced)
+        (λ error. TakesFewer Taken announced × (IsIoOrMemory error.kind
+        ⊎ ((error.kind ≡ ErrorKind.Truncated) × Ends R.left R.ended reader.new))) }
 {
     let mut missing = announced;
     while missing > 0 {
@@ -198,14 +185,11 @@ pub(crate) fn read_content<R: Read>(
 #[tactic(auto, using(crate::proofs::StreamLemmas::reads_part))]
 fn fill<R: Read>(reader: &mut R, buf: &mut [u8]) -> std::result::Result<usize, IoFault>
     requires { R.failed reader.old ≡ false }
-    ensures io { IsErr result ↔ IsTrue (R.failed reader.new) }
-    ensures bound { IfOk result (λ n. n ≤ length buf.new) }
-    ensures bytes { IfOk result
-        (λ n. Takes R.left R.taken reader.old reader.new (take n buf.new)) }
-    ensures end { IfOk result
-        (λ n. n < length buf.new → Ends R.left R.ended reader.new) }
-    ensures few { OnErr result
-        (TakesFewer (Takes R.left R.taken reader.old reader.new) (length buf.old)) }
+    ensures { let Taken = Takes R.left R.taken reader.old reader.new in
+        MatchResult result
+        (λ n. (R.failed reader.new ≡ false) × (n ≤ length buf.new) × Taken (take n buf.new)
+        × (n < length buf.new → Ends R.left R.ended reader.new))
+        (λ _. IsTrue (R.failed reader.new) × TakesFewer Taken (length buf.old)) }
 {
     let mut count = 0;
     while count < buf.len() {

@@ -10,21 +10,25 @@ pub returns-in_default-clause-only : goal.returns-in_default-clause-only
 returns-in_default-clause-only c tag n rest h e = absurd
     (omega (arith, some_octets n, length-append (length_octets n) rest, ap length e, c.in_default.len_below))
 
-pub returns-in_default-clause-element : goal.returns-in_default-clause-element
-returns-in_default-clause-element c content behind = any_without_header content behind _
-    (λ tag n rest h e. returns-in_default-clause-only c tag n rest h e) ∙ ap Some (sym c.short_fault.ensures)
+pub returns-in_default-clause-found : goal.returns-in_default-clause-found
+returns-in_default-clause-found c = (
+  c.short_fault.ensures,
+  λ content behind. any_without_header content behind _
+      (λ tag n rest h e. returns-in_default-clause-only c tag n rest h e) ∙ ap Some (sym c.short_fault.ensures),
+)
 
-pub returns-in-Err-clause-element : goal.returns-in-Err-clause-element
-returns-in-Err-clause-element c content behind =
+pub returns-in-Err-clause-found : goal.returns-in-Err-clause-found
+returns-in-Err-clause-found c =
     let bytes = c.args.bytes.now in
     let after = get_or bytes 1 0 ∷ take (length bytes - 2) (drop 2 bytes) in
     let lacks = length_at_lacks after (λ n rest fits e. cc (c.in-Err.ensures.only n rest fits e)) in
-    rw (two_bytes bytes c.in-len2-up.len_at_least, is_tag-true _ c.in-Ok.ensures.tag.0, lacks, c.in-Err.ensures.kind)
-    refl
+    let tag = is_tag-true _ c.in-Ok.ensures.0 in
+    let front = two_bytes bytes c.in-len2-up.len_at_least in
+    (rw (front, tag, c.in-Err.ensures.found) refl, λ content behind. rw (front, tag, lacks, c.in-Err.ensures.found) refl)
 
 pub returns-clause-only : goal.returns-clause-only
 returns-clause-only c tag n rest h e =
     let split = sym (two_bytes _ c.in-len2-up.len_at_least) ∙ e in
     let first : get_or c.args.bytes.now 0 0 ≡ tag = ap (λ xs. get_or xs 0 0) e in
     let same = len_apart _ n _ rest (sym c.in-Ok-length_at.ensures.found.1 ∙ ap (drop 1) split) in
-    (rw (c.in-Ok.ensures.tag.1, first, same.0) refl, same.1)
+    (rw (c.in-Ok.ensures.1, first, same.0) refl, same.1)

@@ -6,8 +6,8 @@ use Rattle.sec1_der.proofs.IdentifierLemmas.{ends_at, zeros_at, narrow_pairs, ma
 use Rattle.sec1_der.proofs.IdentifierLemmas.{is_narrow-decides}
 use Rattle.sec1_der.proofs.object_identifier.are_pairs.Goals as goal
 
-pub returns-then-ends-eq255-clause-content : goal.returns-then-ends-eq255-clause-content
-returns-then-ends-eq255-clause-content c = λ none.
+pub returns-then-ends-eq255 : goal.returns-then-ends-eq255
+returns-then-ends-eq255 c = λ none.
     let content = c.args.content.now in
     let chunk = c.in-Some.ensures.cases in
     let bytes = c.in-Some.bytes.now in
@@ -19,4 +19,6 @@ returns-then-ends-eq255-clause-content c = λ none.
     let empty : mask_l (zeros_at bytes) ≡ 0 = sym zeros ∙ grind (arith, nat_tests, none) in
     let narrow = narrow_pairs bytes
     (λ i l. mask_of_pairs (ends_at bytes) both i (omega arith)) (mask_of_none (zeros_at bytes) empty) in
-    (is_narrow-decides content (λ i. omega (arith, c.type_inv.content i)) (omega arith)).0 (rw chunk.same at narrow)
+    let arcs = (is_narrow-decides content (λ i. omega (arith, c.type_inv.content i)) (omega arith)).0
+    (rw chunk.same at narrow) in
+    (arcs.0, record { encodes = arcs.1; short = omega (arith, chunk.long) })

@@ -1,20 +1,27 @@
-use Rattle.std.proofs.Common.{◌≡◌, length, take, arith, rules, take_all}
+use Rattle.std.proofs.Common.{◌≡◌, length, take, arith, rules, take_all, inl, inr, refl}
 use Rattle.std.proofs.lemmas.Grind.{common_steps}
 use Rattle.std.proofs.lemmas.Result.{err_from_is_err_and}
 use Rattle.sec1_der.proofs.StreamLemmas.{reads_more, fewer_in_all}
 use Rattle.sec1_der.proofs.document.stream.read_content.Goals as goal
 
-pub returns-in_err-fill-clause-few : goal.returns-in_err-fill-clause-few
-returns-in_err-fill-clause-few g c =
-    let fewer = c.in_err-fill.ensures.few in
+pub returns-in_err-fill-clause-found : goal.returns-in_err-fill-clause-found
+returns-in_err-fill-clause-found g c =
+    let fewer = c.in_err-fill.ensures.1 in
     let p = err_from_is_err_and c.from_residual-in_err-fill.result c.from_residual-in_err-fill.ensures.1 in
-    rw p.1 (fewer_in_all _ _ _ _ _ _ _ _ c.loop-missing.missing _ c.loop-missing.invariant.read (omega arith)
-    (record { bytes = fewer.bytes; taken = fewer.taken; few = grind (arith, common_steps) }))
+    rw (p.1, p.2) (
+      fewer_in_all _ _ _ _ _ _ _ _ c.loop-missing.missing _ c.loop-missing.invariant.read (omega arith)
+          (record { bytes = fewer.bytes; taken = fewer.taken; few = grind (arith, common_steps) }),
+      inl (inl refl),
+    )
 
-pub returns-then-branch-step-clause-few : goal.returns-then-branch-step-clause-few
-returns-then-branch-step-clause-few g c =
-    fewer_in_all _ _ _ _ _ _ _ _ c.loop-missing.missing _ c.loop-missing.invariant.read (omega arith)
-    (record { bytes = _; taken = c.in_ok-fill.ensures.bytes; few = grind (arith, common_steps) })
+pub returns-then-branch-step-clause-found : goal.returns-then-branch-step-clause-found
+returns-then-branch-step-clause-found g c =
+    let size : length c.fill.new.buf ≡ c.min-step.result = grind (arith, common_steps) in
+    rw c.into.ensures (
+      fewer_in_all _ _ _ _ _ _ _ _ c.loop-missing.missing _ c.loop-missing.invariant.read (omega arith)
+          (record { bytes = _; taken = c.in_ok-fill.ensures.2; few = grind (arith, common_steps) }),
+      inr (refl, c.in_ok-fill.ensures.3 (omega (arith, size, c.if-branch-step.true))),
+    )
 
 pub loop-missing-preserved : goal.loop-missing-preserved
 loop-missing-preserved g c =
@@ -26,7 +33,7 @@ loop-missing-preserved g c =
       read = reads_more _ _ _ _ _ _ _ _ _ _ _ c.loop-missing.invariant.read (omega arith)
           (record {
             bytes = _;
-            taken = rw all at c.in_ok-fill.ensures.bytes;
+            taken = rw all at c.in_ok-fill.ensures.2;
             appended =
                 grind (arith, common_steps);
             count = size;

@@ -7,18 +7,22 @@ use Rattle.sec1_der.proofs.StreamLemmas.{cut_is_short, one_more, read_alone, rea
 use Rattle.sec1_der.proofs.StreamLemmas.{refused_here, refused_read}
 use Rattle.sec1_der.proofs.document.stream.read_header.Goals as goal
 
-pub returns-in-Ok-clause-found : goal.returns-in-Ok-clause-found
-returns-in-Ok-clause-found g c =
-    let (is, split) = c.in-Ok.ensures.found in
-    read_alone (Takes g.R.Read.left g.R.Read.taken c.args.reader.now c.loop-header.reader) _ _ _ _ is split
-    c.loop-header.invariant.reached c.loop-header.invariant.taken
+pub returns-in-Ok : goal.returns-in-Ok
+returns-in-Ok g c = record {
+  io = search rules;
+  found =
+      let (is, split) = c.in-Ok.ensures.found in
+      read_alone (Takes g.R.Read.left g.R.Read.taken c.args.reader.now c.loop-header.reader) _ _ _ _ is split
+      c.loop-header.invariant.reached c.loop-header.invariant.taken;
+  refused = tt;
+}
 
 pub loop-header-preserved : goal.loop-header-preserved
 loop-header-preserved g c =
     let count = c.loop-header.count in
     let octets = c.loop-header.octets in
     let fault = c.in-Err-Truncated.ensures in
-    let short = sym (sym c.in-Err-Truncated.field-0-is ∙ fault.kind) in
+    let short = sym (sym c.in-Err-Truncated.field-0-is ∙ fault.found.0) in
     let few = cut_is_short (take count octets) short in
     let inside : count ≤ 5 = grind (arith, common_steps) in
     let size : length c.read.new.buf ≡ 1 = grind (arith, common_steps) in
@@ -37,31 +41,47 @@ loop-header-preserved g c =
           search rules;
     }
 
-pub returns-then-branch-eq0-clause-refused : goal.returns-then-branch-eq0-clause-refused
-returns-then-branch-eq0-clause-refused g c =
+pub returns-then-branch-eq0 : goal.returns-then-branch-eq0
+returns-then-branch-eq0 g c =
     let fault = c.in-Err-Truncated.ensures in
-    let short = sym (sym c.in-Err-Truncated.field-0-is ∙ fault.kind) in
+    let short = sym (sym c.in-Err-Truncated.field-0-is ∙ fault.found.0) in
     let read = c.in_ok-read.ensures in
     let none = c.if-branch-eq0.true in
     let size : 0 < length c.read.new.buf = grind (arith, common_steps) in
-    rw c.into-then-branch-eq0.ensures (refused_header g.R.Read.left g.R.Read.taken _ _ _ _ _ c.read.new.buf _
-    (record { fault_is = short; none = λ tag n rest is e. fault.only tag n rest is e })
-    c.loop-header.invariant.taken (record { consumed = read.bytes.0; appended = read.taken }) none
-    (record { none_left = read.bytes.1 none size; known = read.end none size }))
+    record {
+      io = search rules;
+      found = tt;
+      refused =
+          rw c.into-then-branch-eq0.ensures (refused_header g.R.Read.left g.R.Read.taken _ _ _ _ _ c.read.new.buf _
+          (record { fault_is = short; none = λ tag n rest is e. fault.only tag n rest is e })
+          c.loop-header.invariant.taken (record { consumed = read.bytes.0; appended = read.taken }) none
+          (record { none_left = read.bytes.1 none size; known = read.end none size }));
+    }
 
-pub returns-in_err-read-clause-refused : goal.returns-in_err-read-clause-refused
-returns-in_err-read-clause-refused g c =
+pub returns-in_err-read : goal.returns-in_err-read
+returns-in_err-read g c =
     let fault = c.in-Err-Truncated.ensures in
-    let short = sym (sym c.in-Err-Truncated.field-0-is ∙ fault.kind) in
+    let short = sym (sym c.in-Err-Truncated.field-0-is ∙ fault.found.0) in
     let p = err_from_is_err_and c.from_residual.result c.from_residual.ensures.1 in
-    rw (p.1, p.2) (refused_read g.R.Read.left g.R.Read.taken _ _ _ _ _
-    (record { fault_is = short; none = λ tag n rest is e. fault.only tag n rest is e })
-    c.loop-header.invariant.taken c.in_err-read.ensures.bytes c.in_err-read.ensures.taken)
+    record {
+      io = search rules;
+      found = search rules;
+      refused =
+          rw (p.1, p.2) (refused_read g.R.Read.left g.R.Read.taken _ _ _ _ _
+          (record { fault_is = short; none = λ tag n rest is e. fault.only tag n rest is e })
+          c.loop-header.invariant.taken c.in_err-read.ensures.bytes c.in_err-read.ensures.taken);
+    }
 
-pub returns-in-Err-clause-refused : goal.returns-in-Err-clause-refused
-returns-in-Err-clause-refused g c =
+pub returns-in-Err : goal.returns-in-Err
+returns-in-Err g c =
     let fault = c.in-Err.ensures in
     let other : c.in-Err.kind ≡ Truncated → ⊥ = search rules in
-    rw c.into.ensures (refused_here _ (Takes g.R.Read.left g.R.Read.taken c.args.reader.now c.loop-header.reader) _ _
-    c.loop-header.invariant.reached (λ tag n rest is e. fault.only tag n rest is e) (sym fault.kind)
-    other c.loop-header.invariant.taken)
+    let Taken = Takes g.R.Read.left g.R.Read.taken c.args.reader.now c.loop-header.reader in
+    record {
+      io = search rules;
+      found = tt;
+      refused =
+          rw c.into.ensures (refused_here _ Taken _ _
+          c.loop-header.invariant.reached (λ tag n rest is e. fault.only tag n rest is e) (sym fault.found.0)
+          other c.loop-header.invariant.taken);
+    }

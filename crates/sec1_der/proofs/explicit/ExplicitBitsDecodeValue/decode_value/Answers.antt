@@ -1,5 +1,5 @@
 use Rattle.std.proofs.Common.{◌≡◌, ◌==◌, ◌∷◌, Some, List, ℕ, false, ◌∙◌, refl, rules, arith}
-use Rattle.std.proofs.lemmas.Bool.{ne_eqb, iff_false}
+use Rattle.std.proofs.lemmas.Bool.{ne_eqb}
 use Rattle.std.proofs.lemmas.Grind.{common_steps}
 use Rattle.sec1_der.proofs.ContentFaultLemmas.{whole_taken, bits_inside}
 use Rattle.sec1_der.proofs.UniqueLemmas.{unique_inside}
@@ -19,7 +19,7 @@ returns-in_err-bits c = record {
 pub returns-in-Some : goal.returns-in-Some
 returns-in-Some c =
     let bytes = c.in-Some.ensures in
-    let found = rw (bytes.within.0 refl, ← bytes.bytes) at c.in_ok-bits.ensures.reads.found in
+    let found = rw (bytes.0, ← bytes.1) at c.in_ok-bits.ensures.reads.found in
     record {
       found = found;
       read = c.in_ok-bits.ensures.reads.read;
@@ -34,7 +34,7 @@ pub returns-in-None : goal.returns-in-None
 returns-in-None c =
     let bits = c.in_ok-bits.bits in
     let found = c.in_ok-bits.ensures.reads.found in
-    let some : (bits.unused == 0) ≡ false = ne_eqb bits.unused 0 (iff_false c.in-None.ensures.within refl) in
+    let some : (bits.unused == 0) ≡ false = ne_eqb bits.unused 0 c.in-None.ensures in
     record {
       found = tt;
       read = tt;
@@ -42,7 +42,7 @@ returns-in-None c =
           let same = unique_inside 0x03 (λ (content : List ℕ). Some content) (λ a b x e f. cc (e, f))
           (bits.unused ∷ bits.bytes.now) (0 ∷ value) _ found is in
           let zero : bits.unused ≡ 0 = cc same in
-          c.in-None.ensures.within.1 zero;
+          absurd (c.in-None.ensures zero);
       kinds = search rules;
       kind = λ fresh. bits_inside (bits.unused ∷ bits.bytes.now) _ found (c.in_ok-bits.ensures.reads.kind fresh)
           ∙ rw (some, c.fail.ensures.0) refl;

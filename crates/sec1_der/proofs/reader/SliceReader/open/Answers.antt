@@ -9,7 +9,7 @@ use Rattle.sec1_der.proofs.reader.SliceReader.open.Goals as goal
 
 pub returns-in-Ok-clause-only : goal.returns-in-Ok-clause-only
 returns-in-Ok-clause-only c content rest within is =
-    let tag = rw c.byte.ensures.value at c.byte.ensures.tag in
+    let tag = rw c.byte.ensures.0 at c.byte.ensures.1 in
     let same = c.in-Ok.ensures.only c.args.tag content rest (record { tag_byte = tag; within = within })
     (c.remaining_input-2.ensures ∙ ap (λ (r : Reader). r.unread) is) in
     let front = take-append_seam content rest in
@@ -19,7 +19,7 @@ returns-in-Ok-clause-only c content rest within is =
 pub returns-in-Ok-clause-refused : goal.returns-in-Ok-clause-refused
 returns-in-Ok-clause-refused c =
     let (is, read, room) = c.in-Ok.ensures.found in
-    let tag : IsTag c.args.tag = rw c.byte.ensures.value at c.byte.ensures.tag in
+    let tag : IsTag c.args.tag = rw c.byte.ensures.0 at c.byte.ensures.1 in
     let none = any_room (λ _. no_fault) no_fault _ _ _ _ is (sym c.remaining_input-2.ensures ∙ read) room in
     let first : slice_get c.args.self.now.unread 0 ≡ Some c.args.tag = search rules in
     let next = element_next no_fault no_fault c.args.tag c.args.self.now.unread tag first in
@@ -27,10 +27,10 @@ returns-in-Ok-clause-refused c =
 
 pub returns-in-Err-clause-refused : goal.returns-in-Err-clause-refused
 returns-in-Err-clause-refused c =
-    let tag : IsTag c.args.tag = rw c.byte.ensures.value at c.byte.ensures.tag in
+    let tag : IsTag c.args.tag = rw c.byte.ensures.0 at c.byte.ensures.1 in
     let first : slice_get c.args.self.now.unread 0 ≡ Some c.args.tag = search rules in
     let next = element_next no_fault no_fault c.args.tag c.args.self.now.unread tag first in
-    let kind = rw c.remaining_input-2.ensures at (c.in-Err.ensures.element (λ _. no_fault) no_fault) in
+    let kind = rw c.remaining_input-2.ensures at (c.in-Err.ensures.found.1 (λ _. no_fault) no_fault) in
     record {
       kind = λ fresh. next ∙ (kind ∙ ap Some (sym c.fail-in-Err.ensures.0));
       kinds = search rules;
