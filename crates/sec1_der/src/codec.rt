@@ -131,10 +131,7 @@ pub fn to_der<T: EncodeValue + Tagged>(alloc: Global, value: &T) -> Result<Vec<u
 
 /// Writes the value's element into a slice of its length.
 fn fill<T: EncodeValue + Tagged>(value: &T, buffer: &mut [u8]) -> Result<()>
-    ensures fits { (bytes : List ℕ) → element_of T.tag_byte (T.content value.now) ≡ Some bytes
-        → length buffer.old ≡ length bytes
-        → IsOk result × (buffer.new ≡ bytes) }
-    ensures found { IsSomeAnd (element_of T.tag_byte (T.content value.now))
+    ensures { IsSomeAnd (element_of T.tag_byte (T.content value.now))
         (λ bytes. length buffer.old ≡ length bytes)
         → IsOk result × (element_of T.tag_byte (T.content value.now) ≡ Some buffer.new) }
 {

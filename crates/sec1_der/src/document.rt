@@ -80,8 +80,7 @@ impl SecretDocument {
 
     /// Borrows the bytes, header and content.
     pub fn as_bytes(&self) -> &[u8]
-        ensures bytes { result.now ≡ self.now }
-        ensures element { IsElement self.now }
+        ensures { (result.now ≡ self.now) × IsElement self.now }
     {
         &self.bytes
     }

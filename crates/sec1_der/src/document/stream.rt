@@ -157,10 +157,12 @@ pub(crate) fn read_content<R: Read>(
     announced: usize,
 ) -> Result<()>
     requires { R.failed reader.old ≡ false }
-    ensures io { Refuses result Io ↔ IsTrue (R.failed reader.new) }
-    ensures found { let Taken = Takes R.left R.taken reader.old reader.new in
-        MatchResult result (λ _. ReadsOnto Taken bytes.old.items bytes.new.items announced)
-        (λ error. TakesFewer Taken announced × (IsIoOrMemory error.kind
+    ensures { let Taken = Takes R.left R.taken reader.old reader.new in
+        MatchResult result
+        (λ _. (R.failed reader.new ≡ false)
+        × ReadsOnto Taken bytes.old.items bytes.new.items announced)
+        (λ error. (error.kind ≡ Io ↔ IsTrue (R.failed reader.new)) × TakesFewer Taken announced
+        × (IsIoOrMemory error.kind
         ⊎ ((error.kind ≡ ErrorKind.Truncated) × Ends R.left R.ended reader.new))) }
 {
     let mut missing = announced;

@@ -4,20 +4,22 @@ use Rattle.std.proofs.lemmas.Result.{err_from_is_err_and}
 use Rattle.sec1_der.proofs.StreamLemmas.{reads_more, fewer_in_all}
 use Rattle.sec1_der.proofs.document.stream.read_content.Goals as goal
 
-pub returns-in_err-fill-clause-found : goal.returns-in_err-fill-clause-found
-returns-in_err-fill-clause-found g c =
+pub returns-in_err-fill : goal.returns-in_err-fill
+returns-in_err-fill g c =
     let fewer = c.in_err-fill.ensures.1 in
     let p = err_from_is_err_and c.from_residual-in_err-fill.result c.from_residual-in_err-fill.ensures.1 in
     rw (p.1, p.2) (
+      (λ _. c.in_err-fill.ensures.0, λ _. refl),
       fewer_in_all _ _ _ _ _ _ _ _ c.loop-missing.missing _ c.loop-missing.invariant.read (omega arith)
           (record { bytes = fewer.bytes; taken = fewer.taken; few = grind (arith, common_steps) }),
       inl (inl refl),
     )
 
-pub returns-then-branch-step-clause-found : goal.returns-then-branch-step-clause-found
-returns-then-branch-step-clause-found g c =
+pub returns-then-branch-step : goal.returns-then-branch-step
+returns-then-branch-step g c =
     let size : length c.fill.new.buf ≡ c.min-step.result = grind (arith, common_steps) in
     rw c.into.ensures (
+      search rules,
       fewer_in_all _ _ _ _ _ _ _ _ c.loop-missing.missing _ c.loop-missing.invariant.read (omega arith)
           (record { bytes = _; taken = c.in_ok-fill.ensures.2; few = grind (arith, common_steps) }),
       inr (refl, c.in_ok-fill.ensures.3 (omega (arith, size, c.if-branch-step.true))),
