@@ -1,6 +1,6 @@
 ghost use Rattle.std.specs.Prelude.{◌≡◌, ◌⊎◌, ℕ, List, length, Some, None};
 ghost use Rattle.std.specs.Prelude.{MatchResult, ⊤};
-ghost use Rattle.std.specs.Fmt.{WritesOnOk, WritesStyledOnOk};
+ghost use Rattle.std.specs.Fmt.{WritesStyledOnOk};
 ghost use Rattle.sec1_der.specs.DebugTexts.{document_text};
 ghost use Rattle.sec1_der.specs.Elements.{element_of, IsElement};
 ghost use Rattle.sec1_der.specs.Encodings.{IsOverlengthOr};
@@ -98,8 +98,7 @@ impl fmt::Debug for SecretDocument {
     ghost debug_output = { λ _. Some document_text };
 
     fn fmt<W: fmt::Write>(&self, f: &mut fmt::Formatter<W>) -> fmt::Result
-        ensures writes { WritesOnOk W.write_str_gives f.old result document_text f.new }
-        ensures styled { WritesStyledOnOk W.write_str_gives f.old result document_text f.new }
+        ensures { WritesStyledOnOk W.write_str_gives f.old result document_text f.new }
     {
         f.write_str("SecretDocument { .. }")
     }

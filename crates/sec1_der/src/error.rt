@@ -1,4 +1,4 @@
-ghost use Rattle.std.specs.Fmt.{WritesOnOk, WritesStyledOnOk};
+ghost use Rattle.std.specs.Fmt.{WritesStyledOnOk};
 ghost use Rattle.std.specs.Prelude.{◌≡◌, Some};
 ghost use Rattle.sec1_der.specs.DebugTexts.{error_text, kind_text};
 ghost use Rattle.sec1_der.specs.ErrorTexts.{kind_message};
@@ -65,9 +65,7 @@ impl fmt::Debug for ErrorKind {
     ghost debug_output = { λ kind. Some (kind_text kind) };
 
     fn fmt<W: fmt::Write>(&self, f: &mut fmt::Formatter<W>) -> fmt::Result
-        ensures writes { WritesOnOk W.write_str_gives f.old result (kind_text self.now) f.new }
-        ensures styled { WritesStyledOnOk W.write_str_gives f.old result (kind_text self.now)
-            f.new }
+        ensures { WritesStyledOnOk W.write_str_gives f.old result (kind_text self.now) f.new }
     {
         f.write_str(match self {
             ErrorKind::Truncated => "Truncated",
