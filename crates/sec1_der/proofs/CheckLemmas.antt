@@ -104,21 +104,20 @@ opened : (input ends rest after : List ℕ) (end count : ℕ) → IsNext input e
     → Walks input (end ∷ ends) after (count + 1)
 opened input ends rest after end count next o room =
     let at = next.at in
-    let opening = o.opening in
     let lengths = length-append (header o.tag o.n) after in
     record {
       at = record {
         room = room;
-        counted = omega (arith, ap length opening.row);
+        counted = omega (arith, ap length o.row);
         inside =
-            omega (arith, opening.ends);
+            omega (arith, o.inside);
         nested = (o.fits, at.nested);
       };
       completes = λ f tail are shallow row e.
-          let n : length (joined f) ≡ o.n = omega (arith, opening.ends, ap length row, length-append (joined f) tail) in
+          let n : length (joined f) ≡ o.n = omega (arith, o.inside, ap length row, length-append (joined f) tail) in
           let is : IsTree (branch o.tag f) =
-          (opening.tag_byte, opening.constructed, omega (arith, opening.within), are) in
-          let whole = opening.row
+          (o.tag_byte, o.constructed, omega (arith, o.within), are) in
+          let whole = o.row
           ∙ rw (← n, row) (sym (append_assoc (header o.tag (length (joined f))) (joined f) tail)) in
           subst (Completes input ends tail) (omega arith) (next.completes (branch o.tag f) tail is (omega arith) whole);
       fault_is = next.fault_is ∙ node_opened ends rest after end o;

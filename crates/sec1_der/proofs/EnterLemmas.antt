@@ -50,15 +50,12 @@ opens_at rest inside ends tag n end m f is same some constructed =
     record {
       tag = tag;
       n = n;
-      opening = record {
-        tag_byte = f.0.tag_byte;
-        constructed = constructed;
-        some = some;
-        within = f.0.within;
-        row =
-            row;
-        ends = omega arith;
-      };
+      tag_byte = f.0.tag_byte;
+      constructed = constructed;
+      some = some;
+      within = f.0.within;
+      row = row;
+      inside = omega arith;
       fits = omega arith;
     }
 

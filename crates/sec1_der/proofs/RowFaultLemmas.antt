@@ -126,23 +126,23 @@ pub node_opened : (ends rest after : List ℕ) (end : ℕ) → Opens ends rest e
 node_opened ends rest after end o =
     let n = length after - end in
     let content = take n after in
-    let count : length content ≡ o.n = omega (arith, length-take-le n after (omega arith), o.opening.ends) in
+    let count : length content ≡ o.n = omega (arith, length-take-le n after (omega arith), o.inside) in
     let is : IsHeader o.tag
-    (length content) = record { tag_byte = o.opening.tag_byte; within = omega (arith, count, o.opening.within) } in
+    (length content) = record { tag_byte = o.tag_byte; within = omega (arith, count, o.within) } in
     let whole : rest ≡ element o.tag content ++ drop n after =
     rw (append_assoc (length_octets (length content)) content (drop n after), take-append-drop n after, count)
-    o.opening.row in
+    o.row in
     next_element ends rest (drop n after) o.tag content is whole
-    (omega (arith, length-drop n after, o.opening.ends, o.fits))
-    ∙ rw (ne_eqb (bit_and o.tag 0x20) 0 o.opening.constructed) refl
+    (omega (arith, length-drop n after, o.inside, o.fits))
+    ∙ rw (ne_eqb (bit_and o.tag 0x20) 0 o.constructed) refl
 
 -- where as many nodes are open as may be, a further one with a content is refused as too deep
 next_deep : (ends rest : List ℕ) → IsTooDeep ends rest → next_fault ends rest ≡ Some Depth
 next_deep ends rest d =
-    let opening = d.opens.opening in
+    let opening = d.opens in
     let few = length-take-le (length d.after - d.end) d.after (omega arith) in
     node_opened ends rest d.after d.end d.opens
-    ∙ rw (row_deep (length ends + 2) (take (length d.after - d.end) d.after) (omega (arith, opening.some, opening.ends))
+    ∙ rw (row_deep (length ends + 2) (take (length d.after - d.end) d.after) (omega (arith, opening.some, opening.inside))
     (omega (arith, d.full))) refl
 
 -- what is next is refused as too deep, or by its own bytes

@@ -11,15 +11,6 @@ pub record IsSingle (t : Tree) : Type 0 where
   pub alone : size t ≡ 1
   pub shallow : depth t ≡ 1
 
--- the bytes begin with the header of a node with a content
-pub record IsOpening (tag n end : ℕ) (rest after : List ℕ) : Type 0 where
-  pub tag_byte : IsTag tag
-  pub constructed : IsConstructed tag
-  pub some : 0 < n
-  pub within : n ≤ max_length
-  pub row : rest ≡ header tag n ++ after
-  pub ends : end + n ≡ length after
-
 -- how many bytes of input follow the innermost open element, or 0 if none is open
 abbrev pub innermost : List ℕ → ℕ
 innermost [] = 0
@@ -32,12 +23,17 @@ pub record Skips (ends rest after : List ℕ) : Type 0 where
   pub row : rest ≡ bytes tree ++ after
   pub fits : innermost ends ≤ length after
 
--- the next element is a node with this end, within the innermost node
+-- the next element is a node that isn't empty, and has this end, within the innermost node
 pub record Opens (ends rest : List ℕ) (end : ℕ) (after : List ℕ) : Type 0 where
   pub tag : ℕ
   pub n : ℕ
-  pub opening : IsOpening tag n end rest after
   pub fits : innermost ends ≤ end
+  pub tag_byte : IsTag tag
+  pub constructed : IsConstructed tag
+  pub some : 0 < n
+  pub within : n ≤ max_length
+  pub row : rest ≡ header tag n ++ after
+  pub inside : end + n ≡ length after
 
 -- the next element is skipped, or is opened if one more node may be open
 abbrev pub Enters : List ℕ → List ℕ → List ℕ → List ℕ → Type 0
