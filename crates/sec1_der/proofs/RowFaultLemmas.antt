@@ -139,11 +139,10 @@ node_opened ends rest after end o =
 -- where as many nodes are open as may be, a further one with a content is refused as too deep
 next_deep : (ends rest : List ℕ) → IsTooDeep ends rest → next_fault ends rest ≡ Some Depth
 next_deep ends rest d =
-    let opening = d.opens in
     let few = length-take-le (length d.after - d.end) d.after (omega arith) in
     node_opened ends rest d.after d.end d.opens
-    ∙ rw (row_deep (length ends + 2) (take (length d.after - d.end) d.after) (omega (arith, opening.some, opening.inside))
-    (omega (arith, d.full))) refl
+    ∙ rw (row_deep (length ends + 2) (take (length d.after - d.end) d.after)
+    (omega (arith, d.opens.some, d.opens.inside)) (omega (arith, d.full))) refl
 
 -- what is next is refused as too deep, or by its own bytes
 pub next_refused : (ends rest : List ℕ) (k : ErrorKind)

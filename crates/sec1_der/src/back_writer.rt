@@ -26,7 +26,9 @@ impl<'b> BackWriter<'b> {
     /// Creates a writer at the end of a slice.
     pub fn new(buffer: &'b mut [u8]) -> BackWriter<'b>
         ensures { back_state result ≡ record {
-            written = []; room = buffer.old; slice = buffer.entry.ghost_name;
+          written = [];
+          room = buffer.old;
+          slice = buffer.entry.ghost_name;
         } }
     {
         let start = buffer.len();

@@ -1,6 +1,7 @@
 //! States the values of the constants, and what the writers leave in a slice. Nothing calls these
 //! functions: their contracts refuse other values, and a writer that changes the rest of the slice.
-ghost use Rattle.std.specs.Prelude.{◌≡◌, ◌<◌, ◌≤◌, [], ◌∷◌, ◌++◌, length, take, drop, ◌-◌, MatchResult};
+ghost use Rattle.std.specs.Prelude.{◌≡◌, ◌<◌, ◌≤◌, [], ◌∷◌, ◌++◌, length, take, drop, ◌-◌};
+ghost use Rattle.std.specs.Prelude.{MatchResult};
 
 use crate::{
     BackWriter, BitStringRef, ErrorKind, FixedTag, ID_EC_PUBLIC_KEY, ObjectIdentifier,

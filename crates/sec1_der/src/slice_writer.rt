@@ -22,7 +22,9 @@ impl<'b> SliceWriter<'b> {
     /// Creates a writer at the beginning of a slice.
     pub fn new(buffer: &'b mut [u8]) -> SliceWriter<'b>
         ensures { slice_state result ≡ record {
-            written = []; room = buffer.old; slice = buffer.entry.ghost_name;
+          written = [];
+          room = buffer.old;
+          slice = buffer.entry.ghost_name;
         } }
     {
         SliceWriter {

@@ -5,4 +5,5 @@ use Rattle.sec1_der.proofs.header.element_at.Goals as goal
 pub returns-then-inside-get-clause-found : goal.returns-then-inside-get-clause-found
 returns-then-inside-get-clause-found c =
     let (is, read) = c.in-Ok.ensures.found in
-    (tt, λ content behind. any_short content behind _ _ c.args.input.now _ is read (omega (arith, c.if-inside-get.true)))
+    let few = c.if-inside-get.true in
+    (tt, λ content behind. any_short content behind _ _ c.args.input.now _ is read (omega (arith, few)))

@@ -24,7 +24,8 @@ returns-in-Err-clause-found c =
     let lacks = length_at_lacks after (λ n rest fits e. cc (c.in-Err.ensures.only n rest fits e)) in
     let tag = is_tag-true _ c.in-Ok.ensures.0 in
     let front = two_bytes bytes c.in-len2-up.len_at_least in
-    (rw (front, tag, c.in-Err.ensures.found) refl, λ content behind. rw (front, tag, lacks, c.in-Err.ensures.found) refl)
+    let kind = c.in-Err.ensures.found in
+    (rw (front, tag, kind) refl, λ content behind. rw (front, tag, lacks, kind) refl)
 
 pub returns-clause-only : goal.returns-clause-only
 returns-clause-only c tag n rest h e =

@@ -11,14 +11,14 @@ pub returns-in-Err : goal.returns-in-Err
 returns-in-Err c =
     let fault = c.in-Err.ensures.found.1 (λ _. no_fault) end_fault in
     rw c.into.ensures
-        (inl (λ is. absurd (cc (fault, document_element c.args.bytes.now is)), fault, inl c.in-Err.ensures.found.0))
+    (inl (λ is. absurd (cc (fault, document_element c.args.bytes.now is)), fault, inl c.in-Err.ensures.found.0))
 
 pub returns-in_err-bytes : goal.returns-in_err-bytes
 returns-in_err-bytes c =
     let refusal = err_from_is_err_and c.from_residual.result c.from_residual.ensures.1 in
     let is : IsElement c.args.bytes.now = search rules in
     rw refusal.1
-        (inr (is, document_element c.args.bytes.now is, ap (λ (e : Error). e.kind) refusal.2))
+    (inr (is, document_element c.args.bytes.now is, ap (λ (e : Error). e.kind) refusal.2))
 
 pub returns : goal.returns
 returns c =
