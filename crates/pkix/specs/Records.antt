@@ -1,13 +1,11 @@
 -- The structures of certificates and containers: the content of each SEQUENCE, and the kind by
 -- which bytes are refused as one.
-use Rattle.std.specs.Prelude.{◌≡◌, ◌∷◌, [], ℕ, List, Option, Some, Result, Ok, IfOk, IfErr}
+use Rattle.std.specs.Prelude.{◌∷◌, [], ℕ, List, Option, Some}
 use Rattle.std.specs.Option.{option_map}
 use Rattle.sec1_der.specs.Elements.{element_of}
 use Rattle.sec1_der.specs.Parts.{join, optional_of}
-use Rattle.sec1_der.specs.ErrorKinds.{IsReadingFault}
-use Rattle.sec1_der.specs.Faults.{Fault, HasFault, no_fault, element_fault, end_fault}
+use Rattle.sec1_der.specs.Faults.{Fault, no_fault, element_fault, end_fault}
 use Rattle.sec1_der.specs.Faults.{optional_fault}
-use Rattle.sec1_der.specs.declared.error.Error.{Error}
 use Rattle.der_types.specs.AnyElements.{all_tags, any_of, any_element_fault}
 use Rattle.der_types.specs.BitStrings.{bit_string_content}
 use Rattle.der_types.specs.Choices.{choice_of, choice_fault, optional_bytes, optional_part_fault}
@@ -212,14 +210,3 @@ unsigned_fault number = value_unless (is_unsigned number)
 
 abbrev pub signature_fault : Fault
 signature_fault = element_fault 0x02 unsigned_fault (element_fault 0x02 unsigned_fault end_fault)
-
--- how a whole record is read, by its content and its fault
-pub record ReadsRecord {T : Type 0} (content : T → Option (List ℕ)) (fault : Fault) (bytes : List ℕ)
-    (result : Result T Error) : Type 0 where
-  -- what is read has these bytes
-  pub found : IfOk result (λ value. element_of 0x30 (content value) ≡ Some bytes)
-  -- the value with these bytes is read
-  pub only : (value : T) → element_of 0x30 (content value) ≡ Some bytes → result ≡ Ok value
-  pub kinds : IfErr result (λ e. IsReadingFault e.kind)
-  -- whether the bytes are refused, and by which kind, is a function of them
-  pub kind : HasFault result (element_fault 0x30 fault end_fault bytes)

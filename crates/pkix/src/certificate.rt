@@ -4,7 +4,8 @@ ghost use Rattle.sec1_der.specs.Elements.{element_of};
 ghost use Rattle.sec1_der.specs.Parts.{AreApart, one_tag};
 ghost use Rattle.sec1_der.specs.PartLaws.{element_begins};
 ghost use Rattle.sec1_der.specs.Faults.{element_fault};
-ghost use Rattle.pkix.specs.Records.{ReadsRecord, certificate_content, certificate_fault};
+ghost use Rattle.pkix.specs.Records.{certificate_content, certificate_fault};
+ghost use Rattle.sec1_der.specs.Encodings.{ReadsElement};
 ghost use Rattle.pkix.specs.Records.{tbs_content, tbs_fault};
 
 use crate::{AlgorithmIdentifier, Extension, LaterVersion, Name, SubjectPublicKeyInfo, Validity};
@@ -240,7 +241,7 @@ impl<'a> Certificate<'a> {
     ///
     /// Those of [`read_der`].
     pub fn from_der(bytes: &'a [u8]) -> Result<Certificate<'a>>
-        ensures { ReadsRecord certificate_content certificate_fault bytes.now result }
+        ensures { ReadsElement 0x30 certificate_content certificate_fault bytes.now result }
     {
         read_der(bytes)
     }

@@ -1,6 +1,7 @@
 //! Extensions of certificates.
 ghost use Rattle.std.specs.Prelude.{refl};
-ghost use Rattle.pkix.specs.Records.{ReadsRecord, extension_content, extension_fault};
+ghost use Rattle.pkix.specs.Records.{extension_content, extension_fault};
+ghost use Rattle.sec1_der.specs.Encodings.{ReadsElement};
 
 use der_types::{Boolean, Defaulted, ObjectIdentifierRef};
 use sec1_der::{Distinct, Octets, Record, Required, Result, read_der};
@@ -57,7 +58,7 @@ impl<'a> Extension<'a> {
     ///
     /// Those of [`read_der`].
     pub fn from_der(bytes: &'a [u8]) -> Result<Extension<'a>>
-        ensures { ReadsRecord extension_content extension_fault bytes.now result }
+        ensures { ReadsElement 0x30 extension_content extension_fault bytes.now result }
     {
         read_der(bytes)
     }

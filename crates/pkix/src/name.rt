@@ -1,6 +1,7 @@
 //! Names, which are rows of sets of attributes.
 ghost use Rattle.std.specs.Prelude.{refl};
-ghost use Rattle.pkix.specs.Records.{ReadsRecord, attribute_content, attribute_fault};
+ghost use Rattle.pkix.specs.Records.{attribute_content, attribute_fault};
+ghost use Rattle.sec1_der.specs.Encodings.{ReadsElement};
 
 use der_types::{Any, ObjectIdentifierRef, SequenceOf, SetOf};
 use sec1_der::{Distinct, Record, Required, Result, read_der};
@@ -46,7 +47,7 @@ impl<'a> AttributeTypeAndValue<'a> {
     ///
     /// Those of [`read_der`].
     pub fn from_der(bytes: &'a [u8]) -> Result<AttributeTypeAndValue<'a>>
-        ensures { ReadsRecord attribute_content attribute_fault bytes.now result }
+        ensures { ReadsElement 0x30 attribute_content attribute_fault bytes.now result }
     {
         read_der(bytes)
     }

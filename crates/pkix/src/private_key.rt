@@ -1,6 +1,7 @@
 //! Containers of private keys.
 ghost use Rattle.std.specs.Prelude.{refl, true};
-ghost use Rattle.pkix.specs.Records.{ReadsRecord, asymmetric_key_content, asymmetric_key_fault};
+ghost use Rattle.pkix.specs.Records.{asymmetric_key_content, asymmetric_key_fault};
+ghost use Rattle.sec1_der.specs.Encodings.{ReadsElement};
 ghost use Rattle.pkix.specs.Records.{private_key_content, private_key_fault};
 
 use crate::AlgorithmIdentifier;
@@ -209,7 +210,7 @@ impl<'a> PrivateKeyInfo<'a> {
     ///
     /// Those of [`read_der`].
     pub fn from_der(bytes: &'a [u8]) -> Result<PrivateKeyInfo<'a>>
-        ensures { ReadsRecord private_key_content private_key_fault bytes.now result }
+        ensures { ReadsElement 0x30 private_key_content private_key_fault bytes.now result }
     {
         read_der::<PrivateKeyInfo>(bytes)
     }
@@ -222,7 +223,7 @@ impl<'a> OneAsymmetricKey<'a> {
     ///
     /// Those of [`read_der`].
     pub fn from_der(bytes: &'a [u8]) -> Result<OneAsymmetricKey<'a>>
-        ensures { ReadsRecord asymmetric_key_content asymmetric_key_fault bytes.now result }
+        ensures { ReadsElement 0x30 asymmetric_key_content asymmetric_key_fault bytes.now result }
     {
         read_der::<OneAsymmetricKey>(bytes)
     }

@@ -4,7 +4,8 @@ ghost use Rattle.sec1_der.specs.Elements.{element_of};
 ghost use Rattle.sec1_der.specs.Parts.{AreApart, one_tag};
 ghost use Rattle.sec1_der.specs.PartLaws.{element_begins};
 ghost use Rattle.sec1_der.specs.Faults.{element_fault};
-ghost use Rattle.pkix.specs.Records.{ReadsRecord, public_key_content, public_key_fault};
+ghost use Rattle.pkix.specs.Records.{public_key_content, public_key_fault};
+ghost use Rattle.sec1_der.specs.Encodings.{ReadsElement};
 
 use crate::AlgorithmIdentifier;
 use der_types::Bits;
@@ -91,7 +92,7 @@ impl<'a> SubjectPublicKeyInfo<'a> {
     ///
     /// Those of [`read_der`].
     pub fn from_der(bytes: &'a [u8]) -> Result<SubjectPublicKeyInfo<'a>>
-        ensures { ReadsRecord public_key_content public_key_fault bytes.now result }
+        ensures { ReadsElement 0x30 public_key_content public_key_fault bytes.now result }
     {
         read_der(bytes)
     }

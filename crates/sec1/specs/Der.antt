@@ -25,7 +25,6 @@ pub use Rattle.sec1_der.specs.SliceWriters.{slice_state, Appends, WritesBehind}
 pub use Rattle.sec1_der.specs.StdStreams.{StdStream}
 pub use Rattle.sec1_der.specs.Streams.{AppendsPrefix, Ends, ReadAppends, Takes}
 pub use Rattle.sec1_der.specs.Trees.{Tree, Forest, leaf, node, bytes, IsTree, IsTreeOf, depth, size}
-pub use Rattle.sec1_der.specs.TreeLaws.{BytesDetermineTree, BytesDetermineRow, NoTreeBeginsAnother}
 pub use Rattle.sec1_der.specs.Trees.{max_tree_depth}
 pub use Rattle.sec1_der.specs.Values.{octets_of, unused_bits_of, bit_bytes_of, tag_of, value_of}
 pub use Rattle.sec1_der.specs.Writers.{Writer, WritesNothing}

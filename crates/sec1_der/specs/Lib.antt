@@ -2,7 +2,6 @@ pub mod Numbers
 pub mod Elements
 pub mod TextLaws
 pub mod Trees
-pub mod TreeLaws
 pub mod Walks
 pub mod Identifiers
 pub mod ArcsOf

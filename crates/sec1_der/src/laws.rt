@@ -1,14 +1,13 @@
 //! Laws for callers to cite: of trees, of the kinds by which elements are refused, and that a value
 //! is determined by its bytes. Each law is the contract of a function, which does nothing else.
 ghost use Rattle.std.specs.Option.{option_or};
-ghost use Rattle.std.specs.Prelude.{◌≡◌, ◌⊎◌, ◌<◌, ◌≤◌, ◌++◌, ℕ, List, length, Some, None, IsSome};
+ghost use Rattle.std.specs.Prelude.{◌≡◌, ◌⊎◌, ◌<◌, ◌≤◌, ◌++◌, [], ℕ, List, length, Some, None, IsSome};
 ghost use Rattle.sec1_der.specs.Elements.{element, element_of, max_length, IsTag};
 ghost use Rattle.sec1_der.specs.Elements.{IsProperPrefix, LacksHeader};
 ghost use Rattle.sec1_der.specs.ErrorKinds.{header_fault};
 ghost use Rattle.sec1_der.specs.Faults.{Fault, any_fault, element_fault, tree_fault};
-ghost use Rattle.sec1_der.specs.TreeLaws.{BytesDetermineTree, BytesDetermineRow};
-ghost use Rattle.sec1_der.specs.TreeLaws.{NoTreeBeginsAnother};
-ghost use Rattle.sec1_der.specs.Trees.{Tree, IsTree, bytes, depth, max_tree_depth};
+ghost use Rattle.sec1_der.specs.Trees.{Tree, Forest, IsTree, AreTrees, bytes, joined, depth};
+ghost use Rattle.sec1_der.specs.Trees.{max_tree_depth};
 ghost use Rattle.sec1_der.specs.Values.{octets_of, unused_bits_of, bit_bytes_of};
 ghost use Rattle.sec1_der.specs.declared.bit_string.BitStringRef.{BitStringRef};
 ghost use Rattle.sec1_der.specs.declared.octet_string.OctetStringRef.{OctetStringRef};
@@ -22,19 +21,20 @@ use crate::{
 /// A tree is determined by its bytes, whatever follows them.
 #[tactic(auto, using(crate::proofs::TreeLemmas::tree_apart))]
 pub fn trees_unique()
-    ensures { BytesDetermineTree }
+    ensures { (t u : Tree) (r s : List ℕ) → IsTree t → IsTree u → bytes t ++ r ≡ bytes u ++ s
+        → (t ≡ u) × (r ≡ s) }
 {}
 
 /// A sequence of trees is determined by its bytes.
 #[tactic(auto, using(crate::proofs::TreeLemmas::forest_apart))]
 pub fn rows_unique()
-    ensures { BytesDetermineRow }
+    ensures { (f g : Forest) → AreTrees f → AreTrees g → joined f ≡ joined g → f ≡ g }
 {}
 
 /// No tree's bytes are a proper prefix of another's.
 #[tactic(auto, using(crate::proofs::TreeLemmas::tree_ends))]
 pub fn trees_prefix_free()
-    ensures { NoTreeBeginsAnother }
+    ensures { (t u : Tree) (r : List ℕ) → IsTree t → IsTree u → bytes t ++ r ≡ bytes u → r ≡ [] }
 {}
 
 /// A tree with more than 64 levels is refused as Depth, bytes that end inside a tree as Truncated,
