@@ -1,5 +1,5 @@
 //! An element of any tag.
-ghost use Rattle.std.specs.Prelude.{◌≡◌, ℕ, List, length, refl, IfOk, IfErr};
+ghost use Rattle.std.specs.Prelude.{◌≡◌, ℕ, List, length, refl, MatchResult};
 ghost use Rattle.sec1_der.specs.Elements.{element, IsHeader, IsElement};
 ghost use Rattle.sec1_der.specs.ErrorKinds.{IsReadingFault};
 ghost use Rattle.sec1_der.specs.Parts.{is_among, AreApart, ReadsPart};
@@ -40,9 +40,9 @@ impl<'a> Any<'a> {
     /// Truncated, Tag or Length if the bytes don't begin with an element; TrailingData if bytes
     /// follow it.
     pub fn new(bytes: &'a [u8]) -> Result<Any<'a>>
-        ensures found { IfOk result (λ any. (any ≡ bytes.now) × IsElement bytes.now) }
+        ensures found { MatchResult result (λ any. (any ≡ bytes.now) × IsElement bytes.now)
+            (λ e. IsReadingFault e.kind) }
         ensures only { IsElement bytes.now → result ≡ Ok bytes.now }
-        ensures kinds { IfErr result (λ e. IsReadingFault e.kind) }
         ensures kind { HasFault result (any_element_fault end_fault bytes.now) }
     {
         let mut reader = SliceReader::new(bytes);
@@ -70,8 +70,8 @@ impl<'a> Any<'a> {
 
     /// Borrows the content.
     pub fn content(&self) -> &'a [u8]
-        ensures header { IsHeader (first_byte self.now) (length result.now) }
-        ensures encoded { self.now ≡ element (first_byte self.now) result.now }
+        ensures { IsHeader (first_byte self.now) (length result.now)
+            × (self.now ≡ element (first_byte self.now) result.now) }
     {
         self.inside.value()
     }

@@ -1,9 +1,8 @@
 //! BIT STRING that may have unused bits.
-ghost use Rattle.std.specs.Prelude.{◌≡◌, ◌∷◌, ◌<◌, ◌≤◌, ◌↔◌, ℕ, List, length, true, Some};
-ghost use Rattle.std.specs.Prelude.{IsOk, IfOk, IfErr, IsSome, IfSome};
+ghost use Rattle.std.specs.Prelude.{◌≡◌, ◌≢◌, ◌⊎◌, ◌∷◌, ◌<◌, ◌≤◌, ℕ, List, length, true, Some};
+ghost use Rattle.std.specs.Prelude.{MatchOption, MatchResult};
 ghost use Rattle.sec1_der.specs.Contents.{AreBits, is_bit_string, bit_string_fault};
 ghost use Rattle.sec1_der.specs.Elements.{max_length};
-ghost use Rattle.sec1_der.specs.ErrorKinds.{Refuses};
 ghost use Rattle.der_types.specs.BitStrings.{BitString, bit_string_content};
 ghost use Rattle.der_types.specs.Leaves.{content_if};
 
@@ -38,12 +37,12 @@ impl<'a> Bits<'a> {
     /// Overlength if there are more than 268,435,454 bytes; then Value if `unused` is above 7, if
     /// it isn't 0 and there are no bytes, or if an unused bit is set (X.690 section 11.2.1).
     pub fn new(unused: u8, bytes: &'a [u8]) -> Result<Self>
-        ensures within { IsOk result
-            ↔ ((length bytes.now < max_length) × AreBits unused bytes.now) }
-        ensures value { IfOk result (λ bits. bits ≡ record { unused = unused; bytes = bytes.now }) }
-        ensures overlength { max_length ≤ length bytes.now → Refuses result ErrorKind.Overlength }
-        ensures kind { length bytes.now < max_length
-            → IfErr result (λ e. e.kind ≡ ErrorKind.Value) }
+        ensures { MatchResult result
+            (λ bits. (bits ≡ record { unused = unused; bytes = bytes.now })
+            × (length bytes.now < max_length) × AreBits unused bytes.now)
+            (λ e. ((e.kind ≡ ErrorKind.Overlength) × (max_length ≤ length bytes.now))
+            ⊎ ((e.kind ≡ ErrorKind.Value) × (length bytes.now < max_length)
+            × ¬ AreBits unused bytes.now)) }
     {
         let bits = BitStringRef::new(unused, bytes)?;
         Ok(Bits { bits })
@@ -58,16 +57,15 @@ impl<'a> Bits<'a> {
 
     /// Borrows the bytes, the last of which may have unused bits.
     pub fn raw_bytes(&self) -> &'a [u8]
-        ensures bytes { result.now ≡ self.now.bytes }
-        ensures bits { AreBits self.now.unused result.now }
+        ensures { (result.now ≡ self.now.bytes) × AreBits self.now.unused result.now }
     {
         self.bits.raw_bytes()
     }
 
     /// Borrows the bytes; `None` if there are unused bits.
     pub fn as_bytes(&self) -> Option<&'a [u8]>
-        ensures within { IsSome result ↔ (self.now.unused ≡ 0) }
-        ensures bytes { IfSome result (λ bytes. bytes.now ≡ self.now.bytes) }
+        ensures { MatchOption result (self.now.unused ≢ 0)
+            (λ bytes. (self.now.unused ≡ 0) × (bytes.now ≡ self.now.bytes)) }
     {
         self.bits.as_bytes()
     }

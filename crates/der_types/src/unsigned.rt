@@ -1,6 +1,6 @@
 //! INTEGER that isn't negative, as a number.
-ghost use Rattle.std.specs.Prelude.{◌≡◌, ◌<◌, ◌^◌, ◌↔◌, ℕ, List, true, false, Some, IfOk};
-ghost use Rattle.std.specs.Prelude.{IsSome, IfSome, MatchOption};
+ghost use Rattle.std.specs.Prelude.{◌≡◌, ◌<◌, ◌≤◌, ◌^◌, ℕ, List, true, false, Some, IfOk};
+ghost use Rattle.std.specs.Prelude.{MatchOption};
 ghost use Rattle.std.specs.Int.Digits.{digits_of};
 ghost use Rattle.sec1_der.specs.Contents.{value_unless};
 ghost use Rattle.sec1_der.specs.Numbers.{number_of};
@@ -84,8 +84,8 @@ impl<'a> Unsigned<'a> {
     /// Returns the number, if it is below 2^64.
     #[tactic(auto, using(crate::proofs::UnsignedLemmas::numbers))]
     pub fn to_u64(&self) -> Option<u64>
-        ensures within { IsSome result ↔ (self.now < 2 ^ 64) }
-        ensures value { IfSome result (λ number. number ≡ self.now) }
+        ensures { MatchOption result (2 ^ 64 ≤ self.now)
+            (λ number. (number ≡ self.now) × (self.now < 2 ^ 64)) }
     {
         number(self.bytes)
     }
@@ -101,8 +101,8 @@ impl<'a> Unsigned<'a> {
 /// Returns the number whose digits in base 256 are these, if it is below 2^64.
 #[tactic(auto, using(crate::proofs::UnsignedLemmas::digit_steps))]
 fn number(digits: &[u8]) -> Option<u64>
-    ensures within { IsSome result ↔ (number_of digits.now < 2 ^ 64) }
-    ensures value { IfSome result (λ number. number ≡ number_of digits.now) }
+    ensures { MatchOption result (2 ^ 64 ≤ number_of digits.now)
+        (λ number. (number ≡ number_of digits.now) × (number_of digits.now < 2 ^ 64)) }
 {
     let mut number: u64 = 0;
     for digit in digits {

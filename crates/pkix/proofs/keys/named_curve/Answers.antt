@@ -5,5 +5,5 @@ use Rattle.pkix.proofs.keys.named_curve.Goals as goal
 pub returns-clause-only : goal.returns-clause-only
 returns-clause-only c curve names =
     let bytes = c.args.element.now in
-    let named = content_named curve (first_byte bytes) c.content.result.now bytes c.content.ensures.encoded names in
+    let named = content_named curve (first_byte bytes) c.content.result.now bytes c.content.ensures.1 names in
     c.from_content.ensures.only curve named.1
