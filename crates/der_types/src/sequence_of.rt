@@ -1,6 +1,7 @@
 //! SEQUENCE OF (X.690 section 8.10).
 ghost use Rattle.std.specs.Prelude.{◌≡◌, ◌<◌, ◌++◌, ◌∷◌, ℕ, List, [], length, Some, None, false};
-ghost use Rattle.std.specs.Prelude.{Ok, IsOk, IfOk, IfErr, OnOk, IsSome, IfSome, IfNone, IsSomeAnd};
+ghost use Rattle.std.specs.Prelude.{Ok, IsOk, IfOk, OnOk, IsSome, IfSome, IfNone, IsSomeAnd};
+ghost use Rattle.std.specs.Prelude.{MatchResult};
 ghost use Rattle.sec1_der.specs.Elements.{element_of};
 ghost use Rattle.sec1_der.specs.ErrorKinds.{IsReadingFault};
 ghost use Rattle.sec1_der.specs.Faults.{HasFault};
@@ -19,11 +20,11 @@ use std::marker::{Model, PhantomData};
 /// Those of [`SliceReader::decode`] for the first element that is refused.
 pub fn check_elements<'a, T: DecodeValue<'a> + Tagged + Drop>(bytes: &'a [u8]) -> Result<()>
     // It succeeds if and only if the bytes are the elements of a list of values.
-    ensures found { OnOk result
-        ((values : List T) × (joined T.tag_byte T.content values ≡ Some bytes.now)) }
+    ensures found { MatchResult result
+        (λ _. (values : List T) × (joined T.tag_byte T.content values ≡ Some bytes.now))
+        (λ e. IsReadingFault e.kind) }
     ensures only { (values : List T) → joined T.tag_byte T.content values ≡ Some bytes.now
         → IsOk result }
-    ensures kinds { IfErr result (λ e. IsReadingFault e.kind) }
     ensures kind { HasFault result (row_fault T.tag_byte T.fault bytes.now) }
 {
     let mut elements = SliceReader::new(bytes);
@@ -56,13 +57,12 @@ impl<'a, T> SequenceOf<'a, T> {
     pub fn new(bytes: &'a [u8]) -> Result<Self>
     where
         T: DecodeValue<'a> + Tagged + Drop,
-        ensures found { IfOk result (λ elements. elements ≡ bytes.now) }
         // It succeeds if and only if the bytes are the elements of a list of values.
-        ensures values { OnOk result
-            ((values : List T) × (joined T.tag_byte T.content values ≡ Some bytes.now)) }
+        ensures found { MatchResult result (λ elements. (elements ≡ bytes.now)
+            × ((values : List T) × (joined T.tag_byte T.content values ≡ Some bytes.now)))
+            (λ e. IsReadingFault e.kind) }
         ensures only { (values : List T) → joined T.tag_byte T.content values ≡ Some bytes.now
             → result ≡ Ok bytes.now }
-        ensures kinds { IfErr result (λ e. IsReadingFault e.kind) }
         ensures kind { HasFault result (row_fault T.tag_byte T.fault bytes.now) }
     {
         check_elements::<T>(bytes)?;

@@ -1,5 +1,5 @@
 //! SET OF (X.690 sections 8.12 and 11.6).
-ghost use Rattle.std.specs.Prelude.{◌≡◌, ℕ, List, Some, None, true, Ok, IfOk, IfErr, OnOk};
+ghost use Rattle.std.specs.Prelude.{◌≡◌, ℕ, List, Some, None, true, Ok, IfOk, MatchResult};
 ghost use Rattle.sec1_der.specs.ErrorKinds.{IsReadingFault};
 ghost use Rattle.sec1_der.specs.Faults.{HasFault};
 ghost use Rattle.der_types.specs.Rows.{joined, row_fault};
@@ -59,15 +59,14 @@ impl<'a, T> SetOf<'a, T> {
     pub fn new(bytes: &'a [u8]) -> Result<Self>
     where
         T: DecodeValue<'a> + Tagged + Drop,
-        ensures found { IfOk result (λ elements. elements ≡ bytes.now) }
         // It succeeds if and only if the bytes are the elements of a list of values, in ascending
         // order.
-        ensures values { OnOk result
-            ((values : List T) × (joined T.tag_byte T.content values ≡ Some bytes.now)) }
-        ensures ascending { OnOk result (is_ascending bytes.now ≡ true) }
+        ensures found { MatchResult result (λ elements. (elements ≡ bytes.now)
+            × (is_ascending bytes.now ≡ true)
+            × ((values : List T) × (joined T.tag_byte T.content values ≡ Some bytes.now)))
+            (λ e. IsReadingFault e.kind) }
         ensures only { (values : List T) → joined T.tag_byte T.content values ≡ Some bytes.now
             → is_ascending bytes.now ≡ true → result ≡ Ok bytes.now }
-        ensures kinds { IfErr result (λ e. IsReadingFault e.kind) }
         ensures kind { HasFault result (set_fault T.tag_byte T.fault bytes.now) }
     {
         check_elements::<T>(bytes)?;

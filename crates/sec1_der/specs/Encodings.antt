@@ -8,17 +8,24 @@ use Rattle.sec1_der.specs.declared.error.Error.{Error}
 use Rattle.sec1_der.specs.declared.error.ErrorKind.{ErrorKind}
 use Rattle.sec1_der.specs.declared.error.ErrorKind.TheVariants.{Overlength, Buffer}
 
--- The bytes are read as the element of a value. `content` gives that of a value, and `fault` is the
--- rule by which contents are refused.
-pub record ReadsElement {T : Type 0} (tag : ℕ) (content : T → Option (List ℕ)) (fault : Fault)
+-- The bytes are read as those of a value. `encoding` gives these of a value, and `fault` is the
+-- rule by which others are refused.
+pub record ReadsWhole {T : Type 0} (encoding : T → Option (List ℕ)) (fault : Fault)
     (bytes : List ℕ) (result : Result T Error) : Type 0 where
   -- what is read has these bytes
-  pub found : IfOk result (λ value. element_of tag (content value) ≡ Some bytes)
+  pub found : IfOk result (λ value. encoding value ≡ Some bytes)
   -- the value with these bytes is read
-  pub only : (value : T) → element_of tag (content value) ≡ Some bytes → result ≡ Ok value
+  pub only : (value : T) → encoding value ≡ Some bytes → result ≡ Ok value
   pub kinds : IfErr result (λ e. IsReadingFault e.kind)
   -- whether the bytes are refused, and by which kind, is a function of them
-  pub kind : HasFault result (element_fault tag fault end_fault bytes)
+  pub kind : HasFault result (fault bytes)
+
+-- The bytes are read as the element of a value. `content` gives that of a value, and `fault` is the
+-- rule by which contents are refused.
+abbrev pub ReadsElement : {T : Type 0} → ℕ → (T → Option (List ℕ)) → Fault → List ℕ
+    → Result T Error → Type 0
+ReadsElement tag content fault =
+    ReadsWhole (λ value. element_of tag (content value)) (element_fault tag fault end_fault)
 
 -- The length of the bytes is returned, or Overlength if there are none.
 pub record Measures (bytes : Option (List ℕ)) (result : Result ℕ Error) : Type 0 where

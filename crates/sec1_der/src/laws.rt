@@ -1,7 +1,8 @@
 //! Laws for callers to cite: of trees, of the kinds by which elements are refused, and that a value
 //! is determined by its bytes. Each law is the contract of a function, which does nothing else.
 ghost use Rattle.std.specs.Option.{option_or};
-ghost use Rattle.std.specs.Prelude.{◌≡◌, ◌⊎◌, ◌<◌, ◌≤◌, ◌++◌, [], ℕ, List, length, Some, None, IsSome};
+ghost use Rattle.std.specs.Prelude.{◌≡◌, ◌⊎◌, ◌<◌, ◌≤◌, ◌++◌, [], ℕ, List, length, Some, None};
+ghost use Rattle.std.specs.Prelude.{IsSome};
 ghost use Rattle.sec1_der.specs.Elements.{element, element_of, max_length, IsTag};
 ghost use Rattle.sec1_der.specs.Elements.{IsProperPrefix, LacksHeader};
 ghost use Rattle.sec1_der.specs.ErrorKinds.{header_fault};
