@@ -3,15 +3,18 @@ use Rattle.std.proofs.Common.{◌≡◌, ◌∷◌, [], ℕ, List, Option, Some,
 use Rattle.std.proofs.Common.{⊎_elim, inl, inr, Result, Ok, Err, IsErrAnd, MatchResult}
 use Rattle.sec1_der.specs.Encodings.{IsOverlengthOr}
 use Rattle.sec1_der.specs.declared.error.Error.{Error as DerError}
-use Rattle.sec1_der.specs.declared.error.ErrorKind.TheVariants.{Overlength, Buffer, Memory as DerMemory}
+use Rattle.sec1_der.specs.declared.error.ErrorKind.TheVariants.{Overlength, Buffer, Truncated, Memory as DerMemory}
 use Rattle.sec1.specs.declared.error.Error.{Error}
 use Rattle.sec1.specs.declared.error.Error.TheVariants.{Memory}
 use Rattle.sec1.specs.Errors.{IsAsn1, HasNoEncodingOr, error_of}
+use Rattle.sec1_der.specs.Elements.{IsProperPrefix, element}
+use Rattle.sec1_der.proofs.ElementFaultLemmas.{element_cut}
 use Rattle.sec1_der.proofs.ElementLaws.{element_of-within}
 use Rattle.sec1.specs.Der.{join, element_of, optional_of, IsTreeOf}
 use Rattle.sec1_der.specs.Identifiers.{content_of, identifier_content}
 use Rattle.sec1_der.proofs.IdentifierLaws.{is_identifier-true, identifier_content-valid}
-use Rattle.sec1.specs.Keys.{Key, key_tree, IsNamedCurve, IsKeyOf, HasNoEncoding, HasEncodingWith}
+use Rattle.sec1.specs.KeyFaults.{key_fault}
+use Rattle.sec1.specs.Keys.{Key, fields_of, key_tree, IsNamedCurve, IsKeyOf, HasNoEncoding, HasEncodingWith}
 
 -- the content of a key with this element of the identifier of its curve
 abbrev content_with : Option (Option (List ℕ)) → Key → Option (List ℕ)
@@ -82,6 +85,14 @@ found_with key P (Some bytes) e h = record { bytes = bytes; of_key = key_found k
 pub key_found_with : (key : Key) (P : List ℕ → Type 0) → IsSomeAnd (element_of 0x30 (key_content key)) P
     → HasEncodingWith key P
 key_found_with key P h = found_with key P (element_of 0x30 (key_content key)) refl h
+
+-- Bytes that a key's continue are refused as Truncated.
+pub key_cut : (key : Key) (bytes input : List ℕ) → IsKeyOf key bytes → IsProperPrefix input bytes
+    → key_fault input ≡ Some Truncated
+unfolding key_fault
+key_cut key bytes input is begins =
+    let cut : IsProperPrefix input (element 0x30 (fields_of key)) = rw is.tree.whole at begins in
+    search (element_cut, is.tree.tree.2, cut)
 
 -- A key that has none has no element.
 pub key_lacks : (key : Key) → HasNoEncoding key → element_of 0x30 (key_content key) ≡ None

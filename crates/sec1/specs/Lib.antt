@@ -3,6 +3,7 @@ pub mod Errors
 pub mod Parameters
 pub mod Keys
 pub mod KeyFaults
+pub mod InPlace
 pub mod ReadsKey
 pub mod Traits
 pub mod Points

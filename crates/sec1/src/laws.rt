@@ -2,11 +2,10 @@
 //! how points compare. Each law is the contract of a function, which does nothing else.
 
 ghost use Rattle.std.specs.Prelude.{◌≡◌, ◌⊎◌, ◌↔◌, List, ℕ, Some, IsTrue};
-ghost use Rattle.std.specs.declared.cmp.Ordering.TheVariants.{Less, Equal, Greater};
 ghost use Rattle.sec1.specs.Keys.{HasNoEncoding, IsKeyOf, Key};
 ghost use Rattle.sec1.specs.EncodedPoints.{point_of};
 ghost use Rattle.sec1.specs.Parameters.{curve_of};
-ghost use Rattle.sec1.specs.PointOrder.{IsBelow, point_cmp, same_point};
+ghost use Rattle.sec1.specs.PointOrder.{IsOrderOf, point_cmp, same_point};
 ghost use Rattle.sec1.specs.Points.{Fits, IsPoint, Point, encoding};
 ghost use Rattle.sec1.specs.declared.parameters.EcParameters.{EcParameters};
 
@@ -53,9 +52,7 @@ pub fn one_point<const N: usize, const L: usize>(point: &EncodedPoint<N, L>)
 /// the second, Greater when the second is below the first, and Equal when they are the same.
 #[tactic(auto, using(crate::proofs::PointOrderLemmas::orders))]
 pub fn points_ordered()
-    ensures below { (p q : Point) → (point_cmp p q ≡ Less) ↔ IsBelow p q }
-    ensures above { (p q : Point) → (point_cmp p q ≡ Greater) ↔ IsBelow q p }
-    ensures same { (p q : Point) → (point_cmp p q ≡ Equal) ↔ (p ≡ q) }
+    ensures { (p q : Point) → IsOrderOf p q (point_cmp p q) }
 {}
 
 /// Comparing points, also by `!=`, finds them equal exactly when they are the same. Two points of

@@ -1,14 +1,14 @@
 //! Key types that are read from, and written as, the DER of an EC private key. A key type says
 //! which bytes are read as which key, which bytes a key is written as, and which errors there are.
 
-ghost use Rattle.std.specs.Prelude.{ℕ, List, false, ◌≡◌, ◌⊎◌, IsTrue, IfOk, IfErr, OnOk, OnErr};
-ghost use Rattle.std.specs.Prelude.{MatchResult};
-ghost use Rattle.sec1.specs.Errors.{IsAsn1, RefusesAsn1};
-ghost use Rattle.sec1.specs.Traits.{IsDocumentError, IsElementWith, IsMemoryOr};
-ghost use Rattle.sec1.specs.Traits.{ConsumesElementWith, RefusesDocument, RefusesKey, WritesKey};
-ghost use Rattle.sec1.specs.Traits.{WritesKeyPrefix};
+ghost use Rattle.std.specs.Prelude.{ℕ, List, false, ◌≡◌, ◌⊎◌, MatchBool, MatchResult};
+ghost use Rattle.std.specs.Io.KnownBytes.{Appends};
+ghost use Rattle.sec1.specs.Errors.{IsAsn1};
+ghost use Rattle.sec1.specs.Traits.{IsDocumentError, IsMemoryOr, RefusesDocument, SomeBytes};
 ghost use Rattle.sec1.specs.declared.error.Error.{Error};
-ghost use Rattle.sec1_der.specs.Streams.{Ends, Takes};
+ghost use Rattle.sec1_der.specs.Elements.{IsElement};
+ghost use Rattle.sec1_der.specs.ReadsDocument.{ConsumesElement};
+ghost use Rattle.sec1_der.specs.Streams.{AppendsPrefix, Ends, Takes};
 ghost use Rattle.sec1_der.specs.declared.error.ErrorKind.TheVariants.{Io};
 
 use crate::{Error, Result};
@@ -40,15 +40,14 @@ pub trait DecodeEcPrivateKey: Sized {
     /// failed; then those of [`from_sec1_der`](DecodeEcPrivateKey::from_sec1_der).
     fn read_sec1_der_from<R: Read>(alloc: Global, reader: &mut R) -> Result<Self>
         requires { R.failed reader.old ≡ false }
-        ensures found { IfOk result (λ key. ConsumesElementWith (λ bytes. reads bytes key)
-            (Takes R.left R.taken reader.old reader.new)
-            (Ends R.left R.ended reader.new)) }
-        ensures io { IsTrue (R.failed reader.new) → RefusesAsn1 result Io }
-        ensures refused { IfErr result (λ error.
-            RefusesDocument (R.left reader.old) (Takes R.left R.taken reader.old reader.new)
-            (Ends R.left R.ended reader.new) (R.failed reader.new) error
-            ⊎ RefusesKey refuses (Takes R.left R.taken reader.old reader.new)
-            (Ends R.left R.ended reader.new) (R.failed reader.new) error) }
+        ensures { let taken = Takes R.left R.taken reader.old reader.new in
+            let ended = Ends R.left R.ended reader.new in
+            MatchResult result
+            (λ key. (R.failed reader.new ≡ false)
+            × SomeBytes (ConsumesElement taken ended) (λ bytes. reads bytes key))
+            (λ error. RefusesDocument (R.left reader.old) taken ended (R.failed reader.new) error
+            ⊎ ((R.failed reader.new ≡ false) × SomeBytes (ConsumesElement taken ended)
+            (λ bytes. IsMemoryOr (refuses bytes) error))) }
     {
         let document = SecretDocument::read_der_from(alloc, reader)?;
         Self::from_sec1_der(alloc, document.as_bytes())
@@ -61,9 +60,9 @@ pub trait DecodeEcPrivateKey: Sized {
     /// Those of [`SecretDocument::read_der_file`], then those of
     /// [`from_sec1_der`](DecodeEcPrivateKey::from_sec1_der).
     fn read_sec1_der_file<F: Files>(rt: &F, alloc: Global, path: &str) -> Result<Self>
-        ensures { MatchResult result (λ key. IsElementWith (λ bytes. reads bytes key))
+        ensures { MatchResult result (λ key. SomeBytes IsElement (λ bytes. reads bytes key))
             (λ error. IsDocumentError error
-            ⊎ IsElementWith (λ bytes. IsMemoryOr (refuses bytes) error)) }
+            ⊎ SomeBytes IsElement (λ bytes. IsMemoryOr (refuses bytes) error)) }
     {
         let document = SecretDocument::read_der_file(rt, alloc, path)?;
         Self::from_sec1_der(alloc, document.as_bytes())
@@ -94,14 +93,13 @@ pub trait EncodeEcPrivateKey {
     /// [`Error::Asn1`] of kind Io if a write failed, after a prefix of the bytes was written.
     fn write_sec1_der_to<W: Write>(&self, alloc: Global, writer: &mut W) -> Result<()>
         requires { W.failed writer.old ≡ false }
-        ensures all { OnOk result
-            (WritesKey writes self.now (W.written writer.old) (W.written writer.new)) }
-        ensures prefix { IsTrue (W.failed writer.new)
-            → WritesKeyPrefix writes self.now (W.written writer.old) (W.written writer.new) }
-        ensures nothing { W.failed writer.new ≡ false
-            → OnErr result (W.written writer.new ≡ W.written writer.old) }
-        ensures io { IsTrue (W.failed writer.new) → RefusesAsn1 result Io }
-        ensures kinds { W.failed writer.new ≡ false → IfErr result (IsMemoryOr (refuses self.now)) }
+        ensures { let old = W.written writer.old in
+            let new = W.written writer.new in
+            MatchResult result
+            (λ _. (W.failed writer.new ≡ false) × SomeBytes (writes self.now) (Appends old new))
+            (λ error. MatchBool (W.failed writer.new)
+            (IsAsn1 Io error × SomeBytes (writes self.now) (AppendsPrefix old new))
+            (IsMemoryOr (refuses self.now) error × (new ≡ old))) }
     {
         let document = self.to_sec1_der(alloc)?;
         document.write_der_to(writer)?;
@@ -115,7 +113,7 @@ pub trait EncodeEcPrivateKey {
     /// Those of [`to_sec1_der`](EncodeEcPrivateKey::to_sec1_der), before the file is opened, then
     /// those of [`SecretDocument::write_der_file`].
     fn write_sec1_der_file<F: Files>(&self, rt: &F, alloc: Global, path: &str) -> Result<()>
-        ensures { MatchResult result (λ _. IsElementWith (writes self.now))
+        ensures { MatchResult result (λ _. SomeBytes IsElement (writes self.now))
             (λ error. IsAsn1 Io error ⊎ IsMemoryOr (refuses self.now) error) }
     {
         let document = self.to_sec1_der(alloc)?;

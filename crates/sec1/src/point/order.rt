@@ -1,15 +1,14 @@
 //! Equality, order and hash of points. The order is by tag, then by coordinates as whole numbers.
 
-ghost use Rattle.std.specs.Prelude.{◌≡◌, ◌↔◌, IsTrue, Some, refl};
+ghost use Rattle.std.specs.Prelude.{◌≡◌, IsSomeAnd, Some, refl};
 ghost use Rattle.std.specs.Cmp.{on_per, on_equiv, on_total, partial_equiv_from_equiv};
 ghost use Rattle.std.specs.Cmp.{partial_order_from_agreeing_total};
 ghost use Rattle.std.specs.Cmp.Lexicographic.{slice_cmp};
 ghost use Rattle.std.specs.Ordering.{nat_cmp};
 ghost use Rattle.sec1.specs.EncodedPoints.{point_of};
 ghost use Rattle.sec1.specs.Points.{encoding, Point};
-ghost use Rattle.sec1.specs.PointOrder.{point_cmp, same_point, IsBelow};
+ghost use Rattle.sec1.specs.PointOrder.{point_cmp, same_point, IsOrderOf, TellsSame};
 ghost use Rattle.sec1.specs.PointOrderLaws.{point_cmp_total, same_point_equiv, same_point-true};
-ghost use Rattle.std.specs.declared.cmp.Ordering.TheVariants.{Less, Equal, Greater};
 ghost use Rattle.std.proofs.Common.{ap};
 ghost use Rattle.std.specs.Hash as fed;
 
@@ -24,9 +23,7 @@ impl<const N: usize, const L: usize> PartialEq for EncodedPoint<N, L> {
 
     fn eq(&self, other: &Self) -> bool
         ensures value { result ≡ same_point (point_of self.now) (point_of other.now) }
-        ensures same { IsTrue result ↔ (point_of self.now ≡ point_of other.now) }
-        ensures bytes { IsTrue result
-            ↔ (encoding N (point_of self.now) ≡ encoding N (point_of other.now)) }
+        ensures same { TellsSame N (point_of self.now) (point_of other.now) result }
     {
         self.ct_eq(other)
     }
@@ -44,9 +41,7 @@ impl<const N: usize, const L: usize> PartialOrd for EncodedPoint<N, L> {
 
     fn partial_cmp(&self, other: &Self) -> Option<Ordering>
         ensures value { result ≡ Some (point_cmp (point_of self.now) (point_of other.now)) }
-        ensures below { (result ≡ Some Less) ↔ IsBelow (point_of self.now) (point_of other.now) }
-        ensures above { (result ≡ Some Greater) ↔ IsBelow (point_of other.now) (point_of self.now) }
-        ensures same { (result ≡ Some Equal) ↔ (point_of self.now ≡ point_of other.now) }
+        ensures order { IsSomeAnd result (IsOrderOf (point_of self.now) (point_of other.now)) }
     {
         Some(self.cmp(other))
     }
@@ -63,9 +58,7 @@ impl<const N: usize, const L: usize> Ord for EncodedPoint<N, L> {
 
     fn cmp(&self, other: &Self) -> Ordering
         ensures value { result ≡ point_cmp (point_of self.now) (point_of other.now) }
-        ensures below { (result ≡ Less) ↔ IsBelow (point_of self.now) (point_of other.now) }
-        ensures above { (result ≡ Greater) ↔ IsBelow (point_of other.now) (point_of self.now) }
-        ensures same { (result ≡ Equal) ↔ (point_of self.now ≡ point_of other.now) }
+        ensures order { IsOrderOf (point_of self.now) (point_of other.now) result }
         ensures bytes { result
             ≡ slice_cmp nat_cmp (encoding N (point_of self.now)) (encoding N (point_of other.now)) }
     {

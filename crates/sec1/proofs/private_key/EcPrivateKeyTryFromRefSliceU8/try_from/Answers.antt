@@ -1,4 +1,4 @@
-use Rattle.std.proofs.Common.{◌≡◌, Ok, refl, [], ◌++◌, sym, ap, ◌∙◌}
+use Rattle.std.proofs.Common.{◌≡◌, Ok, Some, refl, [], ◌++◌, sym, ap, ◌∙◌}
 use Rattle.std.proofs.lemmas.Bool.{false≢true}
 use Rattle.std.proofs.lemmas.Result.{err_from_is_err_and}
 use Rattle.sec1_der.specs.declared.error.Error.{Error as DerError}
@@ -7,10 +7,10 @@ use Rattle.sec1_der.specs.declared.error.ErrorKind.TheVariants.{Memory as DerMem
 use Rattle.sec1.specs.Der.{IsReadingFault}
 use Rattle.sec1.specs.Errors.{error_of}
 use Rattle.sec1.specs.declared.error.Error.TheVariants.{Asn1}
-use Rattle.sec1_der.proofs.ElementLaws.{element_of-some}
+use Rattle.sec1_der.proofs.ElementLaws.{element_of-inside, element_of-some}
 use Rattle.sec1.specs.KeyFaults.{key_fault}
-use Rattle.sec1.specs.Keys.{key_tree, fields_of}
-use Rattle.sec1.proofs.KeyLemmas.{key_content, key_found, key_written}
+use Rattle.sec1.specs.Keys.{key_tree}
+use Rattle.sec1.proofs.KeyLemmas.{key_content, key_cut, key_found, key_written}
 use Rattle.sec1.proofs.private_key.EcPrivateKeyTryFromRefSliceU8.try_from.Goals as goal
 
 -- A fault of reading stays an error of DER.
@@ -23,16 +23,16 @@ pub returns-in_err-read_in_place : goal.returns-in_err-read_in_place
 unfolding key_fault
 returns-in_err-read_in_place c =
     let answered = err_from_is_err_and c.from_residual.result c.from_residual.ensures.1 in
-    let read = c.in_err-read_in_place.ensures in
+    let read = c.in_err-read_in_place.ensures.read in
     let cause = c.in_err-read_in_place.field-0.0 in
     rw (answered.1, answered.2, asn1 cause.kind cause refl read.kinds) (record {
       found = tt;
-      only = λ key is. absurd (false≢true (read.only key (key_written key c.args.bytes.now is)).0);
+      only = λ key is. absurd (false≢true (read.only key (key_written key c.args.bytes.now is)));
       one_tree = tt;
       kinds = read.kinds;
       kind = read.kind;
-      short = λ key bytes is begins. read.short (fields_of key) is.tree.tree.2 (rw is.tree.whole at begins);
-      long = λ key bytes is begins. read.long key bytes (key_written key bytes is) begins;
+      short = λ key bytes is begins. cc (read.kind, key_cut key bytes c.args.bytes.now is begins);
+      long = λ key bytes is begins. c.in_err-read_in_place.ensures.long key bytes (key_written key bytes is) begins;
     })
 
 pub returns : goal.returns
@@ -40,21 +40,21 @@ unfolding key_fault
 returns c =
     let input = c.args.bytes.now in
     let key = c.read_in_place.new.place in
-    let read = c.in_ok-read_in_place.ensures in
+    let read = c.in_ok-read_in_place.ensures.read in
     let found = key_found key input read.found in
     record {
       found = found;
       only = λ other at.
-          let there = element_of-some 0x30 (key_content other) input (key_written other input at) in
-          ap Ok
-          (c.one.ensures key other there.inside
-          ((read.only other (key_written other input at)).1 ∙ there.same) there.same);
+          let here = element_of-some 0x30 (key_content key) input read.found in
+          let there = key_written other input at ∙ ap Some here.at.encoded in
+          let same = element_of-inside 0x30 (key_content other) here.inside there in
+          ap Ok (c.one.ensures key other here.inside here.same same);
       one_tree = λ t at.
           (c.trees_unique.ensures t (key_tree key) [] [] at.tree found.tree.tree
           (ap (λ xs. xs ++ []) (sym at.whole ∙ found.tree.whole))).0;
       kinds = tt;
       kind = read.kind;
-      short = λ other bytes at begins. absurd
-          (read.short (fields_of other) at.tree.tree.2 (rw at.tree.whole at begins));
-      long = λ other bytes at begins. absurd (read.long other bytes (key_written other bytes at) begins);
+      short = λ other bytes at begins. absurd (cc (read.kind, key_cut other bytes input at begins));
+      long = λ other bytes at begins.
+          absurd (c.in_ok-read_in_place.ensures.long other bytes (key_written other bytes at) begins);
     }

@@ -14,10 +14,7 @@ returns-then-other g c =
     let order = point_order c.args.self.now c.args.other.now in
     record {
       value = cc;
-      below = grind (arith, orders);
-      above = grind (arith, orders);
-      same = grind
-          (arith, orders);
+      order = record { below = grind (arith, orders); above = grind (arith, orders); same = grind (arith, orders) };
       bytes = bytes;
     }
 
@@ -26,9 +23,6 @@ returns g c =
     let order = point_order c.args.self.now c.args.other.now in
     record {
       value = cc;
-      below = grind (arith, orders);
-      above = grind (arith, orders);
-      same = grind
-          (arith, orders);
+      order = record { below = grind (arith, orders); above = grind (arith, orders); same = grind (arith, orders) };
       bytes = cc;
     }
