@@ -19,7 +19,7 @@ use Rattle.sec1.specs.Tags.{byte_of, message_len, point_tag}
 use Rattle.sec1.specs.EncodedPoints.{point_of, ReadsBytes}
 use Rattle.sec1.specs.declared.point.EncodedPoint.{EncodedPoint}
 use Rattle.sec1.proofs.DigitLemmas.{length-fixed_width, num-below, fixed_width-num}
-use Rattle.sec1.proofs.PointLemmas.{half, meaning-enc, meaning-enc-append, meaning-fits, IsBytes-enc, byte_of-tag_of}
+use Rattle.sec1.proofs.PointLemmas.{meaning-enc, meaning-enc-append, meaning-fits, IsBytes-enc, byte_of-tag_of}
 use Rattle.sec1.proofs.PointLemmas.{length-enc, length-enc-le, no_prefix}
 use Rattle.sec1.proofs.ByteOrderLemmas.{slice_cmp-enc}
 
@@ -91,14 +91,6 @@ same_encodings {N} p q = (λ h. ap (meaning N) (sym p.encoded ∙ h ∙ q.encode
 pub point_order : {N L : ℕ} (p q : EncodedPoint N L)
     → slice_cmp nat_cmp (encoding N (point_of p)) (encoding N (point_of q)) ≡ point_cmp (point_of p) (point_of q)
 point_order {N} p q = slice_cmp-enc N (point_of p) (point_of q) (point_fits p) (point_fits q)
-
--- Two buffers are the same where their first bytes and both halves are.
-pub halves_same : (n : ℕ) (xs ys : List ℕ) → length xs ≡ 2 * n + 1 → length ys ≡ 2 * n + 1
-    → get_or xs 0 0 ≡ get_or ys 0 0
-    → take n (drop 1 xs) ≡ take n (drop 1 ys) → take n (drop n (drop 1 xs)) ≡ take n (drop n (drop 1 ys)) → xs ≡ ys
-halves_same n (a ∷ xs) (b ∷ ys) long other_long first front back =
-    grind (arith, half n xs, half n ys, take-append-drop n xs, take-append-drop n ys)
-halves_same n xs ys long other_long first front back = absurd (omega arith)
 
 -- ---- another tag in the first byte
 
@@ -189,9 +181,11 @@ encoding_room n l input fits e = omega (arith, length-enc-le n e.of, ap length e
 pub read_bytes : {N L : ℕ} (input : List ℕ) (point : EncodedPoint N L) → take point.len point.bytes ≡ input
     → IsEncoding N input → ReadsBytes input (Ok point)
 read_bytes {N} input point front e = record {
-  found = (point.sizes, point_fits point, sym (point.encoded ∙ front));
-  only = λ p _ fits encoded. rw front (holds N input p fits encoded).means;
-  kind = tt;
+  point = record {
+    found = (point.sizes, point_fits point, sym (point.encoded ∙ front));
+    only = λ p _ fits encoded. rw front (holds N input p fits encoded).means;
+    kind = tt;
+  };
   begins_none = λ other _ begins. no_prefix N e.of other (rw e.encoded at begins);
   begun_by_none = λ other _ begun. no_prefix N other e.of (rw e.encoded at begun);
 }

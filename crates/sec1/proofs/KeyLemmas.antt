@@ -14,7 +14,7 @@ use Rattle.sec1.specs.Der.{join, element_of, optional_of, IsTreeOf}
 use Rattle.sec1_der.specs.Identifiers.{content_of, identifier_content}
 use Rattle.sec1_der.proofs.IdentifierLaws.{is_identifier-true, identifier_content-valid}
 use Rattle.sec1.specs.KeyFaults.{key_fault}
-use Rattle.sec1.specs.Keys.{Key, fields_of, key_tree, IsNamedCurve, IsKeyOf, HasNoEncoding, HasEncodingWith}
+use Rattle.sec1.specs.Keys.{Key, fields_of, key_tree, IsNamedCurve, IsKeyOf, HasNoEncoding, SomeBytes}
 
 -- the content of a key with this element of the identifier of its curve
 abbrev content_with : Option (Option (List ℕ)) → Key → Option (List ℕ)
@@ -77,13 +77,13 @@ key_found key bytes e =
     }
 
 found_with : (key : Key) (P : List ℕ → Type 0) (piece : Option (List ℕ)) → element_of 0x30 (key_content key) ≡ piece
-    → IsSomeAnd piece P → HasEncodingWith key P
+    → IsSomeAnd piece P → SomeBytes (IsKeyOf key) P
 found_with key P None e h = absurd h
-found_with key P (Some bytes) e h = record { bytes = bytes; of_key = key_found key bytes e; holds = h }
+found_with key P (Some bytes) e h = record { bytes = bytes; are_such = key_found key bytes e; holds = h }
 
 -- What holds of the element of a key holds of its bytes.
 pub key_found_with : (key : Key) (P : List ℕ → Type 0) → IsSomeAnd (element_of 0x30 (key_content key)) P
-    → HasEncodingWith key P
+    → SomeBytes (IsKeyOf key) P
 key_found_with key P h = found_with key P (element_of 0x30 (key_content key)) refl h
 
 -- Bytes that a key's continue are refused as Truncated.

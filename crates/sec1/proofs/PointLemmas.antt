@@ -1,6 +1,6 @@
 -- Points, tags and encodings.
 use Rattle.std.proofs.Common.{◌≡◌, ℕ, zero, suc, ◌+◌, ◌-◌, ◌*◌, ◌%◌, ◌≤◌, true, List, [], ◌∷◌, ◌++◌, length, get_or}
-use Rattle.std.proofs.Common.{take, drop, sym, ap, ◌∙◌, arith}
+use Rattle.std.proofs.Common.{slice_index, take, drop, sym, ap, refl, ◌∙◌, arith}
 use Rattle.std.proofs.Common.{append_assoc, append-nil, ◌↔◌, take_at, drop_at, take_all, length-drop, get_or-drop}
 use Rattle.std.proofs.Common.{length-append, length-take, take-append-drop}
 use Rattle.std.proofs.lemmas.List.{nil_from_length}
@@ -35,7 +35,12 @@ pub length-enc : (n : ℕ) (p : Point) → length (encoding n p) ≡ message_len
 unfolding encoding
 length-enc n p = grind (arith, length-append {A = ℕ}, length-fixed_width)
 
-pub ruleset tag_facts = (byte_of-injective, byte_of-tag_of)
+-- What a point's tag says of its encoding.
+pub tag_of : (n : ℕ) (p : Point) (tag : Tag) → tag ≡ point_tag p
+    → (tag ≡ point_tag p) × (byte_of tag ≡ slice_index (encoding n p) 0) × (message_len tag n ≡ length (encoding n p))
+unfolding encoding
+tag_of n p tag is =
+    rw is (refl, byte_of-tag_of p, sym (length-enc n p))
 
 -- No encoding is longer than that of both coordinates.
 pub length-enc-le : (n : ℕ) (p : Point) → length (encoding n p) ≤ 2 * n + 1

@@ -1,13 +1,17 @@
 -- Which points tie, and which are less than others.
-use Rattle.std.proofs.Common.{◌≡◌, ℕ, ◌<◌, Bool, true, false, arith, ◌↔◌, Less, Equal, Greater, nat_cmp}
+use Rattle.std.proofs.Common.{◌≡◌, ℕ, ◌<◌, Bool, true, false, arith, ◌↔◌, refl, Less, Equal, Greater, nat_cmp}
 use Rattle.std.proofs.lemmas.Cmp.{tied_itself}
 use Rattle.sec1.specs.Points.{Point}
 use Rattle.sec1.specs.PointOrder.{IsBelow, point_cmp, same_point}
-use Rattle.sec1.specs.PointOrderLaws.{point_cmp_total, same_point-true, point_cmp-Equal}
+use Rattle.sec1.specs.PointOrderLaws.{point_cmp_total, same_point-true}
 
 -- The same point ties.
 pub Equal-point_cmp : (p q : Point) → p ≡ q → point_cmp p q ≡ Equal
 Equal-point_cmp p q h = rw h (tied_itself point_cmp_total q)
+
+-- Points that tie are the same.
+pub point_cmp-Equal : (p q : Point) → point_cmp p q ≡ Equal → p ≡ q
+point_cmp-Equal p q h = same_point-true p q (rw h refl)
 
 -- A test that decides sameness is the test of sameness.
 pub decides_same : (r : Bool) (p q : Point) → ((r ≡ true) ↔ (p ≡ q)) → r ≡ same_point p q

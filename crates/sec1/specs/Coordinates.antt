@@ -1,6 +1,7 @@
 -- Coordinates borrowed as arrays of bytes.
 use Rattle.std.specs.Prelude.{◌≡◌, ℕ, zero, suc, List, [], ◌∷◌, ◌++◌, length, ⊤}
-use Rattle.std.specs.Prelude.{get_or}
+use Rattle.std.specs.Prelude.{get_or, Option}
+use Rattle.std.specs.Option.{option_map}
 use Rattle.sec1_der.specs.Numbers.{number_of}
 use Rattle.sec1.specs.Points.{Point, identity, compact, compressed, uncompressed, hybrid}
 use Rattle.sec1.specs.Points.{fixed_width, tag_byte}
@@ -59,3 +60,8 @@ array_bytes {N} (parts.Hybrid x y) = first_bytes N x.now ++ first_bytes N y.now
 -- SEC1 v2.0 section 2.3.3: the encoding with these coordinates
 abbrev pub coordinates_bytes : {N : ℕ} → Coordinates N → List ℕ
 coordinates_bytes c = tag_byte (coordinates_point c) ∷ array_bytes c
+
+-- the array, if there is one, has the n digits of the coordinate, if there is one
+pub record HasDigitsOf (n : ℕ) (coordinate : Option ℕ) (array : Option (List ℕ)) : Type 0 where
+  pub number : option_map number_of array ≡ coordinate
+  pub bytes : array ≡ option_map (fixed_width n) coordinate

@@ -45,7 +45,7 @@ error_text errors.Version = Some (codes "Version")
 error_text errors.Memory = Some (codes "Memory")
 
 -- of `true` and `false`
-abbrev pub flag_text : Bool → Option (List ℕ)
+abbrev flag_text : Bool → Option (List ℕ)
 flag_text flag = Some (if flag then codes "true" else codes "false")
 
 -- of the coordinates of a point, each by its bytes: x alone, x and the parity of y, or x and y

@@ -1,7 +1,6 @@
 -- The errors of this crate.
-use Rattle.std.specs.Prelude.{◌≡◌, ◌⊎◌, ◌++◌, codes, List, ℕ, Option, Some, None, Result}
-use Rattle.std.specs.Prelude.{IsErrAnd, MatchResult}
-use Rattle.sec1.specs.Keys.{Key, HasNoEncoding, HasEncodingWith}
+use Rattle.std.specs.Prelude.{◌≡◌, ◌⊎◌, ◌++◌, codes, List, ℕ, Option, Some, Result, IsErrAnd}
+use Rattle.sec1.specs.Keys.{Key, IsKeyOf, HasNoEncoding, SomeBytes}
 use Rattle.sec1.specs.declared.error.Error.{Error}
 use Rattle.sec1.specs.declared.error.Error.TheVariants.{Asn1, Crypto, PointEncoding, Version}
 use Rattle.sec1.specs.declared.error.Error.TheVariants.{Memory}
@@ -43,15 +42,11 @@ IsAsn1ReadingFault = IsAsn1Where IsReadingFault
 abbrev pub IsAsn1Fault : Option ErrorKind → Error → Type 0
 IsAsn1Fault fault = IsAsn1Where (λ kind. fault ≡ Some kind)
 
--- the call fails with an error of DER of this kind, or succeeds if there is none
-abbrev pub HasAsn1Fault : {T : Type 0} → Result T Error → Option ErrorKind → Type 0
-HasAsn1Fault result fault = MatchResult result (λ _. fault ≡ None) (IsAsn1Fault fault)
-
 -- The error is Overlength, and the key has no encoding; or it is such a one, and this holds of the
 -- encoding.
 abbrev pub HasNoEncodingOr : (Error → Type 0) → Key → (List ℕ → Type 0) → Error → Type 0
 HasNoEncodingOr IsSuch key P e =
-    (IsAsn1 Overlength e × HasNoEncoding key) ⊎ (IsSuch e × HasEncodingWith key P)
+    (IsAsn1 Overlength e × HasNoEncoding key) ⊎ (IsSuch e × SomeBytes (IsKeyOf key) P)
 
 -- what `{}` prints of an error
 abbrev pub error_message : Error → List ℕ

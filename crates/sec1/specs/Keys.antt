@@ -49,10 +49,10 @@ pub record IsKeyOf (key : Key) (input : List ℕ) : Type 0 where
 abbrev pub HasNoEncoding : Key → Type 0
 HasNoEncoding key = (bytes : List ℕ) → IsKeyOf key bytes → ⊥
 
--- the key has an encoding, and this holds for it
-pub record HasEncodingWith (key : Key) (P : List ℕ → Type 0) : Type 0 where
+-- there are bytes that are such, as those of a key, and this holds of them
+pub record SomeBytes (AreSuch P : List ℕ → Type 0) : Type 0 where
   pub bytes : List ℕ
-  pub of_key : IsKeyOf key bytes
+  pub are_such : AreSuch bytes
   pub holds : P bytes
 
 -- the bytes of these trees, one after the other

@@ -32,7 +32,7 @@ three_tie : (a b c d e f : ℕ)
 three_tie a b c d e f h = (grind arith, grind arith, grind arith)
 
 -- Points that tie are the same.
-pub point_cmp-Equal : (p q : Point) → point_cmp p q ≡ Equal → p ≡ q
+point_cmp-Equal : (p q : Point) → point_cmp p q ≡ Equal → p ≡ q
 unfolding point_cmp
 point_cmp-Equal p q h =
     let tie =

@@ -1,6 +1,6 @@
 -- What reading a key from bytes means.
-use Rattle.std.specs.Prelude.{◌≡◌, List, ℕ, Result, Ok, IfOk, IfErr}
-use Rattle.sec1.specs.Errors.{RefusesAsn1, IsAsn1ReadingFault, HasAsn1Fault}
+use Rattle.std.specs.Prelude.{◌≡◌, List, ℕ, None, Result, Ok, IfOk, IfErr, MatchResult}
+use Rattle.sec1.specs.Errors.{RefusesAsn1, IsAsn1ReadingFault, IsAsn1Fault}
 use Rattle.sec1.specs.KeyFaults.{key_fault}
 use Rattle.sec1.specs.Keys.{Key, key_tree, IsKeyOf}
 use Rattle.sec1.specs.declared.error.Error.{Error}
@@ -19,7 +19,7 @@ pub record ReadsKey (input : List ℕ) (result : Result Key Error) : Type 0 wher
   -- all other bytes are refused, by one of these kinds
   pub kinds : IfErr result IsAsn1ReadingFault
   -- whether the bytes are refused, and by which kind, is a function of them
-  pub kind : HasAsn1Fault result (key_fault input)
+  pub kind : MatchResult result (λ _. key_fault input ≡ None) (IsAsn1Fault (key_fault input))
   -- a proper prefix of a key's bytes is refused as Truncated
   pub short : (key : Key) (bytes : List ℕ) → IsKeyOf key bytes → IsProperPrefix input bytes
       → RefusesAsn1 result Truncated

@@ -1,22 +1,14 @@
--- What a key type reads from a stream, and what it writes to one. Here `Taken` says of bytes that
--- they and no others were taken, and `Ended` that the input has ended.
-use Rattle.std.specs.Prelude.{◌≡◌, ◌⊎◌, ◌↔◌, ℕ, List, Option, Bool, false, IsTrue, IfSome}
-use Rattle.std.specs.Io.KnownBytes.{Appends}
+-- The errors of reading and writing a key type. Here `Taken` says of bytes that they and no others
+-- were taken, and `Ended` that the input has ended.
+use Rattle.std.specs.Prelude.{◌≡◌, ◌⊎◌, ◌↔◌, ℕ, List, Option, Bool, IsTrue, IfSome}
 use Rattle.sec1.specs.Errors.{error_of}
 use Rattle.sec1.specs.declared.error.Error.{Error}
 use Rattle.sec1.specs.declared.error.Error.TheVariants.{Memory}
 use Rattle.sec1_der.specs.Elements.{IsElement}
 use Rattle.sec1_der.specs.ErrorKinds.{IsIoOrMemory}
-use Rattle.sec1_der.specs.ReadsDocument.{IsElementFault, ConsumesElement, RefusesElement}
-use Rattle.sec1_der.specs.Streams.{AppendsPrefix}
+use Rattle.sec1_der.specs.ReadsDocument.{IsElementFault, RefusesElement}
 use Rattle.sec1_der.specs.declared.error.Error.{Error as DerError}
 use Rattle.sec1_der.specs.declared.error.ErrorKind.TheVariants.{Io}
-
--- there are bytes that are such, and this holds of them
-pub record SomeBytes (Are P : List ℕ → Type 0) : Type 0 where
-  pub bytes : List ℕ
-  pub are : Are bytes
-  pub holds : P bytes
 
 -- an allocation failed, or the key type refused
 abbrev pub IsMemoryOr : (Error → Type 0) → Error → Type 0

@@ -42,8 +42,7 @@ pub fn bytes_or_none(key: &EcPrivateKey)
 
 /// The meaning of an [`EncodedPoint`] is a point of its size.
 pub fn one_point<const N: usize, const L: usize>(point: &EncodedPoint<N, L>)
-    ensures sizes { Fits N L }
-    ensures point { IsPoint N (point_of point.now) }
+    ensures { Fits N L × IsPoint N (point_of point.now) }
 {
     let _len = point.len();
 }

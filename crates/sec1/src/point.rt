@@ -17,7 +17,7 @@ ghost use Rattle.std.specs.Prelude.{slice_index, take, drop, set, IsTrue};
 ghost use Rattle.std.specs.Option.{option_map};
 ghost use Rattle.sec1_der.specs.Numbers.{number_of};
 ghost use Rattle.sec1.specs.Points.{identity, uncompressed, IsEncoding, meaning, encoding, Fits};
-ghost use Rattle.sec1.specs.Points.{compressed_point, fixed_width, hybrid_point, x_of, y_of};
+ghost use Rattle.sec1.specs.Points.{compressed_point, hybrid_point, x_of, y_of};
 
 use crate::error::{Error, Result};
 pub use coordinates::Coordinates;
@@ -56,10 +56,11 @@ pub type EncodedPoint48 = EncodedPoint<48, 97>;
 pub type EncodedPoint66 = EncodedPoint<66, 133>;
 
 impl<const N: usize, const L: usize> EncodedPoint<N, L> {
-    ghost use Rattle.sec1.specs.EncodedPoints.{point_of, IsWiped, KeepsBuffer, ReadsBytes};
+    ghost use Rattle.sec1.specs.EncodedPoints.{point_of, IsCompressedFrom, IsWiped, ReadsBytes};
     ghost use Rattle.sec1.specs.Tags.{byte_of, message_len, point_tag, is_compact, is_compressed};
     ghost use Rattle.sec1.specs.Tags.{is_hybrid, is_identity};
     ghost use Rattle.sec1.specs.Coordinates.{coordinates_bytes, coordinates_point, AreDigits};
+    ghost use Rattle.sec1.specs.Coordinates.{HasDigitsOf};
 
     /// Returns `true` if N is at least 1 and L is 2N + 1. Otherwise there are no points of this
     /// type.
@@ -103,8 +104,7 @@ impl<const N: usize, const L: usize> EncodedPoint<N, L> {
     ///
     /// Requires exactly 2N bytes, and that N and L [fit](EncodedPoint::fits).
     pub fn from_untagged_bytes(bytes: &[u8]) -> Self
-        requires sizes { Fits N L }
-        requires len { length bytes.now ≡ 2 * N }
+        requires { Fits N L × (length bytes.now ≡ 2 * N) }
         ensures { point_of result
             ≡ uncompressed (number_of (take N bytes.now)) (number_of (drop N bytes.now)) }
     {
@@ -127,9 +127,7 @@ impl<const N: usize, const L: usize> EncodedPoint<N, L> {
     /// Returns the uncompressed point with these coordinates, of N bytes each.
     #[tactic(auto, using(crate::proofs::EncodedPointLemmas::halves_hold))]
     fn from_halves(x: &[u8], y: &[u8]) -> Self
-        requires sizes { Fits N L }
-        requires x_len { length x.now ≡ N }
-        requires y_len { length y.now ≡ N }
+        requires { Fits N L × (length x.now ≡ N) × (length y.now ≡ N) }
         ensures { point_of result ≡ uncompressed (number_of x.now) (number_of y.now) }
     {
         let mut bytes = [0; L];
@@ -146,8 +144,7 @@ impl<const N: usize, const L: usize> EncodedPoint<N, L> {
     #[tactic(auto, using(crate::proofs::EncodedPointLemmas::identity_holds))]
     pub fn identity() -> Self
         requires { Fits N L }
-        ensures point { point_of result ≡ identity }
-        ensures wiped { IsWiped result }
+        ensures { IsWiped result }
     {
         EncodedPoint {
             bytes: [0; L],
@@ -202,10 +199,7 @@ impl<const N: usize, const L: usize> EncodedPoint<N, L> {
     // Inlined: otherwise the result is moved once more.
     #[inline(always)]
     pub fn compress(&self) -> Self
-        ensures point { point_of result ≡ compressed_point (point_of self.now) }
-        ensures same_x { x_of (point_of result) ≡ x_of (point_of self.now) }
-        ensures once { compressed_point (point_of result) ≡ point_of result }
-        ensures kept { KeepsBuffer self.now result }
+        ensures { IsCompressedFrom self.now result }
     {
         let (tag, len) = self.compressed_front();
         EncodedPoint {
@@ -217,9 +211,8 @@ impl<const N: usize, const L: usize> EncodedPoint<N, L> {
     /// Returns the tag byte and the length of the compressed form, whose other bytes are those of
     /// this one.
     fn compressed_front(&self) -> (u8, usize)
-        ensures room { result.1 ≤ L }
-        ensures front { take result.1 (set self.now.bytes 0 result.0)
-            ≡ encoding N (compressed_point (point_of self.now)) }
+        ensures { (result.1 ≤ L) × (take result.1 (set self.now.bytes 0 result.0)
+            ≡ encoding N (compressed_point (point_of self.now))) }
     {
         // Uncompressed and hybrid points fill the buffer, and no others.
         if self.len != L {
@@ -244,11 +237,11 @@ impl<const N: usize, const L: usize> EncodedPoint<N, L> {
 
     /// Returns the tag, the first byte of the encoding. The length of the encoding is that of its
     /// tag.
-    #[tactic(auto, using(crate::proofs::EncodedPointLemmas::first_byte, crate::proofs::PointLemmas::tag_facts), unfolding(crate::specs::Points::encoding))]
+    #[tactic(auto, using(crate::proofs::EncodedPointLemmas::first_byte))]
     pub fn tag(&self) -> Tag
-        ensures point { result ≡ point_tag (point_of self.now) }
-        ensures first { byte_of result ≡ slice_index (encoding N (point_of self.now)) 0 }
-        ensures len { message_len result N ≡ length (encoding N (point_of self.now)) }
+        ensures { let point = point_of self.now in
+            (result ≡ point_tag point) × (byte_of result ≡ slice_index (encoding N point) 0)
+            × (message_len result N ≡ length (encoding N point)) }
     {
         match Tag::from_u8(self.bytes[0]) {
             Ok(tag) => tag,
@@ -267,9 +260,9 @@ impl<const N: usize, const L: usize> EncodedPoint<N, L> {
     /// }
     /// ```
     pub fn coordinates(&self) -> Coordinates<'_, N>
-        ensures point { coordinates_point result ≡ point_of self.now }
-        ensures encoded { coordinates_bytes result ≡ encoding N (point_of self.now) }
-        ensures digits { AreDigits result }
+        ensures { let point = point_of self.now in
+            (coordinates_point result ≡ point) × (coordinates_bytes result ≡ encoding N point)
+            × AreDigits result }
     {
         let (x, y) = self.halves();
         Coordinates::with_tag(self.tag(), x, y)
@@ -278,10 +271,9 @@ impl<const N: usize, const L: usize> EncodedPoint<N, L> {
     /// Borrows the N bytes after the tag, and the N bytes after these, whether or not they belong
     /// to the encoding.
     fn halves(&self) -> (&[u8; N], &[u8; N])
-        ensures x { result.0.now ≡ take N (drop 1 self.now.bytes) }
-        ensures y { result.1.now ≡ take N (drop N (drop 1 self.now.bytes)) }
-        ensures x_len { length result.0.now ≡ N }
-        ensures y_len { length result.1.now ≡ N }
+        ensures { (result.0.now ≡ take N (drop 1 self.now.bytes))
+            × (result.1.now ≡ take N (drop N (drop 1 self.now.bytes)))
+            × (length result.0.now ≡ N) × (length result.1.now ≡ N) }
     {
         let all = self.bytes.as_slice();
         let Some((x, rest)) = all[1..].split_first_chunk::<N>() else {
@@ -296,9 +288,7 @@ impl<const N: usize, const L: usize> EncodedPoint<N, L> {
     /// Borrows the x-coordinate; `None` for the identity.
     #[tactic(auto, using(crate::proofs::CoordinateLemmas::coordinate_digits))]
     pub fn x(&self) -> Option<&[u8; N]>
-        ensures number { option_map (λ x. number_of x.now) result ≡ x_of (point_of self.now) }
-        ensures bytes { option_map (λ x. x.now) result
-            ≡ option_map (fixed_width N) (x_of (point_of self.now)) }
+        ensures { HasDigitsOf N (x_of (point_of self.now)) (option_map (λ x. x.now) result) }
     {
         match self.coordinates() {
             Coordinates::Identity => None,
@@ -312,9 +302,7 @@ impl<const N: usize, const L: usize> EncodedPoint<N, L> {
     /// Borrows the y-coordinate, if the point is uncompressed or hybrid.
     #[tactic(auto, using(crate::proofs::CoordinateLemmas::coordinate_digits))]
     pub fn y(&self) -> Option<&[u8; N]>
-        ensures number { option_map (λ y. number_of y.now) result ≡ y_of (point_of self.now) }
-        ensures bytes { option_map (λ y. y.now) result
-            ≡ option_map (fixed_width N) (y_of (point_of self.now)) }
+        ensures { HasDigitsOf N (y_of (point_of self.now)) (option_map (λ y. y.now) result) }
     {
         match self.coordinates() {
             Coordinates::Uncompressed { y, .. } => Some(y),
@@ -344,8 +332,7 @@ fn with_first<const L: usize>(bytes: &[u8; L], first: u8) -> [u8; L]
 /// Returns `true` if the input is the encoding of a point for field elements of n bytes.
 #[tactic(auto, using(crate::proofs::PointLemmas::passing_encodings))]
 fn is_encoding(input: &[u8], n: usize) -> bool
-    requires positive { 1 ≤ n }
-    requires fits { 2 * n + 1 < 2 ^ 64 }
+    requires { (1 ≤ n) × (2 * n + 1 < 2 ^ 64) }
     ensures { IsTrue result ↔ IsEncoding n input.now }
 {
     let Some((first, rest)) = input.split_first() else {

@@ -4,7 +4,7 @@ ghost use Rattle.std.specs.Prelude.{Some, None, ⊤, refl};
 ghost use Rattle.sec1_der.specs.Elements.{element_of};
 ghost use Rattle.std.specs.Option.{option_map};
 ghost use Rattle.sec1.specs.DebugTexts.{key_text};
-ghost use Rattle.sec1.specs.Keys.{Key, IsKeyOf, HasNoEncoding, HasEncodingWith};
+ghost use Rattle.sec1.specs.Keys.{Key, IsKeyOf, HasNoEncoding, SomeBytes};
 ghost use Rattle.sec1.specs.Parameters.{curve_of};
 ghost use Rattle.sec1.specs.ReadsKey.{ReadsKey};
 ghost use Rattle.sec1.specs.Errors.{IsAsn1, HasNoEncodingOr};
@@ -100,7 +100,7 @@ impl<'a> EcPrivateKey<'a> {
     /// bytes.
     pub fn encoded_len(&self) -> Result<usize>
         ensures exact { MatchResult result
-            (λ n. HasEncodingWith self.now (λ bytes. n ≡ length bytes))
+            (λ n. SomeBytes (IsKeyOf self.now) (λ bytes. n ≡ length bytes))
             (λ e. IsAsn1 ErrorKind.Overlength e × HasNoEncoding self.now) }
     {
         tree_is_element();
@@ -128,7 +128,7 @@ impl<'a> EcPrivateKey<'a> {
     /// ```
     pub fn encode_to_slice(&self, buffer: &mut [u8]) -> Result<usize>
         ensures exact { MatchResult result
-            (λ n. (n ≤ length buffer.new) × HasEncodingWith self.now (λ bytes.
+            (λ n. (n ≤ length buffer.new) × SomeBytes (IsKeyOf self.now) (λ bytes.
             (n ≡ length bytes) × (buffer.new ≡ bytes ++ drop n buffer.old)))
             (λ e. (buffer.new ≡ buffer.old) × HasNoEncodingOr (IsAsn1 ErrorKind.Buffer) self.now
             (λ bytes. length buffer.old < length bytes) e) }
@@ -307,8 +307,8 @@ impl Distinct for EcPrivateKey<'_> {
 
 /// The bytes of a key's tree are its element, and a key without a tree has no element.
 pub fn tree_is_element()
-    ensures bytes { (key : Key) (bytes : List ℕ) → IsKeyOf key bytes
-        ↔ (element_of 0x30 (⟦<EcPrivateKey<'static> as ValueContent>⟧.content key) ≡ Some bytes) }
-    ensures none { (key : Key) → HasNoEncoding key
-        ↔ (element_of 0x30 (⟦<EcPrivateKey<'static> as ValueContent>⟧.content key) ≡ None) }
+    ensures { (key : Key)
+        → let whole = element_of 0x30 (⟦<EcPrivateKey<'static> as ValueContent>⟧.content key) in
+        ((bytes : List ℕ) → IsKeyOf key bytes ↔ (whole ≡ Some bytes))
+        × (HasNoEncoding key ↔ (whole ≡ None)) }
 {}

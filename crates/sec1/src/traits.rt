@@ -4,7 +4,8 @@
 ghost use Rattle.std.specs.Prelude.{ℕ, List, false, ◌≡◌, ◌⊎◌, MatchBool, MatchResult};
 ghost use Rattle.std.specs.Io.KnownBytes.{Appends};
 ghost use Rattle.sec1.specs.Errors.{IsAsn1};
-ghost use Rattle.sec1.specs.Traits.{IsDocumentError, IsMemoryOr, RefusesDocument, SomeBytes};
+ghost use Rattle.sec1.specs.Keys.{SomeBytes};
+ghost use Rattle.sec1.specs.Traits.{IsDocumentError, IsMemoryOr, RefusesDocument};
 ghost use Rattle.sec1.specs.declared.error.Error.{Error};
 ghost use Rattle.sec1_der.specs.Elements.{IsElement};
 ghost use Rattle.sec1_der.specs.ReadsDocument.{ConsumesElement};

@@ -36,12 +36,11 @@ impl<'a, const N: usize> Coordinates<'a, N> {
     /// Returns the coordinates with this tag: x, y, both or neither.
     #[tactic(auto, using(crate::proofs::CoordinateLemmas::with_arrays))]
     pub(super) fn with_tag(tag: Tag, x: &'a [u8; N], y: &'a [u8; N]) -> Self
-        requires x_len { length x.now ≡ N }
-        requires y_len { length y.now ≡ N }
-        ensures point { coordinates_point result
-            ≡ point_from (byte_of tag) (number_of x.now) (number_of y.now) }
-        ensures arrays { array_bytes result ≡ take (message_len tag N - 1) (x.now ++ y.now) }
-        ensures whole { AreWhole result }
+        requires { (length x.now ≡ N) × (length y.now ≡ N) }
+        ensures { (coordinates_point result
+            ≡ point_from (byte_of tag) (number_of x.now) (number_of y.now))
+            × (array_bytes result ≡ take (message_len tag N - 1) (x.now ++ y.now))
+            × AreWhole result }
     {
         match tag {
             Tag::Identity => Coordinates::Identity,

@@ -3,7 +3,6 @@
 ghost use Rattle.std.specs.Prelude.{◌≡◌, ◌↔◌, if◌then◌else◌, IsTrue};
 ghost use Rattle.sec1.specs.EncodedPoints.{point_of, IsWiped};
 ghost use Rattle.sec1.specs.PointOrder.{TellsSame};
-ghost use Rattle.sec1.specs.Points.{identity};
 
 use super::EncodedPoint;
 use super::order::words_cmp;
@@ -60,8 +59,7 @@ impl<const N: usize, const L: usize> EncodedPoint<N, L> {
 
     /// Turns the point into the identity, and sets each byte of the buffer to `00`.
     pub fn zeroize(&mut self)
-        ensures point { point_of self.new ≡ identity }
-        ensures wiped { IsWiped self.new }
+        ensures { IsWiped self.new }
     {
         *self = Self::identity();
     }

@@ -1,6 +1,6 @@
 //! The first byte of a point's encoding.
 
-ghost use Rattle.std.specs.Fmt.{WritesOnOk, WritesStyledOnOk};
+ghost use Rattle.std.specs.Fmt.{WritesStyledOnOk};
 ghost use Rattle.std.specs.Prelude.{◌≡◌, ◌<◌, ◌^◌, if◌then◌else◌, Some};
 ghost use Rattle.sec1_der.specs.Numbers.{number_of};
 ghost use Rattle.sec1.specs.DebugTexts.{tag_text};
@@ -131,8 +131,8 @@ fn is_odd<const N: usize>(y: &[u8; N]) -> bool
 impl fmt::Debug for Tag {
     ghost debug_output = { λ tag. Some (tag_text tag) };
 
+    #[tactic(auto, using(sec1_der::specs::TextLaws::plain_of_styled))]
     fn fmt<W: fmt::Write>(&self, f: &mut fmt::Formatter<W>) -> fmt::Result
-        ensures writes { WritesOnOk W.write_str_gives f.old result (tag_text self.now) f.new }
         ensures styled { WritesStyledOnOk W.write_str_gives f.old result (tag_text self.now) f.new }
     {
         f.write_str(match self {

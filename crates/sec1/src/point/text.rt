@@ -1,7 +1,7 @@
 //! Points as hexadecimal text, JSON and owned bytes.
 
 ghost use Rattle.std.specs.Fmt.{WritesStyledOnOk, digit_glyph};
-ghost use Rattle.std.specs.Prelude.{◌≡◌, ◌/◌, ◌%◌, ◌<◌, [], ◌∷◌, true, ℕ, List, length, Some};
+ghost use Rattle.std.specs.Prelude.{◌≡◌, ◌↔◌, ◌/◌, ◌%◌, ◌<◌, [], ◌∷◌, true, ℕ, List, length, Some};
 ghost use Rattle.std.specs.Prelude.{IsTrue, MatchResult};
 ghost use Rattle.std.specs.String.{string_bytes};
 ghost use Rattle.std.specs.Box.{boxed_slice_items};
@@ -9,8 +9,8 @@ ghost use Rattle.hex.specs.Hex.{encode_upper, encode_lower, IsBytes};
 ghost use Rattle.serde_json.specs.Data.{string};
 ghost use Rattle.serde_json.specs.View.{view};
 ghost use Rattle.sec1.specs.Points.{encoding};
-ghost use Rattle.sec1.specs.HexTexts.{IsHexOf, is_one_case};
-ghost use Rattle.sec1.specs.EncodedPoints.{point_of, ReadsText, ReadsJson};
+ghost use Rattle.sec1.specs.HexTexts.{IsHexOf, IsJsonOf, is_one_case};
+ghost use Rattle.sec1.specs.EncodedPoints.{point_of, ReadsPoint};
 ghost use Rattle.sec1.specs.declared.error.Error.TheVariants.{Memory};
 
 use super::EncodedPoint;
@@ -81,7 +81,7 @@ impl<const N: usize, const L: usize> EncodedPoint<N, L> {
     ///
     /// PointEncoding for any other string, and for any other JSON value.
     pub fn from_json(value: &Value) -> Result<Self>
-        ensures { ReadsJson (view value.now) result }
+        ensures { ReadsPoint (IsJsonOf (view value.now)) result }
     {
         match value {
             Value::String(text) => Self::from_digits(text.as_str().as_bytes()),
@@ -91,7 +91,7 @@ impl<const N: usize, const L: usize> EncodedPoint<N, L> {
 
     /// Reads a point from its encoding in hexadecimal digits.
     fn from_digits(text: &[u8]) -> Result<Self>
-        ensures { ReadsText text.now result }
+        ensures { ReadsPoint (IsHexOf text.now) result }
     {
         let len = text.len() / 2;
         let mut bytes = [0; L];
@@ -107,9 +107,8 @@ impl<const N: usize, const L: usize> EncodedPoint<N, L> {
 #[tactic(auto, using(crate::proofs::HexLemmas::decoded))]
 fn decode_digits(text: &[u8], out: &mut [u8]) -> bool
     requires { length out.old ≡ length text.now / 2 }
-    ensures decoded { IsTrue result → IsHexOf text.now out.new × IsBytes out.new }
-    ensures only { (bytes : List ℕ) → IsBytes bytes → IsHexOf text.now bytes → IsTrue result
-        × (out.new ≡ bytes) }
+    ensures { (bytes : List ℕ) → (IsHexOf text.now bytes × IsBytes bytes)
+        ↔ (IsTrue result × (out.new ≡ bytes)) }
 {
     is_one_case(text) && hex::decode_to_slice(text, out).is_ok()
 }
@@ -143,7 +142,7 @@ fn is_one_case(text: &[u8]) -> bool
 impl<const N: usize, const L: usize> FromStr for EncodedPoint<N, L> {
     type Err = Error;
 
-    ghost from_str_gives = { λ text result. ReadsText text result };
+    ghost from_str_gives = { λ text result. ReadsPoint (IsHexOf text) result };
 
     fn from_str(text: &str) -> Result<Self> {
         Self::from_digits(text.as_bytes())

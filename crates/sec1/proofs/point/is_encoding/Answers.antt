@@ -19,10 +19,10 @@ returns-in_default-from_u8 c = (
 
 pub returns-then-input-message_len : goal.returns-then-input-message_len
 returns-then-input-message_len c =
-    let passes = passing_encodings c.args.n c.in-Ok.tag c.in-Some.rest.now c.args.input.now c.requires.positive in
+    let passes = passing_encodings c.args.n c.in-Ok.tag c.in-Some.rest.now c.args.input.now c.requires.0 in
     grind (arith, passes, c.in-Some.ensures.cases)
 
 pub returns-else-not-is_hybrid : goal.returns-else-not-is_hybrid
 returns-else-not-is_hybrid c =
-    let passes = passing_encodings c.args.n c.in-Ok.tag c.in-Some.rest.now c.args.input.now c.requires.positive in
+    let passes = passing_encodings c.args.n c.in-Ok.tag c.in-Some.rest.now c.args.input.now c.requires.0 in
     grind (arith, passes, c.in-Some.ensures.cases)

@@ -1,22 +1,18 @@
-use Rattle.std.proofs.Common.{◌∙◌, arith}
+use Rattle.std.proofs.Common.{◌≡◌, ◌∙◌, arith}
+use Rattle.sec1.specs.Coordinates.{coordinates_bytes}
+use Rattle.sec1.specs.EncodedPoints.{point_of}
 use Rattle.sec1.specs.Points.{encoding}
 use Rattle.sec1.proofs.CoordinateLemmas.{digits_of_encoding}
 use Rattle.sec1.proofs.EncodedPointLemmas.{coordinates_of, made_of_halves}
 use Rattle.sec1.proofs.point.EncodedPoint.coordinates.Goals as goal
 
-pub returns-clause-point : goal.returns-clause-point
-returns-clause-point g c =
-    c.with_tag.ensures.point
-    ∙ rw (c.tag.ensures.point) (made_of_halves c.args.self.now _ _ c.halves.ensures.x c.halves.ensures.y)
-
-pub returns-clause-encoded : goal.returns-clause-encoded
+pub returns : goal.returns
 unfolding encoding
-returns-clause-encoded g c =
-    let point = returns-clause-point g c in
-    let bytes = coordinates_of c.args.self.now _ _ c.halves.ensures.x c.halves.ensures.y in
-    grind (arith, point, bytes, c.with_tag.ensures.arrays, c.tag.ensures.point)
-
-pub returns-clause-digits : goal.returns-clause-digits
-returns-clause-digits g c =
-    let encoded = rw (← returns-clause-point g c) at (returns-clause-encoded g c) in
-    digits_of_encoding c.with_tag.result encoded c.with_tag.ensures.whole
+returns g c =
+    let point =
+    c.with_tag.ensures.0
+    ∙ rw (c.tag.ensures.0) (made_of_halves c.args.self.now _ _ c.halves.ensures.0 c.halves.ensures.1) in
+    let bytes = coordinates_of c.args.self.now _ _ c.halves.ensures.0 c.halves.ensures.1 in
+    let encoded : coordinates_bytes c.with_tag.result ≡ encoding g.row.N (point_of c.args.self.now) =
+    grind (arith, point, bytes, c.with_tag.ensures.1, c.tag.ensures.0) in
+    (point, encoded, digits_of_encoding c.with_tag.result (rw (← point) at encoded) c.with_tag.ensures.2)

@@ -2,6 +2,7 @@ use Rattle.std.proofs.Common.{◌∙◌, arith, ◌≡◌, ◌≤◌, ◌/◌, �
 use Rattle.std.proofs.lemmas.List.{length-replicate}
 use Rattle.sec1.specs.Points.{encoding}
 use Rattle.sec1.proofs.PointLemmas.{IsBytes-enc, length-enc-le}
+use Rattle.sec1.specs.HexTexts.{IsHexOf}
 use Rattle.sec1.proofs.HexLemmas.{text_len}
 use Rattle.sec1.proofs.point.EncodedPoint.from_digits.Goals as goal
 
@@ -24,9 +25,12 @@ returns g c =
     omega (arith, length-take half buffer, length-replicate {A = ℕ} g.row.L 0) in
     let front = take_at c.decode_digits.new.out (drop half buffer) half len in
     record {
-      found = search rules;
+      found =
+          let out = c.decode_digits.new.out in
+          let hex : IsHexOf c.args.text.now out = ((c.decode_digits.ensures out).1 (search rules, refl)).0 in
+          search rules;
       only = λ p fit fits encoded.
-          c.from_bytes.ensures.only p fit fits
-          (front ∙ (c.decode_digits.ensures.only (encoding g.row.N p) (IsBytes-enc g.row.N p) encoded).1);
-      kind = c.from_bytes.ensures.kind;
+          c.from_bytes.ensures.point.only p fit fits
+          (front ∙ ((c.decode_digits.ensures (encoding g.row.N p)).0 (encoded, IsBytes-enc g.row.N p)).1);
+      kind = c.from_bytes.ensures.point.kind;
     }

@@ -1,7 +1,7 @@
-use Rattle.std.proofs.Common.{sym, arith}
+use Rattle.std.proofs.Common.{sym, ◌∙◌}
 use Rattle.sec1.specs.EncodedPoints.{point_of}
 use Rattle.sec1.specs.Tags.{point_tag}
-use Rattle.sec1.proofs.PointLemmas.{byte_of-injective, length-enc}
+use Rattle.sec1.proofs.PointLemmas.{byte_of-injective, tag_of}
 use Rattle.sec1.proofs.EncodedPointLemmas.{first_byte}
 use Rattle.sec1.proofs.point.EncodedPoint.tag.Goals as goal
 
@@ -9,6 +9,7 @@ pub unreachable-requires : goal.unreachable-requires
 unreachable-requires g c =
     c.in-Err.ensures.none (point_tag (point_of c.args.self.now)) (sym (first_byte c.args.self.now))
 
-pub returns-clause-len : goal.returns-clause-len
-returns-clause-len g c =
-    grind (arith, length-enc g.row.N (point_of c.args.self.now), first_byte c.args.self.now, byte_of-injective)
+pub returns : goal.returns
+returns g c =
+    let of = point_of c.args.self.now in
+    tag_of g.row.N of _ (byte_of-injective _ (point_tag of) (c.in-Ok.ensures.found ∙ first_byte c.args.self.now))

@@ -5,6 +5,6 @@ use Rattle.sec1.proofs.point.EncodedPointDebug.fmt.Goals as goal
 
 pub returns : goal.returns
 returns g c =
-    let text = coordinates_form c.coordinates-coordinates.result c.coordinates-coordinates.ensures.digits
-    ∙ ap (form_text g.row.N) c.coordinates-coordinates.ensures.point in
+    let text = coordinates_form c.coordinates-coordinates.result c.coordinates-coordinates.ensures.2
+    ∙ ap (form_text g.row.N) c.coordinates-coordinates.ensures.0 in
     record { writes = rw (← text) c.write.ensures.writes }
