@@ -1,6 +1,5 @@
 -- RFC 5915 section 3 (SEC1 v2.0 Appendix C.4): an ECPrivateKey and its tree.
-use Rattle.std.specs.Prelude.{ℕ, ◌≤◌, List, [], ◌∷◌, ◌++◌, length, Option, Some, None, IfSome}
-use Rattle.sec1_der.specs.Elements.{max_length, element}
+use Rattle.std.specs.Prelude.{ℕ, List, [], ◌∷◌, ◌++◌, Option, Some, None, IfSome}
 use Rattle.sec1_der.specs.Identifiers.{IsIdentifier, content_of}
 use Rattle.sec1_der.specs.Trees.{Tree, leaf, node, row, joined, IsTreeOf}
 
@@ -34,11 +33,6 @@ key_tree key = node 0x30 (key_fields key)
 -- the parameters, if present, are the arcs of an identifier
 abbrev pub IsNamedCurve : Option (List ℕ) → Type 0
 IsNamedCurve parameters = IfSome parameters (λ arcs. IsIdentifier arcs (content_of arcs))
-
--- the public key, if present, isn't too long for its field
-abbrev pub PublicKeyFits : Option (List ℕ) → Type 0
-PublicKeyFits public_key =
-    IfSome public_key (λ bytes. length (element 0x03 (0 ∷ bytes)) ≤ max_length)
 
 -- the bytes are those of a key with these parts
 pub record IsKeyOf (key : Key) (input : List ℕ) : Type 0 where

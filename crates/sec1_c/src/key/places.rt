@@ -1,8 +1,9 @@
 //! The places of a key's parts: each is found from the end of the bytes, by the lengths of the
 //! fields after it.
-ghost use Rattle.std.specs.Prelude.{◌≡◌, length};
+ghost use Rattle.std.specs.Prelude.{◌≡◌, ◌≤◌, ◌∷◌, length, IfSome};
 ghost use Rattle.std.specs.Option.{option_map};
-ghost use Rattle.sec1.specs.Keys.{IsKeyOf, PublicKeyFits, IsNamedCurve, bytes_of, parameters_field};
+ghost use Rattle.sec1.specs.Der.{element, max_length};
+ghost use Rattle.sec1.specs.Keys.{IsKeyOf, IsNamedCurve, bytes_of, parameters_field};
 ghost use Rattle.sec1.specs.Keys.{public_key_field};
 ghost use Rattle.sec1.specs.Parameters.{curve_of};
 ghost use Rattle.sec1_c.specs.KeyPlaces.{content_len, key_places};
@@ -64,7 +65,8 @@ fn parameters_field_len(parameters: &Option<EcParameters>) -> usize
 
 /// Returns the length in bytes of the field `[1]`.
 fn public_key_field_len(public_key: Option<&[u8]>) -> usize
-    requires { PublicKeyFits (option_map (λ bytes. bytes.now) public_key) }
+    requires { IfSome (option_map (λ bytes. bytes.now) public_key) (λ bytes.
+        length (element 0x03 (0 ∷ bytes)) ≤ max_length) }
     ensures { result
         ≡ length (bytes_of (public_key_field (option_map (λ bytes. bytes.now) public_key.entry))) }
 {
