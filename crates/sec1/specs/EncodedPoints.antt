@@ -12,18 +12,25 @@ use Rattle.sec1.specs.declared.point.EncodedPoint.{EncodedPoint}
 abbrev pub point_of : {N L : ℕ} → EncodedPoint N L → Point
 point_of {N} p = meaning N (take p.len p.bytes)
 
--- the identity, in a buffer whose bytes are all 00, also those after the encoding
+-- each byte of the value's buffer is 00, also those after its encoding
+abbrev HasZeros : {N L : ℕ} → EncodedPoint N L → Type 0
+HasZeros p = All (λ byte. byte ≡ 0) p.bytes
+
+-- the bytes of the two buffers are the same but for the first, also those after the encodings
+abbrev KeepsBuffer : {N L : ℕ} → EncodedPoint N L → EncodedPoint N L → Type 0
+KeepsBuffer p q = drop 1 q.bytes ≡ drop 1 p.bytes
+
+-- the identity, with nothing in the rest of its buffer
 pub record IsWiped {N L : ℕ} (p : EncodedPoint N L) : Type 0 where
   pub point : point_of p ≡ identity
-  pub zeros : All (λ byte. byte ≡ 0) p.bytes
+  pub wiped : HasZeros p
 
 -- the compressed form of a point, which keeps x; compressing it again changes nothing
 pub record IsCompressedFrom {N L : ℕ} (p q : EncodedPoint N L) : Type 0 where
   pub point : point_of q ≡ compressed_point (point_of p)
   pub same_x : x_of (point_of q) ≡ x_of (point_of p)
   pub once : compressed_point (point_of q) ≡ point_of q
-  -- the bytes of the two buffers are the same but for the first, also those after the encodings
-  pub kept : drop 1 q.bytes ≡ drop 1 p.bytes
+  pub kept : KeepsBuffer p q
 
 -- The point is read whose encoding is such, and PointEncoding is returned if none is.
 pub record ReadsPoint {N L : ℕ} (IsSuch : List ℕ → Type 0)

@@ -6,5 +6,5 @@ use Rattle.sec1.proofs.point.EncodedPoint.identity.Goals as goal
 pub returns : goal.returns
 returns g c = record {
   point = (identity_holds g.row.N g.row.L (omega arith)).means;
-  zeros = search pieces;
+  wiped = search pieces;
 }
