@@ -1,7 +1,7 @@
 -- The errors of reading and writing a key type. Here `Taken` says of bytes that they and no others
 -- were taken, and `Ended` that the input has ended.
 use Rattle.std.specs.Prelude.{◌≡◌, ◌⊎◌, ◌↔◌, ℕ, List, Option, Bool, IsTrue, IfSome}
-use Rattle.sec1.specs.Errors.{error_of}
+use Rattle.sec1.specs.Errors.{error_of, IsAsn1}
 use Rattle.sec1.specs.declared.error.Error.{Error}
 use Rattle.sec1.specs.declared.error.Error.TheVariants.{Memory}
 use Rattle.sec1_der.specs.Elements.{IsElement}
@@ -22,7 +22,7 @@ pub record RefusesDocument (left : Option (List ℕ)) (Taken : List ℕ → Type
   pub is : error ≡ error_of cause
   pub refused : RefusesElement cause.kind Taken Ended
   pub only : IsIoOrMemory cause.kind ⊎ IfSome left (λ all. ¬ (IsElement all))
-  pub io : cause.kind ≡ Io ↔ IsTrue failed
+  pub io : IsAsn1 Io error ↔ IsTrue failed
 
 -- an error by which the element of a file is refused
 pub record IsDocumentError (error : Error) : Type 0 where
