@@ -2,11 +2,11 @@
 //! `sec1_element_write`.
 ghost use Rattle.std.specs.Prelude.{◌≡◌, ◌≢◌, ◌≤◌, ◌<◌, ◌+◌, ◌++◌, ℕ, List, length};
 ghost use Rattle.std.specs.Prelude.{IfErr, IsOk, OkIff};
-ghost use Rattle.sec1_der.specs.Elements.{IsElement, IsHeader, IsTag};
+ghost use Rattle.sec1_der.specs.Elements.{IsElement, IsHeader, IsProperPrefix, IsTag};
 ghost use Rattle.sec1_der.specs.Elements.{LacksHeader, element, header, max_length};
 ghost use Rattle.sec1_der.specs.ErrorKinds.{Refuses, header_fault};
 ghost use Rattle.sec1_der.specs.Faults.{any_fault, no_fault, tree_fault};
-ghost use Rattle.sec1_der.specs.Trees.{Tree, IsTreeOf, depth, max_tree_depth, size};
+ghost use Rattle.sec1_der.specs.Trees.{Tree, IsTree, IsTreeOf, bytes, depth, max_tree_depth, size};
 ghost use Rattle.sec1_c.specs.Documents.{Announces, BeginsWithElement, element_len};
 ghost use Rattle.sec1_c.specs.Outputs.{Writes, WritesNothing};
 ghost use Rattle.sec1_c.specs.Statuses.{IsTreeNumber, fault_number, kind_number};
@@ -30,6 +30,13 @@ pub extern "C" fn sec1_check_tree(input: &[u8], elements: &mut usize) -> u32
     ensures found { result ≡ 0 → (t : Tree) × IsTreeOf t input.now × (depth t ≤ max_tree_depth) }
     ensures only { (t : Tree) → IsTreeOf t input.now → depth t ≤ max_tree_depth
         → (result ≡ 0) × (elements.new ≡ size t) }
+    ensures deeper { (t : Tree) → IsTreeOf t input.now → max_tree_depth < depth t
+        → result ≡ kind_number ErrorKind.Depth }
+    ensures short { (t : Tree) → IsTree t → IsProperPrefix input.now (bytes t)
+        → result ≡ kind_number ErrorKind.Truncated }
+    ensures long { (t : Tree) → IsTree t → depth t ≤ max_tree_depth
+        → IsProperPrefix (bytes t) input.now
+        → result ≡ kind_number ErrorKind.TrailingData }
     ensures kinds { result ≢ 0 → IsTreeNumber result }
     ensures kind { result ≡ fault_number (tree_fault input.now) }
     ensures unchanged { result ≢ 0 → elements.new ≡ elements.old }

@@ -1,14 +1,12 @@
 //! Laws for callers to cite: of trees, of the kinds by which elements are refused, and that a value
 //! is determined by its bytes. Each law is the contract of a function, which does nothing else.
 ghost use Rattle.std.specs.Option.{option_or};
-ghost use Rattle.std.specs.Prelude.{◌≡◌, ◌⊎◌, ◌<◌, ◌≤◌, ◌++◌, [], ℕ, List, length, Some, None};
-ghost use Rattle.std.specs.Prelude.{IsSome};
-ghost use Rattle.sec1_der.specs.Elements.{element, element_of, max_length, IsTag};
+ghost use Rattle.std.specs.Prelude.{◌≡◌, ◌⊎◌, ◌≤◌, ◌++◌, [], ℕ, List, length, Some, None, IsSome};
+ghost use Rattle.sec1_der.specs.Elements.{element, element_of, max_length, IsHeader};
 ghost use Rattle.sec1_der.specs.Elements.{IsProperPrefix, LacksHeader};
 ghost use Rattle.sec1_der.specs.ErrorKinds.{header_fault};
-ghost use Rattle.sec1_der.specs.Faults.{Fault, any_fault, element_fault, tree_fault};
-ghost use Rattle.sec1_der.specs.Trees.{Tree, Forest, IsTree, AreTrees, bytes, joined, depth};
-ghost use Rattle.sec1_der.specs.Trees.{max_tree_depth};
+ghost use Rattle.sec1_der.specs.Faults.{Fault, any_fault, element_fault};
+ghost use Rattle.sec1_der.specs.Trees.{Tree, Forest, IsTree, AreTrees, bytes, joined};
 ghost use Rattle.sec1_der.specs.Values.{octets_of, unused_bits_of, bit_bytes_of};
 ghost use Rattle.sec1_der.specs.declared.bit_string.BitStringRef.{BitStringRef};
 ghost use Rattle.sec1_der.specs.declared.octet_string.OctetStringRef.{OctetStringRef};
@@ -38,38 +36,29 @@ pub fn trees_prefix_free()
     ensures { (t u : Tree) (r : List ℕ) → IsTree t → IsTree u → bytes t ++ r ≡ bytes u → r ≡ [] }
 {}
 
-/// A tree with more than 64 levels is refused as Depth, bytes that end inside a tree as Truncated,
-/// and bytes that continue after one with at most 64 levels as TrailingData.
-pub fn refused_trees()
-    ensures { (t : Tree) → IsTree t
-        → (max_tree_depth < depth t → tree_fault (bytes t) ≡ Some ErrorKind.Depth)
-        × ((input : List ℕ) → IsProperPrefix input (bytes t)
-        → tree_fault input ≡ Some ErrorKind.Truncated)
-        × ((input : List ℕ) → depth t ≤ max_tree_depth → IsProperPrefix (bytes t) input
-        → tree_fault input ≡ Some ErrorKind.TrailingData) }
-{}
-
 /// An element that ends too early is refused as Truncated, whatever rule its content has to meet
 /// and whatever may follow it.
+#[tactic(auto, using(crate::proofs::ElementFaultLemmas::cut_elements))]
 pub fn cut_elements()
-    ensures { (tag : ℕ) (content bytes : List ℕ) → length content ≤ max_length
-        → IsProperPrefix bytes (element tag content)
-        → ((inside behind : Fault)
-        → element_fault tag inside behind bytes ≡ Some ErrorKind.Truncated)
-        × (IsTag tag → (inside : ℕ → Fault) (behind : Fault)
-        → any_fault inside behind bytes ≡ Some ErrorKind.Truncated) }
+    ensures element { (inside behind : Fault) (tag : ℕ) (content bytes : List ℕ)
+        → length content ≤ max_length → IsProperPrefix bytes (element tag content)
+        → element_fault tag inside behind bytes ≡ Some ErrorKind.Truncated }
+    ensures any { (inside : ℕ → Fault) (behind : Fault) (tag : ℕ) (content bytes : List ℕ)
+        → IsHeader tag (length content) → IsProperPrefix bytes (element tag content)
+        → any_fault inside behind bytes ≡ Some ErrorKind.Truncated }
 {}
 
 /// The fault of an element with this tag, and of what follows it, is that of its content, or else
 /// of what follows it.
 pub fn whole_elements()
-    ensures { (tag : ℕ) (content rest : List ℕ) → length content ≤ max_length
-        → ((inside behind : Fault)
+    ensures element { (inside behind : Fault) (tag : ℕ) (content rest : List ℕ)
+        → length content ≤ max_length
         → element_fault tag inside behind (element tag content ++ rest)
-        ≡ option_or (inside content) (behind rest))
-        × (IsTag tag → (inside : ℕ → Fault) (behind : Fault)
+        ≡ option_or (inside content) (behind rest) }
+    ensures any { (inside : ℕ → Fault) (behind : Fault) (tag : ℕ) (content rest : List ℕ)
+        → IsHeader tag (length content)
         → any_fault inside behind (element tag content ++ rest)
-        ≡ option_or (inside tag content) (behind rest)) }
+        ≡ option_or (inside tag content) (behind rest) }
 {}
 
 /// Bytes that begin with no header are refused by the kind of the header's fault, whatever rule a

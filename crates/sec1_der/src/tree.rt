@@ -1,9 +1,10 @@
 ghost use Rattle.std.specs.Prelude.{◌≡◌, ◌<◌, ◌≤◌, List, ℕ, get_or, ◌≢◌, ◌-◌, ◌⊎◌};
 ghost use Rattle.std.specs.Prelude.{◌↔◌, [], ◌∷◌, Some, take, drop, length, IsTrue};
 ghost use Rattle.std.specs.Prelude.{MatchResult};
-ghost use Rattle.sec1_der.specs.ErrorKinds.{IsTreeFault, IsHeaderFault};
+ghost use Rattle.sec1_der.specs.Elements.{IsProperPrefix};
+ghost use Rattle.sec1_der.specs.ErrorKinds.{Refuses, IsTreeFault, IsHeaderFault};
 ghost use Rattle.sec1_der.specs.Faults.{HasFault, tree_fault, Fault, any_fault};
-ghost use Rattle.sec1_der.specs.Trees.{Tree, IsTreeOf, size, depth, max_tree_depth};
+ghost use Rattle.sec1_der.specs.Trees.{Tree, IsTree, IsTreeOf, bytes, size, depth, max_tree_depth};
 ghost use Rattle.sec1_der.specs.Walks.{open_ends, innermost, Enters, IsTooDeep};
 
 use crate::header::element_at;
@@ -36,6 +37,15 @@ pub fn check_tree(input: &[u8]) -> Result<usize>
     // If they are the bytes of such a tree, it is counted.
     ensures only { (t : Tree) → IsTreeOf t input.now → depth t ≤ max_tree_depth
         → result ≡ Ok (size t) }
+    ensures deeper { (t : Tree) → IsTreeOf t input.now → max_tree_depth < depth t
+        → Refuses result ErrorKind.Depth }
+
+    // The bytes end inside a tree of any depth, or continue after one.
+    ensures short { (t : Tree) → IsTree t → IsProperPrefix input.now (bytes t)
+        → Refuses result ErrorKind.Truncated }
+    ensures long { (t : Tree) → IsTree t → depth t ≤ max_tree_depth
+        → IsProperPrefix (bytes t) input.now
+        → Refuses result ErrorKind.TrailingData }
     // Whether the input is refused, and by which kind, is a function of its bytes.
     ensures kind { HasFault result (tree_fault input.now) }
 {

@@ -47,7 +47,7 @@ loop-number-preserved c = record {
   left = λ all is.
       let (left, there, same) = next_left (Some c.in-Some.number) _ all _ _ (c.loop-number.invariant.left all is)
       c.in-Some.ensures.shorter c.in-Some.ensures.first in
-      (left, there, omega (arith, c.in_ok-to_u64.ensures.value, c.in_ok-total.ensures));
+      (left, there, omega (arith, c.in_ok-to_u64.ensures.0, c.in_ok-total.ensures));
 }
 
 pub returns-clause-found : goal.returns-clause-found

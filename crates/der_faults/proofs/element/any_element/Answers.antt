@@ -7,7 +7,7 @@ pub returns-in-Ok-clause-found : goal.returns-in-Ok-clause-found
 returns-in-Ok-clause-found c f g =
     let (is, read) = c.in-Ok.ensures.found in
     let e = sym (ap (λ (r : Reader). r.unread) c.new-reader.ensures) ∙ ap (λ (r : Reader). r.unread) read.was_whole in
-    rw (c.remaining_input.ensures, c.value.ensures, c.byte.ensures.value, c.tag.ensures)
+    rw (c.remaining_input.ensures, c.value.ensures, c.byte.ensures.0, c.tag.ensures)
     (any_found f g c.args.end _ _ c.args.bytes.now _ is e)
 
 pub returns-in-Ok-clause-inside : goal.returns-in-Ok-clause-inside

@@ -12,12 +12,12 @@ pub returns-clause-parsed : goal.returns-clause-parsed
 returns-clause-parsed c =
     let (is, read) = c.in-Ok.ensures.found in
     let e = sym (ap (λ (r : Reader). r.unread) c.new-reader.ensures) ∙ ap (λ (r : Reader). r.unread) read.was_whole in
-    rw (c.remaining_input-behind.ensures, c.value-content.ensures, c.byte.ensures.value, c.tag.ensures)
+    rw (c.remaining_input-behind.ensures, c.value-content.ensures, c.byte.ensures.0, c.tag.ensures)
     (parsed_found _ _ c.args.bytes.now _ is e)
 
 pub returns-clause-header : goal.returns-clause-header
 returns-clause-header c =
     let (is, read) = c.in-Ok.ensures.found in
     let e = sym (ap (λ (r : Reader). r.unread) c.new-reader.ensures) ∙ ap (λ (r : Reader). r.unread) read.was_whole in
-    rw (c.remaining_input-behind.ensures, c.value-content.ensures, c.byte.ensures.value, c.tag.ensures)
+    rw (c.remaining_input-behind.ensures, c.value-content.ensures, c.byte.ensures.0, c.tag.ensures)
     (header_found _ _ c.args.bytes.now _ e)
