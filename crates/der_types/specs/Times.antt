@@ -2,8 +2,9 @@
 use Rattle.std.specs.Prelude.{◌≡◌, ◌==◌, ◌<◌, ◌⊎◌, ℕ, ◌+◌, ◌-◌, ◌*◌, ◌/◌, ◌%◌, nat_lt, nat_le}
 use Rattle.std.specs.Prelude.{Bool, not, ◌&&◌}
 use Rattle.std.specs.Prelude.{◌||◌, if◌then◌else◌, List, [], ◌∷◌, ◌++◌, length, take, drop}
-use Rattle.std.specs.Prelude.{slice_index, slice_range, codes}
+use Rattle.std.specs.Prelude.{slice_index, slice_range, codes, Option, Some}
 use Rattle.std.specs.Char.{is_ascii_digit}
+use Rattle.std.specs.Fmt.{◌++?◌, decimal}
 use Rattle.std.specs.List.{list_all}
 use Rattle.der_types.specs.declared.time.DateTime.{DateTime}
 
@@ -32,6 +33,25 @@ is_date_time time =
     (nat_le 1 time.month && nat_le time.month 12)
     && ((nat_le 1 time.day && nat_le time.day (days_in_month time.year time.month))
     && (nat_lt time.hour 24 && (nat_lt time.minute 60 && nat_lt time.second 60)))
+
+-- what `{:?}` prints of a time up to the day
+abbrev pub date_text : DateTime → Option (List ℕ)
+date_text time =
+    (Some (codes "DateTime { year: ") ++? Some (decimal time.year))
+    ++? (Some (codes ", month: ") ++? Some (decimal time.month))
+    ++? (Some (codes ", day: ") ++? Some (decimal time.day))
+
+-- what it prints behind the day
+abbrev pub clock_text : DateTime → Option (List ℕ)
+clock_text time =
+    (Some (codes ", hour: ") ++? Some (decimal time.hour))
+    ++? (Some (codes ", minute: ") ++? Some (decimal time.minute))
+    ++? (Some (codes ", second: ") ++? Some (decimal time.second))
+    ++? Some (codes " }")
+
+-- what it prints of a time
+abbrev pub date_time_text : DateTime → Option (List ℕ)
+date_time_text time = date_text time ++? clock_text time
 
 -- The number that the digits at a place and the next encode. 30 (hexadecimal) is the digit 0.
 abbrev pub two_digits : List ℕ → ℕ → ℕ

@@ -28,7 +28,10 @@ pub struct Constant<K> {
 
 impl<K> Constant<K> {
     /// Returns the value.
-    pub fn new() -> Self {
+    pub fn new() -> Self
+        // There is no other value.
+        ensures { (value : Constant K) → result ≡ value }
+    {
         Constant { kind: PhantomData }
     }
 }
