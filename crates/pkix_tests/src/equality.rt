@@ -1,10 +1,13 @@
-//! What `==`, `!=` and `clone` say of the values of `der_types` and `pkix`, as a caller meets them.
+//! What `==`, `!=`, `<`, `cmp` and `clone` say of the values of `der_types` and `pkix`, as a caller
+//! meets them.
 ghost use Rattle.std.specs.Prelude.{◌≡◌, ◌≢◌, ◌↔◌, IsTrue, IsOkAnd};
+ghost use Rattle.der_types.specs.Times.{IsEarlier};
 
 use der_types::{Boolean, Choice, DateTime, Defaulted, OptionalPart};
 use pkix::{Curve, LaterVersion};
 use sec1_der::{Required, VersionOne};
 use std::alloc::AllocError;
+use std::cmp::Ordering;
 
 /// The result of a clone.
 type Cloned<T> = std::result::Result<T, AllocError>;
@@ -42,6 +45,22 @@ pub fn other_date_time(a: &DateTime, b: &DateTime) -> bool
     ensures { IsTrue result ↔ (a.now ≢ b.now) }
 {
     a != b
+}
+
+/// A time is below another exactly where it is earlier.
+pub fn earlier_date_time(a: &DateTime, b: &DateTime) -> bool
+    ensures { IsTrue result ↔ IsEarlier a.now b.now }
+{
+    a < b
+}
+
+/// Of two times, the one that is earlier is the lesser, and only a time itself is equal to it.
+pub fn compared_date_times(a: &DateTime, b: &DateTime) -> Ordering
+    ensures less { (result ≡ Ordering.Less) ↔ IsEarlier a.now b.now }
+    ensures equal { (result ≡ Ordering.Equal) ↔ (a.now ≡ b.now) }
+    ensures greater { (result ≡ Ordering.Greater) ↔ IsEarlier b.now a.now }
+{
+    a.cmp(b)
 }
 
 /// The clone of a time is the same, and never fails.

@@ -27,6 +27,8 @@ mod round_trips;
 mod rows;
 #[cfg(test)]
 mod sets;
+#[cfg(test)]
+mod writing;
 
 #[cfg(test)]
 use std::fmt::Debug;

@@ -35,6 +35,12 @@ fn prints_values(rt: HostRuntime) -> Result<(), Fail> {
         &printed(alloc, &time)?.as_str(),
         &"DateTime { year: 1950, month: 1, day: 2, hour: 3, minute: 4, second: 5 }\nDateTime {\n    year: 1950,\n    month: 1,\n    day: 2,\n    hour: 3,\n    minute: 4,\n    second: 5,\n}",
     );
+    let padded = format!(in alloc; "{time:02?}")?;
+    assert_equal(
+        &rt,
+        &padded.as_str(),
+        &"DateTime { year: 1950, month: 01, day: 02, hour: 03, minute: 04, second: 05 }",
+    );
     assert_equal(
         &rt,
         &printed(alloc, &Boolean(true))?.as_str(),
