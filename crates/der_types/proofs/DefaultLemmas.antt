@@ -5,7 +5,7 @@ use Rattle.std.proofs.Common.{arith, append-nil}
 use Rattle.std.proofs.Math.Seq.{take-append_seam}
 use Rattle.std.proofs.lemmas.Slice.Eq.{bytes_eq-Decides}
 use Rattle.std.specs.Option.{option_map}
-use Rattle.sec1_der.specs.BackWriters.{Puts, back_state}
+use Rattle.sec1_der.specs.BackWriters.{Prepends, Puts, back_state}
 use Rattle.sec1_der.specs.Elements.{element_of}
 use Rattle.sec1_der.specs.declared.back_writer.BackWriter.{BackWriter}
 use Rattle.sec1_der.specs.Parts.{AreApart, optional_tag, optional_of}
@@ -74,18 +74,19 @@ defaulted_apart tag d content one two a b x y r s apart e f before behind same =
     by false false e f same = cc (same)
 
 -- a writer that wrote nothing
-pub puts_nothing : (writer : BackWriter) → Puts (Some []) writer writer (Ok tt)
+pub puts_nothing : (writer : BackWriter) → Puts (Some []) (Some []) writer writer (Ok tt)
 puts_nothing writer =
     record {
       slice = refl;
       grows = omega arith;
-      fits = λ whole same room. let none : [] ≡ whole = cc same in (
-        refl,
-        rw (← none) (record {
-          written = refl;
-          room = omega arith;
-          unchanged = sym (rw append-nil at (take-append_seam (back_state writer).room []));
-        }),
-      );
+      fits = λ whole same room. let none : [] ≡ whole = cc same in (refl, rw (← none) nothing);
+      only = nothing;
       kinds = tt;
+    }
+  where
+    nothing : Prepends (back_state writer) (back_state writer) []
+    nothing = record {
+      written = refl;
+      room = omega arith;
+      unchanged = sym (rw append-nil at (take-append_seam (back_state writer).room []));
     }

@@ -1,13 +1,14 @@
 -- What two calls of a writer do, one after the other, and what is written of a value that has bytes.
 use Rattle.std.proofs.Common.{false, true, ◌≡◌, ◌+◌, ◌-◌, ◌≤◌, ◌⊎◌, IfErr, Ok, Err, inl, inr, ⊎_elim, ap, ℕ, List, ◌++◌}
 use Rattle.std.proofs.Common.{length}
-use Rattle.std.proofs.Common.{Option, Some, None, IsSomeAnd, Result, IsOk, refl, arith}
+use Rattle.std.proofs.Common.{Option, Some, None, IsSomeAnd, Result, IsOk, OnOk, Bool, if◌then◌else◌, nat_le}
+use Rattle.std.proofs.Common.{refl, arith}
 use Rattle.std.proofs.Common.{append_assoc, length-append}
 use Rattle.std.proofs.lemmas.Bool.{le-leb, cases_lt}
 use Rattle.std.proofs.lemmas.List.{drop-drop, take-take}
 use Rattle.sec1_der.proofs.ElementLaws.{FoundContent, element_of-some}
 use Rattle.sec1_der.specs.BackWriters.{back_state, Prepends, WritesInFront, Puts}
-use Rattle.sec1_der.specs.Elements.{max_length, header, header_of, element_of, within_limit}
+use Rattle.sec1_der.specs.Elements.{max_length, header, header_of, element, element_of, within_limit}
 use Rattle.sec1_der.specs.SliceWriters.{slice_state, Appends, WritesBehind}
 use Rattle.sec1_der.specs.Writers.{Writer}
 use Rattle.sec1_der.specs.declared.back_writer.BackWriter.{BackWriter}
@@ -135,14 +136,49 @@ writing_kinds (Some bytes) old new (Err e) is = ⊎_elim
     (λ fits. absurd (cc (is.fits bytes refl fits).0))
     (cases_lt (length (back_state old).room) (length bytes))
 
+-- what was written
+pub writing_only : (bytes : Option (List ℕ)) (old new : BackWriter) (result : Result Unit Error)
+    → WritesInFront bytes old new result
+    → OnOk result (IsSomeAnd bytes (Prepends (back_state old) (back_state new)))
+writing_only bytes old new (Err e) is = tt
+writing_only None old new (Ok done) is = absurd (is.overlength refl).0
+writing_only (Some bytes) old new (Ok done) is = ⊎_elim
+    (λ less. absurd (is.buffer bytes refl less).0)
+    (λ fits. (is.fits bytes refl fits).1)
+    (cases_lt (length (back_state old).room) (length bytes))
+
+-- an element whose content and header were written
+element_only : (tag : ℕ) (content : Option (List ℕ)) (old between new : BackWriter) (since : ℕ)
+    (second : Result Unit Error) → since ≡ length (back_state old).written
+    → Puts (within_limit content) content old between (Ok tt)
+    → WritesInFront (header_of tag (length (back_state between).written - since)) between new second
+    → OnOk second (IsSomeAnd (element_of tag content) (Prepends (back_state old) (back_state new)))
+element_only tag content old between new since (Err e) is_old p over = tt
+element_only tag None old between new since (Ok done) is_old p over = absurd p.only
+element_only tag (Some inside) old between new since (Ok done) is_old p over =
+    by (nat_le (length inside) max_length) refl
+  where
+    since_then : length (back_state between).written - since ≡ length inside
+    since_then = omega (arith, is_old, ap length p.only.written, length-append inside (back_state old).written)
+
+    front : IsSomeAnd (header_of tag (length inside)) (Prepends (back_state between) (back_state new))
+    front = writing_only (header_of tag (length inside)) between new (Ok done) (rw since_then at over)
+
+    by : (b : Bool) → nat_le (length inside) max_length ≡ b
+        → IsSomeAnd (if b then Some (element tag inside) else None) (Prepends (back_state old) (back_state new))
+    by false e = absurd (rw e at front)
+    by true e =
+        puts_both (back_state old) (back_state between) (back_state new) inside (header tag (length inside))
+        p.only (rw e at front)
+
 -- an element whose content and header are written
 pub element_put : (tag : ℕ) (content : Option (List ℕ)) (old between new : BackWriter)
-    (first second : Result Unit Error)
+    (second : Result Unit Error)
     → (written_tag since : ℕ) → written_tag ≡ tag → since ≡ length (back_state old).written
-    → Puts (within_limit content) old between first
+    → Puts (within_limit content) content old between (Ok tt)
     → WritesInFront (header_of written_tag (length (back_state between).written - since)) between new second
-    → Puts (element_of tag content) old new second
-element_put tag content old between new first second written_tag since is_tag is_old p over_tag =
+    → Puts (element_of tag content) (element_of tag content) old new second
+element_put tag content old between new second written_tag since is_tag is_old p over_tag =
     let any : WritesInFront (header_of tag (length (back_state between).written - since)) between new second =
     rw (← is_tag) over_tag in
     record {
@@ -164,6 +200,7 @@ element_put tag content old between new first second written_tag since is_tag is
                 (puts_both (back_state old) (back_state between) (back_state new) is.inside
                 first_bytes behind.1 front.1),
           );
+      only = element_only tag content old between new since second is_old p any;
       kinds = writing_kinds _ between new second any;
     }
 

@@ -1,6 +1,6 @@
 -- The state of a writer that fills a slice from its end, and what its calls change.
 use Rattle.std.specs.Prelude.{◌≡◌, ◌⊎◌, ℕ, ◌+◌, ◌<◌, ◌≤◌, List, ◌++◌, length, take, drop}
-use Rattle.std.specs.Prelude.{Option, Some, None, Result, IsOk, IfErr}
+use Rattle.std.specs.Prelude.{Option, Some, None, Result, IsOk, IfErr, OnOk, IsSomeAnd}
 use Rattle.sec1_der.specs.ErrorKinds.{Refuses}
 use Rattle.sec1_der.specs.Writers.{Writer, WritesNothing}
 use Rattle.sec1_der.specs.declared.back_writer.BackWriter.{BackWriter}
@@ -36,13 +36,15 @@ pub record WritesInFront (bytes : Option (List ℕ)) (old new : BackWriter)
       → length (back_state old).room < length whole
       → Refuses result Buffer × WritesNothing (back_state old) (back_state new)
 
--- The bytes were prepended, if there are any and they have room. Otherwise any bytes may have been
--- prepended, and an error is Overlength or Buffer.
-pub record Puts (bytes : Option (List ℕ)) (old new : BackWriter)
+-- The bytes were prepended, and the call fails only by Overlength or Buffer: `fitting` are bytes
+-- for which it doesn't fail if they have room, and `whole` those that were prepended if it doesn't.
+-- On an error any bytes may have been prepended.
+pub record Puts (fitting whole : Option (List ℕ)) (old new : BackWriter)
     (result : Result (Unit {0}) Error) : Type 0 where
   pub slice : (back_state new).slice ≡ (back_state old).slice
   pub grows : length (back_state old).written ≤ length (back_state new).written
-  pub fits : (whole : List ℕ) → bytes ≡ Some whole
-      → length whole ≤ length (back_state old).room
-      → IsOk result × Prepends (back_state old) (back_state new) whole
+  pub fits : (bytes : List ℕ) → fitting ≡ Some bytes
+      → length bytes ≤ length (back_state old).room
+      → IsOk result × Prepends (back_state old) (back_state new) bytes
+  pub only : OnOk result (IsSomeAnd whole (Prepends (back_state old) (back_state new)))
   pub kinds : IfErr result (λ e. (e.kind ≡ Overlength) ⊎ (e.kind ≡ Buffer))

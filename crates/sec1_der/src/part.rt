@@ -42,7 +42,7 @@ pub trait EncodePart: Part {
     ///
     /// Overlength or Buffer, exactly when the part has no encoding or there is no room for it.
     fn put_part(&self, writer: &mut BackWriter) -> Result<()>
-        ensures { Puts (Self.bytes self.now) writer.old writer.new result };
+        ensures { Puts (Self.bytes self.now) (Self.bytes self.now) writer.old writer.new result };
 }
 
 /// A part that is read.

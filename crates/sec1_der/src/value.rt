@@ -87,9 +87,11 @@ pub trait EncodeValue: ValueContent {
     ///
     /// # Errors
     ///
-    /// Overlength or Buffer, exactly when there is no content or no room for it.
+    /// Overlength or Buffer if there is no content or no room for it. One that is longer than
+    /// 268,435,455 bytes may be prepended.
     fn put_value(&self, writer: &mut BackWriter) -> Result<()>
-        ensures { Puts (within_limit (Self.content self.now)) writer.old writer.new result }
+        ensures { Puts (within_limit (Self.content self.now)) (Self.content self.now) writer.old
+            writer.new result }
     {
         self.encode_back(writer)
     }

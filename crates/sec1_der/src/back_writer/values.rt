@@ -28,7 +28,8 @@ impl<'b> BackWriter<'b> {
     /// Overlength or Buffer, exactly when the value has no encoding or there is no room for the
     /// element.
     pub fn put_element<T: EncodeValue + Tagged>(&mut self, value: &T) -> Result<()>
-        ensures { Puts (element_of T.tag_byte (T.content value.now)) self.old self.new result }
+        ensures { let bytes = element_of T.tag_byte (T.content value.now) in
+            Puts bytes bytes self.old self.new result }
     {
         let since = self.written();
         value.put_value(self)?;
