@@ -3,3 +3,4 @@ pub mod PrivateKeys
 pub mod KeyReading
 pub mod KeyStores
 pub mod Numbers
+pub mod BmpStrings

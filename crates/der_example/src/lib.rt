@@ -6,6 +6,7 @@
 #![tactic(auto)]
 
 mod algorithm;
+pub mod bmp_string;
 pub mod callers;
 pub mod certificates;
 pub mod examples;

@@ -1,5 +1,5 @@
 //! Your own DER type without elements inside: NULL.
-ghost use Rattle.std.specs.Prelude.{◌≡◌, ◌==◌, [], Some, length};
+ghost use Rattle.std.specs.Prelude.{◌≡◌, ◌==◌, [], Some, length, true};
 ghost use Rattle.sec1.specs.Der.{value_unless};
 
 use sec1::der::{
@@ -29,6 +29,8 @@ impl ValueContent for Null {
     ghost content = { λ _. Some [] };
 
     ghost fault = { λ bytes. value_unless (length bytes == 0) };
+
+    ghost says_kind = { true };
 }
 
 impl<'a> DecodeValue<'a> for Null {

@@ -1,5 +1,5 @@
 //! One element of some bytes, or the place at which it is refused.
-ghost use Rattle.std.specs.Prelude.{◌≡◌, ◌-◌, ◌≤◌, ℕ, length, Some, None, IfErr, IfOk, MatchResult};
+ghost use Rattle.std.specs.Prelude.{true, ◌≡◌, ◌-◌, ◌≤◌, ℕ, length, Some, None, IfErr, IfOk, MatchResult};
 ghost use Rattle.std.specs.Option.{option_or};
 ghost use Rattle.sec1_der.specs.Elements.{max_length, IsTag};
 ghost use Rattle.der_faults.specs.Places.{Place, any_place, at_first, before, element_place};
@@ -97,8 +97,8 @@ pub(crate) fn tagged_element(tag: Tag, end: usize, bytes: &[u8]) -> Step<Element
     any_element(end, bytes)
 }
 
-/// Reads the element of a value of T at the beginning of the bytes, which end at this offset.
-/// Returns the bytes after it.
+/// Reads the element of a value of T, which says the kinds of its errors, at the beginning of the
+/// bytes, which end at this offset. Returns the bytes after it.
 ///
 /// # Errors
 ///
@@ -107,7 +107,7 @@ pub(crate) fn value<'a, T: DecodeValue<'a> + Tagged + Drop>(
     end: usize,
     bytes: &'a [u8],
 ) -> Step<&'a [u8]>
-    requires { length bytes.now ≤ end }
+    requires { (T.says_kind ≡ true) × (length bytes.now ≤ end) }
     ensures place { MatchResult result
         (λ rest. (behind : Place)
         → element_place T.tag_byte (at_first T.fault) behind end bytes.now ≡ behind end rest.now)

@@ -1,5 +1,5 @@
 //! An element of any tag.
-ghost use Rattle.std.specs.Prelude.{◌≡◌, ℕ, List, length, refl, MatchResult};
+ghost use Rattle.std.specs.Prelude.{◌≡◌, ℕ, List, length, refl, MatchResult, true};
 ghost use Rattle.sec1_der.specs.Elements.{element, IsHeader, IsElement};
 ghost use Rattle.sec1_der.specs.ErrorKinds.{IsReadingFault};
 ghost use Rattle.sec1_der.specs.Parts.{is_among, AreApart, ReadsPart};
@@ -85,7 +85,7 @@ impl<'a> Any<'a> {
 
     /// Reads one element of any tag.
     fn read(reader: &mut SliceReader<'a>) -> Result<Any<'a>>
-        ensures { ReadsPart any_of any_element_fault any_tags result reader.old reader.new }
+        ensures { ReadsPart any_of true any_element_fault any_tags result reader.old reader.new }
     {
         let input = reader.remaining_input();
         match AnyRef::decode(reader) {
@@ -102,6 +102,8 @@ impl Part for Any<'_> {
     ghost bytes = { any_of };
 
     ghost fault_then = { any_element_fault };
+
+    ghost says_kind = { true };
 
     ghost tags = { any_tags };
 

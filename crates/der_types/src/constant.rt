@@ -1,5 +1,5 @@
 //! Values with one content.
-ghost use Rattle.std.specs.Prelude.{◌≡◌, [], ◌∷◌, ℕ, List, Some};
+ghost use Rattle.std.specs.Prelude.{◌≡◌, [], ◌∷◌, ℕ, List, Some, true};
 ghost use Rattle.std.specs.Str.{bytes_eq};
 ghost use Rattle.sec1_der.specs.Contents.{value_unless};
 
@@ -48,6 +48,8 @@ impl<K: ConstantContent> ValueContent for Constant<K> {
     ghost content = { λ _. Some K.constant };
 
     ghost fault = { λ bytes. value_unless (bytes_eq bytes K.constant) };
+
+    ghost says_kind = { true };
 }
 
 impl<'a, K: ConstantContent> DecodeValue<'a> for Constant<K> {

@@ -2,7 +2,7 @@ ghost use Rattle.sec1_der.specs.Elements.{element_of};
 ghost use Rattle.sec1_der.specs.PartLaws.{element_begins};
 ghost use Rattle.sec1_der.specs.Parts.{AreApart, one_tag};
 ghost use Rattle.sec1_der.specs.Faults.{element_fault};
-ghost use Rattle.std.specs.Prelude.{refl};
+ghost use Rattle.std.specs.Prelude.{refl, true};
 
 use sec1_der::{
     BackWriter, DecodePart, Distinct, EncodePart, Length, ObjectIdentifier, Part, Record, Required,
@@ -49,6 +49,8 @@ impl Part for AlgorithmIdentifier {
         element_of 0x30 (⟦<AlgorithmIdentifier as ValueContent>⟧.content value) };
 
     ghost fault_then = { element_fault 0x30 ⟦<AlgorithmIdentifier as ValueContent>⟧.fault };
+
+    ghost says_kind = { true };
 
     ghost tags = { one_tag 0x30 };
 

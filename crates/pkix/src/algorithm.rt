@@ -1,5 +1,5 @@
 //! Algorithms by their identifiers.
-ghost use Rattle.std.specs.Prelude.{refl};
+ghost use Rattle.std.specs.Prelude.{refl, true};
 ghost use Rattle.sec1_der.specs.Elements.{element_of};
 ghost use Rattle.sec1_der.specs.Parts.{AreApart, one_tag};
 ghost use Rattle.sec1_der.specs.PartLaws.{element_begins};
@@ -58,6 +58,8 @@ impl Part for AlgorithmIdentifier<'_> {
     ghost bytes = { λ value. element_of 0x30 (algorithm_content value) };
 
     ghost fault_then = { element_fault 0x30 algorithm_fault };
+
+    ghost says_kind = { true };
 
     ghost tags = { one_tag 0x30 };
 

@@ -1,5 +1,5 @@
 //! Certificates.
-ghost use Rattle.std.specs.Prelude.{◌≡◌, refl};
+ghost use Rattle.std.specs.Prelude.{◌≡◌, refl, true};
 ghost use Rattle.sec1_der.specs.Elements.{element_of};
 ghost use Rattle.sec1_der.specs.Parts.{AreApart, one_tag};
 ghost use Rattle.sec1_der.specs.PartLaws.{element_begins};
@@ -154,6 +154,8 @@ impl Part for TbsCertificate<'_> {
 
     ghost fault_then = { element_fault 0x30 tbs_fault };
 
+    ghost says_kind = { true };
+
     ghost tags = { one_tag 0x30 };
 
     ghost begins = { λ value. element_begins 0x30 (tbs_content value) };
@@ -241,7 +243,7 @@ impl<'a> Certificate<'a> {
     ///
     /// Those of [`read_der`].
     pub fn from_der(bytes: &'a [u8]) -> Result<Certificate<'a>>
-        ensures { ReadsElement 0x30 certificate_content certificate_fault bytes.now result }
+        ensures { ReadsElement 0x30 certificate_content true certificate_fault bytes.now result }
     {
         read_der(bytes)
     }

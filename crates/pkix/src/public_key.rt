@@ -1,5 +1,5 @@
 //! Public keys with their algorithms.
-ghost use Rattle.std.specs.Prelude.{refl};
+ghost use Rattle.std.specs.Prelude.{refl, true};
 ghost use Rattle.sec1_der.specs.Elements.{element_of};
 ghost use Rattle.sec1_der.specs.Parts.{AreApart, one_tag};
 ghost use Rattle.sec1_der.specs.PartLaws.{element_begins};
@@ -56,6 +56,8 @@ impl Part for SubjectPublicKeyInfo<'_> {
 
     ghost fault_then = { element_fault 0x30 public_key_fault };
 
+    ghost says_kind = { true };
+
     ghost tags = { one_tag 0x30 };
 
     ghost begins = { λ value. element_begins 0x30 (public_key_content value) };
@@ -92,7 +94,7 @@ impl<'a> SubjectPublicKeyInfo<'a> {
     ///
     /// Those of [`read_der`].
     pub fn from_der(bytes: &'a [u8]) -> Result<SubjectPublicKeyInfo<'a>>
-        ensures { ReadsElement 0x30 public_key_content public_key_fault bytes.now result }
+        ensures { ReadsElement 0x30 public_key_content true public_key_fault bytes.now result }
     {
         read_der(bytes)
     }

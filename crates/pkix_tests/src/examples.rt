@@ -1,5 +1,6 @@
 //! Keys in containers, read and written by examples that were made by openssl; a point, read again.
 use crate::assert_equal;
+use der_example::bmp_string::{BmpString, characters};
 use der_example::points::{from_own_bytes, from_own_json, from_own_lower_hex, from_own_upper_hex};
 use der_example::{
     KeyStore, PrivateKeyInfo, SubjectPublicKeyInfo, find, find_by_public_key, keep,
@@ -157,6 +158,27 @@ fn reads_and_writes_an_octet_string_that_contains_a_record(rt: HostRuntime) -> R
         &bytes.as_slice(),
     );
     Ok(())
+}
+
+/// X.690 section 8.23.9: `A` and the sign of the euro.
+#[test]
+fn reads_and_writes_characters_of_two_bytes(rt: HostRuntime) -> Result<(), Fail> {
+    let bytes = characters(b"\x1E\x04\x00\x41\x20\xAC")?;
+    assert_equal(&rt, &bytes, &b"\x00\x41\x20\xAC".as_slice());
+    let der = to_der(rt.alloc(), &BmpString { bytes })?;
+    assert_equal(&rt, &der.as_slice(), &b"\x1E\x04\x00\x41\x20\xAC".as_slice());
+    for odd in [b"\x1E\x01\x41", b"\x0C\x01\x41"] {
+        assert!(rt; characters(odd).is_err(), "of {odd:?}");
+    }
+    Ok(())
+}
+
+#[test]
+fn refuses_to_write_half_a_character(rt: HostRuntime) {
+    match to_der(rt.alloc(), &BmpString { bytes: b"\x00\x41\x20" }) {
+        Ok(_) => assert!(rt; false),
+        Err(e) => assert_equal(&rt, &e.kind(), &ErrorKind::Overlength),
+    }
 }
 
 #[test]

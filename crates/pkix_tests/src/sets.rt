@@ -1,5 +1,5 @@
 //! SET OF: elements in order, out of order and of unequal lengths.
-ghost use Rattle.std.specs.Prelude.{◌≡◌, ◌==◌, ◌∷◌, [], length, Some};
+ghost use Rattle.std.specs.Prelude.{◌≡◌, ◌==◌, ◌∷◌, [], length, Some, true};
 ghost use Rattle.sec1_der.specs.Contents.{value_unless};
 
 use crate::assert_equal;
@@ -29,6 +29,8 @@ impl ValueContent for Digit {
     ghost content = { λ digit. Some (digit.byte ∷ []) };
 
     ghost fault = { λ bytes. value_unless (length bytes == 1) };
+
+    ghost says_kind = { true };
 }
 
 impl<'a> DecodeValue<'a> for Digit {

@@ -16,7 +16,8 @@ pub use Rattle.sec1_der.specs.Identifiers.{IsIdentifier, IsIdentifierContent, co
 pub use Rattle.sec1_der.specs.Identifiers.{identifier_content, dotted}
 pub use Rattle.sec1_der.specs.Numbers.{number_of}
 pub use Rattle.sec1_der.specs.Readers.{Reader, reader_over, refused, HasRead, HasReadElement}
-pub use Rattle.sec1_der.specs.Faults.{Fault, HasFault, no_fault, end_fault, element_fault}
+pub use Rattle.sec1_der.specs.Faults.{Fault, HasFault, TellsFault, IsFaultOf, no_fault, end_fault}
+pub use Rattle.sec1_der.specs.Faults.{element_fault}
 pub use Rattle.sec1_der.specs.Faults.{optional_fault, field_fault, any_fault, document_fault}
 pub use Rattle.sec1_der.specs.Faults.{tree_fault}
 pub use Rattle.sec1_der.specs.ReadsDocument.{IsElementFault, ConsumesElement, RefusesElement}

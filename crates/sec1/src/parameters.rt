@@ -1,4 +1,4 @@
-ghost use Rattle.std.specs.Prelude.{◌≡◌, Some};
+ghost use Rattle.std.specs.Prelude.{◌≡◌, Some, true};
 ghost use Rattle.sec1.specs.DebugTexts.{curve_text};
 ghost use Rattle.sec1.specs.Parameters.{curve_of};
 ghost use Rattle.sec1_der.specs.Contents.{identifier_fault};
@@ -79,6 +79,8 @@ impl ValueContent for EcParameters {
     ghost content = { λ parameters. identifier_content (curve_of parameters) };
 
     ghost fault = { identifier_fault };
+
+    ghost says_kind = { true };
 }
 
 impl<'a> DecodeValue<'a> for EcParameters {

@@ -12,7 +12,6 @@ use Rattle.sec1_der.specs.ErrorKinds.{is_tag, length_fault, header_fault}
 use Rattle.sec1_der.specs.Readers.{Reader, reader_over, HasReadElement}
 use Rattle.sec1_der.specs.Faults.{Fault, no_fault, end_fault, number_at, length_at, within, parts_fault}
 use Rattle.sec1_der.specs.Faults.{element_fault, optional_fault, field_fault, any_fault, document_fault}
-use Rattle.sec1_der.specs.declared.error.ErrorKind.{ErrorKind}
 use Rattle.sec1_der.specs.declared.error.ErrorKind.TheVariants.{Truncated, TrailingData}
 use Rattle.sec1_der.proofs.HeaderLemmas.{fronts, header_front, longer, some_length}
 use Rattle.sec1_der.proofs.ElementLaws.{is_tag-true, header_apart, element_of-within}
@@ -124,12 +123,13 @@ read_whole tag (Some inside) old new is end =
     element_of-within tag (Some inside) inside refl is.within ∙ ap Some (sym all)
 
 -- where the content of an element was opened, the fault of the element is that of the content
-pub opened_element : (f : Fault) (tag opened : ℕ) (old new content : Reader) (found : Option ErrorKind)
+pub opened_element : (f : Fault) (tag opened : ℕ) (old new content : Reader)
     → (content ≡ reader_over content.unread) × HasReadElement opened content.unread old new → opened ≡ tag
-    → (content.failed ≡ false → f content.unread ≡ found) → element_fault tag f no_fault old.unread ≡ found
-opened_element f tag opened old new content found is same kind =
-    read_element f no_fault tag content.unread old new (rw same at is.1)
-    ∙ (alone _ ∙ kind (ap (λ (r : Reader). r.failed) is.0))
+    → (content.failed ≡ false) × (element_fault tag f no_fault old.unread ≡ f content.unread)
+opened_element f tag opened old new content is same = (
+  ap (λ (r : Reader). r.failed) is.0,
+  read_element f no_fault tag content.unread old new (rw same at is.1) ∙ alone _,
+)
 
 -- bytes after the end are refused as trailing data
 pub trailing_fault : (bytes : List ℕ) → (bytes ≡ [] → ⊥) → end_fault bytes ≡ Some TrailingData
@@ -161,13 +161,14 @@ read_field number f g content old new h =
     rw (ap (λ (r : Reader). r.unread) h.read.was_whole, eq-eqb tag tag refl) (parts_at f g content new.unread h.within)
 
 -- where the content of a field was opened, the fault of the field is that of the one element in it
-pub opened_field : (number tag : ℕ) (f : Fault) (opened : ℕ) (old new content : Reader) (found : Option ErrorKind)
+pub opened_field : (number tag : ℕ) (f : Fault) (opened : ℕ) (old new content : Reader)
     → (content ≡ reader_over content.unread) × HasReadElement opened content.unread old new → opened ≡ 0xA0 + number
-    → (content.failed ≡ false → element_fault tag f end_fault content.unread ≡ found)
-    → field_fault number tag f no_fault old.unread ≡ found
-opened_field number tag f opened old new content found is same kind =
-    read_field number (element_fault tag f end_fault) no_fault content.unread old new (rw same at is.1)
-    ∙ (alone _ ∙ kind (ap (λ (r : Reader). r.failed) is.0))
+    → (content.failed ≡ false)
+    × (field_fault number tag f no_fault old.unread ≡ element_fault tag f end_fault content.unread)
+opened_field number tag f opened old new content is same = (
+  ap (λ (r : Reader). r.failed) is.0,
+  read_field number (element_fault tag f end_fault) no_fault content.unread old new (rw same at is.1) ∙ alone _,
+)
 
 -- by these, a document is refused by the kind that its bytes have, and only then
 pub ruleset document_faults = (fronts, document_element, document_long)

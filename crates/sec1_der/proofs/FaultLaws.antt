@@ -1,7 +1,7 @@
 -- What the bytes of an element are refused by, and a reader that continues behind one. Further crates
 -- cite these laws.
-use Rattle.std.proofs.Common.{◌≡◌, ◌==◌, ◌++◌, ◌∷◌, [], ℕ, List, Bool, true, false, refl, sym, ◌∙◌}
-use Rattle.std.proofs.Common.{ap, if◌then◌else◌, Option, Some, None, IsSomeAnd, Result, Ok, Err}
+use Rattle.std.proofs.Common.{◌≡◌, ◌++◌, ℕ, List, false, refl, sym, ◌∙◌}
+use Rattle.std.proofs.Common.{ap, Option, Some, None, IsSomeAnd, Ok}
 use Rattle.std.proofs.Common.{eq-eqb, ◌≤◌, length, take, drop, arith, le-leb, length-append}
 use Rattle.std.proofs.Common.{append_assoc}
 use Rattle.std.specs.Option.{option_or}
@@ -9,7 +9,6 @@ use Rattle.sec1_der.specs.Readers.{Reader, HasReadElement, reader_over}
 use Rattle.sec1_der.specs.Faults.{Fault, no_fault, length_at, within, parts_fault, element_fault}
 use Rattle.sec1_der.specs.Faults.{any_fault}
 use Rattle.sec1_der.specs.declared.error.ErrorKind.{ErrorKind}
-use Rattle.sec1_der.specs.declared.error.ErrorKind.TheVariants.{Tag}
 use Rattle.std.proofs.Math.Seq.{take-append_seam, drop-append_seam}
 use Rattle.std.proofs.lemmas.Slice.Eq.{bytes_eq-Decides}
 use Rattle.sec1_der.specs.Elements.{max_length, length_octets, header, element, IsHeader}
@@ -127,20 +126,3 @@ reads_on f tag content old new some none = passes_over (element_fault tag f) f c
 pub reader_at : (r : Reader) (bytes : List ℕ) → r.unread ≡ bytes → r.failed ≡ false
     → r ≡ reader_over bytes
 reader_at r bytes unread whole = rw (← unread, ← whole) refl
-
--- what is refused stays so where more is tested behind it
-pub refused_more : (f g : Fault) (tag : ℕ) (bytes : List ℕ) (k : ErrorKind)
-    → element_fault tag f no_fault bytes ≡ Some k → element_fault tag f g bytes ≡ Some k
-refused_more f g tag [] k e = e
-refused_more f g tag (byte ∷ bytes) k e = by (byte == tag) (within (length_at bytes)) e
-  where
-    more : (o p : Option ErrorKind) → option_or o None ≡ Some k → option_or o p ≡ Some k
-    more None p e = absurd (cc e)
-    more (Some j) p e = e
-
-    by : (b : Bool) (found : Result (List ℕ × List ℕ) ErrorKind)
-        → (if b then parts_fault f no_fault found else Some Tag) ≡ Some k
-        → (if b then parts_fault f g found else Some Tag) ≡ Some k
-    by false found e = e
-    by true (Err kind) e = e
-    by true (Ok x) e = more (f x.0) (g x.1) e

@@ -3,6 +3,7 @@ pub mod DigitLaws
 pub mod IdentifierLaws
 pub mod ElementLaws
 pub mod FaultLaws
+pub mod KindLaws
 pub mod StreamLaws
 pub mod DigitLemmas
 pub mod LengthLemmas

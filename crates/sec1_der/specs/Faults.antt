@@ -1,5 +1,6 @@
 -- The kind of a refusal as a function of the bytes: the first fault from left to right.
-use Rattle.std.specs.Prelude.{◌≡◌, ◌==◌, ℕ, zero, suc, ◌+◌, ◌-◌, Bool, false, ◌&&◌, not, nat_lt}
+use Rattle.std.specs.Prelude.{◌≡◌, ◌≢◌, ◌==◌, ℕ, zero, suc, ◌+◌, ◌-◌, Bool, true, false, ◌&&◌}
+use Rattle.std.specs.Prelude.{not, nat_lt}
 use Rattle.std.specs.Prelude.{nat_le, if◌then◌else◌, bit_and, List, [], ◌∷◌, length, take, drop}
 use Rattle.std.specs.Prelude.{Option, Some, None, Result, Ok, Err, MatchResult}
 use Rattle.std.specs.Option.{option_or}
@@ -16,9 +17,20 @@ use Rattle.sec1_der.specs.declared.error.ErrorKind.TheVariants.{Truncated, Tag, 
 abbrev pub Fault : Type 0
 Fault = List ℕ → Option ErrorKind
 
+-- There is a fault, and it is this kind, if the type says its kinds.
+abbrev pub IsFaultOf : Bool → Option ErrorKind → ErrorKind → Type 0
+IsFaultOf true fault kind = fault ≡ Some kind
+IsFaultOf false fault kind = fault ≢ None
+
+-- The call succeeds if there is no fault; otherwise it fails, with this kind if the type says its
+-- kinds.
+abbrev pub TellsFault : {T : Type 0} → Bool → Result T Error → Option ErrorKind → Type 0
+TellsFault says_kind result fault =
+    MatchResult result (λ _. fault ≡ None) (λ e. IsFaultOf says_kind fault e.kind)
+
 -- the call fails with this kind, or succeeds if there is none
 abbrev pub HasFault : {T : Type 0} → Result T Error → Option ErrorKind → Type 0
-HasFault result fault = MatchResult result (λ _. fault ≡ None) (λ e. fault ≡ Some e.kind)
+HasFault result fault = TellsFault true result fault
 
 -- refuses no bytes; and the end, which refuses any further byte as TrailingData
 abbrev pub no_fault : Fault

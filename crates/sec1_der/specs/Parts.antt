@@ -5,7 +5,7 @@ use Rattle.std.specs.Prelude.{Option, Some, None, if◌then◌else◌, ⊤, Resu
 use Rattle.std.specs.Prelude.{OnErr, IsOkAnd, IsSomeAnd}
 use Rattle.sec1_der.specs.Elements.{element_of}
 use Rattle.sec1_der.specs.ErrorKinds.{Refuses, IsReadingFault}
-use Rattle.sec1_der.specs.Faults.{Fault}
+use Rattle.sec1_der.specs.Faults.{Fault, IsFaultOf}
 use Rattle.sec1_der.specs.Readers.{Reader, reader_over, HasRead}
 use Rattle.sec1_der.specs.declared.error.Error.{Error}
 use Rattle.sec1_der.specs.declared.error.ErrorKind.TheVariants.{Failed}
@@ -77,9 +77,11 @@ AreApart {A} tags bytes = (a b : A) (x y r s : List ℕ) → tags.apart ≡ true
     → MayFollow tags r → MayFollow tags s → x ++ r ≡ y ++ s → (a ≡ b) × (r ≡ s)
 
 -- A part is read, and the bytes after it are left. `bytes` gives those of a part, `tags` what is
--- known of it by its type, and `fault_then` the rule of a part and what follows it.
-pub record ReadsPart {P : Type 0} (bytes : P → Option (List ℕ)) (fault_then : Fault → Fault)
-    (tags : Tags) (result : Result P Error) (old new : Reader) : Type 0 where
+-- known of it by its type, and `fault_then` the rule of a part and what follows it; `says_kind` is
+-- whether errors are of the kinds that it gives.
+pub record ReadsPart {P : Type 0} (bytes : P → Option (List ℕ)) (says_kind : Bool)
+    (fault_then : Fault → Fault) (tags : Tags) (result : Result P Error)
+    (old new : Reader) : Type 0 where
   -- what is read is the part, and just its bytes are read
   pub found : IfOk result (λ part. IsSomeAnd (bytes part) (λ whole. HasRead whole old new))
   -- if the remaining input begins with a part, and what follows can't be confused with it, that
@@ -93,7 +95,8 @@ pub record ReadsPart {P : Type 0} (bytes : P → Option (List ℕ)) (fault_then 
   pub passes : old.failed ≡ false
       → OnOk result ((behind : Fault) → fault_then behind old.unread ≡ behind new.unread)
   pub refuses : old.failed ≡ false
-      → IfErr result (λ e. (behind : Fault) → fault_then behind old.unread ≡ Some e.kind)
+      → IfErr result
+      (λ e. (behind : Fault) → IsFaultOf says_kind (fault_then behind old.unread) e.kind)
   -- a reader that had failed stays as it was
   pub failed : old.failed ≡ true → Refuses result Failed × (new ≡ old)
   -- the reader has failed after an error

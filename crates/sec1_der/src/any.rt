@@ -21,7 +21,7 @@ pub struct AnyRef<'a> {
 }
 
 impl<'a> AnyRef<'a> {
-    ghost use Rattle.std.specs.Prelude.{◌≡◌, ◌<◌, ℕ, List, ◌++◌, false};
+    ghost use Rattle.std.specs.Prelude.{◌≡◌, ◌<◌, ℕ, List, ◌++◌, true, false};
     ghost use Rattle.std.specs.Prelude.{IfOk, IsOkAnd, IfErr, MatchResult};
     ghost use Rattle.sec1_der.specs.Elements.{element, IsHeader};
     ghost use Rattle.sec1_der.specs.ErrorKinds.{IsHeaderFault};
@@ -60,7 +60,7 @@ impl<'a> AnyRef<'a> {
             → reader.old ≡ reader_over (element tag content ++ rest)
             → IsOkAnd result (λ any. (tag_of any ≡ tag) × (value_of any ≡ content))
             × (reader.new ≡ reader_over rest) }
-        ensures refused { RefusesBy (any_fault (λ _. no_fault) no_fault) result reader.old
+        ensures refused { RefusesBy true (any_fault (λ _. no_fault) no_fault) result reader.old
             reader.new }
     {
         reader.check()?;
@@ -155,13 +155,15 @@ impl Eq for AnyRef<'_> {
 }
 
 impl ValueContent for AnyRef<'_> {
-    ghost use Rattle.std.specs.Prelude.{Some, ⊤};
+    ghost use Rattle.std.specs.Prelude.{Some, ⊤, true};
     ghost use Rattle.sec1_der.specs.Faults.{no_fault};
     ghost use Rattle.sec1_der.specs.Values.{value_of};
 
     ghost content = { λ any. Some (value_of any) };
 
     ghost fault = { no_fault };
+
+    ghost says_kind = { true };
 }
 
 impl EncodeValue for AnyRef<'_> {

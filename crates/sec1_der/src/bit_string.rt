@@ -133,12 +133,14 @@ impl FixedTag for BitStringRef<'_> {
 }
 
 impl ValueContent for BitStringRef<'_> {
-    ghost use Rattle.std.specs.Prelude.{Some, ◌∷◌};
+    ghost use Rattle.std.specs.Prelude.{Some, ◌∷◌, true};
     ghost use Rattle.sec1_der.specs.Contents.{bit_string_fault};
 
     ghost content = { λ bits. Some (bits.unused ∷ bits.bytes.now) };
 
     ghost fault = { bit_string_fault };
+
+    ghost says_kind = { true };
 }
 
 impl<'a> DecodeValue<'a> for BitStringRef<'a> {

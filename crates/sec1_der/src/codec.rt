@@ -1,13 +1,13 @@
 //! Reading and writing values of any type, by their whole DER encoding.
-ghost use Rattle.std.specs.Prelude.{◌≡◌, ◌<◌, ◌≤◌, ◌+◌, ◌⊎◌, ◌↔◌, ◌++◌, ℕ, List, length};
+ghost use Rattle.std.specs.Prelude.{◌≡◌, ◌<◌, ◌≤◌, ◌+◌, ◌⊎◌, ◌↔◌, ◌++◌, ℕ, List, length, drop};
 ghost use Rattle.std.specs.Prelude.{⊤, Option, Some, None, IsOk, IfOk};
 ghost use Rattle.std.specs.Prelude.{IsOkAnd, IfErr, OnOk, OnErr, IfSome, IsSomeAnd};
 ghost use Rattle.std.specs.Prelude.{MatchOption, MatchResult};
 ghost use Rattle.sec1_der.specs.Elements.{max_length, element, element_of, IsTag, IsElementOf};
-ghost use Rattle.sec1_der.specs.Encodings.{IsOverlengthOr, ReadsElement, WritesInto};
+ghost use Rattle.sec1_der.specs.Encodings.{IsOverlengthOr, ReadsElement};
 ghost use Rattle.sec1_der.specs.Elements.{IsProperPrefix};
 ghost use Rattle.sec1_der.specs.ErrorKinds.{Refuses, IsReadingFault};
-ghost use Rattle.sec1_der.specs.Faults.{HasFault, element_fault, end_fault};
+ghost use Rattle.sec1_der.specs.Faults.{TellsFault, element_fault, end_fault};
 
 use crate::length::check_room;
 use crate::value::element_header;
@@ -36,7 +36,8 @@ pub fn from_der<'a, T: DecodeValue<'a> + Tagged + Drop>(input: &'a [u8]) -> Resu
         → element_of T.tag_byte (T.content value) ≡ Some bytes
         → IsProperPrefix bytes input.now → Refuses result ErrorKind.TrailingData }
     // Whether the input is refused, and by which kind, is a function of its bytes.
-    ensures kind { HasFault result (element_fault T.tag_byte T.fault end_fault input.now) }
+    ensures kind { TellsFault T.says_kind result
+        (element_fault T.tag_byte T.fault end_fault input.now) }
 {
     SliceReader::new(input).only_element()
 }
@@ -50,7 +51,7 @@ pub fn from_der<'a, T: DecodeValue<'a> + Tagged + Drop>(input: &'a [u8]) -> Resu
 pub fn read_der<'a, T: DecodeValue<'a> + Tagged + UniqueContent + Drop>(
     input: &'a [u8],
 ) -> Result<T>
-    ensures { ReadsElement T.tag_byte T.content T.fault input.now result }
+    ensures { ReadsElement T.tag_byte T.content T.says_kind T.fault input.now result }
 {
     T::one();
     from_der(input)
@@ -104,8 +105,12 @@ fn element_len<T: EncodeValue + Tagged>(value: &T) -> Option<usize>
 /// encode_to_slice(&octets, buffer)
 /// ```
 pub fn encode_to_slice<T: EncodeValue + Tagged>(value: &T, buffer: &mut [u8]) -> Result<usize>
-    ensures { WritesInto (element_of T.tag_byte (T.content value.now)) buffer.old buffer.new
-        result }
+    ensures { MatchResult result
+        (λ n. (n ≤ length buffer.new) × IsSomeAnd (element_of T.tag_byte (T.content value.now))
+        (λ bytes. (n ≡ length bytes) × (buffer.new ≡ bytes ++ drop n buffer.old)))
+        (λ e. (buffer.new ≡ buffer.old) × IsOverlengthOr ErrorKind.Buffer
+        (element_of T.tag_byte (T.content value.now))
+        (λ bytes. length buffer.old < length bytes) e) }
 {
     let total = encoded_len(value)?;
     check_room(total, buffer.len())?;

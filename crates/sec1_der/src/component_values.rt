@@ -1,6 +1,6 @@
 //! Values for the components of a [`Record`](crate::Record). A contract sees only their bytes, so
 //! that the record can hold plain slices.
-ghost use Rattle.std.specs.Prelude.{◌≡◌, ◌∷◌, [], ℕ, List, Some, ⊤, codes};
+ghost use Rattle.std.specs.Prelude.{◌≡◌, ◌∷◌, [], ℕ, List, Some, ⊤, codes, true};
 ghost use Rattle.sec1_der.specs.Contents.{byte_fault, whole_bits_fault};
 ghost use Rattle.sec1_der.specs.DebugTexts.{struct_text};
 ghost use Rattle.sec1_der.specs.Elements.{element_of};
@@ -39,6 +39,8 @@ impl<const N: u8> ValueContent for SmallInteger<N> {
     ghost content = { λ _. Some (N ∷ []) };
 
     ghost fault = { byte_fault N };
+
+    ghost says_kind = { true };
 }
 
 impl<'a, const N: u8> DecodeValue<'a> for SmallInteger<N> {
@@ -95,6 +97,8 @@ impl ValueContent for Octets<'_> {
     ghost content = { λ bytes. Some bytes };
 
     ghost fault = { no_fault };
+
+    ghost says_kind = { true };
 }
 
 impl<'a> DecodeValue<'a> for Octets<'a> {
@@ -152,6 +156,8 @@ impl ValueContent for WholeBits<'_> {
     ghost content = { λ bytes. Some (0 ∷ bytes) };
 
     ghost fault = { whole_bits_fault };
+
+    ghost says_kind = { true };
 }
 
 impl<'a> DecodeValue<'a> for WholeBits<'a> {
@@ -214,6 +220,8 @@ impl<T: ValueContent + Tagged> ValueContent for Containing<T> {
     ghost content = { λ outside. element_of T.tag_byte (T.content outside.value) };
 
     ghost fault = { element_fault T.tag_byte T.fault end_fault };
+
+    ghost says_kind = { T.says_kind };
 }
 
 impl<'a, T: DecodeValue<'a> + Tagged + Drop> DecodeValue<'a> for Containing<T> {

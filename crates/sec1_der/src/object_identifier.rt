@@ -1,5 +1,5 @@
 ghost use Rattle.std.specs.Prelude.{◌≡◌, ℕ, ◌<◌, ◌↔◌, List, length, IsTrue, MatchResult, Some};
-ghost use Rattle.std.specs.Prelude.{◌∷◌, ◌++◌, bytes_eq};
+ghost use Rattle.std.specs.Prelude.{◌∷◌, ◌++◌, bytes_eq, true};
 ghost use Rattle.std.specs.Cmp.{partial_equiv_from_equiv};
 ghost use Rattle.std.specs.Fmt.{WritesStyledOnOk, decimal};
 ghost use Rattle.std.specs.Cmp.Lexicographic.{nat_list_eq_equiv};
@@ -309,6 +309,8 @@ impl ValueContent for ObjectIdentifier {
     ghost content = { identifier_content };
 
     ghost fault = { identifier_fault };
+
+    ghost says_kind = { true };
 }
 
 impl<'a> DecodeValue<'a> for ObjectIdentifier {

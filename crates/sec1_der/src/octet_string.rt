@@ -72,13 +72,15 @@ impl FixedTag for OctetStringRef<'_> {
 }
 
 impl ValueContent for OctetStringRef<'_> {
-    ghost use Rattle.std.specs.Prelude.{Some, ⊤};
+    ghost use Rattle.std.specs.Prelude.{Some, ⊤, true};
     ghost use Rattle.sec1_der.specs.Faults.{no_fault};
     ghost use Rattle.sec1_der.specs.Values.{octets_of};
 
     ghost content = { λ octets. Some (octets_of octets) };
 
     ghost fault = { no_fault };
+
+    ghost says_kind = { true };
 }
 
 impl<'a> DecodeValue<'a> for OctetStringRef<'a> {

@@ -1,5 +1,6 @@
 //! The parts of a SEQUENCE (X.690 section 8.9), and two parts in a row.
-ghost use Rattle.std.specs.Prelude.{◌≡◌, ◌≤◌, ℕ, List, length, Option, Some};
+ghost use Rattle.std.specs.Prelude.{◌≡◌, ◌≤◌, ◌&&◌, ℕ, List, length, Option, Some};
+ghost use Rattle.std.specs.Prelude.{Bool, false};
 ghost use Rattle.sec1_der.specs.BackWriters.{Puts};
 ghost use Rattle.sec1_der.specs.Elements.{max_length, within_limit};
 ghost use Rattle.sec1_der.specs.Encodings.{Measures};
@@ -17,6 +18,10 @@ pub trait Part {
     /// The kind of error by which bytes are refused as a part and what follows it, given the rule
     /// of what follows.
     ghost fault_then: { Fault → Fault };
+
+    /// Whether an error is of the kind that `fault_then` gives, as in
+    /// [`ValueContent`](crate::ValueContent).
+    ghost says_kind: { Bool } = { false };
 
     /// The tags that a part may begin with, and those that mustn't follow it.
     ghost tags: { Tags };
@@ -55,7 +60,8 @@ pub trait DecodePart<'a>: Part + Sized {
     /// part; Failed if the reader failed before. On an error the reader has failed.
     fn decode_part(reader: &mut SliceReader<'a>) -> Result<Self>
         requires { length reader.old.unread ≤ max_length }
-        ensures { ReadsPart Self.bytes Self.fault_then Self.tags result reader.old reader.new };
+        ensures { ReadsPart Self.bytes Self.says_kind Self.fault_then Self.tags result reader.old
+            reader.new };
 }
 
 /// A part that is determined by the bytes that begin with it.
@@ -70,6 +76,8 @@ impl<P: Part, Q: Part> Part for (P, Q) {
     ghost bytes = { λ parts. join (P.bytes parts.0) (Q.bytes parts.1) };
 
     ghost fault_then = { λ behind. P.fault_then (Q.fault_then behind) };
+
+    ghost says_kind = { P.says_kind && Q.says_kind };
 
     ghost tags = { both_tags P.tags Q.tags };
 

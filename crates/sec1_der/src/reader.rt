@@ -80,7 +80,7 @@ impl<'a> SliceReader<'a> {
         ensures only { (bytes rest : List ℕ) → length bytes ≡ count
             → self.old ≡ reader_over (bytes ++ rest)
             → IsOkAnd result (λ found. found.now ≡ bytes) × (self.new ≡ reader_over rest) }
-        ensures refused { RefusesBy (count_fault count) result self.old self.new }
+        ensures refused { RefusesBy true (count_fault count) result self.old self.new }
     {
         self.check()?;
         let count = count.get();
@@ -103,7 +103,7 @@ impl<'a> SliceReader<'a> {
         ensures only { (bytes rest : List ℕ) → length bytes ≡ count
             → self.old ≡ reader_over (bytes ++ rest)
             → (result ≡ Ok (reader_over bytes)) × (self.new ≡ reader_over rest) }
-        ensures refused { RefusesBy (count_fault count) result self.old self.new }
+        ensures refused { RefusesBy true (count_fault count) result self.old self.new }
     {
         let bytes = self.read_slice(count)?;
         Ok(SliceReader::new(bytes))
@@ -117,7 +117,7 @@ impl<'a> SliceReader<'a> {
     pub fn finish(&mut self) -> Result<()>
         ensures found { OnOk result ((self.old ≡ reader_over []) × (self.new ≡ self.old)) }
         ensures only { self.old ≡ reader_over [] → IsOk result }
-        ensures refused { RefusesBy end_fault result self.old self.new }
+        ensures refused { RefusesBy true end_fault result self.old self.new }
     {
         self.check()?;
         if !self.unread.is_empty() {
@@ -175,7 +175,7 @@ impl<'a> SliceReader<'a> {
     pub fn read_rest(&mut self) -> Result<&'a [u8]>
         ensures found { IfOk result
             (λ rest. (self.old ≡ reader_over rest.now) × (self.new ≡ reader_over [])) }
-        ensures refused { RefusesBy no_fault result self.old self.new }
+        ensures refused { RefusesBy true no_fault result self.old self.new }
     {
         self.check()?;
         let (rest, end) = self.unread.split_at(self.unread.len());

@@ -1,6 +1,6 @@
 //! The traits of DER values: with them the generic calls read and write a type.
 ghost use Rattle.std.specs.Prelude.{◌≡◌, ◌≤◌, ℕ, List, length, Option, Some, None, IsSomeAnd};
-ghost use Rattle.std.specs.Prelude.{MatchResult};
+ghost use Rattle.std.specs.Prelude.{Bool, false, MatchResult};
 ghost use Rattle.sec1_der.specs.BackWriters.{WritesInFront, Puts};
 ghost use Rattle.sec1_der.specs.Elements.{max_length, within_limit, IsTag};
 ghost use Rattle.sec1_der.specs.Encodings.{Measures};
@@ -34,6 +34,11 @@ pub trait ValueContent {
     /// The rule of the type: `None` for bytes that are a content of it, otherwise the kind of error
     /// by which they are refused.
     ghost fault: { Fault };
+
+    /// Whether an error is of the kind that `fault` gives. A type that leaves this out says by
+    /// `fault` only which bytes are refused; the kind is one of
+    /// [`decode_value`](DecodeValue::decode_value).
+    ghost says_kind: { Bool } = { false };
 }
 
 /// A value that is read from the content of its element.
@@ -47,7 +52,8 @@ pub trait DecodeValue<'a>: ValueContent + Sized {
     /// type; Failed if the reader failed before. On an error the reader has failed.
     fn decode_value(reader: &mut SliceReader<'a>) -> Result<Self>
         requires { length reader.old.unread ≤ max_length }
-        ensures { ReadsContent Self.content Self.fault result reader.old reader.new };
+        ensures { ReadsContent Self.content Self.says_kind Self.fault result reader.old
+            reader.new };
 }
 
 /// A value whose content is written.

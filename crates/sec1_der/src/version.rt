@@ -1,4 +1,4 @@
-ghost use Rattle.std.specs.Prelude.{◌≡◌, Some, [], ◌∷◌, codes};
+ghost use Rattle.std.specs.Prelude.{◌≡◌, Some, [], ◌∷◌, codes, true};
 ghost use Rattle.sec1_der.specs.Contents.{byte_fault};
 
 use crate::{
@@ -36,6 +36,8 @@ impl ValueContent for VersionOne {
     ghost content = { λ _. Some (1 ∷ []) };
 
     ghost fault = { byte_fault 1 };
+
+    ghost says_kind = { true };
 }
 
 impl<'a> DecodeValue<'a> for VersionOne {

@@ -1,5 +1,5 @@
 //! Records of many parts, and records in records in records.
-ghost use Rattle.std.specs.Prelude.{◌≡◌, ℕ, List, refl};
+ghost use Rattle.std.specs.Prelude.{◌≡◌, ℕ, List, refl, true};
 ghost use Rattle.sec1_der.specs.Elements.{element_of};
 ghost use Rattle.sec1_der.specs.Parts.{AreApart, one_tag};
 ghost use Rattle.sec1_der.specs.PartLaws.{element_begins};
@@ -133,6 +133,8 @@ impl Part for Inner {
 
     ghost fault_then = { element_fault 0x30 inner_fault };
 
+    ghost says_kind = { true };
+
     ghost tags = { one_tag 0x30 };
 
     ghost begins = { λ four. element_begins 0x30 (inner_content four) };
@@ -203,6 +205,8 @@ impl Part for Middle {
     ghost bytes = { λ four. element_of 0x30 (middle_content four) };
 
     ghost fault_then = { element_fault 0x30 middle_fault };
+
+    ghost says_kind = { true };
 
     ghost tags = { one_tag 0x30 };
 

@@ -1,6 +1,6 @@
 //! The generic calls of a reader, which read values and explicit fields.
 ghost use Rattle.std.specs.Prelude.{◌≡◌, ◌≢◌, ◌≤◌, ◌++◌, ℕ, List, length};
-ghost use Rattle.std.specs.Prelude.{slice_get, false, IfOk};
+ghost use Rattle.std.specs.Prelude.{slice_get, true, false, IfOk};
 ghost use Rattle.std.specs.Prelude.{IsOkAnd, IsSomeAnd, MatchOption};
 ghost use Rattle.sec1_der.specs.Elements.{max_length, element, element_of, explicit_tag};
 ghost use Rattle.sec1_der.specs.Elements.{IsProperPrefix};
@@ -38,8 +38,8 @@ impl<'a> SliceReader<'a> {
             → self.old ≡ reader_over (element T.tag_byte content ++ rest)
             → IsOkAnd result (λ found. T.content found ≡ Some content)
             × (self.new ≡ reader_over rest) }
-        ensures refused { RefusesBy (element_fault T.tag_byte T.fault no_fault) result self.old
-            self.new }
+        ensures refused { RefusesBy T.says_kind (element_fault T.tag_byte T.fault no_fault) result
+            self.old self.new }
     {
         let start = self.remaining_input();
         let mut content = self.open(T::fixed_tag())?;
@@ -86,8 +86,8 @@ impl<'a> SliceReader<'a> {
             (element (explicit_tag number) (element T.tag_byte content) ++ rest)
             → IsOkAnd result (λ field. IsSomeAnd field (λ found. T.content found ≡ Some content))
             × (self.new ≡ reader_over rest) }
-        ensures refused { RefusesBy (field_fault number T.tag_byte T.fault no_fault) result self.old
-            self.new }
+        ensures refused { RefusesBy T.says_kind (field_fault number T.tag_byte T.fault no_fault)
+            result self.old self.new }
     {
         self.check()?;
         let input = self.remaining_input();
@@ -116,7 +116,8 @@ impl<'a> SliceReader<'a> {
         ensures only { (content rest : List ℕ) → length content ≤ max_length
             → self.old ≡ reader_over (element tag content ++ rest)
             → (result ≡ Ok (reader_over content)) × (self.new ≡ reader_over rest) }
-        ensures refused { RefusesBy (element_fault tag no_fault no_fault) result self.old self.new }
+        ensures refused { RefusesBy true (element_fault tag no_fault no_fault) result self.old
+            self.new }
     {
         self.check()?;
         let Some(byte) = self.remaining_input().first() else {
@@ -138,7 +139,7 @@ impl<'a> SliceReader<'a> {
     /// Reads the one element in the remaining input.
     pub(crate) fn only_element<T: DecodeValue<'a> + Tagged + Drop>(&mut self) -> Result<T>
         ensures reads { ReadsContent (λ value. element_of T.tag_byte (T.content value))
-            (element_fault T.tag_byte T.fault end_fault) result self.old self.new }
+            T.says_kind (element_fault T.tag_byte T.fault end_fault) result self.old self.new }
         ensures rule { (content : List ℕ) → T.fault content ≡ None → length content ≤ max_length
             → self.old ≡ reader_over (element T.tag_byte content)
             → IsOkAnd result (λ found. T.content found ≡ Some content) }

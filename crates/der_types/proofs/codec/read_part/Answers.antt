@@ -1,6 +1,5 @@
-use Rattle.std.proofs.Common.{[], append-nil, ap, refl, Ok, arith, rules}
+use Rattle.std.proofs.Common.{[], append-nil, ap, refl, Ok, rules}
 use Rattle.std.proofs.lemmas.Bool.{false≢true}
-use Rattle.std.proofs.lemmas.Grind.{common_steps}
 use Rattle.der_types.proofs.codec.read_part.Goals as goal
 
 pub returns-in_err-part : goal.returns-in_err-part

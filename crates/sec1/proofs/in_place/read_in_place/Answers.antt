@@ -1,11 +1,12 @@
-use Rattle.std.proofs.Common.{◌≡◌, ◌++◌, ap, rules, sym, ◌∙◌, [], append-nil, Some, None, ℕ, List}
+use Rattle.std.proofs.Common.{◌≡◌, ◌++◌, ap, rules, sym, ◌∙◌, [], append-nil, Some, None, true, ℕ, List}
 use Rattle.std.proofs.lemmas.Bool.{false≢true}
 use Rattle.sec1_der.specs.Readers.{Reader, reader_over, HasReadElement}
 use Rattle.sec1_der.specs.Elements.{element}
 use Rattle.sec1_der.specs.Faults.{Fault, end_fault, element_fault}
 use Rattle.sec1_der.proofs.ElementLaws.{element_of-some}
 use Rattle.sec1_der.proofs.ElementFaultLemmas.{opened_element}
-use Rattle.sec1_der.proofs.FaultLaws.{PassesOver, reads_on, refused_more}
+use Rattle.sec1_der.proofs.FaultLaws.{PassesOver, reads_on}
+use Rattle.sec1_der.proofs.KindLaws.{refused_more}
 use Rattle.sec1.proofs.in_place.read_in_place.Goals as goal
 
 -- A reader over an element has nothing behind it.
@@ -19,7 +20,7 @@ passes : (f : Fault) (tag opened : ℕ) (old new content : Reader)
     → f content.unread ≡ None → PassesOver (element_fault tag f) old new
 passes f tag opened old new content found same none =
     reads_on f tag (Some content.unread) old new (rw same at found.1)
-    (opened_element f tag opened old new content None found same (λ fresh. none))
+    ((opened_element f tag opened old new content found same).1 ∙ none)
 
 pub returns-in-Err-clause-read : goal.returns-in-Err-clause-read
 returns-in-Err-clause-read g c = record {
@@ -61,8 +62,8 @@ returns-in-Err-read_content-clause-read g c = record {
       cc (opened.0, c.remaining_input-content.ensures) in
       absurd (false≢true (c.in-Err-read_content.ensures.only value (rw same there.same)));
   kinds = search rules;
-  kind = refused_more g.T.ValueContent.fault end_fault g.T.Tagged.tag_byte c.args.input.now _
-      (rw c.new-reader.ensures at (opened_element g.T.ValueContent.fault _ _ _ _ _ _ c.in-Ok.ensures.found
-      c.fixed_tag.ensures
-      (λ fresh. rw c.remaining_input-content.ensures at c.in-Err-read_content.ensures.kind)));
+  kind = refused_more true g.T.ValueContent.fault end_fault g.T.Tagged.tag_byte c.args.input.now _
+      (rw c.new-reader.ensures at
+      ((opened_element g.T.ValueContent.fault _ _ _ _ _ c.in-Ok.ensures.found c.fixed_tag.ensures).1
+      ∙ rw c.remaining_input-content.ensures at c.in-Err-read_content.ensures.kind));
 }

@@ -1,9 +1,8 @@
-use Rattle.std.proofs.Common.{◌≡◌, Some, ap, rules, inl, inr}
+use Rattle.std.proofs.Common.{ap, rules, inl, inr}
 use Rattle.std.proofs.lemmas.Result.{err_from_is_err_and}
 use Rattle.sec1_der.specs.Elements.{IsElement}
-use Rattle.sec1_der.specs.Faults.{no_fault, end_fault, document_fault}
+use Rattle.sec1_der.specs.Faults.{no_fault, end_fault}
 use Rattle.sec1_der.specs.declared.error.Error.{Error}
-use Rattle.sec1_der.specs.declared.error.ErrorKind.TheVariants.{TrailingData}
 use Rattle.sec1_der.proofs.ElementFaultLemmas.{document_element}
 use Rattle.sec1_der.proofs.document.SecretDocument.from_der.Goals as goal
 

@@ -1,4 +1,4 @@
-use Rattle.std.proofs.Common.{rules, arith}
+use Rattle.std.proofs.Common.{rules, arith, ◌∙◌}
 use Rattle.std.proofs.lemmas.Grind.{common_steps}
 use Rattle.sec1_der.proofs.ElementLaws.{element_of-inside}
 use Rattle.sec1_der.proofs.ElementFaultLemmas.{opened_field}
@@ -10,7 +10,9 @@ returns-in-Ok-clause-only g c = grind (arith, common_steps, element_of-inside)
 pub returns-in-Ok-clause-refused : goal.returns-in-Ok-clause-refused
 returns-in-Ok-clause-refused g c = record {
   kind = λ fresh.
-      opened_field _ _ _ _ _ _ _ _ c.in_ok-field.ensures.found c.context-tag.ensures c.in-Ok.ensures.reads.kind;
+      let opened = opened_field c.args.number g.T.Tagged.tag_byte g.T.ValueContent.fault _ _ _ _
+      c.in_ok-field.ensures.found c.context-tag.ensures in
+      opened.1 ∙ c.in-Ok.ensures.reads.kind opened.0;
   kinds = search rules;
   failed = λ failed. search rules;
   left = tt;
@@ -18,8 +20,10 @@ returns-in-Ok-clause-refused g c = record {
 
 pub returns-in-Err-clause-refused : goal.returns-in-Err-clause-refused
 returns-in-Err-clause-refused g c = record {
-  kind = λ fresh. rw c.fail_at.ensures.0
-      (opened_field _ _ _ _ _ _ _ _ c.in_ok-field.ensures.found c.context-tag.ensures c.in-Err.ensures.reads.kind);
+  kind = λ fresh.
+      let opened = opened_field c.args.number g.T.Tagged.tag_byte g.T.ValueContent.fault _ _ _ _
+      c.in_ok-field.ensures.found c.context-tag.ensures in
+      rw (c.fail_at.ensures.0, opened.1) (c.in-Err.ensures.reads.kind opened.0);
   kinds = search rules;
   failed = λ failed. search rules;
   left = rw c.remaining_input-input.ensures at c.fail_at.ensures.1;

@@ -1,5 +1,6 @@
 use Rattle.std.proofs.Common.{rules}
-use Rattle.sec1_der.proofs.FaultLaws.{reads_on, refused_more}
+use Rattle.sec1_der.proofs.FaultLaws.{reads_on}
+use Rattle.sec1_der.proofs.KindLaws.{refused_more}
 use Rattle.sec1_der.proofs.required.RequiredDecodePart.decode_part.Goals as goal
 
 pub returns-in-Err : goal.returns-in-Err
@@ -8,7 +9,7 @@ returns-in-Err g c = record {
   only = search rules;
   kinds = search rules;
   passes = λ _. tt;
-  refuses = λ fresh behind. refused_more g.A.ValueContent.fault behind g.A.Tagged.tag_byte c.args.reader.now.unread _
+  refuses = λ fresh behind. refused_more _ g.A.ValueContent.fault behind g.A.Tagged.tag_byte c.args.reader.now.unread _
       (c.in-Err.ensures.refused.kind fresh);
   failed = search rules;
   refused = search rules;
