@@ -223,7 +223,8 @@ impl<'a> OneAsymmetricKey<'a> {
     ///
     /// Those of [`read_der`].
     pub fn from_der(bytes: &'a [u8]) -> Result<OneAsymmetricKey<'a>>
-        ensures { ReadsElement 0x30 asymmetric_key_content true asymmetric_key_fault bytes.now result }
+        ensures { ReadsElement 0x30 asymmetric_key_content true asymmetric_key_fault bytes.now
+            result }
     {
         read_der::<OneAsymmetricKey>(bytes)
     }

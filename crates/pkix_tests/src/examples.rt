@@ -166,7 +166,11 @@ fn reads_and_writes_characters_of_two_bytes(rt: HostRuntime) -> Result<(), Fail>
     let bytes = characters(b"\x1E\x04\x00\x41\x20\xAC")?;
     assert_equal(&rt, &bytes, &b"\x00\x41\x20\xAC".as_slice());
     let der = to_der(rt.alloc(), &BmpString { bytes })?;
-    assert_equal(&rt, &der.as_slice(), &b"\x1E\x04\x00\x41\x20\xAC".as_slice());
+    assert_equal(
+        &rt,
+        &der.as_slice(),
+        &b"\x1E\x04\x00\x41\x20\xAC".as_slice(),
+    );
     for odd in [b"\x1E\x01\x41", b"\x0C\x01\x41"] {
         assert!(rt; characters(odd).is_err(), "of {odd:?}");
     }
@@ -175,7 +179,12 @@ fn reads_and_writes_characters_of_two_bytes(rt: HostRuntime) -> Result<(), Fail>
 
 #[test]
 fn refuses_to_write_half_a_character(rt: HostRuntime) {
-    match to_der(rt.alloc(), &BmpString { bytes: b"\x00\x41\x20" }) {
+    match to_der(
+        rt.alloc(),
+        &BmpString {
+            bytes: b"\x00\x41\x20",
+        },
+    ) {
         Ok(_) => assert!(rt; false),
         Err(e) => assert_equal(&rt, &e.kind(), &ErrorKind::Overlength),
     }

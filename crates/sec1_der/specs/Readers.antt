@@ -41,9 +41,9 @@ pub record RefusesBy {T : Type 0} (says_kind : Bool) (fault : Fault) (result : R
   -- the reader is as it was, but it has failed
   pub left : OnErr result (new ≡ refused old)
 
--- The remaining input is read as the content of a value. `content` gives that of a value, `fault` is
--- the rule by which bytes are refused, and `says_kind` is whether errors are of the kinds that it
--- gives.
+-- The remaining input is read as the content of a value. `content` gives that of a value, `fault`
+-- is the rule by which bytes are refused, and `says_kind` is whether errors are of the kinds that
+-- it gives.
 pub record ReadsContent {T : Type 0} (content : T → Option (List ℕ)) (says_kind : Bool)
     (fault : Fault) (result : Result T Error) (old new : Reader) : Type 0 where
   pub found : IfOk result (λ value. content value ≡ Some old.unread)
