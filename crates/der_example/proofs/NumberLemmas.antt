@@ -4,7 +4,7 @@ use Rattle.std.proofs.Common.{option_and_then}
 use Rattle.sec1_der.specs.Contents.{value_unless}
 use Rattle.sec1_der.specs.Elements.{element, element_of}
 use Rattle.sec1_der.proofs.ElementLaws.{element_of-some}
-use Rattle.sec1_der.specs.PartLaws.{parted}
+use Rattle.sec1_der.proofs.JoinLaws.{parted}
 use Rattle.sec1_der.proofs.FaultLaws.{element_at}
 use Rattle.sec1_der.specs.Faults.{Fault}
 use Rattle.der_types.specs.Integers.{is_unsigned, unsigned_content}

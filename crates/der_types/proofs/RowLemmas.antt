@@ -11,7 +11,7 @@ use Rattle.sec1_der.specs.declared.error.ErrorKind.{ErrorKind}
 use Rattle.der_types.specs.Rows.{joined, elements_fault, row_fault}
 use Rattle.sec1_der.proofs.KindLaws.{no_fault_of, refused_more}
 use Rattle.sec1_der.proofs.FaultLaws.{reads_on, reader_at}
-use Rattle.sec1_der.specs.PartLaws.{parted}
+use Rattle.sec1_der.proofs.JoinLaws.{parted}
 use Rattle.sec1_der.proofs.ElementLaws.{element_of-some, element_of-within}
 
 -- the reader stands before some of the elements: the fault of all of them is that of these

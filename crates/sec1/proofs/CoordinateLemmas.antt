@@ -10,7 +10,7 @@ use Rattle.std.proofs.lemmas.Bool.{lt-ltb}
 use Rattle.std.proofs.lemmas.Grind.{elements}
 use Rattle.std.proofs.lemmas.Slice.Eq.{bytes_eq-Decides}
 use Rattle.std.specs.Fmt.{comma_space, debug_items, decimal}
-use Rattle.sec1_der.specs.DebugTexts.{bytes_text, number_text}
+use Rattle.sec1_der.specs.DebugTexts.{bytes_text}
 use Rattle.sec1.specs.DebugTexts.{both_text, coordinates_text, form_text, parity_text, x_text}
 use Rattle.sec1_der.specs.Numbers.{number_of}
 use Rattle.sec1.specs.Coordinates.{AreDigits, AreWhole, IsCoordinate, coordinate_number, coordinates_bytes}
@@ -158,7 +158,7 @@ next_comma : (xs : List ℕ) → next comma_space xs ≡ comma_space
 next_comma [] = refl
 next_comma (x ∷ xs) = refl
 
-items_text : (lead xs : List ℕ) → debug_items number_text lead xs ≡ Some (items lead xs)
+items_text : (lead xs : List ℕ) → debug_items (λ x. Some (decimal x)) lead xs ≡ Some (items lead xs)
 items_text lead [] = refl
 items_text lead (x ∷ xs) = rw (items_text comma_space xs) refl
 

@@ -10,7 +10,7 @@ use Rattle.std.proofs.lemmas.List.{take_all, take_more}
 use Rattle.std.proofs.lemmas.List.Folds.{list_any_at, list_any_more}
 use Rattle.std.proofs.Math.ListN.{get_or-eq_default}
 use Rattle.std.proofs.lemmas.List.FromFn.{get_or-map-range_with_len}
-use Rattle.sec1_der.specs.TextLaws.{plain_of_styled, flush_of_plain}
+use Rattle.sec1_der.proofs.TextLaws.{plain_of_styled, flush_of_plain}
 use Rattle.hex.specs.Hex.{IsBytes, encode_with, encode_upper, upper_digits, lower_digits, hex_digit_value, decode_of}
 use Rattle.hex.specs.Hex.{decode_pairs, decode_sized}
 use Rattle.hex.specs.Hex.{digit_or_error, ◌>>=◌}

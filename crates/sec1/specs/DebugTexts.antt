@@ -1,8 +1,8 @@
 -- What `{:?}` prints.
 use Rattle.std.specs.Prelude.{ℕ, List, ◌++◌, Bool, if◌then◌else◌, Option, Some, codes}
 use Rattle.std.specs.Fmt.{◌++?◌, debug_list, debug_option, debug_variant, decimal}
-use Rattle.sec1_der.specs.DebugTexts.{identifier_text, bytes_text, struct_text, pair_text}
-use Rattle.sec1_der.specs.DebugTexts.{error_text as der_error_text}
+use Rattle.sec1_der.specs.DebugTexts.{bytes_text, kind_text, struct_text, pair_text}
+use Rattle.sec1_der.specs.Identifiers.{dotted}
 use Rattle.sec1.specs.Coordinates.{first_bytes}
 use Rattle.sec1.specs.Points.{Point, identity, compact, compressed, uncompressed, hybrid}
 use Rattle.sec1.specs.Points.{fixed_width}
@@ -15,7 +15,7 @@ use Rattle.sec1.specs.declared.point.tag.Tag.TheVariants as tags
 
 -- of parameters, the curve with these arcs
 abbrev pub curve_text : List ℕ → List ℕ
-curve_text arcs = codes "NamedCurve(" ++ identifier_text arcs ++ codes ")"
+curve_text arcs = codes "NamedCurve(ObjectIdentifier(" ++ dotted arcs ++ codes "))"
 
 -- of a key with these parameters and this public key, whatever its private key is
 abbrev pub key_text : Option (List ℕ) → Option (List ℕ) → Option (List ℕ)
@@ -38,7 +38,9 @@ tag_text tags.HybridOddY = codes "HybridOddY"
 
 -- of an error
 abbrev pub error_text : Error → Option (List ℕ)
-error_text (errors.Asn1 cause) = debug_variant (codes "Asn1") (der_error_text cause.kind)
+error_text (errors.Asn1 cause) =
+    debug_variant (codes "Asn1")
+    (struct_text (codes "Error") (codes "kind") (Some (kind_text cause.kind)))
 error_text errors.Crypto = Some (codes "Crypto")
 error_text errors.PointEncoding = Some (codes "PointEncoding")
 error_text errors.Version = Some (codes "Version")

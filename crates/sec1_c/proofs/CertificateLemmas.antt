@@ -5,7 +5,7 @@ use Rattle.pkix.specs.Records.{certificate_content, tbs_content}
 use Rattle.pkix.specs.declared.certificate.Certificate.{Certificate}
 use Rattle.sec1_der.proofs.ElementLaws.{element_of-some}
 use Rattle.sec1_der.specs.Elements.{element_of, header, max_length, within_limit}
-use Rattle.sec1_der.specs.PartLaws.{parted}
+use Rattle.sec1_der.proofs.JoinLaws.{parted}
 use Rattle.sec1_c.specs.Certificates.{IsCertificate, after_info, after_tbs, info_of, info_place}
 use Rattle.sec1_c.specs.Fields.{bytes_len}
 use Rattle.sec1_c.specs.Places.{StandsAt}

@@ -20,7 +20,7 @@ use Rattle.sec1_der.proofs.ComponentLemmas as components
 use Rattle.sec1_der.specs.Contents.{bit_string_fault, byte_fault, value_unless}
 use Rattle.sec1_der.proofs.ElementLaws.{element_of-some}
 use Rattle.sec1_der.specs.Elements.{element, element_of, header, max_length, within_limit}
-use Rattle.sec1_der.specs.PartLaws.{parted}
+use Rattle.sec1_der.proofs.JoinLaws.{parted}
 use Rattle.sec1_der.specs.Parts.{join, optional_of}
 use Rattle.sec1_der.proofs.FaultLaws.{element_at}
 use Rattle.sec1_der.specs.Faults.{Fault, element_fault, end_fault, length_at, no_fault, optional_fault}

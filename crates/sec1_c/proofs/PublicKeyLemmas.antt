@@ -18,7 +18,7 @@ use Rattle.sec1_der.specs.Contents.{is_bit_string}
 use Rattle.sec1_der.proofs.ElementLaws.{element_of-some}
 use Rattle.sec1_der.specs.Elements.{element, element_of, header}
 use Rattle.sec1_der.specs.Identifiers.{content_of, identifier_content, is_identifier}
-use Rattle.sec1_der.specs.PartLaws.{parted}
+use Rattle.sec1_der.proofs.JoinLaws.{parted}
 use Rattle.sec1_c.specs.FieldLengths.{IsFieldLength}
 use Rattle.sec1_c.specs.PublicKeys.{ArePublicKeyPartsOf, IsInfo, key_field_len, public_key_places}
 use Rattle.sec1_c.proofs.PlaceLemmas.{stands_before}

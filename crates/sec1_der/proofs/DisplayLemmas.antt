@@ -7,7 +7,7 @@ use Rattle.std.proofs.Output.{has_written_styled_append, has_written_styled_nil}
 use Rattle.std.specs.declared.fmt.Formatter.{Formatter}
 use Rattle.sec1_der.specs.ArcsOf.{arcs_of_numbers}
 use Rattle.sec1_der.specs.Identifiers.{dotted}
-use Rattle.sec1_der.specs.TextLaws.{plain_of_styled, flush_of_plain}
+use Rattle.sec1_der.proofs.TextLaws.{plain_of_styled, flush_of_plain}
 use Rattle.sec1_der.proofs.IdentifierLemmas.{content_steps}
 
 -- each number after a full stop

@@ -5,6 +5,8 @@ pub mod ElementLaws
 pub mod FaultLaws
 pub mod KindLaws
 pub mod StreamLaws
+pub mod JoinLaws
+pub mod TextLaws
 pub mod DigitLemmas
 pub mod LengthLemmas
 pub mod ElementLemmas

@@ -9,7 +9,7 @@ use Rattle.sec1_der.specs.PartLaws.{element_begins}
 use Rattle.sec1_der.proofs.PartLemmas.{next_first, next_second}
 use Rattle.sec1_der.proofs.IdentifierLaws.{identifier_content-some}
 use Rattle.sec1_der.specs.Identifiers.{identifier_content}
-use Rattle.sec1_der.specs.PartLaws.{parted}
+use Rattle.sec1_der.proofs.JoinLaws.{parted}
 use Rattle.sec1_der.proofs.ElementLaws.{element_of-some}
 use Rattle.sec1_der.proofs.DottedLemmas.{same_arcs}
 use Rattle.sec1_der.proofs.ElementLaws.{element_apart}

@@ -1,6 +1,5 @@
 pub mod Numbers
 pub mod Elements
-pub mod TextLaws
 pub mod Trees
 pub mod Walks
 pub mod Identifiers

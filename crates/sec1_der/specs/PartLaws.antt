@@ -5,7 +5,6 @@ use Rattle.std.proofs.Common.{eq-eqb}
 use Rattle.sec1_der.specs.Elements.{max_length, element, element_of}
 use Rattle.sec1_der.specs.Parts.{Tags, is_among, Begins, join, one_tag, optional_tag, both_tags}
 use Rattle.sec1_der.specs.Parts.{optional_of}
-use Rattle.std.proofs.Common.{◌+◌, ap, ◌∙◌, length-append}
 
 or_left : (b c d : Bool) → (c ≡ true → d ≡ true) → (b || c) ≡ true → (b || d) ≡ true
 or_left true c d f e = refl
@@ -73,29 +72,3 @@ pair_begins p q (Some front) (Some back) whole e f g =
     let is : whole ≡ front ++ back = cc in
     rw is (both_begin p.firsts q.firsts p.may_be_empty q.may_be_empty p.barred q.barred p.apart
     q.apart front back (f front refl) (g back refl))
-
--- the bytes of both, one after the other
-pub record AreJoined (first second : Option (List ℕ)) (bytes : List ℕ) : Type 0 where
-  pub front : List ℕ
-  pub back : List ℕ
-  pub first_there : first ≡ Some front
-  pub second_there : second ≡ Some back
-  pub joined : bytes ≡ front ++ back
-  pub total : length bytes ≡ length front + length back
-
--- a row that has bytes has those of its first component, and those of the rest
-pub parted : (first second : Option (List ℕ)) (bytes : List ℕ) → join first second ≡ Some bytes
-    → AreJoined first second bytes
-parted None second bytes e = absurd (cc e)
-parted (Some xs) None bytes e = absurd (cc e)
-parted (Some xs) (Some ys) bytes e =
-    let joined : bytes ≡ xs ++ ys = cc in
-    record {
-      front = xs;
-      back = ys;
-      first_there = refl;
-      second_there = refl;
-      joined = joined;
-      total =
-          ap length joined ∙ length-append xs ys;
-    }

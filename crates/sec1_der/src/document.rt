@@ -1,7 +1,6 @@
 ghost use Rattle.std.specs.Prelude.{◌≡◌, ◌⊎◌, ℕ, List, length, Some, None};
-ghost use Rattle.std.specs.Prelude.{MatchResult, ⊤};
+ghost use Rattle.std.specs.Prelude.{MatchResult, ⊤, codes};
 ghost use Rattle.std.specs.Fmt.{WritesStyledOnOk};
-ghost use Rattle.sec1_der.specs.DebugTexts.{document_text};
 ghost use Rattle.sec1_der.specs.Elements.{element_of, IsElement};
 ghost use Rattle.sec1_der.specs.Encodings.{IsOverlengthOr};
 ghost use Rattle.sec1_der.specs.ErrorKinds.{IsHeaderFault};
@@ -95,10 +94,11 @@ impl SecretDocument {
 
 /// Prints no bytes, whatever options are set.
 impl fmt::Debug for SecretDocument {
-    ghost debug_output = { λ _. Some document_text };
+    ghost debug_output = { λ _. Some (codes "SecretDocument { .. }") };
 
     fn fmt<W: fmt::Write>(&self, f: &mut fmt::Formatter<W>) -> fmt::Result
-        ensures { WritesStyledOnOk W.write_str_gives f.old result document_text f.new }
+        ensures { WritesStyledOnOk W.write_str_gives f.old result (codes "SecretDocument { .. }")
+            f.new }
     {
         f.write_str("SecretDocument { .. }")
     }

@@ -3,7 +3,8 @@ ghost use Rattle.std.specs.Cmp.{and_equiv, nat_eq_equiv, on_equiv, partial_equiv
 ghost use Rattle.std.specs.Ordering.{eq_of_both, on};
 ghost use Rattle.std.specs.Prelude.{nat_eq, ◌↔◌, IsTrue, false, true, Some, codes};
 ghost use Rattle.std.specs.Prelude.{IfOk, IsOkAnd, IsOk, IsErr, MatchResult, OnErr};
-ghost use Rattle.sec1_der.specs.DebugTexts.{pair_text, tag_text, length_text};
+ghost use Rattle.std.specs.Fmt.{decimal};
+ghost use Rattle.sec1_der.specs.DebugTexts.{pair_text, struct_text};
 ghost use Rattle.sec1_der.specs.Elements.{max_length, length_octets, header, element, IsHeader};
 ghost use Rattle.sec1_der.specs.Elements.{IsProperPrefix, LacksHeader};
 ghost use Rattle.sec1_der.specs.ErrorKinds.{length_fault, header_fault, Refuses, IsHeaderFault};
@@ -32,8 +33,10 @@ pub struct Header {
 }
 
 impl fmt::Debug for Header {
-    ghost debug_output = { λ h. pair_text (codes "Header") (codes "tag") (tag_text h.tag)
-        (codes "length") (length_text h.length) };
+    ghost debug_output = { λ h. pair_text (codes "Header")
+        (codes "tag") (struct_text (codes "Tag") (codes "byte") (Some (decimal h.tag)))
+        (codes "length") (struct_text (codes "Length") (codes "bytes")
+        (Some (decimal h.length))) };
 
     fn fmt<W: fmt::Write>(&self, f: &mut fmt::Formatter<W>) -> fmt::Result {
         write_pair(f, "Header", ("tag", &self.tag), ("length", &self.length))

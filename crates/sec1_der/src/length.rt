@@ -1,5 +1,7 @@
 ghost use Rattle.std.specs.Prelude.{◌≡◌, ◌≤◌, ◌<◌, MatchResult, ℕ};
-ghost use Rattle.sec1_der.specs.DebugTexts.{length_text};
+ghost use Rattle.std.specs.Prelude.{Some, codes};
+ghost use Rattle.std.specs.Fmt.{decimal};
+ghost use Rattle.sec1_der.specs.DebugTexts.{struct_text};
 ghost use Rattle.sec1_der.specs.Elements.{max_length};
 
 use crate::debug_text::write_struct;
@@ -60,7 +62,8 @@ impl Length {
 }
 
 impl fmt::Debug for Length {
-    ghost debug_output = { length_text };
+    ghost debug_output = { λ n. struct_text (codes "Length") (codes "bytes")
+        (Some (decimal n)) };
 
     fn fmt<W: fmt::Write>(&self, f: &mut fmt::Formatter<W>) -> fmt::Result {
         write_struct(f, "Length", "bytes", &self.bytes)

@@ -1,9 +1,8 @@
 ghost use Rattle.std.specs.Prelude.{◌≡◌, ℕ, ◌<◌, ◌↔◌, List, length, IsTrue, MatchResult, Some};
-ghost use Rattle.std.specs.Prelude.{◌∷◌, ◌++◌, bytes_eq, true};
+ghost use Rattle.std.specs.Prelude.{◌∷◌, ◌++◌, bytes_eq, true, codes};
 ghost use Rattle.std.specs.Cmp.{partial_equiv_from_equiv};
-ghost use Rattle.std.specs.Fmt.{WritesStyledOnOk, decimal};
+ghost use Rattle.std.specs.Fmt.{WritesStyledOnOk, debug_variant, decimal};
 ghost use Rattle.std.specs.Cmp.Lexicographic.{nat_list_eq_equiv};
-ghost use Rattle.sec1_der.specs.DebugTexts.{identifier_text};
 ghost use Rattle.sec1_der.specs.ArcsOf.{arcs_of_numbers};
 ghost use Rattle.sec1_der.specs.Contents.{identifier_fault};
 ghost use Rattle.sec1_der.specs.Identifiers.{IsIdentifier, IsIdentifierContent};
@@ -244,7 +243,7 @@ impl fmt::Display for ObjectIdentifier {
 }
 
 /// Prints a number in decimal digits, whatever options are set.
-#[tactic(auto, using(crate::specs::TextLaws::short_text))]
+#[tactic(auto, using(crate::proofs::TextLaws::short_text))]
 fn write_number<W: fmt::Write>(f: &mut fmt::Formatter<W>, n: u32) -> fmt::Result
     ensures { WritesStyledOnOk W.write_str_gives f.old result (decimal n) f.new }
 {
@@ -254,7 +253,7 @@ fn write_number<W: fmt::Write>(f: &mut fmt::Formatter<W>, n: u32) -> fmt::Result
 }
 
 /// Prints two numbers, with a full stop between them.
-#[tactic(auto, using(crate::specs::TextLaws::join_two))]
+#[tactic(auto, using(crate::proofs::TextLaws::join_two))]
 fn write_first<W: fmt::Write>(f: &mut fmt::Formatter<W>, first: u32, second: u32) -> fmt::Result
     ensures { WritesStyledOnOk W.write_str_gives f.old result
         (decimal first ++ 46 ∷ decimal second) f.new }
@@ -264,7 +263,7 @@ fn write_first<W: fmt::Write>(f: &mut fmt::Formatter<W>, first: u32, second: u32
 }
 
 /// Prints a full stop and a number.
-#[tactic(auto, using(crate::specs::TextLaws::join_two))]
+#[tactic(auto, using(crate::proofs::TextLaws::join_two))]
 fn write_further<W: fmt::Write>(f: &mut fmt::Formatter<W>, n: u32) -> fmt::Result
     ensures { WritesStyledOnOk W.write_str_gives f.old result (46 ∷ decimal n) f.new }
 {
@@ -286,7 +285,8 @@ fn first_arcs(n: u32) -> (u32, u32)
 }
 
 impl fmt::Debug for ObjectIdentifier {
-    ghost debug_output = { λ arcs. Some (identifier_text arcs) };
+    ghost debug_output = { λ arcs. debug_variant (codes "ObjectIdentifier")
+        (Some (dotted arcs)) };
 
     fn fmt<W: fmt::Write>(&self, f: &mut fmt::Formatter<W>) -> fmt::Result {
         write!(f, "ObjectIdentifier({self})")

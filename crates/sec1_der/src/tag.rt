@@ -1,5 +1,7 @@
 ghost use Rattle.std.specs.Prelude.{◌≡◌, ◌+◌, ◌≤◌, ◌↔◌, MatchResult, IsTrue, ℕ};
-ghost use Rattle.sec1_der.specs.DebugTexts.{tag_text};
+ghost use Rattle.std.specs.Prelude.{Some, codes};
+ghost use Rattle.std.specs.Fmt.{decimal};
+ghost use Rattle.sec1_der.specs.DebugTexts.{struct_text};
 ghost use Rattle.sec1_der.specs.Elements.{IsTag, IsConstructed, explicit_tag};
 
 use crate::debug_text::write_struct;
@@ -165,7 +167,8 @@ impl Tag {
 
 /// Prints the byte in decimal.
 impl fmt::Debug for Tag {
-    ghost debug_output = { tag_text };
+    ghost debug_output = { λ byte. struct_text (codes "Tag") (codes "byte")
+        (Some (decimal byte)) };
 
     fn fmt<W: fmt::Write>(&self, f: &mut fmt::Formatter<W>) -> fmt::Result {
         write_struct(f, "Tag", "byte", &self.byte)

@@ -131,7 +131,7 @@ fn is_odd<const N: usize>(y: &[u8; N]) -> bool
 impl fmt::Debug for Tag {
     ghost debug_output = { λ tag. Some (tag_text tag) };
 
-    #[tactic(auto, using(sec1_der::specs::TextLaws::plain_of_styled))]
+    #[tactic(auto, using(sec1_der::proofs::TextLaws::plain_of_styled))]
     fn fmt<W: fmt::Write>(&self, f: &mut fmt::Formatter<W>) -> fmt::Result
         ensures styled { WritesStyledOnOk W.write_str_gives f.old result (tag_text self.now) f.new }
     {

@@ -166,7 +166,7 @@ impl<const N: usize, const L: usize> fmt::Display for EncodedPoint<N, L> {
 }
 
 /// Prints a byte as two digits, with the letters A to F, whatever options are set.
-#[tactic(auto, using(sec1_der::specs::TextLaws::join_two))]
+#[tactic(auto, using(sec1_der::proofs::TextLaws::join_two))]
 fn write_byte<W: fmt::Write>(f: &mut fmt::Formatter<W>, byte: u8) -> fmt::Result
     ensures { WritesStyledOnOk W.write_str_gives f.old result
         (digit_glyph true (byte / 16) ∷ digit_glyph true (byte % 16) ∷ []) f.new }

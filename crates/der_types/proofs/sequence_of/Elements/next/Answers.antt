@@ -3,7 +3,7 @@ use Rattle.std.specs.Result.{result_ok}
 use Rattle.sec1_der.specs.Readers.{Reader}
 use Rattle.sec1_der.proofs.ElementLaws.{element_of-some}
 use Rattle.sec1_der.proofs.FaultLaws.{reader_at}
-use Rattle.sec1_der.specs.PartLaws.{parted}
+use Rattle.sec1_der.proofs.JoinLaws.{parted}
 use Rattle.der_types.proofs.RowLemmas.{elements_left}
 use Rattle.der_types.proofs.sequence_of.Elements.next.Goals as goal
 

@@ -1,5 +1,5 @@
 use Rattle.std.proofs.Common.{refl}
-use Rattle.sec1_der.specs.TextLaws.{join_two}
+use Rattle.sec1_der.proofs.TextLaws.{join_two}
 use Rattle.sec1.proofs.error.ErrorDisplay.fmt.Goals as goal
 
 pub returns-in-Asn1-clause-styled : goal.returns-in-Asn1-clause-styled

@@ -1,7 +1,7 @@
 use Rattle.std.proofs.Common.{◌<◌, rules, arith, get_or}
 use Rattle.std.proofs.Output.{has_written_styled_nil}
 use Rattle.hex.specs.Hex.{encode_with}
-use Rattle.sec1_der.specs.TextLaws.{join_two}
+use Rattle.sec1_der.proofs.TextLaws.{join_two}
 use Rattle.sec1.proofs.HexLemmas.{encode_more}
 use Rattle.sec1.proofs.point.text.EncodedPointDisplay.fmt.Goals as goal
 
