@@ -5,7 +5,7 @@
 ghost use Rattle.std.specs.Prelude.{◌≡◌, ◌⊎◌, ◌↔◌, ◌≤◌, ◌++◌, ℕ, List, length, Some, IsOk, IfOk};
 ghost use Rattle.std.specs.Prelude.{IfErr, IsOkAnd, MatchResult};
 ghost use Rattle.sec1.specs.Der.{max_length, element, octets_of, tag_of, value_of};
-ghost use Rattle.sec1.specs.Der.{header_fault, IsElementOf, IsHeader, IsHeaderFault, LacksHeader};
+ghost use Rattle.sec1.specs.Der.{element_of, header_fault, IsHeader, IsHeaderFault, LacksHeader};
 ghost use Rattle.sec1.specs.Der.{Refuses};
 ghost use Rattle.sec1.specs.Errors.{IsAsn1ReadingFault};
 ghost use Rattle.sec1.specs.Keys.{Key, IsKeyOf};
@@ -27,8 +27,8 @@ pub fn key_in<'b>(key: &EcPrivateKey, buffer: &'b mut [u8]) -> Result<&'b [u8]>
 
 /// Writes an octet string at the beginning of a buffer and returns its bytes.
 pub fn octet_string_in<'b>(octets: &OctetStringRef, buffer: &'b mut [u8]) -> der::Result<&'b [u8]>
-    ensures found { IfOk result (λ bytes. IsElementOf 0x04 (octets_of octets.now) bytes.now) }
-    ensures only { (bytes : List ℕ) → IsElementOf 0x04 (octets_of octets.now) bytes
+    ensures found { IfOk result (λ bytes. element_of 0x04 (Some (octets_of octets.now)) ≡ Some bytes.now) }
+    ensures only { (bytes : List ℕ) → element_of 0x04 (Some (octets_of octets.now)) ≡ Some bytes
         → length bytes ≤ length buffer.old → IsOkAnd result (λ written. written.now ≡ bytes) }
 {
     let n = der::encode_to_slice(octets, buffer)?;
@@ -72,7 +72,7 @@ pub fn octets_at(bytes: &[u8]) -> der::Result<OctetStringRef<'_>>
 
 /// Reads an octet string. Each element with its tag is one.
 pub fn octets_of_element(bytes: &[u8]) -> der::Result<OctetStringRef<'_>>
-    ensures { (content : List ℕ) → IsElementOf 0x04 content bytes.now
+    ensures { (content : List ℕ) → element_of 0x04 (Some content) ≡ Some bytes.now
         → IsOkAnd result (λ octets. octets_of octets ≡ content) }
 {
     der::from_der(bytes)

@@ -1,7 +1,7 @@
 //! BIT STRING that may have unused bits.
 ghost use Rattle.std.specs.Prelude.{◌≡◌, ◌≢◌, ◌⊎◌, ◌∷◌, ◌<◌, ◌≤◌, ℕ, List, length, true, Some};
-ghost use Rattle.std.specs.Prelude.{MatchOption, MatchResult};
-ghost use Rattle.sec1_der.specs.Contents.{AreBits, is_bit_string, bit_string_fault};
+ghost use Rattle.std.specs.Prelude.{IsTrue, MatchOption, MatchResult};
+ghost use Rattle.sec1_der.specs.Contents.{are_bits, bit_string_fault};
 ghost use Rattle.sec1_der.specs.Elements.{max_length};
 ghost use Rattle.der_types.specs.BitStrings.{BitString, bit_string_content};
 ghost use Rattle.der_types.specs.Leaves.{content_if};
@@ -39,10 +39,10 @@ impl<'a> Bits<'a> {
     pub fn new(unused: u8, bytes: &'a [u8]) -> Result<Self>
         ensures { MatchResult result
             (λ bits. (bits ≡ record { unused = unused; bytes = bytes.now })
-            × (length bytes.now < max_length) × AreBits unused bytes.now)
+            × (length bytes.now < max_length) × IsTrue (are_bits unused bytes.now))
             (λ e. ((e.kind ≡ ErrorKind.Overlength) × (max_length ≤ length bytes.now))
             ⊎ ((e.kind ≡ ErrorKind.Value) × (length bytes.now < max_length)
-            × ¬ AreBits unused bytes.now)) }
+            × ¬ IsTrue (are_bits unused bytes.now))) }
     {
         let bits = BitStringRef::new(unused, bytes)?;
         Ok(Bits { bits })
@@ -57,7 +57,8 @@ impl<'a> Bits<'a> {
 
     /// Borrows the bytes, the last of which may have unused bits.
     pub fn raw_bytes(&self) -> &'a [u8]
-        ensures { (result.now ≡ self.now.bytes) × AreBits self.now.unused result.now }
+        ensures { (result.now ≡ self.now.bytes)
+            × IsTrue (are_bits self.now.unused result.now) }
     {
         self.bits.raw_bytes()
     }

@@ -2,15 +2,15 @@
 pub use Rattle.sec1_der.specs.BackWriters.{back_state, Prepends, WritesInFront, Puts}
 pub use Rattle.sec1_der.specs.Encodings.{Measures}
 pub use Rattle.sec1_der.specs.Parts.{join, optional_of}
-pub use Rattle.sec1_der.specs.Contents.{AreBits}
+pub use Rattle.sec1_der.specs.Contents.{are_bits}
 pub use Rattle.sec1_der.specs.Contents.{byte_fault, identifier_fault, bit_string_fault}
-pub use Rattle.sec1_der.specs.Contents.{is_bit_string, whole_bits_fault, whole_bits_field_fault}
+pub use Rattle.sec1_der.specs.Contents.{whole_bits_fault, whole_bits_field_fault}
 pub use Rattle.sec1_der.specs.Contents.{value_unless}
 pub use Rattle.sec1_der.specs.Elements.{max_length, IsTag, IsConstructed, length_octets, header}
-pub use Rattle.sec1_der.specs.Elements.{header_of, IsHeader, element, IsElementOf, IsElement}
+pub use Rattle.sec1_der.specs.Elements.{IsHeader, element, IsElement}
 pub use Rattle.sec1_der.specs.Elements.{LacksHeader}
 pub use Rattle.sec1_der.specs.Elements.{IsProperPrefix, within_limit, explicit_tag, element_of}
-pub use Rattle.sec1_der.specs.ErrorKinds.{Refuses, IsReadingFault, IsHeaderFault, IsTreeFault}
+pub use Rattle.sec1_der.specs.ErrorKinds.{Refuses, IsReadingFault, IsHeaderFault}
 pub use Rattle.sec1_der.specs.ErrorKinds.{IsIoOrMemory, header_fault}
 pub use Rattle.sec1_der.specs.Identifiers.{IsIdentifier, IsIdentifierContent, content_of}
 pub use Rattle.sec1_der.specs.Identifiers.{identifier_content, dotted}
@@ -20,12 +20,12 @@ pub use Rattle.sec1_der.specs.Faults.{Fault, HasFault, TellsFault, IsFaultOf, no
 pub use Rattle.sec1_der.specs.Faults.{element_fault}
 pub use Rattle.sec1_der.specs.Faults.{optional_fault, field_fault, any_fault, document_fault}
 pub use Rattle.sec1_der.specs.Faults.{tree_fault}
-pub use Rattle.sec1_der.specs.ReadsDocument.{IsElementFault, ConsumesElement, RefusesElement}
+pub use Rattle.sec1_der.specs.ReadsDocument.{ConsumesElement, RefusesElement}
 pub use Rattle.sec1_der.specs.ReadsDocument.{TakenBeforeRefusal}
 pub use Rattle.sec1_der.specs.SliceWriters.{slice_state, Appends, WritesBehind}
 pub use Rattle.sec1_der.specs.StdStreams.{StdStream}
-pub use Rattle.sec1_der.specs.Streams.{AppendsPrefix, Ends, ReadAppends, Takes}
+pub use Rattle.sec1_der.specs.Streams.{AppendsPrefix, Ends, Takes}
 pub use Rattle.sec1_der.specs.Trees.{Tree, Forest, leaf, node, bytes, IsTree, IsTreeOf, depth, size}
 pub use Rattle.sec1_der.specs.Trees.{max_tree_depth}
 pub use Rattle.sec1_der.specs.Values.{octets_of, unused_bits_of, bit_bytes_of, tag_of, value_of}
-pub use Rattle.sec1_der.specs.Writers.{Writer, WritesNothing}
+pub use Rattle.sec1_der.specs.Writers.{Writer}

@@ -14,7 +14,7 @@ use Rattle.pkix.specs.EcKeys.{IsOnCurve}
 use Rattle.pkix.specs.Records.{algorithm_content, public_key_content}
 use Rattle.pkix.specs.declared.algorithm.AlgorithmIdentifier.{AlgorithmIdentifier}
 use Rattle.pkix.specs.declared.public_key.SubjectPublicKeyInfo.{SubjectPublicKeyInfo}
-use Rattle.sec1_der.specs.Contents.{is_bit_string}
+use Rattle.sec1_der.specs.Contents.{are_bits}
 use Rattle.sec1_der.proofs.ElementLaws.{element_of-some}
 use Rattle.sec1_der.specs.Elements.{element, element_of, header}
 use Rattle.sec1_der.specs.Identifiers.{content_of, identifier_content, is_identifier}
@@ -74,7 +74,7 @@ split_info curve info bytes is on =
     whole.inside whole.same in
     let algorithm = algorithm_ends curve info.algorithm parts.front on parts.first_there in
     let bits = element_of-some 0x03 (bit_string_content key) parts.back parts.second_there in
-    let content = passed (is_bit_string (key.unused ∷ key.bytes)) (key.unused ∷ key.bytes) bits.inside bits.same in
+    let content = passed (are_bits key.unused key.bytes) (key.unused ∷ key.bytes) bits.inside bits.same in
     let back : parts.back ≡ element 0x03 (key.unused ∷ key.bytes) = rw (← content) at bits.at.encoded in
     record {
       front = header 0x30 (length whole.inside) ++ algorithm.front;
@@ -103,7 +103,7 @@ pub bit_string_len : (key : BitString) (bytes : List ℕ) → element_of 0x03 (b
     → length bytes ≡ key_field_len key.bytes
 bit_string_len key bytes e =
     let bits = element_of-some 0x03 (bit_string_content key) bytes e in
-    let content = passed (is_bit_string (key.unused ∷ key.bytes)) (key.unused ∷ key.bytes) bits.inside bits.same in
+    let content = passed (are_bits key.unused key.bytes) (key.unused ∷ key.bytes) bits.inside bits.same in
     let encoded : bytes ≡ element 0x03 (key.unused ∷ key.bytes) = rw (← content) at bits.at.encoded in
     grind (arith, length-append)
 

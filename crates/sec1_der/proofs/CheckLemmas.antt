@@ -83,7 +83,6 @@ passed : (input ends rest after : List ℕ) (count : ℕ) → IsNext input ends 
     → Walks input ends after (count + 1)
 passed input ends rest after count next p =
     let at = next.at in
-    let single = p.single in
     let some = some_bytes p.tree in
     record {
       at = record {
@@ -94,7 +93,7 @@ passed input ends rest after count next p =
         nested = at.nested;
       };
       completes = subst (Completes input ends after) (omega arith)
-          (next.completes p.tree after single.tree (omega arith) p.row);
+          (next.completes p.tree after p.is_tree (omega arith) p.row);
       fault_is = next.fault_is ∙ element_passed ends rest after p;
     }
 

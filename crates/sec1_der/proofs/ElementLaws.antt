@@ -3,7 +3,7 @@
 use Rattle.std.proofs.Common.{◌≡◌, ℕ, ◌≤◌, List, length, Option, Some, None, refl, arith, ⊎_elim}
 use Rattle.std.proofs.Common.{tests, append_assoc, ne_eqb, ◌%◌, true, ◌++◌, [], sym, ap, ◌∙◌}
 use Rattle.std.proofs.lemmas.Bool.{le-leb, lt-leb, lt-ltb, cases_lt}
-use Rattle.sec1_der.specs.Elements.{max_length, header, element, IsElementOf, element_of, IsTag}
+use Rattle.sec1_der.specs.Elements.{max_length, header, element, element_of, IsTag}
 use Rattle.sec1_der.specs.ErrorKinds.{is_tag}
 use Rattle.sec1_der.proofs.LengthLaws.{len_apart, split_same}
 use Rattle.sec1_der.specs.Trees.{bytes}
@@ -41,6 +41,11 @@ element_apart tag tag' b c r s e =
     (sym here ∙ e ∙ there) in
     let (contents, behind) = split_same b c r s heads.1 heads.2 in
     (heads.0, contents, behind)
+
+-- the bytes are those of the element with this tag and content, and no more
+pub record IsElementOf (tag : ℕ) (content bytes : List ℕ) : Type 0 where
+  pub within : length content ≤ max_length
+  pub encoded : bytes ≡ element tag content
 
 -- a content, and the element around it
 pub record FoundContent (tag : ℕ) (content : Option (List ℕ)) (bytes : List ℕ) : Type 0 where

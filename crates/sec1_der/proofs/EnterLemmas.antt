@@ -5,8 +5,8 @@ use Rattle.std.proofs.lemmas.Bool.{cases_eq}
 use Rattle.std.proofs.lemmas.List.{append_assoc, length-append, length-drop, length-take, length-take-le}
 use Rattle.std.proofs.lemmas.List.{take-append-drop, take_rest, drop_at, nil_from_length}
 use Rattle.sec1_der.specs.Elements.{IsConstructed, IsHeader, header, element}
-use Rattle.sec1_der.specs.Trees.{Tree, leaf, branch, none, bytes}
-use Rattle.sec1_der.specs.Walks.{IsSingle, innermost, Skips, Opens}
+use Rattle.sec1_der.specs.Trees.{Tree, leaf, branch, none, bytes, IsTree, size, depth}
+use Rattle.sec1_der.specs.Walks.{innermost, Skips, Opens}
 
 -- The slice begins with a header, then bytes with room for its content, then the last bytes.
 abbrev pub IsInFront : List ℕ → List ℕ → ℕ → ℕ → ℕ → Type 0
@@ -59,7 +59,13 @@ opens_at rest inside ends tag n end m f is same some constructed =
       fits = omega arith;
     }
 
--- a leaf or an empty node with these bytes
+-- a leaf or an empty node
+record IsSingle (t : Tree) : Type 0 where
+  tree : IsTree t
+  alone : size t ≡ 1
+  shallow : depth t ≡ 1
+
+-- one with these bytes
 single_tree : (tag : ℕ) (content : List ℕ) → IsHeader tag (length content) → ¬ IsConstructed tag ⊎ (length content ≡ 0)
     → (t : Tree) × IsSingle t × (bytes t ≡ element tag content)
 single_tree tag content h which = ⊎_elim
@@ -97,4 +103,11 @@ passes_at rest inside ends tag n end m f is same which =
     let (row, behind) = from_start rest (element tag content) (drop n inside) end
     (length rest - end - length inside + m) within (f.1 ∙ split)
     (omega (arith, length-drop n inside)) in
-    record { tree = t.0; single = t.1; row = rw (t.2) row; fits = omega (arith, behind) }
+    record {
+      tree = t.0;
+      is_tree = t.1.tree;
+      alone = t.1.alone;
+      shallow = t.1.shallow;
+      row = rw (t.2) row;
+      fits = omega (arith, behind);
+    }

@@ -10,8 +10,8 @@ use Rattle.std.specs.Option.{option_or}
 use Rattle.sec1_der.specs.Elements.{length_octets, element, IsConstructed, IsHeader}
 use Rattle.sec1_der.specs.ErrorKinds.{IsHeaderFault}
 use Rattle.sec1_der.specs.Faults.{Fault, end_fault, any_fault, nested_fault, row_fault, tree_fault}
-use Rattle.sec1_der.specs.Trees.{Tree, leaf, branch, none, first, bytes, max_tree_depth}
-use Rattle.sec1_der.specs.Walks.{IsSingle, innermost, Skips, Opens, IsTooDeep}
+use Rattle.sec1_der.specs.Trees.{Tree, leaf, branch, none, first, bytes, size, IsTree, max_tree_depth}
+use Rattle.sec1_der.specs.Walks.{innermost, Skips, Opens}
 use Rattle.sec1_der.specs.declared.error.ErrorKind.{ErrorKind}
 use Rattle.sec1_der.specs.declared.error.ErrorKind.TheVariants.{Depth}
 use Rattle.sec1_der.proofs.FaultLaws.{any_at}
@@ -108,17 +108,17 @@ next_element (end ∷ ends) rest after tag content h is fits =
 
 -- where an element without children was skipped, the fault is that of the bytes after it
 pub element_passed : (ends rest after : List ℕ) → Skips ends rest after → next_fault ends rest ≡ open_fault ends after
-element_passed ends rest after p = by p.tree p.single p.row
+element_passed ends rest after p = by p.tree p.is_tree p.alone p.row
   where
-    by : (t : Tree) → IsSingle t → rest ≡ bytes t ++ after → next_fault ends rest ≡ open_fault ends after
-    by (leaf tag content) single is =
-        next_element ends rest after tag content (record { tag_byte = single.tree.0; within = single.tree.2 }) is p.fits
-        ∙ rw (leaf_passes (row_at (length ends + 2)) tag content single.tree.1) refl
-    by (branch tag none) single is =
-        next_element ends rest after tag [] (record { tag_byte = single.tree.0; within = single.tree.2 }) is p.fits
-        ∙ rw (ne_eqb (bit_and tag 0x20) 0 single.tree.1) refl
-    by (branch tag (first (leaf tag' content) children)) single is = absurd (omega (arith, single.alone))
-    by (branch tag (first (branch tag' inside) children)) single is = absurd (omega (arith, single.alone))
+    by : (t : Tree) → IsTree t → size t ≡ 1 → rest ≡ bytes t ++ after → next_fault ends rest ≡ open_fault ends after
+    by (leaf tag content) tree alone is =
+        next_element ends rest after tag content (record { tag_byte = tree.0; within = tree.2 }) is p.fits
+        ∙ rw (leaf_passes (row_at (length ends + 2)) tag content tree.1) refl
+    by (branch tag none) tree alone is =
+        next_element ends rest after tag [] (record { tag_byte = tree.0; within = tree.2 }) is p.fits
+        ∙ rw (ne_eqb (bit_and tag 0x20) 0 tree.1) refl
+    by (branch tag (first (leaf tag' content) children)) tree alone is = absurd (omega (arith, alone))
+    by (branch tag (first (branch tag' inside) children)) tree alone is = absurd (omega (arith, alone))
 
 -- where a node with a content was opened, the fault is that of the bytes inside it and after it
 pub node_opened : (ends rest after : List ℕ) (end : ℕ) → Opens ends rest end after
@@ -137,20 +137,22 @@ node_opened ends rest after end o =
     ∙ rw (ne_eqb (bit_and o.tag 0x20) 0 o.constructed) refl
 
 -- where as many nodes are open as may be, a further one with a content is refused as too deep
-next_deep : (ends rest : List ℕ) → IsTooDeep ends rest → next_fault ends rest ≡ Some Depth
-next_deep ends rest d =
-    let few = length-take-le (length d.after - d.end) d.after (omega arith) in
-    node_opened ends rest d.after d.end d.opens
-    ∙ rw (row_deep (length ends + 2) (take (length d.after - d.end) d.after)
-    (omega (arith, d.opens.some, d.opens.inside)) (omega (arith, d.full))) refl
+next_deep : (ends rest after : List ℕ) (end : ℕ) → length ends ≡ max_tree_depth - 1 → Opens ends rest end after
+    → next_fault ends rest ≡ Some Depth
+next_deep ends rest after end full opens =
+    let few = length-take-le (length after - end) after (omega arith) in
+    node_opened ends rest after end opens
+    ∙ rw (row_deep (length ends + 2) (take (length after - end) after)
+    (omega (arith, opens.some, opens.inside)) (omega (arith, full))) refl
 
 -- what is next is refused as too deep, or by its own bytes
 pub next_refused : (ends rest : List ℕ) (k : ErrorKind)
-    → ((k ≡ Depth) × IsTooDeep ends rest) ⊎ (IsHeaderFault k × ((content : ℕ → Fault) (behind : Fault)
+    → ((k ≡ Depth) × (length ends ≡ max_tree_depth - 1)
+    × ((end : ℕ) × (after : List ℕ) × Opens ends rest end after)) ⊎ (IsHeaderFault k × ((content : ℕ → Fault) (behind : Fault)
     → any_fault content behind (take (length rest - innermost ends) rest) ≡ Some k))
     → next_fault ends rest ≡ Some k
 next_refused ends rest k kinds =
-    ⊎_elim (λ deep. next_deep ends rest deep.1 ∙ ap (λ j. Some j) (sym deep.0)) (λ any. by ends any.1) kinds
+    ⊎_elim (λ deep. next_deep ends rest deep.2.1 deep.2.0 deep.1 deep.2.2 ∙ ap (λ j. Some j) (sym deep.0)) (λ any. by ends any.1) kinds
   where
     by : (ends : List ℕ)
         → ((content : ℕ → Fault) (behind : Fault)

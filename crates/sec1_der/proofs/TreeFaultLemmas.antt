@@ -6,7 +6,6 @@ use Rattle.std.proofs.lemmas.Bool.Decides.{nat_tests}
 use Rattle.std.proofs.lemmas.List.{append-nil, length-append}
 use Rattle.std.specs.Option.{option_or}
 use Rattle.sec1_der.specs.Elements.{IsProperPrefix}
-use Rattle.sec1_der.specs.ErrorKinds.{IsTreeFault}
 use Rattle.sec1_der.specs.Faults.{Fault, HasFault, end_fault, any_fault, nested_fault, tree_fault}
 use Rattle.sec1_der.specs.Trees.{Tree, leaf, branch, Forest, none, first, bytes, joined, IsTree, AreTrees, IsTreeOf}
 use Rattle.sec1_der.specs.Trees.{size, depth, max_depth, max_tree_depth}
@@ -87,10 +86,10 @@ cut_tree (branch tag f) input is cut =
 
 -- a count of a tree's elements
 pub counted : (result : Result ℕ Error) (input : List ℕ) (t : Tree)
-    → MatchResult result (IsCounted input) (λ e. IsTreeFault e.kind) → HasFault result (tree_fault input)
+    → (P : Error → Type 0) → MatchResult result (IsCounted input) P → HasFault result (tree_fault input)
     → IsTreeOf t input → depth t ≤ max_tree_depth → result ≡ Ok (size t)
-counted (Ok n) input t found h is shallow =
+counted (Ok n) input t P found h is shallow =
     let same = tree_apart found.0 t [] [] found.1.tree is.tree (cc (found.1.whole, is.whole)) in
     cc (found.3, same.0)
-counted (Err error) input t found h is shallow =
+counted (Err error) input t P found h is shallow =
     absurd (cc (h, shallow_tree t input [] is.tree shallow (is.whole ∙ sym (append-nil (bytes t)))))

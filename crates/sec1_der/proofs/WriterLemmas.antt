@@ -8,7 +8,7 @@ use Rattle.std.proofs.lemmas.Bool.{le-leb, cases_lt}
 use Rattle.std.proofs.lemmas.List.{drop-drop, take-take}
 use Rattle.sec1_der.proofs.ElementLaws.{FoundContent, element_of-some}
 use Rattle.sec1_der.specs.BackWriters.{back_state, Prepends, WritesInFront, Puts}
-use Rattle.sec1_der.specs.Elements.{max_length, header, header_of, element, element_of, within_limit}
+use Rattle.sec1_der.specs.Elements.{max_length, header, element, element_of, within_limit}
 use Rattle.sec1_der.specs.SliceWriters.{slice_state, Appends, WritesBehind}
 use Rattle.sec1_der.specs.Writers.{Writer}
 use Rattle.sec1_der.specs.declared.back_writer.BackWriter.{BackWriter}
@@ -147,6 +147,10 @@ writing_only (Some bytes) old new (Ok done) is = ⊎_elim
     (λ fits. (is.fits bytes refl fits).1)
     (cases_lt (length (back_state old).room) (length bytes))
 
+-- the header with this tag and length, if the length isn't above the limit
+abbrev header_of : ℕ → ℕ → Option (List ℕ)
+header_of tag n = if nat_le n max_length then Some (header tag n) else None
+
 -- an element whose content and header were written
 element_only : (tag : ℕ) (content : Option (List ℕ)) (old between new : BackWriter) (since : ℕ)
     (second : Result Unit Error) → since ≡ length (back_state old).written
@@ -176,7 +180,8 @@ pub element_put : (tag : ℕ) (content : Option (List ℕ)) (old between new : B
     (second : Result Unit Error)
     → (written_tag since : ℕ) → written_tag ≡ tag → since ≡ length (back_state old).written
     → Puts (within_limit content) content old between (Ok tt)
-    → WritesInFront (header_of written_tag (length (back_state between).written - since)) between new second
+    → WritesInFront (if nat_le (length (back_state between).written - since) max_length
+    then Some (header written_tag (length (back_state between).written - since)) else None) between new second
     → Puts (element_of tag content) (element_of tag content) old new second
 element_put tag content old between new second written_tag since is_tag is_old p over_tag =
     let any : WritesInFront (header_of tag (length (back_state between).written - since)) between new second =

@@ -2,7 +2,7 @@
 use Rattle.std.specs.Prelude.{◌≡◌, ◌⊎◌, ℕ, ◌+◌, ◌<◌, ◌≤◌, List, ◌++◌, length, take, drop}
 use Rattle.std.specs.Prelude.{Option, Some, None, Result, IsOk, IfErr, OnOk, IsSomeAnd}
 use Rattle.sec1_der.specs.ErrorKinds.{Refuses}
-use Rattle.sec1_der.specs.Writers.{Writer, WritesNothing}
+use Rattle.sec1_der.specs.Writers.{Writer}
 use Rattle.sec1_der.specs.declared.back_writer.BackWriter.{BackWriter}
 use Rattle.sec1_der.specs.declared.error.Error.{Error}
 use Rattle.sec1_der.specs.declared.error.ErrorKind.TheVariants.{Overlength, Buffer}
@@ -28,13 +28,13 @@ pub record WritesInFront (bytes : Option (List ℕ)) (old new : BackWriter)
   pub slice : (back_state new).slice ≡ (back_state old).slice
   pub grows : length (back_state old).written ≤ length (back_state new).written
   pub overlength : bytes ≡ None
-      → Refuses result Overlength × WritesNothing (back_state old) (back_state new)
+      → Refuses result Overlength × (back_state new ≡ back_state old)
   pub fits : (whole : List ℕ) → bytes ≡ Some whole
       → length whole ≤ length (back_state old).room
       → IsOk result × Prepends (back_state old) (back_state new) whole
   pub buffer : (whole : List ℕ) → bytes ≡ Some whole
       → length (back_state old).room < length whole
-      → Refuses result Buffer × WritesNothing (back_state old) (back_state new)
+      → Refuses result Buffer × (back_state new ≡ back_state old)
 
 -- The bytes were prepended, and the call fails only by Overlength or Buffer: `fitting` are bytes
 -- for which it doesn't fail if they have room, and `whole` those that were prepended if it doesn't.

@@ -1,5 +1,5 @@
 -- The contents of the primitive types.
-use Rattle.std.specs.Prelude.{◌==◌, ℕ, ◌^◌, ◌%◌, nat_le, Bool, false, ◌&&◌, IsTrue}
+use Rattle.std.specs.Prelude.{◌==◌, ℕ, ◌^◌, ◌%◌, nat_le, Bool, ◌&&◌}
 use Rattle.std.specs.Prelude.{if◌then◌else◌, List, [], ◌∷◌, length, slice_index, Option, Some, None}
 use Rattle.std.specs.Str.{bytes_eq}
 use Rattle.sec1_der.specs.ArcsOf.{arcs_of}
@@ -24,17 +24,11 @@ are_bits unused [] = unused == 0
 are_bits unused (byte ∷ bytes) =
     nat_le unused 7 && slice_index (byte ∷ bytes) (length bytes) % 2 ^ unused == 0
 
-abbrev pub AreBits : ℕ → List ℕ → Type 0
-AreBits unused bytes = IsTrue (are_bits unused bytes)
-
--- X.690 section 8.6.2: the content of a bit string is the number of unused bits, and the bytes.
-abbrev pub is_bit_string : List ℕ → Bool
-is_bit_string [] = false
-is_bit_string (unused ∷ bytes) = are_bits unused bytes
-
--- Value unless this is the content of a bit string
+-- X.690 section 8.6.2: Value unless this is the content of a bit string, the number of unused bits
+-- and the bytes
 abbrev pub bit_string_fault : Fault
-bit_string_fault content = value_unless (is_bit_string content)
+bit_string_fault [] = Some Value
+bit_string_fault (unused ∷ bytes) = value_unless (are_bits unused bytes)
 
 -- Value unless this is the content of a bit string without unused bits
 abbrev pub whole_bits_fault : Fault

@@ -34,10 +34,6 @@ length_octets n =
 abbrev pub header : ℕ → ℕ → List ℕ
 header tag n = tag ∷ length_octets n
 
--- the header with this tag and length, if the length isn't above the limit
-abbrev pub header_of : ℕ → ℕ → Option (List ℕ)
-header_of tag n = if nat_le n max_length then Some (header tag n) else None
-
 -- a tag byte, and a length that isn't above the limit
 pub record IsHeader (tag n : ℕ) : Type 0 where
   pub tag_byte : IsTag tag
@@ -46,11 +42,6 @@ pub record IsHeader (tag n : ℕ) : Type 0 where
 -- a tag byte, the length of the content, and the content
 abbrev pub element : ℕ → List ℕ → List ℕ
 element tag content = header tag (length content) ++ content
-
--- the bytes are those of the element with this tag and content, and no more
-pub record IsElementOf (tag : ℕ) (content bytes : List ℕ) : Type 0 where
-  pub within : length content ≤ max_length
-  pub encoded : bytes ≡ element tag content
 
 -- the bytes are those of an element, and no more
 pub record IsElement (bytes : List ℕ) : Type 0 where

@@ -18,10 +18,6 @@ IsHeaderFault Tag = Unit {0}
 IsHeaderFault Length = Unit {0}
 IsHeaderFault _ = ⊥
 
--- the kinds by which bytes are refused that aren't those of a tree, or of one that is too deep
-abbrev pub IsTreeFault : ErrorKind → Type 0
-IsTreeFault kind = IsHeaderFault kind ⊎ (kind ≡ TrailingData) ⊎ (kind ≡ Depth)
-
 -- the kinds that bytes are refused by
 abbrev pub IsReadingFault : ErrorKind → Type 0
 IsReadingFault Truncated = Unit {0}
@@ -36,15 +32,13 @@ IsReadingFault Io = ⊥
 IsReadingFault Depth = ⊥
 IsReadingFault Memory = ⊥
 
--- a first byte that announces one to four digits, more than there are
-abbrev pub lacks_digits : ℕ → List ℕ → Bool
-lacks_digits first digits =
-    nat_lt 0x80 first && nat_le first 0x84 && nat_lt (length digits) (first - 0x80)
-
--- The kind, if the bytes don't begin with a length: they end inside one, or encode none.
+-- The kind, if the bytes don't begin with a length: they end inside one, where the first byte
+-- announces one to four digits and there are fewer, or encode none.
 abbrev pub length_fault : List ℕ → ErrorKind
 length_fault [] = Truncated
-length_fault (first ∷ digits) = if lacks_digits first digits then Truncated else Length
+length_fault (first ∷ digits) =
+    if nat_lt 0x80 first && nat_le first 0x84 && nat_lt (length digits) (first - 0x80)
+    then Truncated else Length
 
 -- the test for a tag byte
 abbrev pub is_tag : ℕ → Bool

@@ -17,16 +17,6 @@ pub record ConsumesElement (Taken : List ℕ → Type 0) (Ended : Type 0)
   pub taken : Taken bytes
   pub at_end : Ended
 
--- the kinds by which an element is refused
-abbrev pub IsElementFault : ErrorKind → Type 0
-IsElementFault Truncated = Unit {0}
-IsElementFault Tag = Unit {0}
-IsElementFault Length = Unit {0}
-IsElementFault TrailingData = Unit {0}
-IsElementFault Io = Unit {0}
-IsElementFault Memory = Unit {0}
-IsElementFault _ = ⊥
-
 -- a header, and fewer bytes than it announces
 pub record IsCutContent (bytes : List ℕ) : Type 0 where
   pub tag : ℕ

@@ -2,7 +2,7 @@
 use Rattle.std.specs.Prelude.{◌≡◌, ℕ, ◌+◌, ◌<◌, ◌≤◌, List, ◌++◌, length, take, drop}
 use Rattle.std.specs.Prelude.{Option, Some, None, Result, IsOk}
 use Rattle.sec1_der.specs.ErrorKinds.{Refuses}
-use Rattle.sec1_der.specs.Writers.{Writer, WritesNothing}
+use Rattle.sec1_der.specs.Writers.{Writer}
 use Rattle.sec1_der.specs.declared.error.Error.{Error}
 use Rattle.sec1_der.specs.declared.error.ErrorKind.TheVariants.{Overlength, Buffer}
 use Rattle.sec1_der.specs.declared.slice_writer.SliceWriter.{SliceWriter}
@@ -27,10 +27,10 @@ pub record WritesBehind (bytes : Option (List ℕ)) (old new : SliceWriter)
     (result : Result (Unit {0}) Error) : Type 0 where
   pub slice : (slice_state new).slice ≡ (slice_state old).slice
   pub overlength : bytes ≡ None
-      → Refuses result Overlength × WritesNothing (slice_state old) (slice_state new)
+      → Refuses result Overlength × (slice_state new ≡ slice_state old)
   pub fits : (whole : List ℕ) → bytes ≡ Some whole
       → length whole ≤ length (slice_state old).room
       → IsOk result × Appends (slice_state old) (slice_state new) whole
   pub buffer : (whole : List ℕ) → bytes ≡ Some whole
       → length (slice_state old).room < length whole
-      → Refuses result Buffer × WritesNothing (slice_state old) (slice_state new)
+      → Refuses result Buffer × (slice_state new ≡ slice_state old)

@@ -1,12 +1,6 @@
 -- What calls over readers and writers do to the remaining input, and to the bytes written.
-use Rattle.std.specs.Prelude.{◌≡◌, ◌<◌, ℕ, List, ◌++◌, Option, Result, length, take, MatchResult}
-use Rattle.std.specs.Io.KnownBytes.{Appends, Consumes, IsAtEnd, Keeps}
-
--- the bytes that were taken, if they are known, grow by what a read gave, by nothing if it failed
-abbrev pub ReadAppends : {E : Type 0} → Option (List ℕ) → Option (List ℕ) → Result ℕ E → List ℕ
-    → Type 0
-ReadAppends old new result buf =
-    MatchResult result (λ n. Appends old new (take n buf)) (λ _. Keeps old new)
+use Rattle.std.specs.Prelude.{◌≡◌, ◌<◌, ℕ, List, ◌++◌, Option, length}
+use Rattle.std.specs.Io.KnownBytes.{Appends, Consumes, IsAtEnd}
 
 -- these bytes and no others were taken from a reader: the remaining input, if it is known, begins
 -- with them and loses them, and the bytes that were taken, if they are known, grow by them

@@ -5,21 +5,17 @@ use Rattle.std.specs.Prelude.{length, get_or}
 use Rattle.sec1_der.specs.Elements.{header, IsTag, IsConstructed, max_length}
 use Rattle.sec1_der.specs.Trees.{Tree, IsTree, bytes, size, depth, max_tree_depth}
 
--- a leaf or an empty node
-pub record IsSingle (t : Tree) : Type 0 where
-  pub tree : IsTree t
-  pub alone : size t ≡ 1
-  pub shallow : depth t ≡ 1
-
 -- how many bytes of input follow the innermost open element, or 0 if none is open
 abbrev pub innermost : List ℕ → ℕ
 innermost [] = 0
 innermost (end ∷ ends) = end
 
--- the next element has no children, and ends within the innermost node
+-- the next element is a leaf or an empty node, and ends within the innermost node
 pub record Skips (ends rest after : List ℕ) : Type 0 where
   pub tree : Tree
-  pub single : IsSingle tree
+  pub is_tree : IsTree tree
+  pub alone : size tree ≡ 1
+  pub shallow : depth tree ≡ 1
   pub row : rest ≡ bytes tree ++ after
   pub fits : innermost ends ≤ length after
 
@@ -41,13 +37,6 @@ Enters ends rest ends' after =
     (Skips ends rest after × (ends' ≡ ends))
     ⊎ ((end : ℕ) × Opens ends rest end after × (ends' ≡ end ∷ ends)
     × (length ends < max_tree_depth - 1))
-
--- as many nodes are open as can be, and the next element is one more with a content
-pub record IsTooDeep (ends rest : List ℕ) : Type 0 where
-  pub end : ℕ
-  pub after : List ℕ
-  pub opens : Opens ends rest end after
-  pub full : length ends ≡ max_tree_depth - 1
 
 -- the ends of the open elements up to this level, the innermost first; the table has the outermost
 -- at index 1

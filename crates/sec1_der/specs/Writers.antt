@@ -1,5 +1,5 @@
 -- The state of a writer over a slice.
-use Rattle.std.specs.Prelude.{◌≡◌, ℕ, List}
+use Rattle.std.specs.Prelude.{ℕ, List}
 
 -- the bytes that were written, the bytes of the slice that weren't, and the ghost name of the
 -- slice
@@ -7,8 +7,3 @@ pub record Writer : Type 0 where
   pub written : List ℕ
   pub room : List ℕ
   pub slice : ℕ
-
--- nothing was written
-pub record WritesNothing (old new : Writer) : Type 0 where
-  pub written : new.written ≡ old.written
-  pub room : new.room ≡ old.room

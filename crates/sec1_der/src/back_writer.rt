@@ -19,9 +19,9 @@ pub struct BackWriter<'b> {
 }
 
 impl<'b> BackWriter<'b> {
-    ghost use Rattle.std.specs.Prelude.{◌≡◌, ◌-◌, [], Some};
+    ghost use Rattle.std.specs.Prelude.{◌≡◌, ◌-◌, [], Some, None, nat_le, if◌then◌else◌};
     ghost use Rattle.sec1_der.specs.BackWriters.{back_state, WritesInFront};
-    ghost use Rattle.sec1_der.specs.Elements.{header_of};
+    ghost use Rattle.sec1_der.specs.Elements.{max_length, header};
 
     /// Creates a writer at the end of a slice.
     pub fn new(buffer: &'b mut [u8]) -> BackWriter<'b>
@@ -74,8 +74,9 @@ impl<'b> BackWriter<'b> {
     #[tactic(auto, using(crate::proofs::LengthLaws::len_1))]
     pub fn header(&mut self, tag: Tag, since: usize) -> Result<()>
         requires { since ≤ length (back_state self.old).written }
-        ensures { WritesInFront (header_of tag (length (back_state self.old).written - since))
-            self.old self.new result }
+        ensures { let n = length (back_state self.old).written - since in
+            WritesInFront (if nat_le n max_length then Some (header tag n) else None) self.old
+            self.new result }
     {
         let length = Length::new(self.written() - since)?;
         if length.get() < LONG_FORM {

@@ -1,5 +1,5 @@
 ghost use Rattle.std.specs.Prelude.{◌≡◌, ◌↔◌, ◌<◌, length, IsTrue};
-ghost use Rattle.sec1_der.specs.Contents.{AreBits};
+ghost use Rattle.sec1_der.specs.Contents.{are_bits};
 ghost use Rattle.sec1_der.specs.Elements.{max_length};
 
 use crate::debug_text::write_pair;
@@ -16,7 +16,7 @@ use std::fmt;
 pub struct BitStringRef<'a> {
     unused: u8,
     bytes: &'a [u8],
-    ghost are_bits: { AreBits unused bytes.now },
+    ghost zeros: { IsTrue (are_bits unused bytes.now) },
     ghost within: { length bytes.now < max_length },
 }
 
@@ -33,10 +33,10 @@ impl<'a> BitStringRef<'a> {
     pub fn new(unused: u8, bytes: &'a [u8]) -> Result<BitStringRef<'a>>
         ensures { MatchResult result
             (λ bits. (unused_bits_of bits ≡ unused) × (bit_bytes_of bits ≡ bytes.now)
-            × (length bytes.now < max_length) × AreBits unused bytes.now)
+            × (length bytes.now < max_length) × IsTrue (are_bits unused bytes.now))
             (λ e. ((e.kind ≡ ErrorKind.Overlength) × (max_length ≤ length bytes.now))
             ⊎ ((e.kind ≡ ErrorKind.Value) × (length bytes.now < max_length)
-            × ¬ AreBits unused bytes.now)) }
+            × ¬ IsTrue (are_bits unused bytes.now))) }
     {
         if bytes.len() >= Length::MAX {
             return Err(ErrorKind::Overlength.into());
@@ -83,7 +83,8 @@ impl<'a> BitStringRef<'a> {
 
     /// Returns the number of unused bits of the last byte, from 0 to 7.
     pub fn unused_bits(&self) -> u8
-        ensures { (result ≡ unused_bits_of self.now) × AreBits result (bit_bytes_of self.now) }
+        ensures { (result ≡ unused_bits_of self.now)
+            × IsTrue (are_bits result (bit_bytes_of self.now)) }
     {
         self.unused
     }
@@ -91,7 +92,7 @@ impl<'a> BitStringRef<'a> {
 
 /// Returns `true` if the bytes may have this number of unused bits.
 fn are_bits(unused: u8, bytes: &[u8]) -> bool
-    ensures { IsTrue result ↔ AreBits unused bytes.now }
+    ensures { result ≡ are_bits unused bytes.now }
 {
     match bytes.last() {
         None => unused == 0,

@@ -3,7 +3,7 @@ ghost use Rattle.std.specs.Prelude.{◌≡◌, ◌<◌, ◌≤◌, ◌+◌, ◌�
 ghost use Rattle.std.specs.Prelude.{⊤, Option, Some, None, IsOk, IfOk};
 ghost use Rattle.std.specs.Prelude.{IsOkAnd, IfErr, OnOk, OnErr, IfSome, IsSomeAnd};
 ghost use Rattle.std.specs.Prelude.{MatchOption, MatchResult};
-ghost use Rattle.sec1_der.specs.Elements.{max_length, element, element_of, IsTag, IsElementOf};
+ghost use Rattle.sec1_der.specs.Elements.{max_length, element_of, IsTag};
 ghost use Rattle.sec1_der.specs.Encodings.{IsOverlengthOr, ReadsElement};
 ghost use Rattle.sec1_der.specs.Elements.{IsProperPrefix};
 ghost use Rattle.sec1_der.specs.ErrorKinds.{Refuses, IsReadingFault};
@@ -30,7 +30,7 @@ pub fn from_der<'a, T: DecodeValue<'a> + Tagged + Drop>(input: &'a [u8]) -> Resu
         → IsOkAnd result (λ found. T.content found ≡ T.content value) }
     // An element whose content the rule of the type accepts is read.
     ensures rule { (content : List ℕ) → T.fault content ≡ None
-        → IsElementOf T.tag_byte content input.now
+        → element_of T.tag_byte (Some content) ≡ Some input.now
         → IsOkAnd result (λ found. T.content found ≡ Some content) }
     ensures long { (value : T) (bytes : List ℕ)
         → element_of T.tag_byte (T.content value) ≡ Some bytes

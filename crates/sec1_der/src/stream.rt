@@ -1,8 +1,8 @@
 //! Byte readers and writers that remember a failure.
 ghost use Rattle.std.specs.Prelude.{ℕ, List, Option, None, Bool, false, IsTrue, IsErr, IfOk};
-ghost use Rattle.std.specs.Prelude.{MatchResult, Some, codes, ◌≤◌, ◌<◌, ◌≡◌, ◌↔◌, length, ⊤};
-ghost use Rattle.std.specs.Io.KnownBytes.{Appends, ReadConsumes, WriteAppends};
-ghost use Rattle.sec1_der.specs.Streams.{AppendsPrefix, ReadAppends};
+ghost use Rattle.std.specs.Prelude.{MatchResult, Some, codes, ◌≤◌, ◌<◌, ◌≡◌, ◌↔◌, length, take, ⊤};
+ghost use Rattle.std.specs.Io.KnownBytes.{Appends, Keeps, ReadConsumes, WriteAppends};
+ghost use Rattle.sec1_der.specs.Streams.{AppendsPrefix};
 
 use std::fmt;
 
@@ -47,7 +47,10 @@ pub trait Read {
         ensures fault { IsErr result ↔ IsTrue (failed self.new) }
         ensures stays { IsTrue (failed self.old) → IsTrue (failed self.new) }
         ensures bytes { ReadConsumes (left self.old) (left self.new) result buf.new }
-        ensures taken { ReadAppends (taken self.old) (taken self.new) result buf.new }
+        // The bytes that were taken grow by what was read, by nothing if it failed.
+        ensures taken { MatchResult result
+            (λ n. Appends (taken self.old) (taken self.new) (take n buf.new))
+            (λ _. Keeps (taken self.old) (taken self.new)) }
         ensures end { IfOk result (λ n. n ≡ 0 → 0 < length buf.new → ended self.new) };
 
     /// Returns `true` if a read has failed.

@@ -2,10 +2,10 @@ ghost use Rattle.std.specs.Prelude.{◌≡◌, ◌<◌, ◌≤◌, List, ℕ, ge
 ghost use Rattle.std.specs.Prelude.{◌↔◌, [], ◌∷◌, Some, take, drop, length, IsTrue};
 ghost use Rattle.std.specs.Prelude.{MatchResult};
 ghost use Rattle.sec1_der.specs.Elements.{IsProperPrefix};
-ghost use Rattle.sec1_der.specs.ErrorKinds.{Refuses, IsTreeFault, IsHeaderFault};
+ghost use Rattle.sec1_der.specs.ErrorKinds.{Refuses, IsHeaderFault};
 ghost use Rattle.sec1_der.specs.Faults.{HasFault, tree_fault, Fault, any_fault};
 ghost use Rattle.sec1_der.specs.Trees.{Tree, IsTree, IsTreeOf, bytes, size, depth, max_tree_depth};
-ghost use Rattle.sec1_der.specs.Walks.{open_ends, innermost, Enters, IsTooDeep};
+ghost use Rattle.sec1_der.specs.Walks.{open_ends, innermost, Enters, Opens};
 
 use crate::header::element_at;
 use crate::{ErrorKind, Result};
@@ -33,7 +33,8 @@ pub const MAX_DEPTH: usize = 64;
 pub fn check_tree(input: &[u8]) -> Result<usize>
     // What is counted is a tree, and these are its bytes.
     ensures found { MatchResult result (λ n. (t : Tree) × IsTreeOf t input.now
-        × (depth t ≤ max_tree_depth) × (size t ≡ n)) (λ e. IsTreeFault e.kind) }
+        × (depth t ≤ max_tree_depth) × (size t ≡ n)) (λ e. IsHeaderFault e.kind
+        ⊎ (e.kind ≡ ErrorKind.TrailingData) ⊎ (e.kind ≡ ErrorKind.Depth)) }
     // If they are the bytes of such a tree, it is counted.
     ensures only { (t : Tree) → IsTreeOf t input.now → depth t ≤ max_tree_depth
         → result ≡ Ok (size t) }
@@ -57,7 +58,8 @@ pub fn check_tree(input: &[u8]) -> Result<usize>
 #[tactic(auto, using(crate::proofs::CheckLemmas::tree_read))]
 fn count_elements(input: &[u8]) -> Result<usize>
     ensures found { MatchResult result (λ n. (t : Tree) × IsTreeOf t input.now
-        × (depth t ≤ max_tree_depth) × (size t ≡ n)) (λ e. IsTreeFault e.kind) }
+        × (depth t ≤ max_tree_depth) × (size t ≡ n)) (λ e. IsHeaderFault e.kind
+        ⊎ (e.kind ≡ ErrorKind.TrailingData) ⊎ (e.kind ≡ ErrorKind.Depth)) }
     ensures kind { HasFault result (tree_fault input.now) }
 {
     let mut nodes = OpenNodes::new();
@@ -156,7 +158,8 @@ impl OpenNodes {
     fn enter<'a>(&mut self, rest: &'a [u8]) -> Result<&'a [u8]>
         requires { innermost self.old ≤ length rest.now }
         ensures { MatchResult result (λ after. Enters self.old rest.now self.new after.now)
-            (λ e. ((e.kind ≡ ErrorKind.Depth) × IsTooDeep self.old rest.now)
+            (λ e. ((e.kind ≡ ErrorKind.Depth) × (length self.old ≡ max_tree_depth - 1)
+            × ((end : ℕ) × (after : List ℕ) × Opens self.old rest.now end after))
             ⊎ (IsHeaderFault e.kind × ((content : ℕ → Fault) (behind : Fault)
             → any_fault content behind (take (length rest.now - innermost self.old) rest.now)
             ≡ Some e.kind))) }

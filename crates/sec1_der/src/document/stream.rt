@@ -4,8 +4,8 @@ ghost use Rattle.std.specs.Prelude.{ℕ, List, false, ◌≡◌, ◌<◌, ◌≤
 ghost use Rattle.std.specs.Prelude.{IfErr, IfSome};
 ghost use Rattle.std.specs.Io.KnownBytes.{Appends};
 ghost use Rattle.sec1_der.specs.Elements.{IsElement, IsHeader, header};
-ghost use Rattle.sec1_der.specs.ErrorKinds.{IsIoOrMemory, Refuses};
-ghost use Rattle.sec1_der.specs.ReadsDocument.{IsElementFault, ConsumesElement, ReadsStream};
+ghost use Rattle.sec1_der.specs.ErrorKinds.{IsHeaderFault, IsIoOrMemory, Refuses};
+ghost use Rattle.sec1_der.specs.ReadsDocument.{ConsumesElement, ReadsStream};
 ghost use Rattle.sec1_der.specs.Faults.{document_fault};
 ghost use Rattle.sec1_der.specs.Streams.{AppendsPrefix, Ends, ReadsOnto, Takes, TakesFewer};
 ghost use Rattle.sec1_der.specs.declared.error.ErrorKind.TheVariants.{Io};
@@ -67,7 +67,8 @@ impl SecretDocument {
     /// Ok(document.len())
     /// ```
     pub fn read_der_file<F: Files>(rt: &F, alloc: Global, path: &str) -> Result<SecretDocument>
-        ensures { IfErr result (λ error. IsElementFault error.kind) }
+        ensures { IfErr result (λ error. IsHeaderFault error.kind
+            ⊎ (error.kind ≡ ErrorKind.TrailingData) ⊎ IsIoOrMemory error.kind) }
     {
         match fs::open(rt, path) {
             Ok(file) => SecretDocument::read_der_from(alloc, &mut StdReader::new(file)),

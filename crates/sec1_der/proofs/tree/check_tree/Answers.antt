@@ -5,7 +5,7 @@ use Rattle.sec1_der.proofs.tree.check_tree.Goals as goal
 
 pub returns-clause-only : goal.returns-clause-only
 returns-clause-only c t p shallow =
-    let r = c.count_elements in counted r.result c.args.input.now t r.ensures.found r.ensures.kind p shallow
+    let r = c.count_elements in counted r.result c.args.input.now t _ r.ensures.found r.ensures.kind p shallow
 
 pub returns-clause-deeper : goal.returns-clause-deeper
 returns-clause-deeper c t p deep = let fault = deep_tree t c.args.input.now p deep in grind arith

@@ -13,7 +13,7 @@ returns-in_err-open c =
     (omega (arith, c.if-length-gt0.true, c.get-length.ensures.0)) (c.if-is_constructed.ensures.0 refl) in
     let refusal = err_from_is_err_and c.from_residual.result c.from_residual.ensures.1 in
     rw (refusal.1, refusal.2)
-    (inl (c.in_err-open.ensures.0, record { end = _; after = _; opens = opens; full = c.in_err-open.ensures.1 }))
+    (inl (c.in_err-open.ensures.0, c.in_err-open.ensures.1, (_, _, opens)))
 
 pub returns-in_ok-open : goal.returns-in_ok-open
 returns-in_ok-open c =
