@@ -27,7 +27,8 @@ pub fn key_in<'b>(key: &EcPrivateKey, buffer: &'b mut [u8]) -> Result<&'b [u8]>
 
 /// Writes an octet string at the beginning of a buffer and returns its bytes.
 pub fn octet_string_in<'b>(octets: &OctetStringRef, buffer: &'b mut [u8]) -> der::Result<&'b [u8]>
-    ensures found { IfOk result (λ bytes. element_of 0x04 (Some (octets_of octets.now)) ≡ Some bytes.now) }
+    ensures found { IfOk result (λ bytes.
+        element_of 0x04 (Some (octets_of octets.now)) ≡ Some bytes.now) }
     ensures only { (bytes : List ℕ) → element_of 0x04 (Some (octets_of octets.now)) ≡ Some bytes
         → length bytes ≤ length buffer.old → IsOkAnd result (λ written. written.now ≡ bytes) }
 {

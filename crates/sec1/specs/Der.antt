@@ -9,10 +9,10 @@ pub use Rattle.sec1_der.specs.Contents.{value_unless}
 pub use Rattle.sec1_der.specs.Elements.{max_length, IsTag, IsConstructed, length_octets, header}
 pub use Rattle.sec1_der.specs.Elements.{IsHeader, element, IsElement}
 pub use Rattle.sec1_der.specs.Elements.{LacksHeader}
-pub use Rattle.sec1_der.specs.Elements.{IsProperPrefix, within_limit, explicit_tag, element_of}
+pub use Rattle.sec1_der.specs.Elements.{IsProperPrefix, within_limit, element_of}
 pub use Rattle.sec1_der.specs.ErrorKinds.{Refuses, IsReadingFault, IsHeaderFault}
 pub use Rattle.sec1_der.specs.ErrorKinds.{IsIoOrMemory, header_fault}
-pub use Rattle.sec1_der.specs.Identifiers.{IsIdentifier, IsIdentifierContent, content_of}
+pub use Rattle.sec1_der.specs.Identifiers.{IsIdentifier, are_arcs, content_of}
 pub use Rattle.sec1_der.specs.Identifiers.{identifier_content, dotted}
 pub use Rattle.sec1_der.specs.Numbers.{number_of}
 pub use Rattle.sec1_der.specs.Readers.{Reader, reader_over, refused, HasRead, HasReadElement}

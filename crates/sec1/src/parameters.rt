@@ -2,7 +2,7 @@ ghost use Rattle.std.specs.Prelude.{◌≡◌, Some, true};
 ghost use Rattle.sec1.specs.DebugTexts.{curve_text};
 ghost use Rattle.sec1.specs.Parameters.{curve_of};
 ghost use Rattle.sec1_der.specs.Contents.{identifier_fault};
-ghost use Rattle.sec1_der.specs.Identifiers.{identifier_content, IsIdentifierContent, IsIdentifier};
+ghost use Rattle.sec1_der.specs.Identifiers.{identifier_content, IsIdentifier};
 ghost use Rattle.sec1_der.specs.Values.{tag_of, value_of};
 
 use sec1_der as der;

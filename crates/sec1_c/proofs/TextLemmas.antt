@@ -1,6 +1,6 @@
 -- The dotted text of an identifier.
 use Rattle.std.proofs.Common.{◌≡◌, ℕ, ◌+◌, ◌*◌, ◌/◌, ◌^◌, ◌<◌, ◌≤◌, List, [], ◌∷◌, ◌++◌, length, ap, sym, arith}
-use Rattle.std.proofs.Common.{length-append, append_assoc}
+use Rattle.std.proofs.Common.{length-append, append_assoc, true}
 use Rattle.std.proofs.lemmas.Fmt.{IsAscii-decimal, length-decimal-le}
 use Rattle.std.proofs.lemmas.Int.Digits.{number_digits_of, all_below_base_digits_of}
 use Rattle.std.proofs.lemmas.List.{append-nil, length-map}
@@ -10,7 +10,8 @@ use Rattle.std.specs.Fmt.{decimal}
 use Rattle.std.specs.Int.Digits.{number_from_digits, AllBelowBase}
 use Rattle.std.specs.List.{AllByRecursion, flat_map}
 use Rattle.std.specs.Str.{IsAscii, IsUtf8}
-use Rattle.sec1_der.specs.Identifiers.{AreArcs, IsIdentifier, dotted}
+use Rattle.sec1_der.specs.Identifiers.{IsIdentifier, are_arcs, dotted}
+use Rattle.sec1_der.proofs.IdentifierLaws.{arcs_allowed}
 use Rattle.sec1_der.specs.Numbers.{base128}
 use Rattle.sec1_c.specs.IdentifierTexts.{further_text, max_text_length}
 use Rattle.sec1_c.proofs.SubidentifierLemmas.{content_arcs, content_fits}
@@ -48,11 +49,12 @@ further_room m n (k ∷ ks) le small =
 -- the text of an identifier has room for a byte 0
 pub text_room : (arcs content : List ℕ) → IsIdentifier arcs content → length (dotted arcs) < max_text_length
 text_room (a ∷ b ∷ further) content is =
-    let allowed = is.encodes.allowed in
+    let allowed = arcs_allowed (a ∷ b ∷ further) is.allowed in
     let others = further_room b (40 * a + b) further (omega arith) (allowed.2, allowed.3) in
-    let short = rw is.encodes.encoded at is.short in
+    let short = rw is.encoded at is.short in
     rw (dotted_text a (b ∷ further), length-append) (omega (arith, allowed.0, length-decimal-le 1 a))
-text_room arcs content is = absurd is.encodes.allowed
+text_room [] content is = absurd (cc (is.allowed))
+text_room (a ∷ []) content is = absurd (cc (is.allowed))
 
 -- ---- the text is UTF-8
 
@@ -64,10 +66,12 @@ ascii_dotted n (m ∷ ms) small =
     (IsAscii-cons 46 _ (omega arith) (ascii_dotted m ms small.1))
 
 -- the text of an identifier is UTF-8
-pub dotted_utf8 : (arcs : List ℕ) → AreArcs arcs → IsUtf8 (dotted arcs)
-dotted_utf8 (a ∷ b ∷ further) are =
+pub dotted_utf8 : (arcs : List ℕ) → are_arcs arcs ≡ true → IsUtf8 (dotted arcs)
+dotted_utf8 (a ∷ b ∷ further) allowed =
+    let are = arcs_allowed (a ∷ b ∷ further) allowed in
     IsUtf8-from_ascii _ (ascii_dotted a (b ∷ further) (omega (arith, are.0), (omega (arith, are.2), are.3)))
-dotted_utf8 arcs are = absurd are
+dotted_utf8 [] allowed = absurd (cc allowed)
+dotted_utf8 (a ∷ []) allowed = absurd (cc allowed)
 
 -- The text of a content, and its room.
 pub ruleset text_of_content = (content_fits, content_arcs, text_room)

@@ -1,7 +1,7 @@
 //! Object identifiers (X.690 section 8.19): `sec1_identifier_check`, `sec1_identifier_to_text` and
 //! `sec1_identifier_from_text`.
 ghost use Rattle.std.specs.Prelude.{◌≡◌, ℕ, List};
-ghost use Rattle.sec1_der.specs.Identifiers.{IsIdentifier, IsIdentifierContent, content_of};
+ghost use Rattle.sec1_der.specs.Identifiers.{IsIdentifier, content_of};
 ghost use Rattle.sec1_c.specs.IdentifierTexts.{IsIdentifierText, IsTextOf, c_text};
 ghost use Rattle.sec1_c.specs.Outputs.{Writes, WritesNothing};
 ghost use Rattle.sec1_c.specs.Statuses.{kind_number};
@@ -20,9 +20,9 @@ use text::dotted;
 /// Returns the number of Value if it isn't.
 #[unsafe(no_mangle)]
 pub extern "C" fn sec1_identifier_check(content: &[u8]) -> u32
-    ensures found { result ≡ 0 → IsIdentifierContent content.now }
+    ensures found { result ≡ 0 → (arcs : List ℕ) × IsIdentifier arcs content.now }
     ensures only { (arcs : List ℕ) → IsIdentifier arcs content.now → result ≡ 0 }
-    ensures no_identifier { ¬ IsIdentifierContent content.now
+    ensures no_identifier { ((arcs : List ℕ) → ¬ IsIdentifier arcs content.now)
         → result ≡ kind_number ErrorKind.Value }
 {
     match IdentifierRef::from_bytes(content) {
@@ -44,7 +44,7 @@ pub extern "C" fn sec1_identifier_check(content: &[u8]) -> u32
 pub extern "C" fn sec1_identifier_to_text(content: &[u8], text: &mut [u8], len: &mut usize) -> u32
     ensures identifier { (arcs : List ℕ) → IsIdentifier arcs content.now
         → Writes (c_text arcs) text.old text.new result len.new }
-    ensures no_identifier { ¬ IsIdentifierContent content.now
+    ensures no_identifier { ((arcs : List ℕ) → ¬ IsIdentifier arcs content.now)
         → WritesNothing (kind_number ErrorKind.Value) text.old text.new result len.old len.new }
 {
     match ObjectIdentifier::from_bytes(content) {

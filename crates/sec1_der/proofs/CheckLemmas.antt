@@ -1,12 +1,13 @@
 -- The states of the walk over a tree's bytes, and its steps.
 use Rattle.std.proofs.Common.{◌≡◌, ◌≢◌, ℕ, suc, ◌+◌, ◌-◌, ◌<◌, ◌≤◌, List, [], ◌∷◌, ◌++◌, length, take, drop, refl, ap}
+use Rattle.std.proofs.Common.{get_or, ◌⊎◌}
 use Rattle.std.proofs.Common.{sym, ◌∙◌, subst, arith, ⊎_elim}
 use Rattle.std.proofs.lemmas.List.{append_assoc, append-nil, length-append, length-take-le}
 use Rattle.sec1_der.specs.Elements.{header}
 use Rattle.sec1_der.specs.Faults.{tree_fault}
 use Rattle.sec1_der.specs.Trees.{Tree, branch, Forest, none, first, bytes, joined, IsTree, AreTrees, IsTreeOf, size}
 use Rattle.sec1_der.specs.Trees.{total_size, depth, max_depth, max_tree_depth}
-use Rattle.sec1_der.specs.Walks.{innermost, Skips, Opens, Enters}
+use Rattle.sec1_der.specs.Walks.{Skips, Opens}
 use Rattle.sec1_der.proofs.TreeLemmas.{some_bytes}
 use Rattle.sec1_der.proofs.RowFaultLemmas.{row_some, tree_next, open_fault, next_fault, element_passed, node_opened}
 
@@ -29,13 +30,13 @@ Completes input (end ∷ ends) rest count =
 -- each open node ends within the one around it
 abbrev pub Nested : List ℕ → Type 0
 Nested [] = Unit {0}
-Nested (end ∷ ends) = (innermost ends ≤ end) × Nested ends
+Nested (end ∷ ends) = (get_or ends 0 0 ≤ end) × Nested ends
 
 -- where the walk is in the input
 pub record IsAt (input ends rest : List ℕ) (count : ℕ) : Type 0 where
   pub room : length ends ≤ max_tree_depth - 1
   pub counted : count + length rest ≤ length input
-  pub inside : innermost ends ≤ length rest
+  pub inside : get_or ends 0 0 ≤ length rest
   pub nested : Nested ends
 
 -- This number of elements was read. What is left completes the input, or is refused as the input is.
@@ -64,7 +65,7 @@ root_next input old empty = rw empty (record {
 
 -- inside a node that hasn't ended an element is next
 pub child_next : {input ends rest : List ℕ} {count : ℕ} → Walks input ends rest count → ends ≢ []
-    → length rest ≢ innermost ends → IsNext input ends rest count
+    → length rest ≢ get_or ends 0 0 → IsNext input ends rest count
 child_next {ends = []} w some apart = absurd (some refl)
 child_next {input = input} {ends = end ∷ ends} {rest = rest} w some apart =
     let at = w.at in
@@ -122,6 +123,13 @@ opened input ends rest after end count next o room =
       fault_is = next.fault_is ∙ node_opened ends rest after end o;
     }
 
+-- the next element is skipped, or is opened if one more node may be open
+abbrev Enters : List ℕ → List ℕ → List ℕ → List ℕ → Type 0
+Enters ends rest ends' after =
+    (Skips ends rest after × (ends' ≡ ends))
+    ⊎ ((end : ℕ) × Opens ends rest end after × (ends' ≡ end ∷ ends)
+    × (length ends < max_tree_depth - 1))
+
 -- the walk continues where an element was skipped or opened
 pub entered : {input ends rest ends' after : List ℕ} {count : ℕ} → IsNext input ends rest count
     → Enters ends rest ends' after
@@ -130,7 +138,7 @@ entered next e = ⊎_elim (λ p. rw (p.1) (passed _ _ _ _ _ next p.0)) (λ o. rw
 
 -- the walk continues where a node has ended
 pub closed : {input ends ends' rest : List ℕ} {count : ℕ} → Walks input ends rest count → ends ≢ []
-    → ends' ≡ drop 1 ends → length rest ≡ innermost ends
+    → ends' ≡ drop 1 ends → length rest ≡ get_or ends 0 0
     → Walks input ends' rest count
 closed {ends = []} w some is e = absurd (some refl)
 closed {input = input} {ends = end ∷ ends} {rest = rest} {count = count} w some is e =

@@ -11,7 +11,7 @@ use Rattle.sec1_der.specs.Faults.{no_fault, end_fault, element_fault}
 use Rattle.sec1_der.specs.Contents.{are_bits, bit_string_fault, whole_bits_fault, whole_bits_field_fault}
 use Rattle.sec1_der.specs.Contents.{identifier_fault}
 use Rattle.sec1_der.specs.Identifiers.{IsIdentifier, is_identifier, content_of}
-use Rattle.sec1_der.proofs.IdentifierLaws.{is_identifier-true, is_identifier-valid}
+use Rattle.sec1_der.proofs.IdentifierLaws.{encodes_of, is_identifier-true, is_identifier-valid}
 use Rattle.sec1_der.specs.declared.error.ErrorKind.TheVariants.{Value}
 use Rattle.sec1_der.proofs.FaultLaws.{alone, element_at}
 use Rattle.sec1_der.proofs.IdentifierLemmas.{continues_from_arcs}
@@ -19,8 +19,9 @@ use Rattle.sec1_der.proofs.IdentifierLemmas.{continues_from_arcs}
 -- the content of an identifier isn't refused
 pub identifier_taken : (arcs content : List ℕ) → IsIdentifier arcs content → identifier_fault content ≡ None
 identifier_taken arcs content h =
-    let encoded = (bytes_eq-Decides (content_of arcs) content).1 (sym h.encodes.encoded) in
-    rw ((continues_from_arcs arcs content h.encodes).1, is_identifier-valid arcs content h, encoded) refl
+    let encoded = (bytes_eq-Decides (content_of arcs) content).1 (sym h.encoded) in
+    let arcs_are = (continues_from_arcs arcs content (encodes_of arcs content h)).1 in
+    rw (arcs_are, is_identifier-valid arcs content h, encoded) refl
 
 -- a content of no identifier is refused as Value
 pub identifier_refused : (content : List ℕ) → ((arcs : List ℕ) → IsIdentifier arcs content → ⊥)

@@ -1,12 +1,13 @@
 -- The next element in a slice whose last bytes belong to outer nodes.
 use Rattle.std.proofs.Common.{◌≡◌, ℕ, ◌+◌, ◌-◌, ◌<◌, ◌≤◌, List, ◌++◌, length, take, drop, bit_and, ◌⊎◌, refl, ap, sym}
+use Rattle.std.proofs.Common.{get_or}
 use Rattle.std.proofs.Common.{◌∙◌, arith, ⊎_elim}
 use Rattle.std.proofs.lemmas.Bool.{cases_eq}
 use Rattle.std.proofs.lemmas.List.{append_assoc, length-append, length-drop, length-take, length-take-le}
 use Rattle.std.proofs.lemmas.List.{take-append-drop, take_rest, drop_at, nil_from_length}
 use Rattle.sec1_der.specs.Elements.{IsConstructed, IsHeader, header, element}
 use Rattle.sec1_der.specs.Trees.{Tree, leaf, branch, none, bytes, IsTree, size, depth}
-use Rattle.sec1_der.specs.Walks.{innermost, Skips, Opens}
+use Rattle.sec1_der.specs.Walks.{Skips, Opens}
 
 -- The slice begins with a header, then bytes with room for its content, then the last bytes.
 abbrev pub IsInFront : List ℕ → List ℕ → ℕ → ℕ → ℕ → Type 0
@@ -37,7 +38,7 @@ from_start rest front inside end start within e l =
     )
 
 -- the header of a node with a content
-pub opens_at : (rest inside ends : List ℕ) (tag n end m : ℕ) → IsInFront rest inside tag n end → end ≡ innermost ends
+pub opens_at : (rest inside ends : List ℕ) (tag n end m : ℕ) → IsInFront rest inside tag n end → end ≡ get_or ends 0 0
     → m ≡ n → 0 < n
     → IsConstructed tag
     → Opens ends rest (end + length inside - m)
@@ -88,7 +89,7 @@ single_tree tag content h which = ⊎_elim
 
 -- an element without children
 pub passes_at : (rest inside ends : List ℕ) (tag n end m : ℕ) → IsInFront rest inside tag n end
-    → end ≡ innermost ends → m ≡ n
+    → end ≡ get_or ends 0 0 → m ≡ n
     → ¬ IsConstructed tag ⊎ (n ≡ 0)
     → Skips ends rest (take (length rest - (length rest - end - length inside + m))
     (drop (length rest - end - length inside + m) rest))

@@ -1,14 +1,27 @@
 -- The test for the arcs of an identifier is exact: an identifier has its content, and any other
 -- list of numbers has none.
 use Rattle.std.specs.Prelude.{◌≡◌, ℕ, ◌+◌, ◌*◌, ◌^◌, ◌<◌, ◌≤◌, Bool, true, false, ◌&&◌, ◌||◌}
-use Rattle.std.specs.Prelude.{nat_lt, nat_le}
+use Rattle.std.specs.Prelude.{nat_lt, nat_le, IsTrue}
 use Rattle.std.specs.Prelude.{List, [], ◌∷◌, length, Some, None, if◌then◌else◌, refl}
 use Rattle.std.proofs.Common.{arith}
 use Rattle.std.proofs.lemmas.Bool.Decides.{nat_tests}
 use Rattle.std.specs.Bool.{Decides}
 use Rattle.std.specs.List.{AllByRecursion, list_all}
-use Rattle.sec1_der.specs.Identifiers.{AreArcs, content_of, IsIdentifier, are_arcs, is_identifier}
+use Rattle.sec1_der.specs.Identifiers.{content_of, IsIdentifier, are_arcs, is_identifier}
 use Rattle.sec1_der.specs.Identifiers.{identifier_content, max_identifier_length}
+
+-- two or more arcs of an identifier, whose content may be of any length
+abbrev pub AreArcs : List ℕ → Type 0
+AreArcs [] = ⊥
+AreArcs (a ∷ []) = ⊥
+AreArcs (a ∷ b ∷ further) =
+    (a ≤ 2) × (a < 2 → b < 40) × (40 * a + b < 2 ^ 32)
+    × AllByRecursion (λ arc. arc < 2 ^ 32) further
+
+-- the bytes are the encoding of these arcs, of any length
+pub record EncodesArcs (arcs content : List ℕ) : Type 0 where
+  pub allowed : AreArcs arcs
+  pub encoded : content ≡ content_of arcs
 
 one_below : (n : ℕ) (rest : Bool) (P : Type 0) → Decides rest P
     → Decides (nat_lt n (2 ^ 32) && rest) ((n < 2 ^ 32) × P)
@@ -30,6 +43,17 @@ are_arcs-decides [] = (λ e. absurd (cc e), λ h. absurd h)
 are_arcs-decides (a ∷ []) = (λ e. absurd (cc e), λ h. absurd h)
 are_arcs-decides (a ∷ b ∷ further) = two_arcs a b _ _ (all_below further)
 
+-- the test for arcs is exact
+pub arcs_allowed : (arcs : List ℕ) → IsTrue (are_arcs arcs) → AreArcs arcs
+arcs_allowed arcs e = (are_arcs-decides arcs).0 e
+
+pub arcs_tested : (arcs : List ℕ) → AreArcs arcs → IsTrue (are_arcs arcs)
+arcs_tested arcs h = (are_arcs-decides arcs).1 h
+
+-- the content of an identifier encodes its arcs
+pub encodes_of : (arcs content : List ℕ) → IsIdentifier arcs content → EncodesArcs arcs content
+encodes_of arcs content is = record { allowed = arcs_allowed arcs is.allowed; encoded = is.encoded }
+
 short_too : (b : Bool) (n : ℕ) (P : Type 0) → Decides b P
     → Decides (b && nat_le n max_identifier_length) (P × (n ≤ max_identifier_length))
 short_too b n P d = grind (arith, nat_tests)
@@ -45,13 +69,13 @@ pub is_identifier-true : (arcs : List ℕ) → is_identifier arcs ≡ true
     → IsIdentifier arcs (content_of arcs)
 is_identifier-true arcs e =
     let h = (is_identifier-decides arcs).0 e in
-    record { encodes = record { allowed = h.0; encoded = refl }; short = h.1 }
+    record { allowed = arcs_tested arcs h.0; encoded = refl; short = h.1 }
 
 -- the test succeeds for the arcs of an identifier
 pub is_identifier-valid : (arcs content : List ℕ) → IsIdentifier arcs content
     → is_identifier arcs ≡ true
 is_identifier-valid arcs content h =
-    (is_identifier-decides arcs).1 (h.encodes.allowed, rw (← h.encodes.encoded) h.short)
+    (is_identifier-decides arcs).1 (arcs_allowed arcs h.allowed, rw (← h.encoded) h.short)
 
 chosen : (b : Bool) (v c : List ℕ) → (if b then Some v else None) ≡ Some c → (b ≡ true) × (v ≡ c)
 chosen true v c e = (refl, cc)
@@ -68,4 +92,4 @@ identifier_content-some arcs content e =
 pub identifier_content-valid : (arcs content : List ℕ) → IsIdentifier arcs content
     → identifier_content arcs ≡ Some content
 identifier_content-valid arcs content h =
-    rw (is_identifier-valid arcs content h, ← h.encodes.encoded) refl
+    rw (is_identifier-valid arcs content h, ← h.encoded) refl

@@ -1,11 +1,12 @@
 -- Which contents are identifiers', and what their arcs are.
 use Rattle.std.proofs.Common.{◌≡◌, ℕ, zero, suc, ◌+◌, ◌*◌, ◌/◌, ◌%◌, ◌^◌, ◌<◌, ◌≤◌, Bool, true, false, cond, ◌&&◌, eqb}
+use Rattle.std.proofs.Common.{◌-◌, replicate, take}
 use Rattle.std.proofs.Common.{ltb, List, [], ◌∷◌, ◌++◌, Some, length, get_or, drop, ◌↔◌, refl, sym, ap, arith}
 use Rattle.std.proofs.lemmas.Bool.{le-leb}
 use Rattle.std.proofs.lemmas.Bool.Decides.{nat_tests}
 use Rattle.std.proofs.lemmas.List.{append_assoc, append-nil, flat_map_more, map-append, length-append, drop_more}
 use Rattle.std.proofs.lemmas.List.{take_at}
-use Rattle.std.proofs.Common.{◌||◌, map, max, bit_or, ◌∙◌}
+use Rattle.std.proofs.Common.{◌||◌, map, max, bit_or, ◌∙◌, IsTrue}
 use Rattle.std.specs.Int.{bit_at}
 use Rattle.std.specs.Simd.Lanes.{mask_l}
 use Rattle.std.proofs.lemmas.Simd.{bit_mask_l}
@@ -15,10 +16,11 @@ use Rattle.std.specs.Int.Digits.{digits_of}
 use Rattle.std.specs.List.{flat_map, AllByRecursion}
 use Rattle.sec1_der.specs.Elements.{max_length, within_limit}
 use Rattle.sec1_der.specs.Numbers.{base128, marked}
-use Rattle.sec1_der.specs.Stored.{arcs_stored, IsStored}
+use Rattle.sec1_der.specs.Stored.{IsStored}
 use Rattle.sec1_der.specs.declared.object_identifier.ObjectIdentifier.TheInside.{Inside}
-use Rattle.sec1_der.specs.ArcsOf.{padded, numbers_after, arcs_of_numbers, arcs_of}
-use Rattle.sec1_der.specs.Identifiers.{AreArcs, EncodesArcs, IsIdentifier, IsIdentifierContent, identifier_content}
+use Rattle.sec1_der.specs.ArcsOf.{numbers_after, arcs_of_numbers, arcs_of}
+use Rattle.sec1_der.specs.Identifiers.{are_arcs, content_of, IsIdentifier, identifier_content}
+use Rattle.sec1_der.proofs.IdentifierLaws.{AreArcs, EncodesArcs, arcs_allowed, arcs_tested, encodes_of}
 use Rattle.sec1_der.proofs.IdentifierLaws.{identifier_content-valid}
 use Rattle.sec1_der.specs.Identifiers.{max_identifier_length}
 use Rattle.sec1_der.proofs.DigitLaws.{IsBytes, digits_of-push, marked_step}
@@ -135,19 +137,20 @@ encodes_arcs content (n ∷ ns) some s = grind (arith, nat_tests)
 
 -- the test by widths decides whether bytes encode arcs
 pub is_narrow-decides : (content : List ℕ) → IsBytes content → 0 < length content
-    → (is_narrow 0 content ≡ true) ↔ ((arcs : List ℕ) × EncodesArcs arcs content)
+    → (is_narrow 0 content ≡ true) ↔ ((arcs : List ℕ) × IsTrue (are_arcs arcs) × (content ≡ content_of arcs))
 is_narrow-decides content h some =
     rw (sym (continues-width 0 content h (omega arith))) (
-      λ e. (arcs_of content, encodes_arcs content (numbers_after 0 content) some (encoded_after 0 content h e)),
-      λ s. (continues_from_arcs s.0 content s.1).0,
+      λ e. let is = encodes_arcs content (numbers_after 0 content) some (encoded_after 0 content h e) in
+          (arcs_of content, arcs_tested _ is.allowed, is.encoded),
+      λ s. (continues_from_arcs s.0 content (record { allowed = arcs_allowed s.0 s.1; encoded = s.2 })).0,
     )
 
 -- the arcs that are read of an identifier's content are the identifier's
 pub read_arcs : (arcs content : List ℕ) → IsIdentifier arcs content → arcs_of content ≡ arcs
-read_arcs arcs content is = (continues_from_arcs arcs content is.encodes).1
+read_arcs arcs content is = (continues_from_arcs arcs content (encodes_of arcs content is)).1
 
 -- an identifier's content is that of the arcs that are read of it
-pub own_arcs : (content : List ℕ) → IsIdentifierContent content → IsIdentifier (arcs_of content) content
+pub own_arcs : (content : List ℕ) → (arcs : List ℕ) × IsIdentifier arcs content → IsIdentifier (arcs_of content) content
 own_arcs content (arcs, is) = rw (read_arcs arcs content is) is
 
 -- what a value that holds a content takes
@@ -216,9 +219,10 @@ mask_of_none ms e i = none_of _ (sym (bit_mask_l ms i) ∙ (ap (λ n. bit_at n i
 
 -- the content of an identifier in front, zeros after it, and its length hold the identifier
 pub content_is_stored : (arcs content : List ℕ) → IsIdentifier arcs content → let o : Inside =
-    record { bytes = padded content; len = length content } in
-    IsStored o × (arcs_stored o ≡ arcs)
-content_is_stored arcs content is = grind (arith, continues_from_arcs arcs content is.encodes, take_at)
+    record { bytes = content ++ replicate (max_identifier_length - length content) 0; len = length content } in
+    IsStored o × (arcs_of (take o.len o.bytes) ≡ arcs)
+content_is_stored arcs content is =
+    grind (arith, continues_from_arcs arcs content (encodes_of arcs content is), take_at)
 
 -- ---- writing
 
@@ -233,23 +237,37 @@ identifier_fits arcs content is = (
 -- ---- building
 
 -- the digits of 40 a + b in base 128 are the content of the arcs a and b, and are decoded to them
-pub first_two : (a b n : ℕ) (content : List ℕ) → AreArcs (a ∷ b ∷ []) → n ≡ 40 * a + b → content ≡ base128 n
+first_encoded : (a b n : ℕ) (content : List ℕ) → AreArcs (a ∷ b ∷ []) → n ≡ 40 * a + b → content ≡ base128 n
     → EncodesArcs (arcs_of content) content × (arcs_of content ≡ a ∷ b ∷ [])
-first_two a b n content allowed shared is = grind (arith, continues_from_arcs (a ∷ b ∷ []) content, append-nil)
+first_encoded a b n content allowed shared is = grind (arith, continues_from_arcs (a ∷ b ∷ []) content, append-nil)
+
+pub first_two : (a b n : ℕ) (content : List ℕ) → IsTrue (are_arcs (a ∷ b ∷ [])) → n ≡ 40 * a + b → content ≡ base128 n
+    → IsTrue (are_arcs (arcs_of content)) × (content ≡ content_of (arcs_of content)) × (arcs_of content ≡ a ∷ b ∷ [])
+first_two a b n content allowed shared is =
+    let all = first_encoded a b n content (arcs_allowed (a ∷ b ∷ []) allowed) shared is in
+    (arcs_tested _ all.0.allowed, all.0.encoded, all.1)
 
 -- the same of a content with one more arc after it
-pub one_more_arc : (arcs content : List ℕ) (n : ℕ) (more : List ℕ) → EncodesArcs arcs content → n < 2 ^ 32
+one_more_encoded : (arcs content : List ℕ) (n : ℕ) (more : List ℕ) → EncodesArcs arcs content → n < 2 ^ 32
     → more ≡ content ++ base128 n
     → EncodesArcs (arcs_of more) more × (arcs_of more ≡ arcs ++ n ∷ [])
-one_more_arc [] content n more s small is = absurd s.allowed
-one_more_arc (a ∷ []) content n more s small is = absurd s.allowed
-one_more_arc (a ∷ b ∷ cs) content n more s small is =
+one_more_encoded [] content n more s small is = absurd s.allowed
+one_more_encoded (a ∷ []) content n more s small is = absurd s.allowed
+one_more_encoded (a ∷ b ∷ cs) content n more s small is =
     grind (
       arith,
       continues_from_arcs (a ∷ b ∷ (cs ++ n ∷ [])) more,
       small_push cs n s.allowed.3 small,
       flat_map_more base128 (base128 (40 * a + b)) cs n,
     )
+
+pub one_more_arc : (arcs content : List ℕ) (n : ℕ) (more : List ℕ) → IsTrue (are_arcs arcs)
+    → content ≡ content_of arcs → n < 2 ^ 32 → more ≡ content ++ base128 n
+    → IsTrue (are_arcs (arcs_of more)) × (more ≡ content_of (arcs_of more)) × (arcs_of more ≡ arcs ++ n ∷ [])
+one_more_arc arcs content n more allowed encoded small is =
+    let whole : EncodesArcs arcs content = record { allowed = arcs_allowed arcs allowed; encoded = encoded } in
+    let all = one_more_encoded arcs content n more whole small is in
+    (arcs_tested _ all.0.allowed, all.0.encoded, all.1)
 
 -- by these, the test of contents is exact
 pub ruleset content_tests = (content_steps, continues_from_arcs)

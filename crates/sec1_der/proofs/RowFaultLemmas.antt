@@ -1,5 +1,6 @@
 -- What rows of elements are refused by, and what a walk over a tree has left.
 use Rattle.std.proofs.Common.{◌≡◌, ℕ, zero, suc, ◌+◌, ◌-◌, ◌<◌, ◌≤◌, if◌then◌else◌, nat_lt, bit_and, List, [], ◌∷◌}
+use Rattle.std.proofs.Common.{get_or}
 use Rattle.std.proofs.Common.{◌++◌, length, take, drop, Option, Some, None, ◌⊎◌, ⊎_elim, refl, ap, sym, ◌∙◌, arith}
 use Rattle.std.proofs.Math.Seq.{take-append-add, drop-append-add}
 use Rattle.std.proofs.lemmas.Bool.{lt-ltb, le-ltb, ne_eqb}
@@ -11,7 +12,7 @@ use Rattle.sec1_der.specs.Elements.{length_octets, element, IsConstructed, IsHea
 use Rattle.sec1_der.specs.ErrorKinds.{IsHeaderFault}
 use Rattle.sec1_der.specs.Faults.{Fault, end_fault, any_fault, nested_fault, row_fault, tree_fault}
 use Rattle.sec1_der.specs.Trees.{Tree, leaf, branch, none, first, bytes, size, IsTree, max_tree_depth}
-use Rattle.sec1_der.specs.Walks.{innermost, Skips, Opens}
+use Rattle.sec1_der.specs.Walks.{Skips, Opens}
 use Rattle.sec1_der.specs.declared.error.ErrorKind.{ErrorKind}
 use Rattle.sec1_der.specs.declared.error.ErrorKind.TheVariants.{Depth}
 use Rattle.sec1_der.proofs.FaultLaws.{any_at}
@@ -89,7 +90,7 @@ next_fault (end ∷ ends) rest =
 -- where an element is next, the fault is that of its content, or else of the bytes after it
 next_element : (ends rest after : List ℕ) (tag : ℕ) (content : List ℕ) → IsHeader tag (length content)
     → rest ≡ element tag content ++ after
-    → innermost ends ≤ length after
+    → get_or ends 0 0 ≤ length after
     → next_fault ends rest ≡ option_or (nested_fault (row_at (length ends + 2)) tag content) (open_fault ends after)
 next_element [] rest after tag content h is fits =
     any_at (nested_fault (row_at 2)) end_fault tag content rest after h is
@@ -148,15 +149,17 @@ next_deep ends rest after end full opens =
 -- what is next is refused as too deep, or by its own bytes
 pub next_refused : (ends rest : List ℕ) (k : ErrorKind)
     → ((k ≡ Depth) × (length ends ≡ max_tree_depth - 1)
-    × ((end : ℕ) × (after : List ℕ) × Opens ends rest end after)) ⊎ (IsHeaderFault k × ((content : ℕ → Fault) (behind : Fault)
-    → any_fault content behind (take (length rest - innermost ends) rest) ≡ Some k))
+    × ((end : ℕ) × (after : List ℕ) × Opens ends rest end after))
+    ⊎ (IsHeaderFault k × ((content : ℕ → Fault) (behind : Fault)
+    → any_fault content behind (take (length rest - get_or ends 0 0) rest) ≡ Some k))
     → next_fault ends rest ≡ Some k
 next_refused ends rest k kinds =
-    ⊎_elim (λ deep. next_deep ends rest deep.2.1 deep.2.0 deep.1 deep.2.2 ∙ ap (λ j. Some j) (sym deep.0)) (λ any. by ends any.1) kinds
+    ⊎_elim (λ deep. next_deep ends rest deep.2.1 deep.2.0 deep.1 deep.2.2 ∙ ap (λ j. Some j) (sym deep.0))
+    (λ any. by ends any.1) kinds
   where
     by : (ends : List ℕ)
         → ((content : ℕ → Fault) (behind : Fault)
-        → any_fault content behind (take (length rest - innermost ends) rest) ≡ Some k)
+        → any_fault content behind (take (length rest - get_or ends 0 0) rest) ≡ Some k)
         → next_fault ends rest ≡ Some k
     by [] any = rw (take_all (length rest - 0) rest (omega arith)) at any (nested_fault (row_at 2)) end_fault
     by (end ∷ ends) any = rw (any (nested_fault (row_at (length ends + 2 + 1))) (row_at (length ends + 2))) refl

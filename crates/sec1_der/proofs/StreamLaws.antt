@@ -1,5 +1,5 @@
 -- What a reader says of the bytes that were taken, call by call.
-use Rattle.std.proofs.Common.{ℕ, List, [], ◌++◌, Option}
+use Rattle.std.proofs.Common.{◌<◌, ℕ, List, [], ◌++◌, length, Option}
 use Rattle.std.proofs.KnownBytes.{Consumes-nil, Consumes-trans, Consumes-kept, Appends-nil, Appends-trans, Appends-kept}
 use Rattle.std.specs.Io.KnownBytes.{Keeps}
 use Rattle.sec1_der.specs.Streams.{Takes}
@@ -25,3 +25,7 @@ takes_kept left taken old mid new bytes first left_kept taken_kept = record {
   consumed = Consumes-kept _ _ _ bytes first.consumed left_kept;
   appended = Appends-kept _ _ _ bytes first.appended taken_kept;
 }
+
+-- fewer than n bytes were read
+abbrev pub TakesFewer : (List ℕ → Type 0) → ℕ → Type 0
+TakesFewer Taken n = (bytes : List ℕ) × Taken bytes × (length bytes < n)

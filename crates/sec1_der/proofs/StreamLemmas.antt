@@ -15,13 +15,13 @@ use Rattle.sec1_der.specs.declared.error.ErrorKind.{ErrorKind}
 use Rattle.sec1_der.specs.declared.error.ErrorKind.TheVariants.{Truncated, TrailingData, Io, Memory, Tag, Length}
 use Rattle.sec1_der.specs.Elements.{IsElement, IsHeader, LacksHeader, header}
 use Rattle.sec1_der.specs.ErrorKinds.{header_fault, length_fault, is_tag, IsIoOrMemory}
-use Rattle.sec1_der.specs.ReadsDocument.{IsCutContent, TakenBeforeRefusal, RefusesElement, ConsumesElement}
-use Rattle.sec1_der.specs.Streams.{ReadsOnto, Takes, TakesFewer, Ends}
+use Rattle.sec1_der.specs.ReadsDocument.{TakenBeforeRefusal, RefusesElement, ConsumesElement}
+use Rattle.sec1_der.specs.Streams.{ReadsOnto, Takes, Ends}
 use Rattle.sec1_der.specs.Faults.{no_fault, end_fault, document_fault}
 use Rattle.sec1_der.proofs.HeaderLemmas.{longer, header_front, header_fault_kinds}
 use Rattle.sec1_der.proofs.ElementFaultLemmas.{document_element, any_without_header, any_short}
 use Rattle.sec1_der.proofs.FaultLaws.{any_at, any_room}
-use Rattle.sec1_der.proofs.StreamLaws.{takes_more, takes_nothing, takes_kept}
+use Rattle.sec1_der.proofs.StreamLaws.{takes_more, takes_nothing, takes_kept, TakesFewer}
 
 -- ---- bytes that were taken
 
@@ -188,18 +188,17 @@ pub fewer_in_all : {S : Type 0} (left taken : S → Option (List ℕ)) (old mid 
     (n missing announced : ℕ) → ReadsOnto (Takes left taken old mid) start middle n → n + missing ≡ announced
     → TakesFewer (Takes left taken mid new) missing → TakesFewer (Takes left taken old new) announced
 fewer_in_all left taken old mid new start middle n missing announced read sum fewer =
-    let both = takes_more left taken old mid new read.bytes fewer.bytes read.taken fewer.taken in
-    let few : length (read.bytes ++ fewer.bytes) < announced = omega
-    (arith, length-append read.bytes fewer.bytes) in
-    record { bytes = _; taken = both; few = few }
+    let both = takes_more left taken old mid new read.bytes fewer.0 read.taken fewer.1 in
+    let few : length (read.bytes ++ fewer.0) < announced = omega
+    (arith, length-append read.bytes fewer.0) in
+    (_, both, few)
 
 -- ---- the element
 
 -- a header and a part of the content that it announces are a cut content
 cut_content : (tag n : ℕ) (content : List ℕ) → IsHeader tag n → length content < n
-    → IsCutContent (header tag n ++ content)
-cut_content tag n content is few =
-    record { tag = tag; announced = n; content = content; is_header = is; few = few; joined = refl }
+    → (t : ℕ) × (m : ℕ) × (xs : List ℕ) × IsHeader t m × (length xs < m) × (header tag n ++ content ≡ header t m ++ xs)
+cut_content tag n content is few = (tag, n, content, is, few, refl)
 
 -- such bytes are truncated
 content_fault : (tag n : ℕ) (content : List ℕ) → IsHeader tag n → length content < n
@@ -238,14 +237,14 @@ pub refused_content : (kind : ErrorKind) {S : Type 0} (left taken : S → Option
     → TakesFewer (Takes left taken mid new) n → IsIoOrMemory kind ⊎ ((kind ≡ Truncated) × Ended)
     → RefusesElement kind (Takes left taken old new) Ended
 refused_content kind left taken Ended old mid new tag n is first fewer (inl (inl io)) =
-    refused_after kind left taken Ended old mid new tag n fewer.bytes first fewer.taken
-    (rw io (inl (content_fault tag n fewer.bytes is fewer.few))) (λ e. absurd (cc (io, e)))
+    refused_after kind left taken Ended old mid new tag n fewer.0 first fewer.1
+    (rw io (inl (content_fault tag n fewer.0 is fewer.2))) (λ e. absurd (cc (io, e)))
 refused_content kind left taken Ended old mid new tag n is first fewer (inl (inr memory)) =
-    refused_after kind left taken Ended old mid new tag n fewer.bytes first fewer.taken
-    (rw memory (inl (cut_content tag n fewer.bytes is fewer.few))) (λ e. absurd (cc (memory, e)))
+    refused_after kind left taken Ended old mid new tag n fewer.0 first fewer.1
+    (rw memory (inl (cut_content tag n fewer.0 is fewer.2))) (λ e. absurd (cc (memory, e)))
 refused_content kind left taken Ended old mid new tag n is first fewer (inr cut) =
-    refused_after kind left taken Ended old mid new tag n fewer.bytes first fewer.taken
-    (rw cut.0 (content_fault tag n fewer.bytes is fewer.few)) (λ _. cut.1)
+    refused_after kind left taken Ended old mid new tag n fewer.0 first fewer.1
+    (rw cut.0 (content_fault tag n fewer.0 is fewer.2)) (λ _. cut.1)
 
 -- where the memory for a content is refused, so is the element
 pub refused_growth : {S : Type 0} (left taken : S → Option (List ℕ)) (Ended : Type 0) (old new : S) (tag n : ℕ)

@@ -7,7 +7,7 @@ use Rattle.sec1_der.specs.Elements.{element_of}
 use Rattle.sec1_der.specs.Parts.{Tags, AreApart, Begins, MayFollow, join, one_tag, optional_tag, both_tags, optional_of}
 use Rattle.sec1_der.specs.PartLaws.{element_begins}
 use Rattle.sec1_der.proofs.PartLemmas.{next_first, next_second}
-use Rattle.sec1_der.proofs.IdentifierLaws.{identifier_content-some}
+use Rattle.sec1_der.proofs.IdentifierLaws.{encodes_of, identifier_content-some}
 use Rattle.sec1_der.specs.Identifiers.{identifier_content}
 use Rattle.sec1_der.proofs.JoinLaws.{parted}
 use Rattle.sec1_der.proofs.ElementLaws.{element_of-some}
@@ -95,4 +95,5 @@ unique_parts tags bytes one apart a b whole e f = (one a b whole whole [] [] apa
 -- two lists of arcs with one content are the same
 pub unique_identifier : IsUnique identifier_content
 unique_identifier a b bytes e f =
-    same_arcs a b bytes (identifier_content-some a bytes e).encodes (identifier_content-some b bytes f).encodes
+    same_arcs a b bytes (encodes_of a bytes (identifier_content-some a bytes e))
+    (encodes_of b bytes (identifier_content-some b bytes f))

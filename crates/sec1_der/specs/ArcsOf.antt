@@ -1,7 +1,5 @@
 -- The way back, from the content of an identifier to its arcs.
-use Rattle.std.specs.Prelude.{ℕ, ◌+◌, ◌-◌, ◌*◌, ◌%◌, nat_lt, if◌then◌else◌, List, [], ◌∷◌, ◌++◌}
-use Rattle.std.specs.Prelude.{length, replicate}
-use Rattle.sec1_der.specs.Identifiers.{max_identifier_length}
+use Rattle.std.specs.Prelude.{ℕ, ◌+◌, ◌-◌, ◌*◌, ◌%◌, nat_lt, if◌then◌else◌, List, [], ◌∷◌}
 
 -- X.690 section 8.19.2: the subidentifiers in these bytes; `high` is the number in the digits of
 -- the first one that were read before.
@@ -21,7 +19,3 @@ arcs_of_numbers (s ∷ further) =
 
 abbrev pub arcs_of : List ℕ → List ℕ
 arcs_of content = arcs_of_numbers (numbers_after 0 content)
-
--- the content, followed by zeros up to the greatest length
-abbrev pub padded : List ℕ → List ℕ
-padded content = content ++ replicate (max_identifier_length - length content) 0

@@ -19,10 +19,6 @@ pub record IsTag (tag : ℕ) : Type 0 where
 abbrev pub IsConstructed : ℕ → Type 0
 IsConstructed tag = IsBitSet tag 5
 
--- X.690 section 8.14: the tag byte of an explicit field [number]
-abbrev pub explicit_tag : ℕ → ℕ
-explicit_tag number = 0xA0 + number
-
 -- X.690 sections 8.1.3 and 10.1: the one encoding of a length: the number itself below 128,
 -- otherwise the number of its base 256 digits plus 80 (hexadecimal), and the digits.
 unfoldable pub length_octets : ℕ → List ℕ

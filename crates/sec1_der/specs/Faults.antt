@@ -5,7 +5,7 @@ use Rattle.std.specs.Prelude.{nat_le, if◌then◌else◌, bit_and, List, [], �
 use Rattle.std.specs.Prelude.{Option, Some, None, Result, Ok, Err, MatchResult}
 use Rattle.std.specs.Option.{option_or}
 use Rattle.std.specs.Str.{bytes_eq}
-use Rattle.sec1_der.specs.Elements.{max_length, length_octets, explicit_tag}
+use Rattle.sec1_der.specs.Elements.{max_length, length_octets}
 use Rattle.sec1_der.specs.ErrorKinds.{is_tag, length_fault}
 use Rattle.sec1_der.specs.Numbers.{number_of}
 use Rattle.sec1_der.specs.Trees.{max_tree_depth}
@@ -85,11 +85,11 @@ abbrev pub optional_fault : ℕ → Fault → Fault → Fault
 optional_fault tag content behind bytes =
     if is_next tag bytes then element_fault tag content behind bytes else behind bytes
 
--- X.690 section 8.14: an explicit field [number] around an element with this tag, if its tag is
--- next; and what follows it
+-- X.690 section 8.14: an explicit field [number], whose tag byte is A0 (hexadecimal) + number,
+-- around an element with this tag, if that byte is next; and what follows it
 abbrev pub field_fault : ℕ → ℕ → Fault → Fault → Fault
 field_fault number tag content behind =
-    optional_fault (explicit_tag number) (element_fault tag content end_fault) behind
+    optional_fault (0xA0 + number) (element_fault tag content end_fault) behind
 
 -- an element of any tag, which decides how its content is checked, and what follows it
 abbrev pub any_fault : (ℕ → Fault) → Fault → Fault

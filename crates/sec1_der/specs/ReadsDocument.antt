@@ -17,15 +17,6 @@ pub record ConsumesElement (Taken : List ℕ → Type 0) (Ended : Type 0)
   pub taken : Taken bytes
   pub at_end : Ended
 
--- a header, and fewer bytes than it announces
-pub record IsCutContent (bytes : List ℕ) : Type 0 where
-  pub tag : ℕ
-  pub announced : ℕ
-  pub content : List ℕ
-  pub is_header : IsHeader tag announced
-  pub few : length content < announced
-  pub joined : bytes ≡ header tag announced ++ content
-
 -- The bytes have this fault, and it came with the last of them: the others are such that `Before`
 -- holds.
 pub record EndsWithFault (kind : ErrorKind) (Before : List ℕ → Type 0)
@@ -38,7 +29,8 @@ pub record EndsWithFault (kind : ErrorKind) (Before : List ℕ → Type 0)
 
 -- The bytes that were taken before an element is refused by this kind: all that there were of a
 -- truncated element; the first byte that shows a bad tag, a bad length or trailing data, and those
--- before it; at most an element if a read failed, and a header too if an allocation failed.
+-- before it; at most an element if a read failed; an element, or a header and fewer bytes than it
+-- announces, if an allocation failed.
 abbrev pub TakenBeforeRefusal : ErrorKind → List ℕ → Type 0
 TakenBeforeRefusal Truncated taken = document_fault taken ≡ Some Truncated
 TakenBeforeRefusal Tag taken = EndsWithFault Tag (λ front. front ≡ []) taken
@@ -46,7 +38,9 @@ TakenBeforeRefusal Length taken =
     EndsWithFault Length (λ front. document_fault front ≡ Some Truncated) taken
 TakenBeforeRefusal TrailingData taken = EndsWithFault TrailingData IsElement taken
 TakenBeforeRefusal Io taken = (document_fault taken ≡ Some Truncated) ⊎ IsElement taken
-TakenBeforeRefusal Memory taken = IsCutContent taken ⊎ IsElement taken
+TakenBeforeRefusal Memory taken =
+    ((tag : ℕ) × (n : ℕ) × (content : List ℕ) × IsHeader tag n × (length content < n)
+    × (taken ≡ header tag n ++ content)) ⊎ IsElement taken
 TakenBeforeRefusal _ taken = ⊥
 
 -- an element was refused by this kind after these bytes were read; if it was Truncated, no input

@@ -1,32 +1,32 @@
 -- How the fields of an `ObjectIdentifier` hold its arcs.
-use Rattle.std.specs.Prelude.{◌≡◌, ℕ, List, length, take}
+use Rattle.std.specs.Prelude.{◌≡◌, ℕ, ◌-◌, List, ◌++◌, length, take, replicate}
 use Rattle.std.proofs.Common.{sym, ap, ◌∙◌}
-use Rattle.sec1_der.specs.ArcsOf.{arcs_of, padded}
-use Rattle.sec1_der.specs.Identifiers.{IsIdentifier, content_of}
+use Rattle.sec1_der.specs.ArcsOf.{arcs_of}
+use Rattle.sec1_der.specs.Identifiers.{IsIdentifier, content_of, max_identifier_length}
 use Rattle.sec1_der.specs.declared.object_identifier.ObjectIdentifier.TheInside.{Inside}
-
--- the arcs that the fields hold
-abbrev pub arcs_stored : Inside → List ℕ
-arcs_stored o = arcs_of (take o.len o.bytes)
 
 -- the content, followed by zeros
 pub record IsStored (o : Inside) : Type 0 where
-  pub identifier : IsIdentifier (arcs_stored o) (take o.len o.bytes)
+  pub identifier : IsIdentifier (arcs_of (take o.len o.bytes)) (take o.len o.bytes)
   pub length_kept : length (take o.len o.bytes) ≡ o.len
-  pub zeros : o.bytes ≡ padded (take o.len o.bytes)
+  pub zeros : o.bytes ≡ take o.len o.bytes ++ replicate (max_identifier_length - o.len) 0
 
 -- the fields that hold these arcs
 abbrev pub store : List ℕ → Inside
-store arcs = record { bytes = padded (content_of arcs); len = length (content_of arcs) }
+store arcs = let content = content_of arcs in record {
+  bytes = content ++ replicate (max_identifier_length - length content) 0;
+  len = length content;
+}
 
 -- an identifier has one way to be held
-pub store_arcs_stored : (o : Inside) → IsStored o → store (arcs_stored o) ≡ o
+pub store_arcs_stored : (o : Inside) → IsStored o → store (arcs_of (take o.len o.bytes)) ≡ o
 store_arcs_stored o h =
-    let content : content_of (arcs_stored o)
-    ≡ take o.len o.bytes = sym h.identifier.encodes.encoded in
-    let bytes : padded (content_of (arcs_stored o)) ≡ o.bytes = ap padded content ∙ sym h.zeros in
-    let len : length (content_of (arcs_stored o)) ≡ o.len = ap length content ∙ h.length_kept in
-    let with_bytes : List ℕ
-    → Inside = λ b. record { bytes = b; len = length (content_of (arcs_stored o)) } in
-    let with_len : ℕ → Inside = λ n. record { bytes = o.bytes; len = n } in
-    ap with_bytes bytes ∙ ap with_len len
+    let content : content_of (arcs_of (take o.len o.bytes))
+    ≡ take o.len o.bytes = sym h.identifier.encoded in
+    let hold : List ℕ → ℕ → Inside = λ front n. record {
+      bytes = front ++ replicate (max_identifier_length - n) 0;
+      len = n;
+    } in
+    let held : ℕ → Inside = λ n. hold (take o.len o.bytes) n in
+    let with_bytes : List ℕ → Inside = λ b. record { bytes = b; len = o.len } in
+    ap (λ xs. hold xs (length xs)) content ∙ (ap held h.length_kept ∙ ap with_bytes (sym h.zeros))

@@ -1,5 +1,5 @@
 -- What calls over readers and writers do to the remaining input, and to the bytes written.
-use Rattle.std.specs.Prelude.{◌≡◌, ◌<◌, ℕ, List, ◌++◌, Option, length}
+use Rattle.std.specs.Prelude.{◌≡◌, ℕ, List, ◌++◌, Option, length}
 use Rattle.std.specs.Io.KnownBytes.{Appends, Consumes, IsAtEnd}
 
 -- these bytes and no others were taken from a reader: the remaining input, if it is known, begins
@@ -28,9 +28,3 @@ pub record AppendsPrefix (old new : Option (List ℕ)) (bytes : List ℕ) : Type
   pub rest : List ℕ
   pub joined : bytes ≡ front ++ rest
   pub appended : Appends old new front
-
--- fewer than n bytes were read
-pub record TakesFewer (Taken : List ℕ → Type 0) (n : ℕ) : Type 0 where
-  pub bytes : List ℕ
-  pub taken : Taken bytes
-  pub few : length bytes < n

@@ -1,14 +1,9 @@
 -- One step of a walk over the bytes of a tree. The open nodes are known by how many bytes are left
--- where each ends, the innermost first.
-use Rattle.std.specs.Prelude.{◌≡◌, ℕ, zero, suc, ◌+◌, ◌-◌, ◌<◌, ◌≤◌, ◌⊎◌, List, [], ◌∷◌, ◌++◌}
+-- where each ends, the innermost first; 0 are left at the end of the input.
+use Rattle.std.specs.Prelude.{◌≡◌, ℕ, zero, suc, ◌+◌, ◌<◌, ◌≤◌, List, [], ◌∷◌, ◌++◌}
 use Rattle.std.specs.Prelude.{length, get_or}
 use Rattle.sec1_der.specs.Elements.{header, IsTag, IsConstructed, max_length}
-use Rattle.sec1_der.specs.Trees.{Tree, IsTree, bytes, size, depth, max_tree_depth}
-
--- how many bytes of input follow the innermost open element, or 0 if none is open
-abbrev pub innermost : List ℕ → ℕ
-innermost [] = 0
-innermost (end ∷ ends) = end
+use Rattle.sec1_der.specs.Trees.{Tree, IsTree, bytes, size, depth}
 
 -- the next element is a leaf or an empty node, and ends within the innermost node
 pub record Skips (ends rest after : List ℕ) : Type 0 where
@@ -17,26 +12,19 @@ pub record Skips (ends rest after : List ℕ) : Type 0 where
   pub alone : size tree ≡ 1
   pub shallow : depth tree ≡ 1
   pub row : rest ≡ bytes tree ++ after
-  pub fits : innermost ends ≤ length after
+  pub fits : get_or ends 0 0 ≤ length after
 
 -- the next element is a node that isn't empty, and has this end, within the innermost node
 pub record Opens (ends rest : List ℕ) (end : ℕ) (after : List ℕ) : Type 0 where
   pub tag : ℕ
   pub n : ℕ
-  pub fits : innermost ends ≤ end
+  pub fits : get_or ends 0 0 ≤ end
   pub tag_byte : IsTag tag
   pub constructed : IsConstructed tag
   pub some : 0 < n
   pub within : n ≤ max_length
   pub row : rest ≡ header tag n ++ after
   pub inside : end + n ≡ length after
-
--- the next element is skipped, or is opened if one more node may be open
-abbrev pub Enters : List ℕ → List ℕ → List ℕ → List ℕ → Type 0
-Enters ends rest ends' after =
-    (Skips ends rest after × (ends' ≡ ends))
-    ⊎ ((end : ℕ) × Opens ends rest end after × (ends' ≡ end ∷ ends)
-    × (length ends < max_tree_depth - 1))
 
 -- the ends of the open elements up to this level, the innermost first; the table has the outermost
 -- at index 1

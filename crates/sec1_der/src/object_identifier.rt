@@ -1,14 +1,14 @@
 ghost use Rattle.std.specs.Prelude.{◌≡◌, ℕ, ◌<◌, ◌↔◌, List, length, IsTrue, MatchResult, Some};
-ghost use Rattle.std.specs.Prelude.{◌∷◌, ◌++◌, bytes_eq, true, codes};
+ghost use Rattle.std.specs.Prelude.{◌∷◌, ◌++◌, bytes_eq, true, codes, take};
 ghost use Rattle.std.specs.Cmp.{partial_equiv_from_equiv};
 ghost use Rattle.std.specs.Fmt.{WritesStyledOnOk, debug_variant, decimal};
 ghost use Rattle.std.specs.Cmp.Lexicographic.{nat_list_eq_equiv};
-ghost use Rattle.sec1_der.specs.ArcsOf.{arcs_of_numbers};
+ghost use Rattle.sec1_der.specs.ArcsOf.{arcs_of, arcs_of_numbers};
 ghost use Rattle.sec1_der.specs.Contents.{identifier_fault};
-ghost use Rattle.sec1_der.specs.Identifiers.{IsIdentifier, IsIdentifierContent};
-ghost use Rattle.sec1_der.specs.Identifiers.{EncodesArcs, content_of};
+ghost use Rattle.sec1_der.specs.Identifiers.{IsIdentifier, are_arcs};
+ghost use Rattle.sec1_der.specs.Identifiers.{content_of};
 ghost use Rattle.sec1_der.specs.Identifiers.{dotted, identifier_content};
-ghost use Rattle.sec1_der.specs.Stored.{arcs_stored, IsStored, store, store_arcs_stored};
+ghost use Rattle.sec1_der.specs.Stored.{IsStored, store, store_arcs_stored};
 
 mod builder;
 
@@ -57,7 +57,7 @@ pub const SECP256R1: ObjectIdentifier = ObjectIdentifier {
 impl Model for ObjectIdentifier {
     ghost Value = { List ℕ };
 
-    ghost view = { arcs_stored };
+    ghost view = { λ o. arcs_of (take o.len o.bytes) };
 
     ghost invariant = { IsStored };
 
@@ -118,7 +118,7 @@ impl ObjectIdentifier {
 
     /// Returns the identifier with this content.
     pub(crate) fn of_content(content: &[u8]) -> ObjectIdentifier
-        requires { IsIdentifierContent content.now }
+        requires { (arcs : List ℕ) × IsIdentifier arcs content.now }
         ensures { (arcs : List ℕ) → IsIdentifier arcs content.now → result ≡ arcs }
     {
         let mut bytes = [0; MAX_CONTENT];
@@ -139,7 +139,7 @@ impl ObjectIdentifier {
 
 /// Returns `true` if the bytes are the content of an identifier, at most 39 of them.
 pub(crate) fn is_identifier(content: &[u8]) -> bool
-    ensures { IsTrue result ↔ IsIdentifierContent content.now }
+    ensures { IsTrue result ↔ ((arcs : List ℕ) × IsIdentifier arcs content.now) }
 {
     if are_pairs(content) {
         return true;
@@ -150,7 +150,7 @@ pub(crate) fn is_identifier(content: &[u8]) -> bool
 /// Returns `true` if there are eight bytes, as the identifier of P-256 has, and each subidentifier
 /// has one or two (X.690 section 8.19.2). They are tested all at once.
 fn are_pairs(content: &[u8]) -> bool
-    ensures { IsTrue result → IsIdentifierContent content.now }
+    ensures { IsTrue result → (arcs : List ℕ) × IsIdentifier arcs content.now }
 {
     let Some(bytes) = content.as_array::<8>() else {
         return false;
@@ -166,7 +166,8 @@ fn are_pairs(content: &[u8]) -> bool
 /// 8.19.2).
 #[tactic(auto, using(std::proofs::lemmas::Bool::Decides::nat_tests))]
 fn is_content(content: &[u8]) -> bool
-    ensures { IsTrue result ↔ ((arcs : List ℕ) × EncodesArcs arcs content.now) }
+    ensures { IsTrue result
+        ↔ ((arcs : List ℕ) × IsTrue (are_arcs arcs) × (content.now ≡ content_of arcs)) }
 {
     if content.is_empty() {
         return false;

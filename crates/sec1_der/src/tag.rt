@@ -2,7 +2,7 @@ ghost use Rattle.std.specs.Prelude.{◌≡◌, ◌+◌, ◌≤◌, ◌↔◌, Ma
 ghost use Rattle.std.specs.Prelude.{Some, codes};
 ghost use Rattle.std.specs.Fmt.{decimal};
 ghost use Rattle.sec1_der.specs.DebugTexts.{struct_text};
-ghost use Rattle.sec1_der.specs.Elements.{IsTag, IsConstructed, explicit_tag};
+ghost use Rattle.sec1_der.specs.Elements.{IsTag, IsConstructed};
 
 use crate::debug_text::write_struct;
 use crate::{ErrorKind, Result};
@@ -142,7 +142,7 @@ impl Tag {
     /// Returns the tag of an explicit field `[number]`.
     pub(crate) fn context(number: u8) -> Tag
         requires { number ≤ 30 }
-        ensures { result ≡ explicit_tag number }
+        ensures { result ≡ 0xA0 + number }
     {
         Tag {
             byte: EXPLICIT + number,

@@ -5,7 +5,7 @@ ghost use Rattle.sec1_der.specs.Elements.{IsProperPrefix};
 ghost use Rattle.sec1_der.specs.ErrorKinds.{Refuses, IsHeaderFault};
 ghost use Rattle.sec1_der.specs.Faults.{HasFault, tree_fault, Fault, any_fault};
 ghost use Rattle.sec1_der.specs.Trees.{Tree, IsTree, IsTreeOf, bytes, size, depth, max_tree_depth};
-ghost use Rattle.sec1_der.specs.Walks.{open_ends, innermost, Enters, Opens};
+ghost use Rattle.sec1_der.specs.Walks.{open_ends, Skips, Opens};
 
 use crate::header::element_at;
 use crate::{ErrorKind, Result};
@@ -119,7 +119,7 @@ impl OpenNodes {
 
     /// Returns how many bytes of input follow the innermost open node, or 0 if none is open.
     fn end(&self) -> usize
-        ensures { result ≡ innermost self.now }
+        ensures { result ≡ get_or self.now 0 0 }
     {
         self.ends[self.level]
     }
@@ -156,12 +156,16 @@ impl OpenNodes {
     #[inline(always)]
     #[tactic(auto, using(crate::proofs::EnterLemmas::inside_within))]
     fn enter<'a>(&mut self, rest: &'a [u8]) -> Result<&'a [u8]>
-        requires { innermost self.old ≤ length rest.now }
-        ensures { MatchResult result (λ after. Enters self.old rest.now self.new after.now)
+        requires { get_or self.old 0 0 ≤ length rest.now }
+        // The next element is skipped, or is opened if one more node may be open.
+        ensures { MatchResult result
+            (λ after. (Skips self.old rest.now after.now × (self.new ≡ self.old))
+            ⊎ ((end : ℕ) × Opens self.old rest.now end after.now × (self.new ≡ end ∷ self.old)
+            × (length self.old < max_tree_depth - 1)))
             (λ e. ((e.kind ≡ ErrorKind.Depth) × (length self.old ≡ max_tree_depth - 1)
             × ((end : ℕ) × (after : List ℕ) × Opens self.old rest.now end after))
             ⊎ (IsHeaderFault e.kind × ((content : ℕ → Fault) (behind : Fault)
-            → any_fault content behind (take (length rest.now - innermost self.old) rest.now)
+            → any_fault content behind (take (length rest.now - get_or self.old 0 0) rest.now)
             ≡ Some e.kind))) }
     {
         let end = self.end();

@@ -7,7 +7,7 @@ ghost use Rattle.sec1_der.specs.Elements.{IsElement, IsHeader, header};
 ghost use Rattle.sec1_der.specs.ErrorKinds.{IsHeaderFault, IsIoOrMemory, Refuses};
 ghost use Rattle.sec1_der.specs.ReadsDocument.{ConsumesElement, ReadsStream};
 ghost use Rattle.sec1_der.specs.Faults.{document_fault};
-ghost use Rattle.sec1_der.specs.Streams.{AppendsPrefix, Ends, ReadsOnto, Takes, TakesFewer};
+ghost use Rattle.sec1_der.specs.Streams.{AppendsPrefix, Ends, ReadsOnto, Takes};
 ghost use Rattle.sec1_der.specs.declared.error.ErrorKind.TheVariants.{Io};
 
 use super::SecretDocument;
@@ -162,7 +162,8 @@ pub(crate) fn read_content<R: Read>(
         MatchResult result
         (λ _. (R.failed reader.new ≡ false)
         × ReadsOnto Taken bytes.old.items bytes.new.items announced)
-        (λ error. (error.kind ≡ Io ↔ IsTrue (R.failed reader.new)) × TakesFewer Taken announced
+        (λ error. (error.kind ≡ Io ↔ IsTrue (R.failed reader.new))
+        × ((front : List ℕ) × Taken front × (length front < announced))
         × (IsIoOrMemory error.kind
         ⊎ ((error.kind ≡ ErrorKind.Truncated) × Ends R.left R.ended reader.new))) }
 {
@@ -192,7 +193,8 @@ fn fill<R: Read>(reader: &mut R, buf: &mut [u8]) -> std::result::Result<usize, I
         MatchResult result
         (λ n. (R.failed reader.new ≡ false) × (n ≤ length buf.new) × Taken (take n buf.new)
         × (n < length buf.new → Ends R.left R.ended reader.new))
-        (λ _. IsTrue (R.failed reader.new) × TakesFewer Taken (length buf.old)) }
+        (λ _. IsTrue (R.failed reader.new)
+        × ((front : List ℕ) × Taken front × (length front < length buf.old))) }
 {
     let mut count = 0;
     while count < buf.len() {

@@ -1,9 +1,9 @@
 //! Builds an identifier from the arcs of its text.
 ghost use Rattle.std.specs.Prelude.{◌≡◌, ℕ, ◌<◌, ◌≤◌, ◌+◌, ◌*◌, ◌^◌, List, [], ◌∷◌, ◌++◌, length};
-ghost use Rattle.std.specs.Prelude.{MatchOption, MatchResult};
+ghost use Rattle.std.specs.Prelude.{IsTrue, MatchOption, MatchResult};
 ghost use Rattle.std.specs.Fmt.{decimal};
 ghost use Rattle.std.specs.Int.Digits.{digits_of};
-ghost use Rattle.sec1_der.specs.Identifiers.{AreArcs, IsIdentifier, content_of};
+ghost use Rattle.sec1_der.specs.Identifiers.{are_arcs, IsIdentifier, content_of};
 ghost use Rattle.sec1_der.specs.Identifiers.{max_identifier_length};
 ghost use Rattle.sec1_der.specs.Numbers.{base128, marked};
 
@@ -87,9 +87,10 @@ impl Builder {
 
 /// Returns the first subidentifier, which encodes the first two arcs; `None` if no identifier
 /// begins with them (X.690 section 8.19.4).
+#[tactic(auto, using(std::proofs::lemmas::Bool::Decides::nat_tests))]
 fn shared_number(a: u32, b: u32) -> Option<u32>
-    ensures { MatchOption result (¬ AreArcs (a ∷ b ∷ []))
-        (λ n. (n ≡ 40 * a + b) × AreArcs (a ∷ b ∷ [])) }
+    ensures { MatchOption result (¬ IsTrue (are_arcs (a ∷ b ∷ [])))
+        (λ n. (n ≡ 40 * a + b) × IsTrue (are_arcs (a ∷ b ∷ []))) }
 {
     if a > 2 || a < 2 && b >= 40 {
         return None;

@@ -1,8 +1,8 @@
 //! The generic calls of a reader, which read values and explicit fields.
-ghost use Rattle.std.specs.Prelude.{◌≡◌, ◌≢◌, ◌≤◌, ◌++◌, ℕ, List, length};
-ghost use Rattle.std.specs.Prelude.{slice_get, true, false, IfOk};
+ghost use Rattle.std.specs.Prelude.{◌≡◌, ◌≢◌, ◌≤◌, ◌++◌, ℕ, List, length, slice_get, true, false};
+ghost use Rattle.std.specs.Prelude.{IfOk, ◌+◌};
 ghost use Rattle.std.specs.Prelude.{IsOkAnd, IsSomeAnd, MatchOption};
-ghost use Rattle.sec1_der.specs.Elements.{max_length, element, element_of, explicit_tag};
+ghost use Rattle.sec1_der.specs.Elements.{max_length, element, element_of};
 ghost use Rattle.sec1_der.specs.Elements.{IsProperPrefix};
 ghost use Rattle.sec1_der.specs.ErrorKinds.{Refuses};
 ghost use Rattle.sec1_der.specs.Readers.{reader_over, HasReadElement, ReadsContent};
@@ -65,25 +65,25 @@ impl<'a> SliceReader<'a> {
         // What is read is the field around the element of the value, and just its bytes are read.
         // `None` means that no such field is next.
         ensures found { IfOk result (λ field. MatchOption field
-            ((self.new ≡ self.old) × (slice_get self.old.unread 0 ≢ Some (explicit_tag number)))
+            ((self.new ≡ self.old) × (slice_get self.old.unread 0 ≢ Some (0xA0 + number)))
             (λ value. IsSomeAnd (T.content value) (λ content. (length content ≤ max_length)
-            × HasReadElement (explicit_tag number) (element T.tag_byte content) self.old
+            × HasReadElement (0xA0 + number) (element T.tag_byte content) self.old
             self.new))) }
         // If another byte is next, or none, nothing is read.
         ensures absent { self.old.failed ≡ false
-            → slice_get self.old.unread 0 ≢ Some (explicit_tag number)
+            → slice_get self.old.unread 0 ≢ Some (0xA0 + number)
             → (result ≡ Ok None) × (self.new ≡ self.old) }
         // If the unread bytes begin with such a field, it is read.
         ensures only { (value : T) (content rest : List ℕ) → T.content value ≡ Some content
             → length content ≤ max_length → length (element T.tag_byte content) ≤ max_length
             → self.old ≡ reader_over
-            (element (explicit_tag number) (element T.tag_byte content) ++ rest)
+            (element (0xA0 + number) (element T.tag_byte content) ++ rest)
             → IsOkAnd result (λ field. IsSomeAnd field (λ found. T.content found ≡ Some content))
             × (self.new ≡ reader_over rest) }
         ensures rule { (content rest : List ℕ) → T.fault content ≡ None
             → length content ≤ max_length → length (element T.tag_byte content) ≤ max_length
             → self.old ≡ reader_over
-            (element (explicit_tag number) (element T.tag_byte content) ++ rest)
+            (element (0xA0 + number) (element T.tag_byte content) ++ rest)
             → IsOkAnd result (λ field. IsSomeAnd field (λ found. T.content found ≡ Some content))
             × (self.new ≡ reader_over rest) }
         ensures refused { RefusesBy T.says_kind (field_fault number T.tag_byte T.fault no_fault)

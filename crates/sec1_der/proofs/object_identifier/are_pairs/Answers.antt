@@ -21,4 +21,4 @@ returns-then-ends-eq255 c = λ none.
     (λ i l. mask_of_pairs (ends_at bytes) both i (omega arith)) (mask_of_none (zeros_at bytes) empty) in
     let arcs = (is_narrow-decides content (λ i. omega (arith, c.type_inv.content i)) (omega arith)).0
     (rw chunk.same at narrow) in
-    (arcs.0, record { encodes = arcs.1; short = omega (arith, chunk.long) })
+    (arcs.0, record { allowed = arcs.1; encoded = arcs.2; short = omega (arith, chunk.long) })

@@ -11,7 +11,7 @@ returns-in_err-fill g c =
     rw (p.1, p.2) (
       (λ _. c.in_err-fill.ensures.0, λ _. refl),
       fewer_in_all _ _ _ _ _ _ _ _ c.loop-missing.missing _ c.loop-missing.invariant.read (omega arith)
-          (record { bytes = fewer.bytes; taken = fewer.taken; few = grind (arith, common_steps) }),
+          (fewer.0, fewer.1, grind (arith, common_steps, fewer.2)),
       inl (inl refl),
     )
 
@@ -21,7 +21,7 @@ returns-then-branch-step g c =
     rw c.into.ensures (
       search rules,
       fewer_in_all _ _ _ _ _ _ _ _ c.loop-missing.missing _ c.loop-missing.invariant.read (omega arith)
-          (record { bytes = _; taken = c.in_ok-fill.ensures.2; few = grind (arith, common_steps) }),
+          (_, c.in_ok-fill.ensures.2, grind (arith, common_steps)),
       inr (refl, c.in_ok-fill.ensures.3 (omega (arith, size, c.if-branch-step.true))),
     )
 

@@ -4,6 +4,7 @@ use Rattle.std.proofs.lemmas.Iterator.Splits.{YieldsList-from_str_split}
 use Rattle.std.proofs.lemmas.Iterator.Consumers.{YieldsList-turn, YieldsList-end}
 use Rattle.sec1_der.proofs.DottedLemmas.{next_piece, no_piece, read_arc, piece_is_arc, identifier_continues, all_read}
 use Rattle.sec1_der.proofs.DottedLemmas.{text_is_dotted, arcs_small}
+use Rattle.sec1_der.proofs.IdentifierLaws.{arcs_allowed}
 use Rattle.sec1_der.proofs.object_identifier.ObjectIdentifier.new.Goals as goal
 
 pub returns-in_default-clause-only : goal.returns-in_default-clause-only
@@ -12,7 +13,7 @@ returns-in_default-clause-only c arcs id e =
     (cc) (cc) in
     let next = next_piece c.loop-piece.invariant
     (YieldsList-turn split _ _ c.loop-piece.yielded_by _ _ _ c.in-Some.is c.next.ensures.steps) in
-    grind (arith, piece_is_arc arcs next id.encodes.allowed e, c.in_default.ensures)
+    grind (arith, piece_is_arc arcs next (arcs_allowed arcs id.allowed) e, c.in_default.ensures)
 
 pub returns-in_err-builder-clause-only : goal.returns-in_err-builder-clause-only
 returns-in_err-builder-clause-only c arcs id e =
@@ -44,7 +45,7 @@ returns-in-Some-content-clause-only c arcs id e =
     (cc) (cc) in
     let read = no_piece c.loop-piece.invariant
     (YieldsList-end split _ _ c.loop-piece.yielded_by _ _ c.in-None.is c.next.ensures.steps).1 in
-    grind (arith, all_read arcs read id.encodes.allowed e, c.of_content.ensures c.loop-piece.builder)
+    grind (arith, all_read arcs read (arcs_allowed arcs id.allowed) e, c.of_content.ensures c.loop-piece.builder)
 
 pub returns-in-None-content-clause-only : goal.returns-in-None-content-clause-only
 returns-in-None-content-clause-only c arcs id e =
@@ -52,4 +53,4 @@ returns-in-None-content-clause-only c arcs id e =
     (cc) (cc) in
     let read = no_piece c.loop-piece.invariant
     (YieldsList-end split _ _ c.loop-piece.yielded_by _ _ c.in-None.is c.next.ensures.steps).1 in
-    grind (arith, all_read arcs read id.encodes.allowed e, arcs_small arcs id.encodes.allowed)
+    grind (arith, all_read arcs read (arcs_allowed arcs id.allowed) e, arcs_small arcs (arcs_allowed arcs id.allowed))
