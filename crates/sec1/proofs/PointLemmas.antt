@@ -1,6 +1,6 @@
 -- Points, tags and encodings.
 use Rattle.std.proofs.Common.{◌≡◌, ℕ, zero, suc, ◌+◌, ◌-◌, ◌*◌, ◌%◌, ◌≤◌, true, List, [], ◌∷◌, ◌++◌, length, get_or}
-use Rattle.std.proofs.Common.{slice_index, take, drop, sym, ap, refl, ◌∙◌, arith}
+use Rattle.std.proofs.Common.{◌==◌, ◌||◌, slice_index, take, drop, sym, ap, refl, ◌∙◌, arith}
 use Rattle.std.proofs.Common.{append_assoc, append-nil, ◌↔◌, take_at, drop_at, take_all, length-drop, get_or-drop}
 use Rattle.std.proofs.Common.{length-append, length-take, take-append-drop}
 use Rattle.std.proofs.lemmas.List.{nil_from_length}
@@ -8,7 +8,7 @@ use Rattle.hex.specs.Hex.{IsBytes}
 use Rattle.sec1.specs.Der.{number_of, IsProperPrefix}
 use Rattle.sec1_der.proofs.DigitLaws.{IsBytes-take}
 use Rattle.sec1.specs.Points.{Point, IsPoint, IsEncoding, fixed_width, tag_byte, encoding, meaning}
-use Rattle.sec1.specs.Tags.{byte_of, point_tag, message_len, is_hybrid}
+use Rattle.sec1.specs.Tags.{byte_of, point_tag, message_len}
 use Rattle.sec1.specs.declared.point.tag.Tag.{Tag}
 use Rattle.sec1.proofs.DigitLemmas.{IsBytes-append, IsBytes-drop, length-fixed_width, IsBytes-fixed_width, num-below}
 use Rattle.sec1.proofs.DigitLemmas.{num-fixed_width, fixed_width-num}
@@ -104,7 +104,7 @@ meaning-fits n (tag ∷ rest) h =
 abbrev pub Skips : ℕ → Tag → List ℕ → Type 0
 Skips n tag rest =
     (suc (length rest) ≡ message_len tag n)
-    × (is_hybrid tag ≡ true → get_or rest (length rest - 1) 0 % 2 ≡ byte_of tag % 2)
+    × ((byte_of tag == 6 || byte_of tag == 7) ≡ true → get_or rest (length rest - 1) 0 % 2 ≡ byte_of tag % 2)
 
 -- Behind the first half is the second.
 pub half : (n : ℕ) (rest : List ℕ) → length rest ≡ 2 * n → take n (drop n rest) ≡ drop n rest

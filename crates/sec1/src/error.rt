@@ -1,6 +1,7 @@
-ghost use Rattle.std.specs.Prelude.{◌≡◌, Some};
-ghost use Rattle.sec1.specs.DebugTexts.{error_text};
+ghost use Rattle.std.specs.Prelude.{◌≡◌, Some, codes};
+ghost use Rattle.std.specs.Fmt.{debug_variant};
 ghost use Rattle.sec1.specs.Errors.{error_message, error_of};
+ghost use Rattle.sec1.specs.declared.error.Error.TheVariants.{Asn1, Crypto, PointEncoding, Version};
 ghost use Rattle.sec1.specs.declared.error.Error.TheVariants.{Memory};
 
 use sec1_der as der;
@@ -51,7 +52,13 @@ impl fmt::Display for Error {
 }
 
 impl fmt::Debug for Error {
-    ghost debug_output = { error_text };
+    ghost debug_output = { λ error. elim error [
+      | Asn1 cause ↦ debug_variant (codes "Asn1") (⟦<der::Error as fmt::Debug>⟧.debug_output cause)
+      | Crypto ↦ Some (codes "Crypto")
+      | PointEncoding ↦ Some (codes "PointEncoding")
+      | Version ↦ Some (codes "Version")
+      | Memory ↦ Some (codes "Memory")
+    ] };
 
     fn fmt<W: fmt::Write>(&self, f: &mut fmt::Formatter<W>) -> fmt::Result {
         match self {

@@ -1,5 +1,5 @@
-ghost use Rattle.std.specs.Prelude.{◌≡◌, Some, true};
-ghost use Rattle.sec1.specs.DebugTexts.{curve_text};
+ghost use Rattle.std.specs.Fmt.{debug_variant};
+ghost use Rattle.std.specs.Prelude.{◌≡◌, Some, codes, true};
 ghost use Rattle.sec1.specs.Parameters.{curve_of};
 ghost use Rattle.sec1_der.specs.Contents.{identifier_fault};
 ghost use Rattle.sec1_der.specs.Identifiers.{identifier_content, IsIdentifier};
@@ -32,7 +32,8 @@ impl EcParameters {
 }
 
 impl fmt::Debug for EcParameters {
-    ghost debug_output = { λ parameters. Some (curve_text (curve_of parameters)) };
+    ghost debug_output = { λ parameters. debug_variant (codes "NamedCurve")
+        (⟦<ObjectIdentifier as fmt::Debug>⟧.debug_output (curve_of parameters)) };
 
     fn fmt<W: fmt::Write>(&self, f: &mut fmt::Formatter<W>) -> fmt::Result {
         let EcParameters::NamedCurve(identifier) = self;

@@ -13,11 +13,11 @@ mod text;
 // Definitions that cite `EncodedPoint` are imported in the blocks below: its ghost fields come
 // before them.
 ghost use Rattle.std.specs.Prelude.{◌≡◌, ◌+◌, ◌*◌, ◌<◌, ◌≤◌, ◌^◌, ◌↔◌, if◌then◌else◌, length};
-ghost use Rattle.std.specs.Prelude.{slice_index, take, drop, set, IsTrue};
+ghost use Rattle.std.specs.Prelude.{slice_index, take, drop, set, IsTrue, ◌==◌, ◌||◌};
 ghost use Rattle.std.specs.Option.{option_map};
 ghost use Rattle.sec1_der.specs.Numbers.{number_of};
 ghost use Rattle.sec1.specs.Points.{identity, uncompressed, IsEncoding, meaning, encoding, Fits};
-ghost use Rattle.sec1.specs.Points.{compressed_point, hybrid_point, x_of, y_of};
+ghost use Rattle.sec1.specs.Points.{compressed_point, hybrid_point, tag_byte, x_of, y_of};
 
 use crate::error::{Error, Result};
 pub use coordinates::Coordinates;
@@ -57,8 +57,7 @@ pub type EncodedPoint66 = EncodedPoint<66, 133>;
 
 impl<const N: usize, const L: usize> EncodedPoint<N, L> {
     ghost use Rattle.sec1.specs.EncodedPoints.{point_of, IsCompressedFrom, IsWiped, ReadsBytes};
-    ghost use Rattle.sec1.specs.Tags.{byte_of, message_len, point_tag, is_compact, is_compressed};
-    ghost use Rattle.sec1.specs.Tags.{is_hybrid, is_identity};
+    ghost use Rattle.sec1.specs.Tags.{byte_of, message_len, point_tag};
     ghost use Rattle.sec1.specs.Coordinates.{coordinates_bytes, coordinates_point, AreDigits};
     ghost use Rattle.sec1.specs.Coordinates.{HasDigitsOf};
 
@@ -168,28 +167,28 @@ impl<const N: usize, const L: usize> EncodedPoint<N, L> {
 
     /// Returns `true` if the encoding is compact.
     pub fn is_compact(&self) -> bool
-        ensures { result ≡ is_compact (point_tag (point_of self.now)) }
+        ensures { result ≡ (tag_byte (point_of self.now) == 5) }
     {
         self.tag().is_compact()
     }
 
     /// Returns `true` if the encoding is compressed. A compact one isn't.
     pub fn is_compressed(&self) -> bool
-        ensures { result ≡ is_compressed (point_tag (point_of self.now)) }
+        ensures { let byte = tag_byte (point_of self.now) in result ≡ (byte == 2 || byte == 3) }
     {
         self.tag().is_compressed()
     }
 
     /// Returns `true` if the encoding is hybrid.
     pub fn is_hybrid(&self) -> bool
-        ensures { result ≡ is_hybrid (point_tag (point_of self.now)) }
+        ensures { let byte = tag_byte (point_of self.now) in result ≡ (byte == 6 || byte == 7) }
     {
         self.tag().is_hybrid()
     }
 
     /// Returns `true` if the point is the identity.
     pub fn is_identity(&self) -> bool
-        ensures { result ≡ is_identity (point_tag (point_of self.now)) }
+        ensures { result ≡ (tag_byte (point_of self.now) == 0) }
     {
         self.tag().is_identity()
     }

@@ -1,11 +1,12 @@
 ghost use Rattle.std.specs.Prelude.{◌≡◌, ◌<◌, ◌≤◌, ◌++◌, ◌↔◌, ℕ, List, length, Ok, drop};
 ghost use Rattle.std.specs.Prelude.{MatchResult};
-ghost use Rattle.std.specs.Prelude.{Some, None, ⊤, refl};
+ghost use Rattle.std.specs.Prelude.{Some, None, ⊤, refl, codes};
+ghost use Rattle.std.specs.Fmt.{◌++?◌, debug_list, debug_option, decimal};
 ghost use Rattle.sec1_der.specs.Elements.{element_of};
 ghost use Rattle.std.specs.Option.{option_map};
-ghost use Rattle.sec1.specs.DebugTexts.{key_text};
 ghost use Rattle.sec1.specs.Keys.{Key, IsKeyOf, HasNoEncoding, SomeBytes};
 ghost use Rattle.sec1.specs.Parameters.{curve_of};
+ghost use Rattle.sec1.specs.declared.parameters.EcParameters.TheVariants.{NamedCurve};
 ghost use Rattle.sec1.specs.ReadsKey.{ReadsKey};
 ghost use Rattle.sec1.specs.Errors.{IsAsn1, HasNoEncodingOr};
 
@@ -234,7 +235,11 @@ impl<'a> ReadInPlace<'a> for EcPrivateKey<'a> {
 
 /// Prints the key without the bytes of the private key.
 impl fmt::Debug for EcPrivateKey<'_> {
-    ghost debug_output = { λ key. key_text key.parameters key.public_key };
+    ghost debug_output = { λ key. Some (codes "EcPrivateKey { parameters: ")
+        ++? debug_option (λ arcs. ⟦<EcParameters as fmt::Debug>⟧.debug_output (NamedCurve arcs))
+        key.parameters ++? Some (codes ", public_key: ")
+        ++? debug_option (debug_list (λ byte. Some (decimal byte))) key.public_key
+        ++? Some (codes ", .. }") };
 
     fn fmt<W: fmt::Write>(&self, f: &mut fmt::Formatter<W>) -> fmt::Result {
         let parameters = &self.parameters;

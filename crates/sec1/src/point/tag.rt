@@ -1,12 +1,13 @@
 //! The first byte of a point's encoding.
 
-ghost use Rattle.std.specs.Fmt.{WritesStyledOnOk};
-ghost use Rattle.std.specs.Prelude.{◌≡◌, ◌<◌, ◌^◌, if◌then◌else◌, Some};
+ghost use Rattle.std.specs.Fmt.{DisplaysStyledOnOk};
+ghost use Rattle.std.specs.Prelude.{◌≡◌, ◌≢◌, ◌<◌, ◌^◌, ◌==◌, ◌||◌, if◌then◌else◌, MatchResult};
+ghost use Rattle.std.specs.Prelude.{Some, codes};
+ghost use Rattle.sec1.specs.declared.error.Error.TheVariants.{PointEncoding};
+ghost use Rattle.sec1.specs.declared.point.tag.Tag.TheVariants as tags;
 ghost use Rattle.sec1_der.specs.Numbers.{number_of};
-ghost use Rattle.sec1.specs.DebugTexts.{tag_text};
 ghost use Rattle.sec1.specs.Points.{is_odd};
-ghost use Rattle.sec1.specs.Tags.{byte_of, ReadsTag, message_len, is_compact, is_compressed};
-ghost use Rattle.sec1.specs.Tags.{is_hybrid, is_identity};
+ghost use Rattle.sec1.specs.Tags.{byte_of, message_len};
 
 use crate::error::{Error, Result};
 use std::fmt;
@@ -38,7 +39,8 @@ impl Tag {
     ///
     /// PointEncoding if there is no such tag.
     pub fn from_u8(byte: u8) -> Result<Self>
-        ensures { ReadsTag byte result }
+        ensures { MatchResult result (λ tag. byte_of tag ≡ byte)
+            (λ e. (e ≡ PointEncoding) × ((tag : Tag) → byte_of tag ≢ byte)) }
     {
         match byte {
             0 => Ok(Tag::Identity),
@@ -54,28 +56,28 @@ impl Tag {
 
     /// Returns `true` for the compact form.
     pub fn is_compact(self) -> bool
-        ensures { result ≡ is_compact self }
+        ensures { result ≡ (byte_of self == 5) }
     {
         self == Tag::Compact
     }
 
     /// Returns `true` for the compressed form.
     pub fn is_compressed(self) -> bool
-        ensures { result ≡ is_compressed self }
+        ensures { result ≡ (byte_of self == 2 || byte_of self == 3) }
     {
         self == Tag::CompressedEvenY || self == Tag::CompressedOddY
     }
 
     /// Returns `true` for the hybrid form.
     pub fn is_hybrid(self) -> bool
-        ensures { result ≡ is_hybrid self }
+        ensures { result ≡ (byte_of self == 6 || byte_of self == 7) }
     {
         self == Tag::HybridEvenY || self == Tag::HybridOddY
     }
 
     /// Returns `true` for the identity.
     pub fn is_identity(self) -> bool
-        ensures { result ≡ is_identity self }
+        ensures { result ≡ (byte_of self == 0) }
     {
         self == Tag::Identity
     }
@@ -129,11 +131,20 @@ fn is_odd<const N: usize>(y: &[u8; N]) -> bool
 
 /// Prints the name of the tag, whatever options are set.
 impl fmt::Debug for Tag {
-    ghost debug_output = { λ tag. Some (tag_text tag) };
+    ghost debug_output = { λ tag. Some (elim tag [
+      | tags.Identity ↦ codes "Identity"
+      | tags.CompressedEvenY ↦ codes "CompressedEvenY"
+      | tags.CompressedOddY ↦ codes "CompressedOddY"
+      | tags.Uncompressed ↦ codes "Uncompressed"
+      | tags.Compact ↦ codes "Compact"
+      | tags.HybridEvenY ↦ codes "HybridEvenY"
+      | tags.HybridOddY ↦ codes "HybridOddY"
+    ]) };
 
     #[tactic(auto, using(sec1_der::proofs::TextLaws::plain_of_styled))]
     fn fmt<W: fmt::Write>(&self, f: &mut fmt::Formatter<W>) -> fmt::Result
-        ensures styled { WritesStyledOnOk W.write_str_gives f.old result (tag_text self.now) f.new }
+        ensures styled { DisplaysStyledOnOk W.write_str_gives f.old result
+            (⟦<Tag as fmt::Debug>⟧.debug_output self.now) f.new }
     {
         f.write_str(match self {
             Tag::Identity => "Identity",
@@ -151,7 +162,10 @@ impl fmt::Debug for Tag {
 impl TryFrom<u8> for Tag {
     type Error = Error;
 
-    ghost try_from_gives = { λ byte result. ReadsTag byte result };
+    ghost use Rattle.sec1.specs.declared.point.tag.Tag.{Tag};
+
+    ghost try_from_gives = { λ byte result. MatchResult result (λ tag. byte_of tag ≡ byte)
+        (λ e. (e ≡ PointEncoding) × ((tag : Tag) → byte_of tag ≢ byte)) };
 
     fn try_from(byte: u8) -> Result<Self> {
         Self::from_u8(byte)

@@ -13,7 +13,7 @@ unfolding encoding
 returns-in_default-from_u8 c = (
   λ h. absurd cc,
   λ h. absurd
-      (c.in_default-from_u8.ensures.none (point_tag h.of)
+      (c.in_default-from_u8.ensures.1 (point_tag h.of)
       (byte_of-tag_of h.of ∙ cc (h.encoded, c.in-Some.ensures.cases.0))),
 )
 

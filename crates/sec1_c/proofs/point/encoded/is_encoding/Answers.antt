@@ -12,7 +12,7 @@ pub returns-in_default-from_u8 : goal.returns-in_default-from_u8
 unfolding encoding
 returns-in_default-from_u8 c = (
   λ h. absurd cc,
-  λ h. absurd (c.in_default-from_u8.ensures.none (point_tag h.of)
+  λ h. absurd (c.in_default-from_u8.ensures.1 (point_tag h.of)
       (byte_of-tag_of h.of ∙ cc (h.encoded, c.in-Some.ensures.cases.0))),
 )
 
