@@ -3,17 +3,15 @@ use Rattle.std.proofs.Common.{◌≡◌, ◌≢◌, add-one, ℕ, zero, suc, ◌
 use Rattle.std.proofs.Common.{◌*◌, ◌++◌, length, get_or, take, bytes_eq, refl}
 use Rattle.std.proofs.Common.{arith, take_all, length-append, drop, sym, ap, ◌∙◌, append-nil, append_assoc}
 use Rattle.std.proofs.Common.{Some, nat_lt, if◌then◌else◌}
-use Rattle.std.specs.Prelude.{codes}
 use Rattle.std.proofs.Math.Seq.{take-append_seam}
-use Rattle.std.proofs.lemmas.List.{append_cancel_left, take_more, take-append-le, length_push}
+use Rattle.std.proofs.lemmas.List.{append_cancel_left, take_more, take-append-le, length_push, take_at, drop_at}
 use Rattle.std.proofs.lemmas.Bool.{lt-ltb}
 use Rattle.std.proofs.lemmas.Grind.{elements}
 use Rattle.std.proofs.lemmas.Slice.Eq.{bytes_eq-Decides}
 use Rattle.std.specs.Fmt.{comma_space, debug_items, decimal}
 use Rattle.sec1_der.specs.DebugTexts.{bytes_text}
-use Rattle.sec1.specs.DebugTexts.{both_text, coordinates_text, form_text, parity_text, x_text}
 use Rattle.sec1_der.specs.Numbers.{number_of}
-use Rattle.sec1.specs.Coordinates.{AreDigits, AreWhole, IsCoordinate, coordinate_number, coordinates_bytes}
+use Rattle.sec1.specs.Coordinates.{EachArray, coordinate_number, coordinates_bytes}
 use Rattle.sec1.specs.Coordinates.{coordinates_point, first_bytes}
 use Rattle.sec1.specs.Points.{encoding, fixed_width, tag_byte, hybrid}
 use Rattle.sec1.specs.declared.point.coordinates.Coordinates.{Coordinates}
@@ -88,20 +86,24 @@ fronts_same n xs us ys vs long other_long e =
 both_digits : (n : ℕ) (xs ys : List ℕ) → length xs ≡ n → length ys ≡ n
     → first_bytes n xs ++ first_bytes n ys
     ≡ fixed_width n (coordinate_number n xs) ++ fixed_width n (coordinate_number n ys)
-    → IsCoordinate n xs × IsCoordinate n ys
+    → (xs ≡ fixed_width n (number_of xs)) × (ys ≡ fixed_width n (number_of ys))
 both_digits n xs ys long other_long e =
     let same =
     fronts_same n (first_bytes n xs) (fixed_width n (coordinate_number n xs)) _ _ (length-first n xs)
-    (length-fixed_width n (coordinate_number n xs)) e in
-    (sym (all_bytes n xs long) ∙ same.0, sym (all_bytes n ys other_long) ∙ same.1)
+    (length-fixed_width n (coordinate_number n xs)) e in (
+      sym (all_bytes n xs long) ∙ same.0 ∙ ap (fixed_width n) (coordinates_whole n xs long),
+      sym (all_bytes n ys other_long) ∙ same.1 ∙ ap (fixed_width n) (coordinates_whole n ys other_long),
+    )
 
 -- The arrays of a point's encoding have the digits of its coordinates.
 pub digits_of_encoding : {N : ℕ} (c : Coordinates N) → coordinates_bytes c ≡ encoding N (coordinates_point c)
-    → AreWhole c → AreDigits c
+    → EachArray (λ array. length array ≡ N) c → EachArray (λ array. array ≡ fixed_width N (number_of array)) c
 unfolding encoding
 digits_of_encoding {N} parts.Identity e whole = tt
-digits_of_encoding {N} (parts.Compact x) e whole = grind (arith, all_bytes N x.now whole)
-digits_of_encoding {N} (parts.Compressed x y_is_odd) e whole = grind (arith, all_bytes N x.now whole)
+digits_of_encoding {N} (parts.Compact x) e whole =
+    grind (arith, all_bytes N x.now whole, coordinates_whole N x.now whole)
+digits_of_encoding {N} (parts.Compressed x y_is_odd) e whole =
+    grind (arith, all_bytes N x.now whole, coordinates_whole N x.now whole)
 digits_of_encoding {N} (parts.Uncompressed x y) e whole = both_digits N x.now y.now whole.0 whole.1 (ap (drop 1) e)
 digits_of_encoding {N} (parts.Hybrid x y) e whole = both_digits N x.now y.now whole.0 whole.1 (ap (drop 1) e)
 
@@ -186,24 +188,9 @@ one_item n xs =
 pub all_items : (xs : List ℕ) → bytes_text xs ≡ Some (91 ∷ (items [] xs ++ 93 ∷ []))
 all_items xs = rw (items_text [] xs) refl
 
--- An array with the digits of its number has as many bytes.
-digits_first : (n : ℕ) (xs : List ℕ) → IsCoordinate n xs → first_bytes n xs ≡ fixed_width n (coordinate_number n xs)
-digits_first n xs is =
-    let long : length xs ≡ n = ap length is ∙ length-fixed_width n (coordinate_number n xs) in all_bytes n xs long ∙ is
+-- The bytes of two arrays, one after the other, are printed apart.
+pub first_array : (n : ℕ) (xs ys : List ℕ) → take n (first_bytes n xs ++ ys) ≡ first_bytes n xs
+first_array n xs ys = take_at (first_bytes n xs) ys n (length-first n xs)
 
-both_form : (n : ℕ) (name xs ys : List ℕ) → IsCoordinate n xs × IsCoordinate n ys
-    → both_text name (first_bytes n xs) (first_bytes n ys)
-    ≡ both_text name (fixed_width n (coordinate_number n xs)) (fixed_width n (coordinate_number n ys))
-both_form n name xs ys are =
-    ap (λ us. both_text name us (first_bytes n ys)) (digits_first n xs are.0)
-    ∙ ap (λ vs. both_text name (fixed_width n (coordinate_number n xs)) vs) (digits_first n ys are.1)
-
--- The text of borrowed coordinates is that of their point.
-pub coordinates_form : {N : ℕ} (c : Coordinates N) → AreDigits c
-    → coordinates_text c ≡ form_text N (coordinates_point c)
-coordinates_form {N} parts.Identity are = refl
-coordinates_form {N} (parts.Compact x) are = ap (x_text (codes "Compact")) (digits_first N x.now are)
-coordinates_form {N} (parts.Compressed x y_is_odd) are =
-    ap (λ xs. parity_text xs y_is_odd) (digits_first N x.now are)
-coordinates_form {N} (parts.Uncompressed x y) are = both_form N (codes "Uncompressed") x.now y.now are
-coordinates_form {N} (parts.Hybrid x y) are = both_form N (codes "Hybrid") x.now y.now are
+pub second_array : (n : ℕ) (xs ys : List ℕ) → drop n (first_bytes n xs ++ ys) ≡ ys
+second_array n xs ys = drop_at (first_bytes n xs) ys n (length-first n xs)

@@ -1,10 +1,9 @@
 -- Coordinates borrowed as arrays of bytes.
-use Rattle.std.specs.Prelude.{◌≡◌, ℕ, zero, suc, List, [], ◌∷◌, ◌++◌, length, ⊤}
-use Rattle.std.specs.Prelude.{get_or, Option}
-use Rattle.std.specs.Option.{option_map}
+use Rattle.std.specs.Prelude.{ℕ, zero, suc, List, [], ◌∷◌, ◌++◌, ⊤}
+use Rattle.std.specs.Prelude.{get_or}
 use Rattle.sec1_der.specs.Numbers.{number_of}
 use Rattle.sec1.specs.Points.{Point, identity, compact, compressed, uncompressed, hybrid}
-use Rattle.sec1.specs.Points.{fixed_width, tag_byte}
+use Rattle.sec1.specs.Points.{tag_byte}
 use Rattle.sec1.specs.declared.point.coordinates.Coordinates.{Coordinates}
 use Rattle.sec1.specs.declared.point.coordinates.Coordinates.TheVariants as parts
 
@@ -29,25 +28,13 @@ coordinates_point {N} (parts.Uncompressed x y) =
 coordinates_point {N} (parts.Hybrid x y) =
     hybrid (coordinate_number N x.now) (coordinate_number N y.now)
 
--- the borrowed arrays have N bytes
-abbrev pub AreWhole : {N : ℕ} → Coordinates N → Type 0
-AreWhole {N} parts.Identity = ⊤
-AreWhole {N} (parts.Compact x) = length x.now ≡ N
-AreWhole {N} (parts.Compressed x y_is_odd) = length x.now ≡ N
-AreWhole {N} (parts.Uncompressed x y) = (length x.now ≡ N) × (length y.now ≡ N)
-AreWhole {N} (parts.Hybrid x y) = (length x.now ≡ N) × (length y.now ≡ N)
-
--- the array has the n digits of its number (SEC1 v2.0 section 2.3.7)
-abbrev pub IsCoordinate : ℕ → List ℕ → Type 0
-IsCoordinate n xs = xs ≡ fixed_width n (coordinate_number n xs)
-
--- the borrowed arrays have the digits of their numbers
-abbrev pub AreDigits : {N : ℕ} → Coordinates N → Type 0
-AreDigits {N} parts.Identity = ⊤
-AreDigits {N} (parts.Compact x) = IsCoordinate N x.now
-AreDigits {N} (parts.Compressed x y_is_odd) = IsCoordinate N x.now
-AreDigits {N} (parts.Uncompressed x y) = IsCoordinate N x.now × IsCoordinate N y.now
-AreDigits {N} (parts.Hybrid x y) = IsCoordinate N x.now × IsCoordinate N y.now
+-- each borrowed array is such
+abbrev pub EachArray : {N : ℕ} → (List ℕ → Type 0) → Coordinates N → Type 0
+EachArray {N} IsSuch parts.Identity = ⊤
+EachArray {N} IsSuch (parts.Compact x) = IsSuch x.now
+EachArray {N} IsSuch (parts.Compressed x y_is_odd) = IsSuch x.now
+EachArray {N} IsSuch (parts.Uncompressed x y) = IsSuch x.now × IsSuch y.now
+EachArray {N} IsSuch (parts.Hybrid x y) = IsSuch x.now × IsSuch y.now
 
 -- the bytes of the borrowed arrays
 abbrev pub array_bytes : {N : ℕ} → Coordinates N → List ℕ
@@ -60,8 +47,3 @@ array_bytes {N} (parts.Hybrid x y) = first_bytes N x.now ++ first_bytes N y.now
 -- SEC1 v2.0 section 2.3.3: the encoding with these coordinates
 abbrev pub coordinates_bytes : {N : ℕ} → Coordinates N → List ℕ
 coordinates_bytes c = tag_byte (coordinates_point c) ∷ array_bytes c
-
--- the array, if there is one, has the n digits of the coordinate, if there is one
-pub record HasDigitsOf (n : ℕ) (coordinate : Option ℕ) (array : Option (List ℕ)) : Type 0 where
-  pub number : option_map number_of array ≡ coordinate
-  pub bytes : array ≡ option_map (fixed_width n) coordinate

@@ -18,6 +18,7 @@ ghost use Rattle.std.specs.Option.{option_map};
 ghost use Rattle.sec1_der.specs.Numbers.{number_of};
 ghost use Rattle.sec1.specs.Points.{identity, uncompressed, IsEncoding, meaning, encoding, Fits};
 ghost use Rattle.sec1.specs.Points.{compressed_point, hybrid_point, tag_byte, x_of, y_of};
+ghost use Rattle.sec1.specs.Points.{coordinate_bytes, fixed_width};
 
 use crate::error::{Error, Result};
 pub use coordinates::Coordinates;
@@ -58,8 +59,7 @@ pub type EncodedPoint66 = EncodedPoint<66, 133>;
 impl<const N: usize, const L: usize> EncodedPoint<N, L> {
     ghost use Rattle.sec1.specs.EncodedPoints.{point_of, IsCompressedFrom, IsWiped, ReadsBytes};
     ghost use Rattle.sec1.specs.Tags.{byte_of, message_len, point_tag};
-    ghost use Rattle.sec1.specs.Coordinates.{coordinates_bytes, coordinates_point, AreDigits};
-    ghost use Rattle.sec1.specs.Coordinates.{HasDigitsOf};
+    ghost use Rattle.sec1.specs.Coordinates.{coordinates_bytes, coordinates_point, EachArray};
 
     /// Returns `true` if N is at least 1 and L is 2N + 1. Otherwise there are no points of this
     /// type.
@@ -261,7 +261,7 @@ impl<const N: usize, const L: usize> EncodedPoint<N, L> {
     pub fn coordinates(&self) -> Coordinates<'_, N>
         ensures { let point = point_of self.now in
             (coordinates_point result ≡ point) × (coordinates_bytes result ≡ encoding N point)
-            × AreDigits result }
+            × EachArray (λ array. array ≡ fixed_width N (number_of array)) result }
     {
         let (x, y) = self.halves();
         Coordinates::with_tag(self.tag(), x, y)
@@ -287,7 +287,9 @@ impl<const N: usize, const L: usize> EncodedPoint<N, L> {
     /// Borrows the x-coordinate; `None` for the identity.
     #[tactic(auto, using(crate::proofs::CoordinateLemmas::coordinate_digits))]
     pub fn x(&self) -> Option<&[u8; N]>
-        ensures { HasDigitsOf N (x_of (point_of self.now)) (option_map (λ x. x.now) result) }
+        ensures number { option_map (λ x. number_of x.now) result ≡ x_of (point_of self.now) }
+        ensures bytes { option_map (λ x. x.now) result
+            ≡ option_map (fixed_width N) (x_of (point_of self.now)) }
     {
         match self.coordinates() {
             Coordinates::Identity => None,
@@ -301,7 +303,9 @@ impl<const N: usize, const L: usize> EncodedPoint<N, L> {
     /// Borrows the y-coordinate, if the point is uncompressed or hybrid.
     #[tactic(auto, using(crate::proofs::CoordinateLemmas::coordinate_digits))]
     pub fn y(&self) -> Option<&[u8; N]>
-        ensures { HasDigitsOf N (y_of (point_of self.now)) (option_map (λ y. y.now) result) }
+        ensures number { option_map (λ y. number_of y.now) result ≡ y_of (point_of self.now) }
+        ensures bytes { option_map (λ y. y.now) result
+            ≡ option_map (fixed_width N) (y_of (point_of self.now)) }
     {
         match self.coordinates() {
             Coordinates::Uncompressed { y, .. } => Some(y),
@@ -401,10 +405,14 @@ impl Default for EncodedPoint<66, 133> {
 
 /// Prints the coordinates, each as its bytes in decimal.
 impl<const N: usize, const L: usize> fmt::Debug for EncodedPoint<N, L> {
-    ghost use Rattle.sec1.specs.DebugTexts.{point_text};
+    ghost use Rattle.std.specs.Fmt.{◌++?◌};
+    ghost use Rattle.std.specs.Prelude.{Some, codes};
+    ghost use Rattle.sec1.specs.DebugTexts.{form_text};
     ghost use Rattle.sec1.specs.EncodedPoints.{point_of};
 
-    ghost debug_output = { λ point. point_text N (point_of point) };
+    ghost debug_output = { λ point. Some (codes "EncodedPoint(")
+        ++? form_text N (point_of point) (coordinate_bytes N (point_of point))
+        ++? Some (codes ")") };
 
     fn fmt<W: fmt::Write>(&self, f: &mut fmt::Formatter<W>) -> fmt::Result {
         let coordinates = self.coordinates();
