@@ -11,12 +11,16 @@ use Rattle.std.proofs.lemmas.Slice.Eq.{bytes_eq-Decides}
 use Rattle.std.specs.Fmt.{comma_space, debug_items, decimal}
 use Rattle.sec1_der.specs.DebugTexts.{bytes_text}
 use Rattle.sec1_der.specs.Numbers.{number_of}
-use Rattle.sec1.specs.Coordinates.{EachArray, coordinate_number, coordinates_bytes}
+use Rattle.sec1.specs.Coordinates.{EachArray, coordinates_bytes}
 use Rattle.sec1.specs.Coordinates.{coordinates_point, first_bytes}
 use Rattle.sec1.specs.Points.{encoding, fixed_width, tag_byte, hybrid}
 use Rattle.sec1.specs.declared.point.coordinates.Coordinates.{Coordinates}
 use Rattle.sec1.specs.declared.point.coordinates.Coordinates.TheVariants as parts
 use Rattle.sec1.proofs.DigitLemmas.{length-fixed_width, parity_of_last}
+
+-- The number in a borrowed array.
+abbrev pub coordinate_number : ℕ → List ℕ → ℕ
+coordinate_number n xs = number_of (first_bytes n xs)
 
 -- Of no bytes, none are first.
 pub first_none : (xs : List ℕ) → first_bytes 0 xs ≡ []

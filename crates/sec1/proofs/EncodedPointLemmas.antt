@@ -1,5 +1,5 @@
 -- The point of a buffer that begins with its encoding.
-use Rattle.std.proofs.Common.{◌≡◌, ℕ, ◌+◌, ◌-◌, ◌*◌, ◌<◌, ◌≤◌, cond, List, [], ◌∷◌, ◌++◌, length, get_or}
+use Rattle.std.proofs.Common.{◌≡◌, ℕ, ◌+◌, ◌-◌, ◌*◌, ◌%◌, ◌==◌, ◌<◌, ◌≤◌, cond, List, [], ◌∷◌, ◌++◌, length, get_or}
 use Rattle.std.proofs.Common.{take, drop, set, replicate, sym, ap, refl, ◌∙◌, arith}
 use Rattle.std.proofs.Common.{append_assoc, add-one, Some, Ok, nat_cmp, ◌↔◌, take_at, take_all, take-append-drop}
 use Rattle.std.proofs.Common.{length-append, length-drop, length-take}
@@ -11,7 +11,7 @@ use Rattle.std.proofs.lemmas.Slice.{take-put_mid}
 use borrow.Rule.Slice.PartMut.{put_mid}
 use Rattle.hex.specs.Hex.{IsBytes}
 use Rattle.sec1.specs.Der.{number_of}
-use Rattle.sec1.specs.Points.{Point, identity, uncompressed, is_odd, coordinate_bytes, IsPoint, IsEncoding, Fits}
+use Rattle.sec1.specs.Points.{Point, identity, uncompressed, coordinate_bytes, IsPoint, IsEncoding, Fits}
 use Rattle.sec1.specs.Points.{tag_byte, encoding, meaning, point_from}
 use Rattle.sec1.specs.Points.{compressed_point, hybrid_point, y_of}
 use Rattle.sec1.specs.PointOrder.{point_cmp}
@@ -100,14 +100,14 @@ pub compressed_holds : {N L : ℕ} (p : EncodedPoint N L) (front : List ℕ)
     → Holds N front (compressed_point (point_of p))
 compressed_holds {N} p front e = holds N front (compressed_point (point_of p)) (grind (arith, point_fits p)) e
 
-compress_of : (n : ℕ) (p : Point) (rest : List ℕ) (y tag : ℕ) → Some y ≡ y_of p → tag ≡ cond (is_odd y) 3 2
+compress_of : (n : ℕ) (p : Point) (rest : List ℕ) (y tag : ℕ) → Some y ≡ y_of p → tag ≡ cond (y % 2 == 1) 3 2
     → take (n + 1) (set (encoding n p ++ rest) 0 tag) ≡ encoding n (compressed_point p)
 unfolding encoding
 compress_of n p rest y tag h e = grind (arith, add-one, append_assoc {A = ℕ}, take_at {A = ℕ}, length-fixed_width)
 
 -- With the tag of y's parity in front, the tag and x are the compressed form.
 compress_front : {N L : ℕ} (p : EncodedPoint N L) (y tag : ℕ) → Some y ≡ y_of (point_of p)
-    → tag ≡ cond (is_odd y) 3 2
+    → tag ≡ cond (y % 2 == 1) 3 2
     → take (N + 1) (set p.bytes 0 tag) ≡ encoding N (compressed_point (point_of p))
 compress_front {N} p y tag h e = grind (arith, begins p, compress_of N (point_of p) (drop p.len p.bytes) y tag h e)
 
@@ -129,7 +129,7 @@ short_front {N} p short =
 
 -- Of a point that fills it, the compressed form is x behind the tag of y's parity.
 pub whole_front : {N L : ℕ} (p : EncodedPoint N L) (y : List ℕ) (tag : ℕ) → p.len ≡ L
-    → y ≡ take N (drop N (drop 1 p.bytes)) → length y ≡ N → tag ≡ cond (is_odd (number_of y)) 3 2
+    → y ≡ take N (drop N (drop 1 p.bytes)) → length y ≡ N → tag ≡ cond (number_of y % 2 == 1) 3 2
     → take (N + 1) (set p.bytes 0 tag) ≡ encoding N (compressed_point (point_of p))
 whole_front {N} p y tag whole is long e =
     let x = take N (drop 1 p.bytes) in

@@ -1,5 +1,6 @@
 -- Texts of digits whose letters are of one case.
 use Rattle.std.proofs.Common.{◌≡◌, ℕ, ◌+◌, ◌*◌, ◌/◌, ◌%◌, ◌<◌, Bool, true, false, List, [], ◌∷◌, ◌++◌, length, get_or}
+use Rattle.std.specs.Prelude.{not, ◌&&◌}
 use Rattle.std.proofs.Common.{take, Option, Some, Result, Ok, refl}
 use Rattle.std.proofs.Common.{sym, ap, ◌∙◌, arith, inl, inr, slice_index}
 use Rattle.std.specs.Char.{is_ascii_uppercase, is_ascii_lowercase}
@@ -18,7 +19,7 @@ use Rattle.hex.specs.declared.error.FromHexError.{FromHexError}
 use Rattle.hex.proofs.HexLemmas.{length-encode_with, decode_of-encode_upper, decode_of-encode_lower, decode_of-ok}
 use Rattle.hex.proofs.HexLemmas.{decode_of-even, decode_sized-twice}
 use Rattle.hex.proofs.HexLemmas.{decode_sized-ok}
-use Rattle.sec1.specs.HexTexts.{IsHexOf, is_one_case}
+use Rattle.sec1.specs.HexTexts.{IsHexOf}
 
 -- ---- the digits of a case
 
@@ -44,6 +45,10 @@ unfolding encode_with
 none_encoded f table [] h z = refl
 none_encoded f table (x ∷ xs) h z =
     grind (arith, list_any_at f table, get_or-eq_default table 0, none_encoded f table xs h z)
+
+-- No letter is upper case, or none is lower case.
+abbrev pub is_one_case : List ℕ → Bool
+is_one_case text = not (list_any is_ascii_uppercase text && list_any is_ascii_lowercase text)
 
 -- The digits that encode bytes are of one case.
 pub hex_is_one_case : (text bytes : List ℕ) → IsHexOf text bytes → is_one_case text ≡ true

@@ -7,14 +7,15 @@ use Rattle.sec1_der.specs.declared.error.ErrorKind.TheVariants.{Overlength, Buff
 use Rattle.sec1.specs.declared.error.Error.{Error}
 use Rattle.sec1.specs.declared.error.Error.TheVariants.{Memory}
 use Rattle.sec1.specs.Errors.{IsAsn1, HasNoEncodingOr, error_of}
-use Rattle.sec1_der.specs.Elements.{IsProperPrefix, element}
+use Rattle.sec1_der.specs.Elements.{IsProperPrefix}
 use Rattle.sec1_der.proofs.ElementFaultLemmas.{element_cut}
 use Rattle.sec1_der.proofs.ElementLaws.{element_of-within}
 use Rattle.sec1.specs.Der.{join, element_of, optional_of, IsTreeOf}
+use Rattle.sec1_der.specs.Trees.{bytes as tree_bytes}
 use Rattle.sec1_der.specs.Identifiers.{content_of, identifier_content}
 use Rattle.sec1_der.proofs.IdentifierLaws.{is_identifier-true, identifier_content-valid}
 use Rattle.sec1.specs.KeyFaults.{key_fault}
-use Rattle.sec1.specs.Keys.{Key, fields_of, key_tree, IsNamedCurve, IsKeyOf, HasNoEncoding, SomeBytes}
+use Rattle.sec1.specs.Keys.{Key, key_tree, IsNamedCurve, IsKeyOf, HasNoEncoding, SomeBytes}
 
 -- the content of a key with this element of the identifier of its curve
 abbrev content_with : Option (Option (List ℕ)) → Key → Option (List ℕ)
@@ -91,7 +92,7 @@ pub key_cut : (key : Key) (bytes input : List ℕ) → IsKeyOf key bytes → IsP
     → key_fault input ≡ Some Truncated
 unfolding key_fault
 key_cut key bytes input is begins =
-    let cut : IsProperPrefix input (element 0x30 (fields_of key)) = rw is.tree.whole at begins in
+    let cut : IsProperPrefix input (tree_bytes (key_tree key)) = rw is.tree.whole at begins in
     search (element_cut, is.tree.tree.2, cut)
 
 -- A key that has none has no element.

@@ -2,8 +2,9 @@
 use Rattle.std.proofs.Common.{◌≡◌, ℕ, ◌<◌, Bool, true, false, arith, ◌↔◌, refl, Less, Equal, Greater, nat_cmp}
 use Rattle.std.proofs.lemmas.Cmp.{tied_itself}
 use Rattle.sec1.specs.Points.{Point}
-use Rattle.sec1.specs.PointOrder.{IsBelow, point_cmp, same_point}
-use Rattle.sec1.specs.PointOrderLaws.{point_cmp_total, same_point-true}
+use Rattle.std.specs.Ordering.{is_eq}
+use Rattle.sec1.specs.PointOrder.{IsBelow, point_cmp}
+use Rattle.sec1.specs.PointOrderLaws.{point_cmp_total, point_cmp-is_eq}
 
 -- The same point ties.
 pub Equal-point_cmp : (p q : Point) → p ≡ q → point_cmp p q ≡ Equal
@@ -11,12 +12,12 @@ Equal-point_cmp p q h = rw h (tied_itself point_cmp_total q)
 
 -- Points that tie are the same.
 pub point_cmp-Equal : (p q : Point) → point_cmp p q ≡ Equal → p ≡ q
-point_cmp-Equal p q h = same_point-true p q (rw h refl)
+point_cmp-Equal p q h = point_cmp-is_eq p q (rw h refl)
 
 -- A test that decides sameness is the test of sameness.
-pub decides_same : (r : Bool) (p q : Point) → ((r ≡ true) ↔ (p ≡ q)) → r ≡ same_point p q
+pub decides_same : (r : Bool) (p q : Point) → ((r ≡ true) ↔ (p ≡ q)) → r ≡ is_eq (point_cmp p q)
 decides_same true p q h = grind (arith, Equal-point_cmp)
-decides_same false p q h = grind (arith, same_point-true)
+decides_same false p q h = grind (arith, point_cmp-is_eq)
 
 -- The order of numbers, as an equation.
 nat_cmp-Less : (a b : ℕ) → (nat_cmp a b ≡ Less) ↔ (a < b)

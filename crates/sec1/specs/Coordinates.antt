@@ -13,20 +13,16 @@ unfoldable pub first_bytes : ℕ → List ℕ → List ℕ
 first_bytes zero xs = []
 first_bytes (suc n) xs = first_bytes n xs ++ get_or xs n 0 ∷ []
 
--- the number in a borrowed array
-abbrev pub coordinate_number : ℕ → List ℕ → ℕ
-coordinate_number n xs = number_of (first_bytes n xs)
-
--- the point with these coordinates
+-- the point with these coordinates, the numbers in the borrowed arrays
 abbrev pub coordinates_point : {N : ℕ} → Coordinates N → Point
 coordinates_point {N} parts.Identity = identity
-coordinates_point {N} (parts.Compact x) = compact (coordinate_number N x.now)
+coordinates_point {N} (parts.Compact x) = compact (number_of (first_bytes N x.now))
 coordinates_point {N} (parts.Compressed x y_is_odd) =
-    compressed (coordinate_number N x.now) y_is_odd
+    compressed (number_of (first_bytes N x.now)) y_is_odd
 coordinates_point {N} (parts.Uncompressed x y) =
-    uncompressed (coordinate_number N x.now) (coordinate_number N y.now)
+    uncompressed (number_of (first_bytes N x.now)) (number_of (first_bytes N y.now))
 coordinates_point {N} (parts.Hybrid x y) =
-    hybrid (coordinate_number N x.now) (coordinate_number N y.now)
+    hybrid (number_of (first_bytes N x.now)) (number_of (first_bytes N y.now))
 
 -- each borrowed array is such
 abbrev pub EachArray : {N : ℕ} → (List ℕ → Type 0) → Coordinates N → Type 0

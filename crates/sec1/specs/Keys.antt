@@ -20,15 +20,11 @@ abbrev pub public_key_field : Option (List ℕ) → List Tree
 public_key_field None = []
 public_key_field (Some bytes) = node 0xA1 (leaf 0x03 (0 ∷ bytes) ∷ []) ∷ []
 
--- version 1, the private key, the parameters and the public key
-abbrev key_fields : Key → List Tree
-key_fields key =
-    leaf 0x02 (1 ∷ []) ∷ leaf 0x04 key.private_key ∷ parameters_field key.parameters
-    ++ public_key_field key.public_key
-
--- the tree of a key
+-- the tree of a key: version 1, the private key, the parameters and the public key
 abbrev pub key_tree : Key → Tree
-key_tree key = node 0x30 (key_fields key)
+key_tree key =
+    node 0x30 (leaf 0x02 (1 ∷ []) ∷ leaf 0x04 key.private_key ∷ parameters_field key.parameters
+    ++ public_key_field key.public_key)
 
 -- the parameters, if present, are the arcs of an identifier
 abbrev pub IsNamedCurve : Option (List ℕ) → Type 0
@@ -52,7 +48,3 @@ pub record SomeBytes (AreSuch P : List ℕ → Type 0) : Type 0 where
 -- the bytes of these trees, one after the other
 abbrev pub bytes_of : List Tree → List ℕ
 bytes_of trees = joined (row trees)
-
--- the content of a key, if its parts are within the limits
-abbrev pub fields_of : Key → List ℕ
-fields_of key = bytes_of (key_fields key)

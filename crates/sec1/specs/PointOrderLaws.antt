@@ -2,12 +2,12 @@
 -- two points compare as equal only if they are the same.
 use Rattle.std.proofs.Common.{◌≡◌, ℕ, true, refl, sym, ◌∙◌, arith}
 use Rattle.std.specs.Prelude.{unwrap_or}
-use Rattle.std.specs.Cmp.{IsTotalOrder, IsEquivalence}
+use Rattle.std.specs.Cmp.{IsTotalOrder}
 use Rattle.std.specs.declared.cmp.Ordering.TheVariants.{Equal}
-use Rattle.std.specs.Ordering.{nat_cmp, ordering_then}
-use Rattle.std.proofs.lemmas.Cmp.{nat_cmp_total, on_total, then_total, eq_by_cmp_equiv}
+use Rattle.std.specs.Ordering.{nat_cmp, ordering_then, is_eq}
+use Rattle.std.proofs.lemmas.Cmp.{nat_cmp_total, on_total, then_total}
 use Rattle.sec1.specs.Points.{Point, identity, tag_byte, x_of, y_of, point_from}
-use Rattle.sec1.specs.PointOrder.{point_cmp, same_point}
+use Rattle.sec1.specs.PointOrder.{point_cmp}
 
 pub point_cmp_total : IsTotalOrder point_cmp
 unfolding point_cmp
@@ -15,9 +15,6 @@ point_cmp_total =
     then_total (on_total tag_byte nat_cmp_total)
     (then_total (on_total (λ p. unwrap_or (x_of p) 0) nat_cmp_total)
     (on_total (λ p. unwrap_or (y_of p) 0) nat_cmp_total))
-
-pub same_point_equiv : IsEquivalence same_point
-same_point_equiv = eq_by_cmp_equiv point_cmp_total
 
 -- Tag and coordinates make the point.
 point_from-parts : (p : Point)
@@ -40,6 +37,6 @@ point_cmp-Equal p q h =
     (unwrap_or (y_of p) 0) (unwrap_or (y_of q) 0) h in
     sym (point_from-parts p) ∙ rw (tie.0, tie.1, tie.2) (point_from-parts q)
 
--- Points that the test finds the same are the same.
-pub same_point-true : (p q : Point) → same_point p q ≡ true → p ≡ q
-same_point-true p q h = point_cmp-Equal p q (grind arith)
+-- Points that are found equal are the same.
+pub point_cmp-is_eq : (p q : Point) → is_eq (point_cmp p q) ≡ true → p ≡ q
+point_cmp-is_eq p q h = point_cmp-Equal p q (grind arith)

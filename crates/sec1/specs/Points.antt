@@ -14,10 +14,6 @@ pub data Point : Type 0 where
   uncompressed : (x y : ℕ) → Point
   hybrid : (x y : ℕ) → Point
 
--- whether y is odd
-abbrev pub is_odd : ℕ → Bool
-is_odd y = y % 2 == 1
-
 -- the coordinates are numbers of n base 256 digits
 abbrev pub IsPoint : ℕ → Point → Type 0
 IsPoint n identity = ⊤
@@ -42,8 +38,8 @@ y_of p = None
 
 -- the compressed form of an uncompressed or hybrid point: y is dropped, and its parity kept
 abbrev pub compressed_point : Point → Point
-compressed_point (uncompressed x y) = compressed x (is_odd y)
-compressed_point (hybrid x y) = compressed x (is_odd y)
+compressed_point (uncompressed x y) = compressed x (y % 2 == 1)
+compressed_point (hybrid x y) = compressed x (y % 2 == 1)
 compressed_point p = p
 
 -- the hybrid form of an uncompressed point
@@ -65,7 +61,7 @@ tag_byte identity = 0
 tag_byte (compact x) = 5
 tag_byte (compressed x y_is_odd) = if y_is_odd then 3 else 2
 tag_byte (uncompressed x y) = 4
-tag_byte (hybrid x y) = if is_odd y then 7 else 6
+tag_byte (hybrid x y) = if y % 2 == 1 then 7 else 6
 
 -- what follows the first byte
 abbrev pub coordinate_bytes : ℕ → Point → List ℕ

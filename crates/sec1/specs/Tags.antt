@@ -1,6 +1,6 @@
 -- The tags of points, the first bytes of their encodings.
-use Rattle.std.specs.Prelude.{ℕ, ◌+◌, ◌*◌, if◌then◌else◌}
-use Rattle.sec1.specs.Points.{Point, identity, compact, compressed, uncompressed, hybrid, is_odd}
+use Rattle.std.specs.Prelude.{ℕ, ◌+◌, ◌*◌, ◌%◌, ◌==◌, if◌then◌else◌}
+use Rattle.sec1.specs.Points.{Point, identity, compact, compressed, uncompressed, hybrid}
 use Rattle.sec1.specs.declared.point.tag.Tag.{Tag}
 use Rattle.sec1.specs.declared.point.tag.Tag.TheVariants as tags
 
@@ -30,4 +30,4 @@ point_tag identity = tags.Identity
 point_tag (compact x) = tags.Compact
 point_tag (compressed x y_is_odd) = if y_is_odd then tags.CompressedOddY else tags.CompressedEvenY
 point_tag (uncompressed x y) = tags.Uncompressed
-point_tag (hybrid x y) = if is_odd y then tags.HybridOddY else tags.HybridEvenY
+point_tag (hybrid x y) = if y % 2 == 1 then tags.HybridOddY else tags.HybridEvenY

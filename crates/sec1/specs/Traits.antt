@@ -5,10 +5,10 @@ use Rattle.sec1.specs.Errors.{error_of, IsAsn1}
 use Rattle.sec1.specs.declared.error.Error.{Error}
 use Rattle.sec1.specs.declared.error.Error.TheVariants.{Memory}
 use Rattle.sec1_der.specs.Elements.{IsElement}
-use Rattle.sec1_der.specs.ErrorKinds.{IsHeaderFault, IsIoOrMemory}
+use Rattle.sec1_der.specs.ErrorKinds.{IsIoOrMemory}
 use Rattle.sec1_der.specs.ReadsDocument.{RefusesElement}
 use Rattle.sec1_der.specs.declared.error.Error.{Error as DerError}
-use Rattle.sec1_der.specs.declared.error.ErrorKind.TheVariants.{Io, TrailingData}
+use Rattle.sec1_der.specs.declared.error.ErrorKind.TheVariants.{Io}
 
 -- an allocation failed, or the key type refused
 abbrev pub IsMemoryOr : (Error → Type 0) → Error → Type 0
@@ -23,9 +23,3 @@ pub record RefusesDocument (left : Option (List ℕ)) (Taken : List ℕ → Type
   pub refused : RefusesElement cause.kind Taken Ended
   pub only : IsIoOrMemory cause.kind ⊎ IfSome left (λ all. ¬ (IsElement all))
   pub io : IsAsn1 Io error ↔ IsTrue failed
-
--- an error by which the element of a file is refused
-pub record IsDocumentError (error : Error) : Type 0 where
-  pub cause : DerError
-  pub is : error ≡ error_of cause
-  pub kinds : IsHeaderFault cause.kind ⊎ (cause.kind ≡ TrailingData) ⊎ IsIoOrMemory cause.kind

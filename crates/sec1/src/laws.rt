@@ -5,7 +5,8 @@ ghost use Rattle.std.specs.Prelude.{◌≡◌, ◌⊎◌, ◌↔◌, List, ℕ, 
 ghost use Rattle.sec1.specs.Keys.{HasNoEncoding, IsKeyOf, Key};
 ghost use Rattle.sec1.specs.EncodedPoints.{point_of};
 ghost use Rattle.sec1.specs.Parameters.{curve_of};
-ghost use Rattle.sec1.specs.PointOrder.{IsOrderOf, point_cmp, same_point};
+ghost use Rattle.sec1.specs.PointOrder.{IsOrderOf, point_cmp};
+ghost use Rattle.std.specs.Ordering.{is_eq};
 ghost use Rattle.sec1.specs.Points.{Fits, IsPoint, Point, encoding};
 ghost use Rattle.sec1.specs.declared.parameters.EcParameters.{EcParameters};
 
@@ -57,7 +58,7 @@ pub fn points_ordered()
 /// Comparing points, also by `!=`, finds them equal exactly when they are the same. Two points of
 /// one size with the same encoding are the same.
 pub fn points_apart()
-    ensures compared { (p q : Point) → IsTrue (same_point p q) ↔ (p ≡ q) }
+    ensures compared { (p q : Point) → IsTrue (is_eq (point_cmp p q)) ↔ (p ≡ q) }
     ensures encoding { (n : ℕ) (p q : Point) → IsPoint n p → IsPoint n q
         → encoding n p ≡ encoding n q → p ≡ q }
 {}

@@ -6,7 +6,7 @@ use Rattle.std.specs.Option.{option_map}
 use Rattle.sec1_der.specs.Elements.{element, header}
 use Rattle.sec1_der.specs.Identifiers.{content_of}
 use Rattle.sec1_der.specs.Trees.{leaf, node}
-use Rattle.sec1.specs.Keys.{Key, IsKeyOf, fields_of, parameters_field, public_key_field, bytes_of}
+use Rattle.sec1.specs.Keys.{Key, IsKeyOf, parameters_field, public_key_field, bytes_of}
 use Rattle.sec1_c.specs.Places.{StandsAt, IsPart, part_before}
 use Rattle.sec1_c.specs.KeyPlaces.{ArePartsOf, AreWithin, content_len, key_places}
 use Rattle.sec1_c.specs.declared.key.KeyParts.{KeyParts}
@@ -49,7 +49,8 @@ are_parts key input is =
     let p = key.private_key in
     let c = bytes_of (parameters_field key.parameters) in
     let q = bytes_of (public_key_field key.public_key) in
-    let front = header 0x30 (length (fields_of key)) ++ (element 0x02 (1 ∷ []) ++ header 0x04 (length p)) in
+    let content = element 0x02 (1 ∷ []) ++ (element 0x04 p ++ (c ++ q)) in
+    let front = header 0x30 (length content) ++ (element 0x02 (1 ∷ []) ++ header 0x04 (length p)) in
     let split : input ≡ front ++ (p ++ (c ++ q)) = grind (arith, append_assoc, append-nil) in
     record {
       private_key = stands_before input front p (c ++ q) _ split (grind (arith, length-append));

@@ -1,15 +1,16 @@
 //! Equality, order and hash of points. The order is by tag, then by coordinates as whole numbers.
 
-ghost use Rattle.std.specs.Prelude.{◌≡◌, IsSomeAnd, Some, refl};
+ghost use Rattle.std.specs.Prelude.{◌≡◌, ◌↔◌, IsTrue, IsSomeAnd, Some, refl};
 ghost use Rattle.std.specs.Cmp.{on_per, on_equiv, on_total, partial_equiv_from_equiv};
 ghost use Rattle.std.specs.Cmp.{partial_order_from_agreeing_total};
 ghost use Rattle.std.specs.Cmp.Lexicographic.{slice_cmp};
-ghost use Rattle.std.specs.Ordering.{nat_cmp};
+ghost use Rattle.std.specs.Ordering.{nat_cmp, is_eq};
 ghost use Rattle.sec1.specs.EncodedPoints.{point_of};
 ghost use Rattle.sec1.specs.Points.{encoding, Point};
-ghost use Rattle.sec1.specs.PointOrder.{point_cmp, same_point, IsOrderOf, TellsSame};
-ghost use Rattle.sec1.specs.PointOrderLaws.{point_cmp_total, same_point_equiv, same_point-true};
+ghost use Rattle.sec1.specs.PointOrder.{point_cmp, IsOrderOf};
+ghost use Rattle.sec1.specs.PointOrderLaws.{point_cmp_total, point_cmp-is_eq};
 ghost use Rattle.std.proofs.Common.{ap};
+ghost use Rattle.std.proofs.lemmas.Cmp.{eq_by_cmp_equiv};
 ghost use Rattle.std.specs.Hash as fed;
 
 use super::EncodedPoint;
@@ -17,20 +18,23 @@ use std::cmp::Ordering;
 use std::hash::{Hash, Hasher};
 
 impl<const N: usize, const L: usize> PartialEq for EncodedPoint<N, L> {
-    ghost eq = { λ p q. same_point (point_of p) (point_of q) };
+    ghost eq = { λ p q. is_eq (point_cmp (point_of p) (point_of q)) };
 
-    ghost laws = { on_per (λ p. point_of p) (partial_equiv_from_equiv same_point_equiv) };
+    ghost laws = { on_per (λ p. point_of p)
+        (partial_equiv_from_equiv (eq_by_cmp_equiv point_cmp_total)) };
 
     fn eq(&self, other: &Self) -> bool
-        ensures value { result ≡ same_point (point_of self.now) (point_of other.now) }
-        ensures same { TellsSame N (point_of self.now) (point_of other.now) result }
+        ensures value { result ≡ is_eq (point_cmp (point_of self.now) (point_of other.now)) }
+        ensures same { IsTrue result ↔ (point_of self.now ≡ point_of other.now) }
+        ensures bytes { IsTrue result
+            ↔ (encoding N (point_of self.now) ≡ encoding N (point_of other.now)) }
     {
         self.ct_eq(other)
     }
 }
 
 impl<const N: usize, const L: usize> Eq for EncodedPoint<N, L> {
-    ghost laws = { on_equiv (λ p. point_of p) same_point_equiv };
+    ghost laws = { on_equiv (λ p. point_of p) (eq_by_cmp_equiv point_cmp_total) };
 }
 
 impl<const N: usize, const L: usize> PartialOrd for EncodedPoint<N, L> {
@@ -113,7 +117,7 @@ impl<const N: usize, const L: usize> Hash for EncodedPoint<N, L> {
     ghost hash_input = { λ p. fed.slice fed.u8 (encoding N (point_of p)) };
 
     ghost respects_eq = { λ p q h. ap (λ (r : Point). fed.slice fed.u8 (encoding N r))
-        (same_point-true (point_of p) (point_of q) h) };
+        (point_cmp-is_eq (point_of p) (point_of q) h) };
 
     fn hash<H: Hasher>(&self, state: &mut H) {
         self.as_bytes().hash(state);

@@ -2,7 +2,7 @@
 
 ghost use Rattle.std.specs.Prelude.{◌≡◌, ◌↔◌, if◌then◌else◌, IsTrue};
 ghost use Rattle.sec1.specs.EncodedPoints.{point_of, IsWiped};
-ghost use Rattle.sec1.specs.PointOrder.{TellsSame};
+ghost use Rattle.sec1.specs.Points.{encoding};
 
 use super::EncodedPoint;
 use super::order::words_cmp;
@@ -11,7 +11,9 @@ impl<const N: usize, const L: usize> EncodedPoint<N, L> {
     /// Returns `true` if the points are the same.
     #[tactic(auto, using(crate::proofs::EncodedPointLemmas::compared_encodings))]
     pub fn ct_eq(&self, other: &Self) -> bool
-        ensures { TellsSame N (point_of self.now) (point_of other.now) result }
+        ensures same { IsTrue result ↔ (point_of self.now ≡ point_of other.now) }
+        ensures bytes { IsTrue result
+            ↔ (encoding N (point_of self.now) ≡ encoding N (point_of other.now)) }
     {
         // The compiler knows the lengths here, and compares without a loop or a call.
         if self.len == L && other.len == L {

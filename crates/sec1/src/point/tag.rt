@@ -2,11 +2,10 @@
 
 ghost use Rattle.std.specs.Fmt.{DisplaysStyledOnOk};
 ghost use Rattle.std.specs.Prelude.{◌≡◌, ◌≢◌, ◌<◌, ◌^◌, ◌==◌, ◌||◌, if◌then◌else◌, MatchResult};
-ghost use Rattle.std.specs.Prelude.{Some, codes};
+ghost use Rattle.std.specs.Prelude.{Some, codes, ◌%◌};
 ghost use Rattle.sec1.specs.declared.error.Error.TheVariants.{PointEncoding};
 ghost use Rattle.sec1.specs.declared.point.tag.Tag.TheVariants as tags;
 ghost use Rattle.sec1_der.specs.Numbers.{number_of};
-ghost use Rattle.sec1.specs.Points.{is_odd};
 ghost use Rattle.sec1.specs.Tags.{byte_of, message_len};
 
 use crate::error::{Error, Result};
@@ -99,7 +98,7 @@ impl Tag {
 
     /// Returns the compressed form's tag for the parity of y.
     pub(super) fn compress_y<const N: usize>(y: &[u8; N]) -> Self
-        ensures { byte_of result ≡ (if is_odd (number_of y.now) then 3 else 2) }
+        ensures { byte_of result ≡ (if number_of y.now % 2 == 1 then 3 else 2) }
     {
         if is_odd(y) {
             Tag::CompressedOddY
@@ -110,7 +109,7 @@ impl Tag {
 
     /// Returns the hybrid form's tag for the parity of y.
     pub(super) fn hybrid_y<const N: usize>(y: &[u8; N]) -> Self
-        ensures { byte_of result ≡ (if is_odd (number_of y.now) then 7 else 6) }
+        ensures { byte_of result ≡ (if number_of y.now % 2 == 1 then 7 else 6) }
     {
         if is_odd(y) {
             Tag::HybridOddY
@@ -124,7 +123,7 @@ impl Tag {
 /// is 0.
 #[tactic(auto, using(crate::proofs::DigitLemmas::last_parity))]
 fn is_odd<const N: usize>(y: &[u8; N]) -> bool
-    ensures { result ≡ is_odd (number_of y.now) }
+    ensures { result ≡ (number_of y.now % 2 == 1) }
 {
     N != 0 && y[N - 1] % 2 == 1
 }

@@ -2,14 +2,16 @@
 
 ghost use Rattle.std.specs.Fmt.{WritesStyledOnOk, digit_glyph};
 ghost use Rattle.std.specs.Prelude.{◌≡◌, ◌↔◌, ◌/◌, ◌%◌, ◌<◌, [], ◌∷◌, true, ℕ, List, length, Some};
-ghost use Rattle.std.specs.Prelude.{IsTrue, MatchResult};
+ghost use Rattle.std.specs.Prelude.{IsTrue, MatchResult, not, ◌&&◌};
+ghost use Rattle.std.specs.Char.{is_ascii_uppercase, is_ascii_lowercase};
+ghost use Rattle.std.specs.List.{list_any};
 ghost use Rattle.std.specs.String.{string_bytes};
 ghost use Rattle.std.specs.Box.{boxed_slice_items};
 ghost use Rattle.hex.specs.Hex.{encode_upper, encode_lower, IsBytes};
 ghost use Rattle.serde_json.specs.Data.{string};
 ghost use Rattle.serde_json.specs.View.{view};
 ghost use Rattle.sec1.specs.Points.{encoding};
-ghost use Rattle.sec1.specs.HexTexts.{IsHexOf, IsJsonOf, is_one_case};
+ghost use Rattle.sec1.specs.HexTexts.{IsHexOf};
 ghost use Rattle.sec1.specs.EncodedPoints.{point_of, ReadsPoint};
 ghost use Rattle.sec1.specs.declared.error.Error.TheVariants.{Memory};
 
@@ -81,7 +83,8 @@ impl<const N: usize, const L: usize> EncodedPoint<N, L> {
     ///
     /// PointEncoding for any other string, and for any other JSON value.
     pub fn from_json(value: &Value) -> Result<Self>
-        ensures { ReadsPoint (IsJsonOf (view value.now)) result }
+        ensures { ReadsPoint (λ bytes. (text : List ℕ) × (view value.now ≡ string text)
+            × IsHexOf text bytes) result }
     {
         match value {
             Value::String(text) => Self::from_digits(text.as_str().as_bytes()),
@@ -116,7 +119,8 @@ fn decode_digits(text: &[u8], out: &mut [u8]) -> bool
 /// Returns `true` if no letter is upper case, or none is lower case.
 #[tactic(auto, using(crate::proofs::HexLemmas::letters_seen))]
 fn is_one_case(text: &[u8]) -> bool
-    ensures { result ≡ is_one_case text.now }
+    ensures { result ≡ not (list_any is_ascii_uppercase text.now
+        && list_any is_ascii_lowercase text.now) }
 {
     // No early exit, so that the compiler tests many bytes at once.
     let mut has_upper = false;
