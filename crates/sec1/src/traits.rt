@@ -8,10 +8,11 @@ ghost use Rattle.sec1.specs.Keys.{SomeBytes};
 ghost use Rattle.sec1.specs.Traits.{IsMemoryOr, RefusesDocument};
 ghost use Rattle.sec1.specs.declared.error.Error.{Error};
 ghost use Rattle.sec1_der.specs.Elements.{IsElement};
-ghost use Rattle.sec1_der.specs.ReadsDocument.{ConsumesElement, IsElementFault};
+ghost use Rattle.sec1_der.specs.ErrorKinds.{IsHeaderFault, IsIoOrMemory};
+ghost use Rattle.sec1_der.specs.ReadsDocument.{ConsumesElement};
 ghost use Rattle.sec1_der.specs.declared.error.Error.{Error as DerError};
 ghost use Rattle.sec1_der.specs.Streams.{AppendsPrefix, Ends, Takes};
-ghost use Rattle.sec1_der.specs.declared.error.ErrorKind.TheVariants.{Io};
+ghost use Rattle.sec1_der.specs.declared.error.ErrorKind.TheVariants.{Io, TrailingData};
 
 use crate::{Error, Result};
 use sec1_der::{Read, SecretDocument, Write};
@@ -63,7 +64,8 @@ pub trait DecodeEcPrivateKey: Sized {
     /// [`from_sec1_der`](DecodeEcPrivateKey::from_sec1_der).
     fn read_sec1_der_file<F: Files>(rt: &F, alloc: Global, path: &str) -> Result<Self>
         ensures { MatchResult result (λ key. SomeBytes IsElement (λ bytes. reads bytes key))
-            (λ error. ((cause : DerError) × (error ≡ error_of cause) × IsElementFault cause.kind)
+            (λ error. ((cause : DerError) × (error ≡ error_of cause)
+            × (IsHeaderFault cause.kind ⊎ (cause.kind ≡ TrailingData) ⊎ IsIoOrMemory cause.kind))
             ⊎ SomeBytes IsElement (λ bytes. IsMemoryOr (refuses bytes) error)) }
     {
         let document = SecretDocument::read_der_file(rt, alloc, path)?;

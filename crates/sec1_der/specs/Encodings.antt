@@ -1,12 +1,12 @@
 -- What the calls over whole encodings return.
-use Rattle.std.specs.Prelude.{◌≡◌, ◌⊎◌, ℕ, ◌<◌, ◌≤◌, ◌++◌, List, length, drop, Option, Some, None}
-use Rattle.std.specs.Prelude.{Bool, Result, Ok, IfOk, IfErr, IsSomeAnd, MatchResult}
+use Rattle.std.specs.Prelude.{◌≡◌, ◌⊎◌, ℕ, List, length, Option, Some, None}
+use Rattle.std.specs.Prelude.{Bool, Result, Ok, IfOk, IfErr, IsSomeAnd}
 use Rattle.sec1_der.specs.Elements.{element_of}
 use Rattle.sec1_der.specs.ErrorKinds.{IsReadingFault, Refuses}
 use Rattle.sec1_der.specs.Faults.{Fault, TellsFault, element_fault, end_fault}
 use Rattle.sec1_der.specs.declared.error.Error.{Error}
 use Rattle.sec1_der.specs.declared.error.ErrorKind.{ErrorKind}
-use Rattle.sec1_der.specs.declared.error.ErrorKind.TheVariants.{Overlength, Buffer}
+use Rattle.sec1_der.specs.declared.error.ErrorKind.TheVariants.{Overlength}
 
 -- The bytes are read as those of a value. `encoding` gives these of a value, `fault` is the rule by
 -- which others are refused, and `says_kind` is whether errors are of the kinds that it gives.
