@@ -7,7 +7,8 @@ use Rattle.std.specs.Option.{unwrap_or}
 use Rattle.std.specs.Prelude.{Contains, find, option_map, position}
 use Rattle.std.specs.Str.{bytes_eq}
 use Rattle.sec1_der.proofs.IdentifierLaws.{is_identifier-true, identifier_content-valid}
-use Rattle.sec1_der.specs.Identifiers.{content_of, identifier_content, is_identifier}
+use Rattle.sec1_der.specs.Identifiers.{content_of, identifier_content}
+use Rattle.sec1_der.proofs.IdentifierLaws.{is_identifier}
 use Rattle.curves.specs.Curves.{curve_arcs, curve_content, curve_name, curve_alias, x962_name, IsNameOf}
 use Rattle.curves.specs.declared.curve.Curve.{Curve}
 use Rattle.curves.specs.declared.curve.Curve.TheVariants as curves

@@ -3,9 +3,10 @@ use Rattle.std.proofs.Common.{◌≡◌, ◌==◌, ◌∷◌, [], ℕ, zero, suc
 use Rattle.std.proofs.Common.{if◌then◌else◌, Option, Some, None, Result, Ok, Err, nat_lt, bit_and, not}
 use Rattle.std.specs.Prelude.{option_map}
 use Rattle.std.specs.Option.{option_or}
+use Rattle.sec1_der.proofs.FaultLaws.{nested_fault}
 use Rattle.sec1_der.specs.Contents.{byte_fault, identifier_fault, bit_string_fault, whole_bits_fault}
 use Rattle.sec1_der.specs.Contents.{whole_bits_field_fault}
-use Rattle.sec1_der.specs.ErrorKinds.{is_tag}
+use Rattle.sec1_der.specs.Elements.{is_tag}
 use Rattle.sec1_der.specs.Faults as r
 use Rattle.sec1_der.specs.Trees.{max_tree_depth}
 use Rattle.sec1_der.specs.declared.error.ErrorKind.{ErrorKind}
@@ -77,7 +78,7 @@ any_kind p q f g x y end (tag ∷ bytes) = by (is_tag tag)
     by true = parts_kind (p tag) q (f tag) g (x tag) y end bytes (r.within (r.length_at bytes))
     by false = refl
 
-nested_kind : (p : Place) (f : r.Fault) → Places p f → (tag : ℕ) → Places (nested_place p tag) (r.nested_fault f tag)
+nested_kind : (p : Place) (f : r.Fault) → Places p f → (tag : ℕ) → Places (nested_place p tag) (nested_fault f tag)
 nested_kind p f x tag end bytes = by (not (bit_and tag 0x20 == 0))
   where
     by : (b : Bool) → kind_of (if b then p end bytes else None) ≡ (if b then f bytes else None)
@@ -93,18 +94,18 @@ row_kind (suc most) level end (byte ∷ bytes) =
   where
     by : (b : Bool)
         → kind_of (any_place (nested_place (row_place most (level + 1))) (row_place most level) end (byte ∷ bytes))
-        ≡ r.any_fault (r.nested_fault (r.row_fault most (level + 1))) (r.row_fault most level) (byte ∷ bytes)
+        ≡ r.any_fault (nested_fault (r.row_fault most (level + 1))) (r.row_fault most level) (byte ∷ bytes)
         → kind_of (if b then Some (before end (byte ∷ bytes) ErrorKind.Depth)
         else any_place (nested_place (row_place most (level + 1))) (row_place most level) end (byte ∷ bytes))
         ≡ (if b then Some ErrorKind.Depth
-        else r.any_fault (r.nested_fault (r.row_fault most (level + 1))) (r.row_fault most level) (byte ∷ bytes))
+        else r.any_fault (nested_fault (r.row_fault most (level + 1))) (r.row_fault most level) (byte ∷ bytes))
     by true inside = refl
     by false inside = inside
 
 -- the kind at a tree's place is that of its refusal
 pub tree_kind : (bytes : List ℕ) → option_map (λ (f : Fault). f.kind) (tree_place bytes) ≡ r.tree_fault bytes
 tree_kind bytes =
-    any_kind (nested_place (row_place (length bytes) 2)) end_place (r.nested_fault (r.row_fault (length bytes) 2))
+    any_kind (nested_place (row_place (length bytes) 2)) end_place (nested_fault (r.row_fault (length bytes) 2))
     r.end_fault
     (nested_kind _ _ (row_kind (length bytes) 2))
     (first_kind r.end_fault)

@@ -1,11 +1,11 @@
 -- The places of the faults of one element.
+use Rattle.std.proofs.Common.{true}
 use Rattle.std.proofs.Common.{◌≡◌, ◌∷◌, ◌++◌, ℕ, ◌-◌, ◌≤◌, List, length, refl, ap}
 use Rattle.std.proofs.Common.{Option, Some, Result, Ok, Err, arith, eq-eqb}
 use Rattle.std.proofs.lemmas.List.{length-append}
 use Rattle.std.specs.Option.{option_or}
 use Rattle.std.specs.Prelude.{option_map, IfOk, IfErr}
-use Rattle.sec1_der.proofs.ElementLaws.{is_tag-true}
-use Rattle.sec1_der.specs.Elements.{length_octets, element, IsHeader, IsTag}
+use Rattle.sec1_der.specs.Elements.{length_octets, element, IsHeader, is_tag}
 use Rattle.sec1_der.proofs.FaultLaws.{within_octets}
 use Rattle.sec1_der.specs.Faults.{no_fault, any_fault, parts_fault, length_at, within}
 use Rattle.sec1_der.specs.declared.error.ErrorKind.{ErrorKind}
@@ -16,15 +16,15 @@ pub any_found : (f : ℕ → Place) (g : Place) (end tag : ℕ) (content bytes r
     → IsHeader tag (length content) → bytes ≡ element tag content ++ rest
     → any_place f g end bytes ≡ option_or (f tag (end - length rest) content) (g end rest)
 any_found f g end tag content bytes rest h e =
-    rw (e, is_tag-true tag h.tag_byte, within_octets content rest h.within) refl
+    rw (e, h.tag_byte, within_octets content rest h.within) refl
 
 -- the place of an element whose length or content isn't there is at its length
-pub any_refused : (f : ℕ → Place) (g : Place) (end tag : ℕ) (bytes : List ℕ) (k : ErrorKind) → IsTag tag
+pub any_refused : (f : ℕ → Place) (g : Place) (end tag : ℕ) (bytes : List ℕ) (k : ErrorKind) → is_tag tag ≡ true
     → any_fault (λ _. no_fault) no_fault (tag ∷ bytes) ≡ Some k
     → any_place f g end (tag ∷ bytes) ≡ Some (before end bytes k)
 any_refused f g end tag bytes k is e =
-    let none : parts_fault no_fault no_fault (within (length_at bytes)) ≡ Some k = rw (is_tag-true tag is) at e in
-    rw (is_tag-true tag is) (by (within (length_at bytes)) none)
+    let none : parts_fault no_fault no_fault (within (length_at bytes)) ≡ Some k = rw is at e in
+    rw is (by (within (length_at bytes)) none)
   where
     by : (found : Result (List ℕ × List ℕ) ErrorKind) → parts_fault no_fault no_fault found ≡ Some k
         → parts_place (f tag) g end bytes found ≡ Some (before end bytes k)
@@ -42,9 +42,9 @@ any_sizes tag content bytes rest e =
     (omega (arith, whole, parts, inner), omega (arith, whole, parts, inner))
 
 -- an element of this tag is one of any tag
-pub same_tag : (f g : Place) (end tag byte : ℕ) (bytes rest : List ℕ) → IsTag tag → bytes ≡ byte ∷ rest → byte ≡ tag
+pub same_tag : (f g : Place) (end tag byte : ℕ) (bytes rest : List ℕ) → is_tag tag ≡ true → bytes ≡ byte ∷ rest → byte ≡ tag
     → any_place (λ _. f) g end bytes ≡ element_place tag f g end bytes
-same_tag f g end tag byte bytes rest is e same = rw (e, same, eq-eqb tag tag refl, is_tag-true tag is) refl
+same_tag f g end tag byte bytes rest is e same = rw (e, same, eq-eqb tag tag refl, is) refl
 
 -- what is known of a success, or of a failure, and what follows from it
 pub on_ok : {T E : Type 0} {P Q : T → Type 0} (r : Result T E) → ((x : T) → P x → Q x) → IfOk r P → IfOk r Q

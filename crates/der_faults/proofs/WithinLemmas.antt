@@ -4,7 +4,7 @@ use Rattle.std.proofs.Common.{if◌then◌else◌, Option, Some, None, Result, O
 use Rattle.std.specs.Prelude.{IfSome, option_map}
 use Rattle.std.specs.Option.{option_or}
 use Rattle.sec1_der.specs.Contents.{byte_fault, identifier_fault, bit_string_fault, whole_bits_fault}
-use Rattle.sec1_der.specs.ErrorKinds.{is_tag}
+use Rattle.sec1_der.specs.Elements.{is_tag}
 use Rattle.sec1_der.specs.Faults as r
 use Rattle.sec1_der.specs.Trees.{max_tree_depth}
 use Rattle.sec1_der.specs.declared.error.ErrorKind.{ErrorKind}

@@ -5,7 +5,7 @@ use Rattle.std.specs.Prelude.{Result, Ok, Err}
 use Rattle.std.specs.Option.{option_or}
 use Rattle.sec1_der.specs.Contents.{byte_fault, identifier_fault, bit_string_fault}
 use Rattle.sec1_der.specs.Contents.{whole_bits_fault}
-use Rattle.sec1_der.specs.ErrorKinds.{is_tag}
+use Rattle.sec1_der.specs.Elements.{is_tag}
 use Rattle.sec1_der.specs.Faults.{no_fault, length_at, within, is_next}
 use Rattle.sec1_der.specs.Faults as faults
 use Rattle.sec1_der.specs.Trees.{max_tree_depth}

@@ -4,9 +4,8 @@ use Rattle.std.proofs.Common.{ap, arith}
 use Rattle.std.proofs.Common.{if◌then◌else◌, Some, None, Result, Ok, Err, append_assoc, ◌∙◌, sym}
 use Rattle.std.proofs.Math.Seq.{take-append_seam}
 use Rattle.std.proofs.lemmas.List.{length-append}
-use Rattle.sec1_der.proofs.ElementLaws.{is_tag-true}
 use Rattle.sec1_der.specs.Elements.{max_length, length_octets, header, element, IsHeader}
-use Rattle.sec1_der.specs.ErrorKinds.{is_tag}
+use Rattle.sec1_der.specs.Elements.{is_tag}
 use Rattle.sec1_der.proofs.FaultLaws.{within_octets}
 use Rattle.sec1_der.specs.Faults.{no_fault, any_fault, parts_fault, length_at, within}
 use Rattle.std.specs.Prelude.{nat_le, ◌&&◌}
@@ -24,7 +23,7 @@ pub parsed_found : (tag : ℕ) (content bytes behind : List ℕ) → IsHeader ta
     → bytes ≡ element tag content ++ behind
     → parsed bytes ≡ Some (record { tag = tag; content = content; behind = behind })
 parsed_found tag content bytes behind h e =
-    rw (e, is_tag-true tag h.tag_byte, within_octets content behind h.within) refl
+    rw (e, h.tag_byte, within_octets content behind h.within) refl
 
 -- bytes that are refused begin with no element
 pub parsed_refused : (bytes : List ℕ) (k : ErrorKind) → any_fault (λ _. no_fault) no_fault bytes ≡ Some k

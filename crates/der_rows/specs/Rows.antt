@@ -4,7 +4,7 @@ use Rattle.std.specs.Prelude.{List, [], ◌∷◌, ◌++◌, length, Option, Som
 use Rattle.std.specs.Prelude.{zero, suc, codes}
 use Rattle.std.specs.Fmt.{◌++?◌, decimal}
 use Rattle.sec1_der.specs.Elements.{header}
-use Rattle.sec1_der.specs.ErrorKinds.{is_tag}
+use Rattle.sec1_der.specs.Elements.{is_tag}
 use Rattle.sec1_der.specs.Faults.{length_at, within}
 use Rattle.sec1_der.specs.Trees.{Tree, Forest, leaf, branch, none, first, bytes, joined}
 use Rattle.sec1_der.specs.Trees.{max_tree_depth}

@@ -1,22 +1,20 @@
 -- Elements of any tag.
+use Rattle.std.proofs.Common.{arith, tests}
 use Rattle.std.proofs.Common.{◌≡◌, ◌++◌, ◌∷◌, [], ◌&&◌, ℕ, ◌<◌, nat_lt, nat_le, List, length, Bool, true, false, Some}
 use Rattle.std.proofs.Common.{None, Result, Ok, Err, if◌then◌else◌}
 use Rattle.std.proofs.Common.{IfOk, IsSomeAnd, refl, sym, ◌∙◌, ap, le-leb, leb-true, bytes_eq}
 use Rattle.std.proofs.Math.Seq.{drop-append_seam}
 use Rattle.std.proofs.lemmas.Bool.{and_parts, lt-ltb}
 use Rattle.std.proofs.lemmas.Slice.Eq.{bytes_eq-Decides}
-use Rattle.sec1_der.specs.Elements.{max_length, length_octets, element, IsTag, IsHeader, IsElement}
-use Rattle.sec1_der.specs.ErrorKinds.{is_tag}
+use Rattle.sec1_der.specs.Elements.{max_length, length_octets, element, is_tag, IsHeader, IsElement}
 use Rattle.sec1_der.specs.Parts.{AreApart, is_among}
 use Rattle.sec1_der.specs.Readers.{Reader, HasRead}
 use Rattle.sec1_der.specs.Faults.{Fault, no_fault, any_fault, parts_fault, within, length_at}
 use Rattle.sec1_der.specs.declared.error.Error.{Error}
 use Rattle.sec1_der.specs.declared.error.ErrorKind.{ErrorKind}
 use Rattle.sec1_der.specs.declared.error.ErrorKind.TheVariants.{Tag}
-use Rattle.sec1_der.proofs.ElementLaws.{is_tag-true}
 use Rattle.sec1_der.proofs.LengthLaws.{number_at_octets}
 use Rattle.sec1_der.proofs.FaultLaws.{any_at}
-use Rattle.sec1_der.proofs.ElementLaws.{tag_from_test}
 use Rattle.sec1_der.proofs.ElementLaws.{element_apart}
 use Rattle.sec1_der.specs.Values.{tag_of, value_of}
 use Rattle.sec1_der.specs.declared.any.AnyRef.{AnyRef}
@@ -38,7 +36,7 @@ element_tested bytes e =
       tag = first_byte bytes;
       content = content_in bytes;
       is_header = record {
-        tag_byte = tag_from_test (first_byte bytes) tag.1;
+        tag_byte = tag.1;
         within =
             leb-true _ _ more.0;
       };
@@ -57,8 +55,10 @@ unfolding is_element
 passes_at tag content is =
     let same = (bytes_eq-Decides (element tag content) (element tag content)).1 refl in
     let found = content_found tag content in
-    let byte : nat_lt tag 256 ≡ true = lt-ltb tag 256 is.tag_byte.byte in
-    and_both _ _ (and_both _ _ byte (is_tag-true tag is.tag_byte))
+    let passes : is_tag tag ≡ true = is.tag_byte in
+    let small : tag < 256 = grind (arith, tests) in
+    let byte : nat_lt tag 256 ≡ true = lt-ltb tag 256 small in
+    and_both _ _ (and_both _ _ byte is.tag_byte)
     (and_both _ _ (rw found (le-leb (length content) max_length is.within))
     (ap (λ c. bytes_eq (element tag c) (element tag content)) found ∙ same))
 
@@ -115,14 +115,14 @@ element_from any bytes header encoded =
     record { tag = tag_of any; content = value_of any; is_header = header; encoded = encoded }
 
 -- a byte that begins an element
-pub begins_any : (byte : ℕ) (b : Bool) → (b ≡ true → IsTag byte) → (IsTag byte → b ≡ true) → byte < 256
+pub begins_any : (byte : ℕ) (b : Bool) → (b ≡ true → is_tag byte ≡ true) → (is_tag byte ≡ true → b ≡ true) → byte < 256
     → b ≡ is_among byte all_tags
 begins_any byte b f g small = by b (is_tag byte) refl f g ∙ (rw (lt-ltb byte 256 small) refl ∙ sym (among_all byte))
   where
-    by : (b c : Bool) → is_tag byte ≡ c → (b ≡ true → IsTag byte) → (IsTag byte → b ≡ true) → b ≡ c
+    by : (b c : Bool) → is_tag byte ≡ c → (b ≡ true → is_tag byte ≡ true) → (is_tag byte ≡ true → b ≡ true) → b ≡ c
     by true true e f g = refl
-    by false true e f g = g (tag_from_test byte e)
-    by true false e f g = absurd (cc (e, is_tag-true byte (f refl)))
+    by false true e f g = g e
+    by true false e f g = absurd (cc (e, f refl))
     by false false e f g = refl
 
 -- what was read as an element is the part

@@ -5,12 +5,11 @@ use Rattle.std.proofs.Common.{refl, ap, sym, ◌∙◌, arith, length-append}
 use Rattle.std.specs.Cmp.Lexicographic.{slice_cmp, slice_partial_cmp, lists_agrees}
 use Rattle.std.specs.Ordering.{is_le, is_gt, is_some_and, nat_cmp}
 use Rattle.sec1_der.specs.Elements.{element, IsHeader}
-use Rattle.sec1_der.specs.ErrorKinds.{is_tag}
+use Rattle.sec1_der.specs.Elements.{is_tag}
 use Rattle.sec1_der.specs.Readers.{Reader, HasRead}
 use Rattle.sec1_der.specs.Faults.{no_fault, any_fault, parts_fault, within, length_at}
 use Rattle.sec1_der.specs.declared.error.ErrorKind.{ErrorKind}
 use Rattle.sec1_der.specs.declared.error.ErrorKind.TheVariants.{Tag}
-use Rattle.sec1_der.proofs.ElementLaws.{is_tag-true}
 use Rattle.sec1_der.proofs.FaultLaws.{within_octets}
 use Rattle.der_types.specs.Sets.{element_behind, first_element, is_at_most, ascends, is_ascending}
 
@@ -18,7 +17,7 @@ use Rattle.der_types.specs.Sets.{element_behind, first_element, is_at_most, asce
 pub first_found : (tag : ℕ) (content bytes rest : List ℕ) → IsHeader tag (length content)
     → bytes ≡ element tag content ++ rest → first_element bytes ≡ Some (element tag content, rest)
 first_found tag content bytes rest h e =
-    rw (e, is_tag-true tag h.tag_byte, within_octets content rest h.within) refl
+    rw (e, h.tag_byte, within_octets content rest h.within) refl
 
 -- where an element is refused, none is found
 pub first_missing : (bytes : List ℕ) (k : ErrorKind) → any_fault (λ _. no_fault) no_fault bytes ≡ Some k

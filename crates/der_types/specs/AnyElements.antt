@@ -3,7 +3,7 @@ use Rattle.std.specs.Prelude.{◌&&◌, ℕ, zero, suc, nat_lt, nat_le, List, []
 use Rattle.std.specs.Prelude.{get_or, Bool, true, false, Option, Some, None, if◌then◌else◌}
 use Rattle.std.specs.Str.{bytes_eq}
 use Rattle.sec1_der.specs.Elements.{max_length, length_octets, element}
-use Rattle.sec1_der.specs.ErrorKinds.{is_tag}
+use Rattle.sec1_der.specs.Elements.{is_tag}
 use Rattle.sec1_der.specs.Parts.{Tags}
 use Rattle.sec1_der.specs.Faults.{Fault, no_fault, any_fault, number_at}
 

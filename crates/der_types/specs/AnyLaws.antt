@@ -3,7 +3,7 @@ use Rattle.std.proofs.Common.{◌≡◌, ◌&&◌, ℕ, zero, suc, ◌<◌, ◌�
 use Rattle.std.proofs.Common.{Bool, true, false, Some, None, if◌then◌else◌, refl, arith, ⊎_elim}
 use Rattle.std.proofs.Common.{eq-eqb, ◌∙◌}
 use Rattle.std.proofs.lemmas.Bool.{lt-ltb, le-ltb, ne_eqb, cases_lt, and_parts}
-use Rattle.sec1_der.specs.ErrorKinds.{is_tag}
+use Rattle.sec1_der.specs.Elements.{is_tag}
 use Rattle.sec1_der.specs.Parts.{is_among, Begins}
 use Rattle.der_types.specs.AnyElements.{is_tag_byte, tags_below, all_tags, any_tags, is_element}
 use Rattle.der_types.specs.AnyElements.{any_of}

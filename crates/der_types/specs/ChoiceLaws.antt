@@ -1,8 +1,9 @@
 -- What a CHOICE and an OPTIONAL part begin with. Ghost members of traits cite these laws.
 use Rattle.std.specs.Prelude.{◌≡◌, ◌∷◌, [], ◌||◌, ℕ, List, Bool, true, false, Option, Some, None}
 use Rattle.std.specs.Prelude.{refl}
+use Rattle.std.proofs.Common.{inl, inr}
 use Rattle.sec1_der.specs.Parts.{Tags, Begins}
-use Rattle.sec1_der.specs.PartLaws.{among_left, among_right}
+use Rattle.sec1_der.specs.PartLaws.{among_either}
 use Rattle.der_types.specs.Choices.{choice_of, choice_tags, optional_bytes, optional_tags}
 use Rattle.der_types.specs.declared.choice.Choice.{Choice}
 use Rattle.der_types.specs.declared.choice.Choice.TheVariants.{First, Second}
@@ -14,7 +15,7 @@ choice_not_empty p q e f = rw (e, f) refl
 
 begins_first : (p q : Tags) (whole : List ℕ) → Begins p whole → Begins (choice_tags p q) whole
 begins_first p q [] e = rw e refl
-begins_first p q (byte ∷ bytes) e = among_left byte p.firsts q.firsts e
+begins_first p q (byte ∷ bytes) e = among_either byte p.firsts q.firsts (inl e)
 
 begins_second : (p q : Tags) (whole : List ℕ) → Begins q whole → Begins (choice_tags p q) whole
 begins_second p q [] e = or_right p.may_be_empty q.may_be_empty e
@@ -22,7 +23,7 @@ begins_second p q [] e = or_right p.may_be_empty q.may_be_empty e
     or_right : (b d : Bool) → d ≡ true → (b || d) ≡ true
     or_right true d e = refl
     or_right false d e = e
-begins_second p q (byte ∷ bytes) e = among_right byte p.firsts q.firsts e
+begins_second p q (byte ∷ bytes) e = among_either byte p.firsts q.firsts (inr e)
 
 -- a CHOICE begins with a tag of one of the alternatives
 pub choice_begins : (p q : Tags) {P Q : Type 0} (first : P → Option (List ℕ))

@@ -6,7 +6,7 @@ use Rattle.std.specs.Option.{option_or}
 use Rattle.std.specs.Ordering.{is_le, nat_cmp}
 use Rattle.sec1_der.specs.Contents.{value_unless}
 use Rattle.sec1_der.specs.Elements.{element}
-use Rattle.sec1_der.specs.ErrorKinds.{is_tag}
+use Rattle.sec1_der.specs.Elements.{is_tag}
 use Rattle.sec1_der.specs.Faults.{Fault, length_at, within}
 use Rattle.sec1_der.specs.declared.error.ErrorKind.{ErrorKind}
 use Rattle.der_types.specs.Rows.{is_whole, row_fault}

@@ -6,7 +6,7 @@ pub use Rattle.sec1_der.specs.Contents.{are_bits}
 pub use Rattle.sec1_der.specs.Contents.{byte_fault, identifier_fault, bit_string_fault}
 pub use Rattle.sec1_der.specs.Contents.{whole_bits_fault, whole_bits_field_fault}
 pub use Rattle.sec1_der.specs.Contents.{value_unless}
-pub use Rattle.sec1_der.specs.Elements.{max_length, IsTag, IsConstructed, length_octets, header}
+pub use Rattle.sec1_der.specs.Elements.{max_length, is_tag, IsConstructed, length_octets, header}
 pub use Rattle.sec1_der.specs.Elements.{IsHeader, element, IsElement}
 pub use Rattle.sec1_der.specs.Elements.{LacksHeader}
 pub use Rattle.sec1_der.specs.Elements.{IsProperPrefix, within_limit, element_of}
@@ -23,7 +23,6 @@ pub use Rattle.sec1_der.specs.Faults.{tree_fault}
 pub use Rattle.sec1_der.specs.ReadsDocument.{ConsumesElement, RefusesElement}
 pub use Rattle.sec1_der.specs.ReadsDocument.{TakenBeforeRefusal}
 pub use Rattle.sec1_der.specs.SliceWriters.{slice_state, Appends, WritesBehind}
-pub use Rattle.sec1_der.specs.StdStreams.{StdStream}
 pub use Rattle.sec1_der.specs.Streams.{AppendsPrefix, Ends, Takes}
 pub use Rattle.sec1_der.specs.Trees.{Tree, Forest, leaf, node, bytes, IsTree, IsTreeOf, depth, size}
 pub use Rattle.sec1_der.specs.Trees.{max_tree_depth}

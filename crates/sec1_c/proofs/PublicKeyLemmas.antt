@@ -17,7 +17,8 @@ use Rattle.pkix.specs.declared.public_key.SubjectPublicKeyInfo.{SubjectPublicKey
 use Rattle.sec1_der.specs.Contents.{are_bits}
 use Rattle.sec1_der.proofs.ElementLaws.{element_of-some}
 use Rattle.sec1_der.specs.Elements.{element, element_of, header}
-use Rattle.sec1_der.specs.Identifiers.{content_of, identifier_content, is_identifier}
+use Rattle.sec1_der.specs.Identifiers.{content_of, identifier_content}
+use Rattle.sec1_der.proofs.IdentifierLaws.{is_identifier}
 use Rattle.sec1_der.proofs.JoinLaws.{parted}
 use Rattle.sec1_c.specs.FieldLengths.{IsFieldLength}
 use Rattle.sec1_c.specs.PublicKeys.{ArePublicKeyPartsOf, IsInfo, key_field_len, public_key_places}

@@ -1,8 +1,8 @@
 //! Elements of DER (X.690): `sec1_check_tree`, `sec1_document_len`, `sec1_element_read` and
 //! `sec1_element_write`.
-ghost use Rattle.std.specs.Prelude.{◌≡◌, ◌≢◌, ◌≤◌, ◌<◌, ◌+◌, ◌++◌, ℕ, List, length};
+ghost use Rattle.std.specs.Prelude.{IsTrue, ◌≡◌, ◌≢◌, ◌≤◌, ◌<◌, ◌+◌, ◌++◌, ℕ, List, length};
 ghost use Rattle.std.specs.Prelude.{IfErr, IsOk, OkIff};
-ghost use Rattle.sec1_der.specs.Elements.{IsElement, IsHeader, IsProperPrefix, IsTag};
+ghost use Rattle.sec1_der.specs.Elements.{IsElement, IsHeader, IsProperPrefix, is_tag};
 ghost use Rattle.sec1_der.specs.Elements.{LacksHeader, element, header, max_length};
 ghost use Rattle.sec1_der.specs.ErrorKinds.{Refuses, header_fault};
 ghost use Rattle.sec1_der.specs.Faults.{any_fault, no_fault, tree_fault};
@@ -147,9 +147,9 @@ pub extern "C" fn sec1_element_write(
 ) -> u32
     ensures element { IsHeader tag (length content.now)
         → Writes (element tag content.now) out.old out.new result len.new }
-    ensures no_tag { ¬ IsTag tag
+    ensures no_tag { ¬ IsTrue (is_tag tag)
         → WritesNothing (kind_number ErrorKind.Tag) out.old out.new result len.old len.new }
-    ensures overlength { IsTag tag → max_length < length content.now
+    ensures overlength { IsTrue (is_tag tag) → max_length < length content.now
         → WritesNothing (kind_number ErrorKind.Overlength) out.old out.new result len.old len.new }
 {
     match header_given(tag, content.len()) {
@@ -165,8 +165,8 @@ pub extern "C" fn sec1_element_write(
 /// Tag if no element has the tag; Overlength if the content is longer than 268,435,455 bytes.
 fn header_given(tag: usize, len: usize) -> der::Result<Header>
     ensures header { OkIff result (IsHeader tag len) (record { tag = tag; length = len }) }
-    ensures no_tag { ¬ IsTag tag → Refuses result ErrorKind.Tag }
-    ensures overlength { IsTag tag → max_length < len → Refuses result ErrorKind.Overlength }
+    ensures no_tag { ¬ IsTrue (is_tag tag) → Refuses result ErrorKind.Tag }
+    ensures overlength { IsTrue (is_tag tag) → max_length < len → Refuses result ErrorKind.Overlength }
 {
     let Ok(byte) = u8::try_from(tag) else {
         return Err(ErrorKind::Tag.into());

@@ -10,7 +10,8 @@ use Rattle.sec1_der.proofs.ElementLaws.{element_of-some}
 use Rattle.sec1_der.specs.Faults.{no_fault, end_fault, element_fault}
 use Rattle.sec1_der.specs.Contents.{are_bits, bit_string_fault, whole_bits_fault, whole_bits_field_fault}
 use Rattle.sec1_der.specs.Contents.{identifier_fault}
-use Rattle.sec1_der.specs.Identifiers.{IsIdentifier, is_identifier, content_of}
+use Rattle.sec1_der.specs.Identifiers.{IsIdentifier, content_of}
+use Rattle.sec1_der.proofs.IdentifierLaws.{is_identifier}
 use Rattle.sec1_der.proofs.IdentifierLaws.{encodes_of, is_identifier-true, is_identifier-valid}
 use Rattle.sec1_der.specs.declared.error.ErrorKind.TheVariants.{Value}
 use Rattle.sec1_der.proofs.FaultLaws.{alone, element_at}

@@ -1,4 +1,5 @@
 -- What the bytes of an element, and bytes that begin with none, are refused by.
+use Rattle.std.proofs.Common.{true}
 use Rattle.std.proofs.Common.{◌≡◌, ℕ, ◌+◌, ◌<◌, ◌≤◌, false, ◌&&◌, nat_le, List, [], ◌∷◌, ◌++◌, length, take, drop}
 use Rattle.std.proofs.Common.{slice_get, Option, Some, None, IsSomeAnd, Err, ⊎_elim, refl, ap, sym, ◌∙◌, arith}
 use Rattle.std.proofs.Common.{leb-true, eq-eqb, length-drop, append-nil, append_assoc, length-append}
@@ -6,16 +7,15 @@ use Rattle.std.proofs.Common.{take-append-drop, bytes_eq}
 use Rattle.std.proofs.lemmas.Bool.{lt-leb, and_parts, cases_Bool, cases_lt}
 use Rattle.std.proofs.lemmas.Slice.Eq.{bytes_eq-Decides}
 use Rattle.std.specs.Option.{option_or}
-use Rattle.sec1_der.specs.Elements.{max_length, length_octets, header, element, element_of, IsTag, IsHeader, IsElement}
+use Rattle.sec1_der.specs.Elements.{max_length, length_octets, header, element, element_of, is_tag, IsHeader, IsElement}
 use Rattle.sec1_der.specs.Elements.{IsProperPrefix, LacksHeader}
-use Rattle.sec1_der.specs.ErrorKinds.{is_tag, length_fault, header_fault}
+use Rattle.sec1_der.specs.ErrorKinds.{length_fault, header_fault}
 use Rattle.sec1_der.specs.Readers.{Reader, reader_over, HasReadElement}
 use Rattle.sec1_der.specs.Faults.{Fault, no_fault, end_fault, number_at, length_at, within, parts_fault}
 use Rattle.sec1_der.specs.Faults.{element_fault, optional_fault, field_fault, any_fault, document_fault}
 use Rattle.sec1_der.specs.declared.error.ErrorKind.TheVariants.{Truncated, TrailingData}
 use Rattle.sec1_der.proofs.HeaderLemmas.{fronts, header_front, longer, some_length}
-use Rattle.sec1_der.proofs.ElementLaws.{is_tag-true, header_apart, element_of-within}
-use Rattle.sec1_der.proofs.ElementLaws.{tag_from_test}
+use Rattle.sec1_der.proofs.ElementLaws.{header_apart, element_of-within}
 use Rattle.sec1_der.proofs.FaultLaws.{length_at_octets, parts_at, any_room, any_at, alone, read_element}
 
 -- ---- lengths
@@ -41,19 +41,17 @@ pub any_short : (f : ℕ → Fault) (g : Fault) (tag n : ℕ) (bytes inside : Li
     → bytes ≡ header tag n ++ inside → length inside < n
     → any_fault f g bytes ≡ Some Truncated
 any_short f g tag n bytes inside h e few =
-    rw (e, is_tag-true tag h.tag_byte, length_at_octets n inside h.within, lt-leb n (length inside) few) refl
+    rw (e, h.tag_byte, length_at_octets n inside h.within, lt-leb n (length inside) few) refl
 
 -- bytes that begin with no header are refused by the fault of their header
 pub any_without_header : (f : ℕ → Fault) (g : Fault) (bytes : List ℕ) → LacksHeader bytes
     → any_fault f g bytes ≡ Some (header_fault bytes)
 any_without_header f g [] lacks = refl
 any_without_header f g (byte ∷ bytes) lacks = ⊎_elim
-    (λ e. let is : IsTag byte = tag_from_test byte e in
-    rw (
-      e,
-      length_at_lacks bytes
-          (λ n rest fits same. lacks byte n rest (record { tag_byte = is; within = fits }) (ap (λ xs. byte ∷ xs) same)),
-    )
+    (λ e. let is : is_tag byte ≡ true = e in
+    let none = length_at_lacks bytes
+    (λ n rest fits same. lacks byte n rest (record { tag_byte = is; within = fits }) (ap (λ xs. byte ∷ xs) same)) in
+    rw (e, none)
     refl)
     (λ e. rw e refl)
     (cases_Bool (is_tag byte))
@@ -84,11 +82,11 @@ parts_cut : (f g : Fault) (tag : ℕ) (content bytes : List ℕ) → IsHeader ta
     → IsProperPrefix (tag ∷ bytes) (element tag content)
     → parts_fault f g (within (length_at bytes)) ≡ Some Truncated
 parts_cut f g tag content bytes h cut =
-    rw (is_tag-true tag h.tag_byte) at (any_cut (λ _. f) g tag content (tag ∷ bytes) h cut)
+    rw h.tag_byte at (any_cut (λ _. f) g tag content (tag ∷ bytes) h cut)
 
 -- the tag of a SEQUENCE is a tag
-sequence_tag : IsTag 0x30
-sequence_tag = tag_from_test 0x30 refl
+sequence_tag : is_tag 0x30 ≡ true
+sequence_tag = refl
 
 -- a truncated element with this tag, whatever its tag
 pub element_cut : (f g : Fault) (tag : ℕ) (content input : List ℕ) → length content ≤ max_length
@@ -102,12 +100,12 @@ element_cut f g tag content (byte ∷ bytes) fits cut =
     rw (← same, eq-eqb tag tag refl, inside) refl
 
 -- where the tag is next, an element with this tag is refused as one of any tag is
-pub element_next : (f g : Fault) (tag : ℕ) (bytes : List ℕ) → IsTag tag → slice_get bytes 0 ≡ Some tag
+pub element_next : (f g : Fault) (tag : ℕ) (bytes : List ℕ) → is_tag tag ≡ true → slice_get bytes 0 ≡ Some tag
     → element_fault tag f g bytes ≡ any_fault (λ _. f) g bytes
 element_next f g tag [] is next = absurd (cc next)
 element_next f g tag (byte ∷ bytes) is next =
     let same : byte ≡ tag = cc next in
-    rw (same, eq-eqb tag tag refl, is_tag-true tag is) refl
+    rw (same, eq-eqb tag tag refl, is) refl
 
 -- ---- one element after another
 

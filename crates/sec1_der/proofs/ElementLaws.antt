@@ -1,35 +1,18 @@
 -- An element is determined by its bytes, and has a content that it can hold. Further crates cite
 -- these laws.
-use Rattle.std.proofs.Common.{◌≡◌, ℕ, ◌≤◌, List, length, Option, Some, None, refl, arith, ⊎_elim}
-use Rattle.std.proofs.Common.{tests, append_assoc, ne_eqb, ◌%◌, true, ◌++◌, [], sym, ap, ◌∙◌}
-use Rattle.std.proofs.lemmas.Bool.{le-leb, lt-leb, lt-ltb, cases_lt}
-use Rattle.sec1_der.specs.Elements.{max_length, header, element, element_of, IsTag}
-use Rattle.sec1_der.specs.ErrorKinds.{is_tag}
+use Rattle.std.proofs.Common.{◌≡◌, ℕ, ◌≤◌, List, length, Option, Some, None, refl, ⊎_elim}
+use Rattle.std.proofs.Common.{append_assoc, ◌++◌, [], sym, ap, ◌∙◌}
+use Rattle.std.proofs.lemmas.Bool.{le-leb, lt-leb, cases_lt}
+use Rattle.sec1_der.specs.Elements.{max_length, header, element, element_of}
 use Rattle.sec1_der.proofs.LengthLaws.{len_apart, split_same}
 use Rattle.sec1_der.specs.Trees.{bytes}
 use Rattle.sec1_der.specs.Faults.{within}
-
--- a tag passes the test for one
-pub is_tag-true : (tag : ℕ) → IsTag tag → is_tag tag ≡ true
-is_tag-true tag h =
-    rw (lt-ltb tag 256 h.byte, ne_eqb tag 0 h.not_end_of_contents, ne_eqb (tag % 32) 31 h.not_high)
-    refl
 
 -- two headers that begin one list
 pub header_apart : (tag n tag' n' : ℕ) (r s : List ℕ) → header tag n ++ r ≡ header tag' n' ++ s
     → (tag ≡ tag') × (n ≡ n') × (r ≡ s)
 header_apart tag n tag' n' r s e =
     let (lengths, rests) = len_apart n n' r s (cc) in (cc, lengths, rests)
-
--- a byte that passes the test is a tag
-pub tag_from_test : (byte : ℕ) → is_tag byte ≡ true → IsTag byte
-tag_from_test byte e =
-    record {
-      byte = grind (arith, tests);
-      not_end_of_contents = λ zero. grind (arith, tests);
-      not_high =
-          λ ones. grind (arith, tests);
-    }
 
 -- an element is determined by a list that it begins
 pub element_apart : (tag tag' : ℕ) (b c r s : List ℕ) → element tag b ++ r ≡ element tag' c ++ s

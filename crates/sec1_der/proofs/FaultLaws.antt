@@ -1,9 +1,9 @@
 -- What the bytes of an element are refused by, and a reader that continues behind one. Further crates
 -- cite these laws.
-use Rattle.std.proofs.Common.{◌≡◌, ◌++◌, ℕ, List, false, refl, sym, ◌∙◌}
+use Rattle.std.proofs.Common.{◌≡◌, ◌==◌, ◌++◌, ℕ, List, false, refl, sym, ◌∙◌, if◌then◌else◌}
 use Rattle.std.proofs.Common.{ap, Option, Some, None, IsSomeAnd, Ok}
 use Rattle.std.proofs.Common.{eq-eqb, ◌≤◌, length, take, drop, arith, le-leb, length-append}
-use Rattle.std.proofs.Common.{append_assoc}
+use Rattle.std.proofs.Common.{append_assoc, bit_and, not}
 use Rattle.std.specs.Option.{option_or}
 use Rattle.sec1_der.specs.Readers.{Reader, HasReadElement, reader_over}
 use Rattle.sec1_der.specs.Faults.{Fault, no_fault, length_at, within, parts_fault, element_fault}
@@ -12,7 +12,6 @@ use Rattle.sec1_der.specs.declared.error.ErrorKind.{ErrorKind}
 use Rattle.std.proofs.Math.Seq.{take-append_seam, drop-append_seam}
 use Rattle.std.proofs.lemmas.Slice.Eq.{bytes_eq-Decides}
 use Rattle.sec1_der.specs.Elements.{max_length, length_octets, header, element, IsHeader}
-use Rattle.sec1_der.proofs.ElementLaws.{is_tag-true}
 use Rattle.sec1_der.proofs.LengthLaws.{number_at_octets}
 
 -- the length that the bytes begin with is found, and what follows it
@@ -57,7 +56,7 @@ pub any_room : (f : ℕ → Fault) (g : Fault) (tag n : ℕ) (bytes inside : Lis
 any_room f g tag n bytes inside h e fits =
     rw (
       e,
-      is_tag-true tag h.tag_byte,
+      h.tag_byte,
       length_at_octets n inside h.within,
       le-leb n (length inside) fits,
     ) refl
@@ -68,7 +67,7 @@ pub any_at : (f : ℕ → Fault) (g : Fault) (tag : ℕ) (content bytes rest : L
     → bytes ≡ element tag content ++ rest
     → any_fault f g bytes ≡ option_or (f tag content) (g rest)
 any_at f g tag content bytes rest h e =
-    rw (e, is_tag-true tag h.tag_byte) (parts_at (f tag) g content rest h.within)
+    rw (e, h.tag_byte) (parts_at (f tag) g content rest h.within)
 
 -- the same of an element with this tag
 pub element_at : (f g : Fault) (tag : ℕ) (content bytes rest : List ℕ) → length content ≤ max_length
@@ -126,3 +125,7 @@ reads_on f tag content old new some none = passes_over (element_fault tag f) f c
 pub reader_at : (r : Reader) (bytes : List ℕ) → r.unread ≡ bytes → r.failed ≡ false
     → r ≡ reader_over bytes
 reader_at r bytes unread whole = rw (← unread, ← whole) refl
+
+-- the content of a constructed element is elements again
+abbrev pub nested_fault : Fault → ℕ → Fault
+nested_fault row tag content = if not (bit_and tag 0x20 == 0) then row content else None

@@ -7,7 +7,7 @@ use Rattle.std.proofs.Common.{arith}
 use Rattle.std.proofs.lemmas.Bool.Decides.{nat_tests}
 use Rattle.std.specs.Bool.{Decides}
 use Rattle.std.specs.List.{AllByRecursion, list_all}
-use Rattle.sec1_der.specs.Identifiers.{content_of, IsIdentifier, are_arcs, is_identifier}
+use Rattle.sec1_der.specs.Identifiers.{content_of, IsIdentifier, are_arcs}
 use Rattle.sec1_der.specs.Identifiers.{identifier_content, max_identifier_length}
 
 -- two or more arcs of an identifier, whose content may be of any length
@@ -53,6 +53,10 @@ arcs_tested arcs h = (are_arcs-decides arcs).1 h
 -- the content of an identifier encodes its arcs
 pub encodes_of : (arcs content : List ℕ) → IsIdentifier arcs content → EncodesArcs arcs content
 encodes_of arcs content is = record { allowed = arcs_allowed arcs is.allowed; encoded = is.encoded }
+
+-- whether a list is the arcs of an identifier, whose content isn't too long
+abbrev pub is_identifier : List ℕ → Bool
+is_identifier arcs = are_arcs arcs && nat_le (length (content_of arcs)) max_identifier_length
 
 short_too : (b : Bool) (n : ℕ) (P : Type 0) → Decides b P
     → Decides (b && nat_le n max_identifier_length) (P × (n ≤ max_identifier_length))

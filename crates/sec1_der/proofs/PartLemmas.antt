@@ -1,9 +1,9 @@
 -- Parts of a SEQUENCE.
 use Rattle.std.proofs.Common.{◌≡◌, ◌==◌, ◌++◌, ◌∷◌, [], ◌||◌, not, ℕ, List, Bool, true, false, refl, sym, ◌∙◌, ap}
-use Rattle.std.proofs.Common.{Option, Some, None, IsSomeAnd, eq-eqb}
+use Rattle.std.proofs.Common.{Option, Some, None, IsSomeAnd, inl, inr, eq-eqb}
 use Rattle.std.proofs.lemmas.Bool.{and_parts, eqb-true}
 use Rattle.sec1_der.specs.Parts.{Tags, is_among, disjoint, Begins, MayFollow, both_tags}
-use Rattle.sec1_der.specs.PartLaws.{among_left, among_right}
+use Rattle.sec1_der.specs.PartLaws.{among_either}
 use Rattle.sec1_der.specs.Readers.{Reader, HasReadElement}
 use Rattle.sec1_der.specs.Faults.{Fault, no_fault, optional_fault, is_next}
 use Rattle.sec1_der.specs.Faults.{element_fault}
@@ -38,7 +38,7 @@ next_by : (pf po qf qo : List ℕ) (p q pa qa : Bool) (y rest : List ℕ) → di
 next_by pf po qf qo p false pa qa [] rest d e n = absurd (cc e)
 next_by pf po qf qo p true pa qa [] [] d e n = tt
 next_by pf po qf qo p true pa qa [] (byte ∷ rest) d e n =
-    false_unless (is_among byte po) (λ among. absurd (cc (sym (among_right byte qo po among) ∙ n)))
+    false_unless (is_among byte po) (λ among. absurd (cc (sym (among_either byte qo po (inr among)) ∙ n)))
 next_by pf po qf qo p q pa qa (byte ∷ y) rest d e n =
     false_unless (is_among byte po) (λ among. apart_among byte po qf d e among)
 
@@ -54,7 +54,7 @@ second_by : (pf po qf qo : List ℕ) (p q pa qa : Bool) (rest : List ℕ)
 second_by pf po qf qo p q pa qa [] n = tt
 second_by pf po qf qo p false pa qa (byte ∷ rest) n = n
 second_by pf po qf qo p true pa qa (byte ∷ rest) n =
-    false_unless (is_among byte qo) (λ among. absurd (cc (sym (among_left byte qo po among) ∙ n)))
+    false_unless (is_among byte qo) (λ among. absurd (cc (sym (among_either byte qo po (inl among)) ∙ n)))
 
 -- what may follow two parts may follow the second
 pub next_second : (p q : Tags) (rest : List ℕ) → MayFollow (both_tags p q) rest → MayFollow q rest

@@ -10,7 +10,8 @@ use Rattle.std.proofs.lemmas.List.{take-append-drop}
 use Rattle.std.specs.Option.{option_or}
 use Rattle.sec1_der.specs.Elements.{length_octets, element, IsConstructed, IsHeader}
 use Rattle.sec1_der.specs.ErrorKinds.{IsHeaderFault}
-use Rattle.sec1_der.specs.Faults.{Fault, end_fault, any_fault, nested_fault, row_fault, tree_fault}
+use Rattle.sec1_der.proofs.FaultLaws.{nested_fault}
+use Rattle.sec1_der.specs.Faults.{Fault, end_fault, any_fault, row_fault, tree_fault}
 use Rattle.sec1_der.specs.Trees.{Tree, leaf, branch, none, first, bytes, size, IsTree, max_tree_depth}
 use Rattle.sec1_der.specs.Walks.{Skips, Opens}
 use Rattle.sec1_der.specs.declared.error.ErrorKind.{ErrorKind}

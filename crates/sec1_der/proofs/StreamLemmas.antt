@@ -14,7 +14,8 @@ use Rattle.sec1_der.specs.declared.error.Error.{Error}
 use Rattle.sec1_der.specs.declared.error.ErrorKind.{ErrorKind}
 use Rattle.sec1_der.specs.declared.error.ErrorKind.TheVariants.{Truncated, TrailingData, Io, Memory, Tag, Length}
 use Rattle.sec1_der.specs.Elements.{IsElement, IsHeader, LacksHeader, header}
-use Rattle.sec1_der.specs.ErrorKinds.{header_fault, length_fault, is_tag, IsIoOrMemory}
+use Rattle.sec1_der.specs.ErrorKinds.{header_fault, length_fault, IsIoOrMemory}
+use Rattle.sec1_der.specs.Elements.{is_tag}
 use Rattle.sec1_der.specs.ReadsDocument.{TakenBeforeRefusal, RefusesElement, ConsumesElement}
 use Rattle.sec1_der.specs.Streams.{ReadsOnto, Takes, Ends}
 use Rattle.sec1_der.specs.Faults.{no_fault, end_fault, document_fault}

@@ -3,7 +3,7 @@ use Rattle.std.specs.Prelude.{◌==◌, ℕ, ◌^◌, ◌%◌, nat_le, Bool, ◌
 use Rattle.std.specs.Prelude.{if◌then◌else◌, List, [], ◌∷◌, length, slice_index, Option, Some, None}
 use Rattle.std.specs.Str.{bytes_eq}
 use Rattle.sec1_der.specs.ArcsOf.{arcs_of}
-use Rattle.sec1_der.specs.Identifiers.{is_identifier, content_of}
+use Rattle.sec1_der.specs.Identifiers.{are_arcs, content_of, max_identifier_length}
 use Rattle.std.specs.Option.{option_or}
 use Rattle.sec1_der.specs.Faults.{Fault, no_fault, end_fault, element_fault}
 use Rattle.sec1_der.specs.declared.error.ErrorKind.{ErrorKind}
@@ -44,5 +44,6 @@ whole_bits_field_fault bytes = option_or (element_fault 0x03 bit_string_fault en
 -- X.690 section 8.19: Any content other than that of an identifier is refused.
 abbrev pub identifier_fault : Fault
 identifier_fault content =
-    value_unless (is_identifier (arcs_of content)
-    && bytes_eq (content_of (arcs_of content)) content)
+    let arcs = arcs_of content in
+    value_unless ((are_arcs arcs && nat_le (length (content_of arcs)) max_identifier_length)
+    && bytes_eq (content_of arcs) content)

@@ -1,6 +1,6 @@
 -- X.690: an element is a tag byte, a length and a content.
-use Rattle.std.specs.Prelude.{◌≡◌, ◌≢◌, ℕ, ◌+◌, ◌%◌, ◌<◌, ◌≤◌, List, [], ◌∷◌, ◌++◌, length, nat_lt}
-use Rattle.std.specs.Prelude.{nat_le, Option, Some, None, if◌then◌else◌}
+use Rattle.std.specs.Prelude.{◌≡◌, ◌≢◌, ℕ, ◌+◌, ◌%◌, ◌≤◌, List, [], ◌∷◌, ◌++◌, length, nat_lt}
+use Rattle.std.specs.Prelude.{nat_le, Option, Some, None, if◌then◌else◌, Bool, IsTrue, ◌&&◌, not, ◌==◌}
 use Rattle.std.specs.Int.{IsBitSet}
 use Rattle.std.specs.Int.Digits.{digits_of}
 
@@ -8,12 +8,10 @@ use Rattle.std.specs.Int.Digits.{digits_of}
 abbrev pub max_length : ℕ
 max_length = 268435455
 
--- X.690 section 8.1.2: a tag byte. It isn't 00, which is reserved for end-of-contents, and its low
--- five bits aren't all ones, which begin a high tag number.
-pub record IsTag (tag : ℕ) : Type 0 where
-  pub byte : tag < 256
-  pub not_end_of_contents : tag ≢ 0
-  pub not_high : tag % 32 ≢ 31
+-- X.690 section 8.1.2: whether this is a tag byte. It isn't 00, which is reserved for
+-- end-of-contents, and its low five bits aren't all ones, which begin a high tag number.
+abbrev pub is_tag : ℕ → Bool
+is_tag byte = nat_lt byte 256 && not (byte == 0) && not (byte % 32 == 31)
 
 -- X.690 section 8.1.2.5: bit 20 (hexadecimal) marks a constructed element.
 abbrev pub IsConstructed : ℕ → Type 0
@@ -32,7 +30,7 @@ header tag n = tag ∷ length_octets n
 
 -- a tag byte, and a length that isn't above the limit
 pub record IsHeader (tag n : ℕ) : Type 0 where
-  pub tag_byte : IsTag tag
+  pub tag_byte : IsTrue (is_tag tag)
   pub within : n ≤ max_length
 
 -- a tag byte, the length of the content, and the content

@@ -1,6 +1,7 @@
 -- The kinds of errors, and the fault of a header.
-use Rattle.std.specs.Prelude.{◌≡◌, ◌⊎◌, ℕ, ◌-◌, ◌%◌, Bool, ◌&&◌, not, ◌==◌, nat_lt, nat_le}
+use Rattle.std.specs.Prelude.{◌≡◌, ◌⊎◌, ℕ, ◌-◌, ◌&&◌, nat_lt, nat_le}
 use Rattle.std.specs.Prelude.{if◌then◌else◌, List, [], ◌∷◌, length, Result, IsErrAnd}
+use Rattle.sec1_der.specs.Elements.{is_tag}
 use Rattle.sec1_der.specs.declared.error.Error.{Error}
 use Rattle.sec1_der.specs.declared.error.ErrorKind.{ErrorKind}
 use Rattle.sec1_der.specs.declared.error.ErrorKind.TheVariants.{Truncated, Tag, Length}
@@ -39,10 +40,6 @@ length_fault [] = Truncated
 length_fault (first ∷ digits) =
     if nat_lt 0x80 first && nat_le first 0x84 && nat_lt (length digits) (first - 0x80)
     then Truncated else Length
-
--- the test for a tag byte
-abbrev pub is_tag : ℕ → Bool
-is_tag byte = nat_lt byte 256 && not (byte == 0) && not (byte % 32 == 31)
 
 -- The kind, if the bytes don't begin with a header. The tag is checked before the length.
 abbrev pub header_fault : List ℕ → ErrorKind

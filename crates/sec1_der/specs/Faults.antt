@@ -5,8 +5,8 @@ use Rattle.std.specs.Prelude.{nat_le, if◌then◌else◌, bit_and, List, [], �
 use Rattle.std.specs.Prelude.{Option, Some, None, Result, Ok, Err, MatchResult}
 use Rattle.std.specs.Option.{option_or}
 use Rattle.std.specs.Str.{bytes_eq}
-use Rattle.sec1_der.specs.Elements.{max_length, length_octets}
-use Rattle.sec1_der.specs.ErrorKinds.{is_tag, length_fault}
+use Rattle.sec1_der.specs.Elements.{max_length, is_tag, length_octets}
+use Rattle.sec1_der.specs.ErrorKinds.{length_fault}
 use Rattle.sec1_der.specs.Numbers.{number_of}
 use Rattle.sec1_der.specs.Trees.{max_tree_depth}
 use Rattle.sec1_der.specs.declared.error.Error.{Error}
@@ -101,19 +101,20 @@ any_fault content behind (tag ∷ bytes) =
 abbrev pub document_fault : Fault
 document_fault = any_fault (λ _. no_fault) end_fault
 
--- X.690 section 8.1.2.5: the content of a constructed element is elements again
-abbrev pub nested_fault : Fault → ℕ → Fault
-nested_fault row tag content = if not (bit_and tag 0x20 == 0) then row content else None
-
--- A sequence of elements at this level. There are no more of them, and they are nested no deeper,
--- than there are bytes.
+-- A sequence of elements at this level, where the content of a constructed element is elements again
+-- (X.690 section 8.1.2.5). There are no more of them, and they are nested no deeper, than there are
+-- bytes.
 abbrev pub row_fault : ℕ → ℕ → Fault
 row_fault zero level bytes = None
 row_fault (suc most) level [] = None
 row_fault (suc most) level (byte ∷ bytes) =
     if nat_lt max_tree_depth level then Some Depth
-    else any_fault (nested_fault (row_fault most (level + 1))) (row_fault most level) (byte ∷ bytes)
+    else any_fault
+    (λ tag content. if not (bit_and tag 0x20 == 0) then row_fault most (level + 1) content
+    else None) (row_fault most level) (byte ∷ bytes)
 
 -- one tree that isn't too deep
 abbrev pub tree_fault : Fault
-tree_fault bytes = any_fault (nested_fault (row_fault (length bytes) 2)) end_fault bytes
+tree_fault bytes = any_fault
+    (λ tag content. if not (bit_and tag 0x20 == 0) then row_fault (length bytes) 2 content
+    else None) end_fault bytes

@@ -35,10 +35,8 @@ pub record IsIdentifier (arcs content : List ℕ) : Type 0 where
 abbrev pub dotted : List ℕ → List ℕ
 dotted arcs = join_with_byte 46 (map decimal arcs)
 
--- whether a list is the arcs of an identifier, whose content isn't too long
-abbrev pub is_identifier : List ℕ → Bool
-is_identifier arcs = are_arcs arcs && nat_le (length (content_of arcs)) max_identifier_length
-
 -- the content of an identifier; a list that is no identifier's has none
 abbrev pub identifier_content : List ℕ → Option (List ℕ)
-identifier_content arcs = if is_identifier arcs then Some (content_of arcs) else None
+identifier_content arcs =
+    if are_arcs arcs && nat_le (length (content_of arcs)) max_identifier_length
+    then Some (content_of arcs) else None

@@ -19,6 +19,5 @@ pub mod Parts
 pub mod ErrorTexts
 pub mod PartLaws
 pub mod Streams
-pub mod StdStreams
 pub mod ReadsDocument
 pub mod DebugTexts

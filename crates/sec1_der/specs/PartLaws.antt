@@ -1,7 +1,7 @@
 -- What a part begins with. Ghost members of traits cite these laws.
 use Rattle.std.specs.Prelude.{◌≡◌, ◌++◌, ◌∷◌, [], ◌||◌, ◌==◌, ℕ, List, Bool, true, false, length}
 use Rattle.std.specs.Prelude.{nat_le, Option, Some, None, if◌then◌else◌, refl}
-use Rattle.std.proofs.Common.{eq-eqb}
+use Rattle.std.proofs.Common.{◌⊎◌, inl, inr, eq-eqb}
 use Rattle.sec1_der.specs.Elements.{max_length, element, element_of}
 use Rattle.sec1_der.specs.Parts.{Tags, is_among, Begins, join, one_tag, optional_tag, both_tags}
 use Rattle.sec1_der.specs.Parts.{optional_of}
@@ -14,17 +14,24 @@ or_right : (b d : Bool) → d ≡ true → (b || d) ≡ true
 or_right true d e = refl
 or_right false d e = e
 
-pub among_left : (tag : ℕ) (xs ys : List ℕ) → is_among tag xs ≡ true
+among_left : (tag : ℕ) (xs ys : List ℕ) → is_among tag xs ≡ true
     → is_among tag (xs ++ ys) ≡ true
 among_left tag [] ys e = absurd (cc (e))
 among_left tag (x ∷ xs) ys e =
     or_left (tag == x) (is_among tag xs) (is_among tag (xs ++ ys)) (among_left tag xs ys) e
 
-pub among_right : (tag : ℕ) (xs ys : List ℕ) → is_among tag ys ≡ true
+among_right : (tag : ℕ) (xs ys : List ℕ) → is_among tag ys ≡ true
     → is_among tag (xs ++ ys) ≡ true
 among_right tag [] ys e = e
 among_right tag (x ∷ xs) ys e =
     or_right (tag == x) (is_among tag (xs ++ ys)) (among_right tag xs ys e)
+
+-- a tag is one of two lists' if it is one of either's
+pub among_either : (tag : ℕ) (xs ys : List ℕ)
+    → (is_among tag xs ≡ true) ⊎ (is_among tag ys ≡ true)
+    → is_among tag (xs ++ ys) ≡ true
+among_either tag xs ys (inl e) = among_left tag xs ys e
+among_either tag xs ys (inr e) = among_right tag xs ys e
 
 -- an element begins with its tag
 pub element_begins : (tag : ℕ) (content : Option (List ℕ)) (whole : List ℕ)

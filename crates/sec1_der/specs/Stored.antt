@@ -11,16 +11,15 @@ pub record IsStored (o : Inside) : Type 0 where
   pub length_kept : length (take o.len o.bytes) ≡ o.len
   pub zeros : o.bytes ≡ take o.len o.bytes ++ replicate (max_identifier_length - o.len) 0
 
--- the fields that hold these arcs
-abbrev pub store : List ℕ → Inside
-store arcs = let content = content_of arcs in record {
-  bytes = content ++ replicate (max_identifier_length - length content) 0;
-  len = length content;
-}
-
 -- an identifier has one way to be held
-pub store_arcs_stored : (o : Inside) → IsStored o → store (arcs_of (take o.len o.bytes)) ≡ o
-store_arcs_stored o h =
+pub stored_again : (o : Inside) → IsStored o
+    → let content = content_of (arcs_of (take o.len o.bytes)) in
+    let again : Inside = record {
+      bytes = content ++ replicate (max_identifier_length - length content) 0;
+      len = length content;
+    } in
+    again ≡ o
+stored_again o h =
     let content : content_of (arcs_of (take o.len o.bytes))
     ≡ take o.len o.bytes = sym h.identifier.encoded in
     let hold : List ℕ → ℕ → Inside = λ front n. record {

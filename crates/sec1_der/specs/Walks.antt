@@ -1,8 +1,8 @@
 -- One step of a walk over the bytes of a tree. The open nodes are known by how many bytes are left
 -- where each ends, the innermost first; 0 are left at the end of the input.
-use Rattle.std.specs.Prelude.{◌≡◌, ℕ, zero, suc, ◌+◌, ◌<◌, ◌≤◌, List, [], ◌∷◌, ◌++◌}
+use Rattle.std.specs.Prelude.{IsTrue, ◌≡◌, ℕ, zero, suc, ◌+◌, ◌<◌, ◌≤◌, List, [], ◌∷◌, ◌++◌}
 use Rattle.std.specs.Prelude.{length, get_or}
-use Rattle.sec1_der.specs.Elements.{header, IsTag, IsConstructed, max_length}
+use Rattle.sec1_der.specs.Elements.{header, is_tag, IsConstructed, max_length}
 use Rattle.sec1_der.specs.Trees.{Tree, IsTree, bytes, size, depth}
 
 -- the next element is a leaf or an empty node, and ends within the innermost node
@@ -19,7 +19,7 @@ pub record Opens (ends rest : List ℕ) (end : ℕ) (after : List ℕ) : Type 0 
   pub tag : ℕ
   pub n : ℕ
   pub fits : get_or ends 0 0 ≤ end
-  pub tag_byte : IsTag tag
+  pub tag_byte : IsTrue (is_tag tag)
   pub constructed : IsConstructed tag
   pub some : 0 < n
   pub within : n ≤ max_length

@@ -1,5 +1,5 @@
-ghost use Rattle.std.specs.Prelude.{◌≤◌, length};
-ghost use Rattle.sec1_der.specs.Elements.{max_length, IsTag};
+ghost use Rattle.std.specs.Prelude.{◌≤◌, length, IsTrue};
+ghost use Rattle.sec1_der.specs.Elements.{max_length, is_tag};
 
 use crate::debug_text::write_pair;
 use crate::header::element_at;
@@ -16,7 +16,7 @@ use std::fmt;
 pub struct AnyRef<'a> {
     tag: u8,
     value: &'a [u8],
-    ghost is_tag: { IsTag tag },
+    ghost tagged: { IsTrue (is_tag tag) },
     ghost within: { length value.now ≤ max_length },
 }
 

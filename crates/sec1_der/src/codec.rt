@@ -1,9 +1,8 @@
 //! Reading and writing values of any type, by their whole DER encoding.
-ghost use Rattle.std.specs.Prelude.{◌≡◌, ◌<◌, ◌≤◌, ◌+◌, ◌⊎◌, ◌↔◌, ◌++◌, ℕ, List, length, drop};
-ghost use Rattle.std.specs.Prelude.{⊤, Option, Some, None, IsOk, IfOk};
-ghost use Rattle.std.specs.Prelude.{IsOkAnd, IfErr, OnOk, OnErr, IfSome, IsSomeAnd};
-ghost use Rattle.std.specs.Prelude.{MatchOption, MatchResult};
-ghost use Rattle.sec1_der.specs.Elements.{max_length, element_of, IsTag};
+ghost use Rattle.std.specs.Prelude.{◌≡◌, ◌<◌, ◌≤◌, ◌+◌, ◌⊎◌, ◌↔◌, ◌++◌, ℕ, List, length, drop, ⊤};
+ghost use Rattle.std.specs.Prelude.{Option, Some, None, IsOk, IfOk, IsOkAnd, IfErr, OnOk, OnErr};
+ghost use Rattle.std.specs.Prelude.{IfSome, IsSomeAnd, MatchOption, MatchResult, IsTrue};
+ghost use Rattle.sec1_der.specs.Elements.{max_length, element_of, is_tag};
 ghost use Rattle.sec1_der.specs.Encodings.{IsOverlengthOr, ReadsElement};
 ghost use Rattle.sec1_der.specs.Elements.{IsProperPrefix};
 ghost use Rattle.sec1_der.specs.ErrorKinds.{Refuses, IsReadingFault};
@@ -66,7 +65,7 @@ pub fn read_der<'a, T: DecodeValue<'a> + Tagged + UniqueContent + Drop>(
 #[inline(always)]
 pub fn encoded_len<T: EncodeValue + Tagged>(value: &T) -> Result<usize>
     ensures { MatchResult result
-        (λ n. IsTag T.tag_byte × (n ≤ max_length + 6)
+        (λ n. IsTrue (is_tag T.tag_byte) × (n ≤ max_length + 6)
         × IsSomeAnd (element_of T.tag_byte (T.content value.now)) (λ bytes. n ≡ length bytes))
         (λ e. (e.kind ≡ ErrorKind.Overlength)
         × (element_of T.tag_byte (T.content value.now) ≡ None)) }
@@ -81,7 +80,7 @@ pub fn encoded_len<T: EncodeValue + Tagged>(value: &T) -> Result<usize>
 /// `Result` it would be returned through memory.
 fn element_len<T: EncodeValue + Tagged>(value: &T) -> Option<usize>
     ensures { MatchOption result (element_of T.tag_byte (T.content value.now) ≡ None)
-        (λ n. IsTag T.tag_byte × (n ≤ max_length + 6)
+        (λ n. IsTrue (is_tag T.tag_byte) × (n ≤ max_length + 6)
         × IsSomeAnd (element_of T.tag_byte (T.content value.now)) (λ bytes. n ≡ length bytes)) }
 {
     match element_header(value) {
@@ -124,7 +123,7 @@ pub fn encode_to_slice<T: EncodeValue + Tagged>(value: &T, buffer: &mut [u8]) ->
 ///
 /// Those of [`encoded_len`], then Memory if the allocation fails.
 pub fn to_der<T: EncodeValue + Tagged>(alloc: Global, value: &T) -> Result<Vec<u8>>
-    ensures { MatchResult result (λ der. IsTag T.tag_byte
+    ensures { MatchResult result (λ der. IsTrue (is_tag T.tag_byte)
         × (element_of T.tag_byte (T.content value.now) ≡ Some der.items))
         (IsOverlengthOr ErrorKind.Memory (element_of T.tag_byte (T.content value.now)) (λ _. ⊤)) }
 {

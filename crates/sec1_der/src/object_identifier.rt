@@ -1,14 +1,14 @@
 ghost use Rattle.std.specs.Prelude.{◌≡◌, ℕ, ◌<◌, ◌↔◌, List, length, IsTrue, MatchResult, Some};
-ghost use Rattle.std.specs.Prelude.{◌∷◌, ◌++◌, bytes_eq, true, codes, take};
+ghost use Rattle.std.specs.Prelude.{◌∷◌, ◌++◌, bytes_eq, true, codes, take, ◌-◌, replicate};
 ghost use Rattle.std.specs.Cmp.{partial_equiv_from_equiv};
 ghost use Rattle.std.specs.Fmt.{WritesStyledOnOk, debug_variant, decimal};
 ghost use Rattle.std.specs.Cmp.Lexicographic.{nat_list_eq_equiv};
 ghost use Rattle.sec1_der.specs.ArcsOf.{arcs_of, arcs_of_numbers};
 ghost use Rattle.sec1_der.specs.Contents.{identifier_fault};
 ghost use Rattle.sec1_der.specs.Identifiers.{IsIdentifier, are_arcs};
-ghost use Rattle.sec1_der.specs.Identifiers.{content_of};
+ghost use Rattle.sec1_der.specs.Identifiers.{content_of, max_identifier_length};
 ghost use Rattle.sec1_der.specs.Identifiers.{dotted, identifier_content};
-ghost use Rattle.sec1_der.specs.Stored.{IsStored, store, store_arcs_stored};
+ghost use Rattle.sec1_der.specs.Stored.{IsStored, stored_again};
 
 mod builder;
 
@@ -61,9 +61,12 @@ impl Model for ObjectIdentifier {
 
     ghost invariant = { IsStored };
 
-    ghost inverse = { store };
+    ghost inverse = { λ arcs. record {
+      bytes = content_of arcs ++ replicate (max_identifier_length - length (content_of arcs)) 0;
+      len = length (content_of arcs);
+    } };
 
-    ghost inverse_ok = { store_arcs_stored };
+    ghost inverse_ok = { stored_again };
 }
 
 impl ObjectIdentifier {

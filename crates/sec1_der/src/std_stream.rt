@@ -1,6 +1,5 @@
 //! The standard library's readers and writers, as readers and writers that remember a failure.
-ghost use Rattle.std.specs.Prelude.{◌≡◌, false};
-ghost use Rattle.sec1_der.specs.StdStreams.{StdStream};
+ghost use Rattle.std.specs.Prelude.{◌≡◌, Bool, false};
 
 use crate::stream::{IoFault, Read, Write};
 use std::io;
@@ -15,15 +14,15 @@ pub struct StdReader<R> {
 }
 
 impl<R> Model for StdReader<R> {
-    ghost Value = { StdStream R };
+    ghost Value = { R × Bool };
 
-    ghost view = { λ reader. record { inner = reader.inner; failed = reader.is_failed } };
+    ghost view = { λ reader. (reader.inner, reader.is_failed) };
 }
 
 impl<R> StdReader<R> {
     /// Creates a reader that hasn't failed.
     pub fn new(inner: R) -> StdReader<R>
-        ensures { result ≡ record { inner = inner; failed = false } }
+        ensures { result ≡ (inner, false) }
     {
         StdReader {
             inner,
@@ -33,7 +32,7 @@ impl<R> StdReader<R> {
 
     /// Returns the standard library's reader.
     pub fn into_inner(self) -> R
-        ensures { result ≡ self.inner }
+        ensures { result ≡ self.0 }
     {
         let StdReader {
             inner,
@@ -44,9 +43,9 @@ impl<R> StdReader<R> {
 }
 
 impl<R: io::Read> Read for StdReader<R> {
-    ghost left = { λ reader. R.remaining reader.inner };
+    ghost left = { λ reader. R.remaining reader.0 };
 
-    ghost failed = { λ reader. reader.failed };
+    ghost failed = { λ reader. reader.1 };
 
     fn read(&mut self, buf: &mut [u8]) -> Result<usize, IoFault> {
         if self.is_failed {
@@ -75,15 +74,15 @@ pub struct StdWriter<W> {
 }
 
 impl<W> Model for StdWriter<W> {
-    ghost Value = { StdStream W };
+    ghost Value = { W × Bool };
 
-    ghost view = { λ writer. record { inner = writer.inner; failed = writer.is_failed } };
+    ghost view = { λ writer. (writer.inner, writer.is_failed) };
 }
 
 impl<W> StdWriter<W> {
     /// Creates a writer that hasn't failed.
     pub fn new(inner: W) -> StdWriter<W>
-        ensures { result ≡ record { inner = inner; failed = false } }
+        ensures { result ≡ (inner, false) }
     {
         StdWriter {
             inner,
@@ -93,7 +92,7 @@ impl<W> StdWriter<W> {
 
     /// Returns the standard library's writer.
     pub fn into_inner(self) -> W
-        ensures { result ≡ self.inner }
+        ensures { result ≡ self.0 }
     {
         let StdWriter {
             inner,
@@ -104,9 +103,9 @@ impl<W> StdWriter<W> {
 }
 
 impl<W: io::Write> Write for StdWriter<W> {
-    ghost written = { λ writer. W.contents writer.inner };
+    ghost written = { λ writer. W.contents writer.0 };
 
-    ghost failed = { λ writer. writer.failed };
+    ghost failed = { λ writer. writer.1 };
 
     fn write(&mut self, buf: &[u8]) -> Result<usize, IoFault> {
         if self.is_failed {

@@ -2,7 +2,7 @@ ghost use Rattle.std.specs.Prelude.{◌≡◌, ◌+◌, ◌≤◌, ◌↔◌, Ma
 ghost use Rattle.std.specs.Prelude.{Some, codes};
 ghost use Rattle.std.specs.Fmt.{decimal};
 ghost use Rattle.sec1_der.specs.DebugTexts.{struct_text};
-ghost use Rattle.sec1_der.specs.Elements.{IsTag, IsConstructed};
+ghost use Rattle.sec1_der.specs.Elements.{is_tag, IsConstructed};
 
 use crate::debug_text::write_struct;
 use crate::{ErrorKind, Result};
@@ -20,7 +20,7 @@ impl Model for Tag {
 
     ghost view = { λ t. t.byte };
 
-    ghost invariant = { λ t. IsTag t.byte };
+    ghost invariant = { λ t. IsTrue (is_tag t.byte) };
 
     ghost inverse = { λ n. record { byte = n } };
 }
@@ -120,9 +120,10 @@ impl Tag {
     // Each of the two arms becomes a branch. Of one test with `||` LLVM makes both comparisons and
     // joins their results, which takes more instructions.
     #[inline(always)]
+    #[tactic(auto, using(std::proofs::lemmas::Bool::Decides::nat_tests))]
     pub fn from_byte(byte: u8) -> Result<Tag>
-        ensures { MatchResult result (λ tag. IsTag byte × (tag ≡ byte))
-            (λ e. ¬ IsTag byte × (e.kind ≡ ErrorKind.Tag)) }
+        ensures { MatchResult result (λ tag. IsTrue (is_tag byte) × (tag ≡ byte))
+            (λ e. ¬ IsTrue (is_tag byte) × (e.kind ≡ ErrorKind.Tag)) }
     {
         match byte {
             0 => Err(ErrorKind::Tag.into()),
@@ -133,13 +134,14 @@ impl Tag {
 
     /// Returns the tag with this byte, which is that of a tag.
     pub(crate) fn of_byte(byte: u8) -> Tag
-        requires { IsTag byte }
+        requires { IsTrue (is_tag byte) }
         ensures { result ≡ byte }
     {
         Tag { byte }
     }
 
     /// Returns the tag of an explicit field `[number]`.
+    #[tactic(auto, using(std::proofs::lemmas::Bool::Decides::nat_tests))]
     pub(crate) fn context(number: u8) -> Tag
         requires { number ≤ 30 }
         ensures { result ≡ 0xA0 + number }
@@ -151,7 +153,7 @@ impl Tag {
 
     /// Returns the tag byte.
     pub fn byte(self) -> u8
-        ensures { (result ≡ self) × IsTag result }
+        ensures { (result ≡ self) × IsTrue (is_tag result) }
     {
         self.byte
     }

@@ -1,8 +1,8 @@
 //! The traits of DER values: with them the generic calls read and write a type.
-ghost use Rattle.std.specs.Prelude.{◌≡◌, ◌≤◌, ℕ, List, length, Option, Some, None, IsSomeAnd};
-ghost use Rattle.std.specs.Prelude.{Bool, false, MatchResult};
+ghost use Rattle.std.specs.Prelude.{◌≡◌, ◌≤◌, ℕ, List, length, Option, Some, None, IsSomeAnd, Bool};
+ghost use Rattle.std.specs.Prelude.{false, MatchResult, IsTrue};
 ghost use Rattle.sec1_der.specs.BackWriters.{WritesInFront, Puts};
-ghost use Rattle.sec1_der.specs.Elements.{max_length, within_limit, IsTag};
+ghost use Rattle.sec1_der.specs.Elements.{max_length, within_limit, is_tag};
 ghost use Rattle.sec1_der.specs.Encodings.{Measures};
 ghost use Rattle.sec1_der.specs.Readers.{ReadsContent};
 ghost use Rattle.sec1_der.specs.Faults.{Fault};
@@ -120,7 +120,7 @@ pub trait Sequence<'a>: DecodeValue<'a> + EncodeValue + FixedTag {
 /// Returns the header of the value's element.
 pub(crate) fn element_header<T: EncodeValue + Tagged>(value: &T) -> Result<Header>
     ensures { MatchResult result
-        (λ header. IsTag T.tag_byte × IsSomeAnd (within_limit (T.content value.now))
+        (λ header. IsTrue (is_tag T.tag_byte) × IsSomeAnd (within_limit (T.content value.now))
         (λ content. header ≡ record { tag = T.tag_byte; length = length content }))
         (λ e. (e.kind ≡ ErrorKind.Overlength) × (within_limit (T.content value.now) ≡ None)) }
 {

@@ -1,11 +1,11 @@
 //! Builds an identifier from the arcs of its text.
 ghost use Rattle.std.specs.Prelude.{◌≡◌, ℕ, ◌<◌, ◌≤◌, ◌+◌, ◌*◌, ◌^◌, List, [], ◌∷◌, ◌++◌, length};
-ghost use Rattle.std.specs.Prelude.{IsTrue, MatchOption, MatchResult};
+ghost use Rattle.std.specs.Prelude.{IsTrue, MatchOption, MatchResult, map};
 ghost use Rattle.std.specs.Fmt.{decimal};
 ghost use Rattle.std.specs.Int.Digits.{digits_of};
 ghost use Rattle.sec1_der.specs.Identifiers.{are_arcs, IsIdentifier, content_of};
 ghost use Rattle.sec1_der.specs.Identifiers.{max_identifier_length};
-ghost use Rattle.sec1_der.specs.Numbers.{base128, marked};
+ghost use Rattle.sec1_der.specs.Numbers.{base128};
 
 use super::MAX_CONTENT;
 use crate::{ErrorKind, Result};
@@ -174,9 +174,10 @@ impl Content {
     /// Appends the base 128 digits of a number, none for 0, each with bit 80 (hexadecimal) set.
     #[tactic(auto, using(crate::proofs::IdentifierLemmas::marked_steps))]
     fn push_marked(&mut self, n: u32) -> Result<()>
-        ensures { MatchResult result (λ _. self.new ≡ self.old ++ marked (digits_of 128 n))
+        ensures { let digits = map (λ digit. 0x80 + digit) (digits_of 128 n) in
+            MatchResult result (λ _. self.new ≡ self.old ++ digits)
             (λ e. (e.kind ≡ ErrorKind.Value)
-            × (max_identifier_length < length self.old + length (marked (digits_of 128 n)))) }
+            × (max_identifier_length < length self.old + length digits)) }
     {
         if n == 0 {
             return Ok(());

@@ -1,7 +1,6 @@
 use Rattle.std.proofs.Common.{◌≡◌, ◌∷◌, ◌∙◌, ◌-◌, ap, sym, refl, arith, length, length-append, drop, take, get_or, Some}
 use Rattle.sec1_der.specs.Elements.{length_octets}
 use Rattle.sec1_der.proofs.ElementFaultLemmas.{any_without_header, length_at_lacks}
-use Rattle.sec1_der.proofs.ElementLaws.{is_tag-true}
 use Rattle.sec1_der.proofs.LengthLaws.{len_apart}
 use Rattle.sec1_der.proofs.LengthLemmas.{two_bytes, some_octets}
 use Rattle.sec1_der.proofs.header.header_at.Goals as goal
@@ -22,7 +21,7 @@ returns-in-Err-clause-found c =
     let bytes = c.args.bytes.now in
     let after = get_or bytes 1 0 ∷ take (length bytes - 2) (drop 2 bytes) in
     let lacks = length_at_lacks after (λ n rest fits e. cc (c.in-Err.ensures.only n rest fits e)) in
-    let tag = is_tag-true _ c.in-Ok.ensures.0 in
+    let tag = c.in-Ok.ensures.0 in
     let front = two_bytes bytes c.in-len2-up.len_at_least in
     let kind = c.in-Err.ensures.found in
     (rw (front, tag, kind) refl, λ content behind. rw (front, tag, lacks, kind) refl)

@@ -1,6 +1,6 @@
 use Rattle.std.proofs.Common.{◌≡◌, ℕ, List, [], ◌∷◌, ◌++◌, ap, lit<, lit≤}
 use Rattle.std.specs.Int.Digits.{digits_of}
-use Rattle.sec1_der.specs.Numbers.{marked}
+use Rattle.sec1_der.proofs.DigitLaws.{marked}
 use Rattle.sec1_der.proofs.DigitLaws.{digits_of-number}
 use Rattle.sec1_der_tests.proofs.checks.example_identifiers.Goals as goal
 

@@ -1,6 +1,7 @@
+use Rattle.std.proofs.Common.{true}
 use Rattle.std.proofs.Common.{◌≡◌, ap, rules, sym, ◌∙◌, slice_get, Some}
 use Rattle.std.proofs.Math.Seq.{take-append_seam, drop-append_seam}
-use Rattle.sec1_der.specs.Elements.{IsTag}
+use Rattle.sec1_der.specs.Elements.{is_tag}
 use Rattle.sec1_der.specs.Readers.{Reader}
 use Rattle.sec1_der.specs.Faults.{no_fault}
 use Rattle.sec1_der.proofs.FaultLaws.{any_room}
@@ -19,7 +20,7 @@ returns-in-Ok-clause-only c content rest within is =
 pub returns-in-Ok-clause-refused : goal.returns-in-Ok-clause-refused
 returns-in-Ok-clause-refused c =
     let (is, read, room) = c.in-Ok.ensures.found in
-    let tag : IsTag c.args.tag = rw c.byte.ensures.0 at c.byte.ensures.1 in
+    let tag : is_tag c.args.tag ≡ true = rw c.byte.ensures.0 at c.byte.ensures.1 in
     let none = any_room (λ _. no_fault) no_fault _ _ _ _ is (sym c.remaining_input-2.ensures ∙ read) room in
     let first : slice_get c.args.self.now.unread 0 ≡ Some c.args.tag = search rules in
     let next = element_next no_fault no_fault c.args.tag c.args.self.now.unread tag first in
@@ -27,7 +28,7 @@ returns-in-Ok-clause-refused c =
 
 pub returns-in-Err-clause-refused : goal.returns-in-Err-clause-refused
 returns-in-Err-clause-refused c =
-    let tag : IsTag c.args.tag = rw c.byte.ensures.0 at c.byte.ensures.1 in
+    let tag : is_tag c.args.tag ≡ true = rw c.byte.ensures.0 at c.byte.ensures.1 in
     let first : slice_get c.args.self.now.unread 0 ≡ Some c.args.tag = search rules in
     let next = element_next no_fault no_fault c.args.tag c.args.self.now.unread tag first in
     let kind = rw c.remaining_input-2.ensures at (c.in-Err.ensures.found.1 (λ _. no_fault) no_fault) in
