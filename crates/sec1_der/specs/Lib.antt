@@ -5,7 +5,6 @@ pub mod Walks
 pub mod Identifiers
 pub mod ArcsOf
 pub mod Stored
-pub mod Building
 pub mod Encodings
 pub mod ErrorKinds
 pub mod Faults

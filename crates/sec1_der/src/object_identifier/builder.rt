@@ -29,14 +29,28 @@ enum Arcs {
 }
 
 impl Model for Builder {
-    ghost use Rattle.std.specs.Prelude.{List, ℕ};
-    ghost use Rattle.sec1_der.specs.Building.{arcs_added, AreAdded};
+    ghost use Rattle.std.specs.Prelude.{List, ℕ, [], ◌∷◌, ⊤, ◌≡◌, IsTrue};
+    ghost use Rattle.sec1_der.specs.ArcsOf.{arcs_of};
+    ghost use Rattle.sec1_der.specs.Identifiers.{are_arcs, content_of};
+    ghost use Rattle.sec1_der.specs.declared.object_identifier.builder.Arcs.TheVariants.{Empty};
+    ghost use Rattle.sec1_der.specs.declared.object_identifier.builder.Arcs.TheVariants.{One};
+    ghost use Rattle.sec1_der.specs.declared.object_identifier.builder.Arcs.TheVariants.{Several};
 
     ghost Value = { List ℕ };
 
-    ghost view = { λ builder. arcs_added builder.arcs };
+    ghost view = { λ builder. elim builder.arcs as (λ _. List ℕ) [
+      | Empty ↦ []
+      | One arc ↦ arc ∷ []
+      | Several content ↦ arcs_of content
+    ] };
 
-    ghost invariant = { λ builder. AreAdded builder.arcs };
+    // A content is that of its arcs.
+    ghost invariant = { λ builder. elim builder.arcs as (λ _. Type 0) [
+      | Empty ↦ ⊤
+      | One arc ↦ ⊤
+      | Several content ↦
+          IsTrue (are_arcs (arcs_of content)) × (content ≡ content_of (arcs_of content))
+    ] };
 }
 
 impl Builder {
