@@ -8,7 +8,8 @@ use Rattle.std.proofs.lemmas.Bool.Decides.{nat_tests}
 use Rattle.std.proofs.lemmas.List.{take_all, length-append, length-take, length-take-le, length-drop, append_assoc}
 use Rattle.std.proofs.lemmas.List.{take-append-drop}
 use Rattle.std.specs.Option.{option_or}
-use Rattle.sec1_der.specs.Elements.{length_octets, element, IsConstructed, IsHeader}
+use Rattle.sec1_der.specs.Elements.{length_octets, element, IsHeader}
+use Rattle.sec1_der.proofs.ElementLaws.{IsConstructed}
 use Rattle.sec1_der.specs.ErrorKinds.{IsHeaderFault}
 use Rattle.sec1_der.proofs.FaultLaws.{nested_fault}
 use Rattle.sec1_der.specs.Faults.{Fault, end_fault, any_fault, row_fault, tree_fault}

@@ -2,7 +2,8 @@
 -- where each ends, the innermost first; 0 are left at the end of the input.
 use Rattle.std.specs.Prelude.{IsTrue, ◌≡◌, ℕ, zero, suc, ◌+◌, ◌<◌, ◌≤◌, List, [], ◌∷◌, ◌++◌}
 use Rattle.std.specs.Prelude.{length, get_or}
-use Rattle.sec1_der.specs.Elements.{header, is_tag, IsConstructed, max_length}
+use Rattle.std.specs.Int.{IsBitSet}
+use Rattle.sec1_der.specs.Elements.{header, is_tag, max_length}
 use Rattle.sec1_der.specs.Trees.{Tree, IsTree, bytes, size, depth}
 
 -- the next element is a leaf or an empty node, and ends within the innermost node
@@ -20,7 +21,7 @@ pub record Opens (ends rest : List ℕ) (end : ℕ) (after : List ℕ) : Type 0 
   pub n : ℕ
   pub fits : get_or ends 0 0 ≤ end
   pub tag_byte : IsTrue (is_tag tag)
-  pub constructed : IsConstructed tag
+  pub constructed : IsBitSet tag 5
   pub some : 0 < n
   pub within : n ≤ max_length
   pub row : rest ≡ header tag n ++ after

@@ -1,8 +1,9 @@
 ghost use Rattle.std.specs.Prelude.{◌≡◌, ◌+◌, ◌≤◌, ◌↔◌, MatchResult, IsTrue, ℕ};
 ghost use Rattle.std.specs.Prelude.{Some, codes};
 ghost use Rattle.std.specs.Fmt.{decimal};
+ghost use Rattle.std.specs.Int.{IsBitSet};
 ghost use Rattle.sec1_der.specs.DebugTexts.{struct_text};
-ghost use Rattle.sec1_der.specs.Elements.{is_tag, IsConstructed};
+ghost use Rattle.sec1_der.specs.Elements.{is_tag};
 
 use crate::debug_text::write_struct;
 use crate::{ErrorKind, Result};
@@ -161,7 +162,7 @@ impl Tag {
     /// Returns `true` if the content consists of elements: bit 20 (hexadecimal) is set (X.690
     /// section 8.1.2.5).
     pub fn is_constructed(self) -> bool
-        ensures { IsTrue result ↔ IsConstructed self }
+        ensures { IsTrue result ↔ IsBitSet self 5 }
     {
         self.byte & 0x20 != 0
     }
