@@ -42,7 +42,8 @@ any_sizes tag content bytes rest e =
     (omega (arith, whole, parts, inner), omega (arith, whole, parts, inner))
 
 -- an element of this tag is one of any tag
-pub same_tag : (f g : Place) (end tag byte : ℕ) (bytes rest : List ℕ) → is_tag tag ≡ true → bytes ≡ byte ∷ rest → byte ≡ tag
+pub same_tag : (f g : Place) (end tag byte : ℕ) (bytes rest : List ℕ) → is_tag tag ≡ true
+    → bytes ≡ byte ∷ rest → byte ≡ tag
     → any_place (λ _. f) g end bytes ≡ element_place tag f g end bytes
 same_tag f g end tag byte bytes rest is e same = rw (e, same, eq-eqb tag tag refl, is) refl
 

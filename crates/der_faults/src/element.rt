@@ -1,8 +1,8 @@
 //! One element of some bytes, or the place at which it is refused.
 ghost use Rattle.std.specs.Prelude.{◌≡◌, ◌-◌, ◌≤◌, ℕ, length, true, Some, None, IfErr, IfOk};
-ghost use Rattle.std.specs.Prelude.{MatchResult, IsTrue};
+ghost use Rattle.std.specs.Prelude.{MatchResult};
 ghost use Rattle.std.specs.Option.{option_or};
-ghost use Rattle.sec1_der.specs.Elements.{max_length, is_tag};
+ghost use Rattle.sec1_der.specs.Elements.{max_length};
 ghost use Rattle.der_faults.specs.Places.{Place, any_place, at_first, before, element_place};
 ghost use Rattle.der_faults.specs.Places.{end_place};
 

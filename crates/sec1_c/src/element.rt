@@ -166,7 +166,8 @@ pub extern "C" fn sec1_element_write(
 fn header_given(tag: usize, len: usize) -> der::Result<Header>
     ensures header { OkIff result (IsHeader tag len) (record { tag = tag; length = len }) }
     ensures no_tag { ¬ IsTrue (is_tag tag) → Refuses result ErrorKind.Tag }
-    ensures overlength { IsTrue (is_tag tag) → max_length < len → Refuses result ErrorKind.Overlength }
+    ensures overlength { IsTrue (is_tag tag) → max_length < len
+        → Refuses result ErrorKind.Overlength }
 {
     let Ok(byte) = u8::try_from(tag) else {
         return Err(ErrorKind::Tag.into());

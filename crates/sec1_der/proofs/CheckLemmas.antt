@@ -7,7 +7,8 @@ use Rattle.sec1_der.specs.Elements.{header}
 use Rattle.sec1_der.specs.Faults.{tree_fault}
 use Rattle.sec1_der.specs.Trees.{Tree, branch, Forest, none, first, bytes, joined, IsTree, AreTrees, IsTreeOf, size}
 use Rattle.sec1_der.specs.Trees.{total_size, depth, max_depth, max_tree_depth}
-use Rattle.sec1_der.specs.Walks.{Skips, Opens}
+use Rattle.sec1_der.specs.Walks.{Opens}
+use Rattle.sec1_der.proofs.EnterLemmas.{Skips}
 use Rattle.sec1_der.proofs.TreeLemmas.{some_bytes}
 use Rattle.sec1_der.proofs.RowFaultLemmas.{row_some, tree_next, open_fault, next_fault, element_passed, node_opened}
 
@@ -84,17 +85,17 @@ passed : (input ends rest after : List ℕ) (count : ℕ) → IsNext input ends 
     → Walks input ends after (count + 1)
 passed input ends rest after count next p =
     let at = next.at in
-    let some = some_bytes p.tree in
+    let some = some_bytes p.0 in
     record {
       at = record {
         room = at.room;
         counted =
-            omega (arith, ap length p.row, length-append (bytes p.tree) after);
-        inside = p.fits;
+            omega (arith, ap length p.4, length-append (bytes p.0) after);
+        inside = p.5;
         nested = at.nested;
       };
       completes = subst (Completes input ends after) (omega arith)
-          (next.completes p.tree after p.is_tree (omega arith) p.row);
+          (next.completes p.0 after p.1 (omega (arith, p.3)) p.4);
       fault_is = next.fault_is ∙ element_passed ends rest after p;
     }
 

@@ -8,7 +8,12 @@ use Rattle.std.proofs.lemmas.List.{take-append-drop, take_rest, drop_at, nil_fro
 use Rattle.sec1_der.specs.Elements.{IsHeader, header, element}
 use Rattle.sec1_der.proofs.ElementLaws.{IsConstructed}
 use Rattle.sec1_der.specs.Trees.{Tree, leaf, branch, none, bytes, IsTree, size, depth}
-use Rattle.sec1_der.specs.Walks.{Skips, Opens}
+use Rattle.sec1_der.specs.Walks.{Opens}
+
+-- The next element is a leaf or an empty node, and ends within the innermost node.
+abbrev pub Skips : List ℕ → List ℕ → List ℕ → Type 0
+Skips ends rest after =
+    (t : Tree) × IsTree t × (size t ≡ 1) × (depth t ≡ 1) × (rest ≡ bytes t ++ after) × (get_or ends 0 0 ≤ length after)
 
 -- The slice begins with a header, then bytes with room for its content, then the last bytes.
 abbrev pub IsInFront : List ℕ → List ℕ → ℕ → ℕ → ℕ → Type 0
@@ -105,11 +110,4 @@ passes_at rest inside ends tag n end m f is same which =
     let (row, behind) = from_start rest (element tag content) (drop n inside) end
     (length rest - end - length inside + m) within (f.1 ∙ split)
     (omega (arith, length-drop n inside)) in
-    record {
-      tree = t.0;
-      is_tree = t.1.tree;
-      alone = t.1.alone;
-      shallow = t.1.shallow;
-      row = rw (t.2) row;
-      fits = omega (arith, behind);
-    }
+    (t.0, t.1.tree, t.1.alone, t.1.shallow, rw (t.2) row, omega (arith, behind))

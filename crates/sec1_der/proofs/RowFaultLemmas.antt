@@ -14,7 +14,8 @@ use Rattle.sec1_der.specs.ErrorKinds.{IsHeaderFault}
 use Rattle.sec1_der.proofs.FaultLaws.{nested_fault}
 use Rattle.sec1_der.specs.Faults.{Fault, end_fault, any_fault, row_fault, tree_fault}
 use Rattle.sec1_der.specs.Trees.{Tree, leaf, branch, none, first, bytes, size, IsTree, max_tree_depth}
-use Rattle.sec1_der.specs.Walks.{Skips, Opens}
+use Rattle.sec1_der.specs.Walks.{Opens}
+use Rattle.sec1_der.proofs.EnterLemmas.{Skips}
 use Rattle.sec1_der.specs.declared.error.ErrorKind.{ErrorKind}
 use Rattle.sec1_der.specs.declared.error.ErrorKind.TheVariants.{Depth}
 use Rattle.sec1_der.proofs.FaultLaws.{any_at}
@@ -111,14 +112,14 @@ next_element (end ∷ ends) rest after tag content h is fits =
 
 -- where an element without children was skipped, the fault is that of the bytes after it
 pub element_passed : (ends rest after : List ℕ) → Skips ends rest after → next_fault ends rest ≡ open_fault ends after
-element_passed ends rest after p = by p.tree p.is_tree p.alone p.row
+element_passed ends rest after p = by p.0 p.1 p.2 p.4
   where
     by : (t : Tree) → IsTree t → size t ≡ 1 → rest ≡ bytes t ++ after → next_fault ends rest ≡ open_fault ends after
     by (leaf tag content) tree alone is =
-        next_element ends rest after tag content (record { tag_byte = tree.0; within = tree.2 }) is p.fits
+        next_element ends rest after tag content (record { tag_byte = tree.0; within = tree.2 }) is p.5
         ∙ rw (leaf_passes (row_at (length ends + 2)) tag content tree.1) refl
     by (branch tag none) tree alone is =
-        next_element ends rest after tag [] (record { tag_byte = tree.0; within = tree.2 }) is p.fits
+        next_element ends rest after tag [] (record { tag_byte = tree.0; within = tree.2 }) is p.5
         ∙ rw (ne_eqb (bit_and tag 0x20) 0 tree.1) refl
     by (branch tag (first (leaf tag' content) children)) tree alone is = absurd (omega (arith, alone))
     by (branch tag (first (branch tag' inside) children)) tree alone is = absurd (omega (arith, alone))

@@ -1,6 +1,7 @@
 -- X.690: an element is a tag byte, a length and a content.
 use Rattle.std.specs.Prelude.{◌≡◌, ◌≢◌, ℕ, ◌+◌, ◌%◌, ◌≤◌, List, [], ◌∷◌, ◌++◌, length, nat_lt}
-use Rattle.std.specs.Prelude.{nat_le, Option, Some, None, if◌then◌else◌, Bool, IsTrue, ◌&&◌, not, ◌==◌}
+use Rattle.std.specs.Prelude.{nat_le, Option, Some, None, if◌then◌else◌, Bool, IsTrue}
+use Rattle.std.specs.Prelude.{◌&&◌, not, ◌==◌}
 use Rattle.std.specs.Int.Digits.{digits_of}
 
 -- the greatest length of a content in bytes: 2^28 - 1

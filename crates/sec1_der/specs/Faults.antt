@@ -101,9 +101,9 @@ any_fault content behind (tag ∷ bytes) =
 abbrev pub document_fault : Fault
 document_fault = any_fault (λ _. no_fault) end_fault
 
--- A sequence of elements at this level, where the content of a constructed element is elements again
--- (X.690 section 8.1.2.5). There are no more of them, and they are nested no deeper, than there are
--- bytes.
+-- A sequence of elements at this level, where the content of a constructed element is elements
+-- again (X.690 section 8.1.2.5). There are no more of them, and they are nested no deeper, than
+-- there are bytes.
 abbrev pub row_fault : ℕ → ℕ → Fault
 row_fault zero level bytes = None
 row_fault (suc most) level [] = None

@@ -4,16 +4,6 @@ use Rattle.std.specs.Prelude.{IsTrue, ◌≡◌, ℕ, zero, suc, ◌+◌, ◌<�
 use Rattle.std.specs.Prelude.{length, get_or}
 use Rattle.std.specs.Int.{IsBitSet}
 use Rattle.sec1_der.specs.Elements.{header, is_tag, max_length}
-use Rattle.sec1_der.specs.Trees.{Tree, IsTree, bytes, size, depth}
-
--- the next element is a leaf or an empty node, and ends within the innermost node
-pub record Skips (ends rest after : List ℕ) : Type 0 where
-  pub tree : Tree
-  pub is_tree : IsTree tree
-  pub alone : size tree ≡ 1
-  pub shallow : depth tree ≡ 1
-  pub row : rest ≡ bytes tree ++ after
-  pub fits : get_or ends 0 0 ≤ length after
 
 -- the next element is a node that isn't empty, and has this end, within the innermost node
 pub record Opens (ends rest : List ℕ) (end : ℕ) (after : List ℕ) : Type 0 where

@@ -1,11 +1,11 @@
 ghost use Rattle.std.specs.Prelude.{◌≡◌, ◌<◌, ◌≤◌, List, ℕ, get_or, ◌≢◌, ◌-◌, ◌⊎◌};
-ghost use Rattle.std.specs.Prelude.{◌↔◌, [], ◌∷◌, Some, take, drop, length, IsTrue};
+ghost use Rattle.std.specs.Prelude.{◌↔◌, ◌++◌, [], ◌∷◌, Some, take, drop, length, IsTrue};
 ghost use Rattle.std.specs.Prelude.{MatchResult};
 ghost use Rattle.sec1_der.specs.Elements.{IsProperPrefix};
 ghost use Rattle.sec1_der.specs.ErrorKinds.{Refuses, IsHeaderFault};
 ghost use Rattle.sec1_der.specs.Faults.{HasFault, tree_fault, Fault, any_fault};
 ghost use Rattle.sec1_der.specs.Trees.{Tree, IsTree, IsTreeOf, bytes, size, depth, max_tree_depth};
-ghost use Rattle.sec1_der.specs.Walks.{open_ends, Skips, Opens};
+ghost use Rattle.sec1_der.specs.Walks.{open_ends, Opens};
 
 use crate::header::element_at;
 use crate::{ErrorKind, Result};
@@ -157,9 +157,11 @@ impl OpenNodes {
     #[tactic(auto, using(crate::proofs::EnterLemmas::inside_within))]
     fn enter<'a>(&mut self, rest: &'a [u8]) -> Result<&'a [u8]>
         requires { get_or self.old 0 0 ≤ length rest.now }
-        // The next element is skipped, or is opened if one more node may be open.
+        // A leaf or an empty node is skipped, and another node opened if one more may be open.
         ensures { MatchResult result
-            (λ after. (Skips self.old rest.now after.now × (self.new ≡ self.old))
+            (λ after. (((t : Tree) × IsTree t × (size t ≡ 1) × (depth t ≡ 1)
+            × (rest.now ≡ bytes t ++ after.now) × (get_or self.old 0 0 ≤ length after.now))
+            × (self.new ≡ self.old))
             ⊎ ((end : ℕ) × Opens self.old rest.now end after.now × (self.new ≡ end ∷ self.old)
             × (length self.old < max_tree_depth - 1)))
             (λ e. ((e.kind ≡ ErrorKind.Depth) × (length self.old ≡ max_tree_depth - 1)

@@ -30,4 +30,6 @@ returns-else-length-gt0 c =
           inl (iff_false w.is_constructed.ensures w.if-is_constructed.false)
       | else-length-gt0-via-else-length-gt0 w ↦ inr (omega (arith, w.if-length-gt0.false, c.get-length.ensures.0))
     ] in
-    inl (passes_at _ _ _ _ _ _ _ c.in-Ok.ensures.found c.end-end.ensures c.get-length.ensures.0 which, refl)
+    let passes = passes_at _ _ c.args.self.now _ _ _ _ c.in-Ok.ensures.found c.end-end.ensures c.get-length.ensures.0
+    which in
+    inl (passes, refl)
