@@ -1,7 +1,7 @@
 //! The named elliptic curves over prime fields of SEC 2 (RFC 5480 section 2.1.1.1), of ANSI X9.62
 //! (RFC 3279 section 2.3.5) and of RFC 5639: their identifiers, their names and the lengths of
 //! their fields.
-ghost use Rattle.std.specs.Prelude.{◌≡◌, ◌↔◌, ℕ, List, IsTrue, IfSome, Some, option_map};
+ghost use Rattle.std.specs.Prelude.{◌≡◌, ◌↔◌, IsTrue, IfSome, Some, option_map};
 ghost use Rattle.curves.specs.Curves.{curve_arcs, curve_content, curve_name, curve_alias};
 ghost use Rattle.curves.specs.Curves.{x962_name, IsNameOf, field_len};
 

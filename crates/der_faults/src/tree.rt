@@ -1,8 +1,8 @@
 //! The place at which a tree is refused.
-ghost use Rattle.std.specs.Prelude.{◌≡◌, ◌≤◌, ℕ, length, Some, None, IfSome, MatchResult};
+ghost use Rattle.std.specs.Prelude.{◌≡◌, ◌≤◌, length, Some, None, IfSome, MatchResult};
 ghost use Rattle.std.specs.Prelude.{◌==◌, bit_and, not, option_map};
 ghost use Rattle.sec1_der.specs.Faults as faults;
-ghost use Rattle.der_faults.specs.Places.{nested_place, row_place, tree_place};
+ghost use Rattle.der_faults.specs.Places.{row_place, tree_place};
 
 use crate::Fault;
 use crate::element::{Step, any_element, before, finish};

@@ -1,10 +1,9 @@
 //! BIT STRING that may have unused bits.
-ghost use Rattle.std.specs.Prelude.{◌≡◌, ◌≢◌, ◌⊎◌, ◌∷◌, ◌<◌, ◌≤◌, ℕ, List, length, true, Some};
+ghost use Rattle.std.specs.Prelude.{◌≡◌, ◌≢◌, ◌⊎◌, ◌<◌, ◌≤◌, ℕ, List, length, true, Some};
 ghost use Rattle.std.specs.Prelude.{IsTrue, MatchOption, MatchResult};
 ghost use Rattle.sec1_der.specs.Contents.{are_bits, bit_string_fault};
 ghost use Rattle.sec1_der.specs.Elements.{max_length};
 ghost use Rattle.der_types.specs.BitStrings.{BitString, bit_string_content};
-ghost use Rattle.der_types.specs.Leaves.{content_if};
 
 use sec1_der::{
     BackWriter, BitStringRef, DecodeValue, EncodeValue, ErrorKind, Length, Result, SliceReader,

@@ -1,6 +1,6 @@
 //! CHOICE (X.690 section 8.13): a part that is one of several.
 ghost use Rattle.std.specs.Prelude.{◌≡◌, ◌&&◌, not, false, refl, if◌then◌else◌};
-ghost use Rattle.sec1_der.specs.Parts.{Tags, is_among};
+ghost use Rattle.sec1_der.specs.Parts.{is_among};
 ghost use Rattle.der_types.specs.Choices.{begins_among, choice_of, choice_tags, choice_fault};
 ghost use Rattle.der_types.specs.Choices.{choice_text};
 ghost use Rattle.der_types.specs.ChoiceLaws.{choice_begins, choice_not_empty};

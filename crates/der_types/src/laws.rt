@@ -1,6 +1,6 @@
 //! Laws of the contents, for callers to cite. Each law is the contract of a function, which does
 //! nothing else.
-ghost use Rattle.std.specs.Prelude.{◌≡◌, ◌⊎◌, ◌<◌, ◌≤◌, ℕ, Bool, true, false, List, [], ◌∷◌, ℤ};
+ghost use Rattle.std.specs.Prelude.{◌≡◌, ◌⊎◌, ◌<◌, ◌≤◌, ℕ, Bool, true, List, [], ◌∷◌, ℤ};
 ghost use Rattle.std.specs.Prelude.{pos, negsuc};
 ghost use Rattle.std.specs.Int.Digits.{AllBelowBase};
 ghost use Rattle.std.specs.Str.{is_utf8};

@@ -1,6 +1,6 @@
 //! An OPTIONAL part of a SEQUENCE that may begin with several tags.
 ghost use Rattle.std.specs.Fmt.{debug_option, debug_variant};
-ghost use Rattle.std.specs.Prelude.{◌≡◌, Option, codes};
+ghost use Rattle.std.specs.Prelude.{Option, codes};
 ghost use Rattle.der_types.specs.Choices.{optional_bytes, optional_tags, optional_part_fault};
 ghost use Rattle.der_types.specs.ChoiceLaws.{optional_part_begins};
 

@@ -1,6 +1,6 @@
 //! SEQUENCE OF (X.690 section 8.10).
 ghost use Rattle.std.specs.Prelude.{◌≡◌, ◌<◌, ◌++◌, ◌∷◌, ℕ, List, [], length, Some, None, false};
-ghost use Rattle.std.specs.Prelude.{Ok, IsOk, IfOk, OnOk, IsSome, IfSome, IfNone, IsSomeAnd};
+ghost use Rattle.std.specs.Prelude.{Ok, IsOk, IsSome, IfSome, IfNone, IsSomeAnd};
 ghost use Rattle.std.specs.Prelude.{MatchResult};
 ghost use Rattle.sec1_der.specs.Elements.{element_of};
 ghost use Rattle.sec1_der.specs.ErrorKinds.{IsReadingFault};

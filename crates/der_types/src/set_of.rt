@@ -1,8 +1,8 @@
 //! SET OF (X.690 sections 8.12 and 11.6).
-ghost use Rattle.std.specs.Prelude.{◌≡◌, ℕ, List, Some, None, true, Ok, IfOk, MatchResult};
+ghost use Rattle.std.specs.Prelude.{◌≡◌, ℕ, List, Some, true, Ok, MatchResult};
 ghost use Rattle.sec1_der.specs.ErrorKinds.{IsReadingFault};
 ghost use Rattle.sec1_der.specs.Faults.{TellsFault};
-ghost use Rattle.der_types.specs.Rows.{joined, row_fault};
+ghost use Rattle.der_types.specs.Rows.{joined};
 ghost use Rattle.der_types.specs.Sets.{is_ascending, set_fault, set_of};
 
 use crate::lend::read_since;

@@ -1,6 +1,6 @@
 //! The keys on named curves in containers and certificates.
-ghost use Rattle.std.specs.Prelude.{◌≡◌, ◌≢◌, ◌↔◌, ◌⊎◌, true, ℕ, List, Ok, Err, Some, IsOkAnd};
-ghost use Rattle.std.specs.Prelude.{IsSomeAnd, IfOk, IfErr, IfSome};
+ghost use Rattle.std.specs.Prelude.{◌≡◌, ◌≢◌, ◌↔◌, ◌⊎◌, true, Ok, Err, Some, IsOkAnd};
+ghost use Rattle.std.specs.Prelude.{IfOk, IfErr, IfSome};
 ghost use Rattle.sec1.specs.EncodedPoints.{point_of};
 ghost use Rattle.sec1.specs.Errors.{IsAsn1ReadingFault, RefusesAsn1};
 ghost use Rattle.sec1.specs.KeyFaults.{key_fault};

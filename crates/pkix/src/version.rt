@@ -1,8 +1,7 @@
 //! Versions of certificates.
-ghost use Rattle.std.specs.Prelude.{◌≡◌, [], ◌∷◌, true, Some, refl};
+ghost use Rattle.std.specs.Prelude.{◌≡◌, [], ◌∷◌, true, Some};
 ghost use Rattle.sec1_der.specs.Contents.{value_unless};
-ghost use Rattle.pkix.specs.Versions.{is_later_version, later_version_content};
-ghost use Rattle.pkix.specs.Versions.{later_version_text};
+ghost use Rattle.pkix.specs.Versions.{is_later_version, later_version_content, later_version_text};
 
 use sec1_der::{
     BackWriter, DecodeValue, EncodeValue, ErrorKind, Length, Result, SliceReader, SliceWriter, Tag,

@@ -1,7 +1,6 @@
 //! Elements of DER (X.690): `sec1_check_tree`, `sec1_document_len`, `sec1_element_read` and
 //! `sec1_element_write`.
-ghost use Rattle.std.specs.Prelude.{IsTrue, ◌≡◌, ◌≢◌, ◌≤◌, ◌<◌, ◌+◌, ◌++◌, ℕ, List, length};
-ghost use Rattle.std.specs.Prelude.{IfErr, IsOk, OkIff};
+ghost use Rattle.std.specs.Prelude.{IsTrue, ◌≡◌, ◌≢◌, ◌≤◌, ◌<◌, ◌+◌, ◌++◌, ℕ, List, length, OkIff};
 ghost use Rattle.sec1_der.specs.Elements.{IsElement, IsHeader, IsProperPrefix, is_tag};
 ghost use Rattle.sec1_der.specs.Elements.{LacksHeader, element, header, max_length};
 ghost use Rattle.sec1_der.specs.ErrorKinds.{Refuses, header_fault};

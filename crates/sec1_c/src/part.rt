@@ -1,5 +1,5 @@
 //! The place of a part in the bytes that it was read from.
-ghost use Rattle.std.specs.Prelude.{◌≡◌, ◌≤◌, ◌+◌, ◌<◌, ◌^◌, IfSome};
+ghost use Rattle.std.specs.Prelude.{◌≡◌, ◌≤◌, ◌<◌, IfSome};
 ghost use Rattle.sec1_c.specs.Places.{part_before, part_from};
 
 /// A part of some bytes, by its place. All three numbers are 0 if the part is absent.

@@ -21,10 +21,8 @@ pub struct AnyRef<'a> {
 }
 
 impl<'a> AnyRef<'a> {
-    ghost use Rattle.std.specs.Prelude.{◌≡◌, ◌<◌, ℕ, List, ◌++◌, true, false};
-    ghost use Rattle.std.specs.Prelude.{IfOk, IsOkAnd, IfErr, MatchResult};
+    ghost use Rattle.std.specs.Prelude.{◌≡◌, ◌<◌, ℕ, List, ◌++◌, true, IfOk, IsOkAnd, MatchResult};
     ghost use Rattle.sec1_der.specs.Elements.{element, IsHeader};
-    ghost use Rattle.sec1_der.specs.ErrorKinds.{IsHeaderFault};
     ghost use Rattle.sec1_der.specs.Readers.{reader_over, HasRead, RefusesBy};
     ghost use Rattle.sec1_der.specs.Faults.{any_fault, no_fault};
     ghost use Rattle.sec1_der.specs.Values.{tag_of, value_of};
@@ -156,7 +154,7 @@ impl Eq for AnyRef<'_> {
 }
 
 impl ValueContent for AnyRef<'_> {
-    ghost use Rattle.std.specs.Prelude.{Some, ⊤, true};
+    ghost use Rattle.std.specs.Prelude.{Some, true};
     ghost use Rattle.sec1_der.specs.Faults.{no_fault};
     ghost use Rattle.sec1_der.specs.Values.{value_of};
 

@@ -1,7 +1,7 @@
 //! Reading and writing values of any type, by their whole DER encoding.
-ghost use Rattle.std.specs.Prelude.{◌≡◌, ◌<◌, ◌≤◌, ◌+◌, ◌⊎◌, ◌↔◌, ◌++◌, ℕ, List, length, drop, ⊤};
-ghost use Rattle.std.specs.Prelude.{Option, Some, None, IsOk, IfOk, IsOkAnd, IfErr, OnOk, OnErr};
-ghost use Rattle.std.specs.Prelude.{IfSome, IsSomeAnd, MatchOption, MatchResult, IsTrue};
+ghost use Rattle.std.specs.Prelude.{◌≡◌, ◌<◌, ◌≤◌, ◌+◌, ◌++◌, ℕ, List, length, drop, ⊤};
+ghost use Rattle.std.specs.Prelude.{Option, Some, None, IsOk, IsOkAnd};
+ghost use Rattle.std.specs.Prelude.{IsSomeAnd, MatchOption, MatchResult, IsTrue};
 ghost use Rattle.sec1_der.specs.Elements.{max_length, element_of, is_tag};
 ghost use Rattle.sec1_der.specs.Encodings.{IsOverlengthOr, ReadsElement};
 ghost use Rattle.sec1_der.specs.Elements.{IsProperPrefix};

@@ -1,5 +1,4 @@
-ghost use Rattle.std.specs.Prelude.{◌≡◌, ◌⊎◌, ℕ, List, length, Some, None};
-ghost use Rattle.std.specs.Prelude.{MatchResult, ⊤, codes};
+ghost use Rattle.std.specs.Prelude.{◌≡◌, ◌⊎◌, ℕ, List, length, Some, None, MatchResult, ⊤, codes};
 ghost use Rattle.std.specs.Fmt.{WritesStyledOnOk};
 ghost use Rattle.sec1_der.specs.Elements.{element_of, IsElement};
 ghost use Rattle.sec1_der.specs.Encodings.{IsOverlengthOr};

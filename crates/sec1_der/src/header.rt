@@ -1,4 +1,4 @@
-ghost use Rattle.std.specs.Prelude.{◌≡◌, ℕ, ◌<◌, ◌≤◌, ◌^◌, length, take, List, ◌++◌, ◌∷◌};
+ghost use Rattle.std.specs.Prelude.{◌≡◌, ℕ, ◌<◌, ◌≤◌, length, take, List, ◌++◌, ◌∷◌};
 ghost use Rattle.std.specs.Cmp.{and_equiv, nat_eq_equiv, on_equiv, partial_equiv_from_equiv};
 ghost use Rattle.std.specs.Ordering.{eq_of_both, on};
 ghost use Rattle.std.specs.Prelude.{nat_eq, ◌↔◌, IsTrue, false, true, Some, codes};
@@ -6,7 +6,6 @@ ghost use Rattle.std.specs.Prelude.{IfOk, IsOkAnd, IsOk, IsErr, MatchResult, OnE
 ghost use Rattle.std.specs.Fmt.{decimal};
 ghost use Rattle.sec1_der.specs.DebugTexts.{pair_text, struct_text};
 ghost use Rattle.sec1_der.specs.Elements.{max_length, length_octets, header, element, IsHeader};
-ghost use Rattle.sec1_der.specs.Elements.{IsProperPrefix, LacksHeader};
 ghost use Rattle.sec1_der.specs.ErrorKinds.{length_fault, header_fault, Refuses, IsHeaderFault};
 ghost use Rattle.sec1_der.specs.Numbers.{number_of};
 ghost use Rattle.sec1_der.specs.Readers.{reader_over, refused, HasRead};

@@ -1,5 +1,4 @@
-ghost use Rattle.std.specs.Prelude.{◌≡◌, ◌≤◌, ◌<◌, MatchResult, ℕ};
-ghost use Rattle.std.specs.Prelude.{Some, codes};
+ghost use Rattle.std.specs.Prelude.{◌≡◌, ◌≤◌, ◌<◌, MatchResult, ℕ, Some, codes};
 ghost use Rattle.std.specs.Fmt.{decimal};
 ghost use Rattle.sec1_der.specs.DebugTexts.{struct_text};
 ghost use Rattle.sec1_der.specs.Elements.{max_length};

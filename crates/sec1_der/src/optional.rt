@@ -1,7 +1,7 @@
 //! A component that may be absent.
 ghost use Rattle.std.specs.Option.{option_map};
 ghost use Rattle.std.specs.Fmt.{debug_variant, debug_option};
-ghost use Rattle.std.specs.Prelude.{codes, ◌≡◌, Option};
+ghost use Rattle.std.specs.Prelude.{codes, Option};
 ghost use Rattle.sec1_der.specs.Parts.{optional_of, optional_tag};
 ghost use Rattle.sec1_der.specs.PartLaws.{optional_begins};
 ghost use Rattle.sec1_der.specs.Faults.{optional_fault};

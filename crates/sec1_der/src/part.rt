@@ -1,6 +1,5 @@
 //! The parts of a SEQUENCE (X.690 section 8.9), and two parts in a row.
-ghost use Rattle.std.specs.Prelude.{◌≡◌, ◌≤◌, ◌&&◌, ℕ, List, length, Option, Some};
-ghost use Rattle.std.specs.Prelude.{Bool, false};
+ghost use Rattle.std.specs.Prelude.{◌≡◌, ◌≤◌, ◌&&◌, ℕ, List, length, Option, Some, Bool, false};
 ghost use Rattle.sec1_der.specs.BackWriters.{Puts};
 ghost use Rattle.sec1_der.specs.Elements.{max_length, within_limit};
 ghost use Rattle.sec1_der.specs.Encodings.{Measures};

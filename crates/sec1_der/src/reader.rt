@@ -1,7 +1,6 @@
 ghost use Rattle.std.specs.Prelude.{◌≡◌, ◌++◌, [], ℕ, List, length};
 ghost use Rattle.std.specs.Prelude.{slice_get, true, false, if◌then◌else◌, IsOk, IfOk};
 ghost use Rattle.std.specs.Prelude.{IsOkAnd, MatchResult, OnOk};
-ghost use Rattle.sec1_der.specs.ErrorKinds.{Refuses};
 ghost use Rattle.sec1_der.specs.Readers.{reader_over, refused, HasRead, Reader, RefusesBy};
 ghost use Rattle.sec1_der.specs.Faults.{count_fault, end_fault, no_fault};
 

@@ -1,5 +1,5 @@
 //! Your own struct, read and written as a SEQUENCE.
-ghost use Rattle.std.specs.Prelude.{◌≡◌, ℕ, List, Some, true, refl};
+ghost use Rattle.std.specs.Prelude.{◌≡◌, true, refl};
 ghost use Rattle.sec1_der.specs.Faults.{end_fault};
 
 use crate::length::check_room;

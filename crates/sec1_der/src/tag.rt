@@ -1,5 +1,4 @@
-ghost use Rattle.std.specs.Prelude.{◌≡◌, ◌+◌, ◌≤◌, ◌↔◌, MatchResult, IsTrue, ℕ};
-ghost use Rattle.std.specs.Prelude.{Some, codes};
+ghost use Rattle.std.specs.Prelude.{◌≡◌, ◌+◌, ◌≤◌, ◌↔◌, MatchResult, IsTrue, ℕ, Some, codes};
 ghost use Rattle.std.specs.Fmt.{decimal};
 ghost use Rattle.std.specs.Int.{IsBitSet};
 ghost use Rattle.sec1_der.specs.DebugTexts.{struct_text};

@@ -2,13 +2,10 @@
 ghost use Rattle.std.specs.Prelude.{◌≡◌, ◌≢◌, ◌≤◌, ◌++◌, ℕ, List, length, slice_get, true, false};
 ghost use Rattle.std.specs.Prelude.{IfOk, ◌+◌};
 ghost use Rattle.std.specs.Prelude.{IsOkAnd, IsSomeAnd, MatchOption};
-ghost use Rattle.sec1_der.specs.Elements.{max_length, element, element_of};
-ghost use Rattle.sec1_der.specs.Elements.{IsProperPrefix};
+ghost use Rattle.sec1_der.specs.Elements.{max_length, element, element_of, IsProperPrefix};
 ghost use Rattle.sec1_der.specs.ErrorKinds.{Refuses};
-ghost use Rattle.sec1_der.specs.Readers.{reader_over, HasReadElement, ReadsContent};
-ghost use Rattle.sec1_der.specs.Readers.{RefusesBy};
-ghost use Rattle.sec1_der.specs.Faults.{element_fault, end_fault, field_fault};
-ghost use Rattle.sec1_der.specs.Faults.{no_fault};
+ghost use Rattle.sec1_der.specs.Readers.{reader_over, HasReadElement, ReadsContent, RefusesBy};
+ghost use Rattle.sec1_der.specs.Faults.{element_fault, end_fault, field_fault, no_fault};
 
 use crate::header::element_at;
 use crate::{DecodeValue, ErrorKind, Result, SliceReader, Tag, Tagged};

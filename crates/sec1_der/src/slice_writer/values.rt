@@ -1,5 +1,5 @@
 //! Calls of the writer from the front that are generic over values and parts.
-ghost use Rattle.std.specs.Prelude.{◌≡◌, ◌≤◌, ℕ, List, length, Some, IsOk};
+ghost use Rattle.std.specs.Prelude.{◌≡◌, ℕ, List, length, Some, IsOk};
 ghost use Rattle.sec1_der.specs.Elements.{within_limit};
 
 use crate::length::check_room;
