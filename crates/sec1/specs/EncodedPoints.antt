@@ -3,7 +3,7 @@ use Rattle.std.specs.Prelude.{◌≡◌, ℕ, List, take, drop, Result, IsOkAnd,
 use Rattle.std.specs.List.{All}
 use Rattle.sec1_der.specs.Elements.{IsProperPrefix}
 use Rattle.sec1.specs.Points.{Point, IsPoint, Fits, encoding, identity, meaning}
-use Rattle.sec1.specs.Points.{compressed_point, x_of}
+use Rattle.sec1.specs.Points.{x_of}
 use Rattle.sec1.specs.declared.error.Error.{Error}
 use Rattle.sec1.specs.declared.error.Error.TheVariants.{PointEncoding}
 use Rattle.sec1.specs.declared.point.EncodedPoint.{EncodedPoint}
@@ -25,11 +25,12 @@ pub record IsWiped {N L : ℕ} (p : EncodedPoint N L) : Type 0 where
   pub point : point_of p ≡ identity
   pub wiped : HasZeros p
 
--- the compressed form of a point, which keeps x; compressing it again changes nothing
-pub record IsCompressedFrom {N L : ℕ} (p q : EncodedPoint N L) : Type 0 where
-  pub point : point_of q ≡ compressed_point (point_of p)
+-- a form of a point, which keeps x and all bytes of the buffer but the first; taking it again
+-- changes nothing
+pub record IsInForm {N L : ℕ} (form : Point → Point) (p q : EncodedPoint N L) : Type 0 where
+  pub point : point_of q ≡ form (point_of p)
   pub same_x : x_of (point_of q) ≡ x_of (point_of p)
-  pub once : compressed_point (point_of q) ≡ point_of q
+  pub once : form (point_of q) ≡ point_of q
   pub kept : KeepsBuffer p q
 
 -- The point is read whose encoding is such, and PointEncoding is returned if none is.

@@ -57,7 +57,7 @@ pub type EncodedPoint48 = EncodedPoint<48, 97>;
 pub type EncodedPoint66 = EncodedPoint<66, 133>;
 
 impl<const N: usize, const L: usize> EncodedPoint<N, L> {
-    ghost use Rattle.sec1.specs.EncodedPoints.{point_of, IsCompressedFrom, IsWiped, ReadsBytes};
+    ghost use Rattle.sec1.specs.EncodedPoints.{point_of, IsInForm, IsWiped, ReadsBytes};
     ghost use Rattle.sec1.specs.Tags.{byte_of, message_len, point_tag};
     ghost use Rattle.sec1.specs.Coordinates.{coordinates_bytes, coordinates_point, EachArray};
 
@@ -198,7 +198,7 @@ impl<const N: usize, const L: usize> EncodedPoint<N, L> {
     // Inlined: otherwise the result is moved once more.
     #[inline(always)]
     pub fn compress(&self) -> Self
-        ensures { IsCompressedFrom self.now result }
+        ensures { IsInForm compressed_point self.now result }
     {
         let (tag, len) = self.compressed_front();
         EncodedPoint {
@@ -221,9 +221,10 @@ impl<const N: usize, const L: usize> EncodedPoint<N, L> {
         (u8::from(Tag::compress_y(y)), N + 1)
     }
 
-    /// Returns the hybrid form of an uncompressed point. Any other point is returned as it is.
+    /// Returns the hybrid form of an uncompressed point. Any other point is returned as it is. Only
+    /// the first byte of the buffer changes.
     pub fn to_hybrid(&self) -> Self
-        ensures { point_of result ≡ hybrid_point (point_of self.now) }
+        ensures { IsInForm hybrid_point self.now result }
     {
         let Coordinates::Uncompressed { y, .. } = self.coordinates() else {
             return *self;
@@ -364,9 +365,9 @@ impl<const N: usize, const L: usize> TryFrom<&[u8]> for EncodedPoint<N, L> {
 }
 
 impl Default for EncodedPoint<28, 57> {
-    ghost use Rattle.sec1.specs.EncodedPoints.{point_of};
+    ghost use Rattle.sec1.specs.EncodedPoints.{IsWiped};
 
-    ghost is_default = { λ point. point_of point ≡ identity };
+    ghost is_default = { λ point. IsWiped point };
 
     fn default() -> Self {
         Self::identity()
@@ -374,9 +375,9 @@ impl Default for EncodedPoint<28, 57> {
 }
 
 impl Default for EncodedPoint<32, 65> {
-    ghost use Rattle.sec1.specs.EncodedPoints.{point_of};
+    ghost use Rattle.sec1.specs.EncodedPoints.{IsWiped};
 
-    ghost is_default = { λ point. point_of point ≡ identity };
+    ghost is_default = { λ point. IsWiped point };
 
     fn default() -> Self {
         Self::identity()
@@ -384,9 +385,9 @@ impl Default for EncodedPoint<32, 65> {
 }
 
 impl Default for EncodedPoint<48, 97> {
-    ghost use Rattle.sec1.specs.EncodedPoints.{point_of};
+    ghost use Rattle.sec1.specs.EncodedPoints.{IsWiped};
 
-    ghost is_default = { λ point. point_of point ≡ identity };
+    ghost is_default = { λ point. IsWiped point };
 
     fn default() -> Self {
         Self::identity()
@@ -394,9 +395,9 @@ impl Default for EncodedPoint<48, 97> {
 }
 
 impl Default for EncodedPoint<66, 133> {
-    ghost use Rattle.sec1.specs.EncodedPoints.{point_of};
+    ghost use Rattle.sec1.specs.EncodedPoints.{IsWiped};
 
-    ghost is_default = { λ point. point_of point ≡ identity };
+    ghost is_default = { λ point. IsWiped point };
 
     fn default() -> Self {
         Self::identity()

@@ -31,7 +31,7 @@ impl<const N: usize, const L: usize> EncodedPoint<N, L> {
 
     /// Returns this point if the choice is `false`, and the other if it is `true`.
     pub fn ct_select(&self, other: &Self, choice: bool) -> Self
-        ensures { point_of result ≡ (if choice then point_of other.now else point_of self.now) }
+        ensures { result ≡ (if choice then other.now else self.now) }
     {
         let mut bytes = [0; L];
         for i in 0..L {
@@ -47,14 +47,14 @@ impl<const N: usize, const L: usize> EncodedPoint<N, L> {
 
     /// Replaces this point by the other if the choice is `true`.
     pub fn ct_assign(&mut self, other: &Self, choice: bool)
-        ensures { point_of self.new ≡ (if choice then point_of other.now else point_of self.old) }
+        ensures { self.new ≡ (if choice then other.now else self.old) }
     {
         *self = self.ct_select(other, choice);
     }
 
     /// Returns the first point if the choice is `false`, and the second if it is `true`.
     pub fn conditional_select(a: &Self, b: &Self, choice: bool) -> Self
-        ensures { point_of result ≡ (if choice then point_of b.now else point_of a.now) }
+        ensures { result ≡ (if choice then b.now else a.now) }
     {
         a.ct_select(b, choice)
     }
