@@ -3,7 +3,7 @@ use Rattle.std.proofs.Common.{◌≡◌, ◌==◌, ◌∷◌, [], ℕ, zero, suc
 use Rattle.std.proofs.Common.{if◌then◌else◌, Option, Some, None, Result, Ok, Err, nat_lt, bit_and, not}
 use Rattle.std.specs.Prelude.{option_map}
 use Rattle.std.specs.Option.{option_or}
-use Rattle.sec1_der.proofs.FaultLaws.{nested_fault}
+use Rattle.sec1_der.specs.Faults.{nested_fault}
 use Rattle.sec1_der.specs.Contents.{byte_fault, identifier_fault, bit_string_fault, whole_bits_fault}
 use Rattle.sec1_der.specs.Contents.{whole_bits_field_fault}
 use Rattle.sec1_der.specs.Elements.{is_tag}

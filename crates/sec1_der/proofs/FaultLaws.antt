@@ -1,9 +1,9 @@
 -- What the bytes of an element are refused by, and a reader that continues behind one. Further crates
 -- cite these laws.
-use Rattle.std.proofs.Common.{◌≡◌, ◌==◌, ◌++◌, ℕ, List, false, refl, sym, ◌∙◌, if◌then◌else◌}
+use Rattle.std.proofs.Common.{◌≡◌, ◌++◌, ℕ, List, false, refl, sym, ◌∙◌}
 use Rattle.std.proofs.Common.{ap, Option, Some, None, IsSomeAnd, Ok}
 use Rattle.std.proofs.Common.{eq-eqb, ◌≤◌, length, take, drop, arith, le-leb, length-append}
-use Rattle.std.proofs.Common.{append_assoc, bit_and, not}
+use Rattle.std.proofs.Common.{append_assoc}
 use Rattle.std.specs.Option.{option_or}
 use Rattle.sec1_der.specs.Readers.{Reader, HasReadElement, reader_over}
 use Rattle.sec1_der.specs.Faults.{Fault, no_fault, length_at, within, parts_fault, element_fault}
@@ -125,7 +125,3 @@ reads_on f tag content old new some none = passes_over (element_fault tag f) f c
 pub reader_at : (r : Reader) (bytes : List ℕ) → r.unread ≡ bytes → r.failed ≡ false
     → r ≡ reader_over bytes
 reader_at r bytes unread whole = rw (← unread, ← whole) refl
-
--- the content of a constructed element is elements again
-abbrev pub nested_fault : Fault → ℕ → Fault
-nested_fault row tag content = if not (bit_and tag 0x20 == 0) then row content else None

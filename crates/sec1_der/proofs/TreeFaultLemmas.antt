@@ -6,7 +6,7 @@ use Rattle.std.proofs.lemmas.Bool.Decides.{nat_tests}
 use Rattle.std.proofs.lemmas.List.{append-nil, length-append}
 use Rattle.std.specs.Option.{option_or}
 use Rattle.sec1_der.specs.Elements.{IsProperPrefix}
-use Rattle.sec1_der.proofs.FaultLaws.{nested_fault}
+use Rattle.sec1_der.specs.Faults.{nested_fault}
 use Rattle.sec1_der.specs.Faults.{Fault, HasFault, end_fault, any_fault, tree_fault}
 use Rattle.sec1_der.specs.Trees.{Tree, leaf, branch, Forest, none, first, bytes, joined, IsTree, AreTrees, IsTreeOf}
 use Rattle.sec1_der.specs.Trees.{size, depth, max_depth, max_tree_depth}

@@ -101,20 +101,19 @@ any_fault content behind (tag ∷ bytes) =
 abbrev pub document_fault : Fault
 document_fault = any_fault (λ _. no_fault) end_fault
 
--- A sequence of elements at this level, where the content of a constructed element is elements
--- again (X.690 section 8.1.2.5). There are no more of them, and they are nested no deeper, than
--- there are bytes.
+-- X.690 section 8.1.2.5: the content of a constructed element is elements again
+abbrev pub nested_fault : Fault → ℕ → Fault
+nested_fault row tag content = if not (bit_and tag 0x20 == 0) then row content else None
+
+-- A sequence of elements at this level. There are no more of them, and they are nested no deeper,
+-- than there are bytes.
 abbrev pub row_fault : ℕ → ℕ → Fault
 row_fault zero level bytes = None
 row_fault (suc most) level [] = None
 row_fault (suc most) level (byte ∷ bytes) =
     if nat_lt max_tree_depth level then Some Depth
-    else any_fault
-    (λ tag content. if not (bit_and tag 0x20 == 0) then row_fault most (level + 1) content
-    else None) (row_fault most level) (byte ∷ bytes)
+    else any_fault (nested_fault (row_fault most (level + 1))) (row_fault most level) (byte ∷ bytes)
 
 -- one tree that isn't too deep
 abbrev pub tree_fault : Fault
-tree_fault bytes = any_fault
-    (λ tag content. if not (bit_and tag 0x20 == 0) then row_fault (length bytes) 2 content
-    else None) end_fault bytes
+tree_fault bytes = any_fault (nested_fault (row_fault (length bytes) 2)) end_fault bytes
