@@ -2,12 +2,12 @@
 //!
 //! All of it is proved from the contracts of `sec1` alone, with the definitions that `sec1`
 //! re-exports.
-ghost use Rattle.std.specs.Prelude.{◌≡◌, ◌⊎◌, ◌↔◌, ◌≤◌, ◌++◌, ℕ, List, length, Some, IsOk, IfOk};
-ghost use Rattle.std.specs.Prelude.{IfErr, IsOkAnd, MatchResult};
+ghost use Rattle.std.specs.Prelude.{◌≡◌, ◌≢◌, ◌⊎◌, ◌↔◌, ◌≤◌, ◌++◌, ℕ, List, length, Some, IsOk};
+ghost use Rattle.std.specs.Prelude.{IfOk, IfErr, IsOkAnd, MatchResult};
 ghost use Rattle.sec1.specs.Der.{max_length, element, octets_of, tag_of, value_of};
-ghost use Rattle.sec1.specs.Der.{element_of, header_fault, IsHeader, IsHeaderFault, LacksHeader};
-ghost use Rattle.sec1.specs.Der.{Refuses};
-ghost use Rattle.sec1.specs.Errors.{IsAsn1ReadingFault};
+ghost use Rattle.sec1.specs.Der.{element_of, header_fault, IsHeader, IsHeaderFault, header};
+ghost use Rattle.sec1.specs.Der.{IsReadingFault, Refuses};
+ghost use Rattle.sec1.specs.Errors.{IsAsn1Where};
 ghost use Rattle.sec1.specs.Keys.{Key, IsKeyOf};
 ghost use Rattle.sec1.specs.Der.{IsProperPrefix};
 
@@ -39,7 +39,7 @@ pub fn octet_string_in<'b>(octets: &OctetStringRef, buffer: &'b mut [u8]) -> der
 /// Reads a key and encodes it again as a document with the same bytes.
 pub fn document_again(alloc: Global, bytes: &[u8]) -> Result<SecretDocument>
     ensures same { IfOk result (λ document. document ≡ bytes.now) }
-    ensures kinds { IfErr result (λ e. IsAsn1ReadingFault e ⊎ (e ≡ Error.Memory)) }
+    ensures kinds { IfErr result (λ e. IsAsn1Where IsReadingFault e ⊎ (e ≡ Error.Memory)) }
     ensures key { (key : Key) → IsKeyOf key bytes.now
         → MatchResult result (λ document. document ≡ bytes.now) (λ e. e ≡ Error.Memory) }
 {
@@ -54,7 +54,8 @@ pub fn first_content(bytes: &[u8]) -> der::Result<&[u8]>
     ensures only { (tag : ℕ) (content rest : List ℕ) → IsHeader tag (length content)
         → bytes.now ≡ element tag content ++ rest → IsOkAnd result (λ found. found.now ≡ content) }
     ensures kinds { IfErr result (λ e. IsHeaderFault e.kind) }
-    ensures fault { LacksHeader bytes.now → Refuses result (header_fault bytes.now) }
+    ensures fault { ((tag n : ℕ) (rest : List ℕ) → IsHeader tag n
+        → bytes.now ≢ header tag n ++ rest) → Refuses result (header_fault bytes.now) }
 {
     der::laws::bytes_without_header();
     let any = AnyRef::decode(&mut SliceReader::new(bytes))?;

@@ -1,14 +1,14 @@
 //! Certificates and containers of keys, by the records of `pkix`.
-ghost use Rattle.std.specs.Prelude.{◌≡◌, ◌≢◌, ◌⊎◌, Ok, Err, Some, IfOk, IfErr, IsOkAnd};
+ghost use Rattle.std.specs.Prelude.{◌≡◌, ◌≢◌, ◌⊎◌, Err, Some, IfOk, IfErr, IsErrAnd, IsOkAnd};
 ghost use Rattle.curves.specs.Curves.{field_len};
 ghost use Rattle.pkix.specs.EcKeys.{HasPoint, IsOnCurve};
 ghost use Rattle.pkix.specs.Records.{certificate_content, certificate_fault};
 ghost use Rattle.pkix.specs.declared.certificate.Certificate.{Certificate};
 ghost use Rattle.curves.specs.declared.curve.Curve.{Curve};
 ghost use Rattle.sec1.specs.EncodedPoints.{point_of};
-ghost use Rattle.sec1.specs.Errors.{RefusesAsn1};
+ghost use Rattle.sec1.specs.Errors.{IsAsn1};
 ghost use Rattle.sec1.specs.Points.{Point};
-ghost use Rattle.sec1.specs.Der.{HasFault, IsReadingFault, element_fault, element_of, end_fault};
+ghost use Rattle.sec1.specs.Der.{element_fault, element_of, end_fault};
 
 use pkix::Certificate;
 use sec1::der::ErrorKind;
@@ -35,7 +35,7 @@ pub fn public_point(bytes: &[u8]) -> Result<EncodedPoint32>
         → IsOkAnd result (λ found. point_of found ≡ point) }
     ensures no_certificate { (kind : ErrorKind)
         → element_fault 0x30 certificate_fault end_fault bytes.now ≡ Some kind
-        → RefusesAsn1 result kind }
+        → IsErrAnd result (IsAsn1 kind) }
     ensures other_curve { (certificate : Certificate)
         → element_of 0x30 (certificate_content certificate) ≡ Some bytes.now
         → ((curve : Curve) → IsOnCurve curve certificate.tbs_certificate.public_key.algorithm

@@ -2,7 +2,8 @@
 //! read.
 ghost use Rattle.std.specs.Prelude.{◌≡◌, ◌≢◌, ◌↔◌, Ok, Err, IfOk, IsOkAnd, IsErrAnd, IsTrue};
 ghost use Rattle.sec1.specs.EncodedPoints.{point_of};
-ghost use Rattle.sec1.specs.Errors.{IsAsn1ReadingFault};
+ghost use Rattle.sec1.specs.Der.{IsReadingFault};
+ghost use Rattle.sec1.specs.Errors.{IsAsn1Where};
 ghost use Rattle.sec1.specs.Keys.{Key, IsKeyOf};
 ghost use Rattle.sec1.specs.Points.{Point};
 ghost use Rattle.der_example.specs.KeyReading.{ec_public_key, secp256r1, HasPoint, IsOnP256};
@@ -46,7 +47,7 @@ pub fn read_public_key(bytes: &[u8]) -> Result<EncodedPoint32>
         → IsOnP256 info.algorithm → HasPoint info point
         → IsOkAnd result (λ found. point_of found ≡ point) }
     ensures no_info { ((info : PublicKey) → ¬ IsPublicKeyOf info bytes.now)
-        → IsErrAnd result IsAsn1ReadingFault }
+        → IsErrAnd result (IsAsn1Where IsReadingFault) }
     ensures other_curve { (info : PublicKey) → IsPublicKeyOf info bytes.now
         → ¬ IsOnP256 info.algorithm → result ≡ Err Error.Crypto }
     ensures no_point { (info : PublicKey) → IsPublicKeyOf info bytes.now → IsOnP256 info.algorithm
@@ -76,12 +77,12 @@ pub fn read_private_key(bytes: &[u8]) -> Result<EcPrivateKey<'_>>
     ensures only { (info : PrivateKey) (key : Key) → IsPrivateKeyOf info bytes.now
         → info.algorithm.algorithm ≡ ec_public_key → IsKeyOf key info.bytes → result ≡ Ok key }
     ensures no_info { ((info : PrivateKey) → ¬ IsPrivateKeyOf info bytes.now)
-        → IsErrAnd result IsAsn1ReadingFault }
+        → IsErrAnd result (IsAsn1Where IsReadingFault) }
     ensures other_algorithm { (info : PrivateKey) → IsPrivateKeyOf info bytes.now
         → info.algorithm.algorithm ≢ ec_public_key → result ≡ Err Error.Crypto }
     ensures no_key { (info : PrivateKey) → IsPrivateKeyOf info bytes.now
         → info.algorithm.algorithm ≡ ec_public_key → ((key : Key) → ¬ IsKeyOf key info.bytes)
-        → IsErrAnd result IsAsn1ReadingFault }
+        → IsErrAnd result (IsAsn1Where IsReadingFault) }
 {
     let PrivateKeyInfo {
         algorithm,

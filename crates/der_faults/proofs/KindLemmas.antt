@@ -57,13 +57,17 @@ element_kind tag p q f g x y end (byte ∷ bytes) = by (byte == tag)
 
 optional_kind : (tag : ℕ) (p q : Place) (f g : r.Fault) → Places p f → Places q g
     → Places (optional_place tag p q) (r.optional_fault tag f g)
-optional_kind tag p q f g x y end bytes = by (r.is_next tag bytes)
+optional_kind tag p q f g x y end [] = y end []
+optional_kind tag p q f g x y end (byte ∷ bytes) = by (byte == tag)
   where
+    all : List ℕ
+    all = byte ∷ bytes
+
     by : (b : Bool)
-        → kind_of (if b then element_place tag p q end bytes else q end bytes)
-        ≡ (if b then r.element_fault tag f g bytes else g bytes)
-    by true = element_kind tag p q f g x y end bytes
-    by false = y end bytes
+        → kind_of (if b then element_place tag p q end all else q end all)
+        ≡ (if b then r.element_fault tag f g all else g all)
+    by true = element_kind tag p q f g x y end all
+    by false = y end all
 
 any_kind : (p : ℕ → Place) (q : Place) (f : ℕ → r.Fault) (g : r.Fault) → ((tag : ℕ) → Places (p tag) (f tag))
     → Places q g

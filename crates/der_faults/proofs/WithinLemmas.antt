@@ -58,9 +58,10 @@ element_within tag p q x y end (byte ∷ bytes) =
     (omega arith)
 
 optional_within : (tag : ℕ) (p q : Place) → Bounded p → Bounded q → Bounded (optional_place tag p q)
-optional_within tag p q x y end bytes =
-    either end (element_place tag p q end bytes) (q end bytes) (r.is_next tag bytes)
-    (element_within tag p q x y end bytes) (y end bytes)
+optional_within tag p q x y end [] = y end []
+optional_within tag p q x y end (byte ∷ bytes) =
+    either end (element_place tag p q end (byte ∷ bytes)) (q end (byte ∷ bytes)) (byte == tag)
+    (element_within tag p q x y end (byte ∷ bytes)) (y end (byte ∷ bytes))
 
 any_within : (p : ℕ → Place) (q : Place) → ((tag : ℕ) → Bounded (p tag)) → Bounded q → Bounded (any_place p q)
 any_within p q x y end [] = omega arith

@@ -1,12 +1,13 @@
 -- The place of a refusal: the offset of the first fault from left to right, and its kind.
 use Rattle.std.specs.Prelude.{◌==◌, ℕ, zero, suc, ◌+◌, ◌-◌, not, nat_lt, bit_and, if◌then◌else◌}
+use Rattle.std.specs.Prelude.{Bool, false}
 use Rattle.std.specs.Prelude.{List, [], ◌∷◌, length, Option, Some, None, option_map}
 use Rattle.std.specs.Prelude.{Result, Ok, Err}
 use Rattle.std.specs.Option.{option_or}
 use Rattle.sec1_der.specs.Contents.{byte_fault, identifier_fault, bit_string_fault}
 use Rattle.sec1_der.specs.Contents.{whole_bits_fault}
 use Rattle.sec1_der.specs.Elements.{is_tag}
-use Rattle.sec1_der.specs.Faults.{no_fault, length_at, within, is_next}
+use Rattle.sec1_der.specs.Faults.{no_fault, length_at, within}
 use Rattle.sec1_der.specs.Faults as faults
 use Rattle.sec1_der.specs.Trees.{max_tree_depth}
 use Rattle.sec1_der.specs.declared.error.ErrorKind.{ErrorKind}
@@ -42,6 +43,11 @@ element_place tag content behind end [] = Some (before end [] Truncated)
 element_place tag content behind end (byte ∷ bytes) =
     if byte == tag then parts_place content behind end bytes (within (length_at bytes))
     else Some (before end (byte ∷ bytes) Tag)
+
+-- whether this byte is next
+abbrev is_next : ℕ → List ℕ → Bool
+is_next tag [] = false
+is_next tag (byte ∷ bytes) = byte == tag
 
 -- the same of an element that may be absent
 abbrev pub optional_place : ℕ → Place → Place → Place

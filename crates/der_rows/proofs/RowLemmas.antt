@@ -8,7 +8,8 @@ use Rattle.std.proofs.lemmas.List.{length-append}
 use Rattle.sec1_der.specs.Elements.{header, element, IsHeader}
 use Rattle.sec1_der.proofs.ElementLaws.{IsConstructed}
 use Rattle.sec1_der.specs.Trees.{Tree, Forest, leaf, branch, none, first, IsTree, AreTrees, bytes, joined}
-use Rattle.sec1_der.specs.Trees.{depth, max_depth, max_tree_depth}
+use Rattle.sec1_der.specs.Trees.{depth, max_tree_depth}
+use Rattle.sec1_der.proofs.TreeLemmas.{max_depth}
 use Rattle.der_rows.proofs.ParsedLemmas.{parsed_found, parsed_whole}
 use Rattle.der_rows.specs.Rows.{RowView, Undrawn, Parsed, parsed, is_constructed, closed, row_at, drawn, next_of}
 use Rattle.der_rows.specs.Rows.{undrawn, concatenated, left, bytes_of_rows, Draws, rows_of_tree, rows_of_forest}

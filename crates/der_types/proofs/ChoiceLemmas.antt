@@ -1,45 +1,20 @@
 -- Which alternative of a CHOICE is next, and parts that are apart.
 use Rattle.std.proofs.Common.{◌≡◌, ◌==◌, ◌++◌, ◌∷◌, [], ◌||◌, ◌&&◌, not, if◌then◌else◌, ℕ, List, Bool, true, false}
 use Rattle.std.proofs.Common.{Option, Some, None, refl, sym, ◌∙◌, ap}
-use Rattle.std.proofs.lemmas.Bool.{and_parts, eqb-true}
+use Rattle.std.proofs.lemmas.Bool.{and_parts}
+use Rattle.std.proofs.lemmas.List.Folds.{list_any-append}
+use Rattle.std.specs.List.{list_all}
+use Rattle.sec1_der.proofs.PartLemmas.{apart_among, not_among}
 use Rattle.sec1_der.specs.Readers.{Reader, reader_over}
-use Rattle.sec1_der.specs.Parts.{Tags, is_among, disjoint, Begins, MayFollow, AreApart}
+use Rattle.sec1_der.specs.Parts.{Tags, is_among, Begins, MayFollow, AreApart}
 use Rattle.der_types.specs.Choices.{begins_among, choice_of, choice_tags, optional_bytes, optional_tags}
 use Rattle.der_types.specs.declared.choice.Choice.{Choice}
 use Rattle.der_types.specs.declared.choice.Choice.TheVariants.{First, Second}
 
--- a tag is among two lists if it is among one of them
-pub among_append : (tag : ℕ) (xs ys : List ℕ) → is_among tag (xs ++ ys) ≡ (is_among tag xs || is_among tag ys)
-among_append tag [] ys = refl
-among_append tag (x ∷ xs) ys = rw (among_append tag xs ys) (by (tag == x))
-  where
-    by : (b : Bool) → (b || (is_among tag xs || is_among tag ys)) ≡ ((b || is_among tag xs) || is_among tag ys)
-    by true = refl
-    by false = refl
-
 pub among_either : (tag : ℕ) (xs ys : List ℕ) (next found : Bool) → next ≡ is_among tag xs → next ≡ found
     → is_among tag (xs ++ ys) ≡ (found || is_among tag ys)
-among_either tag xs ys next found e is = among_append tag xs ys ∙ ap (λ b. b || is_among tag ys) (sym e ∙ is)
-
-or_false : (b c : Bool) → (b || c) ≡ false → (b ≡ false) × (c ≡ false)
-or_false true c e = absurd (cc (e))
-or_false false c e = (refl, e)
-
-not_among : (tag : ℕ) (xs ys : List ℕ) → is_among tag (xs ++ ys) ≡ false
-    → (is_among tag xs ≡ false) × (is_among tag ys ≡ false)
-not_among tag xs ys e = or_false (is_among tag xs) (is_among tag ys) (sym (among_append tag xs ys) ∙ e)
-
--- a tag among the second isn't among the first
-apart_among : (tag : ℕ) (xs ys : List ℕ) → disjoint xs ys ≡ true → is_among tag ys ≡ true → is_among tag xs ≡ false
-apart_among tag [] ys d e = refl
-apart_among tag (x ∷ xs) ys d e =
-    let parts = and_parts (not (is_among x ys)) (disjoint xs ys) d in
-    by (tag == x) refl parts.0 (apart_among tag xs ys parts.1 e)
-  where
-    by : (b : Bool) → (tag == x) ≡ b → not (is_among x ys) ≡ true → is_among tag xs ≡ false
-        → (b || is_among tag xs) ≡ false
-    by true same other rest = absurd (cc (other, rw (eqb-true tag x same) at e))
-    by false differ other rest = rest
+among_either tag xs ys next found e is =
+    list_any-append (λ other. tag == other) xs ys ∙ ap (λ b. b || is_among tag ys) (sym e ∙ is)
 
 -- what may follow a CHOICE may follow each of its alternatives
 pub follows_both : (p q : Tags) (rest : List ℕ) → MayFollow (choice_tags p q) rest → MayFollow p rest × MayFollow q rest
@@ -59,8 +34,8 @@ next_is p [] rest some begins = absurd (cc (some, begins))
 next_is p (byte ∷ whole) rest some begins = begins
 
 -- no tag of another part is next
-pub next_not : (p q : Tags) (whole rest : List ℕ) → disjoint p.firsts q.firsts ≡ true → q.may_be_empty ≡ false
-    → Begins q whole
+pub next_not : (p q : Tags) (whole rest : List ℕ) → list_all (λ x. not (is_among x q.firsts)) p.firsts ≡ true
+    → q.may_be_empty ≡ false → Begins q whole
     → begins_among p.firsts (whole ++ rest) ≡ false
 next_not p q [] rest d some begins = absurd (cc (some, begins))
 next_not p q (byte ∷ whole) rest d some begins = apart_among byte p.firsts q.firsts d begins
@@ -71,15 +46,16 @@ BeginsWith {P} tags bytes = (part : P) (whole : List ℕ) → bytes part ≡ Som
 
 -- the alternatives of a CHOICE that are apart, and may not begin with the same tag
 pub apart_parts : (p q : Tags) → (choice_tags p q).apart ≡ true
-    → (p.apart ≡ true) × (q.apart ≡ true) × (disjoint p.firsts q.firsts ≡ true)
+    → (p.apart ≡ true) × (q.apart ≡ true) × (list_all (λ x. not (is_among x q.firsts)) p.firsts ≡ true)
 apart_parts p q apart =
-    let parts = and_parts p.apart (q.apart && disjoint p.firsts q.firsts) apart in
-    let more = and_parts q.apart (disjoint p.firsts q.firsts) parts.1 in
+    let differ = list_all (λ x. not (is_among x q.firsts)) p.firsts in
+    let parts = and_parts p.apart (q.apart && differ) apart in
+    let more = and_parts q.apart differ parts.1 in
     (parts.0, more.0, more.1)
 
 -- two parts don't begin with the same tag
-not_both : (p q : Tags) (x y : List ℕ) → disjoint p.firsts q.firsts ≡ true → p.may_be_empty ≡ false
-    → q.may_be_empty ≡ false → (r s : List ℕ) → Begins p x
+not_both : (p q : Tags) (x y : List ℕ) → list_all (λ x. not (is_among x q.firsts)) p.firsts ≡ true
+    → p.may_be_empty ≡ false → q.may_be_empty ≡ false → (r s : List ℕ) → Begins p x
     → Begins q y → x ++ r ≡ y ++ s → ⊥
 not_both p q x y d some more r s begins ends same =
     let is = next_is p x r some begins in

@@ -1,9 +1,8 @@
 -- What a CHOICE and an OPTIONAL part begin with. Ghost members of traits cite these laws.
-use Rattle.std.specs.Prelude.{◌≡◌, ◌∷◌, [], ◌||◌, ℕ, List, Bool, true, false, Option, Some, None}
-use Rattle.std.specs.Prelude.{refl}
-use Rattle.std.proofs.Common.{inl, inr}
-use Rattle.sec1_der.specs.Parts.{Tags, Begins}
-use Rattle.sec1_der.specs.PartLaws.{among_either}
+use Rattle.std.specs.Prelude.{◌≡◌, ◌∷◌, [], ◌==◌, ℕ, List, false, Option, Some, None, refl}
+use Rattle.std.proofs.lemmas.Bool.{or_left, or_right}
+use Rattle.std.proofs.lemmas.List.Folds.{list_any-append}
+use Rattle.sec1_der.specs.Parts.{Tags, is_among, Begins}
 use Rattle.der_types.specs.Choices.{choice_of, choice_tags, optional_bytes, optional_tags}
 use Rattle.der_types.specs.declared.choice.Choice.{Choice}
 use Rattle.der_types.specs.declared.choice.Choice.TheVariants.{First, Second}
@@ -15,15 +14,15 @@ choice_not_empty p q e f = rw (e, f) refl
 
 begins_first : (p q : Tags) (whole : List ℕ) → Begins p whole → Begins (choice_tags p q) whole
 begins_first p q [] e = rw e refl
-begins_first p q (byte ∷ bytes) e = among_either byte p.firsts q.firsts (inl e)
+begins_first p q (byte ∷ bytes) e =
+    rw (list_any-append (λ tag. byte == tag) p.firsts q.firsts)
+    (or_left (is_among byte p.firsts) (is_among byte q.firsts) e)
 
 begins_second : (p q : Tags) (whole : List ℕ) → Begins q whole → Begins (choice_tags p q) whole
 begins_second p q [] e = or_right p.may_be_empty q.may_be_empty e
-  where
-    or_right : (b d : Bool) → d ≡ true → (b || d) ≡ true
-    or_right true d e = refl
-    or_right false d e = e
-begins_second p q (byte ∷ bytes) e = among_either byte p.firsts q.firsts (inr e)
+begins_second p q (byte ∷ bytes) e =
+    rw (list_any-append (λ tag. byte == tag) p.firsts q.firsts)
+    (or_right (is_among byte p.firsts) (is_among byte q.firsts) e)
 
 -- a CHOICE begins with a tag of one of the alternatives
 pub choice_begins : (p q : Tags) {P Q : Type 0} (first : P → Option (List ℕ))

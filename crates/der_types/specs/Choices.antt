@@ -1,9 +1,10 @@
 -- X.680 section 29 and X.690 section 8.13: a CHOICE has the bytes of the alternative that was
 -- chosen.
-use Rattle.std.specs.Prelude.{◌++◌, ◌∷◌, [], ◌||◌, ◌&&◌, ℕ, List, Bool, true, false, Option, Some}
-use Rattle.std.specs.Prelude.{None, codes, if◌then◌else◌}
+use Rattle.std.specs.Prelude.{◌++◌, ◌∷◌, [], ◌||◌, ◌&&◌, not, ℕ, List, Bool, true, false, Option}
+use Rattle.std.specs.Prelude.{Some, None, codes, if◌then◌else◌}
 use Rattle.std.specs.Fmt.{debug_variant}
-use Rattle.sec1_der.specs.Parts.{Tags, is_among, disjoint}
+use Rattle.std.specs.List.{list_all}
+use Rattle.sec1_der.specs.Parts.{Tags, is_among}
 use Rattle.sec1_der.specs.Faults.{Fault}
 use Rattle.der_types.specs.declared.choice.Choice.{Choice}
 use Rattle.der_types.specs.declared.choice.Choice.TheVariants.{First, Second}
@@ -26,7 +27,7 @@ choice_tags p q = record {
   firsts = p.firsts ++ q.firsts;
   may_be_empty = p.may_be_empty || q.may_be_empty;
   barred = p.barred ++ q.barred;
-  apart = p.apart && (q.apart && disjoint p.firsts q.firsts);
+  apart = p.apart && (q.apart && list_all (λ tag. not (is_among tag q.firsts)) p.firsts);
 }
 
 -- whether the bytes begin with one of these tags

@@ -1,4 +1,5 @@
-ghost use Rattle.sec1.specs.Errors.{IsAsn1, IsAsn1ReadingFault};
+ghost use Rattle.sec1.specs.Der.{IsReadingFault};
+ghost use Rattle.sec1.specs.Errors.{IsAsn1, IsAsn1Where};
 ghost use Rattle.sec1.specs.Keys.{IsKeyOf, Key};
 ghost use Rattle.sec1_der.specs.declared.error.ErrorKind.TheVariants.{Overlength};
 ghost use Rattle.std.specs.Prelude.{◌≡◌, None};
@@ -18,7 +19,7 @@ impl DecodeEcPrivateKey for OwnKey {
     ghost reads = { λ bytes own. (key : Key) × IsKeyOf key bytes
         × (own.private_key.items ≡ key.private_key) };
 
-    ghost refuses = { λ _ error. IsAsn1ReadingFault error };
+    ghost refuses = { λ _ error. IsAsn1Where IsReadingFault error };
 
     fn from_sec1_der(alloc: Global, bytes: &[u8]) -> Result<OwnKey> {
         let key = EcPrivateKey::try_from(bytes)?;

@@ -1,4 +1,5 @@
-ghost use Rattle.sec1.specs.Errors.{IsAsn1ReadingFault};
+ghost use Rattle.sec1.specs.Der.{IsReadingFault};
+ghost use Rattle.sec1.specs.Errors.{IsAsn1Where};
 ghost use Rattle.sec1.specs.Keys.{IsKeyOf, Key};
 ghost use Rattle.std.specs.Prelude.{◌≡◌, ◌⊎◌, IfErr, IfOk, MatchResult};
 
@@ -8,7 +9,7 @@ use std::alloc::Global;
 /// Reads a key and writes it again: the bytes that were read.
 pub fn key_again(alloc: Global, bytes: &[u8]) -> Result<Vec<u8>>
     ensures same { IfOk result (λ der. der.items ≡ bytes.now) }
-    ensures kinds { IfErr result (λ e. IsAsn1ReadingFault e ⊎ (e ≡ Error.Memory)) }
+    ensures kinds { IfErr result (λ e. IsAsn1Where IsReadingFault e ⊎ (e ≡ Error.Memory)) }
     ensures key { (key : Key) → IsKeyOf key bytes.now
         → MatchResult result (λ der. der.items ≡ bytes.now) (λ e. e ≡ Error.Memory) }
 {

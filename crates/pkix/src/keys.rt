@@ -1,13 +1,14 @@
 //! The keys on named curves in containers and certificates.
 ghost use Rattle.std.specs.Prelude.{◌≡◌, ◌≢◌, ◌↔◌, ◌⊎◌, true, Ok, Err, Some, IsOkAnd};
-ghost use Rattle.std.specs.Prelude.{IfOk, IfErr, IfSome};
+ghost use Rattle.std.specs.Prelude.{IfOk, IfErr, IfSome, IsErrAnd};
 ghost use Rattle.sec1.specs.EncodedPoints.{point_of};
-ghost use Rattle.sec1.specs.Errors.{IsAsn1ReadingFault, RefusesAsn1};
+ghost use Rattle.sec1.specs.Errors.{IsAsn1, IsAsn1Where};
 ghost use Rattle.sec1.specs.KeyFaults.{key_fault};
 ghost use Rattle.sec1.specs.Keys.{Key, IsKeyOf};
 ghost use Rattle.sec1.specs.Points.{Fits, Point};
 ghost use Rattle.sec1_der.specs.declared.error.ErrorKind.{ErrorKind};
 ghost use Rattle.sec1_der.specs.Elements.{element_of};
+ghost use Rattle.sec1_der.specs.ErrorKinds.{IsReadingFault};
 ghost use Rattle.sec1_der.specs.Identifiers.{identifier_content};
 ghost use Rattle.curves.specs.Curves.{curve_arcs, field_len};
 ghost use Rattle.pkix.specs.EcKeys.{IsOnCurve, NamesCurve, HasPoint};
@@ -84,11 +85,12 @@ impl<'a> PrivateKeyInfo<'a> {
         ensures other_algorithm { ((curve : Curve) → ¬ IsOnCurve curve self.now.algorithm)
             → result ≡ Err Error.Crypto }
         ensures no_key { (curve : Curve) (kind : ErrorKind) → IsOnCurve curve self.now.algorithm
-            → key_fault self.now.private_key ≡ Some kind → RefusesAsn1 result kind }
+            → key_fault self.now.private_key ≡ Some kind → IsErrAnd result (IsAsn1 kind) }
         ensures other_curve { (curve : Curve) (key : Key) → IsOnCurve curve self.now.algorithm
             → IsKeyOf key self.now.private_key → ¬ NamesCurve curve key
             → result ≡ Err Error.Crypto }
-        ensures kinds { IfErr result (λ e. (e ≡ Error.Crypto) ⊎ IsAsn1ReadingFault e) }
+        ensures kinds { IfErr result
+            (λ e. (e ≡ Error.Crypto) ⊎ IsAsn1Where IsReadingFault e) }
     {
         let curve = self.algorithm.curve().ok_or(Error::Crypto)?;
         let key = EcPrivateKey::try_from(self.private_key.bytes)?;

@@ -5,13 +5,15 @@ use Rattle.std.proofs.Common.{arith, take_all, length-append, drop, sym, ap, ◌
 use Rattle.std.proofs.Common.{Some, nat_lt, if◌then◌else◌}
 use Rattle.std.proofs.Math.Seq.{take-append_seam}
 use Rattle.std.proofs.lemmas.List.{append_cancel_left, take_more, take-append-le, length_push, take_at, drop_at}
+use Rattle.std.proofs.lemmas.List.Elements.{All-nil, All-cons, All-head, All-tail}
+use Rattle.std.specs.List.{All}
 use Rattle.std.proofs.lemmas.Bool.{lt-ltb}
 use Rattle.std.proofs.lemmas.Grind.{elements}
 use Rattle.std.proofs.lemmas.Slice.Eq.{bytes_eq-Decides}
 use Rattle.std.specs.Fmt.{comma_space, debug_items, decimal}
 use Rattle.sec1_der.specs.DebugTexts.{bytes_text}
 use Rattle.sec1_der.specs.Numbers.{number_of}
-use Rattle.sec1.specs.Coordinates.{EachArray, coordinates_bytes}
+use Rattle.sec1.specs.Coordinates.{arrays_of, coordinates_bytes}
 use Rattle.sec1.specs.Coordinates.{coordinates_point, first_bytes}
 use Rattle.sec1.specs.Points.{encoding, fixed_width, tag_byte, hybrid}
 use Rattle.sec1.specs.declared.point.coordinates.Coordinates.{Coordinates}
@@ -42,14 +44,14 @@ pub coordinates_whole : (n : ℕ) (xs : List ℕ) → length xs ≡ n → coordi
 coordinates_whole n xs e = grind (arith, first_take n xs, take_all n xs)
 
 -- The bytes of one array are the first of those of two.
-pub one_array : (n m : ℕ) (xs ys : List ℕ) → length xs ≡ n → m ≡ n → first_bytes n xs ≡ take m (xs ++ ys)
-one_array n m xs ys long e = grind (arith, first_take n xs, take-append-le n xs ys)
+pub one_array : (n m : ℕ) (xs ys : List ℕ) → length xs ≡ n → m ≡ n → first_bytes n xs ++ [] ≡ take m (xs ++ ys)
+one_array n m xs ys long e = grind (arith, append-nil, first_take n xs, take-append-le n xs ys)
 
 -- Those of both are all of them.
 pub two_arrays : (n m : ℕ) (xs ys : List ℕ) → length xs ≡ n → length ys ≡ n → m ≡ 2 * n
-    → first_bytes n xs ++ first_bytes n ys ≡ take m (xs ++ ys)
+    → first_bytes n xs ++ (first_bytes n ys ++ []) ≡ take m (xs ++ ys)
 two_arrays n m xs ys long other_long e =
-    grind (arith, first_take n xs, first_take n ys, take_all, length-append {A = ℕ})
+    grind (arith, append-nil, first_take n xs, first_take n ys, take_all, length-append {A = ℕ})
 
 -- The arrays with a tag.
 pub ruleset with_arrays = (coordinates_whole, one_array, two_arrays)
@@ -86,30 +88,49 @@ fronts_same n xs us ys vs long other_long e =
     sym (take-append_seam xs ys) ∙ rw (e, long, ← other_long) (take-append_seam us vs) in
     (front, append_cancel_left us ys vs (rw front at e))
 
+-- The array is all digits of its number.
+abbrev AreDigits : ℕ → List ℕ → Type 0
+AreDigits n array = array ≡ fixed_width n (number_of array)
+
+-- The array has n bytes.
+abbrev HasLength : ℕ → List ℕ → Type 0
+HasLength n array = length array ≡ n
+
+-- An array with the digits of a number.
+has_digits : (n : ℕ) (xs : List ℕ) → length xs ≡ n → first_bytes n xs ≡ fixed_width n (coordinate_number n xs)
+    → AreDigits n xs
+has_digits n xs long e = sym (all_bytes n xs long) ∙ e ∙ ap (fixed_width n) (coordinates_whole n xs long)
+
+one_digits : (n : ℕ) (xs : List ℕ) → All (HasLength n) (xs ∷ [])
+    → first_bytes n xs ++ [] ≡ fixed_width n (coordinate_number n xs)
+    → All (AreDigits n) (xs ∷ [])
+one_digits n xs long e =
+    let same = sym (append-nil (first_bytes n xs)) ∙ e in
+    All-cons (AreDigits n) xs [] (has_digits n xs (All-head (HasLength n) xs [] long) same) (All-nil (AreDigits n))
+
 -- Two arrays with the digits of two numbers, one after the other.
-both_digits : (n : ℕ) (xs ys : List ℕ) → length xs ≡ n → length ys ≡ n
-    → first_bytes n xs ++ first_bytes n ys
+both_digits : (n : ℕ) (xs ys : List ℕ) → All (HasLength n) (xs ∷ ys ∷ [])
+    → first_bytes n xs ++ (first_bytes n ys ++ [])
     ≡ fixed_width n (coordinate_number n xs) ++ fixed_width n (coordinate_number n ys)
-    → (xs ≡ fixed_width n (number_of xs)) × (ys ≡ fixed_width n (number_of ys))
-both_digits n xs ys long other_long e =
+    → All (AreDigits n) (xs ∷ ys ∷ [])
+both_digits n xs ys long e =
     let same =
     fronts_same n (first_bytes n xs) (fixed_width n (coordinate_number n xs)) _ _ (length-first n xs)
-    (length-fixed_width n (coordinate_number n xs)) e in (
-      sym (all_bytes n xs long) ∙ same.0 ∙ ap (fixed_width n) (coordinates_whole n xs long),
-      sym (all_bytes n ys other_long) ∙ same.1 ∙ ap (fixed_width n) (coordinates_whole n ys other_long),
-    )
+    (length-fixed_width n (coordinate_number n xs)) e in
+    All-cons (AreDigits n) xs (ys ∷ []) (has_digits n xs (All-head (HasLength n) xs (ys ∷ []) long) same.0)
+    (one_digits n ys (All-tail (HasLength n) xs (ys ∷ []) long) same.1)
 
 -- The arrays of a point's encoding have the digits of its coordinates.
 pub digits_of_encoding : {N : ℕ} (c : Coordinates N) → coordinates_bytes c ≡ encoding N (coordinates_point c)
-    → EachArray (λ array. length array ≡ N) c → EachArray (λ array. array ≡ fixed_width N (number_of array)) c
+    → All (HasLength N) (arrays_of c) → All (AreDigits N) (arrays_of c)
 unfolding encoding
-digits_of_encoding {N} parts.Identity e whole = tt
+digits_of_encoding {N} parts.Identity e whole = All-nil (AreDigits N)
 digits_of_encoding {N} (parts.Compact x) e whole =
-    grind (arith, all_bytes N x.now whole, coordinates_whole N x.now whole)
+    one_digits N x.now whole (ap (drop 1) e ∙ append-nil (fixed_width N (coordinate_number N x.now)))
 digits_of_encoding {N} (parts.Compressed x y_is_odd) e whole =
-    grind (arith, all_bytes N x.now whole, coordinates_whole N x.now whole)
-digits_of_encoding {N} (parts.Uncompressed x y) e whole = both_digits N x.now y.now whole.0 whole.1 (ap (drop 1) e)
-digits_of_encoding {N} (parts.Hybrid x y) e whole = both_digits N x.now y.now whole.0 whole.1 (ap (drop 1) e)
+    one_digits N x.now whole (ap (drop 1) e ∙ append-nil (fixed_width N (coordinate_number N x.now)))
+digits_of_encoding {N} (parts.Uncompressed x y) e whole = both_digits N x.now y.now whole (ap (drop 1) e)
+digits_of_encoding {N} (parts.Hybrid x y) e whole = both_digits N x.now y.now whole (ap (drop 1) e)
 
 -- ---- comparison
 
@@ -132,12 +153,14 @@ pub ruleset compared_bytes = (first_none, first_more, first_apart, bytes_eq-Deci
 pub eq_hybrid : (n : ℕ) (xs ys us vs : List ℕ)
     → (bytes_eq (first_bytes n xs) (first_bytes n us) && bytes_eq (first_bytes n ys) (first_bytes n vs))
     ≡ bytes_eq
-    (tag_byte (hybrid (coordinate_number n xs) (coordinate_number n ys)) ∷ (first_bytes n xs ++ first_bytes n ys))
-    (tag_byte (hybrid (coordinate_number n us) (coordinate_number n vs)) ∷ (first_bytes n us ++ first_bytes n vs))
-eq_hybrid n xs ys us vs = grind (arith, eq_append, length-first, bytes_eq-Decides)
+    (tag_byte (hybrid (coordinate_number n xs) (coordinate_number n ys))
+    ∷ (first_bytes n xs ++ (first_bytes n ys ++ [])))
+    (tag_byte (hybrid (coordinate_number n us) (coordinate_number n vs))
+    ∷ (first_bytes n us ++ (first_bytes n vs ++ [])))
+eq_hybrid n xs ys us vs = grind (arith, append-nil, eq_append, length-first, bytes_eq-Decides)
 
 -- Two coordinates are compared one after the other.
-pub ruleset compared_coordinates = (eq_append, eq_hybrid, length-first)
+pub ruleset compared_coordinates = (append-nil, eq_append, eq_hybrid, length-first)
 
 -- The number of the digits of a coordinate, and how many they are.
 pub ruleset coordinate_digits = (coordinates_whole, length-fixed_width)
@@ -196,5 +219,5 @@ all_items xs = rw (items_text [] xs) refl
 pub first_array : (n : ℕ) (xs ys : List ℕ) → take n (first_bytes n xs ++ ys) ≡ first_bytes n xs
 first_array n xs ys = take_at (first_bytes n xs) ys n (length-first n xs)
 
-pub second_array : (n : ℕ) (xs ys : List ℕ) → drop n (first_bytes n xs ++ ys) ≡ ys
-second_array n xs ys = drop_at (first_bytes n xs) ys n (length-first n xs)
+pub second_array : (n : ℕ) (xs ys : List ℕ) → drop n (first_bytes n xs ++ (ys ++ [])) ≡ ys
+second_array n xs ys = drop_at (first_bytes n xs) (ys ++ []) n (length-first n xs) ∙ append-nil ys

@@ -1,7 +1,8 @@
 -- The point of a buffer that begins with its encoding.
 use Rattle.std.proofs.Common.{◌≡◌, ℕ, ◌+◌, ◌-◌, ◌*◌, ◌%◌, ◌==◌, ◌<◌, ◌≤◌, cond, List, [], ◌∷◌, ◌++◌, length, get_or}
 use Rattle.std.proofs.Common.{take, drop, set, replicate, sym, ap, refl, ◌∙◌, arith}
-use Rattle.std.proofs.Common.{append_assoc, add-one, Some, Ok, nat_cmp, ◌↔◌, take_at, take_all, take-append-drop}
+use Rattle.std.proofs.Common.{append_assoc, append-nil, add-one, Some, Ok, nat_cmp, ◌↔◌, take_at, take_all}
+use Rattle.std.proofs.Common.{take-append-drop}
 use Rattle.std.proofs.Common.{length-append, length-drop, length-take}
 use Rattle.std.proofs.Common.{le_of_eq}
 use Rattle.std.proofs.Math.Seq.{take-add}
@@ -11,7 +12,7 @@ use Rattle.std.proofs.lemmas.Slice.{take-put_mid}
 use borrow.Rule.Slice.PartMut.{put_mid}
 use Rattle.hex.specs.Hex.{IsBytes}
 use Rattle.sec1.specs.Der.{number_of}
-use Rattle.sec1.specs.Points.{Point, identity, uncompressed, coordinate_bytes, IsPoint, IsEncoding, Fits}
+use Rattle.sec1.specs.Points.{Point, identity, uncompressed, IsPoint, IsEncoding, Fits}
 use Rattle.sec1.specs.Points.{tag_byte, encoding, meaning, point_from}
 use Rattle.sec1.specs.Points.{compressed_point, hybrid_point, y_of}
 use Rattle.sec1.specs.PointOrder.{point_cmp}
@@ -65,12 +66,12 @@ made_of_halves {N} p x y ex ey =
 -- The halves begin with the bytes after the tag.
 pub coordinates_of : {N L : ℕ} (p : EncodedPoint N L) (x y : List ℕ) → x ≡ take N (drop 1 p.bytes)
     → y ≡ take N (drop N (drop 1 p.bytes))
-    → take (message_len (point_tag (point_of p)) N - 1) (x ++ y) ≡ coordinate_bytes N (point_of p)
+    → take (message_len (point_tag (point_of p)) N - 1) (x ++ y) ≡ drop 1 (encoding N (point_of p))
 unfolding encoding
 coordinates_of {N} p x y ex ey =
     let of = point_of p in
     let rest = drop p.len p.bytes in
-    let after : drop 1 p.bytes ≡ coordinate_bytes N of ++ rest = ap (drop 1) (begins p) in
+    let after : drop 1 p.bytes ≡ drop 1 (encoding N of) ++ rest = ap (drop 1) (begins p) in
     let both : x ++ y ≡ take (N + N) (drop 1 p.bytes) = rw (ex, ey) (sym (take-add N N (drop 1 p.bytes))) in
     let len = length-enc N of in
     let most = length-enc-le N of in
@@ -103,7 +104,8 @@ compressed_holds {N} p front e = holds N front (compressed_point (point_of p)) (
 compress_of : (n : ℕ) (p : Point) (rest : List ℕ) (y tag : ℕ) → Some y ≡ y_of p → tag ≡ cond (y % 2 == 1) 3 2
     → take (n + 1) (set (encoding n p ++ rest) 0 tag) ≡ encoding n (compressed_point p)
 unfolding encoding
-compress_of n p rest y tag h e = grind (arith, add-one, append_assoc {A = ℕ}, take_at {A = ℕ}, length-fixed_width)
+compress_of n p rest y tag h e =
+    grind (arith, add-one, append_assoc {A = ℕ}, append-nil {A = ℕ}, take_at {A = ℕ}, length-fixed_width)
 
 -- With the tag of y's parity in front, the tag and x are the compressed form.
 compress_front : {N L : ℕ} (p : EncodedPoint N L) (y tag : ℕ) → Some y ≡ y_of (point_of p)
@@ -143,7 +145,7 @@ whole_front {N} p y tag whole is long e =
 hybrid_of : (n : ℕ) (p : Point) (rest : List ℕ) (tag : ℕ) → tag ≡ tag_byte (hybrid_point p)
     → take (length (encoding n p)) (set (encoding n p ++ rest) 0 tag) ≡ encoding n (hybrid_point p)
 unfolding encoding
-hybrid_of n p rest tag e = grind (arith, take_at (coordinate_bytes n p) rest)
+hybrid_of n p rest tag e = grind (arith, take_at (drop 1 (encoding n p)) rest)
 
 -- With the hybrid form's tag in front, the encoding is that form's.
 pub hybrid_holds : {N L : ℕ} (p : EncodedPoint N L) (tag : ℕ) → p.len ≤ length p.bytes

@@ -1,7 +1,6 @@
 -- The content of a key, and the key's bytes.
 use Rattle.std.proofs.Common.{◌≡◌, ◌∷◌, [], ℕ, List, Option, Some, None, option_map, IsSomeAnd, refl, append-nil, arith}
-use Rattle.std.proofs.Common.{⊎_elim, inl, inr, Result, Ok, Err, IsErrAnd, MatchResult}
-use Rattle.sec1_der.specs.Encodings.{IsOverlengthOr}
+use Rattle.std.proofs.Common.{◌⊎◌, ⊎_elim, inl, inr, Result, Ok, Err, IfSome, IsErrAnd, MatchResult}
 use Rattle.sec1_der.specs.declared.error.Error.{Error as DerError}
 use Rattle.sec1_der.specs.declared.error.ErrorKind.TheVariants.{Overlength, Buffer, Truncated, Memory as DerMemory}
 use Rattle.sec1.specs.declared.error.Error.{Error}
@@ -12,10 +11,10 @@ use Rattle.sec1_der.proofs.ElementFaultLemmas.{element_cut}
 use Rattle.sec1_der.proofs.ElementLaws.{element_of-within}
 use Rattle.sec1.specs.Der.{join, element_of, optional_of, IsTreeOf}
 use Rattle.sec1_der.specs.Trees.{bytes as tree_bytes}
-use Rattle.sec1_der.specs.Identifiers.{content_of, identifier_content}
+use Rattle.sec1_der.specs.Identifiers.{IsIdentifier, content_of, identifier_content}
 use Rattle.sec1_der.proofs.IdentifierLaws.{is_identifier-true, identifier_content-valid}
 use Rattle.sec1.specs.KeyFaults.{key_fault}
-use Rattle.sec1.specs.Keys.{Key, key_tree, IsNamedCurve, IsKeyOf, HasNoEncoding, SomeBytes}
+use Rattle.sec1.specs.Keys.{Key, key_tree, IsKeyOf, SomeBytes}
 
 -- the content of a key with this element of the identifier of its curve
 abbrev content_with : Option (Option (List ℕ)) → Key → Option (List ℕ)
@@ -50,14 +49,15 @@ tree_found private_key (Some arcs) (Some public_key) bytes e =
     record { tree = grind (arith, append-nil {A = ℕ}); whole = grind (arith, append-nil {A = ℕ}) }
 
 -- A curve that is named has the content of its identifier.
-curve_content : (parameters : Option (List ℕ)) → IsNamedCurve parameters
+curve_content : (parameters : Option (List ℕ)) → IfSome parameters (λ arcs. IsIdentifier arcs (content_of arcs))
     → option_map (λ arcs. element_of 0x06 (identifier_content arcs)) parameters
     ≡ option_map (λ arcs. element_of 0x06 (Some (content_of arcs))) parameters
 curve_content parameters is = grind (arith, identifier_content-valid)
 
 -- What has a content names its curve.
 curve_named : (private_key : List ℕ) (parameters public_key : Option (List ℕ)) (bytes : List ℕ)
-    → element_of 0x30 (key_content (made private_key parameters public_key)) ≡ Some bytes → IsNamedCurve parameters
+    → element_of 0x30 (key_content (made private_key parameters public_key)) ≡ Some bytes
+    → IfSome parameters (λ arcs. IsIdentifier arcs (content_of arcs))
 curve_named private_key None public_key bytes e = tt
 curve_named private_key (Some arcs) public_key bytes e = is_identifier-true arcs (grind arith)
 
@@ -96,11 +96,11 @@ key_cut key bytes input is begins =
     search (element_cut, is.tree.tree.2, cut)
 
 -- A key that has none has no element.
-pub key_lacks : (key : Key) → HasNoEncoding key → element_of 0x30 (key_content key) ≡ None
+pub key_lacks : (key : Key) → ((bytes : List ℕ) → ¬ IsKeyOf key bytes) → element_of 0x30 (key_content key) ≡ None
 key_lacks key none = grind (arith, key_found key)
 
 -- A key that has no element has no bytes.
-pub key_none : (key : Key) → element_of 0x30 (key_content key) ≡ None → HasNoEncoding key
+pub key_none : (key : Key) → element_of 0x30 (key_content key) ≡ None → (bytes : List ℕ) → ¬ IsKeyOf key bytes
 key_none key none bytes is = absurd (cc (key_written key bytes is, none))
 
 -- What the keys have to do with what is written, and with its length.
@@ -119,7 +119,8 @@ memory_is cause same = rw same refl
 
 -- A key whose element isn't there, and one whose bytes have no room, are refused as such.
 pub key_without_room : (key : Key) (P : List ℕ → Type 0) (cause : DerError)
-    → IsOverlengthOr Buffer (element_of 0x30 (key_content key)) P cause
+    → ((cause.kind ≡ Overlength) × (element_of 0x30 (key_content key) ≡ None))
+    ⊎ ((cause.kind ≡ Buffer) × IsSomeAnd (element_of 0x30 (key_content key)) P)
     → HasNoEncodingOr (IsAsn1 Buffer) key P (error_of cause)
 key_without_room key P cause is = ⊎_elim
     (λ none. inl (overlength_is cause none.0, key_none key none.1))
@@ -128,7 +129,8 @@ key_without_room key P cause is = ⊎_elim
 
 -- A key whose element isn't there, and one for which there is no memory, are refused as such.
 pub key_without_memory : (key : Key) (P : List ℕ → Type 0) (cause : DerError)
-    → IsOverlengthOr DerMemory (element_of 0x30 (key_content key)) P cause
+    → ((cause.kind ≡ Overlength) × (element_of 0x30 (key_content key) ≡ None))
+    ⊎ ((cause.kind ≡ DerMemory) × IsSomeAnd (element_of 0x30 (key_content key)) P)
     → HasNoEncodingOr (λ e. e ≡ Memory) key P (error_of cause)
 key_without_memory key P cause is = ⊎_elim
     (λ none. inl (overlength_is cause none.0, key_none key none.1))

@@ -130,6 +130,7 @@ unfolding encoding meaning
 passes_encoded n tag rest some h p =
     grind (
       arith,
+      append-nil {A = ℕ},
       nil_from_length rest,
       take_all n rest,
       fixed_width-num n rest h,

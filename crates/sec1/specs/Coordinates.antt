@@ -1,6 +1,6 @@
 -- Coordinates borrowed as arrays of bytes.
-use Rattle.std.specs.Prelude.{ℕ, zero, suc, List, [], ◌∷◌, ◌++◌, ⊤}
-use Rattle.std.specs.Prelude.{get_or}
+use Rattle.std.specs.Prelude.{ℕ, zero, suc, List, [], ◌∷◌, ◌++◌, get_or}
+use Rattle.std.specs.List.{flat_map}
 use Rattle.sec1_der.specs.Numbers.{number_of}
 use Rattle.sec1.specs.Points.{Point, identity, compact, compressed, uncompressed, hybrid}
 use Rattle.sec1.specs.Points.{tag_byte}
@@ -24,22 +24,14 @@ coordinates_point {N} (parts.Uncompressed x y) =
 coordinates_point {N} (parts.Hybrid x y) =
     hybrid (number_of (first_bytes N x.now)) (number_of (first_bytes N y.now))
 
--- each borrowed array is such
-abbrev pub EachArray : {N : ℕ} → (List ℕ → Type 0) → Coordinates N → Type 0
-EachArray {N} IsSuch parts.Identity = ⊤
-EachArray {N} IsSuch (parts.Compact x) = IsSuch x.now
-EachArray {N} IsSuch (parts.Compressed x y_is_odd) = IsSuch x.now
-EachArray {N} IsSuch (parts.Uncompressed x y) = IsSuch x.now × IsSuch y.now
-EachArray {N} IsSuch (parts.Hybrid x y) = IsSuch x.now × IsSuch y.now
-
--- the bytes of the borrowed arrays
-abbrev pub array_bytes : {N : ℕ} → Coordinates N → List ℕ
-array_bytes {N} parts.Identity = []
-array_bytes {N} (parts.Compact x) = first_bytes N x.now
-array_bytes {N} (parts.Compressed x y_is_odd) = first_bytes N x.now
-array_bytes {N} (parts.Uncompressed x y) = first_bytes N x.now ++ first_bytes N y.now
-array_bytes {N} (parts.Hybrid x y) = first_bytes N x.now ++ first_bytes N y.now
+-- the borrowed arrays
+abbrev pub arrays_of : {N : ℕ} → Coordinates N → List (List ℕ)
+arrays_of {N} parts.Identity = []
+arrays_of {N} (parts.Compact x) = x.now ∷ []
+arrays_of {N} (parts.Compressed x y_is_odd) = x.now ∷ []
+arrays_of {N} (parts.Uncompressed x y) = x.now ∷ y.now ∷ []
+arrays_of {N} (parts.Hybrid x y) = x.now ∷ y.now ∷ []
 
 -- SEC1 v2.0 section 2.3.3: the encoding with these coordinates
 abbrev pub coordinates_bytes : {N : ℕ} → Coordinates N → List ℕ
-coordinates_bytes c = tag_byte (coordinates_point c) ∷ array_bytes c
+coordinates_bytes {N} c = tag_byte (coordinates_point c) ∷ flat_map (first_bytes N) (arrays_of c)

@@ -1,5 +1,5 @@
 -- The definitions of `sec1_der` that contracts use, for a crate that depends on `sec1` alone.
-pub use Rattle.sec1_der.specs.BackWriters.{back_state, Prepends, WritesInFront, Puts}
+pub use Rattle.sec1_der.specs.BackWriters.{back_state, Prepends, Puts}
 pub use Rattle.sec1_der.specs.Encodings.{Measures}
 pub use Rattle.sec1_der.specs.Parts.{join, optional_of}
 pub use Rattle.sec1_der.specs.Contents.{are_bits}
@@ -7,24 +7,23 @@ pub use Rattle.sec1_der.specs.Contents.{byte_fault, identifier_fault, bit_string
 pub use Rattle.sec1_der.specs.Contents.{whole_bits_fault, whole_bits_field_fault}
 pub use Rattle.sec1_der.specs.Contents.{value_unless}
 pub use Rattle.sec1_der.specs.Elements.{max_length, is_tag, length_octets, header}
-pub use Rattle.sec1_der.specs.Elements.{IsHeader, element, IsElement}
-pub use Rattle.sec1_der.specs.Elements.{LacksHeader}
+pub use Rattle.sec1_der.specs.Elements.{IsHeader, header, element, IsElement}
 pub use Rattle.sec1_der.specs.Elements.{IsProperPrefix, within_limit, element_of}
 pub use Rattle.sec1_der.specs.ErrorKinds.{Refuses, IsReadingFault, IsHeaderFault}
-pub use Rattle.sec1_der.specs.ErrorKinds.{IsIoOrMemory, header_fault}
+pub use Rattle.sec1_der.specs.ErrorKinds.{header_fault}
 pub use Rattle.sec1_der.specs.Identifiers.{IsIdentifier, are_arcs, content_of}
 pub use Rattle.sec1_der.specs.Identifiers.{identifier_content, dotted}
 pub use Rattle.sec1_der.specs.Numbers.{number_of}
 pub use Rattle.sec1_der.specs.Readers.{Reader, reader_over, refused, HasRead, HasReadElement}
 pub use Rattle.sec1_der.specs.Faults.{Fault, HasFault, TellsFault, IsFaultOf, no_fault, end_fault}
 pub use Rattle.sec1_der.specs.Faults.{element_fault}
-pub use Rattle.sec1_der.specs.Faults.{optional_fault, field_fault, any_fault, document_fault}
+pub use Rattle.sec1_der.specs.Faults.{optional_fault, any_fault, document_fault}
 pub use Rattle.sec1_der.specs.Faults.{tree_fault}
-pub use Rattle.sec1_der.specs.ReadsDocument.{ConsumesElement, RefusesElement}
+pub use Rattle.sec1_der.specs.ReadsDocument.{RefusesElement}
 pub use Rattle.sec1_der.specs.ReadsDocument.{TakenBeforeRefusal}
-pub use Rattle.sec1_der.specs.SliceWriters.{slice_state, Appends, WritesBehind}
+pub use Rattle.sec1_der.specs.SliceWriters.{slice_state, Appends}
 pub use Rattle.sec1_der.specs.Streams.{AppendsPrefix, Ends, Takes}
-pub use Rattle.sec1_der.specs.Trees.{Tree, Forest, leaf, node, bytes, IsTree, IsTreeOf, depth, size}
-pub use Rattle.sec1_der.specs.Trees.{max_tree_depth}
+pub use Rattle.sec1_der.specs.Trees.{Tree, Forest, leaf, branch, row, bytes, IsTree, IsTreeOf}
+pub use Rattle.sec1_der.specs.Trees.{depth, size, max_tree_depth}
 pub use Rattle.sec1_der.specs.Values.{octets_of, unused_bits_of, bit_bytes_of, tag_of, value_of}
-pub use Rattle.sec1_der.specs.Writers.{Writer}
+pub use Rattle.sec1_der.specs.Writers.{Writer, Writes}

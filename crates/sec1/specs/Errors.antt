@@ -1,10 +1,9 @@
 -- The errors of this crate.
-use Rattle.std.specs.Prelude.{◌≡◌, ◌⊎◌, ◌++◌, codes, List, ℕ, Option, Some, Result, IsErrAnd}
-use Rattle.sec1.specs.Keys.{Key, IsKeyOf, HasNoEncoding, SomeBytes}
+use Rattle.std.specs.Prelude.{◌≡◌, ◌⊎◌, ◌++◌, codes, List, ℕ}
+use Rattle.sec1.specs.Keys.{Key, IsKeyOf, SomeBytes}
 use Rattle.sec1.specs.declared.error.Error.{Error}
 use Rattle.sec1.specs.declared.error.Error.TheVariants.{Asn1, Crypto, PointEncoding, Version}
 use Rattle.sec1.specs.declared.error.Error.TheVariants.{Memory}
-use Rattle.sec1_der.specs.ErrorKinds.{IsReadingFault}
 use Rattle.sec1_der.specs.ErrorTexts.{kind_message}
 use Rattle.sec1_der.specs.declared.error.Error.{Error as DerError}
 use Rattle.sec1_der.specs.declared.error.ErrorKind.{ErrorKind}
@@ -19,7 +18,7 @@ abbrev pub error_of : DerError → Error
 error_of cause = error_of_kind cause.kind cause
 
 -- an error of DER whose kind is such
-abbrev IsAsn1Where : (ErrorKind → Type 0) → Error → Type 0
+abbrev pub IsAsn1Where : (ErrorKind → Type 0) → Error → Type 0
 IsAsn1Where P (Asn1 cause) = P cause.kind
 IsAsn1Where P Crypto = ⊥
 IsAsn1Where P PointEncoding = ⊥
@@ -30,23 +29,12 @@ IsAsn1Where P Memory = ⊥
 abbrev pub IsAsn1 : ErrorKind → Error → Type 0
 IsAsn1 kind = IsAsn1Where (λ of. of ≡ kind)
 
--- the call failed with an error of DER of this kind
-abbrev pub RefusesAsn1 : {T : Type 0} → Result T Error → ErrorKind → Type 0
-RefusesAsn1 result kind = IsErrAnd result (IsAsn1 kind)
-
--- an error of DER by which bytes are refused
-abbrev pub IsAsn1ReadingFault : Error → Type 0
-IsAsn1ReadingFault = IsAsn1Where IsReadingFault
-
--- an error of DER of the kind of this fault
-abbrev pub IsAsn1Fault : Option ErrorKind → Error → Type 0
-IsAsn1Fault fault = IsAsn1Where (λ kind. fault ≡ Some kind)
-
--- The error is Overlength, and the key has no encoding; or it is such a one, and this holds of the
--- encoding.
+-- The error is Overlength, and the key has no encoding, as a part of it is beyond the limits; or it
+-- is such a one, and this holds of the encoding.
 abbrev pub HasNoEncodingOr : (Error → Type 0) → Key → (List ℕ → Type 0) → Error → Type 0
 HasNoEncodingOr IsSuch key P e =
-    (IsAsn1 Overlength e × HasNoEncoding key) ⊎ (IsSuch e × SomeBytes (IsKeyOf key) P)
+    (IsAsn1 Overlength e × ((bytes : List ℕ) → ¬ IsKeyOf key bytes))
+    ⊎ (IsSuch e × SomeBytes (IsKeyOf key) P)
 
 -- what `{}` prints of an error
 abbrev pub error_message : Error → List ℕ

@@ -5,7 +5,6 @@ pub mod Keys
 pub mod KeyFaults
 pub mod InPlace
 pub mod ReadsKey
-pub mod Traits
 pub mod Points
 pub mod PointOrder
 pub mod PointOrderLaws

@@ -3,6 +3,7 @@
 use Rattle.std.specs.Prelude.{◌≡◌, ℕ, zero, suc, ◌+◌, ◌*◌, ◌/◌, ◌%◌, ◌^◌, ◌<◌, ◌≤◌, ◌==◌, ◌||◌}
 use Rattle.std.specs.Prelude.{Bool, true, false, if◌then◌else◌, List, [], ◌∷◌, ◌++◌, take}
 use Rattle.std.specs.Prelude.{drop, ⊤, Option, Some, None}
+use Rattle.std.specs.Option.{option_map_or}
 use Rattle.sec1_der.specs.Numbers.{number_of}
 
 -- A point in the form of its encoding. Compact has x alone and nothing of y; hybrid has y, and its
@@ -63,17 +64,11 @@ tag_byte (compressed x y_is_odd) = if y_is_odd then 3 else 2
 tag_byte (uncompressed x y) = 4
 tag_byte (hybrid x y) = if y % 2 == 1 then 7 else 6
 
--- what follows the first byte
-abbrev pub coordinate_bytes : ℕ → Point → List ℕ
-coordinate_bytes n identity = []
-coordinate_bytes n (compact x) = fixed_width n x
-coordinate_bytes n (compressed x y_is_odd) = fixed_width n x
-coordinate_bytes n (uncompressed x y) = fixed_width n x ++ fixed_width n y
-coordinate_bytes n (hybrid x y) = fixed_width n x ++ fixed_width n y
-
--- the encoding of a point at field elements of n bytes
+-- the encoding of a point at field elements of n bytes: the first byte, and x and y if it has them
 unfoldable pub encoding : ℕ → Point → List ℕ
-encoding n p = tag_byte p ∷ coordinate_bytes n p
+encoding n p =
+    tag_byte p ∷ option_map_or (fixed_width n) (x_of p) []
+    ++ option_map_or (fixed_width n) (y_of p) []
 
 -- these bytes encode some point
 pub record IsEncoding (n : ℕ) (bytes : List ℕ) : Type 0 where

@@ -1,10 +1,12 @@
 -- What reading a key from bytes means.
-use Rattle.std.specs.Prelude.{◌≡◌, List, ℕ, None, Result, Ok, IfOk, IfErr, MatchResult}
-use Rattle.sec1.specs.Errors.{RefusesAsn1, IsAsn1ReadingFault, IsAsn1Fault}
+use Rattle.std.specs.Prelude.{◌≡◌, List, ℕ, Some, None, Result, Ok, IfOk, IfErr, IsErrAnd}
+use Rattle.std.specs.Prelude.{MatchResult}
+use Rattle.sec1.specs.Errors.{IsAsn1, IsAsn1Where}
 use Rattle.sec1.specs.KeyFaults.{key_fault}
 use Rattle.sec1.specs.Keys.{Key, key_tree, IsKeyOf}
 use Rattle.sec1.specs.declared.error.Error.{Error}
 use Rattle.sec1_der.specs.Elements.{IsProperPrefix}
+use Rattle.sec1_der.specs.ErrorKinds.{IsReadingFault}
 use Rattle.sec1_der.specs.Trees.{Tree, IsTreeOf}
 use Rattle.sec1_der.specs.declared.error.ErrorKind.TheVariants.{Truncated, TrailingData}
 
@@ -17,12 +19,13 @@ pub record ReadsKey (input : List ℕ) (result : Result Key Error) : Type 0 wher
   -- every tree with the bytes of the key that is read, of any shape and depth, is the key's
   pub one_tree : IfOk result (λ key. (t : Tree) → IsTreeOf t input → t ≡ key_tree key)
   -- all other bytes are refused, by one of these kinds
-  pub kinds : IfErr result IsAsn1ReadingFault
+  pub kinds : IfErr result (IsAsn1Where IsReadingFault)
   -- whether the bytes are refused, and by which kind, is a function of them
-  pub kind : MatchResult result (λ _. key_fault input ≡ None) (IsAsn1Fault (key_fault input))
+  pub kind : MatchResult result (λ _. key_fault input ≡ None)
+      (IsAsn1Where (λ kind. key_fault input ≡ Some kind))
   -- a proper prefix of a key's bytes is refused as Truncated
   pub short : (key : Key) (bytes : List ℕ) → IsKeyOf key bytes → IsProperPrefix input bytes
-      → RefusesAsn1 result Truncated
+      → IsErrAnd result (IsAsn1 Truncated)
   -- bytes after a key's are refused as TrailingData
   pub long : (key : Key) (bytes : List ℕ) → IsKeyOf key bytes → IsProperPrefix bytes input
-      → RefusesAsn1 result TrailingData
+      → IsErrAnd result (IsAsn1 TrailingData)

@@ -2,7 +2,7 @@
 //! how points compare. Each law is the contract of a function, which does nothing else.
 
 ghost use Rattle.std.specs.Prelude.{◌≡◌, ◌⊎◌, ◌↔◌, List, ℕ, Some, IsTrue};
-ghost use Rattle.sec1.specs.Keys.{HasNoEncoding, IsKeyOf, Key};
+ghost use Rattle.sec1.specs.Keys.{IsKeyOf, Key};
 ghost use Rattle.sec1.specs.EncodedPoints.{point_of};
 ghost use Rattle.sec1.specs.Parameters.{curve_of};
 ghost use Rattle.sec1.specs.PointOrder.{IsOrderOf, point_cmp};
@@ -36,7 +36,8 @@ pub fn one_key()
 
 /// A key either has an encoding or has none.
 pub fn bytes_or_none(key: &EcPrivateKey)
-    ensures { HasNoEncoding key.now ⊎ ((bytes : List ℕ) × IsKeyOf key.now bytes) }
+    ensures { ((bytes : List ℕ) → ¬ IsKeyOf key.now bytes)
+        ⊎ ((bytes : List ℕ) × IsKeyOf key.now bytes) }
 {
     let _len = key.encoded_len();
 }

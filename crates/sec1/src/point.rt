@@ -14,11 +14,12 @@ mod text;
 // before them.
 ghost use Rattle.std.specs.Prelude.{◌≡◌, ◌+◌, ◌*◌, ◌<◌, ◌≤◌, ◌^◌, ◌↔◌, if◌then◌else◌, length};
 ghost use Rattle.std.specs.Prelude.{slice_index, take, drop, set, IsTrue, ◌==◌, ◌||◌};
+ghost use Rattle.std.specs.List.{All};
 ghost use Rattle.std.specs.Option.{option_map};
 ghost use Rattle.sec1_der.specs.Numbers.{number_of};
 ghost use Rattle.sec1.specs.Points.{identity, uncompressed, IsEncoding, meaning, encoding, Fits};
 ghost use Rattle.sec1.specs.Points.{compressed_point, hybrid_point, tag_byte, x_of, y_of};
-ghost use Rattle.sec1.specs.Points.{coordinate_bytes, fixed_width};
+ghost use Rattle.sec1.specs.Points.{fixed_width};
 
 use crate::error::{Error, Result};
 pub use coordinates::Coordinates;
@@ -59,7 +60,7 @@ pub type EncodedPoint66 = EncodedPoint<66, 133>;
 impl<const N: usize, const L: usize> EncodedPoint<N, L> {
     ghost use Rattle.sec1.specs.EncodedPoints.{point_of, IsInForm, IsWiped, ReadsBytes};
     ghost use Rattle.sec1.specs.Tags.{byte_of, message_len, point_tag};
-    ghost use Rattle.sec1.specs.Coordinates.{coordinates_bytes, coordinates_point, EachArray};
+    ghost use Rattle.sec1.specs.Coordinates.{arrays_of, coordinates_bytes, coordinates_point};
 
     /// Returns `true` if N is at least 1 and L is 2N + 1. Otherwise there are no points of this
     /// type.
@@ -262,7 +263,7 @@ impl<const N: usize, const L: usize> EncodedPoint<N, L> {
     pub fn coordinates(&self) -> Coordinates<'_, N>
         ensures { let point = point_of self.now in
             (coordinates_point result ≡ point) × (coordinates_bytes result ≡ encoding N point)
-            × EachArray (λ array. array ≡ fixed_width N (number_of array)) result }
+            × All (λ array. array ≡ fixed_width N (number_of array)) (arrays_of result) }
     {
         let (x, y) = self.halves();
         Coordinates::with_tag(self.tag(), x, y)
@@ -412,7 +413,7 @@ impl<const N: usize, const L: usize> fmt::Debug for EncodedPoint<N, L> {
     ghost use Rattle.sec1.specs.EncodedPoints.{point_of};
 
     ghost debug_output = { λ point. Some (codes "EncodedPoint(")
-        ++? form_text N (point_of point) (coordinate_bytes N (point_of point))
+        ++? form_text N (point_of point) (drop 1 (encoding N (point_of point)))
         ++? Some (codes ")") };
 
     fn fmt<W: fmt::Write>(&self, f: &mut fmt::Formatter<W>) -> fmt::Result {

@@ -4,7 +4,7 @@ ghost use Rattle.std.specs.Prelude.{Some, None, ⊤, refl, codes};
 ghost use Rattle.std.specs.Fmt.{◌++?◌, debug_list, debug_option, decimal};
 ghost use Rattle.sec1_der.specs.Elements.{element_of};
 ghost use Rattle.std.specs.Option.{option_map};
-ghost use Rattle.sec1.specs.Keys.{Key, IsKeyOf, HasNoEncoding, SomeBytes};
+ghost use Rattle.sec1.specs.Keys.{Key, IsKeyOf, SomeBytes};
 ghost use Rattle.sec1.specs.Parameters.{curve_of};
 ghost use Rattle.sec1.specs.declared.parameters.EcParameters.TheVariants.{NamedCurve};
 ghost use Rattle.sec1.specs.ReadsKey.{ReadsKey};
@@ -102,7 +102,8 @@ impl<'a> EcPrivateKey<'a> {
     pub fn encoded_len(&self) -> Result<usize>
         ensures exact { MatchResult result
             (λ n. SomeBytes (IsKeyOf self.now) (λ bytes. n ≡ length bytes))
-            (λ e. IsAsn1 ErrorKind.Overlength e × HasNoEncoding self.now) }
+            (λ e. IsAsn1 ErrorKind.Overlength e
+            × ((bytes : List ℕ) → ¬ IsKeyOf self.now bytes)) }
     {
         tree_is_element();
         Ok(der::encoded_len(&self.borrow())?)
@@ -315,5 +316,5 @@ pub fn tree_is_element()
     ensures { (key : Key)
         → let whole = element_of 0x30 (⟦<EcPrivateKey<'static> as ValueContent>⟧.content key) in
         ((bytes : List ℕ) → IsKeyOf key bytes ↔ (whole ≡ Some bytes))
-        × (HasNoEncoding key ↔ (whole ≡ None)) }
+        × (((bytes : List ℕ) → ¬ IsKeyOf key bytes) ↔ (whole ≡ None)) }
 {}

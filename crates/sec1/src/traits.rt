@@ -1,18 +1,19 @@
 //! Key types that are read from, and written as, the DER of an EC private key. A key type says
 //! which bytes are read as which key, which bytes a key is written as, and which errors there are.
 
-ghost use Rattle.std.specs.Prelude.{ℕ, List, false, ◌≡◌, ◌⊎◌, MatchBool, MatchResult};
+ghost use Rattle.std.specs.Prelude.{ℕ, List, false, ◌≡◌, ◌⊎◌, ◌↔◌, IfSome, IsTrue, MatchBool};
+ghost use Rattle.std.specs.Prelude.{MatchResult};
 ghost use Rattle.std.specs.Io.KnownBytes.{Appends};
 ghost use Rattle.sec1.specs.Errors.{IsAsn1, error_of};
 ghost use Rattle.sec1.specs.Keys.{SomeBytes};
-ghost use Rattle.sec1.specs.Traits.{IsMemoryOr, RefusesDocument};
 ghost use Rattle.sec1.specs.declared.error.Error.{Error};
 ghost use Rattle.sec1_der.specs.Elements.{IsElement};
-ghost use Rattle.sec1_der.specs.ErrorKinds.{IsHeaderFault, IsIoOrMemory};
-ghost use Rattle.sec1_der.specs.ReadsDocument.{ConsumesElement};
+ghost use Rattle.sec1_der.specs.ErrorKinds.{IsHeaderFault};
+ghost use Rattle.sec1_der.specs.ReadsDocument.{RefusesElement};
 ghost use Rattle.sec1_der.specs.declared.error.Error.{Error as DerError};
 ghost use Rattle.sec1_der.specs.Streams.{AppendsPrefix, Ends, Takes};
-ghost use Rattle.sec1_der.specs.declared.error.ErrorKind.TheVariants.{Io, TrailingData};
+ghost use Rattle.sec1_der.specs.declared.error.ErrorKind.TheVariants.{Io, Memory as DerMemory};
+ghost use Rattle.sec1_der.specs.declared.error.ErrorKind.TheVariants.{TrailingData};
 
 use crate::{Error, Result};
 use sec1_der::{Read, SecretDocument, Write};
@@ -33,7 +34,8 @@ pub trait DecodeEcPrivateKey: Sized {
     ///
     /// Those of the key type, or [`Error::Memory`] if an allocation fails.
     fn from_sec1_der(alloc: Global, bytes: &[u8]) -> Result<Self>
-        ensures { MatchResult result (reads bytes.now) (IsMemoryOr (refuses bytes.now)) };
+        ensures { MatchResult result (reads bytes.now)
+            (λ error. (error ≡ Error.Memory) ⊎ refuses bytes.now error) };
 
     /// Reads a key from the whole remaining input of a reader.
     ///
@@ -45,12 +47,16 @@ pub trait DecodeEcPrivateKey: Sized {
         requires { R.failed reader.old ≡ false }
         ensures { let taken = Takes R.left R.taken reader.old reader.new in
             let ended = Ends R.left R.ended reader.new in
+            let whole : List ℕ → Type 0 = λ bytes. IsElement bytes × taken bytes × ended in
             MatchResult result
-            (λ key. (R.failed reader.new ≡ false)
-            × SomeBytes (ConsumesElement taken ended) (λ bytes. reads bytes key))
-            (λ error. RefusesDocument (R.left reader.old) taken ended (R.failed reader.new) error
-            ⊎ ((R.failed reader.new ≡ false) × SomeBytes (ConsumesElement taken ended)
-            (λ bytes. IsMemoryOr (refuses bytes) error))) }
+            (λ key. (R.failed reader.new ≡ false) × SomeBytes whole (λ bytes. reads bytes key))
+            (λ error. ((cause : DerError) × (error ≡ error_of cause)
+            × RefusesElement cause.kind taken ended
+            × (((cause.kind ≡ Io) ⊎ (cause.kind ≡ DerMemory))
+            ⊎ IfSome (R.left reader.old) (λ all. ¬ (IsElement all)))
+            × (IsAsn1 Io error ↔ IsTrue (R.failed reader.new)))
+            ⊎ ((R.failed reader.new ≡ false) × SomeBytes whole
+            (λ bytes. (error ≡ Error.Memory) ⊎ refuses bytes error))) }
     {
         let document = SecretDocument::read_der_from(alloc, reader)?;
         Self::from_sec1_der(alloc, document.as_bytes())
@@ -65,8 +71,9 @@ pub trait DecodeEcPrivateKey: Sized {
     fn read_sec1_der_file<F: Files>(rt: &F, alloc: Global, path: &str) -> Result<Self>
         ensures { MatchResult result (λ key. SomeBytes IsElement (λ bytes. reads bytes key))
             (λ error. ((cause : DerError) × (error ≡ error_of cause)
-            × (IsHeaderFault cause.kind ⊎ (cause.kind ≡ TrailingData) ⊎ IsIoOrMemory cause.kind))
-            ⊎ SomeBytes IsElement (λ bytes. IsMemoryOr (refuses bytes) error)) }
+            × (IsHeaderFault cause.kind ⊎ (cause.kind ≡ TrailingData) ⊎ (cause.kind ≡ Io)
+            ⊎ (cause.kind ≡ DerMemory)))
+            ⊎ SomeBytes IsElement (λ bytes. (error ≡ Error.Memory) ⊎ refuses bytes error)) }
     {
         let document = SecretDocument::read_der_file(rt, alloc, path)?;
         Self::from_sec1_der(alloc, document.as_bytes())
@@ -87,7 +94,8 @@ pub trait EncodeEcPrivateKey {
     ///
     /// Those of the key type, or [`Error::Memory`] if an allocation fails.
     fn to_sec1_der(&self, alloc: Global) -> Result<SecretDocument>
-        ensures { MatchResult result (writes self.now) (IsMemoryOr (refuses self.now)) };
+        ensures { MatchResult result (writes self.now)
+            (λ error. (error ≡ Error.Memory) ⊎ refuses self.now error) };
 
     /// Writes the key's DER encoding.
     ///
@@ -103,7 +111,7 @@ pub trait EncodeEcPrivateKey {
             (λ _. (W.failed writer.new ≡ false) × SomeBytes (writes self.now) (Appends old new))
             (λ error. MatchBool (W.failed writer.new)
             (IsAsn1 Io error × SomeBytes (writes self.now) (AppendsPrefix old new))
-            (IsMemoryOr (refuses self.now) error × (new ≡ old))) }
+            (((error ≡ Error.Memory) ⊎ refuses self.now error) × (new ≡ old))) }
     {
         let document = self.to_sec1_der(alloc)?;
         document.write_der_to(writer)?;
@@ -118,7 +126,7 @@ pub trait EncodeEcPrivateKey {
     /// those of [`SecretDocument::write_der_file`].
     fn write_sec1_der_file<F: Files>(&self, rt: &F, alloc: Global, path: &str) -> Result<()>
         ensures { MatchResult result (λ _. SomeBytes IsElement (writes self.now))
-            (λ error. IsAsn1 Io error ⊎ IsMemoryOr (refuses self.now) error) }
+            (λ error. IsAsn1 Io error ⊎ (error ≡ Error.Memory) ⊎ refuses self.now error) }
     {
         let document = self.to_sec1_der(alloc)?;
         document.write_der_file(rt, path)?;

@@ -17,7 +17,7 @@ use Rattle.pkix.specs.Records.{private_key_content, private_key_fault}
 use Rattle.pkix.specs.declared.private_key.OneAsymmetricKey.{OneAsymmetricKey}
 use Rattle.pkix.specs.declared.private_key.PrivateKeyInfo.{PrivateKeyInfo}
 use Rattle.sec1_der.proofs.ComponentLemmas as components
-use Rattle.sec1_der.specs.Contents.{bit_string_fault, byte_fault, value_unless}
+use Rattle.sec1_der.specs.Contents.{byte_fault, value_unless}
 use Rattle.sec1_der.proofs.ElementLaws.{element_of-some}
 use Rattle.sec1_der.specs.Elements.{element, element_of, header, max_length, within_limit}
 use Rattle.sec1_der.proofs.JoinLaws.{parted}

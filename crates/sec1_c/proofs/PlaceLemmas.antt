@@ -5,10 +5,10 @@ use Rattle.std.proofs.lemmas.List.{append-nil, take_at, drop_at}
 use Rattle.std.specs.Option.{option_map}
 use Rattle.sec1_der.specs.Elements.{element, header}
 use Rattle.sec1_der.specs.Identifiers.{content_of}
-use Rattle.sec1_der.specs.Trees.{leaf, node}
-use Rattle.sec1.specs.Keys.{Key, IsKeyOf, parameters_field, public_key_field, bytes_of}
+use Rattle.sec1_der.specs.Trees.{leaf, branch, row, joined}
+use Rattle.sec1.specs.Keys.{Key, IsKeyOf}
 use Rattle.sec1_c.specs.Places.{StandsAt, IsPart, part_before}
-use Rattle.sec1_c.specs.KeyPlaces.{ArePartsOf, AreWithin, content_len, key_places}
+use Rattle.sec1_c.specs.KeyPlaces.{ArePartsOf, AreWithin, content_len, key_places, parameters_bytes, public_key_bytes}
 use Rattle.sec1_c.specs.declared.key.KeyParts.{KeyParts}
 
 -- what is between a front and a rest, by where the rest begins
@@ -19,8 +19,8 @@ stands_before input front part rest end split ends = grind (arith, take_at, drop
 
 -- the content of a field ends before the end of the field
 field_stands : (outer inner : ℕ) (unused input front part rest : List ℕ) (end : ℕ)
-    → input ≡ front ++ (bytes_of (node outer (leaf inner (unused ++ part) ∷ []) ∷ []) ++ rest) → end + length rest
-    ≡ length input
+    → input ≡ front ++ (joined (row (branch outer (row (leaf inner (unused ++ part) ∷ [])) ∷ [])) ++ rest)
+    → end + length rest ≡ length input
     → StandsAt input (part_before end (Some (length part))) part
 field_stands outer inner unused input front part rest end split ends =
     let content = unused ++ part in
@@ -29,7 +29,7 @@ field_stands outer inner unused input front part rest end split ends =
 
 -- the content of the curve's identifier ends before the end of the field [0], if present
 curve_stands : (input front : List ℕ) (parameters : Option (List ℕ)) (rest : List ℕ) (end : ℕ)
-    → input ≡ front ++ (bytes_of (parameters_field parameters) ++ rest) → end + length rest ≡ length input
+    → input ≡ front ++ (parameters_bytes parameters ++ rest) → end + length rest ≡ length input
     → IsPart input (part_before end (option_map content_len parameters)) (option_map content_of parameters)
 curve_stands input front None rest end split ends = record { present = refl; offset = refl; len = refl }
 curve_stands input front (Some arcs) rest end split ends =
@@ -37,7 +37,7 @@ curve_stands input front (Some arcs) rest end split ends =
 
 -- the bytes of the public key end before the end of the field [1], if present
 public_stands : (input front : List ℕ) (public_key : Option (List ℕ)) → input ≡ front
-    ++ bytes_of (public_key_field public_key)
+    ++ public_key_bytes public_key
     → IsPart input (part_before (length input) (option_map (λ bytes. length bytes) public_key)) public_key
 public_stands input front None split = record { present = refl; offset = refl; len = refl }
 public_stands input front (Some bytes) split =
@@ -47,8 +47,8 @@ public_stands input front (Some bytes) split =
 pub are_parts : (key : Key) (input : List ℕ) → IsKeyOf key input → ArePartsOf key input (key_places key input)
 are_parts key input is =
     let p = key.private_key in
-    let c = bytes_of (parameters_field key.parameters) in
-    let q = bytes_of (public_key_field key.public_key) in
+    let c = parameters_bytes key.parameters in
+    let q = public_key_bytes key.public_key in
     let content = element 0x02 (1 ∷ []) ++ (element 0x04 p ++ (c ++ q)) in
     let front = header 0x30 (length content) ++ (element 0x02 (1 ∷ []) ++ header 0x04 (length p)) in
     let split : input ≡ front ++ (p ++ (c ++ q)) = grind (arith, append_assoc, append-nil) in

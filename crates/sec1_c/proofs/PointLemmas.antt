@@ -1,6 +1,7 @@
 -- Points by their encodings.
 use Rattle.std.proofs.Common.{◌≡◌, ◌≢◌, ◌<◌, ◌≤◌, ◌^◌, ◌+◌, ◌-◌, ◌/◌, ◌%◌, ◌↔◌, ℕ, List, [], ◌∷◌, ◌++◌, length}
-use Rattle.std.proofs.Common.{refl, get_or, take, drop, ◌*◌, ◌==◌, ◌||◌, if◌then◌else◌, arith, length-append}
+use Rattle.std.proofs.Common.{refl, get_or, take, drop, ◌*◌, ◌==◌, ◌||◌, if◌then◌else◌, arith, append-nil}
+use Rattle.std.proofs.Common.{length-append}
 use Rattle.std.proofs.Math.Seq.{drop-append-add}
 use Rattle.std.proofs.lemmas.List.{take_at, drop_at, take_all, get_or-append_right}
 use Rattle.std.specs.Cmp.Lexicographic.{slice_cmp}
@@ -10,7 +11,7 @@ use Rattle.std.specs.declared.cmp.Ordering.TheVariants.{Less, Equal, Greater}
 use Rattle.hex.specs.Hex.{IsBytes}
 use Rattle.sec1_der.specs.Numbers.{number_of}
 use Rattle.sec1.specs.PointOrder.{point_cmp, IsBelow}
-use Rattle.sec1.specs.Points.{Point, uncompressed, hybrid, IsEncoding, tag_byte, coordinate_bytes, encoding}
+use Rattle.sec1.specs.Points.{Point, uncompressed, hybrid, IsEncoding, tag_byte, encoding}
 use Rattle.sec1.specs.Points.{fixed_width, compressed_point, hybrid_point}
 use Rattle.sec1.proofs.ByteOrderLemmas.{slice_cmp-enc}
 use Rattle.sec1.proofs.DigitLemmas.{fixed_width-num, length-fixed_width, num-fixed_width, parity_of_last}
@@ -24,7 +25,7 @@ pub are_point_parts : (n : ℕ) (p : Point) (input : List ℕ) → Encodes n p i
     → ArePointPartsOf n p input (point_places n p)
 unfolding encoding
 are_point_parts n p input e =
-    let behind = drop-append-add (tag_byte p ∷ []) (coordinate_bytes n p) n in
+    let behind = drop-append-add (tag_byte p ∷ []) (drop 1 (encoding n p)) n in
     grind (arith, take_at, drop_at, take_all, length-append, length-fixed_width)
 
 -- ---- encodings
@@ -64,9 +65,9 @@ pub compressed_encoded : (n : ℕ) (p : Point) (input : List ℕ) → IsFieldLen
     ≡ (2 + get_or (drop 1 input) (length (drop 1 input) - 1) 0 % 2) ∷ take (length (drop 1 input) / 2) (drop 1 input)
 unfolding encoding
 compressed_encoded n (uncompressed x y) input len e above other =
-    rw e.encoded (grind (arith, first_half n x y, parity_of_y n x y len.0 e.fits.1))
+    rw e.encoded (grind (arith, append-nil {A = ℕ}, first_half n x y, parity_of_y n x y len.0 e.fits.1))
 compressed_encoded n (hybrid x y) input len e above other =
-    rw e.encoded (grind (arith, first_half n x y, parity_of_y n x y len.0 e.fits.1))
+    rw e.encoded (grind (arith, append-nil {A = ℕ}, first_half n x y, parity_of_y n x y len.0 e.fits.1))
 compressed_encoded n p input len e above other = grind arith
 
 -- any other point is its compressed form
@@ -106,7 +107,7 @@ pub compressed_coordinates : (x y : List ℕ) → IsBytes x → 0 < length y
     ≡ (2 + get_or y (length y - 1) 0 % 2) ∷ x
 unfolding encoding
 compressed_coordinates x y in_x some =
-    rw (fixed_width-num (length x) x in_x refl) (grind (arith, parity_of_last y some))
+    rw (fixed_width-num (length x) x in_x refl, append-nil x) (grind (arith, parity_of_last y some))
 
 -- how points are encoded by the bytes of coordinates
 pub ruleset made_forms = (coordinates_encoded, compressed_coordinates)

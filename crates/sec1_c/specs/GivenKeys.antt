@@ -1,7 +1,7 @@
 -- The key that a caller describes by its parts.
-use Rattle.std.specs.Prelude.{◌≡◌, ◌==◌, ℕ, List, [], Option, Some, None, if◌then◌else◌}
-use Rattle.sec1_der.specs.Identifiers.{content_of}
-use Rattle.sec1.specs.Keys.{Key, HasNoEncoding, IsNamedCurve}
+use Rattle.std.specs.Prelude.{◌≡◌, ◌==◌, ℕ, List, [], Option, Some, None, IfSome, if◌then◌else◌}
+use Rattle.sec1_der.specs.Identifiers.{IsIdentifier, content_of}
+use Rattle.sec1.specs.Keys.{Key, IsKeyOf}
 
 -- the content of the identifier that names the curve; no bytes if there is none
 abbrev pub curve_content : Option (List ℕ) → List ℕ
@@ -11,7 +11,7 @@ curve_content (Some arcs) = content_of arcs
 -- these are the parameters for the content
 pub record IsCurveOf (content : List ℕ) (parameters : Option (List ℕ)) : Type 0 where
   pub content_is : content ≡ curve_content parameters
-  pub names : IsNamedCurve parameters
+  pub names : IfSome parameters (λ arcs. IsIdentifier arcs (content_of arcs))
 
 -- the content isn't empty, and no identifier has it
 abbrev pub IsNoCurve : List ℕ → Type 0
@@ -33,5 +33,5 @@ pub record IsGiven (key : Key) (private_key curve public_key : List ℕ)
 pub record IsTooLong (private_key curve public_key : List ℕ) (has_public_key : ℕ) : Type 0 where
   pub parameters : Option (List ℕ)
   pub curve_is : IsCurveOf curve parameters
-  pub no_bytes : (key : Key) → IsGiven key private_key curve public_key has_public_key
-      → HasNoEncoding key
+  pub no_bytes : (key : Key) (bytes : List ℕ)
+      → IsGiven key private_key curve public_key has_public_key → ¬ IsKeyOf key bytes

@@ -1,8 +1,9 @@
 -- The places of a key's parts in its bytes (RFC 5915 section 3).
-use Rattle.std.specs.Prelude.{ℕ, ◌-◌, List, length, Some}
+use Rattle.std.specs.Prelude.{ℕ, ◌-◌, List, ◌∷◌, length, Option, Some}
 use Rattle.std.specs.Option.{option_map}
 use Rattle.sec1_der.specs.Identifiers.{content_of}
-use Rattle.sec1.specs.Keys.{Key, IsKeyOf, bytes_of, parameters_field, public_key_field}
+use Rattle.sec1_der.specs.Trees.{leaf, row, joined}
+use Rattle.sec1.specs.Keys.{Key, IsKeyOf, field}
 use Rattle.sec1_c.specs.GivenKeys.{IsGiven}
 use Rattle.sec1_c.specs.Places.{IsPart, IsWithin, StandsAt, bytes_at, part_before}
 use Rattle.sec1_c.specs.declared.key.KeyParts.{KeyParts}
@@ -33,13 +34,22 @@ GiveAgain key input parts =
 abbrev pub content_len : List ℕ → ℕ
 content_len arcs = length (content_of arcs)
 
+-- the bytes of the field [0], and those of the field [1]
+abbrev pub parameters_bytes : Option (List ℕ) → List ℕ
+parameters_bytes parameters =
+    joined (row (field 0 (option_map (λ arcs. leaf 0x06 (content_of arcs)) parameters)))
+
+abbrev pub public_key_bytes : Option (List ℕ) → List ℕ
+public_key_bytes public_key =
+    joined (row (field 1 (option_map (λ bytes. leaf 0x03 (0 ∷ bytes)) public_key)))
+
 -- the end of the field [0], and that of the private key
 abbrev pub parameters_end : Key → List ℕ → ℕ
-parameters_end key input = length input - length (bytes_of (public_key_field key.public_key))
+parameters_end key input = length input - length (public_key_bytes key.public_key)
 
 abbrev pub private_key_end : Key → List ℕ → ℕ
 private_key_end key input =
-    parameters_end key input - length (bytes_of (parameters_field key.parameters))
+    parameters_end key input - length (parameters_bytes key.parameters)
 
 -- the places of the parts, counted from the end of the input by the lengths of the fields
 abbrev pub key_places : Key → List ℕ → KeyParts

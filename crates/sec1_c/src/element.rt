@@ -2,7 +2,7 @@
 //! `sec1_element_write`.
 ghost use Rattle.std.specs.Prelude.{IsTrue, ◌≡◌, ◌≢◌, ◌≤◌, ◌<◌, ◌+◌, ◌++◌, ℕ, List, length, OkIff};
 ghost use Rattle.sec1_der.specs.Elements.{IsElement, IsHeader, IsProperPrefix, is_tag};
-ghost use Rattle.sec1_der.specs.Elements.{LacksHeader, element, header, max_length};
+ghost use Rattle.sec1_der.specs.Elements.{element, header, max_length};
 ghost use Rattle.sec1_der.specs.ErrorKinds.{Refuses, header_fault};
 ghost use Rattle.sec1_der.specs.Faults.{any_fault, no_fault, tree_fault};
 ghost use Rattle.sec1_der.specs.Trees.{Tree, IsTree, IsTreeOf, bytes, depth, max_tree_depth, size};
@@ -70,7 +70,8 @@ pub extern "C" fn sec1_document_len(input: &[u8], len: &mut usize) -> u32
         → length inside < announced → result ≡ kind_number ErrorKind.Truncated }
     ensures long { (tag announced : ℕ) (inside : List ℕ) → Announces input.now inside announced tag
         → announced < length inside → result ≡ kind_number ErrorKind.TrailingData }
-    ensures no_header { LacksHeader input.now
+    ensures no_header { ((tag n : ℕ) (rest : List ℕ) → IsHeader tag n
+        → input.now ≢ header tag n ++ rest)
         → (result ≡ kind_number (header_fault input.now)) × (len.new ≡ 0) }
 {
     let mut reader = SliceReader::new(input);

@@ -1,7 +1,7 @@
 //! Private keys (RFC 5915 section 3): `sec1_key_read`, `sec1_key_len` and `sec1_key_write`.
 ghost use Rattle.std.specs.Prelude.{◌≡◌, ◌≢◌, List, ℕ, length};
 ghost use Rattle.sec1.specs.KeyFaults.{key_fault};
-ghost use Rattle.sec1.specs.Keys.{HasNoEncoding, Key, IsKeyOf};
+ghost use Rattle.sec1.specs.Keys.{Key, IsKeyOf};
 ghost use Rattle.sec1_der.specs.Elements.{IsProperPrefix};
 ghost use Rattle.sec1_c.specs.GivenKeys.{IsGiven, IsNoCurve, IsTooLong};
 ghost use Rattle.sec1_c.specs.KeyPlaces.{AreWithin, ArePartsOf, GiveAgain, IsKey, key_places};
@@ -103,7 +103,7 @@ pub extern "C" fn sec1_key_len(
 fn store_len(key: &EcPrivateKey, len: &mut usize) -> u32
     ensures number { (bytes : List ℕ) → IsKeyOf key.now bytes → result ≡ 0 }
     ensures len { (bytes : List ℕ) → IsKeyOf key.now bytes → len.new ≡ length bytes }
-    ensures overlength { HasNoEncoding key.now
+    ensures overlength { ((bytes : List ℕ) → ¬ IsKeyOf key.now bytes)
         → (result ≡ kind_number ErrorKind.Overlength) × (len.new ≡ len.old) }
 {
     match key.encoded_len() {
@@ -150,7 +150,7 @@ pub extern "C" fn sec1_key_write(
 fn write_key(key: &EcPrivateKey, out: &mut [u8], len: &mut usize) -> u32
     ensures key { (bytes : List ℕ) → IsKeyOf key.now bytes
         → Writes bytes out.old out.new result len.new }
-    ensures overlength { HasNoEncoding key.now
+    ensures overlength { ((bytes : List ℕ) → ¬ IsKeyOf key.now bytes)
         → WritesNothing (kind_number ErrorKind.Overlength) out.old out.new result len.old len.new }
 {
     match key.encoded_len() {

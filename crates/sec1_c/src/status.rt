@@ -1,6 +1,6 @@
 //! The numbers that the exported functions return.
-ghost use Rattle.std.specs.Prelude.{◌≡◌, Option};
-ghost use Rattle.sec1.specs.Errors.{IsAsn1, IsAsn1Fault};
+ghost use Rattle.std.specs.Prelude.{◌≡◌, Option, Some};
+ghost use Rattle.sec1.specs.Errors.{IsAsn1, IsAsn1Where};
 ghost use Rattle.sec1_c.specs.Statuses.{curve_number, error_number, fault_number};
 ghost use Rattle.sec1_c.specs.Statuses.{field_length_number, kind_number};
 
@@ -33,8 +33,8 @@ pub fn kind_number(kind: ErrorKind) -> u32
 pub fn error_number(error: &Error) -> u32
     ensures number { result ≡ error_number error.now }
     ensures kind { (kind : ErrorKind) → IsAsn1 kind error.now → result ≡ kind_number kind }
-    ensures fault { (fault : Option ErrorKind) → IsAsn1Fault fault error.now
-        → result ≡ fault_number fault }
+    ensures fault { (fault : Option ErrorKind)
+        → IsAsn1Where (λ kind. fault ≡ Some kind) error.now → result ≡ fault_number fault }
 {
     match error {
         Error::Asn1(cause) => kind_number(cause.kind),

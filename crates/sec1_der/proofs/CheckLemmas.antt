@@ -6,10 +6,10 @@ use Rattle.std.proofs.lemmas.List.{append_assoc, append-nil, length-append, leng
 use Rattle.sec1_der.specs.Elements.{header}
 use Rattle.sec1_der.specs.Faults.{tree_fault}
 use Rattle.sec1_der.specs.Trees.{Tree, branch, Forest, none, first, bytes, joined, IsTree, AreTrees, IsTreeOf, size}
-use Rattle.sec1_der.specs.Trees.{total_size, depth, max_depth, max_tree_depth}
+use Rattle.sec1_der.specs.Trees.{depth, max_tree_depth}
 use Rattle.sec1_der.specs.Walks.{Opens}
 use Rattle.sec1_der.proofs.EnterLemmas.{Skips}
-use Rattle.sec1_der.proofs.TreeLemmas.{some_bytes}
+use Rattle.sec1_der.proofs.TreeLemmas.{some_bytes, total_size, max_depth}
 use Rattle.sec1_der.proofs.RowFaultLemmas.{row_some, tree_next, open_fault, next_fault, element_passed, node_opened}
 
 -- ---- what is left makes the input a tree

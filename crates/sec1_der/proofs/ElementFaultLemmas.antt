@@ -8,13 +8,13 @@ use Rattle.std.proofs.lemmas.Bool.{lt-leb, and_parts, cases_Bool, cases_lt}
 use Rattle.std.proofs.lemmas.Slice.Eq.{bytes_eq-Decides}
 use Rattle.std.specs.Option.{option_or}
 use Rattle.sec1_der.specs.Elements.{max_length, length_octets, header, element, element_of, is_tag, IsHeader, IsElement}
-use Rattle.sec1_der.specs.Elements.{IsProperPrefix, LacksHeader}
+use Rattle.sec1_der.specs.Elements.{IsProperPrefix}
 use Rattle.sec1_der.specs.ErrorKinds.{length_fault, header_fault}
 use Rattle.sec1_der.specs.Readers.{Reader, reader_over, HasReadElement}
 use Rattle.sec1_der.specs.Faults.{Fault, no_fault, end_fault, number_at, length_at, within, parts_fault}
-use Rattle.sec1_der.specs.Faults.{element_fault, optional_fault, field_fault, any_fault, document_fault}
+use Rattle.sec1_der.specs.Faults.{element_fault, optional_fault, any_fault, document_fault}
 use Rattle.sec1_der.specs.declared.error.ErrorKind.TheVariants.{Truncated, TrailingData}
-use Rattle.sec1_der.proofs.HeaderLemmas.{fronts, header_front, longer, some_length}
+use Rattle.sec1_der.proofs.HeaderLemmas.{LacksHeader, fronts, header_front, longer, some_length}
 use Rattle.sec1_der.proofs.ElementLaws.{header_apart, element_of-within}
 use Rattle.sec1_der.proofs.FaultLaws.{length_at_octets, parts_at, any_room, any_at, alone, read_element}
 
@@ -162,7 +162,8 @@ read_field number f g content old new h =
 pub opened_field : (number tag : ℕ) (f : Fault) (opened : ℕ) (old new content : Reader)
     → (content ≡ reader_over content.unread) × HasReadElement opened content.unread old new → opened ≡ 0xA0 + number
     → (content.failed ≡ false)
-    × (field_fault number tag f no_fault old.unread ≡ element_fault tag f end_fault content.unread)
+    × (optional_fault (0xA0 + number) (element_fault tag f end_fault) no_fault old.unread
+    ≡ element_fault tag f end_fault content.unread)
 opened_field number tag f opened old new content is same = (
   ap (λ (r : Reader). r.failed) is.0,
   read_field number (element_fault tag f end_fault) no_fault content.unread old new (rw same at is.1) ∙ alone _,

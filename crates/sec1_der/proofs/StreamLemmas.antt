@@ -13,13 +13,13 @@ use borrow.Rule.Slice.PartMut.{put_mid}
 use Rattle.sec1_der.specs.declared.error.Error.{Error}
 use Rattle.sec1_der.specs.declared.error.ErrorKind.{ErrorKind}
 use Rattle.sec1_der.specs.declared.error.ErrorKind.TheVariants.{Truncated, TrailingData, Io, Memory, Tag, Length}
-use Rattle.sec1_der.specs.Elements.{IsElement, IsHeader, LacksHeader, header}
-use Rattle.sec1_der.specs.ErrorKinds.{header_fault, length_fault, IsIoOrMemory}
+use Rattle.sec1_der.specs.Elements.{IsElement, IsHeader, header}
+use Rattle.sec1_der.specs.ErrorKinds.{header_fault, length_fault}
 use Rattle.sec1_der.specs.Elements.{is_tag}
-use Rattle.sec1_der.specs.ReadsDocument.{TakenBeforeRefusal, RefusesElement, ConsumesElement}
+use Rattle.sec1_der.specs.ReadsDocument.{TakenBeforeRefusal, RefusesElement}
 use Rattle.sec1_der.specs.Streams.{ReadsOnto, Takes, Ends}
 use Rattle.sec1_der.specs.Faults.{no_fault, end_fault, document_fault}
-use Rattle.sec1_der.proofs.HeaderLemmas.{longer, header_front, header_fault_kinds}
+use Rattle.sec1_der.proofs.HeaderLemmas.{LacksHeader, longer, header_front, header_fault_kinds}
 use Rattle.sec1_der.proofs.ElementFaultLemmas.{document_element, any_without_header, any_short}
 use Rattle.sec1_der.proofs.FaultLaws.{any_at, any_room}
 use Rattle.sec1_der.proofs.StreamLaws.{takes_more, takes_nothing, takes_kept, TakesFewer}
@@ -117,22 +117,20 @@ taken_here : (kind : ErrorKind) (bytes : List ℕ) → IsReachable bytes → Lac
     → (kind ≡ Truncated → ⊥) → TakenBeforeRefusal kind bytes
 taken_here kind bytes (inl empty) none is other = absurd (other (sym is ∙ ap header_fault empty))
 taken_here Truncated bytes (inr one) none is other = absurd (other refl)
-taken_here Tag bytes (inr one) none is other = record {
-  front = one.before;
-  last = one.last;
-  joined = one.joined;
-  before = tag_alone one.before one.last one.cut.fault_is (rw one.joined at is);
-  fault =
-      any_without_header (λ _. no_fault) end_fault bytes none ∙ ap (λ k. Some k) is;
-}
-taken_here Length bytes (inr one) none is other = record {
-  front = one.before;
-  last = one.last;
-  joined = one.joined;
-  before = cut_fault one.before one.cut;
-  fault =
-      any_without_header (λ _. no_fault) end_fault bytes none ∙ ap (λ k. Some k) is;
-}
+taken_here Tag bytes (inr one) none is other = (
+  one.before,
+  one.last,
+  one.joined,
+  tag_alone one.before one.last one.cut.fault_is (rw one.joined at is),
+  any_without_header (λ _. no_fault) end_fault bytes none ∙ ap (λ k. Some k) is,
+)
+taken_here Length bytes (inr one) none is other = (
+  one.before,
+  one.last,
+  one.joined,
+  cut_fault one.before one.cut,
+  any_without_header (λ _. no_fault) end_fault bytes none ∙ ap (λ k. Some k) is,
+)
 taken_here kind bytes (inr one) none is other = absurd (rw is at (header_fault_kinds bytes))
 
 -- so is the element
@@ -235,7 +233,7 @@ refused_after kind left taken Ended old mid new tag n bytes first more by_kind a
 -- where a content is refused, so is the element
 pub refused_content : (kind : ErrorKind) {S : Type 0} (left taken : S → Option (List ℕ)) (Ended : Type 0)
     (old mid new : S) (tag n : ℕ) → IsHeader tag n → Takes left taken old mid (header tag n)
-    → TakesFewer (Takes left taken mid new) n → IsIoOrMemory kind ⊎ ((kind ≡ Truncated) × Ended)
+    → TakesFewer (Takes left taken mid new) n → ((kind ≡ Io) ⊎ (kind ≡ Memory)) ⊎ ((kind ≡ Truncated) × Ended)
     → RefusesElement kind (Takes left taken old new) Ended
 refused_content kind left taken Ended old mid new tag n is first fewer (inl (inl io)) =
     refused_after kind left taken Ended old mid new tag n fewer.0 first fewer.1
@@ -278,14 +276,13 @@ byte_behind left taken Ended old mid next new tag n after (byte ∷ []) is first
     let whole = whole_element tag n r.bytes is r.count in
     let P : List ℕ → Type 0 = λ xs. document_fault xs ≡ Some TrailingData in
     refused_after TrailingData left taken Ended old mid new tag n (r.bytes ++ byte ∷ []) first
-    (takes_more left taken mid next new r.bytes (byte ∷ []) r.taken more)
-    (record {
-      front = front;
-      last = byte;
-      joined = sym (append_assoc (header tag n) r.bytes (byte ∷ []));
-      before = whole;
-      fault = subst P (append_assoc (header tag n) r.bytes (byte ∷ [])) (byte_fault front byte [] whole);
-    }) (λ e. absurd (cc e))
+    (takes_more left taken mid next new r.bytes (byte ∷ []) r.taken more) (
+      front,
+      byte,
+      sym (append_assoc (header tag n) r.bytes (byte ∷ [])),
+      whole,
+      subst P (append_assoc (header tag n) r.bytes (byte ∷ [])) (byte_fault front byte [] whole),
+    ) (λ e. absurd (cc e))
 
 -- the ways in which an element is refused after its header
 pub ruleset element_refusals = (refused_growth, refused_content, refused_behind, byte_behind, length-take-le)
@@ -326,17 +323,16 @@ fault_stays kind bytes more fault first second =
 
 -- the kind by which all the bytes are refused is a function of what was read
 taken_fault : (kind : ErrorKind) (bytes more : List ℕ) → (kind ≡ Truncated → more ≡ []) → TakenBeforeRefusal kind bytes
-    → IsIoOrMemory kind ⊎ (document_fault (bytes ++ more) ≡ Some kind)
+    → ((kind ≡ Io) ⊎ (kind ≡ Memory)) ⊎ (document_fault (bytes ++ more) ≡ Some kind)
 taken_fault Io bytes more end taken = inl (inl refl)
 taken_fault Memory bytes more end taken = inl (inr refl)
 taken_fault Truncated bytes more end fault = rw (end refl, append-nil bytes) (inr fault)
 taken_fault Tag bytes more end bad =
-    inr (fault_stays Tag bytes more bad.fault (λ e. cc e) (λ e. cc e))
+    inr (fault_stays Tag bytes more bad.4 (λ e. cc e) (λ e. cc e))
 taken_fault Length bytes more end bad =
-    inr (fault_stays Length bytes more bad.fault (λ e. cc e) (λ e. cc e))
+    inr (fault_stays Length bytes more bad.4 (λ e. cc e) (λ e. cc e))
 taken_fault TrailingData bytes more end longer = inr (
-    rw (longer.joined, append_assoc longer.front (longer.last ∷ []) more)
-    (byte_fault longer.front longer.last more longer.before))
+    rw (longer.2, append_assoc longer.0 (longer.1 ∷ []) more) (byte_fault longer.0 longer.1 more longer.3))
 taken_fault kind bytes more end taken = absurd taken
 
 -- an element that was all that was left isn't refused
@@ -351,7 +347,7 @@ read_known (Some all) (Some left) bytes is consumed end =
 refused_fault : (kind : ErrorKind) (P : List ℕ → Type 0) (old new : Option (List ℕ)) (bytes : List ℕ)
     → Consumes old new bytes → TakenBeforeRefusal kind bytes → (kind ≡ Truncated → IsAtEnd new)
     → ((all : List ℕ) → document_fault all ≡ Some kind → P all)
-    → IsIoOrMemory kind ⊎ IfSome old P
+    → ((kind ≡ Io) ⊎ (kind ≡ Memory)) ⊎ IfSome old P
 refused_fault kind P None new bytes consumed by_kind end from = inr tt
 refused_fault kind P (Some all) None bytes consumed by_kind end from = absurd consumed
 refused_fault kind P (Some all) (Some left) bytes consumed by_kind end from =
@@ -360,15 +356,15 @@ refused_fault kind P (Some all) (Some left) bytes consumed by_kind end from =
 
 -- what is read isn't refused
 pub read_fault : {S : Type 0} (left taken : S → Option (List ℕ)) (ended : S → Type 0) (old new : S) (bytes : List ℕ)
-    → ConsumesElement (Takes left taken old new) (Ends left ended new) bytes
+    → IsElement bytes × Takes left taken old new bytes × Ends left ended new
     → IfSome (left old) (λ all. document_fault all ≡ None)
 read_fault left taken ended old new bytes r =
-    read_known (left old) (left new) bytes r.is_element r.taken.consumed r.at_end.none_left
+    read_known (left old) (left new) bytes r.0 r.1.consumed r.2.none_left
 
 -- a kind that says something of the bytes is the fault of them all
 pub refused_kind : (kind : ErrorKind) {S : Type 0} (left taken : S → Option (List ℕ)) (ended : S → Type 0) (old new : S)
     → RefusesElement kind (Takes left taken old new) (Ends left ended new)
-    → IsIoOrMemory kind ⊎ IfSome (left old) (λ all. document_fault all ≡ Some kind)
+    → ((kind ≡ Io) ⊎ (kind ≡ Memory)) ⊎ IfSome (left old) (λ all. document_fault all ≡ Some kind)
 refused_kind kind left taken ended old new r =
     refused_fault kind _ (left old) (left new) r.bytes r.taken.consumed r.by_kind (λ e. (r.at_end e).none_left)
     (λ all fault. fault)
@@ -376,7 +372,7 @@ refused_kind kind left taken ended old new r =
 -- bytes that are refused by such a kind are no element
 pub refused_none : (kind : ErrorKind) {S : Type 0} (left taken : S → Option (List ℕ)) (ended : S → Type 0) (old new : S)
     → RefusesElement kind (Takes left taken old new) (Ends left ended new)
-    → IsIoOrMemory kind ⊎ IfSome (left old) (λ all. ¬ (IsElement all))
+    → ((kind ≡ Io) ⊎ (kind ≡ Memory)) ⊎ IfSome (left old) (λ all. ¬ (IsElement all))
 refused_none kind left taken ended old new r =
     refused_fault kind _ (left old) (left new) r.bytes r.taken.consumed r.by_kind (λ e. (r.at_end e).none_left)
     (λ all fault is. cc (document_element all is, fault))
@@ -384,10 +380,11 @@ refused_none kind left taken ended old new r =
 -- the kind of a refusal is a function of all that was left
 pub document_kind : {S : Type 0} (left taken : S → Option (List ℕ)) (ended : S → Type 0) (old new : S)
     (result : Result (List ℕ) Error)
-    → IfOk result (ConsumesElement (Takes left taken old new) (Ends left ended new))
+    → IfOk result (λ bytes. IsElement bytes × Takes left taken old new bytes × Ends left ended new)
     → IfErr result (λ error. RefusesElement error.kind (Takes left taken old new) (Ends left ended new))
     → MatchResult result (λ _. IfSome (left old) (λ all. document_fault all ≡ None))
-    (λ error. IsIoOrMemory error.kind ⊎ IfSome (left old) (λ all. document_fault all ≡ Some error.kind))
+    (λ error. ((error.kind ≡ Io) ⊎ (error.kind ≡ Memory))
+    ⊎ IfSome (left old) (λ all. document_fault all ≡ Some error.kind))
 document_kind left taken ended old new (Ok bytes) found refused = read_fault left taken ended old new bytes found
 document_kind left taken ended old new (Err error) found refused =
     refused_kind error.kind left taken ended old new refused

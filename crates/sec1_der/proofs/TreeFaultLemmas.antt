@@ -9,14 +9,14 @@ use Rattle.sec1_der.specs.Elements.{IsProperPrefix}
 use Rattle.sec1_der.specs.Faults.{nested_fault}
 use Rattle.sec1_der.specs.Faults.{Fault, HasFault, end_fault, any_fault, tree_fault}
 use Rattle.sec1_der.specs.Trees.{Tree, leaf, branch, Forest, none, first, bytes, joined, IsTree, AreTrees, IsTreeOf}
-use Rattle.sec1_der.specs.Trees.{size, depth, max_depth, max_tree_depth}
+use Rattle.sec1_der.specs.Trees.{size, depth, max_tree_depth}
 use Rattle.sec1_der.specs.declared.error.Error.{Error}
 use Rattle.sec1_der.specs.declared.error.ErrorKind.{ErrorKind}
 use Rattle.sec1_der.specs.declared.error.ErrorKind.TheVariants.{Truncated, Depth}
 use Rattle.sec1_der.proofs.CheckLemmas.{IsCounted}
 use Rattle.sec1_der.proofs.ElementFaultLemmas.{any_cut}
 use Rattle.sec1_der.proofs.FaultLaws.{any_at}
-use Rattle.sec1_der.proofs.TreeLemmas.{some_bytes, tree_apart}
+use Rattle.sec1_der.proofs.TreeLemmas.{max_depth, some_bytes, tree_apart}
 use Rattle.sec1_der.proofs.RowFaultLemmas.{leaf_passes, row_at, row_some, row_deep, tree_next}
 
 -- the fault of trees with this number of levels
@@ -52,9 +52,10 @@ mutual
       ⊎_elim
       (λ l. row_some (above + 1) row (omega arith) (omega arith)
       ∙ (tree_at t above (row_at (above + 1)) row (joined f) are.0 refl l
-      ∙ rw (forest_at f above are.1 fits) (deep_or above (depth t) (max_depth f))))
+      ∙ rw (forest_at f above are.1 fits)
+      (deep_or above (depth t) (max_depth f) ∙ ap deep_fault (omega arith))))
       (λ l. row_deep (above + 1) row (omega arith) (omega arith)
-      ∙ rw (lt-ltb max_tree_depth (above + max (depth t) (max_depth f)) (omega arith)) refl)
+      ∙ rw (lt-ltb max_tree_depth (above + max_depth (first t f)) (omega arith)) refl)
       (cases_lt above max_tree_depth)
 
 -- the fault of a tree and of what follows it

@@ -7,10 +7,10 @@ use Rattle.std.proofs.Common.{append_assoc, length-append}
 use Rattle.std.proofs.lemmas.Bool.{le-leb, cases_lt}
 use Rattle.std.proofs.lemmas.List.{drop-drop, take-take}
 use Rattle.sec1_der.proofs.ElementLaws.{FoundContent, element_of-some}
-use Rattle.sec1_der.specs.BackWriters.{back_state, Prepends, WritesInFront, Puts}
+use Rattle.sec1_der.specs.BackWriters.{back_state, Prepends, Puts}
 use Rattle.sec1_der.specs.Elements.{max_length, header, element, element_of, within_limit}
-use Rattle.sec1_der.specs.SliceWriters.{slice_state, Appends, WritesBehind}
-use Rattle.sec1_der.specs.Writers.{Writer}
+use Rattle.sec1_der.specs.SliceWriters.{slice_state, Appends}
+use Rattle.sec1_der.specs.Writers.{Writer, Writes}
 use Rattle.sec1_der.specs.declared.back_writer.BackWriter.{BackWriter}
 use Rattle.sec1_der.specs.declared.error.Error.{Error}
 use Rattle.sec1_der.specs.declared.error.ErrorKind.TheVariants.{Overlength, Buffer}
@@ -37,8 +37,8 @@ puts_both old between new xs ys p q = grind (arith, append_assoc, length-append,
 -- bytes that have room, and then more that have room
 pub both_written : (old between new : SliceWriter) (xs ys : List ℕ) (first second : Result Unit Error)
     → length xs + length ys ≤ length (slice_state old).room
-    → WritesBehind (Some xs) old between first → WritesBehind (Some ys) between new second
-    → WritesBehind (Some (xs ++ ys)) old new second
+    → Writes slice_state Appends (Some xs) old between first → Writes slice_state Appends (Some ys) between new second
+    → Writes slice_state Appends (Some (xs ++ ys)) old new second
 both_written old between new xs ys first second room p q =
     let front = p.fits xs refl (omega arith) in
     let behind = q.fits ys refl (omega (arith, front.1.room)) in
@@ -57,14 +57,13 @@ both_written old between new xs ys first second room p q =
 -- bytes that have room, and then more that have room in front of them
 pub both_put : (old between new : BackWriter) (xs ys : List ℕ) (first second : Result Unit Error)
     → length xs + length ys ≤ length (back_state old).room
-    → WritesInFront (Some xs) old between first → WritesInFront (Some ys) between new second
-    → WritesInFront (Some (ys ++ xs)) old new second
+    → Writes back_state Prepends (Some xs) old between first → Writes back_state Prepends (Some ys) between new second
+    → Writes back_state Prepends (Some (ys ++ xs)) old new second
 both_put old between new xs ys first second room p q =
     let behind = p.fits xs refl (omega arith) in
     let front = q.fits ys refl (omega (arith, behind.1.room)) in
     record {
       slice = grind (arith, p.slice, q.slice);
-      grows = omega (arith, p.grows, q.grows);
       overlength = λ none. absurd (cc none);
       fits = λ whole same _. let is : ys ++ xs ≡ whole = cc same in (
         front.0,
@@ -90,7 +89,7 @@ pub header_written : (tag total : ℕ) (found : Header) (content : Option (List 
     (first : Result Unit Error)
     → IsSomeAnd (element_of tag content) (λ bytes. total ≡ length bytes) → total ≤ length (slice_state old).room
     → IsHeaderOf tag content found
-    → WritesBehind (Some (header found.tag found.length)) old between first → IsOk first
+    → Writes slice_state Appends (Some (header found.tag found.length)) old between first → IsOk first
 header_written tag total found content old between first measured room same p =
     by (element_of tag content) refl measured
   where
@@ -109,14 +108,14 @@ pub element_written : (tag total : ℕ) (found : Header) (content : Option (List
     (first second : Result Unit Error)
     → IsSomeAnd (element_of tag content) (λ bytes. total ≡ length bytes) → total ≤ length (slice_state old).room
     → IsHeaderOf tag content found
-    → WritesBehind (Some (header found.tag found.length)) old between first
-    → WritesBehind (within_limit content) between new second
-    → WritesBehind (element_of tag content) old new second
+    → Writes slice_state Appends (Some (header found.tag found.length)) old between first
+    → Writes slice_state Appends (within_limit content) between new second
+    → Writes slice_state Appends (element_of tag content) old new second
 element_written tag total found content old between new first second measured room same p q =
     by (element_of tag content) refl measured
   where
     by : (piece : Option (List ℕ)) → element_of tag content ≡ piece → IsSomeAnd piece (λ bytes. total ≡ length bytes)
-        → WritesBehind piece old new second
+        → Writes slice_state Appends piece old new second
     by None e h = absurd h
     by (Some bytes) e h =
         let is = element_of-some tag content bytes e in
@@ -128,7 +127,7 @@ element_written tag total found content old between new first second measured ro
 
 -- the errors of a writer
 pub writing_kinds : (bytes : Option (List ℕ)) (old new : BackWriter) (result : Result Unit Error)
-    → WritesInFront bytes old new result → IfErr result (λ e. (e.kind ≡ Overlength) ⊎ (e.kind ≡ Buffer))
+    → Writes back_state Prepends bytes old new result → IfErr result (λ e. (e.kind ≡ Overlength) ⊎ (e.kind ≡ Buffer))
 writing_kinds bytes old new (Ok done) is = tt
 writing_kinds None old new (Err e) is = inl (is.overlength refl).0
 writing_kinds (Some bytes) old new (Err e) is = ⊎_elim
@@ -136,9 +135,20 @@ writing_kinds (Some bytes) old new (Err e) is = ⊎_elim
     (λ fits. absurd (cc (is.fits bytes refl fits).0))
     (cases_lt (length (back_state old).room) (length bytes))
 
+-- what was written is kept
+pub writing_grows : (bytes : Option (List ℕ)) (old new : BackWriter) (result : Result Unit Error)
+    → Writes back_state Prepends bytes old new result
+    → length (back_state old).written ≤ length (back_state new).written
+writing_grows None old new result is =
+    omega (arith, ap (λ (w : Writer). length w.written) (is.overlength refl).1)
+writing_grows (Some bytes) old new result is = ⊎_elim
+    (λ less. omega (arith, ap (λ (w : Writer). length w.written) (is.buffer bytes refl less).1))
+    (λ fits. omega (arith, ap length (is.fits bytes refl fits).1.written, length-append bytes (back_state old).written))
+    (cases_lt (length (back_state old).room) (length bytes))
+
 -- what was written
 pub writing_only : (bytes : Option (List ℕ)) (old new : BackWriter) (result : Result Unit Error)
-    → WritesInFront bytes old new result
+    → Writes back_state Prepends bytes old new result
     → OnOk result (IsSomeAnd bytes (Prepends (back_state old) (back_state new)))
 writing_only bytes old new (Err e) is = tt
 writing_only None old new (Ok done) is = absurd (is.overlength refl).0
@@ -155,7 +165,7 @@ header_of tag n = if nat_le n max_length then Some (header tag n) else None
 element_only : (tag : ℕ) (content : Option (List ℕ)) (old between new : BackWriter) (since : ℕ)
     (second : Result Unit Error) → since ≡ length (back_state old).written
     → Puts (within_limit content) content old between (Ok tt)
-    → WritesInFront (header_of tag (length (back_state between).written - since)) between new second
+    → Writes back_state Prepends (header_of tag (length (back_state between).written - since)) between new second
     → OnOk second (IsSomeAnd (element_of tag content) (Prepends (back_state old) (back_state new)))
 element_only tag content old between new since (Err e) is_old p over = tt
 element_only tag None old between new since (Ok done) is_old p over = absurd p.only
@@ -180,15 +190,16 @@ pub element_put : (tag : ℕ) (content : Option (List ℕ)) (old between new : B
     (second : Result Unit Error)
     → (written_tag since : ℕ) → written_tag ≡ tag → since ≡ length (back_state old).written
     → Puts (within_limit content) content old between (Ok tt)
-    → WritesInFront (if nat_le (length (back_state between).written - since) max_length
+    → Writes back_state Prepends (if nat_le (length (back_state between).written - since) max_length
     then Some (header written_tag (length (back_state between).written - since)) else None) between new second
     → Puts (element_of tag content) (element_of tag content) old new second
 element_put tag content old between new second written_tag since is_tag is_old p over_tag =
-    let any : WritesInFront (header_of tag (length (back_state between).written - since)) between new second =
+    let front_bytes = header_of tag (length (back_state between).written - since) in
+    let any : Writes back_state Prepends front_bytes between new second =
     rw (← is_tag) over_tag in
     record {
       slice = grind (arith, p.slice, any.slice);
-      grows = omega (arith, p.grows, any.grows);
+      grows = omega (arith, p.grows, writing_grows _ between new second any);
       fits = λ whole e room.
           let is = element_of-some tag content whole e in
           let first_bytes = header tag (length is.inside) in

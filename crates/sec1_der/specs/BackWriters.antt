@@ -1,7 +1,6 @@
--- The state of a writer that fills a slice from its end, and what its calls change.
-use Rattle.std.specs.Prelude.{◌≡◌, ◌⊎◌, ℕ, ◌+◌, ◌<◌, ◌≤◌, List, ◌++◌, length, take, drop}
-use Rattle.std.specs.Prelude.{Option, Some, None, Result, IsOk, IfErr, OnOk, IsSomeAnd}
-use Rattle.sec1_der.specs.ErrorKinds.{Refuses}
+-- The state of a writer that fills a slice from its end, and how it adds bytes.
+use Rattle.std.specs.Prelude.{◌≡◌, ◌⊎◌, ℕ, ◌+◌, ◌≤◌, List, ◌++◌, length, take, drop}
+use Rattle.std.specs.Prelude.{Option, Some, Result, IsOk, IfErr, OnOk, IsSomeAnd}
 use Rattle.sec1_der.specs.Writers.{Writer}
 use Rattle.sec1_der.specs.declared.back_writer.BackWriter.{BackWriter}
 use Rattle.sec1_der.specs.declared.error.Error.{Error}
@@ -20,21 +19,6 @@ pub record Prepends (old new : Writer) (bytes : List ℕ) : Type 0 where
   pub written : new.written ≡ bytes ++ old.written
   pub room : length old.room ≡ length new.room + length bytes
   pub unchanged : new.room ≡ take (length new.room) old.room
-
--- The bytes were prepended, if there are any and they have room. Otherwise nothing was written, and
--- the error is Overlength if there are none, and Buffer if there is less room.
-pub record WritesInFront (bytes : Option (List ℕ)) (old new : BackWriter)
-    (result : Result (Unit {0}) Error) : Type 0 where
-  pub slice : (back_state new).slice ≡ (back_state old).slice
-  pub grows : length (back_state old).written ≤ length (back_state new).written
-  pub overlength : bytes ≡ None
-      → Refuses result Overlength × (back_state new ≡ back_state old)
-  pub fits : (whole : List ℕ) → bytes ≡ Some whole
-      → length whole ≤ length (back_state old).room
-      → IsOk result × Prepends (back_state old) (back_state new) whole
-  pub buffer : (whole : List ℕ) → bytes ≡ Some whole
-      → length (back_state old).room < length whole
-      → Refuses result Buffer × (back_state new ≡ back_state old)
 
 -- The bytes were prepended, and the call fails only by Overlength or Buffer: `fitting` are bytes
 -- for which it doesn't fail if they have room, and `whole` those that were prepended if it doesn't.

@@ -1,5 +1,5 @@
 -- What `{:?}` prints.
-use Rattle.std.specs.Prelude.{ℕ, List, Option, Some, codes}
+use Rattle.std.specs.Prelude.{ℕ, List, [], ◌∷◌, Option, Some, codes}
 use Rattle.std.specs.Fmt.{◌++?◌, debug_list, decimal}
 use Rattle.sec1_der.specs.declared.error.ErrorKind.{ErrorKind}
 use Rattle.sec1_der.specs.declared.error.ErrorKind.TheVariants.{Truncated, Tag, Length}
@@ -10,18 +10,16 @@ use Rattle.sec1_der.specs.declared.error.ErrorKind.TheVariants.{Buffer, Failed, 
 abbrev pub bytes_text : List ℕ → Option (List ℕ)
 bytes_text bytes = debug_list (λ byte. Some (decimal byte)) bytes
 
--- of a struct with this name and one field, whose name and text follow
-abbrev pub struct_text : List ℕ → List ℕ → Option (List ℕ) → Option (List ℕ)
-struct_text name field value =
-    Some name ++? Some (codes " { ") ++? Some field ++? Some (codes ": ") ++? value
-    ++? Some (codes " }")
+-- of fields with these names and texts, after what comes before the first
+abbrev fields_text : List ℕ → List (List ℕ × Option (List ℕ)) → Option (List ℕ)
+fields_text before [] = Some (codes " }")
+fields_text before (field ∷ fields) =
+    Some before ++? Some field.0 ++? Some (codes ": ") ++? field.1
+    ++? fields_text (codes ", ") fields
 
--- of a struct with two fields
-abbrev pub pair_text : List ℕ → List ℕ → Option (List ℕ) → List ℕ → Option (List ℕ)
-    → Option (List ℕ)
-pair_text name first value second other =
-    Some name ++? Some (codes " { ") ++? Some first ++? Some (codes ": ") ++? value
-    ++? Some (codes ", ") ++? Some second ++? Some (codes ": ") ++? other ++? Some (codes " }")
+-- of a struct with this name and these fields, each a name and its text
+abbrev pub struct_text : List ℕ → List (List ℕ × Option (List ℕ)) → Option (List ℕ)
+struct_text name fields = Some name ++? fields_text (codes " { ") fields
 
 -- of the kind of an error: its name
 abbrev pub kind_text : ErrorKind → List ℕ

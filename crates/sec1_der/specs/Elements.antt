@@ -40,10 +40,6 @@ pub record IsElement (bytes : List ℕ) : Type 0 where
   pub is_header : IsHeader tag (length content)
   pub encoded : bytes ≡ element tag content
 
--- the bytes don't begin with a header
-abbrev pub LacksHeader : List ℕ → Type 0
-LacksHeader bytes = (tag n : ℕ) (rest : List ℕ) → IsHeader tag n → bytes ≡ header tag n ++ rest → ⊥
-
 -- the bytes are the beginning of others, which are more
 pub record IsProperPrefix (bytes whole : List ℕ) : Type 0 where
   pub more : List ℕ

@@ -1,11 +1,10 @@
 -- What the calls over whole encodings return.
-use Rattle.std.specs.Prelude.{◌≡◌, ◌⊎◌, ℕ, List, length, Option, Some, None}
-use Rattle.std.specs.Prelude.{Bool, Result, Ok, IfOk, IfErr, IsSomeAnd}
+use Rattle.std.specs.Prelude.{◌≡◌, ℕ, List, length, Option, Some, None}
+use Rattle.std.specs.Prelude.{Bool, Result, Ok, IfOk, IfErr}
 use Rattle.sec1_der.specs.Elements.{element_of}
 use Rattle.sec1_der.specs.ErrorKinds.{IsReadingFault, Refuses}
 use Rattle.sec1_der.specs.Faults.{Fault, TellsFault, element_fault, end_fault}
 use Rattle.sec1_der.specs.declared.error.Error.{Error}
-use Rattle.sec1_der.specs.declared.error.ErrorKind.{ErrorKind}
 use Rattle.sec1_der.specs.declared.error.ErrorKind.TheVariants.{Overlength}
 
 -- The bytes are read as those of a value. `encoding` gives these of a value, `fault` is the rule by
@@ -32,8 +31,3 @@ ReadsElement tag content says_kind fault =
 pub record Measures (bytes : Option (List ℕ)) (result : Result ℕ Error) : Type 0 where
   pub overlength : bytes ≡ None → Refuses result Overlength
   pub only : (whole : List ℕ) → bytes ≡ Some whole → result ≡ Ok (length whole)
-
--- The error is Overlength, and there are no bytes; or it has this kind, and this holds of them.
-abbrev pub IsOverlengthOr : ErrorKind → Option (List ℕ) → (List ℕ → Type 0) → Error → Type 0
-IsOverlengthOr kind bytes P e =
-    ((e.kind ≡ Overlength) × (bytes ≡ None)) ⊎ ((e.kind ≡ kind) × IsSomeAnd bytes P)

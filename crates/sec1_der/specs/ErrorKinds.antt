@@ -1,5 +1,5 @@
 -- The kinds of errors, and the fault of a header.
-use Rattle.std.specs.Prelude.{◌≡◌, ◌⊎◌, ℕ, ◌-◌, ◌&&◌, nat_lt, nat_le}
+use Rattle.std.specs.Prelude.{◌≡◌, ℕ, ◌-◌, ◌&&◌, nat_lt, nat_le}
 use Rattle.std.specs.Prelude.{if◌then◌else◌, List, [], ◌∷◌, length, Result, IsErrAnd}
 use Rattle.sec1_der.specs.Elements.{is_tag}
 use Rattle.sec1_der.specs.declared.error.Error.{Error}
@@ -45,7 +45,3 @@ length_fault (first ∷ digits) =
 abbrev pub header_fault : List ℕ → ErrorKind
 header_fault [] = Truncated
 header_fault (byte ∷ rest) = if is_tag byte then length_fault rest else Tag
-
--- the kinds that don't depend on the bytes
-abbrev pub IsIoOrMemory : ErrorKind → Type 0
-IsIoOrMemory kind = (kind ≡ Io) ⊎ (kind ≡ Memory)

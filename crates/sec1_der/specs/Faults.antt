@@ -40,10 +40,6 @@ abbrev pub end_fault : Fault
 end_fault [] = None
 end_fault (byte ∷ bytes) = Some TrailingData
 
--- as many bytes as these have to be there
-abbrev pub count_fault : ℕ → Fault
-count_fault count bytes = if nat_le count (length bytes) then None else Some Truncated
-
 -- X.690 sections 8.1.3 and 10.1: the length at the beginning of the bytes, if there is one
 abbrev pub number_at : List ℕ → ℕ
 number_at [] = 0
@@ -75,21 +71,11 @@ element_fault tag content behind [] = Some Truncated
 element_fault tag content behind (byte ∷ bytes) =
     if byte == tag then parts_fault content behind (within (length_at bytes)) else Some Tag
 
--- whether this byte is next
-abbrev pub is_next : ℕ → List ℕ → Bool
-is_next tag [] = false
-is_next tag (byte ∷ bytes) = byte == tag
-
 -- an element with this tag, if its tag is next; and what follows it
 abbrev pub optional_fault : ℕ → Fault → Fault → Fault
-optional_fault tag content behind bytes =
-    if is_next tag bytes then element_fault tag content behind bytes else behind bytes
-
--- X.690 section 8.14: an explicit field [number], whose tag byte is A0 (hexadecimal) + number,
--- around an element with this tag, if that byte is next; and what follows it
-abbrev pub field_fault : ℕ → ℕ → Fault → Fault → Fault
-field_fault number tag content behind =
-    optional_fault (0xA0 + number) (element_fault tag content end_fault) behind
+optional_fault tag content behind [] = behind []
+optional_fault tag content behind (byte ∷ bytes) =
+    if byte == tag then element_fault tag content behind (byte ∷ bytes) else behind (byte ∷ bytes)
 
 -- an element of any tag, which decides how its content is checked, and what follows it
 abbrev pub any_fault : (ℕ → Fault) → Fault → Fault

@@ -1,37 +1,12 @@
 -- What a part begins with. Ghost members of traits cite these laws.
-use Rattle.std.specs.Prelude.{◌≡◌, ◌++◌, ◌∷◌, [], ◌||◌, ◌==◌, ℕ, List, Bool, true, false, length}
+use Rattle.std.specs.Prelude.{◌≡◌, ◌++◌, ◌∷◌, [], ◌==◌, ℕ, List, Bool, true, false, length}
 use Rattle.std.specs.Prelude.{nat_le, Option, Some, None, if◌then◌else◌, refl}
-use Rattle.std.proofs.Common.{◌⊎◌, inl, inr, eq-eqb}
+use Rattle.std.proofs.Common.{eq-eqb}
+use Rattle.std.proofs.lemmas.Bool.{or_left, or_right}
+use Rattle.std.proofs.lemmas.List.Folds.{list_any-append}
 use Rattle.sec1_der.specs.Elements.{max_length, element, element_of}
 use Rattle.sec1_der.specs.Parts.{Tags, is_among, Begins, join, one_tag, optional_tag, both_tags}
 use Rattle.sec1_der.specs.Parts.{optional_of}
-
-or_left : (b c d : Bool) → (c ≡ true → d ≡ true) → (b || c) ≡ true → (b || d) ≡ true
-or_left true c d f e = refl
-or_left false c d f e = f e
-
-or_right : (b d : Bool) → d ≡ true → (b || d) ≡ true
-or_right true d e = refl
-or_right false d e = e
-
-among_left : (tag : ℕ) (xs ys : List ℕ) → is_among tag xs ≡ true
-    → is_among tag (xs ++ ys) ≡ true
-among_left tag [] ys e = absurd (cc (e))
-among_left tag (x ∷ xs) ys e =
-    or_left (tag == x) (is_among tag xs) (is_among tag (xs ++ ys)) (among_left tag xs ys) e
-
-among_right : (tag : ℕ) (xs ys : List ℕ) → is_among tag ys ≡ true
-    → is_among tag (xs ++ ys) ≡ true
-among_right tag [] ys e = e
-among_right tag (x ∷ xs) ys e =
-    or_right (tag == x) (is_among tag (xs ++ ys)) (among_right tag xs ys e)
-
--- a tag is one of two lists' if it is one of either's
-pub among_either : (tag : ℕ) (xs ys : List ℕ)
-    → (is_among tag xs ≡ true) ⊎ (is_among tag ys ≡ true)
-    → is_among tag (xs ++ ys) ≡ true
-among_either tag xs ys (inl e) = among_left tag xs ys e
-among_either tag xs ys (inr e) = among_right tag xs ys e
 
 -- an element begins with its tag
 pub element_begins : (tag : ℕ) (content : Option (List ℕ)) (whole : List ℕ)
@@ -62,9 +37,13 @@ both_begin : (ps qs : List ℕ) (p q : Bool) (po qo : List ℕ) (pa qa : Bool) (
     → Begins (both_tags (record { firsts = ps; may_be_empty = p; barred = po; apart = pa })
     (record { firsts = qs; may_be_empty = q; barred = qo; apart = qa })) (x ++ y)
 both_begin ps qs true q po qo pa qa [] [] e f = f
-both_begin ps qs true q po qo pa qa [] (byte ∷ y) e f = among_right byte ps qs f
+both_begin ps qs true q po qo pa qa [] (byte ∷ y) e f =
+    rw (list_any-append (λ tag. byte == tag) ps qs)
+    (or_right (is_among byte ps) (is_among byte qs) f)
 both_begin ps qs false q po qo pa qa [] y e f = absurd (cc e)
-both_begin ps qs true q po qo pa qa (byte ∷ x) y e f = among_left byte ps qs e
+both_begin ps qs true q po qo pa qa (byte ∷ x) y e f =
+    rw (list_any-append (λ tag. byte == tag) ps qs)
+    (or_left (is_among byte ps) (is_among byte qs) e)
 both_begin ps qs false q po qo pa qa (byte ∷ x) y e f = e
 
 -- one part after another begins with a tag of the first, or with one of the second where the first

@@ -1,8 +1,9 @@
 -- X.690 section 8.9: the parts of a SEQUENCE, the tags that they begin with, and those that mustn't
 -- follow them.
-use Rattle.std.specs.Prelude.{◌≡◌, ◌++◌, ◌∷◌, [], ◌||◌, ◌&&◌, ◌==◌, not, ℕ, List, Bool, true, false}
+use Rattle.std.specs.Prelude.{◌≡◌, ◌++◌, ◌∷◌, [], ◌&&◌, ◌==◌, not, ℕ, List, Bool, true, false}
 use Rattle.std.specs.Prelude.{Option, Some, None, if◌then◌else◌, ⊤, Result, IfOk, IfErr, OnOk}
 use Rattle.std.specs.Prelude.{OnErr, IsOkAnd, IsSomeAnd}
+use Rattle.std.specs.List.{list_all, list_any}
 use Rattle.sec1_der.specs.Elements.{element_of}
 use Rattle.sec1_der.specs.ErrorKinds.{Refuses, IsReadingFault}
 use Rattle.sec1_der.specs.Faults.{Fault, IsFaultOf}
@@ -37,13 +38,7 @@ optional_tag tag =
 
 -- whether a tag is one of these
 abbrev pub is_among : ℕ → List ℕ → Bool
-is_among tag [] = false
-is_among tag (x ∷ xs) = tag == x || is_among tag xs
-
--- no tag of the first is one of the second
-abbrev pub disjoint : List ℕ → List ℕ → Bool
-disjoint [] ys = true
-disjoint (x ∷ xs) ys = not (is_among x ys) && disjoint xs ys
+is_among tag tags = list_any (λ other. tag == other) tags
 
 -- X.680 section 25.6: one part after another; what begins the second mustn't be barred by the first
 abbrev pub both_tags : Tags → Tags → Tags
@@ -51,7 +46,7 @@ both_tags p q = record {
   firsts = if p.may_be_empty then p.firsts ++ q.firsts else p.firsts;
   may_be_empty = p.may_be_empty && q.may_be_empty;
   barred = if q.may_be_empty then q.barred ++ p.barred else q.barred;
-  apart = p.apart && (q.apart && disjoint p.barred q.firsts);
+  apart = p.apart && (q.apart && list_all (λ tag. not (is_among tag q.firsts)) p.barred);
 }
 
 -- no bytes, if that may be, or bytes that begin with one of the tags

@@ -10,22 +10,12 @@ use Rattle.sec1_der.specs.declared.error.ErrorKind.{ErrorKind}
 use Rattle.sec1_der.specs.declared.error.ErrorKind.TheVariants.{Truncated, Tag, Length}
 use Rattle.sec1_der.specs.declared.error.ErrorKind.TheVariants.{TrailingData, Io, Memory}
 
--- one element was taken, and no input remains
-pub record ConsumesElement (Taken : List ℕ → Type 0) (Ended : Type 0)
-    (bytes : List ℕ) : Type 0 where
-  pub is_element : IsElement bytes
-  pub taken : Taken bytes
-  pub at_end : Ended
-
 -- The bytes have this fault, and it came with the last of them: the others are such that `Before`
 -- holds.
-pub record EndsWithFault (kind : ErrorKind) (Before : List ℕ → Type 0)
-    (bytes : List ℕ) : Type 0 where
-  pub front : List ℕ
-  pub last : ℕ
-  pub joined : bytes ≡ front ++ last ∷ []
-  pub before : Before front
-  pub fault : document_fault bytes ≡ Some kind
+abbrev EndsWithFault : ErrorKind → (List ℕ → Type 0) → List ℕ → Type 0
+EndsWithFault kind Before bytes =
+    (front : List ℕ) × (last : ℕ) × (bytes ≡ front ++ last ∷ []) × Before front
+    × (document_fault bytes ≡ Some kind)
 
 -- The bytes that were taken before an element is refused by this kind: all that there were of a
 -- truncated element; the first byte that shows a bad tag, a bad length or trailing data, and those

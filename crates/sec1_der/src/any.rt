@@ -93,12 +93,13 @@ impl<'a> AnyRef<'a> {
 /// Prints the tag byte, and the bytes of the content, in decimal.
 impl fmt::Debug for AnyRef<'_> {
     ghost use Rattle.std.specs.Fmt.{decimal};
-    ghost use Rattle.std.specs.Prelude.{codes, Some};
-    ghost use Rattle.sec1_der.specs.DebugTexts.{bytes_text, pair_text};
+    ghost use Rattle.std.specs.Prelude.{codes, Some, [], ◌∷◌};
+    ghost use Rattle.sec1_der.specs.DebugTexts.{bytes_text, struct_text};
     ghost use Rattle.sec1_der.specs.Values.{tag_of, value_of};
 
-    ghost debug_output = { λ any. pair_text (codes "AnyRef") (codes "tag")
-        (Some (decimal (tag_of any))) (codes "value") (bytes_text (value_of any)) };
+    ghost debug_output = { λ any. struct_text (codes "AnyRef")
+        ((codes "tag", Some (decimal (tag_of any)))
+        ∷ (codes "value", bytes_text (value_of any)) ∷ []) };
 
     fn fmt<W: fmt::Write>(&self, f: &mut fmt::Formatter<W>) -> fmt::Result {
         write_pair(f, "AnyRef", ("tag", &self.tag), ("value", &self.value))

@@ -20,7 +20,8 @@ pub struct BackWriter<'b> {
 
 impl<'b> BackWriter<'b> {
     ghost use Rattle.std.specs.Prelude.{◌≡◌, ◌-◌, [], Some, None, nat_le, if◌then◌else◌};
-    ghost use Rattle.sec1_der.specs.BackWriters.{back_state, WritesInFront};
+    ghost use Rattle.sec1_der.specs.BackWriters.{back_state, Prepends};
+    ghost use Rattle.sec1_der.specs.Writers.{Writes};
     ghost use Rattle.sec1_der.specs.Elements.{max_length, header};
 
     /// Creates a writer at the end of a slice.
@@ -55,7 +56,7 @@ impl<'b> BackWriter<'b> {
     ///
     /// Buffer if the slice has less room.
     pub fn write(&mut self, bytes: &[u8]) -> Result<()>
-        ensures { WritesInFront (Some bytes.now) self.old self.new result }
+        ensures { Writes back_state Prepends (Some bytes.now) self.old self.new result }
     {
         check_room(bytes.len(), self.start)?;
         let start = self.start - bytes.len();
@@ -75,8 +76,8 @@ impl<'b> BackWriter<'b> {
     pub fn header(&mut self, tag: Tag, since: usize) -> Result<()>
         requires { since ≤ length (back_state self.old).written }
         ensures { let n = length (back_state self.old).written - since in
-            WritesInFront (if nat_le n max_length then Some (header tag n) else None) self.old
-            self.new result }
+            Writes back_state Prepends (if nat_le n max_length then Some (header tag n) else None)
+            self.old self.new result }
     {
         let length = Length::new(self.written() - since)?;
         if length.get() < LONG_FORM {

@@ -103,12 +103,13 @@ fn are_bits(unused: u8, bytes: &[u8]) -> bool
 /// Prints the number of unused bits, and the bytes, in decimal.
 impl fmt::Debug for BitStringRef<'_> {
     ghost use Rattle.std.specs.Fmt.{decimal};
-    ghost use Rattle.std.specs.Prelude.{codes, Some};
-    ghost use Rattle.sec1_der.specs.DebugTexts.{bytes_text, pair_text};
+    ghost use Rattle.std.specs.Prelude.{codes, Some, [], ◌∷◌};
+    ghost use Rattle.sec1_der.specs.DebugTexts.{bytes_text, struct_text};
     ghost use Rattle.sec1_der.specs.Values.{unused_bits_of, bit_bytes_of};
 
-    ghost debug_output = { λ bits. pair_text (codes "BitStringRef") (codes "unused")
-        (Some (decimal (unused_bits_of bits))) (codes "bytes") (bytes_text (bit_bytes_of bits)) };
+    ghost debug_output = { λ bits. struct_text (codes "BitStringRef")
+        ((codes "unused", Some (decimal (unused_bits_of bits)))
+        ∷ (codes "bytes", bytes_text (bit_bytes_of bits)) ∷ []) };
 
     fn fmt<W: fmt::Write>(&self, f: &mut fmt::Formatter<W>) -> fmt::Result {
         write_pair(

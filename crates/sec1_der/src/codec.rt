@@ -1,9 +1,9 @@
 //! Reading and writing values of any type, by their whole DER encoding.
-ghost use Rattle.std.specs.Prelude.{◌≡◌, ◌<◌, ◌≤◌, ◌+◌, ◌++◌, ℕ, List, length, drop, ⊤};
+ghost use Rattle.std.specs.Prelude.{◌≡◌, ◌⊎◌, ◌<◌, ◌≤◌, ◌+◌, ◌++◌, ℕ, List, length, drop, ⊤};
 ghost use Rattle.std.specs.Prelude.{Option, Some, None, IsOk, IsOkAnd};
 ghost use Rattle.std.specs.Prelude.{IsSomeAnd, MatchOption, MatchResult, IsTrue};
 ghost use Rattle.sec1_der.specs.Elements.{max_length, element_of, is_tag};
-ghost use Rattle.sec1_der.specs.Encodings.{IsOverlengthOr, ReadsElement};
+ghost use Rattle.sec1_der.specs.Encodings.{ReadsElement};
 ghost use Rattle.sec1_der.specs.Elements.{IsProperPrefix};
 ghost use Rattle.sec1_der.specs.ErrorKinds.{Refuses, IsReadingFault};
 ghost use Rattle.sec1_der.specs.Faults.{TellsFault, element_fault, end_fault};
@@ -104,12 +104,13 @@ fn element_len<T: EncodeValue + Tagged>(value: &T) -> Option<usize>
 /// encode_to_slice(&octets, buffer)
 /// ```
 pub fn encode_to_slice<T: EncodeValue + Tagged>(value: &T, buffer: &mut [u8]) -> Result<usize>
-    ensures { MatchResult result
-        (λ n. (n ≤ length buffer.new) × IsSomeAnd (element_of T.tag_byte (T.content value.now))
+    ensures { let encoded = element_of T.tag_byte (T.content value.now) in MatchResult result
+        (λ n. (n ≤ length buffer.new) × IsSomeAnd encoded
         (λ bytes. (n ≡ length bytes) × (buffer.new ≡ bytes ++ drop n buffer.old)))
-        (λ e. (buffer.new ≡ buffer.old) × IsOverlengthOr ErrorKind.Buffer
-        (element_of T.tag_byte (T.content value.now))
-        (λ bytes. length buffer.old < length bytes) e) }
+        (λ e. (buffer.new ≡ buffer.old)
+        × (((e.kind ≡ ErrorKind.Overlength) × (encoded ≡ None))
+        ⊎ ((e.kind ≡ ErrorKind.Buffer)
+        × IsSomeAnd encoded (λ bytes. length buffer.old < length bytes)))) }
 {
     let total = encoded_len(value)?;
     check_room(total, buffer.len())?;
@@ -123,9 +124,10 @@ pub fn encode_to_slice<T: EncodeValue + Tagged>(value: &T, buffer: &mut [u8]) ->
 ///
 /// Those of [`encoded_len`], then Memory if the allocation fails.
 pub fn to_der<T: EncodeValue + Tagged>(alloc: Global, value: &T) -> Result<Vec<u8>>
-    ensures { MatchResult result (λ der. IsTrue (is_tag T.tag_byte)
-        × (element_of T.tag_byte (T.content value.now) ≡ Some der.items))
-        (IsOverlengthOr ErrorKind.Memory (element_of T.tag_byte (T.content value.now)) (λ _. ⊤)) }
+    ensures { let encoded = element_of T.tag_byte (T.content value.now) in MatchResult result
+        (λ der. IsTrue (is_tag T.tag_byte) × (encoded ≡ Some der.items))
+        (λ e. ((e.kind ≡ ErrorKind.Overlength) × (encoded ≡ None))
+        ⊎ ((e.kind ≡ ErrorKind.Memory) × IsSomeAnd encoded (λ _. ⊤))) }
 {
     let total = encoded_len(value)?;
     let mut bytes = vec![in alloc; 0; total]?;

@@ -200,8 +200,8 @@ pub struct Containing<T> {
 }
 
 impl<T: fmt::Debug> fmt::Debug for Containing<T> {
-    ghost debug_output = { λ outside. struct_text (codes "Containing") (codes "value")
-        (T.debug_output outside.value) };
+    ghost debug_output = { λ outside. struct_text (codes "Containing")
+        ((codes "value", T.debug_output outside.value) ∷ []) };
 
     fn fmt<W: fmt::Write>(&self, f: &mut fmt::Formatter<W>) -> fmt::Result {
         write_struct(f, "Containing", "value", &self.value)

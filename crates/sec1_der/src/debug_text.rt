@@ -1,6 +1,7 @@
 //! The texts of structs by `{:?}` and `{:#?}`, as a derived `Debug` has them.
 ghost use Rattle.std.specs.Fmt.{DisplaysOnOk, debug_variant};
-ghost use Rattle.sec1_der.specs.DebugTexts.{struct_text, pair_text};
+ghost use Rattle.std.specs.Prelude.{[], ◌∷◌};
+ghost use Rattle.sec1_der.specs.DebugTexts.{struct_text};
 
 use std::fmt;
 
@@ -12,7 +13,7 @@ pub(crate) fn write_struct<T: fmt::Debug, W: fmt::Write>(
     value: &T,
 ) -> fmt::Result
     ensures { DisplaysOnOk W.write_str_gives f.old result
-        (struct_text name.now field.now (T.debug_output value.now)) f.new }
+        (struct_text name.now ((field.now, T.debug_output value.now) ∷ [])) f.new }
 {
     if f.alternate() {
         return f.debug_struct(name).field(field, value).finish();
@@ -28,8 +29,8 @@ pub(crate) fn write_pair<T: fmt::Debug, U: fmt::Debug, W: fmt::Write>(
     second: (&str, &U),
 ) -> fmt::Result
     ensures { DisplaysOnOk W.write_str_gives f.old result
-        (pair_text name.now first.entry.0.now (T.debug_output first.entry.1.now)
-        second.entry.0.now (U.debug_output second.entry.1.now)) f.new }
+        (struct_text name.now ((first.entry.0.now, T.debug_output first.entry.1.now)
+        ∷ (second.entry.0.now, U.debug_output second.entry.1.now) ∷ [])) f.new }
 {
     let (first, value) = first;
     let (second, other) = second;

@@ -1,7 +1,7 @@
 ghost use Rattle.std.specs.Prelude.{◌≡◌, ◌⊎◌, ℕ, List, length, Some, None, MatchResult, ⊤, codes};
+ghost use Rattle.std.specs.Prelude.{IsSomeAnd};
 ghost use Rattle.std.specs.Fmt.{WritesStyledOnOk};
 ghost use Rattle.sec1_der.specs.Elements.{element_of, IsElement};
-ghost use Rattle.sec1_der.specs.Encodings.{IsOverlengthOr};
 ghost use Rattle.sec1_der.specs.ErrorKinds.{IsHeaderFault};
 ghost use Rattle.sec1_der.specs.Faults.{document_fault};
 
@@ -67,10 +67,10 @@ impl SecretDocument {
     ///
     /// Those of [`to_der`].
     pub fn encode_msg<T: EncodeValue + Tagged>(alloc: Global, value: &T) -> Result<SecretDocument>
-        ensures { MatchResult result
-            (λ document. element_of T.tag_byte (T.content value.now) ≡ Some document)
-            (IsOverlengthOr ErrorKind.Memory (element_of T.tag_byte (T.content value.now))
-            (λ _. ⊤)) }
+        ensures { let encoded = element_of T.tag_byte (T.content value.now) in MatchResult result
+            (λ document. encoded ≡ Some document)
+            (λ e. ((e.kind ≡ ErrorKind.Overlength) × (encoded ≡ None))
+            ⊎ ((e.kind ≡ ErrorKind.Memory) × IsSomeAnd encoded (λ _. ⊤))) }
     {
         let bytes = to_der(alloc, value)?;
         Ok(SecretDocument { bytes })

@@ -1,5 +1,5 @@
 ghost use Rattle.std.specs.Fmt.{WritesStyledOnOk};
-ghost use Rattle.std.specs.Prelude.{◌≡◌, Some, codes};
+ghost use Rattle.std.specs.Prelude.{◌≡◌, [], ◌∷◌, Some, codes};
 ghost use Rattle.sec1_der.specs.DebugTexts.{kind_text, struct_text};
 ghost use Rattle.sec1_der.specs.ErrorTexts.{kind_message};
 ghost use Rattle.sec1_der.specs.declared.error.ErrorKind.TheVariants.{Io, Memory};
@@ -111,8 +111,8 @@ impl fmt::Display for Error {
 }
 
 impl fmt::Debug for Error {
-    ghost debug_output = { λ e. struct_text (codes "Error") (codes "kind")
-        (Some (kind_text e.kind)) };
+    ghost debug_output = { λ e. struct_text (codes "Error")
+        ((codes "kind", Some (kind_text e.kind)) ∷ []) };
 
     fn fmt<W: fmt::Write>(&self, f: &mut fmt::Formatter<W>) -> fmt::Result {
         write_struct(f, "Error", "kind", &self.kind)

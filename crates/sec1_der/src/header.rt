@@ -1,16 +1,16 @@
 ghost use Rattle.std.specs.Prelude.{◌≡◌, ℕ, ◌<◌, ◌≤◌, length, take, List, ◌++◌, ◌∷◌};
 ghost use Rattle.std.specs.Cmp.{and_equiv, nat_eq_equiv, on_equiv, partial_equiv_from_equiv};
 ghost use Rattle.std.specs.Ordering.{eq_of_both, on};
-ghost use Rattle.std.specs.Prelude.{nat_eq, ◌↔◌, IsTrue, false, true, Some, codes};
+ghost use Rattle.std.specs.Prelude.{nat_eq, ◌↔◌, IsTrue, false, true, [], Some, codes};
 ghost use Rattle.std.specs.Prelude.{IfOk, IsOkAnd, IsOk, IsErr, MatchResult, OnErr};
-ghost use Rattle.std.specs.Fmt.{decimal};
-ghost use Rattle.sec1_der.specs.DebugTexts.{pair_text, struct_text};
+ghost use Rattle.sec1_der.specs.DebugTexts.{struct_text};
 ghost use Rattle.sec1_der.specs.Elements.{max_length, length_octets, header, element, IsHeader};
 ghost use Rattle.sec1_der.specs.ErrorKinds.{length_fault, header_fault, Refuses, IsHeaderFault};
 ghost use Rattle.sec1_der.specs.Numbers.{number_of};
 ghost use Rattle.sec1_der.specs.Readers.{reader_over, refused, HasRead};
 ghost use Rattle.sec1_der.specs.Faults.{Fault, any_fault};
-ghost use Rattle.sec1_der.specs.SliceWriters.{WritesBehind};
+ghost use Rattle.sec1_der.specs.SliceWriters.{slice_state, Appends};
+ghost use Rattle.sec1_der.specs.Writers.{Writes};
 
 use crate::debug_text::write_pair;
 use crate::{ErrorKind, Length, Result, SliceReader, SliceWriter, Tag};
@@ -32,10 +32,9 @@ pub struct Header {
 }
 
 impl fmt::Debug for Header {
-    ghost debug_output = { λ h. pair_text (codes "Header")
-        (codes "tag") (struct_text (codes "Tag") (codes "byte") (Some (decimal h.tag)))
-        (codes "length") (struct_text (codes "Length") (codes "bytes")
-        (Some (decimal h.length))) };
+    ghost debug_output = { λ h. struct_text (codes "Header")
+        ((codes "tag", ⟦<Tag as fmt::Debug>⟧.debug_output h.tag)
+        ∷ (codes "length", ⟦<Length as fmt::Debug>⟧.debug_output h.length) ∷ []) };
 
     fn fmt<W: fmt::Write>(&self, f: &mut fmt::Formatter<W>) -> fmt::Result {
         write_pair(f, "Header", ("tag", &self.tag), ("length", &self.length))
@@ -92,8 +91,8 @@ impl Header {
     ///
     /// Buffer if the slice has no room for it.
     pub fn encode(&self, writer: &mut SliceWriter) -> Result<()>
-        ensures { WritesBehind (Some (header self.now.tag self.now.length)) writer.old writer.new
-            result }
+        ensures { Writes slice_state Appends (Some (header self.now.tag self.now.length))
+            writer.old writer.new result }
     {
         let (octets, count) = self.octets();
         writer.write(&octets[..count])

@@ -1,9 +1,10 @@
 //! Laws for callers to cite: of trees, of the kinds by which elements are refused, and that a value
 //! is determined by its bytes. Each law is the contract of a function, which does nothing else.
 ghost use Rattle.std.specs.Option.{option_or};
-ghost use Rattle.std.specs.Prelude.{◌≡◌, ◌⊎◌, ◌≤◌, ◌++◌, [], ℕ, List, length, Some, None, IsSome};
+ghost use Rattle.std.specs.Prelude.{◌≡◌, ◌≢◌, ◌⊎◌, ◌≤◌, ◌++◌, [], ℕ, List, length, Some, None};
+ghost use Rattle.std.specs.Prelude.{IsSome};
 ghost use Rattle.sec1_der.specs.Elements.{element, element_of, max_length, IsHeader};
-ghost use Rattle.sec1_der.specs.Elements.{IsProperPrefix, LacksHeader};
+ghost use Rattle.sec1_der.specs.Elements.{IsHeader, IsProperPrefix, header};
 ghost use Rattle.sec1_der.specs.ErrorKinds.{header_fault};
 ghost use Rattle.sec1_der.specs.Faults.{Fault, any_fault, element_fault};
 ghost use Rattle.sec1_der.specs.Trees.{Tree, Forest, IsTree, AreTrees, bytes, joined};
@@ -65,7 +66,8 @@ pub fn whole_elements()
 /// content has to meet and whatever may follow it.
 #[tactic(auto, using(crate::proofs::ElementFaultLemmas::any_without_header))]
 pub fn bytes_without_header()
-    ensures { (inside : ℕ → Fault) (behind : Fault) (bytes : List ℕ) → LacksHeader bytes
+    ensures { (inside : ℕ → Fault) (behind : Fault) (bytes : List ℕ)
+        → ((tag n : ℕ) (rest : List ℕ) → IsHeader tag n → bytes ≢ header tag n ++ rest)
         → any_fault inside behind bytes ≡ Some (header_fault bytes) }
 {}
 

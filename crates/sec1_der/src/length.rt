@@ -1,4 +1,4 @@
-ghost use Rattle.std.specs.Prelude.{◌≡◌, ◌≤◌, ◌<◌, MatchResult, ℕ, Some, codes};
+ghost use Rattle.std.specs.Prelude.{◌≡◌, ◌≤◌, ◌<◌, MatchResult, ℕ, [], ◌∷◌, Some, codes};
 ghost use Rattle.std.specs.Fmt.{decimal};
 ghost use Rattle.sec1_der.specs.DebugTexts.{struct_text};
 ghost use Rattle.sec1_der.specs.Elements.{max_length};
@@ -61,8 +61,8 @@ impl Length {
 }
 
 impl fmt::Debug for Length {
-    ghost debug_output = { λ n. struct_text (codes "Length") (codes "bytes")
-        (Some (decimal n)) };
+    ghost debug_output = { λ n. struct_text (codes "Length")
+        ((codes "bytes", Some (decimal n)) ∷ []) };
 
     fn fmt<W: fmt::Write>(&self, f: &mut fmt::Formatter<W>) -> fmt::Result {
         write_struct(f, "Length", "bytes", &self.bytes)

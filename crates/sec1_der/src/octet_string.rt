@@ -43,12 +43,12 @@ impl<'a> OctetStringRef<'a> {
 
 /// Prints the bytes in decimal.
 impl fmt::Debug for OctetStringRef<'_> {
-    ghost use Rattle.std.specs.Prelude.{codes};
+    ghost use Rattle.std.specs.Prelude.{codes, [], ◌∷◌};
     ghost use Rattle.sec1_der.specs.DebugTexts.{bytes_text, struct_text};
     ghost use Rattle.sec1_der.specs.Values.{octets_of};
 
-    ghost debug_output = { λ octets. struct_text (codes "OctetStringRef") (codes "bytes")
-        (bytes_text (octets_of octets)) };
+    ghost debug_output = { λ octets. struct_text (codes "OctetStringRef")
+        ((codes "bytes", bytes_text (octets_of octets)) ∷ []) };
 
     fn fmt<W: fmt::Write>(&self, f: &mut fmt::Formatter<W>) -> fmt::Result {
         write_struct(f, "OctetStringRef", "bytes", &self.bytes)

@@ -1,8 +1,9 @@
-ghost use Rattle.std.specs.Prelude.{◌≡◌, ◌++◌, [], ℕ, List, length};
+ghost use Rattle.std.specs.Prelude.{◌≡◌, ◌++◌, [], ℕ, List, length, nat_le, Some, None};
+ghost use Rattle.sec1_der.specs.declared.error.ErrorKind.TheVariants.{Truncated};
 ghost use Rattle.std.specs.Prelude.{slice_get, true, false, if◌then◌else◌, IsOk, IfOk};
 ghost use Rattle.std.specs.Prelude.{IsOkAnd, MatchResult, OnOk};
 ghost use Rattle.sec1_der.specs.Readers.{reader_over, refused, HasRead, Reader, RefusesBy};
-ghost use Rattle.sec1_der.specs.Faults.{count_fault, end_fault, no_fault};
+ghost use Rattle.sec1_der.specs.Faults.{end_fault, no_fault};
 
 mod values;
 
@@ -79,7 +80,9 @@ impl<'a> SliceReader<'a> {
         ensures only { (bytes rest : List ℕ) → length bytes ≡ count
             → self.old ≡ reader_over (bytes ++ rest)
             → IsOkAnd result (λ found. found.now ≡ bytes) × (self.new ≡ reader_over rest) }
-        ensures refused { RefusesBy true (count_fault count) result self.old self.new }
+        ensures refused { RefusesBy true
+            (λ unread. if nat_le count (length unread) then None else Some Truncated)
+            result self.old self.new }
     {
         self.check()?;
         let count = count.get();
@@ -102,7 +105,9 @@ impl<'a> SliceReader<'a> {
         ensures only { (bytes rest : List ℕ) → length bytes ≡ count
             → self.old ≡ reader_over (bytes ++ rest)
             → (result ≡ Ok (reader_over bytes)) × (self.new ≡ reader_over rest) }
-        ensures refused { RefusesBy true (count_fault count) result self.old self.new }
+        ensures refused { RefusesBy true
+            (λ unread. if nat_le count (length unread) then None else Some Truncated)
+            result self.old self.new }
     {
         let bytes = self.read_slice(count)?;
         Ok(SliceReader::new(bytes))

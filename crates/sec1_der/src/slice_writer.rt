@@ -17,7 +17,8 @@ pub struct SliceWriter<'b> {
 
 impl<'b> SliceWriter<'b> {
     ghost use Rattle.std.specs.Prelude.{◌≡◌, [], ◌∷◌, Some};
-    ghost use Rattle.sec1_der.specs.SliceWriters.{slice_state, WritesBehind};
+    ghost use Rattle.sec1_der.specs.SliceWriters.{slice_state, Appends};
+    ghost use Rattle.sec1_der.specs.Writers.{Writes};
 
     /// Creates a writer at the beginning of a slice.
     pub fn new(buffer: &'b mut [u8]) -> SliceWriter<'b>
@@ -53,7 +54,7 @@ impl<'b> SliceWriter<'b> {
     ///
     /// Buffer if the slice is full.
     pub fn write_byte(&mut self, byte: u8) -> Result<()>
-        ensures { WritesBehind (Some (byte ∷ [])) self.old self.new result }
+        ensures { Writes slice_state Appends (Some (byte ∷ [])) self.old self.new result }
     {
         self.write(&[byte])
     }
@@ -65,7 +66,7 @@ impl<'b> SliceWriter<'b> {
     /// Buffer if the slice has less room.
     #[tactic(auto, using(std::proofs::lemmas::Slice::overwrites))]
     pub fn write(&mut self, bytes: &[u8]) -> Result<()>
-        ensures { WritesBehind (Some bytes.now) self.old self.new result }
+        ensures { Writes slice_state Appends (Some bytes.now) self.old self.new result }
     {
         check_room(bytes.len(), self.remaining())?;
         let end = self.position + bytes.len();

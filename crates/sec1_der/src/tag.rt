@@ -1,4 +1,5 @@
-ghost use Rattle.std.specs.Prelude.{◌≡◌, ◌+◌, ◌≤◌, ◌↔◌, MatchResult, IsTrue, ℕ, Some, codes};
+ghost use Rattle.std.specs.Prelude.{◌≡◌, ◌+◌, ◌≤◌, ◌↔◌, ◌∷◌, MatchResult, IsTrue, ℕ, [], Some};
+ghost use Rattle.std.specs.Prelude.{codes};
 ghost use Rattle.std.specs.Fmt.{decimal};
 ghost use Rattle.std.specs.Int.{IsBitSet};
 ghost use Rattle.sec1_der.specs.DebugTexts.{struct_text};
@@ -169,8 +170,8 @@ impl Tag {
 
 /// Prints the byte in decimal.
 impl fmt::Debug for Tag {
-    ghost debug_output = { λ byte. struct_text (codes "Tag") (codes "byte")
-        (Some (decimal byte)) };
+    ghost debug_output = { λ byte. struct_text (codes "Tag")
+        ((codes "byte", Some (decimal byte)) ∷ []) };
 
     fn fmt<W: fmt::Write>(&self, f: &mut fmt::Formatter<W>) -> fmt::Result {
         write_struct(f, "Tag", "byte", &self.byte)

@@ -1,12 +1,13 @@
 //! The traits of DER values: with them the generic calls read and write a type.
 ghost use Rattle.std.specs.Prelude.{◌≡◌, ◌≤◌, ℕ, List, length, Option, Some, None, IsSomeAnd, Bool};
 ghost use Rattle.std.specs.Prelude.{false, MatchResult, IsTrue};
-ghost use Rattle.sec1_der.specs.BackWriters.{WritesInFront, Puts};
+ghost use Rattle.sec1_der.specs.BackWriters.{back_state, Prepends, Puts};
 ghost use Rattle.sec1_der.specs.Elements.{max_length, within_limit, is_tag};
 ghost use Rattle.sec1_der.specs.Encodings.{Measures};
 ghost use Rattle.sec1_der.specs.Readers.{ReadsContent};
 ghost use Rattle.sec1_der.specs.Faults.{Fault};
-ghost use Rattle.sec1_der.specs.SliceWriters.{WritesBehind};
+ghost use Rattle.sec1_der.specs.SliceWriters.{slice_state, Appends};
+ghost use Rattle.sec1_der.specs.Writers.{Writes};
 
 use crate::{BackWriter, ErrorKind, Header, Length, Result, SliceReader, SliceWriter, Tag};
 
@@ -73,8 +74,8 @@ pub trait EncodeValue: ValueContent {
     /// Those of [`value_len`](EncodeValue::value_len), then Buffer if there is no room for the
     /// content. On an error nothing is written.
     fn encode_value(&self, writer: &mut SliceWriter) -> Result<()>
-        ensures { WritesBehind (within_limit (Self.content self.now)) writer.old writer.new
-            result };
+        ensures { Writes slice_state Appends (within_limit (Self.content self.now))
+            writer.old writer.new result };
 
     /// Prepends the content to what was written.
     ///
@@ -82,8 +83,8 @@ pub trait EncodeValue: ValueContent {
     ///
     /// Those of [`encode_value`](EncodeValue::encode_value). On an error nothing is written.
     fn encode_back(&self, writer: &mut BackWriter) -> Result<()>
-        ensures { WritesInFront (within_limit (Self.content self.now)) writer.old writer.new
-            result };
+        ensures { Writes back_state Prepends (within_limit (Self.content self.now))
+            writer.old writer.new result };
 
     /// Prepends the content to what was written, without testing the room first. On an error any
     /// bytes may have been prepended.

@@ -7,9 +7,10 @@ ghost use Rattle.sec1_der.specs.DebugTexts.{bytes_text};
 ghost use Rattle.sec1_der.specs.Numbers.{number_of};
 ghost use Rattle.sec1.specs.Points.{point_from};
 ghost use Rattle.sec1.specs.Tags.{byte_of, message_len, point_tag};
-ghost use Rattle.sec1.specs.Coordinates.{EachArray, array_bytes, first_bytes, coordinates_bytes};
+ghost use Rattle.sec1.specs.Coordinates.{arrays_of, first_bytes, coordinates_bytes};
 ghost use Rattle.sec1.specs.Coordinates.{coordinates_point};
 ghost use Rattle.sec1.specs.DebugTexts.{form_text};
+ghost use Rattle.std.specs.List.{All, flat_map};
 ghost use Rattle.std.specs.Cmp.Lexicographic.{on_texts_equal};
 ghost use Rattle.std.specs.Cmp.{partial_equiv_from_equiv};
 
@@ -39,8 +40,9 @@ impl<'a, const N: usize> Coordinates<'a, N> {
         requires { (length x.now ≡ N) × (length y.now ≡ N) }
         ensures { (coordinates_point result
             ≡ point_from (byte_of tag) (number_of x.now) (number_of y.now))
-            × (array_bytes result ≡ take (message_len tag N - 1) (x.now ++ y.now))
-            × EachArray (λ array. length array ≡ N) result }
+            × (flat_map (first_bytes N) (arrays_of result)
+            ≡ take (message_len tag N - 1) (x.now ++ y.now))
+            × All (λ array. length array ≡ N) (arrays_of result) }
     {
         match tag {
             Tag::Identity => Coordinates::Identity,
@@ -221,7 +223,8 @@ impl<'a, const N: usize> Coordinates<'a, N> {
 }
 
 impl<const N: usize> fmt::Debug for Coordinates<'_, N> {
-    ghost debug_output = { λ c. form_text N (coordinates_point c) (array_bytes c) };
+    ghost debug_output = { λ c. form_text N (coordinates_point c)
+        (flat_map (first_bytes N) (arrays_of c)) };
 
     fn fmt<W: fmt::Write>(&self, f: &mut fmt::Formatter<W>) -> fmt::Result {
         if f.alternate() {

@@ -3,10 +3,11 @@
 ghost use Rattle.std.specs.Prelude.{◌≡◌, ◌≤◌, ◌∷◌, length, IfSome};
 ghost use Rattle.std.specs.Option.{option_map};
 ghost use Rattle.sec1.specs.Der.{element, max_length};
-ghost use Rattle.sec1.specs.Keys.{IsKeyOf, IsNamedCurve, bytes_of, parameters_field};
-ghost use Rattle.sec1.specs.Keys.{public_key_field};
+ghost use Rattle.sec1.specs.Keys.{IsKeyOf};
 ghost use Rattle.sec1.specs.Parameters.{curve_of};
-ghost use Rattle.sec1_c.specs.KeyPlaces.{content_len, key_places};
+ghost use Rattle.sec1_der.specs.Identifiers.{IsIdentifier, content_of};
+ghost use Rattle.sec1_c.specs.KeyPlaces.{content_len, key_places, parameters_bytes};
+ghost use Rattle.sec1_c.specs.KeyPlaces.{public_key_bytes};
 
 use super::KeyParts;
 use crate::part::Part;
@@ -51,8 +52,9 @@ fn bytes_len(bytes: Option<&[u8]>) -> Option<usize>
 /// Returns the length in bytes of the field `[0]`.
 #[tactic(auto, using(crate::proofs::FieldLemmas::parameters_counted))]
 fn parameters_field_len(parameters: &Option<EcParameters>) -> usize
-    requires { IsNamedCurve (option_map curve_of parameters.now) }
-    ensures { result ≡ length (bytes_of (parameters_field (option_map curve_of parameters.now))) }
+    requires { IfSome (option_map curve_of parameters.now)
+        (λ arcs. IsIdentifier arcs (content_of arcs)) }
+    ensures { result ≡ length (parameters_bytes (option_map curve_of parameters.now)) }
 {
     let Some(curve) = parameters else {
         return 0;
@@ -68,7 +70,7 @@ fn public_key_field_len(public_key: Option<&[u8]>) -> usize
     requires { IfSome (option_map (λ bytes. bytes.now) public_key) (λ bytes.
         length (element 0x03 (0 ∷ bytes)) ≤ max_length) }
     ensures { result
-        ≡ length (bytes_of (public_key_field (option_map (λ bytes. bytes.now) public_key.entry))) }
+        ≡ length (public_key_bytes (option_map (λ bytes. bytes.now) public_key.entry)) }
 {
     let Some(bytes) = public_key else {
         return 0;

@@ -4,7 +4,8 @@ use crate::length::check_room;
 use crate::{EncodeValue, ErrorKind, Result, Tagged, encoded_len};
 
 impl<'b> BackWriter<'b> {
-    ghost use Rattle.sec1_der.specs.BackWriters.{WritesInFront, Puts};
+    ghost use Rattle.sec1_der.specs.BackWriters.{back_state, Prepends, Puts};
+    ghost use Rattle.sec1_der.specs.Writers.{Writes};
     ghost use Rattle.sec1_der.specs.Elements.{element_of};
 
     /// Prepends the element of a value: its content, and then the header over it.
@@ -13,8 +14,8 @@ impl<'b> BackWriter<'b> {
     ///
     /// Those of [`encoded_len`], then Buffer if there is no room for the element.
     pub fn element<T: EncodeValue + Tagged>(&mut self, value: &T) -> Result<()>
-        ensures { WritesInFront (element_of T.tag_byte (T.content value.now)) self.old self.new
-            result }
+        ensures { Writes back_state Prepends (element_of T.tag_byte (T.content value.now))
+            self.old self.new result }
     {
         check_room(encoded_len(value)?, self.remaining())?;
         self.put_element(value)

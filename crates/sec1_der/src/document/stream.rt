@@ -4,11 +4,11 @@ ghost use Rattle.std.specs.Prelude.{ℕ, List, false, ◌≡◌, ◌<◌, ◌≤
 ghost use Rattle.std.specs.Prelude.{IfErr, IfSome};
 ghost use Rattle.std.specs.Io.KnownBytes.{Appends};
 ghost use Rattle.sec1_der.specs.Elements.{IsElement, IsHeader, header};
-ghost use Rattle.sec1_der.specs.ErrorKinds.{IsHeaderFault, IsIoOrMemory};
-ghost use Rattle.sec1_der.specs.ReadsDocument.{ConsumesElement, ReadsStream};
+ghost use Rattle.sec1_der.specs.ErrorKinds.{IsHeaderFault};
+ghost use Rattle.sec1_der.specs.ReadsDocument.{ReadsStream};
 ghost use Rattle.sec1_der.specs.Faults.{document_fault};
 ghost use Rattle.sec1_der.specs.Streams.{AppendsPrefix, Ends, ReadsOnto, Takes};
-ghost use Rattle.sec1_der.specs.declared.error.ErrorKind.TheVariants.{Io};
+ghost use Rattle.sec1_der.specs.declared.error.ErrorKind.TheVariants.{Io, Memory};
 
 use super::SecretDocument;
 use crate::header::header_at;
@@ -39,17 +39,18 @@ impl SecretDocument {
         // what was taken, of any input.
         ensures reads { let Taken = Takes R.left R.taken reader.old reader.new in
             let Ended = Ends R.left R.ended reader.new in
-            ReadsStream (ConsumesElement Taken Ended) Taken Ended (R.failed reader.new) result }
+            ReadsStream (λ bytes. IsElement bytes × Taken bytes × Ended) Taken Ended
+            (R.failed reader.new) result }
         // If the remaining input is exactly one element, it is read, unless a read or an allocation
         // fails.
-        ensures only { IfErr result (λ error. IsIoOrMemory error.kind
+        ensures only { IfErr result (λ error. ((error.kind ≡ Io) ⊎ (error.kind ≡ Memory))
             ⊎ IfSome (R.left reader.old) (λ left. ¬ (IsElement left))) }
         // Whether it is refused, and by which kind, is a function of what the reader had left, as
         // of a slice.
         ensures kind { MatchResult result
             (λ _. IfSome (R.left reader.old) (λ left. document_fault left ≡ None))
-            (λ error. IsIoOrMemory error.kind ⊎ IfSome (R.left reader.old)
-            (λ left. document_fault left ≡ Some error.kind)) }
+            (λ error. ((error.kind ≡ Io) ⊎ (error.kind ≡ Memory))
+            ⊎ IfSome (R.left reader.old) (λ left. document_fault left ≡ Some error.kind)) }
     {
         read_element(alloc, reader)
     }
@@ -68,7 +69,7 @@ impl SecretDocument {
     /// ```
     pub fn read_der_file<F: Files>(rt: &F, alloc: Global, path: &str) -> Result<SecretDocument>
         ensures { IfErr result (λ error. IsHeaderFault error.kind
-            ⊎ (error.kind ≡ ErrorKind.TrailingData) ⊎ IsIoOrMemory error.kind) }
+            ⊎ (error.kind ≡ ErrorKind.TrailingData) ⊎ (error.kind ≡ Io) ⊎ (error.kind ≡ Memory)) }
     {
         match fs::open(rt, path) {
             Ok(file) => SecretDocument::read_der_from(alloc, &mut StdReader::new(file)),
@@ -114,7 +115,8 @@ fn read_element<R: Read>(alloc: Global, reader: &mut R) -> Result<SecretDocument
     requires { R.failed reader.old ≡ false }
     ensures { let Taken = Takes R.left R.taken reader.old reader.new in
         let Ended = Ends R.left R.ended reader.new in
-        ReadsStream (ConsumesElement Taken Ended) Taken Ended (R.failed reader.new) result }
+        ReadsStream (λ bytes. IsElement bytes × Taken bytes × Ended) Taken Ended
+        (R.failed reader.new) result }
 {
     let header = read_header(reader)?;
     let (octets, count) = header.octets();
@@ -164,7 +166,7 @@ pub(crate) fn read_content<R: Read>(
         × ReadsOnto Taken bytes.old.items bytes.new.items announced)
         (λ error. (error.kind ≡ Io ↔ IsTrue (R.failed reader.new))
         × ((front : List ℕ) × Taken front × (length front < announced))
-        × (IsIoOrMemory error.kind
+        × (((error.kind ≡ Io) ⊎ (error.kind ≡ Memory))
         ⊎ ((error.kind ≡ ErrorKind.Truncated) × Ends R.left R.ended reader.new))) }
 {
     let mut missing = announced;

@@ -5,7 +5,7 @@ ghost use Rattle.std.specs.Prelude.{IsOkAnd, IsSomeAnd, MatchOption};
 ghost use Rattle.sec1_der.specs.Elements.{max_length, element, element_of, IsProperPrefix};
 ghost use Rattle.sec1_der.specs.ErrorKinds.{Refuses};
 ghost use Rattle.sec1_der.specs.Readers.{reader_over, HasReadElement, ReadsContent, RefusesBy};
-ghost use Rattle.sec1_der.specs.Faults.{element_fault, end_fault, field_fault, no_fault};
+ghost use Rattle.sec1_der.specs.Faults.{element_fault, end_fault, no_fault, optional_fault};
 
 use crate::header::element_at;
 use crate::{DecodeValue, ErrorKind, Result, SliceReader, Tag, Tagged};
@@ -83,8 +83,8 @@ impl<'a> SliceReader<'a> {
             (element (0xA0 + number) (element T.tag_byte content) ++ rest)
             → IsOkAnd result (λ field. IsSomeAnd field (λ found. T.content found ≡ Some content))
             × (self.new ≡ reader_over rest) }
-        ensures refused { RefusesBy T.says_kind (field_fault number T.tag_byte T.fault no_fault)
-            result self.old self.new }
+        ensures refused { RefusesBy T.says_kind (optional_fault (0xA0 + number)
+            (element_fault T.tag_byte T.fault end_fault) no_fault) result self.old self.new }
     {
         self.check()?;
         let input = self.remaining_input();

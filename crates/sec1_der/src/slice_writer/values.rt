@@ -9,7 +9,8 @@ use crate::{BackWriter, EncodePart, EncodeValue, ErrorKind, Result, Tagged, enco
 
 impl<'b> SliceWriter<'b> {
     ghost use Rattle.sec1_der.specs.Elements.{element_of, within_limit};
-    ghost use Rattle.sec1_der.specs.SliceWriters.{WritesBehind};
+    ghost use Rattle.sec1_der.specs.SliceWriters.{slice_state, Appends};
+    ghost use Rattle.sec1_der.specs.Writers.{Writes};
 
     /// Appends the content of a SEQUENCE with these parts.
     ///
@@ -18,7 +19,8 @@ impl<'b> SliceWriter<'b> {
     /// Those of [`EncodePart::part_len`], then Buffer if there is no room for the content.
     #[tactic(auto, using(std::proofs::lemmas::Slice::overwrites))]
     pub(crate) fn parts<P: EncodePart>(&mut self, parts: &P) -> Result<()>
-        ensures { WritesBehind (within_limit (P.bytes parts.now)) self.old self.new result }
+        ensures { Writes slice_state Appends (within_limit (P.bytes parts.now)) self.old self.new
+            result }
     {
         let count = parts.part_len()?.get();
         check_room(count, self.remaining())?;
@@ -34,8 +36,8 @@ impl<'b> SliceWriter<'b> {
     ///
     /// Those of [`encoded_len`], then Buffer if there is no room for the element.
     pub fn element<T: EncodeValue + Tagged>(&mut self, value: &T) -> Result<()>
-        ensures { WritesBehind (element_of T.tag_byte (T.content value.now)) self.old self.new
-            result }
+        ensures { Writes slice_state Appends (element_of T.tag_byte (T.content value.now))
+            self.old self.new result }
     {
         check_room(encoded_len(value)?, self.remaining())?;
         element_header(value)?.encode(self)?;
