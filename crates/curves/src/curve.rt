@@ -5,7 +5,7 @@ ghost use Rattle.std.specs.Prelude.{◌≡◌, ◌↔◌, IsTrue, IfSome, Some, 
 ghost use Rattle.curves.specs.Curves.{curve_arcs, curve_content, curve_name, curve_alias};
 ghost use Rattle.curves.specs.Curves.{x962_name, IsNameOf, field_len};
 
-use sec1_der::ObjectIdentifier;
+use sec1_der::{ObjectIdentifier, UniqueContent};
 
 /// A named elliptic curve over a prime field: those of SEC 2 v1.0 and v2.0, among which are the
 /// five of RFC 5480 section 2.1.1.1, the further ones of ANSI X9.62, and those of RFC 5639.
@@ -194,7 +194,7 @@ impl Curve {
         ensures found { IfSome result (λ curve. curve_arcs curve ≡ identifier.now) }
         ensures only { (curve : Curve) → curve_arcs curve ≡ identifier.now → result ≡ Some curve }
     {
-        sec1_der::laws::one_identifier();
+        ObjectIdentifier::one();
         Curve::from_content(identifier.as_bytes())
     }
 

@@ -1,8 +1,7 @@
 //! Laws of keys and of points, for callers to cite: that a value is determined by its bytes, and
 //! how points compare. Each law is the contract of a function, which does nothing else.
 
-ghost use Rattle.std.specs.Prelude.{◌≡◌, ◌⊎◌, ◌↔◌, List, ℕ, Some, IsTrue};
-ghost use Rattle.sec1.specs.Keys.{IsKeyOf, Key};
+ghost use Rattle.std.specs.Prelude.{◌≡◌, ◌↔◌, List, ℕ, Some, IsTrue};
 ghost use Rattle.sec1.specs.EncodedPoints.{point_of};
 ghost use Rattle.sec1.specs.Parameters.{curve_of};
 ghost use Rattle.sec1.specs.PointOrder.{IsOrderOf, point_cmp};
@@ -10,9 +9,9 @@ ghost use Rattle.std.specs.Ordering.{is_eq};
 ghost use Rattle.sec1.specs.Points.{Fits, IsPoint, Point, encoding};
 ghost use Rattle.sec1.specs.declared.parameters.EcParameters.{EcParameters};
 
-use crate::der::{UniqueContent, ValueContent, laws};
+use crate::der::{ObjectIdentifier, UniqueContent, ValueContent};
 pub use crate::private_key::tree_is_element;
-use crate::{EcParameters, EcPrivateKey, EncodedPoint};
+use crate::{EcParameters, EncodedPoint};
 
 /// Two parameters with the same content name the same curve.
 pub fn one_curve()
@@ -21,25 +20,7 @@ pub fn one_curve()
         → ⟦<EcParameters as ValueContent>⟧.content b ≡ Some bytes
         → curve_of a ≡ curve_of b }
 {
-    laws::one_identifier();
-}
-
-/// Two keys with the same content have the same parts.
-pub fn one_key()
-    ensures { (a b : Key) (bytes : List ℕ)
-        → ⟦<EcPrivateKey<'static> as ValueContent>⟧.content a ≡ Some bytes
-        → ⟦<EcPrivateKey<'static> as ValueContent>⟧.content b ≡ Some bytes
-        → a ≡ b }
-{
-    EcPrivateKey::one();
-}
-
-/// A key either has an encoding or has none.
-pub fn bytes_or_none(key: &EcPrivateKey)
-    ensures { ((bytes : List ℕ) → ¬ IsKeyOf key.now bytes)
-        ⊎ ((bytes : List ℕ) × IsKeyOf key.now bytes) }
-{
-    let _len = key.encoded_len();
+    ObjectIdentifier::one();
 }
 
 /// The meaning of an [`EncodedPoint`] is a point of its size.

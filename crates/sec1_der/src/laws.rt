@@ -1,22 +1,17 @@
 //! Laws for callers to cite: of trees, of the kinds by which elements are refused, and that a value
 //! is determined by its bytes. Each law is the contract of a function, which does nothing else.
 ghost use Rattle.std.specs.Option.{option_or};
-ghost use Rattle.std.specs.Prelude.{◌≡◌, ◌≢◌, ◌⊎◌, ◌≤◌, ◌++◌, [], ℕ, List, length, Some, None};
-ghost use Rattle.std.specs.Prelude.{IsSome};
-ghost use Rattle.sec1_der.specs.Elements.{element, element_of, max_length, IsHeader};
-ghost use Rattle.sec1_der.specs.Elements.{IsHeader, IsProperPrefix, header};
+ghost use Rattle.std.specs.Prelude.{◌≡◌, ◌≢◌, ◌≤◌, ◌++◌, [], ℕ, List, length, Some};
+ghost use Rattle.sec1_der.specs.Elements.{element, header, max_length, IsHeader};
+ghost use Rattle.sec1_der.specs.Elements.{IsProperPrefix};
 ghost use Rattle.sec1_der.specs.ErrorKinds.{header_fault};
 ghost use Rattle.sec1_der.specs.Faults.{Fault, any_fault, element_fault};
 ghost use Rattle.sec1_der.specs.Trees.{Tree, Forest, IsTree, AreTrees, bytes, joined};
 ghost use Rattle.sec1_der.specs.Values.{octets_of, unused_bits_of, bit_bytes_of};
 ghost use Rattle.sec1_der.specs.declared.bit_string.BitStringRef.{BitStringRef};
 ghost use Rattle.sec1_der.specs.declared.octet_string.OctetStringRef.{OctetStringRef};
-ghost use Rattle.sec1_der.specs.declared.version.VersionOne.{VersionOne};
 
-use crate::{
-    BitStringRef, EncodeValue, ErrorKind, ObjectIdentifier, OctetStringRef, Tagged, ValueContent,
-    VersionOne,
-};
+use crate::{BitStringRef, ErrorKind, OctetStringRef, ValueContent};
 
 /// A tree is determined by its bytes, whatever follows them.
 #[tactic(auto, using(crate::proofs::TreeLemmas::tree_apart))]
@@ -71,14 +66,6 @@ pub fn bytes_without_header()
         → any_fault inside behind bytes ≡ Some (header_fault bytes) }
 {}
 
-/// Two versions with the same content are the same.
-pub fn one_version()
-    ensures { (a b : VersionOne) (bytes : List ℕ)
-        → ⟦<VersionOne as ValueContent>⟧.content a ≡ Some bytes
-        → ⟦<VersionOne as ValueContent>⟧.content b ≡ Some bytes
-        → a ≡ b }
-{}
-
 /// Two octet strings with the same content have the same bytes.
 pub fn one_octet_string()
     ensures { (a b : OctetStringRef) (bytes : List ℕ)
@@ -94,19 +81,3 @@ pub fn one_bit_string()
         → ⟦<BitStringRef<'static> as ValueContent>⟧.content b ≡ Some bytes
         → (unused_bits_of a ≡ unused_bits_of b) × (bit_bytes_of a ≡ bit_bytes_of b) }
 {}
-
-/// Two identifiers with the same content have the same arcs.
-#[tactic(auto, using(crate::proofs::UniqueLemmas::unique_identifier))]
-pub fn one_identifier()
-    ensures { (a b bytes : List ℕ) → ⟦<ObjectIdentifier as ValueContent>⟧.content a ≡ Some bytes
-        → ⟦<ObjectIdentifier as ValueContent>⟧.content b ≡ Some bytes
-        → a ≡ b }
-{}
-
-/// A value either has an encoding or has none.
-pub fn element_or_none<T: EncodeValue + Tagged>(value: &T)
-    ensures { (element_of T.tag_byte (T.content value.now) ≡ None)
-        ⊎ IsSome (element_of T.tag_byte (T.content value.now)) }
-{
-    let _value = value;
-}
