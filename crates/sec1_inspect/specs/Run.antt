@@ -5,18 +5,11 @@ use Rattle.std.specs.Io.KnownBytes.{Appends}
 use Rattle.sec1.specs.Der.{AppendsPrefix}
 use Rattle.sec1_inspect.specs.declared.Failure.{Failure}
 use Rattle.sec1_inspect.specs.declared.Failure.TheVariants.{Run, Paths}
-use Rattle.sec1_inspect.specs.declared.Fault.{Fault}
-use Rattle.sec1_inspect.specs.declared.Fault.TheVariants.{Input, Output, Memory}
+use Rattle.sec1_inspect.specs.declared.RunError.{RunError}
+use Rattle.sec1_inspect.specs.declared.RunError.TheVariants.{Input, Output, Memory}
 use Rattle.sec1_inspect.specs.declared.Form.{Form}
 use Rattle.sec1_inspect.specs.declared.Form.TheVariants.{Text, Der}
 use Rattle.sec1_inspect.specs.Report.{IsDerReport, IsReport, limit}
-
--- n bytes were read, and appended to those that were there
-pub record ReadsOnto (Taken : List ℕ → Type 0) (before after : List ℕ) (n : ℕ) : Type 0 where
-  pub bytes : List ℕ
-  pub taken : Taken bytes
-  pub appended : after ≡ before ++ bytes
-  pub count : length bytes ≡ n
 
 -- these bytes were taken: all of the input, or one byte more than an input may have
 pub record TakesInput (Taken : List ℕ → Type 0) (Ended : Type 0) (bytes : List ℕ) : Type 0 where
@@ -54,13 +47,13 @@ pub record HasStatus (IsReport : List ℕ → List ℕ → ℕ → Type 0) (inpu
   pub text : List ℕ
   pub report : IfSome input (λ bytes. IsReport bytes text status)
 
--- the text of a fault
-abbrev pub fault_text : Fault → List ℕ
-fault_text Input = codes "input failed"
-fault_text Output = codes "output failed"
-fault_text Memory = codes "out of memory"
+-- the text of an error
+abbrev pub run_error_text : RunError → List ℕ
+run_error_text Input = codes "input failed"
+run_error_text Output = codes "output failed"
+run_error_text Memory = codes "out of memory"
 
 -- the line that is printed if there is no report
 abbrev pub line_of : Failure → List ℕ
-line_of (Run fault) = codes "sec1_inspect: " ++ fault_text fault
+line_of (Run error) = codes "sec1_inspect: " ++ run_error_text error
 line_of Paths = codes "sec1_inspect: at most one path"

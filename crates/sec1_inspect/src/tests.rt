@@ -3,7 +3,7 @@ mod large;
 mod memory;
 
 use crate::report::LIMIT;
-use crate::{Fault, run, run_der};
+use crate::{RunError, run, run_der};
 use sec1::der::{StdReader, StdWriter};
 use std::alloc::Global;
 use std::fmt::Debug;
@@ -120,14 +120,14 @@ fn assert_equal<T: PartialEq + Debug>(rt: &impl Abort, found: &T, wanted: &T) {
 }
 
 /// The result of a run over the input, and what it writes.
-fn outcome(alloc: Global, input: &[u8]) -> (Result<u8, Fault>, Vec<u8>) {
+fn outcome(alloc: Global, input: &[u8]) -> (Result<u8, RunError>, Vec<u8>) {
     let mut writer = StdWriter::new(Vec::new(alloc));
     let result = run(alloc, &mut StdReader::new(input), &mut writer);
     (result, writer.into_inner())
 }
 
 /// The result of a run over the input in DER, and what it writes.
-fn der_outcome(alloc: Global, input: &[u8]) -> (Result<u8, Fault>, Vec<u8>) {
+fn der_outcome(alloc: Global, input: &[u8]) -> (Result<u8, RunError>, Vec<u8>) {
     let mut writer = StdWriter::new(Vec::new(alloc));
     let result = run_der(alloc, &mut StdReader::new(input), &mut writer);
     (result, writer.into_inner())
@@ -252,7 +252,7 @@ fn reports_failed_reads_in_turn(rt: HostRuntime) {
             } else {
                 run(rt.alloc(), &mut reader, &mut writer)
             };
-            assert_eq!(rt; result, Err(Fault::Input), "after {given}");
+            assert_eq!(rt; result, Err(RunError::Input), "after {given}");
             assert!(rt; writer.into_inner().is_empty());
         }
     }
@@ -277,7 +277,7 @@ fn reports_failed_writes_in_turn(rt: HostRuntime) -> Result<(), Fail> {
                 } else {
                     run(rt.alloc(), &mut StdReader::new(EMPTY_KEY), &mut writer)
                 };
-                assert_eq!(rt; result, Err(Fault::Output), "after {room}");
+                assert_eq!(rt; result, Err(RunError::Output), "after {room}");
                 assert_equal(
                     &rt,
                     &Some(writer.into_inner().taken.as_slice()),
@@ -291,11 +291,11 @@ fn reports_failed_writes_in_turn(rt: HostRuntime) -> Result<(), Fail> {
 }
 
 #[test]
-fn names_faults(rt: HostRuntime) -> Result<(), Fail> {
+fn names_run_errors(rt: HostRuntime) -> Result<(), Fail> {
     for (fault, words) in [
-        (Fault::Input, "input failed"),
-        (Fault::Output, "output failed"),
-        (Fault::Memory, "out of memory"),
+        (RunError::Input, "input failed"),
+        (RunError::Output, "output failed"),
+        (RunError::Memory, "out of memory"),
     ] {
         assert_equal(&rt, &format!(in rt.alloc(); "{fault}")?.as_str(), &words);
     }

@@ -1,7 +1,7 @@
 //! Large inputs, read in uneven pieces, and the flush of what was written.
 use super::{EMPTY_KEY, EMPTY_KEY_REPORT, assert_equal};
 use crate::report::LIMIT;
-use crate::{Fault, Form, inspect, run, run_der};
+use crate::{Form, RunError, inspect, run, run_der};
 use hex::ToHex;
 use sec1::der::{StdReader, StdWriter};
 use std::alloc::{AllocError, Global};
@@ -66,7 +66,7 @@ impl io::Read for Uneven<'_> {
 }
 
 /// Returns what a run over the input returns, and what it writes.
-fn outcome(alloc: Global, rest: &[u8], is_der: bool) -> (Result<u8, Fault>, Vec<u8>) {
+fn outcome(alloc: Global, rest: &[u8], is_der: bool) -> (Result<u8, RunError>, Vec<u8>) {
     let mut reader = StdReader::new(Uneven { rest, turn: 0 });
     let mut writer = StdWriter::new(Vec::new(alloc));
     let result = if is_der {
@@ -135,7 +135,7 @@ fn flushes_what_was_written(rt: HostRuntime) -> Result<(), Fail> {
         assert_equal(
             &rt,
             &inspect(alloc, form, input, Unflushed),
-            &Err(Fault::Output),
+            &Err(RunError::Output),
         );
         let mut room = [0u8; 67];
         assert_equal(
