@@ -1,15 +1,21 @@
 //! What the laws of `sec1` and `sec1_der` give a caller.
-ghost use Rattle.std.specs.Prelude.{◌≡◌, ◌≢◌, ◌≤◌, ◌++◌, ◌∷◌, ℕ, List, length, None, Some};
+ghost use Rattle.std.specs.Prelude.{◌≡◌, ◌≢◌, ◌⊎◌, ◌≤◌, ◌++◌, ◌∷◌, ℕ, List, length, None, Some};
+ghost use Rattle.std.specs.Prelude.{IsSome};
 ghost use Rattle.sec1.specs.Der.{bytes, element, element_fault, end_fault, max_length, octets_of};
-ghost use Rattle.sec1.specs.Der.{bit_bytes_of, Fault, Forest, IsTree, Tree};
+ghost use Rattle.sec1.specs.Der.{bit_bytes_of, element_of, Fault, Forest, IsTree, Tree};
+ghost use Rattle.sec1.specs.Keys.{IsKeyOf, Key};
 ghost use Rattle.sec1.specs.Parameters.{curve_of};
 ghost use Rattle.sec1_der.specs.Trees.{joined, AreTrees};
 ghost use Rattle.sec1_der.specs.declared.bit_string.BitStringRef.{BitStringRef};
 ghost use Rattle.sec1_der.specs.declared.octet_string.OctetStringRef.{OctetStringRef};
+ghost use Rattle.sec1_der.specs.declared.version.VersionOne.{VersionOne};
 ghost use Rattle.sec1.specs.declared.parameters.EcParameters.{EcParameters};
 
-use sec1::der::{BitStringRef, OctetStringRef, ValueContent, laws};
-use sec1::{EcParameters, laws as key_laws};
+use sec1::der::{
+    BitStringRef, EncodeValue, ObjectIdentifier, OctetStringRef, Tagged, UniqueContent,
+    ValueContent, VersionOne, laws,
+};
+use sec1::{EcParameters, EcPrivateKey, laws as key_laws};
 
 /// A tree with a byte after it is no tree.
 pub fn no_longer_tree()
@@ -61,4 +67,50 @@ pub fn other_curve()
         → ⟦<EcParameters as ValueContent>⟧.content b ≢ Some content }
 {
     key_laws::one_curve();
+}
+
+/// Two versions with the same content are the same.
+pub fn one_version()
+    ensures { (a b : VersionOne) (content : List ℕ)
+        → ⟦<VersionOne as ValueContent>⟧.content a ≡ Some content
+        → ⟦<VersionOne as ValueContent>⟧.content b ≡ Some content
+        → a ≡ b }
+{
+    VersionOne::one();
+}
+
+/// Two identifiers with the same content have the same arcs.
+pub fn one_identifier()
+    ensures { (a b content : List ℕ)
+        → ⟦<ObjectIdentifier as ValueContent>⟧.content a ≡ Some content
+        → ⟦<ObjectIdentifier as ValueContent>⟧.content b ≡ Some content
+        → a ≡ b }
+{
+    ObjectIdentifier::one();
+}
+
+/// Two keys with the same content have the same parts.
+pub fn one_key()
+    ensures { (a b : Key) (content : List ℕ)
+        → ⟦<EcPrivateKey<'static> as ValueContent>⟧.content a ≡ Some content
+        → ⟦<EcPrivateKey<'static> as ValueContent>⟧.content b ≡ Some content
+        → a ≡ b }
+{
+    EcPrivateKey::one();
+}
+
+/// A value either has an encoding or has none.
+pub fn element_or_none<T: EncodeValue + Tagged>(value: &T)
+    ensures { (element_of T.tag_byte (T.content value.now) ≡ None)
+        ⊎ IsSome (element_of T.tag_byte (T.content value.now)) }
+{
+    let _value = value;
+}
+
+/// A key either has an encoding or has none.
+pub fn bytes_or_none(key: &EcPrivateKey)
+    ensures { ((bytes : List ℕ) → ¬ IsKeyOf key.now bytes)
+        ⊎ ((bytes : List ℕ) × IsKeyOf key.now bytes) }
+{
+    let _len = key.encoded_len();
 }

@@ -7,7 +7,7 @@ pub use Rattle.sec1_der.specs.Contents.{byte_fault, identifier_fault, bit_string
 pub use Rattle.sec1_der.specs.Contents.{whole_bits_fault, whole_bits_field_fault}
 pub use Rattle.sec1_der.specs.Contents.{value_unless}
 pub use Rattle.sec1_der.specs.Elements.{max_length, is_tag, length_octets, header}
-pub use Rattle.sec1_der.specs.Elements.{IsHeader, header, element, IsElement}
+pub use Rattle.sec1_der.specs.Elements.{IsHeader, element, IsElement}
 pub use Rattle.sec1_der.specs.Elements.{IsProperPrefix, within_limit, element_of}
 pub use Rattle.sec1_der.specs.ErrorKinds.{Refuses, IsReadingFault, IsHeaderFault}
 pub use Rattle.sec1_der.specs.ErrorKinds.{header_fault}

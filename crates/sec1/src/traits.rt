@@ -12,11 +12,9 @@ ghost use Rattle.sec1_der.specs.ErrorKinds.{IsHeaderFault};
 ghost use Rattle.sec1_der.specs.ReadsDocument.{RefusesElement};
 ghost use Rattle.sec1_der.specs.declared.error.Error.{Error as DerError};
 ghost use Rattle.sec1_der.specs.Streams.{AppendsPrefix, Ends, Takes};
-ghost use Rattle.sec1_der.specs.declared.error.ErrorKind.TheVariants.{Io, Memory as DerMemory};
-ghost use Rattle.sec1_der.specs.declared.error.ErrorKind.TheVariants.{TrailingData};
 
 use crate::{Error, Result};
-use sec1_der::{Read, SecretDocument, Write};
+use sec1_der::{ErrorKind, Read, SecretDocument, Write};
 use std::alloc::Global;
 use std::rt::Files;
 
@@ -52,9 +50,9 @@ pub trait DecodeEcPrivateKey: Sized {
             (λ key. (R.failed reader.new ≡ false) × SomeBytes whole (λ bytes. reads bytes key))
             (λ error. ((cause : DerError) × (error ≡ error_of cause)
             × RefusesElement cause.kind taken ended
-            × (((cause.kind ≡ Io) ⊎ (cause.kind ≡ DerMemory))
+            × (((cause.kind ≡ ErrorKind.Io) ⊎ (cause.kind ≡ ErrorKind.Memory))
             ⊎ IfSome (R.left reader.old) (λ all. ¬ (IsElement all)))
-            × (IsAsn1 Io error ↔ IsTrue (R.failed reader.new)))
+            × (IsAsn1 ErrorKind.Io error ↔ IsTrue (R.failed reader.new)))
             ⊎ ((R.failed reader.new ≡ false) × SomeBytes whole
             (λ bytes. (error ≡ Error.Memory) ⊎ refuses bytes error))) }
     {
@@ -71,8 +69,9 @@ pub trait DecodeEcPrivateKey: Sized {
     fn read_sec1_der_file<F: Files>(rt: &F, alloc: Global, path: &str) -> Result<Self>
         ensures { MatchResult result (λ key. SomeBytes IsElement (λ bytes. reads bytes key))
             (λ error. ((cause : DerError) × (error ≡ error_of cause)
-            × (IsHeaderFault cause.kind ⊎ (cause.kind ≡ TrailingData) ⊎ (cause.kind ≡ Io)
-            ⊎ (cause.kind ≡ DerMemory)))
+            × (IsHeaderFault cause.kind ⊎ (cause.kind ≡ ErrorKind.TrailingData)
+            ⊎ (cause.kind ≡ ErrorKind.Io)
+            ⊎ (cause.kind ≡ ErrorKind.Memory)))
             ⊎ SomeBytes IsElement (λ bytes. (error ≡ Error.Memory) ⊎ refuses bytes error)) }
     {
         let document = SecretDocument::read_der_file(rt, alloc, path)?;
@@ -110,7 +109,7 @@ pub trait EncodeEcPrivateKey {
             MatchResult result
             (λ _. (W.failed writer.new ≡ false) × SomeBytes (writes self.now) (Appends old new))
             (λ error. MatchBool (W.failed writer.new)
-            (IsAsn1 Io error × SomeBytes (writes self.now) (AppendsPrefix old new))
+            (IsAsn1 ErrorKind.Io error × SomeBytes (writes self.now) (AppendsPrefix old new))
             (((error ≡ Error.Memory) ⊎ refuses self.now error) × (new ≡ old))) }
     {
         let document = self.to_sec1_der(alloc)?;
@@ -126,7 +125,7 @@ pub trait EncodeEcPrivateKey {
     /// those of [`SecretDocument::write_der_file`].
     fn write_sec1_der_file<F: Files>(&self, rt: &F, alloc: Global, path: &str) -> Result<()>
         ensures { MatchResult result (λ _. SomeBytes IsElement (writes self.now))
-            (λ error. IsAsn1 Io error ⊎ (error ≡ Error.Memory) ⊎ refuses self.now error) }
+            (λ error. IsAsn1 ErrorKind.Io error ⊎ (error ≡ Error.Memory) ⊎ refuses self.now error) }
     {
         let document = self.to_sec1_der(alloc)?;
         document.write_der_file(rt, path)?;

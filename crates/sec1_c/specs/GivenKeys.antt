@@ -33,5 +33,5 @@ pub record IsGiven (key : Key) (private_key curve public_key : List ℕ)
 pub record IsTooLong (private_key curve public_key : List ℕ) (has_public_key : ℕ) : Type 0 where
   pub parameters : Option (List ℕ)
   pub curve_is : IsCurveOf curve parameters
-  pub no_bytes : (key : Key) (bytes : List ℕ)
-      → IsGiven key private_key curve public_key has_public_key → ¬ IsKeyOf key bytes
+  pub no_bytes : (key : Key) → IsGiven key private_key curve public_key has_public_key
+      → (bytes : List ℕ) → ¬ IsKeyOf key bytes

@@ -292,12 +292,12 @@ fn reports_failed_writes_in_turn(rt: HostRuntime) -> Result<(), Fail> {
 
 #[test]
 fn names_run_errors(rt: HostRuntime) -> Result<(), Fail> {
-    for (fault, words) in [
+    for (error, words) in [
         (RunError::Input, "input failed"),
         (RunError::Output, "output failed"),
         (RunError::Memory, "out of memory"),
     ] {
-        assert_equal(&rt, &format!(in rt.alloc(); "{fault}")?.as_str(), &words);
+        assert_equal(&rt, &format!(in rt.alloc(); "{error}")?.as_str(), &words);
     }
     Ok(())
 }
