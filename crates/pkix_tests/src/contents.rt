@@ -1,7 +1,7 @@
 //! The tests of contents, at values that the standards give and at their neighbours.
-use crate::assert_equal;
+use crate::{assert_equal, assert_equal_for};
 use der_types::{Boolean, DateTime, GeneralizedTime, Kind, Unsigned, UtcTime, kind};
-use sec1_der::read_der;
+use sec1_der::{Result, read_der};
 use std::test::Fail;
 
 /// Contents, whether they are an INTEGER's, and whether they are that of one which isn't negative
@@ -24,8 +24,8 @@ static INTEGERS: [(&[u8], bool, bool); 12] = [
 #[test]
 fn recognizes_integers(rt: HostRuntime) {
     for &(bytes, integer, unsigned) in INTEGERS.iter() {
-        assert_eq!(rt; kind::Integer::test(bytes), integer, "{bytes:?}");
-        assert_eq!(rt; Unsigned::new(bytes).is_ok(), unsigned, "{bytes:?}");
+        assert_equal_for(&rt, &bytes, &kind::Integer::test(bytes), &integer);
+        assert_equal_for(&rt, &bytes, &Unsigned::new(bytes).is_ok(), &unsigned);
     }
 }
 
@@ -41,7 +41,7 @@ static BOOLEANS: [(&[u8], bool); 5] = [
 #[test]
 fn recognizes_booleans(rt: HostRuntime) {
     for &(bytes, boolean) in BOOLEANS.iter() {
-        assert_eq!(rt; read_der::<Boolean>(bytes).is_ok(), boolean, "{bytes:?}");
+        assert_equal_for(&rt, &bytes, &read_der::<Boolean>(bytes).is_ok(), &boolean);
     }
 }
 
@@ -64,11 +64,8 @@ static IDENTIFIERS: [(&[u8], bool); 8] = [
 #[test]
 fn recognizes_identifiers(rt: HostRuntime) {
     for &(bytes, identifier) in IDENTIFIERS.iter() {
-        assert_eq!(rt;
-            kind::ObjectIdentifier::test(bytes),
-            identifier,
-            "{bytes:?}"
-        );
+        let is_identifier = kind::ObjectIdentifier::test(bytes);
+        assert_equal_for(&rt, &bytes, &is_identifier, &identifier);
     }
 }
 
@@ -96,7 +93,8 @@ static UTC_TIMES: [(&str, bool); 16] = [
 #[test]
 fn recognizes_utc_times(rt: HostRuntime) {
     for &(text, time) in UTC_TIMES.iter() {
-        assert_eq!(rt; kind::UtcTime::test(text.as_bytes()), time, "{text}");
+        let is_time = kind::UtcTime::test(text.as_bytes());
+        assert_equal_for(&rt, &text, &is_time, &time);
     }
 }
 
@@ -126,16 +124,23 @@ static GENERALIZED_TIMES: [(&str, bool); 17] = [
 #[test]
 fn recognizes_generalized_times(rt: HostRuntime) {
     for &(text, time) in GENERALIZED_TIMES.iter() {
-        assert_eq!(rt;
-            kind::GeneralizedTime::test(text.as_bytes()),
-            time,
-            "{text}"
-        );
+        let is_time = kind::GeneralizedTime::test(text.as_bytes());
+        assert_equal_for(&rt, &text, &is_time, &time);
     }
 }
 
+/// Returns the time that a UTCTime's content gives.
+pub(crate) fn utc_time(content: &[u8]) -> Result<Option<DateTime>> {
+    Ok(UtcTime::new(content)?.date_time())
+}
+
+/// Returns the time that a GeneralizedTime's content gives.
+pub(crate) fn generalized_time(content: &[u8]) -> Result<Option<DateTime>> {
+    Ok(GeneralizedTime::new(content)?.date_time())
+}
+
 #[test]
-fn reads_times(rt: HostRuntime) -> Result<(), Fail> {
+fn reads_times(rt: HostRuntime) -> std::result::Result<(), Fail> {
     let first = DateTime {
         year: 1950,
         month: 1,
@@ -152,21 +157,9 @@ fn reads_times(rt: HostRuntime) -> Result<(), Fail> {
         minute: 59,
         second: 58,
     };
-    assert_equal(
-        &rt,
-        &UtcTime::new(b"500102030405Z")?.date_time(),
-        &Some(first),
-    );
-    assert_equal(
-        &rt,
-        &UtcTime::new(b"491231235958Z")?.date_time(),
-        &Some(last),
-    );
-    assert_equal(
-        &rt,
-        &GeneralizedTime::new(b"20491231235958.5Z")?.date_time(),
-        &Some(last),
-    );
+    assert_equal(&rt, &utc_time(b"500102030405Z")?, &Some(first));
+    assert_equal(&rt, &utc_time(b"491231235958Z")?, &Some(last));
+    assert_equal(&rt, &generalized_time(b"20491231235958.5Z")?, &Some(last));
     assert!(rt; first < last && first.is_valid());
     Ok(())
 }
@@ -184,10 +177,10 @@ static ASCENDING_TIMES: [&[u8]; 7] = [
 ];
 
 #[test]
-fn orders_times(rt: HostRuntime) -> Result<(), Fail> {
+fn orders_times(rt: HostRuntime) -> std::result::Result<(), Fail> {
     let mut last: Option<DateTime> = None;
     for text in ASCENDING_TIMES.iter() {
-        let time = GeneralizedTime::new(text)?.date_time();
+        let time = generalized_time(text)?;
         if let (Some(before), Some(after)) = (last, time) {
             assert!(rt; before < after && after > before && before.max(after) == after);
         }
@@ -221,11 +214,14 @@ static STRINGS: [(&[u8], [bool; 5]); 13] = [
 
 #[test]
 fn recognizes_strings(rt: HostRuntime) {
-    for &(bytes, [numeric, printable, visible, ia5, utf8]) in STRINGS.iter() {
-        assert_eq!(rt; kind::NumericString::test(bytes), numeric, "{bytes:?}");
-        assert_eq!(rt; kind::PrintableString::test(bytes), printable, "{bytes:?}");
-        assert_eq!(rt; kind::VisibleString::test(bytes), visible, "{bytes:?}");
-        assert_eq!(rt; kind::Ia5String::test(bytes), ia5, "{bytes:?}");
-        assert_eq!(rt; kind::Utf8String::test(bytes), utf8, "{bytes:?}");
+    for &(bytes, wanted) in STRINGS.iter() {
+        let found = [
+            kind::NumericString::test(bytes),
+            kind::PrintableString::test(bytes),
+            kind::VisibleString::test(bytes),
+            kind::Ia5String::test(bytes),
+            kind::Utf8String::test(bytes),
+        ];
+        assert_equal_for(&rt, &bytes, &found, &wanted);
     }
 }

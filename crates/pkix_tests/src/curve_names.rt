@@ -1,7 +1,9 @@
 //! The table beside the named curves of OpenSSL.
-use crate::assert_equal;
+use crate::{assert_equal, assert_equal_for};
 use curves::Curve;
 use sec1_der::{ObjectIdentifier, from_der, to_der};
+use std::alloc::Global;
+use std::process::Abort;
 use std::test::Fail;
 
 /// What `tests/curves.sh` prints: OpenSSL's version and each of its named curves over a prime
@@ -51,8 +53,8 @@ SM2 256 06082A811CCF5501822D
 ";
 
 /// Returns the bytes that a text has in hexadecimal.
-fn bytes(rt: &HostRuntime, text: &str) -> Result<Vec<u8>, Fail> {
-    let mut bytes = Vec::new(rt.alloc());
+fn bytes(alloc: Global, text: &str) -> Result<Vec<u8>, Fail> {
+    let mut bytes = Vec::new(alloc);
     for pair in text.as_bytes().chunks(2) {
         bytes.push(u8::from_str_radix(std::str::from_utf8(pair)?, 16)?)?;
     }
@@ -67,6 +69,25 @@ fn is_described(curve: Curve, name: &str, identifier: &ObjectIdentifier, field_l
         && curve.field_len() == field_len
 }
 
+/// Returns the curve that a line of OpenSSL's table describes. Fails the test if it is found
+/// otherwise by its name or its identifier, or isn't in the table though it should be.
+fn curve_of(rt: &(impl Abort + AllocGlobal), line: &str) -> Result<Option<Curve>, Fail> {
+    let mut words = line.split(' ');
+    let name = words.next().unwrap_or("");
+    let field_len = words.next().unwrap_or("").parse::<usize>()?.div_ceil(8);
+    let identifier: ObjectIdentifier = from_der(&bytes(rt.alloc(), words.next().unwrap_or(""))?)?;
+    let curve = Curve::from_identifier(&identifier);
+    assert_equal_for(rt, &name, &Curve::from_name(name), &curve);
+    let by_content = Curve::from_content(identifier.as_bytes());
+    assert_equal_for(rt, &name, &by_content, &curve);
+    let is_right = match curve {
+        Some(curve) => is_described(curve, name, &identifier, field_len),
+        None => name == "SM2" || name.starts_with("wap-wsg-idm-ecid-wtls"),
+    };
+    assert_equal_for(rt, &name, &is_right, &true);
+    Ok(curve)
+}
+
 /// Each curve of the table is one of OpenSSL's, with the name, the identifier and the length of the
 /// field that it has there. Of OpenSSL's curves over prime fields only those of WTLS and SM2 aren't
 /// in the table.
@@ -74,31 +95,13 @@ fn is_described(curve: Curve, name: &str, identifier: &ObjectIdentifier, field_l
 fn has_the_curves_of_openssl(rt: HostRuntime) -> Result<(), Fail> {
     let mut found = Vec::new(rt.alloc());
     for line in OPENSSL.lines().skip(1) {
-        let mut words = line.split(' ');
-        let (name, bits, der) = (words.next(), words.next(), words.next());
-        let name = name.unwrap_or("");
-        let identifier: ObjectIdentifier = from_der(&bytes(&rt, der.unwrap_or(""))?)?;
-        let curve = Curve::from_identifier(&identifier);
-        let by_others = (
-            Curve::from_name(name),
-            Curve::from_content(identifier.as_bytes()),
-        );
-        assert!(rt; by_others == (curve, curve), "{name}");
-        match curve {
-            Some(curve) => {
-                let field_len = bits.unwrap_or("").parse::<usize>()?.div_ceil(8);
-                assert!(rt; is_described(curve, name, &identifier, field_len), "{name}");
-                found.push(curve)?;
-            }
-            None => assert!(rt;
-                name == "SM2" || name.starts_with("wap-wsg-idm-ecid-wtls"),
-                "{name}"
-            ),
+        if let Some(curve) = curve_of(&rt, line)? {
+            found.push(curve)?;
         }
     }
     assert_equal(&rt, &found.len(), &Curve::ALL.len());
     for curve in Curve::ALL {
-        assert!(rt; found.contains(&curve), "{curve:?}");
+        assert_equal_for(&rt, &curve, &found.contains(&curve), &true);
     }
     Ok(())
 }
@@ -119,9 +122,9 @@ fn finds_curves_by_each_name(rt: HostRuntime) {
         ("prime256v1", Curve::Secp256r1),
         ("brainpoolP512t1", Curve::BrainpoolP512t1),
     ] {
-        assert_eq!(rt; Curve::from_name(name), Some(curve), "{name}");
+        assert_equal_for(&rt, &name, &Curve::from_name(name), &Some(curve));
     }
     for name in ["", "p-256", "P-256 ", "SECP256R1", "prime256", "SM2"] {
-        assert_eq!(rt; Curve::from_name(name), None, "{name}");
+        assert_equal_for(&rt, &name, &Curve::from_name(name), &None);
     }
 }

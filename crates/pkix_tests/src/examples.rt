@@ -1,15 +1,20 @@
 //! Keys in containers, read and written by examples that were made by openssl; a point, read again.
-use crate::assert_equal;
+use crate::{assert_equal, assert_equal_for};
 use der_example::bmp_string::{BmpString, characters};
 use der_example::points::{from_own_bytes, from_own_json, from_own_lower_hex, from_own_upper_hex};
 use der_example::{
     KeyStore, PrivateKeyInfo, SubjectPublicKeyInfo, find, find_by_public_key, keep,
     read_private_key, read_public_key,
 };
-use sec1::der::{Containing, ErrorKind, SecretDocument, encode_to_slice, from_der, to_der};
+use sec1::der::{
+    Containing, DecodeValue, EncodeValue, ErrorKind, SecretDocument, Tagged, encode_to_slice,
+    from_der, to_der,
+};
 use sec1::point::Coordinates::{Compressed, Identity};
 use sec1::point::EncodedPoint32;
 use sec1::{EcPrivateKey, EncodedPoint, Error};
+use std::alloc::Global;
+use std::process::Abort;
 use std::test::Fail;
 
 /// A public key on the curve P-256: `openssl ec -pubout -outform DER`.
@@ -55,45 +60,49 @@ static OTHER_ALGORITHM: [u8; 48] = [
     0xC1, 0xA1, 0xE6, 0xE2, 0x92, 0x52, 0xA9, 0x64, 0x01, 0xDC, 0x7F, 0xF3, 0xAC, 0xA8, 0x84, 0x52,
 ];
 
+/// Reads a value from its whole encoding, and fails the test unless it is written as the same
+/// bytes, into memory and into a slice.
+fn reread<'a, T: DecodeValue<'a> + EncodeValue + Tagged + Drop>(
+    rt: &(impl Abort + AllocGlobal),
+    der: &'a [u8],
+) -> Result<T, Fail> {
+    let value: T = from_der(der)?;
+    let mut bytes = to_der(rt.alloc(), &value)?;
+    assert_equal(rt, &bytes.as_slice(), &der);
+    bytes.fill(0);
+    assert_equal(rt, &encode_to_slice(&value, &mut bytes)?, &der.len());
+    assert_equal(rt, &bytes.as_slice(), &der);
+    Ok(value)
+}
+
+/// Fails the test unless this is the key in the container.
+fn is_contained(rt: &impl Abort, key: &EcPrivateKey) {
+    assert_equal(rt, &key.private_key, &&CONTAINER[36..68]);
+    assert_equal(rt, &key.parameters.is_none(), &true);
+    assert_equal(rt, &key.public_key, &Some(&INFO[26..]));
+}
+
 #[test]
 fn reads_and_writes_a_public_key(rt: HostRuntime) -> Result<(), Fail> {
-    let info: SubjectPublicKeyInfo = from_der(&INFO)?;
+    let info: SubjectPublicKeyInfo = reread(&rt, &INFO)?;
     assert_equal(&rt, &info.algorithm.algorithm, &sec1::der::ID_EC_PUBLIC_KEY);
     assert_equal(&rt, &info.algorithm.parameters, &sec1::der::SECP256R1);
     assert_equal(&rt, &info.public_key, &&INFO[26..]);
-    assert_equal(
-        &rt,
-        &to_der(rt.alloc(), &info)?.as_slice(),
-        &INFO.as_slice(),
-    );
-    let mut room = [0; 91];
-    assert_equal(&rt, &encode_to_slice(&info, &mut room)?, &91);
-    assert_equal(&rt, &room.as_slice(), &INFO.as_slice());
     Ok(())
 }
 
 #[test]
 fn refuses_a_cut_public_key(rt: HostRuntime) {
-    match from_der::<SubjectPublicKeyInfo>(&INFO[..90]) {
-        Ok(_) => assert!(rt; false),
-        Err(e) => assert_equal(&rt, &e.kind(), &ErrorKind::Truncated),
-    }
+    let error = from_der::<SubjectPublicKeyInfo>(&INFO[..90]).err();
+    assert_equal(&rt, &error, &Some(ErrorKind::Truncated.into()));
 }
 
 #[test]
 fn reads_and_writes_a_container(rt: HostRuntime) -> Result<(), Fail> {
-    let info: PrivateKeyInfo = from_der(&CONTAINER)?;
+    let info: PrivateKeyInfo = reread(&rt, &CONTAINER)?;
     assert_equal(&rt, &info.algorithm.parameters, &sec1::der::SECP256R1);
     assert_equal(&rt, &info.private_key, &&CONTAINER[29..]);
-    assert_equal(
-        &rt,
-        &to_der(rt.alloc(), &info)?.as_slice(),
-        &CONTAINER.as_slice(),
-    );
-    let key = EcPrivateKey::try_from(info.private_key)?;
-    assert_equal(&rt, &key.private_key, &&CONTAINER[36..68]);
-    assert!(rt; key.parameters.is_none());
-    assert_equal(&rt, &key.public_key, &Some(&INFO[26..]));
+    is_contained(&rt, &EcPrivateKey::try_from(info.private_key)?);
     Ok(())
 }
 
@@ -115,10 +124,7 @@ fn refuses_public_keys_without_a_point_on_p_256(rt: HostRuntime) {
 
 #[test]
 fn reads_a_key_from_a_container(rt: HostRuntime) -> Result<(), Fail> {
-    let key = read_private_key(&CONTAINER)?;
-    assert_equal(&rt, &key.private_key, &&CONTAINER[36..68]);
-    assert!(rt; key.parameters.is_none());
-    assert_equal(&rt, &key.public_key, &Some(&INFO[26..]));
+    is_contained(&rt, &read_private_key(&CONTAINER)?);
     Ok(())
 }
 
@@ -132,31 +138,26 @@ fn refuses_containers_without_an_elliptic_key(rt: HostRuntime) {
 
 /// A container with attributes behind the key (RFC 5208 section 5).
 #[test]
-fn refuses_attributes(rt: HostRuntime) -> Result<(), Fail> {
-    let mut bytes = vec![in rt.alloc(); 0; 140]?;
+fn refuses_attributes(rt: HostRuntime) {
+    let mut bytes = [0; 140];
     bytes[..138].copy_from_slice(&CONTAINER);
     bytes[2] = 0x89;
     bytes[138] = 0xA0;
-    match read_private_key(&bytes) {
-        Ok(_) => assert!(rt; false),
-        Err(e) => assert_equal(&rt, &e, &Error::Asn1(ErrorKind::TrailingData.into())),
-    }
-    Ok(())
+    let error = read_private_key(&bytes).err();
+    assert_equal(
+        &rt,
+        &error,
+        &Some(Error::Asn1(ErrorKind::TrailingData.into())),
+    );
 }
 
 #[test]
 fn reads_and_writes_an_octet_string_that_contains_a_record(rt: HostRuntime) -> Result<(), Fail> {
-    let mut bytes = vec![in rt.alloc(); 0; 93]?;
-    bytes[0] = 0x04;
+    let mut bytes = [0x04; 93];
     bytes[1] = 0x5B;
     bytes[2..].copy_from_slice(&INFO);
-    let outside: Containing<SubjectPublicKeyInfo> = from_der(&bytes)?;
+    let outside: Containing<SubjectPublicKeyInfo> = reread(&rt, &bytes)?;
     assert_equal(&rt, &outside.value.public_key, &&INFO[26..]);
-    assert_equal(
-        &rt,
-        &to_der(rt.alloc(), &outside)?.as_slice(),
-        &bytes.as_slice(),
-    );
     Ok(())
 }
 
@@ -165,58 +166,57 @@ fn reads_and_writes_an_octet_string_that_contains_a_record(rt: HostRuntime) -> R
 fn reads_and_writes_characters_of_two_bytes(rt: HostRuntime) -> Result<(), Fail> {
     let bytes = characters(b"\x1E\x04\x00\x41\x20\xAC")?;
     assert_equal(&rt, &bytes, &b"\x00\x41\x20\xAC".as_slice());
+    for odd in [b"\x1E\x01\x41", b"\x0C\x01\x41"] {
+        assert_equal_for(&rt, &odd, &characters(odd).is_err(), &true);
+    }
     let der = to_der(rt.alloc(), &BmpString { bytes })?;
     assert_equal(
         &rt,
         &der.as_slice(),
         &b"\x1E\x04\x00\x41\x20\xAC".as_slice(),
     );
-    for odd in [b"\x1E\x01\x41", b"\x0C\x01\x41"] {
-        assert!(rt; characters(odd).is_err(), "of {odd:?}");
-    }
     Ok(())
 }
 
 #[test]
 fn refuses_to_write_half_a_character(rt: HostRuntime) {
-    match to_der(
-        rt.alloc(),
-        &BmpString {
-            bytes: b"\x00\x41\x20",
-        },
-    ) {
-        Ok(_) => assert!(rt; false),
-        Err(e) => assert_equal(&rt, &e.kind(), &ErrorKind::Overlength),
-    }
+    let bytes = b"\x00\x41\x20";
+    let error = to_der(rt.alloc(), &BmpString { bytes }).err();
+    assert_equal(&rt, &error, &Some(ErrorKind::Overlength.into()));
+}
+
+/// Returns a store that keeps the container for this point.
+fn store_of(alloc: Global, point: EncodedPoint32) -> Result<KeyStore, Fail> {
+    let mut store = KeyStore::new(alloc);
+    let document = SecretDocument::from_der(alloc, &CONTAINER)?;
+    keep(&mut store, point, document)?;
+    Ok(store)
+}
+
+/// Fails the test unless this is the container.
+fn is_container(rt: &impl Abort, document: Option<&SecretDocument>) {
+    let bytes = document.map(|document| document.as_bytes());
+    assert_equal(rt, &bytes, &Some(CONTAINER.as_slice()));
 }
 
 #[test]
 fn finds_a_key_by_its_public_key(rt: HostRuntime) -> Result<(), Fail> {
-    let mut store = KeyStore::new(rt.alloc());
-    let document = SecretDocument::from_der(rt.alloc(), &CONTAINER)?;
-    keep(&mut store, read_public_key(&INFO)?, document)?;
-    match find_by_public_key(&store, &INFO)? {
-        Some(document) => assert_equal(&rt, &document.as_bytes(), &CONTAINER.as_slice()),
-        None => assert!(rt; false),
-    }
-    assert!(rt; matches!(find_by_public_key(&store, &OTHER_CURVE), Err(Error::Crypto)));
+    let store = store_of(rt.alloc(), read_public_key(&INFO)?)?;
+    is_container(&rt, find_by_public_key(&store, &INFO)?);
+    let refused = find_by_public_key(&store, &OTHER_CURVE).err();
+    assert_equal(&rt, &refused, &Some(Error::Crypto));
     Ok(())
 }
 
 /// The compressed point (SEC1 v2.0 section 2.3.3), from its bytes and from the uncompressed one.
 #[test]
 fn finds_a_key_by_another_value_of_its_point(rt: HostRuntime) -> Result<(), Fail> {
-    let mut store = KeyStore::new(rt.alloc());
     let point = read_public_key(&INFO)?;
-    let document = SecretDocument::from_der(rt.alloc(), &CONTAINER)?;
-    keep(&mut store, point.compress(), document)?;
+    let store = store_of(rt.alloc(), point.compress())?;
     let mut bytes = [2; 33];
     bytes[1..].copy_from_slice(&INFO[27..59]);
-    match find(&store, &EncodedPoint32::from_bytes(&bytes)?) {
-        Some(document) => assert_equal(&rt, &document.as_bytes(), &CONTAINER.as_slice()),
-        None => assert!(rt; false),
-    }
-    assert!(rt; find(&store, &point).is_none());
+    is_container(&rt, find(&store, &EncodedPoint32::from_bytes(&bytes)?));
+    assert_equal(&rt, &find(&store, &point).is_none(), &true);
     Ok(())
 }
 
@@ -225,11 +225,20 @@ fn reads_a_point_again(rt: HostRuntime) -> Result<(), Fail> {
     let alloc = rt.alloc();
     let point = EncodedPoint::<1, 3>::from_bytes(&[3, 0xAF])?;
     let (x, y_is_odd) = (&[0xAF], true);
-    assert!(rt; from_own_bytes(&point)?.coordinates() == Compressed { x, y_is_odd });
-    assert!(rt; from_own_lower_hex(alloc, &point)?.coordinates() == Compressed { x, y_is_odd });
-    assert!(rt; from_own_upper_hex(alloc, &point)?.coordinates() == Compressed { x, y_is_odd });
-    assert!(rt; from_own_json(alloc, &point)?.coordinates() == Compressed { x, y_is_odd });
+    let wanted = Compressed { x, y_is_odd };
+    assert_equal(&rt, &from_own_bytes(&point)?.coordinates(), &wanted);
+    assert_equal(
+        &rt,
+        &from_own_lower_hex(alloc, &point)?.coordinates(),
+        &wanted,
+    );
+    assert_equal(
+        &rt,
+        &from_own_upper_hex(alloc, &point)?.coordinates(),
+        &wanted,
+    );
+    assert_equal(&rt, &from_own_json(alloc, &point)?.coordinates(), &wanted);
     let identity = EncodedPoint::<1, 3>::identity();
-    assert!(rt; from_own_bytes(&identity)?.coordinates() == Identity);
+    assert_equal(&rt, &from_own_bytes(&identity)?.coordinates(), &Identity);
     Ok(())
 }

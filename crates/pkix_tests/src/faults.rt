@@ -1,7 +1,8 @@
 //! Places of faults, counted by hand in bytes that OpenSSL 3.0.19 made and that were then damaged.
-use crate::assert_equal;
+use crate::{assert_equal, assert_equal_for};
 use der_faults::{Fault, KeyPart, key_fault, key_part, tree_fault};
 use sec1_der::ErrorKind;
+use std::alloc::AllocError;
 use std::test::Fail;
 
 /// A key on P-256 of 32 bytes, with its curve and no public key.
@@ -30,16 +31,15 @@ static DAMAGES: [(usize, u8, usize, ErrorKind, KeyPart); 12] = [
 ];
 
 #[test]
-fn finds_faults_of_keys(rt: HostRuntime) -> Result<(), Fail> {
+fn finds_faults_of_keys(rt: HostRuntime) {
     assert_equal(&rt, &key_fault(&KEY), &None);
     assert_equal(&rt, &key_part(&KEY), &None);
     for &(at, byte, offset, kind, part) in DAMAGES.iter() {
         let mut key = KEY;
         key[at] = byte;
-        assert_eq!(rt; key_fault(&key), Some(Fault { offset, kind }), "at {at}");
-        assert_eq!(rt; key_part(&key), Some(part), "at {at}");
+        assert_equal_for(&rt, &at, &key_fault(&key), &Some(Fault { offset, kind }));
+        assert_equal_for(&rt, &at, &key_part(&key), &Some(part));
     }
-    Ok(())
 }
 
 /// Bytes, and the first part of a key that they don't have.
@@ -84,12 +84,12 @@ static PARTS: [(&[u8], Option<KeyPart>); 12] = [
 ];
 
 #[test]
-fn finds_parts_of_keys(rt: HostRuntime) -> Result<(), Fail> {
+fn finds_parts_of_keys(rt: HostRuntime) {
     for &(bytes, part) in PARTS.iter() {
-        assert_eq!(rt; key_part(bytes), part, "of {bytes:?}");
-        assert_eq!(rt; key_fault(bytes).is_some(), part.is_some(), "of {bytes:?}");
+        assert_equal_for(&rt, &bytes, &key_part(bytes), &part);
+        let has_fault = key_fault(bytes).is_some();
+        assert_equal_for(&rt, &bytes, &has_fault, &part.is_some());
     }
-    Ok(())
 }
 
 /// A key on P-384 with a private key and a point that are too short, which no reader of keys tests.
@@ -143,46 +143,45 @@ static KINDS: [Option<ErrorKind>; 6] = [
     Some(ErrorKind::Value),
 ];
 
+/// Returns that key with this byte at this index.
+fn short_key(at: u8, byte: u8) -> [u8; 25] {
+    let mut key = SHORT_KEY;
+    if let Some(place) = key.get_mut(usize::from(at)) {
+        *place = byte;
+    }
+    key
+}
+
+/// Returns the fault at this offset, of the kind of this number.
+fn fault(offset: u8, number: u8) -> Option<Fault> {
+    let kind = (*KINDS.get(usize::from(number))?)?;
+    let offset = usize::from(offset);
+    Some(Fault { offset, kind })
+}
+
 #[test]
-fn finds_faults_as_another_reader_does(rt: HostRuntime) -> Result<(), Fail> {
+fn finds_faults_as_another_reader_does(rt: HostRuntime) {
     for damage in SHORT_DAMAGES.chunks_exact(4) {
         let &[at, byte, offset, number] = damage else {
             continue;
         };
-        let mut key = SHORT_KEY;
-        if let Some(place) = key.get_mut(usize::from(at)) {
-            *place = byte;
-        }
-        let kind = KINDS.get(usize::from(number)).copied().flatten();
-        let fault = kind.map(|kind| Fault {
-            offset: usize::from(offset),
-            kind,
-        });
-        assert_eq!(rt; key_fault(&key), fault, "{byte} at {at}");
+        let found = key_fault(&short_key(at, byte));
+        assert_equal_for(&rt, &(at, byte), &found, &fault(offset, number));
     }
-    Ok(())
 }
 
 #[test]
-fn finds_ends_of_keys(rt: HostRuntime) -> Result<(), Fail> {
-    let truncated = ErrorKind::Truncated;
+fn finds_ends_of_keys(rt: HostRuntime) {
+    let kind = ErrorKind::Truncated;
     for end in 0..KEY.len() {
         let offset = end.min(1);
-        let fault = key_fault(KEY.get(..end).unwrap_or_default());
-        assert_eq!(rt;
-            fault,
-            Some(Fault {
-                offset,
-                kind: truncated
-            }),
-            "of {end} bytes"
-        );
+        let found = key_fault(KEY.get(..end).unwrap_or_default());
+        assert_equal_for(&rt, &end, &found, &Some(Fault { offset, kind }));
     }
-    Ok(())
 }
 
 #[test]
-fn finds_faults_of_trees(rt: HostRuntime) -> Result<(), Fail> {
+fn finds_faults_of_trees(rt: HostRuntime) {
     assert_equal(&rt, &tree_fault(&KEY), &None);
     for (bytes, offset, kind) in [
         ([0x30, 0x02, 0x05, 0x00, 0x00], 4, ErrorKind::TrailingData),
@@ -194,6 +193,16 @@ fn finds_faults_of_trees(rt: HostRuntime) -> Result<(), Fail> {
     ] {
         assert_equal(&rt, &tree_fault(&bytes), &Some(Fault { offset, kind }));
     }
+}
+
+/// Puts the header of a SEQUENCE before its content, which has at most 255 bytes.
+fn wrap(bytes: &mut Vec<u8>) -> Result<(), AllocError> {
+    let count = u8::try_from(bytes.len()).unwrap_or_default();
+    bytes.insert(0, count)?;
+    if count > 127 {
+        bytes.insert(0, 0x81)?;
+    }
+    bytes.insert(0, 0x30)?;
     Ok(())
 }
 
@@ -201,18 +210,13 @@ fn finds_faults_of_trees(rt: HostRuntime) -> Result<(), Fail> {
 fn finds_depths(rt: HostRuntime) -> Result<(), Fail> {
     let mut bytes = vec![in rt.alloc(); 0x05, 0x00]?;
     for levels in 2..=80usize {
-        let count = u8::try_from(bytes.len()).unwrap_or_default();
-        bytes.insert(0, count)?;
-        if count > 127 {
-            bytes.insert(0, 0x81)?;
-        }
-        bytes.insert(0, 0x30)?;
+        wrap(&mut bytes)?;
         // The elements below level 64 have short headers.
         let below = levels.saturating_sub(64).saturating_mul(2);
         let offset = bytes.len().saturating_sub(below);
         let kind = ErrorKind::Depth;
         let fault = (below > 0).then_some(Fault { offset, kind });
-        assert_eq!(rt; tree_fault(&bytes), fault, "at {levels} levels");
+        assert_equal_for(&rt, &levels, &tree_fault(&bytes), &fault);
     }
     Ok(())
 }

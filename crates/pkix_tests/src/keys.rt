@@ -1,9 +1,8 @@
 //! Keys on P-256 that OpenSSL 3.0.19 wrote, and small ones that were put together by hand.
-use crate::assert_equal;
+use crate::{assert_equal, assert_equal_for};
 use pkix::{PrivateKeyInfo, SubjectPublicKeyInfo};
-use sec1::Error;
+use sec1::{EncodedPoint, Error, Result};
 use sec1_der::read_der;
-use std::test::Fail;
 
 /// A SubjectPublicKeyInfo.
 const PUBLIC_KEY: [u8; 91] = [
@@ -35,59 +34,62 @@ const NAMED: [u8; 48] = [
     0x01, 0x04, 0x01, 0xAA, 0xA0, 0x0A, 0x06, 0x08, 0x2A, 0x86, 0x48, 0xCE, 0x3D, 0x03, 0x01, 0x07,
 ];
 
+/// Returns the point of a public key, for field elements of N bytes.
+fn point_of<const N: usize, const L: usize>(der: &[u8]) -> Result<EncodedPoint<N, L>> {
+    let info: SubjectPublicKeyInfo = read_der(der)?;
+    info.point()
+}
+
+/// Returns the private key in a container.
+fn private_key_of(der: &[u8]) -> Result<&[u8]> {
+    let info: PrivateKeyInfo = read_der(der)?;
+    Ok(info.ec_private_key()?.private_key)
+}
+
 #[test]
-fn reads_the_point_of_a_public_key(rt: HostRuntime) -> Result<(), Fail> {
-    let info: SubjectPublicKeyInfo = read_der(&PUBLIC_KEY)?;
-    let point = info.point::<32, 65>()?;
+fn reads_the_point_of_a_public_key(rt: HostRuntime) -> Result<()> {
+    let point = point_of::<32, 65>(&PUBLIC_KEY)?;
     assert_equal(&rt, &point.as_bytes(), &&PUBLIC_KEY[26..]);
     Ok(())
 }
 
 #[test]
-fn refuses_the_point_of_another_curve(rt: HostRuntime) -> Result<(), Fail> {
-    let info: SubjectPublicKeyInfo = read_der(&PUBLIC_KEY)?;
-    assert_equal(&rt, &info.point::<48, 97>().err(), &Some(Error::Crypto));
-    assert_equal(&rt, &info.point::<33, 67>().err(), &Some(Error::Crypto));
-    Ok(())
+fn refuses_the_point_of_another_curve(rt: HostRuntime) {
+    let crypto = Some(Error::Crypto);
+    assert_equal(&rt, &point_of::<48, 97>(&PUBLIC_KEY).err(), &crypto);
+    assert_equal(&rt, &point_of::<33, 67>(&PUBLIC_KEY).err(), &crypto);
 }
 
 #[test]
-fn refuses_a_public_key_that_is_no_point(rt: HostRuntime) -> Result<(), Fail> {
+fn refuses_a_public_key_that_is_no_point(rt: HostRuntime) {
     let mut bytes = PUBLIC_KEY;
     bytes[26] = 0x05;
-    let info: SubjectPublicKeyInfo = read_der(&bytes)?;
+    let error = point_of::<32, 65>(&bytes).err();
+    assert_equal(&rt, &error, &Some(Error::PointEncoding));
+}
+
+#[test]
+fn reads_the_private_key_of_a_container(rt: HostRuntime) {
     assert_equal(
         &rt,
-        &info.point::<32, 65>().err(),
-        &Some(Error::PointEncoding),
+        &private_key_of(&PRIVATE_KEY),
+        &Ok(&PRIVATE_KEY[36..68]),
     );
-    Ok(())
+    assert_equal(&rt, &private_key_of(&NAMED), &Ok(&NAMED[35..36]));
 }
 
 #[test]
-fn reads_the_private_key_of_a_container(rt: HostRuntime) -> Result<(), Fail> {
-    let info: PrivateKeyInfo = read_der(&PRIVATE_KEY)?;
-    let key = info.ec_private_key()?;
-    assert_equal(&rt, &key.private_key, &&PRIVATE_KEY[36..68]);
-    let info: PrivateKeyInfo = read_der(&NAMED)?;
-    let key = info.ec_private_key()?;
-    assert_equal(&rt, &key.private_key, &&NAMED[35..36]);
-    Ok(())
-}
-
-#[test]
-fn refuses_a_key_of_another_curve_or_algorithm(rt: HostRuntime) -> Result<(), Fail> {
-    // prime192v1 in the key, then in the container.
-    for at in [47, 25] {
+fn refuses_a_key_of_another_curve_or_algorithm(rt: HostRuntime) {
+    // prime192v1 in the key, then in the container, then 1.2.840.10045.2.2, which isn't
+    // id-ecPublicKey, in the container.
+    for (at, byte) in [(47, 0x01), (25, 0x01), (15, 0x02)] {
         let mut bytes = NAMED;
-        bytes[at] = 0x01;
-        let info: PrivateKeyInfo = read_der(&bytes)?;
-        assert_equal(&rt, &info.ec_private_key().err(), &Some(Error::Crypto));
+        bytes[at] = byte;
+        assert_equal_for(
+            &rt,
+            &at,
+            &private_key_of(&bytes).err(),
+            &Some(Error::Crypto),
+        );
     }
-    // 1.2.840.10045.2.2, which isn't id-ecPublicKey
-    let mut bytes = NAMED;
-    bytes[15] = 0x02;
-    let info: PrivateKeyInfo = read_der(&bytes)?;
-    assert_equal(&rt, &info.ec_private_key().err(), &Some(Error::Crypto));
-    Ok(())
 }

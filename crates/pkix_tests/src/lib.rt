@@ -41,3 +41,14 @@ use std::process::Abort;
 fn assert_equal<T: PartialEq + Debug>(rt: &impl Abort, found: &T, wanted: &T) {
     assert_eq!(rt; *found, *wanted);
 }
+
+/// Fails the test unless the two are equal, and names the case.
+#[cfg(test)]
+fn assert_equal_for<C: Debug, T: PartialEq + Debug>(
+    rt: &impl Abort,
+    case: &C,
+    found: &T,
+    wanted: &T,
+) {
+    assert_eq!(rt; *found, *wanted, "of {case:?}");
+}

@@ -1,7 +1,6 @@
 //! Rows counted by hand in bytes that OpenSSL 3.0.19 made.
-use crate::assert_equal;
+use crate::{assert_equal, assert_equal_for};
 use der_rows::Rows;
-use std::test::Fail;
 
 /// A key on P-256 of 32 bytes, with its curve and no public key.
 static KEY: [u8; 51] = [
@@ -22,13 +21,10 @@ static KEY_ROWS: [(usize, usize, u8, usize, usize, usize); 5] = [
 ];
 
 #[test]
-fn draws_a_key(rt: HostRuntime) -> Result<(), Fail> {
+fn draws_a_key(rt: HostRuntime) {
     let mut rows = Rows::new(&KEY);
     for &(offset, depth, tag, header_len, content_len, drawn_len) in KEY_ROWS.iter() {
-        let Some(row) = rows.next_row() else {
-            assert!(rt; false, "no row at {offset}");
-            return Ok(());
-        };
+        let row = rows.next_row().expect(&rt, "a row");
         let start = offset + header_len;
         let numbers = (row.offset, row.depth, row.tag, row.content_len);
         assert_equal(&rt, &numbers, &(offset, depth, tag, content_len));
@@ -36,7 +32,6 @@ fn draws_a_key(rt: HostRuntime) -> Result<(), Fail> {
         assert_equal(&rt, &row.content, &&KEY[start..start + drawn_len]);
     }
     assert!(rt; rows.next_row().is_none());
-    Ok(())
 }
 
 /// Returns the number of rows of these bytes.
@@ -66,15 +61,14 @@ static STOPS: [(&[u8], usize); 9] = [
 ];
 
 #[test]
-fn stops_at_what_is_no_element(rt: HostRuntime) -> Result<(), Fail> {
+fn stops_at_what_is_no_element(rt: HostRuntime) {
     for &(bytes, count) in STOPS.iter() {
-        assert_eq!(rt; count_rows(bytes), count, "of {bytes:?}");
+        assert_equal_for(&rt, &bytes, &count_rows(bytes), &count);
     }
-    Ok(())
 }
 
 #[test]
-fn stops_below_64_levels(rt: HostRuntime) -> Result<(), Fail> {
+fn stops_below_64_levels(rt: HostRuntime) {
     for (levels, count) in [(1usize, 1usize), (63, 63), (64, 64), (65, 64), (80, 64)] {
         // each of these elements contains the next, and all of them fit one byte of length
         let mut bytes = [0x30u8; 160];
@@ -83,11 +77,7 @@ fn stops_below_64_levels(rt: HostRuntime) -> Result<(), Fail> {
         }
         // from 128 bytes on a length has two bytes: leave out the outermost of these
         let start = 2 * levels.saturating_sub(64);
-        assert_eq!(rt;
-            count_rows(&bytes[start..2 * levels]),
-            count.min(64),
-            "of {levels} levels"
-        );
+        let found = count_rows(&bytes[start..2 * levels]);
+        assert_equal_for(&rt, &levels, &found, &count.min(64));
     }
-    Ok(())
 }

@@ -3,7 +3,7 @@ mod large;
 mod memory;
 
 use crate::report::LIMIT;
-use crate::{RunError, run, run_der};
+use crate::{Form, RunError, run, run_der};
 use sec1::der::{StdReader, StdWriter};
 use std::alloc::Global;
 use std::fmt::Debug;
@@ -119,59 +119,72 @@ fn assert_equal<T: PartialEq + Debug>(rt: &impl Abort, found: &T, wanted: &T) {
     assert_eq!(rt; *found, *wanted);
 }
 
-/// The result of a run over the input, and what it writes.
-fn outcome(alloc: Global, input: &[u8]) -> (Result<u8, RunError>, Vec<u8>) {
-    let mut writer = StdWriter::new(Vec::new(alloc));
-    let result = run(alloc, &mut StdReader::new(input), &mut writer);
+/// Fails the test unless the two are equal, and names the case.
+fn assert_equal_for<C: Debug, T: PartialEq + Debug>(
+    rt: &impl Abort,
+    case: &C,
+    found: &T,
+    wanted: &T,
+) {
+    assert_eq!(rt; *found, *wanted, "of {case:?}");
+}
+
+/// Returns the result of a run over the reader, and the writer after it.
+// It says nothing of these, so that a call of it takes the prover less time than `run`.
+fn outcome<R: io::Read + Drop, W: io::Write + Drop>(
+    alloc: Global,
+    form: Form,
+    reader: R,
+    writer: W,
+) -> (Result<u8, RunError>, W) {
+    let mut reader = StdReader::new(reader);
+    let mut writer = StdWriter::new(writer);
+    let result = match form {
+        Form::Text => run(alloc, &mut reader, &mut writer),
+        Form::Der => run_der(alloc, &mut reader, &mut writer),
+    };
     (result, writer.into_inner())
 }
 
-/// The result of a run over the input in DER, and what it writes.
-fn der_outcome(alloc: Global, input: &[u8]) -> (Result<u8, RunError>, Vec<u8>) {
-    let mut writer = StdWriter::new(Vec::new(alloc));
-    let result = run_der(alloc, &mut StdReader::new(input), &mut writer);
-    (result, writer.into_inner())
+/// Fails the test unless a run over the reader returns this status and writes these lines, and
+/// names the case.
+fn reports<C: Debug, R: io::Read + Drop>(
+    rt: &(impl Abort + AllocGlobal),
+    case: &C,
+    form: Form,
+    reader: R,
+    (status, lines): (u8, &str),
+) {
+    let (result, text) = outcome(rt.alloc(), form, reader, Vec::new(rt.alloc()));
+    assert_equal_for(rt, case, &result, &Ok(status));
+    assert_equal_for(rt, case, &text.as_slice(), &lines.as_bytes());
 }
 
 #[test]
 fn reports_on_a_key(rt: HostRuntime) -> Result<(), Fail> {
-    let bytes = hex::decode(rt.alloc(), KEY)?;
-    for (result, text) in [
-        outcome(rt.alloc(), KEY.as_bytes()),
-        der_outcome(rt.alloc(), &bytes),
-    ] {
-        assert_equal(&rt, &result, &Ok(0));
-        assert_equal(&rt, &text.as_slice(), &KEY_REPORT.as_bytes());
-    }
+    let der = hex::decode(rt.alloc(), KEY)?;
+    reports(&rt, &"text", Form::Text, KEY.as_bytes(), (0, KEY_REPORT));
+    reports(&rt, &"DER", Form::Der, der.as_slice(), (0, KEY_REPORT));
     Ok(())
 }
 
 #[test]
 fn refuses_hexadecimal_as_der(rt: HostRuntime) {
-    let (result, text) = der_outcome(rt.alloc(), KEY.as_bytes());
-    assert_equal(&rt, &result, &Ok(1));
-    assert_equal(
-        &rt,
-        &text.as_slice(),
-        &b"refused: not an EC private key in DER\ntree: no\n".as_slice(),
-    );
+    let lines = "refused: not an EC private key in DER\ntree: no\n";
+    reports(&rt, &KEY, Form::Der, KEY.as_bytes(), (1, lines));
 }
 
 #[test]
 fn reports_on_keys(rt: HostRuntime) {
     for &(input, lines) in KEYS.iter() {
-        let (result, text) = outcome(rt.alloc(), input.as_bytes());
-        assert_eq!(rt; result, Ok(0), "on {input}");
-        assert_eq!(rt; text.as_slice(), lines.as_bytes(), "on {input}");
+        reports(&rt, &input, Form::Text, input.as_bytes(), (0, lines));
     }
 }
 
 #[test]
 fn reports_refusals(rt: HostRuntime) {
     for &(input, lines) in REFUSALS.iter() {
-        let (result, text) = outcome(rt.alloc(), input.as_bytes());
-        assert_eq!(rt; result, Ok(1), "on {input}");
-        assert_eq!(rt; text.as_slice(), lines.as_bytes(), "on {input}");
+        reports(&rt, &input, Form::Text, input.as_bytes(), (1, lines));
     }
 }
 
@@ -182,9 +195,7 @@ fn refuses_long_inputs(rt: HostRuntime) -> Result<(), Fail> {
         (LIMIT + 1, "refused: input too long\ntree: no\n"),
     ] {
         let input = vec![in rt.alloc(); b' '; count]?;
-        let (result, text) = outcome(rt.alloc(), &input);
-        assert_eq!(rt; result, Ok(1), "on {count} bytes");
-        assert_eq!(rt; text.as_slice(), lines.as_bytes(), "on {count} bytes");
+        reports(&rt, &count, Form::Text, input.as_slice(), (1, lines));
     }
     Ok(())
 }
@@ -244,19 +255,24 @@ static EMPTY_KEY_REPORT: &[u8] =
 fn reports_failed_reads_in_turn(rt: HostRuntime) {
     for given in 0..=EMPTY_KEY.len() {
         let rest = EMPTY_KEY.get(..given).unwrap_or_default();
-        for is_der in [false, true] {
-            let mut reader = StdReader::new(Broken { rest });
-            let mut writer = StdWriter::new(Vec::new(rt.alloc()));
-            let result = if is_der {
-                run_der(rt.alloc(), &mut reader, &mut writer)
-            } else {
-                run(rt.alloc(), &mut reader, &mut writer)
-            };
-            assert_eq!(rt; result, Err(RunError::Input), "after {given}");
-            assert!(rt; writer.into_inner().is_empty());
+        for form in [Form::Text, Form::Der] {
+            let reader = Broken { rest };
+            let (result, text) = outcome(rt.alloc(), form, reader, Vec::new(rt.alloc()));
+            assert_equal_for(&rt, &given, &result, &Err(RunError::Input));
+            assert_equal_for(&rt, &given, &text.is_empty(), &true);
         }
     }
     let _ = println!(&rt; "run, run_der: each of their 15 reads fails");
+}
+
+/// Fails the test unless a run over that key fails with its writer, which then has taken as many
+/// bytes of the report as it has room for.
+fn fails_to_write(rt: &(impl Abort + AllocGlobal), form: Form, key: &[u8], writer: Narrow) {
+    let room = writer.room;
+    let (result, writer) = outcome(rt.alloc(), form, key, writer);
+    assert_equal_for(rt, &room, &result, &Err(RunError::Output));
+    let taken = Some(writer.taken.as_slice());
+    assert_equal_for(rt, &room, &taken, &EMPTY_KEY_REPORT.get(..room));
 }
 
 #[test]
@@ -264,25 +280,14 @@ fn reports_failed_writes_in_turn(rt: HostRuntime) -> Result<(), Fail> {
     let der = hex::decode(rt.alloc(), EMPTY_KEY)?;
     for room in 0..EMPTY_KEY_REPORT.len() {
         for (step, fails) in [(1, true), (1, false), (3, true), (100, true)] {
-            for is_der in [false, true] {
-                let taken = Vec::new(rt.alloc());
-                let mut writer = StdWriter::new(Narrow {
-                    taken,
+            for (form, key) in [(Form::Text, EMPTY_KEY), (Form::Der, der.as_slice())] {
+                let writer = Narrow {
+                    taken: Vec::new(rt.alloc()),
                     step,
                     room,
                     fails,
-                });
-                let result = if is_der {
-                    run_der(rt.alloc(), &mut StdReader::new(der.as_slice()), &mut writer)
-                } else {
-                    run(rt.alloc(), &mut StdReader::new(EMPTY_KEY), &mut writer)
                 };
-                assert_eq!(rt; result, Err(RunError::Output), "after {room}");
-                assert_equal(
-                    &rt,
-                    &Some(writer.into_inner().taken.as_slice()),
-                    &EMPTY_KEY_REPORT.get(..room),
-                );
+                fails_to_write(&rt, form, key, writer);
             }
         }
     }

@@ -1,9 +1,8 @@
 //! Large inputs, read in uneven pieces, and the flush of what was written.
-use super::{EMPTY_KEY, EMPTY_KEY_REPORT, assert_equal};
+use super::{EMPTY_KEY, EMPTY_KEY_REPORT, assert_equal, reports};
 use crate::report::LIMIT;
-use crate::{Form, RunError, inspect, run, run_der};
+use crate::{Form, RunError, inspect};
 use hex::ToHex;
-use sec1::der::{StdReader, StdWriter};
 use std::alloc::{AllocError, Global};
 use std::io;
 use std::test::Fail;
@@ -53,6 +52,13 @@ struct Uneven<'a> {
     turn: usize,
 }
 
+impl<'a> Uneven<'a> {
+    /// Returns a reader of these bytes.
+    fn new(rest: &'a [u8]) -> Uneven<'a> {
+        Uneven { rest, turn: 0 }
+    }
+}
+
 impl io::Read for Uneven<'_> {
     fn read(&mut self, buf: &mut [u8]) -> io::Result<usize> {
         let step = [1, 4_095, 4_096, 7, 1_000, 4_097][self.turn % 6];
@@ -65,36 +71,26 @@ impl io::Read for Uneven<'_> {
     }
 }
 
-/// Returns what a run over the input returns, and what it writes.
-fn outcome(alloc: Global, rest: &[u8], is_der: bool) -> (Result<u8, RunError>, Vec<u8>) {
-    let mut reader = StdReader::new(Uneven { rest, turn: 0 });
-    let mut writer = StdWriter::new(Vec::new(alloc));
-    let result = if is_der {
-        run_der(alloc, &mut reader, &mut writer)
-    } else {
-        run(alloc, &mut reader, &mut writer)
-    };
-    (result, writer.into_inner())
-}
-
 #[test]
 fn reports_on_large_keys(rt: HostRuntime) -> Result<(), Fail> {
     let alloc = rt.alloc();
     for &(front, count, lines) in KEYS.iter() {
         let der = longer(alloc, front, count)?;
-        let (result, text) = outcome(alloc, &der, true);
-        assert_eq!(rt; result, Ok(0), "on {count} bytes");
-        assert_eq!(rt; text.as_slice(), lines.as_bytes(), "on {count} bytes");
+        reports(&rt, &count, Form::Der, Uneven::new(&der), (0, lines));
 
         let digits = der.as_slice().encode_hex_upper(alloc)?;
-        let (result, text) = outcome(alloc, digits.as_bytes(), false);
-        let (status, wanted) = if digits.len() <= LIMIT {
+        let wanted = if digits.len() <= LIMIT {
             (0, lines)
         } else {
             (1, "refused: input too long\ntree: no\n")
         };
-        assert_eq!(rt; result, Ok(status), "on {count} bytes");
-        assert_eq!(rt; text.as_slice(), wanted.as_bytes(), "on {count} bytes");
+        reports(
+            &rt,
+            &count,
+            Form::Text,
+            Uneven::new(digits.as_bytes()),
+            wanted,
+        );
     }
     Ok(())
 }
@@ -106,9 +102,7 @@ fn refuses_long_inputs_in_der(rt: HostRuntime) -> Result<(), Fail> {
         (LIMIT + 1, "refused: input too long\ntree: no\n"),
     ] {
         let input = vec![in rt.alloc(); b' '; count]?;
-        let (result, text) = outcome(rt.alloc(), &input, true);
-        assert_eq!(rt; result, Ok(1), "on {count} bytes");
-        assert_eq!(rt; text.as_slice(), lines.as_bytes(), "on {count} bytes");
+        reports(&rt, &count, Form::Der, Uneven::new(&input), (1, lines));
     }
     Ok(())
 }
