@@ -24,13 +24,48 @@ mod traits;
 mod writing;
 
 #[cfg(test)]
+use std::alloc::Global;
+#[cfg(test)]
 use std::fmt::Debug;
 #[cfg(test)]
 use std::process::Abort;
+#[cfg(test)]
+use std::test::Fail;
 
 /// Fails the test unless the two are equal.
 // A call of this takes the prover a fraction of the time that `assert_eq!` takes in line.
 #[cfg(test)]
 fn assert_equal<T: PartialEq + Debug>(rt: &impl Abort, found: &T, wanted: &T) {
     assert_eq!(rt; *found, *wanted);
+}
+
+/// Fails the test unless the two are equal, and names the case.
+#[cfg(test)]
+fn assert_equal_for<C: Debug, T: PartialEq + Debug>(
+    rt: &impl Abort,
+    case: &C,
+    found: &T,
+    wanted: &T,
+) {
+    assert_eq!(rt; *found, *wanted, "of {case:?}");
+}
+
+/// Fails the test if the two are equal.
+#[cfg(test)]
+fn assert_unequal<T: PartialEq + Debug>(rt: &impl Abort, found: &T, other: &T) {
+    assert_ne!(rt; *found, *other);
+}
+
+/// Fails the test unless the value is printed as the text by `{:?}`, and as the lines by `{:#?}`.
+#[cfg(test)]
+fn has_debug_texts(
+    rt: &impl Abort,
+    alloc: Global,
+    value: &impl Debug,
+    text: &str,
+    lines: &str,
+) -> Result<(), Fail> {
+    assert_equal(rt, &format!(in alloc; "{value:?}")?.as_str(), &text);
+    assert_equal(rt, &format!(in alloc; "{value:#?}")?.as_str(), &lines);
+    Ok(())
 }

@@ -3,16 +3,18 @@
 //! They are refused by `tests/refuse.c`, an allocator that replaces the C library's in the built
 //! tests. A test controls it by requests of sizes that no allocator grants. Without it nothing is
 //! refused, and each call is made once.
-use super::reading::whole_key;
+use super::files::path;
+use super::reading::{read_key, whole_key};
 use super::traits::{Copied, asn1};
-use crate::assert_equal;
-use sec1::der::{ErrorKind, Read, StdReader, StdWriter, Write, check_tree};
+use crate::{assert_equal, assert_equal_for};
+use sec1::der::{ErrorKind, Read, SecretDocument, StdReader, StdWriter, Write, check_tree};
 use sec1::point::{EncodedPoint, EncodedPoint32};
 use sec1::{DecodeEcPrivateKey, EcPrivateKey, EncodeEcPrivateKey, Error};
 use serde_json::Value;
 use std::alloc::Global;
 use std::cmp::Ordering;
 use std::fs;
+use std::process::Abort;
 use std::str::FromStr;
 use std::test::Fail;
 
@@ -103,21 +105,46 @@ fn is_refused_in_turn<F: FnMut() -> Outcome>(
     false
 }
 
-/// Returns `true` if the call is right and makes no request.
-fn needs_no_memory<F: FnMut() -> bool>(
-    rt: &impl Print,
+/// Fails the test unless the call is [refused in turn](is_refused_in_turn).
+fn reports_memory<R: Print + Abort, F: FnMut() -> Outcome>(
+    rt: &R,
     alloc: Global,
     name: &str,
-    mut call: F,
-) -> bool
+    call: F,
+)
     requires { F.IsAlwaysCallable call }
 {
+    assert_equal_for(rt, &name, &is_refused_in_turn(rt, alloc, name, call), &true);
+}
+
+/// Fails the test unless the call is right and makes no request.
+fn takes_no_memory<R, F: FnMut() -> bool>(rt: &R, name: &str, mut call: F)
+where
+    R: Print + Abort + AllocGlobal,
+    requires { F.IsAlwaysCallable call }
+{
+    let alloc = rt.alloc();
     let is_refusing = refuse(alloc, 1);
     let is_right = call();
-    if !is_refusing {
-        return is_right;
+    let takes_none = !is_refusing
+        || were_made(alloc, 0) && println!(rt; "{name}: no request").is_ok();
+    assert_equal_for(rt, &name, &(is_right && takes_none), &true);
+}
+
+/// Returns the outcome of encoding the key as these bytes.
+fn encoded_outcome(alloc: Global, key: &EcPrivateKey, der: &[u8]) -> Outcome {
+    match key.to_der(alloc) {
+        Ok(written) => right(written.as_slice() == der),
+        Err(error) => refused(error == Error::Memory),
     }
-    is_right && were_made(alloc, 0) && println!(rt; "{name}: no request").is_ok()
+}
+
+/// Returns the outcome of encoding a key as a document of these bytes.
+fn document_outcome(encoded: sec1::Result<SecretDocument>, der: &[u8]) -> Outcome {
+    match encoded {
+        Ok(document) => right(document.as_bytes() == der),
+        Err(error) => refused(error == Error::Memory),
+    }
 }
 
 #[test]
@@ -125,37 +152,16 @@ fn reports_memory_from_writing_calls(rt: HostRuntime) -> std::result::Result<(),
     let alloc = rt.alloc();
     let bytes = whole_key(alloc)?;
     let der = bytes.as_slice();
-    let key = EcPrivateKey::try_from(der)?;
-    assert!(rt;
-        is_refused_in_turn(
-            &rt,
-            alloc,
-            "EcPrivateKey::to_der",
-            || match key.to_der(alloc) {
-                Ok(written) => right(written.as_slice() == der),
-                Err(error) => refused(error == Error::Memory),
-            }
-        )
-    );
-    assert!(rt;
-        is_refused_in_turn(&rt, alloc, "EcPrivateKey::document_ref", || {
-            match key.document_ref(alloc) {
-                Ok(document) => right(document.as_bytes() == der),
-                Err(error) => refused(error == Error::Memory),
-            }
-        })
-    );
-    assert!(rt;
-        is_refused_in_turn(&rt, alloc, "EcPrivateKey::document", || {
-            let Ok(key) = EcPrivateKey::try_from(der) else {
-                return Outcome::Wrong;
-            };
-            match key.document(alloc) {
-                Ok(document) => right(document.as_bytes() == der),
-                Err(error) => refused(error == Error::Memory),
-            }
-        })
-    );
+    let key = read_key(der)?;
+    let to_der = || encoded_outcome(alloc, &key, der);
+    let document_ref = || document_outcome(key.document_ref(alloc), der);
+    let document = || match read_key(der) {
+        Ok(key) => document_outcome(key.document(alloc), der),
+        Err(_) => Outcome::Wrong,
+    };
+    reports_memory(&rt, alloc, "EcPrivateKey::to_der", to_der);
+    reports_memory(&rt, alloc, "EcPrivateKey::document_ref", document_ref);
+    reports_memory(&rt, alloc, "EcPrivateKey::document", document);
     Ok(())
 }
 
@@ -190,23 +196,13 @@ fn reports_memory_from_the_traits(rt: HostRuntime) -> std::result::Result<(), Fa
     let whole = whole_key(alloc)?;
     // the document of a short key fits before its copy does
     for bytes in [whole.as_slice(), b"\x04\x01\xAA".as_slice()] {
-        let key = Copied::from_sec1_der(alloc, bytes)?;
-        assert!(rt;
-            is_refused_in_turn(
-                &rt,
-                alloc,
-                "read_sec1_der_from",
-                || read_outcome(alloc, bytes)
-            )
-        );
-        assert!(rt;
-            is_refused_in_turn(
-                &rt,
-                alloc,
-                "write_sec1_der_to",
-                || written_outcome(alloc, &key)
-            )
-        );
+        let key = Copied {
+            bytes: bytes.to_vec(alloc)?,
+        };
+        let read = || read_outcome(alloc, bytes);
+        let write = || written_outcome(alloc, &key);
+        reports_memory(&rt, alloc, "read_sec1_der_from", read);
+        reports_memory(&rt, alloc, "write_sec1_der_to", write);
     }
     Ok(())
 }
@@ -216,39 +212,44 @@ fn is_memory_or_io(error: Error) -> bool {
     error == Error::Memory || Some(error) == asn1(ErrorKind::Io)
 }
 
+/// Returns the outcome of writing the key into the file.
+fn file_written_outcome(rt: &HostRuntime, path: &str, key: &Copied) -> Outcome {
+    match key.write_sec1_der_file(rt, rt.alloc(), path) {
+        Ok(()) => Outcome::Right,
+        Err(error) => refused(is_memory_or_io(error)),
+    }
+}
+
+/// Returns the outcome of reading the key from the file.
+fn file_read_outcome(rt: &HostRuntime, path: &str, key: &Copied) -> Outcome {
+    match Copied::read_sec1_der_file(rt, rt.alloc(), path) {
+        Ok(read) => right(read == *key),
+        Err(error) => refused(is_memory_or_io(error)),
+    }
+}
+
 #[test]
 fn reports_memory_from_calls_on_files(rt: HostRuntime) -> std::result::Result<(), Fail> {
     let alloc = rt.alloc();
-    let folder = std::env::temp_dir(&rt)?;
-    let path = format!(in alloc;
-        "{}/sec1_memory_{}",
-        folder.display(),
-        std::process::id(rt.process())
-    )?;
-    let key = Copied::from_sec1_der(alloc, b"\x04\x01\xAA")?;
-    assert!(rt;
-        is_refused_in_turn(&rt, alloc, "write_sec1_der_file", || {
-            match key.write_sec1_der_file(&rt, alloc, &path) {
-                Ok(()) => Outcome::Right,
-                Err(error) => refused(is_memory_or_io(error)),
-            }
-        })
-    );
-    assert_equal(
-        &rt,
-        &fs::read(&rt, &path)?.as_slice(),
-        &key.bytes.as_slice(),
-    );
-    assert!(rt;
-        is_refused_in_turn(&rt, alloc, "read_sec1_der_file", || {
-            match Copied::read_sec1_der_file(&rt, alloc, &path) {
-                Ok(read) => right(read == key),
-                Err(error) => refused(is_memory_or_io(error)),
-            }
-        })
-    );
+    let path = path(&rt, "memory")?;
+    let key = Copied {
+        bytes: b"\x04\x01\xAA".to_vec(alloc)?,
+    };
+    let write = || file_written_outcome(&rt, &path, &key);
+    reports_memory(&rt, alloc, "write_sec1_der_file", write);
+    assert_equal(&rt, &fs::read(&rt, &path)?, &key.bytes);
+    let read = || file_read_outcome(&rt, &path, &key);
+    reports_memory(&rt, alloc, "read_sec1_der_file", read);
     fs::remove_file(&rt, &path)?;
     Ok(())
+}
+
+/// Returns the outcome of a call that returns the text of the point.
+fn text_outcome(written: sec1::Result<String>) -> Outcome {
+    match written {
+        Ok(text) => right(text.as_str() == COMPRESSED),
+        Err(error) => refused(error == Error::Memory),
+    }
 }
 
 #[test]
@@ -256,64 +257,40 @@ fn reports_memory_from_texts_of_points(rt: HostRuntime) -> std::result::Result<(
     let alloc = rt.alloc();
     let point = EncodedPoint32::from_str(COMPRESSED)?;
     let json = Value::from(String::from_str(alloc, COMPRESSED)?);
-    assert!(rt;
-        is_refused_in_turn(&rt, alloc, "to_bytes", || match point.to_bytes(alloc) {
-            Ok(bytes) => right(bytes.as_slice() == point.as_bytes()),
-            Err(error) => refused(error == Error::Memory),
-        })
-    );
-    assert!(rt;
-        is_refused_in_turn(
-            &rt,
-            alloc,
-            "to_lower_hex",
-            || match point.to_lower_hex(alloc) {
-                Ok(text) => right(text.as_str() == COMPRESSED),
-                Err(error) => refused(error == Error::Memory),
-            }
-        )
-    );
-    assert!(rt;
-        is_refused_in_turn(
-            &rt,
-            alloc,
-            "to_upper_hex",
-            || match point.to_upper_hex(alloc) {
-                Ok(text) => right(text.as_str() == COMPRESSED),
-                Err(error) => refused(error == Error::Memory),
-            }
-        )
-    );
-    assert!(rt;
-        is_refused_in_turn(&rt, alloc, "to_json", || match point.to_json(alloc) {
-            Ok(value) => right(value == json),
-            Err(error) => refused(error == Error::Memory),
-        })
-    );
+    let to_bytes = || match point.to_bytes(alloc) {
+        Ok(bytes) => right(bytes.as_slice() == point.as_bytes()),
+        Err(error) => refused(error == Error::Memory),
+    };
+    let to_json = || match point.to_json(alloc) {
+        Ok(value) => right(value == json),
+        Err(error) => refused(error == Error::Memory),
+    };
+    let to_lower_hex = || text_outcome(point.to_lower_hex(alloc));
+    let to_upper_hex = || text_outcome(point.to_upper_hex(alloc));
+    reports_memory(&rt, alloc, "to_bytes", to_bytes);
+    reports_memory(&rt, alloc, "to_lower_hex", to_lower_hex);
+    reports_memory(&rt, alloc, "to_upper_hex", to_upper_hex);
+    reports_memory(&rt, alloc, "to_json", to_json);
     Ok(())
+}
+
+/// Returns `true` if the bytes are a key, which is written as they are, and seven elements.
+fn is_read_and_written(bytes: &[u8]) -> bool {
+    let Ok(key) = read_key(bytes) else {
+        return false;
+    };
+    let mut room = [0u8; 121];
+    key.encoded_len() == Ok(121)
+        && key.encode_to_slice(&mut room) == Ok(121)
+        && room.as_slice() == bytes
+        && check_tree(bytes) == Ok(7)
 }
 
 #[test]
 fn takes_no_memory_for_keys(rt: HostRuntime) -> std::result::Result<(), Fail> {
-    let alloc = rt.alloc();
-    let bytes = whole_key(alloc)?;
-    assert!(rt;
-        needs_no_memory(
-            &rt,
-            alloc,
-            "try_from, encoded_len, encode_to_slice, check_tree",
-            || {
-                let Ok(key) = EcPrivateKey::try_from(bytes.as_slice()) else {
-                    return false;
-                };
-                let mut room = [0u8; 121];
-                key.encoded_len() == Ok(121)
-                    && key.encode_to_slice(&mut room) == Ok(121)
-                    && room.as_slice() == bytes.as_slice()
-                    && check_tree(&bytes) == Ok(7)
-            }
-        )
-    );
+    let bytes = whole_key(rt.alloc())?;
+    let calls = "try_from, encoded_len, encode_to_slice, check_tree";
+    takes_no_memory(&rt, calls, || is_read_and_written(&bytes));
     Ok(())
 }
 
@@ -324,47 +301,54 @@ static ORDERED: [(&[u8], &[u8]); 3] = [
     (&[0], &[2, 0xFF]),
 ];
 
+/// Returns `true` if the first point is less than the second.
+fn is_less(lower: &[u8], higher: &[u8]) -> bool {
+    match (Point1::from_bytes(lower), Point1::from_bytes(higher)) {
+        (Ok(low), Ok(high)) => {
+            low.cmp(&high) == Ordering::Less && high.cmp(&low) == Ordering::Greater
+        }
+        _ => false,
+    }
+}
+
+/// Returns `true` if points are in their order, and one of them is compressed.
+fn are_ordered_and_compressed() -> bool {
+    let point = Point1::from_untagged_bytes(&[1, 0xFF]);
+    ORDERED
+        .iter()
+        .all(|&(lower, higher)| is_less(lower, higher))
+        && point.as_bytes() == [4, 1, 0xFF].as_slice()
+        && point.compress().as_bytes() == [3, 1].as_slice()
+        && EncodedPoint::<32, 64>::from_bytes(&[0]) == Err(Error::PointEncoding)
+}
+
 #[test]
-fn takes_no_memory_for_points(rt: HostRuntime) -> std::result::Result<(), Fail> {
-    let alloc = rt.alloc();
-    assert!(rt;
-        needs_no_memory(&rt, alloc, "from_bytes, cmp, compress", || {
-            for &(lower, higher) in ORDERED.iter() {
-                let (Ok(low), Ok(high)) = (Point1::from_bytes(lower), Point1::from_bytes(higher))
-                else {
-                    return false;
-                };
-                if low.cmp(&high) != Ordering::Less || high.cmp(&low) != Ordering::Greater {
-                    return false;
-                }
-            }
-            let point = Point1::from_untagged_bytes(&[1, 0xFF]);
-            point.as_bytes() == [4, 1, 0xFF].as_slice()
-                && point.compress().as_bytes() == [3, 1].as_slice()
-                && EncodedPoint::<32, 64>::from_bytes(&[0]) == Err(Error::PointEncoding)
-        })
-    );
-    Ok(())
+fn takes_no_memory_for_points(rt: HostRuntime) {
+    takes_no_memory(&rt, "from_bytes, cmp, compress", are_ordered_and_compressed);
+}
+
+/// Texts that are no point.
+static NO_TEXT: [&str; 5] = ["02aF", "02A", "", "02", "02AF0000"];
+
+/// Returns `true` if a point is read from its texts, and from this string in JSON, and from nothing
+/// else.
+fn is_read_from_texts(json: &Value, number: &Value) -> bool {
+    let point = Point1::from_bytes(&[2, 0xAF]);
+    Point1::from_str("02AF") == point
+        && Point1::from_str("02af") == point
+        && Point1::from_json(json) == point
+        && Point1::from_json(number) == Err(Error::PointEncoding)
+        && NO_TEXT.iter().all(|&text| Point1::from_str(text) == Err(Error::PointEncoding))
 }
 
 #[test]
 fn takes_no_memory_for_texts_of_points(rt: HostRuntime) -> std::result::Result<(), Fail> {
-    let alloc = rt.alloc();
-    let json = Value::from(String::from_str(alloc, "02AF")?);
+    let json = Value::from(String::from_str(rt.alloc(), "02AF")?);
     let number = Value::from(2u8);
-    assert!(rt;
-        needs_no_memory(&rt, alloc, "from_str, from_json", || {
-            let point = Point1::from_str("02AF");
-            point == Point1::from_bytes(&[2, 0xAF])
-                && Point1::from_str("02af") == point
-                && Point1::from_str("02aF") == Err(Error::PointEncoding)
-                && Point1::from_str("02A") == Err(Error::PointEncoding)
-                && Point1::from_str("") == Err(Error::PointEncoding)
-                && Point1::from_str("02") == Err(Error::PointEncoding)
-                && Point1::from_str("02AF0000") == Err(Error::PointEncoding)
-                && Point1::from_json(&json) == point
-                && Point1::from_json(&number) == Err(Error::PointEncoding)
-        })
+    takes_no_memory(
+        &rt,
+        "from_str, from_json",
+        || is_read_from_texts(&json, &number),
     );
     Ok(())
 }

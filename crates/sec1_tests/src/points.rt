@@ -2,10 +2,10 @@
 
 ghost use Rattle.std.specs.Prelude.{◌+◌, ◌*◌, ◌%◌, ◌^◌, fold};
 
-use crate::assert_equal;
+use crate::{assert_equal, assert_equal_for, assert_unequal, has_debug_texts};
 use sec1::Error;
 use sec1::der::{self, ErrorKind};
-use sec1::point::Coordinates::{Compressed, Identity};
+use sec1::point::Coordinates::{Compact, Compressed, Hybrid, Identity, Uncompressed};
 use sec1::point::{
     Coordinates, EncodedPoint, EncodedPoint28, EncodedPoint32, EncodedPoint48, EncodedPoint66, Tag,
 };
@@ -13,6 +13,7 @@ use serde_json::Value;
 use std::alloc::Global;
 use std::cmp::Ordering;
 use std::collections::HashSet;
+use std::fmt::Display;
 use std::hash::{Hash, Hasher};
 use std::process::Abort;
 use std::str::FromStr;
@@ -100,154 +101,193 @@ fn uncompressed_32() -> [u8; 65] {
 fn compresses_points(rt: HostRuntime) -> Result<(), Fail> {
     for &(bytes, compressed) in COMPRESSED_1.iter() {
         let point = Point1::from_bytes(bytes)?.compress();
-        assert_eq!(rt; point.as_bytes(), compressed, "{bytes:?}");
-        assert_eq!(rt; point.len(), compressed.len(), "{bytes:?}");
-        assert!(rt; point == Point1::try_from(compressed)?, "{bytes:?}");
-    }
-    for &(bytes, compressed) in COMPRESSED_2.iter() {
-        let point = Point2::try_from(bytes)?.compress();
-        assert_eq!(rt; point.as_bytes(), compressed, "{bytes:?}");
-    }
-    for &(bytes, hybrid) in HYBRID.iter() {
-        assert_eq!(rt;
-            Point1::from_bytes(bytes)?.to_hybrid().as_bytes(),
-            hybrid,
-            "{bytes:?}"
-        );
+        assert_equal_for(&rt, &bytes, &point.as_bytes(), &compressed);
+        assert_equal_for(&rt, &bytes, &point.len(), &compressed.len());
+        assert_equal_for(&rt, &bytes, &point, &Point1::try_from(compressed)?);
     }
     Ok(())
+}
+
+#[test]
+fn compresses_points_at_two_bytes(rt: HostRuntime) -> Result<(), Fail> {
+    for &(bytes, compressed) in COMPRESSED_2.iter() {
+        let point = Point2::try_from(bytes)?.compress();
+        assert_equal_for(&rt, &bytes, &point.as_bytes(), &compressed);
+    }
+    Ok(())
+}
+
+#[test]
+fn makes_hybrid_points(rt: HostRuntime) -> Result<(), Fail> {
+    for &(bytes, hybrid) in HYBRID.iter() {
+        let point = Point1::from_bytes(bytes)?.to_hybrid();
+        assert_equal_for(&rt, &bytes, &point.as_bytes(), &hybrid);
+    }
+    Ok(())
+}
+
+/// Returns the error by which the bytes are refused as a point at 32 bytes.
+fn refusal_32(bytes: &[u8]) -> Option<Error> {
+    EncodedPoint32::from_bytes(bytes).err()
 }
 
 /// Fails the test unless each proper prefix of the bytes is refused.
 fn refuses_prefixes(rt: &impl Abort, bytes: &[u8]) {
     for end in 0..bytes.len() {
-        assert!(rt;
-            EncodedPoint32::from_bytes(&bytes[..end]).is_err(),
-            "{end} bytes"
-        );
+        let refused = refusal_32(&bytes[..end]);
+        assert_equal_for(rt, &end, &refused, &Some(Error::PointEncoding));
     }
 }
 
 #[test]
-fn refuses_other_bytes(rt: HostRuntime) -> Result<(), Fail> {
+fn refuses_other_bytes(rt: HostRuntime) {
     for &bytes in NO_ENCODING.iter() {
-        assert_eq!(rt;
-            Point1::from_bytes(bytes).err(),
-            Some(Error::PointEncoding),
-            "{bytes:?}"
-        );
+        let refused = Point1::from_bytes(bytes).err();
+        assert_equal_for(&rt, &bytes, &refused, &Some(Error::PointEncoding));
     }
     refuses_prefixes(&rt, compressed_32().as_slice());
     refuses_prefixes(&rt, uncompressed_32().as_slice());
+}
+
+#[test]
+fn refuses_other_first_bytes(rt: HostRuntime) {
     let mut compressed = compressed_32();
     let mut uncompressed = uncompressed_32();
     for first in 0..=255u8 {
         compressed[0] = first;
         uncompressed[0] = first;
         let read = (
-            EncodedPoint32::from_bytes(compressed.as_slice()).is_ok(),
-            EncodedPoint32::from_bytes(uncompressed.as_slice()).is_ok(),
+            refusal_32(&compressed).is_none(),
+            refusal_32(&uncompressed).is_none(),
         );
-        assert!(rt;
-            read == (matches!(first, 2 | 3 | 5), matches!(first, 4 | 6)),
-            "{first}"
-        );
+        let wanted = (matches!(first, 2 | 3 | 5), matches!(first, 4 | 6));
+        assert_equal_for(&rt, &first, &read, &wanted);
     }
-    assert!(rt; Point1::fits() && EncodedPoint32::fits());
-    assert!(rt; !EncodedPoint::<32, 64>::fits() && !EncodedPoint::<0, 1>::fits());
-    assert_equal(
-        &rt,
-        &EncodedPoint::<32, 64>::from_bytes(&[0]).err(),
-        &Some(Error::PointEncoding),
-    );
-    assert_equal(
-        &rt,
-        &EncodedPoint::<0, 1>::from_bytes(&[0]).err(),
-        &Some(Error::PointEncoding),
-    );
-    Ok(())
+}
+
+#[test]
+fn has_no_points_of_other_sizes(rt: HostRuntime) {
+    assert_equal(&rt, &Point1::fits(), &true);
+    assert_equal(&rt, &EncodedPoint32::fits(), &true);
+    assert_equal(&rt, &EncodedPoint::<32, 64>::fits(), &false);
+    assert_equal(&rt, &EncodedPoint::<0, 1>::fits(), &false);
+    let even = EncodedPoint::<32, 64>::from_bytes(&[0]);
+    assert_equal(&rt, &even.err(), &Some(Error::PointEncoding));
+    let empty = EncodedPoint::<0, 1>::from_bytes(&[0]);
+    assert_equal(&rt, &empty.err(), &Some(Error::PointEncoding));
+}
+
+/// Returns whether the point is compact, compressed, hybrid, and the identity.
+fn forms<const N: usize, const L: usize>(point: &EncodedPoint<N, L>) -> [bool; 4] {
+    [
+        point.is_compact(),
+        point.is_compressed(),
+        point.is_hybrid(),
+        point.is_identity(),
+    ]
+}
+
+/// Fails the test unless the point and its coordinates have this tag, and the coordinates are
+/// these.
+fn has_coordinates<const N: usize, const L: usize>(
+    rt: &impl Abort,
+    point: &EncodedPoint<N, L>,
+    tag: Tag,
+    coordinates: Coordinates<'_, N>,
+) {
+    let found = point.coordinates();
+    assert_equal(rt, &found, &coordinates);
+    assert_equal(rt, &(point.tag(), found.tag()), &(tag, tag));
 }
 
 #[test]
 fn borrows_coordinates(rt: HostRuntime) -> Result<(), Fail> {
-    let x = [0x11; 32];
-    let y = [0x22; 32];
-    let whole = EncodedPoint32::from_affine_coordinates(&x, &y, false);
+    let (x, y) = (&[0x11; 32], &[0x22; 32]);
+    let whole = EncodedPoint32::from_affine_coordinates(x, y, false);
     assert_equal(&rt, &whole.as_bytes(), &uncompressed_32().as_slice());
-    assert!(rt; whole.coordinates() == Coordinates::Uncompressed { x: &x, y: &y });
-    assert!(rt; whole.x() == Some(&x) && whole.y() == Some(&y));
-    assert!(rt; whole.tag() == Tag::Uncompressed && whole.len() == 65);
-    assert!(rt; whole.clone()? == whole);
-    assert!(rt; whole == EncodedPoint32::from_untagged_bytes(&uncompressed_32()[1..]));
+    assert_equal(&rt, &whole.len(), &65);
+    has_coordinates(&rt, &whole, Tag::Uncompressed, Uncompressed { x, y });
+    assert_equal(&rt, &(whole.x(), whole.y()), &(Some(x), Some(y)));
+    assert_equal(&rt, &whole.clone()?, &whole);
+    let untagged = EncodedPoint32::from_untagged_bytes(&uncompressed_32()[1..]);
+    assert_equal(&rt, &untagged, &whole);
     Ok(())
 }
 
 #[test]
 fn borrows_coordinates_of_compressed_points(rt: HostRuntime) {
-    let x = [0x11; 32];
-    let point = EncodedPoint32::from_affine_coordinates(&x, &[0x22; 32], true);
+    let x = &[0x11; 32];
+    let point = EncodedPoint32::from_affine_coordinates(x, &[0x22; 32], true);
     assert_equal(&rt, &point.as_bytes(), &compressed_32().as_slice());
-    assert_equal(&rt, &point.tag(), &Tag::CompressedEvenY);
-    assert!(rt;
-        point.coordinates()
-            == Coordinates::Compressed {
-                x: &x,
-                y_is_odd: false
-            }
-    );
-    assert!(rt;
-        point.is_compressed() && !point.is_compact() && !point.is_hybrid() && !point.is_identity()
-    );
-    assert!(rt; point.len() == 33 && point.x() == Some(&x) && point.y().is_none());
+    assert_equal(&rt, &point.len(), &33);
+    let y_is_odd = false;
+    let coordinates = Compressed { x, y_is_odd };
+    has_coordinates(&rt, &point, Tag::CompressedEvenY, coordinates);
+    assert_equal(&rt, &(point.x(), point.y()), &(Some(x), None));
+    assert_equal(&rt, &forms(&point), &[false, true, false, false]);
 }
 
 #[test]
 fn distinguishes_compact_and_hybrid_points(rt: HostRuntime) -> Result<(), Fail> {
     let compact = Point1::from_bytes(&[5, 7])?;
-    assert!(rt; compact.is_compact() && !compact.is_compressed());
-    assert!(rt; Point1::from_bytes(&[4, 1, 3])?.to_hybrid().is_hybrid());
+    assert_equal(&rt, &forms(&compact), &[true, false, false, false]);
+    let hybrid = Point1::from_bytes(&[4, 1, 3])?.to_hybrid();
+    assert_equal(&rt, &forms(&hybrid), &[false, false, true, false]);
     let odd = Point1::from_bytes(&[7, 1, 3])?;
-    assert!(rt; odd.coordinates() == Coordinates::Hybrid { x: &[1], y: &[3] });
-    assert_equal(&rt, &odd.coordinates().tag(), &Tag::HybridOddY);
+    let coordinates = Hybrid { x: &[1], y: &[3] };
+    has_coordinates(&rt, &odd, Tag::HybridOddY, coordinates);
     Ok(())
-}
-
-/// Returns the texts of coordinates by `{:?}` and by `{:#?}`, the second on the lines after the
-/// first.
-fn printed(alloc: Global, coordinates: Coordinates<'_, 2>) -> Result<String, Fail> {
-    Ok(format!(in alloc; "{coordinates:?}\n{coordinates:#?}")?)
 }
 
 #[test]
 fn prints_coordinates(rt: HostRuntime) -> Result<(), Fail> {
-    let alloc = rt.alloc();
     let (x, y) = (&[1, 255], &[0, 3]);
-    assert_equal(
+    let identity = Coordinates::<'_, 2>::Identity;
+    has_debug_texts(&rt, rt.alloc(), &identity, "Identity", "Identity")?;
+    has_debug_texts(
         &rt,
-        &printed(alloc, Identity)?.as_str(),
-        &"Identity\nIdentity",
-    );
-    assert_equal(
-        &rt,
-        &printed(alloc, Coordinates::Compact { x })?.as_str(),
-        &"Compact { x: [1, 255] }\nCompact {\n    x: [\n        1,\n        255,\n    ],\n}",
-    );
+        rt.alloc(),
+        &Compact { x },
+        "Compact { x: [1, 255] }",
+        "Compact {\n    x: [\n        1,\n        255,\n    ],\n}",
+    )?;
     let y_is_odd = true;
-    assert_equal(
+    has_debug_texts(
         &rt,
-        &printed(alloc, Compressed { x, y_is_odd })?.as_str(),
-        &"Compressed { x: [1, 255], y_is_odd: true }\nCompressed {\n    x: [\n        1,\n        255,\n    ],\n    y_is_odd: true,\n}",
-    );
-    assert_equal(
+        rt.alloc(),
+        &Compressed { x, y_is_odd },
+        "Compressed { x: [1, 255], y_is_odd: true }",
+        "Compressed {\n    x: [\n        1,\n        255,\n    ],\n    y_is_odd: true,\n}",
+    )?;
+    has_debug_texts(
         &rt,
-        &printed(alloc, Coordinates::Uncompressed { x, y })?.as_str(),
-        &"Uncompressed { x: [1, 255], y: [0, 3] }\nUncompressed {\n    x: [\n        1,\n        255,\n    ],\n    y: [\n        0,\n        3,\n    ],\n}",
-    );
-    assert_equal(
+        rt.alloc(),
+        &Uncompressed { x, y },
+        "Uncompressed { x: [1, 255], y: [0, 3] }",
+        "Uncompressed {\n    x: [\n        1,\n        255,\n    ],\n    y: [\n        0,\n        3,\n    ],\n}",
+    )?;
+    has_debug_texts(
         &rt,
-        &printed(alloc, Coordinates::Hybrid { x, y })?.as_str(),
-        &"Hybrid { x: [1, 255], y: [0, 3] }\nHybrid {\n    x: [\n        1,\n        255,\n    ],\n    y: [\n        0,\n        3,\n    ],\n}",
-    );
+        rt.alloc(),
+        &Hybrid { x, y },
+        "Hybrid { x: [1, 255], y: [0, 3] }",
+        "Hybrid {\n    x: [\n        1,\n        255,\n    ],\n    y: [\n        0,\n        3,\n    ],\n}",
+    )
+}
+
+/// Fails the test unless the value is printed as this text, whatever is asked for.
+fn is_printed(
+    rt: &impl Abort,
+    alloc: Global,
+    value: &impl Display,
+    text: &str,
+) -> Result<(), Fail> {
+    let texts = format!(in alloc;
+        "{value}|{value:#}|{value:.1}|{value:.3}|{value:>9}|{value:<+09}|{value:>60}|{value:>200}"
+    )?;
+    for printed in texts.split('|') {
+        assert_equal(rt, &printed, &text);
+    }
     Ok(())
 }
 
@@ -255,51 +295,72 @@ fn prints_coordinates(rt: HostRuntime) -> Result<(), Fail> {
 fn prints_the_same_whatever_is_asked(rt: HostRuntime) -> Result<(), Fail> {
     let alloc = rt.alloc();
     let point = Point1::from_bytes(&[2, 0xAF])?;
-    assert_equal(
-        &rt,
-        &format!(in alloc; "{point:>9}|{point:.1}|{point:<+09}|{point:#}")?.as_str(),
-        &"02AF|02AF|02AF|02AF",
-    );
+    is_printed(&rt, alloc, &point, "02AF")?;
     let error = Error::Asn1(der::Error::from(ErrorKind::Value));
-    assert_equal(
+    is_printed(
         &rt,
-        &format!(in alloc; "{error:>60}|{error:.3}|{error:?}|{error:#?}")?.as_str(),
-        &"SEC1 ASN.1 error: content not valid for its tag|SEC1 ASN.1 error: content not valid for its tag|Asn1(Error { kind: Value })|Asn1(\n    Error {\n        kind: Value,\n    },\n)",
-    );
+        alloc,
+        &error,
+        "SEC1 ASN.1 error: content not valid for its tag",
+    )?;
+    has_debug_texts(
+        &rt,
+        alloc,
+        &error,
+        "Asn1(Error { kind: Value })",
+        "Asn1(\n    Error {\n        kind: Value,\n    },\n)",
+    )?;
     let tag = Tag::HybridOddY;
-    assert_equal(
-        &rt,
-        &format!(in alloc; "{tag:?}|{tag:#?}|{tag:>20?}")?.as_str(),
-        &"HybridOddY|HybridOddY|HybridOddY",
-    );
+    has_debug_texts(&rt, alloc, &tag, "HybridOddY", "HybridOddY")?;
+    let padded = format!(in alloc; "{tag:>20?}")?;
+    assert_equal(&rt, &padded.as_str(), &"HybridOddY");
     Ok(())
 }
 
 #[test]
 fn compares_coordinates(rt: HostRuntime) {
-    let (x, other, y) = (&[1, 2], &[1, 3], &[0, 3]);
-    let even = Compressed { x, y_is_odd: false };
-    let uncompressed = Coordinates::Uncompressed { x, y };
-    assert!(rt;
-        even == Compressed {
+    let (x, other) = (&[1, 2], &[1, 3]);
+    let y_is_odd = false;
+    let even = Compressed { x, y_is_odd };
+    assert_equal(
+        &rt,
+        &even,
+        &Compressed {
             x: &[1, 2],
-            y_is_odd: false
-        }
+            y_is_odd,
+        },
     );
-    assert!(rt; even != Compressed { x, y_is_odd: true });
-    assert!(rt;
-        even != Compressed {
-            x: other,
-            y_is_odd: false
-        }
-    );
-    assert!(rt; even != Coordinates::Compact { x } && even != Identity);
-    assert!(rt; uncompressed == Coordinates::Uncompressed { x, y });
-    assert!(rt; uncompressed != Coordinates::Uncompressed { x: other, y });
-    assert!(rt; uncompressed != Coordinates::Uncompressed { x, y: other });
-    assert!(rt; uncompressed != Coordinates::Hybrid { x, y });
-    assert!(rt; Coordinates::Hybrid { x, y } == Coordinates::Hybrid { x, y });
-    assert!(rt; Identity == Coordinates::<'_, 2>::Identity);
+    assert_unequal(&rt, &even, &Compressed { x, y_is_odd: true });
+    assert_unequal(&rt, &even, &Compressed { x: other, y_is_odd });
+    assert_unequal(&rt, &even, &Compact { x });
+    assert_unequal(&rt, &even, &Identity);
+    assert_equal(&rt, &Identity, &Coordinates::<'_, 2>::Identity);
+}
+
+#[test]
+fn compares_coordinates_with_y(rt: HostRuntime) {
+    let (x, other, y) = (&[1, 2], &[1, 3], &[0, 3]);
+    let uncompressed = Uncompressed { x, y };
+    let hybrid = Hybrid { x, y };
+    assert_equal(&rt, &uncompressed, &Uncompressed { x, y });
+    assert_unequal(&rt, &uncompressed, &Uncompressed { x: other, y });
+    assert_unequal(&rt, &uncompressed, &Uncompressed { x, y: other });
+    assert_unequal(&rt, &uncompressed, &hybrid);
+    assert_equal(&rt, &hybrid, &Hybrid { x, y });
+}
+
+/// Fails the test unless the bytes are a compressed point of this tag and parity.
+fn has_parity(rt: &impl Abort, bytes: [u8; 33], tag: Tag, y_is_odd: bool) -> Result<(), Fail> {
+    let point = EncodedPoint32::from_bytes(&bytes)?;
+    assert_equal(rt, &point.tag(), &tag);
+    assert_equal(rt, &point.len(), &33);
+    assert_equal(rt, &point.y(), &None);
+    let is_odd = match point.coordinates() {
+        Compressed { y_is_odd, .. } => Some(y_is_odd),
+        _ => None,
+    };
+    assert_equal(rt, &is_odd, &Some(y_is_odd));
+    Ok(())
 }
 
 #[test]
@@ -307,42 +368,31 @@ fn reads_parities(rt: HostRuntime) -> Result<(), Fail> {
     let mut bytes = [0; 33];
     bytes[0] = 2;
     bytes[1] = 1;
-    let even = EncodedPoint32::from_bytes(bytes.as_slice())?;
+    has_parity(&rt, bytes, Tag::CompressedEvenY, false)?;
     bytes[0] = 3;
     bytes[1] = 2;
-    let odd = EncodedPoint32::from_bytes(bytes.as_slice())?;
-    assert!(rt; even.tag() == Tag::CompressedEvenY && odd.tag() == Tag::CompressedOddY);
-    assert!(rt; even.len() == 33 && even.y().is_none() && odd.y().is_none());
-    assert!(rt;
-        matches!(
-            even.coordinates(),
-            Coordinates::Compressed {
-                y_is_odd: false,
-                ..
-            }
-        )
-    );
-    assert!(rt;
-        matches!(
-            odd.coordinates(),
-            Coordinates::Compressed { y_is_odd: true, .. }
-        )
-    );
-    Ok(())
+    has_parity(&rt, bytes, Tag::CompressedOddY, true)
 }
 
 #[test]
 fn has_identities(rt: HostRuntime) {
     let identity = EncodedPoint32::identity();
-    assert!(rt; identity.is_identity() && identity.x().is_none() && identity.y().is_none());
-    assert!(rt; EncodedPoint32::from_bytes(&[0]) == Ok(identity));
-    assert!(rt; EncodedPoint28::default() == EncodedPoint28::identity());
-    assert!(rt; EncodedPoint32::default() == identity);
-    assert!(rt; EncodedPoint48::default() == EncodedPoint48::identity());
-    assert!(rt; EncodedPoint66::default() == EncodedPoint66::identity());
+    assert_equal(&rt, &forms(&identity), &[false, false, false, true]);
+    assert_equal(&rt, &(identity.x(), identity.y()), &(None, None));
+    assert_equal(&rt, &identity.tag(), &Tag::Identity);
+    assert_equal(&rt, &identity.as_bytes(), &[0].as_slice());
+    assert_equal(&rt, &EncodedPoint32::from_bytes(&[0]), &Ok(identity));
+    assert_equal(&rt, &Point1::identity().len(), &1);
+}
+
+#[test]
+fn has_identities_by_default(rt: HostRuntime) {
+    assert_equal(&rt, &EncodedPoint28::default(), &EncodedPoint28::identity());
+    assert_equal(&rt, &EncodedPoint32::default(), &EncodedPoint32::identity());
+    assert_equal(&rt, &EncodedPoint48::default(), &EncodedPoint48::identity());
+    assert_equal(&rt, &EncodedPoint66::default(), &EncodedPoint66::identity());
     assert_equal(&rt, &EncodedPoint32::default().tag(), &Tag::Identity);
     assert_equal(&rt, &EncodedPoint32::default().as_bytes(), &[0].as_slice());
-    assert_equal(&rt, &Point1::identity().len(), &1);
 }
 
 #[test]
@@ -354,33 +404,42 @@ fn has_tags(rt: HostRuntime) -> Result<(), Fail> {
     assert_equal(&rt, &Tag::try_from(7)?, &Tag::HybridOddY);
     assert_equal(&rt, &u8::from(Tag::HybridOddY), &7);
     for byte in [1, 8, 0xFF] {
-        assert_eq!(rt;
-            Tag::from_u8(byte).err(),
-            Some(Error::PointEncoding),
-            "{byte}"
-        );
+        let refused = Tag::from_u8(byte).err();
+        assert_equal_for(&rt, &byte, &refused, &Some(Error::PointEncoding));
     }
+    Ok(())
+}
+
+/// Fails the test unless the first point is less than the second.
+fn is_less(rt: &impl Abort, lower: &[u8], higher: &[u8]) -> Result<(), Fail> {
+    let low = Point1::from_bytes(lower)?;
+    let high = Point1::from_bytes(higher)?;
+    let found = (low < high, high > low, low != high);
+    assert_equal_for(rt, &(lower, higher), &found, &(true, true, true));
     Ok(())
 }
 
 #[test]
 fn orders_points(rt: HostRuntime) -> Result<(), Fail> {
     for (i, &lower) in ORDERED.iter().enumerate() {
-        let point = Point1::from_bytes(lower)?;
         for &higher in ORDERED[i + 1..].iter() {
-            let other = Point1::from_bytes(higher)?;
-            assert!(rt;
-                point < other && other > point && point != other,
-                "{lower:?} {higher:?}"
-            );
+            is_less(&rt, lower, higher)?;
         }
     }
+    let small = EncodedPoint32::from_bytes(compressed_32().as_slice())?;
+    let large = EncodedPoint32::from_bytes(uncompressed_32().as_slice())?;
+    assert_equal(&rt, &(small < large), &true);
+    Ok(())
+}
+
+/// A point whose buffer has a y after the encoding is equal to one without.
+#[test]
+fn compares_points_by_their_encodings(rt: HostRuntime) -> Result<(), Fail> {
     let compressed = Point1::from_bytes(&[4, 1, 0xFF])?.compress();
     let read = Point1::from_bytes(&[3, 1])?;
-    assert!(rt; compressed == read && compressed.ct_eq(&read));
+    assert_equal(&rt, &compressed, &read);
+    assert_equal(&rt, &compressed.ct_eq(&read), &true);
     assert_equal(&rt, &compressed.cmp(&read), &Ordering::Equal);
-    let small = EncodedPoint32::from_bytes(compressed_32().as_slice())?;
-    assert!(rt; small < EncodedPoint32::from_bytes(uncompressed_32().as_slice())?);
     Ok(())
 }
 
@@ -416,45 +475,55 @@ fn fed_by<T: Hash>(value: &T) -> u128 {
 
 #[test]
 fn hashes_points(rt: HostRuntime) -> Result<(), Fail> {
-    let point = Point1::from_str("02AF")?;
+    let fed = fed_by(&Point1::from_str("02AF")?);
     let bytes: &[u8] = &[2, 0xAF];
-    assert_equal(&rt, &fed_by(&point), &fed_by(&bytes));
+    assert_equal(&rt, &fed, &fed_by(&bytes));
     // no digit was lost
-    assert!(rt; fed_by(&point) < 1 << 120 && fed_by(&point) > 1 << 16);
-    let mut points = HashSet::new(rt.alloc());
-    assert!(rt; points.insert(point)?);
-    assert!(rt; points.contains(&Point1::from_bytes(bytes)?));
-    let compressed = Point1::from_bytes(&[4, 0xAF, 2])?.compress();
-    assert!(rt; !points.insert(compressed)?);
-    assert_equal(&rt, &points.len(), &1);
+    assert_equal(&rt, &(fed < 1 << 120 && fed > 1 << 16), &true);
     let wide = EncodedPoint32::identity();
     assert_equal(&rt, &fed_by(&wide), &fed_by(&wide.as_bytes()));
     Ok(())
 }
 
+#[test]
+fn finds_points_in_sets(rt: HostRuntime) -> Result<(), Fail> {
+    let compressed = Point1::from_bytes(&[4, 0xAF, 2])?.compress();
+    let mut points = HashSet::new(rt.alloc());
+    assert_equal(&rt, &points.insert(Point1::from_str("02AF")?)?, &true);
+    let read = Point1::from_bytes(&[2, 0xAF])?;
+    assert_equal(&rt, &points.contains(&read), &true);
+    assert_equal(&rt, &points.insert(compressed)?, &false);
+    assert_equal(&rt, &points.len(), &1);
+    Ok(())
+}
+
+/// Fails the test unless each selection between the two returns the one that is chosen.
 fn selects<const N: usize, const L: usize>(
     rt: &impl Abort,
     a: EncodedPoint<N, L>,
     b: EncodedPoint<N, L>,
 ) {
-    assert_equal(rt, &a.ct_select(&b, false).as_bytes(), &a.as_bytes());
-    assert_equal(rt, &a.ct_select(&b, true).as_bytes(), &b.as_bytes());
-    assert_equal(
-        rt,
-        &EncodedPoint::conditional_select(&a, &b, false).as_bytes(),
-        &a.as_bytes(),
-    );
-    assert_equal(
-        rt,
-        &EncodedPoint::conditional_select(&a, &b, true).as_bytes(),
-        &b.as_bytes(),
-    );
+    for (choice, chosen) in [(false, a), (true, b)] {
+        let selected = EncodedPoint::conditional_select(&a, &b, choice);
+        assert_equal(rt, &selected.as_bytes(), &chosen.as_bytes());
+        assert_equal(rt, &a.ct_select(&b, choice).as_bytes(), &chosen.as_bytes());
+    }
+    assigns(rt, a, b);
+}
+
+/// Fails the test unless an assignment changes the point to the other if it is chosen, and only
+/// then.
+fn assigns<const N: usize, const L: usize>(
+    rt: &impl Abort,
+    a: EncodedPoint<N, L>,
+    b: EncodedPoint<N, L>,
+) {
     let mut point = a;
     point.ct_assign(&b, false);
     assert_equal(rt, &point.as_bytes(), &a.as_bytes());
     point.ct_assign(&b, true);
     assert_equal(rt, &point.as_bytes(), &b.as_bytes());
-    assert!(rt; point.ct_eq(&b) && !point.ct_eq(&a));
+    assert_equal(rt, &(point.ct_eq(&b), point.ct_eq(&a)), &(true, false));
     point.zeroize();
     assert_equal(rt, &point.as_bytes(), &[0].as_slice());
 }
@@ -465,21 +534,36 @@ fn selects_points(rt: HostRuntime) -> Result<(), Fail> {
     selects(&rt, whole, Point1::identity());
     selects(&rt, Point1::identity(), whole);
     let compressed = EncodedPoint32::from_bytes(compressed_32().as_slice())?;
-    selects(
-        &rt,
-        compressed,
-        EncodedPoint32::from_bytes(uncompressed_32().as_slice())?,
-    );
+    let uncompressed = EncodedPoint32::from_bytes(uncompressed_32().as_slice())?;
+    selects(&rt, compressed, uncompressed);
+    Ok(())
+}
+
+#[test]
+fn assigns_points(rt: HostRuntime) -> Result<(), Fail> {
+    let whole = Point1::from_bytes(&[4, 1, 2])?;
     let mut assigned = whole;
     assigned.ct_assign(&Point1::identity(), true);
     assert_equal(&rt, &assigned.as_bytes(), &[0].as_slice());
-    assert!(rt; assigned.len() == 1 && assigned.ct_eq(&Point1::identity()));
+    assert_equal(&rt, &assigned.len(), &1);
+    assert_equal(&rt, &assigned.ct_eq(&Point1::identity()), &true);
     let mut assigned = Point1::identity();
     assigned.ct_assign(&whole, true);
     assert_equal(&rt, &assigned.as_bytes(), &[4, 1, 2].as_slice());
     Ok(())
 }
 
+/// Fails the test unless the point is read from the text.
+fn is_read_from<const N: usize, const L: usize>(
+    rt: &impl Abort,
+    point: &EncodedPoint<N, L>,
+    text: &str,
+) -> Result<(), Fail> {
+    assert_equal(rt, &EncodedPoint::from_str(text)?, point);
+    Ok(())
+}
+
+/// Fails the test unless the point has these texts, and is read from both.
 fn is_written<const N: usize, const L: usize>(
     rt: &impl Abort,
     alloc: Global,
@@ -487,25 +571,34 @@ fn is_written<const N: usize, const L: usize>(
     upper: &str,
     lower: &str,
 ) -> Result<(), Fail> {
-    assert!(rt; point == EncodedPoint::<N, L>::from_str(upper)?);
-    assert!(rt; point == EncodedPoint::<N, L>::from_str(lower)?);
-    assert_equal(rt, &format!(in alloc; "{point}")?.as_str(), &upper);
-    assert_equal(rt, &format!(in alloc; "{point:>200}")?.as_str(), &upper);
+    is_read_from(rt, &point, upper)?;
+    is_read_from(rt, &point, lower)?;
     assert_equal(rt, &point.to_upper_hex(alloc)?.as_str(), &upper);
     assert_equal(rt, &point.to_lower_hex(alloc)?.as_str(), &lower);
     assert_equal(rt, &point.to_bytes(alloc)?.as_slice(), &point.as_bytes());
-    is_written_as_json(rt, alloc, point, upper)
+    is_printed(rt, alloc, &point, upper)?;
+    is_written_as_json(rt, alloc, &point, upper)
 }
 
+/// Fails the test unless the point is the string of this text in JSON, and is read from it.
 fn is_written_as_json<const N: usize, const L: usize>(
     rt: &impl Abort,
     alloc: Global,
-    point: EncodedPoint<N, L>,
+    point: &EncodedPoint<N, L>,
     upper: &str,
 ) -> Result<(), Fail> {
     let json = point.to_json(alloc)?;
     assert_equal(rt, &json.as_str(), &Some(upper));
-    assert!(rt; EncodedPoint::<N, L>::from_json(&json)? == point);
+    is_read_from_json(rt, point, &json)
+}
+
+/// Fails the test unless the point is read from the JSON.
+fn is_read_from_json<const N: usize, const L: usize>(
+    rt: &impl Abort,
+    point: &EncodedPoint<N, L>,
+    json: &Value,
+) -> Result<(), Fail> {
+    assert_equal(rt, &EncodedPoint::from_json(json)?, point);
     Ok(())
 }
 
@@ -515,13 +608,8 @@ fn writes_texts(rt: HostRuntime) -> Result<(), Fail> {
     is_written(&rt, alloc, Point1::from_bytes(&[2, 0xAF])?, "02AF", "02af")?;
     for &(upper, lower) in TEXTS_32.iter() {
         let bytes = hex::decode(alloc, upper)?;
-        is_written(
-            &rt,
-            alloc,
-            EncodedPoint32::from_bytes(&bytes)?,
-            upper,
-            lower,
-        )?;
+        let point = EncodedPoint32::from_bytes(&bytes)?;
+        is_written(&rt, alloc, point, upper, lower)?;
     }
     assert_equal(
         &rt,
@@ -533,23 +621,13 @@ fn writes_texts(rt: HostRuntime) -> Result<(), Fail> {
 
 #[test]
 fn refuses_other_texts(rt: HostRuntime) {
+    let wanted = Some(Error::PointEncoding);
     for &text in NO_TEXT.iter() {
-        assert_eq!(rt;
-            Point1::from_str(text).err(),
-            Some(Error::PointEncoding),
-            "{text}"
-        );
+        assert_equal_for(&rt, &text, &Point1::from_str(text).err(), &wanted);
     }
-    assert_equal(
-        &rt,
-        &Point1::from_json(&Value::from(2u8)).err(),
-        &Some(Error::PointEncoding),
-    );
-    assert_equal(
-        &rt,
-        &Point1::from_json(&Value::from(0.5)).err(),
-        &Some(Error::PointEncoding),
-    );
+    for value in [Value::from(2u8), Value::from(0.5)] {
+        assert_equal(&rt, &Point1::from_json(&value).err(), &wanted);
+    }
 }
 
 #[test]

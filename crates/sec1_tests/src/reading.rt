@@ -1,8 +1,9 @@
 //! Keys that are read and bytes that are refused, by examples with known results.
-use crate::assert_equal;
+use crate::{assert_equal, assert_equal_for, has_debug_texts};
 use der::{ErrorKind, FixedTag, ObjectIdentifier};
 use sec1::{ALGORITHM_OID, EcParameters, EcPrivateKey, Error, Result, der};
 use std::alloc::Global;
+use std::process::Abort;
 use std::test::Fail;
 
 /// The private key of a key on P-256.
@@ -26,10 +27,16 @@ fn key_with(alloc: Global, header: &str, parameters: &str) -> std::result::Resul
     Ok(hex::decode(alloc, text.as_str())?)
 }
 
+/// Reads a key.
+// A caller takes the prover less time than one of `try_from`, whose contract is long.
+pub fn read_key(bytes: &[u8]) -> Result<EcPrivateKey<'_>> {
+    EcPrivateKey::try_from(bytes)
+}
+
 /// The kind by which the bytes are refused as a key; `None` if they are one, or the error has no
 /// kind.
 fn refusal(bytes: &[u8]) -> Option<ErrorKind> {
-    match EcPrivateKey::try_from(bytes) {
+    match read_key(bytes) {
         Err(Error::Asn1(cause)) => Some(cause.kind),
         _ => None,
     }
@@ -40,25 +47,31 @@ fn has_the_tag_of_a_sequence(rt: HostRuntime) {
     assert_equal(&rt, &EcPrivateKey::TAG.byte(), &0x30);
 }
 
+/// Fails the test unless the bytes are the key, with these parameters.
+fn is_key(
+    rt: &impl Abort,
+    alloc: Global,
+    bytes: &[u8],
+    parameters: Option<EcParameters>,
+) -> std::result::Result<(), Fail> {
+    let key = read_key(bytes)?;
+    let private_key = hex::decode(alloc, PRIVATE_KEY)?;
+    let public_key = hex::decode(alloc, PUBLIC_KEY)?;
+    assert_equal(rt, &key.private_key, &private_key.as_slice());
+    assert_equal(rt, &key.parameters, &parameters);
+    assert_equal(rt, &key.public_key, &Some(public_key.as_slice()));
+    Ok(())
+}
+
 #[test]
 fn reads_whole_keys(rt: HostRuntime) -> std::result::Result<(), Fail> {
-    let private_key = hex::decode(rt.alloc(), PRIVATE_KEY)?;
-    let public_key = hex::decode(rt.alloc(), PUBLIC_KEY)?;
     let p_256 = ObjectIdentifier::new("1.2.840.10045.3.1.7")?;
-
     let bytes = whole_key(rt.alloc())?;
-    let key = EcPrivateKey::try_from(bytes.as_slice())?;
-    assert_equal(&rt, &key.private_key, &private_key.as_slice());
-    assert!(rt; key.parameters == Some(EcParameters::from(p_256)));
-    assert_equal(&rt, &key.public_key, &Some(public_key.as_slice()));
+    is_key(&rt, rt.alloc(), &bytes, Some(EcParameters::from(p_256)))?;
 
     // without parameters, as inside PKCS#8
     let bytes = key_with(rt.alloc(), "306B", "")?;
-    let key = EcPrivateKey::try_from(bytes.as_slice())?;
-    assert_equal(&rt, &key.private_key, &private_key.as_slice());
-    assert!(rt; key.parameters.is_none());
-    assert_equal(&rt, &key.public_key, &Some(public_key.as_slice()));
-    Ok(())
+    is_key(&rt, rt.alloc(), &bytes, None)
 }
 
 /// Keys without a private key: the bytes, the dotted text of the curve, the hexadecimal of the
@@ -94,24 +107,49 @@ fn curve(alloc: Global, key: &EcPrivateKey) -> std::result::Result<Option<String
     }
 }
 
+/// Decodes hexadecimal, if there is any.
+fn decoded(alloc: Global, text: Option<&str>) -> std::result::Result<Option<Vec<u8>>, Fail> {
+    match text {
+        Some(digits) => Ok(Some(hex::decode(alloc, digits)?)),
+        None => Ok(None),
+    }
+}
+
+/// Fails the test unless the key has an empty private key, and these other fields.
+fn has_fields(
+    rt: &impl Abort,
+    alloc: Global,
+    key: &EcPrivateKey,
+    named: Option<&str>,
+    public_key: Option<&str>,
+) -> std::result::Result<(), Fail> {
+    assert_equal_for(rt, key, &key.private_key, &[].as_slice());
+    let curve = curve(alloc, key)?;
+    assert_equal_for(rt, key, &curve.as_deref(), &named);
+    let wanted = decoded(alloc, public_key)?;
+    assert_equal_for(rt, key, &key.public_key, &wanted.as_deref());
+    Ok(())
+}
+
+/// Fails the test unless the key is written as these bytes.
+pub fn is_written(
+    rt: &impl Abort,
+    alloc: Global,
+    key: &EcPrivateKey,
+    bytes: &[u8],
+) -> std::result::Result<(), Fail> {
+    let written = key.to_der(alloc)?;
+    assert_equal_for(rt, key, &written.as_slice(), &bytes);
+    Ok(())
+}
+
 #[test]
 fn reads_and_writes_optional_fields(rt: HostRuntime) -> std::result::Result<(), Fail> {
     for &(text, named, public_key) in KEYS.iter() {
         let bytes = hex::decode(rt.alloc(), text)?;
-        let key = EcPrivateKey::try_from(bytes.as_slice())?;
-        assert!(rt; key.private_key.is_empty(), "{text}");
-        let curve = curve(rt.alloc(), &key)?;
-        assert_eq!(rt; curve.as_deref(), named, "{text}");
-        let wanted = match public_key {
-            Some(digits) => Some(hex::decode(rt.alloc(), digits)?),
-            None => None,
-        };
-        assert_eq!(rt; key.public_key, wanted.as_deref(), "{text}");
-        assert_eq!(rt;
-            key.to_der(rt.alloc())?.as_slice(),
-            bytes.as_slice(),
-            "{text}"
-        );
+        let key = read_key(&bytes)?;
+        has_fields(&rt, rt.alloc(), &key, named, public_key)?;
+        is_written(&rt, rt.alloc(), &key, &bytes)?;
     }
     Ok(())
 }
@@ -193,7 +231,7 @@ static REFUSED: [(&str, ErrorKind); 35] = [
 fn refuses_bytes_of_no_key(rt: HostRuntime) -> std::result::Result<(), Fail> {
     for &(text, kind) in REFUSED.iter() {
         let bytes = hex::decode(rt.alloc(), text)?;
-        assert_eq!(rt; refusal(bytes.as_slice()), Some(kind), "{text}");
+        assert_equal_for(&rt, &text, &refusal(&bytes), &Some(kind));
     }
     Ok(())
 }
@@ -202,15 +240,11 @@ fn refuses_bytes_of_no_key(rt: HostRuntime) -> std::result::Result<(), Fail> {
 fn refuses_wrong_parts_of_a_key(rt: HostRuntime) -> std::result::Result<(), Fail> {
     let mut bytes = whole_key(rt.alloc())?;
     for count in 0..bytes.len() {
-        let part = bytes.get(..count).ok_or("too short")?;
-        assert_eq!(rt; refusal(part), Some(ErrorKind::Truncated), "{count} bytes");
+        let refused = refusal(&bytes[..count]);
+        assert_equal_for(&rt, &count, &refused, &Some(ErrorKind::Truncated));
     }
     bytes.push(0)?;
-    assert_equal(
-        &rt,
-        &refusal(bytes.as_slice()),
-        &Some(ErrorKind::TrailingData),
-    );
+    assert_equal(&rt, &refusal(&bytes), &Some(ErrorKind::TrailingData));
     Ok(())
 }
 
@@ -228,7 +262,8 @@ fn hands_refusals_on(rt: HostRuntime) -> std::result::Result<(), Fail> {
         &1,
     );
     let refused = private_key_len(b"\x31\x80");
-    assert!(rt; refused == Err(Error::from(der::Error::from(ErrorKind::Tag))));
+    let wanted = Err(Error::from(der::Error::from(ErrorKind::Tag)));
+    assert_equal(&rt, &refused, &wanted);
     Ok(())
 }
 
@@ -257,7 +292,7 @@ fn prints_errors(rt: HostRuntime) -> std::result::Result<(), Fail> {
         assert_equal(&rt, &format!(in rt.alloc(); "{error}")?.as_str(), &*text);
     }
     let refused_growth = Error::from(der::Error::from(ErrorKind::Memory));
-    assert!(rt; refused_growth == Error::Memory);
+    assert_equal(&rt, &refused_growth, &Error::Memory);
     Ok(())
 }
 
@@ -293,29 +328,35 @@ static DEBUG_TEXTS: [(&[u8], &str, &str); 5] = [
 #[test]
 fn shows_no_private_key_in_debug_texts(rt: HostRuntime) -> std::result::Result<(), Fail> {
     for &(bytes, text, lines) in DEBUG_TEXTS.iter() {
-        let key = EcPrivateKey::try_from(bytes)?;
-        assert_equal(&rt, &format!(in rt.alloc(); "{key:?}")?.as_str(), &text);
-        assert_equal(&rt, &format!(in rt.alloc(); "{key:#?}")?.as_str(), &lines);
+        has_debug_texts(&rt, rt.alloc(), &read_key(bytes)?, text, lines)?;
     }
     let curve = EcParameters::from(ObjectIdentifier::new("1.2.3")?);
-    assert_equal(
+    has_debug_texts(
         &rt,
-        &format!(in rt.alloc(); "{curve:?}")?.as_str(),
-        &"NamedCurve(ObjectIdentifier(1.2.3))",
-    );
+        rt.alloc(),
+        &curve,
+        "NamedCurve(ObjectIdentifier(1.2.3))",
+        "NamedCurve(\n    ObjectIdentifier(1.2.3),\n)",
+    )
+}
+
+#[test]
+fn copies_keys(rt: HostRuntime) -> std::result::Result<(), Fail> {
+    let bytes = whole_key(rt.alloc())?;
+    let key = read_key(&bytes)?;
+    let copy = key.clone()?;
+    assert_equal(&rt, &copy.private_key, &key.private_key);
+    assert_equal(&rt, &copy.parameters, &key.parameters);
+    assert_equal(&rt, &copy.public_key, &key.public_key);
     Ok(())
 }
 
 #[test]
-fn copies_keys_and_curves(rt: HostRuntime) -> std::result::Result<(), Fail> {
-    let bytes = whole_key(rt.alloc())?;
-    let key = EcPrivateKey::try_from(bytes.as_slice())?;
-    let copy = key.clone()?;
-    assert_equal(&rt, &copy.private_key, &key.private_key);
-    assert!(rt; copy.parameters == key.parameters);
-    assert_equal(&rt, &copy.public_key, &key.public_key);
+fn names_curves(rt: HostRuntime) -> std::result::Result<(), Fail> {
     let curve = ObjectIdentifier::new("1.3.132.0.34")?;
-    assert!(rt; EcParameters::from(curve).named_curve() == Some(curve));
-    assert!(rt; ALGORITHM_OID == ObjectIdentifier::new("1.2.840.10045.2.1")?);
+    let named = EcParameters::from(curve).named_curve();
+    assert_equal(&rt, &named, &Some(curve));
+    let algorithm = ObjectIdentifier::new("1.2.840.10045.2.1")?;
+    assert_equal(&rt, &ALGORITHM_OID, &algorithm);
     Ok(())
 }

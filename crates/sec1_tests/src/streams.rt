@@ -1,10 +1,12 @@
 //! Keys over readers and writers that fail, at each read and each write once.
 use super::reading::whole_key;
 use super::traits::{Copied, asn1};
-use crate::assert_equal;
+use crate::{assert_equal, assert_equal_for};
 use sec1::der::{ErrorKind, Read, StdReader, StdWriter, Write};
 use sec1::{DecodeEcPrivateKey, EncodeEcPrivateKey};
+use std::alloc::Global;
 use std::io;
+use std::process::Abort;
 use std::test::Fail;
 
 /// A reader that gives its bytes one by one and then fails.
@@ -50,18 +52,36 @@ impl io::Write for Narrow {
     }
 }
 
+/// Fails the test unless reading ends as Io, once the reader has given these bytes.
+fn reports_failed_read(rt: &impl Abort, alloc: Global, given: &[u8]) {
+    let mut reader = StdReader::new(Broken { rest: given });
+    let refused = Copied::read_sec1_der_from(alloc, &mut reader);
+    let found = (refused.err(), reader.has_failed(), reader.into_inner().rest);
+    assert_equal_for(rt, &given, &found, &(asn1(ErrorKind::Io), true, &[]));
+}
+
 #[test]
 fn reports_failed_reads_in_turn(rt: HostRuntime) -> Result<(), Fail> {
     let bytes = whole_key(rt.alloc())?;
-    for given in 0..=bytes.len() {
-        let rest = bytes.get(..given).ok_or("too short")?;
-        let mut reader = StdReader::new(Broken { rest });
-        let refused = Copied::read_sec1_der_from(rt.alloc(), &mut reader);
-        assert_eq!(rt; refused.err(), asn1(ErrorKind::Io), "after {given}");
-        assert!(rt; reader.has_failed() && reader.into_inner().rest.is_empty());
+    for count in 0..=bytes.len() {
+        reports_failed_read(&rt, rt.alloc(), &bytes[..count]);
     }
     println!(&rt; "read_sec1_der_from: each of its 122 reads fails")?;
     Ok(())
+}
+
+/// Fails the test unless writing the key ends as Io, once the writer has taken `room` bytes.
+fn reports_failed_write(rt: &impl Abort, alloc: Global, key: &Copied, room: usize, fails: bool) {
+    let taken = Vec::new(alloc);
+    let mut writer = StdWriter::new(Narrow { taken, room, fails });
+    let refused = key.write_sec1_der_to(alloc, &mut writer);
+    assert_equal_for(rt, &room, &refused.err(), &asn1(ErrorKind::Io));
+    assert_equal_for(rt, &room, &writer.has_failed(), &true);
+    assert_equal(
+        rt,
+        &Some(writer.into_inner().taken.as_slice()),
+        &key.bytes.get(..room),
+    );
 }
 
 #[test]
@@ -71,16 +91,7 @@ fn reports_failed_writes_in_turn(rt: HostRuntime) -> Result<(), Fail> {
     };
     for room in 0..key.bytes.len() {
         for fails in [true, false] {
-            let taken = Vec::new(rt.alloc());
-            let mut writer = StdWriter::new(Narrow { taken, room, fails });
-            let refused = key.write_sec1_der_to(rt.alloc(), &mut writer);
-            assert_eq!(rt; refused.err(), asn1(ErrorKind::Io), "after {room}");
-            assert!(rt; writer.has_failed());
-            assert_equal(
-                &rt,
-                &Some(writer.into_inner().taken.as_slice()),
-                &key.bytes.get(..room),
-            );
+            reports_failed_write(&rt, rt.alloc(), &key, room, fails);
         }
     }
     println!(&rt; "write_sec1_der_to: each of its 121 writes fails")?;

@@ -2,12 +2,12 @@
 ghost use Rattle.std.specs.Prelude.{◌≡◌, ⊤};
 
 use super::reading::whole_key;
-use crate::assert_equal;
+use crate::{assert_equal, assert_equal_for};
 use der::{ErrorKind, SecretDocument, StdReader, StdWriter};
 use sec1::{DecodeEcPrivateKey, EncodeEcPrivateKey, Error, Result, der};
 use std::alloc::Global;
+use std::io;
 use std::test::Fail;
-use std::{fs, io};
 
 /// A key that is any bytes. It is written if they are one element.
 #[derive(Debug, PartialEq, Drop)]
@@ -51,24 +51,27 @@ pub fn asn1(kind: ErrorKind) -> Option<Error> {
     Some(Error::Asn1(der::Error::from(kind)))
 }
 
+/// Reads a key from a reader of these bytes.
+fn read_from(alloc: Global, bytes: &[u8]) -> Result<Copied> {
+    Copied::read_sec1_der_from(alloc, &mut StdReader::new(bytes))
+}
+
 #[test]
 fn reads_keys(rt: HostRuntime) -> std::result::Result<(), Fail> {
     let alloc = rt.alloc();
     for &(bytes, is_element) in BYTES.iter() {
-        assert_equal(
-            &rt,
-            &Copied::from_sec1_der(alloc, bytes)?.bytes.as_slice(),
-            &bytes,
-        );
-        let read = Copied::read_sec1_der_from(alloc, &mut StdReader::new(bytes));
-        assert_eq!(rt; read.is_ok(), is_element, "of {bytes:?}");
+        let key = Copied::from_sec1_der(alloc, bytes)?;
+        assert_equal(&rt, &key.bytes.as_slice(), &bytes);
+        let is_read = read_from(alloc, bytes).is_ok();
+        assert_equal_for(&rt, &bytes, &is_read, &is_element);
     }
     let bytes = whole_key(alloc)?;
-    let key = Copied::read_sec1_der_from(alloc, &mut StdReader::new(bytes.as_slice()))?;
-    assert_equal(&rt, &key.bytes.as_slice(), &bytes.as_slice());
-
-    let short = Copied::read_sec1_der_from(alloc, &mut StdReader::new(b"\x04\x02\xAA".as_slice()));
-    assert_equal(&rt, &short.err(), &asn1(ErrorKind::Truncated));
+    assert_equal(&rt, &read_from(alloc, &bytes)?.bytes, &bytes);
+    assert_equal(
+        &rt,
+        &read_from(alloc, b"\x04\x02\xAA").err(),
+        &asn1(ErrorKind::Truncated),
+    );
     Ok(())
 }
 
@@ -124,29 +127,5 @@ fn writes_nothing_of_refused_keys(rt: HostRuntime) -> std::result::Result<(), Fa
     let refused = key.write_sec1_der_to(alloc, &mut writer);
     assert_equal(&rt, &refused.err(), &asn1(ErrorKind::Truncated));
     assert!(rt; writer.into_inner().is_empty());
-    Ok(())
-}
-
-#[test]
-fn keeps_keys_in_files(rt: HostRuntime) -> std::result::Result<(), Fail> {
-    let alloc = rt.alloc();
-    let folder = std::env::temp_dir(&rt)?;
-    let path = format!(in alloc;
-        "{}/sec1_{}",
-        folder.display(),
-        std::process::id(rt.process())
-    )?;
-    let missing = Copied::read_sec1_der_file(&rt, alloc, &path);
-    assert_equal(&rt, &missing.err(), &asn1(ErrorKind::Io));
-
-    let bytes = whole_key(alloc)?;
-    fs::write(&rt, &path, &bytes)?;
-    let key = Copied::read_sec1_der_file(&rt, alloc, &path)?;
-    assert_equal(&rt, &key.bytes.as_slice(), &bytes.as_slice());
-    fs::remove_file(&rt, &path)?;
-
-    key.write_sec1_der_file(&rt, alloc, &path)?;
-    assert_equal(&rt, &Copied::read_sec1_der_file(&rt, alloc, &path)?, &key);
-    fs::remove_file(&rt, &path)?;
     Ok(())
 }

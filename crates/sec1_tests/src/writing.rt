@@ -1,9 +1,10 @@
 //! Keys that are written, by examples with known results.
-use super::reading::whole_key;
-use crate::assert_equal;
+use super::reading::{is_written, read_key, whole_key};
+use crate::{assert_equal, assert_equal_for};
 use sec1::der::{self, AnyRef, EncodeValue, ErrorKind, ObjectIdentifier, SliceWriter, Tag};
 use sec1::{EcParameters, EcPrivateKey, Error};
 use std::alloc::Global;
+use std::process::Abort;
 use std::test::Fail;
 
 /// Returns a key of the curve P-256 with all of its parts.
@@ -16,32 +17,33 @@ fn p256_key(alloc: Global) -> Result<[u8; 121], Fail> {
 /// A key with no bytes and no other part.
 static EMPTY_KEY: [u8; 7] = [0x30, 0x05, 0x02, 0x01, 0x01, 0x04, 0x00];
 
+/// Writes the key, and returns the length of its encoding.
+// A caller takes the prover less time than one of `encode_to_slice`, whose contract is long.
+fn encode(key: &EcPrivateKey, room: &mut [u8]) -> sec1::Result<usize> {
+    key.encode_to_slice(room)
+}
+
 #[test]
 fn writes_all_parts(rt: HostRuntime) -> Result<(), Fail> {
     let whole = p256_key(rt.alloc())?;
-    let key = EcPrivateKey::try_from(whole.as_slice())?;
+    let key = read_key(&whole)?;
     assert_equal(&rt, &key.encoded_len()?, &121);
-    assert_equal(&rt, &key.to_der(rt.alloc())?.as_slice(), &whole.as_slice());
+    is_written(&rt, rt.alloc(), &key, &whole)?;
     let mut room = [0xAA; 130];
-    assert_equal(&rt, &key.encode_to_slice(&mut room)?, &121);
-    assert!(rt; room.starts_with(&whole));
-    assert!(rt; room.ends_with(&[0xAA; 9]));
+    assert_equal(&rt, &encode(&key, &mut room)?, &121);
+    let (front, rest) = room.split_at(121);
+    assert_equal(&rt, &front, &whole.as_slice());
+    assert_equal(&rt, &rest, &[0xAA; 9].as_slice());
     Ok(())
 }
 
 #[test]
 fn holds_the_encoding_in_documents(rt: HostRuntime) -> Result<(), Fail> {
-    let key = EcPrivateKey::try_from(EMPTY_KEY.as_slice())?;
-    assert_equal(
-        &rt,
-        &key.document_ref(rt.alloc())?.as_bytes(),
-        &EMPTY_KEY.as_slice(),
-    );
-    assert_equal(
-        &rt,
-        &key.document(rt.alloc())?.as_bytes(),
-        &EMPTY_KEY.as_slice(),
-    );
+    let key = read_key(&EMPTY_KEY)?;
+    let copied = key.document_ref(rt.alloc())?;
+    assert_equal(&rt, &copied.as_bytes(), &EMPTY_KEY.as_slice());
+    let moved = key.document(rt.alloc())?;
+    assert_equal(&rt, &moved.as_bytes(), &EMPTY_KEY.as_slice());
     Ok(())
 }
 
@@ -64,22 +66,28 @@ fn writes_the_long_form(rt: HostRuntime) -> Result<(), Fail> {
             public_key: None,
         };
         let mut room = [0xAA; 140];
-        assert_equal(&rt, &key.encode_to_slice(&mut room)?, &wanted.len());
-        assert!(rt; room.starts_with(&wanted), "{count}");
+        assert_equal_for(&rt, &count, &encode(&key, &mut room)?, &wanted.len());
+        assert_equal_for(&rt, &count, &room.starts_with(&wanted), &true);
     }
     Ok(())
+}
+
+/// Writes the content of the key, and returns its length.
+fn encode_content(key: &EcPrivateKey, room: &mut [u8]) -> sec1::Result<usize> {
+    let mut writer = SliceWriter::new(room);
+    key.encode_value(&mut writer)?;
+    Ok(writer.written())
 }
 
 #[test]
 fn writes_the_content(rt: HostRuntime) -> Result<(), Fail> {
     let whole = p256_key(rt.alloc())?;
-    let key = EcPrivateKey::try_from(whole.as_slice())?;
+    let key = read_key(&whole)?;
     let mut room = [0xAA; 121];
-    let mut writer = SliceWriter::new(&mut room);
-    key.encode_value(&mut writer)?;
-    assert_equal(&rt, &writer.written(), &119);
-    assert_equal(&rt, &room.get(..119), &whole.get(2..));
-    assert_equal(&rt, &room.get(119..), &Some([0xAA, 0xAA].as_slice()));
+    assert_equal(&rt, &encode_content(&key, &mut room)?, &119);
+    let (content, rest) = room.split_at(119);
+    assert_equal(&rt, &content, &&whole[2..]);
+    assert_equal(&rt, &rest, &[0xAA, 0xAA].as_slice());
     Ok(())
 }
 
@@ -124,6 +132,29 @@ static REFUSALS: [(ErrorKind, u32); 5] = [
     (ErrorKind::Value, 764),
 ];
 
+/// Returns the error by which the bytes are refused as a key; `None` if they are one, which is then
+/// written. Fails the test unless the same bytes are written.
+fn rewrite(rt: &impl Abort, bytes: &[u8; 121]) -> Option<Error> {
+    match read_key(bytes) {
+        Ok(key) => {
+            let mut room = [0; 121];
+            assert_equal(rt, &encode(&key, &mut room), &Ok(121));
+            assert_equal(rt, &room, bytes);
+            None
+        }
+        Err(error) => Some(error),
+    }
+}
+
+/// Counts the refusal under its kind.
+fn count_refusal(counts: &mut [u32; 5], error: Error) {
+    for (count, (kind, _)) in counts.iter_mut().zip(REFUSALS.iter()) {
+        if error == Error::Asn1(der::Error { kind: *kind }) {
+            *count = count.saturating_add(1);
+        }
+    }
+}
+
 /// Whatever byte of a key is changed, what is still read is written just as it came.
 /// `tests/keys/reader.py` counted the 26,644 of the 30,855 changed keys that are read, and how the
 /// others are refused.
@@ -137,28 +168,17 @@ fn writes_what_is_read(rt: HostRuntime) -> Result<(), Fail> {
         for other in 1..=255u8 {
             let mut changed = whole;
             changed[place] ^= other;
-            match EcPrivateKey::try_from(changed.as_slice()) {
-                Ok(key) => {
-                    let mut room = [0; 121];
-                    assert_equal(&rt, &key.encode_to_slice(&mut room)?, &121);
-                    assert_equal(&rt, &room, &changed);
-                    accepted = accepted.saturating_add(1);
-                }
-                Err(error) => {
-                    for (count, (kind, _)) in refused.iter_mut().zip(REFUSALS.iter()) {
-                        if error == Error::Asn1(der::Error { kind: *kind }) {
-                            *count = count.saturating_add(1);
-                        }
-                    }
-                }
+            match rewrite(&rt, &changed) {
+                None => accepted = accepted.saturating_add(1),
+                Some(error) => count_refusal(&mut refused, error),
             }
         }
-        assert_eq!(rt; accepted, accepted_at(place), "at {place}");
+        assert_equal_for(&rt, &place, &accepted, &accepted_at(place));
         all = all.saturating_add(accepted);
     }
     assert_equal(&rt, &all, &26_644);
     for (count, (kind, wanted)) in refused.iter().zip(REFUSALS.iter()) {
-        assert_eq!(rt; count, wanted, "{kind:?}");
+        assert_equal_for(&rt, kind, count, wanted);
     }
     Ok(())
 }
