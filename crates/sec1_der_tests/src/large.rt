@@ -1,9 +1,13 @@
 //! Large documents, over readers that give uneven pieces and in files, and what calls on files
 //! refuse.
 use super::streams::KEY;
-use crate::assert_equal;
-use sec1_der::{ErrorKind, OctetStringRef, SecretDocument, StdReader, StdWriter, Write, to_der};
+use crate::helpers::{
+    assert_equal, assert_equal_for, assert_for, document, encoded, file_refusal, kind_of,
+    remove_file, temporary_path,
+};
+use sec1_der::{ErrorKind, OctetStringRef, SecretDocument, StdReader, StdWriter, Write};
 use std::alloc::{AllocError, Global};
+use std::process::Abort;
 use std::test::Fail;
 use std::{fs, io};
 
@@ -49,19 +53,44 @@ impl io::Read for Uneven<'_> {
     }
 }
 
+/// Reads a document over a reader that gives uneven pieces.
+fn read_unevenly(alloc: Global, rest: &[u8], turn: usize) -> sec1_der::Result<SecretDocument> {
+    SecretDocument::read_der_from(alloc, &mut StdReader::new(Uneven { rest, turn }))
+}
+
+/// Returns what is written of the document.
+fn written(alloc: Global, document: &SecretDocument) -> sec1_der::Result<Vec<u8>> {
+    let mut writer = StdWriter::new(Vec::new(alloc));
+    document.write_der_to(&mut writer)?;
+    Ok(writer.into_inner())
+}
+
+/// Fails the test unless the bytes are the same, and names their number: they are too many to
+/// print.
+fn assert_same(rt: &impl Abort, found: &[u8], wanted: &[u8]) {
+    assert!(rt; found == wanted, "of {} bytes", wanted.len());
+}
+
 #[test]
 fn reads_large_documents(rt: HostRuntime) -> Result<(), Fail> {
     let alloc = rt.alloc();
     for &(header, length) in HEADERS.iter() {
         let bytes = element(alloc, header, length)?;
-        let document = SecretDocument::from_der(alloc, &bytes)?;
-        assert!(rt; document.as_bytes() == bytes.as_slice(), "{length}");
+        assert_same(&rt, document(alloc, &bytes)?.as_bytes(), &bytes);
         for turn in 0..6 {
-            let mut reader = StdReader::new(Uneven { rest: &bytes, turn });
-            let read = SecretDocument::read_der_from(alloc, &mut reader)?;
-            assert!(rt; read.as_bytes() == bytes.as_slice(), "{length}");
+            assert_same(&rt, read_unevenly(alloc, &bytes, turn)?.as_bytes(), &bytes);
         }
     }
+    Ok(())
+}
+
+/// Fails the test unless the content is written as these bytes, as a value and as a document.
+fn assert_writes(rt: &impl Abort, alloc: Global, content: &[u8], bytes: &[u8]) -> Result<(), Fail> {
+    let octets = OctetStringRef::new(content)?;
+    assert_same(rt, &encoded(alloc, &octets)?.0, bytes);
+    let document = SecretDocument::encode_msg(alloc, &octets)?;
+    assert_same(rt, document.as_bytes(), bytes);
+    assert_same(rt, &written(alloc, &document)?, bytes);
     Ok(())
 }
 
@@ -71,49 +100,28 @@ fn writes_large_values(rt: HostRuntime) -> Result<(), Fail> {
     for &(header, length) in HEADERS.iter() {
         let bytes = element(alloc, header, length)?;
         let content = bytes.get(header.len()..).ok_or("no content")?;
-        let octets = OctetStringRef::new(content)?;
-        assert!(rt;
-            to_der(alloc, &octets)?.as_slice() == bytes.as_slice(),
-            "{length}"
-        );
-        let document = SecretDocument::encode_msg(alloc, &octets)?;
-        assert!(rt; document.as_bytes() == bytes.as_slice(), "{length}");
-        let mut writer = StdWriter::new(Vec::new(alloc));
-        document.write_der_to(&mut writer)?;
-        assert!(rt;
-            writer.into_inner().as_slice() == bytes.as_slice(),
-            "{length}"
-        );
+        assert_writes(&rt, alloc, content, &bytes)?;
     }
     Ok(())
 }
 
-/// Returns a path in the folder for temporary files that is this test's own.
-fn path(rt: &HostRuntime, name: &str) -> Result<String, Fail> {
-    let folder = std::env::temp_dir(rt)?;
-    Ok(format!(in rt.alloc();
-        "{}/sec1_der_{name}_{}",
-        folder.display(),
-        std::process::id(rt.process())
-    )?)
+/// Writes a document into a file. Returns `true` if the file has its bytes, and a document with
+/// these is read from it.
+fn keeps(rt: &HostRuntime, path: &str, bytes: &[u8]) -> Result<bool, Fail> {
+    document(rt.alloc(), bytes)?.write_der_file(rt, path)?;
+    let has_bytes = fs::read(rt, path)?.as_slice() == bytes;
+    let read = SecretDocument::read_der_file(rt, rt.alloc(), path)?;
+    Ok(has_bytes && read.as_bytes() == bytes)
 }
 
 #[test]
 fn keeps_large_documents_in_files(rt: HostRuntime) -> Result<(), Fail> {
-    let alloc = rt.alloc();
-    let path = path(&rt, "large")?;
+    let path = temporary_path(&rt, "large")?;
     for &(header, length) in HEADERS.iter() {
-        let bytes = element(alloc, header, length)?;
-        SecretDocument::from_der(alloc, &bytes)?.write_der_file(&rt, &path)?;
-        assert!(rt;
-            fs::read(&rt, &path)?.as_slice() == bytes.as_slice(),
-            "{length}"
-        );
-        let read = SecretDocument::read_der_file(&rt, alloc, &path)?;
-        assert!(rt; read.as_bytes() == bytes.as_slice(), "{length}");
+        let bytes = element(rt.alloc(), header, length)?;
+        assert_for(&rt, &length, keeps(&rt, &path, &bytes)?);
     }
-    fs::remove_file(&rt, &path)?;
-    Ok(())
+    remove_file(&rt, &path)
 }
 
 /// Contents of files that aren't documents, and how they are refused.
@@ -125,37 +133,29 @@ static NO_DOCUMENTS: [(&[u8], ErrorKind); 5] = [
     (b"\x04\x01\xAA\x00", ErrorKind::TrailingData),
 ];
 
+/// Writes the bytes into the file. Returns the kind of the error by which it isn't read as a
+/// document.
+fn refusal_in_file(rt: &HostRuntime, path: &str, bytes: &[u8]) -> Result<Option<ErrorKind>, Fail> {
+    fs::write(rt, path, bytes)?;
+    Ok(file_refusal(rt, path))
+}
+
 #[test]
 fn refuses_other_files(rt: HostRuntime) -> Result<(), Fail> {
-    let path = path(&rt, "other")?;
+    let path = temporary_path(&rt, "other")?;
     for &(bytes, kind) in NO_DOCUMENTS.iter() {
-        fs::write(&rt, &path, bytes)?;
-        let refused = SecretDocument::read_der_file(&rt, rt.alloc(), &path);
-        assert_eq!(rt;
-            refused.err().map(|error| error.kind),
-            Some(kind),
-            "{bytes:?}"
-        );
+        let refused = refusal_in_file(&rt, &path, bytes)?;
+        assert_equal_for(&rt, &bytes, &refused, &Some(kind));
     }
-    fs::remove_file(&rt, &path)?;
-    let folder = SecretDocument::read_der_file(&rt, rt.alloc(), "/");
-    assert_equal(
-        &rt,
-        &folder.err().map(|error| error.kind),
-        &Some(ErrorKind::Io),
-    );
-    Ok(())
+    assert_equal(&rt, &file_refusal(&rt, "/"), &Some(ErrorKind::Io));
+    remove_file(&rt, &path)
 }
 
 #[test]
 fn refuses_a_full_file(rt: HostRuntime) -> Result<(), Fail> {
-    let document = SecretDocument::from_der(rt.alloc(), KEY)?;
-    let full = document.write_der_file(&rt, "/dev/full");
-    assert_equal(
-        &rt,
-        &full.err().map(|error| error.kind),
-        &Some(ErrorKind::Io),
-    );
+    let document = document(rt.alloc(), KEY)?;
+    let full = kind_of(document.write_der_file(&rt, "/dev/full"));
+    assert_equal(&rt, &full, &Some(ErrorKind::Io));
     Ok(())
 }
 
@@ -163,7 +163,7 @@ fn refuses_a_full_file(rt: HostRuntime) -> Result<(), Fail> {
 fn writes_no_bytes_without_a_fault(rt: HostRuntime) {
     let mut writer = StdWriter::new(Vec::new(rt.alloc()));
     assert_equal(&rt, &writer.write(&[]), &Ok(0));
-    assert!(rt; !writer.has_failed());
+    assert_equal(&rt, &writer.has_failed(), &false);
     assert_equal(&rt, &writer.write(&[0xAA]), &Ok(1));
     assert_equal(&rt, &writer.into_inner().as_slice(), &[0xAA].as_slice());
 }

@@ -9,6 +9,8 @@
 #[cfg(test)]
 pub mod checks;
 #[cfg(test)]
+mod helpers;
+#[cfg(test)]
 mod large;
 #[cfg(test)]
 mod memory;
@@ -28,15 +30,3 @@ mod trees;
 mod values;
 #[cfg(test)]
 mod writing;
-
-#[cfg(test)]
-use std::fmt::Debug;
-#[cfg(test)]
-use std::process::Abort;
-
-/// Fails the test unless the two are equal.
-// A call of this takes the prover a fraction of the time that `assert_eq!` takes in line.
-#[cfg(test)]
-fn assert_equal<T: PartialEq + Debug>(rt: &impl Abort, found: &T, wanted: &T) {
-    assert_eq!(rt; *found, *wanted);
-}

@@ -7,6 +7,7 @@
 //! The functions that control it are in each crate that has such tests: a library of them would be
 //! proved and exported only for tests.
 use super::streams::KEY;
+use crate::helpers::{remove_file, temporary_path};
 use sec1_der::{
     ErrorKind, OctetStringRef, Read, SecretDocument, StdReader, StdWriter, check_tree,
     encode_to_slice, encoded_len, from_der, to_der,
@@ -191,12 +192,7 @@ fn reports_memory_from_reading_calls(rt: HostRuntime) -> Result<(), Fail> {
 #[test]
 fn reports_memory_from_calls_on_files(rt: HostRuntime) -> Result<(), Fail> {
     let alloc = rt.alloc();
-    let folder = std::env::temp_dir(&rt)?;
-    let path = format!(in alloc;
-        "{}/sec1_der_memory_{}",
-        folder.display(),
-        std::process::id(rt.process())
-    )?;
+    let path = temporary_path(&rt, "memory")?;
     fs::write(&rt, &path, KEY)?;
     assert!(rt;
         is_refused_in_turn(&rt, alloc, "SecretDocument::read_der_file", || {
@@ -206,8 +202,7 @@ fn reports_memory_from_calls_on_files(rt: HostRuntime) -> Result<(), Fail> {
             }
         })
     );
-    fs::remove_file(&rt, &path)?;
-    Ok(())
+    remove_file(&rt, &path)
 }
 
 /// A reader of a header that announces the greatest length, which gives three requests of content

@@ -1,9 +1,12 @@
 //! What is read, by examples with known results.
-use crate::assert_equal;
+ghost use Rattle.std.specs.Prelude.{◌≤◌};
+
+use crate::helpers::{assert_equal, assert_equal_for, kind_of, read, refusal_of, text_of, write};
 use sec1_der::{
     AnyRef, BitStringRef, Error, ErrorKind, Header, ID_EC_PUBLIC_KEY, IdentifierRef, Length,
-    ObjectIdentifier, OctetStringRef, SliceReader, Tag, VersionOne, encode_to_slice, from_der,
+    ObjectIdentifier, OctetStringRef, SliceReader, Tag, VersionOne,
 };
+use std::process::Abort;
 use std::test::Fail;
 
 static TEXTS: [(ErrorKind, &str); 11] = [
@@ -28,7 +31,7 @@ fn prints_errors_by_their_kinds(rt: HostRuntime) -> Result<(), Fail> {
     for &(kind, text) in TEXTS.iter() {
         let error = Error::from(kind);
         assert_equal(&rt, &error.kind(), &kind);
-        assert_equal(&rt, &format!(in rt.alloc(); "{error}")?.as_str(), &text);
+        assert_equal(&rt, &text_of(rt.alloc(), &error)?.as_str(), &text);
     }
     Ok(())
 }
@@ -38,8 +41,8 @@ fn refuses_lengths_above_the_limit(rt: HostRuntime) -> Result<(), Fail> {
     assert_equal(&rt, &Length::new(Length::MAX)?.get(), &268_435_455);
     assert_equal(
         &rt,
-        &Length::new(268_435_456).map_err(|e| e.kind),
-        &Err(ErrorKind::Overlength),
+        &kind_of(Length::new(268_435_456)),
+        &Some(ErrorKind::Overlength),
     );
     Ok(())
 }
@@ -73,7 +76,7 @@ static HEADERS: [(&[u8], Result<(u8, usize), ErrorKind>); 15] = [
 #[test]
 fn reads_headers(rt: HostRuntime) {
     for &(bytes, ref want) in HEADERS.iter() {
-        assert_eq!(rt; header(bytes), *want, "of {bytes:?}");
+        assert_equal_for(&rt, &bytes, &header(bytes), want);
     }
 }
 
@@ -86,25 +89,32 @@ static OCTET_STRINGS: [(&[u8], Result<&[u8], ErrorKind>); 6] = [
     (b"\x04\x01\xAA\xBB", Err(ErrorKind::TrailingData)),
 ];
 
+/// The bytes of the octet string with this encoding.
+fn octets(bytes: &[u8]) -> Result<&[u8], ErrorKind> {
+    match read::<OctetStringRef>(bytes) {
+        Ok(octets) => Ok(octets.as_bytes()),
+        Err(e) => Err(e.kind),
+    }
+}
+
 #[test]
 fn reads_octet_strings(rt: HostRuntime) {
     for &(bytes, ref want) in OCTET_STRINGS.iter() {
-        let read = from_der::<OctetStringRef>(bytes).map_err(|e| e.kind);
-        assert_eq!(rt; read.map(|octets| octets.as_bytes()), *want, "of {bytes:?}");
+        assert_equal_for(&rt, &bytes, &octets(bytes), want);
     }
 }
 
 #[test]
 fn reads_bit_strings(rt: HostRuntime) -> Result<(), Fail> {
-    let bits = from_der::<BitStringRef>(b"\x03\x02\x04\xF0")?;
+    let bits: BitStringRef = read(b"\x03\x02\x04\xF0")?;
     assert_equal(&rt, &bits.unused_bits(), &4);
     assert_equal(&rt, &bits.raw_bytes(), &b"\xF0".as_slice());
     assert_equal(&rt, &bits.as_bytes(), &None);
-    let whole = from_der::<BitStringRef>(b"\x03\x02\x00\xF0")?;
+    let whole: BitStringRef = read(b"\x03\x02\x00\xF0")?;
     assert_equal(&rt, &whole.as_bytes(), &Some(b"\xF0".as_slice()));
     for bytes in [b"\x03\x02\x04\xF8".as_slice(), b"\x03\x00", b"\x03\x01\x01"] {
-        let refused = from_der::<BitStringRef>(bytes).map_err(|e| e.kind);
-        assert_eq!(rt; refused, Err(ErrorKind::Value), "of {bytes:?}");
+        let refused = refusal_of::<BitStringRef>(bytes);
+        assert_equal_for(&rt, &bytes, &refused, &Some(ErrorKind::Value));
     }
     Ok(())
 }
@@ -118,20 +128,17 @@ fn makes_bit_strings(rt: HostRuntime) -> Result<(), Fail> {
         &Some(b"\x01".as_slice()),
     );
     for (unused, bytes) in [(1, b"\x01".as_slice()), (1, b""), (8, b"\x00")] {
-        let refused = BitStringRef::new(unused, bytes).map_err(|e| e.kind);
-        assert_eq!(rt; refused, Err(ErrorKind::Value), "{unused} of {bytes:?}");
+        let refused = kind_of(BitStringRef::new(unused, bytes));
+        assert_equal_for(&rt, &(unused, bytes), &refused, &Some(ErrorKind::Value));
     }
     Ok(())
 }
 
 #[test]
 fn reads_version_one(rt: HostRuntime) -> Result<(), Fail> {
-    assert_equal(&rt, &from_der::<VersionOne>(b"\x02\x01\x01")?, &VersionOne);
-    assert_equal(
-        &rt,
-        &from_der::<VersionOne>(b"\x02\x01\x02").map_err(|e| e.kind),
-        &Err(ErrorKind::Value),
-    );
+    assert_equal(&rt, &read(b"\x02\x01\x01")?, &VersionOne);
+    let refused = refusal_of::<VersionOne>(b"\x02\x01\x02");
+    assert_equal(&rt, &refused, &Some(ErrorKind::Value));
     Ok(())
 }
 
@@ -148,26 +155,32 @@ fn reads_elements_of_any_tag(rt: HostRuntime) -> Result<(), Fail> {
     Ok(())
 }
 
+/// Reads the octet string inside the field of this number, if it is next.
+fn field<'a>(reader: &mut SliceReader<'a>, number: u8) -> sec1_der::Result<Option<&'a [u8]>>
+    requires { number ≤ 30 }
+{
+    match reader.context_specific::<OctetStringRef>(number)? {
+        Some(octets) => Ok(Some(octets.as_bytes())),
+        None => Ok(None),
+    }
+}
+
 #[test]
 fn reads_context_fields(rt: HostRuntime) -> Result<(), Fail> {
     let mut other = SliceReader::new(b"\xA1\x03\x03\x01\x00");
-    assert_equal(&rt, &other.context_specific::<OctetStringRef>(0)?, &None);
+    assert_equal(&rt, &field(&mut other, 0)?, &None);
     assert_equal(&rt, &other.remaining_len(), &5);
     let mut nothing = SliceReader::new(b"");
-    assert_equal(&rt, &nothing.context_specific::<OctetStringRef>(0)?, &None);
+    assert_equal(&rt, &field(&mut nothing, 0)?, &None);
     let mut last = SliceReader::new(b"\xBE\x02\x04\x00");
-    let read = last.context_specific::<OctetStringRef>(30)?;
+    assert_equal(&rt, &field(&mut last, 30)?, &Some(b"".as_slice()));
+    let mut long = SliceReader::new(b"\xA0\x03\x04\x00\x00");
     assert_equal(
         &rt,
-        &read.map(|octets| octets.as_bytes()),
-        &Some(b"".as_slice()),
+        &kind_of(field(&mut long, 0)),
+        &Some(ErrorKind::TrailingData),
     );
-    let mut long = SliceReader::new(b"\xA0\x03\x04\x00\x00");
-    let refused = long
-        .context_specific::<OctetStringRef>(0)
-        .map_err(|e| e.kind);
-    assert_equal(&rt, &refused, &Err(ErrorKind::TrailingData));
-    assert!(rt; long.is_failed());
+    assert_equal(&rt, &long.is_failed(), &true);
     Ok(())
 }
 
@@ -187,24 +200,31 @@ static IDENTIFIERS: [(&str, &[u8]); 9] = [
 fn reads_and_prints_identifiers(rt: HostRuntime) -> Result<(), Fail> {
     for &(text, content) in IDENTIFIERS.iter() {
         let identifier = ObjectIdentifier::new(text)?;
-        assert_eq!(rt; identifier.as_bytes(), content, "{text}");
-        assert!(rt;
-            ObjectIdentifier::from_bytes(content) == Ok(identifier),
-            "{text}"
-        );
-        assert_equal(
+        assert_equal_for(&rt, &text, &identifier.as_bytes(), &content);
+        assert_equal_for(
             &rt,
-            &format!(in rt.alloc(); "{identifier}")?.as_str(),
             &text,
+            &ObjectIdentifier::from_bytes(content)?,
+            &identifier,
         );
+        assert_equal(&rt, &text_of(rt.alloc(), &identifier)?.as_str(), &text);
     }
+    Ok(())
+}
+
+#[test]
+fn has_identifiers_as_constants(rt: HostRuntime) -> Result<(), Fail> {
     let identifier = ObjectIdentifier::new("1.2.3")?;
     assert_equal(
         &rt,
         &format!(in rt.alloc(); "{identifier:?}")?.as_str(),
         &"ObjectIdentifier(1.2.3)",
     );
-    assert!(rt; ID_EC_PUBLIC_KEY == ObjectIdentifier::new("1.2.840.10045.2.1")?);
+    assert_equal(
+        &rt,
+        &ObjectIdentifier::new("1.2.840.10045.2.1")?,
+        &ID_EC_PUBLIC_KEY,
+    );
     Ok(())
 }
 
@@ -235,36 +255,38 @@ static REFUSED_CONTENTS: [&[u8]; 6] = [
 #[test]
 fn refuses_other_identifiers(rt: HostRuntime) {
     for &text in REFUSED_TEXTS.iter() {
-        let refused = ObjectIdentifier::new(text).map_err(|e| e.kind);
-        assert!(rt; refused == Err(ErrorKind::Value), "{text}");
+        let refused = kind_of(ObjectIdentifier::new(text));
+        assert_equal_for(&rt, &text, &refused, &Some(ErrorKind::Value));
     }
     for &content in REFUSED_CONTENTS.iter() {
-        let refused = ObjectIdentifier::from_bytes(content).map_err(|e| e.kind);
-        assert!(rt; refused == Err(ErrorKind::Value), "{content:?}");
+        let refused = kind_of(ObjectIdentifier::from_bytes(content));
+        assert_equal_for(&rt, &content, &refused, &Some(ErrorKind::Value));
+        let refused = kind_of(IdentifierRef::from_bytes(content));
+        assert_equal_for(&rt, &content, &refused, &Some(ErrorKind::Value));
     }
+}
+
+/// Fails the test unless the identifier is written with this content, and read again.
+fn assert_written_again(
+    rt: &impl Abort,
+    identifier: &IdentifierRef,
+    content: &[u8],
+) -> sec1_der::Result<()> {
+    let mut room = [0xAA; 16];
+    let bytes = write(identifier, &mut room)?;
+    assert_equal_for(rt, &content, &bytes.len(), &(2 + content.len()));
+    assert_equal_for(rt, &content, &bytes.first(), &Some(&0x06));
+    assert_equal(rt, &read::<IdentifierRef>(bytes)?.as_bytes(), &content);
+    Ok(())
 }
 
 #[test]
 fn reads_and_writes_borrowed_identifiers(rt: HostRuntime) -> Result<(), Fail> {
     for &(text, content) in IDENTIFIERS.iter() {
         let identifier = IdentifierRef::from_bytes(content)?;
-        assert!(rt;
-            identifier.to_identifier() == ObjectIdentifier::new(text)?,
-            "{text}"
-        );
-        let mut room = [0xAA; 16];
-        let count = encode_to_slice(&identifier.reborrow(), &mut room)?;
-        assert_eq!(rt; count, 2 + content.len(), "{text}");
-        assert_eq!(rt; room[0], 0x06, "{text}");
-        let read = from_der::<IdentifierRef>(&room[..count])?;
-        assert_eq!(rt; read.as_bytes(), content, "{text}");
-    }
-    for &content in REFUSED_CONTENTS.iter() {
-        let refused = IdentifierRef::from_bytes(content).map_err(|e| e.kind);
-        assert!(rt;
-            refused.is_err_and(|kind| kind == ErrorKind::Value),
-            "{content:?}"
-        );
+        let owned = identifier.to_identifier();
+        assert_equal_for(&rt, &text, &owned, &ObjectIdentifier::new(text)?);
+        assert_written_again(&rt, &identifier.reborrow(), content)?;
     }
     Ok(())
 }
@@ -281,6 +303,7 @@ fn refuses_identifiers_above_39_bytes(rt: HostRuntime) -> Result<(), Fail> {
         &39,
     );
     text.push_str(".1")?;
-    assert!(rt; ObjectIdentifier::new(text.as_str()).is_err_and(|e| e.kind == ErrorKind::Value));
+    let refused = kind_of(ObjectIdentifier::new(text.as_str()));
+    assert_equal(&rt, &refused, &Some(ErrorKind::Value));
     Ok(())
 }

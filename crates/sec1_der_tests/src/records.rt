@@ -2,12 +2,11 @@
 ghost use Rattle.std.specs.Option.{option_map};
 ghost use Rattle.std.specs.Prelude.{ℕ, List, Option, refl};
 
-use crate::assert_equal;
+use crate::helpers::{assert_equal, assert_equal_for, kind_of, read_and_write, refusal_of, write};
 use sec1_der::{
     Context0, Context1, Context2, Context3, Distinct, ErrorKind, Explicit, ExplicitBits, FixedTag,
     ObjectIdentifier, Octets, Optional, Primitive0, Primitive1, Primitive2, Primitive3, Record,
-    Required, SmallInteger, Tagged, VersionOne, WholeBits, encode_to_slice, encoded_len, from_der,
-    read_der, to_der,
+    Required, SmallInteger, Tagged, VersionOne, WholeBits, read_der,
 };
 use std::alloc::{AllocError, Global};
 use std::marker::Model;
@@ -121,58 +120,43 @@ static WHOLE: [u8; 14] = [
     0x30, 0x0C, 0x02, 0x01, 0x00, 0x06, 0x01, 0x07, 0x02, 0x01, 0x01, 0x06, 0x01, 0x08,
 ];
 
-/// Reads a [`Middle`], and fails the test unless writing it gives the bytes again.
-fn read_middle(rt: &impl Abort, alloc: Global, bytes: &[u8]) -> Result<Middle, Fail> {
-    let middle: Middle = read_der(bytes)?;
-    assert_equal(rt, &to_der(alloc, &middle)?.as_slice(), &bytes);
-    Ok(middle)
+/// Reads and writes a [`Middle`].
+fn read_middle(rt: &impl Abort, alloc: Global, bytes: &[u8]) -> sec1_der::Result<Middle> {
+    read_and_write(rt, alloc, bytes)
 }
 
 #[test]
 fn reads_and_writes_records_in_records(rt: HostRuntime) -> Result<(), Fail> {
     let bytes = wrapped(rt.alloc(), &[0x30, 0x32], &[&SHORT, &WHOLE, &WHOLE, &WHOLE])?;
-    let middle = read_middle(&rt, rt.alloc(), bytes.as_slice())?;
-    assert_equal(&rt, &middle.first.version, &None);
-    assert_equal(&rt, &middle.second.version, &Some(VersionOne));
-    assert!(rt; middle.third == middle.second);
-    assert!(rt; middle.fourth == Some(middle.second));
-    assert_equal(&rt, &Middle::TAG.byte(), &0x30);
-    assert_equal(&rt, &encoded_len(&middle)?, &52);
     assert_equal(&rt, &bytes.len(), &52);
-    for length in 0..bytes.len() {
-        let cut = from_der::<Middle>(&bytes[..length]).map_err(|e| e.kind);
-        assert!(rt; cut == Err(ErrorKind::Truncated), "of {length} bytes");
-    }
+    let read = read_middle(&rt, rt.alloc(), &bytes)?;
+    assert_equal(&rt, &read.first.version, &None);
+    assert_equal(&rt, &read.second.version, &Some(VersionOne));
+    assert_equal(&rt, &read.third, &read.second);
+    assert_equal(&rt, &read.fourth, &Some(read.second));
+    assert_equal(&rt, &Middle::TAG.byte(), &0x30);
     let bytes = wrapped(rt.alloc(), &[0x30, 0x18], &[&SHORT, &SHORT, &SHORT])?;
-    let middle = read_middle(&rt, rt.alloc(), bytes.as_slice())?;
-    assert!(rt; middle.fourth.is_none());
+    let read = read_middle(&rt, rt.alloc(), &bytes)?;
+    assert_equal(&rt, &read.fourth, &None);
     Ok(())
-}
-
-/// Returns the kind of the error by which the bytes of an [`Inner`] are refused.
-fn refusal_of(bytes: &[u8]) -> Option<ErrorKind> {
-    match from_der::<Inner>(bytes) {
-        Ok(_) => None,
-        Err(error) => Some(error.kind),
-    }
 }
 
 /// An [`Inner`] whose parts are in another order, are cut off, have another value, or are repeated.
 #[test]
 fn refuses_other_records(rt: HostRuntime) {
-    let order = refusal_of(b"\x30\x06\x06\x01\x07\x02\x01\x00");
+    let order = refusal_of::<Inner>(b"\x30\x06\x06\x01\x07\x02\x01\x00");
     assert_equal(&rt, &order, &Some(ErrorKind::Tag));
-    let cut = refusal_of(b"\x30\x03\x02\x01\x00");
+    let cut = refusal_of::<Inner>(b"\x30\x03\x02\x01\x00");
     assert_equal(&rt, &cut, &Some(ErrorKind::Truncated));
-    let version = refusal_of(b"\x30\x06\x02\x01\x01\x06\x01\x07");
+    let version = refusal_of::<Inner>(b"\x30\x06\x02\x01\x01\x06\x01\x07");
     assert_equal(&rt, &version, &Some(ErrorKind::Value));
-    let identifier = refusal_of(b"\x30\x06\x02\x01\x00\x06\x01\x80");
+    let identifier = refusal_of::<Inner>(b"\x30\x06\x02\x01\x00\x06\x01\x80");
     assert_equal(&rt, &identifier, &Some(ErrorKind::Value));
-    let optional = refusal_of(b"\x30\x09\x02\x01\x00\x06\x01\x07\x02\x01\x02");
+    let optional = refusal_of::<Inner>(b"\x30\x09\x02\x01\x00\x06\x01\x07\x02\x01\x02");
     assert_equal(&rt, &optional, &Some(ErrorKind::Value));
-    let late = refusal_of(b"\x30\x0C\x02\x01\x00\x06\x01\x07\x06\x01\x08\x02\x01\x01");
+    let late = refusal_of::<Inner>(b"\x30\x0C\x02\x01\x00\x06\x01\x07\x06\x01\x08\x02\x01\x01");
     assert_equal(&rt, &late, &Some(ErrorKind::TrailingData));
-    let twice = refusal_of(b"\x30\x0C\x02\x01\x00\x06\x01\x07\x02\x01\x01\x02\x01\x01");
+    let twice = refusal_of::<Inner>(b"\x30\x0C\x02\x01\x00\x06\x01\x07\x02\x01\x01\x02\x01\x01");
     assert_equal(&rt, &twice, &Some(ErrorKind::TrailingData));
 }
 
@@ -268,26 +252,33 @@ static BORROWED: [u8; 20] = [
     0xA3, 0x02, 0x04, 0x00,
 ];
 
+/// Reads and writes a [`Borrowed`].
+fn read_borrowed<'a>(
+    rt: &impl Abort,
+    alloc: Global,
+    bytes: &'a [u8],
+) -> sec1_der::Result<Borrowed<'a>> {
+    read_and_write(rt, alloc, bytes)
+}
+
 #[test]
 fn reads_and_writes_borrowed_parts(rt: HostRuntime) -> Result<(), Fail> {
-    let borrowed: Borrowed = read_der(&BORROWED)?;
-    assert_equal(&rt, &borrowed.octets, &b"\xAA\xBB".as_slice());
-    assert_equal(&rt, &borrowed.bits, &Some(b"\xCC".as_slice()));
-    assert_equal(&rt, &borrowed.public_key, &Some(b"\xDD".as_slice()));
-    assert_equal(&rt, &borrowed.field, &Some(b"".as_slice()));
+    let whole = read_borrowed(&rt, rt.alloc(), &BORROWED)?;
+    assert_equal(&rt, &whole.octets, &b"\xAA\xBB".as_slice());
+    assert_equal(&rt, &whole.bits, &Some(b"\xCC".as_slice()));
+    assert_equal(&rt, &whole.public_key, &Some(b"\xDD".as_slice()));
+    assert_equal(&rt, &whole.field, &Some(b"".as_slice()));
     let mut room = [0; 20];
-    assert_equal(&rt, &encode_to_slice(&borrowed, &mut room)?, &20);
-    assert_equal(&rt, &room, &BORROWED);
-    let bytes = [0x30, 0x02, 0x04, 0x00];
-    let borrowed: Borrowed = read_der(&bytes)?;
-    assert!(rt;
-        borrowed.bits.is_none() && borrowed.public_key.is_none() && borrowed.field.is_none()
-    );
-    assert_equal(
-        &rt,
-        &to_der(rt.alloc(), &borrowed)?.as_slice(),
-        &bytes.as_slice(),
-    );
+    assert_equal(&rt, &write(&whole, &mut room)?, &BORROWED.as_slice());
+    Ok(())
+}
+
+#[test]
+fn reads_and_writes_absent_parts(rt: HostRuntime) -> Result<(), Fail> {
+    let short = read_borrowed(&rt, rt.alloc(), &[0x30, 0x02, 0x04, 0x00])?;
+    assert_equal(&rt, &short.bits, &None);
+    assert_equal(&rt, &short.public_key, &None);
+    assert_equal(&rt, &short.field, &None);
     Ok(())
 }
 
@@ -311,38 +302,33 @@ static UNUSED_BITS: [(&[u8], ErrorKind); 4] = [
 #[test]
 fn refuses_unused_bits(rt: HostRuntime) {
     for &(bytes, kind) in UNUSED_BITS.iter() {
-        match from_der::<Borrowed>(bytes) {
-            Ok(_) => assert!(rt; false, "of {bytes:?}"),
-            Err(e) => assert_eq!(rt; e.kind, kind, "of {bytes:?}"),
-        }
+        assert_equal_for(&rt, &bytes, &refusal_of::<Borrowed>(bytes), &Some(kind));
     }
 }
 
-/// Reads an identifier inside an element with this tag byte as one inside the tag of `K`, and
-/// writes it again. Returns `true` if it has the same bytes.
-fn reads_inside<K: Tagged>(tag: u8) -> sec1_der::Result<bool> {
+/// Reads an identifier inside an element with this tag byte as one inside the tag of `K`, and fails
+/// the test unless writing it gives the same bytes.
+fn assert_reads_inside<K: Tagged>(rt: &impl Abort, tag: u8) -> sec1_der::Result<()> {
     let bytes = [tag, 0x03, 0x06, 0x01, 0x07];
     let field: Explicit<K, ObjectIdentifier> = read_der(&bytes)?;
+    assert_equal(rt, &field.value.as_bytes(), &[0x07].as_slice());
     let mut room = [0; 5];
-    encode_to_slice(&field, &mut room)?;
-    Ok(field.value.as_bytes() == [0x07].as_slice() && room == bytes)
+    assert_equal(rt, &write(&field, &mut room)?, &bytes.as_slice());
+    Ok(())
 }
 
 #[test]
 fn reads_and_writes_explicit_tags(rt: HostRuntime) -> Result<(), Fail> {
-    assert!(rt; reads_inside::<Context0>(0xA0)?);
-    assert!(rt; reads_inside::<Context1>(0xA1)?);
-    assert!(rt; reads_inside::<Context2>(0xA2)?);
-    assert!(rt; reads_inside::<Context3>(0xA3)?);
-    assert!(rt; reads_inside::<Primitive0>(0x80)?);
-    assert!(rt; reads_inside::<Primitive1>(0x81)?);
-    assert!(rt; reads_inside::<Primitive2>(0x82)?);
-    assert!(rt; reads_inside::<Primitive3>(0x83)?);
-    assert_equal(
-        &rt,
-        &reads_inside::<Context0>(0xA1).map_err(|e| e.kind),
-        &Err(ErrorKind::Tag),
-    );
+    assert_reads_inside::<Context0>(&rt, 0xA0)?;
+    assert_reads_inside::<Context1>(&rt, 0xA1)?;
+    assert_reads_inside::<Context2>(&rt, 0xA2)?;
+    assert_reads_inside::<Context3>(&rt, 0xA3)?;
+    assert_reads_inside::<Primitive0>(&rt, 0x80)?;
+    assert_reads_inside::<Primitive1>(&rt, 0x81)?;
+    assert_reads_inside::<Primitive2>(&rt, 0x82)?;
+    assert_reads_inside::<Primitive3>(&rt, 0x83)?;
+    let refused = kind_of(assert_reads_inside::<Context0>(&rt, 0xA1));
+    assert_equal(&rt, &refused, &Some(ErrorKind::Tag));
     Ok(())
 }
 

@@ -1,10 +1,13 @@
 //! Documents over readers and writers that give and take a few bytes at a time, break or never end,
 //! and in files.
-use crate::assert_equal;
+use crate::helpers::{
+    assert_equal, assert_equal_for, assert_for, document, file_refusal, kind_of, remove_file,
+    temporary_path,
+};
 use sec1_der::{ErrorKind, SecretDocument, StdReader, StdWriter};
 use std::alloc::Global;
+use std::io;
 use std::test::Fail;
-use std::{fs, io};
 
 /// A key on P-256 with all its fields, 121 bytes.
 pub const KEY: &[u8] = &[
@@ -59,6 +62,26 @@ impl io::Read for Pieces<'_> {
             }
             _ => Err(io::Error::from(io::ErrorKind::Other)),
         }
+    }
+}
+
+impl<'a> Pieces<'a> {
+    /// Returns a reader of the first bytes, of this number.
+    fn new(bytes: &'a [u8], given: usize, step: usize, then: Then) -> Self {
+        Pieces {
+            rest: bytes.get(..given).unwrap_or_default(),
+            step,
+            then,
+            taken: 0,
+            most_asked: 0,
+        }
+    }
+
+    /// Reads a document, and returns what is left of the reader too.
+    fn document(self, alloc: Global) -> (sec1_der::Result<SecretDocument>, Self) {
+        let mut reader = StdReader::new(self);
+        let result = SecretDocument::read_der_from(alloc, &mut reader);
+        (result, reader.into_inner())
     }
 }
 
@@ -118,44 +141,22 @@ static READS: [(&[u8], usize, usize, Then, Option<ErrorKind>, usize); 12] = [
 #[test]
 fn reads_documents_in_pieces(rt: HostRuntime) {
     for (row, &(bytes, given, step, then, want, taken)) in READS.iter().enumerate() {
-        let mut reader = StdReader::new(Pieces {
-            rest: bytes.get(..given).unwrap_or_default(),
-            step,
-            then,
-            taken: 0,
-            most_asked: 0,
-        });
-        let result = SecretDocument::read_der_from(rt.alloc(), &mut reader);
-        let pieces = reader.into_inner();
-        assert_eq!(rt; pieces.taken, taken, "in row {row}");
-        assert!(rt; pieces.most_asked <= 4096, "in row {row}");
-        match result {
-            Ok(document) => {
-                assert_eq!(rt; want, None, "in row {row}");
-                assert_eq!(rt; document.as_bytes(), bytes, "in row {row}");
-            }
-            Err(error) => assert_eq!(rt; Some(error.kind), want, "in row {row}"),
+        let (result, pieces) = Pieces::new(bytes, given, step, then).document(rt.alloc());
+        assert_equal_for(&rt, &row, &pieces.taken, &taken);
+        assert_for(&rt, &row, pieces.most_asked <= 4096);
+        if let Ok(document) = &result {
+            assert_equal_for(&rt, &row, &document.as_bytes(), &bytes);
         }
+        assert_equal_for(&rt, &row, &kind_of(result), &want);
     }
 }
 
 #[test]
 fn reports_failed_reads_in_turn(rt: HostRuntime) {
     for given in 0..=KEY.len() {
-        let mut reader = StdReader::new(Pieces {
-            rest: KEY.get(..given).unwrap_or_default(),
-            step: 1,
-            then: Then::Fail,
-            taken: 0,
-            most_asked: 0,
-        });
-        let result = SecretDocument::read_der_from(rt.alloc(), &mut reader);
-        assert_eq!(rt;
-            result.err().map(|error| error.kind),
-            Some(ErrorKind::Io),
-            "after {given}"
-        );
-        assert_equal(&rt, &reader.into_inner().taken, &given);
+        let (result, pieces) = Pieces::new(KEY, given, 1, Then::Fail).document(rt.alloc());
+        assert_equal_for(&rt, &given, &kind_of(result), &Some(ErrorKind::Io));
+        assert_equal(&rt, &pieces.taken, &given);
     }
     let _ = println!(&rt; "SecretDocument::read_der_from: each of its 122 reads fails");
 }
@@ -185,6 +186,25 @@ impl io::Write for Narrow {
     }
 }
 
+/// Writes the document to such a writer. Returns the kind of the error, if there is one, and the
+/// bytes that the writer took.
+fn written(
+    alloc: Global,
+    document: &SecretDocument,
+    step: usize,
+    room: usize,
+    fails: bool,
+) -> (Option<ErrorKind>, Vec<u8>) {
+    let mut writer = StdWriter::new(Narrow {
+        taken: Vec::new(alloc),
+        step,
+        room,
+        fails,
+    });
+    let result = document.write_der_to(&mut writer);
+    (kind_of(result), writer.into_inner().taken)
+}
+
 /// How many bytes the writer takes a call, how many in all, and whether it fails then; why the key
 /// isn't written, and how many of its bytes are.
 static WRITES: [(usize, usize, bool, Option<ErrorKind>, usize); 5] = [
@@ -198,91 +218,58 @@ static WRITES: [(usize, usize, bool, Option<ErrorKind>, usize); 5] = [
 #[test]
 fn writes_documents_in_pieces(rt: HostRuntime) -> Result<(), Fail> {
     let document = SecretDocument::read_der_from(rt.alloc(), &mut StdReader::new(KEY))?;
-    for &(step, room, fails, want, written) in WRITES.iter() {
-        let mut writer = StdWriter::new(Narrow {
-            taken: Vec::new(rt.alloc()),
-            step,
-            room,
-            fails,
-        });
-        let result = document.write_der_to(&mut writer);
-        let narrow = writer.into_inner();
-        assert_eq!(rt;
-            result.err().map(|error| error.kind),
-            want,
-            "with room for {room}"
-        );
-        assert_eq!(rt;
-            Some(narrow.taken.as_slice()),
-            KEY.get(..written),
-            "with room for {room}"
-        );
+    for &(step, room, fails, want, count) in WRITES.iter() {
+        let (kind, taken) = written(rt.alloc(), &document, step, room, fails);
+        assert_equal_for(&rt, &room, &kind, &want);
+        assert_equal_for(&rt, &room, &Some(taken.as_slice()), &KEY.get(..count));
     }
     Ok(())
 }
 
 #[test]
 fn reports_failed_writes_in_turn(rt: HostRuntime) -> Result<(), Fail> {
-    let document = SecretDocument::from_der(rt.alloc(), KEY)?;
+    let document = document(rt.alloc(), KEY)?;
     for room in 0..KEY.len() {
         for fails in [true, false] {
-            let mut writer = StdWriter::new(Narrow {
-                taken: Vec::new(rt.alloc()),
-                step: 1,
-                room,
-                fails,
-            });
-            let result = document.write_der_to(&mut writer);
-            assert_eq!(rt;
-                result.err().map(|error| error.kind),
-                Some(ErrorKind::Io),
-                "after {room}"
-            );
-            assert_equal(
-                &rt,
-                &Some(writer.into_inner().taken.as_slice()),
-                &KEY.get(..room),
-            );
+            let (kind, taken) = written(rt.alloc(), &document, 1, room, fails);
+            assert_equal_for(&rt, &room, &kind, &Some(ErrorKind::Io));
+            assert_equal(&rt, &Some(taken.as_slice()), &KEY.get(..room));
         }
     }
     let _ = println!(&rt; "SecretDocument::write_der_to: each of its 121 writes fails");
     Ok(())
 }
 
+/// Writes the document into a file, and reads the file.
+fn read_back(
+    rt: &HostRuntime,
+    path: &str,
+    document: &SecretDocument,
+) -> sec1_der::Result<SecretDocument> {
+    document.write_der_file(rt, path)?;
+    SecretDocument::read_der_file(rt, rt.alloc(), path)
+}
+
 #[test]
 fn keeps_documents_in_files(rt: HostRuntime) -> Result<(), Fail> {
-    let folder = std::env::temp_dir(&rt)?;
-    let path = format!(in rt.alloc();
-        "{}/sec1_der_{}",
-        folder.display(),
-        std::process::id(rt.process())
-    )?;
-    let missing = SecretDocument::read_der_file(&rt, rt.alloc(), &path);
-    assert_equal(
-        &rt,
-        &missing.err().map(|error| error.kind),
-        &Some(ErrorKind::Io),
-    );
-
-    let empty = SecretDocument::read_der_from(
-        rt.alloc(),
-        &mut StdReader::new(b"\x30\x00".as_slice()),
-    )?;
-    let whole = SecretDocument::read_der_from(rt.alloc(), &mut StdReader::new(KEY))?;
+    let path = temporary_path(&rt, "document")?;
+    let empty = document(rt.alloc(), b"\x30\x00")?;
+    let whole = document(rt.alloc(), KEY)?;
     // the second is longer than the first, and the third shorter
     for document in [&empty, &whole, &empty] {
-        document.write_der_file(&rt, &path)?;
-        let again = SecretDocument::read_der_file(&rt, rt.alloc(), &path)?;
+        let again = read_back(&rt, &path, document)?;
         assert_equal(&rt, &again.as_bytes(), &document.as_bytes());
     }
-    fs::remove_file(&rt, &path)?;
+    remove_file(&rt, &path)
+}
 
+#[test]
+fn reports_missing_files(rt: HostRuntime) -> Result<(), Fail> {
+    let path = temporary_path(&rt, "missing")?;
+    assert_equal(&rt, &file_refusal(&rt, &path), &Some(ErrorKind::Io));
     let nowhere = format!(in rt.alloc(); "{path}/none")?;
-    let unmade = whole.write_der_file(&rt, &nowhere);
-    assert_equal(
-        &rt,
-        &unmade.err().map(|error| error.kind),
-        &Some(ErrorKind::Io),
-    );
+    let document = document(rt.alloc(), KEY)?;
+    let unmade = kind_of(document.write_der_file(&rt, &nowhere));
+    assert_equal(&rt, &unmade, &Some(ErrorKind::Io));
     Ok(())
 }

@@ -1,8 +1,9 @@
 //! `check_tree` on trees of known size, and beside a plain recursive reader.
 use super::streams::KEY;
-use crate::assert_equal;
+use crate::helpers::{assert_equal, assert_equal_for};
 use sec1_der::{ErrorKind, check_tree};
 use std::alloc::{AllocError, Global};
+use std::process::Abort;
 use std::test::Fail;
 
 /// Trees, and the number of their leaves and nodes.
@@ -51,7 +52,7 @@ static REFUSED: [(&[u8], ErrorKind); 6] = [
 #[test]
 fn counts_known_trees(rt: HostRuntime) -> Result<(), Fail> {
     for &(input, size) in TREES.iter() {
-        assert_eq!(rt; check_tree(input)?, size, "{input:?}");
+        assert_equal_for(&rt, &input, &check_tree(input)?, &size);
     }
     Ok(())
 }
@@ -59,40 +60,45 @@ fn counts_known_trees(rt: HostRuntime) -> Result<(), Fail> {
 #[test]
 fn refuses_other_bytes(rt: HostRuntime) {
     for &(input, kind) in REFUSED.iter() {
-        assert_eq!(rt; counted(input), Err(kind), "{input:?}");
+        assert_equal_for(&rt, &input, &counted(input), &Err(kind));
     }
 }
 
-/// 64 nested elements are counted, 65 are too deep.
+/// Fails the test unless 64 nested elements of this number of bytes are counted, and 65 are too
+/// deep.
+fn assert_reads_64_levels(
+    rt: &impl Abort,
+    alloc: Global,
+    innermost: &[u8],
+    length: usize,
+) -> Result<(), Fail> {
+    let mut tree = innermost.to_vec(alloc)?;
+    for _ in 0..63 {
+        tree = node(alloc, 0x30, &tree)?;
+    }
+    assert_equal(rt, &tree.len(), &length);
+    assert_equal(rt, &counted(&tree), &Ok(64));
+    let deeper = node(alloc, 0x30, &tree)?;
+    assert_equal(rt, &counted(&deeper), &Err(ErrorKind::Depth));
+    Ok(())
+}
+
 #[test]
 fn reads_64_levels(rt: HostRuntime) -> Result<(), Fail> {
-    let alloc = rt.alloc();
-    for (innermost, length) in [
-        (vec![in alloc; 0x30, 0x00]?, 128),
-        (vec![in alloc; 0x04, 0x01, 0xAA]?, 129),
-    ] {
-        let mut tree = innermost;
-        for _ in 0..63 {
-            tree = node(alloc, 0x30, &tree)?;
-        }
-        assert_equal(&rt, &tree.len(), &length);
-        assert_equal(&rt, &check_tree(&tree)?, &64);
-        let deeper = node(alloc, 0x30, &tree)?;
-        assert_equal(&rt, &counted(&deeper), &Err(ErrorKind::Depth));
-    }
-    Ok(())
+    assert_reads_64_levels(&rt, rt.alloc(), &[0x30, 0x00], 128)?;
+    assert_reads_64_levels(&rt, rt.alloc(), &[0x04, 0x01, 0xAA], 129)
 }
 
 /// Each list of up to three bytes.
 #[test]
 fn agrees_on_short_inputs(rt: HostRuntime) {
-    assert!(rt; agrees(&[]));
+    assert_agree(&rt, &[]);
     for a in 0..=255u8 {
-        assert!(rt; agrees(&[a]), "{a}");
+        assert_agree(&rt, &[a]);
         for b in 0..=255u8 {
-            assert!(rt; agrees(&[a, b]), "{a} {b}");
+            assert_agree(&rt, &[a, b]);
             for c in 0..=255u8 {
-                assert!(rt; agrees(&[a, b, c]), "{a} {b} {c}");
+                assert_agree(&rt, &[a, b, c]);
             }
         }
     }
@@ -110,21 +116,32 @@ fn agrees_on_made_trees(rt: HostRuntime) -> Result<(), Fail> {
         } else {
             Err(ErrorKind::Depth)
         };
-        assert_eq!(rt; counted(&made.bytes), want, "{:?}", made.bytes);
+        assert_equal_for(&rt, &made.bytes, &counted(&made.bytes), &want);
         for _ in 0..8 {
-            let mut bytes = made.bytes.clone()?;
-            let at = numbers.next() % bytes.len().max(1);
-            if let Some(byte) = bytes.get_mut(at) {
-                *byte = numbers.byte();
-            }
-            assert!(rt; agrees(&bytes), "{bytes:?}");
-            bytes.truncate(at);
-            assert!(rt; agrees(&bytes), "{bytes:?}");
+            assert_agree_on_changes(&rt, &made.bytes, &mut numbers)?;
         }
         let mut longer = made.bytes;
         longer.push(numbers.byte())?;
-        assert!(rt; agrees(&longer), "{longer:?}");
+        assert_agree(&rt, &longer);
     }
+    Ok(())
+}
+
+/// Fails the test unless both readers return the same of the tree with a byte changed, and of that
+/// tree cut off there.
+fn assert_agree_on_changes(
+    rt: &impl Abort,
+    tree: &Vec<u8>,
+    numbers: &mut Numbers,
+) -> Result<(), AllocError> {
+    let mut bytes = tree.clone()?;
+    let at = numbers.next() % bytes.len().max(1);
+    if let Some(byte) = bytes.get_mut(at) {
+        *byte = numbers.byte();
+    }
+    assert_agree(rt, &bytes);
+    bytes.truncate(at);
+    assert_agree(rt, &bytes);
     Ok(())
 }
 
@@ -136,8 +153,9 @@ fn counted(input: &[u8]) -> Result<usize, ErrorKind> {
     }
 }
 
-fn agrees(input: &[u8]) -> bool {
-    counted(input) == counted_by_recursion(input)
+/// Fails the test unless both readers return the same.
+fn assert_agree(rt: &impl Abort, input: &[u8]) {
+    assert_equal_for(rt, &input, &counted(input), &counted_by_recursion(input));
 }
 
 /// The size of the one tree with these bytes, by recursion.

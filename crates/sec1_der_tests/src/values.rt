@@ -1,10 +1,11 @@
 //! Values and calls of the reader that no other test makes, by examples with known results.
-use crate::assert_equal;
+use crate::helpers::{assert_equal, assert_equal_for, kind_of, read, refusal_of, text_of};
 use sec1_der::{
     BitStringRef, Containing, Context0, EncodeValue, ErrorKind, Explicit, ExplicitBits, FixedTag,
     ID_EC_PUBLIC_KEY, Length, ObjectIdentifier, OctetStringRef, Octets, SliceReader, SliceWriter,
-    SmallInteger, Tag, Tagged, VersionOne, WholeBits, from_der,
+    SmallInteger, Tag, Tagged, VersionOne, WholeBits,
 };
+use std::process::Abort;
 use std::test::Fail;
 
 #[test]
@@ -62,7 +63,7 @@ fn has_tags_by_their_bytes(rt: HostRuntime) {
         (Tag::PRIMITIVE_3, 0x83),
     ] {
         assert_equal(&rt, &tag.byte(), &byte);
-        assert_eq!(rt; tag.is_constructed(), byte & 0x20 != 0, "{byte}");
+        assert_equal_for(&rt, &byte, &tag.is_constructed(), &(byte & 0x20 != 0));
     }
 }
 
@@ -86,20 +87,20 @@ fn writes_contents(rt: HostRuntime) -> Result<(), Fail> {
 
 #[test]
 fn reads_elements_of_identifiers(rt: HostRuntime) -> Result<(), Fail> {
-    let identifier = from_der::<ObjectIdentifier>(b"\x06\x02\x88\x37")?;
+    let identifier: ObjectIdentifier = read(b"\x06\x02\x88\x37")?;
     assert_equal(&rt, &identifier.as_bytes(), &[0x88, 0x37].as_slice());
-    assert_equal(
-        &rt,
-        &format!(in rt.alloc(); "{identifier}")?.as_str(),
-        &"2.999",
-    );
+    assert_equal(&rt, &text_of(rt.alloc(), &identifier)?.as_str(), &"2.999");
     for (bytes, kind) in [
         (b"\x06\x00".as_slice(), ErrorKind::Value),
         (b"\x06\x01\x80", ErrorKind::Value),
         (b"\x05\x00", ErrorKind::Tag),
     ] {
-        let refused = from_der::<ObjectIdentifier>(bytes).map_err(|e| e.kind);
-        assert!(rt; refused == Err(kind), "of {bytes:?}");
+        assert_equal_for(
+            &rt,
+            &bytes,
+            &refusal_of::<ObjectIdentifier>(bytes),
+            &Some(kind),
+        );
     }
     Ok(())
 }
@@ -113,10 +114,11 @@ fn refuses_other_versions(rt: HostRuntime) {
         b"\x02\x02\x00\x01",
         b"\x02\x02\x01\x00",
     ] {
-        assert_eq!(rt;
-            from_der::<VersionOne>(bytes).map_err(|e| e.kind),
-            Err(ErrorKind::Value),
-            "of {bytes:?}"
+        assert_equal_for(
+            &rt,
+            &bytes,
+            &refusal_of::<VersionOne>(bytes),
+            &Some(ErrorKind::Value),
         );
     }
 }
@@ -126,54 +128,65 @@ fn reads_tags_from_bytes(rt: HostRuntime) -> Result<(), Fail> {
     for (byte, is_constructed) in [(0x01, false), (0x04, false), (0x30, true), (0xBE, true)] {
         let tag = Tag::from_byte(byte)?;
         assert_equal(&rt, &tag.byte(), &byte);
-        assert_eq!(rt; tag.is_constructed(), is_constructed, "{byte}");
+        assert_equal_for(&rt, &byte, &tag.is_constructed(), &is_constructed);
     }
     assert_equal(&rt, &Tag::from_byte(0x30)?, &Tag::SEQUENCE);
     for byte in [0x00, 0x1F, 0x3F, 0xFF] {
-        assert_eq!(rt;
-            Tag::from_byte(byte).map_err(|e| e.kind),
-            Err(ErrorKind::Tag),
-            "{byte}"
+        assert_equal_for(
+            &rt,
+            &byte,
+            &kind_of(Tag::from_byte(byte)),
+            &Some(ErrorKind::Tag),
         );
     }
     Ok(())
 }
 
+/// Reads this many bytes.
+fn slice<'a>(reader: &mut SliceReader<'a>, count: usize) -> sec1_der::Result<&'a [u8]> {
+    reader.read_slice(Length::new(count)?)
+}
+
+/// Begins to read inside the next bytes, of this number.
+fn nested<'a>(reader: &mut SliceReader<'a>, count: usize) -> sec1_der::Result<SliceReader<'a>> {
+    reader.read_nested(Length::new(count)?)
+}
+
 #[test]
 fn reads_parts_of_a_slice(rt: HostRuntime) -> Result<(), Fail> {
     let mut reader = SliceReader::new(b"\x01\x02\x03\x04\x05");
-    assert_equal(
-        &rt,
-        &reader.read_slice(Length::new(2)?)?,
-        &b"\x01\x02".as_slice(),
-    );
+    assert_equal(&rt, &slice(&mut reader, 2)?, &b"\x01\x02".as_slice());
     assert_equal(&rt, &reader.remaining_len(), &3);
     assert_equal(&rt, &reader.peek_tag_byte(), &Some(0x03));
-
-    let mut nested = reader.read_nested(Length::new(2)?)?;
-    assert_equal(&rt, &nested.remaining_len(), &2);
-    assert_equal(
-        &rt,
-        &nested.read_slice(Length::new(2)?)?,
-        &b"\x03\x04".as_slice(),
-    );
-    assert!(rt; nested.finish().is_ok());
+    assert_reads_inside(&rt, &mut reader)?;
     assert_equal(&rt, &reader.remaining_len(), &1);
-    assert!(rt; !reader.is_failed());
-
-    assert_equal(
-        &rt,
-        &reader.fail(ErrorKind::Value).kind(),
-        &ErrorKind::Value,
-    );
-    assert!(rt; reader.is_failed());
+    assert_fails(&rt, &mut reader);
     assert_equal(&rt, &reader.remaining_len(), &1);
+    Ok(())
+}
 
+/// Fails the test unless the next two bytes, 3 and 4, are read as nested input.
+fn assert_reads_inside(rt: &impl Abort, reader: &mut SliceReader) -> sec1_der::Result<()> {
+    let mut inside = nested(reader, 2)?;
+    assert_equal(rt, &inside.remaining_len(), &2);
+    assert_equal(rt, &slice(&mut inside, 2)?, &b"\x03\x04".as_slice());
+    assert_equal(rt, &kind_of(inside.finish()), &None);
+    Ok(())
+}
+
+/// Fails the test unless the reader has not failed, and then has it fail.
+fn assert_fails(rt: &impl Abort, reader: &mut SliceReader) {
+    assert_equal(rt, &reader.is_failed(), &false);
+    assert_equal(rt, &reader.fail(ErrorKind::Value).kind(), &ErrorKind::Value);
+    assert_equal(rt, &reader.is_failed(), &true);
+}
+
+#[test]
+fn refuses_bytes_left_over(rt: HostRuntime) {
     let mut unread = SliceReader::new(b"\x05");
     assert_equal(
         &rt,
-        &unread.finish().map_err(|e| e.kind),
-        &Err(ErrorKind::TrailingData),
+        &kind_of(unread.finish()),
+        &Some(ErrorKind::TrailingData),
     );
-    Ok(())
 }

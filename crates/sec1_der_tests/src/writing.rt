@@ -1,18 +1,11 @@
 //! What is written, by examples with known results.
-use crate::assert_equal;
+use crate::helpers::{assert_equal, assert_written, document, kind_of, write};
 use sec1_der::{
     AnyRef, BackWriter, BitStringRef, Context0, EncodeValue, ErrorKind, Explicit, Header,
     ID_EC_PUBLIC_KEY, Length, ObjectIdentifier, OctetStringRef, SecretDocument, SliceReader,
-    SliceWriter, Tag, Tagged, VersionOne, encode_to_slice, encoded_len, to_der,
+    SliceWriter, Tag, Tagged, VersionOne, encoded_len,
 };
 use std::test::Fail;
-
-fn kind_of<T: Drop>(outcome: sec1_der::Result<T>) -> Option<ErrorKind> {
-    match outcome {
-        Ok(_) => None,
-        Err(e) => Some(e.kind()),
-    }
-}
 
 #[test]
 fn writes_from_the_back(rt: HostRuntime) -> Result<(), Fail> {
@@ -87,7 +80,7 @@ fn announces_the_greatest_length(rt: HostRuntime) -> Result<(), Fail> {
     assert_equal(&rt, &header.length.get(), &268_435_455);
     assert_equal(
         &rt,
-        &kind_of(SecretDocument::from_der(rt.alloc(), &greatest)),
+        &kind_of(document(rt.alloc(), &greatest)),
         &Some(ErrorKind::Truncated),
     );
     let above = [0x30, 0x84, 0x10, 0x00, 0x00, 0x00];
@@ -111,26 +104,19 @@ fn announces_the_greatest_length(rt: HostRuntime) -> Result<(), Fail> {
 
 #[test]
 fn writes_values(rt: HostRuntime) -> Result<(), Fail> {
+    let alloc = rt.alloc();
     let octets = OctetStringRef::new(&[0xAA, 0xBB])?;
-    assert_equal(&rt, &encoded_len(&octets)?, &4);
-    assert_equal(
-        &rt,
-        &to_der(rt.alloc(), &octets)?.as_slice(),
-        &[0x04, 0x02, 0xAA, 0xBB].as_slice(),
-    );
+    assert_written(&rt, alloc, &octets, &[0x04, 0x02, 0xAA, 0xBB])?;
     let bits = BitStringRef::new(4, &[0xF0])?;
-    assert_equal(
-        &rt,
-        &to_der(rt.alloc(), &bits)?.as_slice(),
-        &[0x03, 0x02, 0x04, 0xF0].as_slice(),
-    );
-    assert_equal(
-        &rt,
-        &to_der(rt.alloc(), &VersionOne)?.as_slice(),
-        &[0x02, 0x01, 0x01].as_slice(),
-    );
+    assert_written(&rt, alloc, &bits, &[0x03, 0x02, 0x04, 0xF0])?;
+    assert_written(&rt, alloc, &VersionOne, &[0x02, 0x01, 0x01])?;
+    Ok(())
+}
+
+#[test]
+fn writes_at_the_front_of_a_slice(rt: HostRuntime) -> Result<(), Fail> {
     let mut room = [0xAA; 10];
-    assert_equal(&rt, &encode_to_slice(&ID_EC_PUBLIC_KEY, &mut room)?, &9);
+    assert_equal(&rt, &write(&ID_EC_PUBLIC_KEY, &mut room)?.len(), &9);
     assert_equal(
         &rt,
         &room,
@@ -177,40 +163,46 @@ fn prepend_field<K: Tagged>(writer: &mut BackWriter, field: Field<K>) -> sec1_de
     }
 }
 
+/// The field `[30]` of an empty octet string.
+fn empty_field() -> sec1_der::Result<Explicit<Context30, OctetStringRef<'static>>> {
+    Ok(Explicit::new(OctetStringRef::new(&[])?))
+}
+
+#[test]
+fn measures_fields(rt: HostRuntime) -> Result<(), Fail> {
+    assert_equal(&rt, &field_len(Some(&empty_field()?))?, &4);
+    assert_equal(&rt, &field_len::<Context0>(None)?, &0);
+    Ok(())
+}
+
 #[test]
 fn writes_elements_and_fields(rt: HostRuntime) -> Result<(), Fail> {
-    let octets = Explicit::<Context30, _>::new(OctetStringRef::new(&[])?);
-    let octets = Some(&octets);
-    let missing: Field<Context0> = None;
-    assert_equal(&rt, &field_len(octets)?, &4);
-    assert_equal(&rt, &field_len(missing)?, &0);
-
+    let octets = empty_field()?;
     let mut room = [0xAA; 8];
     let mut writer = SliceWriter::new(&mut room);
     writer.element(&VersionOne)?;
-    append_field(&mut writer, missing)?;
-    append_field(&mut writer, octets)?;
-    assert_equal(
-        &rt,
-        &kind_of(writer.element(&VersionOne)),
-        &Some(ErrorKind::Buffer),
-    );
+    append_field::<Context0>(&mut writer, None)?;
+    append_field(&mut writer, Some(&octets))?;
+    let full = kind_of(writer.element(&VersionOne));
+    assert_equal(&rt, &full, &Some(ErrorKind::Buffer));
     assert_equal(
         &rt,
         &room,
         &[0x02, 0x01, 0x01, 0xBE, 0x02, 0x04, 0x00, 0xAA],
     );
+    Ok(())
+}
 
+#[test]
+fn writes_elements_and_fields_from_the_back(rt: HostRuntime) -> Result<(), Fail> {
+    let octets = empty_field()?;
     let mut room = [0xAA; 8];
     let mut writer = BackWriter::new(&mut room);
-    prepend_field(&mut writer, octets)?;
-    prepend_field(&mut writer, missing)?;
+    prepend_field(&mut writer, Some(&octets))?;
+    prepend_field::<Context0>(&mut writer, None)?;
     writer.element(&VersionOne)?;
-    assert_equal(
-        &rt,
-        &kind_of(prepend_field(&mut writer, octets)),
-        &Some(ErrorKind::Buffer),
-    );
+    let full = kind_of(prepend_field(&mut writer, Some(&octets)));
+    assert_equal(&rt, &full, &Some(ErrorKind::Buffer));
     assert_equal(
         &rt,
         &room,
@@ -237,25 +229,29 @@ fn makes_any_of_an_identifier(rt: HostRuntime) -> Result<(), Fail> {
 
 #[test]
 fn holds_documents(rt: HostRuntime) -> Result<(), Fail> {
-    let octets = [0x04, 0x01, 0xAA];
-    let document = SecretDocument::from_der(rt.alloc(), &octets)?;
-    assert_equal(&rt, &document.as_bytes(), &octets.as_slice());
-    assert_equal(&rt, &document.len(), &3);
+    let octets = document(rt.alloc(), &[0x04, 0x01, 0xAA])?;
+    assert_equal(&rt, &octets.as_bytes(), &[0x04, 0x01, 0xAA].as_slice());
+    assert_equal(&rt, &octets.len(), &3);
+    let cut_short = document(rt.alloc(), &[0x30, 0x03, 0x04, 0x05, 0x00])?;
+    assert_equal(&rt, &cut_short.len(), &5);
+    Ok(())
+}
+
+#[test]
+fn hides_documents_in_debug_texts(rt: HostRuntime) -> Result<(), Fail> {
+    let octets = document(rt.alloc(), &[0x04, 0x01, 0xAA])?;
     assert_equal(
         &rt,
-        &format!(in rt.alloc(); "{document:?}")?.as_str(),
+        &format!(in rt.alloc(); "{octets:?}")?.as_str(),
         &"SecretDocument { .. }",
     );
-    assert_equal(
-        &rt,
-        &SecretDocument::from_der(rt.alloc(), &[0x30, 0x03, 0x04, 0x05, 0x00])?.len(),
-        &5,
-    );
+    Ok(())
+}
+
+#[test]
+fn encodes_values_as_documents(rt: HostRuntime) -> Result<(), Fail> {
     let value = OctetStringRef::new(&[0xAA])?;
-    assert_equal(
-        &rt,
-        &SecretDocument::encode_msg(rt.alloc(), &value)?.as_bytes(),
-        &octets.as_slice(),
-    );
+    let document = SecretDocument::encode_msg(rt.alloc(), &value)?;
+    assert_equal(&rt, &document.as_bytes(), &[0x04, 0x01, 0xAA].as_slice());
     Ok(())
 }

@@ -1,0 +1,128 @@
+//! What many tests call. None of these has a contract, so a test doesn't carry those of the calls
+//! inside, which takes the prover a fraction of the time.
+use sec1_der::{
+    DecodeValue, EncodeValue, ErrorKind, Result, SecretDocument, Tagged, UniqueContent,
+    encode_to_slice, encoded_len, from_der, read_der, to_der,
+};
+use std::alloc::{AllocError, Global};
+use std::fmt::{Debug, Display};
+use std::fs;
+use std::process::Abort;
+use std::test::Fail;
+
+/// Fails the test unless the two are equal.
+pub fn assert_equal<T: PartialEq + Debug>(rt: &impl Abort, found: &T, wanted: &T) {
+    assert_eq!(rt; *found, *wanted);
+}
+
+/// Fails the test unless the two are equal, and names the case.
+pub fn assert_equal_for<C: Debug, T: PartialEq + Debug>(
+    rt: &impl Abort,
+    case: &C,
+    found: &T,
+    wanted: &T,
+) {
+    assert_eq!(rt; *found, *wanted, "of {case:?}");
+}
+
+/// Fails the test, and names the case, unless the condition is true.
+pub fn assert_for<C: Debug>(rt: &impl Abort, case: &C, condition: bool) {
+    assert!(rt; condition, "of {case:?}");
+}
+
+/// Returns the kind of the error, if there is one.
+pub fn kind_of<T: Drop>(outcome: Result<T>) -> Option<ErrorKind> {
+    match outcome {
+        Ok(_) => None,
+        Err(error) => Some(error.kind()),
+    }
+}
+
+/// Reads a value from its whole encoding.
+pub fn read<'a, T: DecodeValue<'a> + Tagged + Drop>(bytes: &'a [u8]) -> Result<T> {
+    from_der(bytes)
+}
+
+/// Returns the kind of the error by which the bytes are refused.
+pub fn refusal_of<'a, T: DecodeValue<'a> + Tagged + Drop>(bytes: &'a [u8]) -> Option<ErrorKind> {
+    kind_of(from_der::<T>(bytes))
+}
+
+/// Writes the value at the front of the slice, and returns the bytes written.
+pub fn write<'r, T: EncodeValue + Tagged>(value: &T, room: &'r mut [u8]) -> Result<&'r [u8]> {
+    let count = encode_to_slice(value, room)?;
+    Ok(&room[..count])
+}
+
+/// Returns the encoding of the value, and the length that is given for it.
+pub fn encoded<T: EncodeValue + Tagged>(alloc: Global, value: &T) -> Result<(Vec<u8>, usize)> {
+    let length = encoded_len(value)?;
+    Ok((to_der(alloc, value)?, length))
+}
+
+/// Fails the test unless the value has this encoding.
+pub fn assert_written<T: EncodeValue + Tagged>(
+    rt: &impl Abort,
+    alloc: Global,
+    value: &T,
+    wanted: &[u8],
+) -> Result<()> {
+    let (bytes, length) = encoded(alloc, value)?;
+    assert_equal(rt, &bytes.as_slice(), &wanted);
+    assert_equal(rt, &length, &wanted.len());
+    Ok(())
+}
+
+/// Returns the bytes as a document.
+pub fn document(alloc: Global, bytes: &[u8]) -> Result<SecretDocument> {
+    SecretDocument::from_der(alloc, bytes)
+}
+
+/// Fails the test unless each proper prefix of the bytes is refused as Truncated.
+fn assert_prefixes_refused<'a, T>(rt: &impl Abort, bytes: &'a [u8])
+where
+    T: DecodeValue<'a> + Tagged + Drop,
+{
+    for length in 0..bytes.len() {
+        let refused = refusal_of::<T>(&bytes[..length]);
+        assert_equal_for(rt, &length, &refused, &Some(ErrorKind::Truncated));
+    }
+}
+
+/// Reads a value, and fails the test unless it has this encoding, and each proper prefix of the
+/// bytes is refused as Truncated.
+pub fn read_and_write<'a, T>(rt: &impl Abort, alloc: Global, bytes: &'a [u8]) -> Result<T>
+where
+    T: DecodeValue<'a> + EncodeValue + Tagged + UniqueContent + Drop,
+{
+    let value: T = read_der(bytes)?;
+    assert_written(rt, alloc, &value, bytes)?;
+    assert_prefixes_refused::<T>(rt, bytes);
+    Ok(value)
+}
+
+/// Returns the text by `{}`.
+pub fn text_of<T: Display>(alloc: Global, value: &T) -> std::result::Result<String, AllocError> {
+    value.to_string(alloc)
+}
+
+/// Returns the kind of the error by which the file isn't read as a document.
+pub fn file_refusal(rt: &HostRuntime, path: &str) -> Option<ErrorKind> {
+    kind_of(SecretDocument::read_der_file(rt, rt.alloc(), path))
+}
+
+/// Removes the file.
+pub fn remove_file(rt: &HostRuntime, path: &str) -> std::result::Result<(), Fail> {
+    fs::remove_file(rt, path)?;
+    Ok(())
+}
+
+/// Returns a path in the folder for temporary files that no other test and no other run has.
+pub fn temporary_path(rt: &HostRuntime, name: &str) -> std::result::Result<String, Fail> {
+    let folder = std::env::temp_dir(rt)?;
+    Ok(format!(in rt.alloc();
+        "{}/sec1_der_{name}_{}",
+        folder.display(),
+        std::process::id(rt.process())
+    )?)
+}
