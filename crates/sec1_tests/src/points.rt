@@ -97,15 +97,24 @@ fn uncompressed_32() -> [u8; 65] {
     bytes
 }
 
+/// Returns the point of these bytes. Fails the test if there is none.
+fn point_1(rt: &impl Abort, bytes: &[u8]) -> Point1 {
+    Point1::from_bytes(bytes).expect(rt, "no point")
+}
+
+/// Returns the point of these bytes. Fails the test if there is none.
+fn point_32(rt: &impl Abort, bytes: &[u8]) -> EncodedPoint32 {
+    EncodedPoint32::from_bytes(bytes).expect(rt, "no point")
+}
+
 #[test]
-fn compresses_points(rt: HostRuntime) -> Result<(), Fail> {
+fn compresses_points(rt: HostRuntime) {
     for &(bytes, compressed) in COMPRESSED_1.iter() {
-        let point = Point1::from_bytes(bytes)?.compress();
+        let point = point_1(&rt, bytes).compress();
         assert_equal_for(&rt, &bytes, &point.as_bytes(), &compressed);
         assert_equal_for(&rt, &bytes, &point.len(), &compressed.len());
-        assert_equal_for(&rt, &bytes, &point, &Point1::try_from(compressed)?);
+        assert_equal_for(&rt, &bytes, &point, &point_1(&rt, compressed));
     }
-    Ok(())
 }
 
 #[test]
@@ -118,12 +127,11 @@ fn compresses_points_at_two_bytes(rt: HostRuntime) -> Result<(), Fail> {
 }
 
 #[test]
-fn makes_hybrid_points(rt: HostRuntime) -> Result<(), Fail> {
+fn makes_hybrid_points(rt: HostRuntime) {
     for &(bytes, hybrid) in HYBRID.iter() {
-        let point = Point1::from_bytes(bytes)?.to_hybrid();
+        let point = point_1(&rt, bytes).to_hybrid();
         assert_equal_for(&rt, &bytes, &point.as_bytes(), &hybrid);
     }
-    Ok(())
 }
 
 /// Returns the error by which the bytes are refused as a point at 32 bytes.
@@ -228,15 +236,14 @@ fn borrows_coordinates_of_compressed_points(rt: HostRuntime) {
 }
 
 #[test]
-fn distinguishes_compact_and_hybrid_points(rt: HostRuntime) -> Result<(), Fail> {
-    let compact = Point1::from_bytes(&[5, 7])?;
+fn distinguishes_compact_and_hybrid_points(rt: HostRuntime) {
+    let compact = point_1(&rt, &[5, 7]);
     assert_equal(&rt, &forms(&compact), &[true, false, false, false]);
-    let hybrid = Point1::from_bytes(&[4, 1, 3])?.to_hybrid();
+    let hybrid = point_1(&rt, &[4, 1, 3]).to_hybrid();
     assert_equal(&rt, &forms(&hybrid), &[false, false, true, false]);
-    let odd = Point1::from_bytes(&[7, 1, 3])?;
+    let odd = point_1(&rt, &[7, 1, 3]);
     let coordinates = Hybrid { x: &[1], y: &[3] };
     has_coordinates(&rt, &odd, Tag::HybridOddY, coordinates);
-    Ok(())
 }
 
 #[test]
@@ -294,7 +301,7 @@ fn is_printed(
 #[test]
 fn prints_the_same_whatever_is_asked(rt: HostRuntime) -> Result<(), Fail> {
     let alloc = rt.alloc();
-    let point = Point1::from_bytes(&[2, 0xAF])?;
+    let point = point_1(&rt, &[2, 0xAF]);
     is_printed(&rt, alloc, &point, "02AF")?;
     let error = Error::Asn1(der::Error::from(ErrorKind::Value));
     is_printed(
@@ -350,8 +357,8 @@ fn compares_coordinates_with_y(rt: HostRuntime) {
 }
 
 /// Fails the test unless the bytes are a compressed point of this tag and parity.
-fn has_parity(rt: &impl Abort, bytes: [u8; 33], tag: Tag, y_is_odd: bool) -> Result<(), Fail> {
-    let point = EncodedPoint32::from_bytes(&bytes)?;
+fn has_parity(rt: &impl Abort, bytes: [u8; 33], tag: Tag, y_is_odd: bool) {
+    let point = point_32(rt, &bytes);
     assert_equal(rt, &point.tag(), &tag);
     assert_equal(rt, &point.len(), &33);
     assert_equal(rt, &point.y(), &None);
@@ -360,18 +367,17 @@ fn has_parity(rt: &impl Abort, bytes: [u8; 33], tag: Tag, y_is_odd: bool) -> Res
         _ => None,
     };
     assert_equal(rt, &is_odd, &Some(y_is_odd));
-    Ok(())
 }
 
 #[test]
-fn reads_parities(rt: HostRuntime) -> Result<(), Fail> {
+fn reads_parities(rt: HostRuntime) {
     let mut bytes = [0; 33];
     bytes[0] = 2;
     bytes[1] = 1;
-    has_parity(&rt, bytes, Tag::CompressedEvenY, false)?;
+    has_parity(&rt, bytes, Tag::CompressedEvenY, false);
     bytes[0] = 3;
     bytes[1] = 2;
-    has_parity(&rt, bytes, Tag::CompressedOddY, true)
+    has_parity(&rt, bytes, Tag::CompressedOddY, true);
 }
 
 #[test]
@@ -411,36 +417,33 @@ fn has_tags(rt: HostRuntime) -> Result<(), Fail> {
 }
 
 /// Fails the test unless the first point is less than the second.
-fn is_less(rt: &impl Abort, lower: &[u8], higher: &[u8]) -> Result<(), Fail> {
-    let low = Point1::from_bytes(lower)?;
-    let high = Point1::from_bytes(higher)?;
+fn is_less(rt: &impl Abort, lower: &[u8], higher: &[u8]) {
+    let low = point_1(rt, lower);
+    let high = point_1(rt, higher);
     let found = (low < high, high > low, low != high);
     assert_equal_for(rt, &(lower, higher), &found, &(true, true, true));
-    Ok(())
 }
 
 #[test]
-fn orders_points(rt: HostRuntime) -> Result<(), Fail> {
+fn orders_points(rt: HostRuntime) {
     for (i, &lower) in ORDERED.iter().enumerate() {
         for &higher in ORDERED[i + 1..].iter() {
-            is_less(&rt, lower, higher)?;
+            is_less(&rt, lower, higher);
         }
     }
-    let small = EncodedPoint32::from_bytes(compressed_32().as_slice())?;
-    let large = EncodedPoint32::from_bytes(uncompressed_32().as_slice())?;
+    let small = point_32(&rt, compressed_32().as_slice());
+    let large = point_32(&rt, uncompressed_32().as_slice());
     assert_equal(&rt, &(small < large), &true);
-    Ok(())
 }
 
 /// A point whose buffer has a y after the encoding is equal to one without.
 #[test]
-fn compares_points_by_their_encodings(rt: HostRuntime) -> Result<(), Fail> {
-    let compressed = Point1::from_bytes(&[4, 1, 0xFF])?.compress();
-    let read = Point1::from_bytes(&[3, 1])?;
+fn compares_points_by_their_encodings(rt: HostRuntime) {
+    let compressed = point_1(&rt, &[4, 1, 0xFF]).compress();
+    let read = point_1(&rt, &[3, 1]);
     assert_equal(&rt, &compressed, &read);
     assert_equal(&rt, &compressed.ct_eq(&read), &true);
     assert_equal(&rt, &compressed.cmp(&read), &Ordering::Equal);
-    Ok(())
 }
 
 // The bytes that were fed, up to 15 of them, as the digits after the first one, 1, of a number in
@@ -487,10 +490,10 @@ fn hashes_points(rt: HostRuntime) -> Result<(), Fail> {
 
 #[test]
 fn finds_points_in_sets(rt: HostRuntime) -> Result<(), Fail> {
-    let compressed = Point1::from_bytes(&[4, 0xAF, 2])?.compress();
+    let compressed = point_1(&rt, &[4, 0xAF, 2]).compress();
     let mut points = HashSet::new(rt.alloc());
     assert_equal(&rt, &points.insert(Point1::from_str("02AF")?)?, &true);
-    let read = Point1::from_bytes(&[2, 0xAF])?;
+    let read = point_1(&rt, &[2, 0xAF]);
     assert_equal(&rt, &points.contains(&read), &true);
     assert_equal(&rt, &points.insert(compressed)?, &false);
     assert_equal(&rt, &points.len(), &1);
@@ -529,19 +532,18 @@ fn assigns<const N: usize, const L: usize>(
 }
 
 #[test]
-fn selects_points(rt: HostRuntime) -> Result<(), Fail> {
-    let whole = Point1::from_bytes(&[4, 1, 2])?;
+fn selects_points(rt: HostRuntime) {
+    let whole = point_1(&rt, &[4, 1, 2]);
     selects(&rt, whole, Point1::identity());
     selects(&rt, Point1::identity(), whole);
-    let compressed = EncodedPoint32::from_bytes(compressed_32().as_slice())?;
-    let uncompressed = EncodedPoint32::from_bytes(uncompressed_32().as_slice())?;
+    let compressed = point_32(&rt, compressed_32().as_slice());
+    let uncompressed = point_32(&rt, uncompressed_32().as_slice());
     selects(&rt, compressed, uncompressed);
-    Ok(())
 }
 
 #[test]
-fn assigns_points(rt: HostRuntime) -> Result<(), Fail> {
-    let whole = Point1::from_bytes(&[4, 1, 2])?;
+fn assigns_points(rt: HostRuntime) {
+    let whole = point_1(&rt, &[4, 1, 2]);
     let mut assigned = whole;
     assigned.ct_assign(&Point1::identity(), true);
     assert_equal(&rt, &assigned.as_bytes(), &[0].as_slice());
@@ -550,7 +552,6 @@ fn assigns_points(rt: HostRuntime) -> Result<(), Fail> {
     let mut assigned = Point1::identity();
     assigned.ct_assign(&whole, true);
     assert_equal(&rt, &assigned.as_bytes(), &[4, 1, 2].as_slice());
-    Ok(())
 }
 
 /// Fails the test unless the point is read from the text.
@@ -605,10 +606,10 @@ fn is_read_from_json<const N: usize, const L: usize>(
 #[test]
 fn writes_texts(rt: HostRuntime) -> Result<(), Fail> {
     let alloc = rt.alloc();
-    is_written(&rt, alloc, Point1::from_bytes(&[2, 0xAF])?, "02AF", "02af")?;
+    is_written(&rt, alloc, point_1(&rt, &[2, 0xAF]), "02AF", "02af")?;
     for &(upper, lower) in TEXTS_32.iter() {
         let bytes = hex::decode(alloc, upper)?;
-        let point = EncodedPoint32::from_bytes(&bytes)?;
+        let point = point_32(&rt, &bytes);
         is_written(&rt, alloc, point, upper, lower)?;
     }
     assert_equal(
@@ -633,7 +634,7 @@ fn refuses_other_texts(rt: HostRuntime) {
 #[test]
 fn prints_the_coordinates(rt: HostRuntime) -> Result<(), Fail> {
     let alloc = rt.alloc();
-    let point = Point1::from_bytes(&[2, 0xAF])?;
+    let point = point_1(&rt, &[2, 0xAF]);
     assert_equal(
         &rt,
         &format!(in alloc; "{point:?}")?.as_str(),
