@@ -76,7 +76,7 @@ fn reread<'a, T: DecodeValue<'a> + EncodeValue + Tagged + Drop>(
 }
 
 /// Fails the test unless this is the key in the container.
-fn is_contained(rt: &impl Abort, key: &EcPrivateKey) {
+fn assert_contained(rt: &impl Abort, key: &EcPrivateKey) {
     assert_equal(rt, &key.private_key, &&CONTAINER[36..68]);
     assert_equal(rt, &key.parameters.is_none(), &true);
     assert_equal(rt, &key.public_key, &Some(&INFO[26..]));
@@ -102,7 +102,7 @@ fn reads_and_writes_a_container(rt: HostRuntime) -> Result<(), Fail> {
     let info: PrivateKeyInfo = reread(&rt, &CONTAINER)?;
     assert_equal(&rt, &info.algorithm.parameters, &sec1::der::SECP256R1);
     assert_equal(&rt, &info.private_key, &&CONTAINER[29..]);
-    is_contained(&rt, &EcPrivateKey::try_from(info.private_key)?);
+    assert_contained(&rt, &EcPrivateKey::try_from(info.private_key)?);
     Ok(())
 }
 
@@ -124,7 +124,7 @@ fn refuses_public_keys_without_a_point_on_p_256(rt: HostRuntime) {
 
 #[test]
 fn reads_a_key_from_a_container(rt: HostRuntime) -> Result<(), Fail> {
-    is_contained(&rt, &read_private_key(&CONTAINER)?);
+    assert_contained(&rt, &read_private_key(&CONTAINER)?);
     Ok(())
 }
 
@@ -194,7 +194,7 @@ fn store_of(alloc: Global, point: EncodedPoint32) -> Result<KeyStore, Fail> {
 }
 
 /// Fails the test unless this is the container.
-fn is_container(rt: &impl Abort, document: Option<&SecretDocument>) {
+fn assert_container(rt: &impl Abort, document: Option<&SecretDocument>) {
     let bytes = document.map(|document| document.as_bytes());
     assert_equal(rt, &bytes, &Some(CONTAINER.as_slice()));
 }
@@ -202,7 +202,7 @@ fn is_container(rt: &impl Abort, document: Option<&SecretDocument>) {
 #[test]
 fn finds_a_key_by_its_public_key(rt: HostRuntime) -> Result<(), Fail> {
     let store = store_of(rt.alloc(), read_public_key(&INFO)?)?;
-    is_container(&rt, find_by_public_key(&store, &INFO)?);
+    assert_container(&rt, find_by_public_key(&store, &INFO)?);
     let refused = find_by_public_key(&store, &OTHER_CURVE).err();
     assert_equal(&rt, &refused, &Some(Error::Crypto));
     Ok(())
@@ -215,7 +215,7 @@ fn finds_a_key_by_another_value_of_its_point(rt: HostRuntime) -> Result<(), Fail
     let store = store_of(rt.alloc(), point.compress())?;
     let mut bytes = [2; 33];
     bytes[1..].copy_from_slice(&INFO[27..59]);
-    is_container(&rt, find(&store, &EncodedPoint32::from_bytes(&bytes)?));
+    assert_container(&rt, find(&store, &EncodedPoint32::from_bytes(&bytes)?));
     assert_equal(&rt, &find(&store, &point).is_none(), &true);
     Ok(())
 }

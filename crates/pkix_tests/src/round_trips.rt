@@ -24,7 +24,7 @@ where
 }
 
 /// Fails the test unless the bytes are read, and their value is written as the same bytes.
-fn reads<'a, T>(rt: &(impl Abort + AllocGlobal), der: &'a [u8])
+fn assert_reads<'a, T>(rt: &(impl Abort + AllocGlobal), der: &'a [u8])
 where
     T: DecodeValue<'a> + EncodeValue + Tagged + UniqueContent + Drop,
 {
@@ -33,7 +33,7 @@ where
 }
 
 /// Fails the test unless the bytes are refused as Value.
-fn refuses<'a, T>(rt: &impl Abort, der: &'a [u8])
+fn assert_refuses<'a, T>(rt: &impl Abort, der: &'a [u8])
 where
     T: DecodeValue<'a> + Tagged + UniqueContent + Drop,
 {
@@ -44,24 +44,24 @@ where
 /// X.690 sections 8.2.2, 8.8.2 and 11.1.
 #[test]
 fn booleans_and_null(rt: HostRuntime) {
-    reads::<Boolean>(&rt, b"\x01\x01\xFF");
-    reads::<Boolean>(&rt, b"\x01\x01\x00");
-    refuses::<Boolean>(&rt, b"\x01\x01\x01");
-    reads::<True>(&rt, b"\x01\x01\xFF");
-    refuses::<True>(&rt, b"\x01\x01\x00");
-    reads::<Null>(&rt, b"\x05\x00");
-    refuses::<Null>(&rt, b"\x05\x01\x00");
+    assert_reads::<Boolean>(&rt, b"\x01\x01\xFF");
+    assert_reads::<Boolean>(&rt, b"\x01\x01\x00");
+    assert_refuses::<Boolean>(&rt, b"\x01\x01\x01");
+    assert_reads::<True>(&rt, b"\x01\x01\xFF");
+    assert_refuses::<True>(&rt, b"\x01\x01\x00");
+    assert_reads::<Null>(&rt, b"\x05\x00");
+    assert_refuses::<Null>(&rt, b"\x05\x01\x00");
 }
 
 /// X.690 section 8.3: 128 and -129.
 #[test]
 fn integers(rt: HostRuntime) {
-    reads::<Unsigned>(&rt, b"\x02\x02\x00\x80");
-    refuses::<Unsigned>(&rt, b"\x02\x02\xFF\x7F");
-    reads::<Integer>(&rt, b"\x02\x02\xFF\x7F");
-    refuses::<Integer>(&rt, b"\x02\x02\xFF\x80");
-    reads::<Enumerated>(&rt, b"\x0A\x01\x05");
-    refuses::<Enumerated>(&rt, b"\x0A\x00");
+    assert_reads::<Unsigned>(&rt, b"\x02\x02\x00\x80");
+    assert_refuses::<Unsigned>(&rt, b"\x02\x02\xFF\x7F");
+    assert_reads::<Integer>(&rt, b"\x02\x02\xFF\x7F");
+    assert_refuses::<Integer>(&rt, b"\x02\x02\xFF\x80");
+    assert_reads::<Enumerated>(&rt, b"\x0A\x01\x05");
+    assert_refuses::<Enumerated>(&rt, b"\x0A\x00");
 }
 
 /// Returns the number that an INTEGER's content gives.
@@ -91,8 +91,8 @@ fn numbers(rt: HostRuntime) -> Result<()> {
 #[test]
 fn bits(rt: HostRuntime) -> Result<()> {
     let der = b"\x03\x07\x04\x0A\x3B\x5F\x29\x1C\xD0";
-    reads::<Bits>(&rt, der);
-    refuses::<Bits>(&rt, b"\x03\x07\x04\x0A\x3B\x5F\x29\x1C\xD8");
+    assert_reads::<Bits>(&rt, der);
+    assert_refuses::<Bits>(&rt, b"\x03\x07\x04\x0A\x3B\x5F\x29\x1C\xD8");
     let bits: Bits = read_der(der)?;
     assert_equal(&rt, &bits.unused_bits(), &4);
     assert_equal(
@@ -107,34 +107,34 @@ fn bits(rt: HostRuntime) -> Result<()> {
 /// The example of X.690 section 8.19.5.
 #[test]
 fn object_identifiers(rt: HostRuntime) {
-    reads::<ObjectIdentifierRef>(&rt, b"\x06\x03\x88\x37\x03");
-    refuses::<ObjectIdentifierRef>(&rt, b"\x06\x03\x80\x37\x03");
+    assert_reads::<ObjectIdentifierRef>(&rt, b"\x06\x03\x88\x37\x03");
+    assert_refuses::<ObjectIdentifierRef>(&rt, b"\x06\x03\x80\x37\x03");
 }
 
 /// The example of X.690 section 8.14.
 #[test]
 fn strings(rt: HostRuntime) {
-    reads::<VisibleString>(&rt, b"\x1A\x05Jones");
-    refuses::<VisibleString>(&rt, b"\x1A\x05Jone\n");
-    reads::<Ia5String>(&rt, b"\x16\x05Jone\n");
-    refuses::<Ia5String>(&rt, b"\x16\x01\x80");
-    reads::<PrintableString>(&rt, b"\x13\x05Jones");
-    refuses::<PrintableString>(&rt, b"\x13\x02a@");
-    reads::<NumericString>(&rt, b"\x12\x0319 ");
-    refuses::<NumericString>(&rt, b"\x12\x01a");
-    reads::<TeletexString>(&rt, b"\x14\x01\xE9");
+    assert_reads::<VisibleString>(&rt, b"\x1A\x05Jones");
+    assert_refuses::<VisibleString>(&rt, b"\x1A\x05Jone\n");
+    assert_reads::<Ia5String>(&rt, b"\x16\x05Jone\n");
+    assert_refuses::<Ia5String>(&rt, b"\x16\x01\x80");
+    assert_reads::<PrintableString>(&rt, b"\x13\x05Jones");
+    assert_refuses::<PrintableString>(&rt, b"\x13\x02a@");
+    assert_reads::<NumericString>(&rt, b"\x12\x0319 ");
+    assert_refuses::<NumericString>(&rt, b"\x12\x01a");
+    assert_reads::<TeletexString>(&rt, b"\x14\x01\xE9");
 }
 
 /// The example of RFC 3629 section 7, and its second character in strings of other encodings.
 #[test]
 fn strings_of_any_character(rt: HostRuntime) -> Result<()> {
-    reads::<BmpString>(&rt, b"\x1E\x02\x22\x62");
-    refuses::<BmpString>(&rt, b"\x1E\x01\x22");
-    reads::<UniversalString>(&rt, b"\x1C\x04\x00\x00\x22\x62");
-    refuses::<UniversalString>(&rt, b"\x1C\x02\x22\x62");
+    assert_reads::<BmpString>(&rt, b"\x1E\x02\x22\x62");
+    assert_refuses::<BmpString>(&rt, b"\x1E\x01\x22");
+    assert_reads::<UniversalString>(&rt, b"\x1C\x04\x00\x00\x22\x62");
+    assert_refuses::<UniversalString>(&rt, b"\x1C\x02\x22\x62");
     let text = b"\x0C\x07\x41\xE2\x89\xA2\xCE\x91\x2E";
-    reads::<Utf8String>(&rt, text);
-    refuses::<Utf8String>(&rt, b"\x0C\x01\xE2");
+    assert_reads::<Utf8String>(&rt, text);
+    assert_refuses::<Utf8String>(&rt, b"\x0C\x01\xE2");
     let characters = str::from_utf8(read_der::<Utf8String>(text)?.as_bytes());
     assert_equal(&rt, &characters, &Ok("A\u{2262}\u{391}."));
     Ok(())
@@ -143,10 +143,10 @@ fn strings_of_any_character(rt: HostRuntime) -> Result<()> {
 /// The examples of X.690 sections 11.7.5 and 11.8.3.
 #[test]
 fn times(rt: HostRuntime) -> Result<()> {
-    reads::<UtcTime>(&rt, b"\x17\x0D920622123421Z");
-    refuses::<UtcTime>(&rt, b"\x17\x0D920520240000Z");
-    reads::<GeneralizedTime>(&rt, b"\x18\x1119920722132100.3Z");
-    refuses::<GeneralizedTime>(&rt, b"\x18\x1219920722132100.30Z");
+    assert_reads::<UtcTime>(&rt, b"\x17\x0D920622123421Z");
+    assert_refuses::<UtcTime>(&rt, b"\x17\x0D920520240000Z");
+    assert_reads::<GeneralizedTime>(&rt, b"\x18\x1119920722132100.3Z");
+    assert_refuses::<GeneralizedTime>(&rt, b"\x18\x1219920722132100.30Z");
     let time = DateTime {
         year: 1992,
         month: 6,

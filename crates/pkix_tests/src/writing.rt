@@ -7,7 +7,7 @@ use std::test::Fail;
 
 /// Fails the test unless the part has these bytes, its length is theirs, and it is refused as
 /// Buffer where there is room for two of them alone.
-fn puts<P: EncodePart>(rt: &impl Abort, part: &P, wanted: [u8; 3]) {
+fn assert_puts<P: EncodePart>(rt: &impl Abort, part: &P, wanted: [u8; 3]) {
     let mut bytes = [0; 3];
     let put = part.put_part(&mut BackWriter::new(&mut bytes));
     assert_equal(rt, &put.err().map(|e| e.kind()), &None);
@@ -25,16 +25,16 @@ type Alternatives = Choice<Required<Boolean>, Required<VersionOne>>;
 #[test]
 fn refuses_parts_without_room(rt: HostRuntime) -> Result<(), Fail> {
     let first: Alternatives = Choice::First(Required(Boolean(true)));
-    puts(&rt, &first, [0x01, 0x01, 0xFF]);
+    assert_puts(&rt, &first, [0x01, 0x01, 0xFF]);
     let second: Alternatives = Choice::Second(Required(VersionOne));
-    puts(&rt, &second, [0x02, 0x01, 0x01]);
-    puts(
+    assert_puts(&rt, &second, [0x02, 0x01, 0x01]);
+    assert_puts(
         &rt,
         &OptionalPart(Some(Required(Boolean(true)))),
         [0x01, 0x01, 0xFF],
     );
-    puts(&rt, &Defaulted(Boolean(true)), [0x01, 0x01, 0xFF]);
-    puts(&rt, &Any::new(&[0x04, 0x01, 0x61])?, [0x04, 0x01, 0x61]);
+    assert_puts(&rt, &Defaulted(Boolean(true)), [0x01, 0x01, 0xFF]);
+    assert_puts(&rt, &Any::new(&[0x04, 0x01, 0x61])?, [0x04, 0x01, 0x61]);
     Ok(())
 }
 

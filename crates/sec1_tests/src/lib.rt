@@ -58,7 +58,7 @@ fn assert_unequal<T: PartialEq + Debug>(rt: &impl Abort, found: &T, other: &T) {
 
 /// Fails the test unless the value is printed as the text by `{:?}`, and as the lines by `{:#?}`.
 #[cfg(test)]
-fn has_debug_texts(
+fn assert_debug_texts(
     rt: &impl Abort,
     alloc: Global,
     value: &impl Debug,

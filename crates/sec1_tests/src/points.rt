@@ -2,7 +2,7 @@
 
 ghost use Rattle.std.specs.Prelude.{◌+◌, ◌*◌, ◌%◌, ◌^◌, fold};
 
-use crate::{assert_equal, assert_equal_for, assert_unequal, has_debug_texts};
+use crate::{assert_debug_texts, assert_equal, assert_equal_for, assert_unequal};
 use sec1::Error;
 use sec1::der::{self, ErrorKind};
 use sec1::point::Coordinates::{Compact, Compressed, Hybrid, Identity, Uncompressed};
@@ -140,7 +140,7 @@ fn refusal_32(bytes: &[u8]) -> Option<Error> {
 }
 
 /// Fails the test unless each proper prefix of the bytes is refused.
-fn refuses_prefixes(rt: &impl Abort, bytes: &[u8]) {
+fn assert_prefixes_refused(rt: &impl Abort, bytes: &[u8]) {
     for end in 0..bytes.len() {
         let refused = refusal_32(&bytes[..end]);
         assert_equal_for(rt, &end, &refused, &Some(Error::PointEncoding));
@@ -153,8 +153,8 @@ fn refuses_other_bytes(rt: HostRuntime) {
         let refused = Point1::from_bytes(bytes).err();
         assert_equal_for(&rt, &bytes, &refused, &Some(Error::PointEncoding));
     }
-    refuses_prefixes(&rt, compressed_32().as_slice());
-    refuses_prefixes(&rt, uncompressed_32().as_slice());
+    assert_prefixes_refused(&rt, compressed_32().as_slice());
+    assert_prefixes_refused(&rt, uncompressed_32().as_slice());
 }
 
 #[test]
@@ -197,7 +197,7 @@ fn forms<const N: usize, const L: usize>(point: &EncodedPoint<N, L>) -> [bool; 4
 
 /// Fails the test unless the point and its coordinates have this tag, and the coordinates are
 /// these.
-fn has_coordinates<const N: usize, const L: usize>(
+fn assert_coordinates<const N: usize, const L: usize>(
     rt: &impl Abort,
     point: &EncodedPoint<N, L>,
     tag: Tag,
@@ -214,7 +214,7 @@ fn borrows_coordinates(rt: HostRuntime) -> Result<(), Fail> {
     let whole = EncodedPoint32::from_affine_coordinates(x, y, false);
     assert_equal(&rt, &whole.as_bytes(), &uncompressed_32().as_slice());
     assert_equal(&rt, &whole.len(), &65);
-    has_coordinates(&rt, &whole, Tag::Uncompressed, Uncompressed { x, y });
+    assert_coordinates(&rt, &whole, Tag::Uncompressed, Uncompressed { x, y });
     assert_equal(&rt, &(whole.x(), whole.y()), &(Some(x), Some(y)));
     assert_equal(&rt, &whole.clone()?, &whole);
     let untagged = EncodedPoint32::from_untagged_bytes(&uncompressed_32()[1..]);
@@ -230,7 +230,7 @@ fn borrows_coordinates_of_compressed_points(rt: HostRuntime) {
     assert_equal(&rt, &point.len(), &33);
     let y_is_odd = false;
     let coordinates = Compressed { x, y_is_odd };
-    has_coordinates(&rt, &point, Tag::CompressedEvenY, coordinates);
+    assert_coordinates(&rt, &point, Tag::CompressedEvenY, coordinates);
     assert_equal(&rt, &(point.x(), point.y()), &(Some(x), None));
     assert_equal(&rt, &forms(&point), &[false, true, false, false]);
 }
@@ -243,15 +243,15 @@ fn distinguishes_compact_and_hybrid_points(rt: HostRuntime) {
     assert_equal(&rt, &forms(&hybrid), &[false, false, true, false]);
     let odd = point_1(&rt, &[7, 1, 3]);
     let coordinates = Hybrid { x: &[1], y: &[3] };
-    has_coordinates(&rt, &odd, Tag::HybridOddY, coordinates);
+    assert_coordinates(&rt, &odd, Tag::HybridOddY, coordinates);
 }
 
 #[test]
 fn prints_coordinates(rt: HostRuntime) -> Result<(), Fail> {
     let (x, y) = (&[1, 255], &[0, 3]);
     let identity = Coordinates::<'_, 2>::Identity;
-    has_debug_texts(&rt, rt.alloc(), &identity, "Identity", "Identity")?;
-    has_debug_texts(
+    assert_debug_texts(&rt, rt.alloc(), &identity, "Identity", "Identity")?;
+    assert_debug_texts(
         &rt,
         rt.alloc(),
         &Compact { x },
@@ -259,21 +259,21 @@ fn prints_coordinates(rt: HostRuntime) -> Result<(), Fail> {
         "Compact {\n    x: [\n        1,\n        255,\n    ],\n}",
     )?;
     let y_is_odd = true;
-    has_debug_texts(
+    assert_debug_texts(
         &rt,
         rt.alloc(),
         &Compressed { x, y_is_odd },
         "Compressed { x: [1, 255], y_is_odd: true }",
         "Compressed {\n    x: [\n        1,\n        255,\n    ],\n    y_is_odd: true,\n}",
     )?;
-    has_debug_texts(
+    assert_debug_texts(
         &rt,
         rt.alloc(),
         &Uncompressed { x, y },
         "Uncompressed { x: [1, 255], y: [0, 3] }",
         "Uncompressed {\n    x: [\n        1,\n        255,\n    ],\n    y: [\n        0,\n        3,\n    ],\n}",
     )?;
-    has_debug_texts(
+    assert_debug_texts(
         &rt,
         rt.alloc(),
         &Hybrid { x, y },
@@ -283,7 +283,7 @@ fn prints_coordinates(rt: HostRuntime) -> Result<(), Fail> {
 }
 
 /// Fails the test unless the value is printed as this text, whatever is asked for.
-fn is_printed(
+fn assert_displayed(
     rt: &impl Abort,
     alloc: Global,
     value: &impl Display,
@@ -302,15 +302,15 @@ fn is_printed(
 fn prints_the_same_whatever_is_asked(rt: HostRuntime) -> Result<(), Fail> {
     let alloc = rt.alloc();
     let point = point_1(&rt, &[2, 0xAF]);
-    is_printed(&rt, alloc, &point, "02AF")?;
+    assert_displayed(&rt, alloc, &point, "02AF")?;
     let error = Error::Asn1(der::Error::from(ErrorKind::Value));
-    is_printed(
+    assert_displayed(
         &rt,
         alloc,
         &error,
         "SEC1 ASN.1 error: content not valid for its tag",
     )?;
-    has_debug_texts(
+    assert_debug_texts(
         &rt,
         alloc,
         &error,
@@ -318,7 +318,7 @@ fn prints_the_same_whatever_is_asked(rt: HostRuntime) -> Result<(), Fail> {
         "Asn1(\n    Error {\n        kind: Value,\n    },\n)",
     )?;
     let tag = Tag::HybridOddY;
-    has_debug_texts(&rt, alloc, &tag, "HybridOddY", "HybridOddY")?;
+    assert_debug_texts(&rt, alloc, &tag, "HybridOddY", "HybridOddY")?;
     let padded = format!(in alloc; "{tag:>20?}")?;
     assert_equal(&rt, &padded.as_str(), &"HybridOddY");
     Ok(())
@@ -357,7 +357,7 @@ fn compares_coordinates_with_y(rt: HostRuntime) {
 }
 
 /// Fails the test unless the bytes are a compressed point of this tag and parity.
-fn has_parity(rt: &impl Abort, bytes: [u8; 33], tag: Tag, y_is_odd: bool) {
+fn assert_parity(rt: &impl Abort, bytes: [u8; 33], tag: Tag, y_is_odd: bool) {
     let point = point_32(rt, &bytes);
     assert_equal(rt, &point.tag(), &tag);
     assert_equal(rt, &point.len(), &33);
@@ -374,10 +374,10 @@ fn reads_parities(rt: HostRuntime) {
     let mut bytes = [0; 33];
     bytes[0] = 2;
     bytes[1] = 1;
-    has_parity(&rt, bytes, Tag::CompressedEvenY, false);
+    assert_parity(&rt, bytes, Tag::CompressedEvenY, false);
     bytes[0] = 3;
     bytes[1] = 2;
-    has_parity(&rt, bytes, Tag::CompressedOddY, true);
+    assert_parity(&rt, bytes, Tag::CompressedOddY, true);
 }
 
 #[test]
@@ -417,7 +417,7 @@ fn has_tags(rt: HostRuntime) -> Result<(), Fail> {
 }
 
 /// Fails the test unless the first point is less than the second.
-fn is_less(rt: &impl Abort, lower: &[u8], higher: &[u8]) {
+fn assert_less(rt: &impl Abort, lower: &[u8], higher: &[u8]) {
     let low = point_1(rt, lower);
     let high = point_1(rt, higher);
     let found = (low < high, high > low, low != high);
@@ -428,7 +428,7 @@ fn is_less(rt: &impl Abort, lower: &[u8], higher: &[u8]) {
 fn orders_points(rt: HostRuntime) {
     for (i, &lower) in ORDERED.iter().enumerate() {
         for &higher in ORDERED[i + 1..].iter() {
-            is_less(&rt, lower, higher);
+            assert_less(&rt, lower, higher);
         }
     }
     let small = point_32(&rt, compressed_32().as_slice());
@@ -501,7 +501,7 @@ fn finds_points_in_sets(rt: HostRuntime) -> Result<(), Fail> {
 }
 
 /// Fails the test unless each selection between the two returns the one that is chosen.
-fn selects<const N: usize, const L: usize>(
+fn assert_selects<const N: usize, const L: usize>(
     rt: &impl Abort,
     a: EncodedPoint<N, L>,
     b: EncodedPoint<N, L>,
@@ -511,12 +511,12 @@ fn selects<const N: usize, const L: usize>(
         assert_equal(rt, &selected.as_bytes(), &chosen.as_bytes());
         assert_equal(rt, &a.ct_select(&b, choice).as_bytes(), &chosen.as_bytes());
     }
-    assigns(rt, a, b);
+    assert_assigns(rt, a, b);
 }
 
 /// Fails the test unless an assignment changes the point to the other if it is chosen, and only
 /// then.
-fn assigns<const N: usize, const L: usize>(
+fn assert_assigns<const N: usize, const L: usize>(
     rt: &impl Abort,
     a: EncodedPoint<N, L>,
     b: EncodedPoint<N, L>,
@@ -534,11 +534,11 @@ fn assigns<const N: usize, const L: usize>(
 #[test]
 fn selects_points(rt: HostRuntime) {
     let whole = point_1(&rt, &[4, 1, 2]);
-    selects(&rt, whole, Point1::identity());
-    selects(&rt, Point1::identity(), whole);
+    assert_selects(&rt, whole, Point1::identity());
+    assert_selects(&rt, Point1::identity(), whole);
     let compressed = point_32(&rt, compressed_32().as_slice());
     let uncompressed = point_32(&rt, uncompressed_32().as_slice());
-    selects(&rt, compressed, uncompressed);
+    assert_selects(&rt, compressed, uncompressed);
 }
 
 #[test]
@@ -555,7 +555,7 @@ fn assigns_points(rt: HostRuntime) {
 }
 
 /// Fails the test unless the point is read from the text.
-fn is_read_from<const N: usize, const L: usize>(
+fn assert_read_from<const N: usize, const L: usize>(
     rt: &impl Abort,
     point: &EncodedPoint<N, L>,
     text: &str,
@@ -565,24 +565,24 @@ fn is_read_from<const N: usize, const L: usize>(
 }
 
 /// Fails the test unless the point has these texts, and is read from both.
-fn is_written<const N: usize, const L: usize>(
+fn assert_texts<const N: usize, const L: usize>(
     rt: &impl Abort,
     alloc: Global,
     point: EncodedPoint<N, L>,
     upper: &str,
     lower: &str,
 ) -> Result<(), Fail> {
-    is_read_from(rt, &point, upper)?;
-    is_read_from(rt, &point, lower)?;
+    assert_read_from(rt, &point, upper)?;
+    assert_read_from(rt, &point, lower)?;
     assert_equal(rt, &point.to_upper_hex(alloc)?.as_str(), &upper);
     assert_equal(rt, &point.to_lower_hex(alloc)?.as_str(), &lower);
     assert_equal(rt, &point.to_bytes(alloc)?.as_slice(), &point.as_bytes());
-    is_printed(rt, alloc, &point, upper)?;
-    is_written_as_json(rt, alloc, &point, upper)
+    assert_displayed(rt, alloc, &point, upper)?;
+    assert_json(rt, alloc, &point, upper)
 }
 
 /// Fails the test unless the point is the string of this text in JSON, and is read from it.
-fn is_written_as_json<const N: usize, const L: usize>(
+fn assert_json<const N: usize, const L: usize>(
     rt: &impl Abort,
     alloc: Global,
     point: &EncodedPoint<N, L>,
@@ -590,11 +590,11 @@ fn is_written_as_json<const N: usize, const L: usize>(
 ) -> Result<(), Fail> {
     let json = point.to_json(alloc)?;
     assert_equal(rt, &json.as_str(), &Some(upper));
-    is_read_from_json(rt, point, &json)
+    assert_read_from_json(rt, point, &json)
 }
 
 /// Fails the test unless the point is read from the JSON.
-fn is_read_from_json<const N: usize, const L: usize>(
+fn assert_read_from_json<const N: usize, const L: usize>(
     rt: &impl Abort,
     point: &EncodedPoint<N, L>,
     json: &Value,
@@ -606,11 +606,11 @@ fn is_read_from_json<const N: usize, const L: usize>(
 #[test]
 fn writes_texts(rt: HostRuntime) -> Result<(), Fail> {
     let alloc = rt.alloc();
-    is_written(&rt, alloc, point_1(&rt, &[2, 0xAF]), "02AF", "02af")?;
+    assert_texts(&rt, alloc, point_1(&rt, &[2, 0xAF]), "02AF", "02af")?;
     for &(upper, lower) in TEXTS_32.iter() {
         let bytes = hex::decode(alloc, upper)?;
         let point = point_32(&rt, &bytes);
-        is_written(&rt, alloc, point, upper, lower)?;
+        assert_texts(&rt, alloc, point, upper, lower)?;
     }
     assert_equal(
         &rt,

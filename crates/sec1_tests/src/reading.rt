@@ -1,5 +1,5 @@
 //! Keys that are read and bytes that are refused, by examples with known results.
-use crate::{assert_equal, assert_equal_for, has_debug_texts};
+use crate::{assert_debug_texts, assert_equal, assert_equal_for};
 use der::{ErrorKind, FixedTag, ObjectIdentifier};
 use sec1::{ALGORITHM_OID, EcParameters, EcPrivateKey, Error, Result, der};
 use std::alloc::Global;
@@ -48,7 +48,7 @@ fn has_the_tag_of_a_sequence(rt: HostRuntime) {
 }
 
 /// Fails the test unless the bytes are the key, with these parameters.
-fn is_key(
+fn assert_key(
     rt: &impl Abort,
     alloc: Global,
     bytes: &[u8],
@@ -67,11 +67,11 @@ fn is_key(
 fn reads_whole_keys(rt: HostRuntime) -> std::result::Result<(), Fail> {
     let p_256 = ObjectIdentifier::new("1.2.840.10045.3.1.7")?;
     let bytes = whole_key(rt.alloc())?;
-    is_key(&rt, rt.alloc(), &bytes, Some(EcParameters::from(p_256)))?;
+    assert_key(&rt, rt.alloc(), &bytes, Some(EcParameters::from(p_256)))?;
 
     // without parameters, as inside PKCS#8
     let bytes = key_with(rt.alloc(), "306B", "")?;
-    is_key(&rt, rt.alloc(), &bytes, None)
+    assert_key(&rt, rt.alloc(), &bytes, None)
 }
 
 /// Keys without a private key: the bytes, the dotted text of the curve, the hexadecimal of the
@@ -115,24 +115,25 @@ fn decoded(alloc: Global, text: Option<&str>) -> std::result::Result<Option<Vec<
     }
 }
 
-/// Fails the test unless the key has an empty private key, and these other fields.
-fn has_fields(
+/// Fails the test unless the key of this text has an empty private key, and these other fields.
+fn assert_fields(
     rt: &impl Abort,
     alloc: Global,
+    text: &str,
     key: &EcPrivateKey,
     named: Option<&str>,
     public_key: Option<&str>,
 ) -> std::result::Result<(), Fail> {
-    assert_equal_for(rt, key, &key.private_key, &[].as_slice());
+    assert_equal_for(rt, &text, &key.private_key, &[].as_slice());
     let curve = curve(alloc, key)?;
-    assert_equal_for(rt, key, &curve.as_deref(), &named);
+    assert_equal_for(rt, &text, &curve.as_deref(), &named);
     let wanted = decoded(alloc, public_key)?;
-    assert_equal_for(rt, key, &key.public_key, &wanted.as_deref());
+    assert_equal_for(rt, &text, &key.public_key, &wanted.as_deref());
     Ok(())
 }
 
 /// Fails the test unless the key is written as these bytes.
-pub fn is_written(
+pub fn assert_written(
     rt: &impl Abort,
     alloc: Global,
     key: &EcPrivateKey,
@@ -148,8 +149,8 @@ fn reads_and_writes_optional_fields(rt: HostRuntime) -> std::result::Result<(), 
     for &(text, named, public_key) in KEYS.iter() {
         let bytes = hex::decode(rt.alloc(), text)?;
         let key = read_key(&bytes)?;
-        has_fields(&rt, rt.alloc(), &key, named, public_key)?;
-        is_written(&rt, rt.alloc(), &key, &bytes)?;
+        assert_fields(&rt, rt.alloc(), text, &key, named, public_key)?;
+        assert_written(&rt, rt.alloc(), &key, &bytes)?;
     }
     Ok(())
 }
@@ -328,10 +329,10 @@ static DEBUG_TEXTS: [(&[u8], &str, &str); 5] = [
 #[test]
 fn shows_no_private_key_in_debug_texts(rt: HostRuntime) -> std::result::Result<(), Fail> {
     for &(bytes, text, lines) in DEBUG_TEXTS.iter() {
-        has_debug_texts(&rt, rt.alloc(), &read_key(bytes)?, text, lines)?;
+        assert_debug_texts(&rt, rt.alloc(), &read_key(bytes)?, text, lines)?;
     }
     let curve = EcParameters::from(ObjectIdentifier::new("1.2.3")?);
-    has_debug_texts(
+    assert_debug_texts(
         &rt,
         rt.alloc(),
         &curve,

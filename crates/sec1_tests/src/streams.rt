@@ -53,7 +53,7 @@ impl io::Write for Narrow {
 }
 
 /// Fails the test unless reading ends as Io, once the reader has given these bytes.
-fn reports_failed_read(rt: &impl Abort, alloc: Global, given: &[u8]) {
+fn assert_failed_read(rt: &impl Abort, alloc: Global, given: &[u8]) {
     let mut reader = StdReader::new(Broken { rest: given });
     let refused = Copied::read_sec1_der_from(alloc, &mut reader);
     let found = (refused.err(), reader.has_failed(), reader.into_inner().rest);
@@ -64,14 +64,14 @@ fn reports_failed_read(rt: &impl Abort, alloc: Global, given: &[u8]) {
 fn reports_failed_reads_in_turn(rt: HostRuntime) -> Result<(), Fail> {
     let bytes = whole_key(rt.alloc())?;
     for count in 0..=bytes.len() {
-        reports_failed_read(&rt, rt.alloc(), &bytes[..count]);
+        assert_failed_read(&rt, rt.alloc(), &bytes[..count]);
     }
     println!(&rt; "read_sec1_der_from: each of its 122 reads fails")?;
     Ok(())
 }
 
 /// Fails the test unless writing the key ends as Io, once the writer has taken `room` bytes.
-fn reports_failed_write(rt: &impl Abort, alloc: Global, key: &Copied, room: usize, fails: bool) {
+fn assert_failed_write(rt: &impl Abort, alloc: Global, key: &Copied, room: usize, fails: bool) {
     let taken = Vec::new(alloc);
     let mut writer = StdWriter::new(Narrow { taken, room, fails });
     let refused = key.write_sec1_der_to(alloc, &mut writer);
@@ -91,7 +91,7 @@ fn reports_failed_writes_in_turn(rt: HostRuntime) -> Result<(), Fail> {
     };
     for room in 0..key.bytes.len() {
         for fails in [true, false] {
-            reports_failed_write(&rt, rt.alloc(), &key, room, fails);
+            assert_failed_write(&rt, rt.alloc(), &key, room, fails);
         }
     }
     println!(&rt; "write_sec1_der_to: each of its 121 writes fails")?;

@@ -1,5 +1,5 @@
 //! Keys that are written, by examples with known results.
-use super::reading::{is_written, read_key, whole_key};
+use super::reading::{assert_written, read_key, whole_key};
 use crate::{assert_equal, assert_equal_for};
 use sec1::der::{self, AnyRef, EncodeValue, ErrorKind, ObjectIdentifier, SliceWriter, Tag};
 use sec1::{EcParameters, EcPrivateKey, Error};
@@ -28,7 +28,7 @@ fn writes_all_parts(rt: HostRuntime) -> Result<(), Fail> {
     let whole = p256_key(rt.alloc())?;
     let key = read_key(&whole)?;
     assert_equal(&rt, &key.encoded_len()?, &121);
-    is_written(&rt, rt.alloc(), &key, &whole)?;
+    assert_written(&rt, rt.alloc(), &key, &whole)?;
     let mut room = [0xAA; 130];
     assert_equal(&rt, &encode(&key, &mut room)?, &121);
     let (front, rest) = room.split_at(121);
