@@ -29,8 +29,6 @@ impl ValueContent for Null {
     ghost content = { λ _. Some [] };
 
     ghost fault = { λ bytes. value_unless (length bytes == 0) };
-
-    ghost says_kind = { true };
 }
 
 impl<'a> DecodeValue<'a> for Null {

@@ -103,8 +103,6 @@ impl Part for Any<'_> {
 
     ghost fault_then = { any_element_fault };
 
-    ghost says_kind = { true };
-
     ghost tags = { any_tags };
 
     ghost begins = { any_begins };

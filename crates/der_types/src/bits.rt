@@ -92,8 +92,6 @@ impl ValueContent for Bits<'_> {
     ghost content = { bit_string_content };
 
     ghost fault = { bit_string_fault };
-
-    ghost says_kind = { true };
 }
 
 impl<'a> DecodeValue<'a> for Bits<'a> {

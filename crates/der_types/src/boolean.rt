@@ -58,8 +58,6 @@ impl ValueContent for Boolean {
     ghost content = { λ value. Some (boolean_content value) };
 
     ghost fault = { λ bytes. value_unless (is_boolean bytes) };
-
-    ghost says_kind = { true };
 }
 
 impl<'a> DecodeValue<'a> for Boolean {

@@ -48,8 +48,6 @@ impl<K: ConstantContent> ValueContent for Constant<K> {
     ghost content = { λ _. Some K.constant };
 
     ghost fault = { λ bytes. value_unless (bytes_eq bytes K.constant) };
-
-    ghost says_kind = { true };
 }
 
 impl<'a, K: ConstantContent> DecodeValue<'a> for Constant<K> {

@@ -79,8 +79,6 @@ impl<K: Kind> ValueContent for Leaf<'_, K> {
     ghost content = { content_if K.passes };
 
     ghost fault = { λ content. value_unless (K.passes content) };
-
-    ghost says_kind = { true };
 }
 
 impl<'a, K: Kind> DecodeValue<'a> for Leaf<'a, K> {

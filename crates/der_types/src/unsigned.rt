@@ -125,8 +125,6 @@ impl ValueContent for Unsigned<'_> {
     ghost content = { λ number. Some (unsigned_content number) };
 
     ghost fault = { λ bytes. value_unless (is_unsigned bytes) };
-
-    ghost says_kind = { true };
 }
 
 impl<'a> DecodeValue<'a> for Unsigned<'a> {

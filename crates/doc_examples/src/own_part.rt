@@ -50,8 +50,6 @@ impl Part for AlgorithmIdentifier {
 
     ghost fault_then = { element_fault 0x30 ⟦<AlgorithmIdentifier as ValueContent>⟧.fault };
 
-    ghost says_kind = { true };
-
     ghost tags = { one_tag 0x30 };
 
     ghost begins = { λ value.

@@ -59,8 +59,6 @@ impl Part for AlgorithmIdentifier<'_> {
 
     ghost fault_then = { element_fault 0x30 algorithm_fault };
 
-    ghost says_kind = { true };
-
     ghost tags = { one_tag 0x30 };
 
     ghost begins = { λ value. element_begins 0x30 (algorithm_content value) };

@@ -154,8 +154,6 @@ impl Part for TbsCertificate<'_> {
 
     ghost fault_then = { element_fault 0x30 tbs_fault };
 
-    ghost says_kind = { true };
-
     ghost tags = { one_tag 0x30 };
 
     ghost begins = { λ value. element_begins 0x30 (tbs_content value) };

@@ -56,8 +56,6 @@ impl Part for SubjectPublicKeyInfo<'_> {
 
     ghost fault_then = { element_fault 0x30 public_key_fault };
 
-    ghost says_kind = { true };
-
     ghost tags = { one_tag 0x30 };
 
     ghost begins = { λ value. element_begins 0x30 (public_key_content value) };

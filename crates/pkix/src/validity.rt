@@ -54,8 +54,6 @@ impl Part for Validity<'_> {
 
     ghost fault_then = { element_fault 0x30 validity_fault };
 
-    ghost says_kind = { true };
-
     ghost tags = { one_tag 0x30 };
 
     ghost begins = { λ value. element_begins 0x30 (validity_content value) };

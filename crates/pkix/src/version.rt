@@ -57,8 +57,6 @@ impl ValueContent for LaterVersion {
     ghost content = { λ version. Some (later_version_content version) };
 
     ghost fault = { λ content. value_unless (is_later_version content) };
-
-    ghost says_kind = { true };
 }
 
 impl<'a> DecodeValue<'a> for LaterVersion {

@@ -29,8 +29,6 @@ impl ValueContent for Digit {
     ghost content = { λ digit. Some (digit.byte ∷ []) };
 
     ghost fault = { λ bytes. value_unless (length bytes == 1) };
-
-    ghost says_kind = { true };
 }
 
 impl<'a> DecodeValue<'a> for Digit {

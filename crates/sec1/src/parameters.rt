@@ -80,8 +80,6 @@ impl ValueContent for EcParameters {
     ghost content = { λ parameters. identifier_content (curve_of parameters) };
 
     ghost fault = { identifier_fault };
-
-    ghost says_kind = { true };
 }
 
 impl<'a> DecodeValue<'a> for EcParameters {

@@ -162,8 +162,6 @@ impl ValueContent for AnyRef<'_> {
     ghost content = { λ any. Some (value_of any) };
 
     ghost fault = { no_fault };
-
-    ghost says_kind = { true };
 }
 
 impl EncodeValue for AnyRef<'_> {

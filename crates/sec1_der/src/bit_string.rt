@@ -142,8 +142,6 @@ impl ValueContent for BitStringRef<'_> {
     ghost content = { λ bits. Some (bits.unused ∷ bits.bytes.now) };
 
     ghost fault = { bit_string_fault };
-
-    ghost says_kind = { true };
 }
 
 impl<'a> DecodeValue<'a> for BitStringRef<'a> {

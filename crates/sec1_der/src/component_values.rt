@@ -39,8 +39,6 @@ impl<const N: u8> ValueContent for SmallInteger<N> {
     ghost content = { λ _. Some (N ∷ []) };
 
     ghost fault = { byte_fault N };
-
-    ghost says_kind = { true };
 }
 
 impl<'a, const N: u8> DecodeValue<'a> for SmallInteger<N> {
@@ -97,8 +95,6 @@ impl ValueContent for Octets<'_> {
     ghost content = { λ bytes. Some bytes };
 
     ghost fault = { no_fault };
-
-    ghost says_kind = { true };
 }
 
 impl<'a> DecodeValue<'a> for Octets<'a> {
@@ -156,8 +152,6 @@ impl ValueContent for WholeBits<'_> {
     ghost content = { λ bytes. Some (0 ∷ bytes) };
 
     ghost fault = { whole_bits_fault };
-
-    ghost says_kind = { true };
 }
 
 impl<'a> DecodeValue<'a> for WholeBits<'a> {

@@ -119,8 +119,6 @@ impl ValueContent for ExplicitBits<'_> {
     ghost content = { λ bytes. element_of 0x03 (Some (0 ∷ bytes)) };
 
     ghost fault = { whole_bits_field_fault };
-
-    ghost says_kind = { true };
 }
 
 impl<'a> DecodeValue<'a> for ExplicitBits<'a> {

@@ -95,8 +95,6 @@ impl ValueContent for IdentifierRef<'_> {
     ghost content = { identifier_content };
 
     ghost fault = { identifier_fault };
-
-    ghost says_kind = { true };
 }
 
 impl<'a> DecodeValue<'a> for IdentifierRef<'a> {

@@ -313,8 +313,6 @@ impl ValueContent for ObjectIdentifier {
     ghost content = { identifier_content };
 
     ghost fault = { identifier_fault };
-
-    ghost says_kind = { true };
 }
 
 impl<'a> DecodeValue<'a> for ObjectIdentifier {

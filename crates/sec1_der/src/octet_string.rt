@@ -79,8 +79,6 @@ impl ValueContent for OctetStringRef<'_> {
     ghost content = { λ octets. Some (octets_of octets) };
 
     ghost fault = { no_fault };
-
-    ghost says_kind = { true };
 }
 
 impl<'a> DecodeValue<'a> for OctetStringRef<'a> {

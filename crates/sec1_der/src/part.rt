@@ -1,5 +1,5 @@
 //! The parts of a SEQUENCE (X.690 section 8.9), and two parts in a row.
-ghost use Rattle.std.specs.Prelude.{◌≡◌, ◌≤◌, ◌&&◌, ℕ, List, length, Option, Some, Bool, false};
+ghost use Rattle.std.specs.Prelude.{◌≡◌, ◌≤◌, ◌&&◌, ℕ, List, length, Option, Some, Bool, true};
 ghost use Rattle.sec1_der.specs.BackWriters.{Puts};
 ghost use Rattle.sec1_der.specs.Elements.{max_length, within_limit};
 ghost use Rattle.sec1_der.specs.Encodings.{Measures};
@@ -20,7 +20,7 @@ pub trait Part {
 
     /// Whether an error is of the kind that `fault_then` gives, as in
     /// [`ValueContent`](crate::ValueContent).
-    ghost says_kind: { Bool } = { false };
+    ghost says_kind: { Bool } = { true };
 
     /// The tags that a part may begin with, and those that mustn't follow it.
     ghost tags: { Tags };

@@ -1,6 +1,6 @@
 //! The traits of DER values: with them the generic calls read and write a type.
 ghost use Rattle.std.specs.Prelude.{◌≡◌, ◌≤◌, ℕ, List, length, Option, Some, None, IsSomeAnd, Bool};
-ghost use Rattle.std.specs.Prelude.{false, MatchResult, IsTrue};
+ghost use Rattle.std.specs.Prelude.{true, MatchResult, IsTrue};
 ghost use Rattle.sec1_der.specs.BackWriters.{back_state, Prepends, Puts};
 ghost use Rattle.sec1_der.specs.Elements.{max_length, within_limit, is_tag};
 ghost use Rattle.sec1_der.specs.Encodings.{Measures};
@@ -36,10 +36,9 @@ pub trait ValueContent {
     /// by which they are refused.
     ghost fault: { Fault };
 
-    /// Whether an error is of the kind that `fault` gives. A type that leaves this out says by
-    /// `fault` only which bytes are refused; the kind is one of
-    /// [`decode_value`](DecodeValue::decode_value).
-    ghost says_kind: { Bool } = { false };
+    /// Whether an error is of the kind that `fault` gives. If not, `fault` says only which bytes are
+    /// refused, and the kind is one of [`decode_value`](DecodeValue::decode_value).
+    ghost says_kind: { Bool } = { true };
 }
 
 /// A value that is read from the content of its element.

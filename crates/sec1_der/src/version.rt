@@ -36,8 +36,6 @@ impl ValueContent for VersionOne {
     ghost content = { λ _. Some (1 ∷ []) };
 
     ghost fault = { byte_fault 1 };
-
-    ghost says_kind = { true };
 }
 
 impl<'a> DecodeValue<'a> for VersionOne {

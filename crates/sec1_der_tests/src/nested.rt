@@ -132,8 +132,6 @@ impl Part for Inner {
 
     ghost fault_then = { element_fault 0x30 inner_fault };
 
-    ghost says_kind = { true };
-
     ghost tags = { one_tag 0x30 };
 
     ghost begins = { λ four. element_begins 0x30 (inner_content four) };
@@ -204,8 +202,6 @@ impl Part for Middle {
     ghost bytes = { λ four. element_of 0x30 (middle_content four) };
 
     ghost fault_then = { element_fault 0x30 middle_fault };
-
-    ghost says_kind = { true };
 
     ghost tags = { one_tag 0x30 };
 
