@@ -15,12 +15,6 @@ abbrev pub choice_of : {P Q : Type 0} → (P → Option (List ℕ)) → (Q → O
 choice_of first second (First part) = first part
 choice_of first second (Second part) = second part
 
--- what `{:?}` prints of the alternative that was chosen
-abbrev pub choice_text : {P Q : Type 0} → (P → Option (List ℕ)) → (Q → Option (List ℕ))
-    → Choice P Q → Option (List ℕ)
-choice_text first second (First part) = debug_variant (codes "First") (first part)
-choice_text first second (Second part) = debug_variant (codes "Second") (second part)
-
 -- X.680 section 29.3: the tags of the alternatives must differ
 abbrev pub choice_tags : Tags → Tags → Tags
 choice_tags p q = record {

@@ -34,25 +34,6 @@ is_date_time time =
     && ((nat_le 1 time.day && nat_le time.day (days_in_month time.year time.month))
     && (nat_lt time.hour 24 && (nat_lt time.minute 60 && nat_lt time.second 60)))
 
--- what `{:?}` prints of a time up to the day
-abbrev pub date_text : DateTime → Option (List ℕ)
-date_text time =
-    (Some (codes "DateTime { year: ") ++? Some (decimal time.year))
-    ++? (Some (codes ", month: ") ++? Some (decimal time.month))
-    ++? (Some (codes ", day: ") ++? Some (decimal time.day))
-
--- what it prints behind the day
-abbrev pub clock_text : DateTime → Option (List ℕ)
-clock_text time =
-    (Some (codes ", hour: ") ++? Some (decimal time.hour))
-    ++? (Some (codes ", minute: ") ++? Some (decimal time.minute))
-    ++? (Some (codes ", second: ") ++? Some (decimal time.second))
-    ++? Some (codes " }")
-
--- what it prints of a time
-abbrev pub date_time_text : DateTime → Option (List ℕ)
-date_time_text time = date_text time ++? clock_text time
-
 -- The number that the digits at a place and the next encode. 30 (hexadecimal) is the digit 0.
 abbrev pub two_digits : List ℕ → ℕ → ℕ
 two_digits digits at = 10 * (slice_index digits at - 0x30) + (slice_index digits (at + 1) - 0x30)

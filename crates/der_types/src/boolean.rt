@@ -4,12 +4,10 @@ ghost use Rattle.sec1_der.specs.Contents.{value_unless};
 ghost use Rattle.der_types.specs.Booleans.{boolean_content, is_boolean};
 
 use crate::HasDefault;
-use crate::debug_text::write_tuple;
 use sec1_der::{
     BackWriter, DecodeValue, EncodeValue, ErrorKind, Length, Result, SliceReader, SliceWriter, Tag,
     Tagged, UniqueContent, ValueContent,
 };
-use std::fmt;
 use std::marker::Model;
 
 /// Returns `true` if the bytes are the content of a BOOLEAN (X.690 sections 8.2 and 11.1).
@@ -21,7 +19,7 @@ pub(crate) fn is_boolean(bytes: &[u8]) -> bool
 
 /// A BOOLEAN (X.690 sections 8.2 and 11.1). Its content is the byte `00` for `false` and `FF` for
 /// `true`; any other is refused as Value. A contract sees the `bool`.
-#[derive(Clone, Copy, PartialEq, Eq)]
+#[derive(Clone, Copy, Debug, PartialEq, Eq)]
 pub struct Boolean(pub bool);
 
 impl Model for Boolean {
@@ -32,18 +30,6 @@ impl Model for Boolean {
     ghost view = { λ boolean. boolean.0 };
 
     ghost inverse = { λ value. record { 0 = value } };
-}
-
-impl fmt::Debug for Boolean {
-    ghost use Rattle.std.specs.Fmt.{debug_variant};
-    ghost use Rattle.std.specs.Prelude.{codes, if◌then◌else◌};
-
-    ghost debug_output = { λ value. debug_variant (codes "Boolean")
-        (Some (if value then codes "true" else codes "false")) };
-
-    fn fmt<W: fmt::Write>(&self, f: &mut fmt::Formatter<W>) -> fmt::Result {
-        write_tuple(f, "Boolean", &self.0)
-    }
 }
 
 impl Tagged for Boolean {

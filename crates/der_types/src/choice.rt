@@ -5,12 +5,10 @@ ghost use Rattle.der_types.specs.Choices.{begins_among, choice_of, choice_tags, 
 ghost use Rattle.der_types.specs.Choices.{choice_text};
 ghost use Rattle.der_types.specs.ChoiceLaws.{choice_begins, choice_not_empty};
 
-use crate::debug_text::write_tuple;
 use sec1_der::{
     BackWriter, DecodePart, EncodePart, Length, Part, Required, Result, SliceReader, Tagged,
     UniquePart, ValueContent,
 };
-use std::fmt;
 
 /// A part that is never empty, so that its first byte tells whether it is there.
 pub trait Alternative: Part {
@@ -46,23 +44,12 @@ pub(crate) fn is_absent<P: Alternative>(reader: &SliceReader) -> bool
 /// CHOICE of more is nested: `Choice<P, Choice<Q, R>>`.
 ///
 /// If both may begin with the same byte, no [`Record`](sec1_der::Record) can have it.
-#[derive(Clone, Copy, PartialEq, Eq, Drop)]
+#[derive(Clone, Copy, Debug, PartialEq, Eq, Drop)]
 pub enum Choice<P, Q> {
     /// The first part.
     First(P),
     /// The second part.
     Second(Q),
-}
-
-impl<P: fmt::Debug, Q: fmt::Debug> fmt::Debug for Choice<P, Q> {
-    ghost debug_output = { choice_text P.debug_output Q.debug_output };
-
-    fn fmt<W: fmt::Write>(&self, f: &mut fmt::Formatter<W>) -> fmt::Result {
-        match self {
-            Choice::First(part) => write_tuple(f, "First", part),
-            Choice::Second(part) => write_tuple(f, "Second", part),
-        }
-    }
 }
 
 impl<P: Part, Q: Part> Part for Choice<P, Q> {

@@ -6,12 +6,10 @@ ghost use Rattle.sec1_der.specs.Faults.{optional_fault};
 ghost use Rattle.der_types.specs.Defaults.{defaulted_of, defaulted_begins, other_content};
 ghost use Rattle.der_types.specs.Defaults.{other_fault};
 
-use crate::debug_text::write_tuple;
 use sec1_der::{
     BackWriter, DecodePart, DecodeValue, EncodePart, EncodeValue, ErrorKind, Length, Optional,
     Part, Result, SliceReader, Tag, Tagged, UniqueContent, UniquePart, ValueContent, encoded_len,
 };
-use std::fmt;
 use std::marker::Model;
 
 /// A type with a default value. To give a type another default in a component, wrap it in a type of
@@ -39,7 +37,7 @@ pub trait HasDefault: UniqueContent + Sized {
 /// the element of the value. A contract sees the value.
 ///
 /// An element with the default value is refused as Value, after it has been read.
-#[derive(Clone, Copy, PartialEq, Eq, Drop)]
+#[derive(Clone, Copy, Debug, PartialEq, Eq, Drop)]
 pub struct Defaulted<A>(pub A);
 
 impl<A> Model for Defaulted<A> {
@@ -48,14 +46,6 @@ impl<A> Model for Defaulted<A> {
     ghost view = { λ part. part.0 };
 
     ghost inverse = { λ value. record { 0 = value } };
-}
-
-impl<A: fmt::Debug> fmt::Debug for Defaulted<A> {
-    ghost debug_output = { λ value. debug_variant (codes "Defaulted") (A.debug_output value) };
-
-    fn fmt<W: fmt::Write>(&self, f: &mut fmt::Formatter<W>) -> fmt::Result {
-        write_tuple(f, "Defaulted", &self.0)
-    }
 }
 
 impl<A: HasDefault + Tagged> Part for Defaulted<A> {

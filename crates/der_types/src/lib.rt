@@ -12,7 +12,6 @@ mod boolean;
 mod choice;
 mod codec;
 mod constant;
-mod debug_text;
 mod default;
 mod implicit;
 mod integer;

@@ -6,14 +6,12 @@ ghost use Rattle.der_types.specs.ChoiceLaws.{optional_part_begins};
 
 use crate::Alternative;
 use crate::choice::is_absent;
-use crate::debug_text::write_tuple;
 use sec1_der::{BackWriter, DecodePart, EncodePart, Length, Part, Result, SliceReader, UniquePart};
-use std::fmt;
 use std::marker::Model;
 
 /// An OPTIONAL CHOICE, or another OPTIONAL part that is never empty: `P` if the next byte is one
 /// that it may begin with. A contract sees the part, if present.
-#[derive(Clone, Copy, PartialEq, Eq, Drop)]
+#[derive(Clone, Copy, Debug, PartialEq, Eq, Drop)]
 pub struct OptionalPart<P>(pub Option<P>);
 
 impl<P> Model for OptionalPart<P> {
@@ -22,15 +20,6 @@ impl<P> Model for OptionalPart<P> {
     ghost view = { λ part. part.0 };
 
     ghost inverse = { λ value. record { 0 = value } };
-}
-
-impl<P: fmt::Debug> fmt::Debug for OptionalPart<P> {
-    ghost debug_output = { λ value. debug_variant (codes "OptionalPart")
-        (debug_option P.debug_output value) };
-
-    fn fmt<W: fmt::Write>(&self, f: &mut fmt::Formatter<W>) -> fmt::Result {
-        write_tuple(f, "OptionalPart", &self.0)
-    }
 }
 
 impl<P: Alternative> Part for OptionalPart<P> {

@@ -23,11 +23,9 @@ ghost use Rattle.der_types.specs.Times.{
   clock_text,
 };
 
-use crate::debug_text::write_after;
-use std::fmt;
 
 /// A date of the Gregorian calendar and a time of day, to the second.
-#[derive(Clone, Copy, PartialEq, Eq, PartialOrd, Ord)]
+#[derive(Clone, Copy, Debug, PartialEq, Eq, PartialOrd, Ord)]
 pub struct DateTime {
     /// The year: 1950 to 2049 in a UTCTime, 0 to 9999 in a GeneralizedTime.
     pub year: u16,
@@ -43,47 +41,7 @@ pub struct DateTime {
     pub second: u8,
 }
 
-/// Prints what a derived `Debug` prints, each number with the options of the formatter.
-impl fmt::Debug for DateTime {
-    ghost debug_output = { date_time_text };
-
-    fn fmt<W: fmt::Write>(&self, f: &mut fmt::Formatter<W>) -> fmt::Result {
-        if f.alternate() {
-            return f
-                .debug_struct("DateTime")
-                .field("year", &self.year)
-                .field("month", &self.month)
-                .field("day", &self.day)
-                .field("hour", &self.hour)
-                .field("minute", &self.minute)
-                .field("second", &self.second)
-                .finish();
-        }
-        self.write_date(f)?;
-        self.write_clock(f)
-    }
-}
-
 impl DateTime {
-    /// Prints what `{:?}` prints up to the day.
-    fn write_date<W: fmt::Write>(&self, f: &mut fmt::Formatter<W>) -> fmt::Result
-        ensures { DisplaysOnOk W.write_str_gives f.old result (date_text self.now) f.new }
-    {
-        write_after(f, "DateTime { year: ", &self.year)?;
-        write_after(f, ", month: ", &self.month)?;
-        write_after(f, ", day: ", &self.day)
-    }
-
-    /// Prints what `{:?}` prints behind the day.
-    fn write_clock<W: fmt::Write>(&self, f: &mut fmt::Formatter<W>) -> fmt::Result
-        ensures { DisplaysOnOk W.write_str_gives f.old result (clock_text self.now) f.new }
-    {
-        write_after(f, ", hour: ", &self.hour)?;
-        write_after(f, ", minute: ", &self.minute)?;
-        write_after(f, ", second: ", &self.second)?;
-        f.write_str(" }")
-    }
-
     /// Returns `true` if the Gregorian calendar has this day, and a day this hour, minute and
     /// second.
     pub fn is_valid(&self) -> bool

@@ -9,11 +9,6 @@ abbrev pub later_version_content : LaterVersion → List ℕ
 later_version_content V2 = 1 ∷ []
 later_version_content V3 = 2 ∷ []
 
--- what `{:?}` prints of a version
-abbrev pub later_version_text : LaterVersion → List ℕ
-later_version_text V2 = codes "V2"
-later_version_text V3 = codes "V3"
-
 -- whether the bytes are the content of v2 or v3
 abbrev pub is_later_version : List ℕ → Bool
 is_later_version content = bytes_eq content (1 ∷ []) || bytes_eq content (2 ∷ [])

@@ -7,28 +7,15 @@ use sec1_der::{
     BackWriter, DecodeValue, EncodeValue, ErrorKind, Length, Result, SliceReader, SliceWriter, Tag,
     Tagged, UniqueContent, ValueContent,
 };
-use std::fmt;
 
 /// The version of a certificate that isn't v1: an INTEGER that is 1 or 2 (RFC 5280 section
 /// 4.1.2.1).
-#[derive(Clone, Copy, PartialEq, Eq)]
+#[derive(Clone, Copy, Debug, PartialEq, Eq)]
 pub enum LaterVersion {
     /// Version 2, whose number is 1.
     V2,
     /// Version 3, whose number is 2.
     V3,
-}
-
-/// Prints the name of the version.
-impl fmt::Debug for LaterVersion {
-    ghost debug_output = { λ version. Some (later_version_text version) };
-
-    fn fmt<W: fmt::Write>(&self, f: &mut fmt::Formatter<W>) -> fmt::Result {
-        f.write_str(match self {
-            LaterVersion::V2 => "V2",
-            LaterVersion::V3 => "V3",
-        })
-    }
 }
 
 impl LaterVersion {

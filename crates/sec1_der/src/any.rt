@@ -1,18 +1,16 @@
 ghost use Rattle.std.specs.Prelude.{◌≤◌, length, IsTrue};
 ghost use Rattle.sec1_der.specs.Elements.{max_length, is_tag};
 
-use crate::debug_text::write_pair;
 use crate::header::element_at;
 use crate::{
     BackWriter, EncodeValue, ErrorKind, Length, ObjectIdentifier, Result, SliceReader, SliceWriter,
     Tag, ValueContent,
 };
-use std::fmt;
 
 /// An element of any tag, which borrows its content without looking into it.
 // The tag is held as its byte: a value that holds both a reference and a type with a `Model` can't
 // be passed by `?`.
-#[derive(Clone, Copy)]
+#[derive(Clone, Copy, Debug)]
 pub struct AnyRef<'a> {
     tag: u8,
     value: &'a [u8],
@@ -87,22 +85,6 @@ impl<'a> AnyRef<'a> {
         ensures { result.now ≡ value_of self.now }
     {
         self.value
-    }
-}
-
-/// Prints the tag byte, and the bytes of the content, in decimal.
-impl fmt::Debug for AnyRef<'_> {
-    ghost use Rattle.std.specs.Fmt.{decimal};
-    ghost use Rattle.std.specs.Prelude.{codes, Some, [], ◌∷◌};
-    ghost use Rattle.sec1_der.specs.DebugTexts.{bytes_text, struct_text};
-    ghost use Rattle.sec1_der.specs.Values.{tag_of, value_of};
-
-    ghost debug_output = { λ any. struct_text (codes "AnyRef")
-        ((codes "tag", Some (decimal (tag_of any)))
-        ∷ (codes "value", bytes_text (value_of any)) ∷ []) };
-
-    fn fmt<W: fmt::Write>(&self, f: &mut fmt::Formatter<W>) -> fmt::Result {
-        write_pair(f, "AnyRef", ("tag", &self.tag), ("value", &self.value))
     }
 }
 

@@ -2,17 +2,15 @@ ghost use Rattle.std.specs.Prelude.{◌≡◌, ◌<◌, length, IsTrue};
 ghost use Rattle.sec1_der.specs.Contents.{are_bits};
 ghost use Rattle.sec1_der.specs.Elements.{max_length};
 
-use crate::debug_text::write_pair;
 use crate::length::check_room;
 use crate::{
     BackWriter, DecodeValue, EncodeValue, ErrorKind, FixedTag, Length, Result, SliceReader,
     SliceWriter, Tag, Tagged, ValueContent,
 };
-use std::fmt;
 
 /// A BIT STRING, which borrows its bytes (X.690 section 8.6). Its content is the number of unused
 /// bits of the last byte, and the bytes.
-#[derive(Clone, Copy, PartialEq, Eq)]
+#[derive(Clone, Copy, Debug, PartialEq, Eq)]
 pub struct BitStringRef<'a> {
     unused: u8,
     bytes: &'a [u8],
@@ -97,27 +95,6 @@ fn are_bits(unused: u8, bytes: &[u8]) -> bool
     match bytes.last() {
         None => unused == 0,
         Some(last) => unused < 8 && *last % (1 << unused) == 0,
-    }
-}
-
-/// Prints the number of unused bits, and the bytes, in decimal.
-impl fmt::Debug for BitStringRef<'_> {
-    ghost use Rattle.std.specs.Fmt.{decimal};
-    ghost use Rattle.std.specs.Prelude.{codes, Some, [], ◌∷◌};
-    ghost use Rattle.sec1_der.specs.DebugTexts.{bytes_text, struct_text};
-    ghost use Rattle.sec1_der.specs.Values.{unused_bits_of, bit_bytes_of};
-
-    ghost debug_output = { λ bits. struct_text (codes "BitStringRef")
-        ((codes "unused", Some (decimal (unused_bits_of bits)))
-        ∷ (codes "bytes", bytes_text (bit_bytes_of bits)) ∷ []) };
-
-    fn fmt<W: fmt::Write>(&self, f: &mut fmt::Formatter<W>) -> fmt::Result {
-        write_pair(
-            f,
-            "BitStringRef",
-            ("unused", &self.unused),
-            ("bytes", &self.bytes),
-        )
     }
 }
 

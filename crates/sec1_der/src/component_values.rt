@@ -6,26 +6,16 @@ ghost use Rattle.sec1_der.specs.DebugTexts.{struct_text};
 ghost use Rattle.sec1_der.specs.Elements.{element_of};
 ghost use Rattle.sec1_der.specs.Faults.{element_fault, end_fault, no_fault};
 
-use crate::debug_text::write_struct;
 use crate::{
     BackWriter, BitStringRef, DecodeValue, EncodeValue, ErrorKind, Length, OctetStringRef, Result,
     SliceReader, SliceWriter, Tag, Tagged, UniqueContent, ValueContent, encoded_len,
 };
-use std::fmt;
 use std::marker::Model;
 
 /// An INTEGER whose content is the one byte `N`, such as a version (X.690 section 8.3). It is the
 /// number `N` if that is below 128. Any other content is refused as Value.
-#[derive(Clone, Copy, PartialEq, Eq)]
+#[derive(Clone, Copy, Debug, PartialEq, Eq)]
 pub struct SmallInteger<const N: u8>;
-
-impl<const N: u8> fmt::Debug for SmallInteger<N> {
-    ghost debug_output = { λ _. Some (codes "SmallInteger") };
-
-    fn fmt<W: fmt::Write>(&self, f: &mut fmt::Formatter<W>) -> fmt::Result {
-        f.write_str("SmallInteger")
-    }
-}
 
 impl<const N: u8> Tagged for SmallInteger<N> {
     ghost tag_byte = { 0x02 };
@@ -187,19 +177,10 @@ impl UniqueContent for WholeBits<'_> {
 
 /// An OCTET STRING whose content is the element of another value, `OCTET STRING (CONTAINING T)`
 /// (X.682 section 11).
-#[derive(Clone, Copy, PartialEq, Eq, Drop)]
+#[derive(Clone, Copy, Debug, PartialEq, Eq, Drop)]
 pub struct Containing<T> {
     /// The value.
     pub value: T,
-}
-
-impl<T: fmt::Debug> fmt::Debug for Containing<T> {
-    ghost debug_output = { λ outside. struct_text (codes "Containing")
-        ((codes "value", T.debug_output outside.value) ∷ []) };
-
-    fn fmt<W: fmt::Write>(&self, f: &mut fmt::Formatter<W>) -> fmt::Result {
-        write_struct(f, "Containing", "value", &self.value)
-    }
 }
 
 impl<T> Tagged for Containing<T> {

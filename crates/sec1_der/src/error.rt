@@ -5,7 +5,6 @@ ghost use Rattle.sec1_der.specs.ErrorTexts.{kind_message};
 ghost use Rattle.sec1_der.specs.declared.error.ErrorKind.TheVariants.{Io, Memory};
 
 use crate::IoFault;
-use crate::debug_text::write_struct;
 use std::alloc::{AllocError, AllocFailed};
 use std::fmt;
 
@@ -115,7 +114,11 @@ impl fmt::Debug for Error {
         ((codes "kind", Some (kind_text e.kind)) ∷ []) };
 
     fn fmt<W: fmt::Write>(&self, f: &mut fmt::Formatter<W>) -> fmt::Result {
-        write_struct(f, "Error", "kind", &self.kind)
+        let kind = self.kind;
+        if f.alternate() {
+            return f.debug_struct("Error").field("kind", &kind).finish();
+        }
+        write!(f, "Error {{ kind: {kind:?} }}")
     }
 }
 

@@ -12,9 +12,7 @@ ghost use Rattle.sec1_der.specs.Faults.{Fault, any_fault};
 ghost use Rattle.sec1_der.specs.SliceWriters.{slice_state, Appends};
 ghost use Rattle.sec1_der.specs.Writers.{Writes};
 
-use crate::debug_text::write_pair;
 use crate::{ErrorKind, Length, Result, SliceReader, SliceWriter, Tag};
-use std::fmt;
 
 /// The least length in the long form (X.690 section 8.1.3.5).
 pub(crate) const LONG_FORM: usize = 0x80;
@@ -23,22 +21,12 @@ pub(crate) const LONG_FORM: usize = 0x80;
 pub(crate) type First<'a, T> = std::result::Result<(T, &'a [u8]), ErrorKind>;
 
 /// The tag and the length of an element (X.690 sections 8.1.2 and 8.1.3).
-#[derive(Clone, Copy)]
+#[derive(Clone, Copy, Debug)]
 pub struct Header {
     /// The tag.
     pub tag: Tag,
     /// The length of the content.
     pub length: Length,
-}
-
-impl fmt::Debug for Header {
-    ghost debug_output = { λ h. struct_text (codes "Header")
-        ((codes "tag", ⟦<Tag as fmt::Debug>⟧.debug_output h.tag)
-        ∷ (codes "length", ⟦<Length as fmt::Debug>⟧.debug_output h.length) ∷ []) };
-
-    fn fmt<W: fmt::Write>(&self, f: &mut fmt::Formatter<W>) -> fmt::Result {
-        write_pair(f, "Header", ("tag", &self.tag), ("length", &self.length))
-    }
 }
 
 impl Header {

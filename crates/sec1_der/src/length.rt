@@ -3,13 +3,11 @@ ghost use Rattle.std.specs.Fmt.{decimal};
 ghost use Rattle.sec1_der.specs.DebugTexts.{struct_text};
 ghost use Rattle.sec1_der.specs.Elements.{max_length};
 
-use crate::debug_text::write_struct;
 use crate::{ErrorKind, Result};
-use std::fmt;
 use std::marker::Model;
 
 /// The number of bytes of a content, from 0 to [`Length::MAX`]. A contract sees the number.
-#[derive(Clone, Copy, PartialEq, Eq)]
+#[derive(Clone, Copy, Debug, PartialEq, Eq)]
 pub struct Length {
     // 32 bits, so that a header moves as one word.
     bytes: u32,
@@ -57,15 +55,6 @@ impl Length {
         ensures { (result ≡ self) × (result ≤ max_length) }
     {
         self.bytes as usize
-    }
-}
-
-impl fmt::Debug for Length {
-    ghost debug_output = { λ n. struct_text (codes "Length")
-        ((codes "bytes", Some (decimal n)) ∷ []) };
-
-    fn fmt<W: fmt::Write>(&self, f: &mut fmt::Formatter<W>) -> fmt::Result {
-        write_struct(f, "Length", "bytes", &self.bytes)
     }
 }
 

@@ -14,7 +14,6 @@ mod checks;
 mod codec;
 mod component_values;
 mod context;
-mod debug_text;
 mod document;
 mod error;
 mod explicit;

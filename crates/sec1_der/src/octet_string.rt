@@ -1,15 +1,13 @@
 ghost use Rattle.std.specs.Prelude.{◌≤◌, length};
 ghost use Rattle.sec1_der.specs.Elements.{max_length};
 
-use crate::debug_text::write_struct;
 use crate::{
     BackWriter, DecodeValue, EncodeValue, ErrorKind, FixedTag, Length, Result, SliceReader,
     SliceWriter, Tag, Tagged, ValueContent,
 };
-use std::fmt;
 
 /// An OCTET STRING, which borrows its bytes (X.690 section 8.7). Its content is its bytes.
-#[derive(Clone, Copy, PartialEq, Eq)]
+#[derive(Clone, Copy, Debug, PartialEq, Eq)]
 pub struct OctetStringRef<'a> {
     bytes: &'a [u8],
     ghost within: { length bytes.now ≤ max_length },
@@ -38,20 +36,6 @@ impl<'a> OctetStringRef<'a> {
         ensures { result.now ≡ octets_of self.now }
     {
         self.bytes
-    }
-}
-
-/// Prints the bytes in decimal.
-impl fmt::Debug for OctetStringRef<'_> {
-    ghost use Rattle.std.specs.Prelude.{codes, [], ◌∷◌};
-    ghost use Rattle.sec1_der.specs.DebugTexts.{bytes_text, struct_text};
-    ghost use Rattle.sec1_der.specs.Values.{octets_of};
-
-    ghost debug_output = { λ octets. struct_text (codes "OctetStringRef")
-        ((codes "bytes", bytes_text (octets_of octets)) ∷ []) };
-
-    fn fmt<W: fmt::Write>(&self, f: &mut fmt::Formatter<W>) -> fmt::Result {
-        write_struct(f, "OctetStringRef", "bytes", &self.bytes)
     }
 }
 

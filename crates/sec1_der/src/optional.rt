@@ -6,17 +6,15 @@ ghost use Rattle.sec1_der.specs.Parts.{optional_of, optional_tag};
 ghost use Rattle.sec1_der.specs.PartLaws.{optional_begins};
 ghost use Rattle.sec1_der.specs.Faults.{optional_fault};
 
-use crate::debug_text::write_tuple;
 use crate::{
     BackWriter, DecodePart, DecodeValue, EncodePart, EncodeValue, Length, Part, Result,
     SliceReader, Tagged, UniqueContent, UniquePart, ValueContent, component_len,
 };
-use std::fmt;
 use std::marker::Model;
 
 /// An OPTIONAL component: the element of a value, if its tag is next. A contract sees the value, if
 /// present.
-#[derive(Clone, Copy, PartialEq, Eq, Drop)]
+#[derive(Clone, Copy, Debug, PartialEq, Eq, Drop)]
 pub struct Optional<A>(pub Option<A>);
 
 impl<A> Model for Optional<A> {
@@ -25,15 +23,6 @@ impl<A> Model for Optional<A> {
     ghost view = { λ part. part.0 };
 
     ghost inverse = { λ value. record { 0 = value } };
-}
-
-impl<A: fmt::Debug> fmt::Debug for Optional<A> {
-    ghost debug_output = { λ value. debug_variant (codes "Optional")
-        (debug_option A.debug_output value) };
-
-    fn fmt<W: fmt::Write>(&self, f: &mut fmt::Formatter<W>) -> fmt::Result {
-        write_tuple(f, "Optional", &self.0)
-    }
 }
 
 impl<A: ValueContent + Tagged> Part for Optional<A> {

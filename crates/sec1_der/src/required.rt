@@ -8,16 +8,14 @@ ghost use Rattle.sec1_der.specs.Parts.{ReadsPart, one_tag};
 ghost use Rattle.sec1_der.specs.PartLaws.{element_begins};
 ghost use Rattle.sec1_der.specs.Faults.{element_fault};
 
-use crate::debug_text::write_tuple;
 use crate::{
     BackWriter, DecodePart, DecodeValue, EncodePart, EncodeValue, Length, Part, Result,
     SliceReader, Tagged, UniqueContent, UniquePart, ValueContent, encoded_len,
 };
-use std::fmt;
 use std::marker::Model;
 
 /// A component that is always present: the element of a value. A contract sees the value.
-#[derive(Clone, Copy, PartialEq, Eq, Drop)]
+#[derive(Clone, Copy, Debug, PartialEq, Eq, Drop)]
 pub struct Required<A>(pub A);
 
 impl<A> Model for Required<A> {
@@ -26,14 +24,6 @@ impl<A> Model for Required<A> {
     ghost view = { λ part. part.0 };
 
     ghost inverse = { λ value. record { 0 = value } };
-}
-
-impl<A: fmt::Debug> fmt::Debug for Required<A> {
-    ghost debug_output = { λ value. debug_variant (codes "Required") (A.debug_output value) };
-
-    fn fmt<W: fmt::Write>(&self, f: &mut fmt::Formatter<W>) -> fmt::Result {
-        write_tuple(f, "Required", &self.0)
-    }
 }
 
 impl<A: ValueContent + Tagged> Part for Required<A> {

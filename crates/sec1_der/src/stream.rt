@@ -4,19 +4,9 @@ ghost use Rattle.std.specs.Prelude.{MatchResult, Some, codes, ◌≤◌, ◌<◌
 ghost use Rattle.std.specs.Io.KnownBytes.{Appends, Keeps, ReadConsumes, WriteAppends};
 ghost use Rattle.sec1_der.specs.Streams.{AppendsPrefix};
 
-use std::fmt;
-
 /// The error of a failed read or write.
-#[derive(Clone, Copy, PartialEq, Eq)]
+#[derive(Clone, Copy, Debug, PartialEq, Eq)]
 pub struct IoFault;
-
-impl fmt::Debug for IoFault {
-    ghost debug_output = { λ _. Some (codes "IoFault") };
-
-    fn fmt<W: fmt::Write>(&self, f: &mut fmt::Formatter<W>) -> fmt::Result {
-        f.write_str("IoFault")
-    }
-}
 
 /// A reader that remembers a failure. Calls that take one require that it hasn't failed.
 ///

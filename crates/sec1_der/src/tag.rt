@@ -5,13 +5,11 @@ ghost use Rattle.std.specs.Int.{IsBitSet};
 ghost use Rattle.sec1_der.specs.DebugTexts.{struct_text};
 ghost use Rattle.sec1_der.specs.Elements.{is_tag};
 
-use crate::debug_text::write_struct;
 use crate::{ErrorKind, Result};
-use std::fmt;
 use std::marker::Model;
 
 /// The tag byte of an element (X.690 section 8.1.2). A contract sees its number.
-#[derive(Clone, Copy, PartialEq, Eq)]
+#[derive(Clone, Copy, Debug, PartialEq, Eq)]
 pub struct Tag {
     byte: u8,
 }
@@ -165,15 +163,5 @@ impl Tag {
         ensures { IsTrue result ↔ IsBitSet self 5 }
     {
         self.byte & 0x20 != 0
-    }
-}
-
-/// Prints the byte in decimal.
-impl fmt::Debug for Tag {
-    ghost debug_output = { λ byte. struct_text (codes "Tag")
-        ((codes "byte", Some (decimal byte)) ∷ []) };
-
-    fn fmt<W: fmt::Write>(&self, f: &mut fmt::Formatter<W>) -> fmt::Result {
-        write_struct(f, "Tag", "byte", &self.byte)
     }
 }

@@ -5,20 +5,11 @@ use crate::{
     BackWriter, DecodeValue, EncodeValue, ErrorKind, FixedTag, Length, Result, SliceReader,
     SliceWriter, Tag, Tagged, UniqueContent, ValueContent,
 };
-use std::fmt;
 
 /// The version of an ECPrivateKey, the INTEGER 1 (RFC 5915 section 3). Its content is the byte
 /// `01`; any other is refused as Value.
-#[derive(Clone, Copy, PartialEq, Eq)]
+#[derive(Clone, Copy, Debug, PartialEq, Eq)]
 pub struct VersionOne;
-
-impl fmt::Debug for VersionOne {
-    ghost debug_output = { λ _. Some (codes "VersionOne") };
-
-    fn fmt<W: fmt::Write>(&self, f: &mut fmt::Formatter<W>) -> fmt::Result {
-        f.write_str("VersionOne")
-    }
-}
 
 impl Tagged for VersionOne {
     ghost tag_byte = { 0x02 };

@@ -9,11 +9,10 @@ ghost use Rattle.sec1_der.specs.Numbers.{number_of};
 ghost use Rattle.sec1.specs.Tags.{byte_of, message_len};
 
 use crate::error::{Error, Result};
-use std::fmt;
 
 /// The first byte of a point's encoding: identity, compressed and uncompressed (SEC1 v2.0 section
 /// 2.3.3), compact, which has x alone, and hybrid, which has y and its parity (ANSI X9.62).
-#[derive(Clone, Copy, PartialEq, Eq)]
+#[derive(Clone, Copy, Debug, PartialEq, Eq)]
 pub enum Tag {
     /// The point at infinity.
     Identity = 0,
@@ -126,35 +125,6 @@ fn is_odd<const N: usize>(y: &[u8; N]) -> bool
     ensures { result ≡ (number_of y.now % 2 == 1) }
 {
     N != 0 && y[N - 1] % 2 == 1
-}
-
-/// Prints the name of the tag, whatever options are set.
-impl fmt::Debug for Tag {
-    ghost debug_output = { λ tag. Some (elim tag [
-      | tags.Identity ↦ codes "Identity"
-      | tags.CompressedEvenY ↦ codes "CompressedEvenY"
-      | tags.CompressedOddY ↦ codes "CompressedOddY"
-      | tags.Uncompressed ↦ codes "Uncompressed"
-      | tags.Compact ↦ codes "Compact"
-      | tags.HybridEvenY ↦ codes "HybridEvenY"
-      | tags.HybridOddY ↦ codes "HybridOddY"
-    ]) };
-
-    #[tactic(auto, using(sec1_der::proofs::TextLaws::plain_of_styled))]
-    fn fmt<W: fmt::Write>(&self, f: &mut fmt::Formatter<W>) -> fmt::Result
-        ensures styled { DisplaysStyledOnOk W.write_str_gives f.old result
-            (⟦<Tag as fmt::Debug>⟧.debug_output self.now) f.new }
-    {
-        f.write_str(match self {
-            Tag::Identity => "Identity",
-            Tag::CompressedEvenY => "CompressedEvenY",
-            Tag::CompressedOddY => "CompressedOddY",
-            Tag::Uncompressed => "Uncompressed",
-            Tag::Compact => "Compact",
-            Tag::HybridEvenY => "HybridEvenY",
-            Tag::HybridOddY => "HybridOddY",
-        })
-    }
 }
 
 /// Returns a tag as [`Tag::from_u8`] does.
