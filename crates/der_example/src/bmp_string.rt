@@ -6,7 +6,7 @@ ghost use Rattle.der_example.specs.BmpStrings.{are_characters, bmp_content, bmp_
 
 use sec1::der::{
     BackWriter, DecodeValue, EncodeValue, ErrorKind, FixedTag, Length, Result, SliceReader,
-    SliceWriter, Tag, Tagged, ValueContent, from_der,
+    Tag, Tagged, ValueContent, from_der,
 };
 
 /// A BMPString (X.690 section 8.23.9): two bytes for each character. Bytes of an odd number have no
@@ -66,11 +66,6 @@ impl EncodeValue for BmpString<'_> {
             return Err(ErrorKind::Overlength.into());
         }
         Length::new(self.bytes.len())
-    }
-
-    fn encode_value(&self, writer: &mut SliceWriter) -> Result<()> {
-        self.value_len()?;
-        writer.write(self.bytes)
     }
 
     fn encode_back(&self, writer: &mut BackWriter) -> Result<()> {

@@ -4,7 +4,7 @@ ghost use Rattle.sec1.specs.Der.{value_unless};
 
 use sec1::der::{
     BackWriter, DecodeValue, EncodeValue, ErrorKind, FixedTag, Length, Result, SliceReader,
-    SliceWriter, Tag, Tagged, ValueContent,
+    Tag, Tagged, ValueContent,
 };
 
 /// A NULL (X.690 section 8.8). Its content is empty, and any other content is refused as Value.
@@ -43,10 +43,6 @@ impl<'a> DecodeValue<'a> for Null {
 impl EncodeValue for Null {
     fn value_len(&self) -> Result<Length> {
         Length::new(0)
-    }
-
-    fn encode_value(&self, _writer: &mut SliceWriter) -> Result<()> {
-        Ok(())
     }
 
     fn encode_back(&self, _writer: &mut BackWriter) -> Result<()> {

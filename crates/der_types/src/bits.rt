@@ -7,7 +7,7 @@ ghost use Rattle.der_types.specs.BitStrings.{BitString, bit_string_content};
 
 use sec1_der::{
     BackWriter, BitStringRef, DecodeValue, EncodeValue, ErrorKind, Length, Result, SliceReader,
-    SliceWriter, Tag, Tagged, UniqueContent, ValueContent,
+    Tag, Tagged, UniqueContent, ValueContent,
 };
 use std::marker::Model;
 
@@ -104,10 +104,6 @@ impl<'a> DecodeValue<'a> for Bits<'a> {
 impl EncodeValue for Bits<'_> {
     fn value_len(&self) -> Result<Length> {
         self.bits.value_len()
-    }
-
-    fn encode_value(&self, writer: &mut SliceWriter) -> Result<()> {
-        self.bits.encode_value(writer)
     }
 
     fn encode_back(&self, writer: &mut BackWriter) -> Result<()> {

@@ -5,7 +5,7 @@ ghost use Rattle.der_types.specs.Booleans.{boolean_content, is_boolean};
 
 use crate::HasDefault;
 use sec1_der::{
-    BackWriter, DecodeValue, EncodeValue, ErrorKind, Length, Result, SliceReader, SliceWriter, Tag,
+    BackWriter, DecodeValue, EncodeValue, ErrorKind, Length, Result, SliceReader, Tag,
     Tagged, UniqueContent, ValueContent,
 };
 use std::marker::Model;
@@ -68,10 +68,6 @@ impl Boolean {
 impl EncodeValue for Boolean {
     fn value_len(&self) -> Result<Length> {
         Length::new(1)
-    }
-
-    fn encode_value(&self, writer: &mut SliceWriter) -> Result<()> {
-        writer.write_byte(self.byte())
     }
 
     fn encode_back(&self, writer: &mut BackWriter) -> Result<()> {

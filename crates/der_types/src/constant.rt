@@ -5,7 +5,7 @@ ghost use Rattle.sec1_der.specs.Contents.{value_unless};
 
 use crate::kind;
 use sec1_der::{
-    BackWriter, DecodeValue, EncodeValue, ErrorKind, Length, Result, SliceReader, SliceWriter, Tag,
+    BackWriter, DecodeValue, EncodeValue, ErrorKind, Length, Result, SliceReader, Tag,
     Tagged, UniqueContent, ValueContent,
 };
 use std::marker::PhantomData;
@@ -63,11 +63,6 @@ impl<'a, K: ConstantContent> DecodeValue<'a> for Constant<K> {
 impl<K: ConstantContent> EncodeValue for Constant<K> {
     fn value_len(&self) -> Result<Length> {
         Length::new(K::constant().len())
-    }
-
-    fn encode_value(&self, writer: &mut SliceWriter) -> Result<()> {
-        self.value_len()?;
-        writer.write(K::constant())
     }
 
     fn encode_back(&self, writer: &mut BackWriter) -> Result<()> {

@@ -2,7 +2,7 @@
 ghost use Rattle.std.specs.Prelude.{◌≡◌};
 
 use sec1_der::{
-    BackWriter, DecodeValue, EncodeValue, Length, Result, SliceReader, SliceWriter, Tag, Tagged,
+    BackWriter, DecodeValue, EncodeValue, Length, Result, SliceReader, Tag, Tagged,
     UniqueContent, ValueContent,
 };
 use std::marker::{Model, PhantomData};
@@ -63,10 +63,6 @@ impl<'a, K, A: DecodeValue<'a>> DecodeValue<'a> for Implicit<K, A> {
 impl<K, A: EncodeValue> EncodeValue for Implicit<K, A> {
     fn value_len(&self) -> Result<Length> {
         self.value.value_len()
-    }
-
-    fn encode_value(&self, writer: &mut SliceWriter) -> Result<()> {
-        self.value.encode_value(writer)
     }
 
     fn encode_back(&self, writer: &mut BackWriter) -> Result<()> {

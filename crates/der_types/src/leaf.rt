@@ -6,7 +6,7 @@ ghost use Rattle.sec1_der.specs.Faults.{HasFault};
 
 use crate::kind::{self, Kind};
 use sec1_der::{
-    BackWriter, DecodeValue, EncodeValue, ErrorKind, Length, Result, SliceReader, SliceWriter, Tag,
+    BackWriter, DecodeValue, EncodeValue, ErrorKind, Length, Result, SliceReader, Tag,
     Tagged, UniqueContent, ValueContent,
 };
 use std::marker::{Model, PhantomData};
@@ -100,11 +100,6 @@ impl<K: Kind> EncodeValue for Leaf<'_, K> {
             return Err(ErrorKind::Overlength.into());
         }
         Length::new(self.bytes.len())
-    }
-
-    fn encode_value(&self, writer: &mut SliceWriter) -> Result<()> {
-        self.value_len()?;
-        writer.write(self.bytes)
     }
 
     fn encode_back(&self, writer: &mut BackWriter) -> Result<()> {

@@ -8,7 +8,7 @@ ghost use Rattle.sec1_der.specs.Faults.{TellsFault};
 ghost use Rattle.der_types.specs.Rows.{joined, row_fault, row_of};
 
 use sec1_der::{
-    BackWriter, DecodeValue, EncodeValue, ErrorKind, Length, Result, SliceReader, SliceWriter, Tag,
+    BackWriter, DecodeValue, EncodeValue, ErrorKind, Length, Result, SliceReader, Tag,
     Tagged, UniqueContent, ValueContent,
 };
 use std::marker::{Model, PhantomData};
@@ -186,11 +186,6 @@ impl<'a, T: DecodeValue<'a> + Tagged + Drop> EncodeValue for SequenceOf<'a, T> {
             Ok(()) => Length::new(self.bytes.len()),
             Err(_) => Err(ErrorKind::Overlength.into()),
         }
-    }
-
-    fn encode_value(&self, writer: &mut SliceWriter) -> Result<()> {
-        self.value_len()?;
-        writer.write(self.bytes)
     }
 
     fn encode_back(&self, writer: &mut BackWriter) -> Result<()> {

@@ -9,7 +9,7 @@ use crate::lend::read_since;
 use crate::{Elements, check_elements};
 use sec1_der::{
     AnyRef, BackWriter, DecodeValue, EncodeValue, ErrorKind, Length, Result, SliceReader,
-    SliceWriter, Tag, Tagged, UniqueContent, ValueContent,
+    Tag, Tagged, UniqueContent, ValueContent,
 };
 use std::marker::{Model, PhantomData};
 
@@ -138,11 +138,6 @@ impl<'a, T: DecodeValue<'a> + Tagged + Drop> EncodeValue for SetOf<'a, T> {
             Ok(_) => Length::new(self.bytes.len()),
             Err(_) => Err(ErrorKind::Overlength.into()),
         }
-    }
-
-    fn encode_value(&self, writer: &mut SliceWriter) -> Result<()> {
-        self.value_len()?;
-        writer.write(self.bytes)
     }
 
     fn encode_back(&self, writer: &mut BackWriter) -> Result<()> {

@@ -10,7 +10,7 @@ ghost use Rattle.der_types.specs.Leaves.{new_fault};
 
 use crate::integer::is_unsigned;
 use sec1_der::{
-    BackWriter, DecodeValue, EncodeValue, ErrorKind, Length, Result, SliceReader, SliceWriter, Tag,
+    BackWriter, DecodeValue, EncodeValue, ErrorKind, Length, Result, SliceReader, Tag,
     Tagged, UniqueContent, ValueContent,
 };
 use std::marker::Model;
@@ -140,11 +140,6 @@ impl<'a> DecodeValue<'a> for Unsigned<'a> {
 impl EncodeValue for Unsigned<'_> {
     fn value_len(&self) -> Result<Length> {
         Length::new(self.bytes.len())
-    }
-
-    fn encode_value(&self, writer: &mut SliceWriter) -> Result<()> {
-        self.value_len()?;
-        writer.write(self.bytes)
     }
 
     fn encode_back(&self, writer: &mut BackWriter) -> Result<()> {

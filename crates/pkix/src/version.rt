@@ -4,7 +4,7 @@ ghost use Rattle.sec1_der.specs.Contents.{value_unless};
 ghost use Rattle.pkix.specs.Versions.{is_later_version, later_version_content, later_version_text};
 
 use sec1_der::{
-    BackWriter, DecodeValue, EncodeValue, ErrorKind, Length, Result, SliceReader, SliceWriter, Tag,
+    BackWriter, DecodeValue, EncodeValue, ErrorKind, Length, Result, SliceReader, Tag,
     Tagged, UniqueContent, ValueContent,
 };
 
@@ -59,10 +59,6 @@ impl<'a> DecodeValue<'a> for LaterVersion {
 impl EncodeValue for LaterVersion {
     fn value_len(&self) -> Result<Length> {
         Length::new(1)
-    }
-
-    fn encode_value(&self, writer: &mut SliceWriter) -> Result<()> {
-        writer.write_byte(self.byte())
     }
 
     fn encode_back(&self, writer: &mut BackWriter) -> Result<()> {

@@ -8,7 +8,7 @@ ghost use Rattle.sec1_der.specs.Values.{tag_of, value_of};
 use sec1_der as der;
 use sec1_der::{
     AnyRef, BackWriter, DecodeValue, EncodeValue, FixedTag, Length, ObjectIdentifier, SliceReader,
-    SliceWriter, Tag, Tagged, ValueContent,
+    Tag, Tagged, ValueContent,
 };
 use std::fmt;
 
@@ -95,12 +95,6 @@ impl EncodeValue for EcParameters {
     fn value_len(&self) -> der::Result<Length> {
         match self {
             EcParameters::NamedCurve(identifier) => identifier.value_len(),
-        }
-    }
-
-    fn encode_value(&self, writer: &mut SliceWriter) -> der::Result<()> {
-        match self {
-            EcParameters::NamedCurve(identifier) => identifier.encode_value(writer),
         }
     }
 

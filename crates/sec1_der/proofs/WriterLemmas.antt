@@ -5,54 +5,23 @@ use Rattle.std.proofs.Common.{Option, Some, None, IsSomeAnd, Result, IsOk, OnOk,
 use Rattle.std.proofs.Common.{refl, arith}
 use Rattle.std.proofs.Common.{append_assoc, length-append}
 use Rattle.std.proofs.lemmas.Bool.{le-leb, cases_lt}
-use Rattle.std.proofs.lemmas.List.{drop-drop, take-take}
+use Rattle.std.proofs.lemmas.List.{take-take}
 use Rattle.sec1_der.proofs.ElementLaws.{FoundContent, element_of-some}
 use Rattle.sec1_der.specs.BackWriters.{back_state, Prepends, Puts}
 use Rattle.sec1_der.specs.Elements.{max_length, header, element, element_of, within_limit}
-use Rattle.sec1_der.specs.SliceWriters.{slice_state, Appends}
 use Rattle.sec1_der.specs.Writers.{Writer, Writes}
 use Rattle.sec1_der.specs.declared.back_writer.BackWriter.{BackWriter}
 use Rattle.sec1_der.specs.declared.error.Error.{Error}
 use Rattle.sec1_der.specs.declared.error.ErrorKind.TheVariants.{Overlength, Buffer}
-use Rattle.sec1_der.specs.declared.header.Header.{Header}
-use Rattle.sec1_der.specs.declared.slice_writer.SliceWriter.{SliceWriter}
 
 -- a call that failed doesn't succeed
 pub failed_ok : {A : Type 0} → false ≡ true → A
 failed_ok ok = absurd (cc ok)
 
--- what the writers of elements take: the content of an element that is there, and lengths
-pub ruleset element_parts = (element_of-some, length-append)
-
--- bytes, and then more after them
-pub appends_both : (old between new : Writer) (xs ys : List ℕ) → Appends old between xs → Appends between new ys
-    → Appends old new (xs ++ ys)
-appends_both old between new xs ys p q = grind (arith, append_assoc, length-append, drop-drop)
-
 -- bytes, and then more in front of them
 pub puts_both : (old between new : Writer) (xs ys : List ℕ) → Prepends old between xs
     → Prepends between new ys → Prepends old new (ys ++ xs)
 puts_both old between new xs ys p q = grind (arith, append_assoc, length-append, take-take)
-
--- bytes that have room, and then more that have room
-pub both_written : (old between new : SliceWriter) (xs ys : List ℕ) (first second : Result Unit Error)
-    → length xs + length ys ≤ length (slice_state old).room
-    → Writes slice_state Appends (Some xs) old between first → Writes slice_state Appends (Some ys) between new second
-    → Writes slice_state Appends (Some (xs ++ ys)) old new second
-both_written old between new xs ys first second room p q =
-    let front = p.fits xs refl (omega arith) in
-    let behind = q.fits ys refl (omega (arith, front.1.room)) in
-    record {
-      slice = grind (arith, p.slice, q.slice);
-      overlength = λ none. absurd (cc none);
-      fits = λ whole same _. let is : xs ++ ys ≡ whole = cc same in (
-        behind.0,
-        rw (← is)
-            (appends_both (slice_state old) (slice_state between) (slice_state new) xs ys front.1 behind.1),
-      );
-      buffer = λ whole same less. let is : xs ++ ys ≡ whole = cc same in
-          absurd (omega (arith, rw (← is, length-append) at less));
-    }
 
 -- bytes that have room, and then more that have room in front of them
 pub both_put : (old between new : BackWriter) (xs ys : List ℕ) (first second : Result Unit Error)
@@ -78,52 +47,6 @@ both_put old between new xs ys first second room p q =
 inside_element : (tag : ℕ) (content : Option (List ℕ)) (bytes : List ℕ) → (is : FoundContent tag content bytes)
     → within_limit content ≡ Some is.inside
 inside_element tag content bytes is = rw (is.same, le-leb (length is.inside) max_length is.at.within) refl
-
--- the header of the element with this tag and content
-abbrev pub IsHeaderOf : ℕ → Option (List ℕ) → Header → Type 0
-IsHeaderOf tag content found =
-    IsSomeAnd (within_limit content) (λ inside. found ≡ record { tag = tag; length = length inside })
-
--- a header that is written where its element has room
-pub header_written : (tag total : ℕ) (found : Header) (content : Option (List ℕ)) (old between : SliceWriter)
-    (first : Result Unit Error)
-    → IsSomeAnd (element_of tag content) (λ bytes. total ≡ length bytes) → total ≤ length (slice_state old).room
-    → IsHeaderOf tag content found
-    → Writes slice_state Appends (Some (header found.tag found.length)) old between first → IsOk first
-header_written tag total found content old between first measured room same p =
-    by (element_of tag content) refl measured
-  where
-    by : (piece : Option (List ℕ)) → element_of tag content ≡ piece → IsSomeAnd piece (λ bytes. total ≡ length bytes)
-        → IsOk first
-    by None e h = absurd h
-    by (Some bytes) e h =
-        let is = element_of-some tag content bytes e in
-        let encoded : bytes ≡ header found.tag found.length ++ is.inside =
-        rw (rw (inside_element tag content bytes is) at same) is.at.encoded in
-        (p.fits (header found.tag found.length) refl
-        (omega (arith, ap length encoded, length-append (header found.tag found.length) is.inside, h, room))).0
-
--- an element whose header and content are written
-pub element_written : (tag total : ℕ) (found : Header) (content : Option (List ℕ)) (old between new : SliceWriter)
-    (first second : Result Unit Error)
-    → IsSomeAnd (element_of tag content) (λ bytes. total ≡ length bytes) → total ≤ length (slice_state old).room
-    → IsHeaderOf tag content found
-    → Writes slice_state Appends (Some (header found.tag found.length)) old between first
-    → Writes slice_state Appends (within_limit content) between new second
-    → Writes slice_state Appends (element_of tag content) old new second
-element_written tag total found content old between new first second measured room same p q =
-    by (element_of tag content) refl measured
-  where
-    by : (piece : Option (List ℕ)) → element_of tag content ≡ piece → IsSomeAnd piece (λ bytes. total ≡ length bytes)
-        → Writes slice_state Appends piece old new second
-    by None e h = absurd h
-    by (Some bytes) e h =
-        let is = element_of-some tag content bytes e in
-        let held = inside_element tag content bytes is in
-        let encoded : bytes ≡ header found.tag found.length ++ is.inside = rw (rw held at same) is.at.encoded in
-        rw encoded (both_written old between new (header found.tag found.length) is.inside first second
-        (omega (arith, ap length encoded, length-append (header found.tag found.length) is.inside, h, room))
-        p (rw held at q))
 
 -- the errors of a writer
 pub writing_kinds : (bytes : Option (List ℕ)) (old new : BackWriter) (result : Result Unit Error)

@@ -3,8 +3,8 @@ ghost use Rattle.sec1_der.specs.Elements.{max_length, is_tag};
 
 use crate::header::element_at;
 use crate::{
-    BackWriter, EncodeValue, ErrorKind, Length, ObjectIdentifier, Result, SliceReader, SliceWriter,
-    Tag, ValueContent,
+    BackWriter, EncodeValue, ErrorKind, Length, ObjectIdentifier, Result, SliceReader, Tag,
+    ValueContent,
 };
 
 /// An element of any tag, which borrows its content without looking into it.
@@ -149,10 +149,6 @@ impl ValueContent for AnyRef<'_> {
 impl EncodeValue for AnyRef<'_> {
     fn value_len(&self) -> Result<Length> {
         Length::new(self.value.len())
-    }
-
-    fn encode_value(&self, writer: &mut SliceWriter) -> Result<()> {
-        writer.write(self.value)
     }
 
     fn encode_back(&self, writer: &mut BackWriter) -> Result<()> {

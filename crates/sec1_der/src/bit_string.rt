@@ -4,8 +4,8 @@ ghost use Rattle.sec1_der.specs.Elements.{max_length};
 
 use crate::length::check_room;
 use crate::{
-    BackWriter, DecodeValue, EncodeValue, ErrorKind, FixedTag, Length, Result, SliceReader,
-    SliceWriter, Tag, Tagged, ValueContent,
+    BackWriter, DecodeValue, EncodeValue, ErrorKind, FixedTag, Length, Result, SliceReader, Tag,
+    Tagged, ValueContent,
 };
 
 /// A BIT STRING, which borrows its bytes (X.690 section 8.6). Its content is the number of unused
@@ -138,12 +138,6 @@ impl<'a> DecodeValue<'a> for BitStringRef<'a> {
 impl EncodeValue for BitStringRef<'_> {
     fn value_len(&self) -> Result<Length> {
         Length::new(1 + self.bytes.len())
-    }
-
-    fn encode_value(&self, writer: &mut SliceWriter) -> Result<()> {
-        check_room(1 + self.bytes.len(), writer.remaining())?;
-        writer.write_byte(self.unused)?;
-        writer.write(self.bytes)
     }
 
     fn encode_back(&self, writer: &mut BackWriter) -> Result<()> {

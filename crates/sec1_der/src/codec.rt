@@ -136,7 +136,7 @@ pub fn to_der<T: EncodeValue + Tagged>(alloc: Global, value: &T) -> Result<Vec<u
 }
 
 /// Writes the value's element into a slice of its length.
-fn fill<T: EncodeValue + Tagged>(value: &T, buffer: &mut [u8]) -> Result<()>
+pub(crate) fn fill<T: EncodeValue + Tagged>(value: &T, buffer: &mut [u8]) -> Result<()>
     ensures { IsSomeAnd (element_of T.tag_byte (T.content value.now))
         (λ bytes. length buffer.old ≡ length bytes)
         → IsOk result × (element_of T.tag_byte (T.content value.now) ≡ Some buffer.new) }

@@ -8,7 +8,7 @@ ghost use Rattle.sec1_der.specs.Faults.{element_fault, end_fault, no_fault};
 
 use crate::{
     BackWriter, BitStringRef, DecodeValue, EncodeValue, ErrorKind, Length, OctetStringRef, Result,
-    SliceReader, SliceWriter, Tag, Tagged, UniqueContent, ValueContent, encoded_len,
+    SliceReader, Tag, Tagged, UniqueContent, ValueContent, encoded_len,
 };
 use std::marker::Model;
 
@@ -43,10 +43,6 @@ impl<'a, const N: u8> DecodeValue<'a> for SmallInteger<N> {
 impl<const N: u8> EncodeValue for SmallInteger<N> {
     fn value_len(&self) -> Result<Length> {
         Length::new(1)
-    }
-
-    fn encode_value(&self, writer: &mut SliceWriter) -> Result<()> {
-        writer.write_byte(N)
     }
 
     fn encode_back(&self, writer: &mut BackWriter) -> Result<()> {
@@ -97,10 +93,6 @@ impl<'a> DecodeValue<'a> for Octets<'a> {
 impl EncodeValue for Octets<'_> {
     fn value_len(&self) -> Result<Length> {
         Length::new(self.bytes.len())
-    }
-
-    fn encode_value(&self, writer: &mut SliceWriter) -> Result<()> {
-        OctetStringRef::new(self.bytes)?.encode_value(writer)
     }
 
     fn encode_back(&self, writer: &mut BackWriter) -> Result<()> {
@@ -159,10 +151,6 @@ impl EncodeValue for WholeBits<'_> {
         BitStringRef::from_bytes(self.bytes)?.value_len()
     }
 
-    fn encode_value(&self, writer: &mut SliceWriter) -> Result<()> {
-        BitStringRef::from_bytes(self.bytes)?.encode_value(writer)
-    }
-
     fn encode_back(&self, writer: &mut BackWriter) -> Result<()> {
         BitStringRef::from_bytes(self.bytes)?.encode_back(writer)
     }
@@ -210,11 +198,6 @@ impl<'a, T: DecodeValue<'a> + Tagged + Drop> DecodeValue<'a> for Containing<T> {
 impl<T: EncodeValue + Tagged> EncodeValue for Containing<T> {
     fn value_len(&self) -> Result<Length> {
         Length::new(encoded_len(&self.value)?)
-    }
-
-    fn encode_value(&self, writer: &mut SliceWriter) -> Result<()> {
-        self.value_len()?;
-        writer.element(&self.value)
     }
 
     fn encode_back(&self, writer: &mut BackWriter) -> Result<()> {

@@ -6,7 +6,7 @@ ghost use Rattle.sec1_der.specs.Faults.{element_fault, end_fault};
 
 use crate::{
     BackWriter, BitStringRef, DecodeValue, EncodeValue, ErrorKind, Length, Result, SliceReader,
-    SliceWriter, Tag, Tagged, UniqueContent, ValueContent, WholeBits, component_len,
+    Tag, Tagged, UniqueContent, ValueContent, WholeBits, component_len,
 };
 use std::marker::{Model, PhantomData};
 
@@ -66,11 +66,6 @@ impl<'a, K, A: DecodeValue<'a> + Tagged + Drop> DecodeValue<'a> for Explicit<K, 
 impl<K, A: EncodeValue + Tagged> EncodeValue for Explicit<K, A> {
     fn value_len(&self) -> Result<Length> {
         component_len(&self.value)
-    }
-
-    fn encode_value(&self, writer: &mut SliceWriter) -> Result<()> {
-        self.value_len()?;
-        writer.element(&self.value)
     }
 
     fn encode_back(&self, writer: &mut BackWriter) -> Result<()> {
@@ -136,12 +131,6 @@ impl EncodeValue for ExplicitBits<'_> {
     fn value_len(&self) -> Result<Length> {
         let bytes = self.bytes;
         component_len(&WholeBits { bytes })
-    }
-
-    fn encode_value(&self, writer: &mut SliceWriter) -> Result<()> {
-        self.value_len()?;
-        let bytes = self.bytes;
-        writer.element(&WholeBits { bytes })
     }
 
     fn encode_back(&self, writer: &mut BackWriter) -> Result<()> {

@@ -7,7 +7,7 @@ ghost use Rattle.sec1_der.specs.Identifiers.{IsIdentifier, identifier_content};
 use crate::object_identifier::is_identifier;
 use crate::{
     BackWriter, DecodeValue, EncodeValue, ErrorKind, FixedTag, Length, ObjectIdentifier, Result,
-    SliceReader, SliceWriter, Tag, Tagged, UniqueContent, ValueContent,
+    SliceReader, Tag, Tagged, UniqueContent, ValueContent,
 };
 use std::marker::Model;
 
@@ -111,11 +111,6 @@ impl EncodeValue for IdentifierRef<'_> {
     #[tactic(auto, using(crate::proofs::IdentifierLemmas::identifier_fits))]
     fn value_len(&self) -> Result<Length> {
         Length::new(self.bytes.len())
-    }
-
-    #[tactic(auto, using(crate::proofs::IdentifierLemmas::identifier_fits))]
-    fn encode_value(&self, writer: &mut SliceWriter) -> Result<()> {
-        writer.write(self.bytes)
     }
 
     #[tactic(auto, using(crate::proofs::IdentifierLemmas::identifier_fits))]

@@ -13,8 +13,8 @@ ghost use Rattle.sec1_der.specs.Stored.{IsStored, stored_again};
 mod builder;
 
 use crate::{
-    BackWriter, DecodeValue, EncodeValue, ErrorKind, FixedTag, Length, Result, SliceReader,
-    SliceWriter, Tag, Tagged, UniqueContent, ValueContent,
+    BackWriter, DecodeValue, EncodeValue, ErrorKind, FixedTag, Length, Result, SliceReader, Tag,
+    Tagged, UniqueContent, ValueContent,
 };
 use builder::{Builder, arc};
 use std::fmt;
@@ -329,11 +329,6 @@ impl EncodeValue for ObjectIdentifier {
     #[tactic(auto, using(crate::proofs::IdentifierLemmas::identifier_fits))]
     fn value_len(&self) -> Result<Length> {
         Length::new(self.as_bytes().len())
-    }
-
-    #[tactic(auto, using(crate::proofs::IdentifierLemmas::identifier_fits))]
-    fn encode_value(&self, writer: &mut SliceWriter) -> Result<()> {
-        writer.write(self.as_bytes())
     }
 
     #[tactic(auto, using(crate::proofs::IdentifierLemmas::identifier_fits))]

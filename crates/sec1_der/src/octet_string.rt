@@ -2,8 +2,8 @@ ghost use Rattle.std.specs.Prelude.{◌≤◌, length};
 ghost use Rattle.sec1_der.specs.Elements.{max_length};
 
 use crate::{
-    BackWriter, DecodeValue, EncodeValue, ErrorKind, FixedTag, Length, Result, SliceReader,
-    SliceWriter, Tag, Tagged, ValueContent,
+    BackWriter, DecodeValue, EncodeValue, ErrorKind, FixedTag, Length, Result, SliceReader, Tag,
+    Tagged, ValueContent,
 };
 
 /// An OCTET STRING, which borrows its bytes (X.690 section 8.7). Its content is its bytes.
@@ -75,10 +75,6 @@ impl<'a> DecodeValue<'a> for OctetStringRef<'a> {
 impl EncodeValue for OctetStringRef<'_> {
     fn value_len(&self) -> Result<Length> {
         Length::new(self.bytes.len())
-    }
-
-    fn encode_value(&self, writer: &mut SliceWriter) -> Result<()> {
-        writer.write(self.bytes)
     }
 
     fn encode_back(&self, writer: &mut BackWriter) -> Result<()> {

@@ -5,7 +5,7 @@ ghost use Rattle.sec1_der.specs.Faults.{end_fault};
 use crate::length::check_room;
 use crate::{
     BackWriter, DecodePart, DecodeValue, EncodePart, EncodeValue, FixedTag, Length, Part, Result,
-    Sequence, SliceReader, SliceWriter, Tag, Tagged, UniqueContent, UniquePart, ValueContent,
+    Sequence, SliceReader, Tag, Tagged, UniqueContent, UniquePart, ValueContent,
 };
 
 /// A struct that is read and written as the SEQUENCE of its parts (X.690 section 8.9).
@@ -93,10 +93,6 @@ where
 {
     fn value_len(&self) -> Result<Length> {
         self.to_parts().part_len()
-    }
-
-    fn encode_value(&self, writer: &mut SliceWriter) -> Result<()> {
-        writer.parts(&self.to_parts())
     }
 
     fn encode_back(&self, writer: &mut BackWriter) -> Result<()> {

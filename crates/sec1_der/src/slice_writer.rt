@@ -10,8 +10,8 @@ mod values;
 /// On an error nothing is written. Bytes after the written part are never changed.
 #[derive(Drop)]
 pub struct SliceWriter<'b> {
-    buffer: &'b mut [u8],
-    position: usize,
+    pub(crate) buffer: &'b mut [u8],
+    pub(crate) position: usize,
     ghost in_range: { position ≤ length buffer.now },
 }
 

@@ -1,6 +1,6 @@
 //! The traits of DER values: with them the generic calls read and write a type.
 ghost use Rattle.std.specs.Prelude.{◌≡◌, ◌≤◌, ℕ, List, length, Option, Some, None, IsSomeAnd, Bool};
-ghost use Rattle.std.specs.Prelude.{true, MatchResult, IsTrue};
+ghost use Rattle.std.specs.Prelude.{true, MatchResult, IsTrue, IsOk};
 ghost use Rattle.sec1_der.specs.BackWriters.{back_state, Prepends, Puts};
 ghost use Rattle.sec1_der.specs.Elements.{max_length, within_limit, is_tag};
 ghost use Rattle.sec1_der.specs.Encodings.{Measures};
@@ -9,6 +9,7 @@ ghost use Rattle.sec1_der.specs.Faults.{Fault};
 ghost use Rattle.sec1_der.specs.SliceWriters.{slice_state, Appends};
 ghost use Rattle.sec1_der.specs.Writers.{Writes};
 
+use crate::length::check_room;
 use crate::{BackWriter, ErrorKind, Header, Length, Result, SliceReader, SliceWriter, Tag};
 
 /// A type whose elements all have the same tag, which may be that of a type parameter.
@@ -72,9 +73,18 @@ pub trait EncodeValue: ValueContent {
     ///
     /// Those of [`value_len`](EncodeValue::value_len), then Buffer if there is no room for the
     /// content. On an error nothing is written.
+    #[tactic(auto, using(std::proofs::lemmas::Slice::overwrites))]
     fn encode_value(&self, writer: &mut SliceWriter) -> Result<()>
         ensures { Writes slice_state Appends (within_limit (Self.content self.now))
-            writer.old writer.new result };
+            writer.old writer.new result }
+    {
+        let count = self.value_len()?.get();
+        check_room(count, writer.remaining())?;
+        let end = writer.position + count;
+        self.fill_content(&mut writer.buffer[writer.position..end])?;
+        writer.position = end;
+        Ok(())
+    }
 
     /// Prepends the content to what was written.
     ///
@@ -84,6 +94,18 @@ pub trait EncodeValue: ValueContent {
     fn encode_back(&self, writer: &mut BackWriter) -> Result<()>
         ensures { Writes back_state Prepends (within_limit (Self.content self.now))
             writer.old writer.new result };
+
+    /// Writes the content into a slice of its length.
+    ///
+    /// # Errors
+    ///
+    /// None, if there is a content and the slice has its length.
+    fn fill_content(&self, buffer: &mut [u8]) -> Result<()>
+        ensures { (bytes : List ℕ) → within_limit (Self.content self.now) ≡ Some bytes
+            → length buffer.old ≡ length bytes → IsOk result × (buffer.new ≡ bytes) }
+    {
+        self.put_value(&mut BackWriter::new(buffer))
+    }
 
     /// Prepends the content to what was written, without testing the room first. On an error any
     /// bytes may have been prepended.

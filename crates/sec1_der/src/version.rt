@@ -2,8 +2,8 @@ ghost use Rattle.std.specs.Prelude.{Some, [], ◌∷◌, codes, true};
 ghost use Rattle.sec1_der.specs.Contents.{byte_fault};
 
 use crate::{
-    BackWriter, DecodeValue, EncodeValue, ErrorKind, FixedTag, Length, Result, SliceReader,
-    SliceWriter, Tag, Tagged, UniqueContent, ValueContent,
+    BackWriter, DecodeValue, EncodeValue, ErrorKind, FixedTag, Length, Result, SliceReader, Tag,
+    Tagged, UniqueContent, ValueContent,
 };
 
 /// The version of an ECPrivateKey, the INTEGER 1 (RFC 5915 section 3). Its content is the byte
@@ -41,10 +41,6 @@ impl<'a> DecodeValue<'a> for VersionOne {
 impl EncodeValue for VersionOne {
     fn value_len(&self) -> Result<Length> {
         Ok(Length::of_number(1))
-    }
-
-    fn encode_value(&self, writer: &mut SliceWriter) -> Result<()> {
-        writer.write_byte(1)
     }
 
     fn encode_back(&self, writer: &mut BackWriter) -> Result<()> {
