@@ -85,6 +85,21 @@ impl<K, A: UniqueContent + Tagged> UniqueContent for Explicit<K, A> {
     }
 }
 
+/// The tag of an OCTET STRING, as a type.
+pub struct OctetTag;
+
+impl Tagged for OctetTag {
+    ghost tag_byte = { 0x04 };
+
+    fn fixed_tag() -> Tag {
+        Tag::OCTET_STRING
+    }
+}
+
+/// An OCTET STRING whose content is the element of another value, `OCTET STRING (CONTAINING A)`
+/// (X.682 section 11).
+pub type Containing<A> = Explicit<OctetTag, A>;
+
 /// The explicit tag `[1]` around a BIT STRING without unused bits, as an ECPrivateKey has it (RFC
 /// 5915 section 3). Unused bits are refused as Value, after the end of the field has been checked.
 /// A contract sees the bytes.

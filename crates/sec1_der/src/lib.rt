@@ -40,13 +40,13 @@ pub use any::AnyRef;
 pub use back_writer::BackWriter;
 pub use bit_string::BitStringRef;
 pub use codec::{encode_to_slice, encoded_len, from_der, read_der, to_der};
-pub use component_values::{Containing, Octets, SmallInteger, WholeBits};
+pub use component_values::{Octets, SmallInteger, WholeBits};
 pub use context::{
     Context0, Context1, Context2, Context3, Primitive0, Primitive1, Primitive2, Primitive3,
 };
 pub use document::SecretDocument;
 pub use error::{Error, ErrorKind, Result};
-pub use explicit::{Explicit, ExplicitBits};
+pub use explicit::{Containing, Explicit, ExplicitBits, OctetTag};
 pub use header::Header;
 pub use identifier_ref::IdentifierRef;
 pub use length::Length;
