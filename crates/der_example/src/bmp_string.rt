@@ -5,8 +5,8 @@ ghost use Rattle.sec1.specs.Der.{element_of, IsReadingFault};
 ghost use Rattle.der_example.specs.BmpStrings.{are_characters, bmp_content, bmp_fault};
 
 use sec1::der::{
-    BackWriter, DecodeValue, EncodeValue, ErrorKind, FixedTag, Length, Result, SliceReader,
-    Tag, Tagged, ValueContent, from_der,
+    BackWriter, DecodeValue, EncodeValue, ErrorKind, FixedTag, Length, Result, SliceReader, Tag,
+    Tagged, ValueContent, from_der,
 };
 
 /// A BMPString (X.690 section 8.23.9): two bytes for each character. Bytes of an odd number have no

@@ -3,8 +3,8 @@ ghost use Rattle.std.specs.Prelude.{◌≡◌, ◌==◌, [], Some, length, true}
 ghost use Rattle.sec1.specs.Der.{value_unless};
 
 use sec1::der::{
-    BackWriter, DecodeValue, EncodeValue, ErrorKind, FixedTag, Length, Result, SliceReader,
-    Tag, Tagged, ValueContent,
+    BackWriter, DecodeValue, EncodeValue, ErrorKind, FixedTag, Length, Result, SliceReader, Tag,
+    Tagged, ValueContent,
 };
 
 /// A NULL (X.690 section 8.8). Its content is empty, and any other content is refused as Value.

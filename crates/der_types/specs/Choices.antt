@@ -1,8 +1,7 @@
 -- X.680 section 29 and X.690 section 8.13: a CHOICE has the bytes of the alternative that was
 -- chosen.
 use Rattle.std.specs.Prelude.{◌++◌, ◌∷◌, [], ◌||◌, ◌&&◌, not, ℕ, List, Bool, true, false, Option}
-use Rattle.std.specs.Prelude.{Some, None, codes, if◌then◌else◌}
-use Rattle.std.specs.Fmt.{debug_variant}
+use Rattle.std.specs.Prelude.{Some, None, if◌then◌else◌}
 use Rattle.std.specs.List.{list_all}
 use Rattle.sec1_der.specs.Parts.{Tags, is_among}
 use Rattle.sec1_der.specs.Faults.{Fault}

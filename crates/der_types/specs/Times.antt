@@ -2,9 +2,8 @@
 use Rattle.std.specs.Prelude.{◌≡◌, ◌==◌, ◌<◌, ◌⊎◌, ℕ, ◌+◌, ◌-◌, ◌*◌, ◌/◌, ◌%◌, nat_lt, nat_le}
 use Rattle.std.specs.Prelude.{Bool, not, ◌&&◌}
 use Rattle.std.specs.Prelude.{◌||◌, if◌then◌else◌, List, [], ◌∷◌, ◌++◌, length, take, drop}
-use Rattle.std.specs.Prelude.{slice_index, slice_range, codes, Option, Some}
+use Rattle.std.specs.Prelude.{slice_index, slice_range, codes}
 use Rattle.std.specs.Char.{is_ascii_digit}
-use Rattle.std.specs.Fmt.{◌++?◌, decimal}
 use Rattle.std.specs.List.{list_all}
 use Rattle.der_types.specs.declared.time.DateTime.{DateTime}
 

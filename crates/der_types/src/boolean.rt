@@ -5,8 +5,8 @@ ghost use Rattle.der_types.specs.Booleans.{boolean_content, is_boolean};
 
 use crate::HasDefault;
 use sec1_der::{
-    BackWriter, DecodeValue, EncodeValue, ErrorKind, Length, Result, SliceReader, Tag,
-    Tagged, UniqueContent, ValueContent,
+    BackWriter, DecodeValue, EncodeValue, ErrorKind, Length, Result, SliceReader, Tag, Tagged,
+    UniqueContent, ValueContent,
 };
 use std::marker::Model;
 

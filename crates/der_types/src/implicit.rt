@@ -2,8 +2,8 @@
 ghost use Rattle.std.specs.Prelude.{◌≡◌};
 
 use sec1_der::{
-    BackWriter, DecodeValue, EncodeValue, Length, Result, SliceReader, Tag, Tagged,
-    UniqueContent, ValueContent,
+    BackWriter, DecodeValue, EncodeValue, Length, Result, SliceReader, Tag, Tagged, UniqueContent,
+    ValueContent,
 };
 use std::marker::{Model, PhantomData};
 

@@ -6,8 +6,8 @@ ghost use Rattle.sec1_der.specs.Faults.{HasFault};
 
 use crate::kind::{self, Kind};
 use sec1_der::{
-    BackWriter, DecodeValue, EncodeValue, ErrorKind, Length, Result, SliceReader, Tag,
-    Tagged, UniqueContent, ValueContent,
+    BackWriter, DecodeValue, EncodeValue, ErrorKind, Length, Result, SliceReader, Tag, Tagged,
+    UniqueContent, ValueContent,
 };
 use std::marker::{Model, PhantomData};
 

@@ -8,8 +8,8 @@ ghost use Rattle.sec1_der.specs.Faults.{TellsFault};
 ghost use Rattle.der_types.specs.Rows.{joined, row_fault, row_of};
 
 use sec1_der::{
-    BackWriter, DecodeValue, EncodeValue, ErrorKind, Length, Result, SliceReader, Tag,
-    Tagged, UniqueContent, ValueContent,
+    BackWriter, DecodeValue, EncodeValue, ErrorKind, Length, Result, SliceReader, Tag, Tagged,
+    UniqueContent, ValueContent,
 };
 use std::marker::{Model, PhantomData};
 

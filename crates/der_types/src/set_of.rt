@@ -8,8 +8,8 @@ ghost use Rattle.der_types.specs.Sets.{is_ascending, set_fault, set_of};
 use crate::lend::read_since;
 use crate::{Elements, check_elements};
 use sec1_der::{
-    AnyRef, BackWriter, DecodeValue, EncodeValue, ErrorKind, Length, Result, SliceReader,
-    Tag, Tagged, UniqueContent, ValueContent,
+    AnyRef, BackWriter, DecodeValue, EncodeValue, ErrorKind, Length, Result, SliceReader, Tag,
+    Tagged, UniqueContent, ValueContent,
 };
 use std::marker::{Model, PhantomData};
 

@@ -18,11 +18,7 @@ ghost use Rattle.der_types.specs.Times.{
   is_generalized_time,
   utc_date_time,
   generalized_date_time,
-  date_time_text,
-  date_text,
-  clock_text,
 };
-
 
 /// A date of the Gregorian calendar and a time of day, to the second.
 #[derive(Clone, Copy, Debug, PartialEq, Eq, PartialOrd, Ord)]

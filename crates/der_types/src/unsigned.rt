@@ -10,8 +10,8 @@ ghost use Rattle.der_types.specs.Leaves.{new_fault};
 
 use crate::integer::is_unsigned;
 use sec1_der::{
-    BackWriter, DecodeValue, EncodeValue, ErrorKind, Length, Result, SliceReader, Tag,
-    Tagged, UniqueContent, ValueContent,
+    BackWriter, DecodeValue, EncodeValue, ErrorKind, Length, Result, SliceReader, Tag, Tagged,
+    UniqueContent, ValueContent,
 };
 use std::marker::Model;
 

@@ -1,5 +1,5 @@
 -- RFC 5280 section 4.1.2.1: the versions of certificates.
-use Rattle.std.specs.Prelude.{◌||◌, ℕ, List, [], ◌∷◌, Bool, codes}
+use Rattle.std.specs.Prelude.{◌||◌, ℕ, List, [], ◌∷◌, Bool}
 use Rattle.std.specs.Str.{bytes_eq}
 use Rattle.pkix.specs.declared.version.LaterVersion.{LaterVersion}
 use Rattle.pkix.specs.declared.version.LaterVersion.TheVariants.{V2, V3}

@@ -1,11 +1,11 @@
 //! Versions of certificates.
 ghost use Rattle.std.specs.Prelude.{◌≡◌, [], ◌∷◌, true, Some};
 ghost use Rattle.sec1_der.specs.Contents.{value_unless};
-ghost use Rattle.pkix.specs.Versions.{is_later_version, later_version_content, later_version_text};
+ghost use Rattle.pkix.specs.Versions.{is_later_version, later_version_content};
 
 use sec1_der::{
-    BackWriter, DecodeValue, EncodeValue, ErrorKind, Length, Result, SliceReader, Tag,
-    Tagged, UniqueContent, ValueContent,
+    BackWriter, DecodeValue, EncodeValue, ErrorKind, Length, Result, SliceReader, Tag, Tagged,
+    UniqueContent, ValueContent,
 };
 
 /// The version of a certificate that isn't v1: an INTEGER that is 1 or 2 (RFC 5280 section
