@@ -3,7 +3,7 @@ ghost use Rattle.std.specs.Prelude.{◌≡◌, ◌≢◌, ◌↔◌, IsTrue, IsO
 ghost use Rattle.sec1_der.specs.Values.{octets_of, unused_bits_of, bit_bytes_of, tag_of, value_of};
 
 use sec1_der::{
-    AnyRef, BitStringRef, Containing, Error, ErrorKind, Header, ID_EC_PUBLIC_KEY, IoFault, Length,
+    AnyRef, BitStringRef, Error, ErrorKind, Header, ID_EC_PUBLIC_KEY, IoFault, Length,
     ObjectIdentifier, OctetStringRef, Optional, Required, SmallInteger, Tag, VersionOne,
 };
 use std::alloc::AllocError;
@@ -259,13 +259,6 @@ pub fn same_optional(a: &Optional<ObjectIdentifier>, b: &Optional<ObjectIdentifi
     a == b
 }
 
-/// Two octet strings around an element are equal exactly where what they hold is.
-pub fn same_containing(a: &Containing<ObjectIdentifier>, b: &Containing<ObjectIdentifier>) -> bool
-    ensures { IsTrue result ↔ (a.now.value ≡ b.now.value) }
-{
-    a == b
-}
-
 /// All numbers of one type are equal.
 pub fn same_small_integer(a: &SmallInteger<1>, b: &SmallInteger<1>) -> bool
     ensures { IsTrue result }
@@ -301,13 +294,6 @@ pub fn other_optional(a: &Optional<ObjectIdentifier>, b: &Optional<ObjectIdentif
     a != b
 }
 
-/// Two octet strings around an element differ exactly where what they hold does.
-pub fn other_containing(a: &Containing<ObjectIdentifier>, b: &Containing<ObjectIdentifier>) -> bool
-    ensures { IsTrue result ↔ (a.now.value ≢ b.now.value) }
-{
-    a != b
-}
-
 /// No two numbers of one type differ.
 pub fn other_small_integer(a: &SmallInteger<1>, b: &SmallInteger<1>) -> bool
     ensures { ¬ IsTrue result }
@@ -331,15 +317,6 @@ pub fn cloned_required(value: &Required<ObjectIdentifier>) -> Cloned<Required<Ob
 
 /// The clone of an optional component is the same, and never fails.
 pub fn cloned_optional(value: &Optional<ObjectIdentifier>) -> Cloned<Optional<ObjectIdentifier>>
-    ensures { IsOkAnd result (λ cloned. cloned ≡ value.now) }
-{
-    value.clone()
-}
-
-/// The clone of an octet string around an element is the same, and never fails.
-pub fn cloned_containing(
-    value: &Containing<ObjectIdentifier>,
-) -> Cloned<Containing<ObjectIdentifier>>
     ensures { IsOkAnd result (λ cloned. cloned ≡ value.now) }
 {
     value.clone()
