@@ -1,15 +1,14 @@
 -- X.690 section 8.9: the parts of a SEQUENCE, the tags that they begin with, and those that mustn't
 -- follow them.
 use Rattle.std.specs.Prelude.{◌≡◌, ◌++◌, ◌∷◌, [], ◌&&◌, ◌==◌, not, ℕ, List, Bool, true, false}
-use Rattle.std.specs.Prelude.{Option, Some, None, if◌then◌else◌, ⊤, Result, IfOk, IfErr, OnOk}
-use Rattle.std.specs.Prelude.{OnErr, IsOkAnd, IsSomeAnd}
+use Rattle.std.specs.Prelude.{Option, Some, None, if◌then◌else◌, ⊤, Result}
+use Rattle.std.specs.Prelude.{IsOkAnd, IsSomeAnd, MatchResult}
 use Rattle.std.specs.List.{list_all, list_any}
 use Rattle.sec1_der.specs.Elements.{element_of}
-use Rattle.sec1_der.specs.ErrorKinds.{Refuses, IsReadingFault}
+use Rattle.sec1_der.specs.ErrorKinds.{IsReadingFault}
 use Rattle.sec1_der.specs.Faults.{Fault, IsFaultOf}
 use Rattle.sec1_der.specs.Readers.{Reader, reader_over, HasRead}
 use Rattle.sec1_der.specs.declared.error.Error.{Error}
-use Rattle.sec1_der.specs.declared.error.ErrorKind.TheVariants.{Failed}
 
 -- X.690 sections 8.9.2 and 8.9.3: the bytes of one part and those of the parts after it, if all of
 -- them have an encoding. An absent OPTIONAL component has no bytes, []; one without an encoding is
@@ -71,28 +70,21 @@ AreApart {A} tags bytes = (a b : A) (x y r s : List ℕ) → tags.apart ≡ true
     → bytes b ≡ Some y
     → MayFollow tags r → MayFollow tags s → x ++ r ≡ y ++ s → (a ≡ b) × (r ≡ s)
 
--- A part is read, and the bytes after it are left. `bytes` gives those of a part, `tags` what is
--- known of it by its type, and `fault_then` the rule of a part and what follows it; `says_kind` is
--- whether errors are of the kinds that it gives.
+-- A part is read by a reader that hasn't failed, and the bytes after it are left. `bytes` gives those
+-- of a part, `tags` what is known of it by its type, and `fault_then` the rule of a part and what
+-- follows it; `says_kind` is whether errors are of the kinds that it gives.
 pub record ReadsPart {P : Type 0} (bytes : P → Option (List ℕ)) (says_kind : Bool)
     (fault_then : Fault → Fault) (tags : Tags) (result : Result P Error)
     (old new : Reader) : Type 0 where
-  -- what is read is the part, and just its bytes are read
-  pub found : IfOk result (λ part. IsSomeAnd (bytes part) (λ whole. HasRead whole old new))
+  -- Just the bytes of the part are read, and then the fault is that of what follows. Otherwise the
+  -- kind is a function of the remaining input, and the reader has failed.
+  pub exact : MatchResult result
+      (λ part. IsSomeAnd (bytes part) (λ whole. HasRead whole old new)
+      × ((behind : Fault) → fault_then behind old.unread ≡ behind new.unread))
+      (λ e. (new.failed ≡ true) × IsReadingFault e.kind
+      × ((behind : Fault) → IsFaultOf says_kind (fault_then behind old.unread) e.kind))
   -- if the remaining input begins with a part, and what follows can't be confused with it, that
   -- part is read
   pub only : (part : P) (whole rest : List ℕ) → tags.apart ≡ true → bytes part ≡ Some whole
       → MayFollow tags rest → old ≡ reader_over (whole ++ rest)
       → IsOkAnd result (λ found. bytes found ≡ Some whole) × (new ≡ reader_over rest)
-  pub kinds : old.failed ≡ false → IfErr result (λ e. IsReadingFault e.kind)
-  -- the kind is a function of the remaining input; after a part that is read it is that of what
-  -- follows
-  pub passes : old.failed ≡ false
-      → OnOk result ((behind : Fault) → fault_then behind old.unread ≡ behind new.unread)
-  pub refuses : old.failed ≡ false
-      → IfErr result
-      (λ e. (behind : Fault) → IsFaultOf says_kind (fault_then behind old.unread) e.kind)
-  -- a reader that had failed stays as it was
-  pub failed : old.failed ≡ true → Refuses result Failed × (new ≡ old)
-  -- the reader has failed after an error
-  pub refused : OnErr result (new.failed ≡ true)

@@ -57,7 +57,7 @@ impl<A: EncodeValue + Tagged> EncodePart for Optional<A> {
 impl<'a, A: DecodeValue<'a> + Tagged + Drop> DecodePart<'a> for Optional<A> {
     #[tactic(auto, using(crate::proofs::PartLemmas::one_element))]
     fn decode_part(reader: &mut SliceReader<'a>) -> Result<Self> {
-        if !reader.is_failed() && reader.peek_tag_byte() != Some(A::fixed_tag().byte()) {
+        if reader.peek_tag_byte() != Some(A::fixed_tag().byte()) {
             return Ok(Optional(None));
         }
         match reader.decode::<A>() {

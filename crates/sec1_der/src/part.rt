@@ -1,5 +1,5 @@
 //! The parts of a SEQUENCE (X.690 section 8.9), and two parts in a row.
-ghost use Rattle.std.specs.Prelude.{◌≡◌, ◌≤◌, ◌&&◌, ℕ, List, length, Option, Some, Bool, true};
+ghost use Rattle.std.specs.Prelude.{◌≡◌, ◌≤◌, ◌&&◌, ℕ, List, length, Option, Some, Bool, true, false};
 ghost use Rattle.sec1_der.specs.BackWriters.{Puts};
 ghost use Rattle.sec1_der.specs.Elements.{max_length, within_limit};
 ghost use Rattle.sec1_der.specs.Encodings.{Measures};
@@ -51,14 +51,14 @@ pub trait EncodePart: Part {
 
 /// A part that is read.
 pub trait DecodePart<'a>: Part + Sized {
-    /// Reads a part, and leaves the bytes after it.
+    /// Reads a part, and leaves the bytes after it. Requires that the reader hasn't failed.
     ///
     /// # Errors
     ///
     /// Truncated, Tag, Length, TrailingData or Value if the remaining input doesn't begin with a
-    /// part; Failed if the reader failed before. On an error the reader has failed.
+    /// part. On an error the reader has failed.
     fn decode_part(reader: &mut SliceReader<'a>) -> Result<Self>
-        requires { length reader.old.unread ≤ max_length }
+        requires { (reader.old.failed ≡ false) × (length reader.old.unread ≤ max_length) }
         ensures { ReadsPart Self.bytes Self.says_kind Self.fault_then Self.tags result reader.old
             reader.new };
 }

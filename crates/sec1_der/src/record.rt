@@ -81,6 +81,7 @@ where
     T::Parts: DecodePart<'a> + Drop,
 {
     fn decode_value(reader: &mut SliceReader<'a>) -> Result<Self> {
+        reader.check()?;
         let parts = T::Parts::decode_part(reader)?;
         reader.finish()?;
         Ok(T::from_parts(parts))

@@ -1,7 +1,6 @@
 //! A component that is always present; and the calls that [`Required`] makes, for a type that is a
 //! part by itself.
-ghost use Rattle.std.specs.Fmt.{debug_variant};
-ghost use Rattle.std.specs.Prelude.{codes, ◌≤◌, length, Ok};
+ghost use Rattle.std.specs.Prelude.{◌≡◌, ◌≤◌, length, Ok, false};
 ghost use Rattle.sec1_der.specs.Elements.{element_of, max_length, within_limit};
 ghost use Rattle.sec1_der.specs.Encodings.{Measures};
 ghost use Rattle.sec1_der.specs.Parts.{ReadsPart, one_tag};
@@ -75,7 +74,8 @@ pub fn component_len<A: EncodeValue + Tagged>(value: &A) -> Result<Length>
     Length::new(encoded_len(value)?)
 }
 
-/// Reads the element of a value, and leaves the bytes after it.
+/// Reads the element of a value, and leaves the bytes after it. Requires that the reader hasn't
+/// failed.
 ///
 /// # Errors
 ///
@@ -83,7 +83,7 @@ pub fn component_len<A: EncodeValue + Tagged>(value: &A) -> Result<Length>
 pub fn decode_component<'a, A: DecodeValue<'a> + Tagged + Drop>(
     reader: &mut SliceReader<'a>,
 ) -> Result<A>
-    requires { length reader.old.unread ≤ max_length }
+    requires { (reader.old.failed ≡ false) × (length reader.old.unread ≤ max_length) }
     ensures { ReadsPart (λ value. element_of A.tag_byte (A.content value)) A.says_kind
         (element_fault A.tag_byte A.fault) (one_tag A.tag_byte) result reader.old reader.new }
 {

@@ -8,7 +8,7 @@ use Rattle.sec1_der.proofs.part.Tuple2DecodePart.decode_part.Goals as goal
 
 pub returns-in_err-first : goal.returns-in_err-first
 returns-in_err-first g c = record {
-  found = grind (arith, common_steps);
+  exact = search rules;
   only = λ part whole rest apart same next is.
       let all = parted _ _ whole same in
       let tags = and_parts _ _ apart in
@@ -17,16 +17,11 @@ returns-in_err-first g c = record {
       (g.Q.Part.begins part.1 all.back all.second_there) next in
       absurd (c.in_err-first.ensures.only part.0 all.front (all.back ++ rest) tags.0 all.first_there behind
       (rw (all.joined, append_assoc) at is)).0;
-  kinds = search rules;
-  passes = search rules;
-  refuses = search rules;
-  failed = search rules;
-  refused = search rules;
 }
 
 pub returns-in_err-second : goal.returns-in_err-second
 returns-in_err-second g c = record {
-  found = grind (arith, common_steps);
+  exact = search rules;
   only = λ part whole rest apart same next is.
       let all = parted _ _ whole same in
       let tags = and_parts _ _ apart in
@@ -37,16 +32,11 @@ returns-in_err-second g c = record {
       (rw (all.joined, append_assoc) at is) in
       absurd (c.in_err-second.ensures.only part.1 all.back rest more.0 all.second_there
       (next_second g.P.Part.tags g.Q.Part.tags rest next) first.1).0;
-  kinds = search rules;
-  passes = search rules;
-  refuses = search rules;
-  failed = search rules;
-  refused = search rules;
 }
 
 pub returns : goal.returns
 returns g c = record {
-  found = grind (arith, common_steps, joined);
+  exact = (grind (arith, common_steps, joined), search rules);
   only = λ part whole rest apart same next is.
       let all = parted _ _ whole same in
       let tags = and_parts _ _ apart in
@@ -58,9 +48,4 @@ returns g c = record {
       let second = c.in_ok-second.ensures.only part.1 all.back rest more.0 all.second_there
       (next_second g.P.Part.tags g.Q.Part.tags rest next) first.1 in
       (rw all.joined (joined _ _ all.front all.back first.0 second.0), second.1);
-  kinds = search rules;
-  passes = search rules;
-  refuses = search rules;
-  failed = search rules;
-  refused = tt;
 }
