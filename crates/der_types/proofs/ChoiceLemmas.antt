@@ -109,9 +109,9 @@ pub record IsNext {P : Type 0} (tags : Tags) (bytes : P → Option (List ℕ)) (
   pub same : bytes part ≡ Some whole
   pub may : MayFollow tags rest
 
--- what a reader that hasn't failed found to be next
+-- what a reader found to be next
 pub next_found : (tags : Tags) (old : Reader) (bytes : List ℕ) (absent found : Bool)
-    → absent ≡ (if old.failed then false else not (begins_among tags.firsts old.unread)) → absent ≡ found
+    → absent ≡ not (begins_among tags.firsts old.unread) → absent ≡ found
     → old ≡ reader_over bytes
     → begins_among tags.firsts bytes ≡ not found
 next_found tags old bytes absent found e same is = flip (begins_among tags.firsts bytes) found (sym same ∙ rw is at e)

@@ -1,5 +1,5 @@
 //! CHOICE (X.690 section 8.13): a part that is one of several.
-ghost use Rattle.std.specs.Prelude.{◌≡◌, ◌&&◌, not, false, refl, if◌then◌else◌};
+ghost use Rattle.std.specs.Prelude.{◌≡◌, ◌&&◌, not, false, refl};
 ghost use Rattle.sec1_der.specs.Parts.{is_among};
 ghost use Rattle.der_types.specs.Choices.{begins_among, choice_of, choice_tags, choice_fault};
 ghost use Rattle.der_types.specs.ChoiceLaws.{choice_begins, choice_not_empty};
@@ -27,15 +27,15 @@ impl<A: ValueContent + Tagged> Alternative for Required<A> {
     ghost never_empty = { refl };
 }
 
-/// Returns `true` if the next byte isn't one that `P` may begin with, or if no input remains. A
-/// reader that has failed gives `false`.
+/// Returns `true` if the next byte isn't one that `P` may begin with, or if no input remains.
+/// Requires that the reader hasn't failed.
 pub(crate) fn is_absent<P: Alternative>(reader: &SliceReader) -> bool
-    ensures { result ≡ (if reader.now.failed then false
-        else not (begins_among P.tags.firsts reader.now.unread)) }
+    requires { reader.now.failed ≡ false }
+    ensures { result ≡ not (begins_among P.tags.firsts reader.now.unread) }
 {
     match reader.peek_tag_byte() {
         Some(byte) => !P::may_begin(byte),
-        None => !reader.is_failed(),
+        None => true,
     }
 }
 

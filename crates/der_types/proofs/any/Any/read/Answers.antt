@@ -16,16 +16,11 @@ invariant_of-result c =
 
 pub returns-in-Err : goal.returns-in-Err
 returns-in-Err c = record {
-  found = tt;
+  exact = (search rules, search rules, λ behind. any_refused behind _ _ (c.in-Err.ensures.refused.kind c.requires));
   only = λ part whole rest apart same may is.
       let element = (any_some part whole same).1 in
       absurd (c.in-Err.ensures.only element.tag element.content rest element.is_header
       (rw element.encoded at is)).0;
-  kinds = search rules;
-  passes = λ _. tt;
-  refuses = λ fresh behind. any_refused behind _ _ (c.in-Err.ensures.refused.kind fresh);
-  failed = search rules;
-  refused = search rules;
 }
 
 pub returns-in-Ok : goal.returns-in-Ok
@@ -33,15 +28,10 @@ returns-in-Ok c =
     let found = c.in-Ok.ensures.found in
     let element = element_from c.in-Ok.inside _ found.0 refl in
     record {
-      found = search (rules, any_there);
+      exact = (search (rules, any_there), any_passes _ _ _ element found.1);
       only = λ part whole rest apart same may is.
           let element = (any_some part whole same).1 in
           let read = c.in-Ok.ensures.only element.tag element.content rest element.is_header
           (rw element.encoded at is) in
           search (rules, any_there, element, read);
-      kinds = λ _. tt;
-      passes = λ fresh. any_passes _ _ _ element found.1;
-      refuses = λ _. tt;
-      failed = search rules;
-      refused = tt;
     }

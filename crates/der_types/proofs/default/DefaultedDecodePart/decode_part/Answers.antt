@@ -4,20 +4,15 @@ use Rattle.der_types.proofs.default.DefaultedDecodePart.decode_part.Goals as goa
 
 pub returns-in_err-part : goal.returns-in_err-part
 returns-in_err-part g c = record {
-  found = search rules;
+  exact = search rules;
   only = λ part whole rest apart same may is.
       let there = as_optional g.A.Tagged.tag_byte g.A.HasDefault.default_content g.A.ValueContent.content part ∙ same in
       absurd (c.in_err-part.ensures.only _ whole rest refl there may is).0;
-  kinds = search rules;
-  passes = search rules;
-  refuses = search rules;
-  failed = search rules;
-  refused = search rules;
 }
 
 pub returns-in-Some : goal.returns-in-Some
 returns-in-Some g c = record {
-  found = search rules;
+  exact = search rules;
   only = λ part whole rest apart same may is.
       let there = as_optional g.A.Tagged.tag_byte g.A.HasDefault.default_content g.A.ValueContent.content part ∙ same in
       let read = c.in_ok-part.ensures.only _ whole rest refl there may is in
@@ -26,16 +21,11 @@ returns-in-Some g c = record {
             (rw (← (c.value.view_is ∙ c.in-Some.value-is)) at found),
         read.1,
       );
-  kinds = search rules;
-  passes = search rules;
-  refuses = search rules;
-  failed = search rules;
-  refused = search rules;
 }
 
 pub returns-in-None : goal.returns-in-None
 returns-in-None g c = record {
-  found = search rules;
+  exact = search rules;
   only = λ part whole rest apart same may is.
       let there = as_optional g.A.Tagged.tag_byte g.A.HasDefault.default_content g.A.ValueContent.content part ∙ same in
       let read = c.in_ok-part.ensures.only _ whole rest refl there may is in
@@ -44,9 +34,4 @@ returns-in-None g c = record {
             c.default_value.result g.met.A.HasDefault.has_content c.default_value.ensures ∙ found,
         read.1,
       );
-  kinds = search rules;
-  passes = search rules;
-  refuses = search rules;
-  failed = search rules;
-  refused = search rules;
 }
