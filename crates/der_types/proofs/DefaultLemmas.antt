@@ -1,11 +1,11 @@
 -- Components with a default value.
-use Rattle.std.proofs.Common.{◌≡◌, [], ℕ, List, Bool, true, false, Option, Some, None, Ok}
+use Rattle.std.proofs.Common.{◌≡◌, [], ℕ, List, Bool, true, false, Option, Some, None}
 use Rattle.std.proofs.Common.{if◌then◌else◌, refl, sym, ◌∙◌}
 use Rattle.std.proofs.Common.{arith, append-nil}
 use Rattle.std.proofs.Math.Seq.{take-append_seam}
 use Rattle.std.proofs.lemmas.Slice.Eq.{bytes_eq-Decides}
 use Rattle.std.specs.Option.{option_map}
-use Rattle.sec1_der.specs.BackWriters.{Prepends, Puts, back_state}
+use Rattle.sec1_der.specs.BackWriters.{Puts, back_state}
 use Rattle.sec1_der.specs.Elements.{element_of}
 use Rattle.sec1_der.specs.declared.back_writer.BackWriter.{BackWriter}
 use Rattle.sec1_der.specs.Parts.{AreApart, optional_tag, optional_of}
@@ -74,19 +74,12 @@ defaulted_apart tag d content one two a b x y r s apart e f before behind same =
     by false false e f same = cc (same)
 
 -- a writer that wrote nothing
-pub puts_nothing : (writer : BackWriter) → Puts (Some []) (Some []) writer writer (Ok tt)
-puts_nothing writer =
-    record {
-      slice = refl;
-      grows = omega arith;
-      fits = λ whole same room. let none : [] ≡ whole = cc same in (refl, rw (← none) nothing);
-      only = nothing;
-      kinds = tt;
-    }
-  where
-    nothing : Prepends (back_state writer) (back_state writer) []
-    nothing = record {
-      written = refl;
-      room = omega arith;
-      unchanged = sym (rw append-nil at (take-append_seam (back_state writer).room []));
-    }
+pub puts_nothing : (writer : BackWriter) → Puts (Some []) writer writer
+puts_nothing writer = record {
+  slice = refl;
+  prepends = record {
+    written = refl;
+    room = omega arith;
+    unchanged = sym (rw append-nil at (take-append_seam (back_state writer).room []));
+  };
+}

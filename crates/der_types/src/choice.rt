@@ -79,7 +79,7 @@ impl<P: EncodePart, Q: EncodePart> EncodePart for Choice<P, Q> {
         }
     }
 
-    fn put_part(&self, writer: &mut BackWriter) -> Result<()> {
+    fn put_part(&self, writer: &mut BackWriter) {
         match self {
             Choice::First(part) => part.put_part(writer),
             Choice::Second(part) => part.put_part(writer),

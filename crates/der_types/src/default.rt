@@ -69,12 +69,11 @@ impl<A: HasDefault + EncodeValue + Tagged> EncodePart for Defaulted<A> {
         Length::new(encoded_len(&self.0)?)
     }
 
-    fn put_part(&self, writer: &mut BackWriter) -> Result<()> {
+    fn put_part(&self, writer: &mut BackWriter) {
         A::one();
-        if self.0.is_default() {
-            return Ok(());
+        if !self.0.is_default() {
+            writer.put_element(&self.0);
         }
-        writer.put_element(&self.0)
     }
 }
 

@@ -69,8 +69,8 @@ impl<K, A: EncodeValue> EncodeValue for Implicit<K, A> {
         self.value.encode_back(writer)
     }
 
-    fn put_value(&self, writer: &mut BackWriter) -> Result<()> {
-        self.value.put_value(writer)
+    fn put_value(&self, writer: &mut BackWriter) {
+        self.value.put_value(writer);
     }
 }
 

@@ -42,10 +42,9 @@ impl<P: EncodePart + Alternative> EncodePart for OptionalPart<P> {
         }
     }
 
-    fn put_part(&self, writer: &mut BackWriter) -> Result<()> {
-        match &self.0 {
-            Some(part) => part.put_part(writer),
-            None => Ok(()),
+    fn put_part(&self, writer: &mut BackWriter) {
+        if let Some(part) = &self.0 {
+            part.put_part(writer);
         }
     }
 }

@@ -1,10 +1,8 @@
 -- The state of a writer that fills a slice from its end, and how it adds bytes.
-use Rattle.std.specs.Prelude.{◌≡◌, ◌⊎◌, ℕ, ◌+◌, ◌≤◌, List, ◌++◌, length, take, drop}
-use Rattle.std.specs.Prelude.{Option, Some, Result, IsOk, IfErr, OnOk, IsSomeAnd}
+use Rattle.std.specs.Prelude.{◌≡◌, ℕ, ◌+◌, ◌≤◌, List, ◌++◌, length, take, drop}
+use Rattle.std.specs.Prelude.{Option, IsSomeAnd}
 use Rattle.sec1_der.specs.Writers.{Writer}
 use Rattle.sec1_der.specs.declared.back_writer.BackWriter.{BackWriter}
-use Rattle.sec1_der.specs.declared.error.Error.{Error}
-use Rattle.sec1_der.specs.declared.error.ErrorKind.TheVariants.{Overlength, Buffer}
 
 -- the state of the writer: the bytes that weren't written are in front of those that were
 abbrev pub back_state : BackWriter → Writer
@@ -20,15 +18,11 @@ pub record Prepends (old new : Writer) (bytes : List ℕ) : Type 0 where
   pub room : length old.room ≡ length new.room + length bytes
   pub unchanged : new.room ≡ take (length new.room) old.room
 
--- The bytes were prepended, and the call fails only by Overlength or Buffer: `fitting` are bytes
--- for which it doesn't fail if they have room, and `whole` those that were prepended if it doesn't.
--- On an error any bytes may have been prepended.
-pub record Puts (fitting whole : Option (List ℕ)) (old new : BackWriter)
-    (result : Result (Unit {0}) Error) : Type 0 where
+-- the bytes are there, and there is room for them
+abbrev pub HasRoom : Option (List ℕ) → BackWriter → Type 0
+HasRoom bytes writer = IsSomeAnd bytes (λ whole. length whole ≤ length (back_state writer).room)
+
+-- the bytes were prepended
+pub record Puts (bytes : Option (List ℕ)) (old new : BackWriter) : Type 0 where
   pub slice : (back_state new).slice ≡ (back_state old).slice
-  pub grows : length (back_state old).written ≤ length (back_state new).written
-  pub fits : (bytes : List ℕ) → fitting ≡ Some bytes
-      → length bytes ≤ length (back_state old).room
-      → IsOk result × Prepends (back_state old) (back_state new) bytes
-  pub only : OnOk result (IsSomeAnd whole (Prepends (back_state old) (back_state new)))
-  pub kinds : IfErr result (λ e. (e.kind ≡ Overlength) ⊎ (e.kind ≡ Buffer))
+  pub prepends : IsSomeAnd bytes (Prepends (back_state old) (back_state new))

@@ -9,8 +9,7 @@ mod values;
 /// A writer that fills a slice from its end, so that a content is written before its header.
 ///
 /// On an error nothing is written. The bytes of the slice in front of what was written are never
-/// changed. [`put_element`](BackWriter::put_element) promises neither if there isn't enough room:
-/// its caller tests that.
+/// changed.
 #[derive(Drop)]
 pub struct BackWriter<'b> {
     buffer: &'b mut [u8],
@@ -20,7 +19,7 @@ pub struct BackWriter<'b> {
 
 impl<'b> BackWriter<'b> {
     ghost use Rattle.std.specs.Prelude.{◌≡◌, ◌-◌, [], Some, None, nat_le, if◌then◌else◌};
-    ghost use Rattle.sec1_der.specs.BackWriters.{back_state, Prepends};
+    ghost use Rattle.sec1_der.specs.BackWriters.{back_state, Prepends, Puts};
     ghost use Rattle.sec1_der.specs.Writers.{Writes};
     ghost use Rattle.sec1_der.specs.Elements.{max_length, header};
 
@@ -59,10 +58,18 @@ impl<'b> BackWriter<'b> {
         ensures { Writes back_state Prepends (Some bytes.now) self.old self.new result }
     {
         check_room(bytes.len(), self.start)?;
+        self.put(bytes);
+        Ok(())
+    }
+
+    /// Prepends bytes, for which there is room.
+    pub fn put(&mut self, bytes: &[u8])
+        requires { length bytes.now ≤ length (back_state self.old).room }
+        ensures { Puts (Some bytes.now) self.old self.new }
+    {
         let start = self.start - bytes.len();
         self.buffer[start..self.start].copy_from_slice(bytes);
         self.start = start;
-        Ok(())
     }
 
     /// Prepends a header for everything written since [`written`](BackWriter::written) returned
@@ -72,7 +79,6 @@ impl<'b> BackWriter<'b> {
     ///
     /// Overlength if that is more than 268,435,455 bytes; then Buffer if there is no room for the
     /// header.
-    #[tactic(auto, using(crate::proofs::LengthLaws::len_1))]
     pub fn header(&mut self, tag: Tag, since: usize) -> Result<()>
         requires { since ≤ length (back_state self.old).written }
         ensures { let n = length (back_state self.old).written - since in
@@ -80,10 +86,23 @@ impl<'b> BackWriter<'b> {
             self.old self.new result }
     {
         let length = Length::new(self.written() - since)?;
-        if length.get() < LONG_FORM {
-            return self.write(&[tag.byte(), length.get() as u8]);
+        check_room(Header { tag, length }.encoded_len(), self.start)?;
+        self.put_header(tag, length.get());
+        Ok(())
+    }
+
+    /// Prepends the header of a content of `n` bytes, for which there is room.
+    #[tactic(auto, using(crate::proofs::LengthLaws::len_1))]
+    pub(crate) fn put_header(&mut self, tag: Tag, n: usize)
+        requires within { n ≤ max_length }
+        requires room { length (header tag n) ≤ length (back_state self.old).room }
+        ensures { Puts (Some (header tag n)) self.old self.new }
+    {
+        if n < LONG_FORM {
+            return self.put(&[tag.byte(), n as u8]);
         }
+        let length = Length::of_number(n as u32);
         let (octets, count) = Header { tag, length }.octets();
-        self.write(&octets[..count])
+        self.put(&octets[..count]);
     }
 }

@@ -114,7 +114,7 @@ pub fn encode_to_slice<T: EncodeValue + Tagged>(value: &T, buffer: &mut [u8]) ->
 {
     let total = encoded_len(value)?;
     check_room(total, buffer.len())?;
-    fill(value, &mut buffer[..total])?;
+    fill(value, &mut buffer[..total]);
     Ok(total)
 }
 
@@ -131,15 +131,15 @@ pub fn to_der<T: EncodeValue + Tagged>(alloc: Global, value: &T) -> Result<Vec<u
 {
     let total = encoded_len(value)?;
     let mut bytes = vec![in alloc; 0; total]?;
-    fill(value, &mut bytes)?;
+    fill(value, &mut bytes);
     Ok(bytes)
 }
 
 /// Writes the value's element into a slice of its length.
-pub(crate) fn fill<T: EncodeValue + Tagged>(value: &T, buffer: &mut [u8]) -> Result<()>
-    ensures { IsSomeAnd (element_of T.tag_byte (T.content value.now))
-        (λ bytes. length buffer.old ≡ length bytes)
-        → IsOk result × (element_of T.tag_byte (T.content value.now) ≡ Some buffer.new) }
+pub(crate) fn fill<T: EncodeValue + Tagged>(value: &T, buffer: &mut [u8])
+    requires { IsSomeAnd (element_of T.tag_byte (T.content value.now))
+        (λ bytes. length buffer.old ≡ length bytes) }
+    ensures { element_of T.tag_byte (T.content value.now) ≡ Some buffer.new }
 {
-    BackWriter::new(buffer).put_element(value)
+    BackWriter::new(buffer).put_element(value);
 }

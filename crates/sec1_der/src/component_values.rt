@@ -48,6 +48,10 @@ impl<const N: u8> EncodeValue for SmallInteger<N> {
     fn encode_back(&self, writer: &mut BackWriter) -> Result<()> {
         writer.write(&[N])
     }
+
+    fn put_value(&self, writer: &mut BackWriter) {
+        writer.put(&[N]);
+    }
 }
 
 impl<const N: u8> UniqueContent for SmallInteger<N> {
@@ -97,6 +101,10 @@ impl EncodeValue for Octets<'_> {
 
     fn encode_back(&self, writer: &mut BackWriter) -> Result<()> {
         OctetStringRef::new(self.bytes)?.encode_back(writer)
+    }
+
+    fn put_value(&self, writer: &mut BackWriter) {
+        writer.put(self.bytes);
     }
 }
 
@@ -153,6 +161,11 @@ impl EncodeValue for WholeBits<'_> {
 
     fn encode_back(&self, writer: &mut BackWriter) -> Result<()> {
         BitStringRef::from_bytes(self.bytes)?.encode_back(writer)
+    }
+
+    fn put_value(&self, writer: &mut BackWriter) {
+        writer.put(self.bytes);
+        writer.put(&[0]);
     }
 }
 

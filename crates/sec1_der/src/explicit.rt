@@ -73,8 +73,8 @@ impl<K, A: EncodeValue + Tagged> EncodeValue for Explicit<K, A> {
         writer.element(&self.value)
     }
 
-    fn put_value(&self, writer: &mut BackWriter) -> Result<()> {
-        writer.put_element(&self.value)
+    fn put_value(&self, writer: &mut BackWriter) {
+        writer.put_element(&self.value);
     }
 }
 
@@ -154,9 +154,9 @@ impl EncodeValue for ExplicitBits<'_> {
         writer.element(&WholeBits { bytes })
     }
 
-    fn put_value(&self, writer: &mut BackWriter) -> Result<()> {
+    fn put_value(&self, writer: &mut BackWriter) {
         let bytes = self.bytes;
-        writer.put_element(&WholeBits { bytes })
+        writer.put_element(&WholeBits { bytes });
     }
 }
 

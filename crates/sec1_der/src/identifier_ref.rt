@@ -117,6 +117,11 @@ impl EncodeValue for IdentifierRef<'_> {
     fn encode_back(&self, writer: &mut BackWriter) -> Result<()> {
         writer.write(self.bytes)
     }
+
+    #[tactic(auto, using(crate::proofs::IdentifierLemmas::identifier_fits))]
+    fn put_value(&self, writer: &mut BackWriter) {
+        writer.put(self.bytes);
+    }
 }
 
 impl UniqueContent for IdentifierRef<'_> {

@@ -46,10 +46,9 @@ impl<A: EncodeValue + Tagged> EncodePart for Optional<A> {
         }
     }
 
-    fn put_part(&self, writer: &mut BackWriter) -> Result<()> {
-        match &self.0 {
-            Some(value) => writer.put_element(value),
-            None => Ok(()),
+    fn put_part(&self, writer: &mut BackWriter) {
+        if let Some(value) = &self.0 {
+            writer.put_element(value);
         }
     }
 }

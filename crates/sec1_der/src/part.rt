@@ -1,6 +1,6 @@
 //! The parts of a SEQUENCE (X.690 section 8.9), and two parts in a row.
 ghost use Rattle.std.specs.Prelude.{◌≡◌, ◌≤◌, ◌&&◌, ℕ, List, length, Option, Some, Bool, true, false};
-ghost use Rattle.sec1_der.specs.BackWriters.{Puts};
+ghost use Rattle.sec1_der.specs.BackWriters.{HasRoom, Puts};
 ghost use Rattle.sec1_der.specs.Elements.{max_length, within_limit};
 ghost use Rattle.sec1_der.specs.Encodings.{Measures};
 ghost use Rattle.sec1_der.specs.Parts.{Tags, Begins, ReadsPart, AreApart, join, both_tags};
@@ -39,14 +39,10 @@ pub trait EncodePart: Part {
     fn part_len(&self) -> Result<Length>
         ensures { Measures (within_limit (Self.bytes self.now)) result };
 
-    /// Prepends the part to what was written, without testing the room first. On an error any bytes
-    /// may have been prepended.
-    ///
-    /// # Errors
-    ///
-    /// Overlength or Buffer, exactly when the part has no encoding or there is no room for it.
-    fn put_part(&self, writer: &mut BackWriter) -> Result<()>
-        ensures { Puts (Self.bytes self.now) (Self.bytes self.now) writer.old writer.new result };
+    /// Prepends the part, for which there is room, to what was written.
+    fn put_part(&self, writer: &mut BackWriter)
+        requires { HasRoom (Self.bytes self.now) writer.old }
+        ensures { Puts (Self.bytes self.now) writer.old writer.new };
 }
 
 /// A part that is read.
@@ -92,9 +88,9 @@ impl<P: EncodePart, Q: EncodePart> EncodePart for (P, Q) {
         Length::new(first.get() + second.get())
     }
 
-    fn put_part(&self, writer: &mut BackWriter) -> Result<()> {
-        self.1.put_part(writer)?;
-        self.0.put_part(writer)
+    fn put_part(&self, writer: &mut BackWriter) {
+        self.1.put_part(writer);
+        self.0.put_part(writer);
     }
 }
 

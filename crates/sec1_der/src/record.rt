@@ -99,11 +99,12 @@ where
     fn encode_back(&self, writer: &mut BackWriter) -> Result<()> {
         let parts = self.to_parts();
         check_room(parts.part_len()?.get(), writer.remaining())?;
-        parts.put_part(writer)
+        parts.put_part(writer);
+        Ok(())
     }
 
-    fn put_value(&self, writer: &mut BackWriter) -> Result<()> {
-        self.to_parts().put_part(writer)
+    fn put_value(&self, writer: &mut BackWriter) {
+        self.to_parts().put_part(writer);
     }
 }
 

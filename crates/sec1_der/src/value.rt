@@ -1,7 +1,7 @@
 //! The traits of DER values: with them the generic calls read and write a type.
 ghost use Rattle.std.specs.Prelude.{◌≡◌, ◌≤◌, ℕ, List, length, Option, Some, None, IsSomeAnd, Bool};
-ghost use Rattle.std.specs.Prelude.{true, MatchResult, IsTrue, IsOk};
-ghost use Rattle.sec1_der.specs.BackWriters.{back_state, Prepends, Puts};
+ghost use Rattle.std.specs.Prelude.{true, MatchResult, IsTrue};
+ghost use Rattle.sec1_der.specs.BackWriters.{back_state, HasRoom, Prepends, Puts};
 ghost use Rattle.sec1_der.specs.Elements.{max_length, within_limit, is_tag};
 ghost use Rattle.sec1_der.specs.Encodings.{Measures};
 ghost use Rattle.sec1_der.specs.Readers.{ReadsContent};
@@ -81,7 +81,7 @@ pub trait EncodeValue: ValueContent {
         let count = self.value_len()?.get();
         check_room(count, writer.remaining())?;
         let end = writer.position + count;
-        self.fill_content(&mut writer.buffer[writer.position..end])?;
+        self.fill_content(&mut writer.buffer[writer.position..end]);
         writer.position = end;
         Ok(())
     }
@@ -96,32 +96,24 @@ pub trait EncodeValue: ValueContent {
             writer.old writer.new result };
 
     /// Writes the content into a slice of its length.
-    ///
-    /// # Errors
-    ///
-    /// None, if there is a content and the slice has its length.
-    fn fill_content(&self, buffer: &mut [u8]) -> Result<()>
-        ensures { (bytes : List ℕ) → within_limit (Self.content self.now) ≡ Some bytes
-            → length buffer.old ≡ length bytes → IsOk result × (buffer.new ≡ bytes) }
+    fn fill_content(&self, buffer: &mut [u8])
+        requires { IsSomeAnd (within_limit (Self.content self.now))
+            (λ bytes. length buffer.old ≡ length bytes) }
+        ensures { within_limit (Self.content self.now) ≡ Some buffer.new }
     {
-        self.put_value(&mut BackWriter::new(buffer))
+        self.put_value(&mut BackWriter::new(buffer));
     }
 
-    /// Prepends the content to what was written, without testing the room first. On an error any
-    /// bytes may have been prepended.
+    /// Prepends the content, for which there is room, to what was written.
     ///
     /// A type that contains other elements overrides this with calls of
     /// [`BackWriter::put_element`], so that an element is measured once, however deep it is nested.
-    ///
-    /// # Errors
-    ///
-    /// Overlength or Buffer if there is no content or no room for it. One that is longer than
-    /// 268,435,455 bytes may be prepended.
-    fn put_value(&self, writer: &mut BackWriter) -> Result<()>
-        ensures { Puts (within_limit (Self.content self.now)) (Self.content self.now) writer.old
-            writer.new result }
+    fn put_value(&self, writer: &mut BackWriter)
+        requires { HasRoom (within_limit (Self.content self.now)) writer.old }
+        ensures { Puts (Self.content self.now) writer.old writer.new }
     {
-        self.encode_back(writer)
+        // It doesn't fail.
+        let _ = self.encode_back(writer);
     }
 }
 

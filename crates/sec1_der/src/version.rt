@@ -46,6 +46,10 @@ impl EncodeValue for VersionOne {
     fn encode_back(&self, writer: &mut BackWriter) -> Result<()> {
         writer.write(&[1])
     }
+
+    fn put_value(&self, writer: &mut BackWriter) {
+        writer.put(&[1]);
+    }
 }
 
 impl UniqueContent for VersionOne {

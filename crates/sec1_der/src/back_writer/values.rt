@@ -4,7 +4,7 @@ use crate::length::check_room;
 use crate::{EncodeValue, ErrorKind, Result, Tagged, encoded_len};
 
 impl<'b> BackWriter<'b> {
-    ghost use Rattle.sec1_der.specs.BackWriters.{back_state, Prepends, Puts};
+    ghost use Rattle.sec1_der.specs.BackWriters.{back_state, HasRoom, Prepends, Puts};
     ghost use Rattle.sec1_der.specs.Writers.{Writes};
     ghost use Rattle.sec1_der.specs.Elements.{element_of};
 
@@ -18,22 +18,17 @@ impl<'b> BackWriter<'b> {
             self.old self.new result }
     {
         check_room(encoded_len(value)?, self.remaining())?;
-        self.put_element(value)
+        self.put_element(value);
+        Ok(())
     }
 
-    /// Prepends the element of a value, without testing the room first. On an error any bytes may
-    /// have been prepended.
-    ///
-    /// # Errors
-    ///
-    /// Overlength or Buffer, exactly when the value has no encoding or there is no room for the
-    /// element.
-    pub fn put_element<T: EncodeValue + Tagged>(&mut self, value: &T) -> Result<()>
-        ensures { let bytes = element_of T.tag_byte (T.content value.now) in
-            Puts bytes bytes self.old self.new result }
+    /// Prepends the element of a value, for which there is room.
+    pub fn put_element<T: EncodeValue + Tagged>(&mut self, value: &T)
+        requires { HasRoom (element_of T.tag_byte (T.content value.now)) self.old }
+        ensures { Puts (element_of T.tag_byte (T.content value.now)) self.old self.new }
     {
-        let since = self.written();
-        value.put_value(self)?;
-        self.header(T::fixed_tag(), since)
+        let end = self.remaining();
+        value.put_value(self);
+        self.put_header(T::fixed_tag(), end - self.remaining());
     }
 }

@@ -1,6 +1,5 @@
 //! Calls of the writer from the front that are generic over values: each fills a part of the slice
 //! from its end.
-ghost use Rattle.std.specs.Prelude.{◌≡◌, ℕ, List, length, Some, IsOk};
 ghost use Rattle.sec1_der.specs.Elements.{within_limit};
 
 use crate::codec::fill;
@@ -26,7 +25,7 @@ impl<'b> SliceWriter<'b> {
         let count = encoded_len(value)?;
         check_room(count, self.remaining())?;
         let end = self.position + count;
-        fill(value, &mut self.buffer[self.position..end])?;
+        fill(value, &mut self.buffer[self.position..end]);
         self.position = end;
         Ok(())
     }

@@ -1,9 +1,9 @@
 use Rattle.der_types.proofs.DefaultLemmas.{default_empty, puts_nothing}
 use Rattle.der_types.proofs.default.DefaultedEncodePart.put_part.Goals as goal
 
-pub returns-then-is_default : goal.returns-then-is_default
-returns-then-is_default g c =
-    let first = c.is_default.ensures.0 c.if-is_default.true in
+pub returns-else-not-is_default : goal.returns-else-not-is_default
+returns-else-not-is_default g c =
+    let first = c.is_default.ensures.0 c.if-not-is_default.false in
     let empty = default_empty g.A.Tagged.tag_byte g.A.HasDefault.default_content g.A.ValueContent.content _
     c.self.inside.0 g.met.A.HasDefault.has_content first in
     rw (rw c.self.view_is at empty) (puts_nothing _)
