@@ -1,4 +1,4 @@
-ghost use Rattle.std.specs.Prelude.{◌≤◌, length};
+ghost use Rattle.std.specs.Prelude.{◌≡◌, ◌≤◌, length, IsTrue};
 
 use crate::header::LONG_FORM;
 use crate::length::check_room;
@@ -18,7 +18,7 @@ pub struct BackWriter<'b> {
 }
 
 impl<'b> BackWriter<'b> {
-    ghost use Rattle.std.specs.Prelude.{◌≡◌, ◌-◌, [], Some, None, nat_le, if◌then◌else◌};
+    ghost use Rattle.std.specs.Prelude.{◌-◌, [], Some, None, nat_le, if◌then◌else◌};
     ghost use Rattle.sec1_der.specs.BackWriters.{back_state, Prepends, Puts};
     ghost use Rattle.sec1_der.specs.Writers.{Writes};
     ghost use Rattle.sec1_der.specs.Elements.{max_length, header};
@@ -68,7 +68,7 @@ impl<'b> BackWriter<'b> {
         ensures { Puts (Some bytes.now) self.old self.new }
     {
         let start = self.start - bytes.len();
-        self.buffer[start..self.start].copy_from_slice(bytes);
+        copy(bytes, &mut self.buffer[start..self.start]);
         self.start = start;
     }
 
@@ -101,8 +101,52 @@ impl<'b> BackWriter<'b> {
         if n < LONG_FORM {
             return self.put(&[tag.byte(), n as u8]);
         }
+        self.put_long_header(tag, n);
+    }
+
+    /// The same for a length in the long form, out of line.
+    #[inline(never)]
+    fn put_long_header(&mut self, tag: Tag, n: usize)
+        requires within { n ≤ max_length }
+        requires room { length (header tag n) ≤ length (back_state self.old).room }
+        ensures { Puts (Some (header tag n)) self.old self.new }
+    {
         let length = Length::of_number(n as u32);
         let (octets, count) = Header { tag, length }.octets();
         self.put(&octets[..count]);
     }
+}
+
+/// Copies bytes. Up to 32 are moved in two halves, which may overlap, since a call takes longer.
+#[inline(always)]
+fn copy(from: &[u8], to: &mut [u8])
+    requires { length to.old ≡ length from.now }
+    ensures { to.new ≡ from.now }
+{
+    if from.len() > 32 || !(copy_halves::<16>(from, to) || copy_halves::<4>(from, to)) {
+        to.copy_from_slice(from);
+    }
+}
+
+/// Copies N to 2N bytes by two moves of N. Returns `false` if there are fewer, or more.
+#[inline(always)]
+fn copy_halves<const N: usize>(from: &[u8], to: &mut [u8]) -> bool
+    requires size { N ≤ 16 }
+    requires len { length to.old ≡ length from.now }
+    ensures len { length to.new ≡ length to.old }
+    ensures copied { IsTrue result → to.new ≡ from.now }
+{
+    let (Some(front), Some(back)) = (from.first_chunk::<N>(), from.last_chunk::<N>()) else {
+        return false;
+    };
+    if from.len() - N > N {
+        return false;
+    }
+    if let Some(room) = to.first_chunk_mut::<N>() {
+        *room = *front;
+    }
+    if let Some(room) = to.last_chunk_mut::<N>() {
+        *room = *back;
+    }
+    true
 }
