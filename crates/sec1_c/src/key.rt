@@ -153,12 +153,18 @@ fn write_key(key: &EcPrivateKey, out: &mut [u8], len: &mut usize) -> u32
     ensures overlength { ((bytes : List ℕ) → ¬ IsKeyOf key.now bytes)
         → WritesNothing (kind_number ErrorKind.Overlength) out.old out.new result len.old len.new }
 {
-    match key.encoded_len() {
-        Ok(found) => *len = found,
-        Err(e) => return error_number(&e),
-    }
     match key.encode_to_slice(out) {
-        Ok(_) => OK,
-        Err(e) => error_number(&e),
+        Ok(written) => {
+            *len = written;
+            OK
+        }
+        // A key that only lacks room has a length.
+        Err(e) => match key.encoded_len() {
+            Ok(found) => {
+                *len = found;
+                error_number(&e)
+            }
+            Err(_) => error_number(&e),
+        },
     }
 }
