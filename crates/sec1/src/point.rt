@@ -96,7 +96,7 @@ impl<const N: usize, const L: usize> EncodedPoint<N, L> {
             return Ok(EncodedPoint { bytes: *whole, len });
         }
         let mut bytes = [0; L];
-        bytes[..len].copy_from_slice(input);
+        copy_short::<N>(input, &mut bytes[..len]);
         Ok(EncodedPoint { bytes, len })
     }
 
@@ -314,6 +314,27 @@ impl<const N: usize, const L: usize> EncodedPoint<N, L> {
             Coordinates::Hybrid { y, .. } => Some(y),
             _ => None,
         }
+    }
+}
+
+/// Copies bytes. The compiler knows the number of those after the tag of a compressed point, and
+/// copies them without a call.
+#[inline(always)]
+fn copy_short<const N: usize>(from: &[u8], to: &mut [u8])
+    requires size { N < 2 ^ 62 }
+    requires len { length to.old ≡ length from.now }
+    ensures { to.new ≡ from.now }
+{
+    if from.len() == N + 1 {
+        let (tag, rest) = to.split_at_mut(1);
+        tag[0] = from[0];
+        if let Some(x) = from[1..].as_array::<N>()
+            && let Some(room) = rest.as_mut_array::<N>()
+        {
+            *room = *x;
+        }
+    } else {
+        to.copy_from_slice(from);
     }
 }
 

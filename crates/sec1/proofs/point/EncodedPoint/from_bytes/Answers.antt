@@ -21,9 +21,9 @@ pub invariant_of-result-2-clause-encoded : goal.invariant_of-result-2-clause-enc
 invariant_of-result-2-clause-encoded g c =
     let len = length c.args.input.now in
     let front =
-    take_at c.copy_from_slice.new.self (drop len (replicate {A = ℕ} g.row.L 0)) len
-    (ap length c.copy_from_slice.ensures.after) in
-    rw (front, c.copy_from_slice.ensures.after)
+    take_at c.copy_short.new.to (drop len (replicate {A = ℕ} g.row.L 0)) len
+    (ap length c.copy_short.ensures) in
+    rw (front, c.copy_short.ensures)
     (encoding_of_meaning g.row.N c.args.input.now (c.is_encoding.ensures.0 c.if-not-is_encoding.false))
 
 pub returns : goal.returns
