@@ -109,6 +109,10 @@ impl EncodeValue for Bits<'_> {
     fn encode_back(&self, writer: &mut BackWriter) -> Result<()> {
         self.bits.encode_back(writer)
     }
+
+    fn put_value(&self, writer: &mut BackWriter) {
+        self.bits.put_value(writer);
+    }
 }
 
 impl UniqueContent for Bits<'_> {

@@ -73,6 +73,10 @@ impl EncodeValue for Boolean {
     fn encode_back(&self, writer: &mut BackWriter) -> Result<()> {
         writer.write(&[self.byte()])
     }
+
+    fn put_value(&self, writer: &mut BackWriter) {
+        writer.put(&[self.byte()]);
+    }
 }
 
 impl UniqueContent for Boolean {

@@ -69,6 +69,10 @@ impl<K: ConstantContent> EncodeValue for Constant<K> {
         self.value_len()?;
         writer.write(K::constant())
     }
+
+    fn put_value(&self, writer: &mut BackWriter) {
+        writer.put(K::constant());
+    }
 }
 
 impl<K: ConstantContent> UniqueContent for Constant<K> {

@@ -106,6 +106,10 @@ impl<K: Kind> EncodeValue for Leaf<'_, K> {
         self.value_len()?;
         writer.write(self.bytes)
     }
+
+    fn put_value(&self, writer: &mut BackWriter) {
+        writer.put(self.bytes);
+    }
 }
 
 impl<K: Kind> UniqueContent for Leaf<'_, K> {

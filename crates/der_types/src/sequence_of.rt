@@ -192,6 +192,10 @@ impl<'a, T: DecodeValue<'a> + Tagged + Drop> EncodeValue for SequenceOf<'a, T> {
         self.value_len()?;
         writer.write(self.bytes)
     }
+
+    fn put_value(&self, writer: &mut BackWriter) {
+        writer.put(self.bytes);
+    }
 }
 
 impl<T: ValueContent + Tagged> UniqueContent for SequenceOf<'_, T> {

@@ -144,6 +144,10 @@ impl<'a, T: DecodeValue<'a> + Tagged + Drop> EncodeValue for SetOf<'a, T> {
         self.value_len()?;
         writer.write(self.bytes)
     }
+
+    fn put_value(&self, writer: &mut BackWriter) {
+        writer.put(self.bytes);
+    }
 }
 
 impl<T: ValueContent + Tagged> UniqueContent for SetOf<'_, T> {

@@ -146,6 +146,10 @@ impl EncodeValue for Unsigned<'_> {
         self.value_len()?;
         writer.write(self.bytes)
     }
+
+    fn put_value(&self, writer: &mut BackWriter) {
+        writer.put(self.bytes);
+    }
 }
 
 impl UniqueContent for Unsigned<'_> {

@@ -145,4 +145,9 @@ impl EncodeValue for BitStringRef<'_> {
         writer.write(self.bytes)?;
         writer.write(&[self.unused])
     }
+
+    fn put_value(&self, writer: &mut BackWriter) {
+        writer.put(self.bytes);
+        writer.put(&[self.unused]);
+    }
 }

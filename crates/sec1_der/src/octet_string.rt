@@ -80,4 +80,8 @@ impl EncodeValue for OctetStringRef<'_> {
     fn encode_back(&self, writer: &mut BackWriter) -> Result<()> {
         writer.write(self.bytes)
     }
+
+    fn put_value(&self, writer: &mut BackWriter) {
+        writer.put(self.bytes);
+    }
 }
