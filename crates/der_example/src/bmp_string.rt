@@ -1,6 +1,6 @@
 //! Your own DER type whose rule says which contents it has, and not by which kind of error others
 //! are refused.
-ghost use Rattle.std.specs.Prelude.{◌≡◌, ℕ, List, Some, IsOkAnd, MatchResult, false};
+ghost use Rattle.std.specs.Prelude.{◌≡◌, ℕ, List, Some, IsOkAnd, MatchResult};
 ghost use Rattle.sec1.specs.Der.{element_of, IsReadingFault};
 ghost use Rattle.der_example.specs.BmpStrings.{are_characters, bmp_content, bmp_fault};
 
@@ -44,8 +44,6 @@ impl ValueContent for BmpString<'_> {
     ghost content = { λ text. bmp_content text.bytes.now };
 
     ghost fault = { bmp_fault };
-
-    ghost says_kind = { false };
 }
 
 impl<'a> DecodeValue<'a> for BmpString<'a> {

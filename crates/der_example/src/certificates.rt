@@ -34,7 +34,7 @@ pub fn public_point(bytes: &[u8]) -> Result<EncodedPoint32>
         → HasPoint 32 certificate.tbs_certificate.public_key point
         → IsOkAnd result (λ found. point_of found ≡ point) }
     ensures no_certificate { (kind : ErrorKind)
-        → element_fault 0x30 certificate_fault end_fault bytes.now ≡ Some kind
+        → element_fault 0x30 certificate_fault end_fault bytes.now ≡ Some (Some kind)
         → IsErrAnd result (IsAsn1 kind) }
     ensures other_curve { (certificate : Certificate)
         → element_of 0x30 (certificate_content certificate) ≡ Some bytes.now

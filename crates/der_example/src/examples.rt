@@ -59,7 +59,7 @@ pub fn compressed(alloc: Global, bytes: &[u8], text: &str) -> Result<(bool, Valu
 pub fn refusal(bytes: &[u8]) -> Option<ErrorKind>
     ensures found { IfNone result ((key : Key) × IsKeyOf key bytes.now) }
     ensures only { (key : Key) → IsKeyOf key bytes.now → result ≡ None }
-    ensures kind { result ≡ key_fault bytes.now }
+    ensures kind { option_map (λ kind. Some kind) result ≡ key_fault bytes.now }
 {
     match EcPrivateKey::try_from(bytes) {
         Ok(_) => None,

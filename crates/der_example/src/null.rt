@@ -1,5 +1,5 @@
 //! Your own DER type without elements inside: NULL.
-ghost use Rattle.std.specs.Prelude.{◌≡◌, ◌==◌, [], Some, length, true};
+ghost use Rattle.std.specs.Prelude.{◌≡◌, ◌==◌, [], Some, length};
 ghost use Rattle.sec1.specs.Der.{value_unless};
 
 use sec1::der::{

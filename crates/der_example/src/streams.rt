@@ -111,14 +111,14 @@ pub fn read_recorded<R: Read>(alloc: Global, recorder: &mut Recorder<R>) -> Resu
     ensures one { IfErr result
         (λ error. error.kind ≡ ErrorKind.Tag → length recorder.new.given.items ≡ 1) }
     ensures bad_length { IfErr result (λ error. error.kind ≡ ErrorKind.Length
-        → (front : List ℕ) × (last : ℕ) × (document_fault front ≡ Some ErrorKind.Truncated)
+        → (front : List ℕ) × (last : ℕ) × (document_fault front ≡ Some (Some ErrorKind.Truncated))
         × (recorder.new.given.items ≡ front ++ last ∷ [])) }
     ensures behind { IfErr result (λ error. error.kind ≡ ErrorKind.TrailingData
         → (front : List ℕ) × (last : ℕ) × IsElement front
         × (recorder.new.given.items ≡ front ++ last ∷ [])) }
     ensures all { IfErr result (λ error. error.kind ≡ ErrorKind.Truncated
         → R.ended recorder.new.inner
-        × (document_fault recorder.new.given.items ≡ Some ErrorKind.Truncated)) }
+        × (document_fault recorder.new.given.items ≡ Some (Some ErrorKind.Truncated))) }
 {
     SecretDocument::read_der_from(alloc, recorder)
 }

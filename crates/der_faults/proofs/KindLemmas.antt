@@ -1,9 +1,10 @@
 -- The kinds at the places.
-use Rattle.std.proofs.Common.{◌≡◌, ◌==◌, ◌∷◌, [], ℕ, zero, suc, ◌+◌, ◌-◌, List, Bool, true, false, length, refl}
+use Rattle.std.proofs.Common.{◌≡◌, ◌≢◌, ◌==◌, ◌∷◌, [], ℕ, zero, suc, ◌+◌, ◌-◌, List, Bool, true, false, length, refl}
 use Rattle.std.proofs.Common.{if◌then◌else◌, Option, Some, None, Result, Ok, Err, nat_lt, bit_and, not}
 use Rattle.std.specs.Prelude.{option_map}
 use Rattle.std.specs.Option.{option_or}
-use Rattle.sec1_der.specs.Faults.{nested_fault}
+use Rattle.sec1_der.specs.Faults.{SaysKinds, nested_fault}
+use Rattle.sec1_der.proofs.KindLaws.{bits_says, byte_says, end_says, identifier_says, none_says, whole_says}
 use Rattle.sec1_der.specs.Contents.{byte_fault, identifier_fault, bit_string_fault, whole_bits_fault}
 use Rattle.sec1_der.specs.Contents.{whole_bits_field_fault}
 use Rattle.sec1_der.specs.Elements.{is_tag}
@@ -12,29 +13,31 @@ use Rattle.sec1_der.specs.Trees.{max_tree_depth}
 use Rattle.sec1_der.specs.declared.error.ErrorKind.{ErrorKind}
 use Rattle.sec1.specs.KeyFaults.{key_fault}
 use Rattle.der_faults.specs.declared.Fault.{Fault}
-use Rattle.der_faults.specs.Places.{Place, before, at_first, end_place, parts_place, element_place, optional_place}
+use Rattle.der_faults.specs.Places.{Place, before, placed, at_first, end_place, parts_place, element_place}
+use Rattle.der_faults.specs.Places.{optional_place}
 use Rattle.der_faults.specs.Places.{any_place, nested_place, row_place, tree_place, whole_bits_field_place}
 use Rattle.der_faults.specs.Places.{components_place, key_place}
 
 -- the kind of a fault, if there is one
-abbrev kind_of : Option Fault → Option ErrorKind
-kind_of o = option_map (λ (f : Fault). f.kind) o
+abbrev kind_of : Option Fault → Option (Option ErrorKind)
+kind_of o = option_map (λ (f : Fault). Some f.kind) o
 
 -- bytes are refused at a place exactly if they are refused, and by the same kind
 abbrev Places : Place → r.Fault → Type 0
 Places place fault = (end : ℕ) (bytes : List ℕ) → kind_of (place end bytes) ≡ fault bytes
 
-or_kind : (a b : Option Fault) (j k : Option ErrorKind) → kind_of a ≡ j → kind_of b ≡ k
+or_kind : (a b : Option Fault) (j k : Option (Option ErrorKind)) → kind_of a ≡ j → kind_of b ≡ k
     → kind_of (option_or a b) ≡ option_or j k
 or_kind None b j k x y = rw (← x) y
 or_kind (Some f) b j k x y = rw (← x) refl
 
-first_kind : (f : r.Fault) → Places (at_first f) f
-first_kind f end bytes = by (f bytes)
+first_kind : (f : r.Fault) → SaysKinds f → Places (at_first f) f
+first_kind f says end bytes = by (f bytes) (says.kind bytes)
   where
-    by : (o : Option ErrorKind) → kind_of (option_map (before end bytes) o) ≡ o
-    by None = refl
-    by (Some k) = refl
+    by : (o : Option (Option ErrorKind)) → o ≢ Some None → kind_of (placed end bytes o) ≡ o
+    by None other = refl
+    by (Some None) other = absurd (other refl)
+    by (Some (Some k)) other = refl
 
 parts_kind : (p q : Place) (f g : r.Fault) → Places p f → Places q g
     → (end : ℕ) (bytes : List ℕ) (found : Result (List ℕ × List ℕ) ErrorKind)
@@ -51,7 +54,7 @@ element_kind tag p q f g x y end (byte ∷ bytes) = by (byte == tag)
     by : (b : Bool)
         → kind_of (if b then parts_place p q end bytes (r.within (r.length_at bytes))
         else Some (before end (byte ∷ bytes) ErrorKind.Tag))
-        ≡ (if b then r.parts_fault f g (r.within (r.length_at bytes)) else Some ErrorKind.Tag)
+        ≡ (if b then r.parts_fault f g (r.within (r.length_at bytes)) else Some (Some ErrorKind.Tag))
     by true = parts_kind p q f g x y end bytes (r.within (r.length_at bytes))
     by false = refl
 
@@ -78,7 +81,7 @@ any_kind p q f g x y end (tag ∷ bytes) = by (is_tag tag)
     by : (b : Bool)
         → kind_of (if b then parts_place (p tag) q end bytes (r.within (r.length_at bytes))
         else Some (before end (tag ∷ bytes) ErrorKind.Tag))
-        ≡ (if b then r.parts_fault (f tag) g (r.within (r.length_at bytes)) else Some ErrorKind.Tag)
+        ≡ (if b then r.parts_fault (f tag) g (r.within (r.length_at bytes)) else Some (Some ErrorKind.Tag))
     by true = parts_kind (p tag) q (f tag) g (x tag) y end bytes (r.within (r.length_at bytes))
     by false = refl
 
@@ -101,18 +104,18 @@ row_kind (suc most) level end (byte ∷ bytes) =
         ≡ r.any_fault (nested_fault (r.row_fault most (level + 1))) (r.row_fault most level) (byte ∷ bytes)
         → kind_of (if b then Some (before end (byte ∷ bytes) ErrorKind.Depth)
         else any_place (nested_place (row_place most (level + 1))) (row_place most level) end (byte ∷ bytes))
-        ≡ (if b then Some ErrorKind.Depth
+        ≡ (if b then Some (Some ErrorKind.Depth)
         else r.any_fault (nested_fault (r.row_fault most (level + 1))) (r.row_fault most level) (byte ∷ bytes))
     by true inside = refl
     by false inside = inside
 
 -- the kind at a tree's place is that of its refusal
-pub tree_kind : (bytes : List ℕ) → option_map (λ (f : Fault). f.kind) (tree_place bytes) ≡ r.tree_fault bytes
+pub tree_kind : (bytes : List ℕ) → option_map (λ (f : Fault). Some f.kind) (tree_place bytes) ≡ r.tree_fault bytes
 tree_kind bytes =
     any_kind (nested_place (row_place (length bytes) 2)) end_place (nested_fault (r.row_fault (length bytes) 2))
     r.end_fault
     (nested_kind _ _ (row_kind (length bytes) 2))
-    (first_kind r.end_fault)
+    (first_kind r.end_fault end_says)
     (length bytes)
     bytes
 
@@ -120,12 +123,12 @@ whole_kind : Places whole_bits_field_place whole_bits_field_fault
 whole_kind end bytes =
     or_kind _ _ _ _
     (element_kind 0x03 (at_first bit_string_fault) end_place bit_string_fault r.end_fault
-    (first_kind bit_string_fault) (first_kind r.end_fault) end bytes)
+    (first_kind bit_string_fault bits_says) (first_kind r.end_fault end_says) end bytes)
     (element_kind 0x03 (at_first whole_bits_fault) (at_first r.no_fault) whole_bits_fault r.no_fault
-    (first_kind whole_bits_fault) (first_kind r.no_fault) end bytes)
+    (first_kind whole_bits_fault whole_says) (first_kind r.no_fault none_says) end bytes)
 
 ends : Places end_place r.end_fault
-ends = first_kind r.end_fault
+ends = first_kind r.end_fault end_says
 
 -- the last component, and those after the other ones
 abbrev pub bits_place : Place
@@ -148,7 +151,7 @@ curve_kind =
     optional_kind 0xA0 (element_place 0x06 (at_first identifier_fault) end_place) bits_place
     (r.element_fault 0x06 identifier_fault r.end_fault) bits_fault
     (element_kind 0x06 (at_first identifier_fault) end_place identifier_fault r.end_fault
-    (first_kind identifier_fault) ends)
+    (first_kind identifier_fault identifier_says) ends)
     bits_kind
 
 abbrev components_fault : r.Fault
@@ -159,11 +162,12 @@ components_kind : Places components_place components_fault
 components_kind =
     element_kind 0x02 (at_first (byte_fault 1)) (element_place 0x04 (at_first r.no_fault) curve_place)
     (byte_fault 1) (r.element_fault 0x04 r.no_fault curve_fault)
-    (first_kind (byte_fault 1))
-    (element_kind 0x04 (at_first r.no_fault) curve_place r.no_fault curve_fault (first_kind r.no_fault) curve_kind)
+    (first_kind (byte_fault 1) (byte_says 1))
+    (element_kind 0x04 (at_first r.no_fault) curve_place r.no_fault curve_fault
+    (first_kind r.no_fault none_says) curve_kind)
 
 -- the kind at a key's place is that of its refusal
-pub key_kind : (bytes : List ℕ) → option_map (λ (f : Fault). f.kind) (key_place bytes) ≡ key_fault bytes
+pub key_kind : (bytes : List ℕ) → option_map (λ (f : Fault). Some f.kind) (key_place bytes) ≡ key_fault bytes
 unfolding key_fault
 key_kind bytes =
     element_kind 0x30 components_place end_place components_fault r.end_fault components_kind ends (length bytes) bytes

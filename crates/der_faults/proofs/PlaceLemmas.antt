@@ -1,13 +1,13 @@
 -- The places of the faults of one element.
 use Rattle.std.proofs.Common.{true}
-use Rattle.std.proofs.Common.{◌≡◌, ◌∷◌, ◌++◌, ℕ, ◌-◌, ◌≤◌, List, length, refl, ap}
-use Rattle.std.proofs.Common.{Option, Some, Result, Ok, Err, arith, eq-eqb}
+use Rattle.std.proofs.Common.{◌≡◌, ◌∷◌, ◌++◌, ℕ, ◌-◌, ◌≤◌, List, length, refl, sym, ap}
+use Rattle.std.proofs.Common.{Some, Result, Ok, Err, arith, eq-eqb}
 use Rattle.std.proofs.lemmas.List.{length-append}
 use Rattle.std.specs.Option.{option_or}
-use Rattle.std.specs.Prelude.{option_map, IfOk, IfErr}
+use Rattle.std.specs.Prelude.{IfOk, IfErr}
 use Rattle.sec1_der.specs.Elements.{length_octets, element, IsHeader, is_tag}
 use Rattle.sec1_der.proofs.FaultLaws.{within_octets}
-use Rattle.sec1_der.specs.Faults.{no_fault, any_fault, parts_fault, length_at, within}
+use Rattle.sec1_der.specs.Faults.{IsFaultOf, no_fault, any_fault, parts_fault, length_at, within}
 use Rattle.sec1_der.specs.declared.error.ErrorKind.{ErrorKind}
 use Rattle.der_faults.specs.Places.{Place, before, parts_place, any_place, element_place}
 
@@ -20,16 +20,16 @@ any_found f g end tag content bytes rest h e =
 
 -- the place of an element whose length or content isn't there is at its length
 pub any_refused : (f : ℕ → Place) (g : Place) (end tag : ℕ) (bytes : List ℕ) (k : ErrorKind) → is_tag tag ≡ true
-    → any_fault (λ _. no_fault) no_fault (tag ∷ bytes) ≡ Some k
+    → IsFaultOf (any_fault (λ _. no_fault) no_fault (tag ∷ bytes)) k
     → any_place f g end (tag ∷ bytes) ≡ Some (before end bytes k)
 any_refused f g end tag bytes k is e =
-    let none : parts_fault no_fault no_fault (within (length_at bytes)) ≡ Some k = rw is at e in
+    let none : IsFaultOf (parts_fault no_fault no_fault (within (length_at bytes))) k = rw is at e in
     rw is (by (within (length_at bytes)) none)
   where
-    by : (found : Result (List ℕ × List ℕ) ErrorKind) → parts_fault no_fault no_fault found ≡ Some k
+    by : (found : Result (List ℕ × List ℕ) ErrorKind) → IsFaultOf (parts_fault no_fault no_fault found) k
         → parts_place (f tag) g end bytes found ≡ Some (before end bytes k)
-    by (Err j) e = ap (λ (o : Option ErrorKind). option_map (before end bytes) o) e
-    by (Ok x) e = absurd (cc e)
+    by (Err j) e = ap (λ (i : ErrorKind). Some (before end bytes i)) (sym e)
+    by (Ok x) e = absurd e
 
 -- the bytes of an element that is there
 pub any_sizes : (tag : ℕ) (content bytes rest : List ℕ) → bytes ≡ element tag content ++ rest

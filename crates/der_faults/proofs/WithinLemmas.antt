@@ -1,7 +1,7 @@
 -- No fault lies behind the end of the bytes.
 use Rattle.std.proofs.Common.{◌≡◌, ◌==◌, ◌∷◌, [], ℕ, zero, suc, ◌+◌, ◌-◌, ◌≤◌, List, Bool, true, false, length, arith}
 use Rattle.std.proofs.Common.{if◌then◌else◌, Option, Some, None, Result, Ok, Err, nat_lt, bit_and, not}
-use Rattle.std.specs.Prelude.{IfSome, option_map}
+use Rattle.std.specs.Prelude.{IfSome}
 use Rattle.std.specs.Option.{option_or}
 use Rattle.sec1_der.specs.Contents.{byte_fault, identifier_fault, bit_string_fault, whole_bits_fault}
 use Rattle.sec1_der.specs.Elements.{is_tag}
@@ -9,7 +9,8 @@ use Rattle.sec1_der.specs.Faults as r
 use Rattle.sec1_der.specs.Trees.{max_tree_depth}
 use Rattle.sec1_der.specs.declared.error.ErrorKind.{ErrorKind}
 use Rattle.der_faults.specs.declared.Fault.{Fault}
-use Rattle.der_faults.specs.Places.{Place, before, at_first, end_place, parts_place, element_place, optional_place}
+use Rattle.der_faults.specs.Places.{Place, before, placed, at_first, end_place, parts_place, element_place}
+use Rattle.der_faults.specs.Places.{optional_place}
 use Rattle.der_faults.specs.Places.{any_place, nested_place, row_place, tree_place, whole_bits_field_place}
 use Rattle.der_faults.specs.Places.{components_place, key_place}
 use Rattle.der_faults.proofs.KindLemmas.{bits_place, curve_place}
@@ -29,9 +30,10 @@ or_within end inner (Some f) b fits x y = omega (arith, fits, x)
 first_within : (f : r.Fault) → Bounded (at_first f)
 first_within f end bytes = by (f bytes)
   where
-    by : (o : Option ErrorKind) → IsWithin end (option_map (before end bytes) o)
+    by : (o : Option (Option ErrorKind)) → IsWithin end (placed end bytes o)
     by None = tt
-    by (Some k) = omega arith
+    by (Some None) = tt
+    by (Some (Some k)) = omega arith
 
 parts_within : (p q : Place) → Bounded p → Bounded q → (end : ℕ) (bytes : List ℕ)
     → (found : Result (List ℕ × List ℕ) ErrorKind)

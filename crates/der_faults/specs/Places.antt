@@ -1,7 +1,7 @@
 -- The place of a refusal: the offset of the first fault from left to right, and its kind.
 use Rattle.std.specs.Prelude.{◌==◌, ℕ, zero, suc, ◌+◌, ◌-◌, not, nat_lt, bit_and, if◌then◌else◌}
 use Rattle.std.specs.Prelude.{Bool, false}
-use Rattle.std.specs.Prelude.{List, [], ◌∷◌, length, Option, Some, None, option_map}
+use Rattle.std.specs.Prelude.{List, [], ◌∷◌, length, Option, Some, None}
 use Rattle.std.specs.Prelude.{Result, Ok, Err}
 use Rattle.std.specs.Option.{option_or}
 use Rattle.sec1_der.specs.Contents.{byte_fault, identifier_fault, bit_string_fault}
@@ -22,9 +22,15 @@ Place = ℕ → List ℕ → Option Fault
 abbrev pub before : ℕ → List ℕ → ErrorKind → Fault
 before end left kind = record { offset = end - length left; kind = kind }
 
--- at the first byte, by a kind of the whole
+-- a fault before as many bytes as are left, if there is one that says its kind
+abbrev pub placed : ℕ → List ℕ → Option (Option ErrorKind) → Option Fault
+placed end left None = None
+placed end left (Some None) = None
+placed end left (Some (Some kind)) = Some (before end left kind)
+
+-- at the first byte, by a kind of the whole; for a rule that says its kinds
 abbrev pub at_first : faults.Fault → Place
-at_first fault end bytes = option_map (before end bytes) (fault bytes)
+at_first fault end bytes = placed end bytes (fault bytes)
 
 -- at the first byte behind the end
 abbrev pub end_place : Place

@@ -1,10 +1,11 @@
 //! One element of some bytes, or the place at which it is refused.
-ghost use Rattle.std.specs.Prelude.{◌≡◌, ◌-◌, ◌≤◌, ℕ, length, true, Some, None, IfErr, IfOk};
+ghost use Rattle.std.specs.Prelude.{◌≡◌, ◌-◌, ◌≤◌, ℕ, length, Some, None, IfErr, IfOk};
 ghost use Rattle.std.specs.Prelude.{MatchResult};
 ghost use Rattle.std.specs.Option.{option_or};
 ghost use Rattle.sec1_der.specs.Elements.{max_length};
 ghost use Rattle.der_faults.specs.Places.{Place, any_place, at_first, before, element_place};
 ghost use Rattle.der_faults.specs.Places.{end_place};
+ghost use Rattle.sec1_der.specs.Faults.{SaysKinds};
 
 use crate::Fault;
 use sec1_der::{AnyRef, DecodeValue, ErrorKind, SliceReader, Tag, Tagged};
@@ -98,7 +99,8 @@ pub(crate) fn tagged_element(tag: Tag, end: usize, bytes: &[u8]) -> Step<Element
     any_element(end, bytes)
 }
 
-/// Reads the element of a value of T, which says the kinds of its errors, at the beginning of the
+/// Reads the element of a value of T, whose rule says the kinds of its errors, at the beginning of
+/// the
 /// bytes, which end at this offset. Returns the bytes after it.
 ///
 /// # Errors
@@ -108,7 +110,7 @@ pub(crate) fn value<'a, T: DecodeValue<'a> + Tagged + Drop>(
     end: usize,
     bytes: &'a [u8],
 ) -> Step<&'a [u8]>
-    requires { (T.says_kind ≡ true) × (length bytes.now ≤ end) }
+    requires { SaysKinds T.fault × (length bytes.now ≤ end) }
     ensures place { MatchResult result
         (λ rest. (behind : Place)
         → element_place T.tag_byte (at_first T.fault) behind end bytes.now ≡ behind end rest.now)

@@ -17,7 +17,7 @@ pub fn key_fault(bytes: &[u8]) -> Option<Fault>
     // Where the fault lies is a function of the bytes.
     ensures place { result ≡ key_place bytes.now }
     // There is one exactly when the bytes are refused as a key's, and it has the same kind.
-    ensures kind { option_map (λ fault. fault.kind) result ≡ faults.key_fault bytes.now }
+    ensures kind { option_map (λ fault. Some fault.kind) result ≡ faults.key_fault bytes.now }
     ensures within { IfSome result (λ fault. fault.offset ≤ length bytes.now) }
 {
     check_key(bytes).err()

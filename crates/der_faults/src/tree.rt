@@ -15,7 +15,7 @@ pub fn tree_fault(bytes: &[u8]) -> Option<Fault>
     // Where the fault lies is a function of the bytes.
     ensures place { result ≡ tree_place bytes.now }
     // There is one exactly when `check_tree` refuses the bytes, and it has the same kind.
-    ensures kind { option_map (λ fault. fault.kind) result ≡ faults.tree_fault bytes.now }
+    ensures kind { option_map (λ fault. Some fault.kind) result ≡ faults.tree_fault bytes.now }
     ensures within { IfSome result (λ fault. fault.offset ≤ length bytes.now) }
 {
     check_tree(bytes).err()

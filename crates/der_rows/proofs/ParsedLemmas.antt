@@ -7,7 +7,7 @@ use Rattle.std.proofs.lemmas.List.{length-append}
 use Rattle.sec1_der.specs.Elements.{max_length, length_octets, header, element, IsHeader}
 use Rattle.sec1_der.specs.Elements.{is_tag}
 use Rattle.sec1_der.proofs.FaultLaws.{within_octets}
-use Rattle.sec1_der.specs.Faults.{no_fault, any_fault, parts_fault, length_at, within}
+use Rattle.sec1_der.specs.Faults.{no_fault, any_fault, parts_fault, length_at, within, IsFaultOf}
 use Rattle.std.specs.Prelude.{nat_le, ◌&&◌}
 use Rattle.std.proofs.lemmas.Bool.{leb-true}
 use Rattle.std.proofs.lemmas.Slice.Eq.{bytes_eq-Decides}
@@ -26,17 +26,17 @@ parsed_found tag content bytes behind h e =
     rw (e, h.tag_byte, within_octets content behind h.within) refl
 
 -- bytes that are refused begin with no element
-pub parsed_refused : (bytes : List ℕ) (k : ErrorKind) → any_fault (λ _. no_fault) no_fault bytes ≡ Some k
+pub parsed_refused : (bytes : List ℕ) (k : ErrorKind) → IsFaultOf (any_fault (λ _. no_fault) no_fault bytes) k
     → parsed bytes ≡ None
 parsed_refused [] k e = refl
 parsed_refused (tag ∷ bytes) k e = by (is_tag tag) (within (length_at bytes)) e
   where
     by : (b : Bool) (found : Result (List ℕ × List ℕ) ErrorKind)
-        → (if b then parts_fault no_fault no_fault found else Some ErrorKind.Tag) ≡ Some k
+        → IsFaultOf (if b then parts_fault no_fault no_fault found else Some (Some ErrorKind.Tag)) k
         → (if b then parsed_from tag found else None) ≡ None
     by false found e = refl
     by true (Err kind) e = refl
-    by true (Ok x) e = absurd (cc e)
+    by true (Ok x) e = absurd e
 
 -- the bytes before the content
 pub header_found : (tag : ℕ) (content bytes behind : List ℕ) → bytes ≡ element tag content ++ behind

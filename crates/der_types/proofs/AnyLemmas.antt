@@ -9,7 +9,7 @@ use Rattle.std.proofs.lemmas.Slice.Eq.{bytes_eq-Decides}
 use Rattle.sec1_der.specs.Elements.{max_length, length_octets, element, is_tag, IsHeader, IsElement}
 use Rattle.sec1_der.specs.Parts.{AreApart, is_among}
 use Rattle.sec1_der.specs.Readers.{Reader, HasRead}
-use Rattle.sec1_der.specs.Faults.{Fault, no_fault, any_fault, parts_fault, within, length_at}
+use Rattle.sec1_der.specs.Faults.{Fault, no_fault, any_fault, parts_fault, within, length_at, IsFaultOf}
 use Rattle.sec1_der.specs.declared.error.Error.{Error}
 use Rattle.sec1_der.specs.declared.error.ErrorKind.{ErrorKind}
 use Rattle.sec1_der.specs.declared.error.ErrorKind.TheVariants.{Tag}
@@ -95,18 +95,19 @@ any_passes bytes old new is read behind =
     (ap (λ (r : Reader). r.unread) read.was_whole ∙ ap (λ xs. xs ++ new.unread) is.encoded)
 
 -- what is refused stays so where more is tested behind it
-pub any_refused : (behind : Fault) (bytes : List ℕ) (k : ErrorKind) → any_fault (λ _. no_fault) no_fault bytes ≡ Some k
-    → any_element_fault behind bytes ≡ Some k
+pub any_refused : (behind : Fault) (bytes : List ℕ) (k : ErrorKind)
+    → IsFaultOf (any_fault (λ _. no_fault) no_fault bytes) k
+    → IsFaultOf (any_element_fault behind bytes) k
 unfolding any_element_fault
 any_refused behind [] k e = e
 any_refused behind (byte ∷ bytes) k e = by (is_tag byte) (within (length_at bytes)) e
   where
     by : (b : Bool) (found : Result (List ℕ × List ℕ) ErrorKind)
-        → (if b then parts_fault no_fault no_fault found else Some Tag) ≡ Some k
-        → (if b then parts_fault no_fault behind found else Some Tag) ≡ Some k
+        → IsFaultOf (if b then parts_fault no_fault no_fault found else Some (Some Tag)) k
+        → IsFaultOf (if b then parts_fault no_fault behind found else Some (Some Tag)) k
     by false found e = e
     by true (Err kind) e = e
-    by true (Ok x) e = absurd (cc (e))
+    by true (Ok x) e = absurd e
 
 -- the bytes of an element that was read
 pub element_from : (any : AnyRef) (bytes : List ℕ) → IsHeader (tag_of any) (length (value_of any))

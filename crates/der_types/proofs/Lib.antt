@@ -10,3 +10,4 @@ pub mod AnyLemmas
 pub mod DefaultLemmas
 pub mod RowLemmas
 pub mod SetLemmas
+pub mod KindLaws

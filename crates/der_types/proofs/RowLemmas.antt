@@ -1,15 +1,15 @@
 -- Elements that are read one after another.
 use Rattle.std.proofs.Common.{◌≡◌, Result, Ok, Err, ℕ, zero, suc, ◌<◌, ◌≤◌, false, List, [], ◌∷◌, ◌++◌, length, Option}
-use Rattle.std.proofs.Common.{Bool, Some, None, IsSomeAnd, IfOk, refl, ap, sym, ◌∙◌, arith, length-append, length-drop}
+use Rattle.std.proofs.Common.{Some, None, IsSomeAnd, IfOk, refl, ap, sym, ◌∙◌, arith, length-append, length-drop}
 use Rattle.std.proofs.lemmas.List.{length-take}
 use Rattle.sec1_der.specs.Elements.{max_length, element, element_of}
 use Rattle.sec1_der.specs.Readers.{Reader, reader_over, HasReadElement}
-use Rattle.sec1_der.specs.Faults.{Fault, IsFaultOf, TellsFault, no_fault}
+use Rattle.sec1_der.specs.Faults.{Fault, HasFault, IsFaultOf, no_fault}
 use Rattle.sec1_der.specs.Faults.{element_fault}
 use Rattle.sec1_der.specs.declared.error.Error.{Error}
 use Rattle.sec1_der.specs.declared.error.ErrorKind.{ErrorKind}
 use Rattle.der_types.specs.Rows.{joined, elements_fault, row_fault}
-use Rattle.sec1_der.proofs.KindLaws.{no_fault_of, refused_more}
+use Rattle.sec1_der.proofs.KindLaws.{refused_more}
 use Rattle.sec1_der.proofs.FaultLaws.{reads_on, reader_at}
 use Rattle.sec1_der.proofs.JoinLaws.{parted}
 use Rattle.sec1_der.proofs.ElementLaws.{element_of-some, element_of-within}
@@ -71,17 +71,17 @@ row_continues tag f start content old new at some found none = by at.most at.roo
           same = same ∙ (one_more tag f most old.unread some ∙ on.next (elements_fault tag f most));
         }
 
-pub row_refused : (says : Bool) (tag : ℕ) (f : Fault) (start : List ℕ) (old : Reader) (k : ErrorKind)
+pub row_refused : (tag : ℕ) (f : Fault) (start : List ℕ) (old : Reader) (k : ErrorKind)
     → IsRowRest tag f start old → 0 < length old.unread
-    → IsFaultOf says (element_fault tag f no_fault old.unread) k → IsFaultOf says (row_fault tag f start) k
-row_refused says tag f start old k at some e = by at.most at.room at.same
+    → IsFaultOf (element_fault tag f no_fault old.unread) k → IsFaultOf (row_fault tag f start) k
+row_refused tag f start old k at some e = by at.most at.room at.same
   where
     by : (most : ℕ) → length old.unread ≤ most → row_fault tag f start ≡ elements_fault tag f most old.unread
-        → IsFaultOf says (row_fault tag f start) k
+        → IsFaultOf (row_fault tag f start) k
     by zero room same = absurd (omega arith)
     by (suc most) room same =
         rw (same, one_more tag f most old.unread some)
-        (refused_more says f (elements_fault tag f most) tag old.unread k e)
+        (refused_more f (elements_fault tag f most) tag old.unread k e)
 
 pub row_ends : (tag : ℕ) (f : Fault) (start : List ℕ) (old : Reader) → IsRowRest tag f start old → length old.unread ≤ 0
     → row_fault tag f start ≡ None
@@ -210,16 +210,16 @@ row_first tag f (byte ∷ bytes) some =
     (λ behind few. elements_bound tag f (length bytes) (length behind) behind few (omega arith))
 
 -- an element that is read from elements is there, and what is left is elements
-pub elements_left : (says : Bool) (tag : ℕ) (f : Fault) {A : Type 0} (content : A → Option (List ℕ))
+pub elements_left : (tag : ℕ) (f : Fault) {A : Type 0} (content : A → Option (List ℕ))
     (result : Result A Error) (old new : Reader)
     → row_fault tag f old.unread ≡ None → 0 < length old.unread
     → IfOk result (λ value. IsSomeAnd (content value) (λ inside. HasReadElement tag inside old new))
-    → TellsFault says result (element_fault tag f no_fault old.unread)
+    → HasFault result (element_fault tag f no_fault old.unread)
     → (new.failed ≡ false) × (row_fault tag f new.unread ≡ None)
-elements_left says tag f content (Ok value) old new whole some found kind =
+elements_left tag f content (Ok value) old new whole some found kind =
     let on = reads_on f tag (content value) old new found kind in
     (on.whole, sym (on.next (row_fault tag f)) ∙ (sym (row_first tag f old.unread some) ∙ whole))
-elements_left says tag f content (Err e) old new whole some found kind =
-    let refused = refused_more says f (row_fault tag f) tag old.unread e.kind kind in
+elements_left tag f content (Err e) old new whole some found kind =
+    let refused = refused_more f (row_fault tag f) tag old.unread e.kind kind in
     let none = sym (row_first tag f old.unread some) ∙ whole in
-    absurd (no_fault_of says e.kind (rw none at refused))
+    absurd (rw none at refused)

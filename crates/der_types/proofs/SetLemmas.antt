@@ -7,7 +7,7 @@ use Rattle.std.specs.Ordering.{is_le, is_gt, is_some_and, nat_cmp}
 use Rattle.sec1_der.specs.Elements.{element, IsHeader}
 use Rattle.sec1_der.specs.Elements.{is_tag}
 use Rattle.sec1_der.specs.Readers.{Reader, HasRead}
-use Rattle.sec1_der.specs.Faults.{no_fault, any_fault, parts_fault, within, length_at}
+use Rattle.sec1_der.specs.Faults.{no_fault, any_fault, parts_fault, within, length_at, IsFaultOf}
 use Rattle.sec1_der.specs.declared.error.ErrorKind.{ErrorKind}
 use Rattle.sec1_der.specs.declared.error.ErrorKind.TheVariants.{Tag}
 use Rattle.sec1_der.proofs.FaultLaws.{within_octets}
@@ -20,17 +20,17 @@ first_found tag content bytes rest h e =
     rw (e, h.tag_byte, within_octets content rest h.within) refl
 
 -- where an element is refused, none is found
-pub first_missing : (bytes : List ℕ) (k : ErrorKind) → any_fault (λ _. no_fault) no_fault bytes ≡ Some k
+pub first_missing : (bytes : List ℕ) (k : ErrorKind) → IsFaultOf (any_fault (λ _. no_fault) no_fault bytes) k
     → first_element bytes ≡ None
 first_missing [] k e = refl
 first_missing (byte ∷ bytes) k e = by (is_tag byte) (within (length_at bytes)) e
   where
     by : (b : Bool) (found : Result (List ℕ × List ℕ) ErrorKind)
-        → (if b then parts_fault no_fault no_fault found else Some Tag) ≡ Some k
+        → IsFaultOf (if b then parts_fault no_fault no_fault found else Some (Some Tag)) k
         → (if b then element_behind byte found else None) ≡ None
     by false found e = refl
     by true (Err kind) e = refl
-    by true (Ok x) e = absurd (cc (e))
+    by true (Ok x) e = absurd e
 
 -- an encoding isn't above another if it is the same or stands before it
 pub not_above : (a b : List ℕ) (r : Bool) → r ≡ is_some_and is_gt (slice_partial_cmp (λ x y. Some (nat_cmp x y)) a b)
@@ -108,7 +108,7 @@ set_over start last old at none = at.same ∙ by at.most
 
 -- so also where the next one is refused
 pub set_stops : (start last : List ℕ) (old : Reader) (k : ErrorKind) → IsSetRest start last old
-    → any_fault (λ _. no_fault) no_fault old.unread ≡ Some k → is_ascending start ≡ true
+    → IsFaultOf (any_fault (λ _. no_fault) no_fault old.unread) k → is_ascending start ≡ true
 set_stops start last old k at refused = set_over start last old at (first_missing old.unread k refused)
 
 -- and at the end

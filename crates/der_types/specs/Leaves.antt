@@ -11,6 +11,7 @@ abbrev pub content_if : (List ℕ → Bool) → List ℕ → Option (List ℕ)
 content_if passes bytes = if passes bytes then Some bytes else None
 
 -- the kind by which a value with this content is refused: it is too long, or doesn't pass the test
-abbrev pub new_fault : (List ℕ → Bool) → List ℕ → Option ErrorKind
+abbrev pub new_fault : (List ℕ → Bool) → List ℕ → Option (Option ErrorKind)
 new_fault passes content =
-    if nat_lt max_length (length content) then Some Overlength else value_unless (passes content)
+    if nat_lt max_length (length content) then Some (Some Overlength)
+    else value_unless (passes content)

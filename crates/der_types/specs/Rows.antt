@@ -25,9 +25,9 @@ abbrev pub row_fault : ℕ → Fault → Fault
 row_fault tag f bytes = elements_fault tag f (length bytes) bytes
 
 -- whether nothing is refused
-abbrev pub is_whole : Option ErrorKind → Bool
+abbrev pub is_whole : Option (Option ErrorKind) → Bool
 is_whole None = true
-is_whole (Some kind) = false
+is_whole (Some said) = false
 
 -- X.690 section 8.10.1: the content of elements with this tag, if the bytes are elements
 abbrev pub row_of : ℕ → Fault → List ℕ → Option (List ℕ)

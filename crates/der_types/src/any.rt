@@ -1,5 +1,5 @@
 //! An element of any tag.
-ghost use Rattle.std.specs.Prelude.{◌≡◌, ℕ, List, length, refl, MatchResult, true, false};
+ghost use Rattle.std.specs.Prelude.{◌≡◌, ℕ, List, length, refl, MatchResult, false};
 ghost use Rattle.sec1_der.specs.Elements.{element, IsHeader, IsElement};
 ghost use Rattle.sec1_der.specs.ErrorKinds.{IsReadingFault};
 ghost use Rattle.sec1_der.specs.Parts.{is_among, AreApart, ReadsPart};
@@ -86,7 +86,7 @@ impl<'a> Any<'a> {
     /// Reads one element of any tag. Requires that the reader hasn't failed.
     fn read(reader: &mut SliceReader<'a>) -> Result<Any<'a>>
         requires { reader.old.failed ≡ false }
-        ensures { ReadsPart any_of true any_element_fault any_tags result reader.old reader.new }
+        ensures { ReadsPart any_of any_element_fault any_tags result reader.old reader.new }
     {
         let input = reader.remaining_input();
         match AnyRef::decode(reader) {

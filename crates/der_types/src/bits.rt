@@ -1,5 +1,5 @@
 //! BIT STRING that may have unused bits.
-ghost use Rattle.std.specs.Prelude.{◌≡◌, ◌≢◌, ◌⊎◌, ◌<◌, ◌≤◌, ℕ, List, length, true, Some};
+ghost use Rattle.std.specs.Prelude.{◌≡◌, ◌≢◌, ◌⊎◌, ◌<◌, ◌≤◌, ℕ, List, length, Some};
 ghost use Rattle.std.specs.Prelude.{IsTrue, MatchOption, MatchResult};
 ghost use Rattle.sec1_der.specs.Contents.{are_bits, bit_string_fault};
 ghost use Rattle.sec1_der.specs.Elements.{max_length};

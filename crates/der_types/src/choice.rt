@@ -1,5 +1,5 @@
 //! CHOICE (X.690 section 8.13): a part that is one of several.
-ghost use Rattle.std.specs.Prelude.{◌≡◌, ◌&&◌, not, false, refl};
+ghost use Rattle.std.specs.Prelude.{◌≡◌, not, false, refl};
 ghost use Rattle.sec1_der.specs.Parts.{is_among};
 ghost use Rattle.der_types.specs.Choices.{begins_among, choice_of, choice_tags, choice_fault};
 ghost use Rattle.der_types.specs.ChoiceLaws.{choice_begins, choice_not_empty};
@@ -55,8 +55,6 @@ impl<P: Part, Q: Part> Part for Choice<P, Q> {
     ghost bytes = { choice_of P.bytes Q.bytes };
 
     ghost fault_then = { choice_fault P.tags.firsts P.fault_then Q.fault_then };
-
-    ghost says_kind = { P.says_kind && Q.says_kind };
 
     ghost tags = { choice_tags P.tags Q.tags };
 

@@ -53,8 +53,6 @@ impl<A: HasDefault + Tagged> Part for Defaulted<A> {
 
     ghost fault_then = { optional_fault A.tag_byte (other_fault A.default_content A.fault) };
 
-    ghost says_kind = { A.says_kind };
-
     ghost tags = { optional_tag A.tag_byte };
 
     ghost begins = { λ value. defaulted_begins A.tag_byte A.default_content (A.content value) };
@@ -118,8 +116,6 @@ impl<A: HasDefault> ValueContent for NotDefault<A> {
     ghost content = { λ value. other_content A.default_content (A.content value) };
 
     ghost fault = { other_fault A.default_content A.fault };
-
-    ghost says_kind = { A.says_kind };
 }
 
 impl<'a, A: HasDefault + DecodeValue<'a> + Drop> DecodeValue<'a> for NotDefault<A> {

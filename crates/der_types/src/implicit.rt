@@ -49,8 +49,6 @@ impl<K, A: ValueContent> ValueContent for Implicit<K, A> {
     ghost content = { A.content };
 
     ghost fault = { A.fault };
-
-    ghost says_kind = { A.says_kind };
 }
 
 impl<'a, K, A: DecodeValue<'a>> DecodeValue<'a> for Implicit<K, A> {

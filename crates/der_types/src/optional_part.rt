@@ -27,8 +27,6 @@ impl<P: Alternative> Part for OptionalPart<P> {
 
     ghost fault_then = { optional_part_fault P.tags.firsts P.fault_then };
 
-    ghost says_kind = { P.says_kind };
-
     ghost tags = { optional_tags P.tags };
 
     ghost begins = { optional_part_begins P.tags P.bytes P.begins };

@@ -4,7 +4,7 @@ ghost use Rattle.std.specs.Prelude.{Ok, IsOk, IsSome, IfSome, IfNone, IsSomeAnd}
 ghost use Rattle.std.specs.Prelude.{MatchResult};
 ghost use Rattle.sec1_der.specs.Elements.{element_of};
 ghost use Rattle.sec1_der.specs.ErrorKinds.{IsReadingFault};
-ghost use Rattle.sec1_der.specs.Faults.{TellsFault};
+ghost use Rattle.sec1_der.specs.Faults.{HasFault};
 ghost use Rattle.der_types.specs.Rows.{joined, row_fault, row_of};
 
 use sec1_der::{
@@ -25,7 +25,7 @@ pub fn check_elements<'a, T: DecodeValue<'a> + Tagged + Drop>(bytes: &'a [u8]) -
         (λ e. IsReadingFault e.kind) }
     ensures only { (values : List T) → joined T.tag_byte T.content values ≡ Some bytes.now
         → IsOk result }
-    ensures kind { TellsFault T.says_kind result (row_fault T.tag_byte T.fault bytes.now) }
+    ensures kind { HasFault result (row_fault T.tag_byte T.fault bytes.now) }
 {
     let mut elements = SliceReader::new(bytes);
     while elements.remaining_len() > 0 {
@@ -63,7 +63,7 @@ impl<'a, T> SequenceOf<'a, T> {
             (λ e. IsReadingFault e.kind) }
         ensures only { (values : List T) → joined T.tag_byte T.content values ≡ Some bytes.now
             → result ≡ Ok bytes.now }
-        ensures kind { TellsFault T.says_kind result (row_fault T.tag_byte T.fault bytes.now) }
+        ensures kind { HasFault result (row_fault T.tag_byte T.fault bytes.now) }
     {
         check_elements::<T>(bytes)?;
         Ok(SequenceOf {
@@ -166,8 +166,6 @@ impl<T: ValueContent + Tagged> ValueContent for SequenceOf<'_, T> {
     ghost content = { row_of T.tag_byte T.fault };
 
     ghost fault = { row_fault T.tag_byte T.fault };
-
-    ghost says_kind = { T.says_kind };
 }
 
 impl<'a, T: DecodeValue<'a> + Tagged + Drop> DecodeValue<'a> for SequenceOf<'a, T> {

@@ -1,7 +1,7 @@
 //! SET OF (X.690 sections 8.12 and 11.6).
 ghost use Rattle.std.specs.Prelude.{◌≡◌, ℕ, List, Some, true, Ok, MatchResult};
 ghost use Rattle.sec1_der.specs.ErrorKinds.{IsReadingFault};
-ghost use Rattle.sec1_der.specs.Faults.{TellsFault};
+ghost use Rattle.sec1_der.specs.Faults.{HasFault};
 ghost use Rattle.der_types.specs.Rows.{joined};
 ghost use Rattle.der_types.specs.Sets.{is_ascending, set_fault, set_of};
 
@@ -67,7 +67,7 @@ impl<'a, T> SetOf<'a, T> {
             (λ e. IsReadingFault e.kind) }
         ensures only { (values : List T) → joined T.tag_byte T.content values ≡ Some bytes.now
             → is_ascending bytes.now ≡ true → result ≡ Ok bytes.now }
-        ensures kind { TellsFault T.says_kind result (set_fault T.tag_byte T.fault bytes.now) }
+        ensures kind { HasFault result (set_fault T.tag_byte T.fault bytes.now) }
     {
         check_elements::<T>(bytes)?;
         if !is_ascending(bytes) {
@@ -118,8 +118,6 @@ impl<T: ValueContent + Tagged> ValueContent for SetOf<'_, T> {
     ghost content = { set_of T.tag_byte T.fault };
 
     ghost fault = { set_fault T.tag_byte T.fault };
-
-    ghost says_kind = { T.says_kind };
 }
 
 impl<'a, T: DecodeValue<'a> + Tagged + Drop> DecodeValue<'a> for SetOf<'a, T> {

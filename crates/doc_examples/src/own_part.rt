@@ -2,7 +2,7 @@ ghost use Rattle.sec1_der.specs.Elements.{element_of};
 ghost use Rattle.sec1_der.specs.PartLaws.{element_begins};
 ghost use Rattle.sec1_der.specs.Parts.{AreApart, one_tag};
 ghost use Rattle.sec1_der.specs.Faults.{element_fault};
-ghost use Rattle.std.specs.Prelude.{refl, true};
+ghost use Rattle.std.specs.Prelude.{refl};
 
 use sec1_der::{
     BackWriter, DecodePart, Distinct, EncodePart, Length, ObjectIdentifier, Part, Record, Required,

@@ -1,1 +1,2 @@
 mod CurveLemmas
+pub mod KindLaws

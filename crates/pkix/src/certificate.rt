@@ -1,5 +1,5 @@
 //! Certificates.
-ghost use Rattle.std.specs.Prelude.{refl, true};
+ghost use Rattle.std.specs.Prelude.{refl};
 ghost use Rattle.sec1_der.specs.Elements.{element_of};
 ghost use Rattle.sec1_der.specs.Parts.{AreApart, one_tag};
 ghost use Rattle.sec1_der.specs.PartLaws.{element_begins};
@@ -241,7 +241,7 @@ impl<'a> Certificate<'a> {
     ///
     /// Those of [`read_der`].
     pub fn from_der(bytes: &'a [u8]) -> Result<Certificate<'a>>
-        ensures { ReadsElement 0x30 certificate_content true certificate_fault bytes.now result }
+        ensures { ReadsElement 0x30 certificate_content certificate_fault bytes.now result }
     {
         read_der(bytes)
     }

@@ -1,5 +1,5 @@
 //! Extensions of certificates.
-ghost use Rattle.std.specs.Prelude.{refl, true};
+ghost use Rattle.std.specs.Prelude.{refl};
 ghost use Rattle.pkix.specs.Records.{extension_content, extension_fault};
 ghost use Rattle.sec1_der.specs.Encodings.{ReadsElement};
 
@@ -58,7 +58,7 @@ impl<'a> Extension<'a> {
     ///
     /// Those of [`read_der`].
     pub fn from_der(bytes: &'a [u8]) -> Result<Extension<'a>>
-        ensures { ReadsElement 0x30 extension_content true extension_fault bytes.now result }
+        ensures { ReadsElement 0x30 extension_content extension_fault bytes.now result }
     {
         read_der(bytes)
     }

@@ -85,7 +85,7 @@ impl<'a> PrivateKeyInfo<'a> {
         ensures other_algorithm { ((curve : Curve) → ¬ IsOnCurve curve self.now.algorithm)
             → result ≡ Err Error.Crypto }
         ensures no_key { (curve : Curve) (kind : ErrorKind) → IsOnCurve curve self.now.algorithm
-            → key_fault self.now.private_key ≡ Some kind → IsErrAnd result (IsAsn1 kind) }
+            → key_fault self.now.private_key ≡ Some (Some kind) → IsErrAnd result (IsAsn1 kind) }
         ensures other_curve { (curve : Curve) (key : Key) → IsOnCurve curve self.now.algorithm
             → IsKeyOf key self.now.private_key → ¬ NamesCurve curve key
             → result ≡ Err Error.Crypto }

@@ -1,5 +1,5 @@
 //! Names, which are rows of sets of attributes.
-ghost use Rattle.std.specs.Prelude.{refl, true};
+ghost use Rattle.std.specs.Prelude.{refl};
 ghost use Rattle.pkix.specs.Records.{attribute_content, attribute_fault};
 ghost use Rattle.sec1_der.specs.Encodings.{ReadsElement};
 
@@ -47,7 +47,7 @@ impl<'a> AttributeTypeAndValue<'a> {
     ///
     /// Those of [`read_der`].
     pub fn from_der(bytes: &'a [u8]) -> Result<AttributeTypeAndValue<'a>>
-        ensures { ReadsElement 0x30 attribute_content true attribute_fault bytes.now result }
+        ensures { ReadsElement 0x30 attribute_content attribute_fault bytes.now result }
     {
         read_der(bytes)
     }

@@ -210,7 +210,7 @@ impl<'a> PrivateKeyInfo<'a> {
     ///
     /// Those of [`read_der`].
     pub fn from_der(bytes: &'a [u8]) -> Result<PrivateKeyInfo<'a>>
-        ensures { ReadsElement 0x30 private_key_content true private_key_fault bytes.now result }
+        ensures { ReadsElement 0x30 private_key_content private_key_fault bytes.now result }
     {
         read_der::<PrivateKeyInfo>(bytes)
     }
@@ -223,7 +223,7 @@ impl<'a> OneAsymmetricKey<'a> {
     ///
     /// Those of [`read_der`].
     pub fn from_der(bytes: &'a [u8]) -> Result<OneAsymmetricKey<'a>>
-        ensures { ReadsElement 0x30 asymmetric_key_content true asymmetric_key_fault bytes.now
+        ensures { ReadsElement 0x30 asymmetric_key_content asymmetric_key_fault bytes.now
             result }
     {
         read_der::<OneAsymmetricKey>(bytes)

@@ -1,5 +1,5 @@
 //! Public keys with their algorithms.
-ghost use Rattle.std.specs.Prelude.{refl, true};
+ghost use Rattle.std.specs.Prelude.{refl};
 ghost use Rattle.sec1_der.specs.Elements.{element_of};
 ghost use Rattle.sec1_der.specs.Parts.{AreApart, one_tag};
 ghost use Rattle.sec1_der.specs.PartLaws.{element_begins};
@@ -92,7 +92,7 @@ impl<'a> SubjectPublicKeyInfo<'a> {
     ///
     /// Those of [`read_der`].
     pub fn from_der(bytes: &'a [u8]) -> Result<SubjectPublicKeyInfo<'a>>
-        ensures { ReadsElement 0x30 public_key_content true public_key_fault bytes.now result }
+        ensures { ReadsElement 0x30 public_key_content public_key_fault bytes.now result }
     {
         read_der(bytes)
     }

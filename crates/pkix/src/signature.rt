@@ -1,5 +1,5 @@
 //! Signatures of ECDSA.
-ghost use Rattle.std.specs.Prelude.{refl, true};
+ghost use Rattle.std.specs.Prelude.{refl};
 ghost use Rattle.pkix.specs.Records.{signature_content, signature_fault};
 ghost use Rattle.sec1_der.specs.Encodings.{ReadsElement};
 
@@ -44,7 +44,7 @@ impl<'a> EcdsaSigValue<'a> {
     ///
     /// Those of [`read_der`].
     pub fn from_der(bytes: &'a [u8]) -> Result<EcdsaSigValue<'a>>
-        ensures { ReadsElement 0x30 signature_content true signature_fault bytes.now result }
+        ensures { ReadsElement 0x30 signature_content signature_fault bytes.now result }
     {
         read_der(bytes)
     }

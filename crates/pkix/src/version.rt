@@ -1,5 +1,5 @@
 //! Versions of certificates.
-ghost use Rattle.std.specs.Prelude.{◌≡◌, [], ◌∷◌, true, Some};
+ghost use Rattle.std.specs.Prelude.{◌≡◌, [], ◌∷◌, Some};
 ghost use Rattle.sec1_der.specs.Contents.{value_unless};
 ghost use Rattle.pkix.specs.Versions.{is_later_version, later_version_content};
 

@@ -14,6 +14,10 @@ use Rattle.sec1_der.specs.Trees.{bytes as tree_bytes}
 use Rattle.sec1_der.specs.Identifiers.{IsIdentifier, content_of, identifier_content}
 use Rattle.sec1_der.proofs.IdentifierLaws.{is_identifier-true, identifier_content-valid}
 use Rattle.sec1.specs.KeyFaults.{key_fault}
+use Rattle.sec1_der.specs.Contents.{byte_fault, identifier_fault, whole_bits_field_fault}
+use Rattle.sec1_der.specs.Faults.{SaysKinds, no_fault, end_fault}
+use Rattle.sec1_der.proofs.KindLaws.{element_says, optional_says, none_says, end_says, byte_says, identifier_says}
+use Rattle.sec1_der.proofs.KindLaws.{field_says}
 use Rattle.sec1.specs.Keys.{Key, key_tree, IsKeyOf, SomeBytes}
 
 -- the content of a key with this element of the identifier of its curve
@@ -89,11 +93,22 @@ key_found_with key P h = found_with key P (element_of 0x30 (key_content key)) re
 
 -- Bytes that a key's continue are refused as Truncated.
 pub key_cut : (key : Key) (bytes input : List ℕ) → IsKeyOf key bytes → IsProperPrefix input bytes
-    → key_fault input ≡ Some Truncated
+    → key_fault input ≡ Some (Some Truncated)
 unfolding key_fault
 key_cut key bytes input is begins =
     let cut : IsProperPrefix input (tree_bytes (key_tree key)) = rw is.tree.whole at begins in
     search (element_cut, is.tree.tree.2, cut)
+
+-- Each refusal of a key's bytes has a kind.
+pub key_says : SaysKinds key_fault
+unfolding key_fault
+key_says =
+    element_says 0x30 _ end_fault
+    (element_says 0x02 (byte_fault 1) _ (byte_says 1)
+    (element_says 0x04 no_fault _ none_says
+    (optional_says 0xA0 _ _ (element_says 0x06 identifier_fault end_fault identifier_says end_says)
+    (optional_says 0xA1 whole_bits_field_fault end_fault field_says end_says))))
+    end_says
 
 -- A key that has none has no element.
 pub key_lacks : (key : Key) → ((bytes : List ℕ) → ¬ IsKeyOf key bytes) → element_of 0x30 (key_content key) ≡ None

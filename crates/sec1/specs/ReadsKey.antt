@@ -22,7 +22,7 @@ pub record ReadsKey (input : List ℕ) (result : Result Key Error) : Type 0 wher
   pub kinds : IfErr result (IsAsn1Where IsReadingFault)
   -- whether the bytes are refused, and by which kind, is a function of them
   pub kind : MatchResult result (λ _. key_fault input ≡ None)
-      (IsAsn1Where (λ kind. key_fault input ≡ Some kind))
+      (IsAsn1Where (λ kind. key_fault input ≡ Some (Some kind)))
   -- a proper prefix of a key's bytes is refused as Truncated
   pub short : (key : Key) (bytes : List ℕ) → IsKeyOf key bytes → IsProperPrefix input bytes
       → IsErrAnd result (IsAsn1 Truncated)

@@ -23,7 +23,9 @@ use Rattle.sec1_der.specs.Elements.{element, element_of, header, max_length, wit
 use Rattle.sec1_der.proofs.JoinLaws.{parted}
 use Rattle.sec1_der.specs.Parts.{join, optional_of}
 use Rattle.sec1_der.proofs.FaultLaws.{element_at}
-use Rattle.sec1_der.specs.Faults.{Fault, element_fault, end_fault, length_at, no_fault, optional_fault}
+use Rattle.sec1_der.proofs.KindLaws.{element_says, end_says, said_kind}
+use Rattle.pkix.proofs.KindLaws.{private_key_says}
+use Rattle.sec1_der.specs.Faults.{Fault, IsFaultOf, element_fault, end_fault, length_at, no_fault, optional_fault}
 use Rattle.sec1_der.specs.Faults.{parts_fault, within}
 use Rattle.sec1_der.specs.declared.error.Error.{Error}
 use Rattle.sec1_der.specs.declared.error.ErrorKind.{ErrorKind}
@@ -39,25 +41,26 @@ use Rattle.sec1_c.proofs.PublicKeyLemmas.{algorithm_ends}
 -- ---- the version
 
 -- of two faults the second one, if the first is Value
-record IsChosen (first second chosen : Option ErrorKind) : Type 0 where
-  by_value : first ≡ Some Value → chosen ≡ second
-  by_other : first ≢ Some Value → chosen ≡ first
+record IsChosen (first second chosen : Option (Option ErrorKind)) : Type 0 where
+  by_value : first ≡ Some (Some Value) → chosen ≡ second
+  by_other : first ≢ Some (Some Value) → chosen ≡ first
 
-same : (fault : Option ErrorKind) → IsChosen fault fault fault
+same : (fault : Option (Option ErrorKind)) → IsChosen fault fault fault
 same fault = record { by_value = λ _. refl; by_other = λ _. refl }
 
 -- what follows refuses nothing as Value
-followed : (first second chosen behind : Option ErrorKind) → behind ≢ Some Value → IsChosen first second chosen
+followed : (first second chosen behind : Option (Option ErrorKind)) → behind ≢ Some (Some Value)
+    → IsChosen first second chosen
     → IsChosen (option_or first behind) (option_or second behind) (option_or chosen behind)
 followed None second chosen behind other is =
     let e : chosen ≡ None = is.by_other (λ e. absurd (cc e)) in
     record { by_value = λ e. absurd (other e); by_other = λ _. rw e refl }
-followed (Some kind) second chosen behind other is = record {
+followed (Some said) second chosen behind other is = record {
   by_value = λ e. rw (is.by_value e) refl;
   by_other = λ e. rw (is.by_other e) refl;
 }
 
-no_value : (bytes : List ℕ) → end_fault bytes ≢ Some Value
+no_value : (bytes : List ℕ) → end_fault bytes ≢ Some (Some Value)
 no_value [] = λ e. absurd (cc e)
 no_value (byte ∷ bytes) = λ e. absurd (cc e)
 
@@ -70,11 +73,11 @@ whole_chosen f g h tag [] content = same _
 whole_chosen f g h tag (byte ∷ bytes) content = by (byte == tag) (within (length_at bytes))
   where
     by : (b : Bool) (found : Result (List ℕ × List ℕ) ErrorKind)
-        → IsChosen (if b then parts_fault f end_fault found else Some Tag)
-        (if b then parts_fault g end_fault found else Some Tag)
-        (if b then parts_fault h end_fault found else Some Tag)
-    by false found = same (Some Tag)
-    by true (Err kind) = same (Some kind)
+        → IsChosen (if b then parts_fault f end_fault found else Some (Some Tag))
+        (if b then parts_fault g end_fault found else Some (Some Tag))
+        (if b then parts_fault h end_fault found else Some (Some Tag))
+    by false found = same (Some (Some Tag))
+    by true (Err kind) = same (Some (Some kind))
     by true (Ok x) = followed (f x.0) (g x.0) (h x.0) (end_fault x.1) (no_value x.1) (content x.0)
 
 -- no content is both versions
@@ -96,7 +99,7 @@ version_chosen : (f g : Fault) (content : List ℕ)
 version_chosen f g [] = record { by_value = λ e. absurd (cc e); by_other = λ _. refl }
 version_chosen f g (byte ∷ bytes) = by (byte == 0x02) (within (length_at bytes))
   where
-    versions : (one zero : Bool) (p q : Option ErrorKind) → (one ≡ true → zero ≡ false)
+    versions : (one zero : Bool) (p q : Option (Option ErrorKind)) → (one ≡ true → zero ≡ false)
         → IsChosen (option_or (value_unless zero) p) (option_or (value_unless one) q)
         (if is_whole (option_or (value_unless one) None) then option_or (value_unless one) q
         else option_or (value_unless zero) p)
@@ -106,13 +109,13 @@ version_chosen f g (byte ∷ bytes) = by (byte == 0x02) (within (length_at bytes
     versions false false p q differ = record { by_value = λ _. refl; by_other = λ _. refl }
 
     by : (b : Bool) (found : Result (List ℕ × List ℕ) ErrorKind)
-        → IsChosen (if b then parts_fault (byte_fault 0) f found else Some Tag)
-        (if b then parts_fault (byte_fault 1) g found else Some Tag)
-        (if is_whole (if b then parts_fault (byte_fault 1) no_fault found else Some Tag)
-        then (if b then parts_fault (byte_fault 1) g found else Some Tag)
-        else (if b then parts_fault (byte_fault 0) f found else Some Tag))
-    by false found = same (Some Tag)
-    by true (Err kind) = same (Some kind)
+        → IsChosen (if b then parts_fault (byte_fault 0) f found else Some (Some Tag))
+        (if b then parts_fault (byte_fault 1) g found else Some (Some Tag))
+        (if is_whole (if b then parts_fault (byte_fault 1) no_fault found else Some (Some Tag))
+        then (if b then parts_fault (byte_fault 1) g found else Some (Some Tag))
+        else (if b then parts_fault (byte_fault 0) f found else Some (Some Tag)))
+    by false found = same (Some (Some Tag))
+    by true (Err kind) = same (Some (Some kind))
     by true (Ok x) =
         versions (bytes_eq x.0 (1 ∷ [])) (bytes_eq x.0 (0 ∷ [])) (f x.1) (g x.1) (not_both x.0)
 
@@ -135,18 +138,24 @@ chosen : (bytes : List ℕ)
 chosen bytes =
     whole_chosen private_key_fault asymmetric_key_fault container_fault 0x30 bytes (version_chosen _ _)
 
-pub by_value : (bytes : List ℕ) (kind : ErrorKind) → zero_fault bytes ≡ Some kind → kind ≡ Value
-    → element_fault 0x30 container_fault end_fault bytes ≡ one_fault bytes
-by_value bytes kind e is = (chosen bytes).by_value (e ∙ ap Some is)
+-- the kind by which bytes are refused as a container of version 0
+pub zero_kind : (bytes : List ℕ) (kind : ErrorKind) → IsFaultOf (zero_fault bytes) kind
+    → zero_fault bytes ≡ Some (Some kind)
+zero_kind bytes kind is =
+    said_kind zero_fault bytes kind (element_says 0x30 private_key_fault end_fault private_key_says end_says) is
 
-pub by_other : (bytes : List ℕ) (kind : ErrorKind) → zero_fault bytes ≡ Some kind → kind ≢ Value
-    → element_fault 0x30 container_fault end_fault bytes ≡ Some kind
+pub by_value : (bytes : List ℕ) (kind : ErrorKind) → zero_fault bytes ≡ Some (Some kind) → kind ≡ Value
+    → element_fault 0x30 container_fault end_fault bytes ≡ one_fault bytes
+by_value bytes kind e is = (chosen bytes).by_value (e ∙ ap (λ k. Some (Some k)) is)
+
+pub by_other : (bytes : List ℕ) (kind : ErrorKind) → zero_fault bytes ≡ Some (Some kind) → kind ≢ Value
+    → element_fault 0x30 container_fault end_fault bytes ≡ Some (Some kind)
 by_other bytes kind e other = (chosen bytes).by_other (λ is. other (cc (sym e ∙ is))) ∙ e
 
 -- a container of version 1 is refused as one of version 0 by Value
 other_version : (container : OneAsymmetricKey) (bytes : List ℕ)
     → element_of 0x30 (container_content 1 container) ≡ Some bytes
-    → zero_fault bytes ≡ Some Value
+    → zero_fault bytes ≡ Some (Some Value)
 other_version container bytes is =
     let whole = element_of-some 0x30 (container_content 1 container) bytes is in
     let rest = parted (element_of 0x02 (Some (1 ∷ []))) _ whole.inside whole.same in
@@ -155,7 +164,7 @@ other_version container bytes is =
     let first = element_at (byte_fault 0) behind_version 0x02 (1 ∷ []) whole.inside rest.back (lit≤ tt) split in
     let outer = element_at private_key_fault end_fault 0x30 whole.inside bytes []
     whole.at.within (grind (arith, append-nil, whole.at.encoded)) in
-    outer ∙ ap (λ (fault : Option ErrorKind). option_or fault None) first
+    outer ∙ ap (λ (fault : Option (Option ErrorKind)). option_or fault None) first
 
 join_assoc : (a b c : Option (List ℕ)) → join (join a b) c ≡ join a (join b c)
 join_assoc None b c = refl
@@ -228,7 +237,7 @@ only_one error container bytes only (inr is) = is
 -- what is refused by another kind than Value is no container
 pub no_other : (error : Error) (container : OneAsymmetricKey) (bytes : List ℕ)
     → ((found : PrivateKeyInfo) → element_of 0x30 (private_key_content found) ≡ Some bytes → Err error ≡ Ok found)
-    → zero_fault bytes ≡ Some error.kind → error.kind ≢ Value → IsContainer container bytes → ⊥
+    → zero_fault bytes ≡ Some (Some error.kind) → error.kind ≢ Value → IsContainer container bytes → ⊥
 no_other error container bytes only e other is =
     other (cc (sym e ∙ other_version container bytes (only_one error container bytes only is)))
 

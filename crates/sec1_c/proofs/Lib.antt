@@ -6,5 +6,6 @@ pub mod NameLemmas
 pub mod PlaceLemmas
 pub mod PointLemmas
 pub mod PublicKeyLemmas
+pub mod StatusLemmas
 pub mod SubidentifierLemmas
 pub mod TextLemmas

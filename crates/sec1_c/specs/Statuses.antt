@@ -23,10 +23,12 @@ kind_number Failed = 12
 kind_number Io = 13
 kind_number OutOfMemory = 14
 
--- the number of the kind by which bytes are refused; 0 if there is none
-abbrev pub fault_number : Option ErrorKind → ℕ
+-- the number of the kind by which bytes are refused; 0 if there is none, or one that isn't said,
+-- which no rule here has
+abbrev pub fault_number : Option (Option ErrorKind) → ℕ
 fault_number None = 0
-fault_number (Some kind) = kind_number kind
+fault_number (Some None) = 0
+fault_number (Some (Some kind)) = kind_number kind
 
 -- the number of an error; no call returns one above 11
 abbrev pub error_number : Error → ℕ

@@ -21,6 +21,7 @@ use sec1_der::Record;
 /// Returns the number of the first fault from left to right if the bytes aren't a certificate, and
 /// leaves `part` unchanged.
 #[unsafe(no_mangle)]
+#[tactic(auto, using(crate::proofs::StatusLemmas::certificate_kind))]
 pub extern "C" fn sec1_certificate_public_key(bytes: &[u8], part: &mut Part) -> u32
     ensures found { result ≡ 0 → (certificate : Certificate)
         × IsCertificate certificate bytes.now }

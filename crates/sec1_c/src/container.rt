@@ -47,7 +47,7 @@ pub extern "C" fn sec1_private_key_info_read(bytes: &[u8], parts: &mut PrivateKe
         → IsContainer container bytes.now → IsOnCurve curve container.algorithm
         → parts.new ≡ container_places curve container bytes.now }
     ensures no_container { (kind : ErrorKind)
-        → element_fault 0x30 container_fault end_fault bytes.now ≡ Some kind
+        → element_fault 0x30 container_fault end_fault bytes.now ≡ Some (Some kind)
         → result ≡ kind_number kind }
     ensures other_curve { (container : OneAsymmetricKey) → IsContainer container bytes.now
         → ((curve : Curve) → ¬ IsOnCurve curve container.algorithm) → result ≡ curve_number }

@@ -25,6 +25,7 @@ use std::cmp::Ordering;
 /// an element ends after the one around it; Depth if an element at level 64 contains elements;
 /// TrailingData if bytes follow the tree.
 #[unsafe(no_mangle)]
+#[tactic(auto, using(crate::proofs::StatusLemmas::tree_kind))]
 pub extern "C" fn sec1_check_tree(input: &[u8], elements: &mut usize) -> u32
     ensures found { result ≡ 0 → (t : Tree) × IsTreeOf t input.now × (depth t ≤ max_tree_depth) }
     ensures only { (t : Tree) → IsTreeOf t input.now → depth t ≤ max_tree_depth
@@ -101,6 +102,7 @@ pub extern "C" fn sec1_document_len(input: &[u8], len: &mut usize) -> u32
 /// Truncated if it ends inside the header or the content. On an error `header_len` and
 /// `content_len` are unchanged.
 #[unsafe(no_mangle)]
+#[tactic(auto, using(crate::proofs::StatusLemmas::any_kind))]
 pub extern "C" fn sec1_element_read(
     input: &[u8],
     header_len: &mut usize,

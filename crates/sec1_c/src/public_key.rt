@@ -54,7 +54,7 @@ pub extern "C" fn sec1_public_key_read(bytes: &[u8], parts: &mut PublicKeyParts)
         → IsInfo info bytes.now → IsEcKey curve point info
         → parts.new ≡ public_key_places curve info bytes.now }
     ensures no_info { (kind : ErrorKind)
-        → element_fault 0x30 public_key_fault end_fault bytes.now ≡ Some kind
+        → element_fault 0x30 public_key_fault end_fault bytes.now ≡ Some (Some kind)
         → result ≡ kind_number kind }
     ensures other_curve { (info : SubjectPublicKeyInfo) → IsInfo info bytes.now
         → ((curve : Curve) → ¬ IsOnCurve curve info.algorithm) → result ≡ curve_number }

@@ -33,8 +33,8 @@ pub fn kind_number(kind: ErrorKind) -> u32
 pub fn error_number(error: &Error) -> u32
     ensures number { result ≡ error_number error.now }
     ensures kind { (kind : ErrorKind) → IsAsn1 kind error.now → result ≡ kind_number kind }
-    ensures fault { (fault : Option ErrorKind)
-        → IsAsn1Where (λ kind. fault ≡ Some kind) error.now → result ≡ fault_number fault }
+    ensures fault { (fault : Option (Option ErrorKind))
+        → IsAsn1Where (λ kind. fault ≡ Some (Some kind)) error.now → result ≡ fault_number fault }
 {
     match error {
         Error::Asn1(cause) => kind_number(cause.kind),

@@ -26,7 +26,7 @@ identifier_taken arcs content h =
 
 -- a content of no identifier is refused as Value
 pub identifier_refused : (content : List ℕ) → ((arcs : List ℕ) → IsIdentifier arcs content → ⊥)
-    → identifier_fault content ≡ Some Value
+    → identifier_fault content ≡ Some (Some Value)
 identifier_refused content none =
     let arcs = arcs_of content in
     ⊎_elim

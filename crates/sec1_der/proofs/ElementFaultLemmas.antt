@@ -39,13 +39,13 @@ length_at_lacks bytes lacks =
 -- a header with less after it than it announces is truncated
 pub any_short : (f : ℕ → Fault) (g : Fault) (tag n : ℕ) (bytes inside : List ℕ) → IsHeader tag n
     → bytes ≡ header tag n ++ inside → length inside < n
-    → any_fault f g bytes ≡ Some Truncated
+    → any_fault f g bytes ≡ Some (Some Truncated)
 any_short f g tag n bytes inside h e few =
     rw (e, h.tag_byte, length_at_octets n inside h.within, lt-leb n (length inside) few) refl
 
 -- bytes that begin with no header are refused by the fault of their header
 pub any_without_header : (f : ℕ → Fault) (g : Fault) (bytes : List ℕ) → LacksHeader bytes
-    → any_fault f g bytes ≡ Some (header_fault bytes)
+    → any_fault f g bytes ≡ Some (Some (header_fault bytes))
 any_without_header f g [] lacks = refl
 any_without_header f g (byte ∷ bytes) lacks = ⊎_elim
     (λ e. let is : is_tag byte ≡ true = e in
@@ -59,11 +59,11 @@ any_without_header f g (byte ∷ bytes) lacks = ⊎_elim
 -- a truncated element
 pub any_cut : (f : ℕ → Fault) (g : Fault) (tag : ℕ) (content input : List ℕ)
     → IsHeader tag (length content)
-    → IsProperPrefix input (element tag content) → any_fault f g input ≡ Some Truncated
+    → IsProperPrefix input (element tag content) → any_fault f g input ≡ Some (Some Truncated)
 any_cut f g tag content input h cut = ⊎_elim
     (λ l. any_without_header f g input (lacks l) ∙ ⊎_elim
     (λ c. absurd (omega (arith, ap length c.front, length-append (header tag (length content)) c.after)))
-    (λ k. ap Some k)
+    (λ k. ap (λ kind. Some (Some kind)) k)
     (header_front tag (length content) input cut.more content h (sym cut.split)))
     (λ l. let c = longer input (header tag (length content)) cut.more content (sym cut.split) l in
     any_short f g tag (length content) input c.after h c.front
@@ -80,7 +80,7 @@ any_cut f g tag content input h cut = ⊎_elim
 -- the length and the content of a truncated element
 parts_cut : (f g : Fault) (tag : ℕ) (content bytes : List ℕ) → IsHeader tag (length content)
     → IsProperPrefix (tag ∷ bytes) (element tag content)
-    → parts_fault f g (within (length_at bytes)) ≡ Some Truncated
+    → parts_fault f g (within (length_at bytes)) ≡ Some (Some Truncated)
 parts_cut f g tag content bytes h cut =
     rw h.tag_byte at (any_cut (λ _. f) g tag content (tag ∷ bytes) h cut)
 
@@ -90,7 +90,7 @@ sequence_tag = refl
 
 -- a truncated element with this tag, whatever its tag
 pub element_cut : (f g : Fault) (tag : ℕ) (content input : List ℕ) → length content ≤ max_length
-    → IsProperPrefix input (element tag content) → element_fault tag f g input ≡ Some Truncated
+    → IsProperPrefix input (element tag content) → element_fault tag f g input ≡ Some (Some Truncated)
 element_cut f g tag content [] fits cut = refl
 element_cut f g tag content (byte ∷ bytes) fits cut =
     let same : tag ≡ byte = cc cut.split in
@@ -130,7 +130,7 @@ opened_element f tag opened old new content is same = (
 )
 
 -- bytes after the end are refused as trailing data
-pub trailing_fault : (bytes : List ℕ) → (bytes ≡ [] → ⊥) → end_fault bytes ≡ Some TrailingData
+pub trailing_fault : (bytes : List ℕ) → (bytes ≡ [] → ⊥) → end_fault bytes ≡ Some (Some TrailingData)
 trailing_fault [] some = absurd (some refl)
 trailing_fault (byte ∷ bytes) some = refl
 
@@ -143,7 +143,7 @@ document_element bytes is =
 -- a header and more than the content that it announces are refused as trailing data
 pub document_long : (tag n : ℕ) (bytes inside : List ℕ) → IsHeader tag n → bytes ≡ header tag n ++ inside
     → n < length inside
-    → document_fault bytes ≡ Some TrailingData
+    → document_fault bytes ≡ Some (Some TrailingData)
 document_long tag n bytes inside h e more =
     any_room (λ _. no_fault) end_fault tag n bytes inside h e (omega arith)
     ∙ trailing_fault (drop n inside) (λ none. absurd (omega (arith, ap length none, length-drop n inside)))

@@ -77,7 +77,7 @@ element_at f g tag content bytes rest fits e =
     rw (e, eq-eqb tag tag refl) (parts_at f g content rest fits)
 
 -- a fault with none after it is the fault
-pub alone : (o : Option ErrorKind) → option_or o None ≡ o
+pub alone : (o : Option (Option ErrorKind)) → option_or o None ≡ o
 alone None = refl
 alone (Some k) = refl
 

@@ -1,36 +1,179 @@
--- The kind of an error, which a type may leave unsaid. Further crates cite these laws.
-use Rattle.std.proofs.Common.{◌≡◌, ◌==◌, if◌then◌else◌, ℕ, List, [], ◌∷◌, Bool, true, false}
-use Rattle.std.proofs.Common.{Option, Some, None, Result, Ok, Err, refl}
+-- The kinds of errors, which a rule may leave open. Further crates cite these laws.
+use Rattle.std.proofs.Common.{zero, suc, ◌+◌, nat_lt, bit_and, not}
+use Rattle.std.proofs.Common.{◌≡◌, ◌≢◌, ◌==◌, ◌&&◌, nat_le, length, if◌then◌else◌, ℕ, List, [], ◌∷◌, Bool, true, false}
+use Rattle.std.proofs.Common.{Option, Some, None, Result, Ok, Err, refl, sym, ap}
 use Rattle.std.specs.Option.{option_or}
-use Rattle.sec1_der.specs.Faults.{Fault, IsFaultOf, no_fault, length_at, within, parts_fault, element_fault}
+use Rattle.std.specs.Str.{bytes_eq}
+use Rattle.sec1_der.specs.ArcsOf.{arcs_of}
+use Rattle.sec1_der.specs.Contents.{value_unless, are_bits, byte_fault, bit_string_fault, whole_bits_fault}
+use Rattle.sec1_der.specs.Contents.{whole_bits_field_fault, identifier_fault}
+use Rattle.sec1_der.specs.Identifiers.{are_arcs, content_of, max_identifier_length}
+use Rattle.sec1_der.specs.Elements.{is_tag}
+use Rattle.sec1_der.specs.Faults.{Fault, IsFaultOf, SaysKinds, no_fault, end_fault, length_at, within, parts_fault}
+use Rattle.sec1_der.specs.Faults.{element_fault, optional_fault, any_fault, nested_fault, row_fault, tree_fault}
+use Rattle.sec1_der.specs.Faults.{document_fault}
+use Rattle.sec1_der.specs.Trees.{max_tree_depth}
 use Rattle.sec1_der.specs.declared.error.ErrorKind.{ErrorKind}
 use Rattle.sec1_der.specs.declared.error.ErrorKind.TheVariants.{Tag}
 
--- A kind that is known may be left unsaid.
-pub fault_of : (says : Bool) (fault : Option ErrorKind) (kind : ErrorKind) → fault ≡ Some kind
-    → IsFaultOf says fault kind
-fault_of true fault kind e = e
-fault_of false fault kind e = λ none. absurd (cc (e, none))
-
--- Where nothing is refused there is no kind.
-pub no_fault_of : (says : Bool) (kind : ErrorKind) → IsFaultOf says None kind → ⊥
-no_fault_of true kind e = cc e
-no_fault_of false kind some = some refl
+-- A kind that is known is that of the fault.
+pub fault_of : (fault : Option (Option ErrorKind)) (kind : ErrorKind) → fault ≡ Some (Some kind) → IsFaultOf fault kind
+fault_of fault kind e = rw e refl
 
 -- What is refused stays so where more is tested behind it.
-pub refused_more : (says : Bool) (f g : Fault) (tag : ℕ) (bytes : List ℕ) (kind : ErrorKind)
-    → IsFaultOf says (element_fault tag f no_fault bytes) kind → IsFaultOf says (element_fault tag f g bytes) kind
-refused_more says f g tag [] kind e = e
-refused_more says f g tag (byte ∷ bytes) kind e = by (byte == tag) (within (length_at bytes)) e
+pub refused_more : (f g : Fault) (tag : ℕ) (bytes : List ℕ) (kind : ErrorKind)
+    → IsFaultOf (element_fault tag f no_fault bytes) kind → IsFaultOf (element_fault tag f g bytes) kind
+refused_more f g tag [] kind e = e
+refused_more f g tag (byte ∷ bytes) kind e = by (byte == tag) (within (length_at bytes)) e
   where
-    more : (fault : Option ErrorKind) → IsFaultOf says (option_or fault None) kind
-        → (behind : Option ErrorKind) → IsFaultOf says (option_or fault behind) kind
-    more None e behind = absurd (no_fault_of says kind e)
-    more (Some k) e behind = e
+    more : (fault : Option (Option ErrorKind)) → IsFaultOf (option_or fault None) kind
+        → (behind : Option (Option ErrorKind)) → IsFaultOf (option_or fault behind) kind
+    more None e behind = absurd e
+    more (Some said) e behind = e
 
     by : (b : Bool) (found : Result (List ℕ × List ℕ) ErrorKind)
-        → IsFaultOf says (if b then parts_fault f no_fault found else Some Tag) kind
-        → IsFaultOf says (if b then parts_fault f g found else Some Tag) kind
+        → IsFaultOf (if b then parts_fault f no_fault found else Some (Some Tag)) kind
+        → IsFaultOf (if b then parts_fault f g found else Some (Some Tag)) kind
     by false found e = e
     by true (Err kind) e = e
     by true (Ok x) e = more (f x.0) e (g x.1)
+
+-- Where a rule says its kinds, that of an error is the one that it says.
+pub said_kind : (f : Fault) (bytes : List ℕ) (kind : ErrorKind) → SaysKinds f → IsFaultOf (f bytes) kind
+    → f bytes ≡ Some (Some kind)
+said_kind f bytes kind says is = by (f bytes) (says.kind bytes) is
+  where
+    by : (fault : Option (Option ErrorKind)) → fault ≢ Some None → IsFaultOf fault kind → fault ≡ Some (Some kind)
+    by None other is = absurd is
+    by (Some None) other is = absurd (other refl)
+    by (Some (Some named)) other is = ap (λ k. Some (Some k)) (sym is)
+
+-- ---- rules that say their kinds
+
+or_says : (a b : Option (Option ErrorKind)) → a ≢ Some None → b ≢ Some None → option_or a b ≢ Some None
+or_says None b first second = second
+or_says (Some said) b first second = first
+
+pub either_says : (b : Bool) (a c : Option (Option ErrorKind)) → a ≢ Some None → c ≢ Some None
+    → (if b then a else c) ≢ Some None
+either_says true a c first second = first
+either_says false a c first second = second
+
+unless_says : (passes : Bool) → value_unless passes ≢ Some None
+unless_says true e = cc e
+unless_says false e = cc e
+
+pub none_says : SaysKinds no_fault
+none_says = record { kind = λ bytes e. cc e }
+
+pub end_says : SaysKinds end_fault
+end_says = record { kind = by }
+  where
+    by : (bytes : List ℕ) → end_fault bytes ≢ Some None
+    by [] e = cc e
+    by (byte ∷ bytes) e = cc e
+
+parts_says : (f g : Fault) (found : Result (List ℕ × List ℕ) ErrorKind) → SaysKinds f → SaysKinds g
+    → parts_fault f g found ≢ Some None
+parts_says f g (Err kind) first second e = cc e
+parts_says f g (Ok x) first second e = or_says (f x.0) (g x.1) (first.kind x.0) (second.kind x.1) e
+
+pub element_says : (tag : ℕ) (f g : Fault) → SaysKinds f → SaysKinds g → SaysKinds (element_fault tag f g)
+element_says tag f g first second = record { kind = by }
+  where
+    by : (bytes : List ℕ) → element_fault tag f g bytes ≢ Some None
+    by [] e = cc e
+    by (byte ∷ bytes) e =
+        either_says (byte == tag) _ _ (parts_says f g (within (length_at bytes)) first second) (λ same. cc same) e
+
+pub optional_says : (tag : ℕ) (f g : Fault) → SaysKinds f → SaysKinds g → SaysKinds (optional_fault tag f g)
+optional_says tag f g first second = record { kind = by }
+  where
+    by : (bytes : List ℕ) → optional_fault tag f g bytes ≢ Some None
+    by [] e = second.kind [] e
+    by (byte ∷ bytes) e =
+        either_says (byte == tag) _ _ ((element_says tag f g first second).kind (byte ∷ bytes))
+        (second.kind (byte ∷ bytes)) e
+
+pub any_says : (f : ℕ → Fault) (g : Fault) → ((tag : ℕ) → SaysKinds (f tag)) → SaysKinds g → SaysKinds (any_fault f g)
+any_says f g first second = record { kind = by }
+  where
+    by : (bytes : List ℕ) → any_fault f g bytes ≢ Some None
+    by [] e = cc e
+    by (tag ∷ bytes) e =
+        either_says (is_tag tag) _ _ (parts_says (f tag) g (within (length_at bytes)) (first tag) second)
+        (λ same. cc same) e
+
+-- a rule that refuses as Value what doesn't pass a test
+pub test_says : (test : List ℕ → Bool) → SaysKinds (λ bytes. value_unless (test bytes))
+test_says test = record { kind = λ bytes e. unless_says (test bytes) e }
+
+pub byte_says : (n : ℕ) → SaysKinds (byte_fault n)
+byte_says n = record { kind = λ content e. unless_says (bytes_eq content (n ∷ [])) e }
+
+pub bits_says : SaysKinds bit_string_fault
+bits_says = record { kind = by }
+  where
+    by : (bytes : List ℕ) → bit_string_fault bytes ≢ Some None
+    by [] e = cc e
+    by (unused ∷ bytes) e = unless_says (are_bits unused bytes) e
+
+pub whole_says : SaysKinds whole_bits_fault
+whole_says = record { kind = by }
+  where
+    by : (bytes : List ℕ) → whole_bits_fault bytes ≢ Some None
+    by [] e = cc e
+    by (unused ∷ bytes) e = unless_says (unused == 0) e
+
+-- one rule, and then another
+pub both_say : (f g : Fault) → SaysKinds f → SaysKinds g → SaysKinds (λ bytes. option_or (f bytes) (g bytes))
+both_say f g first second = record {
+  kind = λ bytes e. or_says (f bytes) (g bytes) (first.kind bytes) (second.kind bytes) e;
+}
+
+pub field_says : SaysKinds whole_bits_field_fault
+field_says =
+    both_say (element_fault 0x03 bit_string_fault end_fault) (element_fault 0x03 whole_bits_fault no_fault)
+    (element_says 0x03 bit_string_fault end_fault bits_says end_says)
+    (element_says 0x03 whole_bits_fault no_fault whole_says none_says)
+
+pub identifier_says : SaysKinds identifier_fault
+identifier_says =
+    test_says (λ content. (are_arcs (arcs_of content)
+    && nat_le (length (content_of (arcs_of content))) max_identifier_length)
+    && bytes_eq (content_of (arcs_of content)) content)
+
+-- ---- trees
+
+nested_says : (f : Fault) → SaysKinds f → (tag : ℕ) → SaysKinds (nested_fault f tag)
+nested_says f says tag = record {
+  kind = λ bytes e. either_says (not (bit_and tag 0x20 == 0)) (f bytes) None (says.kind bytes) (λ same. cc same) e;
+}
+
+next_says : (most level : ℕ) → SaysKinds (row_fault most (level + 1)) → SaysKinds (row_fault most level)
+    → SaysKinds (row_fault (suc most) level)
+next_says most level inside behind = record { kind = by }
+  where
+    by : (bytes : List ℕ) → row_fault (suc most) level bytes ≢ Some None
+    by [] e = cc e
+    by (byte ∷ bytes) e =
+        either_says (nat_lt max_tree_depth level) _ _ (λ same. cc same)
+        ((any_says (nested_fault (row_fault most (level + 1))) (row_fault most level)
+        (nested_says (row_fault most (level + 1)) inside) behind).kind (byte ∷ bytes)) e
+
+trees_say : (most level : ℕ) → SaysKinds (row_fault most level)
+trees_say zero level = record { kind = λ bytes e. cc e }
+trees_say (suc most) level = next_says most level (trees_say most (level + 1)) (trees_say most level)
+
+pub tree_says : SaysKinds tree_fault
+tree_says = record {
+  kind = λ bytes e.
+      (any_says (nested_fault (row_fault (length bytes) 2)) end_fault
+      (nested_says (row_fault (length bytes) 2) (trees_say (length bytes) 2)) end_says).kind bytes e;
+}
+
+pub document_says : SaysKinds document_fault
+document_says = any_says (λ _. no_fault) end_fault (λ _. none_says) end_says
+
+-- by these, a rule says its kinds
+pub ruleset kinds_said = (element_says, tree_says, document_says)

@@ -10,7 +10,6 @@ pub mod TextLaws
 pub mod DigitLemmas
 pub mod LengthLemmas
 pub mod ElementLemmas
-pub mod WriterLemmas
 pub mod ComponentLemmas
 pub mod HeaderLemmas
 pub mod ElementFaultLemmas

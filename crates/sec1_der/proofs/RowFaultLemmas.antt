@@ -43,7 +43,7 @@ row_bound (suc m) (suc n) level [] l r = refl
 row_bound zero n level (b ∷ bs) l r = absurd (omega arith)
 row_bound (suc m) zero level (b ∷ bs) l r = absurd (omega arith)
 row_bound (suc m) (suc n) level (b ∷ bs) l r =
-    ap (λ fault. if nat_lt max_tree_depth level then Some Depth else fault)
+    ap (λ fault. if nat_lt max_tree_depth level then Some (Some Depth) else fault)
     (nested_alike _ _ _ _ b bs (λ content few. row_bound m n (level + 1) content (omega arith) (omega arith))
     (λ behind few. row_bound m n level behind (omega arith) (omega arith)))
 
@@ -62,7 +62,7 @@ row_some level (b ∷ bs) some fits =
     (λ behind few. row_bound (length bs) (length behind) level behind (omega arith) (omega arith)))
 
 -- a row at level 65 is too deep
-pub row_deep : (level : ℕ) (bytes : List ℕ) → 0 < length bytes → level ≡ 65 → row_at level bytes ≡ Some Depth
+pub row_deep : (level : ℕ) (bytes : List ℕ) → 0 < length bytes → level ≡ 65 → row_at level bytes ≡ Some (Some Depth)
 row_deep level [] some deep = absurd (omega arith)
 row_deep level (b ∷ bs) some deep = rw (lt-ltb max_tree_depth level (omega arith)) refl
 
@@ -107,7 +107,7 @@ next_element (end ∷ ends) rest after tag content h is fits =
     rw (level, is, room, take-append-add e after n, drop-append-add e after n, front)
     (or_assoc (content_fault tag content) (row_at (length ends + 2) (take n after)) (open_fault ends (drop n after)))
   where
-    or_assoc : (a b c : Option ErrorKind) → option_or (option_or a b) c ≡ option_or a (option_or b c)
+    or_assoc : (a b c : Option (Option ErrorKind)) → option_or (option_or a b) c ≡ option_or a (option_or b c)
     or_assoc a b c = grind arith
 
 -- where an element without children was skipped, the fault is that of the bytes after it
@@ -142,7 +142,7 @@ node_opened ends rest after end o =
 
 -- where as many nodes are open as may be, a further one with a content is refused as too deep
 next_deep : (ends rest after : List ℕ) (end : ℕ) → length ends ≡ max_tree_depth - 1 → Opens ends rest end after
-    → next_fault ends rest ≡ Some Depth
+    → next_fault ends rest ≡ Some (Some Depth)
 next_deep ends rest after end full opens =
     let few = length-take-le (length after - end) after (omega arith) in
     node_opened ends rest after end opens
@@ -154,15 +154,15 @@ pub next_refused : (ends rest : List ℕ) (k : ErrorKind)
     → ((k ≡ Depth) × (length ends ≡ max_tree_depth - 1)
     × ((end : ℕ) × (after : List ℕ) × Opens ends rest end after))
     ⊎ (IsHeaderFault k × ((content : ℕ → Fault) (behind : Fault)
-    → any_fault content behind (take (length rest - get_or ends 0 0) rest) ≡ Some k))
-    → next_fault ends rest ≡ Some k
+    → any_fault content behind (take (length rest - get_or ends 0 0) rest) ≡ Some (Some k)))
+    → next_fault ends rest ≡ Some (Some k)
 next_refused ends rest k kinds =
-    ⊎_elim (λ deep. next_deep ends rest deep.2.1 deep.2.0 deep.1 deep.2.2 ∙ ap (λ j. Some j) (sym deep.0))
+    ⊎_elim (λ deep. next_deep ends rest deep.2.1 deep.2.0 deep.1 deep.2.2 ∙ ap (λ j. Some (Some j)) (sym deep.0))
     (λ any. by ends any.1) kinds
   where
     by : (ends : List ℕ)
         → ((content : ℕ → Fault) (behind : Fault)
-        → any_fault content behind (take (length rest - get_or ends 0 0) rest) ≡ Some k)
-        → next_fault ends rest ≡ Some k
+        → any_fault content behind (take (length rest - get_or ends 0 0) rest) ≡ Some (Some k))
+        → next_fault ends rest ≡ Some (Some k)
     by [] any = rw (take_all (length rest - 0) rest (omega arith)) at any (nested_fault (row_at 2)) end_fault
     by (end ∷ ends) any = rw (any (nested_fault (row_at (length ends + 2 + 1))) (row_at (length ends + 2))) refl

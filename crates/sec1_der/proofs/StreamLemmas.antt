@@ -66,9 +66,9 @@ pub record IsCutHeader (bytes : List ℕ) : Type 0 where
   pub none : LacksHeader bytes
 
 -- such bytes are truncated
-cut_fault : (bytes : List ℕ) → IsCutHeader bytes → document_fault bytes ≡ Some Truncated
+cut_fault : (bytes : List ℕ) → IsCutHeader bytes → document_fault bytes ≡ Some (Some Truncated)
 cut_fault bytes cut =
-    any_without_header (λ _. no_fault) end_fault bytes cut.none ∙ ap (λ kind. Some kind) cut.fault_is
+    any_without_header (λ _. no_fault) end_fault bytes cut.none ∙ ap (λ kind. Some (Some kind)) cut.fault_is
 
 -- bytes that have one more than an incomplete header
 pub record IsLonger (bytes : List ℕ) : Type 0 where
@@ -122,14 +122,14 @@ taken_here Tag bytes (inr one) none is other = (
   one.last,
   one.joined,
   tag_alone one.before one.last one.cut.fault_is (rw one.joined at is),
-  any_without_header (λ _. no_fault) end_fault bytes none ∙ ap (λ k. Some k) is,
+  any_without_header (λ _. no_fault) end_fault bytes none ∙ ap (λ k. Some (Some k)) is,
 )
 taken_here Length bytes (inr one) none is other = (
   one.before,
   one.last,
   one.joined,
   cut_fault one.before one.cut,
-  any_without_header (λ _. no_fault) end_fault bytes none ∙ ap (λ k. Some k) is,
+  any_without_header (λ _. no_fault) end_fault bytes none ∙ ap (λ k. Some (Some k)) is,
 )
 taken_here kind bytes (inr one) none is other = absurd (rw is at (header_fault_kinds bytes))
 
@@ -201,7 +201,7 @@ cut_content tag n content is few = (tag, n, content, is, few, refl)
 
 -- such bytes are truncated
 content_fault : (tag n : ℕ) (content : List ℕ) → IsHeader tag n → length content < n
-    → document_fault (header tag n ++ content) ≡ Some Truncated
+    → document_fault (header tag n ++ content) ≡ Some (Some Truncated)
 content_fault tag n content is few = any_short (λ _. no_fault) end_fault tag n _ content is refl few
 
 -- a header and the content that it announces are an element
@@ -212,7 +212,7 @@ whole_element tag n content is count =
 
 -- bytes behind an element are trailing data
 byte_fault : (front : List ℕ) (byte : ℕ) (more : List ℕ) → IsElement front
-    → document_fault (front ++ byte ∷ more) ≡ Some TrailingData
+    → document_fault (front ++ byte ∷ more) ≡ Some (Some TrailingData)
 byte_fault front byte more is =
     any_at (λ _. no_fault) end_fault is.tag is.content (front ++ byte ∷ more) (byte ∷ more) is.is_header
     (rw is.encoded refl)
@@ -274,7 +274,7 @@ byte_behind left taken Ended old mid next new tag n after (byte ∷ b ∷ bs) is
 byte_behind left taken Ended old mid next new tag n after (byte ∷ []) is first r more one =
     let front = header tag n ++ r.bytes in
     let whole = whole_element tag n r.bytes is r.count in
-    let P : List ℕ → Type 0 = λ xs. document_fault xs ≡ Some TrailingData in
+    let P : List ℕ → Type 0 = λ xs. document_fault xs ≡ Some (Some TrailingData) in
     refused_after TrailingData left taken Ended old mid new tag n (r.bytes ++ byte ∷ []) first
     (takes_more left taken mid next new r.bytes (byte ∷ []) r.taken more) (
       front,
@@ -297,7 +297,7 @@ header_stays kind (byte ∷ []) more is other = grind (arith, tests)
 header_stays kind (byte ∷ first ∷ digits) more is other = grind (arith, tests, length-append)
 
 -- bytes that are refused neither as truncated nor for what follows begin with no header
-no_header : (kind : ErrorKind) (bytes : List ℕ) → document_fault bytes ≡ Some kind → (kind ≡ Truncated → ⊥)
+no_header : (kind : ErrorKind) (bytes : List ℕ) → document_fault bytes ≡ Some (Some kind) → (kind ≡ Truncated → ⊥)
     → (kind ≡ TrailingData → ⊥) → LacksHeader bytes
 no_header kind bytes fault first second tag n rest is e = ⊎_elim
     (λ few. first (cc (fault, any_short (λ _. no_fault) end_fault tag n bytes rest is e few)))
@@ -305,13 +305,13 @@ no_header kind bytes fault first second tag n rest is e = ⊎_elim
     (sym (any_room (λ _. no_fault) end_fault tag n bytes rest is e room) ∙ fault))
     (cases_lt (length rest) n)
   where
-    behind : (xs : List ℕ) → end_fault xs ≡ Some kind → ⊥
+    behind : (xs : List ℕ) → end_fault xs ≡ Some (Some kind) → ⊥
     behind [] e = cc e
     behind (x ∷ xs) e = second (cc e)
 
 -- a fault of a header stays, whatever follows it
-fault_stays : (kind : ErrorKind) (bytes more : List ℕ) → document_fault bytes ≡ Some kind → (kind ≡ Truncated → ⊥)
-    → (kind ≡ TrailingData → ⊥) → document_fault (bytes ++ more) ≡ Some kind
+fault_stays : (kind : ErrorKind) (bytes more : List ℕ) → document_fault bytes ≡ Some (Some kind)
+    → (kind ≡ Truncated → ⊥) → (kind ≡ TrailingData → ⊥) → document_fault (bytes ++ more) ≡ Some (Some kind)
 fault_stays kind bytes more fault first second =
     let none = no_header kind bytes fault first second in
     let is : header_fault bytes ≡ kind = cc (fault, any_without_header (λ _. no_fault) end_fault bytes none) in
@@ -319,11 +319,11 @@ fault_stays kind bytes more fault first second =
     (λ longer. none tag n longer.after h longer.front)
     (λ cut. first (sym is ∙ cut))
     (header_front tag n bytes more rest h e))
-    ∙ ap (λ k. Some k) (header_stays kind bytes more is first)
+    ∙ ap (λ k. Some (Some k)) (header_stays kind bytes more is first)
 
 -- the kind by which all the bytes are refused is a function of what was read
 taken_fault : (kind : ErrorKind) (bytes more : List ℕ) → (kind ≡ Truncated → more ≡ []) → TakenBeforeRefusal kind bytes
-    → ((kind ≡ Io) ⊎ (kind ≡ Memory)) ⊎ (document_fault (bytes ++ more) ≡ Some kind)
+    → ((kind ≡ Io) ⊎ (kind ≡ Memory)) ⊎ (document_fault (bytes ++ more) ≡ Some (Some kind))
 taken_fault Io bytes more end taken = inl (inl refl)
 taken_fault Memory bytes more end taken = inl (inr refl)
 taken_fault Truncated bytes more end fault = rw (end refl, append-nil bytes) (inr fault)
@@ -346,7 +346,7 @@ read_known (Some all) (Some left) bytes is consumed end =
 -- a kind that says something of the bytes is the fault of them all, and then P holds of them
 refused_fault : (kind : ErrorKind) (P : List ℕ → Type 0) (old new : Option (List ℕ)) (bytes : List ℕ)
     → Consumes old new bytes → TakenBeforeRefusal kind bytes → (kind ≡ Truncated → IsAtEnd new)
-    → ((all : List ℕ) → document_fault all ≡ Some kind → P all)
+    → ((all : List ℕ) → document_fault all ≡ Some (Some kind) → P all)
     → ((kind ≡ Io) ⊎ (kind ≡ Memory)) ⊎ IfSome old P
 refused_fault kind P None new bytes consumed by_kind end from = inr tt
 refused_fault kind P (Some all) None bytes consumed by_kind end from = absurd consumed
@@ -364,7 +364,7 @@ read_fault left taken ended old new bytes r =
 -- a kind that says something of the bytes is the fault of them all
 pub refused_kind : (kind : ErrorKind) {S : Type 0} (left taken : S → Option (List ℕ)) (ended : S → Type 0) (old new : S)
     → RefusesElement kind (Takes left taken old new) (Ends left ended new)
-    → ((kind ≡ Io) ⊎ (kind ≡ Memory)) ⊎ IfSome (left old) (λ all. document_fault all ≡ Some kind)
+    → ((kind ≡ Io) ⊎ (kind ≡ Memory)) ⊎ IfSome (left old) (λ all. document_fault all ≡ Some (Some kind))
 refused_kind kind left taken ended old new r =
     refused_fault kind _ (left old) (left new) r.bytes r.taken.consumed r.by_kind (λ e. (r.at_end e).none_left)
     (λ all fault. fault)
@@ -384,7 +384,7 @@ pub document_kind : {S : Type 0} (left taken : S → Option (List ℕ)) (ended :
     → IfErr result (λ error. RefusesElement error.kind (Takes left taken old new) (Ends left ended new))
     → MatchResult result (λ _. IfSome (left old) (λ all. document_fault all ≡ None))
     (λ error. ((error.kind ≡ Io) ⊎ (error.kind ≡ Memory))
-    ⊎ IfSome (left old) (λ all. document_fault all ≡ Some error.kind))
+    ⊎ IfSome (left old) (λ all. document_fault all ≡ Some (Some error.kind)))
 document_kind left taken ended old new (Ok bytes) found refused = read_fault left taken ended old new bytes found
 document_kind left taken ended old new (Err error) found refused =
     refused_kind error.kind left taken ended old new refused

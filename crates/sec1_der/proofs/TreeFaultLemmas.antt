@@ -20,8 +20,8 @@ use Rattle.sec1_der.proofs.TreeLemmas.{max_depth, some_bytes, tree_apart}
 use Rattle.sec1_der.proofs.RowFaultLemmas.{leaf_passes, row_at, row_some, row_deep, tree_next}
 
 -- the fault of trees with this number of levels
-abbrev deep_fault : ℕ → Option ErrorKind
-deep_fault level = if nat_lt max_tree_depth level then Some Depth else None
+abbrev deep_fault : ℕ → Option (Option ErrorKind)
+deep_fault level = if nat_lt max_tree_depth level then Some (Some Depth) else None
 
 -- of two depths below a level the greater one counts
 deep_or : (above a b : ℕ) → option_or (deep_fault (above + a)) (deep_fault (above + b)) ≡ deep_fault (above + max a b)
@@ -67,7 +67,7 @@ tree_faults t input rest is e =
 
 -- a tree that is too deep
 pub deep_tree : (t : Tree) (input : List ℕ) → IsTreeOf t input → max_tree_depth < depth t
-    → tree_fault input ≡ Some Depth
+    → tree_fault input ≡ Some (Some Depth)
 deep_tree t input h deep =
     tree_faults t input [] h.tree (h.whole ∙ sym (append-nil (bytes t)))
     ∙ rw (lt-ltb max_tree_depth (depth t) deep) refl
@@ -80,7 +80,7 @@ shallow_tree t input rest is shallow e =
 
 -- a truncated tree
 pub cut_tree : (t : Tree) (input : List ℕ) → IsTree t → IsProperPrefix input (bytes t)
-    → tree_fault input ≡ Some Truncated
+    → tree_fault input ≡ Some (Some Truncated)
 cut_tree (leaf tag content) input is cut =
     any_cut _ end_fault tag content input (record { tag_byte = is.0; within = is.2 }) cut
 cut_tree (branch tag f) input is cut =
@@ -94,4 +94,4 @@ counted (Ok n) input t P found h is shallow =
     let same = tree_apart found.0 t [] [] found.1.tree is.tree (cc (found.1.whole, is.whole)) in
     cc (found.3, same.0)
 counted (Err error) input t P found h is shallow =
-    absurd (cc (h, shallow_tree t input [] is.tree shallow (is.whole ∙ sym (append-nil (bytes t)))))
+    absurd (rw (shallow_tree t input [] is.tree shallow (is.whole ∙ sym (append-nil (bytes t)))) at h)

@@ -10,8 +10,8 @@ use Rattle.sec1_der.specs.declared.error.ErrorKind.{ErrorKind}
 use Rattle.sec1_der.specs.declared.error.ErrorKind.TheVariants.{Value}
 
 -- Value if the test fails
-abbrev pub value_unless : Bool → Option ErrorKind
-value_unless passes = if passes then None else Some Value
+abbrev pub value_unless : Bool → Option (Option ErrorKind)
+value_unless passes = if passes then None else Some (Some Value)
 
 -- Any content other than this one byte is refused.
 abbrev pub byte_fault : ℕ → Fault
@@ -27,12 +27,12 @@ are_bits unused (byte ∷ bytes) =
 -- X.690 section 8.6.2: Value unless this is the content of a bit string, the number of unused bits
 -- and the bytes
 abbrev pub bit_string_fault : Fault
-bit_string_fault [] = Some Value
+bit_string_fault [] = Some (Some Value)
 bit_string_fault (unused ∷ bytes) = value_unless (are_bits unused bytes)
 
 -- Value unless this is the content of a bit string without unused bits
 abbrev pub whole_bits_fault : Fault
-whole_bits_fault [] = Some Value
+whole_bits_fault [] = Some (Some Value)
 whole_bits_fault (unused ∷ bytes) = value_unless (unused == 0)
 
 -- X.690 section 8.14: the content of an explicit field around a bit string without unused bits: a

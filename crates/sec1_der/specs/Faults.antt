@@ -1,8 +1,8 @@
 -- The kind of a refusal as a function of the bytes: the first fault from left to right.
-use Rattle.std.specs.Prelude.{◌≡◌, ◌≢◌, ◌==◌, ℕ, zero, suc, ◌+◌, ◌-◌, Bool, true, false, ◌&&◌}
+use Rattle.std.specs.Prelude.{◌≡◌, ◌≢◌, ◌==◌, ℕ, zero, suc, ◌+◌, ◌-◌, ◌&&◌}
 use Rattle.std.specs.Prelude.{not, nat_lt}
 use Rattle.std.specs.Prelude.{nat_le, if◌then◌else◌, bit_and, List, [], ◌∷◌, length, take, drop}
-use Rattle.std.specs.Prelude.{Option, Some, None, Result, Ok, Err, MatchResult}
+use Rattle.std.specs.Prelude.{Option, Some, None, Result, Ok, Err, MatchResult, IsSomeAnd, IfSome}
 use Rattle.std.specs.Option.{option_or}
 use Rattle.std.specs.Str.{bytes_eq}
 use Rattle.sec1_der.specs.Elements.{max_length, is_tag, length_octets}
@@ -13,24 +13,22 @@ use Rattle.sec1_der.specs.declared.error.Error.{Error}
 use Rattle.sec1_der.specs.declared.error.ErrorKind.{ErrorKind}
 use Rattle.sec1_der.specs.declared.error.ErrorKind.TheVariants.{Truncated, Tag, TrailingData, Depth}
 
--- The kind by which bytes are refused, or None if they aren't.
+-- None if the bytes aren't refused; Some (Some kind) if they are refused by this kind; Some None if
+-- they are refused, and the kind is left open.
 abbrev pub Fault : Type 0
-Fault = List ℕ → Option ErrorKind
+Fault = List ℕ → Option (Option ErrorKind)
 
--- There is a fault, and it is this kind, if the type says its kinds.
-abbrev pub IsFaultOf : Bool → Option ErrorKind → ErrorKind → Type 0
-IsFaultOf true fault kind = fault ≡ Some kind
-IsFaultOf false fault kind = fault ≢ None
+-- there is a fault, and it is this kind, if it says one
+abbrev pub IsFaultOf : Option (Option ErrorKind) → ErrorKind → Type 0
+IsFaultOf fault kind = IsSomeAnd fault (λ said. IfSome said (λ named. kind ≡ named))
 
--- The call succeeds if there is no fault; otherwise it fails, with this kind if the type says its
--- kinds.
-abbrev pub TellsFault : {T : Type 0} → Bool → Result T Error → Option ErrorKind → Type 0
-TellsFault says_kind result fault =
-    MatchResult result (λ _. fault ≡ None) (λ e. IsFaultOf says_kind fault e.kind)
+-- the call succeeds if there is no fault; otherwise it fails by its kind
+abbrev pub HasFault : {T : Type 0} → Result T Error → Option (Option ErrorKind) → Type 0
+HasFault result fault = MatchResult result (λ _. fault ≡ None) (λ e. IsFaultOf fault e.kind)
 
--- the call fails with this kind, or succeeds if there is none
-abbrev pub HasFault : {T : Type 0} → Result T Error → Option ErrorKind → Type 0
-HasFault result fault = TellsFault true result fault
+-- the rule says a kind for all bytes that it refuses
+pub record SaysKinds (fault : Fault) : Type 0 where
+  pub kind : (bytes : List ℕ) → fault bytes ≢ Some None
 
 -- refuses no bytes; and the end, which refuses any further byte as TrailingData
 abbrev pub no_fault : Fault
@@ -38,7 +36,7 @@ no_fault bytes = None
 
 abbrev pub end_fault : Fault
 end_fault [] = None
-end_fault (byte ∷ bytes) = Some TrailingData
+end_fault (byte ∷ bytes) = Some (Some TrailingData)
 
 -- X.690 sections 8.1.3 and 10.1: the length at the beginning of the bytes, if there is one
 abbrev pub number_at : List ℕ → ℕ
@@ -60,16 +58,18 @@ within (Err kind) = Err kind
 within (Ok x) = if nat_le x.0 (length x.1) then Ok (take x.0 x.1, drop x.0 x.1) else Err Truncated
 
 -- the fault of the length, of the content, or of the bytes after it, in this order
-abbrev pub parts_fault : Fault → Fault → Result (List ℕ × List ℕ) ErrorKind → Option ErrorKind
-parts_fault content behind (Err kind) = Some kind
+abbrev pub parts_fault : Fault → Fault → Result (List ℕ × List ℕ) ErrorKind
+    → Option (Option ErrorKind)
+parts_fault content behind (Err kind) = Some (Some kind)
 parts_fault content behind (Ok x) = option_or (content x.0) (behind x.1)
 
 -- X.690 section 8.1.1: an element with this tag, and what follows it. The tag is checked before the
 -- length.
 abbrev pub element_fault : ℕ → Fault → Fault → Fault
-element_fault tag content behind [] = Some Truncated
+element_fault tag content behind [] = Some (Some Truncated)
 element_fault tag content behind (byte ∷ bytes) =
-    if byte == tag then parts_fault content behind (within (length_at bytes)) else Some Tag
+    if byte == tag then parts_fault content behind (within (length_at bytes))
+    else Some (Some Tag)
 
 -- an element with this tag, if its tag is next; and what follows it
 abbrev pub optional_fault : ℕ → Fault → Fault → Fault
@@ -79,9 +79,10 @@ optional_fault tag content behind (byte ∷ bytes) =
 
 -- an element of any tag, which decides how its content is checked, and what follows it
 abbrev pub any_fault : (ℕ → Fault) → Fault → Fault
-any_fault content behind [] = Some Truncated
+any_fault content behind [] = Some (Some Truncated)
 any_fault content behind (tag ∷ bytes) =
-    if is_tag tag then parts_fault (content tag) behind (within (length_at bytes)) else Some Tag
+    if is_tag tag then parts_fault (content tag) behind (within (length_at bytes))
+    else Some (Some Tag)
 
 -- one element of any tag, with any bytes as its content
 abbrev pub document_fault : Fault
@@ -97,7 +98,7 @@ abbrev pub row_fault : ℕ → ℕ → Fault
 row_fault zero level bytes = None
 row_fault (suc most) level [] = None
 row_fault (suc most) level (byte ∷ bytes) =
-    if nat_lt max_tree_depth level then Some Depth
+    if nat_lt max_tree_depth level then Some (Some Depth)
     else any_fault (nested_fault (row_fault most (level + 1))) (row_fault most level) (byte ∷ bytes)
 
 -- one tree that isn't too deep

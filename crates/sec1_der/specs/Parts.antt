@@ -70,10 +70,11 @@ AreApart {A} tags bytes = (a b : A) (x y r s : List ℕ) → tags.apart ≡ true
     → bytes b ≡ Some y
     → MayFollow tags r → MayFollow tags s → x ++ r ≡ y ++ s → (a ≡ b) × (r ≡ s)
 
--- A part is read by a reader that hasn't failed, and the bytes after it are left. `bytes` gives those
+-- A part is read by a reader that hasn't failed, and the bytes after it are left. `bytes` gives
+-- those
 -- of a part, `tags` what is known of it by its type, and `fault_then` the rule of a part and what
--- follows it; `says_kind` is whether errors are of the kinds that it gives.
-pub record ReadsPart {P : Type 0} (bytes : P → Option (List ℕ)) (says_kind : Bool)
+-- follows it.
+pub record ReadsPart {P : Type 0} (bytes : P → Option (List ℕ))
     (fault_then : Fault → Fault) (tags : Tags) (result : Result P Error)
     (old new : Reader) : Type 0 where
   -- Just the bytes of the part are read, and then the fault is that of what follows. Otherwise the
@@ -82,7 +83,7 @@ pub record ReadsPart {P : Type 0} (bytes : P → Option (List ℕ)) (says_kind :
       (λ part. IsSomeAnd (bytes part) (λ whole. HasRead whole old new)
       × ((behind : Fault) → fault_then behind old.unread ≡ behind new.unread))
       (λ e. (new.failed ≡ true) × IsReadingFault e.kind
-      × ((behind : Fault) → IsFaultOf says_kind (fault_then behind old.unread) e.kind))
+      × ((behind : Fault) → IsFaultOf (fault_then behind old.unread) e.kind))
   -- if the remaining input begins with a part, and what follows can't be confused with it, that
   -- part is read
   pub only : (part : P) (whole rest : List ℕ) → tags.apart ≡ true → bytes part ≡ Some whole

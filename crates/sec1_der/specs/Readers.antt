@@ -3,7 +3,7 @@ use Rattle.std.specs.Prelude.{◌≡◌, ◌≤◌, Bool, false, true, List, [],
 use Rattle.std.specs.Prelude.{Result, IsOk, IfOk, IfErr, OnOk, OnErr}
 use Rattle.sec1_der.specs.Elements.{max_length, element}
 use Rattle.sec1_der.specs.ErrorKinds.{Refuses, IsReadingFault}
-use Rattle.sec1_der.specs.Faults.{Fault, TellsFault}
+use Rattle.sec1_der.specs.Faults.{Fault, HasFault}
 use Rattle.sec1_der.specs.declared.error.Error.{Error}
 use Rattle.sec1_der.specs.declared.error.ErrorKind.TheVariants.{Failed}
 
@@ -29,30 +29,28 @@ pub record HasReadElement (tag : ℕ) (content : List ℕ) (old new : Reader) : 
   pub within : length content ≤ max_length
   pub read : HasRead (element tag content) old new
 
--- whether a call of a reader refuses, by which kind, if the type says its kinds, and what the error
--- leaves
-pub record RefusesBy {T : Type 0} (says_kind : Bool) (fault : Fault) (result : Result T Error)
+-- whether a call of a reader refuses, by which kind, and what the error leaves
+pub record RefusesBy {T : Type 0} (fault : Fault) (result : Result T Error)
     (old new : Reader) : Type 0 where
   -- the kind is a function of the remaining input
-  pub kind : old.failed ≡ false → TellsFault says_kind result (fault old.unread)
+  pub kind : old.failed ≡ false → HasFault result (fault old.unread)
   pub kinds : old.failed ≡ false → IfErr result (λ e. IsReadingFault e.kind)
-  -- a reader that had failed refuses every call
-  pub failed : old.failed ≡ true → Refuses result Failed
+  -- a reader that had failed refuses every call, and stays as it was
+  pub failed : old.failed ≡ true → Refuses result Failed × (new ≡ old)
   -- the reader is as it was, but it has failed
   pub left : OnErr result (new ≡ refused old)
 
--- The remaining input is read as the content of a value. `content` gives that of a value, `fault`
--- is the rule by which bytes are refused, and `says_kind` is whether errors are of the kinds that
--- it gives.
-pub record ReadsContent {T : Type 0} (content : T → Option (List ℕ)) (says_kind : Bool)
-    (fault : Fault) (result : Result T Error) (old new : Reader) : Type 0 where
+-- The remaining input is read as the content of a value. `content` gives that of a value, and
+-- `fault` is the rule by which bytes are refused.
+pub record ReadsContent {T : Type 0} (content : T → Option (List ℕ)) (fault : Fault)
+    (result : Result T Error) (old new : Reader) : Type 0 where
   pub found : IfOk result (λ value. content value ≡ Some old.unread)
   pub read : OnOk result (new ≡ reader_over [])
   -- the content of each value is read
   pub only : old.failed ≡ false → (value : T) → content value ≡ Some old.unread → IsOk result
   pub kinds : old.failed ≡ false → IfErr result (λ e. IsReadingFault e.kind)
   -- the kind is a function of the remaining input
-  pub kind : old.failed ≡ false → TellsFault says_kind result (fault old.unread)
+  pub kind : old.failed ≡ false → HasFault result (fault old.unread)
   -- a reader that had failed stays as it was
   pub failed : old.failed ≡ true → Refuses result Failed × (new ≡ old)
   -- the reader has failed after an error

@@ -15,19 +15,19 @@ use Rattle.sec1_der.specs.declared.error.ErrorKind.TheVariants.{TrailingData, Io
 abbrev EndsWithFault : ErrorKind → (List ℕ → Type 0) → List ℕ → Type 0
 EndsWithFault kind Before bytes =
     (front : List ℕ) × (last : ℕ) × (bytes ≡ front ++ last ∷ []) × Before front
-    × (document_fault bytes ≡ Some kind)
+    × (document_fault bytes ≡ Some (Some kind))
 
 -- The bytes that were taken before an element is refused by this kind: all that there were of a
 -- truncated element; the first byte that shows a bad tag, a bad length or trailing data, and those
 -- before it; at most an element if a read failed; an element, or a header and fewer bytes than it
 -- announces, if an allocation failed.
 abbrev pub TakenBeforeRefusal : ErrorKind → List ℕ → Type 0
-TakenBeforeRefusal Truncated taken = document_fault taken ≡ Some Truncated
+TakenBeforeRefusal Truncated taken = document_fault taken ≡ Some (Some Truncated)
 TakenBeforeRefusal Tag taken = EndsWithFault Tag (λ front. front ≡ []) taken
 TakenBeforeRefusal Length taken =
-    EndsWithFault Length (λ front. document_fault front ≡ Some Truncated) taken
+    EndsWithFault Length (λ front. document_fault front ≡ Some (Some Truncated)) taken
 TakenBeforeRefusal TrailingData taken = EndsWithFault TrailingData IsElement taken
-TakenBeforeRefusal Io taken = (document_fault taken ≡ Some Truncated) ⊎ IsElement taken
+TakenBeforeRefusal Io taken = (document_fault taken ≡ Some (Some Truncated)) ⊎ IsElement taken
 TakenBeforeRefusal Memory taken =
     ((tag : ℕ) × (n : ℕ) × (content : List ℕ) × IsHeader tag n × (length content < n)
     × (taken ≡ header tag n ++ content)) ⊎ IsElement taken

@@ -19,7 +19,7 @@ pub struct AnyRef<'a> {
 }
 
 impl<'a> AnyRef<'a> {
-    ghost use Rattle.std.specs.Prelude.{◌≡◌, ◌<◌, ℕ, List, ◌++◌, true, IfOk, IsOkAnd, MatchResult};
+    ghost use Rattle.std.specs.Prelude.{◌≡◌, ◌<◌, ℕ, List, ◌++◌, IfOk, IsOkAnd, MatchResult};
     ghost use Rattle.sec1_der.specs.Elements.{element, IsHeader};
     ghost use Rattle.sec1_der.specs.Readers.{reader_over, HasRead, RefusesBy};
     ghost use Rattle.sec1_der.specs.Faults.{any_fault, no_fault};
@@ -56,7 +56,7 @@ impl<'a> AnyRef<'a> {
             → reader.old ≡ reader_over (element tag content ++ rest)
             → IsOkAnd result (λ any. (tag_of any ≡ tag) × (value_of any ≡ content))
             × (reader.new ≡ reader_over rest) }
-        ensures refused { RefusesBy true (any_fault (λ _. no_fault) no_fault) result reader.old
+        ensures refused { RefusesBy (any_fault (λ _. no_fault) no_fault) result reader.old
             reader.new }
     {
         reader.check()?;
@@ -137,7 +137,7 @@ impl Eq for AnyRef<'_> {
 }
 
 impl ValueContent for AnyRef<'_> {
-    ghost use Rattle.std.specs.Prelude.{Some, true};
+    ghost use Rattle.std.specs.Prelude.{Some};
     ghost use Rattle.sec1_der.specs.Faults.{no_fault};
     ghost use Rattle.sec1_der.specs.Values.{value_of};
 

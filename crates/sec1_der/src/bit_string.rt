@@ -113,7 +113,7 @@ impl FixedTag for BitStringRef<'_> {
 }
 
 impl ValueContent for BitStringRef<'_> {
-    ghost use Rattle.std.specs.Prelude.{Some, ◌∷◌, true};
+    ghost use Rattle.std.specs.Prelude.{Some, ◌∷◌};
     ghost use Rattle.sec1_der.specs.Contents.{bit_string_fault};
 
     ghost content = { λ bits. Some (bits.unused ∷ bits.bytes.now) };
@@ -142,8 +142,8 @@ impl EncodeValue for BitStringRef<'_> {
 
     fn encode_back(&self, writer: &mut BackWriter) -> Result<()> {
         check_room(1 + self.bytes.len(), writer.remaining())?;
-        writer.write(self.bytes)?;
-        writer.write(&[self.unused])
+        self.put_value(writer);
+        Ok(())
     }
 
     fn put_value(&self, writer: &mut BackWriter) {

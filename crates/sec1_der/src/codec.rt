@@ -6,7 +6,8 @@ ghost use Rattle.sec1_der.specs.Elements.{max_length, element_of, is_tag};
 ghost use Rattle.sec1_der.specs.Encodings.{ReadsElement};
 ghost use Rattle.sec1_der.specs.Elements.{IsProperPrefix};
 ghost use Rattle.sec1_der.specs.ErrorKinds.{Refuses, IsReadingFault};
-ghost use Rattle.sec1_der.specs.Faults.{TellsFault, element_fault, end_fault};
+ghost use Rattle.sec1_der.specs.Writers.{WhyNotWritten};
+ghost use Rattle.sec1_der.specs.Faults.{HasFault, element_fault, end_fault};
 
 use crate::length::check_room;
 use crate::value::element_header;
@@ -35,8 +36,7 @@ pub fn from_der<'a, T: DecodeValue<'a> + Tagged + Drop>(input: &'a [u8]) -> Resu
         → element_of T.tag_byte (T.content value) ≡ Some bytes
         → IsProperPrefix bytes input.now → Refuses result ErrorKind.TrailingData }
     // Whether the input is refused, and by which kind, is a function of its bytes.
-    ensures kind { TellsFault T.says_kind result
-        (element_fault T.tag_byte T.fault end_fault input.now) }
+    ensures kind { HasFault result (element_fault T.tag_byte T.fault end_fault input.now) }
 {
     SliceReader::new(input).only_element()
 }
@@ -50,7 +50,7 @@ pub fn from_der<'a, T: DecodeValue<'a> + Tagged + Drop>(input: &'a [u8]) -> Resu
 pub fn read_der<'a, T: DecodeValue<'a> + Tagged + UniqueContent + Drop>(
     input: &'a [u8],
 ) -> Result<T>
-    ensures { ReadsElement T.tag_byte T.content T.says_kind T.fault input.now result }
+    ensures { ReadsElement T.tag_byte T.content T.fault input.now result }
 {
     T::one();
     from_der(input)
@@ -107,10 +107,7 @@ pub fn encode_to_slice<T: EncodeValue + Tagged>(value: &T, buffer: &mut [u8]) ->
     ensures { let encoded = element_of T.tag_byte (T.content value.now) in MatchResult result
         (λ n. (n ≤ length buffer.new) × IsSomeAnd encoded
         (λ bytes. (n ≡ length bytes) × (buffer.new ≡ bytes ++ drop n buffer.old)))
-        (λ e. (buffer.new ≡ buffer.old)
-        × (((e.kind ≡ ErrorKind.Overlength) × (encoded ≡ None))
-        ⊎ ((e.kind ≡ ErrorKind.Buffer)
-        × IsSomeAnd encoded (λ bytes. length buffer.old < length bytes)))) }
+        (λ e. (buffer.new ≡ buffer.old) × WhyNotWritten encoded (length buffer.old) e.kind) }
 {
     let total = encoded_len(value)?;
     check_room(total, buffer.len())?;

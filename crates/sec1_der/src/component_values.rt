@@ -1,6 +1,6 @@
 //! Values for the components of a [`Record`](crate::Record). A contract sees only their bytes, so
 //! that the record can hold plain slices.
-ghost use Rattle.std.specs.Prelude.{◌≡◌, ◌∷◌, [], ℕ, List, Some, codes, true};
+ghost use Rattle.std.specs.Prelude.{◌≡◌, ◌∷◌, [], ℕ, List, Some, codes};
 ghost use Rattle.sec1_der.specs.Contents.{byte_fault, whole_bits_fault};
 ghost use Rattle.sec1_der.specs.DebugTexts.{struct_text};
 ghost use Rattle.sec1_der.specs.Elements.{element_of};

@@ -1,8 +1,8 @@
 ghost use Rattle.std.specs.Prelude.{◌≡◌, ◌⊎◌, ℕ, List, length, Some, None, MatchResult, ⊤, codes};
 ghost use Rattle.std.specs.Prelude.{IsSomeAnd};
 ghost use Rattle.std.specs.Fmt.{WritesStyledOnOk};
-ghost use Rattle.sec1_der.specs.Elements.{element_of, IsElement};
-ghost use Rattle.sec1_der.specs.ErrorKinds.{IsHeaderFault};
+ghost use Rattle.sec1_der.specs.Elements.{element_of, IsElement, IsProperPrefix};
+ghost use Rattle.sec1_der.specs.ErrorKinds.{IsHeaderFault, Refuses};
 ghost use Rattle.sec1_der.specs.Faults.{document_fault};
 
 pub(crate) mod stream;
@@ -42,13 +42,16 @@ impl SecretDocument {
     pub fn from_der(alloc: Global, bytes: &[u8]) -> Result<SecretDocument>
         // Whether the input is refused, and by which kind, is a function of its bytes; otherwise
         // the allocation may fail.
-        ensures { MatchResult result
+        ensures exact { MatchResult result
             (λ document. (document ≡ bytes.now) × IsElement bytes.now
             × (document_fault bytes.now ≡ None))
-            (λ e. (¬ (IsElement bytes.now) × (document_fault bytes.now ≡ Some e.kind)
+            (λ e. (¬ (IsElement bytes.now) × (document_fault bytes.now ≡ Some (Some e.kind))
             × (IsHeaderFault e.kind ⊎ (e.kind ≡ ErrorKind.TrailingData)))
             ⊎ (IsElement bytes.now × (document_fault bytes.now ≡ None)
             × (e.kind ≡ ErrorKind.Memory))) }
+        // Bytes after an element are refused as TrailingData.
+        ensures long { (whole : List ℕ) → IsElement whole → IsProperPrefix whole bytes.now
+            → Refuses result ErrorKind.TrailingData }
     {
         let (header, inside) = match element_at(bytes) {
             Ok(found) => found,

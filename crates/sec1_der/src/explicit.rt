@@ -1,5 +1,5 @@
 //! Explicit tags (X.690 section 8.14): an element around the element of a value.
-ghost use Rattle.std.specs.Prelude.{◌≡◌, ◌∷◌, ℕ, List, Some, true};
+ghost use Rattle.std.specs.Prelude.{◌≡◌, ◌∷◌, ℕ, List, Some};
 ghost use Rattle.sec1_der.specs.Contents.{whole_bits_field_fault};
 ghost use Rattle.sec1_der.specs.Elements.{element_of};
 ghost use Rattle.sec1_der.specs.Faults.{element_fault, end_fault};
@@ -51,8 +51,6 @@ impl<K, A: ValueContent + Tagged> ValueContent for Explicit<K, A> {
     ghost content = { λ value. element_of A.tag_byte (A.content value) };
 
     ghost fault = { element_fault A.tag_byte A.fault end_fault };
-
-    ghost says_kind = { A.says_kind };
 }
 
 impl<'a, K, A: DecodeValue<'a> + Tagged + Drop> DecodeValue<'a> for Explicit<K, A> {

@@ -1,5 +1,5 @@
 //! OBJECT IDENTIFIER that borrows its content.
-ghost use Rattle.std.specs.Prelude.{◌≡◌, ℕ, List, Some, MatchResult, true};
+ghost use Rattle.std.specs.Prelude.{◌≡◌, ℕ, List, Some, MatchResult};
 ghost use Rattle.sec1_der.specs.ArcsOf.{arcs_of};
 ghost use Rattle.sec1_der.specs.Contents.{identifier_fault};
 ghost use Rattle.sec1_der.specs.Identifiers.{IsIdentifier, identifier_content};

@@ -1,11 +1,13 @@
 //! Laws for callers to cite: of trees, of the kinds by which elements are refused, and that a value
 //! is determined by its bytes. Each law is the contract of a function, which does nothing else.
 ghost use Rattle.std.specs.Option.{option_or};
-ghost use Rattle.std.specs.Prelude.{◌≡◌, ◌≢◌, ◌≤◌, ◌++◌, [], ℕ, List, length, Some};
+ghost use Rattle.std.specs.Prelude.{◌≡◌, ◌≢◌, ◌≤◌, ◌++◌, [], ℕ, List, length, Some, None};
 ghost use Rattle.sec1_der.specs.Elements.{element, header, max_length, IsHeader};
 ghost use Rattle.sec1_der.specs.Elements.{IsProperPrefix};
 ghost use Rattle.sec1_der.specs.ErrorKinds.{header_fault};
-ghost use Rattle.sec1_der.specs.Faults.{Fault, any_fault, element_fault};
+ghost use Rattle.sec1_der.specs.Faults.{Fault, any_fault, element_fault, end_fault};
+ghost use Rattle.sec1_der.specs.Faults.{document_fault, tree_fault, IsFaultOf, SaysKinds};
+ghost use Rattle.sec1_der.specs.declared.error.ErrorKind.{ErrorKind};
 ghost use Rattle.sec1_der.specs.Trees.{Tree, Forest, IsTree, AreTrees, bytes, joined};
 ghost use Rattle.sec1_der.specs.Values.{octets_of, unused_bits_of, bit_bytes_of};
 ghost use Rattle.sec1_der.specs.declared.bit_string.BitStringRef.{BitStringRef};
@@ -38,10 +40,10 @@ pub fn trees_prefix_free()
 pub fn cut_elements()
     ensures element { (inside behind : Fault) (tag : ℕ) (content bytes : List ℕ)
         → length content ≤ max_length → IsProperPrefix bytes (element tag content)
-        → element_fault tag inside behind bytes ≡ Some ErrorKind.Truncated }
+        → element_fault tag inside behind bytes ≡ Some (Some ErrorKind.Truncated) }
     ensures any { (inside : ℕ → Fault) (behind : Fault) (tag : ℕ) (content bytes : List ℕ)
         → IsHeader tag (length content) → IsProperPrefix bytes (element tag content)
-        → any_fault inside behind bytes ≡ Some ErrorKind.Truncated }
+        → any_fault inside behind bytes ≡ Some (Some ErrorKind.Truncated) }
 {}
 
 /// The fault of an element with this tag, and of what follows it, is that of its content, or else
@@ -57,13 +59,46 @@ pub fn whole_elements()
         ≡ option_or (inside tag content) (behind rest) }
 {}
 
+/// An element whose content has no fault is refused as TrailingData if bytes follow it, where
+/// nothing
+/// may.
+#[tactic(auto, using(crate::proofs::ElementFaultLemmas::trailing_fault))]
+pub fn longer_elements()
+    ensures element { (inside : Fault) (tag : ℕ) (content bytes : List ℕ)
+        → length content ≤ max_length → inside content ≡ None
+        → IsProperPrefix (element tag content) bytes
+        → element_fault tag inside end_fault bytes ≡ Some (Some ErrorKind.TrailingData) }
+    ensures any { (inside : ℕ → Fault) (tag : ℕ) (content bytes : List ℕ)
+        → IsHeader tag (length content) → inside tag content ≡ None
+        → IsProperPrefix (element tag content) bytes
+        → any_fault inside end_fault bytes ≡ Some (Some ErrorKind.TrailingData) }
+    ensures document { (tag : ℕ) (content bytes : List ℕ) → IsHeader tag (length content)
+        → IsProperPrefix (element tag content) bytes
+        → document_fault bytes ≡ Some (Some ErrorKind.TrailingData) }
+{
+    whole_elements();
+}
+
+/// Where a rule leaves no kind open, an error is of the kind that it says. The rules of trees and
+/// of
+/// documents are such; so are those of the values of this crate.
+#[tactic(auto, using(crate::proofs::KindLaws::said_kind, crate::proofs::KindLaws::kinds_said))]
+pub fn said_kinds()
+    ensures said { (rule : Fault) (bytes : List ℕ) (kind : ErrorKind) → SaysKinds rule
+        → IsFaultOf (rule bytes) kind → rule bytes ≡ Some (Some kind) }
+    ensures element { (tag : ℕ) (content behind : Fault) → SaysKinds content → SaysKinds behind
+        → SaysKinds (element_fault tag content behind) }
+    ensures tree { SaysKinds tree_fault }
+    ensures document { SaysKinds document_fault }
+{}
+
 /// Bytes that begin with no header are refused by the kind of the header's fault, whatever rule a
 /// content has to meet and whatever may follow it.
 #[tactic(auto, using(crate::proofs::ElementFaultLemmas::any_without_header))]
 pub fn bytes_without_header()
     ensures { (inside : ℕ → Fault) (behind : Fault) (bytes : List ℕ)
         → ((tag n : ℕ) (rest : List ℕ) → IsHeader tag n → bytes ≢ header tag n ++ rest)
-        → any_fault inside behind bytes ≡ Some (header_fault bytes) }
+        → any_fault inside behind bytes ≡ Some (Some (header_fault bytes)) }
 {}
 
 /// Two octet strings with the same content have the same bytes.

@@ -56,7 +56,7 @@ impl FixedTag for OctetStringRef<'_> {
 }
 
 impl ValueContent for OctetStringRef<'_> {
-    ghost use Rattle.std.specs.Prelude.{Some, true};
+    ghost use Rattle.std.specs.Prelude.{Some};
     ghost use Rattle.sec1_der.specs.Faults.{no_fault};
     ghost use Rattle.sec1_der.specs.Values.{octets_of};
 

@@ -30,8 +30,6 @@ impl<A: ValueContent + Tagged> Part for Optional<A> {
 
     ghost fault_then = { optional_fault A.tag_byte A.fault };
 
-    ghost says_kind = { A.says_kind };
-
     ghost tags = { optional_tag A.tag_byte };
 
     ghost begins = { λ value whole same.

@@ -1,5 +1,5 @@
 //! The parts of a SEQUENCE (X.690 section 8.9), and two parts in a row.
-ghost use Rattle.std.specs.Prelude.{◌≡◌, ◌≤◌, ◌&&◌, ℕ, List, length, Option, Some, Bool, true, false};
+ghost use Rattle.std.specs.Prelude.{◌≡◌, ◌≤◌, ℕ, List, length, Option, Some, false};
 ghost use Rattle.sec1_der.specs.BackWriters.{HasRoom, Puts};
 ghost use Rattle.sec1_der.specs.Elements.{max_length, within_limit};
 ghost use Rattle.sec1_der.specs.Encodings.{Measures};
@@ -14,13 +14,9 @@ pub trait Part {
     /// The bytes of a part, if it has an encoding.
     ghost bytes: { Self → Option (List ℕ) };
 
-    /// The kind of error by which bytes are refused as a part and what follows it, given the rule
-    /// of what follows.
-    ghost fault_then: { Fault → Fault };
-
-    /// Whether an error is of the kind that `fault_then` gives, as in
+    /// The rule of a part and what follows it, given that of what follows, as in
     /// [`ValueContent`](crate::ValueContent).
-    ghost says_kind: { Bool } = { true };
+    ghost fault_then: { Fault → Fault };
 
     /// The tags that a part may begin with, and those that mustn't follow it.
     ghost tags: { Tags };
@@ -55,7 +51,7 @@ pub trait DecodePart<'a>: Part + Sized {
     /// part. On an error the reader has failed.
     fn decode_part(reader: &mut SliceReader<'a>) -> Result<Self>
         requires { (reader.old.failed ≡ false) × (length reader.old.unread ≤ max_length) }
-        ensures { ReadsPart Self.bytes Self.says_kind Self.fault_then Self.tags result reader.old
+        ensures { ReadsPart Self.bytes Self.fault_then Self.tags result reader.old
             reader.new };
 }
 
@@ -71,8 +67,6 @@ impl<P: Part, Q: Part> Part for (P, Q) {
     ghost bytes = { λ parts. join (P.bytes parts.0) (Q.bytes parts.1) };
 
     ghost fault_then = { λ behind. P.fault_then (Q.fault_then behind) };
-
-    ghost says_kind = { P.says_kind && Q.says_kind };
 
     ghost tags = { both_tags P.tags Q.tags };
 

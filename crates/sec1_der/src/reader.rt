@@ -80,8 +80,8 @@ impl<'a> SliceReader<'a> {
         ensures only { (bytes rest : List ℕ) → length bytes ≡ count
             → self.old ≡ reader_over (bytes ++ rest)
             → IsOkAnd result (λ found. found.now ≡ bytes) × (self.new ≡ reader_over rest) }
-        ensures refused { RefusesBy true
-            (λ unread. if nat_le count (length unread) then None else Some Truncated)
+        ensures refused { RefusesBy
+            (λ unread. if nat_le count (length unread) then None else Some (Some Truncated))
             result self.old self.new }
     {
         self.check()?;
@@ -105,8 +105,8 @@ impl<'a> SliceReader<'a> {
         ensures only { (bytes rest : List ℕ) → length bytes ≡ count
             → self.old ≡ reader_over (bytes ++ rest)
             → (result ≡ Ok (reader_over bytes)) × (self.new ≡ reader_over rest) }
-        ensures refused { RefusesBy true
-            (λ unread. if nat_le count (length unread) then None else Some Truncated)
+        ensures refused { RefusesBy
+            (λ unread. if nat_le count (length unread) then None else Some (Some Truncated))
             result self.old self.new }
     {
         let bytes = self.read_slice(count)?;
@@ -121,7 +121,7 @@ impl<'a> SliceReader<'a> {
     pub fn finish(&mut self) -> Result<()>
         ensures found { OnOk result ((self.old ≡ reader_over []) × (self.new ≡ self.old)) }
         ensures only { self.old ≡ reader_over [] → IsOk result }
-        ensures refused { RefusesBy true end_fault result self.old self.new }
+        ensures refused { RefusesBy end_fault result self.old self.new }
     {
         self.check()?;
         if !self.unread.is_empty() {
@@ -179,7 +179,7 @@ impl<'a> SliceReader<'a> {
     pub fn read_rest(&mut self) -> Result<&'a [u8]>
         ensures found { IfOk result
             (λ rest. (self.old ≡ reader_over rest.now) × (self.new ≡ reader_over [])) }
-        ensures refused { RefusesBy true no_fault result self.old self.new }
+        ensures refused { RefusesBy no_fault result self.old self.new }
     {
         self.check()?;
         let (rest, end) = self.unread.split_at(self.unread.len());

@@ -72,8 +72,6 @@ where
     ghost content = { λ value. T.Parts.bytes (T.parts value) };
 
     ghost fault = { T.Parts.fault_then end_fault };
-
-    ghost says_kind = { T.Parts.says_kind };
 }
 
 impl<'a, T: Distinct> DecodeValue<'a> for T

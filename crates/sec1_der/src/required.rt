@@ -30,8 +30,6 @@ impl<A: ValueContent + Tagged> Part for Required<A> {
 
     ghost fault_then = { element_fault A.tag_byte A.fault };
 
-    ghost says_kind = { A.says_kind };
-
     ghost tags = { one_tag A.tag_byte };
 
     ghost begins = { λ value whole same. element_begins A.tag_byte (A.content value) whole same };
@@ -84,7 +82,7 @@ pub fn decode_component<'a, A: DecodeValue<'a> + Tagged + Drop>(
     reader: &mut SliceReader<'a>,
 ) -> Result<A>
     requires { (reader.old.failed ≡ false) × (length reader.old.unread ≤ max_length) }
-    ensures { ReadsPart (λ value. element_of A.tag_byte (A.content value)) A.says_kind
+    ensures { ReadsPart (λ value. element_of A.tag_byte (A.content value))
         (element_fault A.tag_byte A.fault) (one_tag A.tag_byte) result reader.old reader.new }
 {
     match Required::<A>::decode_part(reader) {

@@ -168,7 +168,7 @@ impl OpenNodes {
             × ((end : ℕ) × (after : List ℕ) × Opens self.old rest.now end after))
             ⊎ (IsHeaderFault e.kind × ((content : ℕ → Fault) (behind : Fault)
             → any_fault content behind (take (length rest.now - get_or self.old 0 0) rest.now)
-            ≡ Some e.kind))) }
+            ≡ Some (Some e.kind)))) }
     {
         let end = self.end();
         let room = rest.len() - end;

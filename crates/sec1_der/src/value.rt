@@ -1,6 +1,6 @@
 //! The traits of DER values: with them the generic calls read and write a type.
-ghost use Rattle.std.specs.Prelude.{◌≡◌, ◌≤◌, ℕ, List, length, Option, Some, None, IsSomeAnd, Bool};
-ghost use Rattle.std.specs.Prelude.{true, MatchResult, IsTrue};
+ghost use Rattle.std.specs.Prelude.{◌≡◌, ◌≤◌, ℕ, List, length, Option, Some, None, IsSomeAnd};
+ghost use Rattle.std.specs.Prelude.{MatchResult, IsTrue};
 ghost use Rattle.sec1_der.specs.BackWriters.{back_state, HasRoom, Prepends, Puts};
 ghost use Rattle.sec1_der.specs.Elements.{max_length, within_limit, is_tag};
 ghost use Rattle.sec1_der.specs.Encodings.{Measures};
@@ -34,12 +34,10 @@ pub trait ValueContent {
     ghost content: { Self → Option (List ℕ) };
 
     /// The rule of the type: `None` for bytes that are a content of it, otherwise the kind of error
-    /// by which they are refused.
+    /// by which they are refused, as `Some (Some kind)`. `Some None` leaves the kind open: it is
+    /// one
+    /// of [`decode_value`](DecodeValue::decode_value).
     ghost fault: { Fault };
-
-    /// Whether an error is of the kind that `fault` gives. If not, `fault` says only which bytes are
-    /// refused, and the kind is one of [`decode_value`](DecodeValue::decode_value).
-    ghost says_kind: { Bool } = { true };
 }
 
 /// A value that is read from the content of its element.
@@ -53,8 +51,7 @@ pub trait DecodeValue<'a>: ValueContent + Sized {
     /// type; Failed if the reader failed before. On an error the reader has failed.
     fn decode_value(reader: &mut SliceReader<'a>) -> Result<Self>
         requires { length reader.old.unread ≤ max_length }
-        ensures { ReadsContent Self.content Self.says_kind Self.fault result reader.old
-            reader.new };
+        ensures { ReadsContent Self.content Self.fault result reader.old reader.new };
 }
 
 /// A value whose content is written.

@@ -1,4 +1,4 @@
-ghost use Rattle.std.specs.Prelude.{Some, [], ◌∷◌, codes, true};
+ghost use Rattle.std.specs.Prelude.{Some, [], ◌∷◌, codes};
 ghost use Rattle.sec1_der.specs.Contents.{byte_fault};
 
 use crate::{

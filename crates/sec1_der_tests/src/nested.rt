@@ -1,5 +1,5 @@
 //! Records of many parts, and records in records in records.
-ghost use Rattle.std.specs.Prelude.{◌≡◌, ℕ, List, refl, true};
+ghost use Rattle.std.specs.Prelude.{◌≡◌, ℕ, List, refl};
 ghost use Rattle.sec1_der.specs.Elements.{element_of};
 ghost use Rattle.sec1_der.specs.Parts.{AreApart, one_tag};
 ghost use Rattle.sec1_der.specs.PartLaws.{element_begins};

@@ -31,27 +31,29 @@ pub fn example_key()
 /// Bytes that are refused as a key, and by which kind (RFC 5915 section 3).
 #[tactic(auto, unfolding(sec1::specs::Der::length_octets, sec1::specs::KeyFaults::key_fault))]
 pub fn example_refusals()
-    ensures no_byte { key_fault [] ≡ Some ErrorKind.Truncated }
-    ensures tag_before_length { key_fault (0x31 ∷ 0x80 ∷ []) ≡ Some ErrorKind.Tag }
-    ensures indefinite_length { key_fault (0x30 ∷ 0x80 ∷ []) ≡ Some ErrorKind.Length }
+    ensures no_byte { key_fault [] ≡ Some (Some ErrorKind.Truncated) }
+    ensures tag_before_length { key_fault (0x31 ∷ 0x80 ∷ []) ≡ Some (Some ErrorKind.Tag) }
+    ensures indefinite_length { key_fault (0x30 ∷ 0x80 ∷ []) ≡ Some (Some ErrorKind.Length) }
     ensures less_than_announced { key_fault
-        (0x30 ∷ 0x05 ∷ 0x02 ∷ 0x01 ∷ 0x01 ∷ 0x04 ∷ 0x01 ∷ 0xAA ∷ []) ≡ Some ErrorKind.Truncated }
+        (0x30 ∷ 0x05 ∷ 0x02 ∷ 0x01 ∷ 0x01 ∷ 0x04 ∷ 0x01 ∷ 0xAA ∷ [])
+        ≡ Some (Some ErrorKind.Truncated) }
     ensures another_version { key_fault (0x30 ∷ 0x06 ∷ 0x02 ∷ 0x02 ∷ 0x00 ∷ 0x01 ∷ 0x04 ∷ 0x00 ∷ [])
-        ≡ Some ErrorKind.Value }
+        ≡ Some (Some ErrorKind.Value) }
     ensures no_private_key { key_fault (0x30 ∷ 0x03 ∷ 0x02 ∷ 0x01 ∷ 0x01 ∷ [])
-        ≡ Some ErrorKind.Truncated }
+        ≡ Some (Some ErrorKind.Truncated) }
     ensures identifier { key_fault (0x30 ∷ 0x0C ∷ 0x02 ∷ 0x01 ∷ 0x01 ∷ 0x04 ∷ 0x00 ∷ 0xA0 ∷ 0x05
-        ∷ 0x06 ∷ 0x03 ∷ 0x2A ∷ 0x80 ∷ 0x01 ∷ []) ≡ Some ErrorKind.Value }
+        ∷ 0x06 ∷ 0x03 ∷ 0x2A ∷ 0x80 ∷ 0x01 ∷ []) ≡ Some (Some ErrorKind.Value) }
     ensures field_twice { key_fault (0x30 ∷ 0x11 ∷ 0x02 ∷ 0x01 ∷ 0x01 ∷ 0x04 ∷ 0x00 ∷ 0xA0
         ∷ 0x04 ∷ 0x06 ∷ 0x02 ∷ 0x2A ∷ 0x03 ∷ 0xA0 ∷ 0x04 ∷ 0x06 ∷ 0x02 ∷ 0x2A ∷ 0x03 ∷ [])
-        ≡ Some ErrorKind.TrailingData }
+        ≡ Some (Some ErrorKind.TrailingData) }
     ensures unused_bits { key_fault (0x30 ∷ 0x0B ∷ 0x02 ∷ 0x01 ∷ 0x01 ∷ 0x04 ∷ 0x00 ∷ 0xA1
-        ∷ 0x04 ∷ 0x03 ∷ 0x02 ∷ 0x01 ∷ 0x00 ∷ []) ≡ Some ErrorKind.Value }
+        ∷ 0x04 ∷ 0x03 ∷ 0x02 ∷ 0x01 ∷ 0x00 ∷ []) ≡ Some (Some ErrorKind.Value) }
     ensures end_before_unused_bits { key_fault (0x30 ∷ 0x0D ∷ 0x02 ∷ 0x01 ∷ 0x01 ∷ 0x04 ∷ 0x00
         ∷ 0xA1 ∷ 0x06 ∷ 0x03 ∷ 0x02 ∷ 0x01 ∷ 0x00 ∷ 0x05 ∷ 0x00 ∷ [])
-        ≡ Some ErrorKind.TrailingData }
+        ≡ Some (Some ErrorKind.TrailingData) }
     ensures bit_string_before_end { key_fault (0x30 ∷ 0x0D ∷ 0x02 ∷ 0x01 ∷ 0x01 ∷ 0x04 ∷ 0x00
-        ∷ 0xA1 ∷ 0x06 ∷ 0x03 ∷ 0x02 ∷ 0x01 ∷ 0x01 ∷ 0x05 ∷ 0x00 ∷ []) ≡ Some ErrorKind.Value }
+        ∷ 0xA1 ∷ 0x06 ∷ 0x03 ∷ 0x02 ∷ 0x01 ∷ 0x01 ∷ 0x05 ∷ 0x00 ∷ [])
+        ≡ Some (Some ErrorKind.Value) }
 {}
 
 /// Encodings of points (SEC1 v2.0 section 2.3.3): the public key of the key on P-256, the curve's

@@ -50,7 +50,7 @@ impl SecretDocument {
         ensures kind { MatchResult result
             (λ _. IfSome (R.left reader.old) (λ left. document_fault left ≡ None))
             (λ error. ((error.kind ≡ Io) ⊎ (error.kind ≡ Memory))
-            ⊎ IfSome (R.left reader.old) (λ left. document_fault left ≡ Some error.kind)) }
+            ⊎ IfSome (R.left reader.old) (λ left. document_fault left ≡ Some (Some error.kind))) }
     {
         read_element(alloc, reader)
     }

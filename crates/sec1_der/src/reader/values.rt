@@ -35,7 +35,7 @@ impl<'a> SliceReader<'a> {
             → self.old ≡ reader_over (element T.tag_byte content ++ rest)
             → IsOkAnd result (λ found. T.content found ≡ Some content)
             × (self.new ≡ reader_over rest) }
-        ensures refused { RefusesBy T.says_kind (element_fault T.tag_byte T.fault no_fault) result
+        ensures refused { RefusesBy (element_fault T.tag_byte T.fault no_fault) result
             self.old self.new }
     {
         let start = self.remaining_input();
@@ -83,7 +83,7 @@ impl<'a> SliceReader<'a> {
             (element (0xA0 + number) (element T.tag_byte content) ++ rest)
             → IsOkAnd result (λ field. IsSomeAnd field (λ found. T.content found ≡ Some content))
             × (self.new ≡ reader_over rest) }
-        ensures refused { RefusesBy T.says_kind (optional_fault (0xA0 + number)
+        ensures refused { RefusesBy (optional_fault (0xA0 + number)
             (element_fault T.tag_byte T.fault end_fault) no_fault) result self.old self.new }
     {
         self.check()?;
@@ -113,7 +113,7 @@ impl<'a> SliceReader<'a> {
         ensures only { (content rest : List ℕ) → length content ≤ max_length
             → self.old ≡ reader_over (element tag content ++ rest)
             → (result ≡ Ok (reader_over content)) × (self.new ≡ reader_over rest) }
-        ensures refused { RefusesBy true (element_fault tag no_fault no_fault) result self.old
+        ensures refused { RefusesBy (element_fault tag no_fault no_fault) result self.old
             self.new }
     {
         self.check()?;
@@ -136,7 +136,7 @@ impl<'a> SliceReader<'a> {
     /// Reads the one element in the remaining input.
     pub(crate) fn only_element<T: DecodeValue<'a> + Tagged + Drop>(&mut self) -> Result<T>
         ensures reads { ReadsContent (λ value. element_of T.tag_byte (T.content value))
-            T.says_kind (element_fault T.tag_byte T.fault end_fault) result self.old self.new }
+            (element_fault T.tag_byte T.fault end_fault) result self.old self.new }
         ensures rule { (content : List ℕ) → T.fault content ≡ None → length content ≤ max_length
             → self.old ≡ reader_over (element T.tag_byte content)
             → IsOkAnd result (λ found. T.content found ≡ Some content) }

@@ -5,7 +5,7 @@ use Rattle.der_types.proofs.sequence_of.check_elements.Goals as goal
 pub returns-in_err-_value-clause-kind : goal.returns-in_err-_value-clause-kind
 returns-in_err-_value-clause-kind g c =
     let at = c.loop-elements.invariant.rest in
-    let fault = row_refused _ _ _ _ _ _ at (omega (arith, c.loop-elements-test.true, c.remaining_len.ensures))
+    let fault = row_refused _ _ _ _ _ at (omega (arith, c.loop-elements-test.true, c.remaining_len.ensures))
     (c.in_err-_value.ensures.refused.kind at.whole) in
     grind arith
 

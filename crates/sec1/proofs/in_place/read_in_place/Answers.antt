@@ -1,4 +1,4 @@
-use Rattle.std.proofs.Common.{◌≡◌, ◌++◌, ap, rules, sym, ◌∙◌, [], append-nil, Some, None, true, ℕ, List}
+use Rattle.std.proofs.Common.{◌≡◌, ◌++◌, ap, rules, sym, ◌∙◌, [], append-nil, Some, None, ℕ, List}
 use Rattle.std.proofs.lemmas.Bool.{false≢true}
 use Rattle.sec1_der.specs.Readers.{Reader, reader_over, HasReadElement}
 use Rattle.sec1_der.specs.Elements.{element}
@@ -62,8 +62,9 @@ returns-in-Err-read_content-clause-read g c = record {
       cc (opened.0, c.remaining_input-content.ensures) in
       absurd (false≢true (c.in-Err-read_content.ensures.only value (rw same there.same)));
   kinds = search rules;
-  kind = refused_more true g.T.ValueContent.fault end_fault g.T.Tagged.tag_byte c.args.input.now _
-      (rw c.new-reader.ensures at
-      ((opened_element g.T.ValueContent.fault _ _ _ _ _ c.in-Ok.ensures.found c.fixed_tag.ensures).1
-      ∙ rw c.remaining_input-content.ensures at c.in-Err-read_content.ensures.kind));
+  kind =
+      let opened = opened_element g.T.ValueContent.fault _ _ _ _ _ c.in-Ok.ensures.found c.fixed_tag.ensures in
+      refused_more g.T.ValueContent.fault end_fault g.T.Tagged.tag_byte c.args.input.now _
+      (rw (rw c.new-reader.ensures at opened.1)
+      (rw c.remaining_input-content.ensures at c.in-Err-read_content.ensures.kind));
 }

@@ -1,5 +1,7 @@
 use Rattle.std.proofs.Common.{◌∙◌, ap, Ok}
 use Rattle.sec1_c.proofs.ContainerLemmas.{by_other, by_value, is_container, no_other, only_one, only_zero}
+use Rattle.sec1_c.proofs.ContainerLemmas.{zero_kind}
+use Rattle.sec1_der.proofs.KindLaws.{fault_of}
 use Rattle.sec1_c.proofs.container.read_container.Goals as goal
 
 pub returns-in-Ok-clause-found : goal.returns-in-Ok-clause-found
@@ -18,16 +20,18 @@ returns-in-Value-clause-only c container is =
 
 pub returns-in-Value-clause-kind : goal.returns-in-Value-clause-kind
 returns-in-Value-clause-kind c =
-    rw (by_value c.args.bytes.now c.in-Err.error.kind c.in-Err.ensures.kind c.in-Value.is)
+    rw (by_value c.args.bytes.now c.in-Err.error.kind
+    (zero_kind c.args.bytes.now c.in-Err.error.kind c.in-Err.ensures.kind) c.in-Value.is)
     c.from_der-in-Value.ensures.kind
 
 pub returns-in_default : goal.returns-in_default
 returns-in_default c =
     let bytes = c.args.bytes.now in
     let known = c.in-Err.ensures in
+    let kind = zero_kind bytes c.in-Err.error.kind known.kind in
     record {
       found = tt;
       only = λ container is.
-          absurd (no_other c.in-Err.error container bytes known.only known.kind c.in_default.not-Value is);
-      kind = by_other bytes c.in-Err.error.kind known.kind c.in_default.not-Value;
+          absurd (no_other c.in-Err.error container bytes known.only kind c.in_default.not-Value is);
+      kind = fault_of _ _ (by_other bytes c.in-Err.error.kind kind c.in_default.not-Value);
     }

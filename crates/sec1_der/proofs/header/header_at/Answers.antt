@@ -13,7 +13,8 @@ pub returns-in_default-clause-found : goal.returns-in_default-clause-found
 returns-in_default-clause-found c = (
   c.short_fault.ensures,
   λ content behind. any_without_header content behind _
-      (λ tag n rest h e. returns-in_default-clause-only c tag n rest h e) ∙ ap Some (sym c.short_fault.ensures),
+      (λ tag n rest h e. returns-in_default-clause-only c tag n rest h e)
+      ∙ ap (λ kind. Some (Some kind)) (sym c.short_fault.ensures),
 )
 
 pub returns-in-Err-clause-found : goal.returns-in-Err-clause-found

@@ -10,7 +10,7 @@ use Rattle.der_types.proofs.sequence_of.Elements.next.Goals as goal
 pub invariant_of-self-inside : goal.invariant_of-self-inside
 invariant_of-self-inside g c =
     let checked = rw (← c.self.view_is) at c.requires in
-    let left = elements_left _ _ _ _ c.decode.result _ _ checked
+    let left = elements_left _ _ _ c.decode.result _ _ checked
     (omega (arith, c.if-remaining_len-eq0.false, c.remaining_len.ensures))
     c.decode.ensures.found (c.decode.ensures.refused.kind c.self.inside.working) in
     (left.0, tt)
@@ -18,7 +18,7 @@ invariant_of-self-inside g c =
 pub returns-clause-checked : goal.returns-clause-checked
 returns-clause-checked g c =
     let checked = rw (← c.self.view_is) at c.requires in
-    let left = elements_left _ _ _ _ c.decode.result _ _ checked
+    let left = elements_left _ _ _ c.decode.result _ _ checked
     (omega (arith, c.if-remaining_len-eq0.false, c.remaining_len.ensures))
     c.decode.ensures.found (c.decode.ensures.refused.kind c.self.inside.working) in
     left.1

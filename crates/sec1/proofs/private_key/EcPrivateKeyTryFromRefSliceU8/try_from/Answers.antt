@@ -8,9 +8,10 @@ use Rattle.sec1.specs.Der.{IsReadingFault}
 use Rattle.sec1.specs.Errors.{error_of}
 use Rattle.sec1.specs.declared.error.Error.TheVariants.{Asn1}
 use Rattle.sec1_der.proofs.ElementLaws.{element_of-inside, element_of-some}
+use Rattle.sec1_der.proofs.KindLaws.{said_kind}
 use Rattle.sec1.specs.KeyFaults.{key_fault}
 use Rattle.sec1.specs.Keys.{key_tree}
-use Rattle.sec1.proofs.KeyLemmas.{key_content, key_cut, key_found, key_written}
+use Rattle.sec1.proofs.KeyLemmas.{key_content, key_cut, key_found, key_says, key_written}
 use Rattle.sec1.proofs.private_key.EcPrivateKeyTryFromRefSliceU8.try_from.Goals as goal
 
 -- A fault of reading stays an error of DER.
@@ -25,13 +26,14 @@ returns-in_err-read_in_place c =
     let answered = err_from_is_err_and c.from_residual.result c.from_residual.ensures.1 in
     let read = c.in_err-read_in_place.ensures.read in
     let cause = c.in_err-read_in_place.field-0.0 in
+    let kind = said_kind key_fault c.args.bytes.now cause.kind key_says read.kind in
     rw (answered.1, answered.2, asn1 cause.kind cause refl read.kinds) (record {
       found = tt;
       only = λ key is. absurd (false≢true (read.only key (key_written key c.args.bytes.now is)));
       one_tree = tt;
       kinds = read.kinds;
-      kind = read.kind;
-      short = λ key bytes is begins. cc (read.kind, key_cut key bytes c.args.bytes.now is begins);
+      kind = kind;
+      short = λ key bytes is begins. cc (kind, key_cut key bytes c.args.bytes.now is begins);
       long = λ key bytes is begins. c.in_err-read_in_place.ensures.long key bytes (key_written key bytes is) begins;
     })
 

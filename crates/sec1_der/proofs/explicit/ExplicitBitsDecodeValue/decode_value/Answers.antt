@@ -1,4 +1,4 @@
-use Rattle.std.proofs.Common.{◌≡◌, ◌==◌, ◌∷◌, Some, List, ℕ, false, ◌∙◌, refl, rules, arith}
+use Rattle.std.proofs.Common.{◌≡◌, ◌==◌, ◌∷◌, Some, List, ℕ, false, rules, arith}
 use Rattle.std.proofs.lemmas.Bool.{ne_eqb}
 use Rattle.std.proofs.lemmas.Grind.{common_steps}
 use Rattle.sec1_der.proofs.ContentFaultLemmas.{whole_taken, bits_inside}
@@ -9,7 +9,7 @@ pub returns-in_err-bits : goal.returns-in_err-bits
 returns-in_err-bits c = record {
   found = grind (arith, common_steps);
   read = grind (arith, common_steps);
-  only = λ fresh value is. absurd (cc (c.in_err-bits.ensures.reads.kind fresh, whole_taken value _ is));
+  only = λ fresh value is. absurd (rw (whole_taken value _ is) at (c.in_err-bits.ensures.reads.kind fresh));
   kinds = search rules;
   kind = search rules;
   failed = search rules;
@@ -44,8 +44,9 @@ returns-in-None c =
           let zero : bits.unused ≡ 0 = cc same in
           absurd (c.in-None.ensures zero);
       kinds = search rules;
-      kind = λ fresh. bits_inside (bits.unused ∷ bits.bytes.now) _ found (c.in_ok-bits.ensures.reads.kind fresh)
-          ∙ rw (some, c.fail.ensures.0) refl;
+      kind = λ fresh.
+          rw (bits_inside (bits.unused ∷ bits.bytes.now) _ found (c.in_ok-bits.ensures.reads.kind fresh), some)
+          c.fail.ensures.0;
       failed = search rules;
       refused = search rules;
     }

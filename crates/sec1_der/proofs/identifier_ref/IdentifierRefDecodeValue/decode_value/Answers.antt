@@ -1,4 +1,4 @@
-use Rattle.std.proofs.Common.{Some, ap, sym, ◌∙◌, rules}
+use Rattle.std.proofs.Common.{ap, ◌∙◌, rules}
 use Rattle.sec1_der.specs.Readers.{Reader}
 use Rattle.sec1_der.proofs.ContentFaultLemmas.{identifier_taken, identifier_refused}
 use Rattle.sec1_der.proofs.IdentifierLaws.{identifier_content-some, identifier_content-valid}
@@ -21,9 +21,12 @@ returns-in-Err c = let read = ap (λ (r : Reader). r.unread) c.in_ok-read_rest.e
   read = tt;
   only = λ fresh arcs is. absurd (cc (c.in-Err.ensures.only arcs (identifier_content-some arcs _ (rw read at is))));
   kinds = search rules;
-  kind = λ fresh. rw read (identifier_refused c.in_ok-read_rest.field-0.now
-      (λ arcs h. absurd (cc (c.in-Err.ensures.only arcs h))))
-      ∙ ap Some (sym (c.fail.ensures.0 ∙ c.in-Err.ensures.exact));
+  kind = λ fresh. rw (
+    read,
+    identifier_refused c.in_ok-read_rest.field-0.now
+        (λ arcs h. absurd (cc (c.in-Err.ensures.only arcs h))),
+  )
+      (c.fail.ensures.0 ∙ c.in-Err.ensures.exact);
   failed = search rules;
   refused = search rules;
 }

@@ -7,7 +7,6 @@ use Rattle.sec1_der.specs.Faults.{end_fault}
 use Rattle.sec1_der.proofs.ElementFaultLemmas.{read_whole}
 use Rattle.sec1_der.proofs.ElementLaws.{element_of-some}
 use Rattle.sec1_der.proofs.FaultLaws.{reads_on, reader_at}
-use Rattle.sec1_der.proofs.KindLaws.{fault_of}
 use Rattle.sec1_der.proofs.reader.SliceReader.only_element.Goals as goal
 
 pub returns-in_err-value-clause-reads : goal.returns-in_err-value-clause-reads
@@ -42,8 +41,7 @@ returns-in_err-finish-clause-reads g c = record {
       let first = reads_on g.T.ValueContent.fault _ _ _ _ c.in_ok-value.ensures.found
       (c.in_ok-value.ensures.refused.kind fresh) in
       let refusal = err_from_is_err_and c.from_residual-in_err-finish.result c.from_residual-in_err-finish.ensures.1 in
-      rw (refusal.1, refusal.2)
-      (fault_of _ _ _ (first.next end_fault ∙ c.in_err-finish.ensures.refused.kind first.whole));
+      rw (refusal.1, refusal.2, first.next end_fault) (c.in_err-finish.ensures.refused.kind first.whole);
   failed = search rules;
   refused = search rules;
 }

@@ -33,7 +33,7 @@ returns-in-Err-clause-refused c =
     let next = element_next no_fault no_fault c.args.tag c.args.self.now.unread tag first in
     let kind = rw c.remaining_input-2.ensures at (c.in-Err.ensures.found.1 (λ _. no_fault) no_fault) in
     record {
-      kind = λ fresh. next ∙ (kind ∙ ap Some (sym c.fail-in-Err.ensures.0));
+      kind = λ fresh. rw (next, kind) c.fail-in-Err.ensures.0;
       kinds = search rules;
       failed = λ f. search rules;
       left = c.fail-in-Err.ensures.1;

@@ -1,0 +1,55 @@
+-- Rules that say a kind for all that they refuse. Further crates cite these laws.
+use Rattle.std.proofs.Common.{◌≢◌, ℕ, zero, suc, List, [], ◌∷◌, length, not, Some, None}
+use Rattle.std.specs.Str.{bytes_eq}
+use Rattle.sec1_der.specs.Contents.{value_unless}
+use Rattle.sec1_der.specs.Faults.{Fault, SaysKinds, no_fault}
+use Rattle.sec1_der.proofs.KindLaws.{any_says, both_say, either_says, element_says, none_says, test_says}
+use Rattle.der_types.specs.AnyElements.{any_element_fault}
+use Rattle.der_types.specs.Choices.{begins_among, choice_fault, optional_part_fault}
+use Rattle.der_types.specs.Defaults.{other_fault}
+use Rattle.der_types.specs.Rows.{elements_fault, row_fault}
+use Rattle.der_types.specs.Sets.{is_ascending, set_fault}
+
+next_says : (tag : ℕ) (f : Fault) (most : ℕ) → SaysKinds f → SaysKinds (elements_fault tag f most)
+    → SaysKinds (elements_fault tag f (suc most))
+next_says tag f most says behind = record { kind = by }
+  where
+    by : (bytes : List ℕ) → elements_fault tag f (suc most) bytes ≢ Some None
+    by [] e = cc e
+    by (byte ∷ bytes) e = (element_says tag f (elements_fault tag f most) says behind).kind (byte ∷ bytes) e
+
+elements_say : (tag : ℕ) (f : Fault) → SaysKinds f → (most : ℕ) → SaysKinds (elements_fault tag f most)
+elements_say tag f says zero = record { kind = λ bytes e. cc e }
+elements_say tag f says (suc most) = next_says tag f most says (elements_say tag f says most)
+
+pub row_says : (tag : ℕ) (f : Fault) → SaysKinds f → SaysKinds (row_fault tag f)
+row_says tag f says = record { kind = λ bytes e. (elements_say tag f says (length bytes)).kind bytes e }
+
+pub set_says : (tag : ℕ) (f : Fault) → SaysKinds f → SaysKinds (set_fault tag f)
+set_says tag f says =
+    both_say (row_fault tag f) (λ bytes. value_unless (is_ascending bytes)) (row_says tag f says)
+    (test_says is_ascending)
+
+pub other_says : (default : List ℕ) (f : Fault) → SaysKinds f → SaysKinds (other_fault default f)
+other_says default f says =
+    both_say f (λ content. value_unless (not (bytes_eq content default))) says
+    (test_says (λ content. not (bytes_eq content default)))
+
+pub choice_says : (firsts : List ℕ) (first second : Fault → Fault) (behind : Fault) → SaysKinds (first behind)
+    → SaysKinds (second behind) → SaysKinds (choice_fault firsts first second behind)
+choice_says firsts first second behind one two = record {
+  kind = λ bytes e.
+      either_says (begins_among firsts bytes) (first behind bytes) (second behind bytes) (one.kind bytes)
+      (two.kind bytes) e;
+}
+
+pub optional_part_says : (firsts : List ℕ) (part : Fault → Fault) (behind : Fault) → SaysKinds (part behind)
+    → SaysKinds behind → SaysKinds (optional_part_fault firsts part behind)
+optional_part_says firsts part behind one two = record {
+  kind = λ bytes e.
+      either_says (begins_among firsts bytes) (part behind bytes) (behind bytes) (one.kind bytes) (two.kind bytes) e;
+}
+
+pub any_element_says : (behind : Fault) → SaysKinds behind → SaysKinds (any_element_fault behind)
+unfolding any_element_fault
+any_element_says behind says = any_says (λ _. no_fault) behind (λ _. none_says) says
