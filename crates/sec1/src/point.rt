@@ -13,6 +13,7 @@ mod text;
 // Definitions that cite `EncodedPoint` are imported in the blocks below: its ghost fields come
 // before them.
 ghost use Rattle.std.specs.Prelude.{◌≡◌, ◌+◌, ◌*◌, ◌<◌, ◌≤◌, ◌^◌, ◌↔◌, if◌then◌else◌, length};
+ghost use Rattle.std.specs.Prelude.{IfSome};
 ghost use Rattle.std.specs.Prelude.{slice_index, take, drop, set, IsTrue, ◌==◌, ◌||◌};
 ghost use Rattle.std.specs.List.{All};
 ghost use Rattle.std.specs.Option.{option_map};
@@ -263,7 +264,8 @@ impl<const N: usize, const L: usize> EncodedPoint<N, L> {
     pub fn coordinates(&self) -> Coordinates<'_, N>
         ensures { let point = point_of self.now in
             (coordinates_point result ≡ point) × (coordinates_bytes result ≡ encoding N point)
-            × All (λ array. array ≡ fixed_width N (number_of array)) (arrays_of result) }
+            × All (λ array. array ≡ fixed_width N (number_of array)) (arrays_of result)
+            × All (λ array. length array ≡ N) (arrays_of result) }
     {
         let (x, y) = self.halves();
         Coordinates::with_tag(self.tag(), x, y)
@@ -292,6 +294,7 @@ impl<const N: usize, const L: usize> EncodedPoint<N, L> {
         ensures number { option_map (λ x. number_of x.now) result ≡ x_of (point_of self.now) }
         ensures bytes { option_map (λ x. x.now) result
             ≡ option_map (fixed_width N) (x_of (point_of self.now)) }
+        ensures len { IfSome result (λ x. length x.now ≡ N) }
     {
         match self.coordinates() {
             Coordinates::Identity => None,
@@ -308,6 +311,7 @@ impl<const N: usize, const L: usize> EncodedPoint<N, L> {
         ensures number { option_map (λ y. number_of y.now) result ≡ y_of (point_of self.now) }
         ensures bytes { option_map (λ y. y.now) result
             ≡ option_map (fixed_width N) (y_of (point_of self.now)) }
+        ensures len { IfSome result (λ y. length y.now ≡ N) }
     {
         match self.coordinates() {
             Coordinates::Uncompressed { y, .. } => Some(y),

@@ -14,5 +14,9 @@ returns g c =
     ∙ rw (c.tag.ensures.0) (made_of_halves c.args.self.now _ _ c.halves.ensures.0 c.halves.ensures.1) in
     let bytes = coordinates_of c.args.self.now _ _ c.halves.ensures.0 c.halves.ensures.1 in
     let encoded : coordinates_bytes c.with_tag.result ≡ encoding g.row.N (point_of c.args.self.now) =
-    grind (arith, point, bytes, c.with_tag.ensures.1, c.tag.ensures.0) in
-    (point, encoded, digits_of_encoding c.with_tag.result (rw (← point) at encoded) c.with_tag.ensures.2)
+    grind (arith, point, bytes, c.with_tag.ensures.1, c.tag.ensures.0) in (
+      point,
+      encoded,
+      digits_of_encoding c.with_tag.result (rw (← point) at encoded) c.with_tag.ensures.2,
+      c.with_tag.ensures.2,
+    )
