@@ -244,14 +244,14 @@ impl<'a> Key<'a> {
         let out = out.get_mut(..len + 2).ok_or(Error::Buffer)?;
         let n = self.private_key.len() as u8;
         let rest = put(out, &[0x30, len as u8, 2, 1, 1, 4, n]);
-        let mut rest = put_part(rest, self.private_key);
+        let mut rest = prepend_part(rest, self.private_key);
         if let Some(Identifier(content)) = self.curve {
             let n = content.len() as u8;
-            rest = put_part(put(rest, &[0xA0, n + 2, 6, n]), content);
+            rest = prepend_part(put(rest, &[0xA0, n + 2, 6, n]), content);
         }
         if let Some(bytes) = self.public_key {
             let n = bytes.len() as u8 + 1;
-            put_part(put(rest, &[0xA1, n + 2, 3, n, 0]), bytes);
+            prepend_part(put(rest, &[0xA1, n + 2, 3, n, 0]), bytes);
         }
         Ok(len + 2)
     }
@@ -306,7 +306,7 @@ fn put<'b, const N: usize>(room: &'b mut [u8], bytes: &[u8; N]) -> &'b mut [u8] 
 
 /// Puts a part in front. The lengths of P-256 are moved in line, without a call.
 #[inline(always)]
-fn put_part<'b>(room: &'b mut [u8], bytes: &[u8]) -> &'b mut [u8] {
+fn prepend_part<'b>(room: &'b mut [u8], bytes: &[u8]) -> &'b mut [u8] {
     if let Ok(bytes) = <&[u8; 8]>::try_from(bytes) {
         return put(room, bytes);
     }

@@ -124,8 +124,8 @@ impl EncodePart for Any<'_> {
         Length::new(self.bytes.len())
     }
 
-    fn put_part(&self, writer: &mut BackWriter) {
-        writer.put(self.bytes);
+    fn prepend_part(&self, writer: &mut BackWriter) {
+        writer.prepend(self.bytes);
     }
 }
 

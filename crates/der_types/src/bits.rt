@@ -110,8 +110,8 @@ impl EncodeValue for Bits<'_> {
         self.bits.encode_back(writer)
     }
 
-    fn put_value(&self, writer: &mut BackWriter) {
-        self.bits.put_value(writer);
+    fn prepend_value(&self, writer: &mut BackWriter) {
+        self.bits.prepend_value(writer);
     }
 }
 

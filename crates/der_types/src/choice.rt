@@ -77,10 +77,10 @@ impl<P: EncodePart, Q: EncodePart> EncodePart for Choice<P, Q> {
         }
     }
 
-    fn put_part(&self, writer: &mut BackWriter) {
+    fn prepend_part(&self, writer: &mut BackWriter) {
         match self {
-            Choice::First(part) => part.put_part(writer),
-            Choice::Second(part) => part.put_part(writer),
+            Choice::First(part) => part.prepend_part(writer),
+            Choice::Second(part) => part.prepend_part(writer),
         }
     }
 }

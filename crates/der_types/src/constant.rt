@@ -70,8 +70,8 @@ impl<K: ConstantContent> EncodeValue for Constant<K> {
         writer.write(K::constant())
     }
 
-    fn put_value(&self, writer: &mut BackWriter) {
-        writer.put(K::constant());
+    fn prepend_value(&self, writer: &mut BackWriter) {
+        writer.prepend(K::constant());
     }
 }
 

@@ -67,10 +67,10 @@ impl<A: HasDefault + EncodeValue + Tagged> EncodePart for Defaulted<A> {
         Length::new(encoded_len(&self.0)?)
     }
 
-    fn put_part(&self, writer: &mut BackWriter) {
+    fn prepend_part(&self, writer: &mut BackWriter) {
         A::one();
         if !self.0.is_default() {
-            writer.put_element(&self.0);
+            writer.prepend_element(&self.0);
         }
     }
 }

@@ -67,8 +67,8 @@ impl<K, A: EncodeValue> EncodeValue for Implicit<K, A> {
         self.value.encode_back(writer)
     }
 
-    fn put_value(&self, writer: &mut BackWriter) {
-        self.value.put_value(writer);
+    fn prepend_value(&self, writer: &mut BackWriter) {
+        self.value.prepend_value(writer);
     }
 }
 

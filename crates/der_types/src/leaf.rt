@@ -107,8 +107,8 @@ impl<K: Kind> EncodeValue for Leaf<'_, K> {
         writer.write(self.bytes)
     }
 
-    fn put_value(&self, writer: &mut BackWriter) {
-        writer.put(self.bytes);
+    fn prepend_value(&self, writer: &mut BackWriter) {
+        writer.prepend(self.bytes);
     }
 }
 

@@ -40,9 +40,9 @@ impl<P: EncodePart + Alternative> EncodePart for OptionalPart<P> {
         }
     }
 
-    fn put_part(&self, writer: &mut BackWriter) {
+    fn prepend_part(&self, writer: &mut BackWriter) {
         if let Some(part) = &self.0 {
-            part.put_part(writer);
+            part.prepend_part(writer);
         }
     }
 }

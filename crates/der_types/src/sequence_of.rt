@@ -191,8 +191,8 @@ impl<'a, T: DecodeValue<'a> + Tagged + Drop> EncodeValue for SequenceOf<'a, T> {
         writer.write(self.bytes)
     }
 
-    fn put_value(&self, writer: &mut BackWriter) {
-        writer.put(self.bytes);
+    fn prepend_value(&self, writer: &mut BackWriter) {
+        writer.prepend(self.bytes);
     }
 }
 

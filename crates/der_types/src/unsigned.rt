@@ -147,8 +147,8 @@ impl EncodeValue for Unsigned<'_> {
         writer.write(self.bytes)
     }
 
-    fn put_value(&self, writer: &mut BackWriter) {
-        writer.put(self.bytes);
+    fn prepend_value(&self, writer: &mut BackWriter) {
+        writer.prepend(self.bytes);
     }
 }
 

@@ -164,8 +164,8 @@ impl EncodePart for TbsCertificate<'_> {
         component_len(self)
     }
 
-    fn put_part(&self, writer: &mut BackWriter) {
-        writer.put_element(self);
+    fn prepend_part(&self, writer: &mut BackWriter) {
+        writer.prepend_element(self);
     }
 }
 

@@ -66,8 +66,8 @@ impl EncodePart for SubjectPublicKeyInfo<'_> {
         component_len(self)
     }
 
-    fn put_part(&self, writer: &mut BackWriter) {
-        writer.put_element(self);
+    fn prepend_part(&self, writer: &mut BackWriter) {
+        writer.prepend_element(self);
     }
 }
 

@@ -65,8 +65,8 @@ impl EncodeValue for LaterVersion {
         writer.write(&[self.byte()])
     }
 
-    fn put_value(&self, writer: &mut BackWriter) {
-        writer.put(&[self.byte()]);
+    fn prepend_value(&self, writer: &mut BackWriter) {
+        writer.prepend(&[self.byte()]);
     }
 }
 

@@ -9,7 +9,7 @@ use std::test::Fail;
 /// Buffer where there is room for two of them alone.
 fn assert_puts<P: EncodePart>(rt: &impl Abort, part: &P, wanted: [u8; 3]) {
     let mut bytes = [0; 3];
-    part.put_part(&mut BackWriter::new(&mut bytes));
+    part.prepend_part(&mut BackWriter::new(&mut bytes));
     assert_equal(rt, &bytes, &wanted);
     let length = part.part_len().ok().map(|length| length.get());
     assert_equal(rt, &length, &Some(3));
@@ -39,6 +39,6 @@ fn refuses_parts_without_room(rt: HostRuntime) -> Result<(), Fail> {
 fn refuses_a_value_without_room(rt: HostRuntime) {
     let field: Implicit<Primitive0, Boolean> = Implicit::new(Boolean(true));
     let mut bytes = [0];
-    field.put_value(&mut BackWriter::new(&mut bytes));
+    field.prepend_value(&mut BackWriter::new(&mut bytes));
     assert_equal(&rt, &bytes, &[0xFF]);
 }

@@ -247,7 +247,7 @@ static uint32_t key_of(const uint8_t *data, size_t len, struct sec1_key_parts *p
 }
 
 /* Writes a tag byte and a length. Returns their length. */
-static size_t put_header(uint8_t *out, uint8_t tag, size_t len)
+static size_t prepend_header(uint8_t *out, uint8_t tag, size_t len)
 {
     int count = len < 0x80 ? 0 : len < 0x100 ? 1 : len < 0x10000 ? 2 : len < 0x1000000 ? 3 : 4;
     out[0] = tag;
@@ -261,7 +261,7 @@ static size_t put_header(uint8_t *out, uint8_t tag, size_t len)
 static size_t wrap(uint8_t *out, uint8_t tag, size_t len)
 {
     uint8_t header[6];
-    size_t header_len = put_header(header, tag, len);
+    size_t header_len = prepend_header(header, tag, len);
     memmove(out + header_len, out, len);
     memcpy(out, header, header_len);
     return header_len + len;

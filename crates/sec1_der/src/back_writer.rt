@@ -58,12 +58,12 @@ impl<'b> BackWriter<'b> {
         ensures { Writes back_state Prepends (Some bytes.now) self.old self.new result }
     {
         check_room(bytes.len(), self.start)?;
-        self.put(bytes);
+        self.prepend(bytes);
         Ok(())
     }
 
     /// Prepends bytes, for which there is room.
-    pub fn put(&mut self, bytes: &[u8])
+    pub fn prepend(&mut self, bytes: &[u8])
         requires { length bytes.now ≤ length (back_state self.old).room }
         ensures { Puts (Some bytes.now) self.old self.new }
     {
@@ -87,33 +87,33 @@ impl<'b> BackWriter<'b> {
     {
         let length = Length::new(self.written() - since)?;
         check_room(Header { tag, length }.encoded_len(), self.start)?;
-        self.put_header(tag, length.get());
+        self.prepend_header(tag, length.get());
         Ok(())
     }
 
     /// Prepends the header of a content of `n` bytes, for which there is room.
     #[tactic(auto, using(crate::proofs::LengthLaws::len_1))]
-    pub(crate) fn put_header(&mut self, tag: Tag, n: usize)
+    pub(crate) fn prepend_header(&mut self, tag: Tag, n: usize)
         requires within { n ≤ max_length }
         requires room { length (header tag n) ≤ length (back_state self.old).room }
         ensures { Puts (Some (header tag n)) self.old self.new }
     {
         if n < LONG_FORM {
-            return self.put(&[tag.byte(), n as u8]);
+            return self.prepend(&[tag.byte(), n as u8]);
         }
-        self.put_long_header(tag, n);
+        self.prepend_long_header(tag, n);
     }
 
     /// The same for a length in the long form, out of line.
     #[inline(never)]
-    fn put_long_header(&mut self, tag: Tag, n: usize)
+    fn prepend_long_header(&mut self, tag: Tag, n: usize)
         requires within { n ≤ max_length }
         requires room { length (header tag n) ≤ length (back_state self.old).room }
         ensures { Puts (Some (header tag n)) self.old self.new }
     {
         let length = Length::of_number(n as u32);
         let (octets, count) = Header { tag, length }.octets();
-        self.put(&octets[..count]);
+        self.prepend(&octets[..count]);
     }
 }
 

@@ -142,12 +142,12 @@ impl EncodeValue for BitStringRef<'_> {
 
     fn encode_back(&self, writer: &mut BackWriter) -> Result<()> {
         check_room(1 + self.bytes.len(), writer.remaining())?;
-        self.put_value(writer);
+        self.prepend_value(writer);
         Ok(())
     }
 
-    fn put_value(&self, writer: &mut BackWriter) {
-        writer.put(self.bytes);
-        writer.put(&[self.unused]);
+    fn prepend_value(&self, writer: &mut BackWriter) {
+        writer.prepend(self.bytes);
+        writer.prepend(&[self.unused]);
     }
 }

@@ -138,5 +138,5 @@ pub(crate) fn fill<T: EncodeValue + Tagged>(value: &T, buffer: &mut [u8])
         (λ bytes. length buffer.old ≡ length bytes) }
     ensures { element_of T.tag_byte (T.content value.now) ≡ Some buffer.new }
 {
-    BackWriter::new(buffer).put_element(value);
+    BackWriter::new(buffer).prepend_element(value);
 }

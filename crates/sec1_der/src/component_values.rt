@@ -49,8 +49,8 @@ impl<const N: u8> EncodeValue for SmallInteger<N> {
         writer.write(&[N])
     }
 
-    fn put_value(&self, writer: &mut BackWriter) {
-        writer.put(&[N]);
+    fn prepend_value(&self, writer: &mut BackWriter) {
+        writer.prepend(&[N]);
     }
 }
 
@@ -103,8 +103,8 @@ impl EncodeValue for Octets<'_> {
         OctetStringRef::new(self.bytes)?.encode_back(writer)
     }
 
-    fn put_value(&self, writer: &mut BackWriter) {
-        writer.put(self.bytes);
+    fn prepend_value(&self, writer: &mut BackWriter) {
+        writer.prepend(self.bytes);
     }
 }
 
@@ -163,9 +163,9 @@ impl EncodeValue for WholeBits<'_> {
         BitStringRef::from_bytes(self.bytes)?.encode_back(writer)
     }
 
-    fn put_value(&self, writer: &mut BackWriter) {
-        writer.put(self.bytes);
-        writer.put(&[0]);
+    fn prepend_value(&self, writer: &mut BackWriter) {
+        writer.prepend(self.bytes);
+        writer.prepend(&[0]);
     }
 }
 

@@ -71,8 +71,8 @@ impl<K, A: EncodeValue + Tagged> EncodeValue for Explicit<K, A> {
         writer.element(&self.value)
     }
 
-    fn put_value(&self, writer: &mut BackWriter) {
-        writer.put_element(&self.value);
+    fn prepend_value(&self, writer: &mut BackWriter) {
+        writer.prepend_element(&self.value);
     }
 }
 
@@ -152,9 +152,9 @@ impl EncodeValue for ExplicitBits<'_> {
         writer.element(&WholeBits { bytes })
     }
 
-    fn put_value(&self, writer: &mut BackWriter) {
+    fn prepend_value(&self, writer: &mut BackWriter) {
         let bytes = self.bytes;
-        writer.put_element(&WholeBits { bytes });
+        writer.prepend_element(&WholeBits { bytes });
     }
 }
 

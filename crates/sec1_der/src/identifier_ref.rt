@@ -119,8 +119,8 @@ impl EncodeValue for IdentifierRef<'_> {
     }
 
     #[tactic(auto, using(crate::proofs::IdentifierLemmas::identifier_fits))]
-    fn put_value(&self, writer: &mut BackWriter) {
-        writer.put(self.bytes);
+    fn prepend_value(&self, writer: &mut BackWriter) {
+        writer.prepend(self.bytes);
     }
 }
 

@@ -81,7 +81,7 @@ impl EncodeValue for OctetStringRef<'_> {
         writer.write(self.bytes)
     }
 
-    fn put_value(&self, writer: &mut BackWriter) {
-        writer.put(self.bytes);
+    fn prepend_value(&self, writer: &mut BackWriter) {
+        writer.prepend(self.bytes);
     }
 }

@@ -44,9 +44,9 @@ impl<A: EncodeValue + Tagged> EncodePart for Optional<A> {
         }
     }
 
-    fn put_part(&self, writer: &mut BackWriter) {
+    fn prepend_part(&self, writer: &mut BackWriter) {
         if let Some(value) = &self.0 {
-            writer.put_element(value);
+            writer.prepend_element(value);
         }
     }
 }

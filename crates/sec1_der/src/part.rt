@@ -36,7 +36,7 @@ pub trait EncodePart: Part {
         ensures { Measures (within_limit (Self.bytes self.now)) result };
 
     /// Prepends the part, for which there is room, to what was written.
-    fn put_part(&self, writer: &mut BackWriter)
+    fn prepend_part(&self, writer: &mut BackWriter)
         requires { HasRoom (Self.bytes self.now) writer.old }
         ensures { Puts (Self.bytes self.now) writer.old writer.new };
 }
@@ -82,9 +82,9 @@ impl<P: EncodePart, Q: EncodePart> EncodePart for (P, Q) {
         Length::new(first.get() + second.get())
     }
 
-    fn put_part(&self, writer: &mut BackWriter) {
-        self.1.put_part(writer);
-        self.0.put_part(writer);
+    fn prepend_part(&self, writer: &mut BackWriter) {
+        self.1.prepend_part(writer);
+        self.0.prepend_part(writer);
     }
 }
 

@@ -97,12 +97,12 @@ where
     fn encode_back(&self, writer: &mut BackWriter) -> Result<()> {
         let parts = self.to_parts();
         check_room(parts.part_len()?.get(), writer.remaining())?;
-        parts.put_part(writer);
+        parts.prepend_part(writer);
         Ok(())
     }
 
-    fn put_value(&self, writer: &mut BackWriter) {
-        self.to_parts().put_part(writer);
+    fn prepend_value(&self, writer: &mut BackWriter) {
+        self.to_parts().prepend_part(writer);
     }
 }
 

@@ -40,8 +40,8 @@ impl<A: EncodeValue + Tagged> EncodePart for Required<A> {
         component_len(&self.0)
     }
 
-    fn put_part(&self, writer: &mut BackWriter) {
-        writer.put_element(&self.0);
+    fn prepend_part(&self, writer: &mut BackWriter) {
+        writer.prepend_element(&self.0);
     }
 }
 

@@ -98,14 +98,14 @@ pub trait EncodeValue: ValueContent {
             (λ bytes. length buffer.old ≡ length bytes) }
         ensures { within_limit (Self.content self.now) ≡ Some buffer.new }
     {
-        self.put_value(&mut BackWriter::new(buffer));
+        self.prepend_value(&mut BackWriter::new(buffer));
     }
 
     /// Prepends the content, for which there is room, to what was written.
     ///
     /// A type that contains other elements overrides this with calls of
-    /// [`BackWriter::put_element`], so that an element is measured once, however deep it is nested.
-    fn put_value(&self, writer: &mut BackWriter)
+    /// [`BackWriter::prepend_element`], so that an element is measured once, however deep it is nested.
+    fn prepend_value(&self, writer: &mut BackWriter)
         requires { HasRoom (within_limit (Self.content self.now)) writer.old }
         ensures { Puts (Self.content self.now) writer.old writer.new }
     {

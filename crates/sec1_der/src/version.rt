@@ -47,8 +47,8 @@ impl EncodeValue for VersionOne {
         writer.write(&[1])
     }
 
-    fn put_value(&self, writer: &mut BackWriter) {
-        writer.put(&[1]);
+    fn prepend_value(&self, writer: &mut BackWriter) {
+        writer.prepend(&[1]);
     }
 }
 

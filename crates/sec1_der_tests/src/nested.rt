@@ -142,8 +142,8 @@ impl EncodePart for Inner {
         component_len(self)
     }
 
-    fn put_part(&self, writer: &mut BackWriter) {
-        writer.put_element(self);
+    fn prepend_part(&self, writer: &mut BackWriter) {
+        writer.prepend_element(self);
     }
 }
 
@@ -213,8 +213,8 @@ impl EncodePart for Middle {
         component_len(self)
     }
 
-    fn put_part(&self, writer: &mut BackWriter) {
-        writer.put_element(self);
+    fn prepend_part(&self, writer: &mut BackWriter) {
+        writer.prepend_element(self);
     }
 }
 

@@ -18,17 +18,17 @@ impl<'b> BackWriter<'b> {
             self.old self.new result }
     {
         check_room(encoded_len(value)?, self.remaining())?;
-        self.put_element(value);
+        self.prepend_element(value);
         Ok(())
     }
 
     /// Prepends the element of a value, for which there is room.
-    pub fn put_element<T: EncodeValue + Tagged>(&mut self, value: &T)
+    pub fn prepend_element<T: EncodeValue + Tagged>(&mut self, value: &T)
         requires { HasRoom (element_of T.tag_byte (T.content value.now)) self.old }
         ensures { Puts (element_of T.tag_byte (T.content value.now)) self.old self.new }
     {
         let end = self.remaining();
-        value.put_value(self);
-        self.put_header(T::fixed_tag(), end - self.remaining());
+        value.prepend_value(self);
+        self.prepend_header(T::fixed_tag(), end - self.remaining());
     }
 }

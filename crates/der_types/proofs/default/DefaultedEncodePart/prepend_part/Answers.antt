@@ -1,5 +1,5 @@
 use Rattle.der_types.proofs.DefaultLemmas.{default_empty, puts_nothing}
-use Rattle.der_types.proofs.default.DefaultedEncodePart.put_part.Goals as goal
+use Rattle.der_types.proofs.default.DefaultedEncodePart.prepend_part.Goals as goal
 
 pub returns-else-not-is_default : goal.returns-else-not-is_default
 returns-else-not-is_default g c =
