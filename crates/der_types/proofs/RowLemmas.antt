@@ -46,27 +46,28 @@ shorter tag inside old new h =
     omega (arith, whole, length-append (element tag inside) new.unread)
 
 -- the content of an element that was read
-shorter_read : (tag : ℕ) (content : Option (List ℕ)) (old new : Reader)
-    → IsSomeAnd content (λ inside. HasReadElement tag inside old new)
+shorter_read : (tag : ℕ) (f : Fault) (content : Option (List ℕ)) (old new : Reader)
+    → IsSomeAnd content (λ inside. (f inside ≡ None) × HasReadElement tag inside old new)
     → length new.unread < length old.unread
-shorter_read tag None old new found = absurd found
-shorter_read tag (Some inside) old new found = shorter tag inside old new found
+shorter_read tag f None old new found = absurd found
+shorter_read tag f (Some inside) old new found = shorter tag inside old new found.1
 
 -- the reader stands behind one more element
 pub row_continues : (tag : ℕ) (f : Fault) (start : List ℕ) (content : Option (List ℕ))
     (old new : Reader) → IsRowRest tag f start old
-    → 0 < length old.unread → IsSomeAnd content (λ inside. HasReadElement tag inside old new)
-    → element_fault tag f no_fault old.unread ≡ None → IsRowRest tag f start new
-row_continues tag f start content old new at some found none = by at.most at.room at.same
+    → 0 < length old.unread
+    → IsSomeAnd content (λ inside. (f inside ≡ None) × HasReadElement tag inside old new)
+    → IsRowRest tag f start new
+row_continues tag f start content old new at some found = by at.most at.room at.same
   where
     by : (most : ℕ) → length old.unread ≤ most → row_fault tag f start ≡ elements_fault tag f most old.unread
         → IsRowRest tag f start new
     by zero room same = absurd (omega arith)
     by (suc most) room same =
-        let on = reads_on f tag content old new found none in
+        let on = reads_on f tag content old new found in
         record {
           most = most;
-          room = omega (arith, shorter_read tag content old new found);
+          room = omega (arith, shorter_read tag f content old new found);
           whole = on.whole;
           same = same ∙ (one_more tag f most old.unread some ∙ on.next (elements_fault tag f most));
         }
@@ -119,16 +120,16 @@ values_end tag content start [] at none = at.found ([], refl)
 values_end tag content start (byte ∷ left) at none = absurd (omega arith)
 
 -- the value that was read, in front of those that are left
-value_read : (tag : ℕ) {A : Type 0} (content : A → Option (List ℕ)) (value : A) (old new : Reader)
-    → IsSomeAnd (content value) (λ inside. HasReadElement tag inside old new)
+value_read : (tag : ℕ) (f : Fault) {A : Type 0} (content : A → Option (List ℕ)) (value : A) (old new : Reader)
+    → IsSomeAnd (content value) (λ inside. (f inside ≡ None) × HasReadElement tag inside old new)
     → HasValues tag content new.unread → HasValues tag content old.unread
-value_read tag content value old new found left = (value ∷ left.0, by (content value) refl found)
+value_read tag f content value old new found left = (value ∷ left.0, by (content value) refl found)
   where
     by : (c : Option (List ℕ)) → content value ≡ c
-        → IsSomeAnd c (λ inside. HasReadElement tag inside old new)
+        → IsSomeAnd c (λ inside. (f inside ≡ None) × HasReadElement tag inside old new)
         → joined tag content (value ∷ left.0) ≡ Some old.unread
     by None e found = absurd found
-    by (Some inside) e found =
+    by (Some inside) e (meets, found) =
         let element = element_of-within tag (content value) inside e found.within in
         rw (element, left.1, ap (λ (r : Reader). r.unread) found.read.was_whole) refl
 
@@ -159,15 +160,15 @@ first_value tag content bytes some (value ∷ values, e) =
     }
 
 -- the reader that read the first of them stands before the others
-pub values_read : (tag : ℕ) {A : Type 0} (content : A → Option (List ℕ)) (start : List ℕ)
+pub values_read : (tag : ℕ) (f : Fault) {A : Type 0} (content : A → Option (List ℕ)) (start : List ℕ)
     (value : A) (old new : Reader)
     → AreValues tag content start old.unread → 0 < length old.unread → old.failed ≡ false
-    → IsSomeAnd (content value) (λ inside. HasReadElement tag inside old new)
+    → IsSomeAnd (content value) (λ inside. (f inside ≡ None) × HasReadElement tag inside old new)
     → ((a : A) (inside left : List ℕ) → content a ≡ Some inside → length inside ≤ max_length
     → old ≡ reader_over (element tag inside ++ left) → new ≡ reader_over left)
     → AreValues tag content start new.unread
-values_read tag content start value old new at some whole found read = record {
-  found = λ left. at.found (value_read tag content value old new found left);
+values_read tag f content start value old new at some whole found read = record {
+  found = λ left. at.found (value_read tag f content value old new found left);
   only = λ all.
       let first = first_value tag content old.unread some (at.only all) in
       let next = read first.value first.inside first.left first.same first.within (reader_at old _ first.split whole) in
@@ -213,11 +214,12 @@ row_first tag f (byte ∷ bytes) some =
 pub elements_left : (tag : ℕ) (f : Fault) {A : Type 0} (content : A → Option (List ℕ))
     (result : Result A Error) (old new : Reader)
     → row_fault tag f old.unread ≡ None → 0 < length old.unread
-    → IfOk result (λ value. IsSomeAnd (content value) (λ inside. HasReadElement tag inside old new))
+    → IfOk result
+    (λ value. IsSomeAnd (content value) (λ inside. (f inside ≡ None) × HasReadElement tag inside old new))
     → HasFault result (element_fault tag f no_fault old.unread)
     → (new.failed ≡ false) × (row_fault tag f new.unread ≡ None)
 elements_left tag f content (Ok value) old new whole some found kind =
-    let on = reads_on f tag (content value) old new found kind in
+    let on = reads_on f tag (content value) old new found in
     (on.whole, sym (on.next (row_fault tag f)) ∙ (sym (row_first tag f old.unread some) ∙ whole))
 elements_left tag f content (Err e) old new whole some found kind =
     let refused = refused_more f (row_fault tag f) tag old.unread e.kind kind in

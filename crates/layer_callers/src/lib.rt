@@ -3,6 +3,7 @@
 #![tactic(auto)]
 
 mod even;
+pub mod found;
 mod kinds;
 mod readers;
 mod writers;

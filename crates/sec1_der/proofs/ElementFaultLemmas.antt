@@ -110,11 +110,11 @@ element_next f g tag (byte ∷ bytes) is next =
 -- ---- one element after another
 
 -- an element that was read to the end is all that there was
-pub read_whole : (tag : ℕ) (content : Option (List ℕ)) (old new : Reader)
-    → IsSomeAnd content (λ inside. HasReadElement tag inside old new) → new ≡ reader_over []
+pub read_whole : (f : Fault) (tag : ℕ) (content : Option (List ℕ)) (old new : Reader)
+    → IsSomeAnd content (λ inside. (f inside ≡ None) × HasReadElement tag inside old new) → new ≡ reader_over []
     → element_of tag content ≡ Some old.unread
-read_whole tag None old new is end = absurd is
-read_whole tag (Some inside) old new is end =
+read_whole f tag None old new is end = absurd is
+read_whole f tag (Some inside) old new (meets, is) end =
     let none : new.unread ≡ [] = ap (λ (r : Reader). r.unread) end in
     let all : old.unread ≡ element tag inside =
     ap (λ (r : Reader). r.unread) is.read.was_whole ∙ rw none (append-nil (element tag inside)) in

@@ -94,32 +94,15 @@ pub record PassesOver (fault : Fault → Fault) (old new : Reader) : Type 0 wher
   pub whole : new.failed ≡ false
   pub next : (g : Fault) → fault g old.unread ≡ g new.unread
 
--- this holds after an element that is there, and of which nothing is refused
-passes_over : (fault : Fault → Fault) (found : Fault) (content : Option (List ℕ)) (P : List ℕ → Type 0)
-    (old new : Reader)
-    → IsSomeAnd content P
-    → ((inside : List ℕ) → P inside
-    → (new.failed ≡ false)
-    × ((g : Fault) → fault g old.unread ≡ option_or (found inside) (g new.unread)))
-    → fault no_fault old.unread ≡ None → PassesOver fault old new
-passes_over fault found None P old new some read none = absurd some
-passes_over fault found (Some inside) P old new some read none =
-    let (whole, same) = read inside some in
-    let first : found inside ≡ None = sym (alone (found inside)) ∙ (sym (same no_fault) ∙ none) in
-    record { whole = whole; next = λ g. same g ∙ rw first refl }
-
--- this holds after an element that was read
+-- this holds after an element that was read, whose content meets the rule
 pub reads_on : (f : Fault) (tag : ℕ) (content : Option (List ℕ)) (old new : Reader)
-    → IsSomeAnd content (λ inside. HasReadElement tag inside old new)
-    → element_fault tag f no_fault old.unread ≡ None
+    → IsSomeAnd content (λ inside. (f inside ≡ None) × HasReadElement tag inside old new)
     → PassesOver (element_fault tag f) old new
-reads_on f tag content old new some none = passes_over (element_fault tag f) f content _ old new some
-    (λ inside is. (
-      ap (λ (r : Reader). r.failed) is.read.is_whole,
-      λ g.
-          read_element f g tag inside old new is,
-    ))
-    none
+reads_on f tag None old new some = absurd some
+reads_on f tag (Some inside) old new (meets, found) = record {
+  whole = ap (λ (r : Reader). r.failed) found.read.is_whole;
+  next = λ g. read_element f g tag inside old new found ∙ rw meets refl;
+}
 
 -- a reader that hasn't refused is known by its bytes
 pub reader_at : (r : Reader) (bytes : List ℕ) → r.unread ≡ bytes → r.failed ≡ false

@@ -72,16 +72,15 @@ next_second p q rest n =
 
 -- where an optional element was read, its fault is that of the element
 next_read : (f behind : Fault) (tag : ℕ) (content : Option (List ℕ)) (old new : Reader)
-    → IsSomeAnd content (λ inside. HasReadElement tag inside old new)
+    → IsSomeAnd content (λ inside. (f inside ≡ None) × HasReadElement tag inside old new)
     → optional_fault tag f behind old.unread ≡ element_fault tag f behind old.unread
 next_read f behind tag None old new found = absurd found
 next_read f behind tag (Some inside) old new found =
-    rw (ap (λ (r : Reader). r.unread) found.read.was_whole, eq-eqb tag tag refl) refl
+    rw (ap (λ (r : Reader). r.unread) found.1.read.was_whole, eq-eqb tag tag refl) refl
 
 -- the fault of an optional element that was read is that of what follows it
 pub optional_passes : (f : Fault) (tag : ℕ) (content : Option (List ℕ)) (old new : Reader)
-    → IsSomeAnd content (λ inside. HasReadElement tag inside old new)
-    → element_fault tag f no_fault old.unread ≡ None
+    → IsSomeAnd content (λ inside. (f inside ≡ None) × HasReadElement tag inside old new)
     → (behind : Fault) → optional_fault tag f behind old.unread ≡ behind new.unread
-optional_passes f tag content old new found none behind =
-    next_read f behind tag content old new found ∙ (reads_on f tag content old new found none).next behind
+optional_passes f tag content old new found behind =
+    next_read f behind tag content old new found ∙ (reads_on f tag content old new found).next behind

@@ -7,7 +7,7 @@ ghost use Rattle.sec1_der.specs.Encodings.{ReadsElement};
 ghost use Rattle.sec1_der.specs.Elements.{IsProperPrefix};
 ghost use Rattle.sec1_der.specs.ErrorKinds.{Refuses, IsReadingFault};
 ghost use Rattle.sec1_der.specs.Writers.{WhyNotWritten};
-ghost use Rattle.sec1_der.specs.Faults.{HasFault, element_fault, end_fault};
+ghost use Rattle.sec1_der.specs.Faults.{HasFault, IsFaultOf, element_fault, end_fault};
 
 use crate::length::check_room;
 use crate::value::element_header;
@@ -22,16 +22,20 @@ use std::alloc::Global;
 ///
 /// Those of [`SliceReader::decode`], then TrailingData if bytes follow the element.
 pub fn from_der<'a, T: DecodeValue<'a> + Tagged + Drop>(input: &'a [u8]) -> Result<T>
-    // What is read has these bytes, and the bytes of a value are read as one with its content.
+    // What is read has these bytes and a content that meets the rule of the type, and the bytes of
+    // a value are read as one with its content.
     ensures found { MatchResult result
-        (λ value. element_of T.tag_byte (T.content value) ≡ Some input.now)
+        (λ value. (element_of T.tag_byte (T.content value) ≡ Some input.now)
+        × IsSomeAnd (T.content value) (λ content. T.fault content ≡ None))
         (λ e. IsReadingFault e.kind) }
     ensures only { (value : T) → element_of T.tag_byte (T.content value) ≡ Some input.now
         → IsOkAnd result (λ found. T.content found ≡ T.content value) }
-    // An element whose content the rule of the type accepts is read.
-    ensures rule { (content : List ℕ) → T.fault content ≡ None
-        → element_of T.tag_byte (Some content) ≡ Some input.now
-        → IsOkAnd result (λ found. T.content found ≡ Some content) }
+    // An element is read if its content meets the rule of the type, and otherwise it is refused by
+    // the kind that the rule says.
+    ensures rule { (content : List ℕ) → element_of T.tag_byte (Some content) ≡ Some input.now
+        → MatchResult result
+        (λ found. (T.content found ≡ Some content) × (T.fault content ≡ None))
+        (λ e. IsFaultOf (T.fault content) e.kind) }
     ensures long { (value : T) (bytes : List ℕ)
         → element_of T.tag_byte (T.content value) ≡ Some bytes
         → IsProperPrefix bytes input.now → Refuses result ErrorKind.TrailingData }

@@ -1,5 +1,5 @@
 //! OBJECT IDENTIFIER that borrows its content.
-ghost use Rattle.std.specs.Prelude.{◌≡◌, ℕ, List, Some, MatchResult};
+ghost use Rattle.std.specs.Prelude.{◌≡◌, ℕ, List, Some, None, MatchResult};
 ghost use Rattle.sec1_der.specs.ArcsOf.{arcs_of};
 ghost use Rattle.sec1_der.specs.Contents.{identifier_fault};
 ghost use Rattle.sec1_der.specs.Identifiers.{IsIdentifier, identifier_content};
@@ -70,8 +70,9 @@ impl<'a> IdentifierRef<'a> {
     }
 
     /// Borrows the content, 1 to 39 bytes.
+    #[tactic(auto, using(crate::proofs::ContentFaultLemmas::identifier_taken))]
     pub fn as_bytes(&self) -> &'a [u8]
-        ensures { IsIdentifier self.now result.now }
+        ensures { IsIdentifier self.now result.now × (identifier_fault result.now ≡ None) }
     {
         self.bytes
     }

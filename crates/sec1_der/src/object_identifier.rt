@@ -1,5 +1,5 @@
 ghost use Rattle.std.specs.Prelude.{◌≡◌, ℕ, ◌<◌, ◌↔◌, List, length, IsTrue, MatchResult, Some};
-ghost use Rattle.std.specs.Prelude.{◌∷◌, ◌++◌, bytes_eq, true, codes, take, ◌-◌, replicate};
+ghost use Rattle.std.specs.Prelude.{None, ◌∷◌, ◌++◌, bytes_eq, true, codes, take, ◌-◌, replicate};
 ghost use Rattle.std.specs.Cmp.{partial_equiv_from_equiv};
 ghost use Rattle.std.specs.Fmt.{WritesStyledOnOk, debug_variant, decimal};
 ghost use Rattle.std.specs.Cmp.Lexicographic.{nat_list_eq_equiv};
@@ -133,8 +133,9 @@ impl ObjectIdentifier {
     }
 
     /// Borrows the content, 1 to 39 bytes.
+    #[tactic(auto, using(crate::proofs::ContentFaultLemmas::identifier_taken))]
     pub fn as_bytes(&self) -> &[u8]
-        ensures { IsIdentifier self.now result.now }
+        ensures { IsIdentifier self.now result.now × (identifier_fault result.now ≡ None) }
     {
         &self.bytes[..self.len]
     }

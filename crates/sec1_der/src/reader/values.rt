@@ -1,11 +1,12 @@
 //! The generic calls of a reader, which read values and explicit fields.
 ghost use Rattle.std.specs.Prelude.{◌≡◌, ◌≢◌, ◌≤◌, ◌++◌, ℕ, List, length, slice_get, true, false};
-ghost use Rattle.std.specs.Prelude.{IfOk, ◌+◌};
-ghost use Rattle.std.specs.Prelude.{IsOkAnd, IsSomeAnd, MatchOption};
+ghost use Rattle.std.specs.Prelude.{IfOk, ◌+◌, None};
+ghost use Rattle.std.specs.Prelude.{IsOkAnd, IsSomeAnd, MatchOption, MatchResult};
 ghost use Rattle.sec1_der.specs.Elements.{max_length, element, element_of, IsProperPrefix};
 ghost use Rattle.sec1_der.specs.ErrorKinds.{Refuses};
 ghost use Rattle.sec1_der.specs.Readers.{reader_over, HasReadElement, ReadsContent, RefusesBy};
 ghost use Rattle.sec1_der.specs.Faults.{element_fault, end_fault, no_fault, optional_fault};
+ghost use Rattle.sec1_der.specs.Faults.{IsFaultOf};
 
 use crate::header::element_at;
 use crate::{DecodeValue, ErrorKind, Result, SliceReader, Tag, Tagged};
@@ -20,21 +21,25 @@ impl<'a> SliceReader<'a> {
     /// then those of [`DecodeValue::decode_value`]; Failed if the reader failed before. On an error
     /// the reader has failed, and its remaining input is as it was.
     pub fn decode<T: DecodeValue<'a> + Tagged>(&mut self) -> Result<T>
-        // What is read is the element of the value, and just its bytes are read.
+        // What is read is the element of the value, and just its bytes are read. Its content meets
+        // the rule of the type.
         ensures found { IfOk result (λ value. IsSomeAnd (T.content value) (λ content.
-            HasReadElement T.tag_byte content self.old self.new)) }
+            (T.fault content ≡ None)
+            × HasReadElement T.tag_byte content self.old self.new)) }
         // If the unread bytes begin with the element of a value, it is read.
         ensures only { (value : T) (content rest : List ℕ) → T.content value ≡ Some content
             → length content ≤ max_length
             → self.old ≡ reader_over (element T.tag_byte content ++ rest)
             → IsOkAnd result (λ found. T.content found ≡ Some content)
             × (self.new ≡ reader_over rest) }
-        // If they begin with an element whose content the rule of the type accepts, it is read.
-        ensures rule { (content rest : List ℕ) → T.fault content ≡ None
-            → length content ≤ max_length
+        // If they begin with an element, it is read if its content meets the rule of the type, and
+        // otherwise it is refused by the kind that the rule says.
+        ensures rule { (content rest : List ℕ) → length content ≤ max_length
             → self.old ≡ reader_over (element T.tag_byte content ++ rest)
-            → IsOkAnd result (λ found. T.content found ≡ Some content)
-            × (self.new ≡ reader_over rest) }
+            → MatchResult result
+            (λ found. (T.content found ≡ Some content) × (T.fault content ≡ None)
+            × (self.new ≡ reader_over rest))
+            (λ e. IsFaultOf (T.fault content) e.kind) }
         ensures refused { RefusesBy (element_fault T.tag_byte T.fault no_fault) result
             self.old self.new }
     {
@@ -59,11 +64,12 @@ impl<'a> SliceReader<'a> {
         number: u8,
     ) -> Result<Option<T>>
         requires { number ≤ 30 }
-        // What is read is the field around the element of the value, and just its bytes are read.
-        // `None` means that no such field is next.
+        // What is read is the field around the element of the value, and just its bytes are read;
+        // the content meets the rule of the type. `None` means that no such field is next.
         ensures found { IfOk result (λ field. MatchOption field
             ((self.new ≡ self.old) × (slice_get self.old.unread 0 ≢ Some (0xA0 + number)))
-            (λ value. IsSomeAnd (T.content value) (λ content. (length content ≤ max_length)
+            (λ value. IsSomeAnd (T.content value) (λ content. (T.fault content ≡ None)
+            × (length content ≤ max_length)
             × HasReadElement (0xA0 + number) (element T.tag_byte content) self.old
             self.new))) }
         // If another byte is next, or none, nothing is read.
@@ -77,12 +83,16 @@ impl<'a> SliceReader<'a> {
             (element (0xA0 + number) (element T.tag_byte content) ++ rest)
             → IsOkAnd result (λ field. IsSomeAnd field (λ found. T.content found ≡ Some content))
             × (self.new ≡ reader_over rest) }
-        ensures rule { (content rest : List ℕ) → T.fault content ≡ None
+        // If they begin with one around any element of this tag, it is read if the content meets
+        // the rule of the type, and otherwise it is refused by the kind that the rule says.
+        ensures rule { (content rest : List ℕ)
             → length content ≤ max_length → length (element T.tag_byte content) ≤ max_length
             → self.old ≡ reader_over
             (element (0xA0 + number) (element T.tag_byte content) ++ rest)
-            → IsOkAnd result (λ field. IsSomeAnd field (λ found. T.content found ≡ Some content))
-            × (self.new ≡ reader_over rest) }
+            → MatchResult result
+            (λ field. IsSomeAnd field (λ found. T.content found ≡ Some content)
+            × (T.fault content ≡ None) × (self.new ≡ reader_over rest))
+            (λ e. IsFaultOf (T.fault content) e.kind) }
         ensures refused { RefusesBy (optional_fault (0xA0 + number)
             (element_fault T.tag_byte T.fault end_fault) no_fault) result self.old self.new }
     {
@@ -137,9 +147,13 @@ impl<'a> SliceReader<'a> {
     pub(crate) fn only_element<T: DecodeValue<'a> + Tagged + Drop>(&mut self) -> Result<T>
         ensures reads { ReadsContent (λ value. element_of T.tag_byte (T.content value))
             (element_fault T.tag_byte T.fault end_fault) result self.old self.new }
-        ensures rule { (content : List ℕ) → T.fault content ≡ None → length content ≤ max_length
+        ensures meets { IfOk result (λ value. IsSomeAnd (T.content value)
+            (λ content. T.fault content ≡ None)) }
+        ensures rule { (content : List ℕ) → length content ≤ max_length
             → self.old ≡ reader_over (element T.tag_byte content)
-            → IsOkAnd result (λ found. T.content found ≡ Some content) }
+            → MatchResult result
+            (λ found. (T.content found ≡ Some content) × (T.fault content ≡ None))
+            (λ e. IsFaultOf (T.fault content) e.kind) }
         ensures long { (value : T) (content : List ℕ) → T.content value ≡ Some content
             → length content ≤ max_length → self.old.failed ≡ false
             → IsProperPrefix (element T.tag_byte content) self.old.unread

@@ -14,8 +14,8 @@ loop-elements-preserved g c =
     let at = c.loop-elements.invariant.rest in
     record {
       rest = row_continues _ _ _ _ _ _ at (omega (arith, c.loop-elements-test.true, c.remaining_len.ensures))
-          c.in_ok-_value.ensures.found (c.in_ok-_value.ensures.refused.kind at.whole);
-      values = values_read _ _ _ _ _ _ c.loop-elements.invariant.values
+          c.in_ok-_value.ensures.found;
+      values = values_read _ _ _ _ _ _ _ c.loop-elements.invariant.values
           (omega (arith, c.loop-elements-test.true, c.remaining_len.ensures)) at.whole
           c.in_ok-_value.ensures.found
           (λ a inside left same within is.

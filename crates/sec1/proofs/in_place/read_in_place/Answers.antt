@@ -19,8 +19,7 @@ passes : (f : Fault) (tag opened : ℕ) (old new content : Reader)
     → (content ≡ reader_over content.unread) × HasReadElement opened content.unread old new → opened ≡ tag
     → f content.unread ≡ None → PassesOver (element_fault tag f) old new
 passes f tag opened old new content found same none =
-    reads_on f tag (Some content.unread) old new (rw same at found.1)
-    ((opened_element f tag opened old new content found same).1 ∙ none)
+    reads_on f tag (Some content.unread) old new (none, rw same at found.1)
 
 pub returns-in-Err-clause-read : goal.returns-in-Err-clause-read
 returns-in-Err-clause-read g c = record {

@@ -6,7 +6,7 @@ pub returns-in-Ok : goal.returns-in-Ok
 returns-in-Ok g c = record {
   exact = (
     search rules,
-    optional_passes g.A.ValueContent.fault _ _ _ _ c.in-Ok.ensures.found (c.in-Ok.ensures.refused.kind c.requires.0),
+    optional_passes g.A.ValueContent.fault _ _ _ _ c.in-Ok.ensures.found,
   );
   only = search rules;
 }

@@ -24,8 +24,8 @@ returns-in_err-value-clause-reads g c = record {
 }
 
 pub returns-in_err-value-clause-rule : goal.returns-in_err-value-clause-rule
-returns-in_err-value-clause-rule g c content allowed within e =
-    absurd (c.in_err-value.ensures.rule content [] allowed within (rw append-nil e)).0
+returns-in_err-value-clause-rule g c content within e =
+    let refused = c.in_err-value.ensures.rule content [] within (rw append-nil e) in search rules
 
 pub returns-in_err-finish-clause-reads : goal.returns-in_err-finish-clause-reads
 returns-in_err-finish-clause-reads g c = record {
@@ -38,8 +38,7 @@ returns-in_err-finish-clause-reads g c = record {
       (rw append-nil (reader_at _ _ there.at.encoded fresh))).1));
   kinds = search rules;
   kind = λ fresh.
-      let first = reads_on g.T.ValueContent.fault _ _ _ _ c.in_ok-value.ensures.found
-      (c.in_ok-value.ensures.refused.kind fresh) in
+      let first = reads_on g.T.ValueContent.fault _ _ _ _ c.in_ok-value.ensures.found in
       let refusal = err_from_is_err_and c.from_residual-in_err-finish.result c.from_residual-in_err-finish.ensures.1 in
       rw (refusal.1, refusal.2, first.next end_fault) (c.in_err-finish.ensures.refused.kind first.whole);
   failed = search rules;
@@ -47,19 +46,18 @@ returns-in_err-finish-clause-reads g c = record {
 }
 
 pub returns-in_err-finish-clause-rule : goal.returns-in_err-finish-clause-rule
-returns-in_err-finish-clause-rule g c content allowed within e =
+returns-in_err-finish-clause-rule g c content within e =
     absurd (false≢true
-    (c.in_err-finish.ensures.only (c.in_ok-value.ensures.rule content [] allowed within (rw append-nil e)).1))
+    (c.in_err-finish.ensures.only (c.in_ok-value.ensures.rule content [] within (rw append-nil e)).2))
 
 pub returns-clause-reads : goal.returns-clause-reads
 returns-clause-reads g c = record {
-  found = read_whole _ _ _ _ c.in_ok-value.ensures.found c.in_ok-finish.ensures.found.0;
+  found = read_whole _ _ _ _ _ c.in_ok-value.ensures.found c.in_ok-finish.ensures.found.0;
   read = search rules;
   only = search rules;
   kinds = λ _. tt;
   kind = λ fresh.
-      let first = reads_on g.T.ValueContent.fault _ _ _ _ c.in_ok-value.ensures.found
-      (c.in_ok-value.ensures.refused.kind fresh) in
+      let first = reads_on g.T.ValueContent.fault _ _ _ _ c.in_ok-value.ensures.found in
       first.next end_fault ∙ ap (λ (r : Reader). end_fault r.unread) c.in_ok-finish.ensures.found.0;
   failed = search rules;
   refused = tt;

@@ -18,7 +18,7 @@ pub returns-in-Ok : goal.returns-in-Ok
 returns-in-Ok g c = record {
   exact = (
     search rules,
-    (reads_on g.A.ValueContent.fault _ _ _ _ c.in-Ok.ensures.found (c.in-Ok.ensures.refused.kind c.requires.0)).next,
+    (reads_on g.A.ValueContent.fault _ _ _ _ c.in-Ok.ensures.found).next,
   );
   only = search rules;
 }
