@@ -1,5 +1,6 @@
 //! Callers of the calls that read: what a success found meets the rule of its type.
-ghost use Rattle.std.specs.Prelude.{◌≡◌, ◌≢◌, ◌∷◌, ◌≤◌, ◌<◌, [], ℕ, List, length, Some, None, false, true};
+ghost use Rattle.std.specs.Prelude.{◌≡◌, ◌≢◌, ◌∷◌, ◌≤◌, ◌<◌, ◌-◌, [], ℕ, List, length, drop};
+ghost use Rattle.std.specs.Prelude.{Some, None, false, true};
 ghost use Rattle.std.specs.Prelude.{IfOk, IfSome, IsSomeAnd, IsTrue, OnErr};
 ghost use Rattle.sec1_der.specs.Contents.{are_bits, bit_string_fault, byte_fault, identifier_fault};
 ghost use Rattle.sec1_der.specs.Elements.{element, max_length, IsElement, IsProperPrefix};
@@ -143,4 +144,15 @@ pub fn stays_six(reader: &mut SliceReader, count: Length) -> (usize, usize)
     let _ = reader.read_slice(count);
     let _ = reader.finish();
     (before, reader.remaining_len())
+}
+
+/// Reads a value from its content. An error leaves no more input than there was, and none of it
+/// is new.
+pub fn left_over<'a, T: DecodeValue<'a>>(reader: &mut SliceReader<'a>) -> Result<T>
+    requires { length reader.old.unread ≤ max_length }
+    ensures fewer { OnErr result (length reader.new.unread ≤ length reader.old.unread) }
+    ensures last { OnErr result (reader.new.unread
+        ≡ drop (length reader.old.unread - length reader.new.unread) reader.old.unread) }
+{
+    T::decode_value(reader)
 }

@@ -3,13 +3,14 @@
 use Rattle.std.proofs.Common.{◌≡◌, ◌++◌, ℕ, List, false, refl, sym, ◌∙◌}
 use Rattle.std.proofs.Common.{ap, Option, Some, None, IsSomeAnd, Ok}
 use Rattle.std.proofs.Common.{eq-eqb, ◌≤◌, length, take, drop, arith, le-leb, length-append}
-use Rattle.std.proofs.Common.{append_assoc}
+use Rattle.std.proofs.Common.{append_assoc, length-drop, ◌+◌, ◌-◌, inl, inr}
 use Rattle.std.specs.Option.{option_or}
-use Rattle.sec1_der.specs.Readers.{Reader, HasReadElement, reader_over}
+use Rattle.sec1_der.specs.Readers.{Reader, HasRead, HasReadElement, IsSuffix, reader_over}
 use Rattle.sec1_der.specs.Faults.{Fault, no_fault, length_at, within, parts_fault, element_fault}
 use Rattle.sec1_der.specs.Faults.{any_fault}
 use Rattle.sec1_der.specs.declared.error.ErrorKind.{ErrorKind}
-use Rattle.std.proofs.Math.Seq.{take-append_seam, drop-append_seam}
+use Rattle.std.proofs.lemmas.Grind.{common_steps}
+use Rattle.std.proofs.Math.Seq.{take-append_seam, drop-append_seam, drop-append-add}
 use Rattle.std.proofs.lemmas.Slice.Eq.{bytes_eq-Decides}
 use Rattle.sec1_der.specs.Elements.{max_length, length_octets, header, element, IsHeader}
 use Rattle.sec1_der.proofs.LengthLaws.{number_at_octets}
@@ -89,10 +90,41 @@ read_element f g tag content old new h =
     element_at f g tag content old.unread new.unread h.within
     (ap (λ (r : Reader). r.unread) h.read.was_whole)
 
--- after an element that is read, the fault of the old input is that of the new one
+-- the end of a list is the end of that list behind another
+joined_suffix : (front back rest : List ℕ) → IsSuffix rest back → IsSuffix rest (front ++ back)
+joined_suffix front back rest (inl none) = inl none
+joined_suffix front back rest (inr end) = inr (
+    let n = length back - length rest in
+    let count : length (front ++ back) - length rest ≡ length front + n =
+    omega (arith, length-append front back, length-drop n back, ap length end) in
+    end ∙ (sym (drop-append-add front back n) ∙ ap (λ k. drop k (front ++ back)) (sym count)))
+
+-- the end of what follows bytes that were read is the end of what there was
+pub suffix_behind : (bytes : List ℕ) (old new : Reader) (rest : List ℕ) → HasRead bytes old new
+    → IsSuffix rest new.unread → IsSuffix rest old.unread
+suffix_behind bytes old new rest h end =
+    rw (ap (λ (r : Reader). r.unread) h.was_whole) (joined_suffix bytes new.unread rest end)
+
+-- the same of bytes that are there
+pub left_behind : (bytes : Option (List ℕ)) (old new : Reader) (rest : List ℕ)
+    → IsSomeAnd bytes (λ whole. HasRead whole old new) → IsSuffix rest new.unread → IsSuffix rest old.unread
+left_behind None old new rest read end = absurd read
+left_behind (Some bytes) old new rest read end = suffix_behind bytes old new rest read end
+
+-- all bytes are their own end
+suffix_all : (bytes : List ℕ) → IsSuffix bytes bytes
+suffix_all bytes = inr (grind (arith, common_steps))
+
+-- what follows bytes that were read is the end of what there was
+pub read_end : (bytes : Option (List ℕ)) (old new : Reader) → IsSomeAnd bytes (λ whole. HasRead whole old new)
+    → IsSuffix new.unread old.unread
+read_end bytes old new read = left_behind bytes old new new.unread read (suffix_all new.unread)
+
+-- after an element that is read, the fault of the old input is that of the new one, which is its end
 pub record PassesOver (fault : Fault → Fault) (old new : Reader) : Type 0 where
   pub whole : new.failed ≡ false
   pub next : (g : Fault) → fault g old.unread ≡ g new.unread
+  pub left : IsSuffix new.unread old.unread
 
 -- this holds after an element that was read, whose content meets the rule
 pub reads_on : (f : Fault) (tag : ℕ) (content : Option (List ℕ)) (old new : Reader)
@@ -102,6 +134,7 @@ reads_on f tag None old new some = absurd some
 reads_on f tag (Some inside) old new (meets, found) = record {
   whole = ap (λ (r : Reader). r.failed) found.read.is_whole;
   next = λ g. read_element f g tag inside old new found ∙ rw meets refl;
+  left = suffix_behind (element tag inside) old new new.unread found.read (suffix_all new.unread);
 }
 
 -- a reader that hasn't refused is known by its bytes

@@ -7,7 +7,7 @@ use Rattle.std.specs.List.{list_all, list_any}
 use Rattle.sec1_der.specs.Elements.{element_of}
 use Rattle.sec1_der.specs.ErrorKinds.{IsReadingFault}
 use Rattle.sec1_der.specs.Faults.{Fault, IsFaultOf}
-use Rattle.sec1_der.specs.Readers.{Reader, reader_over, HasRead}
+use Rattle.sec1_der.specs.Readers.{Reader, reader_over, HasRead, IsSuffix}
 use Rattle.sec1_der.specs.declared.error.Error.{Error}
 
 -- X.690 sections 8.9.2 and 8.9.3: the bytes of one part and those of the parts after it, if all of
@@ -78,12 +78,14 @@ pub record ReadsPart {P : Type 0} (bytes : P → Option (List ℕ))
     (fault_then : Fault → Fault) (tags : Tags) (result : Result P Error)
     (old new : Reader) : Type 0 where
   -- Just the bytes of the part are read, and then the fault is that of what follows. Otherwise the
-  -- kind is a function of the remaining input, and the reader has failed.
+  -- kind is a function of the remaining input, and the reader has failed; its remaining input is
+  -- what it was or the end of it.
   pub exact : MatchResult result
       (λ part. IsSomeAnd (bytes part) (λ whole. HasRead whole old new)
       × ((behind : Fault) → fault_then behind old.unread ≡ behind new.unread))
       (λ e. (new.failed ≡ true) × IsReadingFault e.kind
-      × ((behind : Fault) → IsFaultOf (fault_then behind old.unread) e.kind))
+      × ((behind : Fault) → IsFaultOf (fault_then behind old.unread) e.kind)
+      × IsSuffix new.unread old.unread)
   -- if the remaining input begins with a part, and what follows can't be confused with it, that
   -- part is read
   pub only : (part : P) (whole rest : List ℕ) → tags.apart ≡ true → bytes part ≡ Some whole

@@ -1,5 +1,6 @@
 -- The state of a reader: the remaining input, and whether it has failed.
-use Rattle.std.specs.Prelude.{◌≡◌, ◌≤◌, Bool, false, true, List, [], ◌++◌, length, ℕ, Option, Some}
+use Rattle.std.specs.Prelude.{◌≡◌, ◌⊎◌, ◌≤◌, ◌-◌, Bool, false, true, List, [], ◌++◌, length, drop, ℕ}
+use Rattle.std.specs.Prelude.{Option, Some}
 use Rattle.std.specs.Prelude.{Result, IsOk, IfOk, IfErr, OnOk, OnErr}
 use Rattle.sec1_der.specs.Elements.{max_length, element}
 use Rattle.sec1_der.specs.ErrorKinds.{Refuses, IsReadingFault}
@@ -18,6 +19,10 @@ reader_over bytes = record { unread = bytes; failed = false }
 -- the reader, after it has failed
 abbrev pub refused : Reader → Reader
 refused r = record { unread = r.unread; failed = true }
+
+-- the bytes are none, or the end of the others
+abbrev pub IsSuffix : List ℕ → List ℕ → Type 0
+IsSuffix bytes whole = (bytes ≡ []) ⊎ (bytes ≡ drop (length whole - length bytes) whole)
 
 -- a reader that hadn't failed read exactly these bytes
 pub record HasRead (bytes : List ℕ) (old new : Reader) : Type 0 where
@@ -53,5 +58,5 @@ pub record ReadsContent {T : Type 0} (content : T → Option (List ℕ)) (fault 
   pub kind : old.failed ≡ false → HasFault result (fault old.unread)
   -- a reader that had failed stays as it was
   pub failed : old.failed ≡ true → Refuses result Failed × (new ≡ old)
-  -- the reader has failed after an error
-  pub refused : OnErr result (new.failed ≡ true)
+  -- after an error the reader has failed, and its remaining input is what it was or the end of it
+  pub refused : OnErr result ((new.failed ≡ true) × IsSuffix new.unread old.unread)

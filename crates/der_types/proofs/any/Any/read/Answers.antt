@@ -16,7 +16,12 @@ invariant_of-result c =
 
 pub returns-in-Err : goal.returns-in-Err
 returns-in-Err c = record {
-  exact = (search rules, search rules, λ behind. any_refused behind _ _ (c.in-Err.ensures.refused.kind c.requires));
+  exact = (
+    search rules,
+    search rules,
+    λ behind. any_refused behind _ _ (c.in-Err.ensures.refused.kind c.requires),
+    search rules,
+  );
   only = λ part whole rest apart same may is.
       let element = (any_some part whole same).1 in
       absurd (c.in-Err.ensures.only element.tag element.content rest element.is_header

@@ -2,6 +2,7 @@ use Rattle.std.proofs.Common.{◌++◌, append_assoc, rules, arith}
 use Rattle.std.proofs.lemmas.Bool.{and_parts}
 use Rattle.std.proofs.lemmas.Grind.{common_steps}
 use Rattle.sec1_der.proofs.ComponentLemmas.{joined}
+use Rattle.sec1_der.proofs.FaultLaws.{left_behind}
 use Rattle.sec1_der.proofs.JoinLaws.{parted}
 use Rattle.sec1_der.proofs.PartLemmas.{next_first, next_second}
 use Rattle.sec1_der.proofs.part.Tuple2DecodePart.decode_part.Goals as goal
@@ -21,7 +22,8 @@ returns-in_err-first g c = record {
 
 pub returns-in_err-second : goal.returns-in_err-second
 returns-in_err-second g c = record {
-  exact = search rules;
+  exact =
+      let left = left_behind _ _ _ _ c.in_ok-first.ensures.exact.0 c.in_err-second.ensures.exact.3 in search rules;
   only = λ part whole rest apart same next is.
       let all = parted _ _ whole same in
       let tags = and_parts _ _ apart in

@@ -42,7 +42,9 @@ returns-in_err-finish-clause-reads g c = record {
       let refusal = err_from_is_err_and c.from_residual-in_err-finish.result c.from_residual-in_err-finish.ensures.1 in
       rw (refusal.1, refusal.2, first.next end_fault) (c.in_err-finish.ensures.refused.kind first.whole);
   failed = search rules;
-  refused = search rules;
+  refused =
+      let first = reads_on g.T.ValueContent.fault _ _ _ _ c.in_ok-value.ensures.found in
+      let left = first.left in search rules;
 }
 
 pub returns-in_err-finish-clause-rule : goal.returns-in_err-finish-clause-rule

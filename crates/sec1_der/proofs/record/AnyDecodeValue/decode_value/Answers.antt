@@ -1,7 +1,7 @@
 use Rattle.std.proofs.Common.{[], refl, append-nil, rules, arith}
 use Rattle.std.proofs.lemmas.Bool.{false≢true}
 use Rattle.std.proofs.lemmas.Grind.{common_steps}
-use Rattle.sec1_der.proofs.FaultLaws.{reader_at}
+use Rattle.sec1_der.proofs.FaultLaws.{read_end, reader_at}
 use Rattle.sec1_der.proofs.record.AnyDecodeValue.decode_value.Goals as goal
 
 pub returns-in_err-parts : goal.returns-in_err-parts
@@ -29,5 +29,5 @@ returns-in_err-finish g c = record {
   kinds = search rules;
   kind = search rules;
   failed = search rules;
-  refused = search rules;
+  refused = let left = read_end _ _ _ c.in_ok-parts.ensures.exact.0 in search rules;
 }

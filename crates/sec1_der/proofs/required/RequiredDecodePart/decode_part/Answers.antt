@@ -10,6 +10,7 @@ returns-in-Err g c = record {
     search rules,
     λ behind. refused_more g.A.ValueContent.fault behind g.A.Tagged.tag_byte c.args.reader.now.unread _
         (c.in-Err.ensures.refused.kind c.requires.0),
+    search rules,
   );
   only = search rules;
 }
