@@ -2,8 +2,8 @@
 ghost use Rattle.std.specs.Prelude.{◌≡◌};
 
 use sec1_der::{
-    BackWriter, DecodeValue, EncodeValue, Length, Result, SliceReader, Tag, Tagged, UniqueContent,
-    ValueContent,
+    BackWriter, DecodeValue, EncodeValue, Length, Record, Result, SliceReader, Tag, Tagged,
+    UniqueContent, ValueContent,
 };
 use std::marker::{Model, PhantomData};
 
@@ -11,9 +11,11 @@ use std::marker::{Model, PhantomData};
 /// or `Implicit<Context0, A>` if the content of `A` consists of elements. A contract sees the
 /// value.
 #[derive(Drop)]
+#[derive_where(Clone, Copy, Debug, PartialEq, Eq; A)]
 pub struct Implicit<K, A> {
     /// The value.
     pub value: A,
+    #[derive_where(skip)]
     tag: PhantomData<K>,
 }
 
@@ -34,6 +36,15 @@ impl<K, A> Implicit<K, A> {
             value,
             tag: PhantomData,
         }
+    }
+}
+
+impl<K, A: Record> Implicit<K, A> {
+    /// Returns the value again. It borrows what this one borrows.
+    pub fn reborrow(&self) -> Self
+        ensures { result ≡ self.now }
+    {
+        Implicit::new(self.value.reborrow())
     }
 }
 

@@ -10,8 +10,9 @@ ghost use Rattle.sec1_der.specs.Readers.{reader_over, HasReadElement};
 ghost use Rattle.sec1_der.specs.Values.{unused_bits_of, bit_bytes_of};
 
 use sec1_der::{
-    AnyRef, BitStringRef, DecodeValue, ErrorKind, Header, IdentifierRef, Length, ObjectIdentifier,
-    OctetStringRef, Result, SecretDocument, SliceReader, Tagged, VersionOne, from_der,
+    AnyRef, BitStringRef, Containing, DecodeValue, ErrorKind, Header, IdentifierRef, Length,
+    ObjectIdentifier, OctetStringRef, Record, Result, SecretDocument, SliceReader, Tagged,
+    VersionOne, from_der,
 };
 use std::alloc::Global;
 
@@ -155,4 +156,25 @@ pub fn left_over<'a, T: DecodeValue<'a>>(reader: &mut SliceReader<'a>) -> Result
         ≡ drop (length reader.old.unread - length reader.new.unread) reader.old.unread) }
 {
     T::decode_value(reader)
+}
+
+/// Returns the value twice: an element inside an OCTET STRING is copied as what it contains.
+pub fn twice(value: Containing<VersionOne>) -> (Containing<VersionOne>, Containing<VersionOne>)
+    ensures { (result.0 ≡ value) × (result.1 ≡ value) }
+{
+    (value, value)
+}
+
+/// Returns `true` if the values are the same.
+pub fn are_same(a: &Containing<VersionOne>, b: &Containing<VersionOne>) -> bool
+    ensures { a.now ≡ b.now → IsTrue result }
+{
+    a == b
+}
+
+/// Returns the value inside an OCTET STRING again.
+pub fn again<A: Record>(value: &Containing<A>) -> Containing<A>
+    ensures { result ≡ value.now }
+{
+    value.reborrow()
 }

@@ -5,17 +5,19 @@ ghost use Rattle.sec1_der.specs.Elements.{element_of};
 ghost use Rattle.sec1_der.specs.Faults.{element_fault, end_fault};
 
 use crate::{
-    BackWriter, BitStringRef, DecodeValue, EncodeValue, ErrorKind, Length, Result, SliceReader,
-    Tag, Tagged, UniqueContent, ValueContent, WholeBits, component_len,
+    BackWriter, BitStringRef, DecodeValue, EncodeValue, ErrorKind, Length, Record, Result,
+    SliceReader, Tag, Tagged, UniqueContent, ValueContent, WholeBits, component_len,
 };
 use std::marker::{Model, PhantomData};
 
 /// The element of a value inside an element with the tag of `K`: `[0] EXPLICIT A` is
 /// `Explicit<Context0, A>`. A contract sees the value.
 #[derive(Drop)]
+#[derive_where(Clone, Copy, Debug, PartialEq, Eq; A)]
 pub struct Explicit<K, A> {
     /// The value.
     pub value: A,
+    #[derive_where(skip)]
     tag: PhantomData<K>,
 }
 
@@ -36,6 +38,15 @@ impl<K, A> Explicit<K, A> {
             value,
             tag: PhantomData,
         }
+    }
+}
+
+impl<K, A: Record> Explicit<K, A> {
+    /// Returns the value again. It borrows what this one borrows.
+    pub fn reborrow(&self) -> Self
+        ensures { result ≡ self.now }
+    {
+        Explicit::new(self.value.reborrow())
     }
 }
 
