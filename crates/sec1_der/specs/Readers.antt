@@ -1,6 +1,6 @@
 -- The state of a reader: the remaining input, and whether it has failed.
-use Rattle.std.specs.Prelude.{◌≡◌, ◌⊎◌, ◌≤◌, ◌-◌, Bool, false, true, List, [], ◌++◌, length, drop, ℕ}
-use Rattle.std.specs.Prelude.{Option, Some}
+use Rattle.std.specs.Prelude.{◌≡◌, ◌⊎◌, ◌≤◌, ◌-◌, Bool, false, true, List, [], ◌++◌, length, drop}
+use Rattle.std.specs.Prelude.{ℕ, Option, Some}
 use Rattle.std.specs.Prelude.{Result, IsOk, IfOk, IfErr, OnOk, OnErr}
 use Rattle.sec1_der.specs.Elements.{max_length, element}
 use Rattle.sec1_der.specs.ErrorKinds.{Refuses, IsReadingFault}

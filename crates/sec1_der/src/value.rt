@@ -35,8 +35,7 @@ pub trait ValueContent {
 
     /// The rule of the type: `None` for bytes that are a content of it, otherwise the kind of error
     /// by which they are refused, as `Some (Some kind)`. `Some None` leaves the kind open: it is
-    /// one
-    /// of [`decode_value`](DecodeValue::decode_value).
+    /// one of [`decode_value`](DecodeValue::decode_value).
     ghost fault: { Fault };
 }
 
@@ -104,7 +103,8 @@ pub trait EncodeValue: ValueContent {
     /// Prepends the content, for which there is room, to what was written.
     ///
     /// A type that contains other elements overrides this with calls of
-    /// [`BackWriter::prepend_element`], so that an element is measured once, however deep it is nested.
+    /// [`BackWriter::prepend_element`], so that an element is measured once, however deep it is
+    /// nested.
     fn prepend_value(&self, writer: &mut BackWriter)
         requires { HasRoom (within_limit (Self.content self.now)) writer.old }
         ensures { Puts (Self.content self.now) writer.old writer.new }
