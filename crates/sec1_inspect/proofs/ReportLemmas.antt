@@ -6,7 +6,7 @@ use Rattle.std.proofs.KnownBytes.{Appends-trans, Consumes-trans}
 use Rattle.std.specs.Io.KnownBytes.{Appends, Consumes, IsAtEnd}
 use Rattle.sec1.specs.Der.{Ends, Takes}
 use Rattle.sec1_der.specs.Streams.{ReadsOnto}
-use Rattle.sec1_inspect.specs.declared.RunError.{RunError}
+use Rattle.sec1_inspect.specs.declared.Fault.{Fault}
 use Rattle.sec1_inspect.specs.Report.{IsReportUnlessLong, limit}
 use Rattle.sec1_inspect.specs.Run.{TakesInput, WritesReport}
 
@@ -47,7 +47,7 @@ takes_onto left taken old mid new before after n first read = rw read.appended
 
 -- The whole text of the report was written, and its status returned.
 pub whole_report : (IsReportOn : List ℕ → List ℕ → ℕ → Type 0) (input old new : Option (List ℕ))
-    (text : List ℕ) (status : ℕ) (r : Result ℕ RunError)
+    (text : List ℕ) (status : ℕ) (r : Result ℕ Fault)
     → IfSome input (λ bytes. IsReportUnlessLong IsReportOn bytes text status) → IfOk r (λ s. s ≡ status)
     → OnOk r (Appends old new text)
     → IfOk r (WritesReport (IsReportUnlessLong IsReportOn) input old new)

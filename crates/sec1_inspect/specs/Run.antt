@@ -5,8 +5,8 @@ use Rattle.std.specs.Io.KnownBytes.{Appends}
 use Rattle.sec1.specs.Der.{AppendsPrefix}
 use Rattle.sec1_inspect.specs.declared.Failure.{Failure}
 use Rattle.sec1_inspect.specs.declared.Failure.TheVariants.{Run, Paths}
-use Rattle.sec1_inspect.specs.declared.RunError.{RunError}
-use Rattle.sec1_inspect.specs.declared.RunError.TheVariants.{Input, Output, Memory}
+use Rattle.sec1_inspect.specs.declared.Fault.{Fault}
+use Rattle.sec1_inspect.specs.declared.Fault.TheVariants.{Input, Output, Memory}
 use Rattle.sec1_inspect.specs.declared.Form.{Form}
 use Rattle.sec1_inspect.specs.declared.Form.TheVariants.{Text, Der}
 use Rattle.sec1_inspect.specs.Report.{IsDerReport, IsReport, limit}
@@ -48,12 +48,12 @@ pub record HasStatus (IsReport : List ℕ → List ℕ → ℕ → Type 0) (inpu
   pub report : IfSome input (λ bytes. IsReport bytes text status)
 
 -- the text of an error
-abbrev pub run_error_text : RunError → List ℕ
-run_error_text Input = codes "input failed"
-run_error_text Output = codes "output failed"
-run_error_text Memory = codes "out of memory"
+abbrev pub fault_text : Fault → List ℕ
+fault_text Input = codes "input failed"
+fault_text Output = codes "output failed"
+fault_text Memory = codes "out of memory"
 
 -- the line that is printed if there is no report
 abbrev pub line_of : Failure → List ℕ
-line_of (Run error) = codes "sec1_inspect: " ++ run_error_text error
+line_of (Run error) = codes "sec1_inspect: " ++ fault_text error
 line_of Paths = codes "sec1_inspect: at most one path"
