@@ -1,8 +1,7 @@
-ghost use Rattle.std.specs.Prelude.{◌≡◌, ◌<◌, ◌≤◌, ◌++◌, ◌↔◌, ℕ, List, length, Ok, drop};
+ghost use Rattle.std.specs.Prelude.{◌≡◌, ◌<◌, ◌≤◌, ◌++◌, ℕ, List, length, Ok, drop};
 ghost use Rattle.std.specs.Prelude.{MatchResult};
 ghost use Rattle.std.specs.Prelude.{Some, None, ⊤, refl, codes};
 ghost use Rattle.std.specs.Fmt.{◌++?◌, debug_list, debug_option, decimal};
-ghost use Rattle.sec1_der.specs.Elements.{element_of};
 ghost use Rattle.std.specs.Option.{option_map};
 ghost use Rattle.sec1.specs.Keys.{Key, IsKeyOf, SomeBytes};
 ghost use Rattle.sec1.specs.Parameters.{curve_of};
@@ -10,14 +9,13 @@ ghost use Rattle.sec1.specs.declared.parameters.EcParameters.TheVariants.{NamedC
 ghost use Rattle.sec1.specs.ReadsKey.{ReadsKey};
 ghost use Rattle.sec1.specs.Errors.{IsAsn1, HasNoEncodingOr};
 
-use crate::borrowed_key::{BorrowedKey, KeyParts};
+use crate::borrowed_key::BorrowedKey;
 use crate::in_place::{ReadInPlace, read_in_place};
 use crate::{EcParameters, Error, Result};
 use sec1_der as der;
 use sec1_der::{
-    DecodeValue, Distinct, ErrorKind, Explicit, ExplicitBits, IdentifierRef, ObjectIdentifier,
-    Octets, Optional, Record, Required, SecretDocument, SliceReader, UniqueContent, ValueContent,
-    VersionOne,
+    BackWriter, DecodeValue, EncodeValue, ErrorKind, FixedTag, IdentifierRef, Length,
+    SecretDocument, Sequence, SliceReader, Tag, Tagged, UniqueContent, ValueContent,
 };
 use std::alloc::Global;
 use std::fmt;
@@ -57,6 +55,63 @@ impl<'a> Model for EcPrivateKey<'a> {
       parameters = option_map curve_of key.parameters;
       public_key = option_map (λ bytes. bytes.now) key.public_key;
     } };
+}
+
+impl Tagged for EcPrivateKey<'_> {
+    ghost tag_byte = { 0x30 };
+
+    fn fixed_tag() -> Tag
+        ensures { result ≡ 0x30 }
+    {
+        Self::TAG
+    }
+}
+
+impl FixedTag for EcPrivateKey<'_> {
+    const TAG: Tag = Tag::SEQUENCE;
+}
+
+impl ValueContent for EcPrivateKey<'_> {
+    ghost content = { ⟦<BorrowedKey<'static> as ValueContent>⟧.content };
+
+    ghost fault = { ⟦<BorrowedKey<'static> as ValueContent>⟧.fault };
+}
+
+impl<'a> DecodeValue<'a> for EcPrivateKey<'a> {
+    fn decode_value(reader: &mut SliceReader<'a>) -> der::Result<Self> {
+        let parts = BorrowedKey::decode_value(reader)?;
+        let mut key = EcPrivateKey::empty();
+        key.fill(parts);
+        Ok(key)
+    }
+}
+
+impl EncodeValue for EcPrivateKey<'_> {
+    fn value_len(&self) -> der::Result<Length> {
+        self.borrow().value_len()
+    }
+
+    fn encode_back(&self, writer: &mut BackWriter) -> der::Result<()> {
+        self.borrow().encode_back(writer)
+    }
+
+    fn prepend_value(&self, writer: &mut BackWriter) {
+        self.borrow().prepend_value(writer);
+    }
+}
+
+impl<'a> Sequence<'a> for EcPrivateKey<'a> {
+    ghost is_sequence = { refl };
+}
+
+impl UniqueContent for EcPrivateKey<'_> {
+    fn one()
+        ensures { (a b : Key) (bytes : List ℕ)
+            → ⟦<BorrowedKey<'static> as ValueContent>⟧.content a ≡ Some bytes
+            → ⟦<BorrowedKey<'static> as ValueContent>⟧.content b ≡ Some bytes → a ≡ b }
+    {
+        BorrowedKey::one();
+    }
 }
 
 /// Reads a key from its whole DER encoding, without an allocation. The private key and the public
@@ -99,13 +154,13 @@ impl<'a> EcPrivateKey<'a> {
     ///
     /// [`Error::Asn1`] of Overlength if the content of an element would be longer than 268,435,455
     /// bytes.
+    #[tactic(auto, using(crate::proofs::KeyLemmas::key_none))]
     pub fn encoded_len(&self) -> Result<usize>
         ensures exact { MatchResult result
             (λ n. SomeBytes (IsKeyOf self.now) (λ bytes. n ≡ length bytes))
             (λ e. IsAsn1 ErrorKind.Overlength e
             × ((bytes : List ℕ) → ¬ IsKeyOf self.now bytes)) }
     {
-        tree_is_element();
         Ok(der::encoded_len(&self.borrow())?)
     }
 
@@ -135,7 +190,6 @@ impl<'a> EcPrivateKey<'a> {
             (λ e. (buffer.new ≡ buffer.old) × HasNoEncodingOr (IsAsn1 ErrorKind.Buffer) self.now
             (λ bytes. length buffer.old < length bytes) e) }
     {
-        tree_is_element();
         Ok(der::encode_to_slice(&self.borrow(), buffer)?)
     }
 
@@ -155,7 +209,6 @@ impl<'a> EcPrivateKey<'a> {
         ensures exact { MatchResult result (λ der. IsKeyOf self.now der.items)
             (HasNoEncodingOr (λ e. e ≡ Error.Memory) self.now (λ _. ⊤)) }
     {
-        tree_is_element();
         Ok(der::to_der(alloc, &self.borrow())?)
     }
 
@@ -180,57 +233,7 @@ impl<'a> EcPrivateKey<'a> {
         ensures exact { MatchResult result (IsKeyOf self.now)
             (HasNoEncodingOr (λ e. e ≡ Error.Memory) self.now (λ _. ⊤)) }
     {
-        tree_is_element();
         Ok(SecretDocument::encode_msg(alloc, &self.borrow())?)
-    }
-
-    /// Returns the key with its identifier borrowed from this one.
-    fn borrow(&self) -> BorrowedKey<'_>
-        ensures { result ≡ self.now }
-    {
-        BorrowedKey {
-            private_key: self.private_key,
-            curve: match &self.parameters {
-                Some(EcParameters::NamedCurve(curve)) => Some(IdentifierRef::of(curve)),
-                None => None,
-            },
-            public_key: self.public_key,
-        }
-    }
-}
-
-impl<'a> EcPrivateKey<'a> {
-    /// Returns a key without bytes and optional fields: a place to read a key into.
-    fn empty() -> EcPrivateKey<'a>
-        ensures { (result.parameters ≡ None) × (result.public_key ≡ None) }
-    {
-        EcPrivateKey {
-            private_key: &[],
-            parameters: None,
-            public_key: None,
-        }
-    }
-}
-
-impl<'a> ReadInPlace<'a> for EcPrivateKey<'a> {
-    ghost is_empty = { λ key. (key.parameters ≡ None) × (key.public_key ≡ None) };
-
-    #[inline(never)]
-    fn read_content(&mut self, content: &'a [u8]) -> der::Result<()> {
-        let BorrowedKey {
-            private_key,
-            curve,
-            public_key,
-        } = BorrowedKey::decode_value(&mut SliceReader::new(content))?;
-        self.private_key = private_key;
-        // What is absent isn't stored.
-        if let Some(curve) = curve {
-            self.parameters = Some(EcParameters::NamedCurve(curve.to_identifier()));
-        }
-        if let Some(bytes) = public_key {
-            self.public_key = Some(bytes);
-        }
-        Ok(())
     }
 }
 
@@ -259,62 +262,55 @@ impl fmt::Debug for EcPrivateKey<'_> {
     }
 }
 
-impl<'a> Record for EcPrivateKey<'a> {
-    type Parts = KeyParts<'a, ObjectIdentifier>;
-
-    ghost parts = { λ key. (record {}, (key.private_key, (key.parameters, key.public_key))) };
-
-    ghost of_parts = { λ row. record {
-      private_key = row.1.0;
-      parameters = row.1.1.0;
-      public_key = row.1.1.1;
-    } };
-
-    fn from_parts(row: Self::Parts) -> Self {
-        let (_, (private_key, (curve, public_key))) = row;
-        EcPrivateKey {
-            private_key: private_key.0.bytes,
-            parameters: match curve.0 {
-                Some(curve) => Some(EcParameters::NamedCurve(curve.value)),
+impl<'a> EcPrivateKey<'a> {
+    /// Returns the key with its identifier borrowed from this one.
+    fn borrow(&self) -> BorrowedKey<'_>
+        ensures { result ≡ self.now }
+    {
+        BorrowedKey {
+            private_key: self.private_key,
+            curve: match &self.parameters {
+                Some(EcParameters::NamedCurve(curve)) => Some(IdentifierRef::of(curve)),
                 None => None,
             },
-            public_key: match public_key.0 {
-                Some(bits) => Some(bits.bytes),
-                None => None,
-            },
+            public_key: self.public_key,
         }
     }
 
-    fn to_parts(&self) -> Self::Parts {
-        let bytes = self.private_key;
-        let curve = match self.parameters {
-            Some(EcParameters::NamedCurve(curve)) => Some(Explicit::new(curve)),
-            None => None,
-        };
-        let public_key = match self.public_key {
-            Some(bytes) => Some(ExplicitBits { bytes }),
-            None => None,
-        };
-        (
-            Required(VersionOne),
-            (
-                Required(Octets { bytes }),
-                (Optional(curve), Optional(public_key)),
-            ),
-        )
+    /// Returns a key without bytes and optional fields: a place to read a key into.
+    fn empty() -> EcPrivateKey<'a>
+        ensures { (result.parameters ≡ None) × (result.public_key ≡ None) }
+    {
+        EcPrivateKey {
+            private_key: &[],
+            parameters: None,
+            public_key: None,
+        }
     }
 
-    ghost same = { λ _. refl };
+    /// Stores what was read into an empty place. What is absent isn't stored.
+    #[inline(always)]
+    fn fill(&mut self, parts: BorrowedKey<'a>)
+        requires { (self.old.parameters ≡ None) × (self.old.public_key ≡ None) }
+        ensures { self.new ≡ parts.entry }
+    {
+        self.private_key = parts.private_key;
+        if let Some(curve) = &parts.curve {
+            self.parameters = Some(EcParameters::NamedCurve(curve.to_identifier()));
+        }
+        if let Some(bytes) = parts.public_key {
+            self.public_key = Some(bytes);
+        }
+    }
 }
 
-impl Distinct for EcPrivateKey<'_> {
-    ghost apart = { refl };
-}
+impl<'a> ReadInPlace<'a> for EcPrivateKey<'a> {
+    ghost is_empty = { λ key. (key.parameters ≡ None) × (key.public_key ≡ None) };
 
-/// The bytes of a key's tree are its element, and a key without a tree has no element.
-pub fn tree_is_element()
-    ensures { (key : Key)
-        → let whole = element_of 0x30 (⟦<EcPrivateKey<'static> as ValueContent>⟧.content key) in
-        ((bytes : List ℕ) → IsKeyOf key bytes ↔ (whole ≡ Some bytes))
-        × (((bytes : List ℕ) → ¬ IsKeyOf key bytes) ↔ (whole ≡ None)) }
-{}
+    #[inline(never)]
+    fn read_content(&mut self, content: &'a [u8]) -> der::Result<()> {
+        let parts = BorrowedKey::decode_value(&mut SliceReader::new(content))?;
+        self.fill(parts);
+        Ok(())
+    }
+}
