@@ -4,25 +4,13 @@
 ghost use Rattle.std.specs.Prelude.{◌≡◌, ◌↔◌, List, ℕ, Some, None, IsTrue};
 ghost use Rattle.sec1.specs.EncodedPoints.{point_of};
 ghost use Rattle.sec1.specs.Keys.{Key, IsKeyOf};
-ghost use Rattle.sec1.specs.Parameters.{curve_of};
 ghost use Rattle.sec1.specs.PointOrder.{IsOrderOf, point_cmp};
 ghost use Rattle.std.specs.Ordering.{is_eq};
 ghost use Rattle.sec1.specs.Points.{Fits, IsPoint, Point, encoding};
 ghost use Rattle.sec1_der.specs.Elements.{element_of};
-ghost use Rattle.sec1.specs.declared.parameters.EcParameters.{EcParameters};
 
-use crate::der::{ObjectIdentifier, UniqueContent, ValueContent};
-use crate::{EcParameters, EcPrivateKey, EncodedPoint};
-
-/// Two parameters with the same content name the same curve.
-pub fn one_curve()
-    ensures { (a b : EcParameters) (bytes : List ℕ)
-        → ⟦<EcParameters as ValueContent>⟧.content a ≡ Some bytes
-        → ⟦<EcParameters as ValueContent>⟧.content b ≡ Some bytes
-        → curve_of a ≡ curve_of b }
-{
-    ObjectIdentifier::one();
-}
+use crate::der::ValueContent;
+use crate::{EcPrivateKey, EncodedPoint};
 
 /// The bytes of a key's tree are its element, and a key without a tree has no element.
 pub fn tree_is_element()
