@@ -141,6 +141,7 @@ impl<'a> TryFrom<&'a [u8]> for EcPrivateKey<'a> {
     fn try_from(bytes: &'a [u8]) -> Result<EcPrivateKey<'a>> {
         EcPrivateKey::one();
         der::laws::trees_unique();
+        der::laws::cut_elements();
         let mut key = EcPrivateKey::empty();
         read_in_place(&mut key, bytes)?;
         Ok(key)

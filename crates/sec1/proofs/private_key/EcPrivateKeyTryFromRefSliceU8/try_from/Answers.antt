@@ -33,7 +33,7 @@ returns-in_err-read_in_place c =
       one_tree = tt;
       kinds = read.kinds;
       kind = kind;
-      short = λ key bytes is begins. cc (kind, key_cut key bytes c.args.bytes.now is begins);
+      short = λ key bytes is begins. cc (kind, key_cut c.cut_elements.ensures.element key bytes c.args.bytes.now is begins);
       long = λ key bytes is begins. c.in_err-read_in_place.ensures.long key bytes (key_written key bytes is) begins;
     })
 
@@ -56,7 +56,7 @@ returns c =
           (ap (λ xs. xs ++ []) (sym at.whole ∙ found.tree.whole))).0;
       kinds = tt;
       kind = read.kind;
-      short = λ other bytes at begins. absurd (cc (read.kind, key_cut other bytes input at begins));
+      short = λ other bytes at begins. absurd (cc (read.kind, key_cut c.cut_elements.ensures.element other bytes input at begins));
       long = λ other bytes at begins.
           absurd (c.in_ok-read_in_place.ensures.long other bytes (key_written other bytes at) begins);
     }
