@@ -16,7 +16,7 @@ ghost use Rattle.sec1_inspect.specs.declared.Failure.TheVariants.{Run, Paths};
 ghost use Rattle.sec1_inspect.specs.declared.Fault.TheVariants.{Input, Output, Memory};
 ghost use Rattle.sec1_inspect.specs.declared.Source.TheVariants.{StandardInput, File};
 ghost use Rattle.sec1_inspect.specs.Report.{IsDerReport, IsReport};
-ghost use Rattle.sec1_inspect.specs.Run.{HasStatus, ReadsInput, TakesInput};
+ghost use Rattle.sec1_inspect.specs.Run.{HasStatus, ReportsOn, TakesInput};
 ghost use Rattle.sec1_inspect.specs.Run.{WritesPrefix, WritesReport, fault_text, line_of};
 ghost use Rattle.sec1_inspect.specs.Run.{report_in};
 
@@ -76,16 +76,18 @@ pub fn run<R: Read, W: Write>(alloc: Global, reader: &mut R, writer: &mut W) -> 
     ensures input { IsErrOf result Fault.Input ↔ IsTrue (R.failed reader.new) }
     ensures output { IsErrOf result Fault.Output ↔ IsTrue (W.failed writer.new) }
 
-    ensures read { OnOk result (ReadsInput (Takes R.left R.taken reader.old reader.new)
-        (Ends R.left R.ended reader.new)) }
-    ensures report { IfOk result
-        (WritesReport IsReport (R.left reader.old) (W.written writer.old) (W.written writer.new)) }
+    ensures report { let taken = Takes R.left R.taken reader.old reader.new in
+        let ended = Ends R.left R.ended reader.new in
+        IfOk result (WritesReport (ReportsOn IsReport taken ended (R.left reader.old))
+        (W.written writer.old) (W.written writer.new)) }
 
     ensures nothing { IfErr result
         (λ error. error ≢ Output → W.written writer.new ≡ W.written writer.old) }
-    ensures prefix { IsErrOf result Fault.Output
-        → WritesPrefix IsReport (R.left reader.old) (W.written writer.old)
-        (W.written writer.new) }
+    ensures prefix { let taken = Takes R.left R.taken reader.old reader.new in
+        let ended = Ends R.left R.ended reader.new in
+        IsErrOf result Fault.Output
+        → WritesPrefix (ReportsOn IsReport taken ended (R.left reader.old))
+        (W.written writer.old) (W.written writer.new) }
 {
     let input = read_input(alloc, reader)?;
     let report = report_on_text(alloc, &input)?;
@@ -108,17 +110,18 @@ pub fn run_der<R: Read, W: Write>(
     ensures input { IsErrOf result Fault.Input ↔ IsTrue (R.failed reader.new) }
     ensures output { IsErrOf result Fault.Output ↔ IsTrue (W.failed writer.new) }
 
-    ensures read { OnOk result (ReadsInput (Takes R.left R.taken reader.old reader.new)
-        (Ends R.left R.ended reader.new)) }
-    ensures report { IfOk result
-        (WritesReport IsDerReport (R.left reader.old) (W.written writer.old)
-        (W.written writer.new)) }
+    ensures report { let taken = Takes R.left R.taken reader.old reader.new in
+        let ended = Ends R.left R.ended reader.new in
+        IfOk result (WritesReport (ReportsOn IsDerReport taken ended (R.left reader.old))
+        (W.written writer.old) (W.written writer.new)) }
 
     ensures nothing { IfErr result
         (λ error. error ≢ Output → W.written writer.new ≡ W.written writer.old) }
-    ensures prefix { IsErrOf result Fault.Output
-        → WritesPrefix IsDerReport (R.left reader.old) (W.written writer.old)
-        (W.written writer.new) }
+    ensures prefix { let taken = Takes R.left R.taken reader.old reader.new in
+        let ended = Ends R.left R.ended reader.new in
+        IsErrOf result Fault.Output
+        → WritesPrefix (ReportsOn IsDerReport taken ended (R.left reader.old))
+        (W.written writer.old) (W.written writer.new) }
 {
     let input = read_input(alloc, reader)?;
     let report = report_on_der(alloc, &input)?;
@@ -213,6 +216,7 @@ enum Form {
 ///
 /// # Errors
 /// Input if a read failed, Output if a write or the flush failed, Memory if an allocation failed.
+#[tactic(auto, using(crate::proofs::ReportLemmas::has_status))]
 fn inspect<R: io::Read + Drop, W: io::Write + Drop>(
     alloc: Global,
     form: Form,

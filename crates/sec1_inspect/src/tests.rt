@@ -1,6 +1,7 @@
 //! Runs with known results, and runs over readers and writers that fail.
 mod large;
 mod memory;
+mod taken;
 
 use crate::report::LIMIT;
 use crate::{Fault, Form, run, run_der};
