@@ -1,5 +1,6 @@
 -- The content of a key, and the key's bytes.
-use Rattle.std.proofs.Common.{◌≡◌, ◌≤◌, ◌∷◌, [], ℕ, List, length, Option, Some, None, option_map, IsSomeAnd, refl, append-nil, arith}
+use Rattle.std.proofs.Common.{◌≡◌, ◌≤◌, ◌∷◌, [], ℕ, List, length, Option, Some, None, option_map, IsSomeAnd}
+use Rattle.std.proofs.Common.{refl, append-nil, arith}
 use Rattle.std.proofs.Common.{◌⊎◌, ⊎_elim, inl, inr, Result, Ok, Err, IfSome, IsErrAnd, MatchResult}
 use Rattle.sec1_der.specs.declared.error.Error.{Error as DerError}
 use Rattle.sec1_der.specs.declared.error.ErrorKind.TheVariants.{Overlength, Buffer, Truncated, Memory as DerMemory}
