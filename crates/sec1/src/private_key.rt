@@ -79,10 +79,12 @@ impl ValueContent for EcPrivateKey<'_> {
 
 impl<'a> DecodeValue<'a> for EcPrivateKey<'a> {
     fn decode_value(reader: &mut SliceReader<'a>) -> der::Result<Self> {
-        let parts = BorrowedKey::decode_value(reader)?;
+        let content = reader.read_rest()?;
         let mut key = EcPrivateKey::empty();
-        key.fill(parts);
-        Ok(key)
+        match key.read_content(content) {
+            Ok(()) => Ok(key),
+            Err(e) => Err(reader.fail(e.kind)),
+        }
     }
 }
 
@@ -170,8 +172,8 @@ impl<'a> EcPrivateKey<'a> {
     ///
     /// # Errors
     ///
-    /// Those of [`encoded_len`](EcPrivateKey::encoded_len), then [`Error::Asn1`] of Buffer if the
-    /// slice is too short. The whole slice is unchanged then.
+    /// [`Error::Asn1`] of Overlength if the content of an element would be longer than 268,435,455
+    /// bytes, then of Buffer if the slice is too short. The whole slice is unchanged then.
     ///
     /// # Examples
     ///
@@ -198,8 +200,8 @@ impl<'a> EcPrivateKey<'a> {
     ///
     /// # Errors
     ///
-    /// Those of [`encoded_len`](EcPrivateKey::encoded_len), then [`Error::Memory`] if the
-    /// allocation fails.
+    /// [`Error::Asn1`] of Overlength if the content of an element would be longer than 268,435,455
+    /// bytes, then [`Error::Memory`] if the allocation fails.
     ///
     /// # Examples
     ///
@@ -217,7 +219,8 @@ impl<'a> EcPrivateKey<'a> {
     ///
     /// # Errors
     ///
-    /// Those of [`to_der`](EcPrivateKey::to_der).
+    /// [`Error::Asn1`] of Overlength if the content of an element would be longer than 268,435,455
+    /// bytes, then [`Error::Memory`] if the allocation fails.
     pub fn document(self, alloc: Global) -> Result<SecretDocument>
         ensures exact { MatchResult result (IsKeyOf self.entry)
             (HasNoEncodingOr (λ e. e ≡ Error.Memory) self.entry (λ _. ⊤)) }
@@ -229,7 +232,8 @@ impl<'a> EcPrivateKey<'a> {
     ///
     /// # Errors
     ///
-    /// Those of [`to_der`](EcPrivateKey::to_der).
+    /// [`Error::Asn1`] of Overlength if the content of an element would be longer than 268,435,455
+    /// bytes, then [`Error::Memory`] if the allocation fails.
     pub fn document_ref(&self, alloc: Global) -> Result<SecretDocument>
         ensures exact { MatchResult result (IsKeyOf self.now)
             (HasNoEncodingOr (λ e. e ≡ Error.Memory) self.now (λ _. ⊤)) }
@@ -288,21 +292,6 @@ impl<'a> EcPrivateKey<'a> {
             public_key: None,
         }
     }
-
-    /// Stores what was read into an empty place. What is absent isn't stored.
-    #[inline(always)]
-    fn fill(&mut self, parts: BorrowedKey<'a>)
-        requires { (self.old.parameters ≡ None) × (self.old.public_key ≡ None) }
-        ensures { self.new ≡ parts.entry }
-    {
-        self.private_key = parts.private_key;
-        if let Some(curve) = &parts.curve {
-            self.parameters = Some(EcParameters::NamedCurve(curve.to_identifier()));
-        }
-        if let Some(bytes) = parts.public_key {
-            self.public_key = Some(bytes);
-        }
-    }
 }
 
 impl<'a> ReadInPlace<'a> for EcPrivateKey<'a> {
@@ -310,8 +299,19 @@ impl<'a> ReadInPlace<'a> for EcPrivateKey<'a> {
 
     #[inline(never)]
     fn read_content(&mut self, content: &'a [u8]) -> der::Result<()> {
-        let parts = BorrowedKey::decode_value(&mut SliceReader::new(content))?;
-        self.fill(parts);
+        let BorrowedKey {
+            private_key,
+            curve,
+            public_key,
+        } = BorrowedKey::decode_value(&mut SliceReader::new(content))?;
+        self.private_key = private_key;
+        // What is absent isn't stored.
+        if let Some(curve) = curve {
+            self.parameters = Some(EcParameters::NamedCurve(curve.to_identifier()));
+        }
+        if let Some(bytes) = public_key {
+            self.public_key = Some(bytes);
+        }
         Ok(())
     }
 }
