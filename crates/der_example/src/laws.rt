@@ -15,7 +15,7 @@ use sec1::der::{
     BitStringRef, EncodeValue, ObjectIdentifier, OctetStringRef, Tagged, UniqueContent,
     ValueContent, VersionOne, laws,
 };
-use sec1::{EcParameters, EcPrivateKey, laws as key_laws};
+use sec1::{EcParameters, EcPrivateKey};
 
 /// A tree with a byte after it is no tree.
 pub fn no_longer_tree()
@@ -66,7 +66,7 @@ pub fn other_curve()
         → ⟦<EcParameters as ValueContent>⟧.content a ≡ Some content
         → ⟦<EcParameters as ValueContent>⟧.content b ≢ Some content }
 {
-    key_laws::one_curve();
+    EcParameters::one();
 }
 
 /// Two versions with the same content are the same.

@@ -11,6 +11,7 @@ pub mod callers;
 pub mod certificates;
 pub mod examples;
 mod key_store;
+pub mod keys_again;
 pub mod laws;
 pub mod named_curves;
 pub mod null;

@@ -13,6 +13,16 @@ pub fn read_key(bytes: &[u8]) -> Result<bool> {
     Ok(key.public_key.is_some())
 }
 
+/// Returns the point of a key on a field of 256 bits in its compressed form, if the key has it.
+pub fn compress_public_key(bytes: &[u8]) -> Result<Option<EncodedPoint32>> {
+    let key = EcPrivateKey::try_from(bytes)?;
+    let Some(public_key) = key.public_key else {
+        return Ok(None);
+    };
+    let point = EncodedPoint32::from_bytes(public_key)?;
+    Ok(Some(point.compress()))
+}
+
 /// Writes a private key at the beginning of a buffer and returns the bytes.
 pub fn write_key<'b>(private_key: &[u8], buffer: &'b mut [u8]) -> Result<&'b [u8]> {
     let key = EcPrivateKey {

@@ -1,13 +1,13 @@
 -- The content of a key, and the key's bytes.
-use Rattle.std.proofs.Common.{◌≡◌, ◌∷◌, [], ℕ, List, Option, Some, None, option_map, IsSomeAnd, refl, append-nil, arith}
+use Rattle.std.proofs.Common.{◌≡◌, ◌≤◌, ◌∷◌, [], ℕ, List, length, Option, Some, None, option_map, IsSomeAnd}
+use Rattle.std.proofs.Common.{refl, append-nil, arith}
 use Rattle.std.proofs.Common.{◌⊎◌, ⊎_elim, inl, inr, Result, Ok, Err, IfSome, IsErrAnd, MatchResult}
 use Rattle.sec1_der.specs.declared.error.Error.{Error as DerError}
 use Rattle.sec1_der.specs.declared.error.ErrorKind.TheVariants.{Overlength, Buffer, Truncated, Memory as DerMemory}
 use Rattle.sec1.specs.declared.error.Error.{Error}
 use Rattle.sec1.specs.declared.error.Error.TheVariants.{Memory}
 use Rattle.sec1.specs.Errors.{IsAsn1, HasNoEncodingOr, error_of}
-use Rattle.sec1_der.specs.Elements.{IsProperPrefix}
-use Rattle.sec1_der.proofs.ElementFaultLemmas.{element_cut}
+use Rattle.sec1_der.specs.Elements.{IsProperPrefix, element, max_length}
 use Rattle.sec1_der.proofs.ElementLaws.{element_of-within}
 use Rattle.sec1.specs.Der.{join, element_of, optional_of, IsTreeOf}
 use Rattle.sec1_der.specs.Trees.{bytes as tree_bytes}
@@ -15,7 +15,7 @@ use Rattle.sec1_der.specs.Identifiers.{IsIdentifier, content_of, identifier_cont
 use Rattle.sec1_der.proofs.IdentifierLaws.{is_identifier-true, identifier_content-valid}
 use Rattle.sec1.specs.KeyFaults.{key_fault}
 use Rattle.sec1_der.specs.Contents.{byte_fault, identifier_fault, whole_bits_field_fault}
-use Rattle.sec1_der.specs.Faults.{SaysKinds, no_fault, end_fault}
+use Rattle.sec1_der.specs.Faults.{Fault, SaysKinds, no_fault, end_fault, element_fault}
 use Rattle.sec1_der.proofs.KindLaws.{element_says, optional_says, none_says, end_says, byte_says, identifier_says}
 use Rattle.sec1_der.proofs.KindLaws.{field_says}
 use Rattle.sec1.specs.Keys.{Key, key_tree, IsKeyOf, SomeBytes}
@@ -91,11 +91,16 @@ pub key_found_with : (key : Key) (P : List ℕ → Type 0) → IsSomeAnd (elemen
     → SomeBytes (IsKeyOf key) P
 key_found_with key P h = found_with key P (element_of 0x30 (key_content key)) refl h
 
+-- An element that ends too early is refused as Truncated: the law `cut_elements` says it.
+abbrev CutElements : Type 0
+CutElements = (inside behind : Fault) (tag : ℕ) (content bytes : List ℕ) → length content ≤ max_length
+    → IsProperPrefix bytes (element tag content) → element_fault tag inside behind bytes ≡ Some (Some Truncated)
+
 -- Bytes that a key's continue are refused as Truncated.
-pub key_cut : (key : Key) (bytes input : List ℕ) → IsKeyOf key bytes → IsProperPrefix input bytes
+pub key_cut : CutElements → (key : Key) (bytes input : List ℕ) → IsKeyOf key bytes → IsProperPrefix input bytes
     → key_fault input ≡ Some (Some Truncated)
 unfolding key_fault
-key_cut key bytes input is begins =
+key_cut element_cut key bytes input is begins =
     let cut : IsProperPrefix input (tree_bytes (key_tree key)) = rw is.tree.whole at begins in
     search (element_cut, is.tree.tree.2, cut)
 
@@ -117,11 +122,6 @@ key_lacks key none = grind (arith, key_found key)
 -- A key that has no element has no bytes.
 pub key_none : (key : Key) → element_of 0x30 (key_content key) ≡ None → (bytes : List ℕ) → ¬ IsKeyOf key bytes
 key_none key none bytes is = absurd (cc (key_written key bytes is, none))
-
--- What the keys have to do with what is written, and with its length.
-pub ruleset written_keys = (key_written, key_lacks, key_found)
-
-pub ruleset counted_keys = (key_written, key_lacks, key_found_with)
 
 overlength_is : (cause : DerError) → cause.kind ≡ Overlength → IsAsn1 Overlength (error_of cause)
 overlength_is cause same = rw same refl

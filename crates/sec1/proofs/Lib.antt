@@ -6,3 +6,4 @@ pub mod EncodedPointLemmas
 pub mod HexLemmas
 pub mod KeyLemmas
 pub mod CoordinateLemmas
+pub mod StreamLemmas

@@ -9,15 +9,6 @@ use sec1_der::{
 };
 use std::marker::Model;
 
-/// The components of an ECPrivateKey (RFC 5915 section 3), whose curve is named by an `I`.
-pub(crate) type KeyParts<'a, I> = (
-    Required<VersionOne>,
-    (
-        Required<Octets<'a>>,
-        (Optional<Explicit<Context0, I>>, Optional<ExplicitBits<'a>>),
-    ),
-);
-
 /// An EC private key that borrows the curve's identifier too. Keys are read and written as this
 /// type: the identifier of an `EcPrivateKey` owns its bytes, which would be moved from each part of
 /// the record to the next. A contract sees the three parts of the key.
@@ -44,7 +35,16 @@ impl<'a> Model for BorrowedKey<'a> {
 }
 
 impl<'a> Record for BorrowedKey<'a> {
-    type Parts = KeyParts<'a, IdentifierRef<'a>>;
+    type Parts = (
+        Required<VersionOne>,
+        (
+            Required<Octets<'a>>,
+            (
+                Optional<Explicit<Context0, IdentifierRef<'a>>>,
+                Optional<ExplicitBits<'a>>,
+            ),
+        ),
+    );
 
     ghost parts = { λ key. (record {}, (key.private_key, (key.parameters, key.public_key))) };
 

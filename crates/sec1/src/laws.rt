@@ -1,27 +1,24 @@
 //! Laws of keys and of points, for callers to cite: that a value is determined by its bytes, and
 //! how points compare. Each law is the contract of a function, which does nothing else.
 
-ghost use Rattle.std.specs.Prelude.{◌≡◌, ◌↔◌, List, ℕ, Some, IsTrue};
+ghost use Rattle.std.specs.Prelude.{◌≡◌, ◌↔◌, List, ℕ, Some, None, IsTrue};
 ghost use Rattle.sec1.specs.EncodedPoints.{point_of};
-ghost use Rattle.sec1.specs.Parameters.{curve_of};
+ghost use Rattle.sec1.specs.Keys.{Key, IsKeyOf};
 ghost use Rattle.sec1.specs.PointOrder.{IsOrderOf, point_cmp};
 ghost use Rattle.std.specs.Ordering.{is_eq};
 ghost use Rattle.sec1.specs.Points.{Fits, IsPoint, Point, encoding};
-ghost use Rattle.sec1.specs.declared.parameters.EcParameters.{EcParameters};
+ghost use Rattle.sec1_der.specs.Elements.{element_of};
 
-use crate::der::{ObjectIdentifier, UniqueContent, ValueContent};
-pub use crate::private_key::tree_is_element;
-use crate::{EcParameters, EncodedPoint};
+use crate::der::ValueContent;
+use crate::{EcPrivateKey, EncodedPoint};
 
-/// Two parameters with the same content name the same curve.
-pub fn one_curve()
-    ensures { (a b : EcParameters) (bytes : List ℕ)
-        → ⟦<EcParameters as ValueContent>⟧.content a ≡ Some bytes
-        → ⟦<EcParameters as ValueContent>⟧.content b ≡ Some bytes
-        → curve_of a ≡ curve_of b }
-{
-    ObjectIdentifier::one();
-}
+/// The bytes of a key's tree are its element, and a key without a tree has no element.
+pub fn tree_is_element()
+    ensures { (key : Key)
+        → let whole = element_of 0x30 (⟦<EcPrivateKey<'static> as ValueContent>⟧.content key) in
+        ((bytes : List ℕ) → IsKeyOf key bytes ↔ (whole ≡ Some bytes))
+        × (((bytes : List ℕ) → ¬ IsKeyOf key bytes) ↔ (whole ≡ None)) }
+{}
 
 /// The meaning of an [`EncodedPoint`] is a point of its size.
 pub fn one_point<const N: usize, const L: usize>(point: &EncodedPoint<N, L>)

@@ -3,6 +3,17 @@
 //! everything else is refused.
 //!
 //! Nothing is computed on curves. [`der`] is the layer of DER below.
+//!
+//! # Examples
+//!
+//! ```
+//! let key = EcPrivateKey::try_from(bytes)?;
+//! let Some(public_key) = key.public_key else {
+//!     return Ok(None);
+//! };
+//! let point = EncodedPoint32::from_bytes(public_key)?;
+//! Ok(Some(point.compress()))
+//! ```
 #![tactic(auto)]
 
 mod borrowed_key;
@@ -17,7 +28,7 @@ mod traits;
 
 pub use error::{Error, Result};
 pub use parameters::EcParameters;
-pub use point::EncodedPoint;
+pub use point::{EncodedPoint, EncodedPoint28, EncodedPoint32, EncodedPoint48, EncodedPoint66};
 pub use private_key::EcPrivateKey;
 pub use sec1_der as der;
 use sec1_der::{ID_EC_PUBLIC_KEY, ObjectIdentifier};

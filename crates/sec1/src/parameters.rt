@@ -8,7 +8,7 @@ ghost use Rattle.sec1_der.specs.Values.{tag_of, value_of};
 use sec1_der as der;
 use sec1_der::{
     AnyRef, BackWriter, DecodeValue, EncodeValue, FixedTag, Length, ObjectIdentifier, SliceReader,
-    Tag, Tagged, ValueContent,
+    Tag, Tagged, UniqueContent, ValueContent,
 };
 use std::fmt;
 
@@ -102,5 +102,11 @@ impl EncodeValue for EcParameters {
         match self {
             EcParameters::NamedCurve(identifier) => identifier.encode_back(writer),
         }
+    }
+}
+
+impl UniqueContent for EcParameters {
+    fn one() {
+        ObjectIdentifier::one();
     }
 }

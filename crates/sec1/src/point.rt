@@ -75,7 +75,7 @@ impl<const N: usize, const L: usize> EncodedPoint<N, L> {
     ///
     /// # Errors
     ///
-    /// PointEncoding if the input isn't the encoding of a point, or if N and L don't
+    /// [`Error::PointEncoding`] if the input isn't the encoding of a point, or if N and L don't
     /// [fit](EncodedPoint::fits).
     ///
     /// # Examples

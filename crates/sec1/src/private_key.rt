@@ -1,8 +1,7 @@
-ghost use Rattle.std.specs.Prelude.{◌≡◌, ◌<◌, ◌≤◌, ◌++◌, ◌↔◌, ℕ, List, length, Ok, drop};
+ghost use Rattle.std.specs.Prelude.{◌≡◌, ◌<◌, ◌≤◌, ◌++◌, ℕ, List, length, Ok, drop};
 ghost use Rattle.std.specs.Prelude.{MatchResult};
 ghost use Rattle.std.specs.Prelude.{Some, None, ⊤, refl, codes};
 ghost use Rattle.std.specs.Fmt.{◌++?◌, debug_list, debug_option, decimal};
-ghost use Rattle.sec1_der.specs.Elements.{element_of};
 ghost use Rattle.std.specs.Option.{option_map};
 ghost use Rattle.sec1.specs.Keys.{Key, IsKeyOf, SomeBytes};
 ghost use Rattle.sec1.specs.Parameters.{curve_of};
@@ -10,14 +9,13 @@ ghost use Rattle.sec1.specs.declared.parameters.EcParameters.TheVariants.{NamedC
 ghost use Rattle.sec1.specs.ReadsKey.{ReadsKey};
 ghost use Rattle.sec1.specs.Errors.{IsAsn1, HasNoEncodingOr};
 
-use crate::borrowed_key::{BorrowedKey, KeyParts};
+use crate::borrowed_key::BorrowedKey;
 use crate::in_place::{ReadInPlace, read_in_place};
 use crate::{EcParameters, Error, Result};
 use sec1_der as der;
 use sec1_der::{
-    DecodeValue, Distinct, ErrorKind, Explicit, ExplicitBits, IdentifierRef, ObjectIdentifier,
-    Octets, Optional, Record, Required, SecretDocument, SliceReader, UniqueContent, ValueContent,
-    VersionOne,
+    BackWriter, DecodeValue, EncodeValue, ErrorKind, FixedTag, IdentifierRef, Length,
+    SecretDocument, Sequence, SliceReader, Tag, Tagged, UniqueContent, ValueContent,
 };
 use std::alloc::Global;
 use std::fmt;
@@ -59,6 +57,65 @@ impl<'a> Model for EcPrivateKey<'a> {
     } };
 }
 
+impl Tagged for EcPrivateKey<'_> {
+    ghost tag_byte = { 0x30 };
+
+    fn fixed_tag() -> Tag
+        ensures { result ≡ 0x30 }
+    {
+        Self::TAG
+    }
+}
+
+impl FixedTag for EcPrivateKey<'_> {
+    const TAG: Tag = Tag::SEQUENCE;
+}
+
+impl ValueContent for EcPrivateKey<'_> {
+    ghost content = { ⟦<BorrowedKey<'static> as ValueContent>⟧.content };
+
+    ghost fault = { ⟦<BorrowedKey<'static> as ValueContent>⟧.fault };
+}
+
+impl<'a> DecodeValue<'a> for EcPrivateKey<'a> {
+    fn decode_value(reader: &mut SliceReader<'a>) -> der::Result<Self> {
+        let content = reader.read_rest()?;
+        let mut key = EcPrivateKey::empty();
+        match key.read_content(content) {
+            Ok(()) => Ok(key),
+            Err(e) => Err(reader.fail(e.kind)),
+        }
+    }
+}
+
+impl EncodeValue for EcPrivateKey<'_> {
+    fn value_len(&self) -> der::Result<Length> {
+        self.borrow().value_len()
+    }
+
+    fn encode_back(&self, writer: &mut BackWriter) -> der::Result<()> {
+        self.borrow().encode_back(writer)
+    }
+
+    fn prepend_value(&self, writer: &mut BackWriter) {
+        self.borrow().prepend_value(writer);
+    }
+}
+
+impl<'a> Sequence<'a> for EcPrivateKey<'a> {
+    ghost is_sequence = { refl };
+}
+
+impl UniqueContent for EcPrivateKey<'_> {
+    fn one()
+        ensures { (a b : Key) (bytes : List ℕ)
+            → ⟦<BorrowedKey<'static> as ValueContent>⟧.content a ≡ Some bytes
+            → ⟦<BorrowedKey<'static> as ValueContent>⟧.content b ≡ Some bytes → a ≡ b }
+    {
+        BorrowedKey::one();
+    }
+}
+
 /// Reads a key from its whole DER encoding, without an allocation. The private key and the public
 /// key are borrowed from the input.
 ///
@@ -86,6 +143,7 @@ impl<'a> TryFrom<&'a [u8]> for EcPrivateKey<'a> {
     fn try_from(bytes: &'a [u8]) -> Result<EcPrivateKey<'a>> {
         EcPrivateKey::one();
         der::laws::trees_unique();
+        der::laws::cut_elements();
         let mut key = EcPrivateKey::empty();
         read_in_place(&mut key, bytes)?;
         Ok(key)
@@ -99,13 +157,13 @@ impl<'a> EcPrivateKey<'a> {
     ///
     /// [`Error::Asn1`] of Overlength if the content of an element would be longer than 268,435,455
     /// bytes.
+    #[tactic(auto, using(crate::proofs::KeyLemmas::key_none))]
     pub fn encoded_len(&self) -> Result<usize>
         ensures exact { MatchResult result
             (λ n. SomeBytes (IsKeyOf self.now) (λ bytes. n ≡ length bytes))
             (λ e. IsAsn1 ErrorKind.Overlength e
             × ((bytes : List ℕ) → ¬ IsKeyOf self.now bytes)) }
     {
-        tree_is_element();
         Ok(der::encoded_len(&self.borrow())?)
     }
 
@@ -114,8 +172,8 @@ impl<'a> EcPrivateKey<'a> {
     ///
     /// # Errors
     ///
-    /// Those of [`encoded_len`](EcPrivateKey::encoded_len), then [`Error::Asn1`] of Buffer if the
-    /// slice is too short. The whole slice is unchanged then.
+    /// [`Error::Asn1`] of Overlength if the content of an element would be longer than 268,435,455
+    /// bytes, then of Buffer if the slice is too short. The whole slice is unchanged then.
     ///
     /// # Examples
     ///
@@ -135,7 +193,6 @@ impl<'a> EcPrivateKey<'a> {
             (λ e. (buffer.new ≡ buffer.old) × HasNoEncodingOr (IsAsn1 ErrorKind.Buffer) self.now
             (λ bytes. length buffer.old < length bytes) e) }
     {
-        tree_is_element();
         Ok(der::encode_to_slice(&self.borrow(), buffer)?)
     }
 
@@ -143,8 +200,8 @@ impl<'a> EcPrivateKey<'a> {
     ///
     /// # Errors
     ///
-    /// Those of [`encoded_len`](EcPrivateKey::encoded_len), then [`Error::Memory`] if the
-    /// allocation fails.
+    /// [`Error::Asn1`] of Overlength if the content of an element would be longer than 268,435,455
+    /// bytes, then [`Error::Memory`] if the allocation fails.
     ///
     /// # Examples
     ///
@@ -155,7 +212,6 @@ impl<'a> EcPrivateKey<'a> {
         ensures exact { MatchResult result (λ der. IsKeyOf self.now der.items)
             (HasNoEncodingOr (λ e. e ≡ Error.Memory) self.now (λ _. ⊤)) }
     {
-        tree_is_element();
         Ok(der::to_der(alloc, &self.borrow())?)
     }
 
@@ -163,7 +219,8 @@ impl<'a> EcPrivateKey<'a> {
     ///
     /// # Errors
     ///
-    /// Those of [`to_der`](EcPrivateKey::to_der).
+    /// [`Error::Asn1`] of Overlength if the content of an element would be longer than 268,435,455
+    /// bytes, then [`Error::Memory`] if the allocation fails.
     pub fn document(self, alloc: Global) -> Result<SecretDocument>
         ensures exact { MatchResult result (IsKeyOf self.entry)
             (HasNoEncodingOr (λ e. e ≡ Error.Memory) self.entry (λ _. ⊤)) }
@@ -175,15 +232,42 @@ impl<'a> EcPrivateKey<'a> {
     ///
     /// # Errors
     ///
-    /// Those of [`to_der`](EcPrivateKey::to_der).
+    /// [`Error::Asn1`] of Overlength if the content of an element would be longer than 268,435,455
+    /// bytes, then [`Error::Memory`] if the allocation fails.
     pub fn document_ref(&self, alloc: Global) -> Result<SecretDocument>
         ensures exact { MatchResult result (IsKeyOf self.now)
             (HasNoEncodingOr (λ e. e ≡ Error.Memory) self.now (λ _. ⊤)) }
     {
-        tree_is_element();
         Ok(SecretDocument::encode_msg(alloc, &self.borrow())?)
     }
+}
 
+/// Prints the key without the bytes of the private key.
+impl fmt::Debug for EcPrivateKey<'_> {
+    ghost debug_output = { λ key. Some (codes "EcPrivateKey { parameters: ")
+        ++? debug_option (λ arcs. ⟦<EcParameters as fmt::Debug>⟧.debug_output (NamedCurve arcs))
+        key.parameters ++? Some (codes ", public_key: ")
+        ++? debug_option (debug_list (λ byte. Some (decimal byte))) key.public_key
+        ++? Some (codes ", .. }") };
+
+    fn fmt<W: fmt::Write>(&self, f: &mut fmt::Formatter<W>) -> fmt::Result {
+        let parameters = &self.parameters;
+        let public_key = &self.public_key;
+        if f.alternate() {
+            return f
+                .debug_struct("EcPrivateKey")
+                .field("parameters", parameters)
+                .field("public_key", public_key)
+                .finish_non_exhaustive();
+        }
+        write!(
+            f,
+            "EcPrivateKey {{ parameters: {parameters:?}, public_key: {public_key:?}, .. }}"
+        )
+    }
+}
+
+impl<'a> EcPrivateKey<'a> {
     /// Returns the key with its identifier borrowed from this one.
     fn borrow(&self) -> BorrowedKey<'_>
         ensures { result ≡ self.now }
@@ -197,9 +281,7 @@ impl<'a> EcPrivateKey<'a> {
             public_key: self.public_key,
         }
     }
-}
 
-impl<'a> EcPrivateKey<'a> {
     /// Returns a key without bytes and optional fields: a place to read a key into.
     fn empty() -> EcPrivateKey<'a>
         ensures { (result.parameters ≡ None) × (result.public_key ≡ None) }
@@ -233,88 +315,3 @@ impl<'a> ReadInPlace<'a> for EcPrivateKey<'a> {
         Ok(())
     }
 }
-
-/// Prints the key without the bytes of the private key.
-impl fmt::Debug for EcPrivateKey<'_> {
-    ghost debug_output = { λ key. Some (codes "EcPrivateKey { parameters: ")
-        ++? debug_option (λ arcs. ⟦<EcParameters as fmt::Debug>⟧.debug_output (NamedCurve arcs))
-        key.parameters ++? Some (codes ", public_key: ")
-        ++? debug_option (debug_list (λ byte. Some (decimal byte))) key.public_key
-        ++? Some (codes ", .. }") };
-
-    fn fmt<W: fmt::Write>(&self, f: &mut fmt::Formatter<W>) -> fmt::Result {
-        let parameters = &self.parameters;
-        let public_key = &self.public_key;
-        if f.alternate() {
-            return f
-                .debug_struct("EcPrivateKey")
-                .field("parameters", parameters)
-                .field("public_key", public_key)
-                .finish_non_exhaustive();
-        }
-        write!(
-            f,
-            "EcPrivateKey {{ parameters: {parameters:?}, public_key: {public_key:?}, .. }}"
-        )
-    }
-}
-
-impl<'a> Record for EcPrivateKey<'a> {
-    type Parts = KeyParts<'a, ObjectIdentifier>;
-
-    ghost parts = { λ key. (record {}, (key.private_key, (key.parameters, key.public_key))) };
-
-    ghost of_parts = { λ row. record {
-      private_key = row.1.0;
-      parameters = row.1.1.0;
-      public_key = row.1.1.1;
-    } };
-
-    fn from_parts(row: Self::Parts) -> Self {
-        let (_, (private_key, (curve, public_key))) = row;
-        EcPrivateKey {
-            private_key: private_key.0.bytes,
-            parameters: match curve.0 {
-                Some(curve) => Some(EcParameters::NamedCurve(curve.value)),
-                None => None,
-            },
-            public_key: match public_key.0 {
-                Some(bits) => Some(bits.bytes),
-                None => None,
-            },
-        }
-    }
-
-    fn to_parts(&self) -> Self::Parts {
-        let bytes = self.private_key;
-        let curve = match self.parameters {
-            Some(EcParameters::NamedCurve(curve)) => Some(Explicit::new(curve)),
-            None => None,
-        };
-        let public_key = match self.public_key {
-            Some(bytes) => Some(ExplicitBits { bytes }),
-            None => None,
-        };
-        (
-            Required(VersionOne),
-            (
-                Required(Octets { bytes }),
-                (Optional(curve), Optional(public_key)),
-            ),
-        )
-    }
-
-    ghost same = { λ _. refl };
-}
-
-impl Distinct for EcPrivateKey<'_> {
-    ghost apart = { refl };
-}
-
-/// The bytes of a key's tree are its element, and a key without a tree has no element.
-pub fn tree_is_element()
-    ensures { (key : Key)
-        → let whole = element_of 0x30 (⟦<EcPrivateKey<'static> as ValueContent>⟧.content key) in
-        ((bytes : List ℕ) → IsKeyOf key bytes ↔ (whole ≡ Some bytes))
-        × (((bytes : List ℕ) → ¬ IsKeyOf key bytes) ↔ (whole ≡ None)) }
-{}

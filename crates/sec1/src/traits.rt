@@ -2,13 +2,14 @@
 //! which bytes are read as which key, which bytes a key is written as, and which errors there are.
 
 ghost use Rattle.std.specs.Prelude.{ℕ, List, false, ◌≡◌, ◌⊎◌, ◌↔◌, IfSome, IsTrue, MatchBool};
-ghost use Rattle.std.specs.Prelude.{MatchResult};
+ghost use Rattle.std.specs.Prelude.{MatchResult, IsErrAnd, Some, None};
 ghost use Rattle.std.specs.Io.KnownBytes.{Appends};
-ghost use Rattle.sec1.specs.Errors.{IsAsn1, error_of};
+ghost use Rattle.sec1.specs.Errors.{IsAsn1, IsAsn1Where, error_of};
 ghost use Rattle.sec1.specs.Keys.{SomeBytes};
 ghost use Rattle.sec1.specs.declared.error.Error.{Error};
 ghost use Rattle.sec1_der.specs.Elements.{IsElement};
 ghost use Rattle.sec1_der.specs.ErrorKinds.{IsHeaderFault};
+ghost use Rattle.sec1_der.specs.Faults.{document_fault};
 ghost use Rattle.sec1_der.specs.ReadsDocument.{RefusesElement};
 ghost use Rattle.sec1_der.specs.declared.error.Error.{Error as DerError};
 ghost use Rattle.sec1_der.specs.Streams.{AppendsPrefix, Ends, Takes};
@@ -43,7 +44,7 @@ pub trait DecodeEcPrivateKey: Sized {
     /// failed; then those of [`from_sec1_der`](DecodeEcPrivateKey::from_sec1_der).
     fn read_sec1_der_from<R: Read>(alloc: Global, reader: &mut R) -> Result<Self>
         requires { R.failed reader.old ≡ false }
-        ensures { let taken = Takes R.left R.taken reader.old reader.new in
+        ensures exact { let taken = Takes R.left R.taken reader.old reader.new in
             let ended = Ends R.left R.ended reader.new in
             let whole : List ℕ → Type 0 = λ bytes. IsElement bytes × taken bytes × ended in
             MatchResult result
@@ -55,6 +56,13 @@ pub trait DecodeEcPrivateKey: Sized {
             × (IsAsn1 ErrorKind.Io error ↔ IsTrue (R.failed reader.new)))
             ⊎ ((R.failed reader.new ≡ false) × SomeBytes whole
             (λ bytes. (error ≡ Error.Memory) ⊎ refuses bytes error))) }
+        // Where the bytes aren't one element, that they are refused, and by which kind, is a
+        // function of those that the reader had left, and of those that were taken.
+        ensures kind { let told : List ℕ → Type 0 = λ bytes. (document_fault bytes ≡ None)
+            ⊎ IsErrAnd result (λ error. (error ≡ Error.Memory) ⊎ IsAsn1Where
+            (λ kind. (kind ≡ ErrorKind.Io) ⊎ (document_fault bytes ≡ Some (Some kind))) error) in
+            IfSome (R.left reader.old) told
+            × SomeBytes (Takes R.left R.taken reader.old reader.new) told }
     {
         let document = SecretDocument::read_der_from(alloc, reader)?;
         Self::from_sec1_der(alloc, document.as_bytes())

@@ -5,8 +5,8 @@ use Rattle.std.specs.Io.KnownBytes.{Appends}
 use Rattle.sec1.specs.Der.{AppendsPrefix}
 use Rattle.sec1_inspect.specs.declared.Failure.{Failure}
 use Rattle.sec1_inspect.specs.declared.Failure.TheVariants.{Run, Paths}
-use Rattle.sec1_inspect.specs.declared.RunError.{RunError}
-use Rattle.sec1_inspect.specs.declared.RunError.TheVariants.{Input, Output, Memory}
+use Rattle.sec1_inspect.specs.declared.Fault.{Fault}
+use Rattle.sec1_inspect.specs.declared.Fault.TheVariants.{Input, Output, Memory}
 use Rattle.sec1_inspect.specs.declared.Form.{Form}
 use Rattle.sec1_inspect.specs.declared.Form.TheVariants.{Text, Der}
 use Rattle.sec1_inspect.specs.Report.{IsDerReport, IsReport, limit}
@@ -17,24 +17,28 @@ pub record TakesInput (Taken : List ℕ → Type 0) (Ended : Type 0) (bytes : Li
   pub bounded : length bytes ≤ limit + 1
   pub whole : (length bytes ≡ limit + 1) ⊎ Ended
 
--- an input was read
-abbrev pub ReadsInput : (List ℕ → Type 0) → Type 0 → Type 0
-ReadsInput Taken Ended = (bytes : List ℕ) × TakesInput Taken Ended bytes
+-- an input was read, and this is the report on the bytes that were taken, and on the whole input if
+-- it is known
+pub record ReportsOn (IsReport : List ℕ → List ℕ → ℕ → Type 0) (Taken : List ℕ → Type 0)
+    (Ended : Type 0) (input : Option (List ℕ)) (text : List ℕ) (status : ℕ) : Type 0 where
+  pub bytes : List ℕ
+  pub read : TakesInput Taken Ended bytes
+  pub of_bytes : IsReport bytes text status
+  pub of_input : IfSome input (λ all. IsReport all text status)
 
--- the whole text of the report on the input was written, and this is its status
-pub record WritesReport (IsReport : List ℕ → List ℕ → ℕ → Type 0) (input old new : Option (List ℕ))
+-- the whole of a text was written that is such, with this status
+pub record WritesReport (IsSuch : List ℕ → ℕ → Type 0) (old new : Option (List ℕ))
     (status : ℕ) : Type 0 where
   pub text : List ℕ
   pub appended : Appends old new text
-  pub report : IfSome input (λ bytes. IsReport bytes text status)
+  pub report : IsSuch text status
 
--- a prefix of the text of the report on the input was written
-pub record WritesPrefix (IsReport : List ℕ → List ℕ → ℕ → Type 0)
-    (input old new : Option (List ℕ)) : Type 0 where
+-- a prefix of a text was written that is such, with some status
+pub record WritesPrefix (IsSuch : List ℕ → ℕ → Type 0) (old new : Option (List ℕ)) : Type 0 where
   pub text : List ℕ
   pub status : ℕ
   pub appended : AppendsPrefix old new text
-  pub report : IfSome input (λ bytes. IsReport bytes text status)
+  pub report : IsSuch text status
 
 -- the report on an input in this form
 abbrev pub report_in : Form → List ℕ → List ℕ → ℕ → Type 0
@@ -48,12 +52,12 @@ pub record HasStatus (IsReport : List ℕ → List ℕ → ℕ → Type 0) (inpu
   pub report : IfSome input (λ bytes. IsReport bytes text status)
 
 -- the text of an error
-abbrev pub run_error_text : RunError → List ℕ
-run_error_text Input = codes "input failed"
-run_error_text Output = codes "output failed"
-run_error_text Memory = codes "out of memory"
+abbrev pub fault_text : Fault → List ℕ
+fault_text Input = codes "input failed"
+fault_text Output = codes "output failed"
+fault_text Memory = codes "out of memory"
 
 -- the line that is printed if there is no report
 abbrev pub line_of : Failure → List ℕ
-line_of (Run error) = codes "sec1_inspect: " ++ run_error_text error
+line_of (Run error) = codes "sec1_inspect: " ++ fault_text error
 line_of Paths = codes "sec1_inspect: at most one path"

@@ -13,11 +13,11 @@ ghost use Rattle.std.specs.Io.KnownBytes.{Appends};
 ghost use Rattle.sec1.specs.Der.{AppendsPrefix, Ends, Takes};
 ghost use Rattle.sec1_der.specs.Streams.{ReadsOnto};
 ghost use Rattle.sec1_inspect.specs.declared.Failure.TheVariants.{Run, Paths};
-ghost use Rattle.sec1_inspect.specs.declared.RunError.TheVariants.{Input, Output, Memory};
+ghost use Rattle.sec1_inspect.specs.declared.Fault.TheVariants.{Input, Output, Memory};
 ghost use Rattle.sec1_inspect.specs.declared.Source.TheVariants.{StandardInput, File};
 ghost use Rattle.sec1_inspect.specs.Report.{IsDerReport, IsReport};
-ghost use Rattle.sec1_inspect.specs.Run.{HasStatus, ReadsInput, TakesInput};
-ghost use Rattle.sec1_inspect.specs.Run.{WritesPrefix, WritesReport, run_error_text, line_of};
+ghost use Rattle.sec1_inspect.specs.Run.{HasStatus, ReportsOn, TakesInput};
+ghost use Rattle.sec1_inspect.specs.Run.{WritesPrefix, WritesReport, fault_text, line_of};
 ghost use Rattle.sec1_inspect.specs.Run.{report_in};
 
 use crate::report::{LIMIT, Report, report_on_der, report_on_text};
@@ -30,7 +30,7 @@ use std::{env, fmt, fs, io};
 
 /// Why there is no report.
 #[derive(Clone, Copy, Debug, PartialEq, Eq)]
-pub enum RunError {
+pub enum Fault {
     /// The reader failed.
     Input,
     /// The writer failed.
@@ -40,25 +40,25 @@ pub enum RunError {
 }
 
 /// Prints the text of the error, whatever options are set.
-impl fmt::Display for RunError {
-    ghost output = { λ error. Some (run_error_text error) };
+impl fmt::Display for Fault {
+    ghost output = { λ error. Some (fault_text error) };
 
-    ghost styled_output = { λ error _. Some (run_error_text error) };
+    ghost styled_output = { λ error _. Some (fault_text error) };
 
     fn fmt<W: fmt::Write>(&self, f: &mut fmt::Formatter<W>) -> fmt::Result {
         f.write_str(match self {
-            RunError::Input => "input failed",
-            RunError::Output => "output failed",
-            RunError::Memory => "out of memory",
+            Fault::Input => "input failed",
+            Fault::Output => "output failed",
+            Fault::Memory => "out of memory",
         })
     }
 }
 
-impl From<AllocError> for RunError {
+impl From<AllocError> for Fault {
     ghost from_gives = { λ _ error. error ≡ Memory };
 
-    fn from(_: AllocError) -> RunError {
-        RunError::Memory
+    fn from(_: AllocError) -> Fault {
+        Fault::Memory
     }
 }
 
@@ -69,23 +69,25 @@ impl From<AllocError> for RunError {
 ///
 /// Input exactly when a read failed, Output exactly when a write failed, Memory if an allocation
 /// failed. After Output a prefix of the report has been written, otherwise nothing.
-pub fn run<R: Read, W: Write>(alloc: Global, reader: &mut R, writer: &mut W) -> Result<u8, RunError>
+pub fn run<R: Read, W: Write>(alloc: Global, reader: &mut R, writer: &mut W) -> Result<u8, Fault>
     requires reader { R.failed reader.old ≡ false }
     requires writer { W.failed writer.old ≡ false }
 
-    ensures input { IsErrOf result RunError.Input ↔ IsTrue (R.failed reader.new) }
-    ensures output { IsErrOf result RunError.Output ↔ IsTrue (W.failed writer.new) }
+    ensures input { IsErrOf result Fault.Input ↔ IsTrue (R.failed reader.new) }
+    ensures output { IsErrOf result Fault.Output ↔ IsTrue (W.failed writer.new) }
 
-    ensures read { OnOk result (ReadsInput (Takes R.left R.taken reader.old reader.new)
-        (Ends R.left R.ended reader.new)) }
-    ensures report { IfOk result
-        (WritesReport IsReport (R.left reader.old) (W.written writer.old) (W.written writer.new)) }
+    ensures report { let taken = Takes R.left R.taken reader.old reader.new in
+        let ended = Ends R.left R.ended reader.new in
+        IfOk result (WritesReport (ReportsOn IsReport taken ended (R.left reader.old))
+        (W.written writer.old) (W.written writer.new)) }
 
     ensures nothing { IfErr result
         (λ error. error ≢ Output → W.written writer.new ≡ W.written writer.old) }
-    ensures prefix { IsErrOf result RunError.Output
-        → WritesPrefix IsReport (R.left reader.old) (W.written writer.old)
-        (W.written writer.new) }
+    ensures prefix { let taken = Takes R.left R.taken reader.old reader.new in
+        let ended = Ends R.left R.ended reader.new in
+        IsErrOf result Fault.Output
+        → WritesPrefix (ReportsOn IsReport taken ended (R.left reader.old))
+        (W.written writer.old) (W.written writer.new) }
 {
     let input = read_input(alloc, reader)?;
     let report = report_on_text(alloc, &input)?;
@@ -101,24 +103,25 @@ pub fn run_der<R: Read, W: Write>(
     alloc: Global,
     reader: &mut R,
     writer: &mut W,
-) -> Result<u8, RunError>
+) -> Result<u8, Fault>
     requires reader { R.failed reader.old ≡ false }
     requires writer { W.failed writer.old ≡ false }
 
-    ensures input { IsErrOf result RunError.Input ↔ IsTrue (R.failed reader.new) }
-    ensures output { IsErrOf result RunError.Output ↔ IsTrue (W.failed writer.new) }
+    ensures input { IsErrOf result Fault.Input ↔ IsTrue (R.failed reader.new) }
+    ensures output { IsErrOf result Fault.Output ↔ IsTrue (W.failed writer.new) }
 
-    ensures read { OnOk result (ReadsInput (Takes R.left R.taken reader.old reader.new)
-        (Ends R.left R.ended reader.new)) }
-    ensures report { IfOk result
-        (WritesReport IsDerReport (R.left reader.old) (W.written writer.old)
-        (W.written writer.new)) }
+    ensures report { let taken = Takes R.left R.taken reader.old reader.new in
+        let ended = Ends R.left R.ended reader.new in
+        IfOk result (WritesReport (ReportsOn IsDerReport taken ended (R.left reader.old))
+        (W.written writer.old) (W.written writer.new)) }
 
     ensures nothing { IfErr result
         (λ error. error ≢ Output → W.written writer.new ≡ W.written writer.old) }
-    ensures prefix { IsErrOf result RunError.Output
-        → WritesPrefix IsDerReport (R.left reader.old) (W.written writer.old)
-        (W.written writer.new) }
+    ensures prefix { let taken = Takes R.left R.taken reader.old reader.new in
+        let ended = Ends R.left R.ended reader.new in
+        IsErrOf result Fault.Output
+        → WritesPrefix (ReportsOn IsDerReport taken ended (R.left reader.old))
+        (W.written writer.old) (W.written writer.new) }
 {
     let input = read_input(alloc, reader)?;
     let report = report_on_der(alloc, &input)?;
@@ -130,9 +133,9 @@ pub fn run_der<R: Read, W: Write>(
 /// # Errors
 /// Input exactly when a read failed, Memory if an allocation failed.
 #[tactic(auto, using(crate::proofs::ReportLemmas::takes_onto))]
-fn read_input<R: Read>(alloc: Global, reader: &mut R) -> Result<Vec<u8>, RunError>
+fn read_input<R: Read>(alloc: Global, reader: &mut R) -> Result<Vec<u8>, Fault>
     requires { R.failed reader.old ≡ false }
-    ensures input { IsErrOf result RunError.Input ↔ IsTrue (R.failed reader.new) }
+    ensures input { IsErrOf result Fault.Input ↔ IsTrue (R.failed reader.new) }
     ensures kind { IfErr result (λ error. (error ≡ Input) ⊎ (error ≡ Memory)) }
     ensures read { IfOk result
         (λ input. TakesInput (Takes R.left R.taken reader.old reader.new)
@@ -157,14 +160,10 @@ const STEP: usize = 4096;
 /// # Errors
 /// Input exactly when the read failed, Memory if the allocation failed. On an error the vector is
 /// unchanged.
-fn read_some<R: Read>(
-    reader: &mut R,
-    input: &mut Vec<u8>,
-    missing: usize,
-) -> Result<usize, RunError>
+fn read_some<R: Read>(reader: &mut R, input: &mut Vec<u8>, missing: usize) -> Result<usize, Fault>
     requires unfailed { R.failed reader.old ≡ false }
     requires some { 0 < missing }
-    ensures input { IsErrOf result RunError.Input ↔ IsTrue (R.failed reader.new) }
+    ensures input { IsErrOf result Fault.Input ↔ IsTrue (R.failed reader.new) }
     ensures kind { IfErr result (λ error. (error ≡ Input) ⊎ (error ≡ Memory)) }
     ensures bound { IfOk result (λ n. n ≤ missing) }
     ensures bytes { IfOk result
@@ -177,7 +176,7 @@ fn read_some<R: Read>(
     let step = missing.min(STEP);
     input.reserve_exact(step)?;
     let Ok(count) = reader.read(&mut chunk[..step]) else {
-        return Err(RunError::Input);
+        return Err(Fault::Input);
     };
     input.extend_from_slice(&chunk[..count])?;
     Ok(count)
@@ -187,9 +186,9 @@ fn read_some<R: Read>(
 ///
 /// # Errors
 /// Output exactly when a write failed, after a prefix of the report was written.
-fn write_report<W: Write>(writer: &mut W, report: &Report) -> Result<u8, RunError>
+fn write_report<W: Write>(writer: &mut W, report: &Report) -> Result<u8, Fault>
     requires { W.failed writer.old ≡ false }
-    ensures output { IsErrOf result RunError.Output ↔ IsTrue (W.failed writer.new) }
+    ensures output { IsErrOf result Fault.Output ↔ IsTrue (W.failed writer.new) }
     ensures kind { IfErr result (λ error. error ≡ Output) }
     ensures status { IfOk result (λ status. status ≡ report.now.status) }
     ensures whole { OnOk result
@@ -200,7 +199,7 @@ fn write_report<W: Write>(writer: &mut W, report: &Report) -> Result<u8, RunErro
 {
     match writer.write_all(report.text.as_bytes()) {
         Ok(()) => Ok(report.status),
-        Err(_) => Err(RunError::Output),
+        Err(_) => Err(Fault::Output),
     }
 }
 
@@ -217,12 +216,13 @@ enum Form {
 ///
 /// # Errors
 /// Input if a read failed, Output if a write or the flush failed, Memory if an allocation failed.
+#[tactic(auto, using(crate::proofs::ReportLemmas::has_status))]
 fn inspect<R: io::Read + Drop, W: io::Write + Drop>(
     alloc: Global,
     form: Form,
     reader: R,
     writer: W,
-) -> Result<u8, RunError>
+) -> Result<u8, Fault>
     ensures { IfOk result (HasStatus (report_in form) (R.remaining reader)) }
 {
     let mut reader = StdReader::new(reader);
@@ -233,7 +233,7 @@ fn inspect<R: io::Read + Drop, W: io::Write + Drop>(
     };
     match writer.into_inner().flush() {
         Ok(()) => Ok(status),
-        Err(_) => Err(RunError::Output),
+        Err(_) => Err(Fault::Output),
     }
 }
 
@@ -241,15 +241,15 @@ fn inspect<R: io::Read + Drop, W: io::Write + Drop>(
 #[derive(Drop)]
 enum Failure {
     /// A run failed.
-    Run(RunError),
+    Run(Fault),
     /// Two or more paths were given.
     Paths,
 }
 
-impl From<RunError> for Failure {
+impl From<Fault> for Failure {
     ghost from_gives = { λ error failure. failure ≡ Run error };
 
-    fn from(error: RunError) -> Failure {
+    fn from(error: Fault) -> Failure {
         Failure::Run(error)
     }
 }
@@ -293,9 +293,9 @@ fn line(failure: &Failure) -> &'static str
     ensures { result.now ≡ line_of failure.now }
 {
     match failure {
-        Failure::Run(RunError::Input) => "sec1_inspect: input failed",
-        Failure::Run(RunError::Output) => "sec1_inspect: output failed",
-        Failure::Run(RunError::Memory) => "sec1_inspect: out of memory",
+        Failure::Run(Fault::Input) => "sec1_inspect: input failed",
+        Failure::Run(Fault::Output) => "sec1_inspect: output failed",
+        Failure::Run(Fault::Memory) => "sec1_inspect: out of memory",
         Failure::Paths => "sec1_inspect: at most one path",
     }
 }
@@ -304,13 +304,13 @@ fn line(failure: &Failure) -> &'static str
 /// the status.
 fn inspect_source<H: AllocGlobal + Env + Files + Input + Print>(rt: &H) -> Result<u8, Failure> {
     let Ok(mut arguments) = env::args(rt) else {
-        return Err(Failure::Run(RunError::Input));
+        return Err(Failure::Run(Fault::Input));
     };
     let _program = arguments.next();
     let status = match chosen_source(arguments.next(), arguments.next())? {
         Source::StandardInput => inspect(rt.alloc(), Form::Text, rt.reader(), io::writer(rt))?,
         Source::File(path) => {
-            let file = fs::open(rt, path.as_str()).map_err(|_| RunError::Input)?;
+            let file = fs::open(rt, path.as_str()).map_err(|_| Fault::Input)?;
             inspect(rt.alloc(), Form::Der, file, io::writer(rt))?
         }
     };

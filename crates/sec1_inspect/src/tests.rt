@@ -1,9 +1,10 @@
 //! Runs with known results, and runs over readers and writers that fail.
 mod large;
 mod memory;
+mod taken;
 
 use crate::report::LIMIT;
-use crate::{Form, RunError, run, run_der};
+use crate::{Fault, Form, run, run_der};
 use sec1::der::{StdReader, StdWriter};
 use std::alloc::Global;
 use std::fmt::Debug;
@@ -136,7 +137,7 @@ fn outcome<R: io::Read + Drop, W: io::Write + Drop>(
     form: Form,
     reader: R,
     writer: W,
-) -> (Result<u8, RunError>, W) {
+) -> (Result<u8, Fault>, W) {
     let mut reader = StdReader::new(reader);
     let mut writer = StdWriter::new(writer);
     let result = match form {
@@ -258,7 +259,7 @@ fn reports_failed_reads_in_turn(rt: HostRuntime) {
         for form in [Form::Text, Form::Der] {
             let reader = Broken { rest };
             let (result, text) = outcome(rt.alloc(), form, reader, Vec::new(rt.alloc()));
-            assert_equal_for(&rt, &given, &result, &Err(RunError::Input));
+            assert_equal_for(&rt, &given, &result, &Err(Fault::Input));
             assert_equal_for(&rt, &given, &text.is_empty(), &true);
         }
     }
@@ -270,7 +271,7 @@ fn reports_failed_reads_in_turn(rt: HostRuntime) {
 fn fails_to_write(rt: &(impl Abort + AllocGlobal), form: Form, key: &[u8], writer: Narrow) {
     let room = writer.room;
     let (result, writer) = outcome(rt.alloc(), form, key, writer);
-    assert_equal_for(rt, &room, &result, &Err(RunError::Output));
+    assert_equal_for(rt, &room, &result, &Err(Fault::Output));
     let taken = Some(writer.taken.as_slice());
     assert_equal_for(rt, &room, &taken, &EMPTY_KEY_REPORT.get(..room));
 }
@@ -296,11 +297,11 @@ fn reports_failed_writes_in_turn(rt: HostRuntime) -> Result<(), Fail> {
 }
 
 #[test]
-fn names_run_errors(rt: HostRuntime) -> Result<(), Fail> {
+fn names_faults(rt: HostRuntime) -> Result<(), Fail> {
     for (error, words) in [
-        (RunError::Input, "input failed"),
-        (RunError::Output, "output failed"),
-        (RunError::Memory, "out of memory"),
+        (Fault::Input, "input failed"),
+        (Fault::Output, "output failed"),
+        (Fault::Memory, "out of memory"),
     ] {
         assert_equal(&rt, &format!(in rt.alloc(); "{error}")?.as_str(), &words);
     }

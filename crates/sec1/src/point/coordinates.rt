@@ -24,13 +24,31 @@ pub enum Coordinates<'a, const N: usize> {
     /// The point at infinity, which has no coordinates.
     Identity,
     /// x alone.
-    Compact { x: &'a [u8; N] },
+    Compact {
+        /// The bytes of x.
+        x: &'a [u8; N],
+    },
     /// x, and the parity of y.
-    Compressed { x: &'a [u8; N], y_is_odd: bool },
+    Compressed {
+        /// The bytes of x.
+        x: &'a [u8; N],
+        /// Whether y is odd.
+        y_is_odd: bool,
+    },
     /// x and y.
-    Uncompressed { x: &'a [u8; N], y: &'a [u8; N] },
+    Uncompressed {
+        /// The bytes of x.
+        x: &'a [u8; N],
+        /// The bytes of y.
+        y: &'a [u8; N],
+    },
     /// x and y; the encoding has the parity of y too.
-    Hybrid { x: &'a [u8; N], y: &'a [u8; N] },
+    Hybrid {
+        /// The bytes of x.
+        x: &'a [u8; N],
+        /// The bytes of y.
+        y: &'a [u8; N],
+    },
 }
 
 impl<'a, const N: usize> Coordinates<'a, N> {

@@ -14,19 +14,19 @@ use crate::error::{Error, Result};
 /// 2.3.3), compact, which has x alone, and hybrid, which has y and its parity (ANSI X9.62).
 #[derive(Clone, Copy, Debug, PartialEq, Eq)]
 pub enum Tag {
-    /// The point at infinity.
+    /// `00`: the point at infinity.
     Identity = 0,
-    /// x, with an even y.
+    /// `02`: x, with an even y.
     CompressedEvenY = 2,
-    /// x, with an odd y.
+    /// `03`: x, with an odd y.
     CompressedOddY = 3,
-    /// x and y.
+    /// `04`: x and y.
     Uncompressed = 4,
-    /// x alone.
+    /// `05`: x alone.
     Compact = 5,
-    /// x and y, which is even.
+    /// `06`: x and y, which is even.
     HybridEvenY = 6,
-    /// x and y, which is odd.
+    /// `07`: x and y, which is odd.
     HybridOddY = 7,
 }
 
@@ -35,7 +35,7 @@ impl Tag {
     ///
     /// # Errors
     ///
-    /// PointEncoding if there is no such tag.
+    /// [`Error::PointEncoding`] if there is no such tag.
     pub fn from_u8(byte: u8) -> Result<Self>
         ensures { MatchResult result (λ tag. byte_of tag ≡ byte)
             (λ e. (e ≡ PointEncoding) × ((tag : Tag) → byte_of tag ≢ byte)) }

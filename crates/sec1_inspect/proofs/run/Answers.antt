@@ -1,7 +1,18 @@
-use Rattle.std.proofs.Common.{rules, string_bytes}
+use Rattle.std.proofs.Common.{rules, string_bytes, List, ℕ}
 use Rattle.sec1_inspect.specs.Report.{IsReport, IsReportOnDigits, stripped}
-use Rattle.sec1_inspect.proofs.ReportLemmas.{report_on_input}
+use Rattle.sec1_inspect.proofs.ReportLemmas.{report_on_read, whole_report}
 use Rattle.sec1_inspect.proofs.run.Goals as goal
+
+abbrev IsReportOnText : List ℕ → List ℕ → ℕ → Type 0
+IsReportOnText bytes = IsReportOnDigits (stripped bytes)
+
+pub returns-clause-report : goal.returns-clause-report
+returns-clause-report g c =
+    let report = c.in_ok-report.report in
+    let on_taken : IsReport c.in_ok-input.input.items (string_bytes report.text) report.status =
+    rw c.deref.ensures.value at c.in_ok-report.ensures in
+    let on_input = report_on_read IsReportOnText _ _ _ _ _ _ _ _ c.in_ok-input.ensures.read on_taken in
+    whole_report _ _ _ _ _ _ on_input c.write_report.ensures.status c.write_report.ensures.whole
 
 pub returns-clause-prefix : goal.returns-clause-prefix
 returns-clause-prefix g c failed =
@@ -12,7 +23,5 @@ returns-clause-prefix g c failed =
       text = string_bytes report.text;
       status = report.status;
       appended = search (rules, c.write_report.ensures.prefix);
-      report =
-          report_on_input (λ bytes. IsReportOnDigits (stripped bytes)) _ _ _ _ _ _ _ _ c.in_ok-input.ensures.read
-          on_taken;
+      report = report_on_read IsReportOnText _ _ _ _ _ _ _ _ c.in_ok-input.ensures.read on_taken;
     }

@@ -1,7 +1,7 @@
 //! Large inputs, read in uneven pieces, and the flush of what was written.
 use super::{EMPTY_KEY, EMPTY_KEY_REPORT, assert_equal, reports};
 use crate::report::LIMIT;
-use crate::{Form, RunError, inspect};
+use crate::{Fault, Form, inspect};
 use hex::ToHex;
 use std::alloc::{AllocError, Global};
 use std::io;
@@ -129,7 +129,7 @@ fn flushes_what_was_written(rt: HostRuntime) -> Result<(), Fail> {
         assert_equal(
             &rt,
             &inspect(alloc, form, input, Unflushed),
-            &Err(RunError::Output),
+            &Err(Fault::Output),
         );
         let mut room = [0u8; 67];
         assert_equal(

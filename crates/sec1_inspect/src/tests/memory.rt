@@ -4,7 +4,7 @@
 //! tests. A test controls it by requests of sizes that no allocator grants. Without it nothing is
 //! refused, and each call is made once.
 use super::{KEY, KEY_REPORT};
-use crate::{RunError, run, run_der};
+use crate::{Fault, run, run_der};
 use sec1::der::{Read, StdReader, StdWriter, Write};
 use std::alloc::Global;
 use std::test::Fail;
@@ -109,7 +109,7 @@ fn run_outcome(alloc: Global, input: &[u8], is_der: bool) -> Outcome {
         Ok(status) => right(
             status == 0 && rest.is_empty() && room.as_slice() == KEY_REPORT.as_bytes(),
         ),
-        Err(RunError::Memory) => refused(
+        Err(Fault::Memory) => refused(
             !has_failed && unused == 220 && room == [0; 220] && input.ends_with(rest),
         ),
         Err(_) => Outcome::Wrong,

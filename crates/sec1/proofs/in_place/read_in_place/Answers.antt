@@ -2,10 +2,9 @@ use Rattle.std.proofs.Common.{◌≡◌, ◌++◌, ap, rules, sym, ◌∙◌, []
 use Rattle.std.proofs.lemmas.Bool.{false≢true}
 use Rattle.sec1_der.specs.Readers.{Reader, reader_over, HasReadElement}
 use Rattle.sec1_der.specs.Elements.{element}
-use Rattle.sec1_der.specs.Faults.{Fault, end_fault, element_fault}
+use Rattle.sec1_der.specs.Faults.{Fault, no_fault, end_fault, element_fault}
 use Rattle.sec1_der.proofs.ElementLaws.{element_of-some}
-use Rattle.sec1_der.proofs.ElementFaultLemmas.{opened_element}
-use Rattle.sec1_der.proofs.FaultLaws.{PassesOver, reads_on}
+use Rattle.sec1_der.proofs.FaultLaws.{PassesOver, alone, read_element, reads_on}
 use Rattle.sec1_der.proofs.KindLaws.{refused_more}
 use Rattle.sec1.proofs.in_place.read_in_place.Goals as goal
 
@@ -13,6 +12,13 @@ use Rattle.sec1.proofs.in_place.read_in_place.Goals as goal
 whole : (tag : ℕ) (inside input : List ℕ) (r : Reader) → r ≡ reader_over input → input ≡ element tag inside
     → r ≡ reader_over (element tag inside ++ [])
 whole tag inside input r is e = is ∙ ap reader_over (e ∙ sym (append-nil (element tag inside)))
+
+-- Where the content of an element was opened, the fault of the element is that of the content.
+opened_fault : (f : Fault) (tag opened : ℕ) (old new content : Reader)
+    → (content ≡ reader_over content.unread) × HasReadElement opened content.unread old new → opened ≡ tag
+    → element_fault tag f no_fault old.unread ≡ f content.unread
+opened_fault f tag opened old new content found same =
+    read_element f no_fault tag content.unread old new (rw same at found.1) ∙ alone _
 
 -- Where the content of an element was opened and isn't refused, the fault is that of what follows.
 passes : (f : Fault) (tag opened : ℕ) (old new content : Reader)
@@ -62,8 +68,8 @@ returns-in-Err-read_content-clause-read g c = record {
       absurd (false≢true (c.in-Err-read_content.ensures.only value (rw same there.same)));
   kinds = search rules;
   kind =
-      let opened = opened_element g.T.ValueContent.fault _ _ _ _ _ c.in-Ok.ensures.found c.fixed_tag.ensures in
+      let opened = opened_fault g.T.ValueContent.fault _ _ _ _ _ c.in-Ok.ensures.found c.fixed_tag.ensures in
       refused_more g.T.ValueContent.fault end_fault g.T.Tagged.tag_byte c.args.input.now _
-      (rw (rw c.new-reader.ensures at opened.1)
+      (rw (rw c.new-reader.ensures at opened)
       (rw c.remaining_input-content.ensures at c.in-Err-read_content.ensures.kind));
 }

@@ -27,13 +27,14 @@ returns-in_err-read_in_place c =
     let read = c.in_err-read_in_place.ensures.read in
     let cause = c.in_err-read_in_place.field-0.0 in
     let kind = said_kind key_fault c.args.bytes.now cause.kind key_says read.kind in
+    let cut = key_cut c.cut_elements.ensures.element in
     rw (answered.1, answered.2, asn1 cause.kind cause refl read.kinds) (record {
       found = tt;
       only = λ key is. absurd (false≢true (read.only key (key_written key c.args.bytes.now is)));
       one_tree = tt;
       kinds = read.kinds;
       kind = kind;
-      short = λ key bytes is begins. cc (kind, key_cut key bytes c.args.bytes.now is begins);
+      short = λ key bytes is begins. cc (kind, cut key bytes c.args.bytes.now is begins);
       long = λ key bytes is begins. c.in_err-read_in_place.ensures.long key bytes (key_written key bytes is) begins;
     })
 
@@ -44,6 +45,7 @@ returns c =
     let key = c.read_in_place.new.place in
     let read = c.in_ok-read_in_place.ensures.read in
     let found = key_found key input read.found in
+    let cut = key_cut c.cut_elements.ensures.element in
     record {
       found = found;
       only = λ other at.
@@ -56,7 +58,7 @@ returns c =
           (ap (λ xs. xs ++ []) (sym at.whole ∙ found.tree.whole))).0;
       kinds = tt;
       kind = read.kind;
-      short = λ other bytes at begins. absurd (cc (read.kind, key_cut other bytes input at begins));
+      short = λ other bytes at begins. absurd (cc (read.kind, cut other bytes input at begins));
       long = λ other bytes at begins.
           absurd (c.in_ok-read_in_place.ensures.long other bytes (key_written other bytes at) begins);
     }
