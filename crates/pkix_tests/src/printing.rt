@@ -1,8 +1,8 @@
-//! What is printed of values by `{:?}` and by `{:#?}`, as rustc prints derived types of these
-//! shapes.
+//! What is printed of values by `{:?}`, with each option, and by `{:#?}`, as rustc prints derived
+//! types of these shapes.
 use crate::assert_equal;
 use curves::Curve;
-use der_faults::Fault;
+use der_faults::{Fault, KeyPart};
 use der_rows::Row;
 use der_types::{Boolean, Choice, DateTime, Defaulted, OptionalPart};
 use pkix::LaterVersion;
@@ -11,15 +11,31 @@ use std::alloc::AllocError;
 use std::fmt::Debug;
 use std::process::Abort;
 
-/// Fails the test unless this is the text by `{:?}`, and on the lines after it that by `{:#?}`.
+/// Fails the test unless these are the texts by `{:?}`, with a width, a precision, a sign and
+/// zeros, one after the other, and the lines by `{:#?}`.
 fn assert_prints<T: Debug>(
     rt: &(impl Abort + AllocGlobal),
     value: &T,
-    wanted: &str,
+    texts: &str,
+    lines: &str,
 ) -> Result<(), AllocError> {
-    let text = format!(in rt.alloc(); "{value:?}\n{value:#?}")?;
-    assert_equal(rt, &text.as_str(), &wanted);
+    let alloc = rt.alloc();
+    let printed = format!(in alloc; "{value:?}|{value:5?}|{value:.1?}|{value:+?}|{value:05?}")?;
+    assert_equal(rt, &printed.as_str(), &texts);
+    assert_equal(rt, &format!(in alloc; "{value:#?}")?.as_str(), &lines);
     Ok(())
+}
+
+/// Fails the test unless this is the text with each of these options, and these are the lines by
+/// `{:#?}`.
+fn assert_prints_alike<T: Debug>(
+    rt: &(impl Abort + AllocGlobal),
+    value: &T,
+    text: &str,
+    lines: &str,
+) -> Result<(), AllocError> {
+    let texts = format!(in rt.alloc(); "{text}|{text}|{text}|{text}|{text}")?;
+    assert_prints(rt, value, texts.as_str(), lines)
 }
 
 /// A choice between a BOOLEAN and a version.
@@ -38,22 +54,23 @@ fn prints_values(rt: HostRuntime) -> Result<(), AllocError> {
     assert_prints(
         &rt,
         &time,
-        "DateTime { year: 1950, month: 1, day: 2, hour: 3, minute: 4, second: 5 }\nDateTime {\n    year: 1950,\n    month: 1,\n    day: 2,\n    hour: 3,\n    minute: 4,\n    second: 5,\n}",
+        "DateTime { year: 1950, month: 1, day: 2, hour: 3, minute: 4, second: 5 }|DateTime { year:  1950, month:     1, day:     2, hour:     3, minute:     4, second:     5 }|DateTime { year: 1950, month: 1, day: 2, hour: 3, minute: 4, second: 5 }|DateTime { year: +1950, month: +1, day: +2, hour: +3, minute: +4, second: +5 }|DateTime { year: 01950, month: 00001, day: 00002, hour: 00003, minute: 00004, second: 00005 }",
+        "DateTime {\n    year: 1950,\n    month: 1,\n    day: 2,\n    hour: 3,\n    minute: 4,\n    second: 5,\n}",
     )?;
-    let padded = format!(in rt.alloc(); "{time:02?}")?;
-    assert_equal(
+    assert_prints(
         &rt,
-        &padded.as_str(),
-        &"DateTime { year: 1950, month: 01, day: 02, hour: 03, minute: 04, second: 05 }",
-    );
-    assert_prints(&rt, &Boolean(true), "Boolean(true)\nBoolean(\n    true,\n)")?;
+        &Boolean(true),
+        "Boolean(true)|Boolean(true )|Boolean(t)|Boolean(true)|Boolean(true )",
+        "Boolean(\n    true,\n)",
+    )?;
     assert_prints(
         &rt,
         &Boolean(false),
-        "Boolean(false)\nBoolean(\n    false,\n)",
+        "Boolean(false)|Boolean(false)|Boolean(f)|Boolean(false)|Boolean(false)",
+        "Boolean(\n    false,\n)",
     )?;
-    assert_prints(&rt, &LaterVersion::V2, "V2\nV2")?;
-    assert_prints(&rt, &LaterVersion::V3, "V3\nV3")
+    assert_prints_alike(&rt, &LaterVersion::V2, "V2", "V2")?;
+    assert_prints_alike(&rt, &LaterVersion::V3, "V3", "V3")
 }
 
 #[test]
@@ -62,39 +79,46 @@ fn prints_parts(rt: HostRuntime) -> Result<(), AllocError> {
     assert_prints(
         &rt,
         &first,
-        "First(Required(Boolean(true)))\nFirst(\n    Required(\n        Boolean(\n            true,\n        ),\n    ),\n)",
+        "First(Required(Boolean(true)))|First(Required(Boolean(true )))|First(Required(Boolean(t)))|First(Required(Boolean(true)))|First(Required(Boolean(true )))",
+        "First(\n    Required(\n        Boolean(\n            true,\n        ),\n    ),\n)",
     )?;
     let second: Alternatives = Choice::Second(Required(VersionOne));
-    assert_prints(
+    assert_prints_alike(
         &rt,
         &second,
-        "Second(Required(VersionOne))\nSecond(\n    Required(\n        VersionOne,\n    ),\n)",
+        "Second(Required(VersionOne))",
+        "Second(\n    Required(\n        VersionOne,\n    ),\n)",
     )?;
     assert_prints(
         &rt,
         &Defaulted(Boolean(true)),
-        "Defaulted(Boolean(true))\nDefaulted(\n    Boolean(\n        true,\n    ),\n)",
+        "Defaulted(Boolean(true))|Defaulted(Boolean(true ))|Defaulted(Boolean(t))|Defaulted(Boolean(true))|Defaulted(Boolean(true ))",
+        "Defaulted(\n    Boolean(\n        true,\n    ),\n)",
     )?;
     let absent: OptionalPart<Required<Boolean>> = OptionalPart(None);
-    assert_prints(
+    assert_prints_alike(
         &rt,
         &absent,
-        "OptionalPart(None)\nOptionalPart(\n    None,\n)",
+        "OptionalPart(None)",
+        "OptionalPart(\n    None,\n)",
     )?;
     assert_prints(
         &rt,
         &OptionalPart(Some(Required(Boolean(false)))),
-        "OptionalPart(Some(Required(Boolean(false))))\nOptionalPart(\n    Some(\n        Required(\n            Boolean(\n                false,\n            ),\n        ),\n    ),\n)",
+        "OptionalPart(Some(Required(Boolean(false))))|OptionalPart(Some(Required(Boolean(false))))|OptionalPart(Some(Required(Boolean(f))))|OptionalPart(Some(Required(Boolean(false))))|OptionalPart(Some(Required(Boolean(false))))",
+        "OptionalPart(\n    Some(\n        Required(\n            Boolean(\n                false,\n            ),\n        ),\n    ),\n)",
     )
 }
 
 #[test]
 fn prints_curves_and_faults(rt: HostRuntime) -> Result<(), AllocError> {
-    assert_prints(
+    assert_prints_alike(
         &rt,
         &[Curve::Secp112r1, Curve::BrainpoolP512t1],
-        "[Secp112r1, BrainpoolP512t1]\n[\n    Secp112r1,\n    BrainpoolP512t1,\n]",
+        "[Secp112r1, BrainpoolP512t1]",
+        "[\n    Secp112r1,\n    BrainpoolP512t1,\n]",
     )?;
+    assert_prints_alike(&rt, &KeyPart::PrivateKey, "PrivateKey", "PrivateKey")?;
     let fault = Fault {
         offset: 34,
         kind: ErrorKind::Value,
@@ -102,7 +126,8 @@ fn prints_curves_and_faults(rt: HostRuntime) -> Result<(), AllocError> {
     assert_prints(
         &rt,
         &fault,
-        "Fault { offset: 34, kind: Value }\nFault {\n    offset: 34,\n    kind: Value,\n}",
+        "Fault { offset: 34, kind: Value }|Fault { offset:    34, kind: Value }|Fault { offset: 34, kind: Value }|Fault { offset: +34, kind: Value }|Fault { offset: 00034, kind: Value }",
+        "Fault {\n    offset: 34,\n    kind: Value,\n}",
     )
 }
 
@@ -116,9 +141,10 @@ fn prints_no_byte_of_a_row(rt: HostRuntime) -> Result<(), AllocError> {
         content_len: 2,
         content: &[0xAA, 0xBB],
     };
-    assert_prints(
+    assert_prints_alike(
         &rt,
         &row,
-        "Row { offset: 5, depth: 1, tag: 4, content_len: 2, .. }\nRow {\n    offset: 5,\n    depth: 1,\n    tag: 4,\n    content_len: 2,\n    ..\n}",
+        "Row { offset: 5, depth: 1, tag: 4, content_len: 2, .. }",
+        "Row {\n    offset: 5,\n    depth: 1,\n    tag: 4,\n    content_len: 2,\n    ..\n}",
     )
 }

@@ -1,11 +1,13 @@
 //! What the definitions of `sec1_der` say at values of the standards. Each is proved from the
-//! public definitions. What the constants are, and what the writers leave in a slice, is proved in
+//! public definitions. What most constants are, and what the writers leave in a slice, is proved in
 //! `sec1_der` itself.
 ghost use Rattle.std.specs.Prelude.{◌≡◌, [], ◌∷◌};
 ghost use Rattle.sec1_der.specs.Elements.{length_octets};
 ghost use Rattle.sec1_der.specs.Identifiers.{content_of};
 
 pub mod equality;
+
+use sec1_der::{FixedTag, IdentifierRef, Tag, Tagged};
 
 /// Lengths where their form changes (X.690 section 8.1.3), and the greatest.
 #[tactic(auto, unfolding(sec1_der::specs::Elements::length_octets))]
@@ -26,3 +28,10 @@ pub fn example_identifiers()
     ensures example { content_of (2 ∷ 999 ∷ []) ≡ 0x88 ∷ 0x37 ∷ [] }
     ensures greatest { content_of (2 ∷ 4294967215 ∷ []) ≡ 0x8F ∷ 0xFF ∷ 0xFF ∷ 0xFF ∷ 0x7F ∷ [] }
 {}
+
+/// Returns [`FixedTag::TAG`] of [`IdentifierRef`], which is its [`fixed_tag`](Tagged::fixed_tag).
+pub fn borrowed_identifier_tag() -> Tag
+    ensures { result ≡ ⟦<IdentifierRef<'static> as Tagged>⟧.tag_byte }
+{
+    IdentifierRef::TAG
+}

@@ -20,15 +20,19 @@ fn assert_text(
     Ok(())
 }
 
-/// Fails the test unless these are the texts by `{:?}` and by `{:#?}`, the second on the lines
-/// after the first.
+/// Fails the test unless these are the texts by `{:?}`, with a width, a precision, a sign and
+/// zeros, one after the other, and the lines by `{:#?}`: those that rustc prints of a derived
+/// `Debug` of the same fields.
 fn assert_printed<T: Debug>(
     rt: &impl Abort,
     alloc: Global,
     value: &T,
-    text: &str,
+    texts: &str,
+    lines: &str,
 ) -> Result<(), AllocError> {
-    assert_text(rt, format!(in alloc; "{value:?}\n{value:#?}"), text)
+    let printed = format!(in alloc; "{value:?}|{value:5?}|{value:.1?}|{value:+?}|{value:05?}");
+    assert_text(rt, printed, texts)?;
+    assert_text(rt, format!(in alloc; "{value:#?}"), lines)
 }
 
 #[test]
@@ -38,25 +42,29 @@ fn prints_structs_with_one_field(rt: HostRuntime) -> Result<(), Fail> {
         &rt,
         alloc,
         &Tag::OBJECT_IDENTIFIER,
-        "Tag { byte: 6 }\nTag {\n    byte: 6,\n}",
+        "Tag { byte: 6 }|Tag { byte:     6 }|Tag { byte: 6 }|Tag { byte: +6 }|Tag { byte: 00006 }",
+        "Tag {\n    byte: 6,\n}",
     )?;
     assert_printed(
         &rt,
         alloc,
         &Length::new(128)?,
-        "Length { bytes: 128 }\nLength {\n    bytes: 128,\n}",
+        "Length { bytes: 128 }|Length { bytes:   128 }|Length { bytes: 128 }|Length { bytes: +128 }|Length { bytes: 00128 }",
+        "Length {\n    bytes: 128,\n}",
     )?;
     assert_printed(
         &rt,
         alloc,
         &Error::from(ErrorKind::Truncated),
-        "Error { kind: Truncated }\nError {\n    kind: Truncated,\n}",
+        "Error { kind: Truncated }|Error { kind: Truncated }|Error { kind: Truncated }|Error { kind: Truncated }|Error { kind: Truncated }",
+        "Error {\n    kind: Truncated,\n}",
     )?;
     assert_printed(
         &rt,
         alloc,
         &OctetStringRef::new(&[1, 255])?,
-        "OctetStringRef { bytes: [1, 255] }\nOctetStringRef {\n    bytes: [\n        1,\n        255,\n    ],\n}",
+        "OctetStringRef { bytes: [1, 255] }|OctetStringRef { bytes: [    1,   255] }|OctetStringRef { bytes: [1, 255] }|OctetStringRef { bytes: [+1, +255] }|OctetStringRef { bytes: [00001, 00255] }",
+        "OctetStringRef {\n    bytes: [\n        1,\n        255,\n    ],\n}",
     )?;
     Ok(())
 }
@@ -72,46 +80,67 @@ fn prints_structs_with_two_fields(rt: HostRuntime) -> Result<(), Fail> {
         &rt,
         alloc,
         &header,
-        "Header { tag: Tag { byte: 48 }, length: Length { bytes: 3 } }\nHeader {\n    tag: Tag {\n        byte: 48,\n    },\n    length: Length {\n        bytes: 3,\n    },\n}",
+        "Header { tag: Tag { byte: 48 }, length: Length { bytes: 3 } }|Header { tag: Tag { byte:    48 }, length: Length { bytes:     3 } }|Header { tag: Tag { byte: 48 }, length: Length { bytes: 3 } }|Header { tag: Tag { byte: +48 }, length: Length { bytes: +3 } }|Header { tag: Tag { byte: 00048 }, length: Length { bytes: 00003 } }",
+        "Header {\n    tag: Tag {\n        byte: 48,\n    },\n    length: Length {\n        bytes: 3,\n    },\n}",
     )?;
     assert_printed(
         &rt,
         alloc,
         &AnyRef::new(Tag::SEQUENCE, &[5, 0])?,
-        "AnyRef { tag: 48, value: [5, 0] }\nAnyRef {\n    tag: 48,\n    value: [\n        5,\n        0,\n    ],\n}",
+        "AnyRef { tag: 48, value: [5, 0] }|AnyRef { tag:    48, value: [    5,     0] }|AnyRef { tag: 48, value: [5, 0] }|AnyRef { tag: +48, value: [+5, +0] }|AnyRef { tag: 00048, value: [00005, 00000] }",
+        "AnyRef {\n    tag: 48,\n    value: [\n        5,\n        0,\n    ],\n}",
     )?;
     assert_printed(
         &rt,
         alloc,
         &BitStringRef::new(4, &[240])?,
-        "BitStringRef { unused: 4, bytes: [240] }\nBitStringRef {\n    unused: 4,\n    bytes: [\n        240,\n    ],\n}",
+        "BitStringRef { unused: 4, bytes: [240] }|BitStringRef { unused:     4, bytes: [  240] }|BitStringRef { unused: 4, bytes: [240] }|BitStringRef { unused: +4, bytes: [+240] }|BitStringRef { unused: 00004, bytes: [00240] }",
+        "BitStringRef {\n    unused: 4,\n    bytes: [\n        240,\n    ],\n}",
     )?;
     Ok(())
 }
 
 #[test]
-fn prints_parts_and_names(rt: HostRuntime) -> Result<(), Fail> {
+fn prints_parts(rt: HostRuntime) -> Result<(), Fail> {
     let alloc = rt.alloc();
+    let length = Length::new(128)?;
     assert_printed(
         &rt,
         alloc,
-        &Required(VersionOne),
-        "Required(VersionOne)\nRequired(\n    VersionOne,\n)",
+        &Required(length),
+        "Required(Length { bytes: 128 })|Required(Length { bytes:   128 })|Required(Length { bytes: 128 })|Required(Length { bytes: +128 })|Required(Length { bytes: 00128 })",
+        "Required(\n    Length {\n        bytes: 128,\n    },\n)",
     )?;
     assert_printed(
         &rt,
         alloc,
-        &Optional(Some(VersionOne)),
-        "Optional(Some(VersionOne))\nOptional(\n    Some(\n        VersionOne,\n    ),\n)",
+        &Optional(Some(length)),
+        "Optional(Some(Length { bytes: 128 }))|Optional(Some(Length { bytes:   128 }))|Optional(Some(Length { bytes: 128 }))|Optional(Some(Length { bytes: +128 }))|Optional(Some(Length { bytes: 00128 }))",
+        "Optional(\n    Some(\n        Length {\n            bytes: 128,\n        },\n    ),\n)",
     )?;
-    assert_printed(&rt, alloc, &SmallInteger::<7>, "SmallInteger\nSmallInteger")?;
-    assert_printed(&rt, alloc, &IoFault, "IoFault\nIoFault")?;
-    assert_printed(
-        &rt,
-        alloc,
-        &ErrorKind::TrailingData,
-        "TrailingData\nTrailingData",
-    )?;
+    Ok(())
+}
+
+/// Fails the test unless the value is printed as this name, by `{:#?}` too, whatever options are
+/// set.
+fn assert_name<T: Debug>(
+    rt: &impl Abort,
+    alloc: Global,
+    value: &T,
+    name: &str,
+) -> Result<(), AllocError> {
+    assert_text(rt, format!(in alloc; "{value:?}"), name)?;
+    assert_text(rt, format!(in alloc; "{value:#?}"), name)?;
+    assert_debugged(rt, alloc, value, name)
+}
+
+#[test]
+fn prints_names(rt: HostRuntime) -> Result<(), Fail> {
+    let alloc = rt.alloc();
+    assert_name(&rt, alloc, &SmallInteger::<7>, "SmallInteger")?;
+    assert_name(&rt, alloc, &VersionOne, "VersionOne")?;
+    assert_name(&rt, alloc, &IoFault, "IoFault")?;
+    assert_name(&rt, alloc, &ErrorKind::TrailingData, "TrailingData")?;
     Ok(())
 }
 
@@ -139,7 +168,8 @@ fn assert_debugged<T: Debug>(
     assert_text(rt, format!(in alloc; "{value:>20?}"), text)?;
     assert_text(rt, format!(in alloc; "{value:.3?}"), text)?;
     assert_text(rt, format!(in alloc; "{value:*^20?}"), text)?;
-    assert_text(rt, format!(in alloc; "{value:9?}"), text)?;
+    assert_text(rt, format!(in alloc; "{value:+?}"), text)?;
+    assert_text(rt, format!(in alloc; "{value:05?}"), text)?;
     assert_text(rt, format!(in alloc; "{value:>99?}"), text)
 }
 
@@ -148,19 +178,8 @@ fn prints_the_same_whatever_is_asked(rt: HostRuntime) -> Result<(), Fail> {
     let alloc = rt.alloc();
     let identifier = ObjectIdentifier::new("1.2.4294967295")?;
     assert_displayed(&rt, alloc, &identifier, "1.2.4294967295")?;
+    assert_debugged(&rt, alloc, &identifier, "ObjectIdentifier(1.2.4294967295)")?;
     assert_displayed(&rt, alloc, &Error::from(ErrorKind::Memory), "out of memory")?;
     assert_displayed(&rt, alloc, &ErrorKind::Io, "read or write failed")?;
-    Ok(())
-}
-
-#[test]
-fn prints_the_same_debug_texts_whatever_is_asked(rt: HostRuntime) -> Result<(), Fail> {
-    let alloc = rt.alloc();
-    let identifier = ObjectIdentifier::new("1.2.4294967295")?;
-    assert_debugged(&rt, alloc, &ErrorKind::Io, "Io")?;
-    assert_debugged(&rt, alloc, &VersionOne, "VersionOne")?;
-    assert_debugged(&rt, alloc, &SmallInteger::<3>, "SmallInteger")?;
-    assert_debugged(&rt, alloc, &IoFault, "IoFault")?;
-    assert_debugged(&rt, alloc, &identifier, "ObjectIdentifier(1.2.4294967295)")?;
     Ok(())
 }

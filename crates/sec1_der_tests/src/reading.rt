@@ -184,6 +184,36 @@ fn reads_context_fields(rt: HostRuntime) -> Result<(), Fail> {
     Ok(())
 }
 
+#[test]
+fn stays_where_it_refused(rt: HostRuntime) -> Result<(), Fail> {
+    let mut reader = SliceReader::new(b"\x05\x00\x04\x00");
+    let refused = kind_of(reader.decode::<OctetStringRef>());
+    assert_equal(&rt, &refused, &Some(ErrorKind::Tag));
+    assert_equal(&rt, &reader.is_failed(), &true);
+    assert_equal(&rt, &reader.peek_tag_byte(), &None);
+    let left = reader.remaining_len();
+    let ends = [
+        (
+            kind_of(reader.decode::<OctetStringRef>()),
+            reader.remaining_len(),
+        ),
+        (kind_of(field(&mut reader, 0)), reader.remaining_len()),
+        (
+            kind_of(reader.read_slice(Length::new(1)?)),
+            reader.remaining_len(),
+        ),
+        (
+            kind_of(reader.read_nested(Length::new(1)?)),
+            reader.remaining_len(),
+        ),
+        (kind_of(reader.finish()), reader.remaining_len()),
+    ];
+    for end in ends.iter() {
+        assert_equal(&rt, end, &(Some(ErrorKind::Failed), left));
+    }
+    Ok(())
+}
+
 static IDENTIFIERS: [(&str, &[u8]); 9] = [
     ("1.2.840.10045.2.1", b"\x2A\x86\x48\xCE\x3D\x02\x01"),
     ("1.2.840.10045.3.1.7", b"\x2A\x86\x48\xCE\x3D\x03\x01\x07"),

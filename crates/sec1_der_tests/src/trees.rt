@@ -64,19 +64,21 @@ fn refuses_other_bytes(rt: HostRuntime) {
     }
 }
 
-/// Fails the test unless 64 nested elements of this number of bytes are counted, and 65 are too
-/// deep.
+/// Fails the test unless 64 nested elements, of this number of bytes with these at the front, are
+/// counted, and 65 are too deep.
 fn assert_reads_64_levels(
     rt: &impl Abort,
     alloc: Global,
     innermost: &[u8],
     length: usize,
+    front: &[u8],
 ) -> Result<(), Fail> {
     let mut tree = innermost.to_vec(alloc)?;
     for _ in 0..63 {
         tree = node(alloc, 0x30, &tree)?;
     }
     assert_equal(rt, &tree.len(), &length);
+    assert_equal(rt, &tree.get(..4), &Some(front));
     assert_equal(rt, &counted(&tree), &Ok(64));
     let deeper = node(alloc, 0x30, &tree)?;
     assert_equal(rt, &counted(&deeper), &Err(ErrorKind::Depth));
@@ -85,8 +87,9 @@ fn assert_reads_64_levels(
 
 #[test]
 fn reads_64_levels(rt: HostRuntime) -> Result<(), Fail> {
-    assert_reads_64_levels(&rt, rt.alloc(), &[0x30, 0x00], 128)?;
-    assert_reads_64_levels(&rt, rt.alloc(), &[0x04, 0x01, 0xAA], 129)
+    let (alloc, wide) = (rt.alloc(), &[0x04, 0x01, 0xAA]);
+    assert_reads_64_levels(&rt, alloc, &[0x30, 0x00], 128, b"\x30\x7E\x30\x7C")?;
+    assert_reads_64_levels(&rt, alloc, wide, 129, b"\x30\x7F\x30\x7D")
 }
 
 /// Each list of up to three bytes.

@@ -1,6 +1,7 @@
 //! What the definitions of `sec1` say at keys and points of the standards, and what its constants
 //! are. Each is proved from the public contracts and definitions.
-ghost use Rattle.std.specs.Prelude.{◌≡◌, [], ◌∷◌, Some, false};
+ghost use Rattle.std.specs.Prelude.{◌≡◌, [], ◌∷◌, Some, None, false, length, IsOk};
+ghost use Rattle.sec1.specs.Der.{Refuses};
 ghost use Rattle.sec1.specs.KeyFaults.{key_fault};
 ghost use Rattle.sec1.specs.Keys.{IsKeyOf};
 ghost use Rattle.sec1.specs.Points.{compact, compressed, compressed_point, encoding, hybrid};
@@ -10,8 +11,8 @@ ghost use Rattle.sec1_tests.specs.Examples.{p_256_base, p_256_base_compressed};
 
 pub mod equality;
 
-use sec1::der::{ErrorKind, ObjectIdentifier};
-use sec1::{ALGORITHM_OID, laws};
+use sec1::der::{self, EncodeValue, ErrorKind, Length, ObjectIdentifier};
+use sec1::{ALGORITHM_OID, EcPrivateKey, laws};
 
 /// Returns the identifier of the keys' algorithm, id-ecPublicKey (RFC 5480 section 2.1.1).
 pub fn algorithm_identifier() -> ObjectIdentifier
@@ -26,6 +27,18 @@ pub fn example_key()
     ensures { IsKeyOf p_256_key p_256_bytes }
 {
     laws::tree_is_element();
+}
+
+/// Returns the length of the content of a key without optional fields. The longest private key that
+/// has an encoding has 268,435,446 bytes: they and the nine in front of them are as many as a
+/// content may have.
+pub fn longest_private_key(key: &EcPrivateKey) -> der::Result<Length>
+    requires { (key.now.parameters ≡ None) × (key.now.public_key ≡ None) }
+    ensures within { length key.now.private_key ≡ 268435446 → IsOk result }
+    ensures beyond { length key.now.private_key ≡ 268435447
+        → Refuses result ErrorKind.Overlength }
+{
+    key.value_len()
 }
 
 /// Bytes that are refused as a key, and by which kind (RFC 5915 section 3).

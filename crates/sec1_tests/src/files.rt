@@ -49,6 +49,11 @@ fn keeps_keys_in_files(rt: HostRuntime) -> Result<(), Fail> {
         bytes: whole_key(rt.alloc())?,
     };
     assert_equal(&rt, &is_kept(&rt, &path, &key)?, &true);
+    // the shortest element, over the longer file
+    let null = Copied {
+        bytes: Vec::from_slice(rt.alloc(), b"\x05\x00")?,
+    };
+    assert_equal(&rt, &is_kept(&rt, &path, &null)?, &true);
     fs::remove_file(&rt, &path)?;
     Ok(())
 }

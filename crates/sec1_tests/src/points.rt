@@ -282,6 +282,21 @@ fn prints_coordinates(rt: HostRuntime) -> Result<(), Fail> {
     )
 }
 
+#[test]
+fn prints_each_byte_of_a_coordinate(rt: HostRuntime) -> Result<(), Fail> {
+    let alloc = rt.alloc();
+    let mut x = [0; 32];
+    let mut lines = "Compact {\n    x: [\n".to_string(alloc)?;
+    for place in 0..32u8 {
+        x[usize::from(place)] = 100 + place;
+        lines.push_str(format!(in alloc; "        {},\n", 100 + place)?.as_str())?;
+    }
+    lines.push_str("    ],\n}")?;
+    let printed = format!(in alloc; "{:#?}", Compact { x: &x })?;
+    assert_equal(&rt, &printed.as_str(), &lines.as_str());
+    Ok(())
+}
+
 /// Fails the test unless the value is printed as this text, whatever is asked for.
 fn assert_displayed(
     rt: &impl Abort,
@@ -319,8 +334,10 @@ fn prints_the_same_whatever_is_asked(rt: HostRuntime) -> Result<(), Fail> {
     )?;
     let tag = Tag::HybridOddY;
     assert_debug_texts(&rt, alloc, &tag, "HybridOddY", "HybridOddY")?;
-    let padded = format!(in alloc; "{tag:>20?}")?;
-    assert_equal(&rt, &padded.as_str(), &"HybridOddY");
+    let texts = format!(in alloc; "{tag:>20?}|{tag:5?}|{tag:.1?}|{tag:+?}|{tag:05?}")?;
+    for text in texts.split('|') {
+        assert_equal(&rt, &text, &"HybridOddY");
+    }
     Ok(())
 }
 
@@ -399,6 +416,7 @@ fn has_identities_by_default(rt: HostRuntime) {
     assert_equal(&rt, &EncodedPoint66::default(), &EncodedPoint66::identity());
     assert_equal(&rt, &EncodedPoint32::default().tag(), &Tag::Identity);
     assert_equal(&rt, &EncodedPoint32::default().as_bytes(), &[0].as_slice());
+    assert_equal(&rt, &EncodedPoint32::default().len(), &1);
 }
 
 #[test]
@@ -407,6 +425,7 @@ fn has_tags(rt: HostRuntime) -> Result<(), Fail> {
     assert_equal(&rt, &Tag::Compact.message_len(66), &67);
     assert_equal(&rt, &Tag::Uncompressed.message_len(66), &133);
     assert_equal(&rt, &Tag::from_u8(6)?, &Tag::HybridEvenY);
+    assert_equal(&rt, &Tag::from_u8(7)?, &Tag::HybridOddY);
     assert_equal(&rt, &Tag::try_from(7)?, &Tag::HybridOddY);
     assert_equal(&rt, &u8::from(Tag::HybridOddY), &7);
     for byte in [1, 8, 0xFF] {
@@ -491,12 +510,16 @@ fn hashes_points(rt: HostRuntime) -> Result<(), Fail> {
 #[test]
 fn finds_points_in_sets(rt: HostRuntime) -> Result<(), Fail> {
     let compressed = point_1(&rt, &[4, 0xAF, 2]).compress();
+    let odd = point_1(&rt, &[4, 1, 0xFF]).compress();
     let mut points = HashSet::new(rt.alloc());
     assert_equal(&rt, &points.insert(Point1::from_str("02AF")?)?, &true);
     let read = point_1(&rt, &[2, 0xAF]);
     assert_equal(&rt, &points.contains(&read), &true);
     assert_equal(&rt, &points.insert(compressed)?, &false);
     assert_equal(&rt, &points.len(), &1);
+    assert_equal(&rt, &points.insert(odd)?, &true);
+    assert_equal(&rt, &points.insert(point_1(&rt, &[3, 1]))?, &false);
+    assert_equal(&rt, &points.len(), &2);
     Ok(())
 }
 
@@ -552,6 +575,7 @@ fn assigns_points(rt: HostRuntime) {
     let mut assigned = Point1::identity();
     assigned.ct_assign(&whole, true);
     assert_equal(&rt, &assigned.as_bytes(), &[4, 1, 2].as_slice());
+    assert_equal(&rt, &assigned.len(), &3);
 }
 
 /// Fails the test unless the point is read from the text.

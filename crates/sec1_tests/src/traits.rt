@@ -62,8 +62,11 @@ fn reads_keys(rt: HostRuntime) -> std::result::Result<(), Fail> {
     for &(bytes, is_element) in BYTES.iter() {
         let key = Copied::from_sec1_der(alloc, bytes)?;
         assert_equal(&rt, &key.bytes.as_slice(), &bytes);
-        let is_read = read_from(alloc, bytes).is_ok();
-        assert_equal_for(&rt, &bytes, &is_read, &is_element);
+        let read = match read_from(alloc, bytes) {
+            Ok(key) => key.bytes.as_slice() == bytes,
+            Err(_) => false,
+        };
+        assert_equal_for(&rt, &bytes, &read, &is_element);
     }
     let bytes = whole_key(alloc)?;
     assert_equal(&rt, &read_from(alloc, &bytes)?.bytes, &bytes);

@@ -68,6 +68,12 @@ fn writes_the_long_form(rt: HostRuntime) -> Result<(), Fail> {
         let mut room = [0xAA; 140];
         assert_equal_for(&rt, &count, &encode(&key, &mut room)?, &wanted.len());
         assert_equal_for(&rt, &count, &room.starts_with(&wanted), &true);
+        assert_equal_for(
+            &rt,
+            &count,
+            &read_key(&wanted)?.private_key,
+            &&zeros[..count],
+        );
     }
     Ok(())
 }

@@ -1,9 +1,10 @@
-//! A caller of a reader that has failed.
+//! What a reader does that refused something before.
 ghost use Rattle.std.specs.Prelude.{◌≡◌, true};
 
 use sec1_der::{AnyRef, Header, SliceReader, VersionOne};
 
-/// Returns the length of the remaining input before and after four calls, each of which fails.
+/// Returns the length of the remaining input before and after four calls, each of which returns
+/// Failed: it stays.
 pub fn stays_four(reader: &mut SliceReader) -> (usize, usize)
     requires { reader.old.failed ≡ true }
     ensures { result.0 ≡ result.1 }

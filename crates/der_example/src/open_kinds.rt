@@ -1,6 +1,5 @@
-//! A type whose rule leaves the kind of an error open, and a record of it: what is around and
-//! behind
-//! it is refused by the kind that it has.
+//! A type that leaves open by which kind its content is refused, and a record with such a part.
+//! What is around and after the content is refused by a known kind all the same.
 ghost use Rattle.std.specs.Prelude.{◌≡◌, ◌∷◌, [], ◌%◌, ◌==◌, length, refl, Some, None};
 ghost use Rattle.std.specs.Prelude.{if◌then◌else◌};
 ghost use Rattle.sec1_der.specs.ErrorKinds.{Refuses};

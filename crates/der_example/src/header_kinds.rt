@@ -1,4 +1,5 @@
-//! The kinds by which a header is refused, whatever the rule of a type leaves open.
+//! The kinds by which the header of an element is refused, for every type. A type may leave open by
+//! which kind its content is refused, but not this.
 ghost use Rattle.std.specs.Prelude.{◌≡◌, ◌≢◌, ◌∷◌, ◌++◌, ◌≤◌, [], ℕ, List, length, false};
 ghost use Rattle.sec1_der.specs.Elements.{element, max_length, IsProperPrefix};
 ghost use Rattle.sec1_der.specs.ErrorKinds.{Refuses};
@@ -8,14 +9,14 @@ use sec1_der::{
     DecodeValue, ErrorKind, OctetStringRef, Result, SliceReader, Tagged, from_der, laws,
 };
 
-/// Reads a value. Nothing is Truncated.
+/// Reads a value of any type from exactly these bytes. No bytes are Truncated.
 pub fn from_der_empty<'a, T: DecodeValue<'a> + Tagged + Drop>(input: &'a [u8]) -> Result<T>
     ensures { input.now ≡ [] → Refuses result ErrorKind.Truncated }
 {
     from_der(input)
 }
 
-/// Reads a value. Another tag is Tag.
+/// Reads a value of any type from exactly these bytes. Another tag is Tag, whatever follows.
 pub fn from_der_other_tag<'a, T: DecodeValue<'a> + Tagged + Drop>(input: &'a [u8]) -> Result<T>
     ensures { (byte : ℕ) (rest : List ℕ) → input.now ≡ byte ∷ rest → byte ≢ T.tag_byte
         → Refuses result ErrorKind.Tag }
@@ -23,7 +24,7 @@ pub fn from_der_other_tag<'a, T: DecodeValue<'a> + Tagged + Drop>(input: &'a [u8
     from_der(input)
 }
 
-/// Reads a value. An element that is cut is Truncated.
+/// Reads a value of any type from exactly these bytes. An element that is cut is Truncated.
 pub fn from_der_short<'a, T: DecodeValue<'a> + Tagged + Drop>(input: &'a [u8]) -> Result<T>
     ensures { (content : List ℕ) → length content ≤ max_length
         → IsProperPrefix input.now (element T.tag_byte content)
@@ -33,7 +34,7 @@ pub fn from_der_short<'a, T: DecodeValue<'a> + Tagged + Drop>(input: &'a [u8]) -
     from_der(input)
 }
 
-/// Reads a value. If no input remains, that is Truncated.
+/// Reads a value of any type from the remaining input. Where none remains, that is Truncated.
 pub fn decode_empty<'a, T: DecodeValue<'a> + Tagged + Drop>(
     reader: &mut SliceReader<'a>,
 ) -> Result<T>
@@ -42,7 +43,7 @@ pub fn decode_empty<'a, T: DecodeValue<'a> + Tagged + Drop>(
     reader.decode()
 }
 
-/// Reads a value. Another tag is Tag.
+/// Reads a value of any type from the remaining input. Another tag is Tag, whatever follows.
 pub fn decode_other_tag<'a, T: DecodeValue<'a> + Tagged + Drop>(
     reader: &mut SliceReader<'a>,
 ) -> Result<T>
@@ -52,7 +53,7 @@ pub fn decode_other_tag<'a, T: DecodeValue<'a> + Tagged + Drop>(
     reader.decode()
 }
 
-/// Reads a value. An element that is cut is Truncated.
+/// Reads a value of any type from the remaining input. An element that is cut is Truncated.
 pub fn decode_short<'a, T: DecodeValue<'a> + Tagged + Drop>(
     reader: &mut SliceReader<'a>,
 ) -> Result<T>
@@ -64,7 +65,7 @@ pub fn decode_short<'a, T: DecodeValue<'a> + Tagged + Drop>(
     reader.decode()
 }
 
-/// Reads an octet string. One with more behind it is TrailingData.
+/// Reads an octet string from exactly these bytes. Bytes after one are TrailingData.
 pub fn octets_long(input: &[u8]) -> Result<OctetStringRef<'_>>
     ensures { (content : List ℕ) → length content ≤ max_length
         → IsProperPrefix (element 0x04 content) input.now
