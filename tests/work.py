@@ -393,8 +393,8 @@ def command_of(crate, given):
 
 def prove(top, name, given):
     """Proves a crate as it stands, with so many processors, keeps that in its out/, and returns
-    whether it is proved."""
-    with room_of(top, name, outs(Crate(top, name))) as crate:
+    whether it is proved. It touches no program there, which others may build meanwhile."""
+    with room_of(top, name, ["incremental", "rlib"]) as crate:
         command, env = command_of(crate, given)
         ran = follow(crate, name, command, env=env)
         bring_back(crate, top)
