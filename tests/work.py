@@ -327,18 +327,19 @@ def run_all(tasks, number):
     return ended
 
 
-# What runs now, and how far each is, as a call that returns a text.
-steps = {}
+# What runs now: a name, and how far it is, as a call that returns a text.
+steps = []
 
 
 @contextlib.contextmanager
 def step(name, far):
     """Has the lines of progress name a step, and how far it is."""
-    steps[name] = far
+    now = (name, far)
+    steps.append(now)
     try:
         yield
     finally:
-        del steps[name]
+        steps.remove(now)
 
 
 @contextlib.contextmanager
@@ -349,7 +350,7 @@ def progress():
     def tell():
         while not end.wait(SECONDS):
             parts = []
-            for name, far in list(steps.items()):
+            for name, far in list(steps):
                 with contextlib.suppress(OSError):
                     parts.append(f"{name} {far()}".strip())
             say(f"-- {elapsed()}  {', '.join(parts) or 'between two steps'}")
