@@ -1,0 +1,420 @@
+"""What tests/prove and tests/edits share: the crates of crates.txt, rooms to prove them in, and
+tasks that run side by side and say how far they are.
+
+`rt` lets one command at a time work in a crate's folder and in those below it, so crates that stand
+on the same one can't be proved side by side in one checkout. A room is a copy of a crate and of the
+crates below it, whose libraries are linked in; what a proof leaves in its out/ goes back into the
+checkout. Rooms are made in TMPDIR, and are gone when the script ends, also by a signal.
+
+    RT      the command `rt`
+    JOBS    how many processors to use; without it all that there is memory for
+    BESIDE  set where something else needs half of the memory
+"""
+
+import contextlib
+import ctypes
+import fcntl
+import functools
+import hashlib
+import os
+import re
+import shutil
+import signal
+import subprocess
+import sys
+import tempfile
+import threading
+import time
+from concurrent.futures import FIRST_COMPLETED, ThreadPoolExecutor, wait
+from dataclasses import dataclass, field
+from pathlib import Path
+
+TOP = Path(__file__).resolve().parent.parent
+RT = os.environ.get("RT", "rt").split()
+# The memory that a check of these crates takes, in KiB.
+MEMORY = 2_000_000
+FUNCTION = r"^\s*(?:pub(?:\([^)]*\))? )?(?:const )?(?:extern \"C\" )?fn "
+# A line says how far the work is each time as many seconds have passed.
+SECONDS = 15
+
+START = time.monotonic()
+
+
+def jobs():
+    """Returns how many processors to use."""
+    found = len(os.sched_getaffinity(0))
+    with contextlib.suppress(OSError, TypeError):
+        free = int(re.search(r"MemAvailable:\s+(\d+)", Path("/proc/meminfo").read_text())[1])
+        each = 2 * MEMORY if os.environ.get("BESIDE") else MEMORY
+        found = max(1, min(found, free // each))
+    return int(os.environ.get("JOBS") or found)
+
+
+def say(text):
+    """Prints a line at once."""
+    print(text, flush=True)
+
+
+def elapsed():
+    """Returns the time since the start, as it is printed."""
+    minutes, seconds = divmod(int(time.monotonic() - START), 60)
+    return f"{minutes}:{seconds:02}"
+
+
+# ---- the crates
+
+
+@dataclass(frozen=True)
+class Crate:
+    """A crate, in the folder `crates` of a checkout or a room."""
+
+    top: Path
+    name: str
+
+    @property
+    def folder(self):
+        return self.top / "crates" / self.name
+
+    @property
+    def out(self):
+        return self.folder / "out"
+
+    @property
+    def is_program(self):
+        return (self.folder / "src/main.rt").exists()
+
+    @property
+    def has_tests(self):
+        return any("#[test]" in text for text in self.sources())
+
+    def sources(self):
+        """Returns the texts of its code."""
+        return [it.read_text() for it in sorted((self.folder / "src").rglob("*.rt"))]
+
+    def functions(self):
+        """Returns about how many functions its check proves, with those that derives write."""
+        text = "\n".join(self.sources())
+        derived = " ".join(re.findall(r"#\[derive\(([^)]*)\)\]", text))
+        written = re.findall(FUNCTION, text, re.M)
+        return len(written) + len(re.findall(r"\b(?:Debug|PartialEq)\b", derived))
+
+    def kept_functions(self):
+        """Returns of how many functions out/incremental holds a proof."""
+        names = (it.name for it in (self.out / "incremental").glob("*/*.Proof.oantt"))
+        return sum(not re.search(r"\.fn\.|\+|\.TheImpl\.", it) for it in names)
+
+
+def uses_of(top):
+    """Returns the names of the repository's crates, each with those that it uses itself."""
+    lines = [it.partition(":") for it in (top / "crates.txt").read_text().splitlines() if ":" in it]
+    names = [name.split()[0] for name, _, _ in lines]
+    return {
+        name: [it for it in used.split() if it in names] for name, (_, _, used) in zip(names, lines)
+    }
+
+
+def below_of(top, name):
+    """Returns the names of all crates that a crate stands on, the lowest first."""
+    found, uses = [], uses_of(top)
+    for used in uses[name]:
+        found += [it for it in [*below_of(top, used), used] if it not in found]
+    return found
+
+
+def with_those_below(top, names):
+    """Returns the names of these crates and of those that they stand on, the lowest first."""
+    every = [it for name in names for it in [*below_of(top, name), name]]
+    return list(dict.fromkeys(every))
+
+
+@functools.lru_cache(maxsize=None)
+def kit():
+    """Returns what tells one kit from another."""
+    return subprocess.run([*RT, "version"], capture_output=True, text=True, check=False).stdout
+
+
+def sum_of(top, name, *more):
+    """Returns a sum of all that decides whether a crate is proved, and of some more texts: its
+    files and those of the crates below it but the edits, their lines of crates.txt, HANDLES, and
+    the kit."""
+    names = [*below_of(top, name), name]
+    found = hashlib.sha256(repr([kit(), *more]).encode())
+    lines = (top / "crates.txt").read_text().splitlines()
+    found.update(repr([it for it in lines if it.split(":")[0].split(" ")[0] in names]).encode())
+    found.update((top / "HANDLES").read_bytes())
+    for it in names:
+        for file in files_of(top / "crates" / it):
+            found.update(repr((str(file.relative_to(top)), file.read_bytes())).encode())
+    return found.hexdigest()
+
+
+def files_of(folder):
+    """Returns the files of a crate that its proof, its tests or its program read."""
+    parts = ("src", "specs", "proofs", "data")
+    found = [it for part in parts for it in sorted((folder / part).rglob("*")) if it.is_file()]
+    single = ("stdin", "stdout", "args", "status", "build.sh", "header.c", "sec1.h")
+    return found + [folder / it for it in single if (folder / it).is_file()]
+
+
+def own_texts(name):
+    """Returns the texts of a script of tests/ and of this file."""
+    return [(TOP / "tests" / it).read_text() for it in (name, "work.py")]
+
+
+# ---- rooms
+
+
+def link_or_copy(file, to):
+    """Gives a checked module a second name on the same file system, and copies any other file: a
+    check replaces a module, and never writes into it."""
+    with contextlib.suppress(OSError):
+        if str(file).endswith(".oantt"):
+            return os.link(file, to)
+    return shutil.copy2(file, to)
+
+
+@contextlib.contextmanager
+def locked(folder):
+    """Keeps every `rt` out of a crate's folder."""
+    held = os.open(folder, os.O_RDONLY)
+    try:
+        with contextlib.suppress(OSError):
+            fcntl.flock(held, fcntl.LOCK_EX)
+        yield
+    finally:
+        os.close(held)
+
+
+def copy_crate(crate, to, kept):
+    """Copies a crate without its edits, and what stands in its out/ under these names."""
+    shutil.copytree(crate.folder, to, ignore=shutil.ignore_patterns("out", "must-fail"))
+    with locked(crate.folder):
+        for name in kept:
+            file = crate.out / name
+            if file.is_dir():
+                shutil.copytree(file, to / "out" / name, copy_function=link_or_copy)
+            elif file.exists():
+                (to / "out").mkdir(exist_ok=True)
+                shutil.copy2(file, to / "out" / name)
+
+
+@contextlib.contextmanager
+def room_of(top, name, kept):
+    """Gives the crate in a room of its own, over the libraries below it as they are built."""
+    below = below_of(top, name)
+    with tempfile.TemporaryDirectory(prefix=f"{name}-") as made:
+        room = Path(made)
+        lines = (top / "crates.txt").read_text().splitlines(keepends=True)
+        uses = [it for it in lines if re.match(r"\w+", it)[0] in [*below, name]]
+        (room / "crates.txt").write_text("".join(uses))
+        shutil.copy2(top / "HANDLES", room)
+        for used in below:
+            copy_crate(Crate(top, used), room / "crates" / used, ["rlib"])
+        copy_crate(Crate(top, name), room / "crates" / name, kept)
+        yield Crate(room, name)
+
+
+def bring_back(crate, top):
+    """Puts what a room's crate has in its out/ in the place of what the checkout's has."""
+    to = Crate(top, crate.name)
+    to.out.mkdir(exist_ok=True)
+    with locked(to.folder):
+        for made in crate.out.iterdir() if crate.out.is_dir() else ():
+            old = to.out / made.name
+            if old.is_dir():
+                shutil.rmtree(old)
+            shutil.move(made, old)
+
+
+def outs(crate):
+    """Returns the names in a crate's out/."""
+    return [it.name for it in crate.out.iterdir()] if crate.out.is_dir() else []
+
+
+# ---- commands
+
+running, stopped = set(), threading.Event()
+
+
+def run_in(folder, command, given=None, env=None, see=None):
+    """Runs a command in a folder, and returns how it ended and what it printed. `see` gets each
+    line of its output as it comes."""
+    how = {"stdin": subprocess.DEVNULL if given is None else subprocess.PIPE}
+    how.update(stdout=subprocess.PIPE, cwd=folder, env=env)
+    with tempfile.TemporaryFile() as errors:
+        with subprocess.Popen(command, stderr=errors, **how) as process:
+            running.add(process)
+            if stopped.is_set():
+                process.terminate()
+            lines = []
+            for line in process.stdout if see else ():
+                lines.append(line)
+                see(line.decode(errors="replace"))
+            output = b"".join(lines) if see else process.communicate(given)[0]
+        running.discard(process)
+        errors.seek(0)
+        return subprocess.CompletedProcess(command, process.returncode, output, errors.read())
+
+
+def end_on_signals():
+    """Has a signal, or the end of the script that began this one, end all commands and rooms."""
+
+    def stop(number, _):
+        stopped.set()
+        for it in list(running):
+            it.terminate()
+        raise SystemExit(128 + number)
+
+    for number in (signal.SIGTERM, signal.SIGINT, signal.SIGHUP):
+        signal.signal(number, stop)
+    with contextlib.suppress(OSError, AttributeError):
+        # PR_SET_PDEATHSIG
+        ctypes.CDLL(None).prctl(1, signal.SIGTERM)
+
+
+# ---- tasks
+
+
+@dataclass
+class Task:
+    """What can run once others have ended. Its call gets what these returned, by key, and a number
+    of processors; weight is about how long it takes."""
+
+    call: object
+    waits: list = field(default_factory=list)
+    weight: float = 1
+
+
+def chains_of(tasks):
+    """Returns how long each task and the longest chain of those that wait for it take."""
+    after = {key: [it for it, task in tasks.items() if key in task.waits] for key in tasks}
+    found = {}
+
+    def length(key):
+        if key not in found:
+            found[key] = tasks[key].weight + max(map(length, after[key]), default=0)
+        return found[key]
+
+    return {key: length(key) for key in tasks}
+
+
+def share(free, others, is_longest):
+    """Returns how many of the free processors a task gets beside others that could run."""
+    if free > others + 1:
+        return free - others
+    return 2 if is_longest and free > 1 else 1
+
+
+def run_all(tasks, number):
+    """Runs tasks over a number of processors, those of the longest chain first, and returns what
+    each returned, by key."""
+    chains, left, ended, now = chains_of(tasks), dict(tasks), {}, {}
+    with ThreadPoolExecutor(number) as pool:
+        while left or now:
+            ready = [key for key, it in left.items() if all(use in ended for use in it.waits)]
+            ready.sort(key=lambda key: -chains[key])
+            for place, key in enumerate(ready):
+                free = number - sum(given for _, given in now.values())
+                if free < 1 or stopped.is_set():
+                    break
+                work = sum(it.weight for it in left.values()) / number
+                given = share(free, len(ready) - place - 1, chains[key] > work)
+                now[pool.submit(left.pop(key).call, ended, given)] = key, given
+            if stopped.is_set() and not now:
+                break
+            for it in wait(now, return_when=FIRST_COMPLETED).done:
+                ended[now.pop(it)[0]] = it.result()
+    return ended
+
+
+# What runs now: a name, and how far it is, as a call that returns a text.
+steps = []
+
+
+@contextlib.contextmanager
+def step(name, far):
+    """Has the lines of progress name a step, and how far it is."""
+    now = (name, far)
+    steps.append(now)
+    try:
+        yield
+    finally:
+        steps.remove(now)
+
+
+@contextlib.contextmanager
+def progress():
+    """Prints a line on what runs each time some seconds have passed."""
+    end = threading.Event()
+
+    def tell():
+        while not end.wait(SECONDS):
+            parts = []
+            for name, far in list(steps):
+                with contextlib.suppress(OSError):
+                    parts.append(f"{name} {far()}".strip())
+            say(f"-- {elapsed()}  {', '.join(parts) or 'between two steps'}")
+
+    thread = threading.Thread(target=tell, daemon=True)
+    thread.start()
+    try:
+        yield
+    finally:
+        end.set()
+        thread.join()
+
+
+def count(passed, failed):
+    """Prints the last line, and returns the script's status."""
+    say(f"{passed} passed, {failed} failed")
+    return int(failed != 0)
+
+
+# ---- proofs
+
+
+def weight_of(crate):
+    """Returns about how long the proof of a crate takes: as its functions are many."""
+    return crate.functions() + 20
+
+
+def last_lines(ran, number=15):
+    """Returns the last lines of what a command printed."""
+    text = (ran.stdout + ran.stderr).decode(errors="replace")
+    return "\n".join(f"   {it[:300]}" for it in text.splitlines()[-number:])
+
+
+def command_of(crate, given):
+    """Returns the command that proves a crate, and its environment. A program is only checked."""
+    if (crate.folder / "build.sh").exists():
+        return ["./build.sh"], {**os.environ, "JOBS": str(given)}
+    verb = "check" if crate.is_program else "lib"
+    return [*RT, verb, "--jobs", str(given)], None
+
+
+def prove(top, name, given):
+    """Proves a crate as it stands, with so many processors, keeps that in its out/, and returns
+    whether it is proved. It touches no program there, which others may build meanwhile."""
+    with room_of(top, name, ["incremental", "rlib"]) as crate:
+        command, env = command_of(crate, given)
+        ran = follow(crate, name, command, env=env)
+        bring_back(crate, top)
+    return ended_well(name, ran)
+
+
+def follow(crate, name, command, given=None, env=None):
+    """Runs a command that proves functions of a crate, which the lines of progress then count."""
+    every = crate.functions()
+    with step(name, lambda: f"{crate.kept_functions()} of about {every} functions"):
+        return run_in(crate.folder, command, given, env)
+
+
+def ended_well(name, ran, what="not proved as it stands"):
+    """Returns whether a command ended well, and says what it printed where it didn't."""
+    if ran.returncode and not stopped.is_set():
+        say(f"FAILED: {name}: {what} (status {ran.returncode}):\n{last_lines(ran)}")
+    return ran.returncode == 0
+
+
+if __name__ == "__main__":
+    sys.exit("tests/prove and tests/edits read this file")
