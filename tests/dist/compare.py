@@ -1,6 +1,6 @@
 """Compares the assembly in dist with the object that `rt lib` built.
 
-  compare.py SOURCE ARCHIVE COMMAND..   COMMAND assembles SOURCE, as `cc` or `clang --target=..` does
+  compare.py SOURCE ARCHIVE COMMAND..   COMMAND assembles SOURCE, such as `clang --target=..`
 
 The lines that dist/make adds for x86-64 are left out before: how to unwind the stack, and what
 branch tracking needs. What is left has to have the same sections in the same order: their flags and
@@ -16,7 +16,10 @@ import subprocess
 import sys
 import tempfile
 
-X86_64, PROGBITS, NOBITS, SYMBOLS, RELOCATIONS, ALLOCATED, EXECUTED, GLOBAL = 62, 1, 8, 2, 4, 2, 4, 1
+# The numbers of ELF for the processor, for kinds and flags of sections, and for symbols.
+X86_64, GLOBAL = 62, 1
+PROGBITS, SYMBOLS, RELOCATIONS, NOBITS = 1, 2, 4, 8
+ALLOCATED, EXECUTED = 2, 4
 # A call of a function by PC32 or by PLT32 is the same: a linker treats them alike.
 SAME_KIND = {(X86_64, 4): 2}
 
