@@ -131,10 +131,10 @@ def main():
         found = list(differences(ours, theirs))
         for line in found[:5]:
             print(line)
-        count = sum(map(len, ours.instructions().values())) if ours.machine == X86_64 else 0
-        size = sum(len(ours.bytes[i]) for i in ours.kept)
-        listed = f"{len(ours.kept)} sections of {size} bytes, {count} instructions"
-        print(f"{listed}: {len(found)} differ")
+        counts = f"{len(ours.kept)} sections of {sum(len(ours.bytes[i]) for i in ours.kept)} bytes"
+        if ours.machine == X86_64:
+            counts += f", {sum(map(len, ours.instructions().values()))} instructions"
+        print(f"{counts}: {len(found)} differ")
     return len(found) != 0
 
 
