@@ -11,10 +11,23 @@ work=$(mktemp -d)
 trap 'rm -rf "$work"' EXIT
 . tests/counts.sh
 
+# The calls of the library that secrets.c doesn't make, without those that get no private key.
+not_made() {
+    local call
+    for call in $(sed -n 's/^ *\(sec1_[a-z0-9_]*\);$/\1/p' packaging/libsec1.map); do
+        case ${call#sec1_} in
+        point_* | identifier_* | curve_* | public_key_* | certificate_* | signature_*) ;;
+        status_text | version) ;;
+        *) grep -q "\b$call(" tests/secrets.c || echo "$call" ;;
+        esac
+    done
+}
 finds_nothing() { valgrind -q --error-exitcode=9 --leak-check=no "$1"; }
 built() { # COMPILER LEVEL ARCHIVE
     "$1" -std=c99 -Wall -Wextra "$2" -gdwarf-4 -I. -o "$work/secrets" tests/secrets.c "$3"
 }
+check "secrets.c makes each call on private keys: $(not_made | paste -s -d ' ')" \
+    test -z "$(not_made)"
 if ! command -v valgrind >"$work/said" ||
     ! echo '#include <valgrind/memcheck.h>' | ${CC:-cc} -E -o "$work/said" - 2>"$work/null"; then
     skip "valgrind is missing (Debian: apt-get install valgrind)"
