@@ -99,7 +99,7 @@ installed() {
     describe() { # FOLDER VERSION
         mkdir -p "$1"
         cp "$top/crates/sec1_c/out/libsec1_c.a" "$1/libsec1.a"
-        sed -e "s|@VERSION@|$2|" -e "s|@LIBDIR@|$1|" "$top/crates/sec1_c/packaging/sec1.pc.in" \
+        sed -e "s|@VERSION@|$2|" -e "s|@LIBDIR@|$1|" "$top/dist/packaging/sec1.pc.in" \
             >"$1/sec1.pc"
     }
     describe "$work/installed" "$version"
