@@ -24,12 +24,10 @@ where
 {
     match point.coordinates() {
         Coordinates::Identity => (0, Tag::Identity),
-        Coordinates::Compact { x } => (x.as_ref().len(), Tag::Compact),
-        Coordinates::Compressed { x, y_is_odd: true } => (x.as_ref().len(), Tag::CompressedOddY),
-        Coordinates::Compressed { x, y_is_odd: false } => (x.as_ref().len(), Tag::CompressedEvenY),
-        Coordinates::Uncompressed { x, y } => {
-            (x.as_ref().len() + y.as_ref().len(), Tag::Uncompressed)
-        }
+        Coordinates::Compact { x } => (x.len(), Tag::Compact),
+        Coordinates::Compressed { x, y_is_odd: true } => (x.len(), Tag::CompressedOddY),
+        Coordinates::Compressed { x, y_is_odd: false } => (x.len(), Tag::CompressedEvenY),
+        Coordinates::Uncompressed { x, y } => (x.len() + y.len(), Tag::Uncompressed),
     }
 }
 
