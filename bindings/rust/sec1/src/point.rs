@@ -424,7 +424,7 @@ impl<Size: ModulusSize> Coordinates<'_, Size> {
     /// use sec1::{consts::U1, point::{Coordinates, Tag}};
     ///
     /// let x = [8].into();
-    /// let coordinates = Coordinates::<U1>::Compressed { x: &x, y_is_odd: true };
+    /// let coordinates: Coordinates<'_, U1> = Coordinates::Compressed { x: &x, y_is_odd: true };
     /// assert_eq!(coordinates.tag(), Tag::CompressedOddY);
     /// ```
     #[inline]
