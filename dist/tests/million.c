@@ -412,8 +412,36 @@ static void check_identifier(const uint8_t *bytes, size_t len)
     expect(FROM_TEXT, status, writes(status, found, out, out_len, refused, content, wanted_len));
 }
 
-/* ---- inputs */
+/* Makes every call over the input `now`, and over another point. */
+static void check_calls(size_t n, const uint8_t *other, size_t other_len)
+{
+    uint8_t *bytes = memcpy(room(input_arena, now.len), now.data, now.len);
+    uint8_t *others = memcpy(room(other_arena, other_len), other, other_len);
+    const uint8_t *given = now.len == 0 && draw(2) ? NULL : bytes;
+    check_key(bytes, now.len);
+    check_records(given, now.len);
+    check_elements(given, now.len);
+    check_element_write(given, now.len);
+    check_point(given, now.len, n, others, other_len);
+    check_identifier(given, now.len);
+    check_made(given, now.len);
+    check_hex(given, now.len, n);
+    expect(INPUT, 0,
+           memcmp(bytes, now.data, now.len) == 0 && memcmp(others, other, other_len) == 0);
+}
 
+static void map_arenas(void)
+{
+    input_arena = map_arena();
+    other_arena = map_arena();
+    out_arena = map_arena();
+    struct_arena = map_arena();
+    text_arena = map_arena();
+}
+
+/* ---- inputs. fuzz.c has its own. */
+
+#ifndef FUZZED
 static size_t draw_input(uint8_t *out, size_t n)
 {
     switch (draw(11)) {
@@ -435,11 +463,7 @@ int main(void)
     static const size_t fields[] = {28, 32, 48, 66};
     static uint8_t other[MOST];
     unsigned passed = 0, failed = 0;
-    input_arena = map_arena();
-    other_arena = map_arena();
-    out_arena = map_arena();
-    struct_arena = map_arena();
-    text_arena = map_arena();
+    map_arenas();
     for (long i = 0; i < INPUTS; i++) {
         at_end = i % 2;
         size_t n = draw(2) ? fields[draw(4)] : draw(70);
@@ -449,19 +473,7 @@ int main(void)
             memcpy(other, now.data, now.len);
         if (other_len == now.len && now.len && draw(2))
             other[now.len - 1] += 2;
-        uint8_t *bytes = memcpy(room(input_arena, now.len), now.data, now.len);
-        uint8_t *others = memcpy(room(other_arena, other_len), other, other_len);
-        const uint8_t *given = now.len == 0 && draw(2) ? NULL : bytes;
-        check_key(bytes, now.len);
-        check_records(given, now.len);
-        check_elements(given, now.len);
-        check_element_write(given, now.len);
-        check_point(given, now.len, n, others, other_len);
-        check_identifier(given, now.len);
-        check_made(given, now.len);
-        check_hex(given, now.len, n);
-        expect(INPUT, 0,
-               memcmp(bytes, now.data, now.len) == 0 && memcmp(others, other, other_len) == 0);
+        check_calls(n, other, other_len);
     }
     for (int call = 0; call < CALLS; call++) {
         unsigned met = 0;
@@ -479,3 +491,4 @@ int main(void)
     printf("%u passed, %u failed\n", passed, failed);
     return failed != 0;
 }
+#endif
