@@ -240,8 +240,15 @@ impl<Size: ModulusSize> EncodedPoint<Size> {
     /// ```
     #[inline]
     pub fn compress(&self) -> Self {
-        // Not reached: the compressed form has a tag of this type.
-        Self::of(self.encoding.compress()).unwrap_or(*self)
+        Self::of_compressed(&self.encoding).unwrap_or(*self)
+    }
+
+    /// Returns the compressed form of a point with both coordinates.
+    #[inline]
+    fn of_compressed(encoding: &Encoding<Size>) -> Option<Self> {
+        let (encoding, y_is_odd) = encoding.compressed()?;
+        let tag = if y_is_odd { Tag::CompressedOddY } else { Tag::CompressedEvenY };
+        Some(Self { encoding, tag })
     }
 
     /// Returns the hybrid form of an uncompressed point, and `None` for any other.
@@ -292,13 +299,11 @@ impl<Size: ModulusSize> EncodedPoint<Size> {
     /// ```
     #[inline]
     pub fn coordinates(&self) -> Coordinates<'_, Size> {
-        match (self.tag, self.encoding.x(), self.encoding.y()) {
-            (Tag::Compact, Some(x), _) => Coordinates::Compact { x },
-            (Tag::CompressedEvenY, Some(x), _) => Coordinates::Compressed { x, y_is_odd: false },
-            (Tag::CompressedOddY, Some(x), _) => Coordinates::Compressed { x, y_is_odd: true },
-            (Tag::Uncompressed, Some(x), Some(y)) => Coordinates::Uncompressed { x, y },
-            // The identity. Any other tag has the coordinates above.
-            _ => Coordinates::Identity,
+        let Some(x) = self.encoding.x() else { return Coordinates::Identity };
+        match (self.tag, self.encoding.y()) {
+            (_, Some(y)) => Coordinates::Uncompressed { x, y },
+            (Tag::Compact, None) => Coordinates::Compact { x },
+            (tag, None) => Coordinates::Compressed { x, y_is_odd: tag == Tag::CompressedOddY },
         }
     }
 

@@ -61,22 +61,20 @@ impl<Size: ModulusSize> Encoding<Size> {
         Self::written(|out| raw::point_from_hex(text, Size::USIZE, out))
     }
 
-    /// Returns the compressed form of a point with both coordinates, and any other as it is: the
-    /// tag says whether y is odd (SEC1 v2.0 section 2.3.3).
+    /// Returns the compressed form of a point with both coordinates, and whether y is odd, which
+    /// its tag says (SEC1 v2.0 section 2.3.3). Returns `None` for any other point.
     #[inline]
-    pub(super) fn compress(&self) -> Self {
-        let (Some(x), Some(y_end)) = (self.x(), self.y().and_then(|y| y.last())) else {
-            return *self;
+    pub(super) fn compressed(&self) -> Option<(Self, bool)> {
+        let y_is_odd = self.y()?.last()? % 2 == 1;
+        let mut bytes = self.bytes;
+        let (tag, rest) = bytes.split_first_mut()?;
+        *tag = match y_is_odd {
+            false => sec1_sys::SEC1_POINT_COMPRESSED_EVEN,
+            true => sec1_sys::SEC1_POINT_COMPRESSED_ODD,
         };
-        let mut bytes = Room::<Size>::default();
-        if let Some((tag, rest)) = bytes.split_first_mut() {
-            *tag = match y_end % 2 {
-                0 => sec1_sys::SEC1_POINT_COMPRESSED_EVEN,
-                _ => sec1_sys::SEC1_POINT_COMPRESSED_ODD,
-            };
-            rest.iter_mut().zip(x).for_each(|(byte, x)| *byte = *x);
-        }
-        Self::of_len(bytes, Size::CompressedPointSize::USIZE).unwrap_or(*self)
+        rest.get_mut(Size::USIZE..)?.fill(0);
+        let len = u8::try_from(Size::CompressedPointSize::USIZE).ok()?;
+        Some((Self { bytes, len }, y_is_odd))
     }
 
     /// Returns the hybrid form of an uncompressed point, and any other point as it is.

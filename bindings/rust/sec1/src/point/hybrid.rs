@@ -162,8 +162,8 @@ impl<Size: ModulusSize> HybridPoint<Size> {
     /// ```
     #[inline]
     pub fn compress(&self) -> EncodedPoint<Size> {
-        // Not reached: the compressed form has a tag of that type.
-        EncodedPoint::of(self.encoding.compress()).unwrap_or_default()
+        // Not reached: each hybrid point has both coordinates.
+        EncodedPoint::of_compressed(&self.encoding).unwrap_or_default()
     }
 
     /// Returns the uncompressed form.
