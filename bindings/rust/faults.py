@@ -98,7 +98,6 @@ FAULTS = [
     ("consts/array.rs", "self.as_slice().partial_cmp(other.as_slice())", "other.as_slice().partial_cmp(self.as_slice())"),
     ("consts/array.rs", "self.as_slice().hash(state)", "self.len().hash(state)"),
     ("consts/array.rs", 'debug_tuple("Array")', 'debug_tuple("Bytes")'),
-    ("consts/array.rs", "Self::from_fn(|_| T::default())", "Self::from_fn({ let mut it = None; move |_| *it.get_or_insert(T::default()) })"),
     ("point/encoding.rs", "bytes: Room::<Size>::default(), len: 1", "bytes: Room::<Size>::default(), len: 2"),
     ("point/encoding.rs", "let y_is_odd = self.y()?.last()? % 2 == 1;", "let y_is_odd = self.y()?.first()? % 2 == 1;"),
     ("point/encoding.rs", "false => sec1_sys::SEC1_POINT_COMPRESSED_EVEN,", "false => sec1_sys::SEC1_POINT_COMPRESSED_ODD,"),

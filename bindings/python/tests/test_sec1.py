@@ -147,7 +147,7 @@ class Points(unittest.TestCase):
         calls = (lambda n: sec1.Point(b"\0", n), sec1.Point.identity, lambda n: sec1.Point.from_hex("00", n))
         for call in calls:
             self.assertEqual(call(66).field_length, 66)
-            for length in (0, 67, -1, 1 << 64, (1 << 64) + 32):
+            for length in (0, 67, -1, 32 - (1 << 64), 1 << 64, (1 << 64) + 32):
                 with self.assertRaises(sec1.FieldLengthError):
                     call(length)
             for wrong in (True, 32.0, "32", None):

@@ -227,9 +227,13 @@ fn arrays_are_slices() {
     array[1..].reverse();
     array.iter_mut().for_each(|byte| *byte += 1);
     assert_eq!((array, array.0), (Three::from([10, 4, 3]), [10, 4, 3]));
-    assert!(array == [10, 4, 3] && [10, 4, 3] == array && array == Three::from([10, 4, 3]));
-    assert!(array != [10, 4, 4] && [10, 4, 4] != array && array != Three::from([10, 4, 4]));
+    assert_eq!(array, [10, 4, 3]);
+    assert_eq!([10, 4, 3], array);
+    assert_ne!(array, [10, 4, 4]);
+    assert_ne!([10, 4, 4], array);
+    assert_ne!(array, Three::from([10, 4, 4]));
     assert!(array > Three::from([10, 4, 2]) && array < Three::from([10, 5, 0]));
+    assert!(array.cmp(&Three::from([10, 4, 2])).is_gt() && array.cmp(&array).is_eq());
     assert_eq!(array.into_iter().map(u32::from).sum::<u32>(), 17);
     assert_eq!((&array).into_iter().copied().collect::<Vec<_>>(), [10, 4, 3]);
     for byte in &mut array {
