@@ -1,12 +1,19 @@
 #!/usr/bin/env bash
-# Proves the library, and builds out/libsec1_c.a, the proved object. With a folder it also builds the rest and
-# installs it there: build.sh [FOLDER], which is `make install PREFIX=FOLDER`.
-# RT names the command `rt`, JOBS the number of its jobs.
+# Proves the library, and builds the proved object for both processors: out/libsec1_c.a for x86-64,
+# and out/libsec1_c-aarch64.a. With a folder it also builds the rest, which is in dist, for x86-64,
+# and installs it there: build.sh [FOLDER].
+# RT names the command `rt`, JOBS the number of its jobs. With SEC1_C_BUILT=1 the objects that stand
+# in out/ are taken as they are.
 set -euo pipefail
 folder=${1:+$(realpath -m "$1")}
 cd "$(dirname "$0")"
-# x86-64 is the processor that every x86-64 has: without the option the code asks for SSE4.1.
-${RT:-rt} lib --cpu=x86-64 ${JOBS:+--jobs "$JOBS"}
+if [[ ! ${SEC1_C_BUILT:-} ]]; then
+    ${RT:-rt} lib --target=aarch64-unknown-linux-gnu ${JOBS:+--jobs "$JOBS"}
+    mv out/libsec1_c.a out/libsec1_c-aarch64.a
+    # x86-64 is the processor that every x86-64 has: without the option the code asks for SSE4.1.
+    ${RT:-rt} lib --cpu=x86-64 ${JOBS:+--jobs "$JOBS"}
+fi
 if [[ $folder ]]; then
-    make install SEC1_C_BUILT=1 PREFIX="$folder"
+    make -C ../../dist install BUILD="$PWD/out/build" PROVED="$PWD/out/libsec1_c.a" \
+        PREFIX="$folder"
 fi

@@ -1,10 +1,12 @@
 #!/usr/bin/env bash
-# Builds the library, and tests it from C, C++, Rust and Python. The last line is
-# `N passed, M failed`; the status is 1 where anything failed, also where a tool that a test needs
-# is missing.
+# Builds the library out of what `rt lib` makes, and tests it from C, C++, Rust and Python. The
+# header, the tests and the examples are those of dist, whose assembly tests/dist/run compares with
+# what is tested here. The last line is `N passed, M failed`; the status is 1 where anything failed,
+# also where a tool that a test needs is missing.
 # RT names the command `rt`; with SEC1_C_BUILT=1 the library that stands in out/ is taken as it is.
 set -uo pipefail
 cd "$(dirname "$0")"
+dist=$(realpath ../../dist)
 passed=0 failed=0
 work=$(mktemp -d)
 trap 'rm -rf "$work"' EXIT
@@ -41,12 +43,7 @@ finish() {
 
 # ---- the library, and what it wants
 
-build() {
-    if [[ ${SEC1_C_BUILT:-} ]]; then RT=true ./build.sh "$installed"; else
-        ./build.sh "$installed"
-    fi
-}
-if build > "$work/build" 2>&1; then
+if ./build.sh "$installed" > "$work/build" 2>&1; then
     pass "build.sh installs the library"
 else
     tail -n 20 "$work/build"
@@ -54,14 +51,7 @@ else
     finish
 fi
 archive=$installed/lib/libsec1.a
-exported="sec1_certificate_public_key sec1_check_tree sec1_curve_field_len \
-sec1_curve_from_name sec1_curve_name sec1_document_len sec1_element_read \
-sec1_element_write sec1_identifier_check \
-sec1_identifier_from_text sec1_identifier_to_text sec1_key_fault_at sec1_key_len \
-sec1_key_len_of sec1_key_read sec1_key_write sec1_key_write_of sec1_point_check \
-sec1_point_compare sec1_point_compress sec1_point_from_coordinates sec1_point_from_hex \
-sec1_point_identity sec1_point_len sec1_point_read sec1_point_to_hex sec1_point_to_hybrid \
-sec1_private_key_info_read sec1_public_key_read sec1_status_text sec1_tree_fault_at sec1_version"
+exported=$(sed -n 's/^ *\(sec1_[a-z0-9_]*\);$/\1/p' "$dist/packaging/libsec1.map")
 same() { [[ $1 == "$2" ]] || { echo "  '$1' isn't '$2'"; false; }; }
 words() { echo $(printf '%s\n' "$@" | LC_ALL=C sort); }
 if command -v nm > "$work/null" && command -v ar > "$work/null"; then
@@ -108,7 +98,7 @@ else
     fail "objdump is missing (Debian: binutils)"
 fi
 check "the header declares them" \
-    same "$(words $(grep -o '\bsec1_[a-z_]*(' sec1.h | tr -d '(' | sort -u))" "$(words $exported)"
+    same "$(words $(grep -o '\bsec1_[a-z0-9_]*(' "$dist/sec1.h" | tr -d '(' | sort -u))" "$(words $exported)"
 
 # ---- C compilers that have the sanitizers
 
@@ -129,22 +119,21 @@ fi
 for compiler in "${compilers[@]}"; do
     check "$compiler compiles tests/calls.c" \
         $compiler $warnings $sanitizers -I "$installed/include" \
-        -o "$work/calls" tests/calls.c "$archive"
+        -o "$work/calls" "$dist/tests/calls.c" "$archive"
     add "tests/calls.c by $compiler" "$work/calls"
     check "$compiler compiles tests/million.c" \
         $compiler $warnings $sanitizers -I "$installed/include" \
-        -o "$work/million" tests/million.c "$archive"
+        -o "$work/million" "$dist/tests/million.c" "$archive"
     add "tests/million.c by $compiler" "$work/million"
 done
-add "tests/packaging.sh" tests/packaging.sh
-add "tests/compilers.sh" tests/compilers.sh "$installed/include" "$archive"
+add "tests/compilers.sh" "$dist/tests/compilers.sh" "$installed/include" "$archive"
 
 # ---- OpenSSL
 
 has_openssl() { echo '#include <openssl/ec.h>' | ${CC:-cc} -E -o "$work/null" - 2> "$work/null"; }
 if has_openssl && [[ ${#compilers[@]} -gt 0 ]]; then
     check "tests/openssl.c compiles" ${compilers[0]} $warnings $sanitizers -I "$installed/include" \
-        -o "$work/openssl" tests/openssl.c "$archive" -lcrypto
+        -o "$work/openssl" "$dist/tests/openssl.c" "$archive" -lcrypto
     add "tests/openssl.c" "$work/openssl"
 else
     fail "the headers of OpenSSL are missing (Debian: libssl-dev)"
@@ -152,7 +141,7 @@ fi
 
 # ---- the examples, and the header beside the source
 
-add "tests/examples.sh" tests/examples.sh "$installed"
+add "tests/examples.sh" "$dist/tests/examples.sh" "$installed"
 if command -v python3 > "$work/null"; then
     add "tests/header.py" python3 -B tests/header.py
 else

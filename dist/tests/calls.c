@@ -586,6 +586,13 @@ static const struct no_public_key {
     {"30573011" "06052B8104010C" "06082A8648CE3D030107" "03420004" X Y, SEC1_CURVE},
     {"304F3009" EC_KEY "03420004" X Y, SEC1_CURVE},
     {"3051300B" EC_KEY "0500" "03420004" X Y, SEC1_CURVE},
+    /* an identifier of 40 bytes, and one with the arc 2^32; parameters that aren't DER inside, and
+     * a byte that is no tag in their place */
+    {"3030302A0628" "2A0101010101010101010101010101010101010101010101010101010101010101010101"
+     "01010101" "03020000", SEC1_CURVE},
+    {"300E3008" "06062A9080808000" "03020000", SEC1_CURVE},
+    {"3052300C" EC_KEY "050100" "03420004" X Y, SEC1_CURVE},
+    {"3050300A" EC_KEY "00" "03420004" X Y, SEC1_TRAILING_DATA},
     {"3018" ON_P256 "030100", SEC1_POINT_ENCODING},
     {"3059" ON_P256 "03420005" X Y, SEC1_POINT_ENCODING},
     {"3059" ON_P256 "03420006" X Y, SEC1_POINT_ENCODING},
@@ -706,6 +713,10 @@ static void test_containers(void)
     }
     for (size_t i = 0; i < sizeof no_containers / sizeof *no_containers; i++)
         EXPECT(read_container(unhex(no_containers[i].bytes), &p) == no_containers[i].status);
+
+    /* an attribute whose set of values holds a byte that is no element */
+    EXPECT(read_container(unhex("3028020100" "301306072A8648CE3D020106082A8648CE3D030107"
+                                "0404AABBCCDD" "A008300606012A3101FF"), &p) == SEC1_OK);
 
     struct bytes bytes = unhex(containers[0].bytes);
     EXPECT(read_container(bytes, &p) == SEC1_OK &&
@@ -1019,11 +1030,15 @@ static void test_points(void)
     expect_converted(to_hybrid, point, unhex("07" X Y));
 
     struct sec1_point_parts parts;
+    size_t len;
     static const size_t others[] = {0, 67, 68, 128, 256 + 32, ((size_t)1 << 32) + 32, SIZE_MAX};
     for (size_t i = 0; i < sizeof others / sizeof *others; i++) {
         field = others[i];
         EXPECT(read_point(point, &parts) == SEC1_FIELD_LENGTH);
         EXPECT(read_point(repeated(0, 1), &parts) == SEC1_FIELD_LENGTH);
+        /* also where the first byte is no tag */
+        EXPECT(read_point(repeated(1, 1), &parts) == SEC1_FIELD_LENGTH);
+        EXPECT(sec1_point_len(1, field, &len) == SEC1_FIELD_LENGTH);
         expect_refused(compress, point, SEC1_FIELD_LENGTH);
         expect_refused(to_hybrid, point, SEC1_FIELD_LENGTH);
     }
@@ -1593,6 +1608,8 @@ static void test_faults(void)
         expect_fault(sec1_key_fault_at, cut, SEC1_TRUNCATED, end ? 1 : 0);
     }
     expect_fault(sec1_key_fault_at, joined(key, repeated(0, 1)), SEC1_TRAILING_DATA, key.len);
+    /* the element around ends, and the bytes don't */
+    expect_fault(sec1_key_fault_at, unhex("30030201010400"), SEC1_TRUNCATED, 5);
     for (size_t i = 0; i < sizeof tree_faults / sizeof *tree_faults; i++)
         expect_fault(sec1_tree_fault_at, unhex(tree_faults[i].bytes), tree_faults[i].status,
                      tree_faults[i].offset);

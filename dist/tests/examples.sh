@@ -4,7 +4,7 @@
 set -uo pipefail
 prefix=$(realpath "$1")
 here=$(realpath "$(dirname "$0")")
-keys=$here/../../../tests/keys
+keys=$here/../../tests/keys
 work=$(mktemp -d)
 trap 'rm -rf "$work"' EXIT
 mkdir "$work/empty"
@@ -31,12 +31,12 @@ if command -v pkg-config > "$work/said"; then
     check "pkg-config has the version" pkg-config --exact-version="$(sed -n \
         's/^#define SEC1_VERSION_[A-Z]* //p' "$prefix/include/sec1.h" | paste -s -d .)" sec1
     made "C by pkg-config" ./c ${CC:-cc} -std=c99 $warnings "$examples/key_parts.c" $flags -o c
-    sed -n '/^```c$/,/^```$/{/^```/d;p}' "$here/../README.md" > read_key.c
-    check "C of README.md" ${CC:-cc} -std=c99 $warnings read_key.c $flags -o read_key
-    grep -A 1 '^    private key: 32 bytes at 7$' "$here/../README.md" | sed -n 's/^    //p' |
+    sed -n '/^```c$/,/^```$/{/^```/d;p}' "$prefix/share/doc/sec1/CALLS.md" > read_key.c
+    check "C of CALLS.md" ${CC:-cc} -std=c99 $warnings read_key.c $flags -o read_key
+    grep -A 1 '^    private key: 32 bytes at 7$' "$prefix/share/doc/sec1/CALLS.md" | sed -n 's/^    //p' |
         head -n 2 > "$work/wanted"
     key=$here/../examples/p256.der
-    check "it prints what README.md says" \
+    check "it prints what CALLS.md says" \
         eval 'diff "$work/wanted" <(./read_key < "$key"; head -c 60 "$key" | ./read_key)'
     if command -v g++ > "$work/said"; then
         made "C++ by pkg-config" ./cpp \

@@ -18,7 +18,7 @@ built() {
 }
 echo 'int LLVMFuzzerTestOneInput(void) { return 0; }' >"$work/empty.c"
 if ! built "$work/empty.c" 2>"$work/said"; then
-    skip "clang or its libFuzzer is missing (Debian: apt-get install clang libclang-rt-14-dev)"
+    skip "clang or its libFuzzer is missing (Debian: apt-get install clang libclang-rt-dev)"
     finish
 fi
 found_nothing() { # SECONDS

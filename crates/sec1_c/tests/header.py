@@ -63,7 +63,7 @@ def main():
     source = {}
     for path in sorted((ROOT / "src").rglob("*.rt")):
         source.update(source_items(path.read_text(encoding="utf-8")))
-    header = dict(header_items((ROOT / "sec1.h").read_text(encoding="utf-8")))
+    header = dict(header_items((ROOT.parent.parent / "dist/sec1.h").read_text(encoding="utf-8")))
     header = {name: types for name, types in header.items() if name not in UNPROVED}
     failed = 0
     for name in sorted(source.keys() | header.keys()):
