@@ -8,7 +8,7 @@ use crate::der::{self, Decode, DecodeValue, ErrorKind, Header, Length, Reader};
 use crate::der::{Element, EncodeValue, Sequence, Writer, content_len_of};
 #[cfg(not(feature = "alloc"))]
 use crate::der::{Encode, FixedTag, Tag};
-use crate::raw::{self, Fields, Status};
+use crate::raw::{self, Fields};
 use crate::{EcParameters, Error, Result};
 use core::fmt;
 
@@ -76,7 +76,12 @@ impl<'a> DecodeValue<'a> for EcPrivateKey<'a> {
 
     #[inline]
     fn of_element(bytes: &'a [u8]) -> der::Result<Self> {
-        let parts = raw::key_read(bytes).map_err(|status| refusal(status, bytes))?;
+        // Bytes of another length are refused, and one call says why and where.
+        if !announces_all(bytes) {
+            refusal(bytes).map_or(Ok(()), Err)?;
+        }
+        let parts = raw::key_read(bytes)
+            .map_err(|status| refusal(bytes).unwrap_or(der::Error::of(status)))?;
         let outside = |()| der::Error::of_kind(ErrorKind::Failed);
         let private_key = raw::part(bytes, parts.private_key).map_err(outside)?;
         let curve = raw::part(bytes, parts.curve).map_err(outside)?;
@@ -91,10 +96,24 @@ impl<'a> DecodeValue<'a> for EcPrivateKey<'a> {
     }
 }
 
+/// Says whether the header of a SEQUENCE of less than 65,536 bytes announces all bytes after it. It
+/// decides which call of the library is made first, and nothing else.
+#[inline]
+fn announces_all(bytes: &[u8]) -> bool {
+    match bytes {
+        [0x30, len @ ..=0x7F, content @ ..] => content.len() == usize::from(*len),
+        [0x30, 0x81, len, content @ ..] => content.len() == usize::from(*len),
+        [0x30, 0x82, a, b, content @ ..] => {
+            content.len() == usize::from(u16::from_be_bytes([*a, *b]))
+        }
+        _ => false,
+    }
+}
+
 /// Returns the error of a refused key, with the offset of its first fault.
 #[cold]
-fn refusal(status: Status, bytes: &[u8]) -> der::Error {
-    der::Error::at(status, raw::key_fault_at(bytes))
+fn refusal(bytes: &[u8]) -> Option<der::Error> {
+    raw::key_fault_at(bytes).map(|(status, offset)| der::Error::at(status, offset))
 }
 
 impl EcPrivateKey<'_> {

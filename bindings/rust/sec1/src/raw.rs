@@ -56,13 +56,13 @@ pub(crate) fn key_read(bytes: &[u8]) -> Result<KeyParts, Status> {
     answer(status, parts)
 }
 
-/// Returns the offset of the first fault of a private key that is refused.
+/// Returns the refusal of a private key, and the offset of its first fault.
 #[inline]
-pub(crate) fn key_fault_at(bytes: &[u8]) -> Option<usize> {
+pub(crate) fn key_fault_at(bytes: &[u8]) -> Option<(Status, usize)> {
     let mut offset = 0;
     // SAFETY: `bytes` is one slice, and `offset` is a place of this function.
     let status = unsafe { sec1_key_fault_at(bytes.as_ptr(), bytes.len(), &mut offset) };
-    (status != SEC1_OK).then_some(offset)
+    Status::new(status).map(|status| (status, offset))
 }
 
 /// Returns the length of the encoding of a private key.
@@ -314,13 +314,13 @@ pub(crate) fn check_tree(bytes: &[u8]) -> Result<usize, Status> {
     answer(status, elements)
 }
 
-/// Returns the offset of the first fault of a tree that is refused.
+/// Returns the refusal of a tree, and the offset of its first fault.
 #[inline]
-pub(crate) fn tree_fault_at(bytes: &[u8]) -> Option<usize> {
+pub(crate) fn tree_fault_at(bytes: &[u8]) -> Option<(Status, usize)> {
     let mut offset = 0;
     // SAFETY: `bytes` is one slice, and `offset` is a place of this function.
     let status = unsafe { sec1_tree_fault_at(bytes.as_ptr(), bytes.len(), &mut offset) };
-    (status != SEC1_OK).then_some(offset)
+    Status::new(status).map(|status| (status, offset))
 }
 
 /// Returns the lengths of the header and of the content of the element that the bytes begin with.
