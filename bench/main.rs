@@ -750,7 +750,7 @@ const CERTIFICATE: &[u8] = include_bytes!("p256_certificate.der");
 const CONTAINER: &[u8] = include_bytes!("p256_container.der");
 
 /// The name of a file that holds a key.
-const FILE: &str = concat!(env!("BENCH_FOLDER"), "/../crates/sec1_c/examples/p256.der");
+const FILE: &str = concat!(env!("BENCH_FOLDER"), "/../dist/examples/p256.der");
 
 fn file() -> Vec<u8> {
     std::fs::read(FILE).expect("a file with a key")

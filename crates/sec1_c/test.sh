@@ -97,8 +97,8 @@ if command -v objdump > "$work/null"; then
 else
     fail "objdump is missing (Debian: binutils)"
 fi
-check "the header declares them" \
-    same "$(words $(grep -o '\bsec1_[a-z0-9_]*(' "$dist/sec1.h" | tr -d '(' | sort -u))" "$(words $exported)"
+check "the header declares them" same "$(words $exported)" \
+    "$(words $(grep -o '\bsec1_[a-z0-9_]*(' "$dist/sec1.h" | tr -d '(' | sort -u))"
 
 # ---- C compilers that have the sanitizers
 

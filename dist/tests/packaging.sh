@@ -62,8 +62,8 @@ check "its stack isn't executed" has_line "$work/elf" 'GNU_STACK.* RW '
 check "it allows branch tracking and a shadow stack" \
     has_line "$work/elf" 'x86 feature:.*IBT, SHSTK'
 objdump -d --no-show-raw-insn "$shared" > "$work/code"
-check "each exported function begins with endbr64" same "$(grep -A 1 '^[0-9a-f]* <sec1_[a-z0-9_]*>:$' "$work/code" |
-    grep -c endbr64)" "$(wc -w <<< "$functions")"
+check "each exported function begins with endbr64" same "$(wc -w <<< "$functions")" \
+    "$(grep -A 1 '^[0-9a-f]* <sec1_[a-z0-9_]*>:$' "$work/code" | grep -c endbr64)"
 check "each jump of a table is marked" not grep -E ':\s+jmp +\*%' "$work/code"
 check "it has tables to unwind the stack" eval "readelf --debug-dump=frames-interp '$shared' 2>&1 |
     grep -c FDE | grep -qxE '[1-9][0-9]+'"

@@ -1,6 +1,6 @@
 """Compares the assembly in dist with the object that `rt lib` built.
 
-  compare.py SOURCE ARCHIVE COMMAND..   COMMAND assembles SOURCE, as `cc` or `clang --target=..` does
+  compare.py SOURCE ARCHIVE COMMAND..   COMMAND assembles SOURCE, such as `clang --target=..`
 
 The lines that dist/make adds for x86-64 are left out before: how to unwind the stack, and what
 branch tracking needs. What is left has to have the same sections in the same order: their flags and
@@ -16,7 +16,10 @@ import subprocess
 import sys
 import tempfile
 
-X86_64, PROGBITS, NOBITS, SYMBOLS, RELOCATIONS, ALLOCATED, EXECUTED, GLOBAL = 62, 1, 8, 2, 4, 2, 4, 1
+# The numbers of ELF for the processor, for kinds and flags of sections, and for symbols.
+X86_64, GLOBAL = 62, 1
+PROGBITS, SYMBOLS, RELOCATIONS, NOBITS = 1, 2, 4, 8
+ALLOCATED, EXECUTED = 2, 4
 # A call of a function by PC32 or by PLT32 is the same: a linker treats them alike.
 SAME_KIND = {(X86_64, 4): 2}
 
@@ -128,10 +131,10 @@ def main():
         found = list(differences(ours, theirs))
         for line in found[:5]:
             print(line)
-        count = sum(map(len, ours.instructions().values())) if ours.machine == X86_64 else 0
-        size = sum(len(ours.bytes[i]) for i in ours.kept)
-        listed = f"{len(ours.kept)} sections of {size} bytes, {count} instructions"
-        print(f"{listed}: {len(found)} differ")
+        counts = f"{len(ours.kept)} sections of {sum(len(ours.bytes[i]) for i in ours.kept)} bytes"
+        if ours.machine == X86_64:
+            counts += f", {sum(map(len, ours.instructions().values()))} instructions"
+        print(f"{counts}: {len(found)} differ")
     return len(found) != 0
 
 
