@@ -4,7 +4,7 @@ import timeit
 
 import sec1
 
-DER = bytes.fromhex((pathlib.Path(__file__).resolve().parents[3] / "crates/sec1_inspect/stdin").read_text())
+DER = bytes.fromhex((pathlib.Path(__file__).resolve().parent / "data/p256.txt").read_text())
 KEY = sec1.EcPrivateKey.from_der(DER)
 POINT = sec1.Point(KEY.public_key, 32)
 

@@ -2,6 +2,7 @@
 import copy
 import dataclasses
 import doctest
+import importlib.metadata
 import pathlib
 import pickle
 import random
@@ -10,7 +11,6 @@ import unittest
 import sec1
 
 HERE = pathlib.Path(__file__).resolve().parent
-CRATES = HERE.parents[2] / "crates"
 REFUSED = {
     "refused: Truncated": sec1.TruncatedError,
     "refused: Tag": sec1.TagError,
@@ -23,9 +23,9 @@ REFUSED = {
 class Keys(unittest.TestCase):
     def test_stored_keys_of_openssl(self):
         """Each key is read as the second reader of the repository says, and written as it was."""
-        lines = (CRATES / "sec1_rewrite/stdin").read_text().splitlines()
+        lines = (HERE / "data/openssl.txt").read_text().splitlines()
         keys = [bytes.fromhex(line) for line in lines if not line.startswith("#")]
-        answers = (CRATES / "sec1_rewrite/stdout").read_text().splitlines()
+        answers = (HERE / "data/openssl_answers.txt").read_text().splitlines()
         self.assertEqual((len(keys), len(answers)), (2656, 2656))
         for data, answer in zip(keys, answers):
             if answer.startswith("refused: "):
@@ -60,10 +60,40 @@ class Keys(unittest.TestCase):
         with self.assertRaises(dataclasses.FrozenInstanceError):
             key.public_key = b""
         for wrong in (5, "text", [1, 2], None):
+            for call in (sec1.EcPrivateKey.from_der, sec1.EcPrivateKey, sec1.ObjectIdentifier, sec1.check_tree):
+                with self.assertRaises(TypeError):
+                    call(wrong)
+        for wrong in ("1.2.3", b"\x2a", 5, sec1.Curve.from_name("P-256")):
             with self.assertRaises(TypeError):
-                sec1.EcPrivateKey.from_der(wrong)
+                sec1.EcPrivateKey(b"\x01", wrong)
+        for wrong in (5, "text"):
             with self.assertRaises(TypeError):
-                sec1.ObjectIdentifier(wrong)
+                sec1.EcPrivateKey(b"\x01", None, wrong)
+
+    def test_other_keys_differ(self):
+        """Each part counts, to its last byte."""
+        a, b = (sec1.ObjectIdentifier.from_text(f"1.2.840.10045.3.1.{last}") for last in (6, 7))
+        key = sec1.EcPrivateKey(bytes(32), a, bytes(65))
+        self.assertEqual(key, sec1.EcPrivateKey(bytearray(32), a, memoryview(bytes(65))))
+        self.assertEqual(hash(key), hash(sec1.EcPrivateKey(bytearray(32), a, bytes(65))))
+        others = [
+            *(sec1.EcPrivateKey(scalar, a, bytes(65)) for scalar in (bytes(31) + b"\1", bytes(31), bytes(33))),
+            *(sec1.EcPrivateKey(bytes(32), curve, bytes(65)) for curve in (b, None)),
+            *(sec1.EcPrivateKey(bytes(32), a, public_key) for public_key in (bytes(64) + b"\1", bytes(64), b"", None)),
+        ]
+        for other in others:
+            self.assertNotEqual(key, other)
+        self.assertEqual(len({key, *others}), len(others) + 1)
+
+    def test_a_key_that_is_too_long(self):
+        with self.assertRaises(sec1.OverlengthError):
+            sec1.EcPrivateKey(bytes(1 << 28)).to_der()
+
+    def test_an_end_of_line_is_no_part(self):
+        der = sec1.EcPrivateKey(b"\x09").to_der()
+        for behind in (b"\n", b"\r\n", b" ", b"\0"):
+            with self.assertRaises(sec1.TrailingDataError):
+                sec1.EcPrivateKey.from_der(der + behind)
 
 
 def accepts(data, length):
@@ -114,9 +144,37 @@ class Points(unittest.TestCase):
         self.assertNotEqual(sec1.Point(b"\0", 32), sec1.Point(b"\0", 48))
         with self.assertRaises(TypeError):
             sec1.Point(b"\0", 32) < sec1.Point(b"\0", 48)
-        for length in (-1, 1 << 64, (1 << 64) + 32):
-            with self.assertRaises(sec1.FieldLengthError):
-                sec1.Point(b"\0", length)
+        calls = (lambda n: sec1.Point(b"\0", n), sec1.Point.identity, lambda n: sec1.Point.from_hex("00", n))
+        for call in calls:
+            self.assertEqual(call(66).field_length, 66)
+            for length in (0, 67, -1, 32 - (1 << 64), 1 << 64, (1 << 64) + 32):
+                with self.assertRaises(sec1.FieldLengthError):
+                    call(length)
+            for wrong in (True, 32.0, "32", None):
+                with self.assertRaises(TypeError):
+                    call(wrong)
+        for wrong in (5, b"00", None):
+            with self.assertRaises(TypeError):
+                sec1.Point.from_hex(wrong, 32)
+        self.assertEqual(eval(repr(point), vars(sec1)), point)
+
+    def test_other_points_differ(self):
+        """Each byte counts, to the last one."""
+        point = sec1.Point(b"\x04" + bytes(64), 32)
+        others = [
+            sec1.Point(b"\x04" + bytes(63) + b"\x02", 32),
+            sec1.Point(b"\x04" + bytes(31) + b"\x01" + bytes(32), 32),
+            sec1.Point(b"\x06" + bytes(64), 32),
+            sec1.Point(b"\x02" + bytes(32), 32),
+            sec1.Point(b"\0", 32),
+            sec1.Point(b"\0", 64),
+        ]
+        for other in others:
+            self.assertNotEqual(point, other)
+        self.assertEqual(len({point, *others}), 7)
+        names = [tag.name for tag in sorted(sec1.Tag)]
+        forms = ["COMPRESSED_EVEN", "COMPRESSED_ODD", "UNCOMPRESSED", "COMPACT", "HYBRID_EVEN", "HYBRID_ODD"]
+        self.assertEqual((names, [*map(int, sec1.Tag)]), (["IDENTITY", *forms], [0, 2, 3, 4, 5, 6, 7]))
 
 
 class Others(unittest.TestCase):
@@ -131,6 +189,23 @@ class Others(unittest.TestCase):
         for content in (b"", b"\x80\x01", b"\x81", b"\x01" * 40):
             with self.assertRaises(sec1.ValueContentError):
                 sec1.ObjectIdentifier(content)
+        for wrong in (5, b"1.2", None):
+            with self.assertRaises(TypeError):
+                sec1.ObjectIdentifier.from_text(wrong)
+
+    def test_identifiers_are_ordered_by_arcs(self):
+        texts = "0.0 1.2 1.2.3 1.2.3.1 1.2.4 1.2.127 1.2.128 1.2.16383 1.2.16384 1.3.6 2.5".split()
+        identifiers = [sec1.ObjectIdentifier.from_text(text) for text in texts]
+        self.assertEqual([".".join(map(str, one.arcs)) for one in identifiers], texts)
+        self.assertEqual(identifiers[4].arcs, (1, 2, 4))
+        for i, first in enumerate(identifiers):
+            self.assertEqual(eval(repr(first), vars(sec1)), first)
+            for j, second in enumerate(identifiers):
+                order = (first < second, first <= second, first == second, first >= second, first > second)
+                self.assertEqual(order, (i < j, i <= j, i == j, i >= j, i > j))
+        self.assertEqual(sorted(reversed(identifiers)), identifiers)
+        with self.assertRaises(TypeError):
+            identifiers[0] < "1.2"
 
     def test_curves(self):
         for name, first, text, length in (
@@ -141,6 +216,16 @@ class Others(unittest.TestCase):
         ):
             curve = sec1.Curve.from_name(name)
             self.assertEqual((curve.name, str(curve.identifier), curve.field_length), (first, text, length))
+            self.assertEqual((repr(curve), str(curve)), (f"Curve.from_name('{first}')", first))
+            self.assertEqual(eval(repr(curve), vars(sec1)), curve)
+            self.assertEqual(pickle.loads(pickle.dumps(curve)), curve)
+        self.assertNotEqual(sec1.Curve.from_name("P-256"), sec1.Curve.from_name("secp256k1"))
+        for wrong in ("1.2.840.10045.3.1.7", b"\x2a", None):
+            with self.assertRaises(TypeError):
+                sec1.Curve(wrong)
+        for wrong in (5, b"P-256", None):
+            with self.assertRaises(TypeError):
+                sec1.Curve.from_name(wrong)
         for name in ("", "p-256", "P-256\0", "secp256r1 "):
             with self.assertRaises(sec1.CurveError):
                 sec1.Curve.from_name(name)
@@ -171,6 +256,39 @@ class Others(unittest.TestCase):
             self.assertEqual(caught.exception.offset, offset)
         self.assertIsNone(sec1.PointEncodingError().offset)
 
+    def test_errors(self):
+        """Each kind has the number and the text that sec1.h has for it."""
+        expected = {
+            sec1.Error: (None, "the library broke its contract"),
+            sec1.TruncatedError: (1, "input ends inside an element"),
+            sec1.TagError: (2, "unexpected or unsupported tag"),
+            sec1.LengthError: (3, "length not in DER form or above the limit"),
+            sec1.TrailingDataError: (4, "bytes after the value"),
+            sec1.ValueContentError: (5, "content not valid for its tag"),
+            sec1.OverlengthError: (6, "value longer than 268435455 bytes"),
+            sec1.BufferTooShort: (7, "output buffer too small"),
+            sec1.DepthError: (8, "more than 64 nested elements"),
+            sec1.PointEncodingError: (9, "elliptic curve point encoding error"),
+            sec1.FieldLengthError: (10, "length of field elements not supported"),
+            sec1.CurveError: (11, "curve not in the table"),
+        }
+        for kind, (status, text) in expected.items():
+            self.assertEqual((kind.status, kind().status, str(kind())), (status, status, text))
+            self.assertEqual((str(kind(7)), kind(7).offset), (f"{text} at byte 7", 7))
+            self.assertTrue(issubclass(kind, sec1.Error) and issubclass(kind, ValueError))
+            again = pickle.loads(pickle.dumps(kind(7)))
+            self.assertEqual((type(again), again.offset), (kind, 7))
+        names = {kind.__name__ for kind in expected}
+        errors = {name for name in sec1.__all__ if name.endswith("Error") or name == "BufferTooShort"}
+        self.assertEqual(names, errors)
+        secret = b"secret secret"
+        with self.assertRaises(sec1.TagError) as caught:
+            sec1.EcPrivateKey.from_der(secret)
+        self.assertNotIn("secret", repr(caught.exception) + str(getattr(caught.exception, "__notes__", "")))
+
+    def test_version(self):
+        self.assertEqual(sec1.__version__, importlib.metadata.version("bridgeacacia-sec1"))
+
     def test_hexadecimal(self):
         for text in ("02aA", "02a", "", "+2aa", "02gg", "02aaaa", "0\u0662aa"):
             with self.assertRaises(sec1.PointEncodingError):
@@ -196,6 +314,9 @@ class Others(unittest.TestCase):
         self.assertEqual(sec1.document_length(b"\x30\x00\xff"), 2)
         for data in (b"", b"\x30", b"\x1f\0"):
             self.assertIsNone(sec1.document_length(data))
+        for wrong in (5, "text", None):
+            with self.assertRaises(TypeError):
+                sec1.document_length(wrong)
 
     def test_documentation(self):
         self.assertEqual(doctest.testfile(str(HERE.parent / "README.md"), False).failed, 0)

@@ -1,60 +1,56 @@
-//! Finds the library and links it. The README says in which order places are tried.
+//! Refuses targets that the assembly isn't for. With the feature `system`, finds the installed
+//! library instead, as the README says.
 
 use std::path::{Path, PathBuf};
 use std::process::Command;
 use std::{env, fs};
 
-/// Where the library of the repository is built, from the folder of this crate.
-const BESIDE: &str = "../../../crates/sec1_c";
-
 fn main() -> Result<(), String> {
+    println!("cargo::rerun-if-changed=build.rs");
+    match env::var_os("CARGO_FEATURE_SYSTEM") {
+        Some(_) => link(),
+        None => supported(),
+    }
+}
+
+/// Checks that there is assembly for the target.
+fn supported() -> Result<(), String> {
+    let target = |name| env::var(format!("CARGO_CFG_TARGET_{name}")).unwrap_or_default();
+    let is = |arch, endian| target("ARCH") == arch && target("ENDIAN") == endian;
+    let is_processor = is("x86_64", "little") || is("aarch64", "little");
+    if is_processor && target("POINTER_WIDTH") == "64" && target("OS") == "linux" {
+        return Ok(());
+    }
+    Err(format!(
+        "sec1 is for Linux on x86-64 and aarch64 (little endian, pointers of 64 bits), not for {}",
+        env::var("TARGET").unwrap_or_default()
+    ))
+}
+
+/// Links the installed library.
+fn link() -> Result<(), String> {
     println!("cargo::rerun-if-env-changed=SEC1_LIB_DIR");
     println!("cargo::rerun-if-env-changed=PKG_CONFIG");
     println!("cargo::rerun-if-env-changed=PKG_CONFIG_PATH");
-    let target = |name| env::var(name).unwrap_or_default();
-    let (arch, width) = (target("CARGO_CFG_TARGET_ARCH"), target("CARGO_CFG_TARGET_POINTER_WIDTH"));
-    if arch != "x86_64" || width != "64" {
-        return Err(format!("the library is for x86-64 with pointers of 64 bits, not for {arch}"));
+    let folder = match env::var_os("SEC1_LIB_DIR") {
+        Some(folder) => PathBuf::from(folder),
+        None => {
+            installed().ok_or("no library: install libsec1, or name its folder in SEC1_LIB_DIR")?
+        }
+    };
+    let library = ["libsec1.so", "libsec1.a"].iter().any(|name| is_file(&folder.join(name)));
+    if !library {
+        return Err(format!("there is no libsec1.so and no libsec1.a in {}", folder.display()));
     }
-    let archive = archive()?;
-    println!("cargo::rerun-if-changed={}", archive.display());
-    // A folder of its own, so that no other library beside the archive is linked.
-    let out = PathBuf::from(env::var_os("OUT_DIR").ok_or("cargo names no OUT_DIR")?);
-    fs::copy(&archive, out.join("libsec1.a")).map_err(|e| format!("{}: {e}", archive.display()))?;
-    println!("cargo::rustc-link-search=native={}", out.display());
-    println!("cargo::rustc-link-lib=static=sec1");
-    println!("cargo::metadata=LIB={}", out.display());
+    println!("cargo::rustc-link-search=native={}", folder.display());
+    println!("cargo::rustc-link-lib=sec1");
     Ok(())
 }
 
-/// Returns the path of the archive.
-fn archive() -> Result<PathBuf, String> {
-    if let Some(folder) = env::var_os("SEC1_LIB_DIR") {
-        return within(Path::new(&folder));
-    }
-    let manifest = env::var_os("CARGO_MANIFEST_DIR").ok_or("cargo names no CARGO_MANIFEST_DIR")?;
-    let beside = Path::new(&manifest).join(BESIDE);
-    if let Ok(found) = within(&beside.join("out")) {
-        return Ok(found);
-    }
-    if let Some(folder) = installed() {
-        return within(&folder);
-    }
-    let script = beside.join("build.sh");
-    if !script.exists() {
-        return Err("no library: install libsec1, or name its folder in SEC1_LIB_DIR".into());
-    }
-    built(&script)?;
-    within(&beside.join("out"))
-}
-
-/// Returns the archive in a folder: of an installed library, or of the repository.
-fn within(folder: &Path) -> Result<PathBuf, String> {
-    ["libsec1.a", "libsec1_c.a"]
-        .iter()
-        .map(|name| folder.join(name))
-        .find(|path| path.is_file())
-        .ok_or_else(|| format!("there is no libsec1.a in {}", folder.display()))
+/// Returns `true` if there is such a file, which cargo then watches.
+fn is_file(path: &Path) -> bool {
+    println!("cargo::rerun-if-changed={}", path.display());
+    fs::metadata(path).is_ok_and(|it| it.is_file())
 }
 
 /// Returns the folder of the installed library of this version, as pkg-config knows it.
@@ -66,11 +62,4 @@ fn installed() -> Option<PathBuf> {
     let folder = String::from_utf8(output.stdout).ok()?;
     let folder = folder.trim();
     (output.status.success() && !folder.is_empty()).then(|| PathBuf::from(folder))
-}
-
-/// Proves and builds the library of the repository.
-fn built(script: &Path) -> Result<(), String> {
-    let failed = |reason: String| format!("{}: {reason}", script.display());
-    let status = Command::new(script).status().map_err(|e| failed(e.to_string()))?;
-    if status.success() { Ok(()) } else { Err(failed(status.to_string())) }
 }

@@ -3,12 +3,15 @@
 from __future__ import annotations
 
 import functools
+import operator
 from ctypes import byref, c_int32, c_size_t
 from dataclasses import dataclass, field
 from enum import IntEnum
-from typing import Any, Optional, Type
+from typing import Any, ClassVar, Optional, Tuple
 
 from . import _library
+
+__version__ = "0.2.0"
 
 __all__ = [
     "BufferTooShort",
@@ -34,13 +37,15 @@ __all__ = [
 
 
 class Error(ValueError):
-    """A refusal. Each kind of refusal is a subclass.
+    """A refusal. Each kind of refusal is a subclass, whose `status` is its number in `enum sec1_status` of
+    sec1.h.
 
     `offset` is that of the first fault in the bytes of a key or of a tree, and None for other calls: of the
     tag byte, of the first byte of the length or of the content that is refused, of the first byte after
     the last part, or the number of bytes if they end before a tag."""
 
     text = "the library broke its contract"
+    status: ClassVar[Optional[int]] = None
 
     def __init__(self, offset: Optional[int] = None) -> None:
         super().__init__(self.text if offset is None else f"{self.text} at byte {offset}")
@@ -54,78 +59,110 @@ class TruncatedError(Error):
     """The input, or the element around a part, ends too early."""
 
     text = "input ends inside an element"
+    status = 1
 
 
 class TagError(Error):
     """A tag that isn't the expected one, or that no element has."""
 
     text = "unexpected or unsupported tag"
+    status = 2
 
 
 class LengthError(Error):
     """A length that isn't in the form of DER, or is above 268,435,455."""
 
     text = "length not in DER form or above the limit"
+    status = 3
 
 
 class TrailingDataError(Error):
     """Bytes after the last part."""
 
     text = "bytes after the value"
+    status = 4
 
 
 class ValueContentError(Error):
     """A content that isn't valid for its tag, or a text that isn't an identifier's."""
 
     text = "content not valid for its tag"
+    status = 5
 
 
 class OverlengthError(Error):
     """A content to write is above 268,435,455 bytes."""
 
     text = "value longer than 268435455 bytes"
+    status = 6
 
 
 class BufferTooShort(Error):
     """The buffer to write into is too short. No call of this module raises it."""
 
     text = "output buffer too small"
+    status = 7
 
 
 class DepthError(Error):
     """More than 64 nested elements."""
 
     text = "more than 64 nested elements"
+    status = 8
 
 
 class PointEncodingError(Error):
     """The bytes aren't the encoding of a point."""
 
     text = "elliptic curve point encoding error"
+    status = 9
 
 
 class FieldLengthError(Error):
     """The length of field elements isn't 1 to 66, or two lengths differ."""
 
     text = "length of field elements not supported"
+    status = 10
 
 
 class CurveError(Error):
     """No curve of the library's table has this identifier or this name."""
 
     text = "curve not in the table"
+    status = 11
 
 
-# By the numbers of enum sec1_status, from 1 on.
-_ERRORS: "tuple[Type[Error], ...]" = (
-    *(TruncatedError, TagError, LengthError, TrailingDataError, ValueContentError),
-    *(OverlengthError, BufferTooShort, DepthError, PointEncodingError, FieldLengthError, CurveError),
-)
+_ERRORS = {kind.status: kind for kind in Error.__subclasses__()}
 
 
 def _bytes(data: bytes) -> bytes:
     """Returns `bytes` as they are, and any other buffer as a copy. Anything else is a TypeError."""
     return data if isinstance(data, bytes) else bytes(memoryview(data))
+
+
+def _text(text: str) -> bytes:
+    """Returns a text in UTF-8. Anything but a text is a TypeError."""
+    if not isinstance(text, str):
+        raise TypeError(f"a text is expected, not {type(text).__name__}")
+    return text.encode("utf-8", "surrogatepass")
+
+
+def _length(field_length: int) -> int:
+    """Returns the length of field elements. Anything but a whole number is a TypeError."""
+    if isinstance(field_length, bool):
+        raise TypeError("the length of field elements is a number, not a bool")
+    number = operator.index(field_length)
+    # A negative number, or one of more than 64 bits, would become another one in C.
+    if not 0 <= number < 1 << 64:
+        raise FieldLengthError
+    return number
+
+
+def _identifier(identifier: ObjectIdentifier) -> ObjectIdentifier:
+    """Returns an identifier. Anything else is a TypeError."""
+    if not isinstance(identifier, ObjectIdentifier):
+        raise TypeError(f"an ObjectIdentifier is expected, not {type(identifier).__name__}")
+    return identifier
 
 
 def _check(status: int, fault_at: Optional[str] = None, data: bytes = b"") -> None:
@@ -135,8 +172,7 @@ def _check(status: int, fault_at: Optional[str] = None, data: bytes = b"") -> No
     offset = c_size_t()
     if fault_at is not None:
         _library.call(fault_at, data, len(data), byref(offset))
-    kind = _ERRORS[status - 1] if status <= len(_ERRORS) else Error
-    raise kind(None if fault_at is None else offset.value)
+    raise _ERRORS.get(status, Error)(None if fault_at is None else offset.value)
 
 
 def _written(name: str, *arguments: Any) -> bytes:
@@ -158,9 +194,11 @@ class Tag(IntEnum):
     HYBRID_ODD = 7
 
 
+@functools.total_ordering
 @dataclass(frozen=True)
 class ObjectIdentifier:
-    """An object identifier (X.690 section 8.19), by its content. `str` returns its dotted text.
+    """An object identifier (X.690 section 8.19), by its content. `str` returns its dotted text. Identifiers are
+    ordered by their arcs.
 
     Raises ValueContentError if the bytes aren't the content of an identifier."""
 
@@ -174,8 +212,18 @@ class ObjectIdentifier:
     @classmethod
     def from_text(cls, text: str) -> ObjectIdentifier:
         """Returns the identifier with this dotted text, or raises ValueContentError."""
-        data = text.encode("utf-8", "surrogatepass")
+        data = _text(text)
         return cls(_written("sec1_identifier_from_text", data, len(data)))
+
+    @property
+    def arcs(self) -> Tuple[int, ...]:
+        """The numbers of the dotted text."""
+        return tuple(map(int, str(self).split(".")))
+
+    def __lt__(self, other: object) -> bool:
+        if not isinstance(other, ObjectIdentifier):
+            return NotImplemented
+        return self.arcs < other.arcs
 
     def __str__(self) -> str:
         text = _written("sec1_identifier_to_text", self.content, len(self.content))
@@ -195,7 +243,7 @@ class Curve:
     field_length: int = field(init=False)
 
     def __post_init__(self) -> None:
-        content, length = self.identifier.content, c_size_t()
+        content, length = _identifier(self.identifier).content, c_size_t()
         _check(_library.call("sec1_curve_field_len", content, len(content), byref(length)))
         name = _written("sec1_curve_name", content, len(content))
         object.__setattr__(self, "name", name[:-1].decode("ascii"))
@@ -205,8 +253,14 @@ class Curve:
     def from_name(cls, name: str) -> Curve:
         """Returns the curve with this name, such as secp256r1, P-256 or prime256v1, or raises CurveError.
         The case of letters counts."""
-        data = name.encode("utf-8", "surrogatepass")
+        data = _text(name)
         return cls(ObjectIdentifier(_written("sec1_curve_from_name", data, len(data))))
+
+    def __repr__(self) -> str:
+        return f"Curve.from_name({self.name!r})"
+
+    def __str__(self) -> str:
+        return self.name
 
 
 @dataclass(frozen=True)
@@ -216,6 +270,13 @@ class EcPrivateKey:
     private_key: bytes = field(repr=False)
     curve: Optional[ObjectIdentifier] = None
     public_key: Optional[bytes] = None
+
+    def __post_init__(self) -> None:
+        object.__setattr__(self, "private_key", _bytes(self.private_key))
+        if self.curve is not None:
+            _identifier(self.curve)
+        if self.public_key is not None:
+            object.__setattr__(self, "public_key", _bytes(self.public_key))
 
     @classmethod
     def from_der(cls, data: bytes) -> EcPrivateKey:
@@ -234,10 +295,9 @@ class EcPrivateKey:
 
     def to_der(self) -> bytes:
         """Returns the DER encoding, or raises OverlengthError."""
-        private_key = _bytes(self.private_key)
         curve = b"" if self.curve is None else self.curve.content
-        public_key = b"" if self.public_key is None else _bytes(self.public_key)
-        parts = (private_key, len(private_key), curve, len(curve), public_key, len(public_key))
+        public_key = self.public_key or b""
+        parts = (self.private_key, len(self.private_key), curve, len(curve), public_key, len(public_key))
         return _written("sec1_key_write", *parts, int(self.public_key is not None))
 
 
@@ -256,12 +316,10 @@ class Point:
     y: Optional[bytes] = field(init=False, repr=False)
 
     def __post_init__(self) -> None:
-        data, parts = _bytes(self.encoding), _library.PointParts()
-        # A negative number, or one of more than 64 bits, would become another one in C.
-        if not 0 <= self.field_length < 1 << 64:
-            raise FieldLengthError
-        _check(_library.call("sec1_point_read", data, len(data), self.field_length, byref(parts)))
+        data, parts, length = _bytes(self.encoding), _library.PointParts(), _length(self.field_length)
+        _check(_library.call("sec1_point_read", data, len(data), length, byref(parts)))
         object.__setattr__(self, "encoding", data)
+        object.__setattr__(self, "field_length", length)
         object.__setattr__(self, "tag", Tag(parts.tag))
         object.__setattr__(self, "x", parts.x.of(data))
         object.__setattr__(self, "y", parts.y.of(data))
@@ -282,10 +340,8 @@ class Point:
     def from_hex(cls, text: str, field_length: int) -> Point:
         """Returns the point with this hexadecimal text, whose letters are all of one case, or raises
         PointEncodingError or FieldLengthError."""
-        data = text.encode("utf-8", "surrogatepass")
-        if not 0 <= field_length < 1 << 64:
-            raise FieldLengthError
-        return cls(_written("sec1_point_from_hex", data, len(data), field_length), field_length)
+        data, length = _text(text), _length(field_length)
+        return cls(_written("sec1_point_from_hex", data, len(data), length), length)
 
     def hex(self, lower_case: bool = False) -> str:
         """Returns the encoding in hexadecimal."""

@@ -2,6 +2,9 @@
 #![no_std]
 #![allow(non_camel_case_types)]
 
+#[cfg(not(feature = "system"))]
+mod assembly;
+
 /// Success.
 pub const SEC1_OK: u32 = 0;
 /// The input, or the element around a part, ends too early.

@@ -5,29 +5,19 @@
 //! ```
 //! use sec1::{Array, consts::{ArraySize, U32}};
 //!
-//! let x: Array<u8, U32> = [7; 32];
+//! let x: Array<u8, U32> = [7; 32].into();
 //! assert_eq!(x.len(), U32::USIZE);
 //! ```
+
+mod array;
+
+pub use array::Array;
+
+use core::array::TryFromSliceError;
 
 mod sealed {
     pub trait Sealed {}
 }
-
-/// A type of values that an array holds.
-///
-/// # Examples
-///
-/// ```
-/// use sec1::{Array, consts::{ArraySize, Element, U3}};
-///
-/// fn three<T: Element>(value: T) -> Array<T, U3> {
-///     U3::filled(value)
-/// }
-///
-/// assert_eq!(three('a'), ['a'; 3]);
-/// ```
-pub trait Element: Copy + Eq + core::fmt::Debug {}
-impl<T: Copy + Eq + core::fmt::Debug> Element for T {}
 
 /// A size of an array.
 ///
@@ -56,8 +46,8 @@ pub trait ArraySize:
     /// ```
     const USIZE: usize;
 
-    /// The array of this size.
-    type ArrayType<T: Element>: AsRef<[T]> + AsMut<[T]> + Copy + Eq + core::fmt::Debug;
+    /// Rust's own array of this size.
+    type ArrayType<T: Copy>: AsRef<[T]> + AsMut<[T]> + Copy + IntoIterator<Item = T>;
 
     /// Returns the size as a number.
     ///
@@ -68,45 +58,38 @@ pub trait ArraySize:
     ///
     /// assert_eq!(U66::to_usize(), 66);
     /// ```
+    #[inline]
     fn to_usize() -> usize {
         Self::USIZE
     }
 
-    /// Returns the array that holds one value everywhere.
+    /// Returns the array that holds what the function returns for each index.
     ///
     /// # Examples
     ///
     /// ```
-    /// use sec1::consts::{ArraySize, U4};
+    /// use sec1::consts::{ArraySize, U3};
     ///
-    /// assert_eq!(U4::filled(9), [9, 9, 9, 9]);
+    /// assert_eq!(U3::made_by(|index| index * 2), [0, 2, 4]);
     /// ```
-    fn filled<T: Element>(value: T) -> Self::ArrayType<T>;
+    fn made_by<T: Copy>(element: impl FnMut(usize) -> T) -> Self::ArrayType<T>;
 
-    /// Borrows a slice of this size as an array. Returns `None` for a slice of another size.
+    /// Borrows a slice of this size as an array.
+    ///
+    /// # Errors
+    ///
+    /// An error if the slice has another size.
     ///
     /// # Examples
     ///
     /// ```
     /// use sec1::consts::{ArraySize, U2};
     ///
-    /// assert_eq!(U2::borrowed(&[1, 2]), Some(&[1, 2]));
-    /// assert_eq!(U2::borrowed(&[1, 2, 3]), None);
+    /// assert_eq!(U2::borrowed(&[1, 2]).ok(), Some(&[1, 2]));
+    /// assert!(U2::borrowed(&[1, 2, 3]).is_err());
     /// ```
-    fn borrowed<T: Element>(slice: &[T]) -> Option<&Self::ArrayType<T>>;
+    fn borrowed<T: Copy>(slice: &[T]) -> Result<&Self::ArrayType<T>, TryFromSliceError>;
 }
-
-/// An array whose size is a type. It is Rust's own array: `Array<u8, U32>` is `[u8; 32]`.
-///
-/// # Examples
-///
-/// ```
-/// use sec1::{Array, consts::U32};
-///
-/// let x: Array<u8, U32> = [7; 32];
-/// assert_eq!(x.as_slice(), [7; 32]);
-/// ```
-pub type Array<T, Size> = <Size as ArraySize>::ArrayType<T>;
 
 macro_rules! sizes {
     ($($name:ident $size:literal)*) => {$(
@@ -118,14 +101,23 @@ macro_rules! sizes {
 
         impl ArraySize for $name {
             const USIZE: usize = $size;
-            type ArrayType<T: Element> = [T; $size];
+            type ArrayType<T: Copy> = [T; $size];
 
-            fn filled<T: Element>(value: T) -> [T; $size] {
-                [value; $size]
+            #[inline]
+            fn made_by<T: Copy>(element: impl FnMut(usize) -> T) -> [T; $size] {
+                core::array::from_fn(element)
             }
 
-            fn borrowed<T: Element>(slice: &[T]) -> Option<&[T; $size]> {
-                slice.try_into().ok()
+            #[inline]
+            fn borrowed<T: Copy>(slice: &[T]) -> Result<&[T; $size], TryFromSliceError> {
+                slice.try_into()
+            }
+        }
+
+        impl<T: Copy> From<Array<T, $name>> for [T; $size] {
+            #[inline]
+            fn from(array: Array<T, $name>) -> [T; $size] {
+                array.0
             }
         }
     )*};

@@ -16,14 +16,17 @@ mod writer;
 pub use document::SecretDocument;
 pub use element::{Element, check_tree};
 pub use error::{Error, ErrorKind};
+#[cfg(feature = "alloc")]
+pub(crate) use header::content_len_of;
 pub use header::{Header, Tag};
 pub use reader::{Reader, SliceReader};
-pub use value::{DecodeValue, EncodeValue, FixedTag, Sequence};
+pub use value::{DecodeValue, EncodeValue, FixedTag, Sequence, Tagged};
 pub use writer::{SliceWriter, Writer};
 
 #[cfg(feature = "alloc")]
 use alloc::vec::Vec;
 use core::fmt;
+use core::ops::Add;
 
 /// A `Result` with the error of this module.
 ///
@@ -55,6 +58,55 @@ pub type Result<T, E = Error> = core::result::Result<T, E>;
 /// ```
 #[derive(Clone, Copy, Debug, Default, Eq, Hash, Ord, PartialEq, PartialOrd)]
 pub struct Length(u32);
+
+impl Length {
+    /// No bytes.
+    pub const ZERO: Length = Length(0);
+    /// One byte.
+    pub const ONE: Length = Length(1);
+    /// The greatest length of a content, 268,435,455.
+    pub const MAX: Length = Length(0x0FFF_FFFF);
+
+    /// Returns the sum.
+    #[inline]
+    pub(crate) fn plus(self, other: Length) -> Result<Length> {
+        let sum = self.0.checked_add(other.0).map(Length);
+        sum.ok_or(Error::of_kind(ErrorKind::Overlength))
+    }
+
+    /// Returns the length of a content, which is at most [`MAX`](Self::MAX).
+    #[inline]
+    pub(crate) fn of_content(len: usize) -> Result<Length> {
+        let overlength = Error::of_kind(ErrorKind::Overlength);
+        Length::try_from(len).ok().filter(|len| *len <= Length::MAX).ok_or(overlength)
+    }
+}
+
+/// The sum, or an error of [`ErrorKind::Overlength`].
+///
+/// # Examples
+///
+/// ```
+/// use sec1::der::{Length, Result};
+///
+/// let sum: Result<Length> = Length::ONE + Length::ONE + Length::ONE;
+/// assert_eq!(sum.map(u32::from), Ok(3));
+/// ```
+impl Add for Length {
+    type Output = Result<Length>;
+
+    fn add(self, other: Length) -> Result<Length> {
+        self.plus(other)
+    }
+}
+
+impl Add<Length> for Result<Length> {
+    type Output = Result<Length>;
+
+    fn add(self, other: Length) -> Result<Length> {
+        self?.plus(other)
+    }
+}
 
 impl TryFrom<usize> for Length {
     type Error = Error;
@@ -146,6 +198,17 @@ pub trait Decode<'a>: Sized + 'a {
     }
 }
 
+/// A type that says how its content is read, and what its tag is, is read by that. For a type of
+/// this crate the library reads the whole element.
+impl<'a, T: DecodeValue<'a> + FixedTag + 'a> Decode<'a> for T {
+    type Error = <T as DecodeValue<'a>>::Error;
+
+    #[inline]
+    fn from_der(bytes: &'a [u8]) -> Result<Self, Self::Error> {
+        T::of_element(bytes)
+    }
+}
+
 /// A value that is written as DER.
 ///
 /// # Examples
@@ -217,10 +280,7 @@ pub trait Encode {
     /// # Ok::<(), sec1::der::Error>(())
     /// ```
     #[cfg(feature = "alloc")]
-    fn encode(&self, writer: &mut impl Writer) -> Result<()>
-    where
-        Self: Sized,
-    {
+    fn encode(&self, writer: &mut impl Writer) -> Result<()> {
         writer.write(SecretDocument::encode_msg(self)?.as_bytes())
     }
 
@@ -288,5 +348,19 @@ pub trait Encode {
             true => Ok(buf),
             false => Err(Error::of_kind(ErrorKind::Failed)),
         }
+    }
+}
+
+/// A type that says how its content is written, and what its tag is, is written by that. For a key
+/// the library writes the whole element.
+impl<T: EncodeValue + Tagged + ?Sized> Encode for T {
+    #[inline]
+    fn encoded_len(&self) -> Result<Length> {
+        self.element_len()
+    }
+
+    #[inline]
+    fn encode_to_slice<'b>(&self, buf: &'b mut [u8]) -> Result<&'b [u8]> {
+        self.write_element(buf)
     }
 }

@@ -52,5 +52,4 @@ use crate::der::asn1::ObjectIdentifier;
 ///
 /// assert_eq!(ObjectIdentifier::new("1.2.840.10045.2.1"), Ok(ALGORITHM_OID));
 /// ```
-pub const ALGORITHM_OID: ObjectIdentifier =
-    ObjectIdentifier::literal([0x2A, 0x86, 0x48, 0xCE, 0x3D, 0x02, 0x01]);
+pub const ALGORITHM_OID: ObjectIdentifier = ObjectIdentifier::new_unwrap("1.2.840.10045.2.1");

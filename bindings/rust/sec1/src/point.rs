@@ -30,7 +30,8 @@ use encoding::{Encoding, by_encoding};
 /// use sec1::point::{Coordinates, EncodedPoint, Tag};
 /// use sec1::consts::U32;
 ///
-/// let point = EncodedPoint::<U32>::from_affine_coordinates(&[1; 32], &[2; 32], false);
+/// let (x, y) = ([1; 32].into(), [2; 32].into());
+/// let point = EncodedPoint::<U32>::from_affine_coordinates(&x, &y, false);
 /// assert_eq!(point.tag(), Tag::Uncompressed);
 /// assert_eq!(point.len(), 65);
 ///
@@ -64,11 +65,13 @@ impl<Size: ModulusSize> EncodedPoint<Size> {
     /// assert_eq!(EncodedPoint::<U32>::from_bytes([3; 34]), Err(Error::PointEncoding));
     /// # Ok::<(), Error>(())
     /// ```
+    #[inline]
     pub fn from_bytes(input: impl AsRef<[u8]>) -> Result<Self> {
         Encoding::read(input.as_ref()).and_then(Self::of)
     }
 
     /// Returns the point of an encoding that doesn't have the tag of a hybrid point.
+    #[inline]
     fn of(encoding: Encoding<Size>) -> Result<Self> {
         Ok(Self { encoding, tag: Tag::of_number(encoding.tag())? })
     }
@@ -80,10 +83,12 @@ impl<Size: ModulusSize> EncodedPoint<Size> {
     /// ```
     /// use sec1::{EncodedPoint, consts::U1};
     ///
-    /// assert_eq!(EncodedPoint::<U1>::from_untagged_bytes(&[8, 9]).as_bytes(), [4, 8, 9]);
+    /// let point = EncodedPoint::<U1>::from_untagged_bytes(&[8, 9].into());
+    /// assert_eq!(point.as_bytes(), [4, 8, 9]);
     /// ```
+    #[inline]
     pub fn from_untagged_bytes(bytes: &Array<u8, Size::UntaggedPointSize>) -> Self {
-        let (x, y) = bytes.as_ref().split_at_checked(Size::USIZE).unwrap_or_default();
+        let (x, y) = bytes.split_at_checked(Size::USIZE).unwrap_or_default();
         Self::of_coordinates(x, y, false)
     }
 
@@ -94,19 +99,23 @@ impl<Size: ModulusSize> EncodedPoint<Size> {
     /// ```
     /// use sec1::{EncodedPoint, consts::U1};
     ///
-    /// let point = |compress| EncodedPoint::<U1>::from_affine_coordinates(&[8], &[9], compress);
-    /// assert_eq!(point(false).as_bytes(), [4, 8, 9]);
-    /// assert_eq!(point(true).as_bytes(), [3, 8]);
+    /// let (x, y) = ([8].into(), [9].into());
+    /// let point = EncodedPoint::<U1>::from_affine_coordinates(&x, &y, false);
+    /// assert_eq!(point.as_bytes(), [4, 8, 9]);
+    /// let point = EncodedPoint::<U1>::from_affine_coordinates(&x, &y, true);
+    /// assert_eq!(point.as_bytes(), [3, 8]);
     /// ```
+    #[inline]
     pub fn from_affine_coordinates(
         x: &Array<u8, Size>,
         y: &Array<u8, Size>,
         compress: bool,
     ) -> Self {
-        Self::of_coordinates(x.as_ref(), y.as_ref(), compress)
+        Self::of_coordinates(x, y, compress)
     }
 
     /// Returns the point that the library makes of these coordinates.
+    #[inline]
     fn of_coordinates(x: &[u8], y: &[u8], compress: bool) -> Self {
         // The identity isn't reached: by the types the coordinates have the length of the field.
         Encoding::from_coordinates(x, y, compress).and_then(Self::of).unwrap_or_default()
@@ -121,6 +130,7 @@ impl<Size: ModulusSize> EncodedPoint<Size> {
     ///
     /// assert_eq!(EncodedPoint::<U32>::identity().as_bytes(), [0]);
     /// ```
+    #[inline]
     pub fn identity() -> Self {
         Self { encoding: Encoding::identity(), tag: Tag::Identity }
     }
@@ -135,6 +145,7 @@ impl<Size: ModulusSize> EncodedPoint<Size> {
     /// assert_eq!(EncodedPoint::<U32>::from_bytes([2; 33])?.len(), 33);
     /// # Ok::<(), sec1::Error>(())
     /// ```
+    #[inline]
     pub fn len(&self) -> usize {
         self.as_bytes().len()
     }
@@ -149,6 +160,7 @@ impl<Size: ModulusSize> EncodedPoint<Size> {
     /// assert_eq!(EncodedPoint::<U32>::from_bytes([2; 33])?.as_bytes(), [2; 33]);
     /// # Ok::<(), sec1::Error>(())
     /// ```
+    #[inline]
     pub fn as_bytes(&self) -> &[u8] {
         self.encoding.as_bytes()
     }
@@ -178,6 +190,7 @@ impl<Size: ModulusSize> EncodedPoint<Size> {
     /// assert!(EncodedPoint::<U32>::from_bytes([5; 33])?.is_compact());
     /// # Ok::<(), sec1::Error>(())
     /// ```
+    #[inline]
     pub fn is_compact(&self) -> bool {
         self.tag.is_compact()
     }
@@ -193,6 +206,7 @@ impl<Size: ModulusSize> EncodedPoint<Size> {
     /// assert!(!EncodedPoint::<U32>::from_bytes([5; 33])?.is_compressed());
     /// # Ok::<(), sec1::Error>(())
     /// ```
+    #[inline]
     pub fn is_compressed(&self) -> bool {
         self.tag.is_compressed()
     }
@@ -207,6 +221,7 @@ impl<Size: ModulusSize> EncodedPoint<Size> {
     /// assert!(EncodedPoint::<U32>::from_bytes([0])?.is_identity());
     /// # Ok::<(), sec1::Error>(())
     /// ```
+    #[inline]
     pub fn is_identity(&self) -> bool {
         self.tag.is_identity()
     }
@@ -223,9 +238,17 @@ impl<Size: ModulusSize> EncodedPoint<Size> {
     /// assert_eq!(point.compress(), point);
     /// # Ok::<(), sec1::Error>(())
     /// ```
+    #[inline]
     pub fn compress(&self) -> Self {
-        // Not reached: the library refuses no point. The point itself is the same point.
-        self.encoding.compress().and_then(Self::of).unwrap_or(*self)
+        Self::of_compressed(&self.encoding).unwrap_or(*self)
+    }
+
+    /// Returns the compressed form of a point with both coordinates.
+    #[inline]
+    fn of_compressed(encoding: &Encoding<Size>) -> Option<Self> {
+        let (encoding, y_is_odd) = encoding.compressed()?;
+        let tag = if y_is_odd { Tag::CompressedOddY } else { Tag::CompressedEvenY };
+        Some(Self { encoding, tag })
     }
 
     /// Returns the hybrid form of an uncompressed point, and `None` for any other.
@@ -242,6 +265,7 @@ impl<Size: ModulusSize> EncodedPoint<Size> {
     /// assert_eq!(point.compress().to_hybrid(), None);
     /// # Ok::<(), sec1::Error>(())
     /// ```
+    #[inline]
     pub fn to_hybrid(&self) -> Option<HybridPoint<Size>> {
         self.encoding.to_hybrid().and_then(HybridPoint::of).ok()
     }
@@ -256,6 +280,7 @@ impl<Size: ModulusSize> EncodedPoint<Size> {
     /// assert_eq!(EncodedPoint::<U32>::from_bytes([3; 33])?.tag(), Tag::CompressedOddY);
     /// # Ok::<(), sec1::Error>(())
     /// ```
+    #[inline]
     pub fn tag(&self) -> Tag {
         self.tag
     }
@@ -268,19 +293,17 @@ impl<Size: ModulusSize> EncodedPoint<Size> {
     /// use sec1::{EncodedPoint, consts::U1, point::Coordinates};
     ///
     /// let point = EncodedPoint::<U1>::from_bytes([4, 8, 9])?;
-    /// assert_eq!(point.coordinates(), Coordinates::Uncompressed { x: &[8], y: &[9] });
+    /// let (x, y) = (&[8].into(), &[9].into());
+    /// assert_eq!(point.coordinates(), Coordinates::Uncompressed { x, y });
     /// # Ok::<(), sec1::Error>(())
     /// ```
     #[inline]
     pub fn coordinates(&self) -> Coordinates<'_, Size> {
-        match (self.tag, self.encoding.x(), self.encoding.y()) {
-            (Tag::Compact, Some(x), _) => Coordinates::Compact { x },
-            (Tag::CompressedEvenY, Some(x), _) => Coordinates::Compressed { x, y_is_odd: false },
-            (Tag::CompressedOddY, Some(x), _) => Coordinates::Compressed { x, y_is_odd: true },
-            (Tag::Uncompressed, Some(x), Some(y)) => Coordinates::Uncompressed { x, y },
-            // The identity. Any other tag doesn't get here, since the library has found its
-            // coordinates.
-            _ => Coordinates::Identity,
+        let Some(x) = self.encoding.x() else { return Coordinates::Identity };
+        match (self.tag, self.encoding.y()) {
+            (_, Some(y)) => Coordinates::Uncompressed { x, y },
+            (Tag::Compact, None) => Coordinates::Compact { x },
+            (tag, None) => Coordinates::Compressed { x, y_is_odd: tag == Tag::CompressedOddY },
         }
     }
 
@@ -291,9 +314,10 @@ impl<Size: ModulusSize> EncodedPoint<Size> {
     /// ```
     /// use sec1::{EncodedPoint, consts::U1};
     ///
-    /// assert_eq!(EncodedPoint::<U1>::from_bytes([2, 8])?.x(), Some(&[8]));
+    /// assert_eq!(EncodedPoint::<U1>::from_bytes([2, 8])?.x(), Some(&[8].into()));
     /// # Ok::<(), sec1::Error>(())
     /// ```
+    #[inline]
     pub fn x(&self) -> Option<&Array<u8, Size>> {
         self.encoding.x()
     }
@@ -305,10 +329,11 @@ impl<Size: ModulusSize> EncodedPoint<Size> {
     /// ```
     /// use sec1::{EncodedPoint, consts::U1};
     ///
-    /// assert_eq!(EncodedPoint::<U1>::from_bytes([4, 8, 9])?.y(), Some(&[9]));
+    /// assert_eq!(EncodedPoint::<U1>::from_bytes([4, 8, 9])?.y(), Some(&[9].into()));
     /// assert_eq!(EncodedPoint::<U1>::from_bytes([2, 8])?.y(), None);
     /// # Ok::<(), sec1::Error>(())
     /// ```
+    #[inline]
     pub fn y(&self) -> Option<&Array<u8, Size>> {
         self.encoding.y()
     }
@@ -361,7 +386,7 @@ impl<Size: ModulusSize> ConditionallySelectable for EncodedPoint<Size> {
 ///
 /// let point = EncodedPoint::<U32>::from_bytes([3; 33])?;
 /// let coordinates = point.coordinates();
-/// assert_eq!(coordinates, Coordinates::Compressed { x: &[3; 32], y_is_odd: true });
+/// assert_eq!(coordinates, Coordinates::Compressed { x: &[3; 32].into(), y_is_odd: true });
 /// assert_eq!(coordinates.tag(), Tag::CompressedOddY);
 /// # Ok::<(), sec1::Error>(())
 /// ```
@@ -403,9 +428,11 @@ impl<Size: ModulusSize> Coordinates<'_, Size> {
     /// ```
     /// use sec1::{consts::U1, point::{Coordinates, Tag}};
     ///
-    /// let coordinates: Coordinates<'_, U1> = Coordinates::Compressed { x: &[8], y_is_odd: true };
+    /// let x = [8].into();
+    /// let coordinates: Coordinates<'_, U1> = Coordinates::Compressed { x: &x, y_is_odd: true };
     /// assert_eq!(coordinates.tag(), Tag::CompressedOddY);
     /// ```
+    #[inline]
     pub fn tag(&self) -> Tag {
         match self {
             Coordinates::Identity => Tag::Identity,

@@ -3,9 +3,11 @@
 #[cfg(feature = "alloc")]
 use crate::der::SecretDocument;
 use crate::der::asn1::ObjectIdentifier;
-use crate::der::{self, Decode, DecodeValue, Encode, ErrorKind, Header, Length, Reader};
+use crate::der::{self, Decode, DecodeValue, ErrorKind, Header, Length, Reader};
 #[cfg(feature = "alloc")]
-use crate::der::{Element, EncodeValue, Sequence, Writer};
+use crate::der::{Element, EncodeValue, Sequence, Writer, content_len_of};
+#[cfg(not(feature = "alloc"))]
+use crate::der::{Encode, FixedTag, Tag};
 use crate::raw::{self, Fields};
 use crate::{EcParameters, Error, Result};
 use core::fmt;
@@ -65,12 +67,21 @@ impl EcPrivateKey<'_> {
     }
 }
 
-impl<'a> Decode<'a> for EcPrivateKey<'a> {
+impl<'a> DecodeValue<'a> for EcPrivateKey<'a> {
     type Error = der::Error;
 
-    fn from_der(bytes: &'a [u8]) -> der::Result<Self> {
+    fn decode_value<R: Reader<'a>>(reader: &mut R, header: Header) -> der::Result<Self> {
+        Self::of_element(header.element(reader)?)
+    }
+
+    #[inline]
+    fn of_element(bytes: &'a [u8]) -> der::Result<Self> {
+        // Bytes of another length are refused, and one call says why and where.
+        if !announces_all(bytes) {
+            refusal(bytes).map_or(Ok(()), Err)?;
+        }
         let parts = raw::key_read(bytes)
-            .map_err(|status| der::Error::at(status, raw::key_fault_at(bytes)))?;
+            .map_err(|status| refusal(bytes).unwrap_or(der::Error::of(status)))?;
         let outside = |()| der::Error::of_kind(ErrorKind::Failed);
         let private_key = raw::part(bytes, parts.private_key).map_err(outside)?;
         let curve = raw::part(bytes, parts.curve).map_err(outside)?;
@@ -85,23 +96,53 @@ impl<'a> Decode<'a> for EcPrivateKey<'a> {
     }
 }
 
-impl Encode for EcPrivateKey<'_> {
-    fn encoded_len(&self) -> der::Result<Length> {
+/// Says whether the header of a SEQUENCE of less than 65,536 bytes announces all bytes after it. It
+/// decides which call of the library is made first, and nothing else.
+#[inline]
+fn announces_all(bytes: &[u8]) -> bool {
+    match bytes {
+        [0x30, len @ ..=0x7F, content @ ..] => content.len() == usize::from(*len),
+        [0x30, 0x81, len, content @ ..] => content.len() == usize::from(*len),
+        [0x30, 0x82, a, b, content @ ..] => {
+            content.len() == usize::from(u16::from_be_bytes([*a, *b]))
+        }
+        _ => false,
+    }
+}
+
+/// Returns the error of a refused key, with the offset of its first fault.
+#[cold]
+fn refusal(bytes: &[u8]) -> Option<der::Error> {
+    raw::key_fault_at(bytes).map(|(status, offset)| der::Error::at(status, offset))
+}
+
+impl EcPrivateKey<'_> {
+    /// Returns the length of the encoding.
+    fn len(&self) -> der::Result<Length> {
         let len = self.with_fields(raw::key_len).map_err(der::Error::of)?;
         Length::try_from(len)
     }
 
-    fn encode_to_slice<'b>(&self, buf: &'b mut [u8]) -> der::Result<&'b [u8]> {
+    /// Writes the encoding at the beginning of a slice, and returns what was written.
+    fn write<'b>(&self, buf: &'b mut [u8]) -> der::Result<&'b [u8]> {
         let len = self.with_fields(|fields| raw::key_write(fields, buf)).map_err(der::Error::of)?;
         buf.get(..len).ok_or(der::Error::of_kind(ErrorKind::Failed))
     }
 }
 
-impl<'a> DecodeValue<'a> for EcPrivateKey<'a> {
-    type Error = der::Error;
+#[cfg(not(feature = "alloc"))]
+impl FixedTag for EcPrivateKey<'_> {
+    const TAG: Tag = Tag::Sequence;
+}
 
-    fn decode_value<R: Reader<'a>>(reader: &mut R, header: Header) -> der::Result<Self> {
-        Self::from_der(header.element(reader)?)
+#[cfg(not(feature = "alloc"))]
+impl Encode for EcPrivateKey<'_> {
+    fn encoded_len(&self) -> der::Result<Length> {
+        self.len()
+    }
+
+    fn encode_to_slice<'b>(&self, buf: &'b mut [u8]) -> der::Result<&'b [u8]> {
+        self.write(buf)
     }
 }
 
@@ -109,13 +150,20 @@ impl<'a> DecodeValue<'a> for EcPrivateKey<'a> {
 #[cfg(feature = "alloc")]
 impl EncodeValue for EcPrivateKey<'_> {
     fn value_len(&self) -> der::Result<Length> {
-        let document = SecretDocument::encode_msg(self)?;
-        Element::read(document.as_bytes())?.0.content().len().try_into()
+        content_len_of(self.len()?)
     }
 
     fn encode_value(&self, writer: &mut impl Writer) -> der::Result<()> {
         let document = SecretDocument::encode_msg(self)?;
         writer.write(Element::read(document.as_bytes())?.0.content())
+    }
+
+    fn element_len(&self) -> der::Result<Length> {
+        self.len()
+    }
+
+    fn write_element<'b>(&self, buf: &'b mut [u8]) -> der::Result<&'b [u8]> {
+        self.write(buf)
     }
 }
 

@@ -4,19 +4,19 @@
 //! from one slice, so that many bytes may be read, or written if the slice is `&mut`. What is
 //! written is borrowed by `&mut`, so it overlaps no other argument, and no other thread uses it.
 
-use core::cmp::Ordering;
+use crate::consts::{Array, ArraySize};
+use crate::der::asn1::OctetStringRef;
 use core::num::NonZeroU32;
 use core::sync::atomic::{Ordering as Fence, compiler_fence};
 use sec1_sys::*;
 
-pub(crate) use sec1_sys::{
-    sec1_key_parts as KeyParts, sec1_part as Part, sec1_point_parts as PointParts,
-};
+pub(crate) use sec1_sys::{sec1_key_parts as KeyParts, sec1_part as Part};
 
 /// The number of a refusal.
 pub(crate) type Status = NonZeroU32;
 
 /// Returns the value if the status is that of success.
+#[inline]
 fn answer<T>(status: u32, value: T) -> Result<T, Status> {
     match Status::new(status) {
         None => Ok(value),
@@ -29,6 +29,7 @@ fn answer<T>(status: u32, value: T) -> Result<T, Status> {
 /// # Errors
 ///
 /// The place isn't within the bytes, which the library's contract rules out.
+#[inline]
 pub(crate) fn part(bytes: &[u8], part: Part) -> Result<Option<&[u8]>, ()> {
     if part.present == 0 {
         return Ok(None);
@@ -47,6 +48,7 @@ pub(crate) struct Fields<'a> {
 }
 
 /// Reads a private key, and returns the places of its parts.
+#[inline]
 pub(crate) fn key_read(bytes: &[u8]) -> Result<KeyParts, Status> {
     let mut parts = KeyParts::default();
     // SAFETY: `bytes` is one slice, and `parts` is a place of this function.
@@ -54,15 +56,17 @@ pub(crate) fn key_read(bytes: &[u8]) -> Result<KeyParts, Status> {
     answer(status, parts)
 }
 
-/// Returns the offset of the first fault of a private key that is refused.
-pub(crate) fn key_fault_at(bytes: &[u8]) -> Option<usize> {
+/// Returns the refusal of a private key, and the offset of its first fault.
+#[inline]
+pub(crate) fn key_fault_at(bytes: &[u8]) -> Option<(Status, usize)> {
     let mut offset = 0;
     // SAFETY: `bytes` is one slice, and `offset` is a place of this function.
     let status = unsafe { sec1_key_fault_at(bytes.as_ptr(), bytes.len(), &mut offset) };
-    (status != SEC1_OK).then_some(offset)
+    Status::new(status).map(|status| (status, offset))
 }
 
 /// Returns the length of the encoding of a private key.
+#[inline]
 pub(crate) fn key_len(fields: &Fields<'_>) -> Result<usize, Status> {
     let (public_key, mut len) = (fields.public_key.unwrap_or_default(), 0);
     // SAFETY: each pointer and length are of one slice, and `len` is a place of this function.
@@ -82,6 +86,7 @@ pub(crate) fn key_len(fields: &Fields<'_>) -> Result<usize, Status> {
 }
 
 /// Writes the encoding of a private key at the beginning of `out`, and returns its length.
+#[inline]
 pub(crate) fn key_write(fields: &Fields<'_>, out: &mut [u8]) -> Result<usize, Status> {
     let (public_key, mut len) = (fields.public_key.unwrap_or_default(), 0);
     // SAFETY: each pointer and length are of one slice, `out` is borrowed by `&mut`, and `len` is a
@@ -103,15 +108,16 @@ pub(crate) fn key_write(fields: &Fields<'_>, out: &mut [u8]) -> Result<usize, St
     answer(status, len)
 }
 
-/// Reads a point, and returns its tag and the places of its coordinates.
-pub(crate) fn point_read(bytes: &[u8], field_len: usize) -> Result<PointParts, Status> {
-    let mut parts = PointParts::default();
-    // SAFETY: `bytes` is one slice, and `parts` is a place of this function.
-    let status = unsafe { sec1_point_read(bytes.as_ptr(), bytes.len(), field_len, &mut parts) };
-    answer(status, parts)
+/// Checks that the bytes are the encoding of a point.
+#[inline]
+pub(crate) fn point_check(bytes: &[u8], field_len: usize) -> Result<(), Status> {
+    // SAFETY: the pointer and the length are of one slice.
+    let status = unsafe { sec1_point_check(bytes.as_ptr(), bytes.len(), field_len) };
+    answer(status, ())
 }
 
 /// Returns the length of a point's encoding with this tag.
+#[inline]
 pub(crate) fn point_len(tag: u8, field_len: usize) -> Result<usize, Status> {
     let mut len = 0;
     // SAFETY: `len` is a place of this function.
@@ -119,37 +125,8 @@ pub(crate) fn point_len(tag: u8, field_len: usize) -> Result<usize, Status> {
     answer(status, len)
 }
 
-/// Writes the point at infinity at the beginning of `out`, and returns its length.
-pub(crate) fn point_identity(out: &mut [u8]) -> Result<usize, Status> {
-    let mut len = 0;
-    // SAFETY: `out` is one slice that is borrowed by `&mut`, and `len` is a place of this function.
-    let status = unsafe { sec1_point_identity(out.as_mut_ptr(), out.len(), &mut len) };
-    answer(status, len)
-}
-
-/// Writes the compressed form of a point at the beginning of `out`, and returns its length.
-pub(crate) fn point_compress(
-    bytes: &[u8],
-    field_len: usize,
-    out: &mut [u8],
-) -> Result<usize, Status> {
-    let mut len = 0;
-    // SAFETY: each pointer and length are of one slice, `out` is borrowed by `&mut`, and `len` is a
-    // place of this function.
-    let status = unsafe {
-        sec1_point_compress(
-            bytes.as_ptr(),
-            bytes.len(),
-            field_len,
-            out.as_mut_ptr(),
-            out.len(),
-            &mut len,
-        )
-    };
-    answer(status, len)
-}
-
 /// Writes the hybrid form of a point at the beginning of `out`, and returns its length.
+#[inline]
 pub(crate) fn point_to_hybrid(
     bytes: &[u8],
     field_len: usize,
@@ -172,6 +149,7 @@ pub(crate) fn point_to_hybrid(
 }
 
 /// Writes the hexadecimal text of a point and a byte 0, and returns the length of both.
+#[inline]
 pub(crate) fn point_to_hex(
     bytes: &[u8],
     field_len: usize,
@@ -196,6 +174,7 @@ pub(crate) fn point_to_hex(
 }
 
 /// Writes the point with this hexadecimal text at the beginning of `out`, and returns its length.
+#[inline]
 pub(crate) fn point_from_hex(
     text: &str,
     field_len: usize,
@@ -218,6 +197,7 @@ pub(crate) fn point_from_hex(
 }
 
 /// Writes the point with these coordinates at the beginning of `out`, and returns its length.
+#[inline]
 pub(crate) fn point_from_coordinates(
     x: &[u8],
     y: &[u8],
@@ -242,28 +222,8 @@ pub(crate) fn point_from_coordinates(
     answer(status, len)
 }
 
-/// Compares two points.
-pub(crate) fn point_compare(
-    first: &[u8],
-    second: &[u8],
-    field_len: usize,
-) -> Result<Ordering, Status> {
-    let mut order = 0;
-    // SAFETY: each pointer and length are of one slice, and `order` is a place of this function.
-    let status = unsafe {
-        sec1_point_compare(
-            first.as_ptr(),
-            first.len(),
-            second.as_ptr(),
-            second.len(),
-            field_len,
-            &mut order,
-        )
-    };
-    answer(status, order.cmp(&0))
-}
-
 /// Checks that the bytes are the content of an identifier.
+#[inline]
 pub(crate) fn identifier_check(content: &[u8]) -> Result<(), Status> {
     // SAFETY: the pointer and the length are of one slice.
     let status = unsafe { sec1_identifier_check(content.as_ptr(), content.len()) };
@@ -271,6 +231,7 @@ pub(crate) fn identifier_check(content: &[u8]) -> Result<(), Status> {
 }
 
 /// Writes the text of an identifier and a byte 0, and returns the length of both.
+#[inline]
 pub(crate) fn identifier_to_text(content: &[u8], text: &mut [u8]) -> Result<usize, Status> {
     let mut len = 0;
     // SAFETY: each pointer and length are of one slice, `text` is borrowed by `&mut`, and `len` is
@@ -288,6 +249,7 @@ pub(crate) fn identifier_to_text(content: &[u8], text: &mut [u8]) -> Result<usiz
 }
 
 /// Writes the content of an identifier, and returns its length.
+#[inline]
 pub(crate) fn identifier_from_text(text: &str, content: &mut [u8]) -> Result<usize, Status> {
     let mut len = 0;
     // SAFETY: each pointer and length are of one slice, `content` is borrowed by `&mut`, and `len`
@@ -305,6 +267,7 @@ pub(crate) fn identifier_from_text(text: &str, content: &mut [u8]) -> Result<usi
 }
 
 /// Returns the length of a field element of the curve whose identifier has this content.
+#[inline]
 pub(crate) fn curve_field_len(content: &[u8]) -> Result<usize, Status> {
     let mut len = 0;
     // SAFETY: `content` is one slice, and `len` is a place of this function.
@@ -313,6 +276,7 @@ pub(crate) fn curve_field_len(content: &[u8]) -> Result<usize, Status> {
 }
 
 /// Writes the name of a curve and a byte 0, and returns the length of both.
+#[inline]
 pub(crate) fn curve_name(content: &[u8], name: &mut [u8]) -> Result<usize, Status> {
     let mut len = 0;
     // SAFETY: each pointer and length are of one slice, `name` is borrowed by `&mut`, and `len` is
@@ -324,6 +288,7 @@ pub(crate) fn curve_name(content: &[u8], name: &mut [u8]) -> Result<usize, Statu
 }
 
 /// Writes the content of the identifier of the curve with this name, and returns its length.
+#[inline]
 pub(crate) fn curve_from_name(name: &str, content: &mut [u8]) -> Result<usize, Status> {
     let mut len = 0;
     // SAFETY: each pointer and length are of one slice, `content` is borrowed by `&mut`, and `len`
@@ -341,6 +306,7 @@ pub(crate) fn curve_from_name(name: &str, content: &mut [u8]) -> Result<usize, S
 }
 
 /// Returns the number of elements of the one tree that all of the bytes are.
+#[inline]
 pub(crate) fn check_tree(bytes: &[u8]) -> Result<usize, Status> {
     let mut elements = 0;
     // SAFETY: `bytes` is one slice, and `elements` is a place of this function.
@@ -348,15 +314,17 @@ pub(crate) fn check_tree(bytes: &[u8]) -> Result<usize, Status> {
     answer(status, elements)
 }
 
-/// Returns the offset of the first fault of a tree that is refused.
-pub(crate) fn tree_fault_at(bytes: &[u8]) -> Option<usize> {
+/// Returns the refusal of a tree, and the offset of its first fault.
+#[inline]
+pub(crate) fn tree_fault_at(bytes: &[u8]) -> Option<(Status, usize)> {
     let mut offset = 0;
     // SAFETY: `bytes` is one slice, and `offset` is a place of this function.
     let status = unsafe { sec1_tree_fault_at(bytes.as_ptr(), bytes.len(), &mut offset) };
-    (status != SEC1_OK).then_some(offset)
+    Status::new(status).map(|status| (status, offset))
 }
 
 /// Returns the lengths of the header and of the content of the element that the bytes begin with.
+#[inline]
 pub(crate) fn element_read(bytes: &[u8]) -> Result<(usize, usize), Status> {
     let (mut header_len, mut content_len) = (0, 0);
     // SAFETY: `bytes` is one slice, and the two lengths are places of this function.
@@ -367,6 +335,7 @@ pub(crate) fn element_read(bytes: &[u8]) -> Result<(usize, usize), Status> {
 }
 
 /// Returns the length of the element with this tag and this content.
+#[inline]
 pub(crate) fn element_len(tag: u8, content: &[u8]) -> Result<usize, Status> {
     let (none, mut len): (&mut [u8], usize) = (&mut [], 0);
     // SAFETY: each pointer and length are of one slice, `none` is borrowed by `&mut`, and `len` is
@@ -390,6 +359,7 @@ pub(crate) fn element_len(tag: u8, content: &[u8]) -> Result<usize, Status> {
 
 /// Writes the element with this tag and this content at the beginning of `out`, and returns its
 /// length.
+#[inline]
 pub(crate) fn element_write(tag: u8, content: &[u8], out: &mut [u8]) -> Result<usize, Status> {
     let mut len = 0;
     // SAFETY: each pointer and length are of one slice, `out` is borrowed by `&mut`, and `len` is a
@@ -408,6 +378,7 @@ pub(crate) fn element_write(tag: u8, content: &[u8], out: &mut [u8]) -> Result<u
 }
 
 /// Returns the length of the one element that all of the bytes are.
+#[inline]
 pub(crate) fn document_len(bytes: &[u8]) -> Result<usize, Status> {
     let mut len = 0;
     // SAFETY: `bytes` is one slice, and `len` is a place of this function.
@@ -415,7 +386,24 @@ pub(crate) fn document_len(bytes: &[u8]) -> Result<usize, Status> {
     answer(status, len)
 }
 
+/// Borrows Rust's own array as an `Array`.
+#[inline]
+pub(crate) fn array<T: Copy, Size: ArraySize>(array: &Size::ArrayType<T>) -> &Array<T, Size> {
+    let array: *const Size::ArrayType<T> = array;
+    // SAFETY: an `Array` is laid out as its one field, and the borrow is as long.
+    unsafe { &*array.cast() }
+}
+
+/// Borrows the content of an octet string as one.
+#[inline]
+pub(crate) fn octet_string(content: &[u8]) -> &OctetStringRef {
+    let content: *const [u8] = content;
+    // SAFETY: an `OctetStringRef` is laid out as its one field, and the borrow is as long.
+    unsafe { &*(content as *const OctetStringRef) }
+}
+
 /// Overwrites the bytes with zeros, even if nobody reads them again.
+#[inline]
 pub(crate) fn wipe(bytes: &mut [u8]) {
     for byte in bytes {
         // SAFETY: a `&mut u8` is valid to be written and aligned. A volatile write is never left

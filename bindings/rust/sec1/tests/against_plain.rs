@@ -14,11 +14,11 @@ mod plain;
 mod support;
 
 use plain::Error as P;
-use sec1::consts::{ArraySize, U1, U20, U28, U32, U48, U66};
+use sec1::consts::{U1, U20, U28, U32, U48, U66};
 use sec1::der::asn1::ObjectIdentifier;
 use sec1::der::{Encode, ErrorKind, SecretDocument};
 use sec1::point::{Coordinates, HybridPoint, ModulusSize, Tag};
-use sec1::{ALGORITHM_OID, EcParameters, EcPrivateKey, EncodedPoint, Error};
+use sec1::{ALGORITHM_OID, Array, EcParameters, EcPrivateKey, EncodedPoint, Error};
 use std::collections::hash_map::DefaultHasher;
 use std::hash::{Hash, Hasher};
 
@@ -72,8 +72,8 @@ fn hybrid<Size: ModulusSize>(input: &[u8], n: usize) {
     assert_eq!(point.is_ok(), is_hybrid, "{input:02X?}");
     if let Ok(point) = point {
         assert_eq!((point.as_bytes(), point.y_is_odd()), (input, input[0] == 7));
-        assert_eq!(point.x().map(|x| x.as_ref()), Some(&input[1..=n]));
-        assert_eq!(point.y().map(|y| y.as_ref()), Some(&input[n + 1..]));
+        assert_eq!(point.x().map(|x| x.as_slice()), Some(&input[1..=n]));
+        assert_eq!(point.y().map(|y| y.as_slice()), Some(&input[n + 1..]));
         assert_eq!(point.uncompress().as_bytes(), [&[4], &input[1..]].concat());
         assert_eq!(point.compress().as_bytes(), [&[input[0] - 4], &input[1..=n]].concat());
         assert_eq!(format!("{point:x}").parse(), Ok(point));
@@ -123,8 +123,8 @@ fn points<Size: ModulusSize, const N: usize, const L: usize>(rounds: usize) {
         assert_eq!(ours.tag().message_len(N), input.len());
         assert_eq!(ours.coordinates().tag(), ours.tag());
         let (x, y) = theirs.coordinates();
-        assert_eq!(ours.x().map(|x| x.as_ref()), x.map(|x| &x[..]));
-        assert_eq!(ours.y().map(|y| y.as_ref()), y.map(|y| &y[..]));
+        assert_eq!(ours.x().map(|x| x.as_slice()), x.map(|x| &x[..]));
+        assert_eq!(ours.y().map(|y| y.as_slice()), y.map(|y| &y[..]));
         assert_eq!(ours.compress().as_bytes(), theirs.compress().as_bytes());
         assert_eq!(ours.is_identity(), matches!(ours.coordinates(), Coordinates::Identity));
         assert_eq!(ours.to_hybrid().is_some(), input[0] == 4);
@@ -135,7 +135,7 @@ fn points<Size: ModulusSize, const N: usize, const L: usize>(rounds: usize) {
             assert_eq!((hybrid.uncompress(), hybrid.compress()), (ours, ours.compress()));
             assert_eq!(EncodedPoint::<Size>::from_affine_coordinates(x, y, false), ours);
             assert_eq!(EncodedPoint::<Size>::from_affine_coordinates(x, y, true), ours.compress());
-            let untagged = <Size::UntaggedPointSize as ArraySize>::borrowed(&input[1..]).unwrap();
+            let untagged = <&Array<u8, Size::UntaggedPointSize>>::try_from(&input[1..]).unwrap();
             assert_eq!(EncodedPoint::<Size>::from_untagged_bytes(untagged), ours);
         }
         let (upper, lower) = (format!("{ours}"), format!("{ours:x}"));
@@ -228,6 +228,39 @@ fn agrees_on_keys() {
     assert!(accepted > 100_000, "{accepted}");
 }
 
+/// `new_unwrap`, which is of this crate, accepts what the library accepts.
+fn same_in_a_constant(text: &str) {
+    let constant = std::panic::catch_unwind(|| ObjectIdentifier::new_unwrap(text));
+    assert_eq!(constant.ok(), ObjectIdentifier::new(text).ok(), "{text}");
+}
+
+#[test]
+fn agrees_on_constants() {
+    std::panic::set_hook(Box::new(|_| ()));
+    for arc in ["0", "1", "2", "3", "39", "40", "47", "48", "127", "128", "16383", "16384"] {
+        for other in ["0", "00", "39", "40", "47", "48", "127", "4294967215", "4294967216"] {
+            same_in_a_constant(&format!("{arc}.{other}"));
+            same_in_a_constant(&format!("2.{arc}.{other}"));
+        }
+    }
+    for arc in ["4294967295", "4294967296", "42949672950", "01", "", "+1", "-1", " 1", "1 ", "a"] {
+        for text in [arc.into(), format!("{arc}.1"), format!("1.{arc}"), format!("1.2.{arc}.3")] {
+            same_in_a_constant(&text);
+        }
+    }
+    for text in
+        ["1.2.", ".1.2", "1..2", ".", "1.2.3\0", "1.\u{662}", "0.39", "1.40", "2.4294967295"]
+    {
+        same_in_a_constant(text);
+    }
+    // The content has at most 39 bytes.
+    for arcs in 36..42 {
+        same_in_a_constant(&format!("1.2{}", ".5".repeat(arcs)));
+        same_in_a_constant(&format!("1.2.999{}", ".5".repeat(arcs - 2)));
+        same_in_a_constant(&format!("1.2{}.4294967295", ".5".repeat(arcs - 5)));
+    }
+}
+
 #[test]
 fn agrees_on_identifiers() {
     let mut draw = Draw(6);
@@ -244,6 +277,11 @@ fn agrees_on_identifiers() {
             let text = ours.to_string();
             assert_eq!(text, theirs.to_string());
             assert_eq!(ObjectIdentifier::new(&text), Ok(ours));
+            assert_eq!(ObjectIdentifier::new_unwrap(&text), ours);
+            let arcs: Vec<u32> = text.split('.').map(|arc| arc.parse().unwrap()).collect();
+            assert!(ours.arcs().eq(arcs.iter().copied()), "{text}");
+            assert_eq!((ours.len(), ours.arc(arcs.len())), (arcs.len(), None));
+            assert_eq!(ours.arc(arcs.len() - 1), arcs.last().copied());
             assert_eq!(format!("{ours:?}"), format!("ObjectIdentifier({text})"));
         }
         let alphabet = b"0123456789.+ a";
@@ -255,6 +293,7 @@ fn agrees_on_identifiers() {
         if let (Ok(ours), Ok(theirs)) = (ours, theirs) {
             assert_eq!(ours.as_bytes(), theirs.as_bytes());
         }
+        same_in_a_constant(&text);
     }
     assert_eq!(ObjectIdentifier::new("1.2.840.10045.2.1"), Ok(ALGORITHM_OID));
 }

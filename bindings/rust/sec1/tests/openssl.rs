@@ -8,8 +8,8 @@ mod support;
 use sec1::der::{Encode, ErrorKind};
 use sec1::{EcParameters, EcPrivateKey, Error};
 
-const KEYS: &str = include_str!("../../../../crates/sec1_rewrite/stdin");
-const ANSWERS: &str = include_str!("../../../../crates/sec1_rewrite/stdout");
+const KEYS: &str = include_str!("data/openssl.txt");
+const ANSWERS: &str = include_str!("data/openssl_answers.txt");
 
 fn text(bytes: &[u8]) -> String {
     bytes.iter().map(|byte| format!("{byte:02X}")).collect()

@@ -1,7 +1,8 @@
 //! Pieces of programs that were written for the crate `sec1`: they have to compile and to do the
 //! same.
 #![cfg(feature = "std")]
-#![allow(clippy::unwrap_used, clippy::useless_conversion)]
+#![allow(clippy::unwrap_used, clippy::useless_conversion, clippy::indexing_slicing)]
+#![allow(clippy::arithmetic_side_effects)]
 
 use sec1::consts::{U28, U32, U48, U66};
 use sec1::point::{Coordinates, ModulusSize, Tag};
@@ -24,12 +25,10 @@ where
 {
     match point.coordinates() {
         Coordinates::Identity => (0, Tag::Identity),
-        Coordinates::Compact { x } => (x.as_ref().len(), Tag::Compact),
-        Coordinates::Compressed { x, y_is_odd: true } => (x.as_ref().len(), Tag::CompressedOddY),
-        Coordinates::Compressed { x, y_is_odd: false } => (x.as_ref().len(), Tag::CompressedEvenY),
-        Coordinates::Uncompressed { x, y } => {
-            (x.as_ref().len() + y.as_ref().len(), Tag::Uncompressed)
-        }
+        Coordinates::Compact { x } => (x.len(), Tag::Compact),
+        Coordinates::Compressed { x, y_is_odd: true } => (x.len(), Tag::CompressedOddY),
+        Coordinates::Compressed { x, y_is_odd: false } => (x.len(), Tag::CompressedEvenY),
+        Coordinates::Uncompressed { x, y } => (x.len() + y.len(), Tag::Uncompressed),
     }
 }
 
@@ -128,10 +127,137 @@ fn files_of_keys_are_their_owners() {
 }
 
 #[test]
+fn files_are_replaced_and_hold_one_element() {
+    use der::{ErrorKind, SecretDocument};
+    let path = std::env::temp_dir().join(format!("sec1-file-{}.der", std::process::id()));
+    let key = [0x30, 6, 2, 1, 1, 4, 1, 9];
+    for bytes in [&[0x30, 3, 2, 1, 1, 4, 1, 9][..5], &key, &[5, 0]] {
+        let document = SecretDocument::try_from(bytes).unwrap();
+        // A longer file is there.
+        std::fs::write(&path, [0x55; 300]).unwrap();
+        document.write_der_file(&path).unwrap();
+        assert_eq!(std::fs::read(&path).unwrap(), bytes);
+        assert_eq!(SecretDocument::read_der_file(&path).unwrap().as_bytes(), bytes);
+    }
+    for (behind, kind) in [("\n", ErrorKind::TrailingData), ("\r\n", ErrorKind::TrailingData)] {
+        std::fs::write(&path, [&key, behind.as_bytes()].concat()).unwrap();
+        assert_eq!(SecretDocument::read_der_file(&path).unwrap_err().kind(), kind);
+    }
+    std::fs::write(&path, [b"\n", &key[..]].concat()).unwrap();
+    assert!(SecretDocument::read_der_file(&path).is_err());
+    std::fs::remove_file(&path).unwrap();
+}
+
+#[test]
 fn zeroize_leaves_the_identity() {
     let mut point = EncodedPoint::<U32>::from_bytes([4; 65]).unwrap();
     point.zeroize();
     assert_eq!(point, EncodedPoint::identity());
+    assert_eq!((point.tag(), point.as_bytes()), (Tag::Identity, &[0][..]));
+}
+
+#[test]
+fn debug_shows_points() {
+    use sec1::consts::{U1, U2};
+    use sec1::point::HybridPoint;
+    for (bytes, text) in [
+        (&[0][..], "EncodedPoint(Identity)"),
+        (&[2, 8, 7], "EncodedPoint(Compressed { x: Array([8, 7]), y_is_odd: false })"),
+        (&[3, 8, 7], "EncodedPoint(Compressed { x: Array([8, 7]), y_is_odd: true })"),
+        (&[5, 8, 7], "EncodedPoint(Compact { x: Array([8, 7]) })"),
+        (&[4, 1, 2, 3, 4], "EncodedPoint(Uncompressed { x: Array([1, 2]), y: Array([3, 4]) })"),
+    ] {
+        assert_eq!(format!("{:?}", EncodedPoint::<U2>::from_bytes(bytes).unwrap()), text);
+    }
+    let point = HybridPoint::<U1>::from_bytes([6, 1, 2]).unwrap();
+    let text = "HybridPoint { x: Some(Array([1])), y: Some(Array([2])) }";
+    assert_eq!(format!("{point:?}"), text);
+    assert_eq!(*point.to_bytes(), [6, 1, 2]);
+    assert_eq!(EncodedPoint::from(point).as_bytes(), [4, 1, 2]);
+}
+
+#[test]
+fn tags_of_points_are_told_apart() {
+    let flags = |tag: Tag| (tag.is_identity(), tag.is_compressed(), tag.is_compact());
+    for (tag, len, expected) in [
+        (0, 1, (true, false, false)),
+        (2, 33, (false, true, false)),
+        (3, 33, (false, true, false)),
+        (4, 65, (false, false, false)),
+        (5, 33, (false, false, true)),
+    ] {
+        let mut bytes = vec![1; len];
+        bytes[0] = tag;
+        let point = EncodedPoint::<U32>::from_bytes(&bytes).unwrap();
+        assert_eq!(flags(point.tag()), expected);
+        let flags = (point.is_identity(), point.is_compressed(), point.is_compact());
+        assert_eq!(flags, expected);
+        assert_eq!((*point.to_bytes()).to_vec(), bytes);
+    }
+}
+
+#[test]
+fn errors_have_texts() {
+    for (error, text) in [
+        (sec1::Error::Crypto, "SEC1 cryptographic error"),
+        (sec1::Error::PointEncoding, "elliptic curve point encoding error"),
+        (sec1::Error::Version, "SEC1 version error"),
+        (
+            der::Error::from(der::ErrorKind::Buffer).into(),
+            "SEC1 ASN.1 error: output buffer too small",
+        ),
+        (
+            der::Error::from(der::ErrorKind::Depth).into(),
+            "SEC1 ASN.1 error: more than 64 nested elements",
+        ),
+        (der::Error::from(der::ErrorKind::Memory).into(), "SEC1 ASN.1 error: out of memory"),
+    ] {
+        assert_eq!(error.to_string(), text);
+    }
+}
+
+#[test]
+fn arrays_are_slices() {
+    use sec1::consts::{ArraySize, U3};
+    use std::borrow::{Borrow, BorrowMut};
+    type Three = Array<u8, U3>;
+    let mut array = Three::from([1, 2, 3]);
+    assert_eq!((array[1], &array[1..], array.len(), U3::to_usize()), (2, &[2, 3][..], 3, 3));
+    array[0] = 9;
+    array[1..].reverse();
+    array.iter_mut().for_each(|byte| *byte += 1);
+    assert_eq!((array, array.0), (Three::from([10, 4, 3]), [10, 4, 3]));
+    assert_eq!(array, [10, 4, 3]);
+    assert_eq!([10, 4, 3], array);
+    assert_ne!(array, [10, 4, 4]);
+    assert_ne!([10, 4, 4], array);
+    assert_ne!(array, Three::from([10, 4, 4]));
+    assert!(array > Three::from([10, 4, 2]) && array < Three::from([10, 5, 0]));
+    assert!(array.cmp(&Three::from([10, 4, 2])).is_gt() && array.cmp(&array).is_eq());
+    assert_eq!(array.into_iter().map(u32::from).sum::<u32>(), 17);
+    assert_eq!((&array).into_iter().copied().collect::<Vec<_>>(), [10, 4, 3]);
+    for byte in &mut array {
+        *byte -= 1;
+    }
+    assert_eq!(Three::default(), [0; 3]);
+    assert_eq!(Three::from_fn(|index| 9 - index as u8), [9, 8, 7]);
+    let (slice, own): (&[u8], &[u8; 3]) = (array.as_ref(), array.as_ref());
+    assert_eq!((slice, own), (&[9, 3, 2][..], &[9, 3, 2]));
+    let borrowed: &[u8] = array.borrow();
+    assert_eq!(borrowed, slice);
+    let mut copy = array;
+    let written: &mut [u8] = copy.borrow_mut();
+    written[2] = 0;
+    AsMut::<[u8]>::as_mut(&mut copy)[1] = 0;
+    assert_eq!((copy, array), (Three::from([9, 0, 0]), Three::from([9, 3, 2])));
+    assert_eq!(<&Three>::try_from(&[1, 2, 3][..]).ok(), Some(&Three::from([1, 2, 3])));
+    for wrong in [&[][..], &[1, 2], &[1, 2, 3, 4]] {
+        assert!(Three::try_from(wrong).is_err() && <&Three>::try_from(wrong).is_err());
+    }
+    assert_eq!(format!("{array:?}"), "Array([9, 3, 2])");
+    let hashed = HashMap::from([(array, 1)]);
+    assert_eq!(hashed.get(&[9, 3, 2][..]), Some(&1));
+    assert!(std::panic::catch_unwind(|| array[3]).is_err());
 }
 
 #[test]
@@ -162,7 +288,15 @@ fn debug_shows_no_private_key() {
 fn points_are_selected() {
     use sec1::subtle::{Choice, ConditionallySelectable};
     let (a, b) = (EncodedPoint::<U32>::identity(), EncodedPoint::from_bytes([3; 33]).unwrap());
-    for (choice, chosen) in [(Choice::from(0), a), (Choice::from(1), b), (true.into(), b)] {
+    for (choice, chosen) in [
+        (Choice::from(0), a),
+        (Choice::from(1), b),
+        (Choice::from(2), a),
+        (Choice::from(3), b),
+        (Choice::from(255), b),
+        (true.into(), b),
+        (false.into(), a),
+    ] {
         assert_eq!(EncodedPoint::conditional_select(&a, &b, choice), chosen);
     }
 }
@@ -200,6 +334,8 @@ fn curves_have_names() {
         assert_eq!((curve.identifier().to_string().as_str(), &*curve.to_string()), (text, first));
         assert_eq!(Curve::try_from(curve.identifier()), Ok(curve));
         assert_eq!(Curve::try_from(EcParameters::from(curve)), Ok(curve));
+        assert_eq!(der::asn1::ObjectIdentifier::from(curve).to_string(), text);
+        assert_eq!(EcParameters::from(curve).named_curve(), Some(curve.identifier()));
         assert_eq!(format!("{curve:?}"), format!("Curve({first})"));
     }
     for name in ["", "p-256", "P-256\0", "secp256r1 "] {
@@ -234,6 +370,16 @@ fn faults_have_offsets() {
         let error = check_tree(bytes).unwrap_err();
         assert_eq!((error.kind(), error.position().map(u32::from)), (kind, Some(offset)));
     }
+    let mut deep = vec![];
+    for _ in 0..65 {
+        assert!(check_tree(&deep).is_ok() || deep.is_empty());
+        let len = deep.len() as u8;
+        let header = if len < 128 { vec![0x30, len] } else { vec![0x30, 0x81, len] };
+        deep = [header, deep].concat();
+    }
+    let error = check_tree(&deep).unwrap_err();
+    // The outermost header has three bytes, and the 63 between it and the element two each.
+    assert_eq!((error.kind(), error.position().map(u32::from)), (ErrorKind::Depth, Some(129)));
     assert_eq!(check_tree(&key), Ok(3));
     assert_eq!(der::Element::read(&[4, 0x81, 1]).unwrap_err().position(), None);
     let bytes = [4, 2, 9, 8, 5, 0];

@@ -6,7 +6,7 @@
 use sec1::der::asn1::{AnyRef, ObjectIdentifier};
 use sec1::der::{
     Decode, DecodeValue, Element, Encode, EncodeValue, ErrorKind, FixedTag, Header, Length, Reader,
-    Result, Sequence, SliceReader, SliceWriter, Tag, Writer,
+    Result, Sequence, SliceReader, SliceWriter, Tag, Tagged, Writer,
 };
 use sec1::{ALGORITHM_OID, Curve, EcParameters, EcPrivateKey};
 
@@ -26,7 +26,7 @@ impl Writer for Kept {
 }
 
 /// Writes a value in each way.
-fn writes<T: Encode + EncodeValue>(value: &T, element: &[u8], content: &[u8]) {
+fn writes<T: Encode + EncodeValue + ?Sized>(value: &T, element: &[u8], content: &[u8]) {
     assert_eq!(value.encoded_len().map(usize::try_from), Ok(Ok(element.len())));
     assert_eq!(value.value_len().map(usize::try_from), Ok(Ok(content.len())));
     assert_eq!(value.to_der().as_deref(), Ok(element));
@@ -123,6 +123,47 @@ fn values_are_read() {
     assert_eq!(error.kind(), ErrorKind::Value);
     let error = AnyRef::new(Tag::OctetString, &vec![0; 268_435_456]).unwrap_err();
     assert_eq!(error.kind(), ErrorKind::Overlength);
+}
+
+#[test]
+fn strings_are_read_and_written() {
+    use sec1::der::asn1::{BitStringRef, OctetStringRef};
+    let octets = OctetStringRef::new(&[8, 9]).unwrap();
+    writes(octets, &[4, 2, 8, 9], &[8, 9]);
+    writes(&octets, &[4, 2, 8, 9], &[8, 9]);
+    reads(&[4, 2, 8, 9], |read: &OctetStringRef| read == octets);
+    assert_eq!((octets.as_bytes(), octets.as_ref()), (&[8, 9][..], &[8, 9][..]));
+    assert_eq!(<&OctetStringRef>::try_from(&[8, 9][..]), Ok(octets));
+    assert_eq!(format!("{octets:?}"), "OctetStringRef { .. }");
+    let error = <&OctetStringRef>::from_der(&[3, 1, 0]).unwrap_err();
+    assert_eq!((error.kind(), error.position()), (ErrorKind::Tag, Some(Length::ZERO)));
+    let error = OctetStringRef::new(&vec![0; 268_435_456]).unwrap_err();
+    assert_eq!(error.kind(), ErrorKind::Overlength);
+
+    let bits = BitStringRef::new(4, &[8, 0x90]).unwrap();
+    writes(&bits, &[3, 3, 4, 8, 0x90], &[4, 8, 0x90]);
+    reads(&[3, 3, 4, 8, 0x90], |read: BitStringRef<'_>| read == bits);
+    assert_eq!((bits.unused_bits(), bits.raw_bytes(), bits.as_bytes()), (4, &[8, 0x90][..], None));
+    let none = BitStringRef::from_bytes(&[]).unwrap();
+    writes(&none, &[3, 1, 0], &[0]);
+    reads(&[3, 1, 0], |read: BitStringRef<'_>| read.as_bytes() == Some(&[]));
+    assert_eq!(format!("{bits:?}"), "BitStringRef { unused_bits: 4, .. }");
+    for wrong in [&[3, 0][..], &[3, 1, 1], &[3, 2, 8, 0], &[3, 2, 5, 0x90], &[3, 2, 255, 0]] {
+        assert_eq!(BitStringRef::from_der(wrong).unwrap_err().kind(), ErrorKind::Value);
+    }
+    assert!(BitStringRef::new(7, &[0x80]).is_ok() && BitStringRef::new(7, &[0x40]).is_err());
+    let bytes = vec![0; 268_435_455];
+    assert_eq!(BitStringRef::from_bytes(&bytes).unwrap_err().kind(), ErrorKind::Overlength);
+}
+
+#[test]
+fn lengths_are_added() {
+    let len = |len: usize| Length::try_from(len).unwrap();
+    assert_eq!((len(3) + len(4), len(3) + len(4) + len(5)), (Ok(len(7)), Ok(len(12))));
+    let most = len(u32::MAX as usize);
+    assert_eq!((most + Length::ONE).unwrap_err().kind(), ErrorKind::Overlength);
+    assert_eq!((most + Length::ONE + Length::ONE).unwrap_err().kind(), ErrorKind::Overlength);
+    assert_eq!((Length::ZERO, Length::MAX), (len(0), len(268_435_455)));
 }
 
 #[test]
@@ -223,6 +264,10 @@ impl EncodeValue for Algorithm {
 
 impl Sequence<'_> for Algorithm {}
 
+fn refuses(bytes: &[u8], kind: ErrorKind) {
+    assert_eq!(Algorithm::from_der(bytes).unwrap_err().kind(), kind, "{bytes:?}");
+}
+
 #[test]
 fn a_program_has_its_own_sequence() {
     let content = [&[6, 7, 0x2A, 0x86, 0x48, 0xCE, 0x3D, 2, 1], &CURVE[..]].concat();
@@ -234,6 +279,18 @@ fn a_program_has_its_own_sequence() {
     let parameters = Curve::new("P-256").unwrap().into();
     assert_eq!(read, Algorithm { algorithm: ALGORITHM_OID, parameters });
     assert_eq!(read.value_len().map(u32::from), Ok(19));
+    assert_eq!(Algorithm::from_der(&element).as_ref(), Ok(&read));
+    assert_eq!((read.to_der().as_ref(), read.tag()), (Ok(&element), Tag::Sequence));
+    let around = [&element[..], &[5, 0]].concat();
+    let mut reader = SliceReader::new(&around).unwrap();
+    assert_eq!(reader.decode::<Algorithm>().as_ref(), Ok(&read));
+    assert_eq!(u32::from(reader.position()), 21);
+    refuses(&around, ErrorKind::TrailingData);
+    refuses(&element[..20], ErrorKind::Truncated);
+    // The content has one more element, or one less, or the tag isn't the sequence's.
+    refuses(&[&[0x30, 21], &content[..], &[5, 0]].concat(), ErrorKind::TrailingData);
+    refuses(&[&[0x30, 9], &content[..9], &CURVE].concat(), ErrorKind::Truncated);
+    refuses(&[&[0x31, 19], &content[..]].concat(), ErrorKind::Tag);
     let mut kept = Kept(vec![]);
     read.encode_value(&mut kept).unwrap();
     assert_eq!(AnyRef::new(Algorithm::TAG, &kept.0).unwrap().to_der(), Ok(element.clone()));

@@ -1,8 +1,12 @@
-//! Object identifiers (X.690 section 8.19), and elements with any tag.
+//! Object identifiers (X.690 section 8.19), octet strings, bit strings, and elements with any tag.
 
 mod any;
+mod arcs;
+mod strings;
 
 pub use any::AnyRef;
+pub use arcs::{Arc, Arcs};
+pub use strings::{BitStringRef, OctetStringRef};
 
 use super::{Error, ErrorKind, Result};
 use crate::raw;
@@ -53,6 +57,34 @@ impl ObjectIdentifier {
         Ok(ObjectIdentifier { content, len })
     }
 
+    /// Returns the identifier with this dotted text, for constants.
+    ///
+    /// # Panics
+    ///
+    /// Where [`new`](Self::new) returns an error: in a constant, that is when it is compiled.
+    ///
+    /// # Examples
+    ///
+    /// ```
+    /// use sec1::der::asn1::ObjectIdentifier;
+    ///
+    /// const P256: ObjectIdentifier = ObjectIdentifier::new_unwrap("1.2.840.10045.3.1.7");
+    /// assert_eq!(ObjectIdentifier::new("1.2.840.10045.3.1.7"), Ok(P256));
+    /// ```
+    ///
+    /// ```compile_fail
+    /// use sec1::der::asn1::ObjectIdentifier;
+    ///
+    /// const NONE: ObjectIdentifier = ObjectIdentifier::new_unwrap("1.40");
+    /// ```
+    #[allow(clippy::panic)]
+    pub const fn new_unwrap(text: &str) -> Self {
+        match arcs::content_of(text.as_bytes()) {
+            Some((content, len)) => ObjectIdentifier { content, len },
+            None => panic!("not the text of an object identifier"),
+        }
+    }
+
     /// Returns the identifier with this content.
     ///
     /// # Errors
@@ -82,15 +114,6 @@ impl ObjectIdentifier {
         Ok(ObjectIdentifier { content, len })
     }
 
-    /// An identifier of this crate. A test compares it with what the library makes of its text.
-    pub(crate) const fn literal(bytes: [u8; 7]) -> Self {
-        let mut content = [0; CONTENT_MAX];
-        if let Some((first, _)) = content.split_first_chunk_mut() {
-            *first = bytes;
-        }
-        ObjectIdentifier { content, len: 7 }
-    }
-
     /// Borrows the content.
     ///
     /// # Examples
@@ -101,8 +124,50 @@ impl ObjectIdentifier {
     /// assert_eq!(ObjectIdentifier::new("1.2")?.as_bytes(), [0x2A]);
     /// # Ok::<(), sec1::der::Error>(())
     /// ```
+    #[inline]
     pub fn as_bytes(&self) -> &[u8] {
         self.content.get(..usize::from(self.len)).unwrap_or_default()
+    }
+
+    /// Returns the arcs, which are the numbers of the dotted text.
+    ///
+    /// # Examples
+    ///
+    /// ```
+    /// use sec1::der::asn1::ObjectIdentifier;
+    ///
+    /// const SHA256: ObjectIdentifier = ObjectIdentifier::new_unwrap("2.16.840.1.101.3.4.2.1");
+    /// assert!(SHA256.arcs().eq([2, 16, 840, 1, 101, 3, 4, 2, 1]));
+    /// ```
+    pub fn arcs(&self) -> Arcs<'_> {
+        Arcs::new(self.as_bytes())
+    }
+
+    /// Returns the arc at this index, or `None` from the number of arcs on.
+    ///
+    /// # Examples
+    ///
+    /// ```
+    /// use sec1::ALGORITHM_OID;
+    ///
+    /// assert_eq!((ALGORITHM_OID.arc(2), ALGORITHM_OID.arc(6)), (Some(840), None));
+    /// ```
+    pub fn arc(&self, index: usize) -> Option<Arc> {
+        self.arcs().nth(index)
+    }
+
+    /// Returns the number of arcs, which is at least 2.
+    ///
+    /// # Examples
+    ///
+    /// ```
+    /// use sec1::ALGORITHM_OID;
+    ///
+    /// assert_eq!(ALGORITHM_OID.len(), 6);
+    /// ```
+    #[allow(clippy::len_without_is_empty)]
+    pub fn len(&self) -> usize {
+        self.arcs().count()
     }
 }
 

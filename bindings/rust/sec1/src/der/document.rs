@@ -91,7 +91,7 @@ impl SecretDocument {
     /// assert_eq!(u32::from(SecretDocument::encode_msg(&key)?.len()), 8);
     /// # Ok::<(), sec1::der::Error>(())
     /// ```
-    pub fn encode_msg<T: Encode>(value: &T) -> Result<Self> {
+    pub fn encode_msg<T: Encode + ?Sized>(value: &T) -> Result<Self> {
         Self::try_from(value.to_der()?)
     }
 

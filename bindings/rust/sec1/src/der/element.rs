@@ -112,5 +112,7 @@ impl fmt::Debug for Element<'_> {
 /// assert_eq!(error.position().map(u32::from), Some(3));
 /// ```
 pub fn check_tree(bytes: &[u8]) -> Result<usize> {
-    raw::check_tree(bytes).map_err(|status| Error::at(status, raw::tree_fault_at(bytes)))
+    raw::check_tree(bytes).map_err(|status| {
+        raw::tree_fault_at(bytes).map_or(Error::of(status), |(status, at)| Error::at(status, at))
+    })
 }

@@ -104,9 +104,8 @@ impl Error {
     }
 
     /// Returns the error of a status, at the offset that the library stored.
-    pub(crate) fn at(status: Status, offset: Option<usize>) -> Error {
-        let position = offset.and_then(|offset| Length::try_from(offset).ok());
-        Error { position, ..Error::of(status) }
+    pub(crate) fn at(status: Status, offset: usize) -> Error {
+        Error { position: Length::try_from(offset).ok(), ..Error::of(status) }
     }
 
     /// Returns the kind of the error.

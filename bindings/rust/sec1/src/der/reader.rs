@@ -178,9 +178,18 @@ impl<'r> SliceReader<'r> {
     pub fn new(input: &'r [u8]) -> Result<Self> {
         Ok(SliceReader { input, len: input.len().try_into()?, position: Length::default() })
     }
+
+    /// Returns a reader at the same position, whose bytes end after so many more.
+    pub(super) fn to_content(&self, len: Length) -> Result<Self> {
+        let end = self.position.plus(len)?;
+        let input = self.input.get(..usize::try_from(end)?);
+        let input = input.ok_or(Error::of_kind(ErrorKind::Truncated))?;
+        Ok(SliceReader { input, len: end, position: self.position })
+    }
 }
 
 impl<'r> sealed::Input<'r> for SliceReader<'r> {
+    #[inline]
     fn input(&self) -> &'r [u8] {
         self.input
     }

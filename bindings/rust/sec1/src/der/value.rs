@@ -1,6 +1,8 @@
 //! The contents of elements.
 
-use super::{Error, Header, Length, Reader, Result, Tag, Writer};
+use super::{
+    Error, ErrorKind, Header, Length, Reader, Result, SliceReader, SliceWriter, Tag, Writer,
+};
 
 /// A type whose elements have one tag.
 ///
@@ -11,12 +13,46 @@ use super::{Error, Header, Length, Reader, Result, Tag, Writer};
 /// use sec1::{EcParameters, EcPrivateKey};
 ///
 /// assert_eq!(EcParameters::TAG, Tag::ObjectIdentifier);
-/// # #[cfg(feature = "alloc")]
 /// assert_eq!(EcPrivateKey::TAG, Tag::Sequence);
 /// ```
 pub trait FixedTag {
     /// The tag.
     const TAG: Tag;
+}
+
+/// A value that knows the tag of its element.
+///
+/// # Examples
+///
+/// ```
+/// use sec1::ALGORITHM_OID;
+/// use sec1::der::{Tag, Tagged};
+///
+/// assert_eq!(ALGORITHM_OID.tag(), Tag::ObjectIdentifier);
+/// ```
+pub trait Tagged {
+    /// Returns the tag.
+    ///
+    /// # Examples
+    ///
+    /// ```
+    /// use sec1::der::{Tag, Tagged, asn1::AnyRef};
+    ///
+    /// fn is_sequence(value: &impl Tagged) -> bool {
+    ///     value.tag() == Tag::Sequence
+    /// }
+    ///
+    /// assert!(is_sequence(&AnyRef::new(Tag::Sequence, &[])?));
+    /// # Ok::<(), sec1::der::Error>(())
+    /// ```
+    fn tag(&self) -> Tag;
+}
+
+impl<T: FixedTag + ?Sized> Tagged for T {
+    #[inline]
+    fn tag(&self) -> Tag {
+        T::TAG
+    }
 }
 
 /// A value that is read from the content of an element.
@@ -55,6 +91,27 @@ pub trait DecodeValue<'a>: Sized {
     /// # Ok::<(), sec1::der::Error>(())
     /// ```
     fn decode_value<R: Reader<'a>>(reader: &mut R, header: Header) -> Result<Self, Self::Error>;
+
+    /// Reads the value from its element, which is all of the bytes. The types whose elements the
+    /// library reads have a body of their own.
+    #[doc(hidden)]
+    fn of_element(bytes: &'a [u8]) -> Result<Self, Self::Error>
+    where
+        Self: FixedTag,
+    {
+        let mut reader = SliceReader::new(bytes)?;
+        let header = Header::decode(&mut reader)?;
+        if header.tag() != Self::TAG {
+            return Err(Error::new(ErrorKind::Tag, Length::ZERO).into());
+        }
+        // The content ends where the value has to, so that a part of it reads nothing behind.
+        let mut content = reader.to_content(header.length())?;
+        let value = Self::decode_value(&mut content, header)?;
+        reader.read_slice(header.length())?;
+        content.finish()?;
+        reader.finish()?;
+        Ok(value)
+    }
 }
 
 /// A value that is written as the content of an element.
@@ -105,6 +162,51 @@ pub trait EncodeValue {
     /// # Ok::<(), sec1::der::Error>(())
     /// ```
     fn encode_value(&self, writer: &mut impl Writer) -> Result<()>;
+
+    /// Returns the header of the element with this content.
+    ///
+    /// # Errors
+    ///
+    /// Those of [`value_len`](Self::value_len) and of [`Header::new`].
+    ///
+    /// # Examples
+    ///
+    /// ```
+    /// use sec1::ALGORITHM_OID;
+    /// use sec1::der::{EncodeValue, Header, Length, Tag};
+    ///
+    /// let length = Length::try_from(7_usize)?;
+    /// assert_eq!(ALGORITHM_OID.header(), Header::new(Tag::ObjectIdentifier, length));
+    /// # Ok::<(), sec1::der::Error>(())
+    /// ```
+    fn header(&self) -> Result<Header>
+    where
+        Self: Tagged,
+    {
+        Header::new(self.tag(), self.value_len()?)
+    }
+
+    /// Returns the length of the element.
+    #[doc(hidden)]
+    fn element_len(&self) -> Result<Length>
+    where
+        Self: Tagged,
+    {
+        let header = self.header()?;
+        header.encoded_len().plus(header.length())
+    }
+
+    /// Writes the element at the beginning of a slice, and returns what was written.
+    #[doc(hidden)]
+    fn write_element<'b>(&self, buf: &'b mut [u8]) -> Result<&'b [u8]>
+    where
+        Self: Tagged,
+    {
+        let mut writer = SliceWriter::new(buf);
+        self.header()?.encode(&mut writer)?;
+        self.encode_value(&mut writer)?;
+        writer.finish()
+    }
 }
 
 /// A value whose element is a SEQUENCE.

@@ -119,7 +119,7 @@ impl<'a> SliceWriter<'a> {
     /// assert_eq!(error.kind(), ErrorKind::Buffer);
     /// # Ok::<(), sec1::der::Error>(())
     /// ```
-    pub fn encode<T: Encode>(&mut self, value: &T) -> Result<()> {
+    pub fn encode<T: Encode + ?Sized>(&mut self, value: &T) -> Result<()> {
         let room = self.bytes.get_mut(self.position..).unwrap_or_default();
         let written = value.encode_to_slice(room)?.len();
         self.position = self.position.saturating_add(written);

@@ -2,9 +2,8 @@
 
 use super::ModulusSize;
 use crate::consts::{Array, ArraySize};
-use crate::raw::{self, Part, PointParts, Status};
+use crate::raw::{self, Status};
 use crate::{Error, Result};
-use core::cmp::Ordering;
 use core::{fmt, str};
 
 /// Room for an encoding.
@@ -15,107 +14,113 @@ type Room<Size> = Array<u8, <Size as ModulusSize>::UncompressedPointSize>;
 pub(super) struct Encoding<Size: ModulusSize> {
     // The encoding, followed by zeros.
     bytes: Room<Size>,
-    // What the library returned: the length and the tag, and where the coordinates begin.
     len: u8,
-    tag: u8,
-    x: Option<u8>,
-    y: Option<u8>,
 }
 
 impl<Size: ModulusSize> Encoding<Size> {
-    /// Returns room for an encoding.
-    fn room() -> Room<Size> {
-        Size::UncompressedPointSize::filled(0)
-    }
-
     /// Reads a point of any tag.
+    #[inline]
     pub(super) fn read(input: &[u8]) -> Result<Self> {
-        let parts = raw::point_read(input, Size::USIZE).map_err(|_| Error::PointEncoding)?;
-        let mut bytes = Self::room();
-        bytes.as_mut().get_mut(..input.len()).ok_or(Error::PointEncoding)?.copy_from_slice(input);
-        Self::of_parts(bytes, input.len(), parts)
+        raw::point_check(input, Size::USIZE).map_err(|_| Error::PointEncoding)?;
+        let mut bytes = Room::<Size>::default();
+        bytes.get_mut(..input.len()).ok_or(Error::PointEncoding)?.copy_from_slice(input);
+        Self::of_len(bytes, input.len())
     }
 
     /// Returns what a function of the library writes.
-    pub(super) fn written(
+    #[inline]
+    fn written(
         write: impl FnOnce(&mut [u8]) -> core::result::Result<usize, Status>,
     ) -> Result<Self> {
-        let mut bytes = Self::room();
-        let len = write(bytes.as_mut()).map_err(|_| Error::PointEncoding)?;
-        let written = bytes.as_ref().get(..len).ok_or(Error::PointEncoding)?;
-        let parts = raw::point_read(written, Size::USIZE).map_err(|_| Error::PointEncoding)?;
-        Self::of_parts(bytes, len, parts)
+        let mut bytes = Room::<Size>::default();
+        let len = write(&mut bytes).map_err(|_| Error::PointEncoding)?;
+        Self::of_len(bytes, len)
     }
 
-    /// Keeps what the library stored for an encoding.
-    fn of_parts(bytes: Room<Size>, len: usize, parts: PointParts) -> Result<Self> {
-        let small = |number: usize| u8::try_from(number).map_err(|_| Error::PointEncoding);
-        let begin = |part: Part| match part.present {
-            0 => Ok(None),
-            _ => small(part.offset).map(Some),
-        };
-        let (x, y) = (begin(parts.x)?, begin(parts.y)?);
-        Ok(Self { bytes, len: small(len)?, tag: small(parts.tag)?, x, y })
+    /// Returns the encoding that has this length.
+    #[inline]
+    fn of_len(bytes: Room<Size>, len: usize) -> Result<Self> {
+        Ok(Self { bytes, len: u8::try_from(len).map_err(|_| Error::PointEncoding)? })
     }
 
-    /// Returns the point at infinity.
+    /// Returns the point at infinity, which is one byte 0.
+    #[inline]
     pub(super) fn identity() -> Self {
-        // Not reached: there is room for the one byte. An empty encoding is that of no point.
-        let empty = Self { bytes: Self::room(), len: 0, tag: 0, x: None, y: None };
-        Self::written(raw::point_identity).unwrap_or(empty)
+        Self { bytes: Room::<Size>::default(), len: 1 }
     }
 
     /// Returns the uncompressed point with these coordinates, or its compressed form.
+    #[inline]
     pub(super) fn from_coordinates(x: &[u8], y: &[u8], compress: bool) -> Result<Self> {
         Self::written(|out| raw::point_from_coordinates(x, y, compress, out))
     }
 
     /// Reads a hexadecimal text.
+    #[inline]
     pub(super) fn from_hex(text: &str) -> Result<Self> {
         Self::written(|out| raw::point_from_hex(text, Size::USIZE, out))
     }
 
-    /// Returns the compressed form.
-    pub(super) fn compress(&self) -> Result<Self> {
-        Self::written(|out| raw::point_compress(self.as_bytes(), Size::USIZE, out))
+    /// Returns the compressed form of a point with both coordinates, and whether y is odd, which
+    /// its tag says (SEC1 v2.0 section 2.3.3). Returns `None` for any other point.
+    #[inline]
+    pub(super) fn compressed(&self) -> Option<(Self, bool)> {
+        let y_is_odd = self.y()?.last()? % 2 == 1;
+        let mut bytes = self.bytes;
+        let (tag, rest) = bytes.split_first_mut()?;
+        *tag = match y_is_odd {
+            false => sec1_sys::SEC1_POINT_COMPRESSED_EVEN,
+            true => sec1_sys::SEC1_POINT_COMPRESSED_ODD,
+        };
+        rest.get_mut(Size::USIZE..)?.fill(0);
+        let len = u8::try_from(Size::CompressedPointSize::USIZE).ok()?;
+        Some((Self { bytes, len }, y_is_odd))
     }
 
     /// Returns the hybrid form of an uncompressed point, and any other point as it is.
+    #[inline]
     pub(super) fn to_hybrid(self) -> Result<Self> {
         Self::written(|out| raw::point_to_hybrid(self.as_bytes(), Size::USIZE, out))
     }
 
     /// Returns the first byte.
+    #[inline]
     pub(super) fn tag(&self) -> u8 {
-        self.tag
+        self.bytes.first().copied().unwrap_or_default()
     }
 
     /// Borrows the bytes.
+    #[inline]
     pub(super) fn as_bytes(&self) -> &[u8] {
-        self.bytes.as_ref().get(..usize::from(self.len)).unwrap_or_default()
+        self.bytes.get(..usize::from(self.len)).unwrap_or_default()
     }
 
-    /// Borrows the x-coordinate.
+    /// Borrows the x-coordinate, which is after the tag of each point but the identity.
+    #[inline]
     pub(super) fn x(&self) -> Option<&Array<u8, Size>> {
-        self.coordinate(self.x)
+        match self.tag() {
+            sec1_sys::SEC1_POINT_IDENTITY => None,
+            _ => self.after_tag()?.get(..Size::USIZE)?.try_into().ok(),
+        }
     }
 
-    /// Borrows the y-coordinate.
+    /// Borrows the y-coordinate, which is after x in uncompressed and in hybrid points.
+    #[inline]
     pub(super) fn y(&self) -> Option<&Array<u8, Size>> {
-        self.coordinate(self.y)
+        match self.tag() {
+            sec1_sys::SEC1_POINT_UNCOMPRESSED
+            | sec1_sys::SEC1_POINT_HYBRID_EVEN
+            | sec1_sys::SEC1_POINT_HYBRID_ODD => {
+                self.after_tag()?.get(Size::USIZE..)?.try_into().ok()
+            }
+            _ => None,
+        }
     }
 
-    /// Borrows the coordinate that begins here.
-    fn coordinate(&self, begin: Option<u8>) -> Option<&Array<u8, Size>> {
-        let rest = self.bytes.as_ref().get(usize::from(begin?)..)?;
-        Size::borrowed(rest.get(..Size::USIZE)?)
-    }
-
-    /// Compares two points.
-    pub(super) fn compare(&self, other: &Self) -> Ordering {
-        let (first, second) = (self.as_bytes(), other.as_bytes());
-        // Not reached: the library compares any two points. `Less` never takes two for the same.
-        raw::point_compare(first, second, Size::USIZE).unwrap_or(Ordering::Less)
+    /// Borrows the room after the tag.
+    #[inline]
+    fn after_tag(&self) -> Option<&[u8]> {
+        self.bytes.get(1..)
     }
 
     /// Prints the bytes in hexadecimal.
@@ -130,7 +135,7 @@ impl<Size: ModulusSize> Encoding<Size> {
 
     /// Overwrites the bytes with zeros.
     pub(super) fn wipe(&mut self) {
-        raw::wipe(self.bytes.as_mut());
+        raw::wipe(&mut self.bytes);
     }
 }
 
@@ -138,6 +143,7 @@ impl<Size: ModulusSize> Encoding<Size> {
 macro_rules! by_encoding {
     ($name:ident) => {
         impl<Size: ModulusSize> AsRef<[u8]> for $name<Size> {
+            #[inline]
             fn as_ref(&self) -> &[u8] {
                 self.as_bytes()
             }
@@ -146,32 +152,37 @@ macro_rules! by_encoding {
         impl<Size: ModulusSize> Eq for $name<Size> {}
 
         impl<Size: ModulusSize> PartialEq for $name<Size> {
+            #[inline]
             fn eq(&self, other: &Self) -> bool {
-                self.cmp(other) == Ordering::Equal
+                self.as_bytes() == other.as_bytes()
             }
         }
 
         impl<Size: ModulusSize> Hash for $name<Size> {
+            #[inline]
             fn hash<H: Hasher>(&self, state: &mut H) {
                 self.as_bytes().hash(state);
             }
         }
 
         impl<Size: ModulusSize> PartialOrd for $name<Size> {
+            #[inline]
             fn partial_cmp(&self, other: &Self) -> Option<Ordering> {
                 Some(self.cmp(other))
             }
         }
 
         impl<Size: ModulusSize> Ord for $name<Size> {
+            #[inline]
             fn cmp(&self, other: &Self) -> Ordering {
-                self.encoding.compare(&other.encoding)
+                self.as_bytes().cmp(other.as_bytes())
             }
         }
 
         impl<Size: ModulusSize> TryFrom<&[u8]> for $name<Size> {
             type Error = Error;
 
+            #[inline]
             fn try_from(bytes: &[u8]) -> Result<Self> {
                 Self::from_bytes(bytes)
             }

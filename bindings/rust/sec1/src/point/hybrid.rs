@@ -31,7 +31,7 @@ use core::str::FromStr;
 /// let mut bytes = [5; 65];
 /// bytes[0] = 7;
 /// assert!(EncodedPoint::<U32>::from_bytes(bytes).is_err());
-/// assert_eq!(read(&bytes)?.y(), Some(&[5; 32]));
+/// assert_eq!(read(&bytes)?.y(), Some(&[5; 32].into()));
 /// bytes[0] = 6;
 /// assert!(read(&bytes).is_err());
 /// # Ok::<(), sec1::Error>(())
@@ -58,11 +58,13 @@ impl<Size: ModulusSize> HybridPoint<Size> {
     /// assert_eq!(HybridPoint::<U2>::from_bytes([4, 1, 2, 3, 5]), Err(Error::PointEncoding));
     /// # Ok::<(), Error>(())
     /// ```
+    #[inline]
     pub fn from_bytes(input: impl AsRef<[u8]>) -> Result<Self> {
         Encoding::read(input.as_ref()).and_then(Self::of)
     }
 
     /// Returns the point of an encoding that has the tag of a hybrid one.
+    #[inline]
     pub(super) fn of(encoding: Encoding<Size>) -> Result<Self> {
         match encoding.tag() {
             sec1_sys::SEC1_POINT_HYBRID_EVEN => Ok(HybridPoint { encoding, y_is_odd: false }),
@@ -81,6 +83,7 @@ impl<Size: ModulusSize> HybridPoint<Size> {
     /// assert_eq!(HybridPoint::<U1>::from_bytes([6, 1, 2])?.as_bytes(), [6, 1, 2]);
     /// # Ok::<(), sec1::Error>(())
     /// ```
+    #[inline]
     pub fn as_bytes(&self) -> &[u8] {
         self.encoding.as_bytes()
     }
@@ -96,6 +99,7 @@ impl<Size: ModulusSize> HybridPoint<Size> {
     /// # Ok::<(), sec1::Error>(())
     /// ```
     #[cfg(feature = "alloc")]
+    #[inline]
     pub fn to_bytes(&self) -> Box<[u8]> {
         self.as_bytes().into()
     }
@@ -110,6 +114,7 @@ impl<Size: ModulusSize> HybridPoint<Size> {
     /// assert!(!HybridPoint::<U1>::from_bytes([6, 1, 2])?.y_is_odd());
     /// # Ok::<(), sec1::Error>(())
     /// ```
+    #[inline]
     pub fn y_is_odd(&self) -> bool {
         self.y_is_odd
     }
@@ -121,9 +126,10 @@ impl<Size: ModulusSize> HybridPoint<Size> {
     /// ```
     /// use sec1::{consts::U1, point::HybridPoint};
     ///
-    /// assert_eq!(HybridPoint::<U1>::from_bytes([6, 1, 2])?.x(), Some(&[1]));
+    /// assert_eq!(HybridPoint::<U1>::from_bytes([6, 1, 2])?.x(), Some(&[1].into()));
     /// # Ok::<(), sec1::Error>(())
     /// ```
+    #[inline]
     pub fn x(&self) -> Option<&Array<u8, Size>> {
         self.encoding.x()
     }
@@ -135,9 +141,10 @@ impl<Size: ModulusSize> HybridPoint<Size> {
     /// ```
     /// use sec1::{consts::U1, point::HybridPoint};
     ///
-    /// assert_eq!(HybridPoint::<U1>::from_bytes([6, 1, 2])?.y(), Some(&[2]));
+    /// assert_eq!(HybridPoint::<U1>::from_bytes([6, 1, 2])?.y(), Some(&[2].into()));
     /// # Ok::<(), sec1::Error>(())
     /// ```
+    #[inline]
     pub fn y(&self) -> Option<&Array<u8, Size>> {
         self.encoding.y()
     }
@@ -153,9 +160,10 @@ impl<Size: ModulusSize> HybridPoint<Size> {
     /// assert_eq!(point.compress().as_bytes(), [3, 1]);
     /// # Ok::<(), sec1::Error>(())
     /// ```
+    #[inline]
     pub fn compress(&self) -> EncodedPoint<Size> {
-        // Not reached: the library refuses no hybrid point.
-        self.encoding.compress().and_then(EncodedPoint::of).unwrap_or_default()
+        // Not reached: each hybrid point has both coordinates.
+        EncodedPoint::of_compressed(&self.encoding).unwrap_or_default()
     }
 
     /// Returns the uncompressed form.
@@ -169,10 +177,10 @@ impl<Size: ModulusSize> HybridPoint<Size> {
     /// assert_eq!(point.uncompress().as_bytes(), [4, 1, 3]);
     /// # Ok::<(), sec1::Error>(())
     /// ```
+    #[inline]
     pub fn uncompress(&self) -> EncodedPoint<Size> {
-        let coordinate = |part: Option<&'_ Array<u8, Size>>| part.copied();
-        match (coordinate(self.x()), coordinate(self.y())) {
-            (Some(x), Some(y)) => EncodedPoint::from_affine_coordinates(&x, &y, false),
+        match (self.x(), self.y()) {
+            (Some(x), Some(y)) => EncodedPoint::from_affine_coordinates(x, y, false),
             // Not reached: each hybrid point has both.
             _ => EncodedPoint::identity(),
         }

@@ -16,7 +16,7 @@ use core::ops::{Add, Sub};
 ///     Ok(EncodedPoint::<Size>::from_bytes(bytes)?.x().copied())
 /// }
 ///
-/// assert_eq!(x_of::<U48>(&[2; 49]), Ok(Some([2; 48])));
+/// assert_eq!(x_of::<U48>(&[2; 49]), Ok(Some([2; 48].into())));
 /// ```
 pub trait ModulusSize: ArraySize + Add<U1, Output = Self::CompressedPointSize> {
     /// The length of a compressed point.

@@ -48,6 +48,7 @@ impl Tag {
     /// assert_eq!(Tag::from_u8(3), Ok(Tag::CompressedOddY));
     /// assert_eq!(Tag::from_u8(6), Err(Error::PointEncoding));
     /// ```
+    #[inline]
     pub fn from_u8(byte: u8) -> Result<Self> {
         // Whether the byte is a tag doesn't depend on the length of field elements.
         raw::point_len(byte, 1).map_err(|_| Error::PointEncoding)?;
@@ -55,6 +56,7 @@ impl Tag {
     }
 
     /// Returns the name of a tag that the library has accepted, if `sec1` has one for it.
+    #[inline]
     pub(super) fn of_number(number: u8) -> Result<Self> {
         match number {
             sec1_sys::SEC1_POINT_IDENTITY => Ok(Tag::Identity),
@@ -75,6 +77,7 @@ impl Tag {
     ///
     /// assert!(Tag::Compact.is_compact());
     /// ```
+    #[inline]
     pub fn is_compact(self) -> bool {
         self == Tag::Compact
     }
@@ -89,6 +92,7 @@ impl Tag {
     /// assert!(Tag::CompressedEvenY.is_compressed());
     /// assert!(!Tag::Compact.is_compressed());
     /// ```
+    #[inline]
     pub fn is_compressed(self) -> bool {
         matches!(self, Tag::CompressedEvenY | Tag::CompressedOddY)
     }
@@ -102,6 +106,7 @@ impl Tag {
     ///
     /// assert!(Tag::Identity.is_identity());
     /// ```
+    #[inline]
     pub fn is_identity(self) -> bool {
         self == Tag::Identity
     }
@@ -117,6 +122,7 @@ impl Tag {
     /// assert_eq!(Tag::Uncompressed.message_len(48), 97);
     /// assert_eq!(Tag::Identity.message_len(48), 1);
     /// ```
+    #[inline]
     pub fn message_len(self, field_element_size: usize) -> usize {
         let tag = self.into();
         raw::point_len(tag, field_element_size).unwrap_or_else(|_| {

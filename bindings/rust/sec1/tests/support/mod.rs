@@ -9,7 +9,7 @@ pub fn bytes(text: &str) -> Vec<u8> {
         .collect()
 }
 
-/// A key on P-256 with all parts, as the program of the repository is given it.
+/// A key on P-256 with all parts.
 pub fn p256() -> Vec<u8> {
-    bytes(include_str!("../../../../../crates/sec1_inspect/stdin").trim())
+    bytes(include_str!("../data/p256.txt").trim())
 }

@@ -1,8 +1,8 @@
 //! Elements with any tag.
 
 use super::super::{
-    Decode, DecodeValue, Element, Encode, EncodeValue, Error, ErrorKind, FixedTag, Header, Length,
-    Reader, Result, Tag, Writer,
+    Decode, DecodeValue, Element, EncodeValue, Error, ErrorKind, FixedTag, Header, Length, Reader,
+    Result, Tag, Tagged, Writer,
 };
 use super::ObjectIdentifier;
 use crate::{EcParameters, raw};
@@ -94,14 +94,9 @@ impl<'a> DecodeValue<'a> for AnyRef<'a> {
     }
 }
 
-impl Encode for AnyRef<'_> {
-    fn encoded_len(&self) -> Result<Length> {
-        raw::element_len(self.tag.into(), self.value).map_err(Error::of)?.try_into()
-    }
-
-    fn encode_to_slice<'b>(&self, buf: &'b mut [u8]) -> Result<&'b [u8]> {
-        let len = raw::element_write(self.tag.into(), self.value, buf).map_err(Error::of)?;
-        buf.get(..len).ok_or(Error::of_kind(ErrorKind::Failed))
+impl Tagged for AnyRef<'_> {
+    fn tag(&self) -> Tag {
+        self.tag
     }
 }
 
@@ -112,6 +107,15 @@ impl EncodeValue for AnyRef<'_> {
 
     fn encode_value(&self, writer: &mut impl Writer) -> Result<()> {
         writer.write(self.value)
+    }
+
+    fn element_len(&self) -> Result<Length> {
+        raw::element_len(self.tag.into(), self.value).map_err(Error::of)?.try_into()
+    }
+
+    fn write_element<'b>(&self, buf: &'b mut [u8]) -> Result<&'b [u8]> {
+        let len = raw::element_write(self.tag.into(), self.value, buf).map_err(Error::of)?;
+        buf.get(..len).ok_or(Error::of_kind(ErrorKind::Failed))
     }
 }
 
@@ -162,14 +166,6 @@ macro_rules! as_identifier {
             const TAG: Tag = Tag::ObjectIdentifier;
         }
 
-        impl<'a> Decode<'a> for $name {
-            type Error = Error;
-
-            fn from_der(bytes: &'a [u8]) -> Result<Self> {
-                AnyRef::from_der(bytes)?.try_into().map($read)
-            }
-        }
-
         impl<'a> DecodeValue<'a> for $name {
             type Error = Error;
 
@@ -177,15 +173,9 @@ macro_rules! as_identifier {
                 let content = reader.read_slice(header.length())?;
                 ObjectIdentifier::from_bytes(content).map($read)
             }
-        }
 
-        impl Encode for $name {
-            fn encoded_len(&self) -> Result<Length> {
-                AnyRef::from(self).encoded_len()
-            }
-
-            fn encode_to_slice<'b>(&self, buf: &'b mut [u8]) -> Result<&'b [u8]> {
-                AnyRef::from(self).encode_to_slice(buf)
+            fn of_element(bytes: &'a [u8]) -> Result<Self> {
+                AnyRef::from_der(bytes)?.try_into().map($read)
             }
         }
 
@@ -196,6 +186,14 @@ macro_rules! as_identifier {
 
             fn encode_value(&self, writer: &mut impl Writer) -> Result<()> {
                 AnyRef::from(self).encode_value(writer)
+            }
+
+            fn element_len(&self) -> Result<Length> {
+                AnyRef::from(self).element_len()
+            }
+
+            fn write_element<'b>(&self, buf: &'b mut [u8]) -> Result<&'b [u8]> {
+                AnyRef::from(self).write_element(buf)
             }
         }
     };

@@ -1,0 +1,1 @@
+../../../dist/sec1-aarch64.s

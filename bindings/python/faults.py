@@ -1,0 +1,105 @@
+#!/usr/bin/env python3
+"""Plants one fault at a time into the module, in a temporary copy, and runs its tests: each fault has to be caught. It
+takes some minutes, so test.sh doesn't run it. It prints each fault with 'caught' or 'NOT CAUGHT', and 'N passed, M
+failed' at the end.
+
+  bindings/python/faults.py [FIRST [STEP]]    each STEP-th fault from FIRST on, by default all of them
+"""
+import os
+import pathlib
+import subprocess
+import sys
+import tempfile
+import zipfile
+
+HERE = pathlib.Path(__file__).resolve().parent
+EQUAL = "    curve: Optional[ObjectIdentifier] = None\n    public_key: Optional[bytes] = None\n"
+FAULTS = [
+    ("__init__.py", "private_key: bytes = field(repr=False)", "private_key: bytes = field(repr=False, compare=False)"),
+    ("__init__.py", "    private_key: bytes = field(repr=False)", "    private_key: bytes"),
+    ("__init__.py", EQUAL, EQUAL + "\n    def __eq__(self, other): return (self.private_key[:8], self.curve, "
+     "self.public_key) == (other.private_key[:8], other.curve, other.public_key)\n    __hash__ = object.__hash__\n"),
+    ("__init__.py", EQUAL, EQUAL.replace("= None", "= field(default=None, compare=False)", 1)),
+    ("__init__.py", EQUAL, EQUAL.replace("[bytes] = None", "[bytes] = field(default=None, compare=False)")),
+    ("__init__.py", "    @property\n    def arcs", "    def __eq__(self, other): return len(self.content) == "
+     "len(other.content)\n    __hash__ = object.__hash__\n\n    @property\n    def arcs"),
+    ("__init__.py", "return self.arcs < other.arcs", "return self.content < other.content"),
+    ("__init__.py", "return self.arcs < other.arcs", "return str(self) < str(other)"),
+    ("__init__.py", "    status = 6\n", "    status = 7\n"),
+    ("__init__.py", "    status = 7\n", "    status = 6\n"),
+    ("__init__.py", "    status = 8\n", "    status = 12\n"),
+    ("__init__.py", "_ERRORS.get(status, Error)", "_ERRORS.get(status + 1, Error)"),
+    ("__init__.py", 'f"{self.text} at byte {offset}"', "self.text"),
+    ("__init__.py", "self.offset = offset\n", "self.offset = offset and offset + 1\n"),
+    ("__init__.py", "return type(self), (self.offset,)", "return type(self), ()"),
+    ("__init__.py", "if isinstance(field_length, bool):", "if False:"),
+    ("__init__.py", "number = operator.index(field_length)", "number = int(field_length)"),
+    ("__init__.py", "0 <= number < 1 << 64", "number < 1 << 64"),
+    ("__init__.py", "0 <= number < 1 << 64", "0 <= number"),
+    ("__init__.py", "if not isinstance(text, str):", "if False:"),
+    ("__init__.py", "if not isinstance(identifier, ObjectIdentifier):", "if False:"),
+    ("__init__.py", "            _identifier(self.curve)\n", "            pass\n"),
+    ("__init__.py", '(self, "private_key", _bytes(self.private_key))', '(self, "private_key", self.private_key)'),
+    ("__init__.py", '(self, "public_key", _bytes(self.public_key))', '(self, "public_key", self.public_key)'),
+    ("__init__.py", 'data, parts = _bytes(data), _library.KeyParts()', 'data, parts = _bytes(data).rstrip(b"\\n"), _library.KeyParts()'),
+    ("__init__.py", 'object.__setattr__(self, "x", parts.x.of(data))', 'object.__setattr__(self, "x", parts.y.of(data))'),
+    ("__init__.py", "self.field_length == other.field_length and self._order(other) == 0", "self._order(other) == 0"),
+    ("__init__.py", "self._order(other) == 0", "self._order(other) <= 0"),
+    ("__init__.py", "self._order(other) < 0", "self._order(other) > 0"),
+    ("__init__.py", "return order.value", "return self.tag - other.tag"),
+    ("__init__.py", "int(self.public_key is not None)", "int(bool(self.public_key))"),
+    ("__init__.py", "    HYBRID_EVEN = 6\n    HYBRID_ODD = 7", "    HYBRID_ODD = 6\n    HYBRID_EVEN = 7"),
+    ("__init__.py", 'f"Curve.from_name({self.name!r})"', 'f"Curve({self.name!r})"'),
+    ("__init__.py", 'f"ObjectIdentifier.from_text({str(self)!r})"', 'f"ObjectIdentifier({str(self)!r})"'),
+    ("__init__.py", '__version__ = "0.2.0"', '__version__ = "0.2.1"'),
+    ("__init__.py", 'self._form("sec1_point_compress")', 'self._form("sec1_point_to_hybrid")'),
+    ("__init__.py", "int(compress)", "int(not compress)"),
+    ("__init__.py", "self.field_length, int(lower_case)", "self.field_length, int(not lower_case)"),
+    ("__init__.py", "return length.value or None", "return length.value"),
+    ("__init__.py", '"sec1_tree_fault_at", data)', '"sec1_key_fault_at", data)'),
+    ("_library.py", "if self.present else None", "if self.len else None"),
+    ("_library.py", "room = length.value\n", "room = length.value - 1\n"),
+]
+
+
+def main():
+    first, step = [int(word) for word in (sys.argv[1:] + ["0", "1"][len(sys.argv) - 1 :])][:2]
+    passed = failed = 0
+    sys.path.insert(0, str(HERE))
+    sys.dont_write_bytecode = True
+    import build_wheel
+
+    with tempfile.TemporaryDirectory() as folder:
+        name = build_wheel.build_wheel(folder)
+        with zipfile.ZipFile(pathlib.Path(folder) / name) as wheel:
+            wheel.extractall(folder)
+        environment = dict(os.environ, PYTHONPATH=folder, PYTHONDONTWRITEBYTECODE="1")
+        command = [sys.executable, "-s", str(HERE / "tests/test_sec1.py"), "--failfast"]
+
+        def run():
+            try:
+                return subprocess.run(command, env=environment, capture_output=True, text=True, timeout=120)
+            except subprocess.TimeoutExpired:
+                return None
+
+        if (result := run()) is None or result.returncode:
+            sys.exit("the tests fail without a fault")
+        for name, old, new in FAULTS[first::step]:
+            path = pathlib.Path(folder) / "sec1" / name
+            text = path.read_text()
+            if text.count(old) == 1:
+                path.write_text(text.replace(old, new))
+                result = run()
+                path.write_text(text)
+                caught, reason = result is None or result.returncode != 0, ""
+                if result is not None and "SyntaxError" in result.stderr:
+                    caught, reason = False, ", since it can't be read"
+            else:
+                caught, reason = False, f", since the line is there {text.count(old)} times"
+            passed, failed = passed + caught, failed + (not caught)
+            print(f"{'caught' if caught else 'NOT CAUGHT' + reason}: {name}: {old!r} -> {new!r}", flush=True)
+    print(f"{passed} passed, {failed} failed")
+    sys.exit(failed != 0)
+
+
+main()
