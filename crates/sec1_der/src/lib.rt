@@ -14,6 +14,7 @@ mod checks;
 mod codec;
 mod component_values;
 mod context;
+mod copies;
 mod document;
 mod error;
 mod explicit;
