@@ -1,5 +1,6 @@
-ghost use Rattle.std.specs.Prelude.{◌≡◌, ◌≤◌, length, IsTrue};
+ghost use Rattle.std.specs.Prelude.{◌≡◌, ◌≤◌, length};
 
+use crate::copies::copy;
 use crate::header::LONG_FORM;
 use crate::length::check_room;
 use crate::{ErrorKind, Header, Length, Result, Tag};
@@ -115,38 +116,4 @@ impl<'b> BackWriter<'b> {
         let (octets, count) = Header { tag, length }.octets();
         self.prepend(&octets[..count]);
     }
-}
-
-/// Copies bytes. Up to 32 are moved in two halves, which may overlap, since a call takes longer.
-#[inline(always)]
-fn copy(from: &[u8], to: &mut [u8])
-    requires { length to.old ≡ length from.now }
-    ensures { to.new ≡ from.now }
-{
-    if from.len() > 32 || !(copy_halves::<16>(from, to) || copy_halves::<4>(from, to)) {
-        to.copy_from_slice(from);
-    }
-}
-
-/// Copies N to 2N bytes by two moves of N. Returns `false` if there are fewer, or more.
-#[inline(always)]
-fn copy_halves<const N: usize>(from: &[u8], to: &mut [u8]) -> bool
-    requires size { N ≤ 16 }
-    requires len { length to.old ≡ length from.now }
-    ensures len { length to.new ≡ length to.old }
-    ensures copied { IsTrue result → to.new ≡ from.now }
-{
-    let (Some(front), Some(back)) = (from.first_chunk::<N>(), from.last_chunk::<N>()) else {
-        return false;
-    };
-    if from.len() - N > N {
-        return false;
-    }
-    if let Some(room) = to.first_chunk_mut::<N>() {
-        *room = *front;
-    }
-    if let Some(room) = to.last_chunk_mut::<N>() {
-        *room = *back;
-    }
-    true
 }

@@ -1,5 +1,6 @@
 ghost use Rattle.std.specs.Prelude.{◌≤◌, length};
 
+use crate::copies::copy;
 use crate::length::check_room;
 use crate::{ErrorKind, Result};
 
@@ -70,7 +71,7 @@ impl<'b> SliceWriter<'b> {
     {
         check_room(bytes.len(), self.remaining())?;
         let end = self.position + bytes.len();
-        self.buffer[self.position..end].copy_from_slice(bytes);
+        copy(bytes, &mut self.buffer[self.position..end]);
         self.position = end;
         Ok(())
     }
