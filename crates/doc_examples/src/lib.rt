@@ -6,6 +6,7 @@ pub mod algorithm;
 pub mod certificate;
 pub mod curve_names;
 pub mod first_calls;
+pub mod is_key;
 pub mod moved_program;
 pub mod own_key;
 pub mod own_part;
