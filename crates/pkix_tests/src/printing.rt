@@ -4,7 +4,7 @@ use crate::assert_equal;
 use curves::Curve;
 use der_faults::{Fault, KeyPart};
 use der_rows::Row;
-use der_types::{Boolean, Choice, DateTime, Defaulted, OptionalPart};
+use der_types::{Boolean, Choice, DateTime, Defaulted, Implicit, OptionalPart, Primitive0};
 use pkix::LaterVersion;
 use sec1_der::{ErrorKind, Required, VersionOne};
 use std::alloc::AllocError;
@@ -94,6 +94,13 @@ fn prints_parts(rt: HostRuntime) -> Result<(), AllocError> {
         &Defaulted(Boolean(true)),
         "Defaulted(Boolean(true))|Defaulted(Boolean(true ))|Defaulted(Boolean(t))|Defaulted(Boolean(true))|Defaulted(Boolean(true ))",
         "Defaulted(\n    Boolean(\n        true,\n    ),\n)",
+    )?;
+    let field: Implicit<Primitive0, Boolean> = Implicit::new(Boolean(true));
+    assert_prints(
+        &rt,
+        &field,
+        "Implicit { value: Boolean(true), .. }|Implicit { value: Boolean(true ), .. }|Implicit { value: Boolean(t), .. }|Implicit { value: Boolean(true), .. }|Implicit { value: Boolean(true ), .. }",
+        "Implicit {\n    value: Boolean(\n        true,\n    ),\n    ..\n}",
     )?;
     let absent: OptionalPart<Required<Boolean>> = OptionalPart(None);
     assert_prints_alike(

@@ -2,8 +2,8 @@
 //! whatever options are set.
 use crate::helpers::assert_equal;
 use sec1_der::{
-    AnyRef, BitStringRef, Error, ErrorKind, Header, IoFault, Length, ObjectIdentifier,
-    OctetStringRef, Optional, Required, SmallInteger, Tag, VersionOne,
+    AnyRef, BitStringRef, Context0, Error, ErrorKind, Explicit, Header, IoFault, Length,
+    ObjectIdentifier, OctetStringRef, Optional, Required, SmallInteger, Tag, VersionOne,
 };
 use std::alloc::{AllocError, Global};
 use std::fmt::{Debug, Display};
@@ -117,6 +117,14 @@ fn prints_parts(rt: HostRuntime) -> Result<(), Fail> {
         &Optional(Some(length)),
         "Optional(Some(Length { bytes: 128 }))|Optional(Some(Length { bytes:   128 }))|Optional(Some(Length { bytes: 128 }))|Optional(Some(Length { bytes: +128 }))|Optional(Some(Length { bytes: 00128 }))",
         "Optional(\n    Some(\n        Length {\n            bytes: 128,\n        },\n    ),\n)",
+    )?;
+    let field: Explicit<Context0, Length> = Explicit::new(length);
+    assert_printed(
+        &rt,
+        alloc,
+        &field,
+        "Explicit { value: Length { bytes: 128 }, .. }|Explicit { value: Length { bytes:   128 }, .. }|Explicit { value: Length { bytes: 128 }, .. }|Explicit { value: Length { bytes: +128 }, .. }|Explicit { value: Length { bytes: 00128 }, .. }",
+        "Explicit {\n    value: Length {\n        bytes: 128,\n    },\n    ..\n}",
     )?;
     Ok(())
 }
