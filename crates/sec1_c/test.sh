@@ -54,7 +54,7 @@ else
     finish
 fi
 archive=$installed/lib/libsec1.a
-exported="sec1_certificate_public_key sec1_check_tree sec1_curve_field_len \
+exported="sec1_certificate_read_public_key sec1_tree_check sec1_curve_field_len \
 sec1_curve_from_name sec1_curve_name sec1_document_len sec1_element_read \
 sec1_element_write sec1_identifier_check \
 sec1_identifier_from_text sec1_identifier_to_text sec1_key_fault_at sec1_key_len \

@@ -16,4 +16,6 @@ pub mod CurveContents
 pub mod PublicKeys
 pub mod Fields
 pub mod Certificates
+pub mod Signatures
 pub mod Containers
+pub mod WrittenKeys

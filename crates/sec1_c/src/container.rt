@@ -8,6 +8,8 @@ ghost use Rattle.sec1_c.specs.Containers.{AreContainerPartsOf, IsContainer, IsEc
 ghost use Rattle.sec1_c.specs.Containers.{container_fault, container_places, of_version_zero};
 ghost use Rattle.sec1_c.specs.Statuses.{curve_number, kind_number};
 
+mod write;
+
 use crate::fields::fields_len;
 use crate::part::Part;
 use crate::status::{OK, curve_number, kind_number};

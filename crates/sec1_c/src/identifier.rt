@@ -6,6 +6,7 @@ ghost use Rattle.sec1_c.specs.IdentifierTexts.{IsIdentifierText, IsTextOf, c_tex
 ghost use Rattle.sec1_c.specs.Outputs.{Writes, WritesNothing};
 ghost use Rattle.sec1_c.specs.Statuses.{kind_number};
 
+mod arcs;
 mod text;
 
 use crate::buffer::write_bytes;

@@ -8,7 +8,7 @@ ghost use Rattle.sec1_c.specs.KeyPlaces.{AreWithin, ArePartsOf, GiveAgain, IsKey
 ghost use Rattle.sec1_c.specs.Outputs.{StoresLength, Writes, WritesNothing};
 ghost use Rattle.sec1_c.specs.Statuses.{IsReadingNumber, fault_number, kind_number};
 
-mod given;
+pub mod given;
 mod places;
 
 use crate::part::Part;

@@ -9,11 +9,13 @@
 //! `sec1.h` declares them for C.
 #![tactic(auto)]
 
+mod algorithm;
 mod buffer;
 mod certificate;
 mod container;
 mod curve;
 mod element;
+mod encoding;
 mod fault;
 mod fields;
 mod identifier;
@@ -21,4 +23,5 @@ mod key;
 mod part;
 mod point;
 mod public_key;
+mod signature;
 mod status;

@@ -92,6 +92,21 @@ static size_t draw_tree(uint8_t *out)
     return len;
 }
 
+/* A signature, whose numbers have a zero in front if they need one, and now and then another. */
+static size_t draw_signature(uint8_t *out)
+{
+    size_t len = 0;
+    for (int number = 0; number < 2; number++) {
+        uint8_t content[80] = {0};
+        size_t zeros = 0, digits = draw(8) ? 28 + draw(5) : draw(68);
+        draw_bytes(content + 8, digits);
+        if (digits == 0 || content[8] >= 0x80 || draw(16) == 0)
+            zeros = draw(16) ? 1 : draw(3);
+        len += put(out + len, 0x02, content + 8 - zeros, zeros + digits);
+    }
+    return wrap(out, 0x30, len);
+}
+
 /* ---- public keys, containers and certificates */
 
 /* An OBJECT IDENTIFIER for a curve: one of the table more often than not. */

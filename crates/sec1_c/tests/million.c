@@ -76,13 +76,16 @@ enum call {
     PUBLIC_KEY,
     CONTAINER,
     CERTIFICATE,
+    SIGNATURE,
+    SIGNATURE_WRITE,
+    ARCS,
     INPUT,
     CALLS
 };
 static const char *const names[CALLS] = {
     "sec1_key_read",
     "sec1_key_len and sec1_key_write",
-    "sec1_check_tree",
+    "sec1_tree_check",
     "sec1_document_len",
     "sec1_point_read and sec1_point_check",
     "sec1_point_compress and sec1_point_to_hybrid",
@@ -99,13 +102,17 @@ static const char *const names[CALLS] = {
     "sec1_point_from_hex",
     "sec1_public_key_read",
     "sec1_private_key_info_read",
-    "sec1_certificate_public_key",
+    "sec1_certificate_read_public_key",
+    "sec1_signature_read",
+    "sec1_signature_write",
+    "sec1_identifier_arcs",
     "inputs that are unchanged",
 };
 /* the statuses that each call returns at least once here, as bits */
 static const unsigned wanted[CALLS] = {0x3F,  0xA1,  0x11F, 0x1F,  0x601, 0x681, 0x601,
                                        0xA1,  0xA1,  0x3F,  0x11F, 0xF,   0x85,  0x21,
-                                       0x481, 0x681, 0x681, 0xA3F, 0x83F, 0x3F,  1};
+                                       0x481, 0x681, 0x681, 0xA3F, 0x83F, 0x3F,  0x3F,
+                                       0x81,  0xA1,  1};
 static unsigned long counts[CALLS][STATUSES], wrong[CALLS];
 static struct {
     uint8_t data[MOST];
@@ -246,8 +253,49 @@ static void check_records(const uint8_t *bytes, size_t len)
     expect(CONTAINER, status, stores(status, refused, stored, &container, sizeof container));
     stored = filled(struct_arena, sizeof info, 0xA5);
     refused = certificate_of(bytes, len, &info);
-    status = sec1_certificate_public_key(bytes, len, stored);
+    status = sec1_certificate_read_public_key(bytes, len, stored);
     expect(CERTIFICATE, status, stores(status, refused, stored, &info, sizeof info));
+}
+
+/* The content of the INTEGER of a number with these digits (X.690 section 8.3). */
+static size_t put_number(uint8_t *out, const uint8_t *digits, size_t len)
+{
+    size_t zeros = 0, at = 0;
+    while (at < len && digits[at] == 0)
+        at++;
+    if (at == len || digits[at] >= 0x80)
+        out[zeros++] = 0;
+    if (at < len)
+        memcpy(out + zeros, digits + at, len - at);
+    return zeros + len - at;
+}
+
+/* Reads a signature, and writes one whose numbers are the parts that were read, or the beginning
+ * and the end of the bytes. */
+static void check_signature(const uint8_t *bytes, size_t len)
+{
+    static uint8_t number[MOST + 64], whole[2 * MOST + 128];
+    struct sec1_signature_parts found;
+    void *stored = filled(struct_arena, sizeof found, 0xA5);
+    uint32_t refused = signature_of(bytes, len, &found),
+             status = sec1_signature_read(bytes, len, stored);
+    expect(SIGNATURE, status, stores(status, refused, stored, &found, sizeof found));
+
+    size_t r_at = 0, r_len = draw((uint32_t)len + 1), s_at = r_len, s_len = len - r_len;
+    if (!refused) {
+        r_at = found.r.offset, r_len = found.r.len;
+        s_at = found.s.offset, s_len = found.s.len;
+    }
+    const uint8_t *r = r_len ? bytes + r_at : NULL, *s = s_len ? bytes + s_at : NULL;
+    size_t whole_len = put(whole, 0x02, number, put_number(number, r, r_len)), written = 777777;
+    whole_len += put(whole + whole_len, 0x02, number, put_number(number, s, s_len));
+    whole_len = wrap(whole, 0x30, whole_len);
+    size_t out_len = some_room(whole_len);
+    uint8_t *out = buffer(out_len);
+    status = sec1_signature_write(r, r_len, s, s_len, out, out_len, &written);
+    expect(SIGNATURE_WRITE, status,
+           writes(status, written, out, out_len, SEC1_OK, whole, whole_len)
+               && (refused || (whole_len == len && memcmp(whole, bytes, len) == 0)));
 }
 
 static void check_elements(const uint8_t *bytes, size_t len)
@@ -255,7 +303,7 @@ static void check_elements(const uint8_t *bytes, size_t len)
     size_t found = 0, *stored = (size_t *)filled(struct_arena, sizeof found, 0xA5),
            before = *stored;
     uint32_t refused = check_tree_of(bytes, len, &found),
-             status = sec1_check_tree(bytes, len, stored);
+             status = sec1_tree_check(bytes, len, stored);
     expect(TREE, status, status == refused && *stored == (refused ? before : found));
     check_fault(TREE_FAULT, sec1_tree_fault_at, bytes, len, refused, fault_at);
     refused = document_of(bytes, len, &found);
@@ -404,6 +452,16 @@ static void check_identifier(const uint8_t *bytes, size_t len)
            writes(status, found, out, out_len, refused, (uint8_t *)text, wanted_len));
 
     found = 777777;
+    wanted_len = refused ? 2 + draw(40) : arcs.count;
+    out_len = some_room(wanted_len);
+    size_t size = out_len * sizeof *arcs.arc;
+    uint32_t *numbers = (uint32_t *)filled(out_arena, size, 0xEE);
+    status = sec1_identifier_arcs(bytes, len, numbers, out_len, &found);
+    expect(ARCS, status,
+           writes(status, found == 777777 ? found : found * sizeof *arcs.arc, (uint8_t *)numbers,
+                  size, refused, (uint8_t *)arcs.arc, wanted_len * sizeof *arcs.arc));
+
+    found = 777777;
     wanted_len = put_content(content, (const char *)bytes, len);
     refused = wanted_len ? SEC1_OK : SEC1_VALUE;
     out_len = some_room(refused ? 40 : wanted_len);
@@ -416,7 +474,7 @@ static void check_identifier(const uint8_t *bytes, size_t len)
 
 static size_t draw_input(uint8_t *out, size_t n)
 {
-    switch (draw(11)) {
+    switch (draw(12)) {
     case 0: return draw_soup(out);
     case 1: return draw_content(out);
     case 2: return draw_text(out);
@@ -426,6 +484,7 @@ static size_t draw_input(uint8_t *out, size_t n)
     case 6: return damage(out, draw_info(out));
     case 7: return damage(out, draw_container(out));
     case 8: return damage(out, draw_certificate(out));
+    case 9: return damage(out, draw_signature(out));
     default: return damage(out, draw_key(out));
     }
 }
@@ -454,6 +513,7 @@ int main(void)
         const uint8_t *given = now.len == 0 && draw(2) ? NULL : bytes;
         check_key(bytes, now.len);
         check_records(given, now.len);
+        check_signature(given, now.len);
         check_elements(given, now.len);
         check_element_write(given, now.len);
         check_point(given, now.len, n, others, other_len);

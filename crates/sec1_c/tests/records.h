@@ -220,6 +220,28 @@ static uint32_t info_of(const uint8_t *data, size_t len, struct sec1_public_key_
     return point_of(data + key.start + 1, key.end - key.start - 1, algorithm.field, &point);
 }
 
+/* ---- signatures (RFC 3279 section 2.2.3) */
+
+/* X.690 section 8.3.3: bit 8 of the first byte makes a number negative. */
+static int is_unsigned(const uint8_t *content, size_t len)
+{
+    return is_integer(content, len) && content[0] < 0x80;
+}
+
+static uint32_t signature_of(const uint8_t *data, size_t len, struct sec1_signature_parts *parts)
+{
+    struct rest rest = {data, 0, len}, row;
+    struct element r, s;
+    uint32_t status = enter(&rest, 0x30, &row);
+    if (status || (status = value_of(&row, 0x02, is_unsigned, &r))
+        || (status = value_of(&row, 0x02, is_unsigned, &s)) || (status = end_of(&row))
+        || (status = end_of(&rest)))
+        return status;
+    parts->r = place(r.start, r.end);
+    parts->s = place(s.start, s.end);
+    return SEC1_OK;
+}
+
 /* ---- private keys */
 
 /* X.690 section 11.6: reads the elements of a SET, which ascend as octet strings do. */

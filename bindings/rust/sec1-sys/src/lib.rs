@@ -246,7 +246,7 @@ unsafe extern "C" {
     /// # Safety
     ///
     /// `bytes` is readable for `bytes_len` bytes, and `elements` is writable and overlaps none.
-    pub fn sec1_check_tree(bytes: *const u8, bytes_len: usize, elements: *mut usize) -> u32;
+    pub fn sec1_tree_check(bytes: *const u8, bytes_len: usize, elements: *mut usize) -> u32;
     /// Checks that all of the bytes are one element, and stores the length that its header
     /// announces.
     ///
@@ -273,7 +273,7 @@ unsafe extern "C" {
     ///
     /// `bytes` is readable for `bytes_len` bytes, and `offset` is writable and overlaps none.
     pub fn sec1_key_fault_at(bytes: *const u8, bytes_len: usize, offset: *mut usize) -> u32;
-    /// Returns what [`sec1_check_tree`] returns, and stores the offset of the first fault.
+    /// Returns what [`sec1_tree_check`] returns, and stores the offset of the first fault.
     ///
     /// # Safety
     ///
@@ -404,7 +404,7 @@ unsafe extern "C" {
     /// # Safety
     ///
     /// `bytes` is readable for `bytes_len` bytes, and `part` is writable and overlaps none.
-    pub fn sec1_certificate_public_key(
+    pub fn sec1_certificate_read_public_key(
         bytes: *const u8,
         bytes_len: usize,
         part: *mut sec1_part,
