@@ -7,6 +7,7 @@ pub mod NameLemmas
 pub mod NumberLemmas
 pub mod PlaceLemmas
 pub mod PointLemmas
+pub mod PrivateKeyLemmas
 pub mod PublicKeyLemmas
 pub mod SignatureLemmas
 pub mod StatusLemmas

@@ -19,3 +19,4 @@ pub mod Certificates
 pub mod Signatures
 pub mod Containers
 pub mod WrittenKeys
+pub mod PrivateKeys

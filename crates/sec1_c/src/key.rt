@@ -9,7 +9,7 @@ ghost use Rattle.sec1_c.specs.Outputs.{StoresLength, Writes, WritesNothing};
 ghost use Rattle.sec1_c.specs.Statuses.{IsReadingNumber, fault_number, kind_number};
 
 pub mod given;
-mod places;
+pub mod places;
 
 use crate::part::Part;
 use crate::status::{OK, error_number, kind_number};

@@ -22,6 +22,7 @@ mod identifier;
 mod key;
 mod part;
 mod point;
+mod private_key;
 mod public_key;
 mod signature;
 mod status;
