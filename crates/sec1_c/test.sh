@@ -55,7 +55,8 @@ else
 fi
 archive=$installed/lib/libsec1.a
 exported="sec1_certificate_read_public_key sec1_tree_check sec1_curve_field_len \
-sec1_curve_from_name sec1_curve_name sec1_document_len sec1_element_read \
+sec1_curve_from_name sec1_curve_name sec1_identifier_arcs sec1_private_key_info_write \
+sec1_private_key_read sec1_public_key_write sec1_signature_read sec1_signature_write sec1_document_len sec1_element_read \
 sec1_element_write sec1_identifier_check \
 sec1_identifier_from_text sec1_identifier_to_text sec1_key_fault_at sec1_key_len \
 sec1_key_len_of sec1_key_read sec1_key_write sec1_key_write_of sec1_point_check \

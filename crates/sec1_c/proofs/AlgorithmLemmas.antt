@@ -149,7 +149,8 @@ info_written curve info key old new result len_old len_new on is few writes =
 -- the container of a key, whose encoding is this
 abbrev contained : Curve → Option (List ℕ) → Option (List ℕ)
 contained curve encoded =
-    element_of 0x30 (join (element_of 0x02 (Some (0 ∷ []))) (join (Some (algorithm_bytes curve)) (element_of 0x04 encoded)))
+    element_of 0x30
+    (join (element_of 0x02 (Some (0 ∷ []))) (join (Some (algorithm_bytes curve)) (element_of 0x04 encoded)))
 
 container_there : (curve : Curve) (key : Key) (encoded : Option (List ℕ)) (bytes : List ℕ)
     → ((inside : List ℕ) → IsKeyOf key inside → encoded ≡ Some inside)

@@ -18,7 +18,8 @@ abbrev pub signature_given : List ℕ → List ℕ → EcdsaSigValue
 signature_given r s = record { r = number_of r; s = number_of s }
 
 -- the parts are the contents of the two numbers
-pub record AreSignaturePartsOf (value : EcdsaSigValue) (input : List ℕ) (parts : SignatureParts) : Type 0 where
+pub record AreSignaturePartsOf (value : EcdsaSigValue) (input : List ℕ)
+    (parts : SignatureParts) : Type 0 where
   pub r : StandsAt input parts.r (unsigned_content value.r)
   pub s : StandsAt input parts.s (unsigned_content value.s)
 

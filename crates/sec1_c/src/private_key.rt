@@ -145,8 +145,8 @@ fn names_curve(key: &EcPrivateKey, curve: Curve) -> bool
     }
 }
 
-/// Returns the places of the parts of the key that was read from the bytes inside a container, whose
-/// parts have these places.
+/// Returns the places of the parts of the key that was read from the bytes inside a container,
+/// whose parts have these places.
 fn places_in(outer: &PrivateKeyInfoParts, inside: &[u8], key: &EcPrivateKey) -> KeyParts
     requires is_key { IsKeyOf key.now inside.now }
     requires room { outer.now.key.offset + length inside.now < 2 ^ 64 }

@@ -83,8 +83,8 @@ fn places(bytes: &[u8], value: &EcdsaSigValue) -> SignatureParts
 /// `out` is unchanged in both cases.
 #[unsafe(no_mangle)]
 pub extern "C" fn sec1_signature_write(r: &[u8], s: &[u8], out: &mut [u8], len: &mut usize) -> u32
-    ensures { WritesIfAny (element_of 0x30 (signature_content (signature_given r.now s.now)))
-        out.old out.new result len.old len.new }
+    ensures signature { let content = signature_content (signature_given r.now s.now) in
+        WritesIfAny (element_of 0x30 content) out.old out.new result len.old len.new }
 {
     let signature = GivenSignature {
         r: Number::new(r),

@@ -301,6 +301,9 @@ static void test_header(void)
     EXPECT(sizeof(struct sec1_private_key_info_parts) == 6 * sizeof(size_t));
     EXPECT(offsetof(struct sec1_private_key_info_parts, curve) == 0);
     EXPECT(offsetof(struct sec1_private_key_info_parts, key) == 3 * sizeof(size_t));
+    EXPECT(sizeof(struct sec1_signature_parts) == 6 * sizeof(size_t));
+    EXPECT(offsetof(struct sec1_signature_parts, r) == 0);
+    EXPECT(offsetof(struct sec1_signature_parts, s) == 3 * sizeof(size_t));
     EXPECT(sizeof(struct sec1_point_parts) == 7 * sizeof(size_t));
     EXPECT(offsetof(struct sec1_point_parts, tag) == 0);
     EXPECT(offsetof(struct sec1_point_parts, x) == sizeof(size_t));
@@ -310,12 +313,13 @@ static void test_header(void)
     EXPECT(SEC1_OK == 0 && SEC1_TRUNCATED == 1 && SEC1_TAG == 2 && SEC1_LENGTH == 3);
     EXPECT(SEC1_TRAILING_DATA == 4 && SEC1_VALUE == 5 && SEC1_OVERLENGTH == 6 && SEC1_BUFFER == 7);
     EXPECT(SEC1_DEPTH == 8 && SEC1_POINT_ENCODING == 9 && SEC1_FIELD_LENGTH == 10 &&
-           SEC1_CURVE == 11);
+           SEC1_CURVE == 11 && SEC1_OTHER_CURVE == 12);
     EXPECT(SEC1_POINT_IDENTITY == 0);
     EXPECT(SEC1_POINT_COMPRESSED_EVEN == 2 && SEC1_POINT_COMPRESSED_ODD == 3);
     EXPECT(SEC1_POINT_UNCOMPRESSED == 4 && SEC1_POINT_COMPACT == 5);
     EXPECT(SEC1_POINT_HYBRID_EVEN == 6 && SEC1_POINT_HYBRID_ODD == 7);
-    EXPECT(SEC1_IDENTIFIER_CONTENT_MAX == 39 && SEC1_IDENTIFIER_TEXT_MAX == 158);
+    EXPECT(SEC1_IDENTIFIER_CONTENT_MAX == 39 && SEC1_IDENTIFIER_TEXT_MAX == 158 &&
+           SEC1_IDENTIFIER_ARCS_MAX == 40 && SEC1_PUBLIC_KEY_MAX == 158);
     EXPECT(SEC1_POINT_MAX == 133 && SEC1_CURVE_NAME_MAX == 16 && SEC1_POINT_TEXT_MAX == 267);
     EXPECT(sec1_version() == SEC1_VERSION);
 
@@ -332,10 +336,11 @@ static void test_header(void)
         "elliptic curve point encoding error",
         "length of field elements not supported",
         "curve not in the table",
+        "key and container name different curves",
     };
-    for (uint32_t status = 0; status < 12; status++)
+    for (uint32_t status = 0; status < 13; status++)
         EXPECT(strcmp(sec1_status_text(status), texts[status]) == 0);
-    EXPECT(strcmp(sec1_status_text(12), "unknown status") == 0);
+    EXPECT(strcmp(sec1_status_text(13), "unknown status") == 0);
     EXPECT(strcmp(sec1_status_text(UINT32_MAX), "unknown status") == 0);
 }
 
@@ -760,6 +765,68 @@ static void test_containers(void)
            sec1_key_read(bytes.data + p.key.offset, p.key.len, &inside) == SEC1_OK);
     EXPECT(is_part(inside.private_key, 7, 32) && is_absent(inside.curve) &&
            is_part(inside.public_key, 44, 65));
+}
+
+/* ---- private keys in either form */
+
+static uint32_t any_key_parts(const uint8_t *bytes, size_t bytes_len, void *stored)
+{
+    return sec1_private_key_read(bytes, bytes_len, stored);
+}
+
+#define OTHER_INSIDE "3031020101" "0420" PRIVATE "A00A06082A8648CE3D030102"
+#define SAME_INSIDE "3031020101" "0420" PRIVATE "A00A06082A8648CE3D030107"
+
+/* Keys by themselves and in containers, of which some are by hand; the places of the private key,
+ * of the curve and of the public key, or 0 for none. */
+static const struct any_key {
+    const char *bytes;
+    size_t key_at, curve_at, curve_len, public_at, public_len;
+} any_keys[] = {
+    {WHOLE_KEY, 7, 43, 8, 56, 65},
+    {"3025020101" "0420" PRIVATE, 7, 0, 0, 0, 0},
+    {"302B020101" "0420" PRIVATE "A00406022A03", 7, 43, 2, 0, 0},
+    {"308187" "020100" ON_P256 "046D" KEY_INSIDE, 36, 19, 8, 73, 65},
+    {"308187" "020101" ON_P256 "046D" KEY_INSIDE, 36, 19, 8, 73, 65},
+    {"304D" "020100" ON_P256 "0433" SAME_INSIDE, 35, 18, 8, 0, 0},
+};
+
+static const struct no_key {
+    const char *bytes;
+    uint32_t status;
+} no_any_keys[] = {
+    {"304D" "020100" ON_P256 "0433" OTHER_INSIDE, SEC1_OTHER_CURVE},
+    {"304D" "020101" ON_P256 "0433" OTHER_INSIDE, SEC1_OTHER_CURVE},
+    {"3022" "020100" ON_P256 "0408" "3005020101040000", SEC1_TRAILING_DATA},
+    {"3021" "020100" ON_P256 "0407" "30050201010300", SEC1_TAG},
+    {"3021" "020100" ON_P256 "0407" "30050201020400", SEC1_VALUE},
+    {"301C" "020100" ON_P256 "0402" "3005", SEC1_TRUNCATED},
+    {"3016" "020100" "300B" EC_KEY "0500" "0404" "05000000", SEC1_CURVE},
+    {"3025020102" "0420" PRIVATE, SEC1_VALUE},
+    {"3025020100" "0420" PRIVATE, SEC1_VALUE},
+    {"3018" "020102" ON_P256, SEC1_VALUE},
+    {"3007" "020101" "30020500", SEC1_TAG},
+    {"3005" "020101" "0500", SEC1_TAG},
+    {"3003" "020101", SEC1_TRUNCATED},
+    {"3105" "020101" "3000", SEC1_TAG},
+    {"3000", SEC1_TRUNCATED},
+    {"", SEC1_TRUNCATED},
+};
+
+static void test_any_keys(void)
+{
+    struct sec1_key_parts p;
+    for (size_t i = 0; i < sizeof any_keys / sizeof *any_keys; i++) {
+        const struct any_key *k = &any_keys[i];
+        expect_whole(any_key_parts, unhex(k->bytes), &p, sizeof p);
+        EXPECT(is_part(p.private_key, k->key_at, 32));
+        EXPECT(k->curve_len ? is_part(p.curve, k->curve_at, k->curve_len) : is_absent(p.curve));
+        EXPECT(k->public_len ? is_part(p.public_key, k->public_at, k->public_len)
+                             : is_absent(p.public_key));
+    }
+    for (size_t i = 0; i < sizeof no_any_keys / sizeof *no_any_keys; i++)
+        EXPECT(read_guarded(any_key_parts, unhex(no_any_keys[i].bytes), &p, sizeof p) ==
+               no_any_keys[i].status);
 }
 
 /* The private key is PRIVATE; the bytes are the public key, and there is none of no bytes. */
@@ -1953,6 +2020,7 @@ int main(void)
         {"written public keys", test_written_public_keys},
         {"containers", test_containers},
         {"written containers", test_written_containers},
+        {"private keys in either form", test_any_keys},
         {"certificates", test_certificates},
         {"signatures", test_signatures},
         {"points", test_points},

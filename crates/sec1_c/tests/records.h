@@ -300,6 +300,31 @@ static uint32_t container_of(const uint8_t *data, size_t len,
     return algorithm.field ? SEC1_OK : SEC1_CURVE;
 }
 
+/* Bytes that begin with a SEQUENCE, and in it an INTEGER and the tag of a SEQUENCE, are a container
+ * (RFC 5958 section 2), and others a key by itself (RFC 5915 section 3). */
+static uint32_t private_key_of(const uint8_t *data, size_t len, struct sec1_key_parts *parts)
+{
+    struct rest rest = {data, 0, len}, row;
+    struct element version;
+    struct sec1_private_key_info_parts container;
+    uint32_t status;
+    if (enter(&rest, 0x30, &row) || element_of(&row, 0x02, &version) || !begins_with(row, 0x30))
+        return key_of(data, len, parts);
+    if ((status = container_of(data, len, &container))
+        || (status = key_of(data + container.key.offset, container.key.len, parts)))
+        return status;
+    parts->private_key.offset += container.key.offset;
+    if (parts->public_key.present)
+        parts->public_key.offset += container.key.offset;
+    if (parts->curve.present
+        && (parts->curve.len != container.curve.len
+            || memcmp(data + container.key.offset + parts->curve.offset,
+                      data + container.curve.offset, container.curve.len)))
+        return SEC1_OTHER_CURVE;
+    parts->curve = container.curve;
+    return SEC1_OK;
+}
+
 /* ---- certificates (RFC 5280 section 4.1) */
 
 /* AttributeTypeAndValue */

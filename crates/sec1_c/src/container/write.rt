@@ -29,9 +29,9 @@ use sec1_der::{Containing, Distinct, Record, Required, SmallInteger};
 ///
 /// # Errors
 ///
-/// Returns the number of Buffer if `out` is too short, and stores the length. Otherwise returns that
-/// of a curve that isn't in the table, or of Overlength if a part or the whole is longer than an
-/// element can be, and leaves `len` unchanged. `out` is unchanged in each case.
+/// Returns the number of Buffer if `out` is too short, and stores the length. Otherwise returns
+/// that of a curve that isn't in the table, or of Overlength if a part or the whole is longer than
+/// an element can be, and leaves `len` unchanged. `out` is unchanged in each case.
 #[unsafe(no_mangle)]
 pub extern "C" fn sec1_private_key_info_write(
     private_key: &[u8],
@@ -66,8 +66,8 @@ pub extern "C" fn sec1_private_key_info_write(
 }
 
 /// Writes the container of a key on a curve, whose identifier has this element, and stores its
-/// length. Returns the number of Buffer if `out` is too short, and that of Overlength if there is no
-/// such container.
+/// length. Returns the number of Buffer if `out` is too short, and that of Overlength if there is
+/// no such container.
 fn write_container(
     curve: Curve,
     element: &[u8],

@@ -27,9 +27,9 @@ use sec1::Error;
 ///
 /// # Errors
 ///
-/// Returns the number of Buffer if `out` is too short, and stores the length. Otherwise returns that
-/// of a curve that isn't in the table, or of PointEncoding if the key isn't the encoding of a point
-/// at its field length, and leaves `len` unchanged. `out` is unchanged in each case.
+/// Returns the number of Buffer if `out` is too short, and stores the length. Otherwise returns
+/// that of a curve that isn't in the table, or of PointEncoding if the key isn't the encoding of a
+/// point at its field length, and leaves `len` unchanged. `out` is unchanged in each case.
 #[unsafe(no_mangle)]
 pub extern "C" fn sec1_public_key_write(
     curve: &[u8],
@@ -60,9 +60,9 @@ pub extern "C" fn sec1_public_key_write(
     write_info(curve, &buffer[..element_len], public_key, out, len)
 }
 
-/// Writes the SubjectPublicKeyInfo of a public key of at most 133 bytes on a curve, whose identifier
-/// has this element, and stores its length. Returns the number of Buffer if `out` is too short,
-/// which is unchanged then.
+/// Writes the SubjectPublicKeyInfo of a public key of at most 133 bytes on a curve, whose
+/// identifier has this element, and stores its length. Returns the number of Buffer if `out` is too
+/// short, which is unchanged then.
 fn write_info(
     curve: Curve,
     element: &[u8],
