@@ -30,8 +30,8 @@ uint32_t right_calls(size_t some)
     status |= sec1_key_write_of(&given, NULL, 0, &len);
     status |= sec1_public_key_read(key, some, &public_key);
     status |= sec1_public_key_read(NULL, 0, &public_key);
-    status |= sec1_certificate_public_key(key, some, &part);
-    status |= sec1_certificate_public_key(NULL, 0, &part);
+    status |= sec1_certificate_read_public_key(key, some, &part);
+    status |= sec1_certificate_read_public_key(NULL, 0, &part);
     status |= sec1_private_key_info_read(key, some, &container);
     status |= sec1_private_key_info_read(NULL, 0, &container);
     status |= sec1_point_len(SEC1_POINT_COMPACT, 32, &len);
@@ -45,7 +45,7 @@ uint32_t right_calls(size_t some)
     status |= sec1_identifier_to_text(key, 8, text, sizeof text, &len);
     status |= sec1_identifier_from_text("1.2.840", 7, out, sizeof out, &len);
     status |= sec1_identifier_from_text(text, some, out, sizeof out, &len);
-    status |= sec1_check_tree(key, sizeof key, &len);
+    status |= sec1_tree_check(key, sizeof key, &len);
     status |= sec1_document_len(key, sizeof key, &len);
     status |= sec1_element_read(key, sizeof key, &len, &other_len);
     status |= sec1_element_read(NULL, 0, &len, &other_len);
@@ -111,7 +111,7 @@ uint32_t wrong_call(size_t some)
 #elif WRONG == 15
     return sec1_public_key_read(key, sizeof key + 1 + 0 * some, &public_key);
 #elif WRONG == 16
-    return sec1_certificate_public_key(key, sizeof key + 1 + 0 * some, &part);
+    return sec1_certificate_read_public_key(key, sizeof key + 1 + 0 * some, &part);
 #elif WRONG == 17
     return sec1_private_key_info_read(NULL, 1 + 0 * some, &container);
 #else

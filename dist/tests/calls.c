@@ -301,6 +301,9 @@ static void test_header(void)
     EXPECT(sizeof(struct sec1_private_key_info_parts) == 6 * sizeof(size_t));
     EXPECT(offsetof(struct sec1_private_key_info_parts, curve) == 0);
     EXPECT(offsetof(struct sec1_private_key_info_parts, key) == 3 * sizeof(size_t));
+    EXPECT(sizeof(struct sec1_signature_parts) == 6 * sizeof(size_t));
+    EXPECT(offsetof(struct sec1_signature_parts, r) == 0);
+    EXPECT(offsetof(struct sec1_signature_parts, s) == 3 * sizeof(size_t));
     EXPECT(sizeof(struct sec1_point_parts) == 7 * sizeof(size_t));
     EXPECT(offsetof(struct sec1_point_parts, tag) == 0);
     EXPECT(offsetof(struct sec1_point_parts, x) == sizeof(size_t));
@@ -310,12 +313,13 @@ static void test_header(void)
     EXPECT(SEC1_OK == 0 && SEC1_TRUNCATED == 1 && SEC1_TAG == 2 && SEC1_LENGTH == 3);
     EXPECT(SEC1_TRAILING_DATA == 4 && SEC1_VALUE == 5 && SEC1_OVERLENGTH == 6 && SEC1_BUFFER == 7);
     EXPECT(SEC1_DEPTH == 8 && SEC1_POINT_ENCODING == 9 && SEC1_FIELD_LENGTH == 10 &&
-           SEC1_CURVE == 11);
+           SEC1_CURVE == 11 && SEC1_OTHER_CURVE == 12);
     EXPECT(SEC1_POINT_IDENTITY == 0);
     EXPECT(SEC1_POINT_COMPRESSED_EVEN == 2 && SEC1_POINT_COMPRESSED_ODD == 3);
     EXPECT(SEC1_POINT_UNCOMPRESSED == 4 && SEC1_POINT_COMPACT == 5);
     EXPECT(SEC1_POINT_HYBRID_EVEN == 6 && SEC1_POINT_HYBRID_ODD == 7);
-    EXPECT(SEC1_IDENTIFIER_CONTENT_MAX == 39 && SEC1_IDENTIFIER_TEXT_MAX == 158);
+    EXPECT(SEC1_IDENTIFIER_CONTENT_MAX == 39 && SEC1_IDENTIFIER_TEXT_MAX == 158 &&
+           SEC1_IDENTIFIER_ARCS_MAX == 40 && SEC1_PUBLIC_KEY_MAX == 158);
     EXPECT(SEC1_POINT_MAX == 133 && SEC1_CURVE_NAME_MAX == 16 && SEC1_POINT_TEXT_MAX == 267);
     EXPECT(sec1_version() == SEC1_VERSION);
 
@@ -332,10 +336,11 @@ static void test_header(void)
         "elliptic curve point encoding error",
         "length of field elements not supported",
         "curve not in the table",
+        "key and container name different curves",
     };
-    for (uint32_t status = 0; status < 12; status++)
+    for (uint32_t status = 0; status < 13; status++)
         EXPECT(strcmp(sec1_status_text(status), texts[status]) == 0);
-    EXPECT(strcmp(sec1_status_text(12), "unknown status") == 0);
+    EXPECT(strcmp(sec1_status_text(13), "unknown status") == 0);
     EXPECT(strcmp(sec1_status_text(UINT32_MAX), "unknown status") == 0);
 }
 
@@ -627,6 +632,54 @@ static void test_public_keys(void)
         EXPECT(read_public_key(unhex(no_public_keys[i].bytes), &p) == no_public_keys[i].status);
 }
 
+/* The number of the bytes that are the curve; the others are the key. */
+static size_t curve_len;
+
+static uint32_t write_public_key(const uint8_t *bytes, size_t bytes_len, uint8_t *out,
+                                 size_t out_len, size_t *len)
+{
+    return sec1_public_key_write(bytes, curve_len, bytes + curve_len, bytes_len - curve_len, out,
+                                 out_len, len);
+}
+
+static void test_written_public_keys(void)
+{
+    for (size_t i = 0; i < sizeof public_keys / sizeof *public_keys; i++) {
+        const struct public_key *k = &public_keys[i];
+        struct bytes bytes = unhex(k->bytes), parts = {0};
+        memcpy(parts.data, bytes.data + k->curve_at, k->curve_len);
+        memcpy(parts.data + k->curve_len, bytes.data + k->key_at, k->key_len);
+        parts.len = k->curve_len + k->key_len;
+        curve_len = k->curve_len;
+        expect_converted(write_public_key, parts, bytes);
+    }
+    static const struct {
+        const char *curve, *key;
+        uint32_t status;
+    } refused[] = {
+        {"2A8648CE3D030108", "04" X Y, SEC1_CURVE},
+        {"2A8648CE3D0201", "04" X Y, SEC1_CURVE},
+        {"", "04" X Y, SEC1_CURVE},
+        {"2A8648CE3D030107", "", SEC1_POINT_ENCODING},
+        {"2A8648CE3D030107", "04" X, SEC1_POINT_ENCODING},
+        {"2A8648CE3D030107", "01" X, SEC1_POINT_ENCODING},
+        {"2A8648CE3D030107", "06" X Y, SEC1_POINT_ENCODING},
+        {"2B81040022", "04" X Y, SEC1_POINT_ENCODING},
+    };
+    for (size_t i = 0; i < sizeof refused / sizeof *refused; i++) {
+        struct bytes curve = unhex(refused[i].curve);
+        curve_len = curve.len;
+        expect_refused(write_public_key, joined(curve, unhex(refused[i].key)), refused[i].status);
+    }
+    /* the longest, of a curve of 64 bytes with an identifier of 9 */
+    struct bytes longest = unhex("2B2403030208010104"), out;
+    size_t len;
+    longest.data[8] = 13;
+    EXPECT(sec1_public_key_write(longest.data, 9, joined(unhex("04"), repeated(1, 128)).data, 129,
+                                 out.data, SEC1_PUBLIC_KEY_MAX, &len) == SEC1_OK &&
+           len == SEC1_PUBLIC_KEY_MAX);
+}
+
 /* ---- private keys in their containers */
 
 static uint32_t container_parts(const uint8_t *bytes, size_t bytes_len, void *stored)
@@ -725,11 +778,117 @@ static void test_containers(void)
            is_part(inside.public_key, 44, 65));
 }
 
+/* ---- private keys in either form */
+
+static uint32_t any_key_parts(const uint8_t *bytes, size_t bytes_len, void *stored)
+{
+    return sec1_private_key_read(bytes, bytes_len, stored);
+}
+
+#define OTHER_INSIDE "3031020101" "0420" PRIVATE "A00A06082A8648CE3D030102"
+#define SAME_INSIDE "3031020101" "0420" PRIVATE "A00A06082A8648CE3D030107"
+
+/* Keys by themselves and in containers, of which some are by hand; the places of the private key,
+ * of the curve and of the public key, or 0 for none. */
+static const struct any_key {
+    const char *bytes;
+    size_t key_at, curve_at, curve_len, public_at, public_len;
+} any_keys[] = {
+    {WHOLE_KEY, 7, 43, 8, 56, 65},
+    {"3025020101" "0420" PRIVATE, 7, 0, 0, 0, 0},
+    {"302B020101" "0420" PRIVATE "A00406022A03", 7, 43, 2, 0, 0},
+    {"308187" "020100" ON_P256 "046D" KEY_INSIDE, 36, 19, 8, 73, 65},
+    {"308187" "020101" ON_P256 "046D" KEY_INSIDE, 36, 19, 8, 73, 65},
+    {"304D" "020100" ON_P256 "0433" SAME_INSIDE, 35, 18, 8, 0, 0},
+};
+
+static const struct no_key {
+    const char *bytes;
+    uint32_t status;
+} no_any_keys[] = {
+    {"304D" "020100" ON_P256 "0433" OTHER_INSIDE, SEC1_OTHER_CURVE},
+    {"304D" "020101" ON_P256 "0433" OTHER_INSIDE, SEC1_OTHER_CURVE},
+    {"3022" "020100" ON_P256 "0408" "3005020101040000", SEC1_TRAILING_DATA},
+    {"3021" "020100" ON_P256 "0407" "30050201010300", SEC1_TAG},
+    {"3021" "020100" ON_P256 "0407" "30050201020400", SEC1_VALUE},
+    {"301C" "020100" ON_P256 "0402" "3005", SEC1_TRUNCATED},
+    {"3016" "020100" "300B" EC_KEY "0500" "0404" "05000000", SEC1_CURVE},
+    {"3025020102" "0420" PRIVATE, SEC1_VALUE},
+    {"3025020100" "0420" PRIVATE, SEC1_VALUE},
+    {"3018" "020102" ON_P256, SEC1_VALUE},
+    {"3007" "020101" "30020500", SEC1_TAG},
+    {"3005" "020101" "0500", SEC1_TAG},
+    {"3003" "020101", SEC1_TRUNCATED},
+    {"3105" "020101" "3000", SEC1_TAG},
+    {"3000", SEC1_TRUNCATED},
+    {"", SEC1_TRUNCATED},
+};
+
+static void test_any_keys(void)
+{
+    struct sec1_key_parts p;
+    for (size_t i = 0; i < sizeof any_keys / sizeof *any_keys; i++) {
+        const struct any_key *k = &any_keys[i];
+        expect_whole(any_key_parts, unhex(k->bytes), &p, sizeof p);
+        EXPECT(is_part(p.private_key, k->key_at, 32));
+        EXPECT(k->curve_len ? is_part(p.curve, k->curve_at, k->curve_len) : is_absent(p.curve));
+        EXPECT(k->public_len ? is_part(p.public_key, k->public_at, k->public_len)
+                             : is_absent(p.public_key));
+    }
+    for (size_t i = 0; i < sizeof no_any_keys / sizeof *no_any_keys; i++)
+        EXPECT(read_guarded(any_key_parts, unhex(no_any_keys[i].bytes), &p, sizeof p) ==
+               no_any_keys[i].status);
+}
+
+/* The private key is PRIVATE; the bytes are the public key, and there is none of no bytes. */
+static uint32_t write_container(const uint8_t *bytes, size_t bytes_len, uint8_t *out,
+                                size_t out_len, size_t *len)
+{
+    struct bytes private_key = unhex(PRIVATE), curve = unhex("2A8648CE3D030107");
+    return sec1_private_key_info_write(private_key.data, private_key.len, curve.data, curve_len,
+                                       bytes, bytes_len, bytes_len > 0, out, out_len, len);
+}
+
+static void test_written_containers(void)
+{
+    curve_len = 8;
+    expect_converted(write_container, unhex("04" X Y), unhex(containers[0].bytes));
+    expect_converted(write_container, unhex(""),
+                     unhex("3041" "020100" ON_P256 "0427" "3025020101" "0420" PRIVATE));
+    for (curve_len = 0; curve_len < 8; curve_len++)
+        expect_refused(write_container, unhex("04" X Y), SEC1_CURVE);
+
+    size_t size = (size_t)1 << 28, len = 777777;
+    uint8_t out[8], curve[] = {0x2B, 0x81, 0x04, 0x00, 0x23};
+    uint8_t *zeros =
+        mmap(NULL, size, PROT_READ, MAP_PRIVATE | MAP_ANONYMOUS | MAP_NORESERVE, -1, 0);
+    if (zeros == MAP_FAILED) {
+        perror("mmap");
+        exit(2);
+    }
+    /* a key of version 1 around size - 50 bytes, and headers of 6 bytes in front of each of them */
+    size_t key = 6 + 3 + 6 + (size - 50), whole = 3 + 18 + 6 + key;
+    EXPECT(sec1_private_key_info_write(zeros, size - 50, curve, 5, NULL, 0, 0, out, 8, &len) ==
+               SEC1_BUFFER &&
+           len == 6 + whole && whole == size - 8);
+    EXPECT(sec1_private_key_info_write(zeros, size - 43, curve, 5, NULL, 0, 0, out, 8, &len) ==
+               SEC1_BUFFER &&
+           len == size - 1 + 6);
+    len = 777777;
+    EXPECT(sec1_private_key_info_write(zeros, size - 42, curve, 5, NULL, 0, 0, out, 8, &len) ==
+               SEC1_OVERLENGTH &&
+           len == 777777);
+    EXPECT(sec1_private_key_info_write(zeros, size, curve, 5, NULL, 0, 0, out, 8, &len) ==
+               SEC1_OVERLENGTH &&
+           len == 777777);
+    munmap(zeros, size);
+}
+
 /* ---- certificates */
 
 static uint32_t key_place(const uint8_t *bytes, size_t bytes_len, void *stored)
 {
-    return sec1_certificate_public_key(bytes, bytes_len, stored);
+    return sec1_certificate_read_public_key(bytes, bytes_len, stored);
 }
 
 static uint32_t find_key(struct bytes input, struct sec1_part *part)
@@ -811,6 +970,123 @@ static void test_certificates(void)
     EXPECT(find_key(certificate, &part) == SEC1_OK &&
            sec1_public_key_read(certificate.data + part.offset, part.len, &key) == SEC1_OK);
     EXPECT(is_part(key.curve, 15, 8) && is_part(key.public_key, 26, 65));
+}
+
+/* ---- signatures */
+
+static uint32_t signature_parts(const uint8_t *bytes, size_t bytes_len, void *stored)
+{
+    return sec1_signature_read(bytes, bytes_len, stored);
+}
+
+static uint32_t read_signature(struct bytes input, struct sec1_signature_parts *parts)
+{
+    return read_guarded(signature_parts, input, parts, sizeof *parts);
+}
+
+/* The number of the bytes that are r; the others are s. */
+static size_t r_len;
+
+static uint32_t write_signature(const uint8_t *bytes, size_t bytes_len, uint8_t *out,
+                                size_t out_len, size_t *len)
+{
+    return sec1_signature_write(bytes, r_len, bytes + r_len, bytes_len - r_len, out, out_len, len);
+}
+
+static void expect_signature(struct bytes r, struct bytes s, struct bytes wanted)
+{
+    r_len = r.len;
+    expect_converted(write_signature, joined(r, s), wanted);
+}
+
+/* RFC 6979 appendix A.2.5, the message "sample" with SHA-256. */
+#define R "EFD48B2AACB6A8FD1140DD9CD45E81D69D2C877B56AAF991C34D0EA84EAF3716"
+#define S "F7CB1C942D657C41D436C7A1B6E29F65F3E900DBB9AFF4064DC4AB2F843ACDA8"
+
+/* That signature, and by hand (X.690 section 8.3): numbers of which one has a zero in front. */
+static const struct signature {
+    const char *r, *s, *bytes;
+    size_t r_at, r_len, s_at, s_len;
+} signatures[] = {
+    {R, S, "3046" "022100" R "022100" S, 4, 33, 39, 33},
+    {"01", "02", "3006" "020101" "020102", 4, 1, 7, 1},
+    {"", "7F", "3006" "020100" "02017F", 4, 1, 7, 1},
+    {"80", "", "3007" "02020080" "020100", 4, 2, 8, 1},
+    {"7FFF", "8000", "3009" "02027FFF" "0203008000", 4, 2, 8, 3},
+    {"FF", "0100", "3008" "020200FF" "02020100", 4, 2, 8, 2},
+};
+
+/* Numbers that are negative or have a byte too many, and other faults. */
+static const struct no_signature {
+    const char *bytes;
+    uint32_t status;
+} no_signatures[] = {
+    {"3006" "0201FF" "020101", SEC1_VALUE},
+    {"3006" "020101" "020180", SEC1_VALUE},
+    {"3044" "0220" R "0220" S, SEC1_VALUE},
+    {"3007" "02020001" "020101", SEC1_VALUE},
+    {"3007" "020101" "0202007F", SEC1_VALUE},
+    {"3007" "0202FF80" "020101", SEC1_VALUE},
+    {"3005" "0200" "020101", SEC1_VALUE},
+    {"3003" "020101", SEC1_TRUNCATED},
+    {"3000", SEC1_TRUNCATED},
+    {"3006" "020101" "020201", SEC1_TRUNCATED},
+    {"3006" "030101" "020101", SEC1_TAG},
+    {"3006" "020101" "040101", SEC1_TAG},
+    {"3106" "020101" "020101", SEC1_TAG},
+    {"308106" "020101" "020101", SEC1_LENGTH},
+    {"3007" "02810101" "020101", SEC1_LENGTH},
+    {"3009" "020101" "020101" "020101", SEC1_TRAILING_DATA},
+    {"3006" "020101" "020101" "0500", SEC1_TRAILING_DATA},
+    {"", SEC1_TRUNCATED},
+};
+
+/* Numbers at the limit of 268,435,455 bytes of a content. */
+static void expect_long_signatures(void)
+{
+    size_t size = ((size_t)1 << 28) - 1, len = 777777;
+    uint8_t out[8] = {0};
+    uint8_t *bytes = mmap(NULL, size + 1, PROT_READ | PROT_WRITE,
+                          MAP_PRIVATE | MAP_ANONYMOUS | MAP_NORESERVE, -1, 0);
+    if (bytes == MAP_FAILED) {
+        perror("mmap");
+        exit(2);
+    }
+    EXPECT(sec1_signature_write(bytes, size + 1, bytes, size, out, 8, &len) == SEC1_OK && len == 8);
+    bytes[10] = 0x7F; /* a number of size - 10 bytes, with a header of 6, beside one of 3 bytes */
+    EXPECT(sec1_signature_write(bytes, size, NULL, 0, out, 8, &len) == SEC1_BUFFER &&
+           len == size - 10 + 6 + 3 + 6);
+    bytes[9] = 0x7F;
+    EXPECT(sec1_signature_write(bytes, size, NULL, 0, out, 8, &len) == SEC1_BUFFER &&
+           len == size - 9 + 6 + 3 + 6);
+    len = 777777;
+    bytes[8] = 0x7F;
+    EXPECT(sec1_signature_write(bytes, size, NULL, 0, out, 8, &len) == SEC1_OVERLENGTH &&
+           len == 777777);
+    bytes[0] = 0x80;
+    EXPECT(sec1_signature_write(NULL, 0, bytes, size, out, 8, &len) == SEC1_OVERLENGTH &&
+           len == 777777);
+    munmap(bytes, size + 1);
+}
+
+static void test_signatures(void)
+{
+    struct sec1_signature_parts p;
+    for (size_t i = 0; i < sizeof signatures / sizeof *signatures; i++) {
+        const struct signature *k = &signatures[i];
+        struct bytes bytes = unhex(k->bytes), r = unhex(k->r), s = unhex(k->s);
+        struct bytes zeros = repeated(0, 3);
+        expect_whole(signature_parts, bytes, &p, sizeof p);
+        EXPECT(is_part(p.r, k->r_at, k->r_len) && is_part(p.s, k->s_at, k->s_len));
+        expect_signature(r, s, bytes);
+        expect_signature(joined(zeros, r), s, bytes);
+        expect_signature(r, joined(zeros, s), bytes);
+    }
+    for (size_t i = 0; i < sizeof no_signatures / sizeof *no_signatures; i++)
+        EXPECT(read_signature(unhex(no_signatures[i].bytes), &p) == no_signatures[i].status);
+    size_t len;
+    EXPECT(sec1_signature_write(NULL, 0, NULL, 0, NULL, 0, &len) == SEC1_BUFFER && len == 8);
+    expect_long_signatures();
 }
 
 /* ---- points */
@@ -1077,6 +1353,42 @@ static uint32_t check_identifier(struct bytes content)
     return status;
 }
 
+/* The arcs of an identifier are the numbers in its text, at every length of the array. */
+static void expect_arcs(const char *text, struct bytes content)
+{
+    uint32_t wanted[SEC1_IDENTIFIER_ARCS_MAX];
+    size_t count = 0;
+    for (const char *at = text; at; at = strchr(at, '.') ? strchr(at, '.') + 1 : NULL)
+        wanted[count++] = (uint32_t)strtoul(at, NULL, 10);
+    for (size_t room = 0; room <= count + 2; room++) {
+        for (enum side side = AT_END; side <= AT_START; side++) {
+            struct guarded in = map_input(content.data, content.len, side);
+            struct guarded out = map_guarded(room * sizeof *wanted, side);
+            size_t found = 777777, size = room * sizeof *wanted;
+            memset(out.data, 0xEE, size);
+            uint32_t status =
+                sec1_identifier_arcs(in.data, content.len, (uint32_t *)out.data, room, &found);
+            EXPECT(found == count && status == (room < count ? SEC1_BUFFER : SEC1_OK));
+            if (status)
+                EXPECT(all_are(out.data, size, 0xEE));
+            else
+                EXPECT(memcmp(out.data, wanted, count * sizeof *wanted) == 0 &&
+                       all_are(out.data + count * sizeof *wanted, (room - count) * sizeof *wanted,
+                               0xEE));
+            unmap(in);
+            unmap(out);
+        }
+    }
+}
+
+static void expect_no_arcs(struct bytes content)
+{
+    uint32_t arcs[2] = {77, 77};
+    size_t count = 777777;
+    EXPECT(sec1_identifier_arcs(content.data, content.len, arcs, 2, &count) == SEC1_VALUE &&
+           count == 777777 && arcs[0] == 77 && arcs[1] == 77);
+}
+
 static void expect_identifier(const char *text, struct bytes content)
 {
     struct bytes ended = text_bytes(text);
@@ -1084,6 +1396,7 @@ static void expect_identifier(const char *text, struct bytes content)
     ended.len++;
     expect_converted(to_text, content, ended);
     expect_converted(from_text, text_bytes(text), content);
+    expect_arcs(text, content);
 }
 
 /* The longest text of an identifier. */
@@ -1165,11 +1478,14 @@ static void test_identifiers(void)
                                               "2A8001", "2AFF", "2A9080808000", "9080808000"};
     for (size_t i = 0; i < sizeof no_contents / sizeof *no_contents; i++) {
         expect_refused(to_text, unhex(no_contents[i]), SEC1_VALUE);
+        expect_no_arcs(unhex(no_contents[i]));
         EXPECT(check_identifier(unhex(no_contents[i])) == SEC1_VALUE);
     }
     EXPECT(check_identifier(repeated(1, 40)) == SEC1_VALUE &&
            sec1_identifier_check(NULL, 0) == SEC1_VALUE);
+    expect_no_arcs(repeated(1, 40));
     size_t len = 777777;
+    EXPECT(sec1_identifier_arcs(NULL, 0, NULL, 0, &len) == SEC1_VALUE && len == 777777);
     EXPECT(sec1_identifier_to_text(NULL, 0, NULL, 0, &len) == SEC1_VALUE && len == 777777);
     EXPECT(sec1_identifier_from_text(NULL, 0, NULL, 0, &len) == SEC1_VALUE && len == 777777);
 }
@@ -1359,7 +1675,7 @@ static uint32_t check_tree(struct bytes input, size_t *elements)
     for (enum side side = AT_END; side <= AT_START; side++) {
         struct guarded in = map_input(input.data, input.len, side);
         *elements = 777777;
-        status = sec1_check_tree(in.data, input.len, elements);
+        status = sec1_tree_check(in.data, input.len, elements);
         EXPECT(status == SEC1_OK || *elements == 777777);
         unmap(in);
     }
@@ -1630,7 +1946,7 @@ static void test_elements(void)
         EXPECT(document_len(unhex(documents[i].bytes), &found) == documents[i].status);
         EXPECT(found == documents[i].len);
     }
-    EXPECT(sec1_check_tree(NULL, 0, &found) == SEC1_TRUNCATED);
+    EXPECT(sec1_tree_check(NULL, 0, &found) == SEC1_TRUNCATED);
     EXPECT(sec1_document_len(NULL, 0, &found) == SEC1_TRUNCATED && found == 0);
 
     /* 64 headers around one another, and one more */
@@ -1675,7 +1991,7 @@ static void test_random_bytes(void)
         uint32_t status = sec1_key_read(bytes, b.len, &p);
         EXPECT(status <= SEC1_VALUE);
         if (status == SEC1_OK) {
-            EXPECT(sec1_check_tree(bytes, b.len, &elements) == SEC1_OK);
+            EXPECT(sec1_tree_check(bytes, b.len, &elements) == SEC1_OK);
             EXPECT(elements == 3 + 2 * p.curve.present + 2 * p.public_key.present);
             EXPECT(sec1_document_len(bytes, b.len, &len) == SEC1_OK && len == b.len);
             EXPECT(sec1_key_write(bytes + p.private_key.offset, p.private_key.len,
@@ -1718,8 +2034,12 @@ int main(void)
         {"written keys", test_written_keys},
         {"long keys", test_long_keys},
         {"public keys", test_public_keys},
+        {"written public keys", test_written_public_keys},
         {"containers", test_containers},
+        {"written containers", test_written_containers},
+        {"private keys in either form", test_any_keys},
         {"certificates", test_certificates},
+        {"signatures", test_signatures},
         {"points", test_points},
         {"made points", test_made_points},
         {"identifiers", test_identifiers},

@@ -54,7 +54,8 @@ static size_t draw_point(uint8_t *out, size_t n)
     return draw(8) ? len : len - 1 + draw(3);
 }
 
-static size_t draw_key(uint8_t *out)
+/* A key that names the curve with this OBJECT IDENTIFIER, if there is one. */
+static size_t draw_key_on(uint8_t *out, const uint8_t *curve, size_t curve_len)
 {
     static const uint8_t lengths[] = {0, 1, 28, 32, 48, 66, 65, 97, 122, 123, 133, 200};
     uint8_t part[512];
@@ -63,6 +64,8 @@ static size_t draw_key(uint8_t *out)
     len += put(out + len, 0x04, part, part_len);
     if (draw(4)) {
         part_len = wrap(part, 0x06, draw_content(part));
+        if (curve_len && draw(8))
+            memcpy(part, curve, part_len = curve_len);
         len += put(out + len, 0xA0, part, part_len);
     }
     if (draw(4)) {
@@ -74,6 +77,11 @@ static size_t draw_key(uint8_t *out)
         len += put(out + len, 0xA1, part, wrap(part, 0x03, part_len));
     }
     return wrap(out, 0x30, len);
+}
+
+static size_t draw_key(uint8_t *out)
+{
+    return draw_key_on(out, NULL, 0);
 }
 
 /* Elements inside one another and beside one another. */
@@ -90,6 +98,21 @@ static size_t draw_tree(uint8_t *out)
         len = wrap(out, draw(2) ? 0x30 : 0xA1, len);
     }
     return len;
+}
+
+/* A signature, whose numbers have a zero in front if they need one, and now and then another. */
+static size_t draw_signature(uint8_t *out)
+{
+    size_t len = 0;
+    for (int number = 0; number < 2; number++) {
+        uint8_t content[80] = {0};
+        size_t zeros = 0, digits = draw(8) ? 28 + draw(5) : draw(68);
+        draw_bytes(content + 8, digits);
+        if (digits == 0 || content[8] >= 0x80 || draw(16) == 0)
+            zeros = draw(16) ? 1 : draw(3);
+        len += put(out + len, 0x02, content + 8 - zeros, zeros + digits);
+    }
+    return wrap(out, 0x30, len);
 }
 
 /* ---- public keys, containers and certificates */
@@ -184,7 +207,7 @@ static size_t draw_container(uint8_t *out)
     uint8_t curve[16], version = (uint8_t)draw(draw(16) ? 2 : 4);
     size_t curve_len = draw_curve(curve), len = put(out, 0x02, &version, 1);
     len += draw_algorithm(out + len, curve, curve_len);
-    len += wrap(out + len, 0x04, draw_key(out + len));
+    len += wrap(out + len, 0x04, draw_key_on(out + len, curve, curve_len));
     if (draw(3) == 0)
         len += draw_set(out + len, 0xA0, 0x31);
     if (draw(3) == 0)

@@ -8,7 +8,7 @@
 #include <sys/mman.h>
 #include <unistd.h>
 
-enum { INPUTS = 1000000, MOST = 2048, STATUSES = 12 };
+enum { INPUTS = 1000000, MOST = 2048, STATUSES = 13 };
 
 /* ---- memory between pages that can't be touched */
 
@@ -76,13 +76,19 @@ enum call {
     PUBLIC_KEY,
     CONTAINER,
     CERTIFICATE,
+    PRIVATE_KEY,
+    PUBLIC_KEY_WRITE,
+    CONTAINER_WRITE,
+    SIGNATURE,
+    SIGNATURE_WRITE,
+    ARCS,
     INPUT,
     CALLS
 };
 static const char *const names[CALLS] = {
     "sec1_key_read",
     "sec1_key_len and sec1_key_write",
-    "sec1_check_tree",
+    "sec1_tree_check",
     "sec1_document_len",
     "sec1_point_read and sec1_point_check",
     "sec1_point_compress and sec1_point_to_hybrid",
@@ -99,13 +105,20 @@ static const char *const names[CALLS] = {
     "sec1_point_from_hex",
     "sec1_public_key_read",
     "sec1_private_key_info_read",
-    "sec1_certificate_public_key",
+    "sec1_certificate_read_public_key",
+    "sec1_private_key_read",
+    "sec1_public_key_write",
+    "sec1_private_key_info_write",
+    "sec1_signature_read",
+    "sec1_signature_write",
+    "sec1_identifier_arcs",
     "inputs that are unchanged",
 };
 /* the statuses that each call returns at least once here, as bits */
 static const unsigned wanted[CALLS] = {0x3F,  0xA1,  0x11F, 0x1F,  0x601, 0x681, 0x601,
                                        0xA1,  0xA1,  0x3F,  0x11F, 0xF,   0x85,  0x21,
-                                       0x481, 0x681, 0x681, 0xA3F, 0x83F, 0x3F,  1};
+                                       0x481, 0x681, 0x681, 0xA3F, 0x83F, 0x3F,  0x183F,
+                                       0xA81, 0x881, 0x3F,  0x81,  0xA1,  1};
 static unsigned long counts[CALLS][STATUSES], wrong[CALLS];
 static struct {
     uint8_t data[MOST];
@@ -244,10 +257,112 @@ static void check_records(const uint8_t *bytes, size_t len)
     refused = container_of(bytes, len, &container);
     status = sec1_private_key_info_read(bytes, len, stored);
     expect(CONTAINER, status, stores(status, refused, stored, &container, sizeof container));
+    struct sec1_key_parts inside;
+    stored = filled(struct_arena, sizeof inside, 0xA5);
+    refused = private_key_of(bytes, len, &inside);
+    status = sec1_private_key_read(bytes, len, stored);
+    expect(PRIVATE_KEY, status, stores(status, refused, stored, &inside, sizeof inside));
     stored = filled(struct_arena, sizeof info, 0xA5);
     refused = certificate_of(bytes, len, &info);
-    status = sec1_certificate_public_key(bytes, len, stored);
+    status = sec1_certificate_read_public_key(bytes, len, stored);
     expect(CERTIFICATE, status, stores(status, refused, stored, &info, sizeof info));
+}
+
+static const uint8_t ec_public_key[] = {0x2A, 0x86, 0x48, 0xCE, 0x3D, 0x02, 0x01};
+
+/* The AlgorithmIdentifier of keys on a curve (RFC 5480 section 2.1.1). */
+static size_t put_algorithm(uint8_t *out, const uint8_t *curve, size_t curve_len)
+{
+    size_t len = put(out, 0x06, ec_public_key, sizeof ec_public_key);
+    len += put(out + len, 0x06, curve, curve_len);
+    return wrap(out, 0x30, len);
+}
+
+/* Writes the point with this encoding as a public key on some curve, and a private key of these
+ * bytes in its container. */
+static void check_written_keys(const uint8_t *bytes, size_t len)
+{
+    static uint8_t whole[MOST + 256], inside[MOST + 256], bits[MOST + 64];
+    uint8_t drawn[16];
+    struct sec1_point_parts point;
+    size_t curve_len = draw_curve(drawn) - 2, found = 777777, inside_len, whole_len;
+    uint8_t *curve = memcpy(room(text_arena, curve_len), drawn + 2, curve_len);
+    size_t field = curve_field(curve, curve_len), has = draw(3);
+    uint32_t refused = field ? point_of(bytes, len, field, &point) : SEC1_CURVE;
+    bits[0] = 0;
+    if (len)
+        memcpy(bits + 1, bytes, len);
+    whole_len = put_algorithm(whole, curve, curve_len);
+    whole_len += put(whole + whole_len, 0x03, bits, len + 1);
+    whole_len = wrap(whole, 0x30, whole_len);
+    size_t out_len = some_room(whole_len);
+    uint8_t *out = buffer(out_len);
+    uint32_t status = sec1_public_key_write(curve, curve_len, bytes, len, out, out_len, &found);
+    expect(PUBLIC_KEY_WRITE, status,
+           writes(status, found, out, out_len, refused, whole, whole_len));
+
+    size_t private_len = draw((uint32_t)len + 1), public_len = len - private_len;
+    const uint8_t *public_key = len ? bytes + private_len : NULL;
+    inside_len = put(inside, 0x02, (const uint8_t *)"\x01", 1);
+    inside_len += put(inside + inside_len, 0x04, bytes, private_len);
+    if (has) {
+        if (public_len)
+            memcpy(bits + 1, public_key, public_len);
+        inside_len += put(inside + inside_len, 0xA1, bits, wrap(bits, 0x03, public_len + 1));
+    }
+    inside_len = wrap(inside, 0x30, inside_len);
+    whole_len = put(whole, 0x02, (const uint8_t *)"", 1);
+    whole_len += put_algorithm(whole + whole_len, curve, curve_len);
+    whole_len += put(whole + whole_len, 0x04, inside, inside_len);
+    whole_len = wrap(whole, 0x30, whole_len);
+    out_len = some_room(whole_len);
+    out = buffer(out_len);
+    found = 777777;
+    status = sec1_private_key_info_write(bytes, private_len, curve, curve_len, public_key,
+                                         public_len, has, out, out_len, &found);
+    expect(CONTAINER_WRITE, status,
+           writes(status, found, out, out_len, field ? SEC1_OK : SEC1_CURVE, whole, whole_len));
+}
+
+/* The content of the INTEGER of a number with these digits (X.690 section 8.3). */
+static size_t put_integer(uint8_t *out, const uint8_t *digits, size_t len)
+{
+    size_t zeros = 0, at = 0;
+    while (at < len && digits[at] == 0)
+        at++;
+    if (at == len || digits[at] >= 0x80)
+        out[zeros++] = 0;
+    if (at < len)
+        memcpy(out + zeros, digits + at, len - at);
+    return zeros + len - at;
+}
+
+/* Reads a signature, and writes one whose numbers are the parts that were read, or the beginning
+ * and the end of the bytes. */
+static void check_signature(const uint8_t *bytes, size_t len)
+{
+    static uint8_t number[MOST + 64], whole[2 * MOST + 128];
+    struct sec1_signature_parts found;
+    void *stored = filled(struct_arena, sizeof found, 0xA5);
+    uint32_t refused = signature_of(bytes, len, &found),
+             status = sec1_signature_read(bytes, len, stored);
+    expect(SIGNATURE, status, stores(status, refused, stored, &found, sizeof found));
+
+    size_t r_at = 0, r_len = draw((uint32_t)len + 1), s_at = r_len, s_len = len - r_len;
+    if (!refused) {
+        r_at = found.r.offset, r_len = found.r.len;
+        s_at = found.s.offset, s_len = found.s.len;
+    }
+    const uint8_t *r = r_len ? bytes + r_at : NULL, *s = s_len ? bytes + s_at : NULL;
+    size_t whole_len = put(whole, 0x02, number, put_integer(number, r, r_len)), written = 777777;
+    whole_len += put(whole + whole_len, 0x02, number, put_integer(number, s, s_len));
+    whole_len = wrap(whole, 0x30, whole_len);
+    size_t out_len = some_room(whole_len);
+    uint8_t *out = buffer(out_len);
+    status = sec1_signature_write(r, r_len, s, s_len, out, out_len, &written);
+    expect(SIGNATURE_WRITE, status,
+           writes(status, written, out, out_len, SEC1_OK, whole, whole_len)
+               && (refused || (whole_len == len && memcmp(whole, bytes, len) == 0)));
 }
 
 static void check_elements(const uint8_t *bytes, size_t len)
@@ -255,7 +370,7 @@ static void check_elements(const uint8_t *bytes, size_t len)
     size_t found = 0, *stored = (size_t *)filled(struct_arena, sizeof found, 0xA5),
            before = *stored;
     uint32_t refused = check_tree_of(bytes, len, &found),
-             status = sec1_check_tree(bytes, len, stored);
+             status = sec1_tree_check(bytes, len, stored);
     expect(TREE, status, status == refused && *stored == (refused ? before : found));
     check_fault(TREE_FAULT, sec1_tree_fault_at, bytes, len, refused, fault_at);
     refused = document_of(bytes, len, &found);
@@ -404,6 +519,16 @@ static void check_identifier(const uint8_t *bytes, size_t len)
            writes(status, found, out, out_len, refused, (uint8_t *)text, wanted_len));
 
     found = 777777;
+    wanted_len = refused ? 2 + draw(40) : arcs.count;
+    out_len = some_room(wanted_len);
+    size_t size = out_len * sizeof *arcs.arc;
+    uint32_t *numbers = (uint32_t *)filled(out_arena, size, 0xEE);
+    status = sec1_identifier_arcs(bytes, len, numbers, out_len, &found);
+    expect(ARCS, status,
+           writes(status, found == 777777 ? found : found * sizeof *arcs.arc, (uint8_t *)numbers,
+                  size, refused, (uint8_t *)arcs.arc, wanted_len * sizeof *arcs.arc));
+
+    found = 777777;
     wanted_len = put_content(content, (const char *)bytes, len);
     refused = wanted_len ? SEC1_OK : SEC1_VALUE;
     out_len = some_room(refused ? 40 : wanted_len);
@@ -420,6 +545,8 @@ static void check_calls(size_t n, const uint8_t *other, size_t other_len)
     const uint8_t *given = now.len == 0 && draw(2) ? NULL : bytes;
     check_key(bytes, now.len);
     check_records(given, now.len);
+    check_signature(given, now.len);
+    check_written_keys(given, now.len);
     check_elements(given, now.len);
     check_element_write(given, now.len);
     check_point(given, now.len, n, others, other_len);
@@ -444,7 +571,7 @@ static void map_arenas(void)
 #ifndef FUZZED
 static size_t draw_input(uint8_t *out, size_t n)
 {
-    switch (draw(11)) {
+    switch (draw(12)) {
     case 0: return draw_soup(out);
     case 1: return draw_content(out);
     case 2: return draw_text(out);
@@ -454,6 +581,7 @@ static size_t draw_input(uint8_t *out, size_t n)
     case 6: return damage(out, draw_info(out));
     case 7: return damage(out, draw_container(out));
     case 8: return damage(out, draw_certificate(out));
+    case 9: return damage(out, draw_signature(out));
     default: return damage(out, draw_key(out));
     }
 }

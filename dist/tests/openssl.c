@@ -498,6 +498,31 @@ static uint32_t read_info(struct bytes info, X509_PUBKEY *wanted, const ASN1_OBJ
     return status;
 }
 
+/* What the library writes of a key's parts is what OpenSSL writes of the key. */
+static void write_records(struct bytes whole, struct bytes info, const char *name)
+{
+    static unsigned char out[MOST];
+    struct sec1_private_key_info_parts container;
+    struct sec1_key_parts key;
+    struct sec1_public_key_parts parts;
+    const unsigned char *inside;
+    size_t len = 0;
+    EXPECT(sec1_private_key_info_read(whole.data, whole.len, &container) == SEC1_OK, name);
+    inside = whole.data + container.key.offset;
+    EXPECT(sec1_key_read(inside, container.key.len, &key) == SEC1_OK, name);
+    EXPECT(sec1_private_key_info_write(
+               inside + key.private_key.offset, key.private_key.len,
+               whole.data + container.curve.offset, container.curve.len,
+               inside + key.public_key.offset, key.public_key.len, key.public_key.present, out,
+               sizeof out, &len) == SEC1_OK
+           && len == whole.len && memcmp(out, whole.data, len) == 0, name);
+    EXPECT(sec1_public_key_read(info.data, info.len, &parts) == SEC1_OK, name);
+    EXPECT(sec1_public_key_write(info.data + parts.curve.offset, parts.curve.len,
+                                 info.data + parts.public_key.offset, parts.public_key.len, out,
+                                 sizeof out, &len) == SEC1_OK
+           && len == info.len && memcmp(out, info.data, len) == 0, name);
+}
+
 /* Signs each certificate, also where OpenSSL signs nothing with the key itself. */
 static EVP_PKEY *issuer;
 
@@ -527,7 +552,7 @@ static void compare_certificate(EVP_PKEY *key, int curve, struct bytes info)
     X509 *certificate = certificate_of(key, curve);
     struct bytes whole = DER_OF(i2d_X509, certificate);
     struct sec1_part part;
-    EXPECT(sec1_certificate_public_key(whole.data, whole.len, &part) == SEC1_OK
+    EXPECT(sec1_certificate_read_public_key(whole.data, whole.len, &part) == SEC1_OK
            && is_at(whole, part, info.data, info.len), name);
     X509_free(certificate);
 }
@@ -563,6 +588,8 @@ static int compare_records(int curve)
     struct bytes info = DER_OF(i2d_X509_PUBKEY, public_key);
     EXPECT(read_info(info, public_key, OBJ_nid2obj(curve), name) == status, name);
     EXPECT(status == SEC1_OK || status == SEC1_CURVE, name);
+    if (status == SEC1_OK)
+        write_records(whole, info, name);
     compare_certificate(key, curve, info);
     X509_PUBKEY_free(public_key);
     PKCS8_PRIV_KEY_INFO_free(container);
@@ -587,6 +614,73 @@ static int records_hold(void)
     return accepted == 34 && wrong_records == 0;
 }
 
+/* ---- signatures */
+
+static struct bytes bytes_of(const BIGNUM *number)
+{
+    struct bytes b = {0};
+    b.len = (size_t)BN_bn2bin(number, b.data);
+    return b;
+}
+
+/* Whether both read these bytes to their end, as the same numbers, or neither does. The library
+ * writes of numbers that OpenSSL read what was read. */
+static int same_signature(struct bytes input, unsigned long *read_by_both)
+{
+    struct sec1_signature_parts parts;
+    unsigned char out[MOST];
+    const unsigned char *at = input.data;
+    size_t len;
+    uint32_t status = sec1_signature_read(input.data, input.len, &parts);
+    ECDSA_SIG *signature = d2i_ECDSA_SIG(NULL, &at, (long)input.len);
+    int read = signature && at == input.data + input.len, same = read == (status == SEC1_OK);
+    if (read && same) {
+        struct bytes r = bytes_of(ECDSA_SIG_get0_r(signature)),
+                     s = bytes_of(ECDSA_SIG_get0_s(signature));
+        size_t r_zeros = parts.r.len - r.len, s_zeros = parts.s.len - s.len;
+        ++*read_by_both;
+        same = r_zeros <= 1 && s_zeros <= 1
+               && memcmp(input.data + parts.r.offset + r_zeros, r.data, r.len) == 0
+               && memcmp(input.data + parts.s.offset + s_zeros, s.data, s.len) == 0
+               && sec1_signature_write(r.data, r.len, s.data, s.len, out, sizeof out, &len) == 0
+               && len == input.len && memcmp(out, input.data, len) == 0;
+    }
+    ECDSA_SIG_free(signature);
+    if (!same) {
+        printf("FAILED: sec1 %u, OpenSSL %d: ", (unsigned)status, read);
+        print_hex(input.data, input.len);
+    }
+    return same;
+}
+
+/* Signatures by OpenSSL of keys of several sizes, and as many of them damaged. */
+static int signatures_hold(int count)
+{
+    static const int curves[] = {NID_X9_62_prime256v1, NID_secp224r1, NID_secp384r1, NID_secp521r1};
+    unsigned long both_read = 0;
+    int wrong = 0;
+    for (size_t i = 0; i < sizeof curves / sizeof *curves; i++) {
+        EC_KEY *key = EC_KEY_new_by_curve_name(curves[i]);
+        EC_KEY_generate_key(key);
+        for (int made = 0; made < 100; made++) {
+            unsigned char digest[32], der[MOST];
+            unsigned der_len = 0;
+            struct bytes signature = {0};
+            for (size_t j = 0; j < sizeof digest; j++)
+                digest[j] = (unsigned char)draw(256);
+            ECDSA_sign(0, digest, sizeof digest, der, &der_len, key);
+            signature.len = der_len;
+            memcpy(signature.data, der, der_len);
+            wrong += !same_signature(signature, &both_read);
+            for (int j = 0; j < count / 400; j++)
+                wrong += !same_signature(damaged(signature), &both_read);
+        }
+        EC_KEY_free(key);
+    }
+    printf("with %d damaged signatures: %lu read by both\n", count, both_read);
+    return wrong == 0 && both_read > 400;
+}
+
 int main(void)
 {
     enum { DAMAGED = 100000 };
@@ -603,6 +697,7 @@ int main(void)
 
     examples_hold() ? passed++ : failed++;
     records_hold() ? passed++ : failed++;
+    signatures_hold(DAMAGED) ? passed++ : failed++;
     memset(counts, 0, sizeof counts);
     both = neither = 0;
     for (int i = 0; i < key_count; i++)

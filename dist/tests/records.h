@@ -220,6 +220,28 @@ static uint32_t info_of(const uint8_t *data, size_t len, struct sec1_public_key_
     return point_of(data + key.start + 1, key.end - key.start - 1, algorithm.field, &point);
 }
 
+/* ---- signatures (RFC 3279 section 2.2.3) */
+
+/* X.690 section 8.3.3: bit 8 of the first byte makes a number negative. */
+static int is_unsigned(const uint8_t *content, size_t len)
+{
+    return is_integer(content, len) && content[0] < 0x80;
+}
+
+static uint32_t signature_of(const uint8_t *data, size_t len, struct sec1_signature_parts *parts)
+{
+    struct rest rest = {data, 0, len}, row;
+    struct element r, s;
+    uint32_t status = enter(&rest, 0x30, &row);
+    if (status || (status = value_of(&row, 0x02, is_unsigned, &r))
+        || (status = value_of(&row, 0x02, is_unsigned, &s)) || (status = end_of(&row))
+        || (status = end_of(&rest)))
+        return status;
+    parts->r = place(r.start, r.end);
+    parts->s = place(s.start, s.end);
+    return SEC1_OK;
+}
+
 /* ---- private keys */
 
 /* X.690 section 11.6: reads the elements of a SET, which ascend as octet strings do. */
@@ -276,6 +298,31 @@ static uint32_t container_of(const uint8_t *data, size_t len,
     parts->curve = algorithm.curve;
     parts->key = place(key.start, key.end);
     return algorithm.field ? SEC1_OK : SEC1_CURVE;
+}
+
+/* Bytes that begin with a SEQUENCE, and in it an INTEGER and the tag of a SEQUENCE, are a container
+ * (RFC 5958 section 2), and others a key by itself (RFC 5915 section 3). */
+static uint32_t private_key_of(const uint8_t *data, size_t len, struct sec1_key_parts *parts)
+{
+    struct rest rest = {data, 0, len}, row;
+    struct element version;
+    struct sec1_private_key_info_parts container;
+    uint32_t status;
+    if (enter(&rest, 0x30, &row) || element_of(&row, 0x02, &version) || !begins_with(row, 0x30))
+        return key_of(data, len, parts);
+    if ((status = container_of(data, len, &container))
+        || (status = key_of(data + container.key.offset, container.key.len, parts)))
+        return status;
+    parts->private_key.offset += container.key.offset;
+    if (parts->public_key.present)
+        parts->public_key.offset += container.key.offset;
+    if (parts->curve.present
+        && (parts->curve.len != container.curve.len
+            || memcmp(data + container.key.offset + parts->curve.offset,
+                      data + container.curve.offset, container.curve.len)))
+        return SEC1_OTHER_CURVE;
+    parts->curve = container.curve;
+    return SEC1_OK;
 }
 
 /* ---- certificates (RFC 5280 section 4.1) */

@@ -1,10 +1,15 @@
+pub mod AlgorithmLemmas
 pub mod CertificateLemmas
 pub mod ContainerLemmas
 pub mod FieldLemmas
 pub mod HexTextLemmas
 pub mod NameLemmas
+pub mod NumberLemmas
 pub mod PlaceLemmas
 pub mod PointLemmas
+pub mod PrivateKeyLemmas
 pub mod PublicKeyLemmas
+pub mod SignatureLemmas
 pub mod StatusLemmas
+pub mod SubidentifierLemmas
 pub mod TextLemmas

@@ -15,4 +15,7 @@ pub mod CurveContents
 pub mod PublicKeys
 pub mod Fields
 pub mod Certificates
+pub mod Signatures
 pub mod Containers
+pub mod WrittenKeys
+pub mod PrivateKeys

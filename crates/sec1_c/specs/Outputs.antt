@@ -1,5 +1,6 @@
 -- What a call does to the buffer that it writes into, and to the length that it stores.
 use Rattle.std.specs.Prelude.{◌≡◌, ℕ, ◌≤◌, ◌<◌, List, [], ◌∷◌, ◌++◌, length, drop}
+use Rattle.std.specs.Prelude.{Option, Some, None}
 
 -- a text, and the byte 0 that ends it in C
 abbrev pub ended : List ℕ → List ℕ
@@ -22,3 +23,9 @@ pub record WritesNothing (number : ℕ) (old new : List ℕ) (result len_old len
   pub number_is : result ≡ number
   pub buffer : new ≡ old
   pub len : len_new ≡ len_old
+
+-- The bytes are written. If there are none, since a content is longer than an element's can be,
+-- nothing is written, and the number 6 is returned.
+abbrev pub WritesIfAny : Option (List ℕ) → List ℕ → List ℕ → ℕ → ℕ → ℕ → Type 0
+WritesIfAny None old new result len_old len_new = WritesNothing 6 old new result len_old len_new
+WritesIfAny (Some bytes) old new result len_old len_new = Writes bytes old new result len_new

@@ -1,5 +1,6 @@
 -- The place of a part in the bytes that it was read from.
-use Rattle.std.specs.Prelude.{◌≡◌, ℕ, ◌+◌, ◌-◌, ◌≤◌, List, length, take, drop, Option, Some, None}
+use Rattle.std.specs.Prelude.{◌≡◌, ◌==◌, ℕ, ◌+◌, ◌-◌, ◌≤◌, List, length, take, drop, Option, Some}
+use Rattle.std.specs.Prelude.{None, if◌then◌else◌}
 use Rattle.sec1_c.specs.declared.part.Part.{Part}
 
 -- the bytes at the place of a part
@@ -36,3 +37,9 @@ part_before end (Some len) = record { offset = end - len; len = len; present = 1
 abbrev pub part_from : ℕ → Option ℕ → Part
 part_from start None = record { offset = 0; len = 0; present = 0 }
 part_from start (Some len) = record { offset = start; len = len; present = 1 }
+
+-- the place of a part in bytes that begin at this index, in the bytes around them
+abbrev pub part_behind : ℕ → Part → Part
+part_behind start part =
+    if part.present == 0 then part
+    else record { offset = start + part.offset; len = part.len; present = part.present }

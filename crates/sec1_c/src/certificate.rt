@@ -1,4 +1,4 @@
-//! The public key in a certificate (RFC 5280 section 4.1): `sec1_certificate_public_key`.
+//! The public key in a certificate (RFC 5280 section 4.1): `sec1_certificate_read_public_key`.
 ghost use Rattle.std.specs.Prelude.{◌≡◌, ◌≢◌, IsSomeAnd};
 ghost use Rattle.pkix.specs.Records.{certificate_fault};
 ghost use Rattle.pkix.specs.declared.certificate.Certificate.{Certificate};
@@ -22,7 +22,7 @@ use sec1_der::Record;
 /// leaves `part` unchanged.
 #[unsafe(no_mangle)]
 #[tactic(auto, using(crate::proofs::StatusLemmas::certificate_kind))]
-pub extern "C" fn sec1_certificate_public_key(bytes: &[u8], part: &mut Part) -> u32
+pub extern "C" fn sec1_certificate_read_public_key(bytes: &[u8], part: &mut Part) -> u32
     ensures found { result ≡ 0 → (certificate : Certificate)
         × IsCertificate certificate bytes.now }
     ensures only { (certificate : Certificate) → IsCertificate certificate bytes.now

@@ -8,6 +8,8 @@ ghost use Rattle.sec1_c.specs.Containers.{AreContainerPartsOf, IsContainer, IsEc
 ghost use Rattle.sec1_c.specs.Containers.{container_fault, container_places, of_version_zero};
 ghost use Rattle.sec1_c.specs.Statuses.{curve_number, kind_number};
 
+mod write;
+
 use crate::fields::fields_len;
 use crate::part::Part;
 use crate::status::{OK, curve_number, kind_number};
@@ -70,7 +72,7 @@ pub extern "C" fn sec1_private_key_info_read(bytes: &[u8], parts: &mut PrivateKe
 ///
 /// The first fault from left to right of the version that the bytes have; Value if they have any
 /// other version.
-fn read_container(bytes: &[u8]) -> Result<OneAsymmetricKey<'_>>
+pub fn read_container(bytes: &[u8]) -> Result<OneAsymmetricKey<'_>>
     ensures found { IfOk result (λ container. IsContainer container bytes.now) }
     ensures only { (container : OneAsymmetricKey) → IsContainer container bytes.now
         → result ≡ Ok container }
@@ -104,7 +106,7 @@ fn of_version_zero(info: PrivateKeyInfo<'_>) -> OneAsymmetricKey<'_>
 }
 
 /// Returns the places of the parts of the private key whose container was read from these bytes.
-fn places(bytes: &[u8], container: &OneAsymmetricKey, curve: Curve) -> PrivateKeyInfoParts
+pub fn places(bytes: &[u8], container: &OneAsymmetricKey, curve: Curve) -> PrivateKeyInfoParts
     requires container { IsContainer container.now bytes.now }
     requires curve { IsOnCurve curve container.now.algorithm }
     ensures { result ≡ container_places curve container.now bytes.now }

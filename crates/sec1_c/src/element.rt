@@ -1,4 +1,4 @@
-//! Elements of DER (X.690): `sec1_check_tree`, `sec1_document_len`, `sec1_element_read` and
+//! Elements of DER (X.690): `sec1_tree_check`, `sec1_document_len`, `sec1_element_read` and
 //! `sec1_element_write`.
 ghost use Rattle.std.specs.Prelude.{IsTrue, ◌≡◌, ◌≢◌, ◌≤◌, ◌<◌, ◌+◌, ◌++◌, ℕ, List, length, OkIff};
 ghost use Rattle.sec1_der.specs.Elements.{IsElement, IsHeader, IsProperPrefix, is_tag};
@@ -26,7 +26,7 @@ use std::cmp::Ordering;
 /// TrailingData if bytes follow the tree.
 #[unsafe(no_mangle)]
 #[tactic(auto, using(crate::proofs::StatusLemmas::tree_kind))]
-pub extern "C" fn sec1_check_tree(input: &[u8], elements: &mut usize) -> u32
+pub extern "C" fn sec1_tree_check(input: &[u8], elements: &mut usize) -> u32
     ensures found { result ≡ 0 → (t : Tree) × IsTreeOf t input.now × (depth t ≤ max_tree_depth) }
     ensures only { (t : Tree) → IsTreeOf t input.now → depth t ≤ max_tree_depth
         → (result ≡ 0) × (elements.new ≡ size t) }

@@ -25,13 +25,13 @@ pub extern "C" fn sec1_key_fault_at(bytes: &[u8], offset: &mut usize) -> u32
     tell(der_faults::key_fault(bytes), offset)
 }
 
-/// Returns what `sec1_check_tree` returns, and stores the offset of the first fault from left to
+/// Returns what `sec1_tree_check` returns, and stores the offset of the first fault from left to
 /// right: of the tag byte, of the first byte of the length or of the element that is refused, or of
 /// the first byte after the tree. `offset` is unchanged if the bytes are those of a tree.
 ///
 /// # Errors
 ///
-/// Returns the numbers of `sec1_check_tree`.
+/// Returns the numbers of `sec1_tree_check`.
 #[unsafe(no_mangle)]
 pub extern "C" fn sec1_tree_fault_at(bytes: &[u8], offset: &mut usize) -> u32
     ensures place { StoresFault (tree_place bytes.now) result offset.old offset.new }

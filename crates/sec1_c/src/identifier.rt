@@ -6,6 +6,8 @@ ghost use Rattle.sec1_c.specs.IdentifierTexts.{IsIdentifierText, IsTextOf, c_tex
 ghost use Rattle.sec1_c.specs.Outputs.{Writes, WritesNothing};
 ghost use Rattle.sec1_c.specs.Statuses.{kind_number};
 
+mod arcs;
+
 use crate::buffer::write_bytes;
 use crate::status::{OK, kind_number};
 use sec1::der::{ErrorKind, IdentifierRef, ObjectIdentifier};

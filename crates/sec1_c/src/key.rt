@@ -8,8 +8,8 @@ ghost use Rattle.sec1_c.specs.KeyPlaces.{AreWithin, ArePartsOf, GiveAgain, IsKey
 ghost use Rattle.sec1_c.specs.Outputs.{StoresLength, Writes, WritesNothing};
 ghost use Rattle.sec1_c.specs.Statuses.{IsReadingNumber, fault_number, kind_number};
 
-mod given;
-mod places;
+pub mod given;
+pub mod places;
 
 use crate::part::Part;
 use crate::status::{OK, error_number, kind_number};

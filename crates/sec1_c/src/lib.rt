@@ -9,16 +9,20 @@
 //! `sec1.h` declares them for C.
 #![tactic(auto)]
 
+mod algorithm;
 mod buffer;
 mod certificate;
 mod container;
 mod curve;
 mod element;
+mod encoding;
 mod fault;
 mod fields;
 mod identifier;
 mod key;
 mod part;
 mod point;
+mod private_key;
 mod public_key;
+mod signature;
 mod status;

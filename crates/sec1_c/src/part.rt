@@ -1,6 +1,6 @@
 //! The place of a part in the bytes that it was read from.
-ghost use Rattle.std.specs.Prelude.{◌≡◌, ◌≤◌, ◌<◌, IfSome};
-ghost use Rattle.sec1_c.specs.Places.{part_before, part_from};
+ghost use Rattle.std.specs.Prelude.{◌≡◌, ◌≤◌, ◌<◌, ◌+◌, ◌^◌, IfSome};
+ghost use Rattle.sec1_c.specs.Places.{part_before, part_behind, part_from};
 
 /// A part of some bytes, by its place. All three numbers are 0 if the part is absent.
 #[repr(C)]
@@ -43,6 +43,22 @@ impl Part {
                 len,
                 present: 1,
             },
+        }
+    }
+
+    /// Returns the place of this part, which is that in bytes behind `start`, in the bytes around
+    /// them.
+    pub fn behind(self, start: usize) -> Part
+        requires { start + self.offset < 2 ^ 64 }
+        ensures { result ≡ part_behind start self }
+    {
+        if self.present == 0 {
+            return self;
+        }
+        Part {
+            offset: start + self.offset,
+            len: self.len,
+            present: self.present,
         }
     }
 

@@ -2,7 +2,7 @@
 ghost use Rattle.std.specs.Prelude.{◌≡◌, Option, Some};
 ghost use Rattle.sec1.specs.Errors.{IsAsn1, IsAsn1Where};
 ghost use Rattle.sec1_c.specs.Statuses.{curve_number, error_number, fault_number};
-ghost use Rattle.sec1_c.specs.Statuses.{field_length_number, kind_number};
+ghost use Rattle.sec1_c.specs.Statuses.{field_length_number, kind_number, other_curve_number};
 
 use sec1::Error;
 use sec1::der::ErrorKind;
@@ -23,9 +23,9 @@ pub fn kind_number(kind: ErrorKind) -> u32
         ErrorKind::Overlength => 6,
         ErrorKind::Buffer => 7,
         ErrorKind::Depth => 8,
-        ErrorKind::Failed => 12,
-        ErrorKind::Io => 13,
-        ErrorKind::Memory => 14,
+        ErrorKind::Failed => 13,
+        ErrorKind::Io => 14,
+        ErrorKind::Memory => 15,
     }
 }
 
@@ -39,9 +39,9 @@ pub fn error_number(error: &Error) -> u32
     match error {
         Error::Asn1(cause) => kind_number(cause.kind),
         Error::PointEncoding => 9,
-        Error::Memory => 14,
-        Error::Crypto => 15,
-        Error::Version => 16,
+        Error::Memory => 15,
+        Error::Crypto => 16,
+        Error::Version => 17,
     }
 }
 
@@ -57,4 +57,11 @@ pub fn curve_number() -> u32
     ensures { result ≡ curve_number }
 {
     11
+}
+
+/// Returns the number of a key that names another curve than its container.
+pub fn other_curve_number() -> u32
+    ensures { result ≡ other_curve_number }
+{
+    12
 }

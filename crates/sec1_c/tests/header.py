@@ -10,6 +10,7 @@ STRUCTS = {
     "KeyParts": "struct sec1_key_parts",
     "PointParts": "struct sec1_point_parts",
     "PublicKeyParts": "struct sec1_public_key_parts",
+    "SignatureParts": "struct sec1_signature_parts",
     "PrivateKeyInfoParts": "struct sec1_private_key_info_parts",
 }
 # What the header alone has: a struct whose members are given to a call by inline functions.
@@ -23,6 +24,8 @@ def c_types(rust):
         return ["const uint8_t*", "size_t"]
     if rust == "&mut [u8]":
         return ["uint8_t*", "size_t"]
+    if rust == "&mut [u32]":
+        return ["uint32_t*", "size_t"]
     if rust.startswith("&mut "):
         return [c_type(rust[5:]) + "*"]
     return [c_type(rust)]

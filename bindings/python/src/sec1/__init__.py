@@ -386,7 +386,7 @@ def check_tree(data: bytes) -> int:
 
     Raises TruncatedError, TagError, LengthError, TrailingDataError or DepthError."""
     data, count = _bytes(data), c_size_t()
-    _check(_library.call("sec1_check_tree", data, len(data), byref(count)), "sec1_tree_fault_at", data)
+    _check(_library.call("sec1_tree_check", data, len(data), byref(count)), "sec1_tree_fault_at", data)
     return count.value
 
 

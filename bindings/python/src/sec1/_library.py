@@ -56,7 +56,7 @@ for _name, _types in {
     "sec1_point_compare": [*_BYTES, *_BYTES, c_size_t, POINTER(c_int32)],
     "sec1_identifier_to_text": [*_BYTES, *_OUT],
     "sec1_identifier_from_text": [*_BYTES, *_OUT],
-    "sec1_check_tree": [*_BYTES, POINTER(c_size_t)],
+    "sec1_tree_check": [*_BYTES, POINTER(c_size_t)],
     "sec1_document_len": [*_BYTES, POINTER(c_size_t)],
 }.items():
     getattr(_sec1, _name).argtypes, getattr(_sec1, _name).restype = _types, c_uint32

@@ -29,6 +29,8 @@ pub const SEC1_POINT_ENCODING: u32 = 9;
 pub const SEC1_FIELD_LENGTH: u32 = 10;
 /// No curve of the table has this identifier or this name.
 pub const SEC1_CURVE: u32 = 11;
+/// A key names another curve than its container.
+pub const SEC1_OTHER_CURVE: u32 = 12;
 
 /// The point at infinity.
 pub const SEC1_POINT_IDENTITY: u8 = 0;
@@ -51,6 +53,10 @@ pub const SEC1_POINT_MAX: usize = 133;
 pub const SEC1_IDENTIFIER_CONTENT_MAX: usize = 39;
 /// The greatest length of an identifier's text with the byte 0 at its end.
 pub const SEC1_IDENTIFIER_TEXT_MAX: usize = 158;
+/// The greatest number of an identifier's arcs.
+pub const SEC1_IDENTIFIER_ARCS_MAX: usize = 40;
+/// The greatest length of what `sec1_public_key_write` writes.
+pub const SEC1_PUBLIC_KEY_MAX: usize = 158;
 /// The greatest length of a curve's name with the byte 0 at its end.
 pub const SEC1_CURVE_NAME_MAX: usize = 16;
 /// The greatest length of a point's hexadecimal text with the byte 0 at its end.
@@ -98,6 +104,16 @@ pub struct sec1_private_key_info_parts {
     pub curve: sec1_part,
     /// The content of the OCTET STRING, which is the private key.
     pub key: sec1_part,
+}
+
+/// The places of a signature's numbers in its bytes, both always present.
+#[repr(C)]
+#[derive(Clone, Copy, Debug, Default, Eq, PartialEq)]
+pub struct sec1_signature_parts {
+    /// The content of the INTEGER r.
+    pub r: sec1_part,
+    /// The content of the INTEGER s.
+    pub s: sec1_part,
 }
 
 /// The tag of a point, and the places of its coordinates.
@@ -249,7 +265,7 @@ unsafe extern "C" {
     /// # Safety
     ///
     /// `bytes` is readable for `bytes_len` bytes, and `elements` is writable and overlaps none.
-    pub fn sec1_check_tree(bytes: *const u8, bytes_len: usize, elements: *mut usize) -> u32;
+    pub fn sec1_tree_check(bytes: *const u8, bytes_len: usize, elements: *mut usize) -> u32;
     /// Checks that all of the bytes are one element, and stores the length that its header
     /// announces.
     ///
@@ -276,7 +292,7 @@ unsafe extern "C" {
     ///
     /// `bytes` is readable for `bytes_len` bytes, and `offset` is writable and overlaps none.
     pub fn sec1_key_fault_at(bytes: *const u8, bytes_len: usize, offset: *mut usize) -> u32;
-    /// Returns what [`sec1_check_tree`] returns, and stores the offset of the first fault.
+    /// Returns what [`sec1_tree_check`] returns, and stores the offset of the first fault.
     ///
     /// # Safety
     ///
@@ -407,7 +423,7 @@ unsafe extern "C" {
     /// # Safety
     ///
     /// `bytes` is readable for `bytes_len` bytes, and `part` is writable and overlaps none.
-    pub fn sec1_certificate_public_key(
+    pub fn sec1_certificate_read_public_key(
         bytes: *const u8,
         bytes_len: usize,
         part: *mut sec1_part,
@@ -421,5 +437,84 @@ unsafe extern "C" {
         bytes: *const u8,
         bytes_len: usize,
         parts: *mut sec1_private_key_info_parts,
+    ) -> u32;
+    /// Reads an EC private key by itself or in its container, and stores the places of its parts.
+    ///
+    /// # Safety
+    ///
+    /// `bytes` is readable for `bytes_len` bytes, and `parts` is writable and overlaps none.
+    pub fn sec1_private_key_read(
+        bytes: *const u8,
+        bytes_len: usize,
+        parts: *mut sec1_key_parts,
+    ) -> u32;
+    /// Writes the SubjectPublicKeyInfo of an EC public key, and stores its length.
+    ///
+    /// # Safety
+    ///
+    /// Each `*const` is readable for the length after it. `out` is writable for `out_len` bytes,
+    /// `len` is writable, and neither overlaps another argument.
+    pub fn sec1_public_key_write(
+        curve: *const u8,
+        curve_len: usize,
+        public_key: *const u8,
+        public_key_len: usize,
+        out: *mut u8,
+        out_len: usize,
+        len: *mut usize,
+    ) -> u32;
+    /// Writes the container of an EC private key, and stores its length.
+    ///
+    /// # Safety
+    ///
+    /// As [`sec1_public_key_write`].
+    pub fn sec1_private_key_info_write(
+        private_key: *const u8,
+        private_key_len: usize,
+        curve: *const u8,
+        curve_len: usize,
+        public_key: *const u8,
+        public_key_len: usize,
+        has_public_key: usize,
+        out: *mut u8,
+        out_len: usize,
+        len: *mut usize,
+    ) -> u32;
+    /// Reads an ECDSA signature, and stores the places of its numbers.
+    ///
+    /// # Safety
+    ///
+    /// `bytes` is readable for `bytes_len` bytes, and `parts` is writable and overlaps none.
+    pub fn sec1_signature_read(
+        bytes: *const u8,
+        bytes_len: usize,
+        parts: *mut sec1_signature_parts,
+    ) -> u32;
+    /// Writes the ECDSA signature with these numbers, and stores its length.
+    ///
+    /// # Safety
+    ///
+    /// As [`sec1_public_key_write`].
+    pub fn sec1_signature_write(
+        r: *const u8,
+        r_len: usize,
+        s: *const u8,
+        s_len: usize,
+        out: *mut u8,
+        out_len: usize,
+        len: *mut usize,
+    ) -> u32;
+    /// Writes the arcs of the identifier with this content, and stores their number.
+    ///
+    /// # Safety
+    ///
+    /// `content` is readable for `content_len` bytes. `arcs` is writable for `arcs_len` numbers,
+    /// `count` is writable, and neither overlaps another argument.
+    pub fn sec1_identifier_arcs(
+        content: *const u8,
+        content_len: usize,
+        arcs: *mut u32,
+        arcs_len: usize,
+        count: *mut usize,
     ) -> u32;
 }

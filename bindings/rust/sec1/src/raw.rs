@@ -310,7 +310,7 @@ pub(crate) fn curve_from_name(name: &str, content: &mut [u8]) -> Result<usize, S
 pub(crate) fn check_tree(bytes: &[u8]) -> Result<usize, Status> {
     let mut elements = 0;
     // SAFETY: `bytes` is one slice, and `elements` is a place of this function.
-    let status = unsafe { sec1_check_tree(bytes.as_ptr(), bytes.len(), &mut elements) };
+    let status = unsafe { sec1_tree_check(bytes.as_ptr(), bytes.len(), &mut elements) };
     answer(status, elements)
 }
 

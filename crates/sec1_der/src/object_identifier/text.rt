@@ -54,7 +54,7 @@ fn first_text(high: u32, bytes: &[u8]) -> IdentifierText
 }
 
 /// Returns the two arcs in the first subidentifier (X.690 section 8.19.4).
-fn first_arcs(number: u32) -> (u32, u32)
+pub(super) fn first_arcs(number: u32) -> (u32, u32)
     ensures { (further : List ℕ) → arcs_of_numbers (number ∷ further)
         ≡ result.0 ∷ result.1 ∷ further }
 {

@@ -1,6 +1,6 @@
 use Rattle.std.proofs.Common.{◌≡◌}
 use Rattle.sec1_c.proofs.CertificateLemmas.{info_stands}
-use Rattle.sec1_c.proofs.certificate.sec1_certificate_public_key.Goals as goal
+use Rattle.sec1_c.proofs.certificate.sec1_certificate_read_public_key.Goals as goal
 
 pub returns-in-Ok-clause-part : goal.returns-in-Ok-clause-part
 returns-in-Ok-clause-part c certificate is =

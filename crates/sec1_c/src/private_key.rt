@@ -1,0 +1,161 @@
+//! EC private keys in either form, by themselves (RFC 5915 section 3) or in a container (RFC 5958
+//! section 2): `sec1_private_key_read`.
+ghost use Rattle.std.specs.Prelude.{◌≡◌, ◌≢◌, ◌⊎◌, ◌↔◌, ◌+◌, ◌^◌, ◌<◌, false, IsTrue, Some, length};
+ghost use Rattle.curves.specs.declared.curve.Curve.{Curve};
+ghost use Rattle.der_types.specs.Rows.{is_whole};
+ghost use Rattle.pkix.specs.EcKeys.{IsOnCurve, NamesCurve};
+ghost use Rattle.pkix.specs.declared.private_key.OneAsymmetricKey.{OneAsymmetricKey};
+ghost use Rattle.sec1.specs.KeyFaults.{key_fault};
+ghost use Rattle.sec1.specs.Keys.{Key, IsKeyOf};
+ghost use Rattle.sec1_der.specs.Faults.{element_fault, end_fault};
+ghost use Rattle.sec1_c.specs.Containers.{IsContainer, container_fault};
+ghost use Rattle.sec1_c.specs.KeyPlaces.{ArePartsOf, IsKey, key_places};
+ghost use Rattle.sec1_c.specs.PrivateKeys.{AreContainedPartsOf, IsContained, IsKeyIn};
+ghost use Rattle.sec1_c.specs.PrivateKeys.{contained_places, has_algorithm, places_behind};
+ghost use Rattle.sec1_c.specs.PrivateKeys.{tag_fault};
+ghost use Rattle.sec1_c.specs.Statuses.{curve_number, fault_number, kind_number};
+ghost use Rattle.sec1_c.specs.Statuses.{other_curve_number};
+
+use crate::container::{self, PrivateKeyInfoParts};
+use crate::key::{self, KeyParts};
+use crate::status::{OK, curve_number, error_number, kind_number, other_curve_number};
+use curves::Curve;
+use sec1::der::{ErrorKind, SliceReader, Tag};
+use sec1::{EcParameters, EcPrivateKey};
+
+/// Reads an EC private key, which is all of `bytes`, by itself or in its container, and stores the
+/// places of its parts. In a container the curve is that of the algorithm, and one of the table;
+/// the key has to name the same curve or none.
+///
+/// Bytes that begin with a SEQUENCE, and in it an INTEGER and the tag of a SEQUENCE, are read as a
+/// container, and all others as a key by itself.
+///
+/// # Errors
+///
+/// Returns the number of the first fault from left to right if the bytes aren't a key by itself, or
+/// aren't a container, or if those in the container aren't a key; that of a curve that isn't in the
+/// table if the container's algorithm isn't id-ecPublicKey with one that is; or that of another
+/// curve if the key in the container names another. `parts` is unchanged in each case.
+#[unsafe(no_mangle)]
+#[tactic(auto, using(crate::proofs::PrivateKeyLemmas::forms_apart))]
+pub extern "C" fn sec1_private_key_read(bytes: &[u8], parts: &mut KeyParts) -> u32
+    ensures found { result ≡ 0 → IsKey bytes.now ⊎ IsContained bytes.now }
+    ensures key { (key : Key) → IsKeyOf key bytes.now
+        → (result ≡ 0) × (parts.new ≡ key_places key bytes.now) }
+    ensures key_parts { (key : Key) → IsKeyOf key bytes.now → ArePartsOf key bytes.now parts.new }
+    ensures contained { (container : OneAsymmetricKey) (curve : Curve) (key : Key)
+        → IsKeyIn container curve key bytes.now → NamesCurve curve key
+        → (result ≡ 0) × (parts.new ≡ contained_places curve container key bytes.now) }
+    ensures contained_parts { (container : OneAsymmetricKey) (curve : Curve) (key : Key)
+        → IsKeyIn container curve key bytes.now → NamesCurve curve key
+        → AreContainedPartsOf curve key bytes.now parts.new }
+    ensures no_key { has_algorithm bytes.now ≡ false → result ≡ fault_number (key_fault bytes.now) }
+    ensures no_container { (kind : ErrorKind) → IsTrue (has_algorithm bytes.now)
+        → element_fault 0x30 container_fault end_fault bytes.now ≡ Some (Some kind)
+        → result ≡ kind_number kind }
+    ensures no_curve { (container : OneAsymmetricKey) → IsContainer container bytes.now
+        → ((curve : Curve) → ¬ IsOnCurve curve container.algorithm) → result ≡ curve_number }
+    ensures no_key_inside { (container : OneAsymmetricKey) (curve : Curve) (kind : ErrorKind)
+        → IsContainer container bytes.now → IsOnCurve curve container.algorithm
+        → key_fault container.private_key ≡ Some (Some kind) → result ≡ kind_number kind }
+    ensures other_curve { (container : OneAsymmetricKey) (curve : Curve) (key : Key)
+        → IsKeyIn container curve key bytes.now → ¬ NamesCurve curve key
+        → result ≡ other_curve_number }
+    ensures unchanged { result ≢ 0 → parts.new ≡ parts.old }
+{
+    if has_algorithm(bytes) {
+        read_contained(bytes, parts)
+    } else {
+        key::sec1_key_read(bytes, parts)
+    }
+}
+
+/// Returns `true` if the bytes begin with a SEQUENCE, and in it an INTEGER and the tag of a
+/// SEQUENCE.
+fn has_algorithm(bytes: &[u8]) -> bool
+    ensures { result ≡ has_algorithm bytes.now }
+{
+    let Ok(mut content) = SliceReader::new(bytes).open(Tag::SEQUENCE) else {
+        return false;
+    };
+    match content.open(Tag::INTEGER) {
+        Ok(_) => begins_with_sequence(content.remaining_input()),
+        Err(_) => false,
+    }
+}
+
+/// Returns `true` if the first byte is the tag of a SEQUENCE.
+fn begins_with_sequence(bytes: &[u8]) -> bool
+    ensures { result ≡ is_whole (tag_fault 0x30 bytes.now) }
+{
+    match bytes.first() {
+        Some(first) => *first == 0x30,
+        None => false,
+    }
+}
+
+/// Reads an EC private key in its container, which is all of `bytes`, and stores the places of its
+/// parts. Returns 0, or the number of the refusal.
+#[tactic(auto, using(crate::proofs::PrivateKeyLemmas::contained))]
+fn read_contained(bytes: &[u8], parts: &mut KeyParts) -> u32
+    ensures found { result ≡ 0 → IsContained bytes.now }
+    ensures contained { (container : OneAsymmetricKey) (curve : Curve) (key : Key)
+        → IsKeyIn container curve key bytes.now → NamesCurve curve key
+        → (result ≡ 0) × (parts.new ≡ contained_places curve container key bytes.now) }
+    ensures no_container { (kind : ErrorKind)
+        → element_fault 0x30 container_fault end_fault bytes.now ≡ Some (Some kind)
+        → result ≡ kind_number kind }
+    ensures no_curve { (container : OneAsymmetricKey) → IsContainer container bytes.now
+        → ((curve : Curve) → ¬ IsOnCurve curve container.algorithm) → result ≡ curve_number }
+    ensures no_key_inside { (container : OneAsymmetricKey) (curve : Curve) (kind : ErrorKind)
+        → IsContainer container bytes.now → IsOnCurve curve container.algorithm
+        → key_fault container.private_key ≡ Some (Some kind) → result ≡ kind_number kind }
+    ensures other_curve { (container : OneAsymmetricKey) (curve : Curve) (key : Key)
+        → IsKeyIn container curve key bytes.now → ¬ NamesCurve curve key
+        → result ≡ other_curve_number }
+    ensures unchanged { result ≢ 0 → parts.new ≡ parts.old }
+{
+    let container = match container::read_container(bytes) {
+        Ok(container) => container,
+        Err(error) => return kind_number(error.kind),
+    };
+    let Some(curve) = container.algorithm.curve() else {
+        return curve_number();
+    };
+    let inside = container.private_key.bytes;
+    let key = match EcPrivateKey::try_from(inside) {
+        Ok(key) => key,
+        Err(error) => return error_number(&error),
+    };
+    if !names_curve(&key, curve) {
+        return other_curve_number();
+    }
+    let outer = container::places(bytes, &container, curve);
+    *parts = places_in(&outer, inside, &key);
+    OK
+}
+
+/// Returns `true` if the key names this curve or none.
+fn names_curve(key: &EcPrivateKey, curve: Curve) -> bool
+    ensures { IsTrue result ↔ NamesCurve curve key.now }
+{
+    match &key.parameters {
+        Some(EcParameters::NamedCurve(named)) => Curve::from_identifier(named) == Some(curve),
+        None => true,
+    }
+}
+
+/// Returns the places of the parts of the key that was read from the bytes inside a container,
+/// whose parts have these places.
+fn places_in(outer: &PrivateKeyInfoParts, inside: &[u8], key: &EcPrivateKey) -> KeyParts
+    requires is_key { IsKeyOf key.now inside.now }
+    requires room { outer.now.key.offset + length inside.now < 2 ^ 64 }
+    ensures { result ≡ places_behind outer.now (key_places key.now inside.now) }
+{
+    let inner = key::places::places(inside, key);
+    KeyParts {
+        private_key: inner.private_key.behind(outer.key.offset),
+        curve: outer.curve,
+        public_key: inner.public_key.behind(outer.key.offset),
+    }
+}
