@@ -45,8 +45,7 @@ pub fn recorded_stream<K: DecodeEcPrivateKey, R: Read>(alloc: Global, reader: &m
     K::read_sec1_der_from(alloc, reader)
 }
 
-/// Reads the name of a curve from its whole DER encoding. That of each curve is read, as this
-/// curve.
+/// Reads the name of a curve from its whole DER encoding. That of each one is read as this curve.
 ///
 /// # Errors
 ///
