@@ -51,7 +51,6 @@ FAULTS = [
     ("point.rs", "if bool::from(choice) { *b } else { *a }", "if bool::from(choice) { *a } else { *b }"),
     ("point.rs", "        *self = Self::identity();\n", ""),
     ("point.rs", "Self::of_coordinates(x, y, false)", "Self::of_coordinates(y, x, false)"),
-    ("point/encoding.rs", "raw::point_to_hybrid(self", "raw::point_compress(self"),
     ("point/encoding.rs", "self.as_bytes().hash(state)", "(self as *const Self).hash(state)"),
     ("point/encoding.rs", "write_hex(true, f)", "write_hex(false, f)"),
     ("point/hybrid.rs", "y_is_odd: false })", "y_is_odd: true })"),
