@@ -1,15 +1,14 @@
 -- The algorithm of EC keys on a curve, and the keys that are written with it.
-use Rattle.std.proofs.Common.{◌≡◌, ◌+◌, ◌≤◌, ◌++◌, ◌∷◌, [], ℕ, List, length, take, drop, Option, Some, None, IsSomeAnd}
-use Rattle.std.proofs.Common.{IfSome, ◌↔◌, lit≤, refl, sym, ap, ◌∙◌, arith, length-append, true}
+use Rattle.std.proofs.Common.{◌≡◌, ◌≤◌, ◌++◌, ◌∷◌, [], ℕ, List, length, take, drop, Option, Some, None, IsSomeAnd}
+use Rattle.std.proofs.Common.{◌↔◌, lit≤, refl, sym, ap, ◌∙◌, arith, length-append, true}
 use Rattle.std.proofs.Math.Seq.{take-append_seam}
-use Rattle.std.proofs.lemmas.List.{append-nil}
 use Rattle.curves.proofs.CurveLemmas.{content-curve_arcs}
 use Rattle.curves.specs.Curves.{curve_arcs, curve_content}
 use Rattle.curves.specs.declared.curve.Curve.{Curve}
 use Rattle.curves.specs.declared.curve.Curve.TheVariants as curves
 use Rattle.der_types.proofs.AnyLemmas.{any_there}
 use Rattle.der_types.specs.AnyElements.{any_of}
-use Rattle.der_types.specs.BitStrings.{BitString, bit_string_content}
+use Rattle.der_types.specs.BitStrings.{bit_string_content}
 use Rattle.der_types.specs.Choices.{optional_bytes}
 use Rattle.der_types.specs.Leaves.{content_if}
 use Rattle.der_types.specs.ObjectIdentifiers.{is_object_identifier}
@@ -26,7 +25,7 @@ use Rattle.sec1_der.proofs.ElementLaws.{element_of-some, element_of-within}
 use Rattle.sec1_der.proofs.ElementLemmas.{length-header}
 use Rattle.sec1_der.proofs.JoinLaws.{parted}
 use Rattle.sec1_der.specs.Contents.{are_bits}
-use Rattle.sec1_der.specs.Elements.{IsElement, element, element_of, header, length_octets, max_length}
+use Rattle.sec1_der.specs.Elements.{IsElement, element, element_of, length_octets}
 use Rattle.sec1_der.specs.Identifiers.{identifier_content}
 use Rattle.sec1_der.specs.Parts.{join}
 use Rattle.sec1_c.specs.Containers.{container_content}

@@ -1,15 +1,13 @@
 -- EC private keys in either form: as which one bytes are read, and the places of the parts in a container.
 use Rattle.std.proofs.Common.{◌≡◌, ◌==◌, inl, inr, ◌+◌, ◌-◌, ◌≤◌, ◌++◌, ◌∷◌, [], ℕ, List, length, take, drop}
 use Rattle.std.proofs.Common.{Bool, true, false, if◌then◌else◌, Option, Some, None, Result, Ok, Err, refl, sym, ap, ◌∙◌}
-use Rattle.std.proofs.Common.{lit≤, arith, length-append, append_assoc}
+use Rattle.std.proofs.Common.{lit≤, arith}
 use Rattle.std.proofs.lemmas.List.{append-nil, drop-drop, drop-take, length-take, take-take}
-use Rattle.curves.specs.Curves.{curve_content}
 use Rattle.curves.specs.declared.curve.Curve.{Curve}
 use Rattle.der_types.specs.Rows.{is_whole}
-use Rattle.pkix.specs.EcKeys.{IsOnCurve}
 use Rattle.pkix.specs.Records.{algorithm_content}
 use Rattle.pkix.specs.declared.private_key.OneAsymmetricKey.{OneAsymmetricKey}
-use Rattle.sec1.proofs.KeyLemmas.{key_content, key_written}
+use Rattle.sec1.proofs.KeyLemmas.{key_written}
 use Rattle.sec1.specs.Keys.{Key, IsKeyOf}
 use Rattle.sec1_der.proofs.ElementLaws.{element_of-some}
 use Rattle.sec1_der.proofs.FaultLaws.{alone, element_at, read_element}
@@ -20,8 +18,7 @@ use Rattle.sec1_der.specs.Parts.{join}
 use Rattle.sec1_der.specs.Readers.{HasReadElement, Reader}
 use Rattle.sec1_der.specs.declared.error.ErrorKind.{ErrorKind}
 use Rattle.sec1_der.specs.declared.error.ErrorKind.TheVariants.{Tag}
-use Rattle.sec1_c.specs.Containers.{IsContainer, after_key, container_content, container_places}
-use Rattle.sec1_c.specs.KeyPlaces.{key_places}
+use Rattle.sec1_c.specs.Containers.{IsContainer, after_key, container_content}
 use Rattle.sec1_c.specs.Places.{IsPart, StandsAt, part_behind}
 use Rattle.sec1_c.specs.PrivateKeys.{AreContainedPartsOf, IsKeyIn, contained_places, has_algorithm, tag_fault}
 use Rattle.sec1_c.specs.declared.part.Part.{Part}

@@ -1,6 +1,6 @@
 -- The places of a signature's numbers.
 use Rattle.std.proofs.Common.{◌≡◌, ◌+◌, ◌≤◌, ◌++◌, [], ℕ, List, length, Some, IsSome, arith, length-append}
-use Rattle.std.proofs.Common.{append_assoc, refl}
+use Rattle.std.proofs.Common.{append_assoc}
 use Rattle.std.proofs.lemmas.List.{append-nil}
 use Rattle.der_types.specs.Integers.{unsigned_content}
 use Rattle.pkix.specs.Records.{signature_content}

@@ -1,6 +1,6 @@
 -- EC private keys in either form: by themselves (RFC 5915 section 3), or in a container (RFC 5958
 -- section 2).
-use Rattle.std.specs.Prelude.{◌≡◌, ◌==◌, ◌∷◌, [], ℕ, List, Bool, Some, None, if◌then◌else◌}
+use Rattle.std.specs.Prelude.{◌==◌, ◌∷◌, [], ℕ, List, Bool, Some, None, if◌then◌else◌}
 use Rattle.curves.specs.Curves.{curve_content}
 use Rattle.curves.specs.declared.curve.Curve.{Curve}
 use Rattle.der_types.specs.Rows.{is_whole}
