@@ -1,10 +1,11 @@
 //! Callers of the calls that read: what a success found meets the rule of its type.
-ghost use Rattle.std.specs.Prelude.{◌≡◌, ◌≢◌, ◌∷◌, ◌≤◌, ◌<◌, ◌-◌, [], ℕ, List, length, drop};
+ghost use Rattle.std.specs.Prelude.{◌≡◌, ◌≢◌, ◌∷◌, ◌≤◌, ◌<◌, ◌-◌, ◌++◌, [], ℕ, List, length, drop};
 ghost use Rattle.std.specs.Prelude.{Some, None, false, true};
-ghost use Rattle.std.specs.Prelude.{IfOk, IfSome, IsSomeAnd, IsTrue, OnErr};
+ghost use Rattle.std.specs.Prelude.{IfErr, IfOk, IfSome, IsErr, IsSomeAnd, IsTrue, OnErr};
 ghost use Rattle.sec1_der.specs.Contents.{are_bits, bit_string_fault, byte_fault, identifier_fault};
 ghost use Rattle.sec1_der.specs.Elements.{element, max_length, IsElement, IsProperPrefix};
 ghost use Rattle.sec1_der.specs.ErrorKinds.{Refuses};
+ghost use Rattle.sec1_der.specs.declared.error.ErrorKind.{ErrorKind};
 ghost use Rattle.sec1_der.specs.Identifiers.{IsIdentifier, content_of, identifier_content};
 ghost use Rattle.sec1_der.specs.Readers.{reader_over, HasReadElement};
 ghost use Rattle.sec1_der.specs.Values.{unused_bits_of, bit_bytes_of};
@@ -177,4 +178,51 @@ pub fn again<A: Record>(value: &Containing<A>) -> Containing<A>
     ensures { result ≡ value.now }
 {
     value.reborrow()
+}
+
+/// Reads a value. An element whose content the rule of its type refuses is refused by that kind.
+pub fn refused_content<'a, T: DecodeValue<'a> + Tagged + Drop>(input: &'a [u8]) -> Result<T>
+    ensures { (content : List ℕ) (kind : ErrorKind) → length content ≤ max_length
+        → input.now ≡ element T.tag_byte content → T.fault content ≡ Some (Some kind)
+        → Refuses result kind }
+{
+    from_der(input)
+}
+
+/// Reads a value from the beginning of the remaining input, in the same way.
+pub fn refused_next<'a, T: DecodeValue<'a> + Tagged + Drop>(
+    reader: &mut SliceReader<'a>,
+) -> Result<T>
+    ensures { (content rest : List ℕ) (kind : ErrorKind) → length content ≤ max_length
+        → reader.old ≡ reader_over (element T.tag_byte content ++ rest)
+        → T.fault content ≡ Some (Some kind) → Refuses result kind }
+{
+    reader.decode()
+}
+
+/// Reads the content of a bit string. Unused bits that aren't zero are Value.
+pub fn other_bits<'a>(reader: &mut SliceReader<'a>) -> Result<BitStringRef<'a>>
+    requires { length reader.old.unread ≤ max_length }
+    ensures { (unused : ℕ) (bytes : List ℕ) → reader.old ≡ reader_over (unused ∷ bytes)
+        → ¬ IsTrue (are_bits unused bytes) → Refuses result ErrorKind.Value }
+{
+    BitStringRef::decode_value(reader)
+}
+
+/// Reads a bit string. A content that the rule doesn't accept is Value.
+pub fn other_bit_string(input: &[u8]) -> Result<BitStringRef<'_>>
+    ensures { (content : List ℕ) → length content ≤ max_length
+        → input.now ≡ element 0x03 content → bit_string_fault content ≢ None
+        → IfErr result (λ e. bit_string_fault content ≡ Some (Some e.kind)) × IsErr result }
+{
+    from_der(input)
+}
+
+/// Reads an identifier. A content of none is Value.
+pub fn other_identifier(input: &[u8]) -> Result<ObjectIdentifier>
+    ensures { (content : List ℕ) → length content ≤ max_length
+        → input.now ≡ element 0x06 content
+        → ((arcs : List ℕ) → ¬ IsIdentifier arcs content) → Refuses result ErrorKind.Value }
+{
+    from_der(input)
 }
