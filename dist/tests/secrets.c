@@ -52,7 +52,7 @@ static void read_key(const struct bytes *key, size_t private_len)
         expect(sec1_key_read(key->data, cut, &parts) == SEC1_TRUNCATED, "a cut key", private_len);
         expect(sec1_key_fault_at(key->data, cut, &number) == SEC1_TRUNCATED && number <= cut,
                "the fault of a cut key", private_len);
-        expect(sec1_check_tree(key->data, cut, &number) == SEC1_TRUNCATED, "a cut tree",
+        expect(sec1_tree_check(key->data, cut, &number) == SEC1_TRUNCATED, "a cut tree",
                private_len);
         expect(sec1_tree_fault_at(key->data, cut, &number) == SEC1_TRUNCATED && number <= cut,
                "the fault of a cut tree", private_len);
@@ -61,8 +61,11 @@ static void read_key(const struct bytes *key, size_t private_len)
                parts.private_key.len == private_len && parts.curve.offset < key->len &&
                parts.public_key.offset < key->len,
            "sec1_key_read", private_len);
+    expect(sec1_private_key_read(key->data, key->len, &parts) == 0 &&
+               parts.private_key.len == private_len,
+           "sec1_private_key_read", private_len);
     expect(sec1_key_fault_at(key->data, key->len, &number) == 0, "sec1_key_fault_at", private_len);
-    expect(sec1_check_tree(key->data, key->len, &number) == 0 && number >= 3, "sec1_check_tree",
+    expect(sec1_tree_check(key->data, key->len, &number) == 0 && number >= 3, "sec1_tree_check",
            private_len);
     expect(sec1_tree_fault_at(key->data, key->len, &number) == 0, "sec1_tree_fault_at",
            private_len);
@@ -78,6 +81,7 @@ static void read_container(const struct bytes *key, size_t version, size_t priva
 {
     struct bytes content = {{0}, sizeof info_start}, container = {{0}, 0};
     struct sec1_private_key_info_parts parts;
+    struct sec1_key_parts key_parts;
     size_t number;
     memcpy(content.data, info_start, sizeof info_start);
     content.data[2] = (uint8_t)version;
@@ -93,7 +97,12 @@ static void read_container(const struct bytes *key, size_t version, size_t priva
     expect(sec1_private_key_info_read(container.data, container.len - 1, &parts) ==
                SEC1_TRUNCATED,
            "a cut container", private_len);
-    expect(sec1_check_tree(container.data, container.len, &number) == 0, "a container's tree",
+    expect(sec1_private_key_read(container.data, container.len, &key_parts) == 0 &&
+               key_parts.private_key.len == private_len && key_parts.curve.len == sizeof curve,
+           "sec1_private_key_read of a container", private_len);
+    expect(sec1_private_key_read(container.data, container.len - 1, &key_parts) == SEC1_TRUNCATED,
+           "a cut container, read as a private key", private_len);
+    expect(sec1_tree_check(container.data, container.len, &number) == 0, "a container's tree",
            private_len);
 }
 
@@ -123,6 +132,11 @@ static void write_key(const uint8_t *private_key, size_t private_len, size_t cur
            "sec1_key_write_of", private_len);
     expect(sec1_key_write_of(&given, other.data, len - 1, &other.len) == SEC1_BUFFER,
            "a short buffer", private_len);
+    other.len = 0;
+    status = sec1_private_key_info_write(private_key, private_len, curve, sizeof curve, public_key,
+                                         public_len, public_len != 0, other.data, MOST,
+                                         &other.len);
+    expect(status == 0 && other.len > 0, "sec1_private_key_info_write", private_len);
     read_key(&key, private_len);
     read_container(&key, 0, private_len);
     read_container(&key, 1, private_len);
