@@ -7,5 +7,4 @@ pub mod PlaceLemmas
 pub mod PointLemmas
 pub mod PublicKeyLemmas
 pub mod StatusLemmas
-pub mod SubidentifierLemmas
 pub mod TextLemmas

@@ -9,7 +9,6 @@ pub mod PointPlaces
 pub mod PointOrders
 pub mod HexTexts
 pub mod IdentifierTexts
-pub mod Subidentifiers
 pub mod Documents
 pub mod FaultPlaces
 pub mod CurveContents

@@ -6,12 +6,9 @@ ghost use Rattle.sec1_c.specs.IdentifierTexts.{IsIdentifierText, IsTextOf, c_tex
 ghost use Rattle.sec1_c.specs.Outputs.{Writes, WritesNothing};
 ghost use Rattle.sec1_c.specs.Statuses.{kind_number};
 
-mod text;
-
 use crate::buffer::write_bytes;
 use crate::status::{OK, kind_number};
 use sec1::der::{ErrorKind, IdentifierRef, ObjectIdentifier};
-use text::dotted;
 
 /// Checks that all of `content` is the content of an identifier.
 ///
@@ -49,7 +46,7 @@ pub extern "C" fn sec1_identifier_to_text(content: &[u8], text: &mut [u8], len: 
 {
     match ObjectIdentifier::from_bytes(content) {
         Ok(identifier) => {
-            let mut dotted = dotted(&identifier);
+            let mut dotted = identifier.to_text();
             dotted.push_str("\0");
             write_bytes(dotted.as_str().as_bytes(), text, len)
         }

@@ -23,7 +23,7 @@ pub mod TreeFaultLemmas
 pub mod IdentifierLemmas
 pub mod ArcLemmas
 pub mod DottedLemmas
-pub mod DisplayLemmas
+pub mod TextLemmas
 pub mod StreamLemmas
 pub mod UniqueLemmas
 pub mod PartLemmas

@@ -4,6 +4,7 @@ pub mod Trees
 pub mod Walks
 pub mod Identifiers
 pub mod ArcsOf
+pub mod IdentifierTexts
 pub mod Stored
 pub mod Encodings
 pub mod ErrorKinds

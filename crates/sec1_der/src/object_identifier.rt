@@ -1,9 +1,9 @@
 ghost use Rattle.std.specs.Prelude.{◌≡◌, ℕ, ◌<◌, ◌↔◌, List, length, IsTrue, MatchResult, Some};
 ghost use Rattle.std.specs.Prelude.{◌∷◌, ◌++◌, bytes_eq, true, codes, take, ◌-◌, replicate};
 ghost use Rattle.std.specs.Cmp.{partial_equiv_from_equiv};
-ghost use Rattle.std.specs.Fmt.{WritesStyledOnOk, debug_variant, decimal};
+ghost use Rattle.std.specs.Fmt.{debug_variant};
 ghost use Rattle.std.specs.Cmp.Lexicographic.{nat_list_eq_equiv};
-ghost use Rattle.sec1_der.specs.ArcsOf.{arcs_of, arcs_of_numbers};
+ghost use Rattle.sec1_der.specs.ArcsOf.{arcs_of};
 ghost use Rattle.sec1_der.specs.Contents.{identifier_fault};
 ghost use Rattle.sec1_der.specs.Identifiers.{IsIdentifier, are_arcs};
 ghost use Rattle.sec1_der.specs.Identifiers.{content_of, max_identifier_length};
@@ -11,6 +11,7 @@ ghost use Rattle.sec1_der.specs.Identifiers.{dotted, identifier_content};
 ghost use Rattle.sec1_der.specs.Stored.{IsStored, stored_again};
 
 mod builder;
+mod text;
 
 use crate::{
     BackWriter, DecodeValue, EncodeValue, ErrorKind, FixedTag, Length, Result, SliceReader, Tag,
@@ -18,9 +19,9 @@ use crate::{
 };
 use builder::{Builder, arc};
 use std::fmt;
-use std::fmt::{InlineText, Write};
 use std::marker::Model;
 use std::simd::prelude::*;
+pub use text::IdentifierText;
 
 /// The greatest length of a content in bytes.
 const MAX_CONTENT: usize = 39;
@@ -222,69 +223,9 @@ impl fmt::Display for ObjectIdentifier {
 
     ghost styled_output = { λ arcs _. Some (dotted arcs) };
 
-    #[tactic(auto, using(crate::proofs::DisplayLemmas::shown_texts))]
+    #[tactic(auto, using(crate::proofs::TextLaws::shown_whole))]
     fn fmt<W: fmt::Write>(&self, f: &mut fmt::Formatter<W>) -> fmt::Result {
-        let content = self.as_bytes();
-        let mut first = true;
-        let mut high: u32 = 0;
-        for b in content {
-            let n = high * 128 + u32::from(*b % 128);
-            if *b >= 128 {
-                high = n;
-            } else {
-                high = 0;
-                if first {
-                    first = false;
-                    let arcs = first_arcs(n);
-                    write_first(f, arcs.0, arcs.1)?;
-                } else {
-                    write_further(f, n)?;
-                }
-            }
-        }
-        Ok(())
-    }
-}
-
-/// Prints a number in decimal digits, whatever options are set.
-#[tactic(auto, using(crate::proofs::TextLaws::short_text))]
-fn write_number<W: fmt::Write>(f: &mut fmt::Formatter<W>, n: u32) -> fmt::Result
-    ensures { WritesStyledOnOk W.write_str_gives f.old result (decimal n) f.new }
-{
-    let mut digits = InlineText::<10>::new();
-    digits.write(n)?;
-    f.write_str(digits.as_str())
-}
-
-/// Prints two numbers, with a full stop between them.
-#[tactic(auto, using(crate::proofs::TextLaws::join_two))]
-fn write_first<W: fmt::Write>(f: &mut fmt::Formatter<W>, first: u32, second: u32) -> fmt::Result
-    ensures { WritesStyledOnOk W.write_str_gives f.old result
-        (decimal first ++ 46 ∷ decimal second) f.new }
-{
-    write_number(f, first)?;
-    write_further(f, second)
-}
-
-/// Prints a full stop and a number.
-#[tactic(auto, using(crate::proofs::TextLaws::join_two))]
-fn write_further<W: fmt::Write>(f: &mut fmt::Formatter<W>, n: u32) -> fmt::Result
-    ensures { WritesStyledOnOk W.write_str_gives f.old result (46 ∷ decimal n) f.new }
-{
-    f.write_str(".")?;
-    write_number(f, n)
-}
-
-/// Returns the two arcs in the first subidentifier (X.690 section 8.19.4).
-fn first_arcs(n: u32) -> (u32, u32)
-    ensures { (further : List ℕ) → arcs_of_numbers (n ∷ further) ≡ result.0 ∷ result.1 ∷ further }
-{
-    if n < 40 {
-        (0, n)
-    } else if n < 80 {
-        (1, n - 40)
-    } else {
-        (2, n - 80)
+        f.write_str(self.to_text().as_str())
     }
 }
 
