@@ -1,24 +1,29 @@
 -- Texts of digits whose letters are of one case.
-use Rattle.std.proofs.Common.{◌≡◌, ℕ, ◌+◌, ◌*◌, ◌/◌, ◌%◌, ◌<◌, Bool, true, false, List, [], ◌∷◌, ◌++◌, length, get_or}
-use Rattle.std.specs.Prelude.{not, ◌&&◌}
-use Rattle.std.proofs.Common.{take, Option, Some, Result, Ok, refl}
+use Rattle.std.proofs.Common.{◌≡◌, ℕ, ◌+◌, ◌*◌, ◌/◌, ◌%◌, ◌<◌, Bool, true, false, eqb, List, [], ◌∷◌, ◌++◌, length}
+use Rattle.std.specs.Prelude.{not, ◌&&◌, ◌⊎◌, nat_le, nat_lt, MatchOption, MatchResult, slice_set}
+use Rattle.std.proofs.Common.{take, drop, take-append-drop, Option, None, Some, Result, Ok, Err, refl}
 use Rattle.std.proofs.Common.{sym, ap, ◌∙◌, arith, inl, inr, slice_index}
 use Rattle.std.specs.Char.{is_ascii_uppercase, is_ascii_lowercase}
 use Rattle.std.specs.Fmt.{digit_glyph}
 use Rattle.std.specs.List.{list_any}
+use Rattle.std.specs.Str.{IsAscii, IsUtf8}
+use Rattle.std.proofs.lemmas.Str.{IsUtf8-from_ascii}
 use Rattle.std.proofs.lemmas.Bool.{cases_Bool}
+use Rattle.std.proofs.lemmas.Bool.Decides.{nat_tests}
 use Rattle.std.proofs.lemmas.List.{take_all, take_more}
 use Rattle.std.proofs.lemmas.List.Folds.{list_any_at, list_any_more}
 use Rattle.std.proofs.Math.ListN.{get_or-eq_default}
 use Rattle.std.proofs.lemmas.List.FromFn.{get_or-map-range_with_len}
-use Rattle.sec1_der.proofs.TextLaws.{plain_of_styled, flush_of_plain}
+use Rattle.sec1_der.proofs.TextLaws.{plain_of_styled, flush_of_plain, join_two}
 use Rattle.hex.specs.Hex.{IsBytes, encode_with, encode_upper, upper_digits, lower_digits, hex_digit_value, decode_of}
 use Rattle.hex.specs.Hex.{decode_pairs, decode_sized}
-use Rattle.hex.specs.Hex.{digit_or_error, ◌>>=◌}
+use Rattle.hex.specs.Hex.{digit_or_error, pair_value, ◌>>=◌}
 use Rattle.hex.specs.declared.error.FromHexError.{FromHexError}
+use Rattle.hex.specs.declared.error.FromHexError.TheVariants.{InvalidHexCharacter, OddLength}
+use Rattle.hex.proofs.Pairs.{prepend, decode_start, decode_step, decode_err, decode_done, decode_sized-pairs}
 use Rattle.hex.proofs.HexLemmas.{length-encode_with, decode_of-encode_upper, decode_of-encode_lower, decode_of-ok}
 use Rattle.hex.proofs.HexLemmas.{decode_of-even, decode_sized-twice}
-use Rattle.hex.proofs.HexLemmas.{decode_sized-ok}
+use Rattle.hex.proofs.HexLemmas.{decode_sized-ok, decode_sized-odd, IsAscii-encode_with}
 use Rattle.sec1.specs.HexTexts.{IsHexOf}
 
 -- ---- the digits of a case
@@ -107,22 +112,112 @@ decodes text bytes n k (inr e) f =
     decode_sized-twice text n (omega (arith, text_len text bytes (inr e))) ∙ ap decode_of e
     ∙ decode_of-encode_lower bytes f
 
--- ---- writing a text byte by byte
+-- ---- decoding pair by pair
 
-encode_push : (table xs : List ℕ) (v : ℕ)
-    → encode_with table (xs ++ v ∷ [])
-    ≡ encode_with table xs ++ slice_index table (v / 16) ∷ slice_index table (v % 16) ∷ []
+-- the value of a digit in one byte, 255 where there is none
+abbrev pub IsDigitValue : Option ℕ → ℕ → Type 0
+IsDigitValue digit v = MatchOption digit (v ≡ 255) (λ value. v ≡ value)
+
+-- the first k bytes of a text with digits for n are decoded, or it isn't such a text
+pub record AreDecoded (text : List ℕ) (n : ℕ) (are_digits : Bool) (k : ℕ) (front : List ℕ) : Type 0 where
+  pub goes : are_digits ≡ true → (length text ≡ 2 * n)
+      × (decode_pairs 0 text ≡ prepend front (decode_pairs (2 * k) (drop (2 * k) text)))
+  pub stops : are_digits ≡ false → (e : FromHexError) × (decode_sized text n ≡ Err e)
+
+-- nothing is decoded yet
+pub decoded_none : (text out : List ℕ) (n : ℕ) (even : Bool) → n ≡ length text / 2 → even ≡ eqb (length text % 2) 0
+    → AreDecoded text n even 0 (take 0 out)
+decoded_none text out n true half e = record {
+  goes = λ _. (grind (arith, nat_tests), decode_start text out);
+  stops = λ no. absurd (cc no);
+}
+decoded_none text out n false half e = record {
+  goes = λ yes. absurd (cc yes);
+  stops = λ _. (OddLength, decode_sized-odd text n (grind (arith, nat_tests)));
+}
+
+-- a pair is decoded, or one of the two values shows that it isn't
+abbrev PairIs : ℕ → ℕ → ℕ → ℕ → ℕ → Type 0
+PairIs a b i x y =
+    ((pair_value a b i ≡ Ok (x % 16 * 16 + y % 16)) × (x < 16) × (y < 16))
+    ⊎ ((e : FromHexError) × (pair_value a b i ≡ Err e) × (x < 16 → y < 16 → ⊥))
+
+digit_small : (c v : ℕ) → hex_digit_value c ≡ Some v → v < 16
+digit_small c v h = grind arith
+
+pair_is : (a b i x y : ℕ) (oa ob : Option ℕ) → hex_digit_value a ≡ oa → hex_digit_value b ≡ ob
+    → IsDigitValue oa x → IsDigitValue ob y → PairIs a b i x y
+pair_is a b i x y None ob ea eb hx hy = inr (InvalidHexCharacter a i, rw ea refl, λ small _. omega arith)
+pair_is a b i x y (Some v) None ea eb hx hy =
+    inr (InvalidHexCharacter b (i + 1), rw (ea, eb) refl, λ _ small. omega arith)
+pair_is a b i x y (Some v) (Some w) ea eb hx hy =
+    let sv = digit_small a v ea in
+    let sw = digit_small b w eb in
+    let ex : v * 16 + w ≡ x % 16 * 16 + y % 16 = omega arith in
+    inl (rw (ea, eb) (ap Ok ex), omega arith, omega arith)
+
+-- one pair more
+pub decoded_more : (text out : List ℕ) (n : ℕ) (was now : Bool) (i x y : ℕ) → 2 * i + 1 < length text → i < length out
+    → IsDigitValue (hex_digit_value (slice_index text (2 * i))) x
+    → IsDigitValue (hex_digit_value (slice_index text (2 * i + 1))) y
+    → now ≡ (was && nat_lt x 16) && nat_lt y 16 → AreDecoded text n was i (take i out)
+    → AreDecoded text n now (i + 1) (take (i + 1) (slice_set out i (x % 16 * 16 + y % 16)))
+decoded_more text out n was now i x y fits room hx hy e d =
+    by was e d (pair_is (slice_index text (2 * i)) (slice_index text (2 * i + 1)) (2 * i) x y _ _ refl refl hx hy)
+  where
+    by : (was : Bool) → now ≡ (was && nat_lt x 16) && nat_lt y 16 → AreDecoded text n was i (take i out)
+        → PairIs (slice_index text (2 * i)) (slice_index text (2 * i + 1)) (2 * i) x y
+        → AreDecoded text n now (i + 1) (take (i + 1) (slice_set out i (x % 16 * 16 + y % 16)))
+    by false e d p = record { goes = λ yes. absurd (cc); stops = λ _. d.stops refl }
+    by true e d (inl p) = record {
+      goes = λ _. ((d.goes refl).0, decode_step text out i _ fits room p.0 (d.goes refl).1);
+      stops = λ no. grind (arith, nat_tests);
+    }
+    by true e d (inr p) = record {
+      goes = λ yes. grind (arith, nat_tests, p.2);
+      stops = λ _. (
+        p.0,
+        decode_sized-pairs text n (omega (arith, (d.goes refl).0)) (omega (arith, (d.goes refl).0))
+            ∙ decode_err text out i p.0 fits p.1 (d.goes refl).1,
+      );
+    }
+
+-- all pairs are decoded, or the text isn't one of pairs of digits
+pub decoded_all : (text out : List ℕ) (n : ℕ) (are_digits : Bool) (i : ℕ) → n ≡ length out → i ≡ length out
+    → AreDecoded text n are_digits i (take i out)
+    → MatchResult (decode_sized text n) (λ bytes. (are_digits ≡ true) × (out ≡ bytes)) (λ _. ¬ (are_digits ≡ true))
+decoded_all text out n true i len end d =
+    let twice = (d.goes refl).0 in
+    rw (
+      decode_sized-pairs text n (omega arith) (omega arith),
+      decode_done text out i (omega arith) (omega arith) (d.goes refl).1,
+    )
+    (refl, refl)
+decoded_all text out n false i len end d = rw (d.stops refl).1 (λ e. cc e)
+
+-- ---- texts in parts
+
+-- The digits of bytes are those of their parts.
+encode-append : (table xs ys : List ℕ) → encode_with table (xs ++ ys) ≡ encode_with table xs ++ encode_with table ys
 unfolding encode_with
-encode_push table [] v = refl
-encode_push table (x ∷ xs) v = rw (encode_push table xs v) refl
+encode-append table [] ys = refl
+encode-append table (x ∷ xs) ys = rw (encode-append table xs ys) refl
 
--- One byte more.
-pub encode_more : (bytes : List ℕ) (i : ℕ) → i < length bytes → get_or bytes i 0 < 256
-    → encode_upper (take i bytes)
-    ++ (digit_glyph true (get_or bytes i 0 / 16) ∷ digit_glyph true (get_or bytes i 0 % 16) ∷ [])
-    ≡ encode_upper (take (i + 1) bytes)
-encode_more bytes i h small =
-    grind (arith, take_more bytes i 0 h, encode_push upper_digits (take i bytes), upper_digits-at)
+-- The digits of bytes in two parts.
+pub encode_split : (bytes : List ℕ) (n : ℕ)
+    → encode_upper (take n bytes) ++ encode_upper (drop n bytes) ≡ encode_upper bytes
+encode_split bytes n =
+    sym (encode-append upper_digits (take n bytes) (drop n bytes)) ∙ ap encode_upper (take-append-drop n bytes)
+
+-- Digits are UTF-8.
+ascii_table : (table : List ℕ) → list_any (nat_le 128) table ≡ false → IsAscii table
+ascii_table table h i = grind (arith, nat_tests, list_any_at (nat_le 128) table, get_or-eq_default table 0)
+
+pub hex_utf8 : (bytes : List ℕ) → IsUtf8 (encode_upper bytes)
+hex_utf8 bytes = IsUtf8-from_ascii _ (IsAscii-encode_with upper_digits bytes (ascii_table upper_digits refl))
+
+-- what printing in parts takes
+pub ruleset encode_parts = (encode_split, join_two)
 
 -- The letters of a text that were seen so far.
 pub ruleset letters_seen = (list_any_more, take_all)

@@ -1,13 +1,14 @@
 //! Points as hexadecimal text, JSON and owned bytes.
 
-ghost use Rattle.std.specs.Fmt.{WritesStyledOnOk, digit_glyph};
-ghost use Rattle.std.specs.Prelude.{◌≡◌, ◌↔◌, ◌/◌, ◌%◌, ◌<◌, [], ◌∷◌, true, ℕ, List, length, Some};
-ghost use Rattle.std.specs.Prelude.{IsTrue, MatchResult, not, ◌&&◌};
+ghost use Rattle.std.specs.Fmt.{WritesStyledOnOk};
+ghost use Rattle.std.specs.Prelude.{◌≡◌, ◌↔◌, ◌*◌, ◌/◌, ◌<◌, ◌≤◌, ℕ, List, length, slice_index};
+ghost use Rattle.std.specs.Prelude.{Some, IsTrue, MatchOption, MatchResult, not, ◌&&◌};
 ghost use Rattle.std.specs.Char.{is_ascii_uppercase, is_ascii_lowercase};
 ghost use Rattle.std.specs.List.{list_any};
 ghost use Rattle.std.specs.String.{string_bytes};
 ghost use Rattle.std.specs.Box.{boxed_slice_items};
-ghost use Rattle.hex.specs.Hex.{encode_upper, encode_lower, IsBytes};
+ghost use Rattle.hex.specs.Hex.{encode_upper, encode_lower, upper_digits, hex_digit_value};
+ghost use Rattle.hex.specs.Hex.{decode_sized, IsBytes};
 ghost use Rattle.serde_json.specs.Data.{string};
 ghost use Rattle.serde_json.specs.View.{view};
 ghost use Rattle.sec1.specs.Points.{encoding};
@@ -21,7 +22,7 @@ use serde_json::Value;
 use std::alloc::Global;
 use std::boxed::BoxedSlice;
 use std::fmt;
-use std::str::FromStr;
+use std::str::{FromStr, from_utf8};
 
 impl<const N: usize, const L: usize> EncodedPoint<N, L> {
     /// Returns a copy of the encoding.
@@ -113,7 +114,39 @@ fn decode_digits(text: &[u8], out: &mut [u8]) -> bool
     ensures { (bytes : List ℕ) → (IsHexOf text.now bytes × IsBytes bytes)
         ↔ (IsTrue result × (out.new ≡ bytes)) }
 {
-    is_one_case(text) && hex::decode_to_slice(text, out).is_ok()
+    is_one_case(text) && decode_pairs(text, out)
+}
+
+/// Decodes two hexadecimal digits for each byte, and returns `true` if all are digits. The crate
+/// `hex` has branches for each digit, most of which a processor predicts wrongly.
+fn decode_pairs(text: &[u8], out: &mut [u8]) -> bool
+    requires { length out.old ≡ length text.now / 2 }
+    ensures { MatchResult (decode_sized text.now (length out.old))
+        (λ bytes. IsTrue result × (out.new ≡ bytes)) (λ _. ¬ IsTrue result) }
+{
+    // No early exit, so that the compiler decodes many digits at once.
+    let mut are_digits = text.len() % 2 == 0;
+    for i in 0..out.len() {
+        let high = digit_value(text[2 * i]);
+        let low = digit_value(text[2 * i + 1]);
+        are_digits &= high < 16;
+        are_digits &= low < 16;
+        out[i] = high % 16 * 16 + low % 16;
+    }
+    are_digits
+}
+
+/// Returns the value of a hexadecimal digit, and 255 for any other byte.
+#[inline(always)]
+fn digit_value(c: u8) -> u8
+    ensures { MatchOption (hex_digit_value c) (result ≡ 255) (λ value. result ≡ value) }
+{
+    match c {
+        b'0'..=b'9' => c - b'0',
+        b'A'..=b'F' => c - b'A' + 10,
+        b'a'..=b'f' => c - b'a' + 10,
+        _ => 255,
+    }
 }
 
 /// Returns `true` if no letter is upper case, or none is lower case.
@@ -161,46 +194,57 @@ impl<const N: usize, const L: usize> fmt::Display for EncodedPoint<N, L> {
 
     #[tactic(auto, using(crate::proofs::HexLemmas::printed))]
     fn fmt<W: fmt::Write>(&self, f: &mut fmt::Formatter<W>) -> fmt::Result {
-        let bytes = self.as_bytes();
-        for byte in bytes {
-            write_byte(f, *byte)?;
-        }
-        Ok(())
+        print_upper(f, self.as_bytes())
     }
 }
 
-/// Prints a byte as two digits, with the letters A to F, whatever options are set.
-#[tactic(auto, using(sec1_der::proofs::TextLaws::join_two))]
-fn write_byte<W: fmt::Write>(f: &mut fmt::Formatter<W>, byte: u8) -> fmt::Result
-    ensures { WritesStyledOnOk W.write_str_gives f.old result
-        (digit_glyph true (byte / 16) ∷ digit_glyph true (byte % 16) ∷ []) f.new }
+/// How many bytes are printed at once: all of a point over 256 bits, and half of one over 521.
+const AT_ONCE: usize = 67;
+
+/// Prints bytes in hexadecimal, with the letters A to F, whatever options are set.
+#[tactic(auto, using(crate::proofs::HexLemmas::encode_parts))]
+fn print_upper<W: fmt::Write>(f: &mut fmt::Formatter<W>, bytes: &[u8]) -> fmt::Result
+    ensures { WritesStyledOnOk W.write_str_gives f.old result (encode_upper bytes.now) f.new }
 {
-    f.write_str(upper_digit(byte / 16))?;
-    f.write_str(upper_digit(byte % 16))
+    if bytes.len() <= AT_ONCE {
+        return print_few(f, bytes);
+    }
+    let (front, rest) = bytes.split_at(AT_ONCE);
+    print_few(f, front)?;
+    print_upper(f, rest)
 }
 
-/// Returns the hexadecimal digit of a number below 16, with the letters A to F. Formatting the
-/// number takes six times as long.
-fn upper_digit(n: u8) -> &'static str
+/// Prints at most 67 bytes in hexadecimal, by one call.
+fn print_few<W: fmt::Write>(f: &mut fmt::Formatter<W>, bytes: &[u8]) -> fmt::Result
+    requires { length bytes.now ≤ 67 }
+    ensures { WritesStyledOnOk W.write_str_gives f.old result (encode_upper bytes.now) f.new }
+{
+    let mut buffer = [0; 2 * AT_ONCE];
+    let digits = &mut buffer[..2 * bytes.len()];
+    put_digits(bytes, digits);
+    match from_utf8(digits) {
+        Ok(text) => f.write_str(text),
+        Err(_) => unreachable!(),
+    }
+}
+
+/// Writes each byte as two digits, with the letters A to F.
+#[inline(always)]
+fn put_digits(bytes: &[u8], digits: &mut [u8])
+    requires { length digits.old ≡ 2 * length bytes.now }
+    ensures { digits.new ≡ encode_upper bytes.now }
+{
+    for i in 0..bytes.len() {
+        digits[2 * i] = upper_digit(bytes[i] / 16);
+        digits[2 * i + 1] = upper_digit(bytes[i] % 16);
+    }
+}
+
+/// Returns the hexadecimal digit of a number below 16, with the letters A to F.
+#[inline(always)]
+fn upper_digit(n: u8) -> u8
     requires { n < 16 }
-    ensures { result.now ≡ digit_glyph true n ∷ [] }
+    ensures { result ≡ slice_index upper_digits n }
 {
-    match n {
-        0 => "0",
-        1 => "1",
-        2 => "2",
-        3 => "3",
-        4 => "4",
-        5 => "5",
-        6 => "6",
-        7 => "7",
-        8 => "8",
-        9 => "9",
-        10 => "A",
-        11 => "B",
-        12 => "C",
-        13 => "D",
-        14 => "E",
-        _ => "F",
-    }
+    if n < 10 { b'0' + n } else { b'A' - 10 + n }
 }
