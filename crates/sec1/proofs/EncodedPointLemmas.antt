@@ -5,6 +5,7 @@ use Rattle.std.proofs.Common.{append_assoc, append-nil, add-one, Some, Ok, nat_c
 use Rattle.std.proofs.Common.{take-append-drop}
 use Rattle.std.proofs.Common.{length-append, length-drop, length-take}
 use Rattle.std.proofs.Common.{le_of_eq}
+use Rattle.std.specs.Prelude.{◌⊎◌}
 use Rattle.std.proofs.Math.Seq.{take-add}
 use Rattle.std.proofs.lemmas.List.{take-append-le}
 use Rattle.std.specs.Cmp.Lexicographic.{slice_cmp}
@@ -178,6 +179,18 @@ halves_hold n l k (b ∷ buffer) x y el eb ex ey hx hy =
 -- An encoding is no longer than the buffer.
 pub encoding_room : (n l : ℕ) (input : List ℕ) → Fits n l → IsEncoding n input → length input ≤ l
 encoding_room n l input fits e = omega (arith, length-enc-le n e.of, ap length e.encoded, fits.1)
+
+-- An encoding that doesn't fill the buffer is a tag, or a tag and x.
+pub encoding_short : (n l : ℕ) (input : List ℕ) → Fits n l → IsEncoding n input → (length input ≡ l → ⊥)
+    → (length input ≡ 1) ⊎ (length input ≡ n + 1)
+encoding_short n l input fits e other =
+    by e.of (ap length e.encoded ∙ length-enc n e.of)
+  where
+    by : (p : Point) → length input ≡ message_len (point_tag p) n → (length input ≡ 1) ⊎ (length input ≡ n + 1)
+    by p len = grind (arith, fits.1)
+
+-- the lengths of encodings
+pub ruleset encoding_lengths = (encoding_room, encoding_short)
 
 -- A value whose encoding is the input was read from it.
 pub read_bytes : {N L : ℕ} (input : List ℕ) (point : EncodedPoint N L) → take point.len point.bytes ≡ input

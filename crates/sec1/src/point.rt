@@ -13,7 +13,7 @@ mod text;
 // Definitions that cite `EncodedPoint` are imported in the blocks below: its ghost fields come
 // before them.
 ghost use Rattle.std.specs.Prelude.{◌≡◌, ◌+◌, ◌*◌, ◌<◌, ◌≤◌, ◌^◌, ◌↔◌, if◌then◌else◌, length};
-ghost use Rattle.std.specs.Prelude.{IfSome};
+ghost use Rattle.std.specs.Prelude.{IfSome, ◌⊎◌};
 ghost use Rattle.std.specs.Prelude.{slice_index, take, drop, set, IsTrue, ◌==◌, ◌||◌};
 ghost use Rattle.std.specs.List.{All};
 ghost use Rattle.std.specs.Option.{option_map};
@@ -84,7 +84,7 @@ impl<const N: usize, const L: usize> EncodedPoint<N, L> {
     /// let point = EncodedPoint32::from_bytes(bytes)?;
     /// Ok(point.compress())
     /// ```
-    #[tactic(auto, using(crate::proofs::EncodedPointLemmas::encoding_room))]
+    #[tactic(auto, using(crate::proofs::EncodedPointLemmas::encoding_lengths))]
     pub fn from_bytes(input: &[u8]) -> Result<Self>
         ensures { ReadsBytes input.now result }
     {
@@ -321,24 +321,21 @@ impl<const N: usize, const L: usize> EncodedPoint<N, L> {
     }
 }
 
-/// Copies bytes. The compiler knows the number of those after the tag of a compressed point, and
-/// copies them without a call.
+/// Copies the encoding of a point that isn't the longest: a tag, and N bytes or none after it. The
+/// compiler knows these lengths, and copies without a call.
 #[inline(always)]
 fn copy_short<const N: usize>(from: &[u8], to: &mut [u8])
     requires size { N < 2 ^ 62 }
+    requires short { (length from.now ≡ 1) ⊎ (length from.now ≡ N + 1) }
     requires len { length to.old ≡ length from.now }
     ensures { to.new ≡ from.now }
 {
-    if from.len() == N + 1 {
-        let (tag, rest) = to.split_at_mut(1);
-        tag[0] = from[0];
-        if let Some(x) = from[1..].as_array::<N>()
-            && let Some(room) = rest.as_mut_array::<N>()
-        {
-            *room = *x;
-        }
-    } else {
-        to.copy_from_slice(from);
+    let (tag, rest) = to.split_at_mut(1);
+    tag[0] = from[0];
+    if let Some(x) = from[1..].as_array::<N>()
+        && let Some(room) = rest.as_mut_array::<N>()
+    {
+        *room = *x;
     }
 }
 
