@@ -115,6 +115,11 @@ unsafe extern "C" {
         out_len: usize,
         len: *mut usize,
     ) -> u32;
+    fn sec1_certificate_public_key(input: *const u8, len: usize, part: *mut [[usize; 3]; 1])
+    -> u32;
+    fn sec1_private_key_info_read(input: *const u8, len: usize, parts: *mut [[usize; 3]; 2])
+    -> u32;
+    fn sec1_public_key_read(input: *const u8, len: usize, parts: *mut [[usize; 3]; 2]) -> u32;
     fn sec1_point_read(input: *const u8, len: usize, field: usize, parts: *mut [usize; 7]) -> u32;
     fn sec1_point_compress(
         input: *const u8,
@@ -146,6 +151,18 @@ unsafe extern "C" {
         content_len: usize,
         len: *mut usize,
     ) -> u32;
+}
+
+#[link(name = "sec1_bench_calls", kind = "static")]
+unsafe extern "C" {
+    fn bench_certificate_point_called(input: *const u8, len: usize) -> usize;
+    fn bench_certificate_write(
+        input: *const u8,
+        len: usize,
+        out: *mut u8,
+        out_len: usize,
+        rounds: usize,
+    ) -> usize;
 }
 
 #[link(name = "openssl_peer", kind = "static")]
@@ -181,6 +198,14 @@ fn line<'a>(
     }
 }
 
+/// The line of a call of `sec1` alone.
+fn alone<'a>(name: &'static str, ours: impl Fn() -> usize + 'a) -> Line<'a> {
+    Line {
+        name,
+        sides: vec![("ours", 1, Box::new(ours))],
+    }
+}
+
 /// The line of a call of `sec1` and those of both peers.
 macro_rules! line {
     ($name:expr, $ours:expr, $call:ident($($arg:expr),*)) => {
@@ -207,7 +232,10 @@ struct Inputs {
     key: Vec<u8>,
     /// This key, those without one or both of the options, one with a long identifier, and one on P-521.
     keys: Vec<Vec<u8>>,
-    /// The same without a curve and a public key, 39 bytes.
+    /// A key on P-384, of 167 bytes, and one on P-521, of 223.
+    key_384: Vec<u8>,
+    key_521: Vec<u8>,
+    /// The key without a curve and a public key, 39 bytes.
     bare: Vec<u8>,
     /// The key with another first tag.
     other_tag: Vec<u8>,
@@ -221,6 +249,8 @@ struct Inputs {
     headers: Vec<u8>,
     /// 64 uncompressed points that differ in their last bytes only where they aren't the same.
     points: Vec<u8>,
+    /// One of them, compressed.
+    compressed: Vec<u8>,
     /// The hexadecimal text of one of them.
     text: String,
 }
@@ -231,10 +261,30 @@ const PUBLIC_KEY: std::ops::Range<usize> = 56..121;
 /// P-256 by its identifier, 1.2.840.10045.3.1.7.
 const CURVE: [u8; 8] = [0x2A, 0x86, 0x48, 0xCE, 0x3D, 3, 1, 7];
 
+/// P-384 and P-521, 1.3.132.0.34 and 1.3.132.0.35.
+const P384: [u8; 5] = [0x2B, 0x81, 4, 0, 0x22];
+const P521: [u8; 5] = [0x2B, 0x81, 4, 0, 0x23];
+
+/// id-ecPublicKey, 1.2.840.10045.2.1.
+const ALGORITHM: [u8; 7] = [0x2A, 0x86, 0x48, 0xCE, 0x3D, 2, 1];
+
 fn element(tag: u8, content: &[u8]) -> Vec<u8> {
     let mut bytes = header(tag, content.len());
     bytes.extend(content);
     bytes
+}
+
+/// A key with all its fields, for field elements of `field` bytes.
+fn key_over(field: usize, curve: &[u8]) -> Vec<u8> {
+    let private_key: Vec<u8> = noise(5).take(field).collect();
+    let bits: Vec<u8> = [0, 4].into_iter().chain(noise(6).take(2 * field)).collect();
+    let fields = [
+        element(0x02, &[1]),
+        element(0x04, &private_key),
+        element(0xA0, &element(0x06, curve)),
+        element(0xA1, &element(0x03, &bits)),
+    ];
+    element(0x30, &fields.concat())
 }
 
 fn header(tag: u8, length: usize) -> Vec<u8> {
@@ -309,6 +359,8 @@ impl Inputs {
         ];
         Inputs {
             keys,
+            key_384: key_over(48, &P384),
+            key_521: key_over(66, &P521),
             bare,
             other_tag,
             long: element(0x04, &noise(2).take(10_000).collect::<Vec<u8>>()),
@@ -321,6 +373,7 @@ impl Inputs {
                 .iter()
                 .map(|byte| format!("{byte:02X}"))
                 .collect(),
+            compressed: [&[2], &points[1..33]].concat(),
             points,
             key,
         }
@@ -350,6 +403,8 @@ fn key_lines(inputs: &Inputs) -> Vec<Line<'_>> {
     for (name, input) in [
         ("read a key", key),
         ("read a key without options", bare),
+        ("read a key on P-384", &inputs.key_384[..]),
+        ("read a key on P-521", &inputs.key_521[..]),
         ("refuse at the first tag", other_tag),
         ("refuse a key cut at 60", cut),
     ] {
@@ -524,6 +579,16 @@ fn der_lines(inputs: &Inputs) -> Vec<Line<'_>> {
             identifier_read_inline(black_box(&CURVE))
         ),
         line!(
+            "an identifier's content of 5 bytes",
+            on(bench_identifier_read, &P384),
+            identifier_read(black_box(&P384))
+        ),
+        line!(
+            "an identifier's content of 7 bytes",
+            on(bench_identifier_read, &ALGORITHM),
+            identifier_read(black_box(&ALGORITHM))
+        ),
+        line!(
             "an identifier's text, read",
             on(bench_identifier_parse, DOTTED),
             identifier_parse(black_box(DOTTED))
@@ -562,11 +627,8 @@ fn compress(call: Compress, points: &[u8]) -> Call<'_> {
 
 /// The lines on points.
 fn point_lines(inputs: &Inputs) -> Vec<Line<'_>> {
-    let (point, text, points) = (
-        &inputs.points[..65],
-        inputs.text.as_bytes(),
-        &inputs.points[..],
-    );
+    let (point, compressed) = (&inputs.points[..65], &inputs.compressed[..]);
+    let (text, points) = (inputs.text.as_bytes(), &inputs.points[..]);
     let rounds = || black_box(ROUNDS);
     vec![
         line!(
@@ -578,6 +640,16 @@ fn point_lines(inputs: &Inputs) -> Vec<Line<'_>> {
             "a point from bytes, inlined",
             on(bench_point_read_inline, point),
             point_read_inline(black_box(point))
+        ),
+        line!(
+            "a compressed point from bytes",
+            on(bench_point_read, compressed),
+            point_read(black_box(compressed))
+        ),
+        line!(
+            "a compressed point from bytes, inlined",
+            on(bench_point_read_inline, compressed),
+            point_read_inline(black_box(compressed))
         ),
         line!(
             "a point from bytes, and to bytes",
@@ -631,6 +703,19 @@ fn point_lines(inputs: &Inputs) -> Vec<Line<'_>> {
         )
         .jobs(63 * ROUNDS),
     ]
+}
+
+/// The line of a call of the C library that stores N places.
+fn places<'a, const N: usize>(
+    name: &'static str,
+    call: unsafe extern "C" fn(*const u8, usize, *mut [[usize; 3]; N]) -> u32,
+    input: &'a [u8],
+) -> Line<'a> {
+    alone(name, move || {
+        let mut parts = [[0; 3]; N];
+        let status = unsafe { call(black_box(input).as_ptr(), input.len(), &mut parts) };
+        status as usize + black_box(&parts).iter().map(|part| part[1]).sum::<usize>()
+    })
 }
 
 /// The lines on the calls of the C library. Each adds to its status what it has stored.
@@ -743,11 +828,29 @@ fn c_lines(inputs: &Inputs) -> Vec<Line<'_>> {
             ),
             c_identifier_from_text(black_box(DOTTED), &mut out.0, &mut out.1)
         ),
+        places(
+            "C: sec1_certificate_public_key",
+            sec1_certificate_public_key,
+            CERTIFICATE,
+        ),
+        places(
+            "C: sec1_private_key_info_read",
+            sec1_private_key_info_read,
+            CONTAINER,
+        ),
+        places(
+            "C: sec1_public_key_read",
+            sec1_public_key_read,
+            &CERTIFICATE[PUBLIC_KEY_INFO],
+        ),
     ]
 }
 
 const CERTIFICATE: &[u8] = include_bytes!("p256_certificate.der");
 const CONTAINER: &[u8] = include_bytes!("p256_container.der");
+
+/// Where its SubjectPublicKeyInfo is in the certificate.
+const PUBLIC_KEY_INFO: std::ops::Range<usize> = 189..280;
 
 /// The name of a file that holds a key.
 const FILE: &str = concat!(env!("BENCH_FOLDER"), "/../dist/examples/p256.der");
@@ -764,6 +867,24 @@ fn record_lines<'a>() -> Vec<Line<'a>> {
             on(bench_certificate_point, CERTIFICATE),
             || calls::certificate_point(black_box(CERTIFICATE)),
         ),
+        line(
+            "a certificate to a point, by a call",
+            on(bench_certificate_point_called, CERTIFICATE),
+            || calls::certificate_point(black_box(CERTIFICATE)),
+        ),
+        alone("a certificate, written", || {
+            let mut out = [0; 512];
+            unsafe {
+                bench_certificate_write(
+                    black_box(CERTIFICATE).as_ptr(),
+                    CERTIFICATE.len(),
+                    out.as_mut_ptr(),
+                    out.len(),
+                    black_box(ROUNDS),
+                )
+            }
+        })
+        .jobs(ROUNDS),
         line(
             "a container to a key to a point",
             on(bench_container_point, CONTAINER),

@@ -371,12 +371,14 @@ struct Writer<'b> {
 }
 
 impl Writer<'_> {
+    #[inline(always)]
     fn bytes(&mut self, bytes: &[u8]) {
         let (front, rest) = std::mem::take(&mut self.room).split_at_mut(bytes.len());
         front.copy_from_slice(bytes);
         self.room = rest;
     }
 
+    #[inline(always)]
     fn header(&mut self, tag: u8, length: usize) {
         let [.., a, b, c, d] = length.to_be_bytes();
         match header_len(length) {
