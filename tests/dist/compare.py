@@ -45,10 +45,17 @@ class Object:
                     self.symbols.append((name, kind >> 4, section, value))
             if head[1] == RELOCATIONS:
                 self.relocations[head[7]] = list(struct.iter_unpack("<QQq", content))
+        # what a constant of no bytes stands in has none either, but an address
+        addressed = {
+            self.symbols[info >> 32][2]
+            for section, places in self.relocations.items()
+            if self.heads[section][2] & ALLOCATED
+            for _, info, _ in places
+        }
         self.kept = [
             i
             for i, it in enumerate(self.heads)
-            if it[1] in (PROGBITS, NOBITS) and it[2] & ALLOCATED and it[5]
+            if it[1] in (PROGBITS, NOBITS) and it[2] & ALLOCATED and (it[5] or i in addressed)
         ]
 
     def relocated(self, section):
