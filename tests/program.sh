@@ -140,10 +140,10 @@ ended 'a slow pipe' 0 report ''
 #   M  out of memory
 #   G  it is granted for less, and the report is printed: the vector of the digits, which grows from 8 to 256 bytes
 # The counts: 3 requests for the arguments and one more for each path; 2 to read;
-# 6 to drop the blanks and 1 to decode the digits; 12 for the three texts and the report of the whole key (3, 1, 2 and 6, since the
+# 6 to drop the blanks and 1 to decode the digits; 10 for the three texts and the report of the whole key (1, 1, 2 and 6, since the
 # growing ones double), and 7 of the small one (1, 1, 1 and 4).
-text_ends=IIIMMGGGGGGMMMMMMMMMMMMM
-path_ends=IIIIMMMMMMMMMMMMMM
+text_ends=IIIMMGGGGGGMMMMMMMMMMM
+path_ends=IIIIMMMMMMMMMMMM
 small_ends=IIIIMMMMMMMMM
 missing_ends=IIII
 # 246 reads of 4,096 bytes, the last of which finds the end, and the texts of a small key

@@ -10,6 +10,8 @@ LENGTHS = (0, 1, 28, 32, 48, 66, 300, 5000, 100000, 2000000)
 CURVE = "2a8648ce3d030107"
 # the most that a document grows by at once, in bytes
 GROWTH = 4096
+# the most digits of a point that are printed at once
+PRINTED = 134
 
 
 def element(tag, content):
@@ -45,14 +47,6 @@ def sum_of(data):
     return f"{len(data)} {total}"
 
 
-def doublings(count):
-    """How often a text that grows from 8 bytes is made larger until it has this length."""
-    steps, room = 1, 8
-    while room < count:
-        steps, room = steps + 1, 2 * room
-    return steps
-
-
 def call(name, result, requests, others=0):
     """What is printed of a call: with refused requests, how many end it with Memory, and how many
     don't end it, and how many end it with another error."""
@@ -77,7 +71,8 @@ def point_rows(is_refused):
         lower, upper = encoding.hex().encode(), encoding.hex().upper().encode()
         calls = [call("to_bytes", sum_of(encoding), 1), call("to_lower_hex", sum_of(lower), 1)]
         calls += [call("to_upper_hex", sum_of(upper), 1), call("to_json", sum_of(upper), 1)]
-        calls += [call("Display", sum_of(upper), doublings(len(upper)))]
+        # a text grows once for each piece that is printed, and is then twice as long as the first
+        calls += [call("Display", sum_of(upper), (len(upper) + PRINTED - 1) // PRINTED)]
         yield f"point {size} {encoding.hex()}", line("point", calls, is_refused)
 
 
