@@ -11,4 +11,5 @@ pub mod PrivateKeyLemmas
 pub mod PublicKeyLemmas
 pub mod SignatureLemmas
 pub mod StatusLemmas
+pub mod SubidentifierLemmas
 pub mod TextLemmas

@@ -122,7 +122,7 @@ impl<'a> Record for KeyContainer<'a> {
             Required(SmallInteger),
             (
                 self.algorithm.reborrow(),
-                Required(Containing::new(self.key.reborrow())),
+                Required(Containing::new(reborrow(&self.key))),
             ),
         )
     }
@@ -132,4 +132,15 @@ impl<'a> Record for KeyContainer<'a> {
 
 impl Distinct for KeyContainer<'_> {
     ghost apart = { refl };
+}
+
+/// Returns the key again. It borrows what this one borrows.
+fn reborrow<'a>(key: &EcPrivateKey<'a>) -> EcPrivateKey<'a>
+    ensures { result ≡ key.now }
+{
+    EcPrivateKey {
+        private_key: key.private_key,
+        parameters: key.parameters,
+        public_key: key.public_key,
+    }
 }
