@@ -3,3 +3,5 @@ pub mod KindLemmas
 pub mod RowLemmas
 pub mod WithinLemmas
 pub mod PartLemmas
+pub mod SignatureLemmas
+pub mod PublicKeyLemmas
