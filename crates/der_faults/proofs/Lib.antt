@@ -5,3 +5,4 @@ pub mod WithinLemmas
 pub mod PartLemmas
 pub mod SignatureLemmas
 pub mod PublicKeyLemmas
+pub mod ContainerLemmas

@@ -1,7 +1,8 @@
-//! Where bytes are refused as a key's, a public key's, a signature's or a tree's: the offset and
-//! the kind of the first fault. No call allocates.
+//! Where bytes are refused as a key's, a public key's, a container's, a signature's or a tree's: the
+//! offset and the kind of the first fault. No call allocates.
 #![tactic(auto)]
 
+mod container;
 mod element;
 mod key;
 mod part;
@@ -9,6 +10,7 @@ mod public_key;
 mod signature;
 mod tree;
 
+pub use container::container_fault;
 pub use key::key_fault;
 pub use part::{KeyPart, key_part};
 pub use public_key::public_key_fault;
