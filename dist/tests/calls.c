@@ -1975,6 +1975,28 @@ static void test_public_key_faults(void)
     EXPECT(sec1_public_key_fault_at(NULL, 0, &offset) == SEC1_TRUNCATED && offset == 0);
 }
 
+/* Which byte of a container is changed, to what, and where the fault lies then. */
+static const struct damage container_damages[] = {
+    {0, 0x31, SEC1_TAG, 0},     {1, 0x1D, SEC1_TRUNCATED, 1}, {4, 0x02, SEC1_VALUE, 4},
+    {5, 0x31, SEC1_TAG, 5},     {15, 0x02, SEC1_CURVE, 5},    {16, 0x1F, SEC1_TRAILING_DATA, 16},
+    {26, 0x05, SEC1_TAG, 26},   {27, 0x03, SEC1_TRUNCATED, 27},
+    {27, 0x01, SEC1_TRAILING_DATA, 29},
+};
+
+static void test_container_faults(void)
+{
+    struct bytes key = unhex("301C020100" ON_P256 "04023000");
+    expect_fault(sec1_private_key_info_fault_at, key, SEC1_OK, 0);
+    for (size_t i = 0; i < sizeof container_damages / sizeof *container_damages; i++) {
+        struct bytes damaged = key;
+        damaged.data[container_damages[i].at] = container_damages[i].byte;
+        expect_fault(sec1_private_key_info_fault_at, damaged, container_damages[i].status,
+                     container_damages[i].offset);
+    }
+    size_t offset = 777777;
+    EXPECT(sec1_private_key_info_fault_at(NULL, 0, &offset) == SEC1_TRUNCATED && offset == 0);
+}
+
 static void test_faults(void)
 {
     struct bytes key = unhex("3031020101" "0420" PRIVATE "A00A06082A8648CE3D030107");
@@ -2120,6 +2142,7 @@ int main(void)
         {"long elements", test_long_elements},
         {"faults", test_faults},
         {"faults of public keys", test_public_key_faults},
+        {"faults of containers", test_container_faults},
         {"faults of signatures", test_signature_faults},
         {"random bytes", test_random_bytes},
     };

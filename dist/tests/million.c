@@ -77,6 +77,7 @@ enum call {
     PUBLIC_KEY,
     PUBLIC_KEY_FAULT,
     CONTAINER,
+    CONTAINER_FAULT,
     CERTIFICATE,
     PRIVATE_KEY,
     PUBLIC_KEY_WRITE,
@@ -110,6 +111,7 @@ static const char *const names[CALLS] = {
     "sec1_public_key_read",
     "sec1_public_key_fault_at",
     "sec1_private_key_info_read",
+    "sec1_private_key_info_fault_at",
     "sec1_certificate_read_public_key",
     "sec1_private_key_read",
     "sec1_public_key_write",
@@ -124,8 +126,8 @@ static const char *const names[CALLS] = {
 static const unsigned wanted[CALLS] = {0x3F,  0xA1,  0x11F, 0x1F,  0x601, 0x681, 0x601,
                                        0xA1,  0xA1,  0x3F,  0x3F,  0x11F, 0xF,   0x85,
                                        0x21,  0x481, 0x681, 0x681, 0xA3F, 0xA3F, 0x83F,
-                                       0x3F,  0x183F, 0xA81, 0x881, 0x3F, 0x3F,  0x81,
-                                       0xA1,  1};
+                                       0x83F, 0x3F,  0x183F, 0xA81, 0x881, 0x3F, 0x3F,
+                                       0x81,  0xA1,  1};
 static unsigned long counts[CALLS][STATUSES], wrong[CALLS];
 static struct {
     uint8_t data[MOST];
@@ -280,6 +282,7 @@ static void check_records(const uint8_t *bytes, size_t len)
     refused = container_of(bytes, len, &container);
     status = sec1_private_key_info_read(bytes, len, stored);
     expect(CONTAINER, status, stores(status, refused, stored, &container, sizeof container));
+    check_fault(CONTAINER_FAULT, sec1_private_key_info_fault_at, bytes, len, refused, fault_at);
     struct sec1_key_parts inside;
     stored = filled(struct_arena, sizeof inside, 0xA5);
     refused = private_key_of(bytes, len, &inside);

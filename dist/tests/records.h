@@ -303,7 +303,7 @@ static uint32_t container_of(const uint8_t *data, size_t len,
         return status;
     parts->curve = algorithm.curve;
     parts->key = place(key.start, key.end);
-    return algorithm.field ? SEC1_OK : SEC1_CURVE;
+    return algorithm.field ? (uint32_t)SEC1_OK : refuse(SEC1_CURVE, algorithm.start);
 }
 
 /* Bytes that begin with a SEQUENCE, and in it an INTEGER and the tag of a SEQUENCE, are a container

@@ -1,8 +1,11 @@
 -- Where bytes aren't refused, there is no place of a refusal.
 use Rattle.std.proofs.Common.{◌≡◌, ◌≢◌, List, ℕ, Option, Some, None, refl}
 use Rattle.std.specs.Prelude.{option_map}
+use Rattle.der_faults.proofs.ContainerLemmas.{container_kind}
 use Rattle.der_faults.proofs.KindLemmas.{key_kind}
 use Rattle.der_faults.proofs.PublicKeyLemmas.{public_key_kind}
+use Rattle.der_faults.specs.ContainerPlaces.{container_place}
+use Rattle.der_faults.specs.Containers.{container_fault}
 use Rattle.der_faults.specs.Places.{key_place}
 use Rattle.der_faults.specs.RecordPlaces.{public_key_place}
 use Rattle.der_faults.specs.declared.Fault.{Fault}
@@ -39,6 +42,14 @@ no_key_place bytes none = by (key_place bytes) (rw (key_kind bytes) none)
 pub no_public_key_place : (bytes : List ℕ) → element_fault 0x30 public_key_fault end_fault bytes ≡ None
     → public_key_place bytes ≡ None
 no_public_key_place bytes none = by (public_key_place bytes) (rw (public_key_kind bytes) none)
+  where
+    by : (o : Option Fault) → option_map (λ (f : Fault). Some f.kind) o ≡ None → o ≡ None
+    by None e = refl
+    by (Some fault) e = absurd (cc e)
+
+pub no_container_place : (bytes : List ℕ) → element_fault 0x30 container_fault end_fault bytes ≡ None
+    → container_place bytes ≡ None
+no_container_place bytes none = by (container_place bytes) (rw (container_kind bytes) none)
   where
     by : (o : Option Fault) → option_map (λ (f : Fault). Some f.kind) o ≡ None → o ≡ None
     by None e = refl

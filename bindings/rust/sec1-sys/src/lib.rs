@@ -431,6 +431,12 @@ unsafe extern "C" {
         bytes_len: usize,
         parts: *mut sec1_public_key_parts,
     ) -> u32;
+    /// Returns what [`sec1_public_key_read`] returns, and stores the offset of the fault.
+    ///
+    /// # Safety
+    ///
+    /// As for [`sec1_key_fault_at`].
+    pub fn sec1_public_key_fault_at(bytes: *const u8, bytes_len: usize, offset: *mut usize) -> u32;
     /// Stores the place of the SubjectPublicKeyInfo in a certificate.
     ///
     /// # Safety
@@ -450,6 +456,16 @@ unsafe extern "C" {
         bytes: *const u8,
         bytes_len: usize,
         parts: *mut sec1_private_key_info_parts,
+    ) -> u32;
+    /// Returns what [`sec1_private_key_info_read`] returns, and stores the offset of the fault.
+    ///
+    /// # Safety
+    ///
+    /// As for [`sec1_key_fault_at`].
+    pub fn sec1_private_key_info_fault_at(
+        bytes: *const u8,
+        bytes_len: usize,
+        offset: *mut usize,
     ) -> u32;
     /// Reads an EC private key by itself or in its container, and stores the places of its parts.
     ///
