@@ -70,6 +70,14 @@ uint32_t right_calls(size_t some)
     status |= sec1_element_write(0x05, NULL, 0, NULL, 0, &len);
     status |= sec1_key_fault_at(key, some, &len);
     status |= sec1_key_fault_at(NULL, 0, &len);
+    status |= sec1_key_read_at(key, some, &parts, &len);
+    status |= sec1_key_read_at(NULL, 0, &parts, &len);
+    status |= sec1_public_key_fault_at(key, some, &len);
+    status |= sec1_public_key_fault_at(NULL, 0, &len);
+    status |= sec1_private_key_info_fault_at(key, some, &len);
+    status |= sec1_private_key_info_fault_at(NULL, 0, &len);
+    status |= sec1_signature_fault_at(key, some, &len);
+    status |= sec1_signature_fault_at(NULL, 0, &len);
     status |= sec1_tree_fault_at(key, sizeof key, &len);
     status |= sec1_identifier_check(key, 8);
     status |= sec1_identifier_check(NULL, 0);

@@ -1782,7 +1782,7 @@ static void test_long_elements(void)
     munmap(out, room);
 }
 
-/* The status and the offset of the first fault, by the call for keys or by that for trees. */
+/* The status and the offset of the first fault, by one of the calls that tell both. */
 static void expect_fault(uint32_t (*fault_at)(const uint8_t *, size_t, size_t *),
                          struct bytes input, uint32_t wanted, size_t wanted_offset)
 {
@@ -1908,15 +1908,106 @@ static const struct tree_fault {
     {"3003050000", SEC1_TAG, 4},
 };
 
+/* By the call that reads a key as well: the parts are stored where no offset is. */
+static void expect_read_at(struct bytes input, uint32_t wanted, size_t wanted_offset)
+{
+    for (enum side side = AT_END; side <= AT_START; side++) {
+        struct guarded in = map_input(input.data, input.len, side);
+        struct sec1_key_parts parts, found;
+        size_t offset = 777777;
+        memset(&parts, 0xA5, sizeof parts);
+        found = parts;
+        EXPECT(sec1_key_read(in.data, input.len, &found) == wanted);
+        EXPECT(sec1_key_read_at(in.data, input.len, &parts, &offset) == wanted &&
+               offset == (wanted ? wanted_offset : 777777) &&
+               memcmp(&parts, &found, sizeof parts) == 0);
+        unmap(in);
+    }
+}
+
+/* Of the signature of 1 and 128: which byte is changed, to what, and where the fault lies then. */
+static const struct damage signature_damages[] = {
+    {0, 0x31, SEC1_TAG, 0},    {1, 0x08, SEC1_TRUNCATED, 1}, {1, 0x06, SEC1_TRUNCATED, 6},
+    {1, 0x81, SEC1_LENGTH, 1}, {2, 0x04, SEC1_TAG, 2},       {3, 0x80, SEC1_LENGTH, 3},
+    {3, 0x00, SEC1_VALUE, 4},  {4, 0x80, SEC1_VALUE, 4},     {5, 0x03, SEC1_TAG, 5},
+    {6, 0x01, SEC1_TRAILING_DATA, 8}, {6, 0x03, SEC1_TRUNCATED, 6}, {8, 0x7F, SEC1_VALUE, 7},
+};
+
+static void test_signature_faults(void)
+{
+    struct bytes signature = unhex("300702010102020080");
+    expect_fault(sec1_signature_fault_at, signature, SEC1_OK, 0);
+    for (size_t i = 0; i < sizeof signature_damages / sizeof *signature_damages; i++) {
+        struct bytes damaged = signature;
+        damaged.data[signature_damages[i].at] = signature_damages[i].byte;
+        expect_fault(sec1_signature_fault_at, damaged, signature_damages[i].status,
+                     signature_damages[i].offset);
+    }
+    expect_fault(sec1_signature_fault_at, joined(signature, repeated(0, 1)), SEC1_TRAILING_DATA, 9);
+    expect_fault(sec1_signature_fault_at, unhex("3003020101"), SEC1_TRUNCATED, 5);
+    size_t offset = 777777;
+    EXPECT(sec1_signature_fault_at(NULL, 0, &offset) == SEC1_TRUNCATED && offset == 0);
+}
+
+/* Which byte of a public key is changed, to what, and where the fault lies then. */
+static const struct damage public_key_damages[] = {
+    {0, 0x31, SEC1_TAG, 0},    {1, 0x1A, SEC1_TRUNCATED, 1}, {1, 0x18, SEC1_TRUNCATED, 24},
+    {2, 0x31, SEC1_TAG, 2},    {3, 0x14, SEC1_TRAILING_DATA, 23}, {3, 0x08, SEC1_TRUNCATED, 5},
+    {4, 0x05, SEC1_TAG, 4},    {6, 0x80, SEC1_VALUE, 6},     {12, 0x02, SEC1_CURVE, 2},
+    {13, 0x1F, SEC1_TRAILING_DATA, 13}, {13, 0x05, SEC1_CURVE, 2}, {14, 0x09, SEC1_TRUNCATED, 14},
+    {22, 0x09, SEC1_CURVE, 2}, {23, 0x04, SEC1_TAG, 23},     {24, 0x03, SEC1_TRUNCATED, 24},
+    {25, 0x08, SEC1_VALUE, 25}, {25, 0x01, SEC1_POINT_ENCODING, 23},
+    {26, 0x01, SEC1_POINT_ENCODING, 23},
+};
+
+static void test_public_key_faults(void)
+{
+    struct bytes key = unhex("3019" ON_P256 "03020000");
+    expect_fault(sec1_public_key_fault_at, key, SEC1_OK, 0);
+    for (size_t i = 0; i < sizeof public_key_damages / sizeof *public_key_damages; i++) {
+        struct bytes damaged = key;
+        damaged.data[public_key_damages[i].at] = public_key_damages[i].byte;
+        expect_fault(sec1_public_key_fault_at, damaged, public_key_damages[i].status,
+                     public_key_damages[i].offset);
+    }
+    expect_fault(sec1_public_key_fault_at, joined(key, repeated(0, 1)), SEC1_TRAILING_DATA, 27);
+    size_t offset = 777777;
+    EXPECT(sec1_public_key_fault_at(NULL, 0, &offset) == SEC1_TRUNCATED && offset == 0);
+}
+
+/* Which byte of a container is changed, to what, and where the fault lies then. */
+static const struct damage container_damages[] = {
+    {0, 0x31, SEC1_TAG, 0},     {1, 0x1D, SEC1_TRUNCATED, 1}, {4, 0x02, SEC1_VALUE, 4},
+    {5, 0x31, SEC1_TAG, 5},     {15, 0x02, SEC1_CURVE, 5},    {16, 0x1F, SEC1_TRAILING_DATA, 16},
+    {26, 0x05, SEC1_TAG, 26},   {27, 0x03, SEC1_TRUNCATED, 27},
+    {27, 0x01, SEC1_TRAILING_DATA, 29},
+};
+
+static void test_container_faults(void)
+{
+    struct bytes key = unhex("301C020100" ON_P256 "04023000");
+    expect_fault(sec1_private_key_info_fault_at, key, SEC1_OK, 0);
+    for (size_t i = 0; i < sizeof container_damages / sizeof *container_damages; i++) {
+        struct bytes damaged = key;
+        damaged.data[container_damages[i].at] = container_damages[i].byte;
+        expect_fault(sec1_private_key_info_fault_at, damaged, container_damages[i].status,
+                     container_damages[i].offset);
+    }
+    size_t offset = 777777;
+    EXPECT(sec1_private_key_info_fault_at(NULL, 0, &offset) == SEC1_TRUNCATED && offset == 0);
+}
+
 static void test_faults(void)
 {
     struct bytes key = unhex("3031020101" "0420" PRIVATE "A00A06082A8648CE3D030107");
+    expect_read_at(key, SEC1_OK, 0);
     expect_fault(sec1_key_fault_at, key, SEC1_OK, 0);
     expect_fault(sec1_tree_fault_at, key, SEC1_OK, 0);
     for (size_t i = 0; i < sizeof damages / sizeof *damages; i++) {
         struct bytes damaged = key;
         damaged.data[damages[i].at] = damages[i].byte;
         expect_fault(sec1_key_fault_at, damaged, damages[i].status, damages[i].offset);
+        expect_read_at(damaged, damages[i].status, damages[i].offset);
     }
     for (size_t end = 0; end < key.len; end++) {
         struct bytes cut = key;
@@ -2050,6 +2141,9 @@ int main(void)
         {"written elements", test_written_elements},
         {"long elements", test_long_elements},
         {"faults", test_faults},
+        {"faults of public keys", test_public_key_faults},
+        {"faults of containers", test_container_faults},
+        {"faults of signatures", test_signature_faults},
         {"random bytes", test_random_bytes},
     };
     unsigned tests_passed = 0, tests_failed = 0;

@@ -66,6 +66,7 @@ enum call {
     TO_TEXT,
     FROM_TEXT,
     KEY_FAULT,
+    KEY_READ_AT,
     TREE_FAULT,
     ELEMENT,
     ELEMENT_WRITE,
@@ -74,12 +75,15 @@ enum call {
     TO_HEX,
     FROM_HEX,
     PUBLIC_KEY,
+    PUBLIC_KEY_FAULT,
     CONTAINER,
+    CONTAINER_FAULT,
     CERTIFICATE,
     PRIVATE_KEY,
     PUBLIC_KEY_WRITE,
     CONTAINER_WRITE,
     SIGNATURE,
+    SIGNATURE_FAULT,
     SIGNATURE_WRITE,
     ARCS,
     INPUT,
@@ -96,6 +100,7 @@ static const char *const names[CALLS] = {
     "sec1_identifier_to_text",
     "sec1_identifier_from_text",
     "sec1_key_fault_at",
+    "sec1_key_read_at",
     "sec1_tree_fault_at",
     "sec1_element_read",
     "sec1_element_write",
@@ -104,21 +109,25 @@ static const char *const names[CALLS] = {
     "sec1_point_to_hex",
     "sec1_point_from_hex",
     "sec1_public_key_read",
+    "sec1_public_key_fault_at",
     "sec1_private_key_info_read",
+    "sec1_private_key_info_fault_at",
     "sec1_certificate_read_public_key",
     "sec1_private_key_read",
     "sec1_public_key_write",
     "sec1_private_key_info_write",
     "sec1_signature_read",
+    "sec1_signature_fault_at",
     "sec1_signature_write",
     "sec1_identifier_arcs",
     "inputs that are unchanged",
 };
 /* the statuses that each call returns at least once here, as bits */
 static const unsigned wanted[CALLS] = {0x3F,  0xA1,  0x11F, 0x1F,  0x601, 0x681, 0x601,
-                                       0xA1,  0xA1,  0x3F,  0x11F, 0xF,   0x85,  0x21,
-                                       0x481, 0x681, 0x681, 0xA3F, 0x83F, 0x3F,  0x183F,
-                                       0xA81, 0x881, 0x3F,  0x81,  0xA1,  1};
+                                       0xA1,  0xA1,  0x3F,  0x3F,  0x11F, 0xF,   0x85,
+                                       0x21,  0x481, 0x681, 0x681, 0xA3F, 0xA3F, 0x83F,
+                                       0x83F, 0x3F,  0x183F, 0xA81, 0x881, 0x3F, 0x3F,
+                                       0x81,  0xA1,  1};
 static unsigned long counts[CALLS][STATUSES], wrong[CALLS];
 static struct {
     uint8_t data[MOST];
@@ -212,6 +221,20 @@ static void check_fault(enum call call, uint32_t (*fault_at_of)(const uint8_t *,
     expect(call, status, status == refused && *stored == (refused ? at : before));
 }
 
+/* The call that stores the parts of a key or the offset of the first fault, as they are known. */
+static void check_read_at(const uint8_t *bytes, size_t len, uint32_t refused,
+                          const struct sec1_key_parts *found)
+{
+    struct sec1_key_parts *parts =
+        (struct sec1_key_parts *)filled(struct_arena, sizeof *parts, 0xA5);
+    size_t *offset = (size_t *)filled(out_arena, sizeof *offset, 0xEE), before = *offset;
+    uint32_t status = sec1_key_read_at(bytes, len, parts, offset);
+    expect(KEY_READ_AT, status,
+           status == refused && *offset == (refused ? fault_at : before)
+               && (refused ? all_are((uint8_t *)parts, sizeof *parts, 0xA5)
+                           : memcmp(parts, found, sizeof *parts) == 0));
+}
+
 static void check_key(const uint8_t *bytes, size_t len)
 {
     struct sec1_key_parts found,
@@ -222,6 +245,7 @@ static void check_key(const uint8_t *bytes, size_t len)
                && (refused ? all_are((uint8_t *)stored, sizeof found, 0xA5)
                            : memcmp(stored, &found, sizeof found) == 0));
     check_fault(KEY_FAULT, sec1_key_fault_at, bytes, len, refused, fault_at);
+    check_read_at(bytes, len, refused, &found);
     stored =
         (struct sec1_key_parts *)memcpy(room(struct_arena, sizeof found), &found, sizeof found);
     if (status == SEC1_OK) {
@@ -253,10 +277,12 @@ static void check_records(const uint8_t *bytes, size_t len)
     void *stored = filled(struct_arena, sizeof key, 0xA5);
     uint32_t refused = info_of(bytes, len, &key), status = sec1_public_key_read(bytes, len, stored);
     expect(PUBLIC_KEY, status, stores(status, refused, stored, &key, sizeof key));
+    check_fault(PUBLIC_KEY_FAULT, sec1_public_key_fault_at, bytes, len, refused, fault_at);
     stored = filled(struct_arena, sizeof container, 0xA5);
     refused = container_of(bytes, len, &container);
     status = sec1_private_key_info_read(bytes, len, stored);
     expect(CONTAINER, status, stores(status, refused, stored, &container, sizeof container));
+    check_fault(CONTAINER_FAULT, sec1_private_key_info_fault_at, bytes, len, refused, fault_at);
     struct sec1_key_parts inside;
     stored = filled(struct_arena, sizeof inside, 0xA5);
     refused = private_key_of(bytes, len, &inside);
@@ -347,6 +373,7 @@ static void check_signature(const uint8_t *bytes, size_t len)
     uint32_t refused = signature_of(bytes, len, &found),
              status = sec1_signature_read(bytes, len, stored);
     expect(SIGNATURE, status, stores(status, refused, stored, &found, sizeof found));
+    check_fault(SIGNATURE_FAULT, sec1_signature_fault_at, bytes, len, refused, fault_at);
 
     size_t r_at = 0, r_len = draw((uint32_t)len + 1), s_at = r_len, s_len = len - r_len;
     if (!refused) {

@@ -154,8 +154,10 @@ static size_t curve_field(const uint8_t *content, size_t len)
     return 0;
 }
 
-/* The field length and the place of the curve that an algorithm names; 0 if it names none. */
+/* The place of an algorithm, and the field length and the place of the curve that it names; 0 if it
+ * names none. */
 struct algorithm {
+    size_t start, end;
     size_t field;
     struct sec1_part curve;
 };
@@ -166,7 +168,10 @@ static uint32_t algorithm_of(struct rest *rest, struct algorithm *algorithm)
     const uint8_t *data = rest->data;
     struct rest row;
     struct element name, e;
+    size_t start = rest->at;
     uint32_t status = enter(rest, 0x30, &row);
+    algorithm->start = start;
+    algorithm->end = rest->at;
     algorithm->field = 0;
     if (status || (status = value_of(&row, 0x06, is_subidentifiers, &name)))
         return status;
@@ -212,12 +217,13 @@ static uint32_t info_of(const uint8_t *data, size_t len, struct sec1_public_key_
     if (status || (status = end_of(&rest)))
         return status;
     if (algorithm.field == 0)
-        return SEC1_CURVE;
+        return refuse(SEC1_CURVE, algorithm.start);
     parts->curve = algorithm.curve;
     parts->public_key = place(key.start + 1, key.end);
-    if (data[key.start])
-        return SEC1_POINT_ENCODING;
-    return point_of(data + key.start + 1, key.end - key.start - 1, algorithm.field, &point);
+    if (data[key.start]
+        || point_of(data + key.start + 1, key.end - key.start - 1, algorithm.field, &point))
+        return refuse(SEC1_POINT_ENCODING, algorithm.end);
+    return SEC1_OK;
 }
 
 /* ---- signatures (RFC 3279 section 2.2.3) */
@@ -297,7 +303,7 @@ static uint32_t container_of(const uint8_t *data, size_t len,
         return status;
     parts->curve = algorithm.curve;
     parts->key = place(key.start, key.end);
-    return algorithm.field ? SEC1_OK : SEC1_CURVE;
+    return algorithm.field ? (uint32_t)SEC1_OK : refuse(SEC1_CURVE, algorithm.start);
 }
 
 /* Bytes that begin with a SEQUENCE, and in it an INTEGER and the tag of a SEQUENCE, are a container

@@ -52,6 +52,9 @@ static void read_key(const struct bytes *key, size_t private_len)
         expect(sec1_key_read(key->data, cut, &parts) == SEC1_TRUNCATED, "a cut key", private_len);
         expect(sec1_key_fault_at(key->data, cut, &number) == SEC1_TRUNCATED && number <= cut,
                "the fault of a cut key", private_len);
+        expect(sec1_key_read_at(key->data, cut, &parts, &number) == SEC1_TRUNCATED &&
+                   number <= cut,
+               "a cut key and its fault", private_len);
         expect(sec1_tree_check(key->data, cut, &number) == SEC1_TRUNCATED, "a cut tree",
                private_len);
         expect(sec1_tree_fault_at(key->data, cut, &number) == SEC1_TRUNCATED && number <= cut,
@@ -65,6 +68,9 @@ static void read_key(const struct bytes *key, size_t private_len)
                parts.private_key.len == private_len,
            "sec1_private_key_read", private_len);
     expect(sec1_key_fault_at(key->data, key->len, &number) == 0, "sec1_key_fault_at", private_len);
+    expect(sec1_key_read_at(key->data, key->len, &parts, &number) == 0 &&
+               parts.private_key.len == private_len,
+           "sec1_key_read_at", private_len);
     expect(sec1_tree_check(key->data, key->len, &number) == 0 && number >= 3, "sec1_tree_check",
            private_len);
     expect(sec1_tree_fault_at(key->data, key->len, &number) == 0, "sec1_tree_fault_at",

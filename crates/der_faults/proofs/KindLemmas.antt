@@ -19,19 +19,19 @@ use Rattle.der_faults.specs.Places.{any_place, nested_place, row_place, tree_pla
 use Rattle.der_faults.specs.Places.{components_place, key_place}
 
 -- the kind of a fault, if there is one
-abbrev kind_of : Option Fault → Option (Option ErrorKind)
+abbrev pub kind_of : Option Fault → Option (Option ErrorKind)
 kind_of o = option_map (λ (f : Fault). Some f.kind) o
 
 -- bytes are refused at a place exactly if they are refused, and by the same kind
-abbrev Places : Place → r.Fault → Type 0
+abbrev pub Places : Place → r.Fault → Type 0
 Places place fault = (end : ℕ) (bytes : List ℕ) → kind_of (place end bytes) ≡ fault bytes
 
-or_kind : (a b : Option Fault) (j k : Option (Option ErrorKind)) → kind_of a ≡ j → kind_of b ≡ k
+pub or_kind : (a b : Option Fault) (j k : Option (Option ErrorKind)) → kind_of a ≡ j → kind_of b ≡ k
     → kind_of (option_or a b) ≡ option_or j k
 or_kind None b j k x y = rw (← x) y
 or_kind (Some f) b j k x y = rw (← x) refl
 
-first_kind : (f : r.Fault) → SaysKinds f → Places (at_first f) f
+pub first_kind : (f : r.Fault) → SaysKinds f → Places (at_first f) f
 first_kind f says end bytes = by (f bytes) (says.kind bytes)
   where
     by : (o : Option (Option ErrorKind)) → o ≢ Some None → kind_of (placed end bytes o) ≡ o
@@ -46,7 +46,7 @@ parts_kind p q f g x y end bytes (Err k) = refl
 parts_kind p q f g x y end bytes (Ok parts) =
     or_kind _ _ _ _ (x (end - length parts.1) parts.0) (y end parts.1)
 
-element_kind : (tag : ℕ) (p q : Place) (f g : r.Fault) → Places p f → Places q g
+pub element_kind : (tag : ℕ) (p q : Place) (f g : r.Fault) → Places p f → Places q g
     → Places (element_place tag p q) (r.element_fault tag f g)
 element_kind tag p q f g x y end [] = refl
 element_kind tag p q f g x y end (byte ∷ bytes) = by (byte == tag)
@@ -58,7 +58,7 @@ element_kind tag p q f g x y end (byte ∷ bytes) = by (byte == tag)
     by true = parts_kind p q f g x y end bytes (r.within (r.length_at bytes))
     by false = refl
 
-optional_kind : (tag : ℕ) (p q : Place) (f g : r.Fault) → Places p f → Places q g
+pub optional_kind : (tag : ℕ) (p q : Place) (f g : r.Fault) → Places p f → Places q g
     → Places (optional_place tag p q) (r.optional_fault tag f g)
 optional_kind tag p q f g x y end [] = y end []
 optional_kind tag p q f g x y end (byte ∷ bytes) = by (byte == tag)
@@ -72,7 +72,7 @@ optional_kind tag p q f g x y end (byte ∷ bytes) = by (byte == tag)
     by true = element_kind tag p q f g x y end all
     by false = y end all
 
-any_kind : (p : ℕ → Place) (q : Place) (f : ℕ → r.Fault) (g : r.Fault) → ((tag : ℕ) → Places (p tag) (f tag))
+pub any_kind : (p : ℕ → Place) (q : Place) (f : ℕ → r.Fault) (g : r.Fault) → ((tag : ℕ) → Places (p tag) (f tag))
     → Places q g
     → Places (any_place p q) (r.any_fault f g)
 any_kind p q f g x y end [] = refl
@@ -127,7 +127,7 @@ whole_kind end bytes =
     (element_kind 0x03 (at_first whole_bits_fault) (at_first r.no_fault) whole_bits_fault r.no_fault
     (first_kind whole_bits_fault whole_says) (first_kind r.no_fault none_says) end bytes)
 
-ends : Places end_place r.end_fault
+pub ends : Places end_place r.end_fault
 ends = first_kind r.end_fault end_says
 
 -- the last component, and those after the other ones

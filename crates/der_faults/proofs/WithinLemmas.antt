@@ -16,18 +16,18 @@ use Rattle.der_faults.specs.Places.{components_place, key_place}
 use Rattle.der_faults.proofs.KindLemmas.{bits_place, curve_place}
 
 -- a fault, if there is one, doesn't lie behind this offset
-abbrev IsWithin : ℕ → Option Fault → Type 0
+abbrev pub IsWithin : ℕ → Option Fault → Type 0
 IsWithin end o = IfSome o (λ f. f.offset ≤ end)
 
-abbrev Bounded : Place → Type 0
+abbrev pub Bounded : Place → Type 0
 Bounded place = (end : ℕ) (bytes : List ℕ) → IsWithin end (place end bytes)
 
-or_within : (end inner : ℕ) (a b : Option Fault) → inner ≤ end → IsWithin inner a → IsWithin end b
+pub or_within : (end inner : ℕ) (a b : Option Fault) → inner ≤ end → IsWithin inner a → IsWithin end b
     → IsWithin end (option_or a b)
 or_within end inner None b fits x y = y
 or_within end inner (Some f) b fits x y = omega (arith, fits, x)
 
-first_within : (f : r.Fault) → Bounded (at_first f)
+pub first_within : (f : r.Fault) → Bounded (at_first f)
 first_within f end bytes = by (f bytes)
   where
     by : (o : Option (Option ErrorKind)) → IsWithin end (placed end bytes o)
@@ -35,7 +35,7 @@ first_within f end bytes = by (f bytes)
     by (Some None) = tt
     by (Some (Some k)) = omega arith
 
-parts_within : (p q : Place) → Bounded p → Bounded q → (end : ℕ) (bytes : List ℕ)
+pub parts_within : (p q : Place) → Bounded p → Bounded q → (end : ℕ) (bytes : List ℕ)
     → (found : Result (List ℕ × List ℕ) ErrorKind)
     → IsWithin end (parts_place p q end bytes found)
 parts_within p q x y end bytes (Err k) = omega arith
@@ -45,12 +45,12 @@ parts_within p q x y end bytes (Ok parts) =
     (y end parts.1)
 
 -- of two places that are within the bytes, the one that is chosen is
-either : (end : ℕ) (a b : Option Fault) (c : Bool) → IsWithin end a → IsWithin end b
+pub either : (end : ℕ) (a b : Option Fault) (c : Bool) → IsWithin end a → IsWithin end b
     → IsWithin end (if c then a else b)
 either end a b true x y = x
 either end a b false x y = y
 
-element_within : (tag : ℕ) (p q : Place) → Bounded p → Bounded q → Bounded (element_place tag p q)
+pub element_within : (tag : ℕ) (p q : Place) → Bounded p → Bounded q → Bounded (element_place tag p q)
 element_within tag p q x y end [] = omega arith
 element_within tag p q x y end (byte ∷ bytes) =
     either end (parts_place p q end bytes (r.within (r.length_at bytes)))
@@ -59,13 +59,13 @@ element_within tag p q x y end (byte ∷ bytes) =
     (parts_within p q x y end bytes (r.within (r.length_at bytes)))
     (omega arith)
 
-optional_within : (tag : ℕ) (p q : Place) → Bounded p → Bounded q → Bounded (optional_place tag p q)
+pub optional_within : (tag : ℕ) (p q : Place) → Bounded p → Bounded q → Bounded (optional_place tag p q)
 optional_within tag p q x y end [] = y end []
 optional_within tag p q x y end (byte ∷ bytes) =
     either end (element_place tag p q end (byte ∷ bytes)) (q end (byte ∷ bytes)) (byte == tag)
     (element_within tag p q x y end (byte ∷ bytes)) (y end (byte ∷ bytes))
 
-any_within : (p : ℕ → Place) (q : Place) → ((tag : ℕ) → Bounded (p tag)) → Bounded q → Bounded (any_place p q)
+pub any_within : (p : ℕ → Place) (q : Place) → ((tag : ℕ) → Bounded (p tag)) → Bounded q → Bounded (any_place p q)
 any_within p q x y end [] = omega arith
 any_within p q x y end (tag ∷ bytes) =
     either end (parts_place (p tag) q end bytes (r.within (r.length_at bytes)))

@@ -1,2 +1,5 @@
 pub mod Places
 pub mod KeyParts
+pub mod RecordPlaces
+pub mod Containers
+pub mod ContainerPlaces

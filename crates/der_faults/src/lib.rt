@@ -1,15 +1,21 @@
-//! Where bytes are refused as a key's or as a tree's: the offset and the kind of the first fault.
-//! No call allocates.
+//! Where bytes are refused as a key's, a public key's, a container's, a signature's or a tree's: the
+//! offset and the kind of the first fault. No call allocates.
 #![tactic(auto)]
 
+mod container;
 mod element;
 mod key;
 mod part;
+mod public_key;
+mod signature;
 mod tree;
 
+pub use container::container_fault;
 pub use key::key_fault;
 pub use part::{KeyPart, key_part};
+pub use public_key::public_key_fault;
 use sec1_der::ErrorKind;
+pub use signature::signature_fault;
 pub use tree::tree_fault;
 
 /// Why bytes are refused, and where.

@@ -31,7 +31,8 @@ use Rattle.sec1_der.specs.declared.error.Error.{Error}
 use Rattle.sec1_der.specs.declared.error.ErrorKind.{ErrorKind}
 use Rattle.sec1_der.specs.declared.error.ErrorKind.TheVariants.{Tag, Value}
 use Rattle.sec1_c.specs.Containers.{AreContainerPartsOf, IsContainer, IsVersionZero, after_key}
-use Rattle.sec1_c.specs.Containers.{container_content, container_fault, container_places, has_version_one}
+use Rattle.der_faults.specs.Containers.{container_fault, has_version_one}
+use Rattle.sec1_c.specs.Containers.{container_content, container_places}
 use Rattle.sec1_c.specs.Containers.{of_version_zero}
 use Rattle.sec1_c.specs.Fields.{bytes_len}
 use Rattle.sec1_c.proofs.FieldLemmas.{limited}
@@ -318,4 +319,62 @@ parts_fit curve container bytes is on =
       key = limited _ (element 0x04 container.private_key) parts.key_there (omega (arith, parts.within));
       room = rw (parts.key_there, parts.behind_there) (grind (arith, length-append));
       content = rw (parts.behind_there) (grind (arith, length-append));
+    }
+
+-- A container is a front, the algorithm, the OCTET STRING, and what follows that.
+record IsParted (container : OneAsymmetricKey) (bytes : List ℕ) : Type 0 where
+  front : List ℕ
+  algorithm : List ℕ
+  key : List ℕ
+  behind : List ℕ
+  algorithm_there : element_of 0x30 (algorithm_content container.algorithm) ≡ Some algorithm
+  key_there : element_of 0x04 (Some container.private_key) ≡ Some key
+  behind_there : after_key container ≡ Some behind
+  split : bytes ≡ front ++ (algorithm ++ (key ++ behind))
+  within : length algorithm + (length key + length behind) ≤ max_length
+
+part_version : (version : ℕ) (container : OneAsymmetricKey) (bytes : List ℕ)
+    → element_of 0x30 (container_content version container) ≡ Some bytes
+    → IsParted container bytes
+part_version version container bytes is =
+    let whole = element_of-some 0x30 (container_content version container) bytes is in
+    let rest = parted (element_of 0x02 (Some (version ∷ []))) _ whole.inside whole.same in
+    let fields = parted _ (after_key container) rest.back rest.second_there in
+    let parts = parted (element_of 0x30 (algorithm_content container.algorithm))
+    (element_of 0x04 (Some container.private_key)) fields.front fields.first_there in
+    record {
+      front = header 0x30 (length whole.inside) ++ rest.front;
+      algorithm = parts.front;
+      key = parts.back;
+      behind = fields.back;
+      algorithm_there = parts.first_there;
+      key_there = parts.second_there;
+      behind_there = fields.second_there;
+      split = grind (arith, append_assoc);
+      within = grind (arith, length-append, whole.at.within);
+    }
+
+part_container : (container : OneAsymmetricKey) (bytes : List ℕ) → IsContainer container bytes
+    → IsParted container bytes
+part_container container bytes (inl is) = part_version 0 container bytes is.bytes_are
+part_container container bytes (inr is) = part_version 1 container bytes is
+
+-- The lengths of the algorithm and of what follows it can be computed, and have room in the bytes of a container.
+pub record HaveAlgorithm (container : OneAsymmetricKey) (bytes : List ℕ) : Type 0 where
+  pub behind : IsSome (within_limit (after_key container))
+  pub key : IsSome (within_limit (element_of 0x04 (Some container.private_key)))
+  pub algorithm : IsSome (within_limit (element_of 0x30 (algorithm_content container.algorithm)))
+  pub room :
+      bytes_len (element_of 0x30 (algorithm_content container.algorithm))
+      + (bytes_len (element_of 0x04 (Some container.private_key)) + bytes_len (after_key container)) ≤ length bytes
+
+pub algorithm_fits : (container : OneAsymmetricKey) (bytes : List ℕ) → IsContainer container bytes
+    → HaveAlgorithm container bytes
+algorithm_fits container bytes is =
+    let parts = part_container container bytes is in
+    record {
+      behind = limited (after_key container) parts.behind parts.behind_there (omega (arith, parts.within));
+      key = limited _ parts.key parts.key_there (omega (arith, parts.within));
+      algorithm = limited _ parts.algorithm parts.algorithm_there (omega (arith, parts.within));
+      room = rw (parts.algorithm_there, parts.key_there, parts.behind_there) (grind (arith, length-append));
     }

@@ -16,12 +16,14 @@ use Rattle.pkix.specs.declared.algorithm.AlgorithmIdentifier.{AlgorithmIdentifie
 use Rattle.pkix.specs.declared.public_key.SubjectPublicKeyInfo.{SubjectPublicKeyInfo}
 use Rattle.sec1_der.specs.Contents.{are_bits}
 use Rattle.sec1_der.proofs.ElementLaws.{element_of-some}
-use Rattle.sec1_der.specs.Elements.{element, element_of, header}
+use Rattle.sec1_der.specs.Elements.{element, element_of, header, within_limit}
 use Rattle.sec1_der.specs.Identifiers.{content_of, identifier_content}
 use Rattle.sec1_der.proofs.IdentifierLaws.{is_identifier}
 use Rattle.sec1_der.proofs.JoinLaws.{parted}
 use Rattle.sec1_c.specs.FieldLengths.{IsFieldLength}
+use Rattle.sec1_c.specs.Fields.{bytes_len}
 use Rattle.sec1_c.specs.PublicKeys.{ArePublicKeyPartsOf, IsInfo, key_field_len, public_key_places}
+use Rattle.sec1_c.proofs.FieldLemmas.{limited}
 use Rattle.sec1_c.proofs.PlaceLemmas.{stands_before}
 
 -- what passes a test is what was tested
@@ -133,3 +135,29 @@ places_fit curve info bytes is on =
 pub field_fits : (curve : Curve) → IsFieldLength (field_len curve)
 field_fits curves.Secp112r1 = (lit≤ tt, lit≤ tt)
 field_fits curve = (lit≤ tt, lit≤ tt)
+
+-- The two elements have lengths that can be computed, and room in the bytes of a public key.
+pub record HaveElements (info : SubjectPublicKeyInfo) (bytes : List ℕ) : Type 0 where
+  pub algorithm : IsSome (within_limit (element_of 0x30 (algorithm_content info.algorithm)))
+  pub key : IsSome (within_limit (element_of 0x03 (bit_string_content info.public_key)))
+  pub room :
+      bytes_len (element_of 0x30 (algorithm_content info.algorithm))
+      + bytes_len (element_of 0x03 (bit_string_content info.public_key)) ≤ length bytes
+
+-- the lengths of fields that are there
+lengths_of : (a b : Option (List ℕ)) (x y : List ℕ) (n : ℕ) → a ≡ Some x → b ≡ Some y → length x + length y ≤ n
+    → bytes_len a + bytes_len b ≤ n
+lengths_of a b x y n e f fits = rw (e, f) fits
+
+pub elements_fit : (info : SubjectPublicKeyInfo) (bytes : List ℕ) → IsInfo info bytes → HaveElements info bytes
+elements_fit info bytes is =
+    let algorithm = element_of 0x30 (algorithm_content info.algorithm) in
+    let key = element_of 0x03 (bit_string_content info.public_key) in
+    let whole = element_of-some 0x30 (public_key_content info) bytes is in
+    let parts = parted algorithm key whole.inside whole.same in
+    record {
+      algorithm = limited algorithm parts.front parts.first_there (grind (arith, length-append, whole.at.within));
+      key = limited key parts.back parts.second_there (grind (arith, length-append, whole.at.within));
+      room = lengths_of algorithm key parts.front parts.back (length bytes) parts.first_there parts.second_there
+          (grind (arith, length-append));
+    }

@@ -1,22 +1,17 @@
 -- Containers of private keys (RFC 5958 section 2), and the places of the parts of an EC private
 -- key.
-use Rattle.std.specs.Prelude.{◌≡◌, ◌⊎◌, ◌-◌, ◌∷◌, [], ℕ, List, length, Bool, Option, Some, None}
-use Rattle.std.specs.Prelude.{if◌then◌else◌}
+use Rattle.std.specs.Prelude.{◌≡◌, ◌⊎◌, ◌-◌, ◌∷◌, [], ℕ, List, length, Option, Some, None}
 use Rattle.std.specs.Option.{option_map}
 use Rattle.curves.specs.Curves.{curve_content}
 use Rattle.curves.specs.declared.curve.Curve.{Curve}
 use Rattle.der_types.specs.BitStrings.{bit_string_content}
-use Rattle.der_types.specs.Rows.{is_whole}
 use Rattle.der_types.specs.Sets.{set_of}
 use Rattle.pkix.specs.EcKeys.{IsOnCurve}
-use Rattle.pkix.specs.Records.{algorithm_content, asymmetric_key_fault, key_attribute_fault}
-use Rattle.pkix.specs.Records.{private_key_fault}
+use Rattle.pkix.specs.Records.{algorithm_content, key_attribute_fault}
 use Rattle.pkix.specs.declared.private_key.OneAsymmetricKey.{OneAsymmetricKey}
 use Rattle.pkix.specs.declared.private_key.PrivateKeyInfo.{PrivateKeyInfo}
-use Rattle.sec1_der.specs.Contents.{byte_fault}
 use Rattle.sec1_der.specs.Elements.{element_of}
 use Rattle.sec1_der.specs.Parts.{join, optional_of}
-use Rattle.sec1_der.specs.Faults.{Fault, element_fault, no_fault}
 use Rattle.sec1_c.specs.Fields.{bytes_len}
 use Rattle.sec1_c.specs.Places.{StandsAt, part_before}
 use Rattle.sec1_c.specs.declared.container.PrivateKeyInfoParts.{PrivateKeyInfoParts}
@@ -67,16 +62,6 @@ pub record IsEcContainer (bytes : List ℕ) : Type 0 where
   pub is_container : IsContainer container bytes
   pub on_curve : IsOnCurve curve container.algorithm
 
--- whether the content begins with the INTEGER 1
-abbrev pub has_version_one : List ℕ → Bool
-has_version_one content = is_whole (element_fault 0x02 (byte_fault 1) no_fault content)
-
--- RFC 5958 section 2: the kind by which a content is refused as that of a container. Only one of
--- version 1 may have a public key. A content with neither version is refused as one of version 0.
-abbrev pub container_fault : Fault
-container_fault content =
-    if has_version_one content then asymmetric_key_fault content else private_key_fault content
-
 -- The parts are those of the container. The curve's is the content of its identifier.
 pub record AreContainerPartsOf (curve : Curve) (container : OneAsymmetricKey) (input : List ℕ)
     (parts : PrivateKeyInfoParts) : Type 0 where
@@ -97,3 +82,9 @@ container_places curve container input = record {
       (Some (length (curve_content curve)));
   key = part_before (key_end container input) (Some (length container.private_key));
 }
+
+-- the index at which the algorithm begins, which ends where the OCTET STRING begins
+abbrev pub container_algorithm_start : OneAsymmetricKey → List ℕ → ℕ
+container_algorithm_start container input =
+    key_end container input - bytes_len (element_of 0x04 (Some container.private_key))
+    - bytes_len (element_of 0x30 (algorithm_content container.algorithm))

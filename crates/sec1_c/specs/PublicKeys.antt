@@ -2,11 +2,13 @@
 use Rattle.std.specs.Prelude.{◌≡◌, ◌-◌, ◌∷◌, ℕ, List, length, Some}
 use Rattle.curves.specs.Curves.{curve_content, field_len}
 use Rattle.curves.specs.declared.curve.Curve.{Curve}
+use Rattle.der_types.specs.BitStrings.{bit_string_content}
 use Rattle.pkix.specs.EcKeys.{HasPoint, IsOnCurve}
-use Rattle.pkix.specs.Records.{public_key_content}
+use Rattle.pkix.specs.Records.{algorithm_content, public_key_content}
 use Rattle.pkix.specs.declared.public_key.SubjectPublicKeyInfo.{SubjectPublicKeyInfo}
 use Rattle.sec1.specs.Points.{Point}
 use Rattle.sec1_der.specs.Elements.{element, element_of}
+use Rattle.sec1_c.specs.Fields.{bytes_len}
 use Rattle.sec1_c.specs.Places.{StandsAt, part_before}
 use Rattle.sec1_c.specs.declared.public_key.PublicKeyParts.{PublicKeyParts}
 
@@ -46,3 +48,13 @@ public_key_places curve info input = record {
       (Some (length (curve_content curve)));
   public_key = part_before (length input) (Some (length info.public_key.bytes));
 }
+
+-- the index at which the BIT STRING of the key begins, counted from the end of the input
+abbrev pub key_start : SubjectPublicKeyInfo → List ℕ → ℕ
+key_start info input =
+    length input - bytes_len (element_of 0x03 (bit_string_content info.public_key))
+
+-- the index at which the algorithm begins, which ends there
+abbrev pub algorithm_start : SubjectPublicKeyInfo → List ℕ → ℕ
+algorithm_start info input =
+    key_start info input - bytes_len (element_of 0x30 (algorithm_content info.algorithm))

@@ -1,13 +1,15 @@
 //! EC private keys in their containers, PKCS #8 (RFC 5958 section 2): `sec1_private_key_info_read`.
 ghost use Rattle.std.specs.Prelude.{◌≡◌, ◌≢◌, Ok, Some, IfOk};
 ghost use Rattle.curves.specs.declared.curve.Curve.{Curve};
+ghost use Rattle.der_faults.specs.Containers.{container_fault};
 ghost use Rattle.pkix.specs.EcKeys.{IsOnCurve};
 ghost use Rattle.pkix.specs.declared.private_key.OneAsymmetricKey.{OneAsymmetricKey};
 ghost use Rattle.sec1_der.specs.Faults.{HasFault, element_fault, end_fault};
 ghost use Rattle.sec1_c.specs.Containers.{AreContainerPartsOf, IsContainer, IsEcContainer};
-ghost use Rattle.sec1_c.specs.Containers.{container_fault, container_places, of_version_zero};
+ghost use Rattle.sec1_c.specs.Containers.{container_places, of_version_zero};
 ghost use Rattle.sec1_c.specs.Statuses.{curve_number, kind_number};
 
+mod fault;
 mod write;
 
 use crate::fields::fields_len;

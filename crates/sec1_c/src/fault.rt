@@ -1,13 +1,49 @@
-//! The place at which a key or a tree is refused: `sec1_key_fault_at` and `sec1_tree_fault_at`.
+//! The place at which bytes are refused as a key's, a tree's or a signature's: `sec1_key_read_at`,
+//! `sec1_key_fault_at`, `sec1_tree_fault_at` and `sec1_signature_fault_at`.
 ghost use Rattle.std.specs.Prelude.{◌≡◌, ◌≢◌, ◌≤◌, length};
 ghost use Rattle.der_faults.specs.Places.{key_place, tree_place};
+ghost use Rattle.der_faults.specs.RecordPlaces.{signature_place};
+ghost use Rattle.pkix.specs.Records.{signature_fault};
 ghost use Rattle.sec1.specs.KeyFaults.{key_fault};
+ghost use Rattle.sec1.specs.Keys.{Key, IsKeyOf};
+ghost use Rattle.sec1_der.specs.Faults.{element_fault, end_fault};
 ghost use Rattle.sec1_der.specs.Faults.{tree_fault};
 ghost use Rattle.sec1_c.specs.FaultPlaces.{StoresFault};
+ghost use Rattle.sec1_c.specs.KeyPlaces.{AreWithin, ArePartsOf, IsKey, key_places};
 ghost use Rattle.sec1_c.specs.Statuses.{fault_number};
 
+use crate::key::{KeyParts, sec1_key_read};
 use crate::status::{OK, kind_number};
 use der_faults::Fault;
+
+/// Reads a private key as `sec1_key_read` does, and stores the places of its parts; or stores, as
+/// `sec1_key_fault_at` does, the offset of the first fault.
+///
+/// # Errors
+///
+/// Returns the numbers of `sec1_key_read`, and leaves `parts` unchanged. `fault_offset` is
+/// unchanged if the bytes are those of a key.
+#[unsafe(no_mangle)]
+#[tactic(auto, using(crate::proofs::FaultLemmas::no_key_place))]
+pub extern "C" fn sec1_key_read_at(
+    bytes: &[u8],
+    parts: &mut KeyParts,
+    fault_offset: &mut usize,
+) -> u32
+    ensures found { result ≡ 0 → IsKey bytes.now }
+    ensures parts { (key : Key) → IsKeyOf key bytes.now → ArePartsOf key bytes.now parts.new }
+    ensures places { (key : Key) → IsKeyOf key bytes.now → parts.new ≡ key_places key bytes.now }
+    ensures inside { result ≡ 0 → AreWithin bytes.now parts.new }
+    ensures place { StoresFault (key_place bytes.now) result fault_offset.old fault_offset.new }
+    ensures kind { result ≡ fault_number (key_fault bytes.now) }
+    ensures within { result ≢ 0 → fault_offset.new ≤ length bytes.now }
+    ensures unchanged { result ≢ 0 → parts.new ≡ parts.old }
+{
+    match sec1_key_read(bytes, parts) {
+        OK => OK,
+        _ => sec1_key_fault_at(bytes, fault_offset),
+    }
+}
 
 /// Returns what `sec1_key_read` returns, and stores the offset of the first fault from left to
 /// right: of the tag byte, of the first byte of the length or of the content that is refused, or of
@@ -41,8 +77,24 @@ pub extern "C" fn sec1_tree_fault_at(bytes: &[u8], offset: &mut usize) -> u32
     tell(der_faults::tree_fault(bytes), offset)
 }
 
+/// Returns what `sec1_signature_read` returns, and stores the offset of the first fault from left
+/// to right: of the tag byte, of the first byte of the length or of the number that is refused, or
+/// of the first byte after a part. `offset` is unchanged if the bytes are those of a signature.
+///
+/// # Errors
+///
+/// Returns the numbers of `sec1_signature_read`.
+#[unsafe(no_mangle)]
+pub extern "C" fn sec1_signature_fault_at(bytes: &[u8], offset: &mut usize) -> u32
+    ensures place { StoresFault (signature_place bytes.now) result offset.old offset.new }
+    ensures kind { result ≡ fault_number (element_fault 0x30 signature_fault end_fault bytes.now) }
+    ensures within { result ≢ 0 → offset.new ≤ length bytes.now }
+{
+    tell(der_faults::signature_fault(bytes), offset)
+}
+
 /// Returns the number of a fault's kind and stores its offset; returns 0 if there is none.
-fn tell(fault: Option<Fault>, offset: &mut usize) -> u32
+pub fn tell(fault: Option<Fault>, offset: &mut usize) -> u32
     ensures { StoresFault fault result offset.old offset.new }
 {
     match fault {

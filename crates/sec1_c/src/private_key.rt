@@ -2,13 +2,14 @@
 //! section 2): `sec1_private_key_read`.
 ghost use Rattle.std.specs.Prelude.{◌≡◌, ◌≢◌, ◌⊎◌, ◌↔◌, ◌+◌, ◌^◌, ◌<◌, false, IsTrue, Some, length};
 ghost use Rattle.curves.specs.declared.curve.Curve.{Curve};
+ghost use Rattle.der_faults.specs.Containers.{container_fault};
 ghost use Rattle.der_types.specs.Rows.{is_whole};
 ghost use Rattle.pkix.specs.EcKeys.{IsOnCurve, NamesCurve};
 ghost use Rattle.pkix.specs.declared.private_key.OneAsymmetricKey.{OneAsymmetricKey};
 ghost use Rattle.sec1.specs.KeyFaults.{key_fault};
 ghost use Rattle.sec1.specs.Keys.{Key, IsKeyOf};
 ghost use Rattle.sec1_der.specs.Faults.{element_fault, end_fault};
-ghost use Rattle.sec1_c.specs.Containers.{IsContainer, container_fault};
+ghost use Rattle.sec1_c.specs.Containers.{IsContainer};
 ghost use Rattle.sec1_c.specs.KeyPlaces.{ArePartsOf, IsKey, key_places};
 ghost use Rattle.sec1_c.specs.PrivateKeys.{AreContainedPartsOf, IsContained, IsKeyIn};
 ghost use Rattle.sec1_c.specs.PrivateKeys.{contained_places, has_algorithm, places_behind};

@@ -13,6 +13,7 @@ ghost use Rattle.sec1_c.specs.PublicKeys.{ArePublicKeyPartsOf, IsEcKey, IsEcKeyI
 ghost use Rattle.sec1_c.specs.PublicKeys.{key_field_len, public_key_places};
 ghost use Rattle.sec1_c.specs.Statuses.{curve_number, error_number, kind_number};
 
+mod fault;
 mod write;
 
 use crate::part::Part;

@@ -286,6 +286,19 @@ unsafe extern "C" {
         header_len: *mut usize,
         content_len: *mut usize,
     ) -> u32;
+    /// Reads a private key as [`sec1_key_read`] does, and stores the places of its parts, or the
+    /// offset of the first fault.
+    ///
+    /// # Safety
+    ///
+    /// `bytes` is readable for `bytes_len` bytes. `parts` and `fault_offset` are writable and
+    /// overlap nothing.
+    pub fn sec1_key_read_at(
+        bytes: *const u8,
+        bytes_len: usize,
+        parts: *mut sec1_key_parts,
+        fault_offset: *mut usize,
+    ) -> u32;
     /// Returns what [`sec1_key_read`] returns, and stores the offset of the first fault.
     ///
     /// # Safety
@@ -418,6 +431,12 @@ unsafe extern "C" {
         bytes_len: usize,
         parts: *mut sec1_public_key_parts,
     ) -> u32;
+    /// Returns what [`sec1_public_key_read`] returns, and stores the offset of the fault.
+    ///
+    /// # Safety
+    ///
+    /// As for [`sec1_key_fault_at`].
+    pub fn sec1_public_key_fault_at(bytes: *const u8, bytes_len: usize, offset: *mut usize) -> u32;
     /// Stores the place of the SubjectPublicKeyInfo in a certificate.
     ///
     /// # Safety
@@ -437,6 +456,16 @@ unsafe extern "C" {
         bytes: *const u8,
         bytes_len: usize,
         parts: *mut sec1_private_key_info_parts,
+    ) -> u32;
+    /// Returns what [`sec1_private_key_info_read`] returns, and stores the offset of the fault.
+    ///
+    /// # Safety
+    ///
+    /// As for [`sec1_key_fault_at`].
+    pub fn sec1_private_key_info_fault_at(
+        bytes: *const u8,
+        bytes_len: usize,
+        offset: *mut usize,
     ) -> u32;
     /// Reads an EC private key by itself or in its container, and stores the places of its parts.
     ///
@@ -490,6 +519,12 @@ unsafe extern "C" {
         bytes_len: usize,
         parts: *mut sec1_signature_parts,
     ) -> u32;
+    /// Returns what [`sec1_signature_read`] returns, and stores the offset of the first fault.
+    ///
+    /// # Safety
+    ///
+    /// As for [`sec1_key_fault_at`].
+    pub fn sec1_signature_fault_at(bytes: *const u8, bytes_len: usize, offset: *mut usize) -> u32;
     /// Writes the ECDSA signature with these numbers, and stores its length.
     ///
     /// # Safety

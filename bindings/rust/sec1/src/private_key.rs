@@ -76,12 +76,11 @@ impl<'a> DecodeValue<'a> for EcPrivateKey<'a> {
 
     #[inline]
     fn of_element(bytes: &'a [u8]) -> der::Result<Self> {
-        // Bytes of another length are refused, and one call says why and where.
-        if !announces_all(bytes) {
-            refusal(bytes).map_or(Ok(()), Err)?;
+        if let Some(error) = header_fault(bytes) {
+            return Err(error);
         }
-        let parts = raw::key_read(bytes)
-            .map_err(|status| refusal(bytes).unwrap_or(der::Error::of(status)))?;
+        let parts =
+            raw::key_read_at(bytes).map_err(|(status, offset)| der::Error::at(status, offset))?;
         let outside = |()| der::Error::of_kind(ErrorKind::Failed);
         let private_key = raw::part(bytes, parts.private_key).map_err(outside)?;
         let curve = raw::part(bytes, parts.curve).map_err(outside)?;
@@ -96,24 +95,21 @@ impl<'a> DecodeValue<'a> for EcPrivateKey<'a> {
     }
 }
 
-/// Says whether the header of a SEQUENCE of less than 65,536 bytes announces all bytes after it. It
-/// decides which call of the library is made first, and nothing else.
+/// Returns the fault of bytes that begin with no SEQUENCE, or with one of less than 65,536 bytes that
+/// ends behind them. All other bytes are left to the library, which finds the same fault in these.
 #[inline]
-fn announces_all(bytes: &[u8]) -> bool {
-    match bytes {
-        [0x30, len @ ..=0x7F, content @ ..] => content.len() == usize::from(*len),
-        [0x30, 0x81, len, content @ ..] => content.len() == usize::from(*len),
-        [0x30, 0x82, a, b, content @ ..] => {
-            content.len() == usize::from(u16::from_be_bytes([*a, *b]))
+fn header_fault(bytes: &[u8]) -> Option<der::Error> {
+    let (len, content) = match bytes {
+        [0x30, len @ ..=0x7F, content @ ..] => (usize::from(*len), content),
+        [0x30, 0x81, len @ 0x80..=0xFF, content @ ..] => (usize::from(*len), content),
+        [0x30, 0x82, a @ 1..=0xFF, b, content @ ..] => {
+            (usize::from(u16::from_be_bytes([*a, *b])), content)
         }
-        _ => false,
-    }
-}
-
-/// Returns the error of a refused key, with the offset of its first fault.
-#[cold]
-fn refusal(bytes: &[u8]) -> Option<der::Error> {
-    raw::key_fault_at(bytes).map(|(status, offset)| der::Error::at(status, offset))
+        [0x30, ..] => return None,
+        [] => return Some(der::Error::new(ErrorKind::Truncated, Length::ZERO)),
+        [..] => return Some(der::Error::new(ErrorKind::Tag, Length::ZERO)),
+    };
+    (content.len() < len).then_some(der::Error::new(ErrorKind::Truncated, Length::ONE))
 }
 
 impl EcPrivateKey<'_> {

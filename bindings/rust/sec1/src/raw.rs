@@ -47,22 +47,14 @@ pub(crate) struct Fields<'a> {
     pub public_key: Option<&'a [u8]>,
 }
 
-/// Reads a private key, and returns the places of its parts.
+/// Reads a private key, and returns the places of its parts, or the refusal and the offset of the
+/// first fault.
 #[inline]
-pub(crate) fn key_read(bytes: &[u8]) -> Result<KeyParts, Status> {
-    let mut parts = KeyParts::default();
-    // SAFETY: `bytes` is one slice, and `parts` is a place of this function.
-    let status = unsafe { sec1_key_read(bytes.as_ptr(), bytes.len(), &mut parts) };
-    answer(status, parts)
-}
-
-/// Returns the refusal of a private key, and the offset of its first fault.
-#[inline]
-pub(crate) fn key_fault_at(bytes: &[u8]) -> Option<(Status, usize)> {
-    let mut offset = 0;
-    // SAFETY: `bytes` is one slice, and `offset` is a place of this function.
-    let status = unsafe { sec1_key_fault_at(bytes.as_ptr(), bytes.len(), &mut offset) };
-    Status::new(status).map(|status| (status, offset))
+pub(crate) fn key_read_at(bytes: &[u8]) -> Result<KeyParts, (Status, usize)> {
+    let (mut parts, mut offset) = (KeyParts::default(), 0);
+    // SAFETY: `bytes` is one slice, and `parts` and `offset` are places of this function.
+    let status = unsafe { sec1_key_read_at(bytes.as_ptr(), bytes.len(), &mut parts, &mut offset) };
+    answer(status, parts).map_err(|status| (status, offset))
 }
 
 /// Returns the length of the encoding of a private key.

@@ -1,13 +1,14 @@
 //! What this crate decides itself, beside what the library says: the order of points, their
-//! compressed form and the places of their coordinates, and the headers of elements.
+//! compressed form and the places of their coordinates, the headers of elements, and the headers by
+//! which keys are refused.
 #![cfg(feature = "std")]
 #![allow(clippy::unwrap_used, clippy::indexing_slicing)]
 
-use sec1::EncodedPoint;
 use sec1::consts::{U1, U2, U32, U48, U66};
 use sec1::der::asn1::{AnyRef, OctetStringRef};
-use sec1::der::{Encode, EncodeValue, Header, Length, SliceWriter, Tag};
+use sec1::der::{Decode, Encode, EncodeValue, ErrorKind, Header, Length, SliceWriter, Tag};
 use sec1::point::{HybridPoint, ModulusSize};
+use sec1::{EcPrivateKey, EncodedPoint};
 use std::cmp::Ordering;
 
 /// Returns the points over a field of N bytes whose coordinates have these bytes at their ends.
@@ -126,4 +127,45 @@ fn agrees_on_headers() {
     let most = Length::try_from(268_435_455).unwrap();
     assert_eq!((most, Header::new(Tag::Sequence, most).is_ok()), (Length::MAX, true));
     assert!(Header::new(Tag::Sequence, Length::try_from(268_435_456).unwrap()).is_err());
+}
+
+/// Returns the kind and the offset of the first fault of a key.
+fn library_fault(bytes: &[u8]) -> Option<(ErrorKind, usize)> {
+    let mut offset = 0;
+    // SAFETY: `bytes` is one slice, and `offset` is a place of this function.
+    let status = unsafe { sec1_sys::sec1_key_fault_at(bytes.as_ptr(), bytes.len(), &mut offset) };
+    let kind = match status {
+        sec1_sys::SEC1_OK => return None,
+        sec1_sys::SEC1_TRUNCATED => ErrorKind::Truncated,
+        sec1_sys::SEC1_TAG => ErrorKind::Tag,
+        sec1_sys::SEC1_LENGTH => ErrorKind::Length,
+        sec1_sys::SEC1_TRAILING_DATA => ErrorKind::TrailingData,
+        sec1_sys::SEC1_VALUE => ErrorKind::Value,
+        _ => panic!("{status}"),
+    };
+    Some((kind, offset))
+}
+
+#[test]
+fn agrees_on_refused_keys() {
+    let agrees = |bytes: &[u8]| {
+        let error = EcPrivateKey::from_der(bytes).err();
+        let fault = error.map(|e| (e.kind(), u32::from(e.position().unwrap()) as usize));
+        assert_eq!(fault, library_fault(bytes), "{:?} of {}", bytes.get(..5), bytes.len());
+    };
+    agrees(&[]);
+    (0..=255).for_each(|tag| agrees(&[tag]));
+    let telling = [0, 1, 2, 0x7E, 0x7F, 0x80, 0x81, 0x82, 0x83, 0x84, 0x85, 0xFF];
+    for tag in [0, 2, 0x30, 0x31, 0xFF] {
+        for [a, b, c] in telling
+            .iter()
+            .flat_map(|a| telling.iter().flat_map(|b| telling.iter().map(|c| [*a, *b, *c])))
+        {
+            for len in [1, 2, 3, 4, 5, 128, 129, 130, 131, 255, 256, 257, 258, 259, 261, 516] {
+                let mut bytes = vec![0; len.max(4)];
+                bytes[..4].copy_from_slice(&[tag, a, b, c]);
+                agrees(&bytes[..len]);
+            }
+        }
+    }
 }
