@@ -1,5 +1,5 @@
-//! Where bytes are refused as a key's, a public key's, a container's, a signature's or a tree's: the
-//! offset and the kind of the first fault. No call allocates.
+//! Where bytes are refused as a key's, a public key's, a container's, a signature's or a tree's:
+//! the offset and the kind of the first fault. No call allocates.
 #![tactic(auto)]
 
 mod container;
