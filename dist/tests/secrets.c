@@ -103,6 +103,11 @@ static void read_container(const struct bytes *key, size_t version, size_t priva
     expect(sec1_private_key_info_read(container.data, container.len - 1, &parts) ==
                SEC1_TRUNCATED,
            "a cut container", private_len);
+    expect(sec1_private_key_info_fault_at(container.data, container.len, &number) == 0,
+           "sec1_private_key_info_fault_at", private_len);
+    expect(sec1_private_key_info_fault_at(container.data, container.len - 1, &number) ==
+                   SEC1_TRUNCATED && number < container.len,
+           "the fault of a cut container", private_len);
     expect(sec1_private_key_read(container.data, container.len, &key_parts) == 0 &&
                key_parts.private_key.len == private_len && key_parts.curve.len == sizeof curve,
            "sec1_private_key_read of a container", private_len);
