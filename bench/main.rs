@@ -115,7 +115,7 @@ unsafe extern "C" {
         out_len: usize,
         len: *mut usize,
     ) -> u32;
-    fn sec1_certificate_public_key(input: *const u8, len: usize, part: *mut [[usize; 3]; 1])
+    fn sec1_certificate_read_public_key(input: *const u8, len: usize, part: *mut [[usize; 3]; 1])
     -> u32;
     fn sec1_private_key_info_read(input: *const u8, len: usize, parts: *mut [[usize; 3]; 2])
     -> u32;
@@ -829,8 +829,8 @@ fn c_lines(inputs: &Inputs) -> Vec<Line<'_>> {
             c_identifier_from_text(black_box(DOTTED), &mut out.0, &mut out.1)
         ),
         places(
-            "C: sec1_certificate_public_key",
-            sec1_certificate_public_key,
+            "C: sec1_certificate_read_public_key",
+            sec1_certificate_read_public_key,
             CERTIFICATE,
         ),
         places(

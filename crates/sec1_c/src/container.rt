@@ -74,6 +74,7 @@ pub extern "C" fn sec1_private_key_info_read(bytes: &[u8], parts: &mut PrivateKe
 ///
 /// The first fault from left to right of the version that the bytes have; Value if they have any
 /// other version.
+#[inline(always)]
 pub fn read_container(bytes: &[u8]) -> Result<OneAsymmetricKey<'_>>
     ensures found { IfOk result (λ container. IsContainer container bytes.now) }
     ensures only { (container : OneAsymmetricKey) → IsContainer container bytes.now
@@ -91,6 +92,7 @@ pub fn read_container(bytes: &[u8]) -> Result<OneAsymmetricKey<'_>>
 }
 
 /// Returns the container that a PrivateKeyInfo is.
+#[inline(always)]
 fn of_version_zero(info: PrivateKeyInfo<'_>) -> OneAsymmetricKey<'_>
     ensures { result ≡ of_version_zero info.entry }
 {
@@ -108,6 +110,7 @@ fn of_version_zero(info: PrivateKeyInfo<'_>) -> OneAsymmetricKey<'_>
 }
 
 /// Returns the places of the parts of the private key whose container was read from these bytes.
+#[inline(always)]
 pub fn places(bytes: &[u8], container: &OneAsymmetricKey, curve: Curve) -> PrivateKeyInfoParts
     requires container { IsContainer container.now bytes.now }
     requires curve { IsOnCurve curve container.now.algorithm }

@@ -10,6 +10,7 @@ use sec1::{EcParameters, EcPrivateKey};
 
 /// Returns the key with these parts; `None` if `curve` isn't empty, and isn't the content of an
 /// identifier.
+#[inline(always)]
 pub fn key_given<'a>(
     private_key: &'a [u8],
     curve: &[u8],
@@ -32,6 +33,7 @@ pub fn key_given<'a>(
 
 /// Returns the parameters with this content, none if it is empty; `None` if it isn't the content of
 /// an identifier.
+#[inline(always)]
 fn curve_given(content: &[u8]) -> Option<Option<EcParameters>>
     ensures found { IfSome result
         (λ parameters. IsCurveOf content.now (option_map curve_of parameters)) }
@@ -48,6 +50,7 @@ fn curve_given(content: &[u8]) -> Option<Option<EcParameters>>
 }
 
 /// Borrows the bytes of the public key, if `has_public_key` isn't 0.
+#[inline(always)]
 fn public_key_given(bytes: &[u8], has_public_key: usize) -> Option<&[u8]>
     ensures { option_map (λ bytes. bytes.now) result ≡ public_key_if has_public_key bytes.now }
 {

@@ -15,6 +15,7 @@ use sec1::der::{Context0, Explicit, ExplicitBits};
 use sec1::{EcParameters, EcPrivateKey, der};
 
 /// Returns the places of the key's parts in its bytes.
+#[inline(always)]
 pub fn places(bytes: &[u8], key: &EcPrivateKey) -> KeyParts
     requires { IsKeyOf key.now bytes.now }
     ensures { result ≡ key_places key.now bytes.now }
