@@ -3,12 +3,16 @@
 #![tactic(auto)]
 
 pub mod algorithm;
+#[cfg(test)]
+mod algorithm_test;
 pub mod certificate;
 pub mod curve_names;
 pub mod first_calls;
 pub mod is_key;
 pub mod moved_program;
+pub mod own_default;
 pub mod own_key;
+pub mod own_leaf;
 pub mod own_part;
 pub mod own_tag;
 pub mod point_set;
