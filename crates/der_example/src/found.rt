@@ -133,17 +133,18 @@ pub fn longer_document(alloc: Global, bytes: &[u8]) -> Result<SecretDocument>
     SecretDocument::from_der(alloc, bytes)
 }
 
-/// Returns the length of the remaining input before and after six calls, each of which fails.
-pub fn stays_six(reader: &mut SliceReader, count: Length) -> (usize, usize)
+/// Returns the length of the remaining input before and after seven calls, each of which fails.
+pub fn stays_seven(reader: &mut SliceReader, count: Length) -> (usize, usize)
     requires { reader.old.failed ≡ true }
     ensures { result.0 ≡ result.1 }
 {
     let before = reader.remaining_len();
+    let _ = reader.read_slice(count);
+    let _ = reader.read_nested(count);
     let _ = reader.decode::<VersionOne>();
     let _ = AnyRef::decode(reader);
     let _ = Header::decode(reader);
     let _ = reader.context_specific::<OctetStringRef>(0);
-    let _ = reader.read_slice(count);
     let _ = reader.finish();
     (before, reader.remaining_len())
 }
@@ -214,6 +215,15 @@ pub fn other_bit_string(input: &[u8]) -> Result<BitStringRef<'_>>
     ensures { (content : List ℕ) → length content ≤ max_length
         → input.now ≡ element 0x03 content → bit_string_fault content ≢ None
         → IfErr result (λ e. bit_string_fault content ≡ Some (Some e.kind)) × IsErr result }
+{
+    from_der(input)
+}
+
+/// Reads a bit string. Unused bits that aren't zero are Value.
+pub fn other_unused_bits(input: &[u8]) -> Result<BitStringRef<'_>>
+    ensures { (content : List ℕ) (unused : ℕ) (bytes : List ℕ) → length content ≤ max_length
+        → input.now ≡ element 0x03 content → content ≡ unused ∷ bytes
+        → ¬ IsTrue (are_bits unused bytes) → Refuses result ErrorKind.Value }
 {
     from_der(input)
 }
