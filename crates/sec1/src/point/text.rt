@@ -29,7 +29,7 @@ impl<const N: usize, const L: usize> EncodedPoint<N, L> {
     ///
     /// # Errors
     ///
-    /// Memory if the allocation fails.
+    /// [`Error::Memory`] if the allocation fails.
     pub fn to_bytes(&self, alloc: Global) -> Result<BoxedSlice<u8>>
         ensures { MatchResult result
             (λ bytes. boxed_slice_items bytes ≡ encoding N (point_of self.now))
@@ -42,7 +42,7 @@ impl<const N: usize, const L: usize> EncodedPoint<N, L> {
     ///
     /// # Errors
     ///
-    /// Memory if the allocation fails.
+    /// [`Error::Memory`] if the allocation fails.
     pub fn to_lower_hex(&self, alloc: Global) -> Result<String>
         ensures { MatchResult result
             (λ text. string_bytes text ≡ encode_lower (encoding N (point_of self.now)))
@@ -55,7 +55,7 @@ impl<const N: usize, const L: usize> EncodedPoint<N, L> {
     ///
     /// # Errors
     ///
-    /// Memory if the allocation fails.
+    /// [`Error::Memory`] if the allocation fails.
     pub fn to_upper_hex(&self, alloc: Global) -> Result<String>
         ensures { MatchResult result
             (λ text. string_bytes text ≡ encode_upper (encoding N (point_of self.now)))
@@ -68,7 +68,7 @@ impl<const N: usize, const L: usize> EncodedPoint<N, L> {
     ///
     /// # Errors
     ///
-    /// Memory if the allocation fails.
+    /// [`Error::Memory`] if the allocation fails.
     pub fn to_json(&self, alloc: Global) -> Result<Value>
         ensures { MatchResult result
             (λ json. view json ≡ string (encode_upper (encoding N (point_of self.now))))
@@ -82,7 +82,7 @@ impl<const N: usize, const L: usize> EncodedPoint<N, L> {
     ///
     /// # Errors
     ///
-    /// PointEncoding for any other string, and for any other JSON value.
+    /// [`Error::PointEncoding`] for any other string, and for any other JSON value.
     pub fn from_json(value: &Value) -> Result<Self>
         ensures { ReadsPoint (λ bytes. (text : List ℕ) × (view value.now ≡ string text)
             × IsHexOf text bytes) result }
@@ -169,7 +169,7 @@ fn is_one_case(text: &[u8]) -> bool
 ///
 /// # Errors
 ///
-/// PointEncoding for any other text, or if N and L don't [fit](EncodedPoint::fits).
+/// [`Error::PointEncoding`] for any other text, or if N and L don't [fit](EncodedPoint::fits).
 ///
 /// # Examples
 ///
