@@ -46,10 +46,19 @@ answers openssl.txt >"$room/answers"
 compare openssl.txt openssl.txt "$room/openssl" "$room/answers"
 
 # Three lines for each structure: what it is, WORD HEX, and the line for it.
-sed -n '2~3p' hand.txt >"$room/hand"
-sed -n '3~3p' hand.txt >"$room/expected"
-answers "$room/hand" >"$room/answers"
-compare hand.txt "$room/hand" "$room/expected" "$room/answers"
+for file in hand.txt times.txt; do
+    sed -n '2~3p' $file >"$room/hand"
+    sed -n '3~3p' $file >"$room/expected"
+    answers "$room/hand" >"$room/answers"
+    compare $file "$room/hand" "$room/expected" "$room/answers"
+    cat "$room/hand" >>"$room/stdin"
+    cat "$room/expected" >>"$room/stdout"
+done
+for file in stdin stdout; do
+    cmp -s "$room/$file" "$top/crates/pkix_rewrite/$file" &&
+        tell "the stored $file is that of hand.txt and times.txt" yes ||
+        tell "the stored $file isn't that of hand.txt and times.txt" no
+done
 
 python3 sizes.py >"$room/sizes"
 python3 sizes.py answers >"$room/expected"

@@ -1,6 +1,8 @@
 #!/usr/bin/env bash
-# Compares what sec1_rewrite is stored to read and to print with what the reader of this folder says, and the keys with OpenSSL where
-# that is there. rt ci compares it with what the program prints. Its last line is 'N passed, M failed'.
+# Compares what sec1_rewrite is stored to read and to print with what the reader of this folder says
+# and, for the keys made by hand, with the line that stands below each; and the keys with OpenSSL
+# where that is there. What the program prints is compared where its crate is proved. The last line
+# is 'N passed, M failed'.
 set -u
 top=$(cd "$(dirname "$0")/../.." && pwd)
 here=$top/tests/keys
@@ -19,13 +21,19 @@ if ! command -v python3 >/dev/null; then
     tell "there is no python3 to run the reader with" no
 else
     python3 "$here/damage.py" <"$here/openssl.txt" >"$room/damaged"
-    cat "$here/openssl.txt" "$room/damaged" >"$room/stdin"
-    same "the stored input is the keys of OpenSSL and their damaged copies" "$room/stdin" "$crate/stdin"
+    # Three lines for each key made by hand: what it is, the key, and the line for it.
+    sed '3~3d' "$here/hand.txt" | cat "$here/openssl.txt" "$room/damaged" - >"$room/stdin"
+    same "the stored input is the keys of OpenSSL, their damaged copies and those made by hand" \
+        "$room/stdin" "$crate/stdin"
     python3 "$here/answers.py" <"$crate/stdin" >"$room/stdout"
     same "the stored output is what the other reader says" "$room/stdout" "$crate/stdout"
 fi
+sed -n '3~3p' "$here/hand.txt" >"$room/hand"
+tail -n "$(wc -l <"$room/hand")" "$crate/stdout" >"$room/said"
+same "the stored output is the line for each key made by hand" "$room/hand" "$room/said"
 lines=$(grep -vc '^#' "$crate/stdin")
-[ "$lines" = 2656 ] && tell "656 keys and 2,000 damaged copies" yes || tell "there are $lines keys" no
+[ "$lines" = 2753 ] && tell "656 keys, 2,000 damaged copies and 97 made by hand" yes ||
+    tell "there are $lines keys" no
 
 # Each key that is read is OpenSSL's too: it reads it and finds the same private key.
 if command -v openssl >/dev/null; then

@@ -26,7 +26,7 @@ class Keys(unittest.TestCase):
         lines = (HERE / "data/openssl.txt").read_text().splitlines()
         keys = [bytes.fromhex(line) for line in lines if not line.startswith("#")]
         answers = (HERE / "data/openssl_answers.txt").read_text().splitlines()
-        self.assertEqual((len(keys), len(answers)), (2656, 2656))
+        self.assertEqual((len(keys), len(answers)), (2753, 2753))
         for data, answer in zip(keys, answers):
             if answer.startswith("refused: "):
                 with self.assertRaises(REFUSED[answer]) as caught:
@@ -34,9 +34,10 @@ class Keys(unittest.TestCase):
                 self.assertIn(caught.exception.offset, range(len(data) + 1))
                 continue
             key = sec1.EcPrivateKey.from_der(data)
-            public_key = "none" if key.public_key is None else key.public_key.hex().upper()
+            public_key = "none" if key.public_key is None else key.public_key.hex().upper() or "-"
             curve = "none" if key.curve is None else str(key.curve)
-            self.assertEqual(answer.split(" ")[:3], [key.private_key.hex().upper(), curve, public_key])
+            private_key = key.private_key.hex().upper() or "-"
+            self.assertEqual(answer.split(" ")[:3], [private_key, curve, public_key])
             self.assertEqual(key.to_der(), data)
 
     def test_repr_is_without_the_private_key(self):
