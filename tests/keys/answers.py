@@ -1,7 +1,10 @@
-"""Prints what sec1_rewrite has to print for the keys on standard input, by the reader of this folder."""
+"""Prints what sec1_rewrite has to print for the keys on standard input, by the reader of this
+folder.
+"""
 import sys
 
 import reader
+
 
 def digits(data):
     return data.hex().upper() or "-"
@@ -17,6 +20,11 @@ def answer(data):
     return f"{digits(private)} {curve} {public} same"
 
 
-for line in sys.stdin.read().splitlines():
-    if not line.startswith("#"):
-        print(answer(bytes.fromhex(line)))
+def main():
+    for line in sys.stdin.read().splitlines():
+        if not line.startswith("#"):
+            print(answer(bytes.fromhex(line)))
+
+
+if __name__ == "__main__":
+    main()
