@@ -12,14 +12,37 @@ static size_t draw_soup(uint8_t *out)
 {
     static const uint8_t often[] = {0x30, 0x02, 0x01, 0x01, 0x04, 0x00, 0xA0,
                                     0x06, 0xA1, 0x03, 0x2A, 0x80, 0x81, 0x7F};
+    static const uint8_t greatest[] = {0x30, 0x84, 0x0F, 0xFF, 0xFF, 0xFF};
+    static const uint8_t above[] = {0x30, 0x84, 0x10, 0x00, 0x00, 0x00};
     size_t len = draw(draw(2) ? 12 : 72);
     for (size_t i = 0; i < len; i++)
         out[i] = draw(3) ? often[draw(sizeof often)] : (uint8_t)draw(256);
+    if (len >= sizeof above && draw(16) == 0)
+        memcpy(out, draw(2) ? greatest : above, sizeof above);
     return len;
+}
+
+/* Contents at a limit: numbers of 8 and of 9 bits in two bytes, arcs of 2^32 - 1 and of 2^32. */
+static size_t draw_limit(uint8_t *out)
+{
+    static const uint8_t contents[][7] = {
+        {2, 0x00, 0x7F},
+        {2, 0x00, 0x80},
+        {2, 0xFF, 0x7F},
+        {2, 0xFF, 0x80},
+        {6, 0x2A, 0x8F, 0xFF, 0xFF, 0xFF, 0x7F},
+        {6, 0x2A, 0x90, 0x80, 0x80, 0x80, 0x00},
+        {5, 0x90, 0x80, 0x80, 0x80, 0x00},
+    };
+    const uint8_t *content = contents[draw(7)];
+    memcpy(out, content + 1, content[0]);
+    return content[0];
 }
 
 static size_t draw_content(uint8_t *out)
 {
+    if (draw(16) == 0)
+        return draw_limit(out);
     size_t len = draw(8) ? 1 + draw(10) : draw(44);
     for (size_t i = 0; i < len; i++)
         out[i] = (uint8_t)(draw(3) ? draw(128) : draw(256));
@@ -74,7 +97,10 @@ static size_t draw_key_on(uint8_t *out, const uint8_t *curve, size_t curve_len)
         part[0] = draw(8) ? 0 : (uint8_t)draw(9);
         if (part[0] && draw(2))
             part[part_len - 1] = 0;
-        len += put(out + len, 0xA1, part, wrap(part, 0x03, part_len));
+        part_len = wrap(part, 0x03, part_len);
+        if (draw(16) == 0)
+            part[part_len++] = 0;
+        len += put(out + len, 0xA1, part, part_len);
     }
     return wrap(out, 0x30, len);
 }
@@ -231,8 +257,9 @@ static size_t draw_time(uint8_t *out)
         "20500101000000Z",   "99991231235959Z",  "240229000000Z",   "260229120000Z",
         "20260431120000Z",   "19000229000000Z",  "20260101120000",  "20260101120000.50Z",
         "2026010112000000Z", "20260101240000Z",  "261301000000Z",   "20260101006000Z",
+        "260931120000Z",     "20260931120000Z",  "260101120060Z",   "20260101120060Z",
     };
-    const char *time = times[draw(draw(4) ? 7 : 16)];
+    const char *time = times[draw(draw(4) ? 7 : sizeof times / sizeof *times)];
     size_t len = strlen(time);
     memcpy(out, time, len);
     return wrap(out, (len == 13) == (draw(16) > 0) ? 0x17 : 0x18, len);

@@ -86,7 +86,7 @@ def key_shapes():
     for steps in (1, 2, 3, 25):
         for more in (-1, 0, 1):
             wanted = steps * GROWTH + more
-            yield next(p for p in range(wanted) if len(key(p)) == wanted), None, None
+            yield next(p for p in range(wanted - 16, wanted) if len(key(p)) == wanted), None, None
     # each length up to 140, and those beside powers of two
     powers = (2**place + more for place in range(8, 17) for more in (-1, 0, 1))
     for count in sorted({*range(141), *powers}):
