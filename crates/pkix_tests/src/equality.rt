@@ -6,9 +6,9 @@ ghost use Rattle.der_types.specs.Times.{IsEarlier};
 
 use der_faults::{Fault, KeyPart};
 use der_rows::Row;
-use der_types::{Boolean, Choice, DateTime, Defaulted, OptionalPart};
+use der_types::{Boolean, Choice, DateTime, Defaulted, Implicit, OptionalPart};
 use pkix::{Curve, LaterVersion};
-use sec1_der::{Required, VersionOne};
+use sec1_der::{Primitive0, Required, VersionOne};
 use std::alloc::AllocError;
 use std::cmp::Ordering;
 
@@ -89,6 +89,29 @@ pub fn other_defaulted(a: &Defaulted<Boolean>, b: &Defaulted<Boolean>) -> bool
 
 /// The clone of a component with a default value is the same, and never fails.
 pub fn cloned_defaulted(value: &Defaulted<Boolean>) -> Cloned<Defaulted<Boolean>>
+    ensures { IsOkAnd result (λ cloned. cloned ≡ value.now) }
+{
+    value.clone()
+}
+
+/// Two values with an implicit tag are equal exactly where the values are.
+pub fn same_implicit(a: &Implicit<Primitive0, Boolean>, b: &Implicit<Primitive0, Boolean>) -> bool
+    ensures { IsTrue result ↔ (a.now ≡ b.now) }
+{
+    a == b
+}
+
+/// Two values with an implicit tag are unequal exactly where the values differ.
+pub fn other_implicit(a: &Implicit<Primitive0, Boolean>, b: &Implicit<Primitive0, Boolean>) -> bool
+    ensures { IsTrue result ↔ (a.now ≢ b.now) }
+{
+    a != b
+}
+
+/// The clone of a value with an implicit tag is the same, and never fails.
+pub fn cloned_implicit(
+    value: &Implicit<Primitive0, Boolean>,
+) -> Cloned<Implicit<Primitive0, Boolean>>
     ensures { IsOkAnd result (λ cloned. cloned ≡ value.now) }
 {
     value.clone()

@@ -3,8 +3,8 @@ ghost use Rattle.std.specs.Prelude.{◌≡◌, ◌≢◌, ◌↔◌, IsTrue, IsO
 ghost use Rattle.sec1_der.specs.Values.{octets_of, unused_bits_of, bit_bytes_of, tag_of, value_of};
 
 use sec1_der::{
-    AnyRef, BitStringRef, Error, ErrorKind, Header, ID_EC_PUBLIC_KEY, IoFault, Length,
-    ObjectIdentifier, OctetStringRef, Optional, Required, SmallInteger, Tag, VersionOne,
+    AnyRef, BitStringRef, Context0, Error, ErrorKind, Explicit, Header, ID_EC_PUBLIC_KEY, IoFault,
+    Length, ObjectIdentifier, OctetStringRef, Optional, Required, SmallInteger, Tag, VersionOne,
 };
 use std::alloc::AllocError;
 
@@ -331,6 +331,35 @@ pub fn cloned_small_integer(value: &SmallInteger<1>) -> Cloned<SmallInteger<1>>
 
 /// The clone of a fault of a stream is the same, and never fails.
 pub fn cloned_fault(value: &IoFault) -> Cloned<IoFault>
+    ensures { IsOkAnd result (λ cloned. cloned ≡ value.now) }
+{
+    value.clone()
+}
+
+/// Two values with an explicit tag are equal exactly where the values are.
+pub fn same_explicit(
+    a: &Explicit<Context0, ObjectIdentifier>,
+    b: &Explicit<Context0, ObjectIdentifier>,
+) -> bool
+    ensures { IsTrue result ↔ (a.now ≡ b.now) }
+{
+    a == b
+}
+
+/// Two values with an explicit tag differ exactly where the values do.
+pub fn other_explicit(
+    a: &Explicit<Context0, ObjectIdentifier>,
+    b: &Explicit<Context0, ObjectIdentifier>,
+) -> bool
+    ensures { IsTrue result ↔ (a.now ≢ b.now) }
+{
+    a != b
+}
+
+/// The clone of a value with an explicit tag is the same, and never fails.
+pub fn cloned_explicit(
+    value: &Explicit<Context0, ObjectIdentifier>,
+) -> Cloned<Explicit<Context0, ObjectIdentifier>>
     ensures { IsOkAnd result (λ cloned. cloned ≡ value.now) }
 {
     value.clone()
