@@ -72,7 +72,7 @@ def main():
     for name in sorted(source.keys() | header.keys()):
         if source.get(name) != header.get(name):
             failed += 1
-            print(f"{name}: the source has {source.get(name)}, the header {header.get(name)}")
+            print(f"FAILED: {name}: the source has {source.get(name)}, the header {header.get(name)}")
     print(f"{len(source.keys() | header.keys()) - failed} passed, {failed} failed")
     return failed != 0
 
