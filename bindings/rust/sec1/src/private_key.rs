@@ -3,7 +3,7 @@
 #[cfg(feature = "alloc")]
 use crate::der::SecretDocument;
 use crate::der::asn1::ObjectIdentifier;
-use crate::der::{self, Decode, DecodeValue, ErrorKind, Header, Length, Reader};
+use crate::der::{self, DecodeValue, ErrorKind, Header, Length, Reader};
 #[cfg(feature = "alloc")]
 use crate::der::{Element, EncodeValue, Sequence, Writer, content_len_of};
 #[cfg(not(feature = "alloc"))]
@@ -76,22 +76,36 @@ impl<'a> DecodeValue<'a> for EcPrivateKey<'a> {
 
     #[inline]
     fn of_element(bytes: &'a [u8]) -> der::Result<Self> {
-        if let Some(error) = header_fault(bytes) {
-            return Err(error);
+        Self::read(bytes)
+    }
+}
+
+/// Reading for each type of error, so that a key is made where the caller wants it.
+impl<'a> EcPrivateKey<'a> {
+    /// Reads a key from its element, which is all of the bytes.
+    #[inline]
+    fn read<E: From<der::Error>>(bytes: &'a [u8]) -> core::result::Result<Self, E> {
+        match header_fault(bytes) {
+            Some(error) => Err(error.into()),
+            None => Self::read_by_library(bytes),
         }
+    }
+
+    /// Reads a key as [`Self::read`] does. It isn't inlined, so that a refusal by the header saves
+    /// no registers.
+    #[inline(never)]
+    fn read_by_library<E: From<der::Error>>(bytes: &'a [u8]) -> core::result::Result<Self, E> {
         let parts =
             raw::key_read_at(bytes).map_err(|(status, offset)| der::Error::at(status, offset))?;
         let outside = |()| der::Error::of_kind(ErrorKind::Failed);
         let private_key = raw::part(bytes, parts.private_key).map_err(outside)?;
-        let curve = raw::part(bytes, parts.curve).map_err(outside)?;
-        Ok(EcPrivateKey {
-            private_key: private_key.ok_or(der::Error::of_kind(ErrorKind::Failed))?,
-            parameters: curve
-                .map(ObjectIdentifier::of_content)
-                .transpose()?
-                .map(EcParameters::NamedCurve),
-            public_key: raw::part(bytes, parts.public_key).map_err(outside)?,
-        })
+        let public_key = raw::part(bytes, parts.public_key).map_err(outside)?;
+        let parameters = match raw::part(bytes, parts.curve).map_err(outside)? {
+            Some(content) => Some(ObjectIdentifier::of_content(content)?.into()),
+            None => None,
+        };
+        let private_key = private_key.ok_or(der::Error::of_kind(ErrorKind::Failed))?;
+        Ok(EcPrivateKey { private_key, parameters, public_key })
     }
 }
 
@@ -170,7 +184,7 @@ impl<'a> TryFrom<&'a [u8]> for EcPrivateKey<'a> {
     type Error = Error;
 
     fn try_from(bytes: &'a [u8]) -> Result<EcPrivateKey<'a>> {
-        Ok(Self::from_der(bytes)?)
+        Self::read(bytes)
     }
 }
 
