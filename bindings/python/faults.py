@@ -57,6 +57,7 @@ FAULTS = [
     ("__init__.py", "self.field_length, int(lower_case)", "self.field_length, int(not lower_case)"),
     ("__init__.py", "return length.value or None", "return length.value"),
     ("__init__.py", '"sec1_tree_fault_at", data)', '"sec1_key_fault_at", data)'),
+    ("__init__.py", "data, length = _text(text), _length(field_length)", "data, length = _text(text), field_length"),
     ("_library.py", "if self.present else None", "if self.len else None"),
     ("_library.py", "room = length.value\n", "room = length.value - 1\n"),
 ]
