@@ -65,6 +65,7 @@ rust() {
     cd "$crate/sec1" || return
     check "the packed crate passes its tests" cargo test --features std "${packed[@]}"
     check "the packed crate has its examples without std" cargo test "${packed[@]}"
+    on_aarch64 "${packed[@]}"
     cd "$work/rust" || return
     lints
     refuses "another processor is refused" "not for riscv64gc" other_target
@@ -72,6 +73,23 @@ rust() {
     as_dependency
     check "unsafe code stands in one module" \
         test "$(grep -rl 'unsafe {' sec1/src sec1-sys/src)" = sec1/src/raw.rs
+}
+
+# The tests of the packed crate for aarch64, by AARCH64_RUSTC, where that has the standard library of
+# this target: rustc of Debian's rustc-web does, with libstd-rust-web-dev:arm64.
+on_aarch64() { # OPTION..
+    local target=aarch64-unknown-linux-gnu rustc=${AARCH64_RUSTC:-rustc} library
+    library=$("$rustc" --print target-libdir --target "$target" 2>"$work/output")
+    if ! compgen -G "$library/libstd-*.rlib" >"$work/output" ||
+        ! command -v qemu-aarch64 aarch64-linux-gnu-gcc >"$work/output"; then
+        echo "skipped: the tests for aarch64 need qemu-aarch64, aarch64-linux-gnu-gcc, and a rustc" \
+            "that has the standard library of $target, in AARCH64_RUSTC"
+        return
+    fi
+    check "the packed crate passes its tests for aarch64, under qemu" \
+        env RUSTC="$rustc" CARGO_TARGET_AARCH64_UNKNOWN_LINUX_GNU_LINKER=aarch64-linux-gnu-gcc \
+        CARGO_TARGET_AARCH64_UNKNOWN_LINUX_GNU_RUNNER='qemu-aarch64 -L /usr/aarch64-linux-gnu' \
+        cargo test --features std --tests --target "$target" "$@"
 }
 
 lints() {
