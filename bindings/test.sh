@@ -1,18 +1,22 @@
 #!/usr/bin/env bash
-# Packs the packages for Rust and Python, and tests what is packed, in a temporary folder and without
-# a network. The last line is `N passed, M failed`; the status is 1 where anything failed, also where
-# a tool is missing.
+# Packs the packages for Rust, Python and JavaScript, and tests what is packed, in a temporary
+# folder and without a network: test.sh [rust|python|js], by default all three. The last line is
+# `N passed, M failed`, or `N passed, M failed, K skipped`. The status is 1 where anything failed,
+# also where a tool is missing; what needs one that tests/tools calls optional is skipped.
 set -uo pipefail
 # The library is that of dist/.
 unset SEC1_LIB_DIR CARGO_TARGET_DIR
 here=$(cd "$(dirname "$0")" && pwd)
 top=$(dirname "$here")
-passed=0 failed=0
+passed=0 failed=0 skipped=0
 work=$(mktemp -d)
 trap 'rm -rf "$work"' EXIT
 
 pass() { passed=$((passed + 1)) && echo "ok: $1"; }
 fail() { failed=$((failed + 1)) && echo "FAILED: $1"; }
+skip() { # COUNT NAME: cases that can't be tried here
+    skipped=$((skipped + $1)) && echo "skipped: $2"
+}
 check() { # NAME COMMAND..: passes where the command does, and prints its output where it doesn't
     local name=$1 begin=$SECONDS
     shift
@@ -258,15 +262,160 @@ assert sec1.EcPrivateKey.from_der(sec1.EcPrivateKey(b"\1").to_der()).private_key
         test -z "$(find "$here/python" -name '__pycache__' -o -name '*.egg-info' -o -name build)"
 }
 
-# Runs a part in a subshell, and takes over what it has counted.
-part() {
-    ("$1"; echo "$passed $failed" >"$work/count")
-    read -r passed failed <"$work/count"
+# Prints the program of a number in README.md of the package for JavaScript.
+readme() { # NUMBER
+    sed -n '/^```js$/,/^```$/p' "$here/js/README.md" | awk -v n="$1" '/^```js$/ { at++; next }
+        /^```$/ { next } at == n'
 }
 
-if has cargo && has git && has python3; then part rust; fi
-if has python3 && has cc; then part python; fi
+# Copies the package for JavaScript, with all that its links lead to, into a folder.
+copied() { # FOLDER
+    local file
+    mkdir -p "$1/bindings" && cp -R "$here/js" "$1/bindings" || return
+    find "$here/js" -type l | while read -r file; do
+        file=$(realpath "$file")
+        mkdir -p "$1/$(dirname "${file#"$top"/}")" && cp "$file" "$1/${file#"$top"/}"
+    done
+}
+
+# Writes the names of the functions that sec1.h declares, and dist/sec1.wasm doesn't have: those that
+# it says in C, and the version.
+js_names() {
+    diff <(grep -oE '\bsec1_[a-z_0-9]+\(' "$top/dist/sec1.h" | tr -d '(' | sort -u) \
+        <(node "${flag[@]}" -e 'console.log(WebAssembly.Module.exports(new WebAssembly.Module(
+            fs.readFileSync(process.argv[1]))).map((it) => it.name).join("\n"))' \
+            "$top/dist/sec1.wasm" | grep ^sec1_ | sort -u) | sed -n 's/^[<>] //p' | paste -s -d ' '
+}
+
+# Runs the tests of the package that is installed in this folder, and wants as many as it has.
+js_tests() {
+    local count
+    count=$(grep -c '^test(' "$here/js/tests/test.js")
+    node "${flag[@]}" node_modules/bridgeacacia-sec1/tests/test.js >"$work/tap" 2>&1
+    grep -E -A 20 '^(not ok|# Subtest)' "$work/tap" | grep -A 20 '^not ok'
+    grep -qx "# pass $count" "$work/tap" && grep -qx '# fail 0' "$work/tap"
+}
+
+js() {
+    local repository=$work/js flag=() installed server
+    export npm_config_offline=true npm_config_cache="$work/npm" npm_config_update_notifier=false
+    export npm_config_fund=false npm_config_audit=false
+    if ! node -e 'process.exit(process.getBuiltinModule ? 0 : 1)'; then
+        skip 16 "JavaScript: node is older than 20.16"
+        return
+    fi
+    # Node 24 and later have no such option.
+    if node --experimental-wasm-memory64 -e 0 2>/dev/null; then
+        flag=(--experimental-wasm-memory64)
+    fi
+    copied "$repository"
+    cd "$repository/bindings/js" || return
+    check "npm packs the package" npm pack --pack-destination "$repository"
+    mv "$repository"/*.tgz "$work/first.tgz"
+    check "it leaves the folder as it was" diff -r --no-dereference "$here/js" .
+    check "npm packs it again" npm pack --pack-destination "$repository"
+    check "with the same bytes" cmp "$work/first.tgz" "$repository"/*.tgz
+    mkdir "$work/empty" && cd "$work/empty" || return
+    check "npm installs what is packed" npm install "$work/first.tgz"
+    installed=node_modules/bridgeacacia-sec1
+    check "it has the types, the module and the licences, and no link" test \
+        -f $installed/index.d.ts -a -s $installed/sec1.wasm -a -s $installed/LICENSE-MIT \
+        -a -s $installed/LICENSE-APACHE -a -s $installed/licences.txt \
+        -a -z "$(find $installed -type l)"
+    readme 1 >read.mjs && readme 2 >write.mjs
+    cp "$top/dist/examples/p256.der" .
+    check "the first program of README.md prints dist/examples/p256.txt" \
+        says "$(cat "$top/dist/examples/p256.txt")" node "${flag[@]}" read.mjs
+    check "the second program prints what it has to" \
+        says $'121 138 0201\ntrue Truncated 1 1' node "${flag[@]}" write.mjs
+    check "the package passes its tests" js_tests
+    check "the script that measures the cost of calls prints three" \
+        says 5 eval 'node "${flag[@]}" $installed/tests/cost.js | grep -c "|"'
+    check "the module has the calls of sec1.h" says \
+        "sec1_key_len_of sec1_key_write_of sec1_status_text sec1_version" js_names
+    (cd $installed && exec python3 -u -m http.server --bind 127.0.0.1 0) >>"$work/served" 2>&1 &
+    server=$!
+    browsers
+    kill "$server"
+    sed -i 's/memory.fill(0, HEAP, this.end)/memory.fill(0, HEAP + 65536, this.end)/' \
+        $installed/library.js
+    check "a page that isn't wiped is found" eval '! js_tests'
+    types
+}
+
+# Opens the page of the tests in the browsers that are installed.
+browsers() {
+    local browser port
+    for _ in {1..50}; do
+        port=$(sed -n 's/^Serving HTTP on .* port \([0-9]*\) .*$/\1/p' "$work/served")
+        [ -z "$port" ] || break
+        sleep 0.1
+    done
+    for browser in chromium firefox-esr; do
+        if command -v $browser >/dev/null; then
+            check "$browser reads and writes keys" reads_and_writes $browser \
+                "http://127.0.0.1:$port/tests/page.html"
+        else
+            skip 1 "$browser is missing (Debian: apt-get install $browser)"
+        fi
+    done
+}
+
+# Whether a browser asks the server for what the page asks for when all went well.
+reads_and_writes() { # BROWSER URL
+    local options=(--headless --profile "$work/$1" --no-remote)
+    if [ "$1" = chromium ]; then
+        options=(--headless --no-sandbox --disable-gpu "--user-data-dir=$work/$1"
+            --remote-debugging-port=0)
+    fi
+    mkdir -p "$work/$1"
+    : >"$work/served"
+    HOME=$work/$1 timeout 100 "$1" "${options[@]}" "$2" >"$work/$1.said" 2>&1 &
+    for _ in {1..200}; do
+        if grep -q 'GET /\(read-and-wrote-keys\|failed-.*\) ' "$work/served"; then break; fi
+        sleep 0.5
+    done
+    kill $! && wait $!
+    cat "$work/served"
+    grep -q 'GET /read-and-wrote-keys ' "$work/served"
+}
+
+# Checks the types by a program of each name, and lines that are to be refused.
+types() {
+    local check=(tsc --strict --noEmit --target es2022 --lib es2022 --module nodenext
+        --moduleResolution nodenext)
+    if ! command -v tsc >/dev/null; then
+        skip 2 "tsc is missing (Debian: apt-get install node-typescript)"
+        return
+    fi
+    cp "$here/js/tests/types.ts" types.mts
+    check "tsc accepts a program of each name" "${check[@]}" types.mts
+    echo "import { checkTree } from 'bridgeacacia-sec1'; checkTree('text');" >wrong.mts
+    refuses "it refuses a text in the place of bytes" TS2345 "${check[@]}" wrong.mts
+}
+
+# Runs a part in a subshell, and takes over what it has counted.
+part() {
+    ("$1"; echo "$passed $failed $skipped" >"$work/count")
+    read -r passed failed skipped <"$work/count"
+}
+
+for name in ${1:-rust python js}; do
+    case $name in
+    rust) if has cargo && has git && has python3; then part rust; fi ;;
+    python) if has python3 && has cc; then part python; fi ;;
+    js)
+        if command -v node >/dev/null && command -v npm >/dev/null; then part js; else
+            skip 16 "JavaScript: node or npm is missing (Debian: apt-get install nodejs npm)"
+        fi
+        ;;
+    esac
+done
 
 echo "-- $SECONDS s"
-echo "$passed passed, $failed failed"
+if [ "$skipped" = 0 ]; then
+    echo "$passed passed, $failed failed"
+else
+    echo "$passed passed, $failed failed, $skipped skipped"
+fi
 [ "$failed" = 0 ]

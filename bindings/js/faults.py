@@ -1,0 +1,223 @@
+#!/usr/bin/env python3
+"""Plants one fault at a time into the package, in a temporary copy, and runs its tests: each fault
+has to be caught. It takes some minutes, so test.sh doesn't run it. It prints each fault with
+'caught' or 'NOT CAUGHT', and 'N passed, M failed' at the end.
+
+  bindings/js/faults.py [FIRST [STEP]]    each STEP-th fault from FIRST on, by default all of them
+"""
+import pathlib
+import shutil
+import subprocess
+import sys
+import tempfile
+
+HERE = pathlib.Path(__file__).resolve().parent
+FAULTS = [
+    # the memory of a call
+    ("library.js", "memory.fill(0, HEAP, this.end);", ""),
+    ("library.js", "memory.fill(0, HEAP, this.end)", "memory.fill(0, HEAP + 65536, this.end)"),
+    ("library.js", "memory.fill(0, HEAP, this.end)", "memory.fill(0, HEAP, this.end - 65536)"),
+    ("library.js", "memory.fill(0, HEAP, this.end)", "memory.fill(0, HEAP, this.end - 1)"),
+    ("library.js", "memory.fill(0, HEAP, this.end)", "memory.fill(1, HEAP, this.end)"),
+    ("library.js", "    memory.fill(0, 0, CONSTANTS);\n", ""),
+    ("library.js", "  } finally {\n    scratch.wipe();", "  } finally {"),
+    ("library.js", "const BUFFER = 7;", "const BUFFER = 8;"),
+    ("library.js", "const PAGE = 65536;", "const PAGE = 131072;"),
+    ("library.js", "exports.memory.grow(BigInt(pages));", "exports.memory.grow(pages);"),
+    ("library.js", "    exports.memory.grow(pages);\n", ""),
+    ("library.js", "if (!(error instanceof TypeError)) throw error;", ""),
+    ("library.js", "  view = new DataView(exports.memory.buffer);\n", ""),
+    ("library.js", "  memory = new Uint8Array(exports.memory.buffer);\n", ""),
+    ("library.js", "Math.ceil(length / 8) * 8", "Math.floor(length / 8) * 8"),
+    ("library.js", "if (this.end > memory.length)", "if (this.end > memory.length + 4096)"),
+    ("library.js", "grow(this.end - memory.length)", "grow(this.end)"),
+    ("library.js", "grow(this.end - memory.length)", "grow(this.end - memory.length - 65536)"),
+    ("library.js", "view.getBigUint64(place, true)", "view.getBigUint64(place, false)"),
+    ("library.js", "view.getInt32(place, true)", "view.getUint32(place, true)"),
+    ("library.js", "    memory.set(bytes, place);\n", ""),
+    ("library.js", "[BigInt(place), BigInt(bytes.length)]", "[BigInt(place), BigInt(place)]"),
+    ("library.js", "[BigInt(number)]", "[BigInt(number) + 1n]"),
+    ("library.js", "if (wanted <= this.#room) return false;", "return false;"),
+    ("library.js", "this.#place = scratch.reserve(wanted);", ""),
+    ("library.js", "length: wordAt(it + 8)", "length: wordAt(it + 16)"),
+    ("library.js", "(wordAt(it + 16) ? ", "(wordAt(it + 8) ? "),
+    ("library.js", "memory.slice(HEAP + offset", "memory.subarray(HEAP + offset"),
+    ("library.js", "HEAP + offset, HEAP", "HEAP + offset + 1, HEAP"),
+    ("library.js", "return [memory.slice(this.#place", "return [memory.subarray(this.#place"),
+    ("library.js", "sec1_key_fault_at: [Bytes, offset]", "sec1_key_fault_at: [Bytes, Size]"),
+    ("library.js", "stores(place, place)", "stores(place, part)"),
+    ("library.js", "stores(size, part, part)", "stores(part, part, size)"),
+    ("library.js", "keyParts = stores(part, part, part)", "keyParts = stores(part, part, place)"),
+    # refusals
+    *[("index.js", f"static status = {n};", f"static status = {n + 20};")
+      for n in (1, 2, 3, 4, 5, 6, 8, 9, 10, 11, 12)],
+    *[("index.js", f"static kind = '{it}';", f"static kind = '{it}s';")
+      for it in ("Truncated", "Tag", "Length", "TrailingData", "Value", "Overlength", "Depth",
+                 "PointEncoding", "FieldLength", "Curve", "OtherCurve")],
+    ("index.js", "'input ends inside an element'", "'input ends'"),
+    ("index.js", "static kind = null;", "static kind = 'Error';"),
+    ("index.js", "static status = null;", "static status = 0;"),
+    ("index.js", "'the library broke its contract'", "''"),
+    ("index.js", "offset === null ? text :", "!offset ? text :"),
+    ("index.js", "    this.name = new.target.name;\n", ""),
+    ("index.js", "this.offset = offset;", "this.offset = offset || null;"),
+    ("index.js", "TruncatedError, TagError, LengthError, TrailingDataError, ValueContentError, "
+     "OverlengthError,", "TruncatedError, TagError, LengthError, TrailingDataError, OverlengthError,"),
+    ("index.js", "DepthError, PointEncodingError, FieldLengthError, CurveError, OtherCurveError,\n",
+     "DepthError, PointEncodingError, FieldLengthError, CurveError,\n"),
+    ("index.js", "if (status) throw new", "if (status > 1) throw new"),
+    ("index.js", "?? Sec1Error)(offset)", "?? Sec1Error)()"),
+    # arguments and results
+    ("index.js", "  if (data instanceof ArrayBuffer) return new Uint8Array(data);\n", ""),
+    ("index.js", "data.buffer, data.byteOffset, data.byteLength", "data.buffer"),
+    ("index.js", "  throw new TypeError('bytes are expected, as a Uint8Array');", "  return data;"),
+    ("index.js", "  if (typeof text !== 'string') throw new TypeError('a text is expected');\n", ""),
+    ("index.js", "bytes.subarray(0, -1)", "bytes"),
+    ("index.js", "if (!Number.isInteger(length))", "if (typeof length !== 'number')"),
+    ("index.js", "if (!Number.isInteger(length))", "if (isNaN(length))"),
+    ("index.js", "if (!(value instanceof Class))", "if (!value)"),
+    ("index.js", "first === null || second === null", "first === null && second === null"),
+    ("index.js", "first.length === second.length && ", ""),
+    ("index.js", "byte === second[index]", "byte === second[index] || index > 30"),
+    ("index.js", "if (status) check(status, call(faultAt, bytes)[1]);", "check(status);"),
+    ("index.js", "  check(status);\n  return result;", "  return result;"),
+    # identifiers and curves
+    ("index.js", "this.#content = bytesOf(content).slice();", "this.#content = bytesOf(content);"),
+    ("index.js", "    made('sec1_identifier_check', this.#content);\n", ""),
+    ("index.js", "return this.#content.slice();", "return this.#content;"),
+    ("index.js", "other instanceof ObjectIdentifier && same(this.#content, other.#content)",
+     "other instanceof ObjectIdentifier && this.#content.length === other.#content.length"),
+    ("index.js", "String(this).split('.').map(Number)", "String(this).split('.')"),
+    ("index.js", "first[index] < second[index] ? -1 : 1", "first[index] < second[index] ? 1 : -1"),
+    ("index.js", "Math.sign(first.length - second.length)", "0"),
+    ("index.js", "Math.sign(first.length - second.length)", "first.length - second.length"),
+    ("index.js", "this.#fieldLength = made('sec1_curve_field_len', content);",
+     "this.#fieldLength = 32;"),
+    ("index.js", "    this.#identifier = identifier;\n", ""),
+    ("index.js", "this.#identifier.equals(other.#identifier)", "true"),
+    # keys
+    ("index.js", "this.#privateKey = bytesOf(privateKey);",
+     "this.#privateKey = bytesOf(privateKey).slice();"),
+    ("index.js", "this.#privateKey = bytesOf(privateKey);",
+     "this.#privateKey = this.hidden = bytesOf(privateKey);"),
+    ("index.js", "curve === null ? null : instance(ObjectIdentifier, curve)", "curve"),
+    ("index.js", "curve === null ? null : instance", "!curve ? null : instance"),
+    ("index.js", "publicKey === null ? null : bytesOf(publicKey)", "publicKey"),
+    ("index.js", "publicKey === null ? null : bytesOf", "!publicKey ? null : bytesOf"),
+    ("index.js", "    check(status, offset);\n    return EcPrivateKey.#ofParts",
+     "    check(status);\n    return EcPrivateKey.#ofParts"),
+    ("index.js", "check(status, inside ? offset + at : null)", "check(status, offset + at)"),
+    ("index.js", "check(status, inside ? offset + at : null)", "check(status, inside ? at : null)"),
+    ("index.js", "const [, { offset, length }] = read('sec1_private_key_info_read', faultAt, bytes);",
+     "const [, { offset, length }] = [0, { offset: 0, length: bytes.length }];"),
+    ("index.js", "bytes.subarray(offset, offset + length)", "bytes.subarray(offset)"),
+    ("index.js", "    check(status);\n    return EcPrivateKey.#ofParts(...parts);\n  }\n\n  static #of",
+     "    return EcPrivateKey.#ofParts(...parts);\n  }\n\n  static #of"),
+    ("index.js", "curve && new ObjectIdentifier(curve), publicKey);",
+     "curve && new ObjectIdentifier(curve));"),
+    ("index.js", "same(this.#privateKey, other.#privateKey) &&", "true &&"),
+    ("index.js", "(this.#curve?.equals(other.#curve) ?? other.#curve === null) &&", ""),
+    ("index.js", "?? other.#curve === null)", "?? true)"),
+    ("index.js", "      same(this.#publicKey, other.#publicKey);\n  }\n\n  toDer() {\n    return this",
+     "      true;\n  }\n\n  toDer() {\n    return this"),
+    ("index.js", "this.#written('sec1_key_write')", "this.#written('sec1_private_key_info_write')"),
+    ("index.js", "Number(this.#publicKey !== null)", "Number(Boolean(this.#publicKey?.length))"),
+    ("index.js", "this.#curve?.content ?? NOTHING", "NOTHING"),
+    # public keys and signatures
+    ("index.js", "this.#publicKey = bytesOf(publicKey).slice();",
+     "this.#publicKey = bytesOf(publicKey);"),
+    ("index.js", "return this.#publicKey.slice();", "return this.#publicKey;"),
+    ("index.js", "this.#curve = instance(ObjectIdentifier, curve);", "this.#curve = curve;"),
+    ("index.js", "new Point(this.#publicKey, new Curve(this.#curve).fieldLength)",
+     "new Point(this.#publicKey, this.#publicKey.length >> 1)"),
+    ("index.js", "other instanceof EcPublicKey && this.#curve.equals(other.#curve) &&",
+     "other instanceof EcPublicKey &&"),
+    ("index.js", "      same(this.#publicKey, other.#publicKey);\n  }\n\n  toDer() {\n    return made",
+     "      true;\n  }\n\n  toDer() {\n    return made"),
+    ("index.js", "this.#r = bytesOf(r).slice();", "this.#r = bytesOf(r).slice(1);"),
+    ("index.js", "this.#s = bytesOf(s).slice();", "this.#s = bytesOf(s).reverse();"),
+    ("index.js", "return this.#r.slice();", "return this.#r;"),
+    ("index.js", "return this.#s.slice();", "return this.#s;"),
+    ("index.js", "same(this.toDer(), other.toDer())", "same(this.#r, other.#r)"),
+    ("index.js", "'sec1_signature_write', this.#r, this.#s", "'sec1_signature_write', this.#s, this.#r"),
+    # points
+    ("index.js", "export const Tag = Object.freeze({", "export const Tag = ({"),
+    ("index.js", "HYBRID_EVEN: 6,\n  HYBRID_ODD: 7,", "HYBRID_EVEN: 7,\n  HYBRID_ODD: 6,"),
+    ("index.js", "this.#encoding = bytesOf(encoding).slice();", "this.#encoding = bytesOf(encoding);"),
+    ("index.js", "this.#fieldLength = wholeNumber(fieldLength);", "this.#fieldLength = fieldLength;"),
+    ("index.js", "    this.#x = x;", "    this.#x = y;"),
+    ("index.js", "    this.#y = y;", "    this.#y = x;"),
+    ("index.js", "    this.#tag = tag;", "    this.#tag = tag & 6;"),
+    ("index.js", "Number(Boolean(compress))", "Number(!compress)"),
+    ("index.js", "Number(Boolean(compress))", "1"),
+    ("index.js", "made('sec1_point_identity'), fieldLength", "made('sec1_point_identity'), 32"),
+    ("index.js", "digits, wholeNumber(fieldLength)", "digits, fieldLength"),
+    ("index.js", "return this.#encoding.slice();", "return this.#encoding;"),
+    ("index.js", "this.#x?.slice() ?? null", "this.#x"),
+    ("index.js", "this.#y?.slice() ?? null", "this.#y"),
+    ("index.js", "this.#y?.slice() ?? null", "this.#y?.slice()"),
+    ("index.js", "Number(Boolean(lowerCase))", "Number(!lowerCase)"),
+    ("index.js", "this.#made('sec1_point_compress')", "this.#made('sec1_point_to_hybrid')"),
+    ("index.js", "this.#made('sec1_point_to_hybrid')", "this.#made('sec1_point_compress')"),
+    ("index.js", "Point.fromCoordinates(this.#x, this.#y)", "Point.fromCoordinates(this.#y, this.#x)"),
+    ("index.js", "this.#y === null ? this : Point", "this.#tag !== 6 ? this : Point"),
+    ("index.js", "other instanceof Point && this.#fieldLength === other.#fieldLength &&",
+     "other instanceof Point &&"),
+    ("index.js", "this.compare(other) === 0", "this.compare(other) <= 0"),
+    ("index.js", "if (instance(Point, other).#fieldLength !== length)", "if (false)"),
+    ("index.js", "'sec1_point_compare', this.#encoding, other.#encoding, length",
+     "'sec1_point_compare', other.#encoding, this.#encoding, length"),
+    ("index.js", "    return this.hex();", "    return this.hex(true);"),
+    # trees, and the module
+    ("index.js", "'sec1_tree_check', 'sec1_tree_fault_at'", "'sec1_tree_check', 'sec1_key_fault_at'"),
+    ("index.js", "call('sec1_document_len', bytesOf(data))[1] || null",
+     "call('sec1_document_len', bytesOf(data))[1]"),
+    ("index.js", "export const version = '0.2.0';", "export const version = '0.2.1';"),
+    ("index.js", "export function documentLength", "export const other = 1;\nexport function documentLength"),
+    ("index.d.ts", "  toHybrid(): Point;\n", ""),
+    ("index.d.ts", "  readonly fieldLength: number;\n  readonly tag", "  readonly tag"),
+    ("module.js", "no WebAssembly with a memory of 64 bits is here", "no WebAssembly"),
+    ("module.js", "return fs.readFileSync(url);", "return fs.readFileSync(url).subarray(1);"),
+]
+
+
+def main():
+    first, step = [int(word) for word in (sys.argv[1:] + ["0", "1"][len(sys.argv) - 1:])][:2]
+    option = "--experimental-wasm-memory64"
+    knows = subprocess.run(["node", option, "-e", "0"], capture_output=True).returncode == 0
+    command = ["node", *[option] * knows, "tests/test.js"]
+    passed = failed = 0
+    with tempfile.TemporaryDirectory() as folder:
+        copy = pathlib.Path(folder) / "package"
+        # Files in place of links, which lead to others of the repository.
+        shutil.copytree(HERE, copy)
+
+        def run():
+            try:
+                how = {"cwd": copy, "capture_output": True, "text": True, "timeout": 300}
+                return subprocess.run(command, **how)
+            except subprocess.TimeoutExpired:
+                return None
+
+        if (result := run()) is None or result.returncode:
+            sys.exit("the tests fail without a fault")
+        for name, old, new in FAULTS[first::step]:
+            path = copy / name
+            text = path.read_text(encoding="utf-8")
+            if text.count(old) == 1:
+                path.write_text(text.replace(old, new), encoding="utf-8")
+                result = run()
+                path.write_text(text, encoding="utf-8")
+                caught, reason = result is None or result.returncode != 0, ""
+                if result is not None and "SyntaxError" in result.stdout + result.stderr:
+                    caught, reason = False, ", since it can't be read"
+            else:
+                caught, reason = False, f", since the line is there {text.count(old)} times"
+            passed, failed = passed + caught, failed + (not caught)
+            said = f"{name}: {old!r} -> {new!r}"
+            print(f"{'caught' if caught else 'NOT CAUGHT' + reason}: {said}", flush=True)
+    print(f"{passed} passed, {failed} failed")
+    sys.exit(failed != 0)
+
+
+main()

@@ -1,0 +1,683 @@
+// Tests of the package: worked examples, the stored keys and containers of OpenSSL, random points,
+// and what is left in memory.
+import assert from 'node:assert/strict';
+import { spawnSync } from 'node:child_process';
+import fs from 'node:fs';
+import test from 'node:test';
+import util from 'node:util';
+
+const read = (name) => fs.readFileSync(new URL(name, import.meta.url));
+const lines = (name) => read(name).toString().trim().split('\n').filter((it) => it[0] !== '#');
+const bytes = (hex) => new Uint8Array(Buffer.from(hex.replaceAll(' ', ''), 'hex'));
+const hex = (data) => Buffer.from(data).toString('hex');
+
+// The package's memory is looked at from outside: its module is instantiated in sight.
+let memory;
+let heap;
+const { instantiate } = WebAssembly;
+WebAssembly.instantiate = async (...given) => {
+  const instance = await instantiate(...given);
+  ({ memory, __heap_base: { value: heap } } = instance.exports);
+  return instance;
+};
+const sec1 = await import('../index.js');
+WebAssembly.instantiate = instantiate;
+const { Curve, EcPrivateKey, EcPublicKey, ObjectIdentifier, Point, Signature, Tag } = sec1;
+const first = new Uint8Array(memory.buffer).slice();
+
+const oid = ObjectIdentifier.fromText;
+const p256 = oid('1.2.840.10045.3.1.7');
+const refused = (call, Kind, offset = null) =>
+  assert.throws(call, (error) => {
+    assert.equal(error.constructor, Kind, String(error));
+    assert.equal(error.offset, offset);
+    return true;
+  });
+
+/** The memory is what it was at first, and zeros where it grew. */
+function assertWiped() {
+  const now = Buffer.from(memory.buffer);
+  assert(now.subarray(0, first.length).equals(first), 'the memory at first');
+  assert(now.subarray(first.length).equals(Buffer.alloc(now.length - first.length)), 'the rest');
+}
+
+/** Numbers that are the same in each run: a generator of Marsaglia (xorshift32). */
+let state = 7;
+function draw(limit) {
+  state ^= state << 13;
+  state ^= state >>> 17;
+  state ^= state << 5;
+  return (state >>> 0) % limit;
+}
+const drawBytes = (length) => Uint8Array.from({ length }, () => draw(256));
+
+const KINDS = {
+  Truncated: sec1.TruncatedError,
+  Tag: sec1.TagError,
+  Length: sec1.LengthError,
+  TrailingData: sec1.TrailingDataError,
+  Value: sec1.ValueContentError,
+};
+
+// ---- private keys
+
+test('reads stored keys of OpenSSL as a second reader says, and writes them as they were', () => {
+  const [keys, answers] = [lines('data/openssl.txt'), lines('data/openssl_answers.txt')];
+  assert.deepEqual([keys.length, answers.length], [2753, 2753]);
+  for (const [index, answer] of answers.entries()) {
+    const data = bytes(keys[index]);
+    if (answer.startsWith('refused: ')) {
+      assert.throws(() => EcPrivateKey.fromDer(data), (error) => {
+        assert.equal(`refused: ${error.kind}`, answer);
+        assert(error.offset >= 0 && error.offset <= data.length);
+        return error instanceof KINDS[error.kind];
+      });
+      continue;
+    }
+    const key = EcPrivateKey.fromDer(data);
+    const digits = (part) => hex(part).toUpperCase() || '-';
+    const publicKey = key.publicKey === null ? 'none' : digits(key.publicKey);
+    const found = [digits(key.privateKey), String(key.curve ?? 'none'), publicKey];
+    assert.deepEqual(found, answer.split(' ').slice(0, 3));
+    assert.deepEqual(key.toDer(), data);
+  }
+  assertWiped();
+});
+
+test('tells where a key is at fault', () => {
+  const data = bytes('3006020101040109');
+  for (const [at, value, Kind, offset] of [
+    [0, 0x31, sec1.TagError, 0],
+    [3, 2, sec1.ValueContentError, 4],
+    [4, 2, sec1.ValueContentError, 4],
+    [6, 0x80, sec1.LengthError, 6],
+  ]) {
+    refused(() => EcPrivateKey.fromDer(data.with(at, value)), Kind, offset);
+  }
+  for (const rest of ['\n', '\r\n', ' ', '\0']) {
+    const longer = Buffer.concat([data, Buffer.from(rest)]);
+    refused(() => EcPrivateKey.fromDer(longer), sec1.TrailingDataError, 8);
+  }
+  refused(() => EcPrivateKey.fromDer(bytes('')), sec1.TruncatedError, 0);
+});
+
+test('shows no private key', () => {
+  const key = new EcPrivateKey(Buffer.from('secret secret'), p256, Buffer.from('public'));
+  const shown = util.inspect(key, { showHidden: true, depth: 9 }) + JSON.stringify(key) + key;
+  assert(!/secret|115|73.?65/.test(shown), shown);
+  try {
+    EcPrivateKey.fromDer(Buffer.from('secret secret'));
+  } catch (error) {
+    assert(!/secret|115/.test(util.inspect(error, { showHidden: true }).split('    at ')[0]));
+  }
+});
+
+test('tells an empty public key from none', () => {
+  for (const publicKey of [null, bytes('')]) {
+    const key = EcPrivateKey.fromDer(new EcPrivateKey(bytes('01'), null, publicKey).toDer());
+    assert.deepEqual([key.curve, key.publicKey], [null, publicKey]);
+    const contained = EcPrivateKey.fromPkcs8Der(new EcPrivateKey(bytes('01'), p256, publicKey)
+      .toPkcs8Der());
+    assert.deepEqual([String(contained.curve), contained.publicKey], [String(p256), publicKey]);
+  }
+});
+
+test('reads and writes keys of many lengths', () => {
+  for (const length of [0, 127, 128, 255, 256, 480, 490, 500, 65535, 65536, 200000]) {
+    const key = new EcPrivateKey(drawBytes(length), p256, drawBytes(length));
+    for (const again of [
+      EcPrivateKey.fromDer(key.toDer()), EcPrivateKey.fromPkcs8Der(key.toPkcs8Der()),
+      EcPrivateKey.read(key.toDer()), EcPrivateKey.read(key.toPkcs8Der()),
+    ]) {
+      assert(again.equals(key) && key.equals(again));
+      assert.deepEqual([again.privateKey, again.publicKey], [key.privateKey, key.publicKey]);
+    }
+    assertWiped();
+  }
+});
+
+test('keeps arrays of keys, and takes any buffer', () => {
+  const secret = Buffer.from('0102', 'hex');
+  const key = new EcPrivateKey(secret, p256);
+  const der = key.toDer();
+  const copies = [
+    der, Buffer.from(der), der.buffer.slice(der.byteOffset, der.byteOffset + der.length),
+    new DataView(der.buffer, der.byteOffset, der.length),
+    new Uint8Array([9, ...der, 9]).subarray(1, -1),
+  ];
+  for (const copy of copies) assert(EcPrivateKey.fromDer(copy).equals(key));
+  const read = EcPrivateKey.fromDer(copies[1]);
+  copies[1].fill(0);
+  assert.deepEqual(read.privateKey, bytes('0102'));
+  key.privateKey.fill(0);
+  assert.deepEqual([...secret], [0, 0]);
+  assert.throws(() => { key.privateKey = secret; }, TypeError);
+});
+
+test('refuses values of wrong types', () => {
+  for (const wrong of [5, 'text', [1, 2], {}, undefined, true]) {
+    for (const call of [
+      EcPrivateKey.fromDer, EcPrivateKey.fromPkcs8Der, EcPrivateKey.read, EcPublicKey.fromDer,
+      Signature.fromDer, sec1.certificatePublicKey, sec1.checkTree, sec1.documentLength,
+      (it) => new EcPrivateKey(it), (it) => new ObjectIdentifier(it), (it) => new Point(it, 32),
+      (it) => new Signature(it, bytes('01')), (it) => new Signature(bytes('01'), it),
+      (it) => new EcPublicKey(p256, it), (it) => Point.fromCoordinates(it, bytes('01')),
+    ]) {
+      assert.throws(() => call(wrong), TypeError);
+    }
+  }
+  for (const wrong of ['1.2.3', '', 0, false, bytes('2a'), new Curve(p256)]) {
+    assert.throws(() => new EcPrivateKey(bytes('01'), wrong), TypeError);
+    assert.throws(() => new EcPublicKey(wrong, bytes('01')), TypeError);
+    assert.throws(() => new Curve(wrong), TypeError);
+    assert.throws(() => p256.compare(wrong), TypeError);
+    assert.throws(() => new Point(bytes('00'), 32).compare(wrong), TypeError);
+  }
+  for (const wrong of [5, 'text', '', 0, false]) {
+    assert.throws(() => new EcPrivateKey(bytes('01'), null, wrong), TypeError);
+  }
+  for (const wrong of [5, bytes('3030'), null, undefined, ['0.0']]) {
+    for (const call of [oid, Curve.fromName, (it) => Point.fromHex(it, 32)]) {
+      assert.throws(() => call(wrong), TypeError);
+    }
+  }
+});
+
+test('finds keys equal or different by each part, to its last byte', () => {
+  const other = oid('1.2.840.10045.3.1.6');
+  const [scalar, point] = [bytes('00'.repeat(32)), bytes('00'.repeat(65))];
+  const key = new EcPrivateKey(scalar, p256, point);
+  const again = new EcPrivateKey(Buffer.alloc(32), oid(String(p256)), new ArrayBuffer(65));
+  assert(key.equals(again) && again.equals(key));
+  const others = [
+    ...[scalar.with(31, 1), scalar.with(0, 1), scalar.slice(1), bytes('')]
+      .map((it) => new EcPrivateKey(it, p256, point)),
+    ...[other, null].map((it) => new EcPrivateKey(scalar, it, point)),
+    ...[point.with(64, 1), point.slice(1), bytes(''), null]
+      .map((it) => new EcPrivateKey(scalar, p256, it)),
+    new EcPublicKey(p256, point), scalar, null, undefined,
+  ];
+  for (const it of others) assert(!key.equals(it) && !it?.equals?.(key));
+  assert(new EcPrivateKey(scalar).equals(new EcPrivateKey(scalar, null, null)));
+});
+
+// ---- containers, public keys, certificates and signatures
+
+/** The element with this tag and this content, in hexadecimal (X.690 section 8.1). */
+function element(tag, content) {
+  const length = content.length / 2;
+  const digits = length.toString(16).padStart(length < 256 ? 2 : 4, '0');
+  return tag + (length < 128 ? '' : length < 256 ? '81' : '82') + digits + content;
+}
+
+/** The curves of the table that the stored containers name, by their identifiers' contents. */
+const CURVES = new Set([
+  'secp112r1', 'secp112r2', 'secp128r1', 'secp128r2', 'secp160k1', 'secp160r1', 'secp160r2',
+  'secp192k1', 'prime192v1', 'prime192v2', 'prime192v3', 'prime239v1', 'prime239v2', 'prime239v3',
+  'secp224k1', 'secp224r1', 'prime256v1', 'secp256k1', 'secp384r1', 'secp521r1',
+  ...[160, 192, 224, 256, 320, 384, 512]
+    .flatMap((length) => [`brainpoolP${length}r1`, `brainpoolP${length}t1`]),
+].map((name) => hex(Curve.fromName(name).identifier.content)));
+
+/** Returns the content of the curve's identifier if the algorithm is id-ecPublicKey over one. */
+function curveOf(algorithm, parameters) {
+  const curve = parameters.slice(4);
+  const isNamed = algorithm === '2a8648ce3d0201' && parameters.startsWith('06');
+  return isNamed && CURVES.has(curve) ? curve : null;
+}
+
+const stored = lines('data/containers.txt').map((line) => line.split(' '));
+const fields = lines('data/containers_fields.txt').map((line) => line.split(' '));
+const count = { 'private-key-info': 0, 'public-key-info': 0, certificate: 0, signature: 0 };
+
+/** Compares what is read of a SubjectPublicKeyInfo with its fields. Returns whether it is EC. */
+function comparePublicKey(data, algorithm, parameters, bits) {
+  const curve = curveOf(algorithm, parameters);
+  if (!curve) {
+    assert.throws(() => EcPublicKey.fromDer(data), sec1.CurveError);
+    return false;
+  }
+  const key = EcPublicKey.fromDer(data);
+  assert.deepEqual([hex(key.curve.content), `00${hex(key.publicKey)}`], [curve, bits]);
+  assert.deepEqual([key.toDer(), hex(key.point.encoding)], [data, bits.slice(2)]);
+  return true;
+}
+
+const COMPARE = {
+  'private-key-info'(data, [, algorithm, parameters, contained]) {
+    const curve = curveOf(algorithm, parameters);
+    if (!curve) {
+      // After the header, whose length takes more bytes from 128 on, and the version.
+      const offset = 5 + (data[1] < 128 ? 0 : data[1] - 128);
+      refused(() => EcPrivateKey.fromPkcs8Der(data), sec1.CurveError, offset);
+      refused(() => EcPrivateKey.read(data), sec1.CurveError);
+      return false;
+    }
+    const inside = EcPrivateKey.fromDer(bytes(contained));
+    for (const key of [EcPrivateKey.fromPkcs8Der(data), EcPrivateKey.read(data)]) {
+      assert.deepEqual([key.privateKey, key.publicKey], [inside.privateKey, inside.publicKey]);
+      assert.equal(hex(key.curve.content), curve);
+      if (inside.curve === null) assert.deepEqual(key.toPkcs8Der(), data);
+    }
+    assert.throws(() => EcPrivateKey.fromPkcs8Der(bytes(contained)), sec1.TagError);
+    return true;
+  },
+  'public-key-info': (data, parts) => comparePublicKey(data, ...parts),
+  certificate(data, parts) {
+    const [algorithm, parameters, bits] = parts.slice(7, 10);
+    const named = element('06', algorithm) + (parameters === '-' ? '' : parameters);
+    const wanted = bytes(element('30', element('30', named) + element('03', bits)));
+    assert.deepEqual(sec1.certificatePublicKey(data), wanted);
+    return comparePublicKey(wanted, algorithm, parameters, bits);
+  },
+  signature(data, numbers) {
+    const signature = Signature.fromDer(data);
+    const [r, s] = numbers.map((it) => (parseInt(it.slice(0, 2), 16) < 128 ? it : `00${it}`));
+    assert.deepEqual([hex(signature.r), hex(signature.s)], [r, s]);
+    assert.deepEqual(signature.toDer(), data);
+    assert.deepEqual(new Signature(...numbers.map(bytes)).toDer(), data);
+    return true;
+  },
+};
+
+/** How many are of keys on curves of the table. */
+const COUNTS = { 'private-key-info': 24, 'public-key-info': 18, certificate: 99, signature: 66 };
+
+test('reads the stored containers of OpenSSL as it does, and writes them as they were', () => {
+  for (const [index, [word, digits]] of stored.entries()) {
+    count[word] += COMPARE[word](bytes(digits), fields[index]);
+  }
+  assert.deepEqual(count, COUNTS);
+  assertWiped();
+});
+
+test('refuses a key in a container by its place, and by its curve', () => {
+  const data = new EcPrivateKey(bytes('0708'), p256).toPkcs8Der();
+  const named = '301306072a8648ce3d020106082a8648ce3d030107';
+  assert.equal(hex(data), `3023020100${named}0409300702010104020708`);
+  for (const [at, value, Kind, offset] of [
+    [0, 0x31, sec1.TagError, 0],
+    [4, 2, sec1.ValueContentError, 4],
+    [25, 0x3e, sec1.CurveError, 5],
+    [28, 0x31, sec1.TagError, 28],
+    [32, 2, sec1.ValueContentError, 32],
+    [34, 3, sec1.TruncatedError, 34],
+  ]) {
+    refused(() => EcPrivateKey.fromPkcs8Der(data.with(at, value)), Kind, offset);
+    refused(() => EcPrivateKey.read(data.with(at, value)), Kind);
+  }
+  // The key ends after its container's octet string, and attributes follow that.
+  const longer = bytes(element('30', `020100${named}0409300802010104020708a000`));
+  refused(() => EcPrivateKey.fromPkcs8Der(longer), sec1.TruncatedError, 29);
+  const other = hex(new EcPrivateKey(bytes('07'), Curve.fromName('P-384').identifier).toDer());
+  const differs = bytes(element('30', `020100${named}${element('04', other)}`));
+  refused(() => EcPrivateKey.fromPkcs8Der(differs), sec1.OtherCurveError);
+  refused(() => EcPrivateKey.read(differs), sec1.OtherCurveError);
+  for (const curve of [null, oid('1.2.3')]) {
+    refused(() => new EcPrivateKey(bytes('07'), curve).toPkcs8Der(), sec1.CurveError);
+  }
+  refused(() => EcPrivateKey.read(bytes('')), sec1.TruncatedError);
+  assertWiped();
+});
+
+test('refuses public keys, certificates and signatures by their places', () => {
+  const point = bytes(`03${'00'.repeat(31)}08`);
+  const data = new EcPublicKey(p256, point).toDer();
+  for (const [at, value, Kind, offset] of [
+    [0, 0x31, sec1.TagError, 0],
+    [22, 0x3e, sec1.CurveError, 2],
+    [25, 1, sec1.PointEncodingError, 23],
+    [26, 9, sec1.PointEncodingError, 23],
+  ]) {
+    refused(() => EcPublicKey.fromDer(data.with(at, value)), Kind, offset);
+  }
+  refused(() => new EcPublicKey(p256, point.slice(1)).toDer(), sec1.PointEncodingError);
+  refused(() => new EcPublicKey(oid('1.2.3'), point).toDer(), sec1.CurveError);
+  refused(() => new EcPublicKey(oid('1.2.3'), point).point, sec1.CurveError);
+  refused(() => sec1.certificatePublicKey(data), sec1.TagError);
+  const signature = bytes('3006020101020109');
+  refused(() => Signature.fromDer(signature.with(7, 0x80)), sec1.ValueContentError, 7);
+  refused(() => Signature.fromDer(signature.with(5, 3)), sec1.TagError, 5);
+});
+
+test('finds public keys and signatures equal or different by each part', () => {
+  const [curve, point] = [Curve.fromName('P-256').identifier, bytes(`02${'01'.repeat(32)}`)];
+  const key = new EcPublicKey(curve, point);
+  assert(key.equals(new EcPublicKey(p256, Buffer.from(point))));
+  const others = [
+    new EcPublicKey(curve, point.with(32, 2)), new EcPublicKey(curve, point.slice(1)),
+    new EcPublicKey(Curve.fromName('secp256k1').identifier, point), point, null,
+  ];
+  for (const other of others) assert(!key.equals(other));
+  point.fill(0);
+  key.publicKey.fill(0);
+  assert.equal(hex(key.publicKey), `02${'01'.repeat(32)}`);
+
+  const signature = new Signature(bytes('80'), bytes('01'));
+  assert(signature.equals(new Signature(bytes('000080'), bytes('0001'))));
+  for (const [r, s] of [['81', '01'], ['80', '02'], ['01', '80'], ['80', '']]) {
+    assert(!signature.equals(new Signature(bytes(r), bytes(s))));
+  }
+  assert(!signature.equals(null) && !signature.equals(signature.toDer()));
+  signature.r.fill(0);
+  signature.s.fill(0);
+  assert.deepEqual([hex(signature.r), hex(signature.s)], ['80', '01']);
+  assert.equal(hex(signature.toDer()), '300702020080020101');
+});
+
+// ---- points
+
+/** Whether the bytes are the encoding of a point (SEC1 v2.0 section 2.3.3, X9.62 section 4.3.6). */
+function accepts(data, length) {
+  const compressed = 1 + length;
+  const both = compressed + length;
+  const lengths = { 0: 1, 2: compressed, 3: compressed, 5: compressed, 4: both };
+  lengths[6 + (data.at(-1) % 2)] = both;
+  return data.length > 0 && data.length === lengths[data[0]];
+}
+
+test('reads and writes points of each form and length', () => {
+  const last = new Map();
+  let accepted = 0;
+  for (let round = 0; round < 5000; round += 1) {
+    const length = [1, 20, 28, 32, 48, 66][draw(6)];
+    const size = [1, 1 + length, 1 + 2 * length, 1 + 2 * length, draw(140)][draw(5)];
+    const data = drawBytes(size);
+    if (size && draw(10)) data[0] = draw(9);
+    if (!accepts(data, length)) {
+      refused(() => new Point(data, length), sec1.PointEncodingError);
+      continue;
+    }
+    accepted += 1;
+    const point = new Point(data, length);
+    const [x, y] = [data.slice(1, 1 + length), data.slice(1 + length)];
+    assert.deepEqual([point.tag, point.x ?? bytes(''), point.y ?? bytes('')], [data[0], x, y]);
+    assert.deepEqual([point.encoding, point.fieldLength], [data, length]);
+    const small = point.y ? Uint8Array.of(2 + (y.at(-1) % 2), ...x) : data;
+    assert.deepEqual(point.compress().encoding, small);
+    const large = point.y ? Uint8Array.of(4, ...x, ...y) : data;
+    assert.deepEqual(point.uncompress().encoding, large);
+    const hybrid = data[0] === 4 ? Uint8Array.of(6 + (y.at(-1) % 2), ...x, ...y) : data;
+    assert.deepEqual(point.toHybrid().encoding, hybrid);
+    assert.deepEqual([point.hex(), point.hex(true)], [hex(data).toUpperCase(), hex(data)]);
+    assert.equal(`${point}`, point.hex());
+    assert(Point.fromHex(hex(data), length).equals(point));
+    if (data[0] === 4) {
+      assert(Point.fromCoordinates(x, y).equals(point));
+      assert.deepEqual(Point.fromCoordinates(x, y, true).encoding, small);
+    }
+    const other = last.get(length) ?? point;
+    const order = Math.sign(Buffer.compare(data, other.encoding));
+    assert.deepEqual([point.compare(other), point.equals(other)], [order, order === 0]);
+    last.set(length, point);
+  }
+  assert(accepted > 500, `${accepted} points`);
+  assertWiped();
+});
+
+test('finds points equal or different by each byte, and by the field', () => {
+  const data = bytes(`04${'00'.repeat(64)}`);
+  const point = new Point(data, 32);
+  assert(point.equals(new Point(Buffer.from(data), 32)));
+  const others = [
+    ...[data.with(64, 2), data.with(32, 1), data.with(0, 6), data.slice(0, 33).with(0, 2), [0]]
+      .map((it) => new Point(Uint8Array.from(it), 32)),
+    bytes('00'), null,
+  ];
+  for (const other of others) assert(!point.equals(other));
+  const [identity, longer] = [Point.identity(32), Point.identity(48)];
+  assert(identity.equals(new Point(bytes('00'), 32)) && !identity.equals(longer));
+  assert.throws(() => identity.compare(longer), TypeError);
+  data.fill(1);
+  point.encoding.fill(1);
+  point.x.fill(1);
+  point.y.fill(1);
+  assert.equal(hex(Uint8Array.of(...point.encoding, ...point.x, ...point.y)),
+    `04${'00'.repeat(128)}`);
+  assert.deepEqual(Object.keys(Tag), ['IDENTITY', 'COMPRESSED_EVEN', 'COMPRESSED_ODD',
+    'UNCOMPRESSED', 'COMPACT', 'HYBRID_EVEN', 'HYBRID_ODD']);
+  assert.deepEqual(Object.values(Tag), [0, 2, 3, 4, 5, 6, 7]);
+  assert.throws(() => { Tag.COMPACT = 9; }, TypeError);
+});
+
+test('refuses lengths of field elements, and texts of points', () => {
+  for (const call of [
+    (it) => new Point(bytes('00'), it), Point.identity, (it) => Point.fromHex('00', it),
+  ]) {
+    assert.equal(call(66).fieldLength, 66);
+    for (const length of [0, 67, -1, -(2 ** 64) + 4096, 2 ** 64, 2 ** 64 + 4096, 1e300, -0]) {
+      refused(() => call(length), sec1.FieldLengthError);
+    }
+    for (const wrong of [true, 32.5, '32', null, undefined, NaN, Infinity, 32n]) {
+      assert.throws(() => call(wrong), TypeError);
+    }
+  }
+  for (const text of ['02aA', '02a', '', '+2aa', '02gg', '02aaaa', '0\u0662aa', '02aa\0']) {
+    refused(() => Point.fromHex(text, 1), sec1.PointEncodingError);
+  }
+  for (const [x, y] of [['', ''], ['01', '0102'], ['01'.repeat(67), '01'.repeat(67)]]) {
+    refused(() => Point.fromCoordinates(bytes(x), bytes(y)), sec1.FieldLengthError);
+  }
+  assert.deepEqual([Point.identity(66).x, Point.fromHex('02ff', 1).y], [null, null]);
+});
+
+// ---- identifiers, curves, trees
+
+test('reads, writes and orders identifiers', () => {
+  for (const text of ['1.2.840.10045.3.1.7', '0.0', '2.999', '2.4294967215']) {
+    assert.equal(String(oid(text)), text);
+    assert(new ObjectIdentifier(oid(text).content).equals(oid(text)));
+  }
+  for (const text of [
+    '', '1', '1.40', '3.1', '1.02', '1.+2', '1.2 ', '1.\u0662', '1.2\0', '1.\ud800',
+  ]) {
+    refused(() => oid(text), sec1.ValueContentError);
+  }
+  for (const content of ['', '8001', '81', '01'.repeat(40)]) {
+    refused(() => new ObjectIdentifier(bytes(content)), sec1.ValueContentError);
+  }
+  const texts = '0.0 1.2 1.2.3 1.2.3.1 1.2.4 1.2.127 1.2.128 1.2.16383 1.2.16384 1.3.6 2.5'
+    .split(' ');
+  const identifiers = texts.map(oid);
+  for (const [i, one] of identifiers.entries()) {
+    assert.deepEqual(one.arcs.join('.'), texts[i]);
+    for (const [j, other] of identifiers.entries()) {
+      assert.deepEqual([one.compare(other), one.equals(other)], [Math.sign(i - j), i === j]);
+    }
+    assert(!one.equals(texts[i]) && !one.equals(null));
+  }
+  const content = p256.content;
+  assert.equal(hex(content), '2a8648ce3d030107');
+  const made = new ObjectIdentifier(content);
+  content.fill(0);
+  made.content.fill(0);
+  assert.equal(String(made), '1.2.840.10045.3.1.7');
+});
+
+test('finds curves by their names and identifiers', () => {
+  for (const [name, named, text, length] of [
+    ['P-256', 'secp256r1', '1.2.840.10045.3.1.7', 32],
+    ['prime256v1', 'secp256r1', '1.2.840.10045.3.1.7', 32],
+    ['secp521r1', 'secp521r1', '1.3.132.0.35', 66],
+    ['brainpoolP512r1', 'brainpoolP512r1', '1.3.36.3.3.2.8.1.1.13', 64],
+  ]) {
+    const curve = Curve.fromName(name);
+    assert.deepEqual([curve.name, `${curve}`, String(curve.identifier), curve.fieldLength],
+      [named, named, text, length]);
+    assert(curve.equals(new Curve(oid(text))));
+    assert(!curve.equals(Curve.fromName('secp256k1')) && !curve.equals(oid(text)));
+  }
+  for (const name of ['', 'p-256', 'P-256\0', 'secp256r1 ']) {
+    refused(() => Curve.fromName(name), sec1.CurveError);
+  }
+  refused(() => new Curve(oid('1.2')), sec1.CurveError);
+});
+
+test('counts the elements of trees, and tells where they are at fault', () => {
+  assert.equal(sec1.checkTree(bytes('3003020101')), 2);
+  let deep = '';
+  for (let depth = 0; depth < 64; depth += 1) deep = element('30', deep);
+  assert.equal(sec1.checkTree(bytes(deep)), 64);
+  refused(() => sec1.checkTree(bytes(element('30', deep))), sec1.DepthError, 129);
+  for (const [text, Kind, offset] of [
+    ['', sec1.TruncatedError, 0],
+    ['3003020301', sec1.TruncatedError, 3],
+    ['300302', sec1.TruncatedError, 1],
+    ['3080', sec1.LengthError, 1],
+    ['0500ff', sec1.TrailingDataError, 2],
+    ['1f00', sec1.TagError, 0],
+  ]) {
+    refused(() => sec1.checkTree(bytes(text)), Kind, offset);
+  }
+  assert.equal(sec1.documentLength(bytes('30820100')), 260);
+  assert.equal(sec1.documentLength(bytes('3000ff')), 2);
+  for (const text of ['', '30', '1f00']) assert.equal(sec1.documentLength(bytes(text)), null);
+});
+
+test('names each refusal as sec1.h does', () => {
+  const kinds = {
+    TruncatedError: ['Truncated', 1, 'input ends inside an element'],
+    TagError: ['Tag', 2, 'unexpected or unsupported tag'],
+    LengthError: ['Length', 3, 'length not in DER form or above the limit'],
+    TrailingDataError: ['TrailingData', 4, 'bytes after the value'],
+    ValueContentError: ['Value', 5, 'content not valid for its tag'],
+    OverlengthError: ['Overlength', 6, 'value longer than 268435455 bytes'],
+    DepthError: ['Depth', 8, 'more than 64 nested elements'],
+    PointEncodingError: ['PointEncoding', 9, 'elliptic curve point encoding error'],
+    FieldLengthError: ['FieldLength', 10, 'length of field elements not supported'],
+    CurveError: ['Curve', 11, 'curve not in the table'],
+    OtherCurveError: ['OtherCurve', 12, 'key and container name different curves'],
+    Sec1Error: [null, null, 'the library broke its contract'],
+  };
+  for (const [name, [kind, status, text]] of Object.entries(kinds)) {
+    const error = new sec1[name]();
+    assert(error instanceof sec1.Sec1Error && error instanceof Error);
+    assert.deepEqual([error.name, error.kind, error.status, error.offset, error.message],
+      [name, kind, status, null, text]);
+    assert.equal(String(new sec1[name](7)), `${name}: ${text} at byte 7`);
+    const { offset, message } = new sec1[name](0);
+    assert.deepEqual([offset, message], [0, `${text} at byte 0`]);
+  }
+  const errors = Object.keys(sec1).filter((name) => name.endsWith('Error'));
+  assert.deepEqual(errors.sort(), Object.keys(kinds).sort());
+});
+
+// ---- memory
+
+const { Memory } = WebAssembly;
+const growing = Memory.prototype.grow;
+
+/** The argument by which this engine grows a memory of 64 bits. */
+function grown(memory, pages) {
+  try {
+    return growing.call(memory, BigInt(pages));
+  } catch {
+    return growing.call(memory, Number(pages));
+  }
+}
+
+/** Runs a call, while a memory is grown by this function. */
+function whileGrowing(grow, call) {
+  Memory.prototype.grow = grow;
+  try {
+    return call();
+  } finally {
+    Memory.prototype.grow = growing;
+  }
+}
+
+test('grows memory by numbers and by BigInts, as older and newer engines do', () => {
+  for (const type of ['number', 'bigint']) {
+    const before = memory.buffer.byteLength;
+    const key = new EcPrivateKey(new Uint8Array(before).fill(7));
+    const grow = function grow(pages) {
+      if (typeof pages !== type) throw new TypeError(`a ${type} is expected`);
+      return grown(this, pages);
+    };
+    assert.deepEqual(EcPrivateKey.fromDer(whileGrowing(grow, () => key.toDer())).privateKey,
+      key.privateKey);
+    assert(memory.buffer.byteLength > before);
+    assertWiped();
+  }
+});
+
+test('grows memory only if it is needed, by pages', () => {
+  for (const more of [0, 1, 8, 65536, 65537, 65544]) {
+    const before = memory.buffer.byteLength;
+    // A call that takes this, and stores one number of 8 bytes.
+    sec1.documentLength(new Uint8Array(before - Number(heap) - 8 + more));
+    assert.equal(memory.buffer.byteLength - before, Math.ceil(more / 65536) * 65536);
+  }
+});
+
+test('wipes memory if it cannot be grown, and works on', () => {
+  const secret = new Uint8Array(memory.buffer.byteLength).fill(7);
+  const none = (pages) => { throw new (typeof pages === 'bigint' ? RangeError : TypeError)(); };
+  // There is room for the private key alone, and none for a public key.
+  const key = new EcPrivateKey(secret.subarray(secret.length / 2), null, secret);
+  assert.throws(() => whileGrowing(none, () => key.toDer()), RangeError);
+  assertWiped();
+  assert(EcPrivateKey.fromDer(key.toDer()).equals(key));
+  assertWiped();
+});
+
+test('wipes memory after each call that sees a private key', () => {
+  const key = new EcPrivateKey(drawBytes(5000), p256, drawBytes(5000));
+  const [der, contained] = [key.toDer(), key.toPkcs8Der()];
+  assertWiped();
+  const outside = { TypeError, Sec1Error: sec1.Sec1Error };
+  for (const [call, Kind] of [
+    [() => EcPrivateKey.fromDer(der)], [() => EcPrivateKey.fromPkcs8Der(contained)],
+    [() => EcPrivateKey.read(der)], [() => EcPrivateKey.read(contained)],
+    [() => sec1.checkTree(der)], [() => sec1.documentLength(der)],
+    [() => key.toDer()], [() => key.toPkcs8Der()], [() => key.equals(EcPrivateKey.fromDer(der))],
+    [() => EcPrivateKey.fromDer(der.slice(1)), outside.Sec1Error],
+    [() => EcPrivateKey.fromPkcs8Der(contained.slice(0, -1)), outside.Sec1Error],
+    [() => EcPrivateKey.read(der.slice(0, -1)), outside.Sec1Error],
+    [() => new EcPrivateKey(key.privateKey, oid('1.2')).toPkcs8Der(), outside.Sec1Error],
+  ]) {
+    if (Kind) assert.throws(call, Kind);
+    else call();
+    assertWiped();
+  }
+});
+
+// ---- the package
+
+test('declares the names that it exports, and their members', () => {
+  const types = read('../index.d.ts').toString();
+  const declared = [...types.matchAll(/^export (?:class|const|function) (\w+)/gm)];
+  assert.deepEqual(declared.map(([, name]) => name).sort(), Object.keys(sec1).sort());
+  const classes = /^export class (\w+) (?:extends \w+ )?\{\n(.*?)^\}/gms;
+  for (const [, name, body] of types.matchAll(classes)) {
+    const members = [...body.matchAll(/^  (static )?(?:readonly )?(\w+)[(:?]/gm)];
+    const names = (isStatic) => members.filter((it) => Boolean(it[1]) === isStatic)
+      .map((it) => it[2]).filter((it) => it !== 'offset').sort();
+    const found = Object.getOwnPropertyNames(sec1[name]);
+    const own = found.filter((it) => !['length', 'name', 'prototype'].includes(it)).sort();
+    assert.deepEqual(names(false), Object.getOwnPropertyNames(sec1[name].prototype).sort(), name);
+    assert.deepEqual(names(true), own, name);
+  }
+});
+
+test('has the version of its package, and needs nothing', () => {
+  const description = JSON.parse(read('../package.json'));
+  assert.deepEqual([description.version, description.dependencies], [sec1.version, undefined]);
+  const module = new WebAssembly.Module(read('../sec1.wasm'));
+  assert.deepEqual(WebAssembly.Module.imports(module), []);
+});
+
+// Near the end, since the memory stays as long as it was for this.
+test('refuses to write a key that is too long', () => {
+  const key = new EcPrivateKey(new Uint8Array(1 << 28).fill(1));
+  refused(() => key.toDer(), sec1.OverlengthError);
+  assertWiped();
+});
+
+test('says what is missing in an engine without memories of 64 bits', () => {
+  const program = `WebAssembly.compile = async () => { throw new WebAssembly.CompileError('bit'); };
+    await import(${JSON.stringify(new URL('../index.js', import.meta.url))});`;
+  const { status, stderr } = spawnSync(process.execPath, ['--input-type=module', '-e', program]);
+  assert.equal(status, 1);
+  assert.match(String(stderr), /no WebAssembly with a memory of 64 bits is here: Node 24 or/);
+});
