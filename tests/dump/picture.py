@@ -1,375 +1,590 @@
-"""Draws DER as `sec1_dump` does, by a reader of its own: written from X.690, RFC 5915 and
-docs/FORMATS.md alone.
+#!/usr/bin/env python3
+"""Draws any input as `sec1_dump` does, by a reader of its own: written from X.690, RFC 5915, 5958,
+7292 and 8017. `text.py` reads the text of an input (PEM, hexadecimal, base64), `ber.py` headers,
+`guard.py` what may be a private key, `values.py` contents.
 
-    python3 tests/dump/picture.py [--all] [--json] FILE
+    tests/dump/picture.py [--all] [--json] [FILE]..
 """
 import json
-import string
+import pathlib
 import sys
 
-LIMIT = 1 << 20
-TYPES = {
-    1: "BOOLEAN", 2: "INTEGER", 3: "BIT STRING", 4: "OCTET STRING", 5: "NULL",
-    6: "OBJECT IDENTIFIER", 10: "ENUMERATED", 12: "UTF8String", 19: "PrintableString",
-    22: "IA5String", 23: "UTCTime", 24: "GeneralizedTime", 48: "SEQUENCE", 49: "SET",
+sys.path.insert(0, str(pathlib.Path(__file__).resolve().parent))
+import text  # noqa: E402
+from ber import LEVELS, Header, NoElement, Row, count_of, is_tree  # noqa: E402
+from guard import form_of  # noqa: E402
+from values import CLASSES, NAMES, STRINGS, Label, escaped, identifier, is_named  # noqa: E402
+
+EC, NAMED = "openssl ec %s-in FILE %s-outform DER -out key.der", "-param_enc named_curve "
+PKCS12 = "openssl pkcs12 -in FILE -nodes -nocerts"
+EXPECTED = {
+    "key": "ECPrivateKey, a SEQUENCE (30)",
+    "version": "version, INTEGER { ecPrivkeyVer1(1) } (02 01 01)",
+    "privateKey": "privateKey, OCTET STRING (04)",
+    "parameters": "parameters [0] (A0) with namedCurve, OBJECT IDENTIFIER (06)",
+    "publicKey": "publicKey [1] (A1) with a BIT STRING (03) of whole bytes",
+    "end": "the end of the input",
 }
-CLASSES = ("UNIVERSAL ", "APPLICATION ", "", "PRIVATE ")
-SECG = {
-    6: "secp112r1", 7: "secp112r2", 28: "secp128r1", 29: "secp128r2", 9: "secp160k1",
-    8: "secp160r1", 30: "secp160r2", 31: "secp192k1", 32: "secp224k1", 33: "P-224",
-    10: "secp256k1", 34: "P-384", 35: "P-521",
-}
-X962 = ("P-192", "prime192v2", "prime192v3", "prime239v1", "prime239v2", "prime239v3", "P-256")
-BRAINPOOL = (160, 192, 224, 256, 320, 384, 512)
-CURVES = {f"1.3.132.0.{n}": name for n, name in SECG.items()}
-CURVES |= {f"1.2.840.10045.3.1.{n}": name for n, name in enumerate(X962, 1)}
-CURVES |= {
-    f"1.3.36.3.3.2.8.1.1.{2 * n + t}": f"brainpoolP{bits}{'rt'[t - 1]}1"
-    for n, bits in enumerate(BRAINPOOL) for t in (1, 2)
-}
-WORDS = {
-    "Truncated": "the input or an enclosing element ends too early",
-    "Tag": "a tag that can't be here",
-    "Length": "no length in the form of DER",
-    "TrailingData": "bytes that can't be here",
-    "Value": "a content that can't be here",
-    "Depth": "more than 64 nested elements",
-}
-COMMAND = "  openssl ec %s-outform DER -out key.der\n"
-OF_DER = COMMAND % "-inform DER -in FILE "
-OF_PEM = COMMAND % "-in FILE "
-PKCS12 = "  openssl pkcs12 -in FILE -nodes -nocerts\n"
-NAMED = COMMAND % "-inform DER -in FILE -param_enc named_curve "
-LABELS = {
-    "EC PRIVATE KEY-----": "This is an EC private key in PEM. This makes DER of it:\n" + OF_PEM,
-    "EC PARAMETERS-----":
-        "This is a curve in PEM. If a key follows it, this makes DER of that:\n" + OF_PEM,
-    "PRIVATE KEY-----": "This is PKCS #8 in PEM. If it holds an EC key, this writes it:\n" + OF_PEM,
-    "ENCRYPTED PRIVATE KEY-----":
-        "This is encrypted PKCS #8 in PEM. If it holds an EC key, "
-        "this asks for the password and writes it:\n" + OF_PEM,
-    "OPENSSH PRIVATE KEY-----":
-        "This is OpenSSH's own form. This makes PEM of a copy of it:\n  ssh-keygen -p -m PEM -f COPY\n",
-    "": "This is PEM, of another kind than a private key.\n",
-}
+FIELDS = ("parameters [0] (A0)", "publicKey [1] (A1)", "the end of the SEQUENCE")
+NO_KEY = "This is no EC private key (RFC 5915)"
+# Forms that have no private key, by the tags of the root's children and of its first child's: a
+# field is its name, its tags, and whether it may be left out.
+TBS = [("version", "A0", 1), ("serialNumber", "02", 0), ("signature", "30", 0),
+       ("issuer", "30", 0), ("validity", "30", 0), ("subject", "30", 0),
+       ("subjectPublicKeyInfo", "30", 0), ("issuerUniqueID", "81", 1),
+       ("subjectUniqueID", "82", 1), ("extensions", "A3", 1)]
+REQUEST = [("version", "02", 0), ("subject", "30", 0), ("subjectPKInfo", "30", 0),
+           ("attributes", "A0", 0)]
+LIST = [("version", "02", 1), ("signature", "30", 0), ("issuer", "30", 0),
+        ("thisUpdate", "17 18", 0), ("nextUpdate", "17 18", 1),
+        ("revokedCertificates", "30", 1), ("crlExtensions", "A0", 1)]
+ALGORITHM = [(None, "06", 0), (None, "*", 1)]
 
 
-class Fault(Exception):
-    """The offset of a refusal, and its kind."""
+def signed(first, last):
+    return [(first, "30", 0), ("signatureAlgorithm", "30", 0), (last, "03", 0)]
 
 
-def header(data, at, end):
-    """Returns the tag, where the content begins, and where it ends."""
-    if at >= end:
-        raise Fault(end, "Truncated")
-    tag = data[at]
-    if tag == 0 or tag % 32 == 31:
-        raise Fault(at, "Tag")
-    return (tag,) + extent(data, at + 1, end)
+KEYLESS = "This is %s: it has no private key."
+OPEN_FORMS = [
+    ("Certificate", signed("tbsCertificate", "signatureValue"), TBS,
+     KEYLESS % "a certificate (RFC 5280)"),
+    ("CertificationRequest", signed("certificationRequestInfo", "signature"), REQUEST,
+     KEYLESS % "a certification request (RFC 2986)"),
+    ("CertificateList", signed("tbsCertList", "signatureValue"), LIST,
+     KEYLESS % "a list of revoked certificates (RFC 5280)"),
+    ("SubjectPublicKeyInfo", [("algorithm", "30", 0), ("subjectPublicKey", "03", 0)], ALGORITHM,
+     KEYLESS % "a public key (RFC 5280)"),
+    ("EncryptedPrivateKeyInfo", [("encryptionAlgorithm", "30", 0), ("encryptedData", "04", 0)],
+     ALGORITHM, "This is encrypted PKCS #8 (RFC 5958). If it has an EC key, "
+     "this asks for the password and writes it:"),
+    ("ContentInfo", [("contentType", "06", 0), ("content", "A0", 0)], [],
+     "This is CMS or PKCS #7 (RFC 5652), no EC key."),
+]
+RSA = ("version", "modulus", "publicExponent", "privateExponent", "prime1", "prime2", "exponent1",
+       "exponent2", "coefficient")
+DSA = ("version", "p", "q", "g", "y", "x")
+ORDER = ("missing", "overlong", "depth", "tag", "length", "indefinite", "string", "content",
+         "element", "expected", "rest")
+SECRET = ("privateKey", "the key", "privateExponent", *RSA[4:], "x")
 
+class Picture:
+    """The rows of bytes, and what is said of them."""
 
-def extent(data, at, end):
-    """Returns where the content with the length at this offset begins, and where it ends."""
-    if at >= end:
-        raise Fault(end, "Truncated")
-    count, start = data[at], at + 1
-    if count > 127:
-        digits = data[start:min(end, start + count - 128)]
-        if 129 <= count <= 132 and len(digits) < count - 128:
-            raise Fault(at, "Truncated")
-        number = int.from_bytes(digits, "big")
-        least = max(1, (number.bit_length() + 7) // 8)
-        if not 129 <= count <= 132 or number < 128 or least != len(digits) or number >> 28:
-            raise Fault(at, "Length")
-        count, start = number, start + len(digits)
-    if start + count > end:
-        raise Fault(at, "Truncated")
-    return start, start + count
-
-
-def rows_of(data):
-    """Returns all rows up to the first place where no element is: offset, depth, tag, content."""
-    rows, at, ends = [], 0, [len(data)]
-    while True:
-        while ends and at == ends[-1]:
-            ends.pop()
-        if not ends or len(ends) > 64:
-            return rows
+    def __init__(self, data, everything=False, source="der", runs=True):
+        self.data, self.everything, self.source, self.runs = data, everything, source, runs
+        self.rows, self.names, self.opens, self.words = [], {}, set(), []
+        self.command, self.is_key, self.form = None, False, None
+        self.points, self.labels = set(), []
+        if not data:
+            self.words.append("The input is empty.")
+            return
         try:
-            tag, start, stop = header(data, at, ends[-1])
-        except Fault:
-            return rows
-        rows.append((at, len(ends) - 1, tag, start, stop))
-        if tag & 32:
-            at = start
-            ends.append(stop)
+            self.head = Header(data, 0, len(data))
+            self.stop = min(len(data), self.head.start + (self.head.length if
+                            self.head.length is not None else len(data)))
+        except NoElement:
+            self.head, self.stop = None, len(data)
+        self.guarded = self.may_be_key()
+        self.closed = self.guarded and not everything
+        if self.guarded and self.head and self.head.constructed:
+            self.form = form_of(data, self.head, self.stop)
+            self.name_key(self.form, 0, self.head)
+        self.open_form = None
+        self.draw_root()
+        if self.guarded:
+            self.mark_guarded()
         else:
-            at = stop
+            self.mark_open()
+        self.labels = [self.label_of(row) for row in self.rows]
+        if self.guarded:
+            self.say_guarded()
+        else:
+            self.say_open()
 
+    def may_be_key(self):
+        """Returns whether the bytes may be a private key's, damaged perhaps."""
+        if not self.head or not self.head.constructed or self.head.tag is None:
+            return True
+        if self.head.length is None and self.data[self.head.start:self.head.start + 2] == b"\0\0":
+            return True
+        if self.head.start >= self.stop:
+            return True
+        try:
+            first = Header(self.data, self.head.start, self.stop)
+        except NoElement:
+            return True
+        return first.tag is None or first.first < 64 and first.number in (1, 2, 4)
 
-def check_row(data, at, end, level):
-    """Raises the first fault of elements in a row."""
-    while at < end:
-        if level > 64:
-            raise Fault(at, "Depth")
-        tag, start, stop = header(data, at, end)
-        if tag & 32:
-            check_row(data, start, stop, level + 1)
-        at = stop
+    def name_key(self, form, at, head):
+        """Names the fields of a form that may have a private key."""
+        fields = {
+            "key": ["version", "privateKey"],
+            "pkcs8": ["version", "privateKeyAlgorithm", "privateKey", "attributes", "publicKey"],
+            "pfx": ["version", "authSafe", "macData"], "rsa": RSA, "dsa": DSA,
+            "signature": "rs",
+        }.get(form.kind, ["version"])
+        root = {"key": "ECPrivateKey", "pkcs8": "PrivateKeyInfo", "pfx": "PFX"}.get(form.kind)
+        if form.kind == "pfx" and not form.whole and len(form.kids) < 3:
+            root, fields = None, ["version"]
+        if root:
+            self.names[at] = root
+        tagged = {0xA0: "parameters", 0xA1: "publicKey"}
+        if form.kind == "pkcs8":
+            tagged = {0xA0: "attributes", 0x81: "publicKey"}
+        for number, kid in enumerate(form.kids):
+            name = tagged.get(kid.tag) or (fields[number] if number < len(fields) else None)
+            if name == "version" and kid.length != 1:
+                name = name if form.kind == "dsa" else None
+            if name:
+                self.names[kid.at] = name
+            if form.kind == "key" and kid.tag == 0xA1 and not kid.cut:
+                self.points.add(kid.head.start)
+        if form.inner:
+            kid = form.kids[2]
+            self.opens.add(kid.at)
+            if form.inner.kind == "element":
+                self.names[kid.head.start] = "the key"
+            else:
+                self.name_key(form.inner, kid.head.start, form.inner.head)
 
+    def draw_root(self):
+        """Draws the rows."""
+        data, end = self.data, len(self.data)
+        if not self.closed:
+            at = self.draw(0, end, 0)
+            while at < end and self.everything:
+                at = self.draw(at, end, 0)
+        elif not self.head or not self.head.constructed:
+            at = self.draw(0, end, 0)
+        else:
+            self.add_element(self.head, end, 0).opened = True
+            for kid in self.form.kids:
+                self.draw(kid.at, self.stop, 1, kid.cut)
+            at = self.form.at
+            if self.form.ended:
+                at = self.end_of(self.head, at, self.stop, 0)
+        if at < end:
+            self.rows.append(Row(at, 0, end, kind="not drawn"))
 
-def check_tree(data):
-    """Raises the first fault of bytes that aren't those of one tree."""
-    tag, start, stop = header(data, 0, len(data))
-    if tag & 32:
-        check_row(data, start, stop, 2)
-    finish(stop, len(data))
+    def add_element(self, head, end, depth):
+        """Adds the row of an element in a content that ends here."""
+        stop = end if head.length is None else min(end, head.start + head.length)
+        row = Row(head.at, depth, stop, head)
+        self.rows.append(row)
+        front = []
+        if row.missing:
+            if end == len(self.data):
+                front = [("missing", f"{row.missing} of {count_of(head.length)} missing")]
+            else:
+                front = [("overlong", f"{count_of(head.length)}, but the element around it has "
+                          f"{end - head.start} left")]
+        if head.constructed and head.first < 64 and head.number in STRINGS:
+            row.marks.append(("string", "constructed string; "
+                              "DER has primitive ones (X.690 10.2)"))
+        row.marks = front + row.marks
+        return row
 
+    def end_of(self, head, at, end, depth):
+        """Draws the end-of-contents of an element of indefinite length, if it is one."""
+        if head.length is not None:
+            return at
+        if self.data[at:at + 2] == b"\0\0" and at + 2 <= end:
+            self.rows.append(Row(at, depth, at + 2, kind="end-of-contents"))
+            return at + 2
+        self.rows[-1].marks.append(("element", "end-of-contents is missing (X.690 8.1.5)"))
+        return at
 
-def finish(at, end):
-    if at < end:
-        raise Fault(at, "TrailingData")
+    def draw(self, at, end, depth, cut=False, extends=False):
+        """Draws an element and what is in it, and returns where it ends: one that the end of the
+        input cuts, or one that may be the string of an extension."""
+        try:
+            head = Header(self.data, at, end)
+        except NoElement as reason:
+            self.rows.append(Row(at, depth, end, kind="no element"))
+            self.rows[-1].marks.append(("element", str(reason)))
+            return end
+        row = self.add_element(head, end, depth)
+        if head.constructed:
+            if depth + 1 == LEVELS and row.start < row.stop:
+                row.marks.insert(0, ("depth", "more than 64 levels: not opened"))
+                return row.stop if head.length is not None else end
+            if cut:
+                return row.stop
+            row.opened = True
+            return self.draw_inside(head, row.stop, depth)
+        start = self.opens_at(row, extends)
+        if start is not None and depth + 1 < LEVELS:
+            row.opened = True
+            row.inside = start
+            self.draw(start, row.stop, depth + 1)
+        return row.stop
 
+    def draw_inside(self, head, stop, depth):
+        """Draws the elements of a content, and returns where it ends."""
+        at, extends = head.start, head.tag == 0x30 and self.is_extension(head.start, stop)
+        while at < stop:
+            if head.length is None and self.data[at:at + 2] == b"\0\0" and at + 2 <= stop:
+                break
+            at = self.draw(at, stop, depth + 1, extends=extends)
+        return self.end_of(head, at, stop, depth)
 
-def tagged(data, wanted, at, end):
-    """Returns where the content of the element with this tag begins and ends."""
-    if at >= end:
-        raise Fault(end, "Truncated")
-    if data[at] != wanted:
-        raise Fault(at, "Tag")
-    return extent(data, at + 1, end)
+    def is_extension(self, at, stop):
+        """Returns whether the first element is an identifier of an extension."""
+        try:
+            head = Header(self.data, at, stop) if self.data[at:at + 1] == b"\6" else None
+        except NoElement:
+            return False
+        inside = self.data[head.start:min(stop, head.start + head.length)] if head else b""
+        return NAMES.get(identifier(inside), ("", ""))[0] == "extension"
 
-
-def arcs(content):
-    """Returns the arcs of an identifier, or None."""
-    if not 0 < len(content) <= 39 or content[-1] > 127:
-        return None
-    numbers, number, fresh = [], 0, True
-    for byte in content:
-        if fresh and byte == 128:
+    def opens_at(self, row, extends):
+        """Returns where what is drawn of a string's content begins, if it is opened."""
+        data, head, start = self.data, row.head, row.start
+        if head.at in self.opens:
+            return start
+        if row.missing or self.closed or head.tag not in (3, 4):
             return None
-        number = number * 128 + byte % 128
-        fresh = byte < 128
-        if fresh:
-            numbers.append(number)
-            number = 0
-    if max(numbers) >> 32:
-        return None
-    first = min(numbers[0] // 40, 2)
-    return [first, numbers[0] - 40 * first] + numbers[1:]
+        if head.tag == 3:
+            whole = data[start:start + 2] == b"\0\x30" and is_tree(data, start + 1, row.stop)
+            return start + 1 if whole else None
+        may_open = extends or self.everything and data[start:start + 1] == b"\x30"
+        return start if may_open and is_tree(data, start, row.stop) else None
+
+    def mark_expected(self):
+        """Marks the row where the bytes first aren't a key's."""
+        at, part, words = self.lacking()
+        if part is None:
+            return
+        row = next((row for row in self.rows if row.at == at), self.rows[0])
+        if row.kind == "not drawn" or not row.marks:
+            row.marks.insert(0, ("expected", f"expected {words or EXPECTED[part]}", part))
+
+    def lacking(self):
+        """Returns where the bytes first aren't a key's, the part of a key that they lack there,
+        and its words."""
+        data, head, form = self.data, self.head, self.form
+        if head is None or head.tag != 0x30:
+            return 0, "key", None
+        if head.marks or self.rows[0].missing:
+            return 0, "key", None
+        kids = form.kids if form.kind == "key" else form.kids[:1]
+        if kids and kids[-1].cut:
+            return kids[-1].at, "fields", None
+        if not kids or kids[0].tag != 2 or data[kids[0].head.start:kids[0].stop] != b"\1":
+            return head.start, "version", None
+        if len(kids) < 2:
+            return kids[0].stop, "privateKey", None
+        left = 0
+        for kid in kids[2:]:
+            inner = Header(data, kid.head.start, kid.stop)
+            if kid.tag == 0xA0:
+                left = 1
+                if inner.tag != 6 or not is_named(data[inner.start:kid.stop]):
+                    return kid.at, "parameters", None
+            else:
+                left = 2
+                if data[inner.start:inner.start + 1] != b"\0":
+                    return kid.at, "publicKey", None
+        if not form.whole:
+            words = ", ".join(FIELDS[left:-1]) + (", or " if left < 2 else "") + FIELDS[2]
+            return kids[-1].stop, "fields", words
+        if self.stop < len(data):
+            return self.stop, "end", None
+        return None, None, None
+
+    def curve(self, form=None):
+        """Returns the text of a key's curve: its name, or its dotted text; None if it has none,
+        and "" if it is given by parameters."""
+        form = form or self.form
+        kid = next((kid for kid in form.kids if kid.tag == 0xA0), None)
+        if kid is None:
+            return None
+        inner = Header(self.data, kid.head.start, kid.stop)
+        if inner.tag != 6:
+            return ""
+        dotted = identifier(self.data[inner.start:kid.stop]) or ""
+        return NAMES[dotted][1] if NAMES.get(dotted, ("",))[0] == "curve" else dotted
+
+    def is_curve(self, form):
+        """Returns whether OpenSSL has the curve of a key: a name of the table, or parameters."""
+        found = self.curve(form)
+        return found == "" or found in [name for word, name in NAMES.values() if word == "curve"]
+
+    def say(self, words, command=None, lead=None, forms=("der", "pem")):
+        """Says what the bytes are, and the command that helps, where it reads this input."""
+        self.words.append(words)
+        if command and self.source in forms and self.runs:
+            if lead:
+                self.words[-1:] = [words, lead] if self.source == "pem" and self.is_key else (
+                    [words + lead] if lead.startswith(" ") else [words, lead])
+            self.command = command
+
+    def ec(self, names=""):
+        return EC % ("-inform DER " if self.source == "der" else "", names)
+
+    def label_of(self, row):
+        """Names a row, sorts its marks, of which two are kept, and returns its label."""
+        row.name = row.name or self.names.get(row.at)
+        label = Label(self, row)
+        row.marks = sorted(row.marks, key=lambda mark: ORDER.index(mark[0]))[:2]
+        return label
+
+    def complete_kind(self):
+        """Returns what the bytes are of, to the last one, of which no rule is broken."""
+        form = self.form
+        if not form or not form.whole or self.head.tag != 0x30 or self.head.marks:
+            return None
+        return form.kind if self.stop == len(self.data) else None
+
+    def mark_guarded(self):
+        """Marks the rows of what may be a private key: where it isn't, and what isn't drawn."""
+        form, kind = self.form, self.complete_kind()
+        has_sequence = form and len(form.kids) > 1 and form.kids[1].tag == 0x30
+        others = kind in ("rsa", "dsa", "signature") or self.named_root()
+        if self.closed and not has_sequence and not others:
+            self.mark_expected()
+        if self.rows[-1].kind == "not drawn":
+            words = "may be bytes of a damaged private key: --all draws them"
+            self.rows[-1].marks.append(("rest", words))
+
+    def say_guarded(self):
+        kind, known = self.complete_kind(), self.named_root()
+        if known:
+            return self.say(f"This names the curve {known}: it has no private key.")
+        if kind == "key" and self.lacking()[1] is None:
+            return self.say_key()
+        if kind == "pkcs8" and self.say_container():
+            return None
+        if kind == "pfx":
+            return self.say("This is PKCS #12 (RFC 7292).", PKCS12,
+                            " This writes its keys as PEM:", ("der",))
+        said = {"rsa": "This is an RSA private key (RFC 8017), no EC key.",
+                "dsa": "This is a DSA private key, no EC key.",
+                "signature": "These are two INTEGERs, as of an ECDSA signature (RFC 3279): no key."}
+        if kind in said:
+            return self.say(said[kind])
+        return self.say_damaged()
+
+    def named_root(self):
+        """Returns the curve that a root names."""
+        row = self.rows[0]
+        if not row.head or row.head.tag != 6 or row.head.marks or len(self.rows) > 1:
+            return None
+        known = NAMES.get(identifier(self.data[row.start:row.stop]))
+        return known[1] if known and known[0] == "curve" else None
+
+    def say_key(self):
+        self.is_key = True
+        found = self.curve()
+        names = [name for word, name in NAMES.values() if word == "curve"]
+        where = ", with no curve named." if found is None else (
+            f" on {found}." if found in names else f" on the curve {found}.")
+        lead = "sec1 reads it in DER. This writes that:"
+        self.say("This is an EC private key (RFC 5915)" + where,
+                 self.ec() if self.source == "pem" and found in names else None, lead)
+
+    def say_container(self):
+        data, form = self.data, self.form
+        inner = Header(data, form.kids[1].head.start, form.kids[1].stop)
+        dotted = identifier(data[inner.start:inner.start + inner.length])
+        rest = data[inner.start + inner.length:form.kids[1].stop]
+        if dotted == "1.2.840.10045.2.1":
+            if not form.inner or form.inner.kind != "key":
+                return False
+            named = NAMES.get(identifier(rest[2:]), ("",))[0] if rest[:1] == b"\x06" else ""
+            runs = named == "curve" or rest[:1] == b"\x30" or self.is_curve(form.inner)
+            self.say("This is PKCS #8 (RFC 5958) with an EC key.", self.ec() if runs else None,
+                     " This writes the key:")
+            return True
+        known = NAMES.get(dotted, ("", dotted))[1]
+        if known is None:
+            return False
+        self.say(f"This is PKCS #8 (RFC 5958) with another key: {known}. It has no EC key.")
+        return True
+
+    def say_damaged(self):
+        root = self.rows[0]
+        marked = next((row for row in self.rows if row.marks), None)
+        if root.missing:
+            whole = root.head.start + root.head.length
+            return self.say(f"{NO_KEY}: {len(self.data)} of {whole} bytes are there.")
+        words = f"{NO_KEY}: see offset {marked.at}." if marked else f"{NO_KEY}."
+        command, lead = self.repair()
+        return self.say(words, command, lead)
+
+    def repair(self):
+        """Returns the command that makes a key of one all but for its root's header, its curve's
+        parameters or the bytes after it, and the sentence that leads to it."""
+        form, data = self.form, self.data
+        if not form or form.kind != "key" or self.head.tag != 0x30 or not form.whole:
+            return None, None
+        if any(kind not in ("length", "indefinite") for kind, _ in self.head.marks):
+            return None, None
+        if self.head.length is None and data[form.at:form.at + 2] != b"\0\0":
+            return None, None
+        bits = [kid for kid in form.kids if kid.tag == 0xA1]
+        if data[form.kids[0].head.start] != 1 or not self.is_curve(form):
+            return None, None
+        if any(data[Header(data, kid.head.start, kid.stop).start:][:1] != b"\0" for kid in bits):
+            return None, None
+        if self.curve() == "":
+            return self.ec(NAMED), "Its curve is given by parameters. This names it instead:"
+        if self.head.marks:
+            return self.ec(), "This writes it in DER:"
+        return self.ec(), "This writes it without the bytes after it:"
+
+    def mark_open(self):
+        """Names the fields of a form without a private key, and marks what isn't drawn."""
+        if self.rows[-1].kind == "not drawn":
+            self.rows[-1].marks.append(("rest", "after the end of the root: --all draws them"))
+        top = [row for row in self.rows if row.depth == 1]
+        if self.head.tag != 0x30 or self.rows[0].missing or not top:
+            return
+        later = top[1].at if len(top) > 1 else self.stop
+        inside = [row for row in self.rows if row.depth == 2 and row.at < later]
+        for name, outer, inner, words in OPEN_FORMS:
+            if fit(outer, top) and (not inner or fit(inner, inside)):
+                self.rows[0].name, self.open_form = name, words
+                self.name_rows(fit(outer, top), top)
+                self.name_rows(inner and fit(inner, inside), inside)
+                return
+
+    def say_open(self):
+        words = self.open_form
+        if not words or not words.endswith(":"):
+            return self.say(words or f"{NO_KEY}.")
+        words, lead = words.split(" If", 1)
+        runs = not any(row.marks for row in self.rows)
+        return self.say(words, self.ec() if runs else None, " If" + lead)
+
+    def name_rows(self, names, rows):
+        for name, row in zip(names or [], rows):
+            row.name = name
 
 
-def check_bits(data, at, end):
-    start, stop = tagged(data, 3, at, end)
-    content = data[start:stop]
-    if not content or content[0] > 7 or (len(content) == 1 and content[0]) or (
-            len(content) > 1 and content[-1] % (1 << content[0])):
-        raise Fault(start, "Value")
-    finish(stop, end)
-    if content[0]:
-        raise Fault(start, "Value")
+def fit(fields, rows):
+    """Returns the names of rows that are these fields."""
+    names, at = [], 0
+    for name, tags, may_lack in fields:
+        tag = f"{rows[at].head.tag:02X}" if at < len(rows) and rows[at].head and (
+            rows[at].head.tag is not None) else ""
+        if tag and (tags == "*" or tag in tags.split()):
+            names.append(name)
+            at += 1
+        elif not may_lack:
+            return None
+    return names if at == len(rows) else None
 
 
-def parts_of_key(data):
-    """Reads a key, and yields what it has in each part before the part is read."""
-    yield "a SEQUENCE (30) around its fields"
-    at, end = tagged(data, 0x30, 0, len(data))
-    yield "the version, INTEGER 1 (02 01 01)"
-    start, stop = tagged(data, 2, at, end)
-    if data[start:stop] != b"\1":
-        raise Fault(start, "Value")
-    yield "the private key, an OCTET STRING (04)"
-    at = tagged(data, 4, stop, end)[1]
-    yield "[0] (A0) with an OBJECT IDENTIFIER (06), that of its curve"
-    if at < end and data[at] == 0xA0:
-        inside, at = tagged(data, 0xA0, at, end)
-        start, stop = tagged(data, 6, inside, at)
-        if arcs(data[start:stop]) is None:
-            raise Fault(start, "Value")
-        finish(stop, at)
-    yield "[1] (A1) with a BIT STRING (03), the public key, of whole bytes"
-    if at < end and data[at] == 0xA1:
-        inside, at = tagged(data, 0xA1, at, end)
-        check_bits(data, inside, at)
-    yield "at most [0] (A0), and then [1] (A1), after the private key"
-    finish(at, end)
-    yield "nothing, after its SEQUENCE"
-    finish(end, len(data))
-
-
-def key_fault(data):
-    """Returns the first fault of bytes that aren't those of a key, and what a key has there."""
-    part = None
-    try:
-        for part in parts_of_key(data):
-            pass
-    except Fault as fault:
-        return fault.args, part
-    return None, None
-
-
-def tree_fault(data):
-    """Returns the first fault of bytes that aren't those of one tree."""
-    try:
-        check_tree(data)
-    except Fault as fault:
-        return fault.args
-    return None
-
-
-def type_name(tag):
-    return TYPES.get(tag) or f"[{CLASSES[tag // 64]}{tag % 32}]"
-
-
-def label(tag, content):
-    sized = f"{type_name(tag)}, {len(content)} byte{'s' * (len(content) != 1)}"
-    if tag & 32 or tag == 6:
-        return type_name(tag)
-    if tag == 2 and len(content) == 1 and content[0] < 128:
-        return f"INTEGER {content[0]}"
-    if tag == 3 and content:
-        return f"BIT STRING, {f'{content[0]} unused bits' if content[0] else 'whole'}"
-    return sized
-
-
-def point(content):
-    if len(content) < 2:
-        return "no point"
-    tag, count = content[1], len(content) - 2
-    if tag in (4, 6, 7) and count and count % 2 == 0:
-        return f"{'uncompressed' if tag == 4 else 'hybrid'} point of 2 x {count // 2} bytes"
-    if tag in (2, 3, 5) and count:
-        return f"{'compact' if tag == 5 else 'compressed'} point of {count} bytes"
-    return "point at infinity" if tag == 0 and count == 0 else "no point"
-
-
-def note(depth, tag, content, is_key, whole):
-    if tag == 6:
-        found = arcs(content)
-        if found is None:
-            return "no identifier"
-        text = ".".join(map(str, found))
-        return text + (f", {CURVES[text]}" if text in CURVES else "")
-    if not is_key:
-        return ""
-    if depth == 0:
-        return "ECPrivateKey"
-    if depth == 1:
-        secret = "private key" if whole else "private key, not shown"
-        return {2: "version", 4: secret, 0xA0: "parameters", 0xA1: "public key"}[tag]
-    return point(content) if tag == 3 else ""
-
-
-def line(data, row, is_key, whole):
-    offset, depth, tag, start, stop = row
-    head = "".join(f" {byte:02X}" for byte in data[offset:start])
-    count = str(stop - start)
-    between = " " * max(1, 20 - len(head) - len(count))
-    columns = f"{offset:>4}{head}{between}{count}  "
-    content = b"" if tag & 32 else data[start:stop]
-    words = "  " * depth + label(tag, data[start:stop])
-    remark = note(depth, tag, content, is_key, whole)
-    if len(remark) > 40:
-        remark = f"{remark[:37]}... ({len(remark)} characters)"
-    if remark:
-        words += " " * max(1, 29 - len(words)) + remark
-    if whole:
+def line_of(picture, row, label):
+    """Returns the lines of a row."""
+    everything = picture.everything
+    front = f"{row.at:>4}"
+    if row.kind == "end-of-contents":
+        header, count, content = b"\0\0", "0", b""
+    else:
+        header = picture.data[row.at:row.start]
+        count = str(row.stop - row.at) if row.head is None else (
+            "?" if row.head.length is None else str(row.head.length))
+        content = picture.data[row.start:row.stop]
+    head = "".join(f" {byte:02X}" for byte in header)
+    front += head + " " * max(1, 20 - len(head) - len(count)) + count + "  "
+    words = "  " * min(row.depth, 16) + (f"{row.depth}: " if row.depth > 16 else "") + label.text
+    name = label.note or row.name
+    if name and name in SECRET and not everything and not row.opened:
+        name += ", not shown"
+    if name:
+        long = words + " " * max(2, 29 - len(words)) + name
+        words = long if len(front + long) <= 100 else words
+    line = front + words
+    lines = [line if len(line) <= 100 else line[:97] + "..."]
+    if everything:
+        if row.opened:
+            content = picture.data[row.start:getattr(row, "inside", row.start)]
         for at in range(0, len(content), 16):
-            words += "\n" + " " * 25 + "".join(f" {byte:02X}" for byte in content[at:at + 16])
-    return columns + words + "\n"
+            lines.append(" " * 25 + "".join(f" {byte:02X}" for byte in content[at:at + 16]))
+    return lines + ["     ^ " + mark[1] for mark in row.marks]
 
 
-def advice(data, rows):
-    shape = [row[1:3] for row in rows[:5]]
-    contents = [data[row[3]:row[4]].hex() for row in rows[:3]]
-    if len(rows) < 3 or shape[0] != (0, 0x30):
-        return ""
-    if shape[1] == (1, 0x30):
-        if shape[2] == (2, 6) and contents[2] == "2a8648ce3d0201":
-            return "This is a public key, SubjectPublicKeyInfo: it has no private key.\n"
-        if shape[2] == (2, 6) and contents[2] == "2a864886f70d01050d":
-            words = "This is encrypted PKCS #8. If it holds an EC key, "
-            return words + "this asks for the password and writes it:\n" + OF_DER
-        if shape[2] == (2, 0xA0):
-            return "This looks like a certificate: it has no private key.\n"
-    if shape[1] == (1, 2) and contents[1] == "00":
-        if shape[2] == (1, 0x30):
-            return "This is PKCS #8. If it holds an EC key, this writes it:\n" + OF_DER
-        if shape[2] == (1, 2):
-            return "This looks like an RSA key, not an EC key.\n"
-    if shape[1] == (1, 2) and contents[1] == "03" and shape[2] == (1, 0x30):
-        words = "This looks like PKCS #12. This writes its keys as PEM:\n"
-        return words + PKCS12
-    if shape[1:] == [(1, 2), (1, 4), (1, 0xA0), (2, 0x30)] and contents[1] == "01":
-        words = "This is a key whose curve is given by its parameters. "
-        return words + "This names the curve instead:\n" + NAMED
-    return ""
+def object_of(picture, row, label):
+    """Returns the members of a row."""
+    members = {"depth": row.depth, "header_len": row.start - row.at, "offset": row.at,
+               "type": label.type, "len": row.stop - row.start}
+    if row.kind == "end-of-contents":
+        members |= {"header_len": 2, "len": 0}
+    if row.head:
+        members |= {"class": CLASSES[row.head.first >> 6], "tag": row.head.number,
+                    "constructed": row.head.constructed}
+        if row.head.length is None:
+            del members["len"]
+        elif row.missing:
+            members["announced"] = row.head.length
+    if row.marks:
+        members["faults"] = [
+            {"kind": mark[0], "words": mark[1]} | ({"part": mark[2]} if len(mark) > 2 else {})
+            for mark in row.marks]
+    extra = {"name": row.name, "oid": label.oid, "value": label.note or label.value}
+    members |= {key: value for key, value in extra.items() if value is not None}
+    if row.name in SECRET and not row.opened:
+        members["secret"] = True
+    if row.opened and not row.head.constructed:
+        members["opened"] = True
+    if picture.everything and row.kind != "end-of-contents" and not row.opened:
+        members["content"] = picture.data[row.start:row.stop].hex().upper()
+    return members
 
 
-def remark(given):
-    """Returns what is said of an input that isn't drawn, or None."""
-    if len(given) > LIMIT:
-        return "input too long\n"
-    if given.startswith(b"-----BEGIN "):
-        for front, words in LABELS.items():
-            if given.startswith(b"-----BEGIN " + front.encode()):
-                return words
-    return None
+def drawn(data, everything=False, source="der", runs=True):
+    """Returns the lines of bytes, the lines of JSON, and whether they are a key's."""
+    picture = Picture(data, everything, source, runs)
+    lines, values = [], []
+    for row, label in zip(picture.rows, picture.labels):
+        lines += line_of(picture, row, label)
+        values.append(object_of(picture, row, label))
+    lines += picture.words
+    last = {"key": picture.is_key, "words": " ".join(picture.words)}
+    if picture.command:
+        lines.append("  " + picture.command)
+        last["advice"] = picture.command
+    marked = [row.at for row in picture.rows if row.marks]
+    if marked:
+        last["mark"] = marked[0]
+    return lines, values + [last], picture.is_key
 
 
-def decoded(given):
-    """Returns the bytes of an input."""
-    digits = given.translate(None, b" \t\r\n")
-    if len(digits) % 2 == 0 and all(chr(byte) in string.hexdigits for byte in digits):
-        return bytes.fromhex(digits.decode())
-    return given
+def draw(given, everything=False, as_json=False, path=None):
+    """Returns what is printed of an input, and whether it has a key."""
+    lines, values, found = [], [], False
+    for part in text.parts(given):
+        front = {"form": part.form, "bytes": len(part.data) if part.data is not None else None,
+                 "file": path, "label": part.label, "line": part.line}
+        values.append({key: value for key, value in front.items() if value is not None})
+        lines += [part.heading] if part.heading else []
+        if part.data is None:
+            lines += part.words + (["  " + part.command] if part.command else [])
+            last = {"key": False, "words": " ".join(part.words), "advice": part.command}
+            values.append({key: value for key, value in last.items() if value not in (None, "")})
+            continue
+        shown, members, is_key = drawn(part.data, everything, part.form, part.runs)
+        lines, values, found = lines + shown, values + members, found or is_key
+    if as_json:
+        lines = [json.dumps(value, separators=(",", ":"), sort_keys=True) for value in values]
+    return "".join(line + "\n" for line in lines), found
 
 
-def picture(given, whole=False):
-    """Returns what is printed of an input, and the status."""
-    if remark(given) is not None:
-        return remark(given), 1
-    data = decoded(given)
-    (key, part), tree, rows = key_fault(data), tree_fault(data), rows_of(data)
-    text = "".join(line(data, row, key is None, whole) for row in rows)
-    if key is None:
-        return text, 0
-    for words, fault in (("no tree of DER", tree), ("no EC private key", key)):
-        if fault is not None:
-            text += f"{words} at offset {fault[0]}: {WORDS[fault[1]]}\n"
-    return text + f"a key has here: {part}\n" + advice(data, rows), 1
-
-
-def row_value(data, row, is_key, whole):
-    """Returns an element as a value of JSON."""
-    offset, depth, tag, start, stop = row
-    content = b"" if tag & 32 else data[start:stop]
-    return {
-        "content": content.hex().upper() if whole else None, "depth": depth,
-        "header": data[offset:start].hex().upper(), "label": label(tag, data[start:stop]),
-        "length": stop - start, "note": note(depth, tag, content, is_key, whole), "offset": offset,
-    }
-
-
-def json_picture(given, whole=False):
-    """Returns the line of JSON that is printed of an input, and the status."""
-    said, key, part, tree, rows, is_key = remark(given), None, None, None, [], False
-    if said is None:
-        data = decoded(given)
-        (key, part), tree, drawn = key_fault(data), tree_fault(data), rows_of(data)
-        said, is_key = advice(data, drawn), key is None
-        rows = [row_value(data, row, is_key, whole) for row in drawn]
-    faults = [fault and {"offset": fault[0], "reason": WORDS[fault[1]]} for fault in (key, tree)]
-    value = {
-        "advice": said, "expected": part or "", "key": is_key, "key_fault": faults[0],
-        "rows": rows, "tree_fault": faults[1],
-    }
-    return json.dumps(value, separators=(",", ":")) + "\n", int(not is_key)
+def main(arguments):
+    options = [word for word in arguments if word in ("--all", "--json")]
+    paths, status, out = [word for word in arguments if word not in options], 0, ""
+    for path in paths or [None]:
+        given = sys.stdin.buffer.read() if path in (None, "-") else pathlib.Path(path).read_bytes()
+        shown, found = draw(given, "--all" in options, "--json" in options, path)
+        if len(paths) > 1 and "--json" not in options:
+            out += escaped(path) + ":\n"
+        out, status = out + shown, status if found else 1
+    sys.stdout.write(out)
+    return status
 
 
 if __name__ == "__main__":
-    with open(sys.argv[-1], "rb") as file:
-        draw = json_picture if "--json" in sys.argv else picture
-        drawn, ended = draw(file.read(), "--all" in sys.argv)
-    sys.stdout.write(drawn)
-    sys.exit(ended)
+    sys.exit(main(sys.argv[1:]))
