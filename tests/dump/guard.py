@@ -19,7 +19,8 @@ class Child:
     def has(self, data, *tags):
         """Returns whether the content begins with an element of one of these tags; of none if it
         is cut off."""
-        return self.cut or data[self.head.start:self.head.start + 1] in [bytes([t]) for t in tags]
+        first = data[self.head.start:min(self.stop, self.head.start + 1)]
+        return self.cut or first in [bytes([tag]) for tag in tags]
 
     def has_alone(self, data, tag):
         if self.cut:

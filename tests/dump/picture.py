@@ -421,7 +421,7 @@ class Picture:
             return None, None
         if any(kind not in ("length", "indefinite") for kind, _ in self.head.marks):
             return None, None
-        if self.head.length is None and data[form.at:form.at + 2] != b"\0\0":
+        if self.head.length is None and data[form.at:] != b"\0\0":
             return None, None
         bits = [kid for kid in form.kids if kid.tag == 0xA1]
         if data[form.kids[0].head.start] != 1 or not self.is_curve(form):
@@ -448,7 +448,16 @@ class Picture:
                 self.rows[0].name, self.open_form = name, words
                 self.name_rows(fit(outer, top), top)
                 self.name_rows(inner and fit(inner, inside), inside)
-                return
+                return self.name_inner_key()
+
+    def name_inner_key(self):
+        """Names the fields of the public key in a certificate or a request."""
+        outer = None
+        for row in self.rows:
+            if row.depth <= 2:
+                outer = row.name in ("subjectPublicKeyInfo", "subjectPKInfo")
+            elif row.depth == 3 and outer and row.head:
+                row.name = {0x30: "algorithm", 3: "subjectPublicKey"}.get(row.head.tag)
 
     def say_open(self):
         words = self.open_form
@@ -538,19 +547,20 @@ def object_of(picture, row, label):
 def drawn(data, everything=False, source="der", runs=True):
     """Returns the lines of bytes, the lines of JSON, and whether they are a key's."""
     picture = Picture(data, everything, source, runs)
+    told = Picture(data, False, source, runs) if everything else picture
     lines, values = [], []
     for row, label in zip(picture.rows, picture.labels):
         lines += line_of(picture, row, label)
         values.append(object_of(picture, row, label))
-    lines += picture.words
-    last = {"key": picture.is_key, "words": " ".join(picture.words)}
-    if picture.command:
-        lines.append("  " + picture.command)
-        last["advice"] = picture.command
-    marked = [row.at for row in picture.rows if row.marks]
+    lines += told.words
+    last = {"key": told.is_key, "words": " ".join(told.words)}
+    if told.command:
+        lines.append("  " + told.command)
+        last["advice"] = told.command
+    marked = [row.at for row in told.rows if row.marks]
     if marked:
         last["mark"] = marked[0]
-    return lines, values + [last], picture.is_key
+    return lines, values + [last], told.is_key
 
 
 def draw(given, everything=False, as_json=False, path=None):

@@ -4,6 +4,8 @@ import binascii
 import re
 import string
 
+# the labels of the keys that OpenSSL reads from PEM, if they are the first in a file
+KEYS = ("EC PRIVATE KEY", "PRIVATE KEY", "ENCRYPTED PRIVATE KEY")
 OF_PEM = "openssl ec -in FILE -outform DER -out key.der"
 LABEL = re.compile(rb"-----BEGIN ([A-Z0-9 #.]{1,40})-----[ \t]*")
 TEXTS = [
@@ -11,7 +13,7 @@ TEXTS = [
      "xxd -r FILE | sec1_dump"),
     (rb"PuTTY-User-Key-File-", ["This is PuTTY's own form. This makes PEM of it:"],
      "puttygen FILE -O private-openssh -o key.pem"),
-    (rb"(ssh-|ecdsa-sha2-|sk-)[a-z0-9@.-]* ",
+    (rb"ssh-|ecdsa-sha2-|sk-",
      ["This is a public key of OpenSSH: it has no private key."], None),
     (rb"\s*\{", ["This is JSON, perhaps a JWK (RFC 7517): no DER."], None),
 ]
@@ -75,9 +77,12 @@ def split_headers(lines):
 def pem_part(number, label, lines, is_ended):
     headers, body = split_headers(lines)
     part = Part("pem")
-    part.label, part.line, part.runs = label, number, is_ended
+    part.label, part.line = label, number
+    part.runs = is_ended and label in KEYS
     data = decoded(without_blanks(b"\n".join(body)))
-    if any(header.startswith(b"Proc-Type: 4,ENCRYPTED") for header in headers):
+    is_encrypted = any(header.startswith(b"Proc-Type: 4,ENCRYPTED") for header in headers)
+    part.runs = part.runs and (is_encrypted or not headers)
+    if is_encrypted:
         told = "encrypted (RFC 1421), not drawn"
         if label == "EC PRIVATE KEY":
             part.words = ["This asks for the password and writes the key:"]
@@ -96,6 +101,17 @@ def pem_part(number, label, lines, is_ended):
     return part
 
 
+def digits_of(given):
+    """Returns a text without blanks, `:`, `,` and `0x`."""
+    digits = bytearray()
+    for byte in given.translate(None, b" \t\r\n:,"):
+        if byte == 0x78 and digits[-1:] == b"0":
+            digits.pop()
+        else:
+            digits.append(byte)
+    return bytes(digits)
+
+
 def sized(form, name, data):
     return Part(form, data, f"{name}: {len(data)} byte{'s' * (len(data) != 1)}")
 
@@ -106,19 +122,18 @@ def parts(given):
         return [Part("text", words=["This is text in UTF-16. Write it in UTF-8 first."])]
     if not given or any(byte < 0x20 and byte not in b"\t\n\r" for byte in given):
         return [Part("der", given)]
-    has_mark = given[:3] == b"\xEF\xBB\xBF"
-    given = given[3:] if has_mark else given
+    given = given[3:] if given[:3] == b"\xEF\xBB\xBF" else given
     found = blocks(given)
     if found:
         drawn, is_first = [pem_part(*block) for block in found], True
         for part in drawn:
-            part.runs = part.runs and is_first and not (has_mark and part.line == 1)
+            part.runs = part.runs and is_first and b"\n" in given
             is_first = is_first and not part.label.endswith("PRIVATE KEY")
-            if part.command and not part.runs:
+            if part.command == OF_PEM and not part.runs:
                 part.words, part.command = [], None
         return drawn
     if given[:7] != b"0000000":
-        digits = re.sub(rb"0x|[ \t\r\n:,]", b"", given)
+        digits = digits_of(given)
         is_digits = all(chr(byte) in string.hexdigits for byte in digits)
         if digits and len(digits) % 2 == 0 and is_digits:
             return [sized("hex", "hexadecimal", bytes.fromhex(digits.decode()))]

@@ -188,7 +188,7 @@ class Label:
         unused, bits = content[0], content[1:]
         self.text = f"{self.type}, {count_of(len(bits))}"
         if self.row.at in self.picture.points:
-            self.note = point(content)
+            self.note = point(content) if not unused else None
         if unused > 7:
             return self.mark("more than 7 unused bits (X.690 8.6.2.2)")
         if unused and not bits:
@@ -209,12 +209,24 @@ class Label:
 
     def describe_6(self):
         found = identifier(self.content)
-        if self.closed and self.row.depth == 0 and found not in NAMES:
+        if self.closed and self.row.depth == 0 and NAMES.get(found, ("",))[0] != "curve":
             return
         if found is None:
             return self.mark("no identifier (X.690 8.19.2)")
+        if self.has_long_arc():
+            return
         self.oid, self.value = found, NAMES.get(found, (None, None))[1]
         self.text = f"{self.type} " + (f"{self.value} ({found})" if self.value else found)
+
+    def has_long_arc(self):
+        """Returns whether a number of the content is 2^128 or more."""
+        number = 0
+        for byte in self.content:
+            number = number * 128 + byte % 128
+            if number >> 128:
+                return True
+            number = 0 if byte < 128 else number
+        return False
 
     def describe_23(self):
         if self.closed:
