@@ -192,7 +192,9 @@ class Picture:
         if self.data[at:at + 2] == b"\0\0" and at + 2 <= end:
             self.rows.append(Row(at, depth, at + 2, kind="end-of-contents"))
             return at + 2
-        self.rows[-1].marks.append(("element", "end-of-contents is missing (X.690 8.1.5)"))
+        mark = ("element", "end-of-contents is missing (X.690 8.1.5)")
+        if mark not in self.rows[-1].marks:
+            self.rows[-1].marks.append(mark)
         return at
 
     def draw(self, at, end, depth, cut=False, extends=False):
@@ -439,7 +441,7 @@ class Picture:
         if self.rows[-1].kind == "not drawn":
             self.rows[-1].marks.append(("rest", "after the end of the root: --all draws them"))
         top = [row for row in self.rows if row.depth == 1]
-        if self.head.tag != 0x30 or self.rows[0].missing or not top:
+        if self.head.tag != 0x30 or not top:
             return
         later = top[1].at if len(top) > 1 else self.stop
         inside = [row for row in self.rows if row.depth == 2 and row.at < later]

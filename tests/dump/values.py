@@ -128,7 +128,8 @@ class Label:
         if head.constructed or row.opened:
             return
         self.content = picture.data[row.start:row.stop]
-        self.text = f"{self.type}, {count_of(head.length)}"
+        is_bits = space == "universal" and head.number == 3
+        self.text = f"{self.type}, {count_of(max(0, head.length - is_bits))}"
         if row.missing:
             return
         if space != "universal":
@@ -189,6 +190,8 @@ class Label:
         self.text = f"{self.type}, {count_of(len(bits))}"
         if self.row.at in self.picture.points:
             self.note = point(content) if not unused else None
+        if self.closed and self.row.depth == 0:
+            return
         if unused > 7:
             return self.mark("more than 7 unused bits (X.690 8.6.2.2)")
         if unused and not bits:
