@@ -1,5 +1,5 @@
-"""Files that people have in place of a key, and what `sec1_dump` has to say of them in the end: each
-command that is printed is run on that very file, and makes the key that the file has.
+"""Files that people have in place of a key, and what `sec1_dump` has to say of them in the end:
+each command that is printed is run on that very file, and makes the key that the file has.
 """
 import base64
 import pathlib
@@ -113,7 +113,8 @@ class Room:
         yield "key.p12", self.read("key.p12"), [
             "This is PKCS #12 (RFC 7292). This writes its keys as PEM:"]
         yield "key.hex", key.hex().encode(), [KEY]
-        yield "pkcs8.hex", container.hex(":").encode(), ["This is PKCS #8 (RFC 5958) with an EC key."]
+        yield "pkcs8.hex", container.hex(":").encode(), [
+            "This is PKCS #8 (RFC 5958) with an EC key."]
         yield "key.b64", base64.b64encode(key), [KEY]
         yield "rsa8.der", self.read("rsa8.der"), [OTHER % "rsaEncryption"]
         yield "rsa8.pem", pem("PRIVATE KEY", self.read("rsa8.der")), [OTHER % "rsaEncryption"]

@@ -244,6 +244,8 @@ def point(content):
 
 
 def note(depth, tag, content, is_key, whole):
+    if tag == 6 and len(content) > 19 and not is_key and not whole:
+        return "not shown"
     if tag == 6:
         found = arcs(content)
         if found is None:

@@ -1,6 +1,7 @@
 -- The last column: what an element means.
-use Rattle.std.specs.Prelude.{◌≡◌, ◌≢◌, ◌⊎◌, ℕ, ◌==◌, ◌/◌, ◌%◌, ◌++◌, Bool, ◌&&◌, ◌||◌, nat_lt}
-use Rattle.std.specs.Prelude.{if◌then◌else◌, List, [], ◌∷◌, length, codes, Option, Some, None}
+use Rattle.std.specs.Prelude.{◌≡◌, ◌≢◌, ◌⊎◌, ℕ, ◌==◌, ◌/◌, ◌%◌, ◌++◌, Bool, true, false, ◌&&◌, ◌||◌}
+use Rattle.std.specs.Prelude.{nat_lt, if◌then◌else◌, List, [], ◌∷◌, length, codes}
+use Rattle.std.specs.Prelude.{Option, Some, None}
 use Rattle.std.specs.Fmt.{decimal}
 use Rattle.curves.specs.Curves.{curve_alias, curve_content, curve_name}
 use Rattle.curves.specs.declared.curve.Curve.{Curve}
@@ -79,8 +80,19 @@ key_note all row =
     else (if row.depth == 1 then field_name all row.tag
     else (if row.tag == 0x03 then point_note row.content else []))
 
+-- Whether an identifier is shown: in a damaged key the private key may have the tag of one. Those
+-- of curves have at most 9 bytes.
+abbrev pub shows_identifier : Bool → Bool → List ℕ → Bool
+shows_identifier all is_key content = all || (is_key || nat_lt (length content) 20)
+
+-- the note on an OBJECT IDENTIFIER with this content that is shown, or isn't
+abbrev pub IsIdentifierNoteIf : Bool → List ℕ → List ℕ → Type 0
+IsIdentifierNoteIf true content text = IsIdentifierNote content text
+IsIdentifierNoteIf false content text = text ≡ codes "not shown"
+
 -- the note on an element: of a key, or of other bytes
 abbrev pub IsNote : Bool → Bool → RowView → List ℕ → Type 0
 IsNote all is_key row text =
-    ((row.tag ≡ 0x06) × IsIdentifierNote row.content text)
+    ((row.tag ≡ 0x06)
+    × IsIdentifierNoteIf (shows_identifier all is_key row.content) row.content text)
     ⊎ ((row.tag ≢ 0x06) × (text ≡ (if is_key then key_note all row else [])))

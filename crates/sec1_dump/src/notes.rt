@@ -2,9 +2,10 @@
 ghost use Rattle.std.specs.Prelude.{◌≡◌, IfOk, codes, option_map, string_bytes};
 ghost use Rattle.curves.specs.Curves.{curve_alias};
 ghost use Rattle.der_rows.specs.Rows.{row_view};
-ghost use Rattle.sec1_dump.specs.Notes.{IsCurveOf, IsIdentifierNote, IsIdentifierText, IsNote};
-ghost use Rattle.sec1_dump.specs.Notes.{alias_or, field_name, identifier_note, key_note};
-ghost use Rattle.sec1_dump.specs.Notes.{one_coordinate, point_form, point_note, two_coordinates};
+ghost use Rattle.sec1_dump.specs.Notes.{IsCurveOf, IsIdentifierNote, IsIdentifierNoteIf};
+ghost use Rattle.sec1_dump.specs.Notes.{IsIdentifierText, IsNote, alias_or, field_name};
+ghost use Rattle.sec1_dump.specs.Notes.{identifier_note, key_note, one_coordinate, point_form};
+ghost use Rattle.sec1_dump.specs.Notes.{point_note, shows_identifier, two_coordinates};
 
 use curves::Curve;
 use der_rows::Row;
@@ -133,12 +134,39 @@ fn key_note(alloc: Global, all: bool, row: &Row) -> Result<String, AllocError>
     }
 }
 
+/// The least length of the content of an identifier that isn't shown, in bytes.
+const LONG_IDENTIFIER: usize = 20;
+
+/// Returns `true` if an identifier with this content is shown: in a damaged key the private key may
+/// have the tag of one.
+fn shows_identifier(all: bool, is_key: bool, content: &[u8]) -> bool
+    ensures { result ≡ shows_identifier all is_key content.now }
+{
+    all || is_key || content.len() < LONG_IDENTIFIER
+}
+
+/// Returns the note on an OBJECT IDENTIFIER with this content that is shown, or isn't. Fails only
+/// if an allocation fails.
+fn note_of_identifier(alloc: Global, is_shown: bool, content: &[u8]) -> Result<String, AllocError>
+    ensures { IfOk result (λ text. IsIdentifierNoteIf is_shown content.now (string_bytes text)) }
+{
+    if is_shown {
+        identifier_note(alloc, content)
+    } else {
+        "not shown".to_string(alloc)
+    }
+}
+
 /// Returns the note on an element: of a key, or of other bytes. Fails only if an allocation fails.
 pub(crate) fn note(alloc: Global, all: bool, is_key: bool, row: &Row) -> Result<String, AllocError>
     ensures { IfOk result (λ text. IsNote all is_key (row_view row.now) (string_bytes text)) }
 {
     if row.tag == 0x06 {
-        identifier_note(alloc, row.content)
+        note_of_identifier(
+            alloc,
+            shows_identifier(all, is_key, row.content),
+            row.content,
+        )
     } else if is_key {
         key_note(alloc, all, row)
     } else {
