@@ -235,20 +235,16 @@ impl<'a> Children<'a> {
         let drawn = self.drawn();
         let [version, _, parameters, ..] = self.contents;
         let [_, second, third, fourth, ..] = self.offsets;
-        if drawn == 0 || version != [0x01].as_slice() {
-            return Some((0, Part::Version));
+        match self.form() {
+            Form::EcPrivateKey | Form::Other => {}
+            _ => return None,
         }
         match self.tags {
-            [_, 0x04, ..] if drawn > 1 => {}
-            [_, tag, ..] if drawn > 1 => {
-                let is_other = tag == 0x30 || self.form() != Form::Other;
-                return if is_other {
-                    None
-                } else {
-                    Some((second, Part::PrivateKey))
-                };
-            }
-            _ => return Some((self.drawn_to(), Part::PrivateKey)),
+            [_, 0x30, ..] if drawn > 1 => return None,
+            _ if drawn == 0 || version != [0x01].as_slice() => return Some((0, Part::Version)),
+            _ if drawn == 1 => return Some((self.drawn_to(), Part::PrivateKey)),
+            [_, 0x02, ..] => return Some((second, Part::PrivateKey)),
+            _ => {}
         }
         match self.tags {
             [_, _, 0xA0, ..] if first_tag(parameters) != 0x06 => Some((third, Part::Parameters)),

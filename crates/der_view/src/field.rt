@@ -265,6 +265,14 @@ impl Field {
         }
     }
 
+    /// Returns `true` if the field is a SubjectPublicKeyInfo (RFC 5280 section 4.1).
+    fn is_public_key(self) -> bool {
+        matches!(
+            &self,
+            Field::PublicKeyInfo | Field::SubjectPublicKeyInfo | Field::SubjectPkInfo
+        )
+    }
+
     /// Returns `true` if the content of the field is private.
     pub(crate) fn is_secret(self) -> bool {
         matches!(
@@ -287,7 +295,7 @@ impl Field {
 pub(crate) fn inner_field(outer: Field, last: Option<Field>, tag: u8) -> Option<Field> {
     match outer {
         Field::EcPrivateKey => key_field(last, tag),
-        Field::Unknown => Some(Field::Version),
+        Field::Unknown if last.is_none() && tag == 0x02 => Some(Field::Version),
         Field::PrivateKeyInfo => container_field(last, tag),
         Field::Pfx => match (last, tag) {
             (None, 0x02) => Some(Field::Version),
@@ -379,12 +387,8 @@ fn public_field(outer: Field, last: Option<Field>, tag: u8) -> Option<Field> {
         (Field::CertificateList, _, 0x30) => Some(Field::SignatureAlgorithm),
         (Field::CertificateList, _, 0x03) => Some(Field::SignatureValue),
         (Field::TbsCertList, _, _) => list_field(last, tag),
-        (Field::SubjectPublicKeyInfo | Field::PublicKeyInfo, None, 0x30) => Some(
-            Field::PublicKeyAlgorithm,
-        ),
-        (Field::SubjectPublicKeyInfo | Field::PublicKeyInfo, _, 0x03) => Some(
-            Field::SubjectPublicKey,
-        ),
+        (_, None, 0x30) if outer.is_public_key() => Some(Field::PublicKeyAlgorithm),
+        (_, _, 0x03) if outer.is_public_key() => Some(Field::SubjectPublicKey),
         (Field::ContentInfo, None, 0x06) => Some(Field::ContentType),
         (Field::ContentInfo, _, 0xA0) => Some(Field::Content),
         (Field::EncryptedPrivateKeyInfo, None, 0x30) => Some(Field::EncryptionAlgorithm),

@@ -112,10 +112,13 @@ fn high_number(bytes: &[u8]) -> Result<(u32, usize), ElementFault>
     ensures { IfOk result (λ x. (0 < x.1) × (x.1 ≤ length bytes.now)) }
 {
     match bytes {
-        [_, a, ..] if *a < 0x80 => Ok((*a as u32, 2)),
-        [_, a, b, ..] if *b < 0x80 => Ok((joined(*a as u32, *b), 3)),
-        [_, a, b, c, ..] if *c < 0x80 => Ok((joined(joined(*a as u32, *b), *c), 4)),
-        [_, a, b, c, d, ..] if *d < 0x80 => Ok((joined(joined(joined(*a as u32, *b), *c), *d), 5)),
+        [_, a, ..] if *a < 0x80 => Ok((joined(0, *a), 2)),
+        [_, a, b, ..] if *b < 0x80 => Ok((joined(joined(0, *a), *b), 3)),
+        [_, a, b, c, ..] if *c < 0x80 => Ok((joined(joined(joined(0, *a), *b), *c), 4)),
+        [_, a, b, c, d, ..] if *d < 0x80 => Ok((
+            joined(joined(joined(joined(0, *a), *b), *c), *d),
+            5,
+        )),
         [_, _, _, _, _, ..] => Err(ElementFault::TagTooLarge),
         _ => Err(ElementFault::TagCut),
     }

@@ -7,7 +7,7 @@ use crate::header::Header;
 use crate::levels::Level;
 use crate::mark::{ContentFault, ElementFault, Mark, Marks};
 use crate::plan::Plan;
-use crate::row::{Kind, OpenRow, Shown, guarded, header_marks, unguarded};
+use crate::row::{Kind, OpenRow, Shown, guarded, header_marks, point_of, unguarded};
 use curves::Curve;
 use sec1_der::check_tree;
 
@@ -276,7 +276,7 @@ impl<'a> Place<'a> {
                 marks
             },
             shown,
-            content: if self.all {
+            content: if self.all && own_len > 0 {
                 Some(&content[..own_len.min(content.len())])
             } else {
                 None
@@ -289,6 +289,9 @@ impl<'a> Place<'a> {
         let tag = element.head.tag;
         if opened || tag.constructed {
             return Shown::Nothing;
+        }
+        if element.field == Some(Field::Point) && tag.is_universal(3) {
+            return point_of(element.content);
         }
         if !self.plan.guarded {
             return unguarded(tag, element.content);

@@ -135,7 +135,6 @@ pub(crate) fn guarded<'a>(tag: Tag, field: Option<Field>, content: &'a [u8]) -> 
     }
     match (tag.number, content) {
         (2, [_]) if field == Some(Field::Version) => Shown::Value(content),
-        (3, _) if field == Some(Field::Point) => point_of(content),
         (3, [unused, ..]) if *unused != 0 => Shown::Unused(*unused),
         (5, []) => Shown::Nothing,
         (6, _) => Shown::Value(content),
