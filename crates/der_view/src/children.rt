@@ -3,7 +3,7 @@
 use crate::field::{Field, Form};
 use crate::header::Header;
 use crate::mark::Part;
-use sec1_der::check_tree;
+use sec1_der::{ObjectIdentifier, check_tree};
 
 /// The greatest number of children of a form: those of RSAPrivateKey.
 const MOST: usize = 9;
@@ -109,7 +109,7 @@ impl<'a> Children<'a> {
         for _ in 0..MOST + 1 {
             children.end = content.len() - rest.len();
             if rest.is_empty() {
-                children.finished = !may_be_cut;
+                children.finished = !indefinite && !may_be_cut;
                 children.cut = may_be_cut;
                 break;
             }
@@ -247,7 +247,7 @@ impl<'a> Children<'a> {
             _ => {}
         }
         match self.tags {
-            [_, _, 0xA0, ..] if first_tag(parameters) != 0x06 => Some((third, Part::Parameters)),
+            [_, _, 0xA0, ..] if !is_identifier(parameters) => Some((third, Part::Parameters)),
             [_, _, 0xA1, ..] if !has_whole_bytes(parameters) => Some((third, Part::PublicKey)),
             [_, _, _, 0xA1, ..] if !has_whole_bytes(self.contents[3]) => Some((
                 fourth,
@@ -266,6 +266,15 @@ fn fields(parameters: bool, public_key: bool) -> Part {
     Part::Fields {
         parameters,
         public_key,
+    }
+}
+
+/// Returns `true` if the bytes begin with an OBJECT IDENTIFIER that a key may have.
+fn is_identifier(bytes: &[u8]) -> bool {
+    match Header::read(bytes) {
+        Ok(head) => first_tag(bytes) == 0x06
+            && ObjectIdentifier::from_bytes(&bytes[head.len..]).is_ok(),
+        Err(_) => false,
     }
 }
 

@@ -5,6 +5,7 @@
 mod children;
 mod field;
 mod header;
+pub mod laws;
 mod levels;
 mod mark;
 mod place;

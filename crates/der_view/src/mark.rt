@@ -40,6 +40,8 @@ pub enum ContentFault {
     NullContent,
     /// The arcs of an identifier aren't these bytes (X.690 section 8.19.2).
     NoIdentifier,
+    /// A BIT STRING without a byte (X.690 section 8.6.2.2).
+    EmptyBitString,
     /// A BIT STRING with more than 7 unused bits (X.690 section 8.6.2.2).
     UnusedAboveSeven,
     /// An empty BIT STRING with unused bits (X.690 section 8.6.2.3).
@@ -159,14 +161,17 @@ impl Mark {
 impl fmt::Display for Mark {
     fn fmt<W: fmt::Write>(&self, f: &mut fmt::Formatter<W>) -> fmt::Result {
         match *self {
-            Mark::Missing { missing, announced } => write!(
-                f,
-                "{missing} of {announced} bytes missing"
-            ),
-            Mark::Overlong { announced, left } => write!(
-                f,
-                "{announced} bytes, but the element around it has {left} left"
-            ),
+            Mark::Missing { missing, announced } => {
+                let bytes = bytes_word(announced);
+                write!(f, "{missing} of {announced} {bytes} missing")
+            }
+            Mark::Overlong { announced, left } => {
+                let bytes = bytes_word(announced);
+                write!(
+                    f,
+                    "{announced} {bytes}, but the element around it has {left} left"
+                )
+            }
             Mark::Depth => f.write_str("more than 64 levels: not opened"),
             Mark::LowTag => f.write_str("tag number below 31 in the high form (X.690 8.1.2.2)"),
             Mark::PaddedTag => f.write_str("tag number with a needless byte 80 (X.690 8.1.2.4.2)"),
@@ -189,6 +194,11 @@ impl fmt::Display for Mark {
     }
 }
 
+/// Returns the word for as many bytes.
+fn bytes_word(count: usize) -> &'static str {
+    if count == 1 { "byte" } else { "bytes" }
+}
+
 /// Writes what is wrong with a content.
 fn write_content<W: fmt::Write>(f: &mut fmt::Formatter<W>, fault: ContentFault) -> fmt::Result {
     f.write_str(match fault {
@@ -198,6 +208,7 @@ fn write_content<W: fmt::Write>(f: &mut fmt::Formatter<W>, fault: ContentFault) 
         ContentFault::EmptyInteger => "INTEGER has a byte or more (X.690 8.3.1)",
         ContentFault::NullContent => "NULL has no content (X.690 8.8.2)",
         ContentFault::NoIdentifier => "no identifier (X.690 8.19.2)",
+        ContentFault::EmptyBitString => "BIT STRING has a byte or more (X.690 8.6.2.2)",
         ContentFault::UnusedAboveSeven => "more than 7 unused bits (X.690 8.6.2.2)",
         ContentFault::UnusedInEmpty => "unused bits in an empty BIT STRING (X.690 8.6.2.3)",
         ContentFault::UnusedNotZero => "unused bits that aren't 0 (X.690 11.2.1)",

@@ -1,14 +1,14 @@
 //! The next row.
-ghost use Rattle.std.specs.Prelude.{◌≡◌, ◌<◌, ◌≤◌, length, take};
-ghost use Rattle.der_view.specs.Rows.{BeginsWith};
+ghost use Rattle.std.specs.Prelude.{◌≡◌, ◌<◌, ◌≤◌, length, take, true, false};
+ghost use Rattle.der_view.specs.Rows.{BeginsWith, IsGuarded};
+ghost use Rattle.der_view.specs.Seen.{IsFirst, IsShown, seen_len};
 
 use crate::field::{Field, inner_field};
-use crate::header::Header;
+use crate::header::{Header, Tag};
 use crate::levels::Level;
 use crate::mark::{ContentFault, ElementFault, Mark, Marks};
 use crate::plan::Plan;
-use crate::row::{Kind, OpenRow, Shown, guarded, header_marks, point_of, unguarded};
-use curves::Curve;
+use crate::row::{Kind, OpenRow, Shown, guarded_part, header_marks, public_part, shown_of};
 use sec1_der::check_tree;
 
 /// Where the next row is.
@@ -39,15 +39,17 @@ pub(crate) struct Step<'a> {
     pub opened: Option<Level>,
 }
 
-/// An element at the next place.
+/// An element at the next place, as far as it is seen.
 #[derive(Clone, Copy)]
 struct Element<'a> {
     /// The header.
     head: Header,
     /// The bytes of the header.
     header: &'a [u8],
-    /// The content that is there.
-    content: &'a [u8],
+    /// The number of bytes of the content that are there.
+    len: usize,
+    /// The first bytes of the content that are seen.
+    seen: &'a [u8],
     /// What is marked if the content isn't whole.
     cut: Option<Mark>,
     /// The field.
@@ -59,6 +61,8 @@ impl<'a> Place<'a> {
     pub(crate) fn step(self, level: Option<Level>) -> Step<'a>
         requires { 0 < length self.left.now }
         ensures bytes { BeginsWith self.entry.left.now result.row }
+        ensures guarded { self.entry.plan.guarded ≡ true
+            → IsGuarded self.entry.left.now result.row }
         ensures at { result.row.offset ≡ self.entry.offset }
     {
         let is_over = !self.all
@@ -74,6 +78,8 @@ impl<'a> Place<'a> {
     fn rest(self) -> Step<'a>
         requires { 0 < length self.left.now }
         ensures bytes { BeginsWith self.entry.left.now result.row }
+        ensures guarded { self.entry.plan.guarded ≡ true
+            → IsGuarded self.entry.left.now result.row }
         ensures at { result.row.offset ≡ self.entry.offset }
     {
         let marks = Marks::NONE.with(self.expected()).with(Some(Mark::Rest {
@@ -90,6 +96,8 @@ impl<'a> Place<'a> {
     fn next_in(self, level: Level) -> Step<'a>
         requires { level.behind < length self.left.now }
         ensures bytes { BeginsWith self.entry.left.now result.row }
+        ensures guarded { self.entry.plan.guarded ≡ true
+            → IsGuarded self.entry.left.now result.row }
         ensures at { result.row.offset ≡ self.entry.offset }
     {
         let inside = &self.left[..self.left.len() - level.behind];
@@ -118,6 +126,8 @@ impl<'a> Place<'a> {
         ensures at { result.offset ≡ self.entry.offset }
         ensures header { result.header.now ≡ header.now }
         ensures content { result.own_len ≡ length content.now }
+        ensures hidden { self.entry.plan.guarded ≡ true → result.content ≡ None }
+        ensures shown { result.shown ≡ Shown.Nothing }
     {
         OpenRow {
             offset: self.offset,
@@ -132,8 +142,19 @@ impl<'a> Place<'a> {
             secret: false,
             marks,
             shown: Shown::Nothing,
-            content: if self.all { Some(content) } else { None },
+            content: if self.shows_all() {
+                Some(content)
+            } else {
+                None
+            },
         }
+    }
+
+    /// Returns `true` if all contents are shown.
+    fn shows_all(&self) -> bool
+        ensures { self.now.plan.guarded ≡ true → result ≡ false }
+    {
+        self.all && !self.plan.guarded
     }
 
     /// Returns the mark of what a key has at this place, if the bytes are others.
@@ -152,18 +173,28 @@ impl<'a> Place<'a> {
         requires inside { inside.now ≡ take (length inside.now) self.left.now }
         requires fits { length inside.now ≤ length self.left.now }
         ensures bytes { BeginsWith self.entry.left.now result.row }
+        ensures guarded { self.entry.plan.guarded ≡ true
+            → IsGuarded self.entry.left.now result.row }
         ensures at { result.row.offset ≡ self.entry.offset }
     {
         let behind = &inside[head.len..];
         let (len, cut) = content_there(level, head.content_len, behind.len());
+        let content = &behind[..len];
+        let field = field_in(level, inside);
         let element = Element {
             head,
             header: &inside[..head.len],
-            content: &behind[..len],
+            len,
+            // What is cut isn't shown.
+            seen: if cut.is_some() {
+                &content[..0]
+            } else {
+                self.seen(head.tag, field, content)
+            },
             cut,
-            field: field_in(level, inside),
+            field,
         };
-        let opening = self.opening(level, &element);
+        let opening = self.opening(level, &element, content);
         let opened = if self.has_room { opening } else { None };
         let depth = if opened.is_none() && opening.is_some() {
             Some(Mark::Depth)
@@ -174,14 +205,19 @@ impl<'a> Place<'a> {
             Some(own) => own.min(len),
             None => len,
         };
+        let row = self.element_row(&element, depth, opened.is_some(), own_len);
         Step {
-            row: self.element_row(&element, depth, opened.is_some(), own_len),
-            level: Some(level.after(element.field, head.tag, element.content)),
+            row: if self.shows_all() {
+                row.with(&content[..own_len])
+            } else {
+                row
+            },
+            level: Some(level.after(field, head.tag, element.seen)),
             opened: match opened {
                 Some(_) => Some(Level {
                     behind: self.left.len() - head.len - len,
                     indefinite: head.content_len.is_none(),
-                    field: element.field,
+                    field,
                     next: self.field_inside(),
                     last: None,
                     begins: head.tag.constructed && head.tag.is_universal(16),
@@ -189,6 +225,21 @@ impl<'a> Place<'a> {
                 }),
                 None => None,
             },
+        }
+    }
+
+    /// Returns the part of an element's content that is seen.
+    fn seen(&self, tag: Tag, field: Option<Field>, content: &'a [u8]) -> &'a [u8]
+        ensures { self.now.plan.guarded ≡ true
+            → IsFirst (seen_len tag field (length content.now)) content.now result.now }
+    {
+        if !self.plan.guarded {
+            public_part(tag, content)
+        } else if self.depth == 0 && field.is_none() {
+            // The root alone, of no known form.
+            &content[..0]
+        } else {
+            guarded_part(tag, field, content)
         }
     }
 
@@ -202,9 +253,8 @@ impl<'a> Place<'a> {
 
     /// Returns the number of bytes of the element's content that have no other row, if the others
     /// have rows.
-    fn opening(&self, level: Level, element: &Element) -> Option<usize> {
+    fn opening(&self, level: Level, element: &Element, content: &[u8]) -> Option<usize> {
         let tag = element.head.tag;
-        let content = element.content;
         if tag.constructed {
             let stays_closed = if element.head.content_len.is_some() {
                 content.is_empty() || (element.cut.is_some() && self.plan.guarded && self.depth > 0)
@@ -244,17 +294,26 @@ impl<'a> Place<'a> {
     ) -> OpenRow<'a>
         ensures at { result.offset ≡ self.entry.offset }
         ensures header { result.header.now ≡ element.now.header.now }
-        ensures content { result.own_len ≡ own_len }
+        ensures own { result.own_len ≡ own_len }
+        ensures hidden { result.content ≡ None }
+        ensures shown { IsShown element.now.seen.now result.shown }
+        ensures kind { result.kind ≡ Kind.Element element.now.head.tag }
+        ensures field { result.field ≡ element.now.field }
+        ensures len { result.len ≡ element.now.len }
     {
         let head = element.head;
-        let content = element.content;
-        let shown = self.shown(element, opened);
-        let marks = header_marks(
-            element.header,
-            &head,
-            Marks::NONE.with(element.cut).with(depth),
-        );
-        let marks = marks.with(content_mark(&head, shown, content.len()));
+        let shown = if opened || head.tag.constructed {
+            Shown::Nothing
+        } else {
+            shown_of(head.tag, element.field, element.len, element.seen)
+        };
+        let marks = Marks::NONE.with(element.cut).with(depth);
+        let marks = header_marks(element.header, &head, marks);
+        let marks = if element.cut.is_some() {
+            marks
+        } else {
+            marks.with(content_mark(head.tag, shown, element.len))
+        };
         let is_private = match element.field {
             Some(field) => field.is_secret(),
             None => false,
@@ -264,7 +323,7 @@ impl<'a> Place<'a> {
             depth: self.depth,
             kind: Kind::Element(head.tag),
             header: element.header,
-            len: content.len(),
+            len: element.len,
             announced: head.content_len,
             own_len,
             opened: opened && !head.tag.constructed,
@@ -276,31 +335,8 @@ impl<'a> Place<'a> {
                 marks
             },
             shown,
-            content: if self.all && own_len > 0 {
-                Some(&content[..own_len.min(content.len())])
-            } else {
-                None
-            },
+            content: None,
         }
-    }
-
-    /// Returns what is shown of an element.
-    fn shown(&self, element: &Element<'a>, opened: bool) -> Shown<'a> {
-        let tag = element.head.tag;
-        if opened || tag.constructed {
-            return Shown::Nothing;
-        }
-        if element.field == Some(Field::Point) && tag.is_universal(3) {
-            return point_of(element.content);
-        }
-        if !self.plan.guarded {
-            return unguarded(tag, element.content);
-        }
-        // The root alone isn't inside a known form.
-        if self.depth == 0 && Curve::from_content(element.content).is_none() {
-            return Shown::Count;
-        }
-        guarded(tag, element.field, element.content)
     }
 }
 
@@ -340,15 +376,14 @@ fn field_in(level: Level, bytes: &[u8]) -> Option<Field> {
     }
 }
 
-/// Returns the mark of what is shown of a content of this length.
-fn content_mark(head: &Header, shown: Shown, len: usize) -> Option<Mark> {
-    let fault = match shown {
-        Shown::Unused(unused) if len == 1 && unused > 0 => Some(ContentFault::UnusedInEmpty),
-        Shown::Unused(unused) if unused > 7 => Some(ContentFault::UnusedAboveSeven),
+/// Returns the mark of what is shown of a whole content of this tag and length.
+fn content_mark(tag: Tag, shown: Shown, len: usize) -> Option<Mark> {
+    match shown {
+        Shown::Unused(_) if len == 1 => Some(Mark::Content(ContentFault::UnusedInEmpty)),
+        Shown::Unused(unused) if unused > 7 => Some(Mark::Content(ContentFault::UnusedAboveSeven)),
+        Shown::Count if len == 0 && tag.is_universal(3) => Some(Mark::Content(
+            ContentFault::EmptyBitString,
+        )),
         _ => None,
-    };
-    match fault {
-        Some(fault) => Some(Mark::Content(fault)),
-        None => None,
     }
 }

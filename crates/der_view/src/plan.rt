@@ -49,20 +49,20 @@ impl Plan {
             };
         };
         let behind = &input[root.len..];
-        let (there, cut) = match root.content_len {
-            Some(announced) => (behind.len().min(announced), behind.len() < announced),
-            None => (behind.len(), true),
-        };
+        let announced = root.content_len;
+        let there = behind.len().min(announced.unwrap_or(behind.len()));
         let content = &behind[..there];
         if !root.tag.constructed {
             return of_leaf(input, content, input.len() - behind.len() + there);
         }
         if is_guarded(input, content) {
-            let children = Children::new(content, root.content_len.is_none(), cut);
+            let is_cut = behind.len() < announced.unwrap_or(0);
+            let children = Children::new(content, announced.is_none(), is_cut);
             let plan = of_children(input, input.len() - behind.len(), &children);
-            // Where bytes are missing, the root has a mark of its own.
+            // Such a root has a mark of its own.
+            let is_marked = is_cut || announced.is_none();
             return Plan {
-                expected: if cut { None } else { plan.expected },
+                expected: if is_marked { None } else { plan.expected },
                 ..plan
             };
         }

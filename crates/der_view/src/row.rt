@@ -1,7 +1,9 @@
 //! What is seen of a row.
+ghost use Rattle.std.specs.Prelude.{◌≡◌, length};
+ghost use Rattle.der_view.specs.Seen.{IsFirst, IsShown, seen_len};
 
 use crate::field::Field;
-use crate::header::{Header, Tag, length_len};
+use crate::header::{Class, Header, Tag, length_len};
 use crate::mark::{Mark, Marks};
 
 /// What a row is of.
@@ -41,7 +43,7 @@ pub enum Shown<'a> {
     Nothing,
     /// The number of its bytes.
     Count,
-    /// The number of the bytes of a BIT STRING, and of its unused bits.
+    /// The number of the bytes of a BIT STRING, and of its unused bits, which isn't 0.
     Unused(u8),
     /// The number of the bytes of a BIT STRING, and the form of the point in it.
     Point(Point),
@@ -83,6 +85,24 @@ pub struct OpenRow<'a> {
     pub content: Option<&'a [u8]>,
 }
 
+impl<'a> OpenRow<'a> {
+    /// Returns the row with these bytes of its content, if there are some.
+    pub(crate) fn with(self, content: &'a [u8]) -> OpenRow<'a>
+        ensures at { result.offset ≡ self.entry.offset }
+        ensures header { result.header.now ≡ self.entry.header.now }
+        ensures own { result.own_len ≡ self.entry.own_len }
+    {
+        OpenRow {
+            content: if content.is_empty() {
+                None
+            } else {
+                Some(content)
+            },
+            ..self
+        }
+    }
+}
+
 /// Returns the marks of a header with these bytes.
 pub(crate) fn header_marks(bytes: &[u8], head: &Header, marks: Marks) -> Marks {
     let tag = match bytes {
@@ -105,56 +125,81 @@ pub(crate) fn header_marks(bytes: &[u8], head: &Header, marks: Marks) -> Marks {
 
 /// Returns `true` if the tag is that of a string (X.690 section 10.2).
 fn is_string(tag: Tag) -> bool {
-    matches!(&tag.class, crate::header::Class::Universal)
-        && matches!(tag.number, 3 | 4 | 12 | 18..=28 | 30)
+    matches!(
+        (tag.class, tag.number),
+        (Class::Universal, 3 | 4 | 12 | 18..=28 | 30)
+    )
 }
 
-/// Returns the form of the point in a BIT STRING.
-pub(crate) fn point_of(content: &[u8]) -> Shown<'_> {
-    match content {
-        [0x00, 0x00] => Shown::Point(Point::Infinity),
-        [0x00, 0x02 | 0x03, x @ ..] => Shown::Point(Point::Compressed(x.len())),
-        [0x00, 0x04, xy @ ..] if xy.len() % 2 == 0 => Shown::Point(Point::Uncompressed(
-            xy.len() / 2,
-        )),
-        [0x00, 0x05, x @ ..] => Shown::Point(Point::Compact(x.len())),
-        [0x00, 0x06 | 0x07, xy @ ..] if xy.len() % 2 == 0 => Shown::Point(Point::Hybrid(
-            xy.len() / 2,
-        )),
-        [0x00, ..] => Shown::Point(Point::None),
-        [unused, ..] => Shown::Unused(*unused),
-        [] => Shown::Count,
+/// Returns the number of first bytes of a content of this tag, field and length that are seen in a
+/// guarded picture: all of an identifier, a version of one byte, the unused bits of a BIT STRING,
+/// and the first byte of a point.
+fn seen_len(tag: Tag, field: Option<Field>, len: usize) -> usize
+    ensures { result ≡ seen_len tag field len }
+{
+    match (tag.class, tag.number, field) {
+        (Class::Universal, 6, _) => len,
+        (Class::Universal, 3, Some(Field::Point)) => 2,
+        (Class::Universal, 3, _) => 1,
+        (Class::Universal, 2, Some(Field::Version)) if len == 1 => 1,
+        _ => 0,
     }
 }
 
-/// Returns what is shown of a content of this tag in a guarded picture: the version, identifiers,
-/// unused bits, and the form of a key's point.
-pub(crate) fn guarded<'a>(tag: Tag, field: Option<Field>, content: &'a [u8]) -> Shown<'a> {
-    if !matches!(&tag.class, crate::header::Class::Universal) {
-        return Shown::Count;
-    }
-    match (tag.number, content) {
-        (2, [_]) if field == Some(Field::Version) => Shown::Value(content),
-        (3, [unused, ..]) if *unused != 0 => Shown::Unused(*unused),
-        (5, []) => Shown::Nothing,
-        (6, _) => Shown::Value(content),
+/// Returns the part of a content that is seen in a guarded picture.
+pub(crate) fn guarded_part<'a>(tag: Tag, field: Option<Field>, content: &'a [u8]) -> &'a [u8]
+    ensures { IsFirst (seen_len tag field (length content.now)) content.now result.now }
+{
+    &content[..seen_len(tag, field, content.len()).min(content.len())]
+}
+
+/// Returns the part of a content that is seen in any other picture: none of an OCTET STRING, nor of
+/// a long INTEGER.
+pub(crate) fn public_part<'a>(tag: Tag, content: &'a [u8]) -> &'a [u8] {
+    let is_text = content.iter().all(|byte| *byte >= 0x20 && *byte < 0x7F);
+    let all = match (tag.class, tag.number) {
+        (Class::Universal, 2 | 10) => content.len() <= 8,
+        (Class::Universal, 3) => content.len() <= 4,
+        (Class::Universal, 1 | 5 | 6 | 12 | 18..=28 | 30) => true,
+        (Class::Context, _) => is_text,
+        _ => false,
+    };
+    let len = match (tag.class, tag.number) {
+        _ if all => content.len(),
+        (Class::Universal, 3) => 2,
+        _ => 0,
+    };
+    &content[..len.min(content.len())]
+}
+
+/// Returns what is shown of a primitive element's content of this length, of which this is seen.
+pub(crate) fn shown_of<'a>(tag: Tag, field: Option<Field>, len: usize, seen: &'a [u8]) -> Shown<'a>
+    ensures { IsShown seen.now result }
+{
+    match (tag.class, tag.number, seen) {
+        (Class::Universal, 3, [0x00, ..]) if field == Some(Field::Point) => Shown::Point(point_of(
+            len, seen,
+        )),
+        (Class::Universal, 5, []) if len == 0 => Shown::Nothing,
+        (Class::Universal, 1 | 2 | 6 | 10 | 12 | 18..=28 | 30, []) if len == 0 => Shown::Value(
+            seen,
+        ),
+        _ if len > 0 && seen.len() == len => Shown::Value(seen),
+        (Class::Universal, 3, [unused, ..]) if *unused > 0 => Shown::Unused(*unused),
         _ => Shown::Count,
     }
 }
 
-/// Returns what is shown of a content of this tag in any other picture.
-pub(crate) fn unguarded<'a>(tag: Tag, content: &'a [u8]) -> Shown<'a> {
-    match (&tag.class, tag.number) {
-        (crate::header::Class::Universal, 5) if content.is_empty() => Shown::Nothing,
-        (crate::header::Class::Universal, 2 | 10) if content.len() > 8 => Shown::Count,
-        (crate::header::Class::Universal, 3) if content.len() > 4 => match content {
-            [0x00, ..] | [] => Shown::Count,
-            [unused, ..] => Shown::Unused(*unused),
-        },
-        (crate::header::Class::Universal, 1 | 2 | 3 | 5 | 6 | 10 | 12 | 18..=28 | 30) =>
-            Shown::Value(content),
-        (crate::header::Class::Context, _)
-            if content.iter().all(|byte| *byte >= 0x20 && *byte < 0x7F) => Shown::Value(content),
-        _ => Shown::Count,
+/// Returns the form of the point in a BIT STRING of this length, which begins with these bytes.
+fn point_of(len: usize, seen: &[u8]) -> Point {
+    let coordinates = len.saturating_sub(2);
+    match seen {
+        [_, 0x00] if len == 2 => Point::Infinity,
+        [_, _] if len <= 2 => Point::None,
+        [_, 0x02 | 0x03] => Point::Compressed(coordinates),
+        [_, 0x04] if coordinates % 2 == 0 => Point::Uncompressed(coordinates / 2),
+        [_, 0x05] => Point::Compact(coordinates),
+        [_, 0x06 | 0x07] if coordinates % 2 == 0 => Point::Hybrid(coordinates / 2),
+        _ => Point::None,
     }
 }

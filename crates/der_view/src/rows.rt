@@ -1,6 +1,6 @@
 //! The rows of any bytes.
-ghost use Rattle.std.specs.Prelude.{◌≡◌, ◌≤◌, ◌<◌, ◌-◌, [], length, MatchOption};
-ghost use Rattle.der_view.specs.Rows.{IsNext, Undrawn};
+ghost use Rattle.std.specs.Prelude.{◌≡◌, ◌≤◌, ◌-◌, [], true, false, length, IfSome, MatchOption};
+ghost use Rattle.der_view.specs.Rows.{IsGuarded, IsNext, Undrawn};
 
 use crate::levels::{Level, Levels};
 use crate::mark::{ElementFault, Mark};
@@ -30,6 +30,7 @@ impl<'a> Model for Rows<'a> {
     ghost view = { λ rows. record {
       offset = rows.len - length rows.left.now;
       left = rows.left.now;
+      guarded = rows.plan.guarded;
     } };
 
     ghost invariant = { λ rows. length rows.left.now ≤ rows.len };
@@ -39,7 +40,9 @@ impl<'a> Rows<'a> {
     /// Returns the rows of these bytes. With `all` every content is shown, no picture is guarded,
     /// and what follows the root is drawn.
     pub fn new(input: &'a [u8], all: bool) -> Rows<'a>
-        ensures { result ≡ record { offset = 0; left = input.now } }
+        ensures left { result.left ≡ input.now }
+        ensures offset { result.offset ≡ 0 }
+        ensures guarded { all ≡ true → result.guarded ≡ false }
     {
         let known = Plan::new(input);
         let plan = Plan {
@@ -56,14 +59,19 @@ impl<'a> Rows<'a> {
     }
 
     /// Returns what the bytes are.
-    pub fn plan(&self) -> Plan {
+    pub fn plan(&self) -> Plan
+        ensures { result.guarded ≡ self.now.guarded }
+    {
         self.plan
     }
 
     /// Returns the next row; `None`, changing nothing, if all bytes have one.
     pub fn next_row(&mut self) -> Option<OpenRow<'a>>
-        ensures { MatchOption result ((self.old.left ≡ []) × (self.new ≡ self.old))
+        ensures next { MatchOption result ((self.old.left ≡ []) × (self.new ≡ self.old))
             (λ row. IsNext self.old row self.new) }
+        // In a guarded picture few bytes of contents are in the row.
+        ensures guarded { IfSome result
+            (λ row. self.old.guarded ≡ true → IsGuarded self.old.left row) }
     {
         if self.left.is_empty() {
             return None;
