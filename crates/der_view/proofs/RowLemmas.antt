@@ -1,8 +1,8 @@
 -- The rows of bytes, and the bytes.
-use Rattle.std.proofs.Common.{◌≡◌, ℕ, ◌+◌, Bool, List, [], ◌∷◌, ◌++◌, length, take, drop, refl, sym, ap, ◌∙◌}
+use Rattle.std.proofs.Common.{◌≡◌, ℕ, List, [], ◌∷◌, ◌++◌, take, drop, refl, sym, ap, ◌∙◌}
 use Rattle.std.proofs.Common.{append_assoc}
 use Rattle.std.proofs.lemmas.List.{take-append-drop, drop-drop}
-use Rattle.der_view.specs.Rows.{Draws, IsNext, Undrawn, bytes_of_rows, row_len}
+use Rattle.der_view.specs.Rows.{Draws, Undrawn, bytes_of_rows, row_len}
 use Rattle.der_view.specs.RowLaws.{RowsAreInput}
 use Rattle.der_view.specs.declared.row.OpenRow.{OpenRow}
 

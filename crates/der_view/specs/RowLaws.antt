@@ -1,5 +1,5 @@
 -- What holds of the rows of all bytes.
-use Rattle.std.specs.Prelude.{◌≡◌, List, ℕ, [], ◌++◌, Bool}
+use Rattle.std.specs.Prelude.{◌≡◌, List, ℕ, ◌++◌, Bool}
 use Rattle.der_view.specs.Rows.{Draws, Undrawn, bytes_of_rows}
 use Rattle.der_view.specs.declared.row.OpenRow.{OpenRow}
 

@@ -1,5 +1,5 @@
 -- What is seen of a content.
-use Rattle.std.specs.Prelude.{◌≡◌, ℕ, ◌≤◌, List, length, take, Option, Some, None}
+use Rattle.std.specs.Prelude.{◌≡◌, ℕ, ◌≤◌, List, length, take, Option, Some}
 use Rattle.std.specs.Prelude.{◌==◌, if◌then◌else◌}
 use Rattle.der_view.specs.declared.field.Field.{Field}
 use Rattle.der_view.specs.declared.field.Field.TheVariants as fields

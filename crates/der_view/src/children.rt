@@ -107,7 +107,7 @@ impl<'a> Children<'a> {
         };
         let mut rest = content;
         for _ in 0..MOST + 1 {
-            children.end = content.len() - rest.len();
+            children.end = content.len().saturating_sub(rest.len());
             if rest.is_empty() {
                 children.finished = !indefinite && !may_be_cut;
                 children.cut = may_be_cut;

@@ -1,4 +1,5 @@
 //! The elements around the next row.
+ghost use Rattle.std.specs.Prelude.{◌<◌, IfSome};
 
 use crate::field::Field;
 use crate::header::Tag;
@@ -95,7 +96,9 @@ impl Levels {
     }
 
     /// Returns the innermost level.
-    pub(crate) fn innermost(&self) -> Option<Level> {
+    pub(crate) fn innermost(&self) -> Option<Level>
+        ensures { IfSome result (λ level. 0 < self.now.count) }
+    {
         if self.count == 0 || self.count > MAX_DEPTH {
             return None;
         }

@@ -185,12 +185,7 @@ impl<'a> Place<'a> {
             head,
             header: &inside[..head.len],
             len,
-            // What is cut isn't shown.
-            seen: if cut.is_some() {
-                &content[..0]
-            } else {
-                self.seen(head.tag, field, content)
-            },
+            seen: self.seen(head.tag, field, cut, content),
             cut,
             field,
         };
@@ -228,18 +223,18 @@ impl<'a> Place<'a> {
         }
     }
 
-    /// Returns the part of an element's content that is seen.
-    fn seen(&self, tag: Tag, field: Option<Field>, content: &'a [u8]) -> &'a [u8]
+    /// Returns the part of an element's content that is seen: none if the content is cut.
+    fn seen(&self, tag: Tag, field: Option<Field>, cut: Option<Mark>, content: &'a [u8]) -> &'a [u8]
         ensures { self.now.plan.guarded ≡ true
             → IsFirst (seen_len tag field (length content.now)) content.now result.now }
     {
-        if !self.plan.guarded {
-            public_part(tag, content)
-        } else if self.depth == 0 && field.is_none() {
-            // The root alone, of no known form.
+        // A guarded root that isn't of a known form is a leaf of any tag.
+        if cut.is_some() || (self.plan.guarded && self.depth == 0 && field.is_none()) {
             &content[..0]
-        } else {
+        } else if self.plan.guarded {
             guarded_part(tag, field, content)
+        } else {
+            public_part(tag, content)
         }
     }
 
