@@ -23,6 +23,8 @@ struct Child<'a> {
     tag: u8,
     /// The number of bytes of the header.
     header_len: usize,
+    /// The length of the content.
+    announced: usize,
     /// The content that is there.
     content: &'a [u8],
     /// The bytes after the child.
@@ -54,6 +56,7 @@ impl<'a> Child<'a> {
         Some(Child {
             tag: first_tag(bytes),
             header_len: head.len,
+            announced,
             content,
             behind,
             cut,
@@ -87,6 +90,8 @@ pub(crate) struct Children<'a> {
     finished: bool,
     /// Whether the input ends inside them.
     cut: bool,
+    /// Whether the content of the first one has one byte, as that of a version.
+    pub versioned: bool,
     /// Whether the length of the second one has more than one byte.
     is_long: bool,
 }
@@ -103,6 +108,7 @@ impl<'a> Children<'a> {
             end: 0,
             finished: false,
             cut: false,
+            versioned: false,
             is_long: false,
         };
         let mut rest = content;
@@ -136,8 +142,10 @@ impl<'a> Children<'a> {
             self.tags[self.count] = child.tag;
             self.contents[self.count] = child.content;
             self.offsets[self.count] = self.end;
-            if self.count == 1 {
-                self.is_long = child.header_len > 2;
+            match self.count {
+                0 => self.versioned = child.announced == 1,
+                1 => self.is_long = child.header_len > 2,
+                _ => {}
             }
             self.count += 1;
         }
@@ -146,27 +154,27 @@ impl<'a> Children<'a> {
 
     /// Returns what the root is.
     pub(crate) fn form(&self) -> Form {
-        let versioned = self.contents[0].len() == 1;
         match self.tags {
-            [0x02, 0x02, ..] => self.form_of_integers(versioned),
-            [0x02, 0x04, ..] if versioned && (self.finished || !self.is_long) => Form::EcPrivateKey,
-            [0x02, 0x30, 0x04, ..] if versioned => Form::PrivateKeyInfo,
-            [0x02, 0x30, 0x30, ..] if versioned => Form::Pkcs12,
-            [0x02, 0x30, 0x00, ..] if versioned && self.finished => Form::Pkcs12,
+            [0x02, 0x02, ..] => self.form_of_integers(),
+            _ if !self.versioned => Form::Other,
+            [0x02, 0x04, ..] if self.finished || !self.is_long => Form::EcPrivateKey,
+            [0x02, 0x30, 0x04, ..] => Form::PrivateKeyInfo,
+            [0x02, 0x30, 0x30, ..] => Form::Pkcs12,
+            [0x02, 0x30, 0x00, ..] if self.finished => Form::Pkcs12,
             _ => Form::Other,
         }
     }
 
     /// Returns what a root with two INTEGERs and more is.
-    fn form_of_integers(&self, versioned: bool) -> Form {
+    fn form_of_integers(&self) -> Form {
         let [r, s, ..] = self.contents;
         if !self.finished {
             Form::Other
         } else if self.count == 2 && r.len().abs_diff(s.len()) <= 3 {
             Form::Signature
-        } else if self.count == 6 && versioned {
+        } else if self.count == 6 && self.versioned {
             Form::DsaPrivateKey
-        } else if self.count == 9 && versioned {
+        } else if self.count == 9 && self.versioned {
             Form::RsaPrivateKey
         } else {
             Form::Other
@@ -176,10 +184,9 @@ impl<'a> Children<'a> {
     /// Returns the number of children that are drawn.
     pub(crate) fn drawn(&self) -> usize {
         let form = self.form();
-        let versioned = self.contents[0].len() == 1;
         match self.tags {
             [0x02, 0x02, ..] if form != Form::Other || self.cut => self.count,
-            _ if !versioned => 0,
+            _ if !self.versioned => 0,
             [0x02, 0x30, 0x04, ..] if self.inside().is_none() => self.count.min(3),
             [0x02, 0x30, ..] => self.count,
             _ if form == Form::Other => self.count.min(1),
@@ -230,15 +237,11 @@ impl<'a> Children<'a> {
 
     /// Returns where the children aren't those of an ECPrivateKey, as a number of bytes behind the
     /// root's header, and what such a key has there. Returns `None` if they are, or if the second
-    /// one is a SEQUENCE or the numbers are known.
+    /// one is a SEQUENCE.
     pub(crate) fn expected(&self) -> Option<(usize, Part)> {
         let drawn = self.drawn();
         let [version, _, parameters, ..] = self.contents;
         let [_, second, third, fourth, ..] = self.offsets;
-        match self.form() {
-            Form::EcPrivateKey | Form::Other => {}
-            _ => return None,
-        }
         match self.tags {
             [_, 0x30, ..] if drawn > 1 => return None,
             _ if drawn == 0 || version != [0x01].as_slice() => return Some((0, Part::Version)),

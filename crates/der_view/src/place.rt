@@ -86,7 +86,10 @@ impl<'a> Place<'a> {
             damaged: self.plan.guarded,
         }));
         Step {
-            row: self.row(Kind::NotDrawn, &self.left[..0], self.left, marks),
+            row: OpenRow {
+                depth: 0,
+                ..self.row(Kind::NotDrawn, &self.left[..0], self.left, marks)
+            },
             level: None,
             opened: None,
         }
@@ -104,7 +107,10 @@ impl<'a> Place<'a> {
         match Header::read(inside) {
             Ok(head) => self.element(level, inside, head),
             Err(_) if level.indefinite && inside.starts_with(&[0x00, 0x00]) => Step {
-                row: self.row(Kind::EndOfContents, &inside[..2], &inside[..0], Marks::NONE),
+                row: OpenRow {
+                    depth: self.depth.saturating_sub(1),
+                    ..self.row(Kind::EndOfContents, &inside[..2], &inside[..0], Marks::NONE)
+                },
                 level: None,
                 opened: None,
             },

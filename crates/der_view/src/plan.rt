@@ -55,8 +55,8 @@ impl Plan {
         if !root.tag.constructed {
             return of_leaf(input, content, input.len() - behind.len() + there);
         }
+        let is_cut = behind.len() < announced.unwrap_or(0);
         if is_guarded(input, content) {
-            let is_cut = behind.len() < announced.unwrap_or(0);
             let children = Children::new(content, announced.is_none(), is_cut);
             let plan = of_children(input, input.len() - behind.len(), &children);
             // Such a root has a mark of its own.
@@ -102,6 +102,7 @@ fn of_children(input: &[u8], header_len: usize, children: &Children) -> Plan {
     let is_sequence = first_tag(input) == 0x30;
     let place = match children.expected() {
         None if form != Form::EcPrivateKey => None,
+        _ if ends && form != Form::EcPrivateKey && form != Form::Other => None,
         _ if !is_sequence => Some((0, Part::Key)),
         Some((offset, part)) => Some((header_len.saturating_add(offset), part)),
         None if ends => None,
@@ -113,7 +114,7 @@ fn of_children(input: &[u8], header_len: usize, children: &Children) -> Plan {
         guarded: true,
         root: match form.root() {
             Some(root) => Some(root),
-            None if children.drawn() == 1 => Some(Field::Unknown),
+            None if children.versioned && children.drawn() > 0 => Some(Field::Unknown),
             None => None,
         },
         drawn_to,

@@ -57,7 +57,7 @@ pub enum Shown<'a> {
 pub struct OpenRow<'a> {
     /// The number of bytes before the row.
     pub offset: usize,
-    /// The number of elements around it.
+    /// The number of elements around it; of an end-of-contents, around the element that ends there.
     pub depth: usize,
     /// What it is of.
     pub kind: Kind,
