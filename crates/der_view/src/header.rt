@@ -55,7 +55,8 @@ impl Header {
     ///
     /// What is wrong with the first bytes, if they are no header.
     pub fn read(bytes: &[u8]) -> Result<Header, ElementFault>
-        ensures { IfOk result (λ h. (0 < h.tag_len) × (h.tag_len < h.len) × (h.len ≤ length bytes.now)) }
+        ensures { IfOk result
+            (λ h. (0 < h.tag_len) × (h.tag_len < h.len) × (h.len ≤ length bytes.now)) }
     {
         let (tag, tag_len) = tag_at(bytes)?;
         let (content_len, length_len) = length_at(&bytes[tag_len..])?;

@@ -215,17 +215,27 @@ impl<'a> Place<'a> {
             },
             level: Some(level.after(field, head.tag, element.seen)),
             opened: match opened {
-                Some(_) => Some(Level {
-                    behind: self.left.len() - head.len - len,
-                    indefinite: head.content_len.is_none(),
-                    field,
-                    next: self.field_inside(),
-                    last: None,
-                    begins: head.tag.constructed && head.tag.is_universal(16),
-                    extension: false,
-                }),
+                Some(_) => Some(self.level_inside(&element)),
                 None => None,
             },
+        }
+    }
+
+    /// Returns the level that the element at this place opens.
+    fn level_inside(&self, element: &Element) -> Level {
+        let head = element.head;
+        Level {
+            behind: self
+                .left
+                .len()
+                .saturating_sub(head.len)
+                .saturating_sub(element.len),
+            indefinite: head.content_len.is_none(),
+            field: element.field,
+            next: self.field_inside(),
+            last: None,
+            begins: head.tag.constructed && head.tag.is_universal(16),
+            extension: false,
         }
     }
 

@@ -1,4 +1,5 @@
-use Rattle.std.proofs.Common.{◌≡◌, ◌≤◌, ◌+◌, ◌-◌, ℕ, List, true, false, ◌∙◌, sym, ap, arith, length, take, drop, length-drop}
+use Rattle.std.proofs.Common.{◌≡◌, ◌≤◌, ◌+◌, ◌-◌, ℕ, List, true, false, ◌∙◌, sym, ap, arith, length, take, drop}
+use Rattle.std.proofs.Common.{length-drop}
 use Rattle.std.proofs.lemmas.List.{length-take-le, take_all}
 use Rattle.der_view.specs.Seen.{IsFirst, seen_len}
 use Rattle.der_view.proofs.SeenLemmas.{guarded_row}
