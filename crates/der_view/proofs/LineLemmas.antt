@@ -53,3 +53,18 @@ kept-spaces old n y = kept-spaces_by old n y (cases_lt 101 n)
 pub ruleset kept_by_room = (kept-short, kept-cut)
 
 pub ruleset kept_spaces = (kept-spaces)
+
+-- three pieces
+pub kept-three : (old a b c x y z : List ℕ) → x ≡ kept (old ++ a) → y ≡ kept (x ++ b) → z ≡ kept (y ++ c)
+    → z ≡ kept (old ++ (a ++ (b ++ c)))
+kept-three old a b c x y z ex ey ez =
+    let first : y ≡ kept (old ++ (a ++ b)) = ey ∙ (ap (λ t. kept (t ++ b)) ex ∙ kept-pieces old a b) in
+    ez ∙ (ap (λ t. kept (t ++ c)) first ∙ (kept-pieces old (a ++ b) c ∙ ap (λ t. kept (old ++ t)) (append_assoc a b c)))
+
+-- four pieces
+pub kept-four : (old a b c d x y z w : List ℕ) → x ≡ kept (old ++ a) → y ≡ kept (x ++ b) → z ≡ kept (y ++ c)
+    → w ≡ kept (z ++ d) → w ≡ kept (old ++ (a ++ (b ++ (c ++ d))))
+kept-four old a b c d x y z w ex ey ez ew =
+    let first : x ≡ kept (old ++ a) = ex in
+    let rest : w ≡ kept (x ++ (b ++ (c ++ d))) = kept-three x b c d y z w ey ez ew in
+    rest ∙ (ap (λ t. kept (t ++ (b ++ (c ++ d)))) first ∙ kept-pieces old a (b ++ (c ++ d)))

@@ -1,7 +1,7 @@
 -- The names of object identifiers: those of RFC 3279, 4055, 5280, 5480, 5652, 5758, 5912, 7292,
 -- 8018, 8410, X.520 and the CSOR, as their ASN.1 modules spell them, without `id-`; and those of
 -- curves.
-use Rattle.std.specs.Prelude.{◌==◌, ℕ, Bool, ◌&&◌, if◌then◌else◌, List, [], ◌∷◌, find, length}
+use Rattle.std.specs.Prelude.{◌==◌, ℕ, Bool, true, false, ◌&&◌, if◌then◌else◌, List, [], ◌∷◌, find, length}
 use Rattle.std.specs.Prelude.{codes, Option, Some, None, option_map, is_some, take, ◌-◌}
 use Rattle.std.specs.Prelude.{slice_index}
 use Rattle.std.specs.Str.{bytes_eq}
@@ -212,6 +212,15 @@ row_by content =
     else (let before = length content - 1 in
     let arc = slice_index content before in
     named_in (find (has_row (take before content) arc) family_table.ALL) arc)
+
+-- whether a name is that of an extension
+abbrev pub is_extension_word : Word → Bool
+is_extension_word words.Extension = true
+is_extension_word word = false
+
+abbrev pub is_extension : Option NameView → Bool
+is_extension None = false
+is_extension (Some name) = is_extension_word name.word
 
 -- the name of a curve in FIPS 186-4, if it has one there
 abbrev pub alias_or : Option (List ℕ) → List ℕ → List ℕ

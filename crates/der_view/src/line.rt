@@ -1,9 +1,9 @@
 //! A line of a picture, in memory of a fixed size.
 ghost use Rattle.std.specs.Prelude.{◌≡◌, ◌↔◌, ◌≤◌, ◌+◌, ◌-◌, ℕ, List, [], ◌∷◌, ◌++◌, IsTrue, length};
-ghost use Rattle.std.specs.Prelude.{replicate};
+ghost use Rattle.std.specs.Prelude.{◌<◌, replicate, slice_index};
 ghost use Rattle.std.specs.Fmt.{decimal};
 ghost use Rattle.der_view.specs.Lines.{kept, shown};
-ghost use Rattle.hex.specs.Hex.{encode_upper};
+ghost use Rattle.hex.specs.Hex.{encode_upper, upper_digits};
 
 use arrayvec::ArrayVec;
 use itoa::Buffer;
@@ -112,6 +112,14 @@ impl Line {
         let high = DIGITS[usize::from(byte / 16)];
         let low = DIGITS[usize::from(byte % 16)];
         self.push_bytes(&[high, low]);
+    }
+
+    /// Appends a hexadecimal digit.
+    pub(crate) fn push_digit(&mut self, digit: u8)
+        requires { digit < 16 }
+        ensures { self.new ≡ kept (self.old ++ slice_index upper_digits digit ∷ []) }
+    {
+        self.push_byte(DIGITS[usize::from(digit)]);
     }
 
     /// Appends as many spaces.

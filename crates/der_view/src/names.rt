@@ -2,8 +2,8 @@
 ghost use Rattle.std.specs.Prelude.{◌≡◌, Some, None, find, option_map};
 ghost use Rattle.curves.specs.Curves.{curve_content};
 ghost use Rattle.curves.specs.declared.curve.Curve.{Curve};
-ghost use Rattle.der_view.specs.Names.{NameView, curve_name_view, has_row, name_view, named_in};
-ghost use Rattle.der_view.specs.Names.{row_by};
+ghost use Rattle.der_view.specs.Names.{NameView, curve_name_view, has_row, is_extension, name_view};
+ghost use Rattle.der_view.specs.Names.{named_in, row_by};
 
 mod family;
 
@@ -77,6 +77,16 @@ pub fn name_of(content: &[u8]) -> Option<Name>
             Some(curve) => Some(curve_name(curve)),
             None => None,
         },
+    }
+}
+
+/// Returns `true` if the identifier with this content is that of an extension in the table.
+pub(crate) fn is_extension(content: &[u8]) -> bool
+    ensures { result ≡ is_extension (row_by content.now) }
+{
+    match row_of(content) {
+        Some(name) => matches!(&name.word, Word::Extension),
+        None => false,
     }
 }
 
