@@ -3,6 +3,7 @@ ghost use Rattle.std.specs.Prelude.{◌<◌, IfSome};
 
 use crate::field::Field;
 use crate::header::Tag;
+use crate::names::is_extension;
 
 /// The greatest number of nested elements.
 const MAX_DEPTH: usize = 64;
@@ -54,17 +55,6 @@ impl Level {
             ..self
         }
     }
-}
-
-/// Returns `true` if the content is an identifier of an extension: 2.5.29.N, 1.3.6.1.5.5.7.1.N or
-/// 1.3.6.1.4.1.11129.2.4.2.
-fn is_extension(content: &[u8]) -> bool {
-    matches!(
-        content,
-        [0x55, 0x1D, _]
-            | [0x2B, 0x06, 0x01, 0x05, 0x05, 0x07, 0x01, _]
-            | [0x2B, 0x06, 0x01, 0x04, 0x01, 0xD6, 0x79, 0x02, 0x04, 0x02]
-    )
 }
 
 /// The elements that are open, and the input around them.

@@ -4,11 +4,12 @@ ghost use Rattle.der_view.specs.Rows.{BeginsWith, IsGuarded};
 ghost use Rattle.der_view.specs.Seen.{IsFirst, IsShown, seen_len};
 
 use crate::field::{Field, inner_field};
-use crate::header::{Header, Tag};
+use crate::header::{Class, Header, Tag};
 use crate::levels::Level;
 use crate::mark::{ContentFault, ElementFault, Mark, Marks};
 use crate::plan::Plan;
 use crate::row::{Kind, OpenRow, Shown, guarded_part, header_marks, public_part, shown_of};
+use crate::values::content_fault;
 use sec1_der::check_tree;
 
 /// Where the next row is.
@@ -389,12 +390,16 @@ fn field_in(level: Level, bytes: &[u8]) -> Option<Field> {
 
 /// Returns the mark of what is shown of a whole content of this tag and length.
 fn content_mark(tag: Tag, shown: Shown, len: usize) -> Option<Mark> {
-    match shown {
-        Shown::Unused(_) if len == 1 => Some(Mark::Content(ContentFault::UnusedInEmpty)),
-        Shown::Unused(unused) if unused > 7 => Some(Mark::Content(ContentFault::UnusedAboveSeven)),
-        Shown::Count if len == 0 && tag.is_universal(3) => Some(Mark::Content(
-            ContentFault::EmptyBitString,
-        )),
+    let fault = match shown {
+        Shown::Value(content) if matches!(&tag.class, Class::Universal) =>
+            content_fault(tag.number, content),
+        Shown::Unused(unused) if unused > 7 => Some(ContentFault::UnusedAboveSeven),
+        Shown::Unused(_) if len == 1 => Some(ContentFault::UnusedInEmpty),
+        Shown::Count if len == 0 && tag.is_universal(3) => Some(ContentFault::EmptyBitString),
         _ => None,
+    };
+    match fault {
+        Some(fault) => Some(Mark::Content(fault)),
+        None => None,
     }
 }

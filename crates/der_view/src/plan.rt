@@ -2,7 +2,7 @@
 
 use crate::children::{Children, first_tag, public_form};
 use crate::field::{Field, Form};
-use crate::header::Header;
+use crate::header::{Header, length_len};
 use crate::mark::Part;
 use curves::Curve;
 use sec1_der::check_tree;
@@ -60,7 +60,10 @@ impl Plan {
             let children = Children::new(content, announced.is_none(), is_cut);
             let plan = of_children(input, input.len() - behind.len(), &children);
             // Such a root has a mark of its own.
-            let is_marked = is_cut || announced.is_none();
+            let is_marked = is_cut || match announced {
+                Some(len) => root.len > root.tag_len.saturating_add(length_len(len)),
+                None => true,
+            };
             return Plan {
                 expected: if is_marked { None } else { plan.expected },
                 ..plan
