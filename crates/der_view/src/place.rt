@@ -391,8 +391,9 @@ fn field_in(level: Level, bytes: &[u8]) -> Option<Field> {
 /// Returns the mark of what is shown of a whole content of this tag and length.
 fn content_mark(tag: Tag, shown: Shown, len: usize) -> Option<Mark> {
     let fault = match shown {
-        Shown::Value(content) if matches!(&tag.class, Class::Universal) =>
-            content_fault(tag.number, content),
+        Shown::Value(content) if matches!(&tag.class, Class::Universal) => content_fault(
+            tag.number, content,
+        ),
         Shown::Unused(unused) if unused > 7 => Some(ContentFault::UnusedAboveSeven),
         Shown::Unused(_) if len == 1 => Some(ContentFault::UnusedInEmpty),
         Shown::Count if len == 0 && tag.is_universal(3) => Some(ContentFault::EmptyBitString),

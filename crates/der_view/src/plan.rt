@@ -60,10 +60,11 @@ impl Plan {
             let children = Children::new(content, announced.is_none(), is_cut);
             let plan = of_children(input, input.len() - behind.len(), &children);
             // Such a root has a mark of its own.
-            let is_marked = is_cut || match announced {
-                Some(len) => root.len > root.tag_len.saturating_add(length_len(len)),
-                None => true,
-            };
+            let is_marked = is_cut
+                || match announced {
+                    Some(len) => root.len > root.tag_len.saturating_add(length_len(len)),
+                    None => true,
+                };
             return Plan {
                 expected: if is_marked { None } else { plan.expected },
                 ..plan
