@@ -26,6 +26,7 @@ unused_fault unused bytes =
     else (if slice_index bytes (length bytes - 1) % 2 ^ unused == 0 then None
     else Some faults.UnusedNotZero))
 
+-- X.690 section 8.6.2.2: the number of unused bits, and the bytes
 abbrev pub bits_fault : List ℕ → Option ContentFault
-bits_fault [] = None
+bits_fault [] = Some faults.EmptyBitString
 bits_fault (unused ∷ bytes) = unused_fault unused bytes

@@ -1,7 +1,7 @@
 -- What is shown of the content of a primitive element.
-use Rattle.std.specs.Prelude.{◌==◌, ◌<◌, ℕ, ◌+◌, ◌-◌, ◌*◌, ◌/◌, ◌%◌, nat_lt, nat_le, Bool, ◌&&◌}
+use Rattle.std.specs.Prelude.{◌==◌, ◌<◌, ℕ, ◌+◌, ◌-◌, ◌*◌, ◌/◌, ◌%◌, ◌^◌, nat_lt, nat_le, Bool, ◌&&◌}
 use Rattle.std.specs.Prelude.{if◌then◌else◌, List, [], ◌∷◌, ◌++◌, length, codes, slice_index}
-use Rattle.std.specs.Prelude.{Option, Some, None}
+use Rattle.std.specs.Prelude.{◌≡◌, drop, Option, Some, None}
 use Rattle.std.specs.Fmt.{decimal, signed_decimal}
 use Rattle.sec1_der.specs.ArcsOf.{numbers_after}
 use Rattle.der_types.specs.Integers.{signed_number}
@@ -96,6 +96,20 @@ abbrev pub integer_text : List ℕ → Option (List ℕ)
 integer_text [] = None
 integer_text (first ∷ bytes) =
     if nat_lt 7 (length bytes) then None else Some (signed_decimal (signed_number (first ∷ bytes)))
+
+-- X.690 section 8.6.2.1: the digit of a bit, from bit 8 of the first byte on
+abbrev pub bit_digit : List ℕ → ℕ → ℕ
+bit_digit bytes place = 0x30 + slice_index bytes (place / 8) / 2 ^ (7 - place % 8) % 2
+
+-- the digits are those of the first bits
+abbrev pub AreBits : List ℕ → List ℕ → Type 0
+AreBits bytes digits =
+    (place : ℕ) → place < length digits → slice_index digits place ≡ bit_digit bytes place
+
+-- X.690 section 8.6.2.2: the digits are those of all bits, without the unused ones
+pub record AreBitsOf (content digits : List ℕ) : Type 0 where
+  pub count : length digits ≡ 8 * (length content - 1) - slice_index content 0
+  pub bits : AreBits (drop 1 content) digits
 
 -- X.690 section 8.19.4: the arcs of an identifier
 abbrev pub arcs_view : Arcs → List ℕ

@@ -2,7 +2,8 @@
 
 use crate::header::{Class, Tag};
 use crate::line::Line;
-use crate::values::value_of;
+use crate::mark::ContentFault;
+use crate::values::{content_fault, value_of};
 use std::process::Abort;
 use std::test::Fail;
 
@@ -263,4 +264,142 @@ fn cuts_long_values(rt: HostRuntime) {
     assert_cut(&rt, 95, 100, "yyy...");
     assert_cut(&rt, 96, 100, "yyy...");
     assert_cut(&rt, 300, 100, "yyy...");
+}
+
+/// What is wrong with contents: in each line the number of a tag, a content in hexadecimal, and the
+/// fault (of characters the type), or `-`. The faults are those of X.690, and of Python's `datetime`
+/// and codecs.
+const FAULTS: &str = "\
+    1 00 -\n\
+    1 ff -\n\
+    1 01 TrueIsFf\n\
+    1 fe TrueIsFf\n\
+    1  BooleanLength\n\
+    1 0000 BooleanLength\n\
+    2  EmptyInteger\n\
+    2 00 -\n\
+    2 007f NeedlessFirstByte\n\
+    2 0080 -\n\
+    2 ff80 NeedlessFirstByte\n\
+    2 ff7f -\n\
+    2 ff -\n\
+    10  EmptyInteger\n\
+    10 00 -\n\
+    10 007f NeedlessFirstByte\n\
+    10 0080 -\n\
+    10 ff80 NeedlessFirstByte\n\
+    10 ff7f -\n\
+    10 ff -\n\
+    3  EmptyBitString\n\
+    3 00 -\n\
+    3 01 UnusedInEmpty\n\
+    3 07 UnusedInEmpty\n\
+    3 08 UnusedAboveSeven\n\
+    3 0800 UnusedAboveSeven\n\
+    3 0780 -\n\
+    3 07c0 UnusedNotZero\n\
+    3 010102 -\n\
+    3 010201 UnusedNotZero\n\
+    3 00ff -\n\
+    3 041f UnusedNotZero\n\
+    5  -\n\
+    5 00 NullContent\n\
+    6  NoIdentifier\n\
+    6 8001 NoIdentifier\n\
+    6 550403 -\n\
+    6 5584 NoIdentifier\n\
+    6 558003 NoIdentifier\n\
+    23 3236303130323033303430355a -\n\
+    23 323630313032303330345a UtcTime\n\
+    23 3236303232393033303430355a UtcTime\n\
+    23 3234303232393033303430355a -\n\
+    23 3236303130323234303430355a UtcTime\n\
+    23 3236303130323033363030355a UtcTime\n\
+    23 3236303130323033303436305a UtcTime\n\
+    23 3236313330323033303430355a UtcTime\n\
+    23 3236303130303033303430355a UtcTime\n\
+    23 3236303130323033303430352b30303030 UtcTime\n\
+    23 3236303130323033303430357a -\n\
+    24 32303236303130323033303430355a -\n\
+    24 32303236303130323033303430352e355a -\n\
+    24 32303236303130323033303430352e35305a GeneralizedTime\n\
+    24 32303236303130323033303430352e5a GeneralizedTime\n\
+    24 3230323630313032303330343035 GeneralizedTime\n\
+    24 3230323630313032303330345a GeneralizedTime\n\
+    24 31393030303232393033303430355a GeneralizedTime\n\
+    24 32303030303232393033303430355a -\n\
+    24 32303236303130323033303430352c355a GeneralizedTime\n\
+    12 c3a4e282acf09f9880 -\n\
+    12 ff UTF8String\n\
+    12 eda080 UTF8String\n\
+    18 312032 -\n\
+    18 312d32 NumericString\n\
+    19 412d62 -\n\
+    19 614062 PrintableString\n\
+    19 612a PrintableString\n\
+    22 614062 -\n\
+    22 80 IA5String\n\
+    26 207e -\n\
+    26 1f VisibleString\n\
+    20 00336699ccff -\n\
+    21 00336699ccff -\n\
+    25 00336699ccff -\n\
+    27 00336699ccff -\n\
+    28 000000e40001f600 -\n\
+    28 000000 UniversalString\n\
+    28 00110000 UniversalString\n\
+    28 0000dfff UniversalString\n\
+    28 01000041 UniversalString\n\
+    30 00e4d83dde00 -\n\
+    30 61 BMPString\n\
+    30 d800 BMPString\n\
+    30 dc000041 BMPString\n\
+    30 d800d800 BMPString\n\
+    0 ff00 -\n\
+    4 ff00 -\n\
+    7 ff00 -\n\
+    8 ff00 -\n\
+    9 ff00 -\n\
+    11 ff00 -\n\
+    13 ff00 -\n\
+    14 ff00 -\n\
+    15 ff00 -\n\
+    29 ff00 -\n\
+    31 ff00 -\n\
+    99 ff00 -\n\
+    ";
+
+/// Returns the name of a fault, or `-`.
+fn word_of(fault: Option<ContentFault>) -> &'static str {
+    match fault {
+        None => "-",
+        Some(ContentFault::TrueIsFf) => "TrueIsFf",
+        Some(ContentFault::BooleanLength) => "BooleanLength",
+        Some(ContentFault::NeedlessFirstByte) => "NeedlessFirstByte",
+        Some(ContentFault::EmptyInteger) => "EmptyInteger",
+        Some(ContentFault::NullContent) => "NullContent",
+        Some(ContentFault::NoIdentifier) => "NoIdentifier",
+        Some(ContentFault::EmptyBitString) => "EmptyBitString",
+        Some(ContentFault::UnusedAboveSeven) => "UnusedAboveSeven",
+        Some(ContentFault::UnusedInEmpty) => "UnusedInEmpty",
+        Some(ContentFault::UnusedNotZero) => "UnusedNotZero",
+        Some(ContentFault::UtcTime) => "UtcTime",
+        Some(ContentFault::GeneralizedTime) => "GeneralizedTime",
+        Some(ContentFault::Characters(name)) => name,
+    }
+}
+
+#[test]
+fn finds_faults_of_contents(rt: HostRuntime) -> Result<(), Fail> {
+    let mut count = 0u32;
+    for row in FAULTS.lines() {
+        let (number, rest) = row.split_once(' ').ok_or("number")?;
+        let (content, expected) = rest.split_once(' ').ok_or("content")?;
+        let content = hex::decode(rt.alloc(), content)?;
+        let fault = content_fault(number.parse::<u32>()?, &content);
+        assert_eq!(rt; word_of(fault), expected, "{row}");
+        count = count.saturating_add(1);
+    }
+    assert_eq!(rt; count, 97);
+    Ok(())
 }

@@ -50,7 +50,7 @@ fn bits_fault(content: &[u8]) -> Option<ContentFault>
     ensures { result ≡ bits_fault content.now }
 {
     match content {
-        [] => None,
+        [] => Some(ContentFault::EmptyBitString),
         [unused, bytes @ ..] => unused_fault(*unused, bytes),
     }
 }

@@ -1,8 +1,9 @@
 //! Short texts: TRUE and FALSE, numbers, bits and times.
-ghost use Rattle.std.specs.Prelude.{◌≡◌, ◌≤◌, ◌-◌, ◌*◌, ◌^◌, ◌∷◌, length, option_map};
+ghost use Rattle.std.specs.Prelude.{◌≡◌, ◌<◌, ◌≤◌, ◌+◌, ◌-◌, ◌*◌, ◌/◌, ◌%◌, ◌^◌, [], ◌∷◌};
+ghost use Rattle.std.specs.Prelude.{◌++◌, IfSome, length, option_map};
 ghost use Rattle.std.specs.Fmt.{decimal};
 ghost use Rattle.sec1_der.specs.Numbers.{number_of};
-ghost use Rattle.der_view.specs.Values.{boolean_text, integer_text, time_text};
+ghost use Rattle.der_view.specs.Values.{AreBits, AreBitsOf, boolean_text, integer_text, time_text};
 
 use arrayvec::ArrayString;
 use itoa::Buffer;
@@ -99,10 +100,12 @@ fn magnitude(digits: &[u8]) -> u64
 
 /// Returns the bits of a BIT STRING, the first one first; `None` if this is no content of a BIT
 /// STRING (X.690 section 8.6.2), or one of more than three bytes or of none.
-pub(super) fn bits(content: &[u8]) -> Option<ShortText> {
+pub(super) fn bits(content: &[u8]) -> Option<ShortText>
+    ensures { IfSome result (λ text. AreBitsOf content.now text.bytes) }
+{
     match content {
         [unused @ 0..=7, bytes @ ..] if !bytes.is_empty() && bytes.len() <= 3 => {
-            Some(bit_digits(bytes, 8 * bytes.len() - usize::from(*unused)))
+            Some(bit_digits(bytes, 8 * bytes.len() - *unused as usize))
         }
         _ => None,
     }
@@ -112,14 +115,27 @@ pub(super) fn bits(content: &[u8]) -> Option<ShortText> {
 fn bit_digits(bytes: &[u8], count: usize) -> ShortText
     requires few { count ≤ 24 }
     requires within { count ≤ 8 * length bytes.now }
-    ensures { length result.bytes ≡ count }
+    ensures count { length result.bytes ≡ count }
+    ensures digits { AreBits bytes.now result.bytes }
 {
     let mut text = ShortText::new();
     for place in 0..count {
-        let bit = bytes[place / 8] >> (7 - place % 8) & 1;
-        text.push_str(if bit == 1 { "1" } else { "0" });
+        push_bit(&mut text, bytes[place / 8], place % 8);
     }
     text
+}
+
+/// Appends a bit of a byte as a digit, the highest one for place 0.
+fn push_bit(text: &mut ShortText, byte: u8, place: usize)
+    requires within { place < 8 }
+    requires room { length text.old.bytes < 40 }
+    ensures { text.new.bytes ≡ text.old.bytes ++ (0x30 + byte / 2 ^ (7 - place) % 2) ∷ [] }
+{
+    if (byte >> (7 - place)) % 2 == 1 {
+        text.push_str("1");
+    } else {
+        text.push_str("0");
+    }
 }
 
 /// Returns a time to the second, such as `2026-01-02 03:04:05`, from the first two digits of the
