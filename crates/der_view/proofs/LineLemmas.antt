@@ -1,0 +1,70 @@
+-- What a line keeps of a text that is appended in pieces.
+use Rattle.std.proofs.Common.{◌≡◌, ℕ, ◌+◌, ◌-◌, ◌≤◌, ◌<◌, List, [], ◌∷◌, ◌++◌, length, take, drop, refl, sym, ◌∙◌, ap}
+use Rattle.std.proofs.Common.{arith, append_assoc, length-append, inl, inr, ◌⊎◌}
+use Rattle.std.proofs.Math.Seq.{take-append-add}
+use Rattle.std.proofs.lemmas.Bool.{cases_lt}
+use Rattle.std.proofs.lemmas.List.{take_all, take-append-le, length-take-le, replicate-append-replicate, length-replicate}
+use Rattle.std.specs.Prelude.{replicate, min}
+use Rattle.der_view.specs.Lines.{kept}
+
+-- a text that fits is kept
+pub kept-short : (old text : List ℕ) → length old + length text ≤ 101 → kept (old ++ text) ≡ old ++ text
+kept-short old text short = take_all 101 (old ++ text) (omega (arith, length-append old text))
+
+-- as much of a text is kept as there is room for
+pub kept-cut : (old text : List ℕ) (room : ℕ) → length old + room ≡ 101 → kept (old ++ text) ≡ old ++ take room text
+kept-cut old text room full =
+    ap (λ n. take n (old ++ text)) (sym full) ∙ take-append-add old text room
+
+-- a text that is longer hides what follows
+pub kept-full : (text more : List ℕ) → 101 ≤ length text → kept (text ++ more) ≡ kept text
+kept-full text more full = take-append-le 101 text more full
+
+kept-two : (text more : List ℕ) → ((101 < length text) ⊎ (length text ≤ 101))
+    → kept (kept text ++ more) ≡ kept (text ++ more)
+kept-two text more (inr short) = ap (λ x. kept (x ++ more)) (take_all 101 text short)
+kept-two text more (inl long) =
+    let cut : length (kept text) ≡ 101 = length-take-le 101 text (omega arith) in
+    kept-full (kept text) more (omega arith) ∙ (take_all 101 (kept text) (omega arith) ∙ sym (kept-full text more (omega arith)))
+
+-- two pieces are kept as one
+pub kept-pieces : (old first second : List ℕ) → kept (kept (old ++ first) ++ second) ≡ kept (old ++ (first ++ second))
+kept-pieces old first second =
+    kept-two (old ++ first) second (cases_lt 101 (length (old ++ first)))
+    ∙ ap kept (append_assoc old first second)
+
+kept-spaces_by : (old : List ℕ) (n y : ℕ) → ((101 < n) ⊎ (n ≤ 101))
+    → kept (old ++ replicate (min n 101) y) ≡ kept (old ++ replicate n y)
+kept-spaces_by old n y (inr few) = let same : min n 101 ≡ n = omega arith in ap (λ m. kept (old ++ replicate m y)) same
+kept-spaces_by old n y (inl many) =
+    let same : min n 101 ≡ 101 = omega arith in
+    let split : replicate 101 y ++ replicate (n - 101) y ≡ replicate n y =
+    replicate-append-replicate 101 (n - 101) y ∙ ap (λ m. replicate m y) (omega arith) in
+    let long : 101 ≤ length (old ++ replicate 101 y) =
+    omega (arith, length-append old (replicate 101 y), length-replicate 101 y) in
+    ap (λ m. kept (old ++ replicate m y)) same
+    ∙ (sym (kept-full (old ++ replicate 101 y) (replicate (n - 101) y) long)
+    ∙ ap kept (append_assoc old (replicate 101 y) (replicate (n - 101) y) ∙ ap (λ x. old ++ x) split))
+
+-- no more than 101 equal characters count
+pub kept-spaces : (old : List ℕ) (n y : ℕ) → kept (old ++ replicate (min n 101) y) ≡ kept (old ++ replicate n y)
+kept-spaces old n y = kept-spaces_by old n y (cases_lt 101 n)
+
+pub ruleset kept_by_room = (kept-short, kept-cut)
+
+pub ruleset kept_spaces = (kept-spaces)
+
+-- three pieces
+pub kept-three : (old a b c x y z : List ℕ) → x ≡ kept (old ++ a) → y ≡ kept (x ++ b) → z ≡ kept (y ++ c)
+    → z ≡ kept (old ++ (a ++ (b ++ c)))
+kept-three old a b c x y z ex ey ez =
+    let first : y ≡ kept (old ++ (a ++ b)) = ey ∙ (ap (λ t. kept (t ++ b)) ex ∙ kept-pieces old a b) in
+    ez ∙ (ap (λ t. kept (t ++ c)) first ∙ (kept-pieces old (a ++ b) c ∙ ap (λ t. kept (old ++ t)) (append_assoc a b c)))
+
+-- four pieces
+pub kept-four : (old a b c d x y z w : List ℕ) → x ≡ kept (old ++ a) → y ≡ kept (x ++ b) → z ≡ kept (y ++ c)
+    → w ≡ kept (z ++ d) → w ≡ kept (old ++ (a ++ (b ++ (c ++ d))))
+kept-four old a b c d x y z w ex ey ez ew =
+    let first : x ≡ kept (old ++ a) = ex in
+    let rest : w ≡ kept (x ++ (b ++ (c ++ d))) = kept-three x b c d y z w ey ez ew in
+    rest ∙ (ap (λ t. kept (t ++ (b ++ (c ++ d)))) first ∙ kept-pieces old a (b ++ (c ++ d)))

@@ -1,0 +1,309 @@
+//! What is marked below a row: a rule of X.690 that is broken there, or what a key has there.
+
+use std::fmt;
+
+/// Why no element begins at some bytes.
+#[derive(Clone, Copy)]
+pub enum ElementFault {
+    /// The tag byte is 00 or 20, which is reserved (X.690 section 8.1.5).
+    ReservedTag(u8),
+    /// The bytes end inside the tag.
+    TagCut,
+    /// The tag number is 2^28 or more.
+    TagTooLarge,
+    /// The bytes end inside the length.
+    LengthCut,
+    /// The length byte is FF, which is reserved (X.690 section 8.1.3.5).
+    ReservedLength,
+    /// The length has more than four bytes, as this byte says.
+    LongLength(u8),
+    /// The length is above 16,777,215.
+    LengthTooLarge,
+    /// The length of a primitive element is indefinite (X.690 section 8.1.3.2).
+    IndefinitePrimitive,
+    /// The content of indefinite length has no end-of-contents (X.690 section 8.1.5).
+    NoEndOfContents,
+}
+
+/// What is wrong with the content of a primitive element in DER.
+#[derive(Clone, Copy)]
+pub enum ContentFault {
+    /// A BOOLEAN that is neither 00 nor FF (X.690 section 11.1).
+    TrueIsFf,
+    /// A BOOLEAN of another length (X.690 section 8.2.1).
+    BooleanLength,
+    /// The first byte of an INTEGER isn't needed (X.690 section 8.3.2).
+    NeedlessFirstByte,
+    /// An INTEGER without a byte (X.690 section 8.3.1).
+    EmptyInteger,
+    /// A NULL with a content (X.690 section 8.8.2).
+    NullContent,
+    /// The arcs of an identifier aren't these bytes (X.690 section 8.19.2).
+    NoIdentifier,
+    /// A BIT STRING without a byte (X.690 section 8.6.2.2).
+    EmptyBitString,
+    /// A BIT STRING with more than 7 unused bits (X.690 section 8.6.2.2).
+    UnusedAboveSeven,
+    /// An empty BIT STRING with unused bits (X.690 section 8.6.2.3).
+    UnusedInEmpty,
+    /// Unused bits of a BIT STRING that aren't 0 (X.690 section 11.2.1).
+    UnusedNotZero,
+    /// A UTCTime in another form (X.690 section 11.8).
+    UtcTime,
+    /// A GeneralizedTime in another form (X.690 section 11.7).
+    GeneralizedTime,
+    /// The bytes aren't characters of this type.
+    Characters(&'static str),
+}
+
+/// What a key (RFC 5915 section 3) has at some place.
+#[derive(Clone, Copy)]
+pub enum Part {
+    /// The SEQUENCE.
+    Key,
+    /// The version.
+    Version,
+    /// The private key.
+    PrivateKey,
+    /// The parameters, with an identifier.
+    Parameters,
+    /// The public key, with a BIT STRING of whole bytes.
+    PublicKey,
+    /// One of the optional fields, or the end of the SEQUENCE.
+    Fields {
+        /// Whether the parameters may follow.
+        parameters: bool,
+        /// Whether the public key may follow.
+        public_key: bool,
+    },
+    /// The end of the input.
+    End,
+}
+
+/// What is marked below a row.
+#[derive(Clone, Copy)]
+pub enum Mark {
+    /// The input ends inside the content.
+    Missing {
+        /// The number of bytes that are missing.
+        missing: usize,
+        /// The length of the content.
+        announced: usize,
+    },
+    /// The element ends behind the one around it.
+    Overlong {
+        /// The length of the content.
+        announced: usize,
+        /// The number of bytes that the element around it has left.
+        left: usize,
+    },
+    /// The element isn't opened, since more than 64 would be nested.
+    Depth,
+    /// A tag number below 31 in the high form (X.690 section 8.1.2.2).
+    LowTag,
+    /// A tag number that begins with the byte 80 (X.690 section 8.1.2.4.2).
+    PaddedTag,
+    /// A length in more bytes than needed (X.690 section 10.1).
+    Length,
+    /// An indefinite length (X.690 section 8.1.3.6).
+    Indefinite,
+    /// A constructed string (X.690 section 10.2).
+    ConstructedString,
+    /// A content that isn't one of its type in DER.
+    Content(ContentFault),
+    /// No element.
+    Element(ElementFault),
+    /// The bytes aren't a key's from here on.
+    Expected(Part),
+    /// Bytes that aren't drawn.
+    Rest {
+        /// Whether they may be those of a damaged private key.
+        damaged: bool,
+    },
+}
+
+impl Mark {
+    /// Returns the kind of the mark.
+    pub fn kind(self) -> &'static str {
+        match self {
+            Mark::Missing { .. } => "missing",
+            Mark::Overlong { .. } => "overlong",
+            Mark::Depth => "depth",
+            Mark::LowTag | Mark::PaddedTag => "tag",
+            Mark::Length => "length",
+            Mark::Indefinite => "indefinite",
+            Mark::ConstructedString => "string",
+            Mark::Content(_) => "content",
+            Mark::Element(_) => "element",
+            Mark::Expected(_) => "expected",
+            Mark::Rest { .. } => "rest",
+        }
+    }
+
+    /// Returns the part of a key that is expected, of such a mark.
+    pub fn part(self) -> Option<&'static str> {
+        let Mark::Expected(part) = self else {
+            return None;
+        };
+        Some(match part {
+            Part::Key => "key",
+            Part::Version => "version",
+            Part::PrivateKey => "privateKey",
+            Part::Parameters => "parameters",
+            Part::PublicKey => "publicKey",
+            Part::Fields { .. } => "fields",
+            Part::End => "end",
+        })
+    }
+}
+
+/// Prints the words of the mark.
+impl fmt::Display for Mark {
+    fn fmt<W: fmt::Write>(&self, f: &mut fmt::Formatter<W>) -> fmt::Result {
+        match *self {
+            Mark::Missing { missing, announced } => {
+                let bytes = bytes_word(announced);
+                write!(f, "{missing} of {announced} {bytes} missing")
+            }
+            Mark::Overlong { announced, left } => {
+                let bytes = bytes_word(announced);
+                write!(
+                    f,
+                    "{announced} {bytes}, but the element around it has {left} left"
+                )
+            }
+            Mark::Depth => f.write_str("more than 64 levels: not opened"),
+            Mark::LowTag => f.write_str("tag number below 31 in the high form (X.690 8.1.2.2)"),
+            Mark::PaddedTag => f.write_str("tag number with a needless byte 80 (X.690 8.1.2.4.2)"),
+            Mark::Length => f.write_str("length in more bytes than needed (X.690 10.1)"),
+            Mark::Indefinite => f.write_str(
+                "indefinite length (X.690 8.1.3.6); DER has definite ones (10.1)",
+            ),
+            Mark::ConstructedString => f.write_str(
+                "constructed string; DER has primitive ones (X.690 10.2)",
+            ),
+            Mark::Content(fault) => write_content(f, fault),
+            Mark::Element(fault) => write_element(f, fault),
+            Mark::Expected(part) => write!(f, "expected {}", part_words(part)),
+            Mark::Rest { damaged } => f.write_str(if damaged {
+                "may be bytes of a damaged private key: --all draws them"
+            } else {
+                "after the end of the root: --all draws them"
+            }),
+        }
+    }
+}
+
+/// Returns the word for as many bytes.
+fn bytes_word(count: usize) -> &'static str {
+    if count == 1 { "byte" } else { "bytes" }
+}
+
+/// Writes what is wrong with a content.
+fn write_content<W: fmt::Write>(f: &mut fmt::Formatter<W>, fault: ContentFault) -> fmt::Result {
+    f.write_str(match fault {
+        ContentFault::TrueIsFf => "TRUE is FF (X.690 11.1)",
+        ContentFault::BooleanLength => "BOOLEAN has 1 byte (X.690 8.2.1)",
+        ContentFault::NeedlessFirstByte => "needless first byte (X.690 8.3.2)",
+        ContentFault::EmptyInteger => "INTEGER has a byte or more (X.690 8.3.1)",
+        ContentFault::NullContent => "NULL has no content (X.690 8.8.2)",
+        ContentFault::NoIdentifier => "no identifier (X.690 8.19.2)",
+        ContentFault::EmptyBitString => "BIT STRING has a byte or more (X.690 8.6.2.2)",
+        ContentFault::UnusedAboveSeven => "more than 7 unused bits (X.690 8.6.2.2)",
+        ContentFault::UnusedInEmpty => "unused bits in an empty BIT STRING (X.690 8.6.2.3)",
+        ContentFault::UnusedNotZero => "unused bits that aren't 0 (X.690 11.2.1)",
+        ContentFault::UtcTime => "not YYMMDDhhmmssZ (X.690 11.8)",
+        ContentFault::GeneralizedTime => "not YYYYMMDDhhmmss[.f]Z (X.690 11.7)",
+        ContentFault::Characters(name) => return write!(f, "not the characters of {name}"),
+    })
+}
+
+/// Writes why no element is there.
+fn write_element<W: fmt::Write>(f: &mut fmt::Formatter<W>, fault: ElementFault) -> fmt::Result {
+    f.write_str(match fault {
+        ElementFault::ReservedTag(tag) => return write!(f, "tag {tag:02X} (X.690 8.1.5)"),
+        ElementFault::TagCut => "the tag is cut off",
+        ElementFault::TagTooLarge => "a tag number above 268,435,455",
+        ElementFault::LengthCut => "the length is cut off",
+        ElementFault::ReservedLength => "length byte FF (X.690 8.1.3.5)",
+        ElementFault::LongLength(first) => return write!(
+            f,
+            "length byte {first:02X}: more than 4 bytes of length"
+        ),
+        ElementFault::LengthTooLarge => "a length above 16,777,215",
+        ElementFault::IndefinitePrimitive =>
+            "indefinite length of a primitive element (X.690 8.1.3.2)",
+        ElementFault::NoEndOfContents => "end-of-contents is missing (X.690 8.1.5)",
+    })
+}
+
+/// Returns what a key has, in the words of RFC 5915 section 3.
+fn part_words(part: Part) -> &'static str {
+    match part {
+        Part::Key => "ECPrivateKey, a SEQUENCE (30)",
+        Part::Version => "version, INTEGER { ecPrivkeyVer1(1) } (02 01 01)",
+        Part::PrivateKey => "privateKey, OCTET STRING (04)",
+        Part::Parameters => "parameters [0] (A0) with namedCurve, OBJECT IDENTIFIER (06)",
+        Part::PublicKey => "publicKey [1] (A1) with a BIT STRING (03) of whole bytes",
+        Part::Fields {
+            parameters,
+            public_key,
+        } => if parameters {
+            "parameters [0] (A0), publicKey [1] (A1), or the end of the SEQUENCE"
+        } else if public_key {
+            "publicKey [1] (A1), or the end of the SEQUENCE"
+        } else {
+            "the end of the SEQUENCE"
+        },
+        Part::End => "the end of the input",
+    }
+}
+
+/// The marks of a row: two at most.
+#[derive(Clone, Copy)]
+pub struct Marks {
+    /// The first mark.
+    first: Option<Mark>,
+    /// The second mark.
+    second: Option<Mark>,
+}
+
+impl Marks {
+    /// No mark.
+    pub(crate) const NONE: Marks = Marks {
+        first: None,
+        second: None,
+    };
+
+    /// Returns the marks with one more, if there is one and two are not there yet.
+    pub(crate) fn with(self, mark: Option<Mark>) -> Marks {
+        if self.first.is_none() {
+            Marks {
+                first: mark,
+                second: None,
+            }
+        } else if self.second.is_none() {
+            Marks {
+                first: self.first,
+                second: mark,
+            }
+        } else {
+            self
+        }
+    }
+
+    /// Returns the first mark.
+    pub fn first(self) -> Option<Mark> {
+        self.first
+    }
+
+    /// Returns the second mark.
+    pub fn second(self) -> Option<Mark> {
+        self.second
+    }
+
+    /// Returns `true` if there is no mark.
+    pub fn is_empty(self) -> bool {
+        self.first.is_none()
+    }
+}

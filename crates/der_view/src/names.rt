@@ -1,0 +1,139 @@
+//! The names of object identifiers.
+ghost use Rattle.std.specs.Prelude.{◌≡◌, Some, None, find, option_map};
+ghost use Rattle.curves.specs.Curves.{curve_content};
+ghost use Rattle.curves.specs.declared.curve.Curve.{Curve};
+ghost use Rattle.der_view.specs.Names.{NameView, curve_name_view, has_row, is_extension, name_view};
+ghost use Rattle.der_view.specs.Names.{named_in, row_by};
+
+mod family;
+
+use crate::names::family::Family;
+use curves::Curve;
+
+/// What a named object identifier is of.
+#[derive(Clone, Copy, Debug, PartialEq, Eq)]
+pub enum Word {
+    /// A type of attribute (X.520, RFC 5280 appendix A.1, RFC 2985).
+    Attribute,
+    /// An extension of a certificate or of a list of revoked ones (RFC 5280 section 4.2).
+    Extension,
+    /// A policy of certificates (RFC 5280 section 4.2.1.4).
+    Policy,
+    /// A purpose of a key (RFC 5280 section 4.2.1.12).
+    Purpose,
+    /// A qualifier of a policy (RFC 5280 section 4.2.1.4).
+    Qualifier,
+    /// A method of access (RFC 5280 section 4.2.2.1).
+    Access,
+    /// A part of OCSP (RFC 6960).
+    Ocsp,
+    /// A kind of public key (RFC 3279, RFC 5480, RFC 8410).
+    Key,
+    /// A kind of field of a curve (RFC 3279 section 2.3.5).
+    Field,
+    /// An algorithm of signatures (RFC 3279, RFC 5758).
+    Signature,
+    /// A key, a scheme or an algorithm of RSA (RFC 4055, RFC 8017).
+    Rsa,
+    /// A key or an algorithm of DSA (RFC 3279).
+    Dsa,
+    /// A scheme of encryption by a password, or a part of one (RFC 8018, RFC 7292, RFC 7914).
+    Encryption,
+    /// A digest, or a code over one (RFC 4055, RFC 8018).
+    Digest,
+    /// A cipher (RFC 8018, RFC 5084).
+    Cipher,
+    /// A type of content (RFC 5652).
+    Content,
+    /// A bag of PKCS #12 (RFC 7292 section 4.2).
+    Bag,
+    /// A named curve (RFC 5480 section 2.1.1.1, RFC 5639 section 3).
+    Curve,
+}
+
+/// The name of an object identifier.
+#[derive(Clone, Copy)]
+pub struct Name {
+    /// The name in the ASN.1 module that defines it, without `id-`; of a curve, its name in FIPS
+    /// 186-4, or else in SEC 2, ANSI X9.62 or RFC 5639.
+    pub name: &'static str,
+    /// What the identifier is of.
+    pub word: Word,
+}
+
+/// Returns the name of the identifier with this content: that of the table, or else that of the
+/// curve; `None` if there is neither.
+pub fn name_of(content: &[u8]) -> Option<Name>
+    ensures table { (name : NameView) → row_by content.now ≡ Some name
+        → option_map name_view result ≡ Some name }
+    ensures curve { (curve : Curve) → row_by content.now ≡ None → curve_content curve ≡ content.now
+        → option_map name_view result ≡ Some (curve_name_view curve) }
+    ensures none { row_by content.now ≡ None → ((curve : Curve) → ¬ curve_content curve ≡ content.now)
+        → result ≡ None }
+{
+    match row_of(content) {
+        Some(name) => Some(name),
+        None => match Curve::from_content(content) {
+            Some(curve) => Some(curve_name(curve)),
+            None => None,
+        },
+    }
+}
+
+/// Returns `true` if the identifier with this content is that of an extension in the table.
+pub(crate) fn is_extension(content: &[u8]) -> bool
+    ensures { result ≡ is_extension (row_by content.now) }
+{
+    match row_of(content) {
+        Some(name) => matches!(&name.word, Word::Extension),
+        None => false,
+    }
+}
+
+/// Returns the name of the identifier with this content, if it is no curve's.
+fn row_of(content: &[u8]) -> Option<Name>
+    ensures { option_map name_view result ≡ row_by content.now }
+{
+    if content.is_empty() {
+        return None;
+    }
+    let before = content.len() - 1;
+    let arc = content[before];
+    named_in(family_of(&content[..before], arc), arc)
+}
+
+/// Returns the name that the family has for this arc.
+fn named_in(family: Option<Family>, arc: u8) -> Option<Name>
+    ensures { option_map name_view result ≡ named_in family arc }
+{
+    match family {
+        None => None,
+        Some(family) => {
+            let word = family.word();
+            match family.name(arc) {
+                None => None,
+                Some(name) => Some(Name { name, word }),
+            }
+        }
+    }
+}
+
+/// Returns the family of the identifier with this content before its last arc.
+fn family_of(base: &[u8], arc: u8) -> Option<Family>
+    ensures { result ≡ find (has_row base.now arc) Family.ALL }
+{
+    Family::ALL
+        .iter()
+        .copied()
+        .find(|family| family.has_row(base, arc))
+}
+
+/// Returns the name of a curve.
+fn curve_name(curve: Curve) -> Name
+    ensures { name_view result ≡ curve_name_view curve }
+{
+    Name {
+        name: curve.alias().unwrap_or(curve.name()),
+        word: Word::Curve,
+    }
+}

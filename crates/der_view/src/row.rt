@@ -1,0 +1,205 @@
+//! What is seen of a row.
+ghost use Rattle.std.specs.Prelude.{◌≡◌, length};
+ghost use Rattle.der_view.specs.Seen.{IsFirst, IsShown, seen_len};
+
+use crate::field::Field;
+use crate::header::{Class, Header, Tag, length_len};
+use crate::mark::{Mark, Marks};
+
+/// What a row is of.
+#[derive(Clone, Copy)]
+pub enum Kind {
+    /// An element with this tag.
+    Element(Tag),
+    /// The end of a content of indefinite length (X.690 section 8.1.5).
+    EndOfContents,
+    /// Bytes that no element begins with.
+    NoElement,
+    /// Bytes that aren't drawn.
+    NotDrawn,
+}
+
+/// The form of a point (SEC1 v2.0 section 2.3.3), and the number of bytes of a coordinate.
+#[derive(Clone, Copy)]
+pub enum Point {
+    /// The point at infinity.
+    Infinity,
+    /// A compressed point.
+    Compressed(usize),
+    /// An uncompressed point.
+    Uncompressed(usize),
+    /// A hybrid point (X9.62).
+    Hybrid(usize),
+    /// A compact point.
+    Compact(usize),
+    /// No point.
+    None,
+}
+
+/// What is shown of a content.
+#[derive(Clone, Copy)]
+pub enum Shown<'a> {
+    /// Nothing: the content is drawn as rows, or there is none.
+    Nothing,
+    /// The number of its bytes.
+    Count,
+    /// The number of the bytes of a BIT STRING, and of its unused bits, which isn't 0.
+    Unused(u8),
+    /// The number of the bytes of a BIT STRING, and the form of the point in it.
+    Point(Point),
+    /// The content.
+    Value(&'a [u8]),
+}
+
+/// All that is printed of a row: its place, its header, what is shown of its content, and numbers.
+/// No other byte of a content is in it.
+#[derive(Clone, Copy)]
+pub struct OpenRow<'a> {
+    /// The number of bytes before the row.
+    pub offset: usize,
+    /// The number of elements around it; of an end-of-contents, around the element that ends there.
+    pub depth: usize,
+    /// What it is of.
+    pub kind: Kind,
+    /// The bytes of the header.
+    pub header: &'a [u8],
+    /// The number of bytes of the content that are there.
+    pub len: usize,
+    /// The length of the content as the header says; `None` if it is indefinite, or there is no
+    /// header.
+    pub announced: Option<usize>,
+    /// The number of bytes of the content that have no other row: all of a content that isn't
+    /// opened.
+    pub own_len: usize,
+    /// Whether it is a string whose content is drawn as rows.
+    pub opened: bool,
+    /// The field that it is.
+    pub field: Option<Field>,
+    /// Whether it is a private field whose content isn't shown.
+    pub secret: bool,
+    /// What is marked below it.
+    pub marks: Marks,
+    /// What is shown of its content.
+    pub shown: Shown<'a>,
+    /// The bytes of the content that have no other row, if all are shown.
+    pub content: Option<&'a [u8]>,
+}
+
+impl<'a> OpenRow<'a> {
+    /// Returns the row with these bytes of its content, if there are some.
+    pub(crate) fn with(self, content: &'a [u8]) -> OpenRow<'a>
+        ensures at { result.offset ≡ self.entry.offset }
+        ensures header { result.header.now ≡ self.entry.header.now }
+        ensures own { result.own_len ≡ self.entry.own_len }
+    {
+        OpenRow {
+            content: if content.is_empty() {
+                None
+            } else {
+                Some(content)
+            },
+            ..self
+        }
+    }
+}
+
+/// Returns the marks of a header with these bytes.
+pub(crate) fn header_marks(bytes: &[u8], head: &Header, marks: Marks) -> Marks {
+    let tag = match bytes {
+        [first, 0x80, ..] if first % 0x20 == 0x1F => Some(Mark::PaddedTag),
+        [first, ..] if first % 0x20 == 0x1F && head.tag.number < 31 => Some(Mark::LowTag),
+        _ => None,
+    };
+    let tag_and_length = match head.content_len {
+        Some(len) if head.len > head.tag_len.saturating_add(length_len(len)) => Some(Mark::Length),
+        Some(_) => None,
+        None => Some(Mark::Indefinite),
+    };
+    let string = if head.tag.constructed && is_string(head.tag) {
+        Some(Mark::ConstructedString)
+    } else {
+        None
+    };
+    marks.with(tag).with(tag_and_length).with(string)
+}
+
+/// Returns `true` if the tag is that of a string (X.690 section 10.2).
+fn is_string(tag: Tag) -> bool {
+    matches!(
+        (tag.class, tag.number),
+        (Class::Universal, 3 | 4 | 12 | 18..=28 | 30)
+    )
+}
+
+/// Returns the number of first bytes of a content of this tag, field and length that are seen in a
+/// guarded picture: all of an identifier, a version of one byte, the unused bits of a BIT STRING,
+/// and the first byte of a point.
+fn seen_len(tag: Tag, field: Option<Field>, len: usize) -> usize
+    ensures { result ≡ seen_len tag field len }
+{
+    match (tag.class, tag.number, field) {
+        (Class::Universal, 6, _) => len,
+        (Class::Universal, 3, Some(Field::Point)) => 2,
+        (Class::Universal, 3, _) => 1,
+        (Class::Universal, 2, Some(Field::Version)) if len == 1 => 1,
+        _ => 0,
+    }
+}
+
+/// Returns the part of a content that is seen in a guarded picture.
+pub(crate) fn guarded_part<'a>(tag: Tag, field: Option<Field>, content: &'a [u8]) -> &'a [u8]
+    ensures { IsFirst (seen_len tag field (length content.now)) content.now result.now }
+{
+    &content[..seen_len(tag, field, content.len()).min(content.len())]
+}
+
+/// Returns the part of a content that is seen in any other picture: none of an OCTET STRING, nor of
+/// a long INTEGER.
+pub(crate) fn public_part<'a>(tag: Tag, content: &'a [u8]) -> &'a [u8] {
+    let is_text = content.iter().all(|byte| *byte >= 0x20 && *byte < 0x7F);
+    let all = match (tag.class, tag.number) {
+        (Class::Universal, 2 | 10) => content.len() <= 8,
+        (Class::Universal, 3) => content.len() <= 4,
+        (Class::Universal, 1 | 5 | 6 | 12 | 18..=28 | 30) => true,
+        (Class::Context, _) => is_text,
+        _ => false,
+    };
+    let len = match (tag.class, tag.number) {
+        _ if all => content.len(),
+        (Class::Universal, 3) => 2,
+        _ => 0,
+    };
+    &content[..len.min(content.len())]
+}
+
+/// Returns what is shown of a primitive element's content of this length, of which this is seen.
+pub(crate) fn shown_of<'a>(tag: Tag, field: Option<Field>, len: usize, seen: &'a [u8]) -> Shown<'a>
+    ensures { IsShown seen.now result }
+{
+    match (tag.class, tag.number, seen) {
+        (Class::Universal, 3, [0x00, ..]) if field == Some(Field::Point) => Shown::Point(point_of(
+            len, seen,
+        )),
+        (Class::Universal, 5, []) if len == 0 => Shown::Nothing,
+        (Class::Universal, 1 | 2 | 6 | 10 | 12 | 18..=28 | 30, []) if len == 0 => Shown::Value(
+            seen,
+        ),
+        _ if len > 0 && seen.len() == len => Shown::Value(seen),
+        (Class::Universal, 3, [unused, ..]) if *unused > 0 => Shown::Unused(*unused),
+        _ => Shown::Count,
+    }
+}
+
+/// Returns the form of the point in a BIT STRING of this length, which begins with these bytes.
+fn point_of(len: usize, seen: &[u8]) -> Point {
+    let coordinates = len.saturating_sub(2);
+    match seen {
+        [_, 0x00] if len == 2 => Point::Infinity,
+        [_, _] if len <= 2 => Point::None,
+        [_, 0x02 | 0x03] => Point::Compressed(coordinates),
+        [_, 0x04] if coordinates % 2 == 0 => Point::Uncompressed(coordinates / 2),
+        [_, 0x05] => Point::Compact(coordinates),
+        [_, 0x06 | 0x07] if coordinates % 2 == 0 => Point::Hybrid(coordinates / 2),
+        _ => Point::None,
+    }
+}

@@ -1,0 +1,99 @@
+//! The rows of any bytes.
+ghost use Rattle.std.specs.Prelude.{◌≡◌, ◌≤◌, ◌-◌, [], true, false, length, IfSome, MatchOption};
+ghost use Rattle.der_view.specs.Rows.{IsGuarded, IsNext, Undrawn};
+
+use crate::levels::{Level, Levels};
+use crate::mark::{ElementFault, Mark};
+use crate::place::Place;
+use crate::plan::Plan;
+use crate::row::{Kind, OpenRow};
+use std::marker::Model;
+
+/// The rows of some bytes that are still to come. A contract sees the bytes that have no row yet.
+#[derive(Drop)]
+pub struct Rows<'a> {
+    /// The number of bytes.
+    len: usize,
+    /// The bytes that have no row yet.
+    left: &'a [u8],
+    /// Whether all is drawn and shown.
+    all: bool,
+    /// What the bytes are.
+    plan: Plan,
+    /// The elements that are open.
+    levels: Levels,
+}
+
+impl<'a> Model for Rows<'a> {
+    ghost Value = { Undrawn };
+
+    ghost view = { λ rows. record {
+      offset = rows.len - length rows.left.now;
+      left = rows.left.now;
+      guarded = rows.plan.guarded;
+    } };
+
+    ghost invariant = { λ rows. length rows.left.now ≤ rows.len };
+}
+
+impl<'a> Rows<'a> {
+    /// Returns the rows of these bytes. With `all` every content is shown, no picture is guarded,
+    /// and what follows the root is drawn.
+    pub fn new(input: &'a [u8], all: bool) -> Rows<'a>
+        ensures left { result.left ≡ input.now }
+        ensures offset { result.offset ≡ 0 }
+        ensures guarded { all ≡ true → result.guarded ≡ false }
+    {
+        let known = Plan::new(input);
+        let plan = Plan {
+            guarded: known.guarded && !all,
+            ..known
+        };
+        Rows {
+            len: input.len(),
+            left: input,
+            all,
+            plan,
+            levels: Levels::new(Level::of_input(plan.root)),
+        }
+    }
+
+    /// Returns what the bytes are.
+    pub fn plan(&self) -> Plan
+        ensures { result.guarded ≡ self.now.guarded }
+    {
+        self.plan
+    }
+
+    /// Returns the next row; `None`, changing nothing, if all bytes have one.
+    pub fn next_row(&mut self) -> Option<OpenRow<'a>>
+        ensures next { MatchOption result ((self.old.left ≡ []) × (self.new ≡ self.old))
+            (λ row. IsNext self.old row self.new) }
+        // In a guarded picture few bytes of contents are in the row.
+        ensures guarded { IfSome result
+            (λ row. self.old.guarded ≡ true → IsGuarded self.old.left row) }
+    {
+        if self.left.is_empty() {
+            return None;
+        }
+        let place = Place {
+            offset: self.len - self.left.len(),
+            depth: self.levels.depth(),
+            has_room: self.levels.has_room(),
+            left: self.left,
+            all: self.all,
+            plan: self.plan,
+        };
+        let step = place.step(self.levels.innermost());
+        let mut row = step.row;
+        self.left = &self.left[row.header.len() + row.own_len..];
+        self.levels.follow(step.level, step.opened);
+        let unfinished = self.levels.close_finished(self.left.len());
+        if unfinished && !matches!(&row.kind, Kind::NotDrawn) {
+            row.marks = row
+                .marks
+                .with(Some(Mark::Element(ElementFault::NoEndOfContents)));
+        }
+        Some(row)
+    }
+}

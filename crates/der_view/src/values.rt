@@ -1,0 +1,123 @@
+//! What is shown of the content of a primitive element.
+
+mod arcs;
+mod characters;
+mod faults;
+mod line_values;
+mod short;
+mod types;
+
+use crate::header::{Class, Tag};
+use crate::names::{Name, name_of};
+pub use arcs::Arcs;
+pub use characters::Characters;
+use der_types::kind::{GeneralizedTime, Kind, UtcTime, VisibleString};
+pub(crate) use faults::content_fault;
+pub use short::ShortText;
+pub use types::universal_name;
+
+/// What is shown of the content of a primitive element.
+#[derive(Drop)]
+pub enum Value<'a> {
+    /// Nothing: a NULL.
+    Nothing,
+    /// The number of bytes alone.
+    Count(usize),
+    /// The number of bytes of a BIT STRING, and how many bits of the last one are unused.
+    Bits {
+        /// The number of bytes.
+        count: usize,
+        /// The number of unused bits.
+        unused: u8,
+    },
+    /// A short text: `TRUE`, a number, some bits.
+    Text(ShortText),
+    /// A time to the second, such as `2026-01-02 03:04:05`, and what follows it: the fraction of a
+    /// second, if there is one, and `Z`.
+    Time([u8; 19], &'a [u8]),
+    /// An identifier (X.690 section 8.19): its name, if it has one, and its arcs.
+    Identifier(Option<Name>, Arcs<'a>),
+    /// The characters of a string.
+    String(Characters<'a>),
+}
+
+/// Returns what is shown of the content of a primitive element with this tag.
+pub fn value_of<'a>(tag: Tag, content: &'a [u8]) -> Value<'a> {
+    match tag.class {
+        Class::Universal => universal_value(tag.number, content),
+        _ if VisibleString::test(content) => Value::String(Characters::latin1(content)),
+        _ => Value::Count(content.len()),
+    }
+}
+
+/// Returns what is shown of the content of a type of X.680.
+fn universal_value<'a>(number: u32, content: &'a [u8]) -> Value<'a> {
+    match number {
+        1 => text_or_count(short::boolean(content), content),
+        2 | 10 => text_or_count(short::integer(content), content),
+        3 => bits(content),
+        5 if content.is_empty() => Value::Nothing,
+        6 => identifier(content),
+        23 => utc_time(content),
+        24 => generalized_time(content),
+        _ => string_or_count(number, content),
+    }
+}
+
+/// Returns the short text, or else the number of bytes.
+fn text_or_count<'a>(text: Option<ShortText>, content: &'a [u8]) -> Value<'a> {
+    match text {
+        Some(text) => Value::Text(text),
+        None => Value::Count(content.len()),
+    }
+}
+
+/// Returns what is shown of a BIT STRING: its bits, if there are at most 24.
+fn bits<'a>(content: &'a [u8]) -> Value<'a> {
+    match short::bits(content) {
+        Some(text) => Value::Text(text),
+        None => match content {
+            [] => Value::Count(0),
+            [unused, bytes @ ..] => Value::Bits {
+                count: bytes.len(),
+                unused: *unused,
+            },
+        },
+    }
+}
+
+/// Returns what is shown of an OBJECT IDENTIFIER.
+fn identifier<'a>(content: &'a [u8]) -> Value<'a> {
+    match Arcs::new(content) {
+        Some(arcs) => Value::Identifier(name_of(content), arcs),
+        None => Value::Count(content.len()),
+    }
+}
+
+/// Returns what is shown of a UTCTime, whose years from 50 on are in the twentieth century (RFC 5280
+/// section 4.1.2.5.1).
+#[tactic(auto, using(der_types::proofs::TimeLaws::utc_digits))]
+fn utc_time<'a>(content: &'a [u8]) -> Value<'a> {
+    if !UtcTime::test(content) {
+        return Value::String(Characters::latin1(content));
+    }
+    let century = if content[0] < b'5' { b"20" } else { b"19" };
+    Value::Time(short::date_time(century, &content[..12]), &content[12..])
+}
+
+/// Returns what is shown of a GeneralizedTime.
+fn generalized_time<'a>(content: &'a [u8]) -> Value<'a> {
+    if !GeneralizedTime::test(content) {
+        return Value::String(Characters::latin1(content));
+    }
+    let time = short::date_time(&content[..2], &content[2..14]);
+    Value::Time(time, &content[14..])
+}
+
+/// Returns what is shown of a string of characters, or of another type.
+fn string_or_count<'a>(number: u32, content: &'a [u8]) -> Value<'a> {
+    match Characters::of_string(number, content) {
+        Some(characters) => Value::String(characters),
+        None => Value::Count(content.len()),
+    }
+}

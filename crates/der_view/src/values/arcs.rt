@@ -1,0 +1,95 @@
+//! The arcs of an identifier.
+ghost use Rattle.std.specs.Prelude.{◌≡◌, ◌<◌, ◌+◌, ◌^◌, ◌∷◌, ℕ, List, IfSome, length, true};
+ghost use Rattle.sec1_der.specs.ArcsOf.{arcs_of, arcs_of_numbers, numbers_after};
+ghost use Rattle.der_types.specs.ObjectIdentifiers.{is_object_identifier};
+ghost use Rattle.der_view.specs.Values.{arcs_view};
+
+use der_types::kind::{Kind, ObjectIdentifier};
+
+/// The arcs of an OBJECT IDENTIFIER (X.690 section 8.19). Each is below 2^128, as those that are
+/// made of a UUID are (X.667 section 7).
+#[derive(Clone, Copy)]
+pub struct Arcs<'a> {
+    /// The first arc.
+    pub first: u128,
+    /// The second arc.
+    pub second: u128,
+    /// The subidentifiers of the arcs after these, from the next one on.
+    pub further: &'a [u8],
+}
+
+impl<'a> Arcs<'a> {
+    /// Returns the arcs of the identifier with this content; `None` if it is no identifier's, or a
+    /// subidentifier isn't below 2^128.
+    pub fn new(content: &'a [u8]) -> Option<Arcs<'a>>
+        ensures { IfSome result (λ arcs. (arcs_view arcs ≡ arcs_of content.now)
+            × (is_object_identifier content.now ≡ true)) }
+    {
+        if !ObjectIdentifier::test(content) || !fit(content) {
+            return None;
+        }
+        let (number, further) = split_subidentifier(0, content)?;
+        let (first, second) = first_arcs(number);
+        Some(Arcs {
+            first,
+            second,
+            further,
+        })
+    }
+
+    /// Returns the next arc after the first two; `None` after the last one.
+    pub fn next_further(&mut self) -> Option<u128>
+        ensures next { IfSome result (λ arc. numbers_after 0 self.old.further.now
+            ≡ arc ∷ numbers_after 0 self.new.further.now) }
+        ensures shorter { IfSome result (λ arc.
+            length self.new.further.now < length self.old.further.now) }
+    {
+        let (number, rest) = split_subidentifier(0, self.further)?;
+        self.further = rest;
+        Some(number)
+    }
+}
+
+/// Returns the two arcs in the first subidentifier (X.690 section 8.19.4).
+fn first_arcs(number: u128) -> (u128, u128)
+    ensures { (further : List ℕ) → arcs_of_numbers (number ∷ further)
+        ≡ result.0 ∷ result.1 ∷ further }
+{
+    if number < 40 {
+        (0, number)
+    } else if number < 80 {
+        (1, number - 40)
+    } else {
+        (2, number - 80)
+    }
+}
+
+/// Returns `true` if each subidentifier in these bytes is below 2^128.
+fn fit(bytes: &[u8]) -> bool {
+    let mut rest = bytes;
+    while let Some((_, after)) = split_subidentifier(0, rest) {
+        rest = after;
+    }
+    rest.is_empty()
+}
+
+/// Returns the first subidentifier (X.690 section 8.19.2) and the bytes after it; `high` is the
+/// number in its digits before these. `None` if none ends in these bytes, or it isn't below 2^128.
+fn split_subidentifier(high: u128, bytes: &[u8]) -> Option<(u128, &[u8])>
+    ensures next { IfSome result (λ split. numbers_after high bytes.now
+        ≡ split.0 ∷ numbers_after 0 split.1.now) }
+    ensures shorter { IfSome result (λ split. length split.1.now < length bytes.now) }
+{
+    let Some((byte, rest)) = bytes.split_first() else {
+        return None;
+    };
+    if high >= 1 << 121 {
+        return None;
+    }
+    let number = high * 128 + u128::from(*byte % 128);
+    if *byte < 128 {
+        Some((number, rest))
+    } else {
+        split_subidentifier(number, rest)
+    }
+}
