@@ -1,28 +1,27 @@
 -- The kind at the place of a container's fault, which is within the bytes.
-use Rattle.std.proofs.Common.{◌≡◌, ◌≤◌, ◌<◌, ◌-◌, ◌∷◌, [], ℕ, zero, suc, List, Bool, true, false, length, refl, arith}
+use Rattle.std.proofs.Common.{◌≡◌, ◌≤◌, ℕ, List, Bool, true, false, length}
 use Rattle.std.proofs.Common.{if◌then◌else◌, Option, Some, None, ap, ◌∙◌, sym}
 use Rattle.std.specs.Prelude.{IfSome, option_map}
-use Rattle.std.specs.Option.{option_or}
 use Rattle.der_types.proofs.KindLaws.{set_says}
-use Rattle.der_types.specs.Rows.{elements_fault, is_whole}
-use Rattle.der_types.specs.Sets.{is_ascending, set_fault}
+use Rattle.der_types.specs.Rows.{is_whole}
+use Rattle.der_types.specs.Sets.{set_fault}
 use Rattle.pkix.specs.Records.{algorithm_fault, asymmetric_key_fault, identifier_fault, key_attribute_fault}
 use Rattle.pkix.specs.Records.{private_key_fault}
 use Rattle.sec1_der.proofs.KindLaws.{bits_says, byte_says, element_says, end_says, none_says}
-use Rattle.sec1_der.specs.Contents.{bit_string_fault, byte_fault, value_unless}
+use Rattle.sec1_der.specs.Contents.{bit_string_fault, byte_fault}
 use Rattle.sec1_der.specs.Faults.{SaysKinds}
 use Rattle.sec1_der.specs.Faults as r
-use Rattle.sec1_der.specs.declared.error.ErrorKind.{ErrorKind}
 use Rattle.der_faults.specs.Containers.{container_fault, has_version_one}
 use Rattle.der_faults.specs.ContainerPlaces.{asymmetric_key_place, components_place, container_place}
-use Rattle.der_faults.specs.ContainerPlaces.{elements_place, key_attribute_place, key_attributes_place}
+use Rattle.der_faults.specs.ContainerPlaces.{key_attribute_place, key_attributes_place}
 use Rattle.der_faults.specs.ContainerPlaces.{private_key_info_place}
 use Rattle.der_faults.specs.Places.{Place, at_first, element_place, end_place, optional_place}
 use Rattle.der_faults.specs.RecordPlaces.{algorithm_place}
 use Rattle.der_faults.specs.declared.Fault.{Fault}
-use Rattle.der_faults.proofs.KindLemmas.{Places, element_kind, ends, first_kind, kind_of, optional_kind, or_kind}
+use Rattle.der_faults.proofs.KindLemmas.{Places, element_kind, ends, first_kind, kind_of, optional_kind}
 use Rattle.der_faults.proofs.PublicKeyLemmas.{algorithm_kind, algorithm_within, identifier_says}
-use Rattle.der_faults.proofs.WithinLemmas.{Bounded, either, element_within, first_within, optional_within, or_within}
+use Rattle.der_faults.proofs.WithinLemmas.{Bounded, either, element_within, first_within, optional_within}
+use Rattle.der_faults.proofs.SetLemmas.{set_kind, set_within}
 
 attribute_says : SaysKinds key_attribute_fault
 attribute_says =
@@ -41,23 +40,7 @@ version_one end bytes o is =
     (first_kind (byte_fault 1) (byte_says 1)) (first_kind r.no_fault none_says) end bytes in
     ap is_whole (sym kind ∙ ap (λ (x : Option Fault). kind_of x) is)
 
--- a row is its first element, and a row
-pub elements_next : (tag : ℕ) (p : Place) (most end : ℕ) (rest : List ℕ) → 0 < most → (rest ≡ [] → ⊥)
-    → elements_place tag p most end rest ≡ element_place tag p (elements_place tag p (most - 1)) end rest
-elements_next tag p zero end rest some more = absurd (omega arith)
-elements_next tag p (suc most) end [] some more = absurd (more refl)
-elements_next tag p (suc most) end (byte ∷ rest) some more =
-    let one : suc most - 1 ≡ most = omega arith in rw one refl
-
 -- ---- kinds
-
-elements_kind : (tag : ℕ) (p : Place) (f : r.Fault) → Places p f → (most : ℕ)
-    → Places (elements_place tag p most) (elements_fault tag f most)
-elements_kind tag p f x zero end bytes = refl
-elements_kind tag p f x (suc most) end [] = refl
-elements_kind tag p f x (suc most) end (byte ∷ bytes) =
-    element_kind tag p (elements_place tag p most) f (elements_fault tag f most) x (elements_kind tag p f x most) end
-    (byte ∷ bytes)
 
 attribute_kind : Places key_attribute_place key_attribute_fault
 attribute_kind =
@@ -65,19 +48,8 @@ attribute_kind =
     identifier_fault (r.element_fault 0x31 r.no_fault r.end_fault) (first_kind identifier_fault identifier_says)
     (element_kind 0x31 (at_first r.no_fault) end_place r.no_fault r.end_fault (first_kind r.no_fault none_says) ends)
 
--- what is tested twice is tested once
-twice : (a b : Option (Option ErrorKind)) → option_or a (option_or a b) ≡ option_or a b
-twice None b = refl
-twice (Some said) b = refl
-
 attributes_kind : Places key_attributes_place (set_fault 0x30 key_attribute_fault)
-attributes_kind end bytes =
-    or_kind (elements_place 0x30 key_attribute_place (length bytes) end bytes)
-    (at_first (set_fault 0x30 key_attribute_fault) end bytes)
-    (elements_fault 0x30 key_attribute_fault (length bytes) bytes) (set_fault 0x30 key_attribute_fault bytes)
-    (elements_kind 0x30 key_attribute_place key_attribute_fault attribute_kind (length bytes) end bytes)
-    (first_kind (set_fault 0x30 key_attribute_fault) attributes_say end bytes)
-    ∙ twice (elements_fault 0x30 key_attribute_fault (length bytes) bytes) (value_unless (is_ascending bytes))
+attributes_kind = set_kind 0x30 key_attribute_place key_attribute_fault attribute_kind attribute_says
 
 -- the fields behind the version
 abbrev pub key_place_behind : Place → Place
@@ -137,12 +109,6 @@ container_kind bytes =
 
 -- ---- within
 
-elements_within : (tag : ℕ) (p : Place) → Bounded p → (most : ℕ) → Bounded (elements_place tag p most)
-elements_within tag p x zero end bytes = tt
-elements_within tag p x (suc most) end [] = tt
-elements_within tag p x (suc most) end (byte ∷ bytes) =
-    element_within tag p (elements_place tag p most) x (elements_within tag p x most) end (byte ∷ bytes)
-
 attribute_within : Bounded key_attribute_place
 attribute_within =
     element_within 0x06 (at_first identifier_fault) (element_place 0x31 (at_first r.no_fault) end_place)
@@ -150,11 +116,7 @@ attribute_within =
     (element_within 0x31 (at_first r.no_fault) end_place (first_within r.no_fault) (first_within r.end_fault))
 
 attributes_within : Bounded key_attributes_place
-attributes_within end bytes =
-    or_within end end (elements_place 0x30 key_attribute_place (length bytes) end bytes)
-    (at_first (set_fault 0x30 key_attribute_fault) end bytes) (omega arith)
-    (elements_within 0x30 key_attribute_place attribute_within (length bytes) end bytes)
-    (first_within (set_fault 0x30 key_attribute_fault) end bytes)
+attributes_within = set_within 0x30 key_attribute_place key_attribute_fault attribute_within
 
 behind_within : (q : Place) → Bounded q → Bounded (key_place_behind q)
 behind_within q y =

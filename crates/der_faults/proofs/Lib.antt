@@ -5,4 +5,6 @@ pub mod WithinLemmas
 pub mod PartLemmas
 pub mod SignatureLemmas
 pub mod PublicKeyLemmas
+pub mod SetLemmas
 pub mod ContainerLemmas
+pub mod CertificateLemmas

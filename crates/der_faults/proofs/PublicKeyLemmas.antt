@@ -61,10 +61,13 @@ public_key_kind bytes =
 
 -- ---- within
 
+pub any_element_within : (q : Place) → Bounded q → Bounded (any_element_place q)
+any_element_within q y = any_within (λ _. at_first r.no_fault) q (λ _. first_within r.no_fault) y
+
 optional_any_within : (q : Place) → Bounded q → Bounded (optional_any_place q)
 optional_any_within q y end bytes =
     either end (any_element_place q end bytes) (q end bytes) (begins_among all_tags bytes)
-    (any_within (λ _. at_first r.no_fault) q (λ _. first_within r.no_fault) y end bytes) (y end bytes)
+    (any_element_within q y end bytes) (y end bytes)
 
 pub algorithm_within : Bounded algorithm_place
 algorithm_within =

@@ -1,21 +1,12 @@
 -- The place of the refusal of a container of a private key.
-use Rattle.std.specs.Prelude.{ℕ, zero, suc, List, [], ◌∷◌, length, Option, None, if◌then◌else◌}
-use Rattle.std.specs.Option.{option_or}
-use Rattle.der_types.specs.Sets.{set_fault}
+use Rattle.std.specs.Prelude.{ℕ, List, length, Option, if◌then◌else◌}
 use Rattle.pkix.specs.Records.{identifier_fault, key_attribute_fault}
 use Rattle.sec1_der.specs.Contents.{bit_string_fault, byte_fault}
 use Rattle.sec1_der.specs.Faults.{no_fault}
 use Rattle.der_faults.specs.Containers.{has_version_one}
 use Rattle.der_faults.specs.Places.{Place, at_first, element_place, end_place, optional_place}
-use Rattle.der_faults.specs.RecordPlaces.{algorithm_place}
+use Rattle.der_faults.specs.RecordPlaces.{algorithm_place, set_place}
 use Rattle.der_faults.specs.declared.Fault.{Fault}
-
--- X.690 section 8.10: in elements with this tag, up to a greatest number of them
-abbrev pub elements_place : ℕ → Place → ℕ → Place
-elements_place tag content zero end bytes = None
-elements_place tag content (suc most) end [] = None
-elements_place tag content (suc most) end (byte ∷ bytes) =
-    element_place tag content (elements_place tag content most) end (byte ∷ bytes)
 
 -- RFC 5958 section 2: in the components of an Attribute, or after them
 abbrev pub key_attribute_place : Place
@@ -23,12 +14,9 @@ key_attribute_place =
     element_place 0x06 (at_first identifier_fault)
     (element_place 0x31 (at_first no_fault) end_place)
 
--- X.690 sections 8.12 and 11.6: in the attributes, or else at the first one if they aren't in
--- ascending order
+-- X.690 section 8.12
 abbrev pub key_attributes_place : Place
-key_attributes_place end bytes =
-    option_or (elements_place 0x30 key_attribute_place (length bytes) end bytes)
-    (at_first (set_fault 0x30 key_attribute_fault) end bytes)
+key_attributes_place = set_place 0x30 key_attribute_place key_attribute_fault
 
 -- RFC 5208 section 5: in the components of a PrivateKeyInfo, or after them
 abbrev pub private_key_info_place : Place

@@ -3,3 +3,4 @@ pub mod KeyParts
 pub mod RecordPlaces
 pub mod Containers
 pub mod ContainerPlaces
+pub mod CertificatePlaces

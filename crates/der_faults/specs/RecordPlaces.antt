@@ -1,11 +1,14 @@
--- The places of the refusals of signatures and public keys: the offset of the first fault from left
--- to right, and its kind.
-use Rattle.std.specs.Prelude.{ℕ, List, length, Option, if◌then◌else◌}
+-- The places of the refusals of signatures and public keys, and of rows and sets of elements: the
+-- offset of the first fault from left to right, and its kind.
+use Rattle.std.specs.Prelude.{ℕ, zero, suc, List, [], ◌∷◌, length, Option, None, if◌then◌else◌}
+use Rattle.std.specs.Option.{option_or}
 use Rattle.der_types.specs.AnyElements.{all_tags}
 use Rattle.der_types.specs.Choices.{begins_among}
+use Rattle.der_types.specs.Sets.{set_fault}
 use Rattle.pkix.specs.Records.{identifier_fault, unsigned_fault}
 use Rattle.sec1_der.specs.Contents.{bit_string_fault}
 use Rattle.sec1_der.specs.Faults.{no_fault}
+use Rattle.sec1_der.specs.Faults as faults
 use Rattle.der_faults.specs.Places.{Place, any_place, at_first, element_place, end_place}
 use Rattle.der_faults.specs.declared.Fault.{Fault}
 
@@ -40,3 +43,20 @@ info_place =
 -- RFC 5280 section 4.1: in the SEQUENCE of these components, or after it
 abbrev pub public_key_place : List ℕ → Option Fault
 public_key_place bytes = element_place 0x30 info_place end_place (length bytes) bytes
+
+-- X.690 section 8.10: in elements with this tag, up to a greatest number of them
+abbrev pub elements_place : ℕ → Place → ℕ → Place
+elements_place tag content zero end bytes = None
+elements_place tag content (suc most) end [] = None
+elements_place tag content (suc most) end (byte ∷ bytes) =
+    element_place tag content (elements_place tag content most) end (byte ∷ bytes)
+
+-- X.690 section 8.10: in elements with this tag up to the end
+abbrev pub sequence_place : ℕ → Place → Place
+sequence_place tag content end bytes = elements_place tag content (length bytes) end bytes
+
+-- X.690 sections 8.12 and 11.6: in elements with this tag up to the end, or else at the first one
+-- if they aren't in ascending order
+abbrev pub set_place : ℕ → Place → faults.Fault → Place
+set_place tag content fault end bytes =
+    option_or (sequence_place tag content end bytes) (at_first (set_fault tag fault) end bytes)

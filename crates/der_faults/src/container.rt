@@ -3,16 +3,17 @@ ghost use Rattle.std.specs.Prelude.{◌≡◌, ◌≤◌, length, Some, None, If
 ghost use Rattle.std.specs.Prelude.{option_map};
 ghost use Rattle.der_faults.specs.Containers as containers;
 ghost use Rattle.der_faults.specs.ContainerPlaces.{asymmetric_key_place, components_place};
-ghost use Rattle.der_faults.specs.ContainerPlaces.{container_place, elements_place};
+ghost use Rattle.der_faults.specs.ContainerPlaces.{container_place};
 ghost use Rattle.der_faults.specs.ContainerPlaces.{key_attribute_place, key_attributes_place};
 ghost use Rattle.der_faults.specs.ContainerPlaces.{private_key_info_place};
-ghost use Rattle.der_faults.specs.Places.{Place, at_first, element_place, optional_place};
-ghost use Rattle.sec1_der.specs.Contents.{bit_string_fault};
+ghost use Rattle.der_faults.specs.Places.{Place, optional_place};
 ghost use Rattle.sec1_der.specs.Elements.{max_length};
 ghost use Rattle.sec1_der.specs.Faults.{element_fault, end_fault};
 
 use crate::Fault;
-use crate::element::{Step, before, finish, tagged_element, value};
+use crate::element::{
+    CheckContent, Step, before, check_elements, finish, optional_value, tagged_element, value,
+};
 use crate::public_key::algorithm;
 use der_types::{Bits, Implicit, ObjectIdentifierRef, SetOf};
 use pkix::Attribute;
@@ -70,6 +71,7 @@ fn private_key_info(end: usize, bytes: &[u8]) -> Step<()>
 }
 
 /// Checks the components of a OneAsymmetricKey of version 1.
+#[tactic(auto, using(crate::proofs::PublicKeyLemmas::bit_string_says))]
 fn asymmetric_key(end: usize, bytes: &[u8]) -> Step<()>
     requires { length bytes.now ≤ end }
     ensures { MatchResult result (λ _. asymmetric_key_place end bytes.now ≡ None)
@@ -79,26 +81,8 @@ fn asymmetric_key(end: usize, bytes: &[u8]) -> Step<()>
     let rest = algorithm(end, rest)?;
     let rest = value::<Octets>(end, rest)?;
     let rest = key_attributes(end, rest)?;
-    let rest = public_key(end, rest)?;
+    let rest = optional_value::<Implicit<Primitive1, Bits>>(end, rest)?;
     finish(end, rest)
-}
-
-/// Checks the public key, if present, and returns the bytes after it.
-#[tactic(auto, using(crate::proofs::PublicKeyLemmas::bit_string_says))]
-fn public_key(end: usize, bytes: &[u8]) -> Step<&[u8]>
-    requires { length bytes.now ≤ end }
-    ensures place { MatchResult result
-        (λ rest. (behind : Place)
-        → optional_place 0x81 (at_first bit_string_fault) behind end bytes.now
-        ≡ behind end rest.now)
-        (λ fault. (behind : Place)
-        → optional_place 0x81 (at_first bit_string_fault) behind end bytes.now ≡ Some fault) }
-    ensures behind { IfOk result (λ rest. length rest.now ≤ length bytes.now) }
-{
-    if bytes.first() != Some(&0x81) {
-        return Ok(bytes);
-    }
-    value::<Implicit<Primitive1, Bits>>(end, bytes)
 }
 
 /// Checks the attributes, if present, and returns the bytes after them.
@@ -127,52 +111,25 @@ fn key_attribute_set(end: usize, bytes: &[u8]) -> Step<()>
     ensures { MatchResult result (λ _. key_attributes_place end bytes.now ≡ None)
         (λ fault. key_attributes_place end bytes.now ≡ Some fault) }
 {
-    key_attribute_row(bytes.len(), end, bytes)?;
+    check_elements::<Attribute>(end, bytes)?;
     match SetOf::<Attribute>::decode_value(&mut SliceReader::new(bytes)) {
         Ok(_) => Ok(()),
         Err(e) => Err(before(end, bytes, e.kind)),
     }
 }
 
-/// Checks attributes in a row, at most as many.
-fn key_attribute_row(most: usize, end: usize, bytes: &[u8]) -> Step<()>
-    requires { length bytes.now ≤ end }
-    ensures { MatchResult result
-        (λ _. elements_place 0x30 key_attribute_place most end bytes.now ≡ None)
-        (λ fault. elements_place 0x30 key_attribute_place most end bytes.now ≡ Some fault) }
-{
-    let mut most = most;
-    let mut rest = bytes;
-    while most > 0 && !rest.is_empty() {
-        most -= 1;
-        rest = key_attribute(end, rest)?;
+impl CheckContent for Attribute<'_> {
+    ghost place = { key_attribute_place };
+
+    /// The values aren't examined.
+    #[tactic(auto, using(crate::proofs::PublicKeyLemmas::identifier_says))]
+    fn check_content(end: usize, bytes: &[u8]) -> Step<()>
+        requires end { length bytes.now ≤ end }
+        ensures { MatchResult result (λ _. key_attribute_place end bytes.now ≡ None)
+            (λ fault. key_attribute_place end bytes.now ≡ Some fault) }
+    {
+        let rest = value::<ObjectIdentifierRef>(end, bytes)?;
+        let values = tagged_element(Tag::SET, end, rest)?;
+        finish(end, values.behind)
     }
-    Ok(())
-}
-
-/// Checks the attribute at the beginning of the bytes, and returns those after it.
-fn key_attribute(end: usize, bytes: &[u8]) -> Step<&[u8]>
-    requires { length bytes.now ≤ end }
-    ensures place { MatchResult result
-        (λ rest. (behind : Place)
-        → element_place 0x30 key_attribute_place behind end bytes.now ≡ behind end rest.now)
-        (λ fault. (behind : Place)
-        → element_place 0x30 key_attribute_place behind end bytes.now ≡ Some fault) }
-    ensures behind { IfOk result (λ rest. length rest.now ≤ length bytes.now) }
-{
-    let field = tagged_element(Tag::SEQUENCE, end, bytes)?;
-    key_attribute_components(end - field.behind.len(), field.content)?;
-    Ok(field.behind)
-}
-
-/// Checks the components of an attribute. The values aren't examined.
-#[tactic(auto, using(crate::proofs::PublicKeyLemmas::identifier_says))]
-fn key_attribute_components(end: usize, bytes: &[u8]) -> Step<()>
-    requires { length bytes.now ≤ end }
-    ensures { MatchResult result (λ _. key_attribute_place end bytes.now ≡ None)
-        (λ fault. key_attribute_place end bytes.now ≡ Some fault) }
-{
-    let rest = value::<ObjectIdentifierRef>(end, bytes)?;
-    let values = tagged_element(Tag::SET, end, rest)?;
-    finish(end, values.behind)
 }

@@ -3,8 +3,9 @@ ghost use Rattle.std.specs.Prelude.{◌≡◌, ◌-◌, ◌≤◌, ℕ, length, 
 ghost use Rattle.std.specs.Prelude.{MatchResult};
 ghost use Rattle.std.specs.Option.{option_or};
 ghost use Rattle.sec1_der.specs.Elements.{max_length};
+ghost use Rattle.der_faults.specs.RecordPlaces.{elements_place};
 ghost use Rattle.der_faults.specs.Places.{Place, any_place, at_first, before, element_place};
-ghost use Rattle.der_faults.specs.Places.{end_place};
+ghost use Rattle.der_faults.specs.Places.{end_place, optional_place};
 ghost use Rattle.sec1_der.specs.Faults.{SaysKinds};
 
 use crate::Fault;
@@ -100,8 +101,7 @@ pub(crate) fn tagged_element(tag: Tag, end: usize, bytes: &[u8]) -> Step<Element
 }
 
 /// Reads the element of a value of T, whose rule says the kinds of its errors, at the beginning of
-/// the
-/// bytes, which end at this offset. Returns the bytes after it.
+/// the bytes, which end at this offset. Returns the bytes after it.
 ///
 /// # Errors
 ///
@@ -123,6 +123,84 @@ pub(crate) fn value<'a, T: DecodeValue<'a> + Tagged + Drop>(
         Ok(_) => Ok(found.behind),
         Err(e) => Err(before(end - found.behind.len(), found.content, e.kind)),
     }
+}
+
+/// Reads the element of a value of T as [`value`] does, if its tag is next. Returns the bytes after
+/// it.
+///
+/// # Errors
+///
+/// Those of [`value`].
+pub(crate) fn optional_value<'a, T: DecodeValue<'a> + Tagged + Drop>(
+    end: usize,
+    bytes: &'a [u8],
+) -> Step<&'a [u8]>
+    requires { SaysKinds T.fault × (length bytes.now ≤ end) }
+    ensures place { MatchResult result
+        (λ rest. (behind : Place)
+        → optional_place T.tag_byte (at_first T.fault) behind end bytes.now ≡ behind end rest.now)
+        (λ fault. (behind : Place)
+        → optional_place T.tag_byte (at_first T.fault) behind end bytes.now ≡ Some fault) }
+    ensures behind { IfOk result (λ rest. length rest.now ≤ length bytes.now) }
+{
+    if bytes.first() != Some(&T::fixed_tag().byte()) {
+        return Ok(bytes);
+    }
+    value::<T>(end, bytes)
+}
+
+/// A type whose contents are checked from left to right.
+pub(crate) trait CheckContent: Tagged {
+    /// The place at which a content is refused.
+    ghost place: { Place };
+
+    /// Checks a content, which ends at this offset.
+    fn check_content(end: usize, bytes: &[u8]) -> Step<()>
+        requires end { length bytes.now ≤ end }
+        requires limit { length bytes.now ≤ max_length }
+        ensures { MatchResult result (λ _. place end bytes.now ≡ None)
+            (λ fault. place end bytes.now ≡ Some fault) };
+}
+
+/// Checks the element of T at the beginning of the bytes, which end at this offset, and returns the
+/// bytes after it.
+///
+/// # Errors
+///
+/// Those of [`tagged_element`], then those of T's content.
+pub(crate) fn check_element<T: CheckContent>(end: usize, bytes: &[u8]) -> Step<&[u8]>
+    requires { length bytes.now ≤ end }
+    ensures place { MatchResult result
+        (λ rest. (behind : Place)
+        → element_place T.tag_byte T.place behind end bytes.now ≡ behind end rest.now)
+        (λ fault. (behind : Place)
+        → element_place T.tag_byte T.place behind end bytes.now ≡ Some fault) }
+    ensures behind { IfOk result (λ rest. length rest.now ≤ length bytes.now) }
+{
+    let field = tagged_element(T::fixed_tag(), end, bytes)?;
+    T::check_content(end - field.behind.len(), field.content)?;
+    Ok(field.behind)
+}
+
+/// Checks elements of T in a row up to the end of the bytes.
+///
+/// # Errors
+///
+/// Those of [`check_element`].
+pub(crate) fn check_elements<T: CheckContent>(end: usize, bytes: &[u8]) -> Step<()>
+    requires { length bytes.now ≤ end }
+    ensures { MatchResult result
+        (λ _. elements_place T.tag_byte T.place (length bytes.now) end bytes.now ≡ None)
+        (λ fault. elements_place T.tag_byte T.place (length bytes.now) end bytes.now
+        ≡ Some fault) }
+{
+    let mut most = bytes.len();
+    let mut rest = bytes;
+    while most > 0 && !rest.is_empty() {
+        most -= 1;
+        rest = check_element::<T>(end, rest)?;
+    }
+    Ok(())
 }
 
 /// Checks that there are no bytes.

@@ -1,15 +1,18 @@
-//! Where bytes are refused as a key's, a public key's, a container's, a signature's or a tree's:
-//! the offset and the kind of the first fault. No call allocates.
+//! Where bytes are refused as a key's, a public key's, a container's, a certificate's, a
+//! signature's or a tree's: the offset and the kind of the first fault. No call allocates.
 #![tactic(auto)]
 
+mod certificate;
 mod container;
 mod element;
 mod key;
+mod name;
 mod part;
 mod public_key;
 mod signature;
 mod tree;
 
+pub use certificate::certificate_fault;
 pub use container::container_fault;
 pub use key::key_fault;
 pub use part::{KeyPart, key_part};

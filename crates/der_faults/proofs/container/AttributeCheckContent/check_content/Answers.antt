@@ -1,7 +1,7 @@
 use Rattle.std.proofs.Common.{rules, ◌∙◌}
 use Rattle.sec1_der.specs.Faults.{no_fault}
 use Rattle.der_faults.specs.Places.{at_first, element_place, end_place}
-use Rattle.der_faults.proofs.container.key_attribute_components.Goals as goal
+use Rattle.der_faults.proofs.container.AttributeCheckContent.check_content.Goals as goal
 
 pub returns-in_err-rest : goal.returns-in_err-rest
 returns-in_err-rest c =
