@@ -76,6 +76,10 @@ uint32_t right_calls(size_t some)
     status |= sec1_public_key_fault_at(NULL, 0, &len);
     status |= sec1_private_key_info_fault_at(key, some, &len);
     status |= sec1_private_key_info_fault_at(NULL, 0, &len);
+    status |= sec1_certificate_fault_at(key, some, &len);
+    status |= sec1_certificate_fault_at(NULL, 0, &len);
+    status |= sec1_private_key_fault_at(key, some, &len);
+    status |= sec1_private_key_fault_at(NULL, 0, &len);
     status |= sec1_signature_fault_at(key, some, &len);
     status |= sec1_signature_fault_at(NULL, 0, &len);
     status |= sec1_tree_fault_at(key, sizeof key, &len);

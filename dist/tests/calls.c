@@ -167,6 +167,19 @@ static void expect_whole(reader *read, struct bytes whole, void *stored, size_t 
     EXPECT(read_guarded(read, whole, stored, size) == SEC1_OK);
 }
 
+/* The status and the offset of the first fault, by one of the calls that tell both. */
+static void expect_fault(uint32_t (*fault_at)(const uint8_t *, size_t, size_t *),
+                         struct bytes input, uint32_t wanted, size_t wanted_offset)
+{
+    for (enum side side = AT_END; side <= AT_START; side++) {
+        struct guarded in = map_input(input.data, input.len, side);
+        size_t offset = 777777;
+        EXPECT(fault_at(in.data, input.len, &offset) == wanted &&
+               offset == (wanted ? wanted_offset : 777777));
+        unmap(in);
+    }
+}
+
 static uint32_t key_parts(const uint8_t *bytes, size_t bytes_len, void *stored)
 {
     return sec1_key_read(bytes, bytes_len, stored);
@@ -802,26 +815,30 @@ static const struct any_key {
     {"304D" "020100" ON_P256 "0433" SAME_INSIDE, 35, 18, 8, 0, 0},
 };
 
+/* Others, and where they are refused. */
 static const struct no_key {
     const char *bytes;
     uint32_t status;
+    size_t offset;
 } no_any_keys[] = {
-    {"304D" "020100" ON_P256 "0433" OTHER_INSIDE, SEC1_OTHER_CURVE},
-    {"304D" "020101" ON_P256 "0433" OTHER_INSIDE, SEC1_OTHER_CURVE},
-    {"3022" "020100" ON_P256 "0408" "3005020101040000", SEC1_TRAILING_DATA},
-    {"3021" "020100" ON_P256 "0407" "30050201010300", SEC1_TAG},
-    {"3021" "020100" ON_P256 "0407" "30050201020400", SEC1_VALUE},
-    {"301C" "020100" ON_P256 "0402" "3005", SEC1_TRUNCATED},
-    {"3016" "020100" "300B" EC_KEY "0500" "0404" "05000000", SEC1_CURVE},
-    {"3025020102" "0420" PRIVATE, SEC1_VALUE},
-    {"3025020100" "0420" PRIVATE, SEC1_VALUE},
-    {"3018" "020102" ON_P256, SEC1_VALUE},
-    {"3007" "020101" "30020500", SEC1_TAG},
-    {"3005" "020101" "0500", SEC1_TAG},
-    {"3003" "020101", SEC1_TRUNCATED},
-    {"3105" "020101" "3000", SEC1_TAG},
-    {"3000", SEC1_TRUNCATED},
-    {"", SEC1_TRUNCATED},
+    {"304D" "020100" ON_P256 "0433" OTHER_INSIDE, SEC1_OTHER_CURVE, 71},
+    {"304D" "020101" ON_P256 "0433" OTHER_INSIDE, SEC1_OTHER_CURVE, 71},
+    {"3022" "020100" ON_P256 "0408" "3005020101040000", SEC1_TRAILING_DATA, 35},
+    {"3021" "020100" ON_P256 "0407" "30050201010300", SEC1_TAG, 33},
+    {"3021" "020100" ON_P256 "0407" "30050201020400", SEC1_VALUE, 32},
+    {"301C" "020100" ON_P256 "0402" "3005", SEC1_TRUNCATED, 29},
+    {"3016" "020100" "300B" EC_KEY "0500" "0404" "05000000", SEC1_CURVE, 5},
+    {"3021" "020100" ON_P256 "0407" "30050201010400" "00", SEC1_TRAILING_DATA, 35},
+    {"3021" "020100" ON_P256 "8407" "30050201010400", SEC1_TAG, 26},
+    {"3025020102" "0420" PRIVATE, SEC1_VALUE, 4},
+    {"3025020100" "0420" PRIVATE, SEC1_VALUE, 4},
+    {"3018" "020102" ON_P256, SEC1_VALUE, 4},
+    {"3007" "020101" "30020500", SEC1_TAG, 7},
+    {"3005" "020101" "0500", SEC1_TAG, 5},
+    {"3003" "020101", SEC1_TRUNCATED, 5},
+    {"3105" "020101" "3000", SEC1_TAG, 0},
+    {"3000", SEC1_TRUNCATED, 2},
+    {"", SEC1_TRUNCATED, 0},
 };
 
 static void test_any_keys(void)
@@ -830,14 +847,20 @@ static void test_any_keys(void)
     for (size_t i = 0; i < sizeof any_keys / sizeof *any_keys; i++) {
         const struct any_key *k = &any_keys[i];
         expect_whole(any_key_parts, unhex(k->bytes), &p, sizeof p);
+        expect_fault(sec1_private_key_fault_at, unhex(k->bytes), SEC1_OK, 0);
         EXPECT(is_part(p.private_key, k->key_at, 32));
         EXPECT(k->curve_len ? is_part(p.curve, k->curve_at, k->curve_len) : is_absent(p.curve));
         EXPECT(k->public_len ? is_part(p.public_key, k->public_at, k->public_len)
                              : is_absent(p.public_key));
     }
-    for (size_t i = 0; i < sizeof no_any_keys / sizeof *no_any_keys; i++)
-        EXPECT(read_guarded(any_key_parts, unhex(no_any_keys[i].bytes), &p, sizeof p) ==
-               no_any_keys[i].status);
+    for (size_t i = 0; i < sizeof no_any_keys / sizeof *no_any_keys; i++) {
+        struct bytes bytes = unhex(no_any_keys[i].bytes);
+        EXPECT(read_guarded(any_key_parts, bytes, &p, sizeof p) == no_any_keys[i].status);
+        expect_fault(sec1_private_key_fault_at, bytes, no_any_keys[i].status,
+                     no_any_keys[i].offset);
+    }
+    size_t offset = 777777;
+    EXPECT(sec1_private_key_fault_at(NULL, 0, &offset) == SEC1_TRUNCATED && offset == 0);
 }
 
 /* The private key is PRIVATE; the bytes are the public key, and there is none of no bytes. */
@@ -914,35 +937,37 @@ static uint32_t find_key(struct bytes input, struct sec1_part *part)
     "F3C6A428D64E827006EFB5DFB22E1FE7227B0929813977D73F8A2AEF5DE233F207AC87EAF339EA1C8B2DEC2B"     \
     "DC5D83E7712D7414F78F0D8DF767A90F686205"
 
-/* Another byte at a place of one of them, and the status of what is then found there. */
+/* Another byte at a place of one of them, the status of what is then found there, and where it is
+ * refused: by its tag, by its length, or by its content. */
 static const struct other_byte {
     size_t at;
     uint8_t byte;
     uint32_t status;
+    size_t offset;
 } in_version_3[] = {
-    {2, 0x00, SEC1_LENGTH}, /* the length of the whole */
-    {12, 0x00, SEC1_VALUE}, /* version 1, which is the default and isn't written */
-    {12, 0x03, SEC1_VALUE}, /* version 4 */
-    {18, 0x02, SEC1_TAG},   /* the tag of an algorithm's identifier */
-    {27, 0x82, SEC1_VALUE}, /* the last byte of this identifier */
-    {30, 0x30, SEC1_TAG},   /* the tag of a SET in a name */
-    {39, 0x1F, SEC1_TAG},   /* the tag of a value in a name */
-    {46, 0x3A, SEC1_VALUE}, /* a digit of a time */
-    {88, 0x31, SEC1_TAG},   /* the tag of the SubjectPublicKeyInfo */
-    {109, 0x08, SEC1_OK},   /* the curve, by which a key isn't refused here */
-    {113, 0x01, SEC1_VALUE}, /* unused bits of the key */
-    {179, 0x82, SEC1_VALUE}, /* a unique identifier with 48 unused bits */
-    {179, 0xA4, SEC1_TRAILING_DATA}, /* a field that there isn't */
-    {256, 0x00, SEC1_VALUE}, /* FALSE, which is the default and isn't written */
-    {264, 0x05, SEC1_TAG},   /* the tag of the signature's algorithm */
-    {275, 0x80, SEC1_VALUE}, /* the last byte of its identifier */
-    {278, 0x08, SEC1_VALUE}, /* unused bits of the signature */
+    {2, 0x00, SEC1_LENGTH, 1}, /* the length of the whole */
+    {12, 0x00, SEC1_VALUE, 12}, /* version 1, which is the default and isn't written */
+    {12, 0x03, SEC1_VALUE, 12}, /* version 4 */
+    {18, 0x02, SEC1_TAG, 18},   /* the tag of an algorithm's identifier */
+    {27, 0x82, SEC1_VALUE, 20}, /* the last byte of this identifier */
+    {30, 0x30, SEC1_TAG, 30},   /* the tag of a SET in a name */
+    {39, 0x1F, SEC1_TAG, 39},   /* the tag of a value in a name */
+    {46, 0x3A, SEC1_VALUE, 46}, /* a digit of a time */
+    {88, 0x31, SEC1_TAG, 88},   /* the tag of the SubjectPublicKeyInfo */
+    {109, 0x08, SEC1_OK, 0},    /* the curve, by which a key isn't refused here */
+    {113, 0x01, SEC1_VALUE, 113}, /* unused bits of the key */
+    {179, 0x82, SEC1_VALUE, 181}, /* a unique identifier with 48 unused bits */
+    {179, 0xA4, SEC1_TRAILING_DATA, 179}, /* a field that there isn't */
+    {256, 0x00, SEC1_VALUE, 256}, /* FALSE, which is the default and isn't written */
+    {264, 0x05, SEC1_TAG, 264},   /* the tag of the signature's algorithm */
+    {275, 0x80, SEC1_VALUE, 268}, /* the last byte of its identifier */
+    {278, 0x08, SEC1_VALUE, 278}, /* unused bits of the signature */
 }, in_version_1[] = {
-    {6, 0x02, SEC1_TAG},    /* a serial number of two bytes */
-    {46, 0x17, SEC1_VALUE}, /* the tag of a UTCTime for a GeneralizedTime */
-    {60, 0x2E, SEC1_VALUE}, /* a fraction of a second */
-    {77, 0xA0, SEC1_TAG},   /* the version behind names */
-    {121, 0x83, SEC1_TAG},  /* a field that there isn't */
+    {6, 0x02, SEC1_TAG, 9},     /* a serial number of two bytes */
+    {46, 0x17, SEC1_VALUE, 48}, /* the tag of a UTCTime for a GeneralizedTime */
+    {60, 0x2E, SEC1_VALUE, 48}, /* a fraction of a second */
+    {77, 0xA0, SEC1_TAG, 77},   /* the version behind names */
+    {121, 0x83, SEC1_TAG, 121}, /* a field that there isn't */
 };
 
 static void expect_certificate(struct bytes certificate, size_t info_at, size_t info_len,
@@ -955,6 +980,7 @@ static void expect_certificate(struct bytes certificate, size_t info_at, size_t 
         struct bytes other = certificate;
         other.data[others[i].at] = others[i].byte;
         EXPECT(find_key(other, &part) == others[i].status);
+        expect_fault(sec1_certificate_fault_at, other, others[i].status, others[i].offset);
     }
 }
 
@@ -1780,19 +1806,6 @@ static void test_long_elements(void)
     EXPECT(found == 777777 && all_are(out, 9, 0));
     munmap(zeros, size);
     munmap(out, room);
-}
-
-/* The status and the offset of the first fault, by one of the calls that tell both. */
-static void expect_fault(uint32_t (*fault_at)(const uint8_t *, size_t, size_t *),
-                         struct bytes input, uint32_t wanted, size_t wanted_offset)
-{
-    for (enum side side = AT_END; side <= AT_START; side++) {
-        struct guarded in = map_input(input.data, input.len, side);
-        size_t offset = 777777;
-        EXPECT(fault_at(in.data, input.len, &offset) == wanted &&
-               offset == (wanted ? wanted_offset : 777777));
-        unmap(in);
-    }
 }
 
 static const struct tree {

@@ -79,7 +79,9 @@ enum call {
     CONTAINER,
     CONTAINER_FAULT,
     CERTIFICATE,
+    CERTIFICATE_FAULT,
     PRIVATE_KEY,
+    PRIVATE_KEY_FAULT,
     PUBLIC_KEY_WRITE,
     CONTAINER_WRITE,
     SIGNATURE,
@@ -113,7 +115,9 @@ static const char *const names[CALLS] = {
     "sec1_private_key_info_read",
     "sec1_private_key_info_fault_at",
     "sec1_certificate_read_public_key",
+    "sec1_certificate_fault_at",
     "sec1_private_key_read",
+    "sec1_private_key_fault_at",
     "sec1_public_key_write",
     "sec1_private_key_info_write",
     "sec1_signature_read",
@@ -126,8 +130,8 @@ static const char *const names[CALLS] = {
 static const unsigned wanted[CALLS] = {0x3F,  0xA1,  0x11F, 0x1F,  0x601, 0x681, 0x601,
                                        0xA1,  0xA1,  0x3F,  0x3F,  0x11F, 0xF,   0x85,
                                        0x21,  0x481, 0x681, 0x681, 0xA3F, 0xA3F, 0x83F,
-                                       0x83F, 0x3F,  0x183F, 0xA81, 0x881, 0x3F, 0x3F,
-                                       0x81,  0xA1,  1};
+                                       0x83F, 0x3F,  0x3F,  0x183F, 0x183F, 0xA81, 0x881,
+                                       0x3F,  0x3F,  0x81,  0xA1,  1};
 static unsigned long counts[CALLS][STATUSES], wrong[CALLS];
 static struct {
     uint8_t data[MOST];
@@ -288,10 +292,12 @@ static void check_records(const uint8_t *bytes, size_t len)
     refused = private_key_of(bytes, len, &inside);
     status = sec1_private_key_read(bytes, len, stored);
     expect(PRIVATE_KEY, status, stores(status, refused, stored, &inside, sizeof inside));
+    check_fault(PRIVATE_KEY_FAULT, sec1_private_key_fault_at, bytes, len, refused, fault_at);
     stored = filled(struct_arena, sizeof info, 0xA5);
     refused = certificate_of(bytes, len, &info);
     status = sec1_certificate_read_public_key(bytes, len, stored);
     expect(CERTIFICATE, status, stores(status, refused, stored, &info, sizeof info));
+    check_fault(CERTIFICATE_FAULT, sec1_certificate_fault_at, bytes, len, refused, fault_at);
 }
 
 static const uint8_t ec_public_key[] = {0x2A, 0x86, 0x48, 0xCE, 0x3D, 0x02, 0x01};

@@ -316,9 +316,10 @@ static uint32_t private_key_of(const uint8_t *data, size_t len, struct sec1_key_
     uint32_t status;
     if (enter(&rest, 0x30, &row) || element_of(&row, 0x02, &version) || !begins_with(row, 0x30))
         return key_of(data, len, parts);
-    if ((status = container_of(data, len, &container))
-        || (status = key_of(data + container.key.offset, container.key.len, parts)))
+    if ((status = container_of(data, len, &container)))
         return status;
+    if ((status = key_of(data + container.key.offset, container.key.len, parts)))
+        return refuse(status, container.key.offset + fault_at);
     parts->private_key.offset += container.key.offset;
     if (parts->public_key.present)
         parts->public_key.offset += container.key.offset;
@@ -326,7 +327,7 @@ static uint32_t private_key_of(const uint8_t *data, size_t len, struct sec1_key_
         && (parts->curve.len != container.curve.len
             || memcmp(data + container.key.offset + parts->curve.offset,
                       data + container.curve.offset, container.curve.len)))
-        return SEC1_OTHER_CURVE;
+        return refuse(SEC1_OTHER_CURVE, container.key.offset + parts->curve.offset);
     parts->curve = container.curve;
     return SEC1_OK;
 }

@@ -67,6 +67,11 @@ static void read_key(const struct bytes *key, size_t private_len)
     expect(sec1_private_key_read(key->data, key->len, &parts) == 0 &&
                parts.private_key.len == private_len,
            "sec1_private_key_read", private_len);
+    expect(sec1_private_key_fault_at(key->data, key->len, &number) == 0,
+           "sec1_private_key_fault_at", private_len);
+    expect(sec1_private_key_fault_at(key->data, key->len - 1, &number) == SEC1_TRUNCATED &&
+               number < key->len,
+           "the fault of a cut private key", private_len);
     expect(sec1_key_fault_at(key->data, key->len, &number) == 0, "sec1_key_fault_at", private_len);
     expect(sec1_key_read_at(key->data, key->len, &parts, &number) == 0 &&
                parts.private_key.len == private_len,
@@ -80,6 +85,38 @@ static void read_key(const struct bytes *key, size_t private_len)
     expect(sec1_element_read(key->data, key->len, &header, &content) == 0 &&
                header + content == key->len,
            "sec1_element_read", private_len);
+}
+
+/* Changes the byte at this offset, and expects the refusal of a private key at another. */
+static void find_fault(struct bytes container, size_t at, uint8_t byte, uint32_t status,
+                       size_t fault_at, size_t private_len)
+{
+    size_t number = 0;
+    container.data[at] = byte;
+    expect(sec1_private_key_fault_at(container.data, container.len, &number) == status &&
+               number == fault_at,
+           "sec1_private_key_fault_at of a container", private_len);
+}
+
+/* Where its container is refused: cut, with another tag in the key, and with P-192 in its algorithm
+ * where the key names P-256. */
+static void find_faults(const struct bytes *container,
+                        const struct sec1_private_key_info_parts *parts, const struct bytes *key,
+                        size_t private_len)
+{
+    struct sec1_key_parts inside;
+    struct bytes cut = *container;
+    size_t last = parts->curve.offset + parts->curve.len - 1, number;
+    size_t version = parts->key.offset + (key->data[1] < 0x80 ? 2 : key->data[1] - 0x80 + 2u);
+    expect(sec1_private_key_fault_at(container->data, container->len, &number) == 0,
+           "sec1_private_key_fault_at of a container", private_len);
+    cut.len--;
+    find_fault(cut, 0, 0x30, SEC1_TRUNCATED, 1, private_len);
+    find_fault(*container, version, 5, SEC1_TAG, version, private_len);
+    expect(sec1_key_read(key->data, key->len, &inside) == 0, "the key inside", private_len);
+    if (inside.curve.present)
+        find_fault(*container, last, 1, SEC1_OTHER_CURVE, parts->key.offset + inside.curve.offset,
+                   private_len);
 }
 
 /* The calls that read its container, of version 0 or 1. */
@@ -115,6 +152,7 @@ static void read_container(const struct bytes *key, size_t version, size_t priva
            "a cut container, read as a private key", private_len);
     expect(sec1_tree_check(container.data, container.len, &number) == 0, "a container's tree",
            private_len);
+    find_faults(&container, &parts, key, private_len);
 }
 
 /* Writes a key with these parts by both calls, and reads it. Its private bytes are undefined. */

@@ -257,6 +257,50 @@ class Others(unittest.TestCase):
             self.assertEqual(caught.exception.offset, offset)
         self.assertIsNone(sec1.PointEncodingError().offset)
 
+    def test_private_keys_in_either_form(self):
+        """Keys and containers that are made by RFC 5915 and RFC 5958 by hand."""
+        read = sec1.EcPrivateKey.from_der_or_pkcs8
+        on_p256 = "301306072a8648ce3d020106082a8648ce3d030107"
+        p256 = sec1.Curve.from_name("P-256").identifier
+        key = sec1.EcPrivateKey(b"\x09", p256, b"\x05")
+        self.assertEqual(read(key.to_der()), key)
+        container = bytes.fromhex("3022020100" + on_p256 + "0408" + "3006020101040109")
+        self.assertEqual(read(memoryview(container)), sec1.EcPrivateKey(b"\x09", p256))
+        for data, error, offset in [
+            ("3022020100" + on_p256 + "0408" + "3006020102040109", sec1.ValueContentError, 32),
+            ("3022020100" + on_p256 + "0408" + "3005020101040000", sec1.TrailingDataError, 35),
+            ("3007020101" + "30020500", sec1.TagError, 7),
+            ("3006020102" + "040109", sec1.ValueContentError, 4),
+            ("3012020100" + "300906072a8648ce3d0201" + "04023000", sec1.CurveError, 5),
+            ("302d020100" + on_p256 + "0413" + "30110201010400a00a06082a8648ce3d030101", sec1.OtherCurveError, 39),
+        ]:
+            with self.assertRaises(error) as caught:
+                read(bytes.fromhex(data))
+            self.assertEqual((type(caught.exception), caught.exception.offset), (error, offset))
+
+    def test_certificates(self):
+        """A certificate of version 1 for a key of Ed25519, as `openssl x509 -req -signkey` writes it."""
+        certificate = bytes.fromhex(
+            "3081c030740201ff300506032b6570300c310a300806035504030c01623020170d3236313132343132313035"
+            "345a180f32303534303431313132313035345a300c310a300806035504030c0162302a300506032b65700321"
+            "009712bff712c7b7fe15b42327091d590f99237be66fb98ff46760dfddcca4717a300506032b6570034100d5"
+            "f3c6a428d64e827006efb5dfb22e1fe7227b0929813977d73f8a2aef5de233f207ac87eaf339ea1c8b2dec2b"
+            "dc5d83e7712d7414f78f0d8df767a90f686205"
+        )
+        self.assertEqual(sec1.certificate_public_key(bytearray(certificate)), certificate[77:121])
+        for at, byte, error, offset in [
+            (6, 0x02, sec1.TagError, 9),
+            (60, 0x2E, sec1.ValueContentError, 48),
+            (77, 0xA0, sec1.TagError, 77),
+        ]:
+            damaged = certificate[:at] + bytes([byte]) + certificate[at + 1 :]
+            with self.assertRaises(error) as caught:
+                sec1.certificate_public_key(damaged)
+            self.assertEqual((type(caught.exception), caught.exception.offset), (error, offset))
+        with self.assertRaises(sec1.TrailingDataError) as caught:
+            sec1.certificate_public_key(certificate + b"\0")
+        self.assertEqual(caught.exception.offset, 195)
+
     def test_errors(self):
         """Each kind has the number and the text that sec1.h has for it."""
         expected = {
@@ -272,6 +316,7 @@ class Others(unittest.TestCase):
             sec1.PointEncodingError: (9, "elliptic curve point encoding error"),
             sec1.FieldLengthError: (10, "length of field elements not supported"),
             sec1.CurveError: (11, "curve not in the table"),
+            sec1.OtherCurveError: (12, "key and container name different curves"),
         }
         for kind, (status, text) in expected.items():
             self.assertEqual((kind.status, kind().status, str(kind())), (status, status, text))

@@ -39,6 +39,14 @@ no_key_place bytes none = by (key_place bytes) (rw (key_kind bytes) none)
     by None e = refl
     by (Some fault) e = absurd (has_number fault.kind e)
 
+-- the same of a key that is read
+pub read_key_has_no_place : (bytes : List ℕ) → key_fault bytes ≡ None → key_place bytes ≡ None
+read_key_has_no_place bytes none = by (key_place bytes) (rw (key_kind bytes) none)
+  where
+    by : (o : Option Fault) → option_map (λ (f : Fault). Some f.kind) o ≡ None → o ≡ None
+    by None e = refl
+    by (Some fault) e = absurd (cc e)
+
 pub no_public_key_place : (bytes : List ℕ) → element_fault 0x30 public_key_fault end_fault bytes ≡ None
     → public_key_place bytes ≡ None
 no_public_key_place bytes none = by (public_key_place bytes) (rw (public_key_kind bytes) none)

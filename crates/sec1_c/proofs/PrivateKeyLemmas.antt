@@ -18,12 +18,14 @@ use Rattle.sec1_der.specs.Parts.{join}
 use Rattle.sec1_der.specs.Readers.{HasReadElement, Reader}
 use Rattle.sec1_der.specs.declared.error.ErrorKind.{ErrorKind}
 use Rattle.sec1_der.specs.declared.error.ErrorKind.TheVariants.{Tag}
-use Rattle.sec1_c.specs.Containers.{IsContainer, after_key, container_content}
+use Rattle.pkix.specs.EcKeys.{IsOnCurve}
+use Rattle.sec1_c.specs.Containers.{IsContainer, after_key, container_content, container_places}
+use Rattle.sec1_c.specs.KeyPlaces.{key_places}
 use Rattle.sec1_c.specs.Places.{IsPart, StandsAt, part_behind}
 use Rattle.sec1_c.specs.PrivateKeys.{AreContainedPartsOf, IsKeyIn, contained_places, has_algorithm, tag_fault}
 use Rattle.sec1_c.specs.declared.part.Part.{Part}
 use Rattle.sec1_c.proofs.ContainerLemmas.{are_container_parts}
-use Rattle.sec1_c.proofs.PlaceLemmas.{are_parts}
+use Rattle.sec1_c.proofs.PlaceLemmas.{are_parts, parts_within}
 
 -- ---- which form bytes are read as
 
@@ -199,4 +201,18 @@ are_contained_parts container curve key bytes is =
       public_key = part_inside bytes container.private_key key.public_key _ _ outer.key inner.public_key;
     }
 
+-- the bytes inside end in those of the container
+pub inside_fits : (container : OneAsymmetricKey) (curve : Curve) (bytes : List ℕ) → IsContainer container bytes
+    → IsOnCurve curve container.algorithm
+    → (container_places curve container bytes).key.offset + length container.private_key ≤ length bytes
+inside_fits container curve bytes is on = (are_container_parts curve container bytes is on).key.within
+
+-- the curve's identifier in a key ends in it
+pub curve_fits : (key : Key) (bytes : List ℕ) → IsKeyOf key bytes
+    → (key_places key bytes).curve.offset ≤ length bytes
+curve_fits key bytes is =
+    let parts = parts_within key bytes (key_places key bytes) (are_parts key bytes is) in omega (arith, parts.curve)
+
 pub ruleset contained = (are_contained_parts)
+
+pub ruleset inside = (inside_fits, curve_fits)

@@ -1,6 +1,7 @@
 -- EC private keys in either form: by themselves (RFC 5915 section 3), or in a container (RFC 5958
 -- section 2).
-use Rattle.std.specs.Prelude.{◌==◌, ◌∷◌, [], ℕ, List, Bool, Some, None, if◌then◌else◌}
+use Rattle.std.specs.Prelude.{◌==◌, ◌+◌, ◌-◌, ◌∷◌, [], ℕ, List, length, Bool, Some, None}
+use Rattle.std.specs.Prelude.{if◌then◌else◌}
 use Rattle.curves.specs.Curves.{curve_content}
 use Rattle.curves.specs.declared.curve.Curve.{Curve}
 use Rattle.der_types.specs.Rows.{is_whole}
@@ -9,7 +10,7 @@ use Rattle.pkix.specs.declared.private_key.OneAsymmetricKey.{OneAsymmetricKey}
 use Rattle.sec1.specs.Keys.{Key, IsKeyOf}
 use Rattle.sec1_der.specs.Faults.{Fault, element_fault, no_fault}
 use Rattle.sec1_der.specs.declared.error.ErrorKind.TheVariants.{Tag, Truncated}
-use Rattle.sec1_c.specs.Containers.{IsContainer, container_places}
+use Rattle.sec1_c.specs.Containers.{IsContainer, container_places, key_end}
 use Rattle.sec1_c.specs.KeyPlaces.{key_places}
 use Rattle.sec1_c.specs.Places.{IsPart, StandsAt, part_behind}
 use Rattle.sec1_c.specs.declared.container.PrivateKeyInfoParts.{PrivateKeyInfoParts}
@@ -64,3 +65,12 @@ abbrev pub contained_places : Curve → OneAsymmetricKey → Key → List ℕ �
 contained_places curve container key input =
     places_behind (container_places curve container input)
     (key_places key container.private_key)
+
+-- the index at which the key in a container begins
+abbrev pub inside_start : OneAsymmetricKey → List ℕ → ℕ
+inside_start container input = key_end container input - length container.private_key
+
+-- the index at which the content of the curve's identifier begins in the key in a container
+abbrev pub inside_curve_start : OneAsymmetricKey → Key → List ℕ → ℕ
+inside_curve_start container key input =
+    inside_start container input + (key_places key container.private_key).curve.offset

@@ -9,7 +9,7 @@ ghost use Rattle.sec1_c.specs.Containers.{AreContainerPartsOf, IsContainer, IsEc
 ghost use Rattle.sec1_c.specs.Containers.{container_places, of_version_zero};
 ghost use Rattle.sec1_c.specs.Statuses.{curve_number, kind_number};
 
-mod fault;
+pub mod fault;
 mod write;
 
 use crate::fields::fields_len;

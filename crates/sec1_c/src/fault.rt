@@ -1,9 +1,11 @@
-//! The place at which bytes are refused as a key's, a tree's or a signature's: `sec1_key_read_at`,
-//! `sec1_key_fault_at`, `sec1_tree_fault_at` and `sec1_signature_fault_at`.
+//! The place at which bytes are refused as a key's, a tree's, a signature's or a certificate's:
+//! `sec1_key_read_at`, `sec1_key_fault_at`, `sec1_tree_fault_at`, `sec1_signature_fault_at` and
+//! `sec1_certificate_fault_at`.
 ghost use Rattle.std.specs.Prelude.{◌≡◌, ◌≢◌, ◌≤◌, length};
+ghost use Rattle.der_faults.specs.CertificatePlaces.{certificate_place};
 ghost use Rattle.der_faults.specs.Places.{key_place, tree_place};
 ghost use Rattle.der_faults.specs.RecordPlaces.{signature_place};
-ghost use Rattle.pkix.specs.Records.{signature_fault};
+ghost use Rattle.pkix.specs.Records.{certificate_fault, signature_fault};
 ghost use Rattle.sec1.specs.KeyFaults.{key_fault};
 ghost use Rattle.sec1.specs.Keys.{Key, IsKeyOf};
 ghost use Rattle.sec1_der.specs.Faults.{element_fault, end_fault};
@@ -91,6 +93,24 @@ pub extern "C" fn sec1_signature_fault_at(bytes: &[u8], offset: &mut usize) -> u
     ensures within { result ≢ 0 → offset.new ≤ length bytes.now }
 {
     tell(der_faults::signature_fault(bytes), offset)
+}
+
+/// Returns what `sec1_certificate_read_public_key` returns, and stores the offset of the first
+/// fault from left to right: of the tag byte, of the first byte of the length or of the content that is
+/// refused, of the first element of a set that isn't in ascending order, or of the first byte after
+/// a part. `offset` is unchanged if the bytes are those of a certificate.
+///
+/// # Errors
+///
+/// Returns the numbers of `sec1_certificate_read_public_key`.
+#[unsafe(no_mangle)]
+pub extern "C" fn sec1_certificate_fault_at(bytes: &[u8], offset: &mut usize) -> u32
+    ensures place { StoresFault (certificate_place bytes.now) result offset.old offset.new }
+    ensures kind { result
+        ≡ fault_number (element_fault 0x30 certificate_fault end_fault bytes.now) }
+    ensures within { result ≢ 0 → offset.new ≤ length bytes.now }
+{
+    tell(der_faults::certificate_fault(bytes), offset)
 }
 
 /// Returns the number of a fault's kind and stores its offset; returns 0 if there is none.

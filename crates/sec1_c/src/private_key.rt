@@ -17,6 +17,8 @@ ghost use Rattle.sec1_c.specs.PrivateKeys.{tag_fault};
 ghost use Rattle.sec1_c.specs.Statuses.{curve_number, fault_number, kind_number};
 ghost use Rattle.sec1_c.specs.Statuses.{other_curve_number};
 
+mod fault;
+
 use crate::container::{self, PrivateKeyInfoParts};
 use crate::key::{self, KeyParts};
 use crate::status::{OK, curve_number, error_number, kind_number, other_curve_number};

@@ -23,6 +23,7 @@ __all__ = [
     "FieldLengthError",
     "LengthError",
     "ObjectIdentifier",
+    "OtherCurveError",
     "OverlengthError",
     "Point",
     "PointEncodingError",
@@ -31,6 +32,7 @@ __all__ = [
     "TrailingDataError",
     "TruncatedError",
     "ValueContentError",
+    "certificate_public_key",
     "check_tree",
     "document_length",
 ]
@@ -40,9 +42,9 @@ class Error(ValueError):
     """A refusal. Each kind of refusal is a subclass, whose `status` is its number in `enum sec1_status` of
     sec1.h.
 
-    `offset` is that of the first fault in the bytes of a key or of a tree, and None for other calls: of the
-    tag byte, of the first byte of the length or of the content that is refused, of the first byte after
-    the last part, or the number of bytes if they end before a tag."""
+    `offset` is that of the first fault in the bytes of a key, a certificate or a tree, and None for other
+    calls: of the tag byte, of the first byte of the length or of the content that is refused, of the first
+    byte after the last part, or the number of bytes if they end before a tag."""
 
     text = "the library broke its contract"
     status: ClassVar[Optional[int]] = None
@@ -130,6 +132,14 @@ class CurveError(Error):
 
     text = "curve not in the table"
     status = 11
+
+
+class OtherCurveError(Error):
+    """A private key names another curve than its container. `offset` is that of the identifier's content in
+    the key."""
+
+    text = "key and container name different curves"
+    status = 12
 
 
 _ERRORS = {kind.status: kind for kind in Error.__subclasses__()}
@@ -284,8 +294,22 @@ class EcPrivateKey:
 
         Raises TruncatedError, TagError, LengthError, TrailingDataError or ValueContentError, the first
         fault from left to right."""
+        return cls._read("sec1_key_read", "sec1_key_fault_at", data)
+
+    @classmethod
+    def from_der_or_pkcs8(cls, data: bytes) -> EcPrivateKey:
+        """Reads a key by itself, as `from_der` does, or in its container of version 0 or 1 (PKCS #8, RFC 5958
+        section 2), whose curve it has then.
+
+        Raises what `from_der` raises, of the key or of the container; CurveError, at the container's
+        algorithm, if that names no curve of the table; OtherCurveError if the key in it names another
+        curve."""
+        return cls._read("sec1_private_key_read", "sec1_private_key_fault_at", data)
+
+    @classmethod
+    def _read(cls, read: str, fault_at: str, data: bytes) -> EcPrivateKey:
         data, parts = _bytes(data), _library.KeyParts()
-        _check(_library.call("sec1_key_read", data, len(data), byref(parts)), "sec1_key_fault_at", data)
+        _check(_library.call(read, data, len(data), byref(parts)), fault_at, data)
         curve = parts.curve.of(data)
         return cls(
             parts.private_key.of(data) or b"",
@@ -379,6 +403,18 @@ class Point:
 
     def __hash__(self) -> int:
         return hash((self.encoding, self.field_length))
+
+
+def certificate_public_key(data: bytes) -> bytes:
+    """Returns the SubjectPublicKeyInfo in a certificate (RFC 5280 section 4.1), which is all of the bytes. No
+    signature is verified, and no name, time or extension is judged.
+
+    Raises TruncatedError, TagError, LengthError, TrailingDataError or ValueContentError, the first fault
+    from left to right."""
+    data, part = _bytes(data), _library.Part()
+    status = _library.call("sec1_certificate_read_public_key", data, len(data), byref(part))
+    _check(status, "sec1_certificate_fault_at", data)
+    return part.of(data) or b""
 
 
 def check_tree(data: bytes) -> int:

@@ -447,6 +447,14 @@ unsafe extern "C" {
         bytes_len: usize,
         part: *mut sec1_part,
     ) -> u32;
+    /// Returns what [`sec1_certificate_read_public_key`] returns, and stores the offset of the first
+    /// fault.
+    ///
+    /// # Safety
+    ///
+    /// As for [`sec1_key_fault_at`].
+    pub fn sec1_certificate_fault_at(bytes: *const u8, bytes_len: usize, offset: *mut usize)
+    -> u32;
     /// Reads an EC private key from its container, and stores the places of its parts.
     ///
     /// # Safety
@@ -477,6 +485,13 @@ unsafe extern "C" {
         bytes_len: usize,
         parts: *mut sec1_key_parts,
     ) -> u32;
+    /// Returns what [`sec1_private_key_read`] returns, and stores the offset of the fault.
+    ///
+    /// # Safety
+    ///
+    /// As for [`sec1_key_fault_at`].
+    pub fn sec1_private_key_fault_at(bytes: *const u8, bytes_len: usize, offset: *mut usize)
+    -> u32;
     /// Writes the SubjectPublicKeyInfo of an EC public key, and stores its length.
     ///
     /// # Safety

@@ -23,6 +23,7 @@ pub mod der;
 pub mod point;
 pub mod subtle;
 
+mod certificate;
 mod curve;
 mod error;
 mod parameters;
@@ -31,6 +32,7 @@ mod private_key;
 mod raw;
 mod traits;
 
+pub use crate::certificate::certificate_public_key;
 pub use crate::consts::Array;
 pub use crate::curve::Curve;
 pub use crate::error::{Error, Result};

@@ -8,7 +8,7 @@ use crate::der::{self, DecodeValue, ErrorKind, Header, Length, Reader};
 use crate::der::{Element, EncodeValue, Sequence, Writer, content_len_of};
 #[cfg(not(feature = "alloc"))]
 use crate::der::{Encode, FixedTag, Tag};
-use crate::raw::{self, Fields};
+use crate::raw::{self, Fields, KeyParts, Status};
 use crate::{EcParameters, Error, Result};
 use core::fmt;
 
@@ -95,8 +95,16 @@ impl<'a> EcPrivateKey<'a> {
     /// no registers.
     #[inline(never)]
     fn read_by_library<E: From<der::Error>>(bytes: &'a [u8]) -> core::result::Result<Self, E> {
-        let parts =
-            raw::key_read_at(bytes).map_err(|(status, offset)| der::Error::at(status, offset))?;
+        Self::of_parts(bytes, raw::key_read_at(bytes))
+    }
+
+    /// Returns the key whose parts have these places in the bytes, or the refusal at this offset.
+    #[inline(always)]
+    fn of_parts<E: From<der::Error>>(
+        bytes: &'a [u8],
+        places: core::result::Result<KeyParts, (Status, usize)>,
+    ) -> core::result::Result<Self, E> {
+        let parts = places.map_err(|(status, offset)| der::Error::at(status, offset))?;
         let outside = |()| der::Error::of_kind(ErrorKind::Failed);
         let private_key = raw::part(bytes, parts.private_key).map_err(outside)?;
         let public_key = raw::part(bytes, parts.public_key).map_err(outside)?;
@@ -106,6 +114,39 @@ impl<'a> EcPrivateKey<'a> {
         };
         let private_key = private_key.ok_or(der::Error::of_kind(ErrorKind::Failed))?;
         Ok(EcPrivateKey { private_key, parameters, public_key })
+    }
+
+    /// Reads a key by itself, as `try_from` does, or in its container of version 0 or 1 (PKCS #8,
+    /// RFC 5958 section 2), whose curve it has then. Bytes that begin with a SEQUENCE, and in it an
+    /// INTEGER and the tag of a SEQUENCE, are read as a container.
+    ///
+    /// # Errors
+    ///
+    /// [`ErrorKind::Truncated`], `Tag`, `Length`, `TrailingData` or `Value` at the first fault from
+    /// left to right, if the bytes aren't a key or a container, or those in the container aren't a
+    /// key; [`ErrorKind::Curve`] if the container's algorithm isn't id-ecPublicKey with a curve of
+    /// the table; [`ErrorKind::OtherCurve`] if the key in it names another curve.
+    ///
+    /// # Examples
+    ///
+    /// ```
+    /// use sec1::{EcPrivateKey, der::ErrorKind};
+    ///
+    /// let mut container = *b"\x30\x22\x02\x01\x00\x30\x13\x06\x07\x2A\x86\x48\xCE\x3D\x02\x01\
+    ///     \x06\x08\x2A\x86\x48\xCE\x3D\x03\x01\x07\x04\x08\x30\x06\x02\x01\x01\x04\x01\x09";
+    /// let key = EcPrivateKey::from_der_or_pkcs8(&container)?;
+    /// assert_eq!(key.private_key, [9]);
+    /// let curve = key.parameters.and_then(|parameters| parameters.named_curve());
+    /// assert_eq!(curve.map(|curve| curve.to_string()).as_deref(), Some("1.2.840.10045.3.1.7"));
+    ///
+    /// container[32] = 2;
+    /// let error = EcPrivateKey::from_der_or_pkcs8(&container).unwrap_err();
+    /// assert_eq!(error.kind(), ErrorKind::Value);
+    /// assert_eq!(error.position().map(u32::from), Some(32));
+    /// # Ok::<(), sec1::der::Error>(())
+    /// ```
+    pub fn from_der_or_pkcs8(bytes: &'a [u8]) -> der::Result<Self> {
+        Self::of_parts(bytes, raw::private_key_read(bytes))
     }
 }
 

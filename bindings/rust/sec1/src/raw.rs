@@ -57,6 +57,33 @@ pub(crate) fn key_read_at(bytes: &[u8]) -> Result<KeyParts, (Status, usize)> {
     answer(status, parts).map_err(|status| (status, offset))
 }
 
+/// Reads a private key by itself or in its container, and returns the places of its parts, or the
+/// refusal and its offset.
+pub(crate) fn private_key_read(bytes: &[u8]) -> Result<KeyParts, (Status, usize)> {
+    let (mut parts, mut offset) = (KeyParts::default(), 0);
+    // SAFETY: `bytes` is one slice, and `parts` is a place of this function.
+    let status = unsafe { sec1_private_key_read(bytes.as_ptr(), bytes.len(), &mut parts) };
+    answer(status, parts).map_err(|status| {
+        // SAFETY: `bytes` is one slice, and `offset` is a place of this function.
+        unsafe { sec1_private_key_fault_at(bytes.as_ptr(), bytes.len(), &mut offset) };
+        (status, offset)
+    })
+}
+
+/// Returns the place of the SubjectPublicKeyInfo in a certificate, or the refusal and the offset of
+/// the first fault.
+pub(crate) fn certificate_public_key(bytes: &[u8]) -> Result<Part, (Status, usize)> {
+    let (mut info, mut offset) = (Part::default(), 0);
+    // SAFETY: `bytes` is one slice, and `info` is a place of this function.
+    let status =
+        unsafe { sec1_certificate_read_public_key(bytes.as_ptr(), bytes.len(), &mut info) };
+    answer(status, info).map_err(|status| {
+        // SAFETY: `bytes` is one slice, and `offset` is a place of this function.
+        unsafe { sec1_certificate_fault_at(bytes.as_ptr(), bytes.len(), &mut offset) };
+        (status, offset)
+    })
+}
+
 /// Returns the length of the encoding of a private key.
 #[inline]
 pub(crate) fn key_len(fields: &Fields<'_>) -> Result<usize, Status> {

@@ -44,7 +44,7 @@ pub extern "C" fn sec1_private_key_info_fault_at(bytes: &[u8], offset: &mut usiz
 
 /// Returns 0 if the container that was read from these bytes names a curve of the table; otherwise
 /// the number of the refusal, and stores the offset of the algorithm.
-fn tell_curve(bytes: &[u8], container: &OneAsymmetricKey, offset: &mut usize) -> u32
+pub fn tell_curve(bytes: &[u8], container: &OneAsymmetricKey, offset: &mut usize) -> u32
     requires { IsContainer container.now bytes.now }
     ensures curve { (curve : Curve) → IsOnCurve curve container.now.algorithm
         → (result ≡ 0) × (offset.new ≡ offset.old) }

@@ -57,6 +57,8 @@ pub enum ErrorKind {
     Depth,
     /// No curve of the library's table has this identifier or this name.
     Curve,
+    /// A private key names another curve than its container.
+    OtherCurve,
     /// The library returned what its contract rules out.
     Failed,
     /// The memory for the result couldn't be allocated.
@@ -99,6 +101,7 @@ impl Error {
             sec1_sys::SEC1_BUFFER => ErrorKind::Buffer,
             sec1_sys::SEC1_DEPTH => ErrorKind::Depth,
             sec1_sys::SEC1_CURVE => ErrorKind::Curve,
+            sec1_sys::SEC1_OTHER_CURVE => ErrorKind::OtherCurve,
             _ => ErrorKind::Failed,
         })
     }
@@ -122,12 +125,13 @@ impl Error {
         self.kind
     }
 
-    /// Returns the offset of the first fault in the bytes that were read, for a private key or a
-    /// tree; otherwise, and above 4,294,967,295, `None`.
+    /// Returns the offset of the first fault in the bytes that were read, for a private key, a
+    /// certificate or a tree; otherwise, and above 4,294,967,295, `None`.
     ///
     /// It is the offset of the tag byte, of the first byte of the length or of the content that is
     /// refused, of the first byte after the last part, or the number of bytes if they end before a
-    /// tag.
+    /// tag. For [`ErrorKind::Curve`] it is that of the container's algorithm, and for
+    /// [`ErrorKind::OtherCurve`] that of the identifier's content in the key.
     ///
     /// # Examples
     ///
@@ -167,6 +171,7 @@ impl fmt::Display for ErrorKind {
             ErrorKind::Buffer => "output buffer too small",
             ErrorKind::Depth => "more than 64 nested elements",
             ErrorKind::Curve => "curve not in the table",
+            ErrorKind::OtherCurve => "key and container name different curves",
             ErrorKind::Failed => "the library broke its contract",
             ErrorKind::Memory => "out of memory",
             #[cfg(feature = "std")]
