@@ -96,9 +96,9 @@ pub extern "C" fn sec1_signature_fault_at(bytes: &[u8], offset: &mut usize) -> u
 }
 
 /// Returns what `sec1_certificate_read_public_key` returns, and stores the offset of the first
-/// fault from left to right: of the tag byte, of the first byte of the length or of the content that is
-/// refused, of the first element of a set that isn't in ascending order, or of the first byte after
-/// a part. `offset` is unchanged if the bytes are those of a certificate.
+/// fault from left to right: of the tag byte, of the first byte of the length or of the content
+/// that is refused, of the first element of a set that isn't in ascending order, or of the first
+/// byte after a part. `offset` is unchanged if the bytes are those of a certificate.
 ///
 /// # Errors
 ///
