@@ -1,9 +1,10 @@
 -- What a line keeps of a text that is appended in pieces.
-use Rattle.std.proofs.Common.{◌≡◌, ℕ, ◌+◌, ◌-◌, ◌≤◌, ◌<◌, List, [], ◌∷◌, ◌++◌, length, take, drop, refl, sym, ◌∙◌, ap}
-use Rattle.std.proofs.Common.{arith, append_assoc, length-append, inl, inr, ◌⊎◌}
+use Rattle.std.proofs.Common.{◌≡◌, ℕ, ◌+◌, ◌-◌, ◌≤◌, ◌<◌, List, ◌++◌, length, take}
+use Rattle.std.proofs.Common.{sym, ◌∙◌, ap, arith, append_assoc, length-append, inl, inr, ◌⊎◌}
 use Rattle.std.proofs.Math.Seq.{take-append-add}
 use Rattle.std.proofs.lemmas.Bool.{cases_lt}
-use Rattle.std.proofs.lemmas.List.{take_all, take-append-le, length-take-le, replicate-append-replicate, length-replicate}
+use Rattle.std.proofs.lemmas.List.{take_all, take-append-le, length-take-le}
+use Rattle.std.proofs.lemmas.List.{replicate-append-replicate, length-replicate}
 use Rattle.std.specs.Prelude.{replicate, min}
 use Rattle.der_view.specs.Lines.{kept}
 
@@ -25,7 +26,8 @@ kept-two : (text more : List ℕ) → ((101 < length text) ⊎ (length text ≤ 
 kept-two text more (inr short) = ap (λ x. kept (x ++ more)) (take_all 101 text short)
 kept-two text more (inl long) =
     let cut : length (kept text) ≡ 101 = length-take-le 101 text (omega arith) in
-    kept-full (kept text) more (omega arith) ∙ (take_all 101 (kept text) (omega arith) ∙ sym (kept-full text more (omega arith)))
+    kept-full (kept text) more (omega arith)
+    ∙ (take_all 101 (kept text) (omega arith) ∙ sym (kept-full text more (omega arith)))
 
 -- two pieces are kept as one
 pub kept-pieces : (old first second : List ℕ) → kept (kept (old ++ first) ++ second) ≡ kept (old ++ (first ++ second))

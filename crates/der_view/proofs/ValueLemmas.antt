@@ -1,13 +1,13 @@
 -- A number in two's complement, and the number in its bits.
-use Rattle.std.specs.Prelude.{◌≡◌, ℕ, suc, ◌+◌, ◌-◌, ◌*◌, ◌/◌, ◌%◌, ◌^◌, ◌<◌, ◌≤◌, List, [], ◌∷◌, length, ℤ, pos, negsuc, refl}
-use Rattle.std.specs.Prelude.{slice_index, nat_lt, false, Some}
+use Rattle.std.specs.Prelude.{◌≡◌, ℕ, ◌+◌, ◌-◌, ◌*◌, ◌/◌, ◌%◌, ◌^◌, ◌<◌, ◌≤◌, List, [], ◌∷◌, length}
+use Rattle.std.specs.Prelude.{pos, negsuc, slice_index, nat_lt, false, Some}
 use Rattle.std.proofs.lemmas.Bool.Decides.{nat_tests}
 use Rattle.std.proofs.Common.{◌++◌, ◌⊎◌, inl, inr, length-append}
 use Rattle.std.proofs.Math.Seq.{get_or-append_seam}
 use Rattle.std.proofs.lemmas.Bool.{cases_lt}
 use Rattle.std.proofs.lemmas.List.{get_or_append_left}
 use Rattle.der_view.specs.Values.{AreBits, bit_digit, integer_text}
-use Rattle.std.proofs.Common.{arith, ap, sym, ◌∙◌}
+use Rattle.std.proofs.Common.{arith, ap, ◌∙◌}
 use Rattle.std.specs.Fmt.{decimal, signed_decimal}
 use Rattle.std.proofs.Math.Nat.{pow-suc, mul-le-mul_right}
 use Rattle.std.proofs.lemmas.Int.{ints}
@@ -58,7 +58,8 @@ signed-high first bytes are high =
     let bit : first / 0x80 ≡ 1 = omega arith in
     let rest : 0x80 + (0 + first % 0x80) ≡ 0 + first = omega arith in
     let number = rw rest at (number_after-push 0x80 (0 + first % 0x80) bytes) in
-    let negative : signed_number (first ∷ bytes) ≡ negsuc (256 ^ length (first ∷ bytes) - number_of (first ∷ bytes) - 1) =
+    let negative : signed_number (first ∷ bytes)
+    ≡ negsuc (256 ^ length (first ∷ bytes) - number_of (first ∷ bytes) - 1) =
     rw bit (omega (arith, ints, pow-suc 256 (length bytes))) in
     ap signed_decimal negative ∙ ap (λ n. 45 ∷ decimal n) (omega arith)
 
@@ -84,7 +85,9 @@ one-bit bytes old are place within (inr behind) =
 pub one-bit-more : (bytes old new : List ℕ) → new ≡ old ++ bit_digit bytes (length old) ∷ []
     → AreBits bytes old → AreBits bytes new
 one-bit-more bytes old new is are =
-    rw is (λ place below. one-bit bytes old are place (omega (arith, length-append old (bit_digit bytes (length old) ∷ []))) (cases_lt place (length old)))
+    rw is (λ place below. one-bit bytes old are place
+    (omega (arith, length-append old (bit_digit bytes (length old) ∷ [])))
+    (cases_lt place (length old)))
 
 pub ruleset signed = (signed-low)
 

@@ -1,15 +1,15 @@
 -- The names of object identifiers: those of RFC 3279, 4055, 5280, 5480, 5652, 5758, 5912, 7292,
 -- 8018, 8410, X.520 and the CSOR, as their ASN.1 modules spell them, without `id-`; and those of
 -- curves.
-use Rattle.std.specs.Prelude.{◌==◌, ℕ, Bool, true, false, ◌&&◌, if◌then◌else◌, List, [], ◌∷◌, find, length}
-use Rattle.std.specs.Prelude.{codes, Option, Some, None, option_map, is_some, take, ◌-◌}
-use Rattle.std.specs.Prelude.{slice_index}
+use Rattle.std.specs.Prelude.{◌==◌, ℕ, Bool, true, false, ◌&&◌, if◌then◌else◌, List, [], ◌∷◌}
+use Rattle.std.specs.Prelude.{find, length, codes, Option, Some, None, option_map, is_some}
+use Rattle.std.specs.Prelude.{take, ◌-◌, slice_index}
 use Rattle.std.specs.Str.{bytes_eq}
 use Rattle.sec1_der.specs.Identifiers.{content_of}
-use Rattle.curves.specs.Curves.{curve_content, curve_name, curve_alias}
+use Rattle.curves.specs.Curves.{curve_name, curve_alias}
 use Rattle.curves.specs.declared.curve.Curve.{Curve}
-use Rattle.der_view.specs.declared.names.Word.{Word}
-use Rattle.der_view.specs.declared.names.Word.TheVariants as words
+use Rattle.der_view.specs.declared.names.word.Word.{Word}
+use Rattle.der_view.specs.declared.names.word.Word.TheVariants as words
 use Rattle.der_view.specs.declared.names.Name.{Name}
 use Rattle.der_view.specs.declared.names.family.Family.{Family}
 use Rattle.der_view.specs.declared.names.family.Family.TheVariants as families

@@ -1,7 +1,7 @@
 -- What is shown of the content of a primitive element.
-use Rattle.std.specs.Prelude.{◌==◌, ◌<◌, ℕ, ◌+◌, ◌-◌, ◌*◌, ◌/◌, ◌%◌, ◌^◌, nat_lt, nat_le, Bool, ◌&&◌}
-use Rattle.std.specs.Prelude.{if◌then◌else◌, List, [], ◌∷◌, ◌++◌, length, codes, slice_index}
-use Rattle.std.specs.Prelude.{◌≡◌, drop, Option, Some, None}
+use Rattle.std.specs.Prelude.{◌==◌, ◌<◌, ℕ, ◌+◌, ◌-◌, ◌*◌, ◌/◌, ◌%◌, ◌^◌, nat_lt}
+use Rattle.std.specs.Prelude.{if◌then◌else◌, List, [], ◌∷◌, ◌++◌, length}
+use Rattle.std.specs.Prelude.{codes, slice_index, ◌≡◌, drop, Option, Some, None}
 use Rattle.std.specs.Fmt.{decimal, signed_decimal}
 use Rattle.sec1_der.specs.ArcsOf.{numbers_after}
 use Rattle.der_types.specs.Integers.{signed_number}
@@ -83,7 +83,8 @@ count_text count =
 -- a number of unused bits
 abbrev pub unused_text : ℕ → List ℕ
 unused_text unused =
-    codes ", " ++ (decimal unused ++ one_or_more unused (codes " unused bit") (codes " unused bits"))
+    codes ", "
+    ++ (decimal unused ++ one_or_more unused (codes " unused bit") (codes " unused bits"))
 
 -- X.690 section 8.2: one byte, which is 00 in FALSE alone
 abbrev pub boolean_text : List ℕ → Option (List ℕ)

@@ -1,6 +1,6 @@
 //! A line of a picture, in memory of a fixed size.
-ghost use Rattle.std.specs.Prelude.{◌≡◌, ◌↔◌, ◌≤◌, ◌+◌, ◌-◌, ℕ, List, [], ◌∷◌, ◌++◌, IsTrue, length};
-ghost use Rattle.std.specs.Prelude.{◌<◌, replicate, slice_index};
+ghost use Rattle.std.specs.Prelude.{◌≡◌, ◌↔◌, ◌≤◌, ◌+◌, ◌-◌, ℕ, List, [], ◌∷◌, ◌++◌, IsTrue};
+ghost use Rattle.std.specs.Prelude.{length, ◌<◌, replicate, slice_index};
 ghost use Rattle.std.specs.Fmt.{decimal};
 ghost use Rattle.der_view.specs.Lines.{kept, shown};
 ghost use Rattle.hex.specs.Hex.{encode_upper, upper_digits};
@@ -22,8 +22,8 @@ const SPACES: &[u8; ROOM] = &[b' '; ROOM];
 /// The hexadecimal digits.
 const DIGITS: &[u8; 16] = b"0123456789ABCDEF";
 
-/// A line of a picture. It keeps as much of the text that is appended to it as tells how the text is
-/// shown: whole, or if it is longer than [`MAX_WIDTH`], its first 97 characters and `...`.
+/// A line of a picture. It keeps as much of the text that is appended to it as tells how the text
+/// is shown: whole, or if it is longer than [`MAX_WIDTH`], its first 97 characters and `...`.
 #[derive(Drop)]
 pub struct Line {
     text: ArrayVec<u8, ROOM>,

@@ -267,8 +267,8 @@ fn cuts_long_values(rt: HostRuntime) {
 }
 
 /// What is wrong with contents: in each line the number of a tag, a content in hexadecimal, and the
-/// fault (of characters the type), or `-`. The faults are those of X.690, and of Python's `datetime`
-/// and codecs.
+/// fault (of characters the type), or `-`. The faults are those of X.690, and of Python's
+/// `datetime` and codecs.
 const FAULTS: &str = "\
     1 00 -\n\
     1 ff -\n\

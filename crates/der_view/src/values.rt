@@ -94,8 +94,8 @@ fn identifier<'a>(content: &'a [u8]) -> Value<'a> {
     }
 }
 
-/// Returns what is shown of a UTCTime, whose years from 50 on are in the twentieth century (RFC 5280
-/// section 4.1.2.5.1).
+/// Returns what is shown of a UTCTime, whose years from 50 on are in the twentieth century
+/// (RFC 5280 section 4.1.2.5.1).
 #[tactic(auto, using(der_types::proofs::TimeLaws::utc_digits))]
 fn utc_time<'a>(content: &'a [u8]) -> Value<'a> {
     if !UtcTime::test(content) {

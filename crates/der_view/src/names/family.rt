@@ -5,7 +5,7 @@ ghost use Rattle.der_view.specs.Names.{family_arcs, family_names, family_word, h
 
 mod arcs;
 
-use super::Word;
+use super::word::Word;
 
 /// Identifiers of one word with the same arcs but the last.
 #[derive(Clone, Copy)]

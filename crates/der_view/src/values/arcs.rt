@@ -1,5 +1,5 @@
 //! The arcs of an identifier.
-ghost use Rattle.std.specs.Prelude.{◌≡◌, ◌<◌, ◌+◌, ◌^◌, ◌∷◌, ℕ, List, IfSome, length, true};
+ghost use Rattle.std.specs.Prelude.{◌≡◌, ◌<◌, ◌+◌, ◌∷◌, ℕ, List, IfSome, length, true};
 ghost use Rattle.sec1_der.specs.ArcsOf.{arcs_of, arcs_of_numbers, numbers_after};
 ghost use Rattle.der_types.specs.ObjectIdentifiers.{is_object_identifier};
 ghost use Rattle.der_view.specs.Values.{arcs_view};

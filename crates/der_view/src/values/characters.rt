@@ -111,8 +111,8 @@ fn split_latin1(bytes: &[u8]) -> Option<(u32, &[u8])>
     }
 }
 
-/// Returns the first character in UTF-8 (RFC 3629 section 3), whose bytes were tested, and the bytes
-/// after it.
+/// Returns the first character in UTF-8 (RFC 3629 section 3), whose bytes were tested, and the
+/// bytes after it.
 fn split_utf8(bytes: &[u8]) -> Option<(u32, &[u8])>
     ensures { IfSome result (λ split. length split.1.now < length bytes.now) }
 {

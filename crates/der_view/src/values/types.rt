@@ -1,7 +1,8 @@
 //! The names of types.
 ghost use Rattle.std.specs.Prelude.{◌≡◌, ◌++◌, option_map};
 ghost use Rattle.der_view.specs.Lines.{kept};
-ghost use Rattle.der_view.specs.Values.{class_name, in_brackets, type_by, type_name, universal_type};
+ghost use Rattle.der_view.specs.Values.{class_name, in_brackets, type_by, type_name};
+ghost use Rattle.der_view.specs.Values.{universal_type};
 
 use crate::header::{Class, Tag};
 use crate::line::Line;

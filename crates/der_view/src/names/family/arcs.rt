@@ -5,7 +5,8 @@ ghost use Rattle.der_view.specs.declared.names.family.Family.TheVariants as fami
 
 /// The arcs after 2.5.4.
 pub(super) fn attribute_type(arc: u8) -> Option<&'static str>
-    ensures { option_map (λ text. text.now) result ≡ name_in (family_names families.AttributeType) arc }
+    ensures { option_map (λ text. text.now) result
+        ≡ name_in (family_names families.AttributeType) arc }
 {
     match arc {
         3 => Some("commonName"),
@@ -35,7 +36,8 @@ pub(super) fn attribute_type(arc: u8) -> Option<&'static str>
 
 /// The arcs after 0.9.2342.19200300.100.1.
 pub(super) fn pilot_attribute(arc: u8) -> Option<&'static str>
-    ensures { option_map (λ text. text.now) result ≡ name_in (family_names families.PilotAttribute) arc }
+    ensures { option_map (λ text. text.now) result
+        ≡ name_in (family_names families.PilotAttribute) arc }
 {
     match arc {
         1 => Some("userId"),
@@ -46,7 +48,8 @@ pub(super) fn pilot_attribute(arc: u8) -> Option<&'static str>
 
 /// The arcs after 1.2.840.113549.1.9.
 pub(super) fn pkcs9_attribute(arc: u8) -> Option<&'static str>
-    ensures { option_map (λ text. text.now) result ≡ name_in (family_names families.Pkcs9Attribute) arc }
+    ensures { option_map (λ text. text.now) result
+        ≡ name_in (family_names families.Pkcs9Attribute) arc }
 {
     match arc {
         1 => Some("emailAddress"),
@@ -65,7 +68,8 @@ pub(super) fn pkcs9_attribute(arc: u8) -> Option<&'static str>
 
 /// The arcs after 2.5.29.
 pub(super) fn certificate_extension(arc: u8) -> Option<&'static str>
-    ensures { option_map (λ text. text.now) result ≡ name_in (family_names families.CertificateExtension) arc }
+    ensures { option_map (λ text. text.now) result
+        ≡ name_in (family_names families.CertificateExtension) arc }
 {
     match arc {
         9 => Some("subjectDirectoryAttributes"),
@@ -106,7 +110,8 @@ pub(super) fn any_policy(arc: u8) -> Option<&'static str>
 
 /// The arcs after 2.5.29.37.
 pub(super) fn any_purpose(arc: u8) -> Option<&'static str>
-    ensures { option_map (λ text. text.now) result ≡ name_in (family_names families.AnyPurpose) arc }
+    ensures { option_map (λ text. text.now) result
+        ≡ name_in (family_names families.AnyPurpose) arc }
 {
     match arc {
         0 => Some("anyExtendedKeyUsage"),
@@ -116,7 +121,8 @@ pub(super) fn any_purpose(arc: u8) -> Option<&'static str>
 
 /// The arcs after 1.3.6.1.5.5.7.1.
 pub(super) fn private_extension(arc: u8) -> Option<&'static str>
-    ensures { option_map (λ text. text.now) result ≡ name_in (family_names families.PrivateExtension) arc }
+    ensures { option_map (λ text. text.now) result
+        ≡ name_in (family_names families.PrivateExtension) arc }
 {
     match arc {
         1 => Some("authorityInfoAccess"),
@@ -176,7 +182,8 @@ pub(super) fn ocsp(arc: u8) -> Option<&'static str>
 
 /// The arcs after 1.3.6.1.4.1.11129.2.4.
 pub(super) fn transparency(arc: u8) -> Option<&'static str>
-    ensures { option_map (λ text. text.now) result ≡ name_in (family_names families.Transparency) arc }
+    ensures { option_map (λ text. text.now) result
+        ≡ name_in (family_names families.Transparency) arc }
 {
     match arc {
         2 => Some("signedCertificateTimestamps"),
@@ -241,7 +248,8 @@ pub(super) fn ecdsa_sha2(arc: u8) -> Option<&'static str>
 
 /// The arcs after 1.3.101.
 pub(super) fn edwards_key(arc: u8) -> Option<&'static str>
-    ensures { option_map (λ text. text.now) result ≡ name_in (family_names families.EdwardsKey) arc }
+    ensures { option_map (λ text. text.now) result
+        ≡ name_in (family_names families.EdwardsKey) arc }
 {
     match arc {
         110 => Some("X25519"),
@@ -338,7 +346,8 @@ pub(super) fn scrypt(arc: u8) -> Option<&'static str>
 
 /// The arcs after 1.2.840.113549.1.12.1.
 pub(super) fn pkcs12_encryption(arc: u8) -> Option<&'static str>
-    ensures { option_map (λ text. text.now) result ≡ name_in (family_names families.Pkcs12Encryption) arc }
+    ensures { option_map (λ text. text.now) result
+        ≡ name_in (family_names families.Pkcs12Encryption) arc }
 {
     match arc {
         3 => Some("pbeWithSHAAnd3-KeyTripleDES-CBC"),
@@ -395,7 +404,8 @@ pub(super) fn oiw_cipher(arc: u8) -> Option<&'static str>
 
 /// The arcs after 2.16.840.1.101.3.4.2.
 pub(super) fn nist_digest(arc: u8) -> Option<&'static str>
-    ensures { option_map (λ text. text.now) result ≡ name_in (family_names families.NistDigest) arc }
+    ensures { option_map (λ text. text.now) result
+        ≡ name_in (family_names families.NistDigest) arc }
 {
     match arc {
         1 => Some("sha256"),
@@ -410,7 +420,8 @@ pub(super) fn nist_digest(arc: u8) -> Option<&'static str>
 
 /// The arcs after 2.16.840.1.101.3.4.1.
 pub(super) fn nist_cipher(arc: u8) -> Option<&'static str>
-    ensures { option_map (λ text. text.now) result ≡ name_in (family_names families.NistCipher) arc }
+    ensures { option_map (λ text. text.now) result
+        ≡ name_in (family_names families.NistCipher) arc }
 {
     match arc {
         2 => Some("aes128-CBC"),
@@ -438,7 +449,8 @@ pub(super) fn content(arc: u8) -> Option<&'static str>
 
 /// The arcs after 1.2.840.113549.1.9.16.1.
 pub(super) fn smime_content(arc: u8) -> Option<&'static str>
-    ensures { option_map (λ text. text.now) result ≡ name_in (family_names families.SmimeContent) arc }
+    ensures { option_map (λ text. text.now) result
+        ≡ name_in (family_names families.SmimeContent) arc }
 {
     match arc {
         4 => Some("TSTInfo"),
@@ -463,7 +475,8 @@ pub(super) fn bag(arc: u8) -> Option<&'static str>
 
 /// The arcs after 1.2.840.113549.1.9.22.
 pub(super) fn certificate_bag(arc: u8) -> Option<&'static str>
-    ensures { option_map (λ text. text.now) result ≡ name_in (family_names families.CertificateBag) arc }
+    ensures { option_map (λ text. text.now) result
+        ≡ name_in (family_names families.CertificateBag) arc }
 {
     match arc {
         1 => Some("x509Certificate"),
