@@ -14,9 +14,11 @@ export class Sec1Error extends Error {
   /** The number in `enum sec1_status` of sec1.h. */
   readonly status: number | null;
   /**
-   * The index of the first fault in the bytes that were read, or `null` for a call that doesn't
-   * tell it: of the tag byte, of the first byte of the length or of the content that is refused, of
-   * the first byte after the last part, or the number of bytes if they end before a tag.
+   * The index of the first fault in the DER that was read, and `null` for calls that read none: of
+   * the tag byte, of the first byte of the length or of the content that is refused, of the first
+   * byte after the last part, or the number of bytes if they end before a tag. For Curve it is that
+   * of the algorithm, for PointEncoding that of the key's BIT STRING, and for OtherCurve that of
+   * the identifier's content in the key.
    */
   readonly offset: number | null;
   constructor(offset?: number | null);
@@ -117,13 +119,14 @@ export class EcPrivateKey {
    * of the container, and one of the table.
    * @throws {Sec1Error} Truncated, Tag, Length, TrailingData or Value, the first fault of the
    * container, or of the key in it if the container has none; Curve, if the container's algorithm
-   * isn't id-ecPublicKey with a curve of the table; OtherCurve, without an offset, if the key in it
-   * names another curve.
+   * isn't id-ecPublicKey with a curve of the table; OtherCurve, if the key in it names another
+   * curve.
    */
   static fromPkcs8Der(data: Bytes): EcPrivateKey;
   /**
-   * Reads a key by itself or in its container.
-   * @throws {Sec1Error} as `fromDer` and `fromPkcs8Der`, without an offset.
+   * Reads a key by itself or in its container. Bytes that begin with a SEQUENCE, and in it an
+   * INTEGER and the tag of a SEQUENCE, are read as a container.
+   * @throws {Sec1Error} as `fromDer` or `fromPkcs8Der`.
    */
   static read(data: Bytes): EcPrivateKey;
   readonly privateKey: Uint8Array;
@@ -176,7 +179,7 @@ export class EcPublicKey {
  * Returns the SubjectPublicKeyInfo of a certificate in DER (RFC 5280 section 4.1), of any
  * algorithm, for `EcPublicKey.fromDer`. No signature is verified, and no name, time or extension is
  * judged.
- * @throws {Sec1Error} Truncated, Tag, Length, TrailingData or Value, without an offset.
+ * @throws {Sec1Error} Truncated, Tag, Length, TrailingData or Value: the first fault.
  */
 export function certificatePublicKey(data: Bytes): Uint8Array;
 

@@ -258,23 +258,15 @@ export class EcPrivateKey {
   }
 
   static fromPkcs8Der(data) {
-    const bytes = bytesOf(data);
-    const faultAt = 'sec1_private_key_info_fault_at';
-    const [, { offset, length }] = read('sec1_private_key_info_read', faultAt, bytes);
-    const [status, ...parts] = call('sec1_private_key_read', bytes);
-    if (status) {
-      // The container is one, so that the fault is in the key: there, or in the curve's name.
-      const key = bytes.subarray(offset, offset + length);
-      const [inside, at] = call('sec1_key_fault_at', key);
-      check(status, inside ? offset + at : null);
-    }
-    return EcPrivateKey.#ofParts(...parts);
+    // What isn't a container is refused here, also a key by itself.
+    const [status, offset] = call('sec1_private_key_info_fault_at', bytesOf(data));
+    check(status, offset);
+    return EcPrivateKey.read(data);
   }
 
   static read(data) {
-    const [status, ...parts] = call('sec1_private_key_read', bytesOf(data));
-    check(status);
-    return EcPrivateKey.#ofParts(...parts);
+    const faultAt = 'sec1_private_key_fault_at';
+    return EcPrivateKey.#ofParts(...read('sec1_private_key_read', faultAt, bytesOf(data)));
   }
 
   static #ofParts(privateKey, curve, publicKey) {
@@ -354,7 +346,8 @@ export class EcPublicKey {
 }
 
 export function certificatePublicKey(data) {
-  return made('sec1_certificate_read_public_key', bytesOf(data));
+  const faultAt = 'sec1_certificate_fault_at';
+  return read('sec1_certificate_read_public_key', faultAt, bytesOf(data))[0];
 }
 
 export class Signature {

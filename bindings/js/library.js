@@ -109,10 +109,13 @@ class Out {
 // The fields of structures. A part is of the first argument, which lies at the beginning.
 const size = { length: 8, at: wordAt };
 const order = { length: 4, at: (place) => view.getInt32(place, true) };
-const place = { length: 24, at: (it) => ({ offset: wordAt(it), length: wordAt(it + 8) }) };
-const part = { length: 24, at: (it) => (wordAt(it + 16) ? bytesOf(place.at(it)) : null) };
+const part = { length: 24, at: (it) => (wordAt(it + 16) ? bytesOf(it) : null) };
 
-const bytesOf = ({ offset, length }) => memory.slice(HEAP + offset, HEAP + offset + length);
+/** Returns the bytes of the part whose offset and length are at a place. */
+function bytesOf(it) {
+  const begin = HEAP + wordAt(it);
+  return memory.slice(begin, begin + wordAt(it + 8));
+}
 
 /** Returns the kind that is a pointer to a structure of these fields. */
 const stores = (...fields) =>
@@ -133,16 +136,16 @@ const offset = stores(size);
 // The parameters of the calls, in the order of sec1.h.
 const CALLS = {
   sec1_key_read_at: [Bytes, keyParts, offset],
-  sec1_key_fault_at: [Bytes, offset],
   sec1_key_write: [Bytes, Bytes, Bytes, Size, Out],
   sec1_public_key_read: [Bytes, stores(part, part)],
   sec1_public_key_fault_at: [Bytes, offset],
   sec1_public_key_write: [Bytes, Bytes, Out],
   sec1_certificate_read_public_key: [Bytes, stores(part)],
-  sec1_private_key_info_read: [Bytes, stores(place, place)],
+  sec1_certificate_fault_at: [Bytes, offset],
   sec1_private_key_info_fault_at: [Bytes, offset],
   sec1_private_key_info_write: [Bytes, Bytes, Bytes, Size, Out],
   sec1_private_key_read: [Bytes, keyParts],
+  sec1_private_key_fault_at: [Bytes, offset],
   sec1_signature_read: [Bytes, stores(part, part)],
   sec1_signature_fault_at: [Bytes, offset],
   sec1_signature_write: [Bytes, Bytes, Out],

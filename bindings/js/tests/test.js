@@ -250,7 +250,7 @@ const COMPARE = {
       // After the header, whose length takes more bytes from 128 on, and the version.
       const offset = 5 + (data[1] < 128 ? 0 : data[1] - 128);
       refused(() => EcPrivateKey.fromPkcs8Der(data), sec1.CurveError, offset);
-      refused(() => EcPrivateKey.read(data), sec1.CurveError);
+      refused(() => EcPrivateKey.read(data), sec1.CurveError, offset);
       return false;
     }
     const inside = EcPrivateKey.fromDer(bytes(contained));
@@ -304,20 +304,40 @@ test('refuses a key in a container by its place, and by its curve', () => {
     [34, 3, sec1.TruncatedError, 34],
   ]) {
     refused(() => EcPrivateKey.fromPkcs8Der(data.with(at, value)), Kind, offset);
-    refused(() => EcPrivateKey.read(data.with(at, value)), Kind);
+    refused(() => EcPrivateKey.read(data.with(at, value)), Kind, offset);
   }
   // The key ends after its container's octet string, and attributes follow that.
   const longer = bytes(element('30', `020100${named}0409300802010104020708a000`));
   refused(() => EcPrivateKey.fromPkcs8Der(longer), sec1.TruncatedError, 29);
+  refused(() => EcPrivateKey.read(longer), sec1.TruncatedError, 29);
   const other = hex(new EcPrivateKey(bytes('07'), Curve.fromName('P-384').identifier).toDer());
   const differs = bytes(element('30', `020100${named}${element('04', other)}`));
-  refused(() => EcPrivateKey.fromPkcs8Der(differs), sec1.OtherCurveError);
-  refused(() => EcPrivateKey.read(differs), sec1.OtherCurveError);
+  // 28 bytes before the key, and in it 12 before the content of the identifier.
+  refused(() => EcPrivateKey.fromPkcs8Der(differs), sec1.OtherCurveError, 40);
+  refused(() => EcPrivateKey.read(differs), sec1.OtherCurveError, 40);
   for (const curve of [null, oid('1.2.3')]) {
     refused(() => new EcPrivateKey(bytes('07'), curve).toPkcs8Der(), sec1.CurveError);
   }
-  refused(() => EcPrivateKey.read(bytes('')), sec1.TruncatedError);
   assertWiped();
+});
+
+test('tells where a key of either form is at fault', () => {
+  for (const [data, Kind, offset] of [
+    ['', sec1.TruncatedError, 0],
+    // By themselves: of another version, with a byte behind, and with two private keys.
+    ['3006 020102 040109', sec1.ValueContentError, 4],
+    ['3006 020101 040109 00', sec1.TrailingDataError, 8],
+    ['3009 020101 040109 040109', sec1.TrailingDataError, 8],
+    // In a container, by its tag of a SEQUENCE.
+    ['3007 020101 30020500', sec1.TagError, 7],
+    ['3012 020100 3009 06072a8648ce3d0201 04023000', sec1.CurveError, 5],
+  ]) {
+    refused(() => EcPrivateKey.read(bytes(data)), Kind, offset);
+  }
+  // A key by itself is no container: after its version is no SEQUENCE.
+  const key = bytes('3006 020101 040109');
+  assert.equal(hex(EcPrivateKey.read(key).privateKey), '09');
+  refused(() => EcPrivateKey.fromPkcs8Der(key), sec1.TagError, 5);
 });
 
 test('refuses public keys, certificates and signatures by their places', () => {
@@ -334,10 +354,36 @@ test('refuses public keys, certificates and signatures by their places', () => {
   refused(() => new EcPublicKey(p256, point.slice(1)).toDer(), sec1.PointEncodingError);
   refused(() => new EcPublicKey(oid('1.2.3'), point).toDer(), sec1.CurveError);
   refused(() => new EcPublicKey(oid('1.2.3'), point).point, sec1.CurveError);
-  refused(() => sec1.certificatePublicKey(data), sec1.TagError);
+  // In the place of a serial number is the algorithm's identifier.
+  refused(() => sec1.certificatePublicKey(data), sec1.TagError, 4);
   const signature = bytes('3006020101020109');
   refused(() => Signature.fromDer(signature.with(7, 0x80)), sec1.ValueContentError, 7);
   refused(() => Signature.fromDer(signature.with(5, 3)), sec1.TagError, 5);
+});
+
+test('tells where a certificate is at fault', () => {
+  // Of version 1 for a key of Ed25519, as `openssl x509 -req -signkey` writes it.
+  const certificate = bytes(`
+    3081c030740201ff300506032b6570300c310a300806035504030c01623020170d3236313132343132313035
+    345a180f32303534303431313132313035345a300c310a300806035504030c0162302a300506032b65700321
+    009712bff712c7b7fe15b42327091d590f99237be66fb98ff46760dfddcca4717a300506032b6570034100d5
+    f3c6a428d64e827006efb5dfb22e1fe7227b0929813977d73f8a2aef5de233f207ac87eaf339ea1c8b2dec2b
+    dc5d83e7712d7414f78f0d8df767a90f686205`.replaceAll('\n', ''));
+  assert.deepEqual(sec1.certificatePublicKey(certificate), certificate.slice(77, 121));
+  // A serial number of 2 bytes, a UTCTime of 15, a point in a time, and tags other than those of
+  // the public key and of the signature's algorithm.
+  for (const [at, value, Kind, offset] of [
+    [6, 2, sec1.TagError, 9],
+    [46, 0x17, sec1.ValueContentError, 48],
+    [60, 0x2e, sec1.ValueContentError, 48],
+    [77, 0xa0, sec1.TagError, 77],
+    [121, 0x83, sec1.TagError, 121],
+  ]) {
+    refused(() => sec1.certificatePublicKey(certificate.with(at, value)), Kind, offset);
+  }
+  const longer = Uint8Array.of(...certificate, 0);
+  refused(() => sec1.certificatePublicKey(longer), sec1.TrailingDataError, 195);
+  refused(() => sec1.certificatePublicKey(certificate.slice(0, 194)), sec1.TruncatedError, 1);
 });
 
 test('finds public keys and signatures equal or different by each part', () => {
