@@ -159,6 +159,17 @@ FAULTS = [
     ("lib.rs", 'new_unwrap("1.2.840.10045.2.1")', 'new_unwrap("1.2.840.10045.2.2")'),
     ("der/reader.rs", "next.ok_or(Error::of_kind(ErrorKind::Truncated))", "next.ok_or(Error::of_kind(ErrorKind::Buffer))"),
     ("private_key.rs", "Self::of_element(header.element(reader)?)", "Self::of_element(reader.read_slice(header.length())?)"),
+    ("private_key.rs", "Self::of_parts(bytes, raw::key_read_at(bytes))", "Self::of_parts(bytes, raw::private_key_read(bytes))"),
+    ("private_key.rs", "Self::of_parts(bytes, raw::private_key_read(bytes))", "Self::of_parts(bytes, raw::key_read_at(bytes))"),
+    ("raw.rs", "sec1_private_key_read(bytes.as_ptr(), bytes.len(), &mut parts)", "sec1_key_read(bytes.as_ptr(), bytes.len(), &mut parts)"),
+    ("raw.rs", "sec1_private_key_fault_at(bytes.as_ptr()", "sec1_private_key_info_fault_at(bytes.as_ptr()"),
+    ("raw.rs", "sec1_private_key_fault_at(bytes.as_ptr()", "sec1_key_fault_at(bytes.as_ptr()"),
+    ("raw.rs", "sec1_certificate_read_public_key(bytes.as_ptr(), bytes.len(),", "sec1_certificate_read_public_key(bytes.as_ptr(), bytes.len() - 1,"),
+    ("raw.rs", "sec1_certificate_fault_at(bytes.as_ptr()", "sec1_public_key_fault_at(bytes.as_ptr()"),
+    ("certificate.rs", "Error::at(status, offset)", "{ let _ = offset; Error::of(status) }"),
+    ("certificate.rs", "    info.ok_or(", "    let _ = info;\n    Some(bytes).ok_or("),
+    ("der/error.rs", "SEC1_OTHER_CURVE => ErrorKind::OtherCurve", "SEC1_OTHER_CURVE => ErrorKind::Curve"),
+    ("der/error.rs", '"key and container name different curves"', '"curve not in the table"'),
 ]
 
 

@@ -266,6 +266,9 @@ class Others(unittest.TestCase):
         self.assertEqual(read(key.to_der()), key)
         container = bytes.fromhex("3022020100" + on_p256 + "0408" + "3006020101040109")
         self.assertEqual(read(memoryview(container)), sec1.EcPrivateKey(b"\x09", p256))
+        with self.assertRaises(sec1.ValueContentError) as caught:
+            sec1.EcPrivateKey.from_der(container)  # the version of a key is 1
+        self.assertEqual(caught.exception.offset, 4)
         for data, error, offset in [
             ("3022020100" + on_p256 + "0408" + "3006020102040109", sec1.ValueContentError, 32),
             ("3022020100" + on_p256 + "0408" + "3005020101040000", sec1.TrailingDataError, 35),

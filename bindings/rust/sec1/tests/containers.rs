@@ -5,7 +5,7 @@
 
 mod support;
 
-use sec1::der::{Error, ErrorKind};
+use sec1::der::{Decode, Error, ErrorKind};
 use sec1::{EcParameters, EcPrivateKey, certificate_public_key};
 use support::bytes;
 
@@ -50,6 +50,18 @@ fn reads_keys_in_either_form() {
          041A 3018 020101 040107 A00A 06082A8648CE3D030107 A104 03020005 A000 81020003",
     );
     assert_eq!(parts(&container), (vec![7], p256, Some(vec![5])));
+}
+
+/// A container isn't a key by itself: by its version, or by the SEQUENCE after it.
+#[test]
+fn refuses_containers_as_keys() {
+    let first = format!("{CONTAINER} 0408 3006 020101 040109");
+    let second = first.replace("020100", "020101");
+    for (container, kind, position) in [(first, ErrorKind::Value, 4), (second, ErrorKind::Tag, 5)] {
+        let container = digits(&container);
+        assert_eq!(parts(&container).0, [9]);
+        expect_refused(EcPrivateKey::from_der(&container), kind, position);
+    }
 }
 
 #[test]
