@@ -976,6 +976,9 @@ static void expect_certificate(struct bytes certificate, size_t info_at, size_t 
     struct sec1_part part;
     expect_whole(key_place, certificate, &part, sizeof part);
     EXPECT(is_part(part, info_at, info_len));
+    expect_fault(sec1_certificate_fault_at, certificate, SEC1_OK, 0);
+    expect_fault(sec1_certificate_fault_at, joined(certificate, repeated(0, 1)),
+                 SEC1_TRAILING_DATA, certificate.len);
     for (size_t i = 0; i < count; i++) {
         struct bytes other = certificate;
         other.data[others[i].at] = others[i].byte;
@@ -984,11 +987,18 @@ static void expect_certificate(struct bytes certificate, size_t info_at, size_t 
     }
 }
 
+/* Certificates that end behind the issuer. In its one SET is what is given, of 20 bytes, from the
+ * offset 18 on. */
+#define WITH_NAMES(SET) "3024" "3022" "0201FF" "300506032B6570" "3016" "3114" SET
+#define NAME_A "3008" "0603550403" "0C0161"
+#define NAME_B "3008" "0603550403" "0C0162"
+
 static void test_certificates(void)
 {
     struct bytes certificate = unhex(OF_VERSION_3);
     struct sec1_public_key_parts key;
     struct sec1_part part;
+    size_t offset = 777777;
     expect_certificate(certificate, 88, 91, in_version_3,
                        sizeof in_version_3 / sizeof *in_version_3);
     expect_certificate(unhex(OF_VERSION_1), 77, 44, in_version_1,
@@ -996,6 +1006,10 @@ static void test_certificates(void)
     EXPECT(find_key(certificate, &part) == SEC1_OK &&
            sec1_public_key_read(certificate.data + part.offset, part.len, &key) == SEC1_OK);
     EXPECT(is_part(key.curve, 15, 8) && is_part(key.public_key, 26, 65));
+    expect_fault(sec1_certificate_fault_at, unhex(WITH_NAMES(NAME_A NAME_B)), SEC1_TRUNCATED, 38);
+    expect_fault(sec1_certificate_fault_at, unhex(WITH_NAMES(NAME_A NAME_A)), SEC1_TRUNCATED, 38);
+    expect_fault(sec1_certificate_fault_at, unhex(WITH_NAMES(NAME_B NAME_A)), SEC1_VALUE, 18);
+    EXPECT(sec1_certificate_fault_at(NULL, 0, &offset) == SEC1_TRUNCATED && offset == 0);
 }
 
 /* ---- signatures */
