@@ -1,6 +1,7 @@
 #!/usr/bin/env bash
 # Makes each kind of file of docs/REFUSED.md with OpenSSL and ssh-keygen. Each begins as that page
-# says, and is refused by the kind that it says; after its command the key is there as it was.
+# says, is refused, and by the kind that it says (of tests/keys/reader.py); after its command the
+# key is there as it was.
 # Compares the table of curves there with OpenSSL. Its last line is 'N passed, M failed', and where
 # puttygen isn't installed, which is optional, ', K skipped'.
 set -u
@@ -8,11 +9,10 @@ top=$(cd "$(dirname "$0")/.." && pwd)
 . "$top/tests/count.sh"
 page=page
 program=$top/crates/sec1_inspect/out/sec1_inspect
-kinds=$top/crates/sec1_rewrite/out/sec1_rewrite
-for tool in openssl ssh-keygen xxd; do
+for tool in openssl ssh-keygen xxd python3; do
     command -v "$tool" >/dev/null || tell "there is no $tool" no
 done
-[ -x "$program" ] && [ -x "$kinds" ] || tell "the programs aren't built: run rt ci first" no
+[ -x "$program" ] || tell "the program isn't built: run rt ci first" no
 [ "$failed" = 0 ] || finish
 room=$(mktemp -d)
 trap 'rm -rf "$room"' EXIT
@@ -33,6 +33,17 @@ refused() { # FILE
         tell "$1: $line" no
 }
 
+# Prints by which kind of error the second reader refuses a file.
+kind_of() { # FILE
+    python3 -B -c 'import sys
+sys.path.insert(0, sys.argv[1])
+import reader
+try:
+    reader.key(open(sys.argv[2], "rb").read())
+except reader.Refused as refused:
+    print(refused.args[0])' "$top/tests/keys" "$1"
+}
+
 # Tells whether a file of DER begins with these bytes, where `..` is any, and is refused by this
 # kind, and whether a row of the page says so.
 der() { # FILE BYTES KIND
@@ -41,8 +52,8 @@ der() { # FILE BYTES KIND
     refused "$1"
     grep -qE "^$pattern" <<<"$(hex "$1")" && tell "$1 begins with $2" yes ||
         tell "$1 doesn't begin with $2: $(hex "$1" | head -c 60)" no
-    kind=$(hex "$1" | "$kinds")
-    [ "$kind" = "refused: $3" ] && tell "$1: $kind" yes || tell "$1: $kind, and not $3" no
+    kind=$(kind_of "$1")
+    [ "$kind" = "$3" ] && tell "$1: $kind" yes || tell "$1: $kind, and not $3" no
     grep -F "\`$2\`" "$page" | grep -qF "| $3 |" && tell "the page has $2, $3" yes ||
         tell "the page has no row of $2, $3" no
 }
