@@ -94,6 +94,10 @@ converted() { # FILE COMMAND
     openssl req -new -x509 -key ec.pem -subj /CN=a -days 1 -out certificate.pem
     openssl x509 -in certificate.pem -outform DER -out certificate.der
     openssl req -new -key ec.pem -subj /CN=a -outform DER -out request.der
+    printf '[ca]\ndefault_ca=d\n[d]\ndatabase=index\ndefault_md=sha256\ndefault_crl_days=1\n' >ca
+    : >index
+    openssl ca -config ca -gencrl -keyfile ec.pem -cert certificate.pem -out crl.pem
+    openssl crl -in crl.pem -outform DER -out crl.der
     openssl crl2pkcs7 -nocrl -certfile certificate.pem -outform DER -out cms.der
     openssl dgst -sha256 -sign ec.pem -out signature.der ec.pem
     openssl ecparam -name prime256v1 -outform DER -out curve.der
@@ -163,6 +167,7 @@ der dsa.der '30 .. 02 01 00 02 ..' Value
 der public.der '30 .. 30 .. 06 07 2A 86 48 CE 3D 02 01' Tag
 der certificate.der '30 .. 30 ..' Tag
 der request.der '30 .. 30 ..' Tag
+der crl.der '30 .. 30 ..' Tag
 der cms.der '30 .. 06 09 2A 86 48 86 F7 0D 01 07' Tag
 der signature.der '30 .. 02 2' Value
 der curve.der '06 ..' Tag
