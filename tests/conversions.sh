@@ -3,13 +3,13 @@
 # says, is refused, and by the kind that it says (of tests/keys/reader.py); after its command the
 # key is there as it was.
 # Compares the table of curves there with OpenSSL. Its last line is 'N passed, M failed', and where
-# puttygen isn't installed, which is optional, ', K skipped'.
+# xxd or puttygen isn't installed, which are optional, ', K skipped'.
 set -u
 top=$(cd "$(dirname "$0")/.." && pwd)
 . "$top/tests/count.sh"
 page=page
 program=$top/crates/sec1_inspect/out/sec1_inspect
-for tool in openssl ssh-keygen xxd python3; do
+for tool in openssl ssh-keygen python3; do
     command -v "$tool" >/dev/null || tell "there is no $tool" no
 done
 [ -x "$program" ] || tell "the program isn't built: run rt ci first" no
@@ -152,7 +152,6 @@ text base64 'MHcCAQEE'
 text digits '3077'
 text colons '30:77'
 text numbers '0x30, 0x77'
-text dumped '00000000: 3077'
 text jwk '{'
 for file in empty_line.pem mark.pem utf16.pem empty other_text; do
     refused "$file"
@@ -190,10 +189,16 @@ for file in pkcs8 long_length indefinite followed; do
 done
 converted explicit.der 'openssl ec -inform DER -in FILE -param_enc named_curve -outform DER -out key.der'
 converted base64 'base64 -d FILE > key.der'
-for file in digits colons numbers; do
-    converted "$file" "sed 's/0x//g; s/[^0-9A-Fa-f]//g' FILE | xxd -r -p > key.der"
-done
-converted dumped 'xxd -r FILE key.der'
+skipped=0
+if command -v xxd >/dev/null; then
+    text dumped '00000000: 3077'
+    for file in digits colons numbers; do
+        converted "$file" "sed 's/0x//g; s/[^0-9A-Fa-f]//g' FILE | xxd -r -p > key.der"
+    done
+    converted dumped 'xxd -r FILE key.der'
+else
+    skipped=11
+fi
 
 # Those that ask for a password are given it.
 openssl() { command openssl "$1" -passin pass:x "${@:2}"; }
@@ -213,12 +218,11 @@ iconv -f UTF-16 -t UTF-8 utf16.pem >utf8.pem
 converted utf8.pem "$pem"
 putty='puttygen FILE -O private-openssh -o key.pem'
 grep -qF "\`$putty\`" "$page" && tell 'the page has puttygen' yes || tell 'no puttygen' no
-skipped=
 if command -v puttygen >/dev/null; then
     eval "${putty//FILE/putty}" >output 2>&1
     converted key.pem "$pem"
 else
-    skipped=', 2 skipped'
+    skipped=$((skipped + 2))
 fi
 "$program" <digits >output && tell 'hexadecimal is read' yes || tell 'hexadecimal is read' no
 
@@ -252,5 +256,6 @@ while IFS='|' read -r _ name others identifier type _; do
         curve "$name" "${identifier// /}" "${type% }"
     done
 done < <(sed -n '/^## Curves/,$s/^| [Pbs].*/&/p' "$top/docs/REFUSED.md")
-echo "$passed passed, $failed failed$skipped"
+[ "$skipped" = 0 ] && left= || left=", $skipped skipped"
+echo "$passed passed, $failed failed$left"
 [ "$failed" = 0 ]
