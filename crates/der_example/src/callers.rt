@@ -3,7 +3,7 @@
 //! All of it is proved from the contracts of `sec1` alone, with the definitions that `sec1`
 //! re-exports.
 ghost use Rattle.std.specs.Prelude.{◌≡◌, ◌≢◌, ◌⊎◌, ◌↔◌, ◌≤◌, ◌++◌, ℕ, List, length, Some, IsOk};
-ghost use Rattle.std.specs.Prelude.{IfOk, IfErr, IsOkAnd, MatchResult};
+ghost use Rattle.std.specs.Prelude.{IfOk, IfErr, IsOkAnd, MatchResult, slice_get};
 ghost use Rattle.sec1.specs.Der.{max_length, element, octets_of, tag_of, value_of};
 ghost use Rattle.sec1.specs.Der.{element_of, header_fault, IsHeader, IsHeaderFault, header};
 ghost use Rattle.sec1.specs.Der.{IsReadingFault, Refuses};
@@ -11,7 +11,10 @@ ghost use Rattle.sec1.specs.Errors.{IsAsn1Where};
 ghost use Rattle.sec1.specs.Keys.{Key, IsKeyOf};
 ghost use Rattle.sec1.specs.Der.{IsProperPrefix};
 
-use sec1::der::{self, AnyRef, ErrorKind, OctetStringRef, SecretDocument, SliceReader, Tag};
+use sec1::der::{
+    self, AnyRef, ErrorKind, IdentifierRef, ObjectIdentifier, OctetStringRef, SecretDocument,
+    SliceReader, Tag,
+};
 use sec1::{EcPrivateKey, Error, Result};
 use std::alloc::Global;
 
@@ -60,6 +63,38 @@ pub fn first_content(bytes: &[u8]) -> der::Result<&[u8]>
     der::laws::bytes_without_header();
     let any = AnyRef::decode(&mut SliceReader::new(bytes))?;
     Ok(any.value())
+}
+
+/// Returns the bytes after the element that the bytes begin with.
+pub fn after_element(bytes: &[u8]) -> der::Result<&[u8]>
+    ensures found { IfOk result (λ rest. (tag : ℕ) × (content : List ℕ)
+        × IsHeader tag (length content) × (bytes.now ≡ element tag content ++ rest.now)) }
+    ensures only { (tag : ℕ) (content rest : List ℕ) → IsHeader tag (length content)
+        → bytes.now ≡ element tag content ++ rest → IsOkAnd result (λ left. left.now ≡ rest) }
+    ensures kinds { IfErr result (λ e. IsHeaderFault e.kind) }
+    ensures fault { ((tag n : ℕ) (rest : List ℕ) → IsHeader tag n
+        → bytes.now ≢ header tag n ++ rest) → Refuses result (header_fault bytes.now) }
+{
+    der::laws::bytes_without_header();
+    let (_, rest) = AnyRef::split(bytes)?;
+    Ok(rest)
+}
+
+/// Returns the second arc of an identifier.
+pub fn second_arc(identifier: &ObjectIdentifier) -> Option<u32>
+    ensures { result ≡ slice_get identifier.now 1 }
+{
+    let mut arcs = identifier.arcs();
+    let _first = arcs.next();
+    arcs.next()
+}
+
+/// Returns the number of arcs of an identifier, which is at least 2.
+pub fn count_arcs(identifier: &IdentifierRef) -> usize
+    ensures number { result ≡ length identifier.now }
+    ensures some { 2 ≤ result }
+{
+    identifier.arcs().count()
 }
 
 /// Reads an octet string. One that ends too early is refused as Truncated.

@@ -1,13 +1,13 @@
 -- Elements in ascending order.
-use Rattle.std.proofs.Common.{◌≡◌, ◌&&◌, Result, Ok, Err, ℕ, zero, suc, ◌<◌, ◌≤◌, Bool, true, false, not, List, [], ◌∷◌}
+use Rattle.std.proofs.Common.{◌≡◌, ◌&&◌, Result, Ok, Err, ℕ, zero, suc, ◌≤◌, Bool, true, false, not, List, [], ◌∷◌}
 use Rattle.std.proofs.Common.{◌++◌, length, Some, None, if◌then◌else◌, Ordering, Less, Equal, Greater}
-use Rattle.std.proofs.Common.{refl, ap, sym, ◌∙◌, arith, length-append}
+use Rattle.std.proofs.Common.{◌-◌, take, refl, ap, sym, ◌∙◌, arith, length-append}
+use Rattle.std.proofs.Math.Seq.{take-append_seam}
 use Rattle.std.specs.Cmp.Lexicographic.{slice_cmp, slice_partial_cmp, lists_agrees}
 use Rattle.std.specs.Ordering.{is_le, is_gt, is_some_and, nat_cmp}
 use Rattle.sec1_der.specs.Elements.{element, IsHeader}
 use Rattle.sec1_der.specs.Elements.{is_tag}
-use Rattle.sec1_der.specs.Readers.{Reader, HasRead}
-use Rattle.sec1_der.specs.Faults.{no_fault, any_fault, parts_fault, within, length_at, IsFaultOf}
+use Rattle.sec1_der.specs.Faults.{Fault, no_fault, any_fault, parts_fault, within, length_at}
 use Rattle.sec1_der.specs.declared.error.ErrorKind.{ErrorKind}
 use Rattle.sec1_der.specs.declared.error.ErrorKind.TheVariants.{Tag}
 use Rattle.sec1_der.proofs.FaultLaws.{within_octets}
@@ -20,17 +20,17 @@ first_found tag content bytes rest h e =
     rw (e, h.tag_byte, within_octets content rest h.within) refl
 
 -- where an element is refused, none is found
-pub first_missing : (bytes : List ℕ) (k : ErrorKind) → IsFaultOf (any_fault (λ _. no_fault) no_fault bytes) k
+pub first_missing : (bytes : List ℕ) (k : ErrorKind) → any_fault (λ _. no_fault) no_fault bytes ≡ Some (Some k)
     → first_element bytes ≡ None
 first_missing [] k e = refl
 first_missing (byte ∷ bytes) k e = by (is_tag byte) (within (length_at bytes)) e
   where
     by : (b : Bool) (found : Result (List ℕ × List ℕ) ErrorKind)
-        → IsFaultOf (if b then parts_fault no_fault no_fault found else Some (Some Tag)) k
+        → (if b then parts_fault no_fault no_fault found else Some (Some Tag)) ≡ Some (Some k)
         → (if b then element_behind byte found else None) ≡ None
     by false found e = refl
     by true (Err kind) e = refl
-    by true (Ok x) e = absurd e
+    by true (Ok x) e = absurd (cc e)
 
 -- an encoding isn't above another if it is the same or stands before it
 pub not_above : (a b : List ℕ) (r : Bool) → r ≡ is_some_and is_gt (slice_partial_cmp (λ x y. Some (nat_cmp x y)) a b)
@@ -44,78 +44,68 @@ not_above a b r e =
     by Equal = refl
     by Greater = refl
 
--- the reader stands before some of the elements: all of them ascend if these ascend from the last one
-pub record IsSetRest (start last : List ℕ) (now : Reader) : Type 0 where
+-- some of the elements are left: all of them ascend if these ascend from the last one
+pub record IsSetRest (start last rest : List ℕ) : Type 0 where
   pub most : ℕ
-  pub room : length now.unread ≤ most
-  pub whole : now.failed ≡ false
-  pub same : is_ascending start ≡ ascends most last now.unread
+  pub room : length rest ≤ most
+  pub same : is_ascending start ≡ ascends most last rest
 
--- a reader read the next element, which has these bytes
-pub record IsNext (this : List ℕ) (tag : ℕ) (content : List ℕ) (old new : Reader) : Type 0 where
+-- the bytes begin with this element
+pub record IsNext (this rest after : List ℕ) : Type 0 where
+  pub tag : ℕ
+  pub content : List ℕ
   pub is_header : IsHeader tag (length content)
-  pub read : HasRead (element tag content) old new
+  pub split : rest ≡ element tag content ++ after
   pub bytes : this ≡ element tag content
 
-pub next_read : (tag : ℕ) (content this : List ℕ) (old new : Reader)
-    → IsHeader tag (length content) × HasRead (element tag content) old new → this ≡ element tag content
-    → IsNext this tag content old new
-next_read tag content this old new found is = record { is_header = found.0; read = found.1; bytes = is }
+-- the bytes in front of those that follow it are the element's
+pub next_split : (tag : ℕ) (content rest after : List ℕ) → IsHeader tag (length content)
+    → rest ≡ element tag content ++ after → IsNext (take (length rest - length after) rest) rest after
+next_split tag content rest after h split =
+    let count : length rest - length after ≡ length (element tag content) =
+    omega (arith, ap length split, length-append (element tag content) after) in
+    record {
+      tag = tag;
+      content = content;
+      is_header = h;
+      split = split;
+      bytes = rw (count, split) (take-append_seam (element tag content) after);
+    }
 
 -- elements ascend if the first isn't below the last one, and the others ascend from it
-set_step : (most tag : ℕ) (last this content : List ℕ) (old new : Reader) → IsNext this tag content old new
-    → ascends (suc most) last old.unread ≡ (is_at_most last this && ascends most this new.unread)
-set_step most tag last this content old new next =
-    let whole = ap (λ (r : Reader). r.unread) next.read.was_whole in
-    rw (first_found tag content old.unread new.unread next.is_header whole, next.bytes) refl
+set_step : (most : ℕ) (last this rest after : List ℕ) → IsNext this rest after
+    → ascends (suc most) last rest ≡ (is_at_most last this && ascends most this after)
+set_step most last this rest after next =
+    rw (first_found next.tag next.content rest after next.is_header next.split, next.bytes) refl
 
--- the reader stands behind one more element, which isn't below the last one
-pub set_continues : (start last this content : List ℕ) (tag : ℕ) (old new : Reader) → IsSetRest start last old
-    → 0 < length old.unread → IsNext this tag content old new → is_at_most last this ≡ true → IsSetRest start this new
-set_continues start last this content tag old new at some next above = by at.most at.room at.same
+-- one more element was read, which isn't below the last one
+pub set_continues : (start last this rest after : List ℕ) → IsSetRest start last rest → IsNext this rest after
+    → is_at_most last this ≡ true → IsSetRest start this after
+set_continues start last this rest after at next above = by at.most at.room at.same
   where
-    by : (most : ℕ) → length old.unread ≤ most → is_ascending start ≡ ascends most last old.unread
-        → IsSetRest start this new
-    by zero room same = absurd (omega arith)
-    by (suc most) room same =
-        let whole = ap (λ (r : Reader). length r.unread) next.read.was_whole in
-        record {
-          most = most;
-          room = omega (arith, whole, length-append (element tag content) new.unread);
-          whole = ap (λ (r : Reader). r.failed) next.read.is_whole;
-          same = same ∙ (set_step most tag last this content old new next ∙ rw above refl);
-        }
+    by : (most : ℕ) → length rest ≤ most → is_ascending start ≡ ascends most last rest → IsSetRest start this after
+    by zero room same = absurd (omega (arith, ap length next.split))
+    by (suc most) room same = record {
+      most = most;
+      room = omega (arith, ap length next.split, length-append (element next.tag next.content) after);
+      same = same ∙ (set_step most last this rest after next ∙ rw above refl);
+    }
 
 -- where the next element is below the last one, not all of them ascend
-pub set_falls : (start last this content : List ℕ) (tag : ℕ) (old new : Reader) → IsSetRest start last old
-    → 0 < length old.unread → IsNext this tag content old new → is_at_most last this ≡ false
-    → is_ascending start ≡ false
-set_falls start last this content tag old new at some next below = by at.most at.room at.same
+pub set_falls : (start last this rest after : List ℕ) → IsSetRest start last rest → IsNext this rest after
+    → is_at_most last this ≡ false → is_ascending start ≡ false
+set_falls start last this rest after at next below = by at.most at.room at.same
   where
-    by : (most : ℕ) → length old.unread ≤ most → is_ascending start ≡ ascends most last old.unread
-        → is_ascending start ≡ false
-    by zero room same = absurd (omega arith)
-    by (suc most) room same = same ∙ (set_step most tag last this content old new next ∙ rw below refl)
+    by : (most : ℕ) → length rest ≤ most → is_ascending start ≡ ascends most last rest → is_ascending start ≡ false
+    by zero room same = absurd (omega (arith, ap length next.split))
+    by (suc most) room same = same ∙ (set_step most last this rest after next ∙ rw below refl)
 
 -- where no element is next, all of them ascend
-set_over : (start last : List ℕ) (old : Reader) → IsSetRest start last old → first_element old.unread ≡ None
+pub set_stops : (start last rest : List ℕ) (k : ErrorKind) → IsSetRest start last rest
+    → ((content : ℕ → Fault) (behind : Fault) → any_fault content behind rest ≡ Some (Some k))
     → is_ascending start ≡ true
-set_over start last old at none = at.same ∙ by at.most
+set_stops start last rest k at refused = at.same ∙ by at.most
   where
-    by : (most : ℕ) → ascends most last old.unread ≡ true
+    by : (most : ℕ) → ascends most last rest ≡ true
     by zero = refl
-    by (suc most) = rw none refl
-
--- so also where the next one is refused
-pub set_stops : (start last : List ℕ) (old : Reader) (k : ErrorKind) → IsSetRest start last old
-    → IsFaultOf (any_fault (λ _. no_fault) no_fault old.unread) k → is_ascending start ≡ true
-set_stops start last old k at refused = set_over start last old at (first_missing old.unread k refused)
-
--- and at the end
-pub set_ends : (start last : List ℕ) (old : Reader) → IsSetRest start last old → length old.unread ≤ 0
-    → is_ascending start ≡ true
-set_ends start last old at none = set_over start last old at (by old.unread none)
-  where
-    by : (bytes : List ℕ) → length bytes ≤ 0 → first_element bytes ≡ None
-    by [] none = refl
-    by (byte ∷ bytes) none = absurd (omega arith)
+    by (suc most) = rw (first_missing rest k (refused (λ _. no_fault) no_fault)) refl

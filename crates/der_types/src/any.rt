@@ -1,5 +1,5 @@
 //! An element of any tag.
-ghost use Rattle.std.specs.Prelude.{◌≡◌, ℕ, List, length, refl, MatchResult, false};
+ghost use Rattle.std.specs.Prelude.{◌≡◌, ◌≤◌, ◌++◌, ℕ, List, length, refl, MatchResult, false};
 ghost use Rattle.sec1_der.specs.Elements.{element, IsHeader, IsElement};
 ghost use Rattle.sec1_der.specs.ErrorKinds.{IsReadingFault};
 ghost use Rattle.sec1_der.specs.Parts.{is_among, AreApart, ReadsPart};
@@ -10,7 +10,6 @@ ghost use Rattle.der_types.specs.AnyElements.{any_element_fault};
 ghost use Rattle.der_types.specs.AnyLaws.{any_begins};
 
 use crate::Alternative;
-use crate::lend::read_since;
 use sec1_der::{
     AnyRef, BackWriter, DecodePart, EncodePart, Length, Part, Result, SliceReader, Tag, UniquePart,
 };
@@ -139,4 +138,13 @@ impl UniquePart for Any<'_> {
     fn one_part()
         ensures { AreApart any_tags any_of }
     {}
+}
+
+/// Borrows the bytes that a reader read since `input` was its remaining input.
+fn read_since<'a>(input: &'a [u8], reader: &SliceReader<'a>) -> &'a [u8]
+    requires { length reader.now.unread ≤ length input.now }
+    ensures { (bytes : List ℕ) → input.now ≡ bytes ++ reader.now.unread → result.now ≡ bytes }
+{
+    let count = input.len() - reader.remaining_len();
+    &input[..count]
 }

@@ -18,7 +18,6 @@ mod integer;
 pub mod kind;
 pub mod laws;
 mod leaf;
-mod lend;
 mod object_identifier;
 mod optional_part;
 mod sequence_of;

@@ -5,7 +5,6 @@ ghost use Rattle.sec1_der.specs.Faults.{HasFault};
 ghost use Rattle.der_types.specs.Rows.{joined};
 ghost use Rattle.der_types.specs.Sets.{is_ascending, set_fault, set_of};
 
-use crate::lend::read_since;
 use crate::{Elements, check_elements};
 use sec1_der::{
     AnyRef, BackWriter, DecodeValue, EncodeValue, ErrorKind, Length, Result, SliceReader, Tag,
@@ -19,18 +18,15 @@ use std::marker::{Model, PhantomData};
 pub(crate) fn is_ascending(bytes: &[u8]) -> bool
     ensures { result ≡ is_ascending bytes.now }
 {
-    let mut elements = SliceReader::new(bytes);
+    let mut rest = bytes;
     let mut last = &bytes[..0];
-    while elements.remaining_len() > 0 {
-        let input = elements.remaining_input();
-        let Ok(_any) = AnyRef::decode(&mut elements) else {
-            return true;
-        };
-        let element = read_since(input, &elements);
+    while let Ok((_, after)) = AnyRef::split(rest) {
+        let element = &rest[..rest.len() - after.len()];
         if last > element {
             return false;
         }
         last = element;
+        rest = after;
     }
     true
 }

@@ -2,7 +2,7 @@
 use curves::Curve;
 use sec1::point::{Coordinates, EncodedPoint32};
 use sec1::{EcPrivateKey, Result, der};
-use sec1_der::{OctetStringRef, SecretDocument, check_tree, encode_to_slice};
+use sec1_der::{AnyRef, OctetStringRef, SecretDocument, check_tree, encode_to_slice};
 use std::alloc::Global;
 use std::rt::Files;
 use std::str::FromStr;
@@ -70,6 +70,13 @@ pub fn parse_identifier() -> der::Result<der::ObjectIdentifier> {
 pub fn write_octets(bytes: &[u8], buffer: &mut [u8]) -> der::Result<usize> {
     let octets = OctetStringRef::new(bytes)?;
     encode_to_slice(&octets, buffer)
+}
+
+/// Returns the bytes after the element that the bytes begin with.
+pub fn skip_element(bytes: &[u8]) -> der::Result<&[u8]> {
+    let (first, rest) = AnyRef::split(bytes)?;
+    let _content = first.value();
+    Ok(rest)
 }
 
 /// Returns the number of elements of a tree.

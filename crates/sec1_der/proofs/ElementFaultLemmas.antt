@@ -1,10 +1,11 @@
 -- What the bytes of an element, and bytes that begin with none, are refused by.
 use Rattle.std.proofs.Common.{true}
-use Rattle.std.proofs.Common.{◌≡◌, ℕ, ◌+◌, ◌<◌, ◌≤◌, false, ◌&&◌, nat_le, List, [], ◌∷◌, ◌++◌, length, take, drop}
+use Rattle.std.proofs.Common.{◌≡◌, ℕ, ◌+◌, ◌<◌, ◌≤◌, false, ◌&&◌, nat_le, List, [], ◌∷◌, ◌++◌, length, take}
 use Rattle.std.proofs.Common.{slice_get, Option, Some, None, IsSomeAnd, Err, ⊎_elim, refl, ap, sym, ◌∙◌, arith}
-use Rattle.std.proofs.Common.{leb-true, eq-eqb, length-drop, append-nil, append_assoc, length-append}
+use Rattle.std.proofs.Common.{leb-true, eq-eqb, append-nil, append_assoc, length-append}
 use Rattle.std.proofs.Common.{take-append-drop, bytes_eq}
 use Rattle.std.proofs.lemmas.Bool.{lt-leb, and_parts, cases_Bool, cases_lt}
+use Rattle.std.proofs.lemmas.List.{nil_from_length}
 use Rattle.std.proofs.lemmas.Slice.Eq.{bytes_eq-Decides}
 use Rattle.std.specs.Option.{option_or}
 use Rattle.sec1_der.specs.Elements.{max_length, length_octets, header, element, element_of, is_tag, IsHeader, IsElement}
@@ -16,7 +17,7 @@ use Rattle.sec1_der.specs.Faults.{element_fault, optional_fault, any_fault, docu
 use Rattle.sec1_der.specs.declared.error.ErrorKind.TheVariants.{Truncated, TrailingData}
 use Rattle.sec1_der.proofs.HeaderLemmas.{LacksHeader, fronts, header_front, longer, some_length}
 use Rattle.sec1_der.proofs.ElementLaws.{header_apart, element_of-within}
-use Rattle.sec1_der.proofs.FaultLaws.{length_at_octets, parts_at, any_room, any_at, alone, read_element}
+use Rattle.sec1_der.proofs.FaultLaws.{length_at_octets, parts_at, any_at, alone, read_element}
 
 -- ---- lengths
 
@@ -140,13 +141,23 @@ document_element bytes is =
     any_at (λ _. no_fault) end_fault is.tag is.content bytes [] is.is_header
     (is.encoded ∙ sym (append-nil (element is.tag is.content)))
 
--- a header and more than the content that it announces are refused as trailing data
-pub document_long : (tag n : ℕ) (bytes inside : List ℕ) → IsHeader tag n → bytes ≡ header tag n ++ inside
-    → n < length inside
+-- an element and nothing more
+pub whole_element : (tag : ℕ) (content bytes rest : List ℕ) → IsHeader tag (length content)
+    → bytes ≡ element tag content ++ rest → length rest ≡ 0 → IsElement bytes
+whole_element tag content bytes rest h e none = record {
+  tag = tag;
+  content = content;
+  is_header = h;
+  encoded = e ∙ rw (nil_from_length rest none) (append-nil (element tag content));
+}
+
+-- an element and more bytes are refused as trailing data
+pub document_long : (tag : ℕ) (content bytes rest : List ℕ) → IsHeader tag (length content)
+    → bytes ≡ element tag content ++ rest → 0 < length rest
     → document_fault bytes ≡ Some (Some TrailingData)
-document_long tag n bytes inside h e more =
-    any_room (λ _. no_fault) end_fault tag n bytes inside h e (omega arith)
-    ∙ trailing_fault (drop n inside) (λ none. absurd (omega (arith, ap length none, length-drop n inside)))
+document_long tag content bytes rest h e more =
+    any_at (λ _. no_fault) end_fault tag content bytes rest h e
+    ∙ trailing_fault rest (λ none. absurd (omega (arith, ap length none)))
 
 -- ---- explicit fields
 

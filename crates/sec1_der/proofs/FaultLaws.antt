@@ -6,7 +6,7 @@ use Rattle.std.proofs.Common.{eq-eqb, ◌≤◌, length, take, drop, arith, le-l
 use Rattle.std.proofs.Common.{append_assoc, length-drop, ◌+◌, ◌-◌, inl, inr}
 use Rattle.std.specs.Option.{option_or}
 use Rattle.sec1_der.specs.Readers.{Reader, HasRead, HasReadElement, IsSuffix, reader_over}
-use Rattle.sec1_der.specs.Faults.{Fault, no_fault, length_at, within, parts_fault, element_fault}
+use Rattle.sec1_der.specs.Faults.{Fault, length_at, within, parts_fault, element_fault}
 use Rattle.sec1_der.specs.Faults.{any_fault}
 use Rattle.sec1_der.specs.declared.error.ErrorKind.{ErrorKind}
 use Rattle.std.proofs.lemmas.Grind.{common_steps}

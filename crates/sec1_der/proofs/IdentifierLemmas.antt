@@ -20,6 +20,7 @@ use Rattle.sec1_der.proofs.DigitLaws.{marked}
 use Rattle.sec1_der.specs.Stored.{IsStored}
 use Rattle.sec1_der.specs.declared.object_identifier.ObjectIdentifier.TheInside.{Inside}
 use Rattle.sec1_der.specs.ArcsOf.{numbers_after, arcs_of_numbers, arcs_of}
+use Rattle.sec1_der.specs.IdentifierTexts.{SubidentifiersFit}
 use Rattle.sec1_der.specs.Identifiers.{are_arcs, content_of, IsIdentifier, identifier_content}
 use Rattle.sec1_der.proofs.IdentifierLaws.{AreArcs, EncodesArcs, arcs_allowed, arcs_tested, encodes_of}
 use Rattle.sec1_der.proofs.IdentifierLaws.{identifier_content-valid}
@@ -156,6 +157,40 @@ own_arcs content (arcs, is) = rw (read_arcs arcs content is) is
 
 -- what a value that holds a content takes
 pub ruleset held_contents = (read_arcs, own_arcs)
+
+-- the subidentifiers of bytes that continue an encoding fit
+continues-fit : (high : ℕ) (bytes : List ℕ) → continues high bytes ≡ true → SubidentifiersFit high bytes
+continues-fit high [] goes = tt
+continues-fit high (b ∷ bs) goes = grind (arith, nat_tests, continues-fit 0 bs, continues-fit (high * 128 + b % 128) bs)
+
+-- the subidentifiers in the content of an identifier fit
+pub content_fits : (arcs content : List ℕ) → IsIdentifier arcs content → SubidentifiersFit 0 content
+content_fits arcs content is = continues-fit 0 content (continues_from_arcs arcs content (encodes_of arcs content is)).0
+
+-- there are no more subidentifiers than bytes
+numbers_few : (high : ℕ) (bytes : List ℕ) → length (numbers_after high bytes) ≤ length bytes
+numbers_few high [] = omega arith
+numbers_few high (b ∷ bs) = grind (arith, nat_tests, numbers_few 0 bs, numbers_few (high * 128 + b % 128) bs)
+
+-- the first of them stands for two arcs
+first_two_arcs : (numbers : List ℕ) → length (arcs_of_numbers numbers) ≤ 1 + length numbers
+first_two_arcs [] = omega arith
+first_two_arcs (n ∷ ns) = grind (arith, nat_tests)
+
+arcs_some : (arcs : List ℕ) → IsTrue (are_arcs arcs) → 2 ≤ length arcs
+arcs_some [] e = absurd (cc e)
+arcs_some (a ∷ []) e = absurd (cc e)
+arcs_some (a ∷ b ∷ further) e = omega arith
+
+-- an identifier has 2 to 40 arcs
+pub arcs_count : (arcs content : List ℕ) → IsIdentifier arcs content → (2 ≤ length arcs) × (length arcs ≤ 40)
+arcs_count arcs content is =
+    let read = ap length (read_arcs arcs content is) in
+    let few = first_two_arcs (numbers_after 0 content) in
+    (arcs_some arcs is.allowed, omega (arith, is.short, numbers_few 0 content, few, read))
+
+-- the arcs that are read of a content
+pub ruleset arcs_of_content = (content_fits, read_arcs, arcs_count)
 
 -- the state of the walk after one byte
 pub read_byte : (high i : ℕ) (content : List ℕ) → i < length content

@@ -1,18 +1,17 @@
 -- The dotted text of an identifier.
 use Rattle.std.proofs.Common.{◌≡◌, ℕ, ◌+◌, ◌*◌, ◌/◌, ◌%◌, ◌^◌, ◌<◌, ◌≤◌, List, [], ◌∷◌, ◌++◌, length, ap, sym, arith}
-use Rattle.std.proofs.Common.{length-append, append_assoc, true}
-use Rattle.std.proofs.lemmas.Bool.Decides.{nat_tests}
+use Rattle.std.proofs.Common.{length-append, append_assoc}
 use Rattle.std.proofs.lemmas.Fmt.{length-decimal-le}
 use Rattle.std.proofs.lemmas.Int.Digits.{number_digits_of, all_below_base_digits_of}
 use Rattle.std.proofs.lemmas.List.{append-nil, length-map}
 use Rattle.std.specs.Fmt.{decimal}
 use Rattle.std.specs.Int.Digits.{number_from_digits, AllBelowBase}
 use Rattle.std.specs.List.{AllByRecursion, flat_map}
-use Rattle.sec1_der.specs.Identifiers.{IsIdentifier, are_arcs, dotted}
-use Rattle.sec1_der.proofs.IdentifierLaws.{arcs_allowed, encodes_of}
+use Rattle.sec1_der.specs.Identifiers.{IsIdentifier, dotted}
+use Rattle.sec1_der.proofs.IdentifierLaws.{arcs_allowed}
 use Rattle.sec1_der.specs.Numbers.{base128}
-use Rattle.sec1_der.proofs.IdentifierLemmas.{continues, continues_from_arcs, read_arcs}
-use Rattle.sec1_der.specs.IdentifierTexts.{SubidentifiersFit, further_text, max_text_length}
+use Rattle.sec1_der.proofs.IdentifierLemmas.{content_fits, read_arcs}
+use Rattle.sec1_der.specs.IdentifierTexts.{further_text, max_text_length}
 
 -- a dotted text is the first arc and the text of the further arcs
 pub dotted_text : (n : ℕ) (ns : List ℕ) → dotted (n ∷ ns) ≡ decimal n ++ further_text ns
@@ -20,7 +19,7 @@ dotted_text n [] = sym (append-nil (decimal n))
 dotted_text n (m ∷ ms) = ap (λ text. decimal n ++ (46 ∷ text)) (dotted_text m ms)
 
 -- a dotted text in pieces, and the length of pieces
-pub ruleset text_pieces = (dotted_text, length-append, append_assoc)
+pub ruleset text_pieces = (dotted_text, length-append, append_assoc, append-nil)
 
 -- ---- the room that a text takes
 
@@ -54,16 +53,5 @@ text_room (a ∷ b ∷ further) content is =
 text_room [] content is = absurd (cc (is.allowed))
 text_room (a ∷ []) content is = absurd (cc (is.allowed))
 
--- ---- the subidentifiers fit
-
--- the subidentifiers of bytes that continue an encoding fit
-continues-fit : (high : ℕ) (bytes : List ℕ) → continues high bytes ≡ true → SubidentifiersFit high bytes
-continues-fit high [] goes = tt
-continues-fit high (b ∷ bs) goes = grind (arith, nat_tests, continues-fit 0 bs, continues-fit (high * 128 + b % 128) bs)
-
--- the subidentifiers in the content of an identifier fit
-pub content_fits : (arcs content : List ℕ) → IsIdentifier arcs content → SubidentifiersFit 0 content
-content_fits arcs content is = continues-fit 0 content (continues_from_arcs arcs content (encodes_of arcs content is)).0
-
--- The text of a content, and its room.
+-- the text of a content, and its room
 pub ruleset text_of_content = (content_fits, read_arcs, text_room)

@@ -19,10 +19,12 @@ pub struct AnyRef<'a> {
 }
 
 impl<'a> AnyRef<'a> {
-    ghost use Rattle.std.specs.Prelude.{◌≡◌, ◌<◌, ℕ, List, ◌++◌, IfOk, IsOkAnd, MatchResult};
+    ghost use Rattle.std.specs.Prelude.{◌≡◌, ◌<◌, ◌++◌, ℕ, List, Some, IfOk, IsOkAnd};
+    ghost use Rattle.std.specs.Prelude.{MatchResult};
     ghost use Rattle.sec1_der.specs.Elements.{element, IsHeader};
+    ghost use Rattle.sec1_der.specs.ErrorKinds.{IsHeaderFault};
     ghost use Rattle.sec1_der.specs.Readers.{reader_over, HasRead, RefusesBy};
-    ghost use Rattle.sec1_der.specs.Faults.{any_fault, no_fault};
+    ghost use Rattle.sec1_der.specs.Faults.{Fault, HasFault, any_fault, no_fault};
     ghost use Rattle.sec1_der.specs.Values.{tag_of, value_of};
 
     /// Returns the element with this tag and content.
@@ -43,12 +45,52 @@ impl<'a> AnyRef<'a> {
         })
     }
 
+    /// Returns the element of any tag that the bytes begin with, and the bytes after it.
+    ///
+    /// # Errors
+    ///
+    /// Those of [`Header::decode`](crate::Header::decode), then Truncated if the bytes end inside
+    /// the content.
+    ///
+    /// # Examples
+    ///
+    /// ```
+    /// let (first, rest) = AnyRef::split(bytes)?;
+    /// ```
+    pub fn split(bytes: &'a [u8]) -> Result<(AnyRef<'a>, &'a [u8])>
+        // What is returned are an element and what follows it, which together are the bytes. The
+        // kind of an error is the same whatever the content has to be and whatever may follow.
+        ensures exact { MatchResult result
+            (λ split. IsHeader (tag_of split.0) (length (value_of split.0))
+            × (bytes.now ≡ element (tag_of split.0) (value_of split.0) ++ split.1.now))
+            (λ e. IsHeaderFault e.kind × ((content : ℕ → Fault) (behind : Fault)
+            → any_fault content behind bytes.now ≡ Some (Some e.kind))) }
+        // If the bytes begin with an element, it is returned.
+        ensures only { (tag : ℕ) (content rest : List ℕ) → IsHeader tag (length content)
+            → bytes.now ≡ element tag content ++ rest
+            → IsOkAnd result (λ split. (tag_of split.0 ≡ tag) × (value_of split.0 ≡ content)
+            × (split.1.now ≡ rest)) }
+        ensures kind { HasFault result (any_fault (λ _. no_fault) no_fault bytes.now) }
+    {
+        match element_at(bytes) {
+            Ok((header, inside)) => {
+                let (value, rest) = inside.split_at(header.length.get());
+                let any = AnyRef {
+                    tag: header.tag.byte(),
+                    value,
+                };
+                Ok((any, rest))
+            }
+            Err(kind) => Err(kind.into()),
+        }
+    }
+
     /// Reads one element of any tag.
     ///
     /// # Errors
     ///
-    /// Those of [`Header::decode`](crate::Header::decode), then Truncated if the input ends inside
-    /// the content. On an error the reader has failed, and its remaining input is as it was.
+    /// Those of [`split`](AnyRef::split). On an error the reader has failed, and its remaining
+    /// input is as it was.
     pub fn decode(reader: &mut SliceReader<'a>) -> Result<AnyRef<'a>>
         ensures found { IfOk result (λ any. IsHeader (tag_of any) (length (value_of any))
             × HasRead (element (tag_of any) (value_of any)) reader.old reader.new) }
@@ -60,16 +102,12 @@ impl<'a> AnyRef<'a> {
             reader.new }
     {
         reader.check()?;
-        match element_at(reader.remaining_input()) {
-            Ok((header, inside)) => {
-                let (value, rest) = inside.split_at(header.length.get());
+        match AnyRef::split(reader.remaining_input()) {
+            Ok((any, rest)) => {
                 reader.set_unread(rest);
-                Ok(AnyRef {
-                    tag: header.tag.byte(),
-                    value,
-                })
+                Ok(any)
             }
-            Err(kind) => Err(reader.fail(kind)),
+            Err(e) => Err(reader.fail(e.kind)),
         }
     }
 

@@ -7,8 +7,7 @@ ghost use Rattle.sec1_der.specs.Faults.{document_fault};
 
 pub(crate) mod stream;
 
-use crate::header::element_at;
-use crate::{EncodeValue, ErrorKind, Result, Tagged, to_der};
+use crate::{AnyRef, EncodeValue, ErrorKind, Result, Tagged, to_der};
 use std::alloc::Global;
 use std::fmt;
 use std::marker::Model;
@@ -36,8 +35,8 @@ impl SecretDocument {
     ///
     /// # Errors
     ///
-    /// Those of [`Header::decode`](crate::Header::decode), then Truncated if the input ends inside
-    /// the content, TrailingData if bytes follow it, and Memory if the allocation fails.
+    /// Those of [`AnyRef::split`], then TrailingData if bytes follow the element, and Memory if the
+    /// allocation fails.
     #[tactic(auto, using(crate::proofs::ElementFaultLemmas::document_faults))]
     pub fn from_der(alloc: Global, bytes: &[u8]) -> Result<SecretDocument>
         // Whether the input is refused, and by which kind, is a function of its bytes; otherwise
@@ -53,11 +52,8 @@ impl SecretDocument {
         ensures long { (whole : List ℕ) → IsElement whole → IsProperPrefix whole bytes.now
             → Refuses result ErrorKind.TrailingData }
     {
-        let (header, inside) = match element_at(bytes) {
-            Ok(found) => found,
-            Err(kind) => return Err(kind.into()),
-        };
-        if inside.len() > header.length.get() {
+        let (_, rest) = AnyRef::split(bytes)?;
+        if !rest.is_empty() {
             return Err(ErrorKind::TrailingData.into());
         }
         let bytes = Vec::from_slice(alloc, bytes)?;

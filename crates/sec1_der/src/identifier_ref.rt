@@ -1,13 +1,13 @@
 //! OBJECT IDENTIFIER that borrows its content.
-ghost use Rattle.std.specs.Prelude.{◌≡◌, ℕ, List, Some, None, MatchResult};
+ghost use Rattle.std.specs.Prelude.{◌≡◌, ◌≤◌, ℕ, List, Some, None, MatchResult, length};
 ghost use Rattle.sec1_der.specs.ArcsOf.{arcs_of};
 ghost use Rattle.sec1_der.specs.Contents.{identifier_fault};
 ghost use Rattle.sec1_der.specs.Identifiers.{IsIdentifier, identifier_content};
 
 use crate::object_identifier::is_identifier;
 use crate::{
-    BackWriter, DecodeValue, EncodeValue, ErrorKind, FixedTag, Length, ObjectIdentifier, Result,
-    SliceReader, Tag, Tagged, UniqueContent, ValueContent,
+    Arcs, BackWriter, DecodeValue, EncodeValue, ErrorKind, FixedTag, Length, ObjectIdentifier,
+    Result, SliceReader, Tag, Tagged, UniqueContent, ValueContent,
 };
 use std::marker::Model;
 
@@ -75,6 +75,15 @@ impl<'a> IdentifierRef<'a> {
         ensures { IsIdentifier self.now result.now × (identifier_fault result.now ≡ None) }
     {
         self.bytes
+    }
+
+    /// Returns the arcs as numbers, of which there are 2 to 40.
+    #[tactic(auto, using(crate::proofs::IdentifierLemmas::arcs_of_content))]
+    pub fn arcs(&self) -> Arcs<'a>
+        ensures arcs { result ≡ self.now }
+        ensures count { (2 ≤ length result) × (length result ≤ 40) }
+    {
+        Arcs::of_content(self.bytes)
     }
 }
 

@@ -51,7 +51,10 @@ pub use explicit::{Containing, Explicit, ExplicitBits, OctetTag};
 pub use header::Header;
 pub use identifier_ref::IdentifierRef;
 pub use length::Length;
-pub use object_identifier::{ID_EC_PUBLIC_KEY, IdentifierText, ObjectIdentifier, SECP256R1};
+pub use object_identifier::{
+    Arcs, ID_EC_PUBLIC_KEY, IdentifierText, MAX_IDENTIFIER, MAX_IDENTIFIER_TEXT, ObjectIdentifier,
+    SECP256R1,
+};
 pub use octet_string::OctetStringRef;
 pub use optional::Optional;
 pub use part::{DecodePart, EncodePart, Part, UniquePart};

@@ -1,4 +1,4 @@
-ghost use Rattle.std.specs.Prelude.{◌≡◌, ℕ, ◌<◌, ◌↔◌, List, length, IsTrue, MatchResult, Some};
+ghost use Rattle.std.specs.Prelude.{◌≡◌, ℕ, ◌<◌, ◌≤◌, ◌↔◌, List, length, IsTrue, MatchResult, Some};
 ghost use Rattle.std.specs.Prelude.{None, ◌∷◌, ◌++◌, bytes_eq, true, codes, take, ◌-◌, replicate};
 ghost use Rattle.std.specs.Cmp.{partial_equiv_from_equiv};
 ghost use Rattle.std.specs.Fmt.{debug_variant};
@@ -10,6 +10,7 @@ ghost use Rattle.sec1_der.specs.Identifiers.{content_of, max_identifier_length};
 ghost use Rattle.sec1_der.specs.Identifiers.{dotted, identifier_content};
 ghost use Rattle.sec1_der.specs.Stored.{IsStored, stored_again};
 
+mod arcs;
 mod builder;
 mod text;
 
@@ -17,14 +18,15 @@ use crate::{
     BackWriter, DecodeValue, EncodeValue, ErrorKind, FixedTag, Length, Result, SliceReader, Tag,
     Tagged, UniqueContent, ValueContent,
 };
+pub use arcs::Arcs;
 use builder::{Builder, arc};
 use std::fmt;
 use std::marker::Model;
 use std::simd::prelude::*;
-pub use text::IdentifierText;
+pub use text::{IdentifierText, MAX_IDENTIFIER_TEXT};
 
-/// The greatest length of a content in bytes.
-const MAX_CONTENT: usize = 39;
+/// The greatest length of the content of an identifier in bytes.
+pub const MAX_IDENTIFIER: usize = 39;
 
 /// An OBJECT IDENTIFIER (X.690 section 8.19): two or more arcs, whose content has 1 to 39 bytes. A
 /// contract sees the arcs.
@@ -33,7 +35,7 @@ const MAX_CONTENT: usize = 39;
 /// under 2; each further arc is at most 4,294,967,295.
 #[derive(Clone, Copy)]
 pub struct ObjectIdentifier {
-    bytes: [u8; MAX_CONTENT],
+    bytes: [u8; MAX_IDENTIFIER],
     len: usize,
 }
 
@@ -125,7 +127,7 @@ impl ObjectIdentifier {
         requires { (arcs : List ℕ) × IsIdentifier arcs content.now }
         ensures { (arcs : List ℕ) → IsIdentifier arcs content.now → result ≡ arcs }
     {
-        let mut bytes = [0; MAX_CONTENT];
+        let mut bytes = [0; MAX_IDENTIFIER];
         bytes[..content.len()].copy_from_slice(content);
         ObjectIdentifier {
             bytes,
@@ -140,6 +142,15 @@ impl ObjectIdentifier {
     {
         &self.bytes[..self.len]
     }
+
+    /// Returns the arcs as numbers, of which there are 2 to 40.
+    #[tactic(auto, using(crate::proofs::IdentifierLemmas::arcs_of_content))]
+    pub fn arcs(&self) -> Arcs<'_>
+        ensures arcs { result ≡ self.now }
+        ensures count { (2 ≤ length result) × (length result ≤ 40) }
+    {
+        Arcs::of_content(self.as_bytes())
+    }
 }
 
 /// Returns `true` if the bytes are the content of an identifier, at most 39 of them.
@@ -149,7 +160,7 @@ pub(crate) fn is_identifier(content: &[u8]) -> bool
     if are_pairs(content) {
         return true;
     }
-    content.len() <= MAX_CONTENT && is_content(content)
+    content.len() <= MAX_IDENTIFIER && is_content(content)
 }
 
 /// Returns `true` if there are eight bytes, as the identifier of P-256 has, and each subidentifier

@@ -7,7 +7,7 @@ ghost use Rattle.sec1_der.specs.Identifiers.{are_arcs, IsIdentifier, content_of}
 ghost use Rattle.sec1_der.specs.Identifiers.{max_identifier_length};
 ghost use Rattle.sec1_der.specs.Numbers.{base128};
 
-use super::MAX_CONTENT;
+use super::MAX_IDENTIFIER;
 use crate::{ErrorKind, Result};
 use std::marker::Model;
 
@@ -137,7 +137,7 @@ pub(crate) fn arc(text: &str) -> Option<u32>
 /// The content of an identifier.
 #[derive(Drop)]
 struct Content {
-    bytes: [u8; MAX_CONTENT],
+    bytes: [u8; MAX_IDENTIFIER],
     len: usize,
 }
 
@@ -158,7 +158,7 @@ impl Content {
         ensures { result ≡ [] }
     {
         Content {
-            bytes: [0; MAX_CONTENT],
+            bytes: [0; MAX_IDENTIFIER],
             len: 0,
         }
     }
@@ -209,7 +209,7 @@ impl Content {
         ensures { MatchResult result (λ _. self.new ≡ self.old ++ byte ∷ [])
             (λ e. (e.kind ≡ ErrorKind.Value) × (max_identifier_length ≤ length self.old)) }
     {
-        if self.len == MAX_CONTENT {
+        if self.len == MAX_IDENTIFIER {
             return Err(ErrorKind::Value.into());
         }
         self.bytes[self.len] = byte;

@@ -1,20 +1,9 @@
 use Rattle.std.proofs.Common.{ap, rules, ◌∙◌}
-use Rattle.std.proofs.Math.Seq.{take-append_seam, drop-append_seam}
 use Rattle.sec1_der.specs.Readers.{Reader}
-use Rattle.sec1_der.specs.Faults.{no_fault}
-use Rattle.sec1_der.proofs.FaultLaws.{any_room}
 use Rattle.sec1_der.proofs.any.AnyRef.decode.Goals as goal
 
 pub returns-in-Ok-clause-only : goal.returns-in-Ok-clause-only
 returns-in-Ok-clause-only c tag content rest h is =
     let same = c.in-Ok.ensures.only tag content rest h
     (c.remaining_input.ensures ∙ ap (λ (r : Reader). r.unread) is) in
-    let front = take-append_seam content rest in
-    let back = drop-append_seam content rest in
-    search rules
-
-pub returns-in-Ok-clause-refused : goal.returns-in-Ok-clause-refused
-returns-in-Ok-clause-refused c =
-    let (is, read, room) = c.in-Ok.ensures.found in
-    let none = any_room (λ _. no_fault) no_fault _ _ _ _ is read room in
     search rules

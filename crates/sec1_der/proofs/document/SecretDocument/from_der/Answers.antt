@@ -1,29 +1,34 @@
-use Rattle.std.proofs.Common.{◌≡◌, ◌++◌, ◌∙◌, ℕ, List, Some, ap, rules, inl, inr}
+use Rattle.std.proofs.Common.{◌≡◌, ◌++◌, ◌∙◌, ℕ, List, Some, ap, length, rules, inl, inr}
 use Rattle.std.proofs.lemmas.Result.{err_from_is_err_and}
 use Rattle.sec1_der.specs.Elements.{IsElement, IsProperPrefix}
 use Rattle.sec1_der.specs.Faults.{document_fault, no_fault, end_fault}
 use Rattle.sec1_der.specs.declared.error.ErrorKind.TheVariants.{TrailingData}
 use Rattle.sec1_der.specs.declared.error.Error.{Error}
-use Rattle.sec1_der.proofs.ElementFaultLemmas.{document_element, trailing_fault}
+use Rattle.sec1_der.proofs.ElementFaultLemmas.{document_element, trailing_fault, whole_element}
 use Rattle.sec1_der.proofs.FaultLaws.{any_at}
 use Rattle.sec1_der.proofs.document.SecretDocument.from_der.Goals as goal
 
-pub returns-in-Err-clause-exact : goal.returns-in-Err-clause-exact
-returns-in-Err-clause-exact c =
-    let fault = c.in-Err.ensures.found.1 (λ _. no_fault) end_fault in
-    rw c.into.ensures
-    (inl (λ is. absurd (cc (fault, document_element c.args.bytes.now is)), fault, inl c.in-Err.ensures.found.0))
+pub returns-in_err-rest-clause-exact : goal.returns-in_err-rest-clause-exact
+returns-in_err-rest-clause-exact c =
+    let refusal = err_from_is_err_and c.from_residual.result c.from_residual.ensures.1 in
+    let fault = c.in_err-rest.ensures.exact.1 (λ _. no_fault) end_fault in
+    rw (refusal.1, refusal.2)
+    (inl (λ is. absurd (cc (fault, document_element c.args.bytes.now is)), fault, inl c.in_err-rest.ensures.exact.0))
 
 pub returns-in_err-bytes-clause-exact : goal.returns-in_err-bytes-clause-exact
 returns-in_err-bytes-clause-exact c =
-    let refusal = err_from_is_err_and c.from_residual.result c.from_residual.ensures.1 in
-    let is : IsElement c.args.bytes.now = search rules in
+    let refusal = err_from_is_err_and c.from_residual-in_err-bytes.result c.from_residual-in_err-bytes.ensures.1 in
+    let (header, split) = c.in_ok-rest.ensures.exact in
+    let none : length c.in_ok-rest.rest.now ≡ 0 = search rules in
+    let is = whole_element _ _ _ _ header split none in
     rw refusal.1
     (inr (is, document_element c.args.bytes.now is, ap (λ (e : Error). e.kind) refusal.2))
 
 pub returns-clause-exact : goal.returns-clause-exact
 returns-clause-exact c =
-    let is : IsElement c.args.bytes.now = search rules in
+    let (header, split) = c.in_ok-rest.ensures.exact in
+    let none : length c.in_ok-rest.rest.now ≡ 0 = search rules in
+    let is = whole_element _ _ _ _ header split none in
     (search rules, is, document_element c.args.bytes.now is)
 
 -- Bytes after an element aren't those of one, and are refused as TrailingData.
@@ -34,18 +39,23 @@ longer_fault bytes whole is more =
     (more.split ∙ ap (λ xs. xs ++ more.more) is.encoded)
     ∙ trailing_fault more.more more.some
 
-pub returns-in-Err-clause-long : goal.returns-in-Err-clause-long
-returns-in-Err-clause-long c whole is more =
-    let fault = c.in-Err.ensures.found.1 (λ _. no_fault) end_fault in
+pub returns-in_err-rest-clause-long : goal.returns-in_err-rest-clause-long
+returns-in_err-rest-clause-long c whole is more =
+    let refusal = err_from_is_err_and c.from_residual.result c.from_residual.ensures.1 in
+    let fault = c.in_err-rest.ensures.exact.1 (λ _. no_fault) end_fault in
     let long = longer_fault c.args.bytes.now whole is more in
-    rw c.into.ensures (cc (fault, long))
+    rw (refusal.1, refusal.2) (cc (fault, long))
 
 pub returns-in_err-bytes-clause-long : goal.returns-in_err-bytes-clause-long
 returns-in_err-bytes-clause-long c whole is more =
-    let here : IsElement c.args.bytes.now = search rules in
+    let (header, split) = c.in_ok-rest.ensures.exact in
+    let none : length c.in_ok-rest.rest.now ≡ 0 = search rules in
+    let here = whole_element _ _ _ _ header split none in
     absurd (cc (document_element c.args.bytes.now here, longer_fault c.args.bytes.now whole is more))
 
 pub returns-clause-long : goal.returns-clause-long
 returns-clause-long c whole is more =
-    let here : IsElement c.args.bytes.now = search rules in
+    let (header, split) = c.in_ok-rest.ensures.exact in
+    let none : length c.in_ok-rest.rest.now ≡ 0 = search rules in
+    let here = whole_element _ _ _ _ header split none in
     absurd (cc (document_element c.args.bytes.now here, longer_fault c.args.bytes.now whole is more))
