@@ -6,7 +6,7 @@ use Rattle.std.proofs.Common.{bit_and, add-one, nat_lt, subst, ne_eqb, ⊎_elim}
 use Rattle.std.proofs.lemmas.Bool.{lt-ltb, cases_eq}
 use Rattle.std.proofs.lemmas.List.{length-append}
 use Rattle.sec1_der.specs.Elements.{header, element, IsHeader}
-use Rattle.sec1_der.proofs.ElementLaws.{IsConstructed}
+use Rattle.sec1_der.specs.Elements.{IsConstructed}
 use Rattle.sec1_der.specs.Trees.{Tree, Forest, leaf, branch, none, first, IsTree, AreTrees, bytes, joined}
 use Rattle.sec1_der.specs.Trees.{depth, max_tree_depth}
 use Rattle.sec1_der.proofs.TreeLemmas.{max_depth}

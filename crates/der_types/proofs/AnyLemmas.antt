@@ -1,10 +1,9 @@
 -- Elements of any tag.
-use Rattle.std.proofs.Common.{arith, tests}
-use Rattle.std.proofs.Common.{◌≡◌, ◌++◌, ◌∷◌, [], ◌&&◌, ℕ, ◌<◌, nat_lt, nat_le, List, length, Bool, true, false, Some}
+use Rattle.std.proofs.Common.{◌≡◌, ◌++◌, ◌∷◌, [], ◌&&◌, ℕ, nat_le, List, length, Bool, true, false, Some}
 use Rattle.std.proofs.Common.{None, Result, Ok, Err, if◌then◌else◌}
 use Rattle.std.proofs.Common.{IfOk, IsSomeAnd, refl, sym, ◌∙◌, ap, le-leb, leb-true, bytes_eq}
 use Rattle.std.proofs.Math.Seq.{drop-append_seam}
-use Rattle.std.proofs.lemmas.Bool.{and_parts, lt-ltb}
+use Rattle.std.proofs.lemmas.Bool.{and_parts}
 use Rattle.std.proofs.lemmas.Slice.Eq.{bytes_eq-Decides}
 use Rattle.sec1_der.specs.Elements.{max_length, length_octets, element, is_tag, IsHeader, IsElement}
 use Rattle.sec1_der.specs.Parts.{AreApart, is_among}
@@ -19,7 +18,7 @@ use Rattle.sec1_der.proofs.ElementLaws.{element_apart}
 use Rattle.sec1_der.specs.Values.{tag_of, value_of}
 use Rattle.sec1_der.specs.declared.any.AnyRef.{AnyRef}
 use Rattle.der_types.specs.AnyLaws.{among_all}
-use Rattle.der_types.specs.AnyElements.{all_tags, is_tag_byte, any_tags, first_byte, content_in, is_element, any_of}
+use Rattle.der_types.specs.AnyElements.{all_tags, any_tags, first_byte, content_in, is_element, any_of}
 use Rattle.der_types.specs.AnyElements.{any_element_fault}
 
 and_both : (b c : Bool) → b ≡ true → c ≡ true → (b && c) ≡ true
@@ -29,17 +28,12 @@ and_both b c e f = rw (e, f) refl
 pub element_tested : (bytes : List ℕ) → is_element bytes ≡ true → IsElement bytes
 unfolding is_element
 element_tested bytes e =
-    let parts = and_parts (is_tag_byte (first_byte bytes)) _ e in
+    let parts = and_parts (is_tag (first_byte bytes)) _ e in
     let more = and_parts (nat_le (length (content_in bytes)) max_length) _ parts.1 in
-    let tag = and_parts (nat_lt (first_byte bytes) 256) (is_tag (first_byte bytes)) parts.0 in
     record {
       tag = first_byte bytes;
       content = content_in bytes;
-      is_header = record {
-        tag_byte = tag.1;
-        within =
-            leb-true _ _ more.0;
-      };
+      is_header = record { tag_byte = parts.0; within = leb-true _ _ more.0 };
       encoded = sym ((bytes_eq-Decides (element (first_byte bytes) (content_in bytes)) bytes).0 more.1);
     }
 
@@ -55,10 +49,7 @@ unfolding is_element
 passes_at tag content is =
     let same = (bytes_eq-Decides (element tag content) (element tag content)).1 refl in
     let found = content_found tag content in
-    let passes : is_tag tag ≡ true = is.tag_byte in
-    let small : tag < 256 = grind (arith, tests) in
-    let byte : nat_lt tag 256 ≡ true = lt-ltb tag 256 small in
-    and_both _ _ (and_both _ _ byte is.tag_byte)
+    and_both _ _ is.tag_byte
     (and_both _ _ (rw found (le-leb (length content) max_length is.within))
     (ap (λ c. bytes_eq (element tag c) (element tag content)) found ∙ same))
 
@@ -116,9 +107,9 @@ element_from any bytes header encoded =
     record { tag = tag_of any; content = value_of any; is_header = header; encoded = encoded }
 
 -- a byte that begins an element
-pub begins_any : (byte : ℕ) (b : Bool) → (b ≡ true → is_tag byte ≡ true) → (is_tag byte ≡ true → b ≡ true) → byte < 256
+pub begins_any : (byte : ℕ) (b : Bool) → (b ≡ true → is_tag byte ≡ true) → (is_tag byte ≡ true → b ≡ true)
     → b ≡ is_among byte all_tags
-begins_any byte b f g small = by b (is_tag byte) refl f g ∙ (rw (lt-ltb byte 256 small) refl ∙ sym (among_all byte))
+begins_any byte b f g = by b (is_tag byte) refl f g ∙ sym (among_all byte)
   where
     by : (b c : Bool) → is_tag byte ≡ c → (b ≡ true → is_tag byte ≡ true) → (is_tag byte ≡ true → b ≡ true) → b ≡ c
     by true true e f g = refl

@@ -1,15 +1,10 @@
 -- X.690 section 8.1.1: one element of any tag.
-use Rattle.std.specs.Prelude.{◌&&◌, ℕ, zero, suc, nat_lt, nat_le, List, [], ◌∷◌, length, drop}
+use Rattle.std.specs.Prelude.{◌&&◌, ℕ, zero, suc, nat_le, List, [], ◌∷◌, length, drop}
 use Rattle.std.specs.Prelude.{get_or, Bool, true, false, Option, Some, None, if◌then◌else◌}
 use Rattle.std.specs.Str.{bytes_eq}
-use Rattle.sec1_der.specs.Elements.{max_length, length_octets, element}
-use Rattle.sec1_der.specs.Elements.{is_tag}
+use Rattle.sec1_der.specs.Elements.{max_length, is_tag, length_octets, element}
 use Rattle.sec1_der.specs.Parts.{Tags}
 use Rattle.sec1_der.specs.Faults.{Fault, no_fault, any_fault, number_at}
-
--- X.690 section 8.1.2: the test for the byte of a tag whose number is below 31
-abbrev pub is_tag_byte : ℕ → Bool
-is_tag_byte byte = nat_lt byte 256 && is_tag byte
 
 -- the tags below a number
 abbrev pub tags_below : ℕ → List ℕ
@@ -35,7 +30,7 @@ content_in bytes = drop (length (length_octets (number_at (drop 1 bytes)))) (dro
 -- X.690 sections 8.1.1 and 10.1: whether the bytes are those of one element, and no more
 unfoldable pub is_element : List ℕ → Bool
 is_element bytes =
-    is_tag_byte (first_byte bytes)
+    is_tag (first_byte bytes)
     && (nat_le (length (content_in bytes)) max_length
     && bytes_eq (element (first_byte bytes) (content_in bytes)) bytes)
 

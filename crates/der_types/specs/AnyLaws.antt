@@ -5,7 +5,7 @@ use Rattle.std.proofs.Common.{eq-eqb, ◌∙◌}
 use Rattle.std.proofs.lemmas.Bool.{lt-ltb, le-ltb, ne_eqb, cases_lt, and_parts}
 use Rattle.sec1_der.specs.Elements.{is_tag}
 use Rattle.sec1_der.specs.Parts.{is_among, Begins}
-use Rattle.der_types.specs.AnyElements.{is_tag_byte, tags_below, all_tags, any_tags, is_element}
+use Rattle.der_types.specs.AnyElements.{tags_below, all_tags, any_tags, is_element}
 use Rattle.der_types.specs.AnyElements.{any_of}
 
 -- one more number, which is a tag or isn't
@@ -47,10 +47,15 @@ among_below : (tag n : ℕ) → is_among tag (tags_below n) ≡ (nat_lt tag n &&
 among_below tag zero = rw (le-ltb tag 0 (omega arith)) refl
 among_below tag (suc n) = one_more tag n (is_tag n) refl (among_below tag n) (nat_cases tag n)
 
+-- a tag is below 256
+tag_below : (a b c : Bool) → (a && ((a && b) && c)) ≡ ((a && b) && c)
+tag_below true b c = refl
+tag_below false b c = refl
+
 -- a byte is among them if it is a tag
-pub among_all : (byte : ℕ) → is_among byte all_tags ≡ is_tag_byte byte
+pub among_all : (byte : ℕ) → is_among byte all_tags ≡ is_tag byte
 unfolding all_tags
-among_all byte = among_below byte 256
+among_all byte = among_below byte 256 ∙ tag_below (nat_lt byte 256) _ _
 
 begins_tag : (bytes : List ℕ) → is_element bytes ≡ true → Begins any_tags bytes
 unfolding is_element

@@ -3,15 +3,10 @@
 use Rattle.std.proofs.Common.{◌≡◌, ℕ, ◌≤◌, List, length, Option, Some, None, refl, ⊎_elim}
 use Rattle.std.proofs.Common.{append_assoc, ◌++◌, [], sym, ap, ◌∙◌}
 use Rattle.std.proofs.lemmas.Bool.{le-leb, lt-leb, cases_lt}
-use Rattle.std.specs.Int.{IsBitSet}
 use Rattle.sec1_der.specs.Elements.{max_length, header, element, element_of}
 use Rattle.sec1_der.proofs.LengthLaws.{len_apart, split_same}
 use Rattle.sec1_der.specs.Trees.{bytes}
 use Rattle.sec1_der.specs.Faults.{within}
-
--- bit 20 (hexadecimal) marks a constructed element
-abbrev pub IsConstructed : ℕ → Type 0
-IsConstructed tag = IsBitSet tag 5
 
 -- two headers that begin one list
 pub header_apart : (tag n tag' n' : ℕ) (r s : List ℕ) → header tag n ++ r ≡ header tag' n' ++ s

@@ -6,7 +6,7 @@ use Rattle.std.proofs.lemmas.Bool.{cases_eq}
 use Rattle.std.proofs.lemmas.List.{append_assoc, length-append, length-drop, length-take, length-take-le}
 use Rattle.std.proofs.lemmas.List.{take-append-drop, take_rest, drop_at, nil_from_length}
 use Rattle.sec1_der.specs.Elements.{IsHeader, header, element}
-use Rattle.sec1_der.proofs.ElementLaws.{IsConstructed}
+use Rattle.sec1_der.specs.Elements.{IsConstructed}
 use Rattle.sec1_der.specs.Trees.{Tree, leaf, branch, none, bytes, IsTree, size, depth}
 use Rattle.sec1_der.specs.Walks.{Opens}
 

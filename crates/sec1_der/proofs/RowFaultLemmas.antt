@@ -9,7 +9,7 @@ use Rattle.std.proofs.lemmas.List.{take_all, length-append, length-take, length-
 use Rattle.std.proofs.lemmas.List.{take-append-drop}
 use Rattle.std.specs.Option.{option_or}
 use Rattle.sec1_der.specs.Elements.{length_octets, element, IsHeader}
-use Rattle.sec1_der.proofs.ElementLaws.{IsConstructed}
+use Rattle.sec1_der.specs.Elements.{IsConstructed}
 use Rattle.sec1_der.specs.ErrorKinds.{IsHeaderFault}
 use Rattle.sec1_der.specs.Faults.{nested_fault}
 use Rattle.sec1_der.specs.Faults.{Fault, end_fault, any_fault, row_fault, tree_fault}

@@ -1,7 +1,8 @@
 -- X.690: an element is a tag byte, a length and a content.
 use Rattle.std.specs.Prelude.{◌≡◌, ◌≢◌, ℕ, ◌+◌, ◌%◌, ◌≤◌, List, [], ◌∷◌, ◌++◌, length, nat_lt}
 use Rattle.std.specs.Prelude.{nat_le, Option, Some, None, if◌then◌else◌, Bool, IsTrue}
-use Rattle.std.specs.Prelude.{◌&&◌, not, ◌==◌}
+use Rattle.std.specs.Prelude.{◌&&◌, not, ◌==◌, bit_and}
+use Rattle.std.specs.Int.{IsBitSet}
 use Rattle.std.specs.Int.Digits.{digits_of}
 
 -- the greatest length of a content in bytes: 2^28 - 1
@@ -12,6 +13,14 @@ max_length = 268435455
 -- end-of-contents, and its low five bits aren't all ones, which begin a high tag number.
 abbrev pub is_tag : ℕ → Bool
 is_tag byte = nat_lt byte 256 && not (byte == 0) && not (byte % 32 == 31)
+
+-- X.690 section 8.1.2.5: bit 20 (hexadecimal) of the tag marks a constructed element.
+abbrev pub IsConstructed : ℕ → Type 0
+IsConstructed tag = IsBitSet tag 5
+
+-- whether it is set
+abbrev pub is_constructed : ℕ → Bool
+is_constructed tag = not (bit_and tag 0x20 == 0)
 
 -- X.690 sections 8.1.3 and 10.1: the one encoding of a length: the number itself below 128,
 -- otherwise the number of its base 256 digits plus 80 (hexadecimal), and the digits.

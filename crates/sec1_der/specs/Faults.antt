@@ -1,11 +1,10 @@
 -- The kind of a refusal as a function of the bytes: the first fault from left to right.
-use Rattle.std.specs.Prelude.{◌≡◌, ◌≢◌, ◌==◌, ℕ, zero, suc, ◌+◌, ◌-◌, ◌&&◌}
-use Rattle.std.specs.Prelude.{not, nat_lt}
-use Rattle.std.specs.Prelude.{nat_le, if◌then◌else◌, bit_and, List, [], ◌∷◌, length, take, drop}
+use Rattle.std.specs.Prelude.{◌≡◌, ◌≢◌, ◌==◌, ℕ, zero, suc, ◌+◌, ◌-◌, ◌&&◌, nat_lt}
+use Rattle.std.specs.Prelude.{nat_le, if◌then◌else◌, List, [], ◌∷◌, length, take, drop}
 use Rattle.std.specs.Prelude.{Option, Some, None, Result, Ok, Err, MatchResult, IsSomeAnd, IfSome}
 use Rattle.std.specs.Option.{option_or}
 use Rattle.std.specs.Str.{bytes_eq}
-use Rattle.sec1_der.specs.Elements.{max_length, is_tag, length_octets}
+use Rattle.sec1_der.specs.Elements.{max_length, is_tag, is_constructed, length_octets}
 use Rattle.sec1_der.specs.ErrorKinds.{length_fault}
 use Rattle.sec1_der.specs.Numbers.{number_of}
 use Rattle.sec1_der.specs.Trees.{max_tree_depth}
@@ -90,7 +89,7 @@ document_fault = any_fault (λ _. no_fault) end_fault
 
 -- X.690 section 8.1.2.5: the content of a constructed element is elements again
 abbrev pub nested_fault : Fault → ℕ → Fault
-nested_fault row tag content = if not (bit_and tag 0x20 == 0) then row content else None
+nested_fault row tag content = if is_constructed tag then row content else None
 
 -- A sequence of elements at this level. There are no more of them, and they are nested no deeper,
 -- than there are bytes.

@@ -2,8 +2,7 @@
 -- where each ends, the innermost first; 0 are left at the end of the input.
 use Rattle.std.specs.Prelude.{IsTrue, ◌≡◌, ℕ, zero, suc, ◌+◌, ◌<◌, ◌≤◌, List, [], ◌∷◌, ◌++◌}
 use Rattle.std.specs.Prelude.{length, get_or}
-use Rattle.std.specs.Int.{IsBitSet}
-use Rattle.sec1_der.specs.Elements.{header, is_tag, max_length}
+use Rattle.sec1_der.specs.Elements.{header, is_tag, IsConstructed, max_length}
 
 -- the next element is a node that isn't empty, and has this end, within the innermost node
 pub record Opens (ends rest : List ℕ) (end : ℕ) (after : List ℕ) : Type 0 where
@@ -11,7 +10,7 @@ pub record Opens (ends rest : List ℕ) (end : ℕ) (after : List ℕ) : Type 0 
   pub n : ℕ
   pub fits : get_or ends 0 0 ≤ end
   pub tag_byte : IsTrue (is_tag tag)
-  pub constructed : IsBitSet tag 5
+  pub constructed : IsConstructed tag
   pub some : 0 < n
   pub within : n ≤ max_length
   pub row : rest ≡ header tag n ++ after

@@ -1,7 +1,7 @@
 use Rattle.std.proofs.Common.{◌≡◌, ◌⊎◌, arith, inl, inr, refl}
 use Rattle.std.proofs.lemmas.Bool.{iff_false}
 use Rattle.std.proofs.lemmas.Result.{err_from_is_err_and}
-use Rattle.sec1_der.proofs.ElementLaws.{IsConstructed}
+use Rattle.sec1_der.specs.Elements.{IsConstructed}
 use Rattle.sec1_der.proofs.EnterLemmas.{opens_at, passes_at}
 use Rattle.sec1_der.proofs.tree.OpenNodes.enter.Goals as goal
 use Rattle.sec1_der.proofs.tree.OpenNodes.enter.Goals.{else-length-gt0-via-then-length-gt0+else-is_constructed}
