@@ -1,12 +1,12 @@
 -- Parts of a SEQUENCE.
 use Rattle.std.proofs.Common.{◌≡◌, ◌==◌, ◌++◌, ◌∷◌, [], ◌||◌, not, ℕ, List, Bool, true, false, refl, sym, ◌∙◌, ap}
-use Rattle.std.proofs.Common.{Option, Some, None, IsSomeAnd, eq-eqb}
+use Rattle.std.proofs.Common.{Option, Some, None, IsSomeAnd, eq-eqb, if◌then◌else◌}
 use Rattle.std.proofs.lemmas.Bool.{and_parts, eqb-true}
 use Rattle.std.proofs.lemmas.List.Folds.{list_any-append}
 use Rattle.std.specs.List.{list_all}
 use Rattle.sec1_der.specs.Parts.{Tags, is_among, Begins, MayFollow, both_tags}
 use Rattle.sec1_der.specs.Readers.{Reader, HasReadElement}
-use Rattle.sec1_der.specs.Faults.{Fault, no_fault, optional_fault}
+use Rattle.sec1_der.specs.Faults.{Fault, optional_fault}
 use Rattle.sec1_der.specs.Faults.{element_fault}
 use Rattle.sec1_der.proofs.ElementLaws.{element_of-some, element_of-within}
 use Rattle.sec1_der.proofs.FaultLaws.{reads_on}
@@ -36,39 +36,23 @@ pub not_among : (tag : ℕ) (xs ys : List ℕ) → is_among tag (xs ++ ys) ≡ f
 not_among tag xs ys e =
     or_false (is_among tag xs) (is_among tag ys) (sym (list_any-append (λ other. tag == other) xs ys) ∙ e)
 
-abbrev with_tags : List ℕ → Bool → List ℕ → Bool → Tags
-with_tags firsts empty barred apart = record { firsts = firsts; may_be_empty = empty; barred = barred; apart = apart }
-
-next_by : (pf po qf qo : List ℕ) (p q pa qa : Bool) (y rest : List ℕ) → list_all (λ x. not (is_among x qf)) po ≡ true
-    → Begins (with_tags qf q qo qa) y
-    → MayFollow (both_tags (with_tags pf p po pa) (with_tags qf q qo qa)) rest
-    → MayFollow (with_tags pf p po pa) (y ++ rest)
-next_by pf po qf qo p false pa qa [] rest d e n = absurd (cc e)
-next_by pf po qf qo p true pa qa [] [] d e n = tt
-next_by pf po qf qo p true pa qa [] (byte ∷ rest) d e n =
-    (not_among byte qo po n).1
-next_by pf po qf qo p q pa qa (byte ∷ y) rest d e n =
-    apart_among byte po qf d e
-
 -- what may follow two parts, behind the second, may follow the first
 pub next_first : (p q : Tags) (y rest : List ℕ) → list_all (λ x. not (is_among x q.firsts)) p.barred ≡ true
     → Begins q y
     → MayFollow (both_tags p q) rest → MayFollow p (y ++ rest)
-next_first p q y rest d e n =
-    next_by p.firsts p.barred q.firsts q.barred p.may_be_empty q.may_be_empty p.apart q.apart y rest d e n
-
-second_by : (pf po qf qo : List ℕ) (p q pa qa : Bool) (rest : List ℕ)
-    → MayFollow (both_tags (with_tags pf p po pa) (with_tags qf q qo qa)) rest
-    → MayFollow (with_tags qf q qo qa) rest
-second_by pf po qf qo p q pa qa [] n = tt
-second_by pf po qf qo p false pa qa (byte ∷ rest) n = n
-second_by pf po qf qo p true pa qa (byte ∷ rest) n =
-    (not_among byte qo po n).0
+next_first p q [] [] d e n = tt
+next_first p q [] (byte ∷ rest) d e n = (not_among byte q.barred p.barred (rw e at n)).1
+next_first p q (byte ∷ y) rest d e n = apart_among byte p.barred q.firsts d e
 
 -- what may follow two parts may follow the second
 pub next_second : (p q : Tags) (rest : List ℕ) → MayFollow (both_tags p q) rest → MayFollow q rest
-next_second p q rest n =
-    second_by p.firsts p.barred q.firsts q.barred p.may_be_empty q.may_be_empty p.apart q.apart rest n
+next_second p q [] n = tt
+next_second p q (byte ∷ rest) n = by q.may_be_empty n
+  where
+    by : (b : Bool) → is_among byte (if b then q.barred ++ p.barred else q.barred) ≡ false
+        → is_among byte q.barred ≡ false
+    by true n = (not_among byte q.barred p.barred n).0
+    by false n = n
 
 -- where an optional element was read, its fault is that of the element
 next_read : (f behind : Fault) (tag : ℕ) (content : Option (List ℕ)) (old new : Reader)

@@ -31,20 +31,19 @@ optional_begins tag None whole e = let none : whole ≡ [] = cc (e) in rw none r
 optional_begins tag (Some content) whole e =
     or_nothing tag whole (element_begins tag content whole e)
 
-both_begin : (ps qs : List ℕ) (p q : Bool) (po qo : List ℕ) (pa qa : Bool) (x y : List ℕ)
-    → Begins (record { firsts = ps; may_be_empty = p; barred = po; apart = pa }) x
-    → Begins (record { firsts = qs; may_be_empty = q; barred = qo; apart = qa }) y
-    → Begins (both_tags (record { firsts = ps; may_be_empty = p; barred = po; apart = pa })
-    (record { firsts = qs; may_be_empty = q; barred = qo; apart = qa })) (x ++ y)
-both_begin ps qs true q po qo pa qa [] [] e f = f
-both_begin ps qs true q po qo pa qa [] (byte ∷ y) e f =
-    rw (list_any-append (λ tag. byte == tag) ps qs)
-    (or_right (is_among byte ps) (is_among byte qs) f)
-both_begin ps qs false q po qo pa qa [] y e f = absurd (cc e)
-both_begin ps qs true q po qo pa qa (byte ∷ x) y e f =
-    rw (list_any-append (λ tag. byte == tag) ps qs)
-    (or_left (is_among byte ps) (is_among byte qs) e)
-both_begin ps qs false q po qo pa qa (byte ∷ x) y e f = e
+both_begin : (p q : Tags) (x y : List ℕ) → Begins p x → Begins q y
+    → Begins (both_tags p q) (x ++ y)
+both_begin p q [] [] e f = rw (e, f) refl
+both_begin p q [] (byte ∷ y) e f =
+    rw (e, list_any-append (λ tag. byte == tag) p.firsts q.firsts)
+    (or_right (is_among byte p.firsts) (is_among byte q.firsts) f)
+both_begin p q (byte ∷ x) y e f = by p.may_be_empty
+  where
+    by : (b : Bool) → is_among byte (if b then p.firsts ++ q.firsts else p.firsts) ≡ true
+    by true =
+        rw (list_any-append (λ tag. byte == tag) p.firsts q.firsts)
+        (or_left (is_among byte p.firsts) (is_among byte q.firsts) e)
+    by false = e
 
 -- one part after another begins with a tag of the first, or with one of the second where the first
 -- is empty
@@ -56,5 +55,4 @@ pair_begins p q None y whole e f g = absurd (cc e)
 pair_begins p q (Some front) None whole e f g = absurd (cc e)
 pair_begins p q (Some front) (Some back) whole e f g =
     let is : whole ≡ front ++ back = cc in
-    rw is (both_begin p.firsts q.firsts p.may_be_empty q.may_be_empty p.barred q.barred p.apart
-    q.apart front back (f front refl) (g back refl))
+    rw is (both_begin p q front back (f front refl) (g back refl))
