@@ -10,6 +10,7 @@ mod algorithm;
 pub mod bmp_string;
 pub mod callers;
 pub mod certificates;
+pub mod contents;
 pub mod examples;
 pub mod failed_readers;
 pub mod found;

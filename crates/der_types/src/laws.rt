@@ -1,7 +1,6 @@
 //! Laws of the contents, for callers to cite. Each law is the contract of a function, which does
 //! nothing else.
-ghost use Rattle.std.specs.Prelude.{◌≡◌, ◌⊎◌, ◌<◌, ◌≤◌, ℕ, Bool, true, List, [], ◌∷◌, ℤ};
-ghost use Rattle.std.specs.Prelude.{pos, negsuc};
+ghost use Rattle.std.specs.Prelude.{◌≡◌, ◌⊎◌, ◌<◌, ◌≤◌, ℕ, Bool, true, List, [], ℤ};
 ghost use Rattle.std.specs.Int.Digits.{AllBelowBase};
 ghost use Rattle.std.specs.Str.{is_utf8};
 ghost use Rattle.sec1_der.specs.ArcsOf.{arcs_of};
@@ -38,17 +37,6 @@ pub fn signed_integers()
     ensures one_content { (xs ys : List ℕ) → AllBelowBase 256 xs → AllBelowBase 256 ys
         → is_integer xs ≡ true → is_integer ys ≡ true
         → signed_number xs ≡ signed_number ys → xs ≡ ys }
-{}
-
-/// The contents of numbers where one more byte is needed.
-pub fn example_integers()
-    ensures zero { signed_content (pos 0) ≡ 0x00 ∷ [] }
-    ensures greatest_of_one { signed_content (pos 127) ≡ 0x7F ∷ [] }
-    ensures least_of_two { signed_content (pos 128) ≡ 0x00 ∷ 0x80 ∷ [] }
-    ensures without_zero { signed_content (pos 256) ≡ 0x01 ∷ 0x00 ∷ [] }
-    ensures minus_one { signed_content (negsuc 0) ≡ 0xFF ∷ [] }
-    ensures minus_128 { signed_content (negsuc 127) ≡ 0x80 ∷ [] }
-    ensures minus_129 { signed_content (negsuc 128) ≡ 0xFF ∷ 0x7F ∷ [] }
 {}
 
 /// FALSE and TRUE have one content each, and the bytes that pass the test are these two (X.690

@@ -1,12 +1,14 @@
 //! Tests of `der_types`, `curves`, `pkix`, `der_faults`, `der_rows` and `der_example` by their
 //! public calls, with values from outside.
 //!
-//! [`equality`] has what is proved of `==` and `clone`.
+//! [`equality`] has what is proved of `==` and `clone`, and [`checks`] worked examples.
 //!
 //! They are in a crate of their own, so that each of these is proved once, and all of it is under
-//! `cfg(test)`, so that [`equality`] is proved once too.
+//! `cfg(test)`, so that both are proved once too.
 #![tactic(auto)]
 
+#[cfg(test)]
+pub mod checks;
 #[cfg(test)]
 mod contents;
 #[cfg(test)]
