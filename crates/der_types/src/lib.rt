@@ -6,26 +6,35 @@
 //! contents.
 #![tactic(auto)]
 
-mod any;
-mod bits;
+// Types of values by a tag and a test of the content, and the tests.
 mod boolean;
-mod choice;
-mod codec;
-mod constant;
-mod default;
-mod implicit;
 mod integer;
 pub mod kind;
-pub mod laws;
 mod leaf;
 mod object_identifier;
-mod optional_part;
-mod sequence_of;
-mod set_of;
 mod string;
 mod time;
 mod time_kind;
+
+// Types of values of another shape.
+mod bits;
+mod constant;
+mod implicit;
 mod unsigned;
+
+// Elements of one type, one after another.
+mod sequence_of;
+mod set_of;
+
+// Parts of a record.
+mod any;
+mod choice;
+mod codec;
+mod default;
+mod optional_part;
+
+// What is only proved.
+pub mod laws;
 
 pub use any::Any;
 pub use bits::Bits;

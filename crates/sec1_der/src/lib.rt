@@ -7,35 +7,48 @@
 //! from and written to streams and files; a check of whole trees; laws.
 #![tactic(auto)]
 
-mod any;
-mod back_writer;
-mod bit_string;
-mod checks;
-mod codec;
-mod component_values;
-mod context;
-mod copies;
-mod document;
+// What an element consists of, and why bytes are refused.
 mod error;
-mod explicit;
 mod header;
-mod identifier_ref;
-pub mod laws;
 mod length;
+mod tag;
+
+// Readers and writers over slices.
+mod back_writer;
+mod copies;
+mod reader;
+mod slice_writer;
+
+// What a type of values needs, and the calls that are generic over it.
+mod codec;
+mod value;
+
+// Types of values: elements of any tag, and those that a key has.
+mod any;
+mod bit_string;
+mod component_values;
+mod identifier_ref;
 mod object_identifier;
 mod octet_string;
+mod version;
+
+// Records and their parts; values with an explicit tag.
+mod context;
+mod explicit;
 mod optional;
 mod part;
-mod reader;
 mod record;
 mod required;
-mod slice_writer;
+
+// Whole inputs: trees, and documents over streams and files.
+mod document;
 mod std_stream;
 mod stream;
-mod tag;
 mod tree;
-mod value;
-mod version;
+
+// What is only proved.
+mod checks;
+pub mod laws;
 
 pub use any::AnyRef;
 pub use back_writer::BackWriter;
