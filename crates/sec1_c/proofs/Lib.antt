@@ -12,5 +12,4 @@ pub mod PrivateKeyLemmas
 pub mod PublicKeyLemmas
 pub mod SignatureLemmas
 pub mod StatusLemmas
-pub mod SubidentifierLemmas
 pub mod TextLemmas
