@@ -78,6 +78,16 @@ impl<'a> Bits<'a> {
     }
 }
 
+impl Default for Bits<'_> {
+    /// Returns no bits.
+    fn default() -> Self {
+        match BitStringRef::from_bytes(&[]) {
+            Ok(bits) => Bits { bits },
+            Err(_) => unreachable!(),
+        }
+    }
+}
+
 impl Tagged for Bits<'_> {
     ghost tag_byte = { 0x03 };
 

@@ -65,6 +65,17 @@ impl<'a, K> Leaf<'a, K> {
     }
 }
 
+impl<K> Default for Leaf<'_, K> {
+    /// Returns a value without content, into whose place one is read. It has an encoding only if no
+    /// bytes pass the test of `K`.
+    fn default() -> Self {
+        Leaf {
+            bytes: &[],
+            kind: PhantomData,
+        }
+    }
+}
+
 impl<K: Kind + Tagged> Tagged for Leaf<'_, K> {
     ghost tag_byte = { K.tag_byte };
 

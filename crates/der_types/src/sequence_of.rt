@@ -97,6 +97,16 @@ impl<'a, T> SequenceOf<'a, T> {
     }
 }
 
+impl<T> Default for SequenceOf<'_, T> {
+    /// Returns no elements.
+    fn default() -> Self {
+        SequenceOf {
+            bytes: &[],
+            of: PhantomData,
+        }
+    }
+}
+
 /// The values of a SEQUENCE OF, in their order. A contract sees the bytes of the elements that are
 /// left.
 #[derive(Drop)]

@@ -14,7 +14,7 @@ use std::marker::Model;
 
 /// An INTEGER whose content is the one byte `N`, such as a version (X.690 section 8.3). It is the
 /// number `N` if that is below 128. Any other content is refused as Value.
-#[derive(Clone, Copy, Debug, PartialEq, Eq)]
+#[derive(Clone, Copy, Debug, Default, PartialEq, Eq)]
 pub struct SmallInteger<const N: u8>;
 
 impl<const N: u8> Tagged for SmallInteger<N> {
@@ -59,7 +59,7 @@ impl<const N: u8> UniqueContent for SmallInteger<N> {
 }
 
 /// The bytes of an OCTET STRING (X.690 section 8.7). A contract sees the bytes.
-#[derive(Drop)]
+#[derive(Default, Drop)]
 pub struct Octets<'a> {
     /// The bytes.
     pub bytes: &'a [u8],
