@@ -1,5 +1,5 @@
-//! Tests of `der_types`, `curves`, `pkix`, `der_faults`, `der_rows` and `der_example` by their
-//! public calls, with values from outside.
+//! Tests of `der_types`, `curves`, `pkix`, `der_faults`, `der_rows` and `examples` by their public
+//! calls, with values from outside.
 //!
 //! [`equality`] has what is proved of `==` and `clone`, and [`checks`] worked examples.
 //!
@@ -8,6 +8,8 @@
 #![tactic(auto)]
 
 #[cfg(test)]
+mod callers;
+#[cfg(test)]
 pub mod checks;
 #[cfg(test)]
 mod contents;
@@ -15,8 +17,6 @@ mod contents;
 mod curve_names;
 #[cfg(test)]
 pub mod equality;
-#[cfg(test)]
-mod examples;
 #[cfg(test)]
 mod faults;
 #[cfg(test)]

@@ -1,0 +1,5 @@
+pub mod Digests
+pub mod EvenOctets
+pub mod KeyReading
+pub mod KeyStores
+pub mod Numbers

@@ -1,0 +1,31 @@
+//! Functions and types as programs have them, each with the contract that the program needs.
+
+// Keys, certificates and points.
+pub mod certificates;
+pub mod key_store;
+pub mod key_streams;
+pub mod keys;
+pub mod named_curves;
+pub mod point_arrays;
+pub mod points;
+pub mod reading;
+
+// Elements, types and records of DER.
+pub mod elements;
+pub mod found;
+pub mod numbers;
+pub mod open_kinds;
+pub mod own_record;
+
+// By which kind bytes are refused, and what a refusal leaves.
+pub mod failed_readers;
+pub mod header_kinds;
+
+// Streams and writers.
+pub mod prepending;
+pub mod streams;
+pub mod writers;
+
+// What follows from the laws.
+pub mod contents;
+pub mod laws;
