@@ -150,7 +150,7 @@ as_dependency() {
     mkdir -p "$repository/bindings" "$repository/crates"
     cp -R "$here/rust" "$repository/bindings"
     cp -R "$top"/dist "$top"/LICENSE-* "$repository"
-    for crate in sec1_inspect sec1_rewrite; do
+    for crate in sec1_inspect replay; do
         mkdir -p "$repository/crates/$crate"
         cp "$top/crates/$crate/stdin" "$repository/crates/$crate"
         [ ! -f "$top/crates/$crate/stdout" ] || cp "$top/crates/$crate/stdout" "$repository/crates/$crate"

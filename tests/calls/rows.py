@@ -1,4 +1,4 @@
-"""The lines that sec1_calls reads, and what it has to print for each.
+"""The lines of calls that crates/replay reads, and what it has to print for each.
 
 Written from docs/FORMATS.md and the documentation of the calls. `rows()` are the lines of the
 stored input: points, keys, streams that fail once, and single calls.

@@ -1,4 +1,4 @@
-"""Prints what pkix_rewrite has to print for the lines on standard input, by the reader and the
+"""Prints what crates/replay has to print for the lines on standard input, by the reader and the
 writer of this folder.
 """
 import sys

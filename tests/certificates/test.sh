@@ -1,12 +1,12 @@
 #!/usr/bin/env bash
-# Runs pkix_rewrite, or the program that PKIX_REWRITE names, over the structures of OpenSSL, those
-# made by hand, some of many sizes and 20,000 damaged copies, and compares each line that it prints
-# with what the reader of this folder says, and with what OpenSSL found. Its last line is
-# 'N passed, M failed'.
+# Runs the program of crates/replay, or that which REPLAY names, over the structures of OpenSSL,
+# those made by hand, some of many sizes and 20,000 damaged copies, and compares each line that it
+# prints with what the reader of this folder says, and with what OpenSSL found. `--write` stores the
+# structures made by hand as the input of the program. Its last line is 'N passed, M failed'.
 set -u
 top=$(cd "$(dirname "$0")/../.." && pwd)
 here=$top/tests/certificates
-program=${PKIX_REWRITE:-$top/crates/pkix_rewrite/out/pkix_rewrite}
+program=${REPLAY:-$top/crates/replay/out/replay}
 room=$(mktemp -d)
 trap 'rm -rf "$room"' EXIT
 export PYTHONDONTWRITEBYTECODE=1
@@ -54,8 +54,13 @@ for file in hand.txt times.txt; do
     cat "$room/hand" >>"$room/stdin"
     cat "$room/expected" >>"$room/stdout"
 done
+if [ "${1:-}" = --write ]; then
+    python3 "$top/tests/stored.py" --write certificates "$room/stdin" "$room/stdout"
+    exit
+fi
 for file in stdin stdout; do
-    cmp -s "$room/$file" "$top/crates/pkix_rewrite/$file" &&
+    python3 "$top/tests/stored.py" $file certificates >"$room/stored"
+    cmp -s "$room/$file" "$room/stored" &&
         tell "the stored $file is that of hand.txt and times.txt" yes ||
         tell "the stored $file isn't that of hand.txt and times.txt" no
 done

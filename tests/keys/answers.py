@@ -1,4 +1,4 @@
-"""Prints what sec1_rewrite has to print for the keys on standard input, by the reader of this
+"""Prints what crates/replay has to print for the keys on standard input, by the reader of this
 folder.
 """
 import sys
@@ -23,7 +23,7 @@ def answer(data):
 def main():
     for line in sys.stdin.read().splitlines():
         if not line.startswith("#"):
-            print(answer(bytes.fromhex(line)))
+            print(answer(bytes.fromhex(line.split(" ")[1])))
 
 
 if __name__ == "__main__":

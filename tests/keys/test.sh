@@ -1,16 +1,20 @@
 #!/usr/bin/env bash
-# Compares what sec1_rewrite is stored to read and to print with what the reader of this folder says
-# and, for the keys made by hand, with the line that stands below each; and the keys with OpenSSL
-# where that is there. What the program prints is compared where its crate is proved. The last line
-# is 'N passed, M failed'.
+# Compares the keys that crates/replay is stored to read, and what it is to print for them, with what
+# the reader of this folder says and, for the keys made by hand, with the line that stands below
+# each; and the keys with OpenSSL where that is there. What the program prints is compared where its
+# crate is proved. `--write` stores both anew. The last line is 'N passed, M failed'.
 set -u
 top=$(cd "$(dirname "$0")/../.." && pwd)
 here=$top/tests/keys
-crate=$top/crates/sec1_rewrite
 room=$(mktemp -d)
 trap 'rm -rf "$room"' EXIT
 export PYTHONDONTWRITEBYTECODE=1
 . "$top/tests/count.sh"
+
+# Prints the stored lines of keys: NAME is stdin or stdout.
+stored() {
+    python3 "$top/tests/stored.py" "$1" keys
+}
 
 # Compares two files.
 same() {
@@ -22,16 +26,23 @@ if ! command -v python3 >/dev/null; then
 else
     python3 "$here/damage.py" <"$here/openssl.txt" >"$room/damaged"
     # Three lines for each key made by hand: what it is, the key, and the line for it.
-    sed '3~3d' "$here/hand.txt" | cat "$here/openssl.txt" "$room/damaged" - >"$room/stdin"
+    sed '3~3d' "$here/hand.txt" | cat "$here/openssl.txt" "$room/damaged" - |
+        sed '/^#/!s/^/ec-private-key /' >"$room/asked"
+    python3 "$here/answers.py" <"$room/asked" >"$room/answers"
+    if [ "${1:-}" = --write ]; then
+        python3 "$top/tests/stored.py" --write keys "$room/asked" "$room/answers"
+        exit
+    fi
+    stored stdin >"$room/stdin"
+    stored stdout >"$room/stdout"
     same "the stored input is the keys of OpenSSL, their damaged copies and those made by hand" \
-        "$room/stdin" "$crate/stdin"
-    python3 "$here/answers.py" <"$crate/stdin" >"$room/stdout"
-    same "the stored output is what the other reader says" "$room/stdout" "$crate/stdout"
+        "$room/asked" "$room/stdin"
+    same "the stored output is what the other reader says" "$room/answers" "$room/stdout"
 fi
 sed -n '3~3p' "$here/hand.txt" >"$room/hand"
-tail -n "$(wc -l <"$room/hand")" "$crate/stdout" >"$room/said"
+tail -n "$(wc -l <"$room/hand")" "$room/stdout" >"$room/said"
 same "the stored output is the line for each key made by hand" "$room/hand" "$room/said"
-lines=$(grep -vc '^#' "$crate/stdin")
+lines=$(grep -vc '^#' "$room/stdin")
 [ "$lines" = 2753 ] && tell "656 keys, 2,000 damaged copies and 97 made by hand" yes ||
     tell "there are $lines keys" no
 
@@ -46,7 +57,7 @@ if command -v openssl >/dev/null; then
             openssl asn1parse -inform DER -in "$room/key" | grep -q "OCTET STRING *\[HEX DUMP\]:$private$"; then
             count=$((count + 1))
         fi
-    done < <(grep -v '^#' "$here/openssl.txt" | head -80) 3< <(head -80 "$crate/stdout")
+    done < <(grep -v '^#' "$here/openssl.txt" | head -80) 3< <(head -80 "$room/stdout")
     [ "$total" -gt 0 ] && [ "$count" = "$total" ] && tell "OpenSSL finds the private keys" yes ||
         tell "OpenSSL finds $count of $total private keys" no
 else

@@ -62,10 +62,12 @@ const KINDS = {
 // ---- private keys
 
 test('reads stored keys of OpenSSL as a second reader says, and writes them as they were', () => {
-  const [keys, answers] = [lines('data/openssl.txt'), lines('data/openssl_answers.txt')];
-  assert.deepEqual([keys.length, answers.length], [2753, 2753]);
-  for (const [index, answer] of answers.entries()) {
-    const data = bytes(keys[index]);
+  const answers = lines('data/replay_answers.txt');
+  const asked = lines('data/replay.txt').map((line, index) => [...line.split(' '), answers[index]]);
+  const keys = asked.filter(([name]) => name === 'ec-private-key');
+  assert.deepEqual([keys.length, asked.length], [2753, answers.length]);
+  for (const [, encoded, answer] of keys) {
+    const data = bytes(encoded);
     if (answer.startsWith('refused: ')) {
       assert.throws(() => EcPrivateKey.fromDer(data), (error) => {
         assert.equal(`refused: ${error.kind}`, answer);

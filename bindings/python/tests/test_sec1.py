@@ -23,11 +23,14 @@ REFUSED = {
 class Keys(unittest.TestCase):
     def test_stored_keys_of_openssl(self):
         """Each key is read as the second reader of the repository says, and written as it was."""
-        lines = (HERE / "data/openssl.txt").read_text().splitlines()
-        keys = [bytes.fromhex(line) for line in lines if not line.startswith("#")]
-        answers = (HERE / "data/openssl_answers.txt").read_text().splitlines()
-        self.assertEqual((len(keys), len(answers)), (2753, 2753))
-        for data, answer in zip(keys, answers):
+        lines = (HERE / "data/replay.txt").read_text().splitlines()
+        asked = [line.split(" ") for line in lines if not line.startswith("#")]
+        answers = (HERE / "data/replay_answers.txt").read_text().splitlines()
+        pairs = zip(asked, answers)
+        keys = [(words[1], answer) for words, answer in pairs if words[0] == "ec-private-key"]
+        self.assertEqual((len(keys), len(asked)), (2753, len(answers)))
+        for digits, answer in keys:
+            data = bytes.fromhex(digits)
             if answer.startswith("refused: "):
                 with self.assertRaises(REFUSED[answer]) as caught:
                     sec1.EcPrivateKey.from_der(data)

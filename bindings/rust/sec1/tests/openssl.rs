@@ -8,8 +8,8 @@ mod support;
 use sec1::der::{Encode, ErrorKind};
 use sec1::{EcParameters, EcPrivateKey, Error};
 
-const KEYS: &str = include_str!("data/openssl.txt");
-const ANSWERS: &str = include_str!("data/openssl_answers.txt");
+const ASKED: &str = include_str!("data/replay.txt");
+const ANSWERS: &str = include_str!("data/replay_answers.txt");
 
 fn text(bytes: &[u8]) -> String {
     if bytes.is_empty() {
@@ -20,9 +20,12 @@ fn text(bytes: &[u8]) -> String {
 
 #[test]
 fn agrees_on_keys_of_openssl() {
-    let keys = KEYS.lines().filter(|line| !line.starts_with('#'));
+    let asked = ASKED.lines().filter(|line| !line.starts_with('#'));
     let (mut read, mut refused) = (0, 0);
-    for (digits, answer) in keys.zip(ANSWERS.lines()) {
+    for (line, answer) in asked.zip(ANSWERS.lines()) {
+        let Some(digits) = line.strip_prefix("ec-private-key ") else {
+            continue;
+        };
         let bytes = support::bytes(digits);
         match EcPrivateKey::try_from(&bytes[..]) {
             Ok(key) => {

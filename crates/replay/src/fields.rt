@@ -6,6 +6,7 @@ use pkix::{
     AlgorithmIdentifier, Attributes, Certificate, EcdsaSigValue, LaterVersion, OneAsymmetricKey,
     PrivateKeyInfo, SubjectPublicKeyInfo, TbsCertificate, Time,
 };
+use sec1::{EcParameters, EcPrivateKey};
 use std::alloc::{AllocError, Global};
 
 /// Returns the hexadecimal digits of the bytes, or `empty` if there are none.
@@ -64,6 +65,29 @@ fn time(alloc: Global, time: &Time) -> Result<String, AllocError> {
         Ok(text) => format!(in alloc; "{letter}:{text}"),
         Err(_) => "not text".to_string(alloc),
     }
+}
+
+/// Returns the hexadecimal digits of a field of a key, in upper case, or `-` if it has no bytes.
+fn key_digits(alloc: Global, bytes: &[u8]) -> Result<String, AllocError> {
+    if bytes.is_empty() {
+        return "-".to_string(alloc);
+    }
+    bytes.encode_hex_upper(alloc)
+}
+
+/// Returns the private key, the curve and the public key of an EC private key, the last two `none`
+/// if absent.
+pub(crate) fn ec_private_key(alloc: Global, key: &EcPrivateKey) -> Result<String, AllocError> {
+    let private_key = key_digits(alloc, key.private_key)?;
+    let curve = match key.parameters {
+        Some(EcParameters::NamedCurve(curve)) => format!(in alloc; "{curve}")?,
+        None => "none".to_string(alloc)?,
+    };
+    let public_key = match key.public_key {
+        Some(bytes) => key_digits(alloc, bytes)?,
+        None => "none".to_string(alloc)?,
+    };
+    format!(in alloc; "{private_key} {curve} {public_key}")
 }
 
 /// Returns the fields of a signature.

@@ -1,16 +1,15 @@
-//! Reads structures of certificates, a word and hexadecimal digits a line, and prints for each its
-//! fields and whether it is
-//! written as it was read, or the kind of the error by which it is refused.
-#![tactic(auto)]
+//! Structures that are read and written again: keys, certificates, containers and signatures. A
+//! line has the fields and whether they are written as they were read, or the kind of the error by
+//! which the structure is refused.
 
-mod fields;
-
-use fields::{certificate, one_asymmetric_key, private_key_info, public_key_info, signature};
+use crate::fields::{
+    certificate, ec_private_key, one_asymmetric_key, private_key_info, public_key_info, signature,
+};
+use crate::streams::error_name;
 use pkix::{Certificate, EcdsaSigValue, OneAsymmetricKey, PrivateKeyInfo, SubjectPublicKeyInfo};
+use sec1::EcPrivateKey;
 use sec1_der::{EncodeValue, ErrorKind, Tagged, to_der};
 use std::alloc::{AllocError, Global};
-use std::io;
-use std::io::{BufRead, BufReader};
 
 /// Returns `same` if the value is written as these bytes, otherwise `different`.
 fn written<T: EncodeValue + Tagged>(alloc: Global, value: &T, bytes: &[u8]) -> &'static str {
@@ -20,9 +19,38 @@ fn written<T: EncodeValue + Tagged>(alloc: Global, value: &T, bytes: &[u8]) -> &
     }
 }
 
+/// Returns `same` if the key is written as these bytes, both into a slice and into a vector,
+/// otherwise `different`.
+fn written_key(alloc: Global, key: &EcPrivateKey, bytes: &[u8]) -> &'static str {
+    let Ok(mut room) = bytes.to_vec(alloc) else {
+        return "different";
+    };
+    room.fill(0xAA);
+    match key.encode_to_slice(&mut room) {
+        Ok(count) if count == bytes.len() && room.as_slice() == bytes => {}
+        _ => return "different",
+    }
+    match key.to_der(alloc) {
+        Ok(der) if der.as_slice() == bytes => "same",
+        _ => "different",
+    }
+}
+
 /// Returns the line for a structure that is refused.
 fn refused(alloc: Global, kind: ErrorKind) -> Result<String, AllocError> {
     format!(in alloc; "refused: {kind:?}")
+}
+
+/// Returns the line for an EC private key.
+fn ec_private_key_line(alloc: Global, bytes: &[u8]) -> Result<String, AllocError> {
+    match EcPrivateKey::try_from(bytes) {
+        Ok(key) => {
+            let fields = ec_private_key(alloc, &key)?;
+            let written = written_key(alloc, &key, bytes);
+            format!(in alloc; "{fields} {written}")
+        }
+        Err(error) => format!(in alloc; "refused: {}", error_name(alloc, &error)?),
+    }
 }
 
 /// Returns the line for a certificate.
@@ -87,27 +115,17 @@ fn signature_line(alloc: Global, bytes: &[u8]) -> Result<String, AllocError> {
     }
 }
 
-/// Returns the line to print for a word and hexadecimal digits.
-fn answer(alloc: Global, line: &str) -> Result<String, AllocError> {
-    let Some((word, digits)) = line.split_once(' ') else {
-        return "not a word and digits".to_string(alloc);
+/// Returns the line for a structure with this name. `rest` has its digits.
+pub fn answer(alloc: Global, name: &[u8], rest: &[u8]) -> Result<String, AllocError> {
+    let Ok(bytes) = hex::decode(alloc, rest) else {
+        return "no such line".to_string(alloc);
     };
-    let Ok(bytes) = hex::decode(alloc, digits) else {
-        return "not hexadecimal".to_string(alloc);
-    };
-    match word {
-        "certificate" => certificate_line(alloc, &bytes),
-        "public-key-info" => public_key_line(alloc, &bytes),
-        "private-key-info" => private_key_line(alloc, &bytes),
-        "signature" => signature_line(alloc, &bytes),
-        _ => "not a word of a structure".to_string(alloc),
+    match name {
+        b"ec-private-key" => ec_private_key_line(alloc, &bytes),
+        b"certificate" => certificate_line(alloc, &bytes),
+        b"public-key-info" => public_key_line(alloc, &bytes),
+        b"private-key-info" => private_key_line(alloc, &bytes),
+        b"signature" => signature_line(alloc, &bytes),
+        _ => "no such line".to_string(alloc),
     }
-}
-
-fn main(rt: HostRuntime) -> io::Result<()> {
-    for line in BufReader::new(rt.alloc(), rt.reader())?.lines(rt.alloc()) {
-        let line = line?;
-        println!(&rt; "{}", answer(rt.alloc(), &line)?)?;
-    }
-    Ok(())
 }

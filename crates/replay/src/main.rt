@@ -1,6 +1,8 @@
-//! Makes the calls that need memory, streams or files, and single ones, each line of standard input
-//! naming one, and prints how it ends.
+//! Makes the calls that the lines of standard input name, and prints how each ends. Lines that
+//! begin with `#` are skipped.
 //!
+//! `ec-private-key DIGITS`, `certificate DIGITS`, `public-key-info DIGITS`, `private-key-info
+//! DIGITS`, `signature DIGITS`: the structure is read and written again.
 //! `point N DIGITS`: each call that allocates, of the point with this encoding at field elements of
 //! N bytes.
 //! `key P C Q`: each call that allocates, of the key with a private key of P bytes, the curve whose
@@ -14,10 +16,11 @@
 //! `write KIND P PATH`, `read KIND PATH`: one call on a file, of a `key` or a `document`.
 //! `file P PATH`: each call on a file. `refuse PATH`: a key type that refuses.
 //!
-//! `tests/calls` makes the lines, and says what is printed.
+//! `tests/keys`, `tests/certificates` and `tests/calls` make the lines, and say what is printed.
 #![tactic(auto)]
 
 mod calls;
+mod fields;
 mod files;
 mod keys;
 mod points;
@@ -25,6 +28,7 @@ mod refusals;
 mod results;
 mod shown;
 mod streams;
+mod structures;
 mod words;
 
 use std::alloc::{AllocError, Global};
@@ -51,13 +55,16 @@ fn answer<H: Files>(rt: &H, alloc: Global, line: &str) -> Result<String, AllocEr
         b"hidden" => shown::hidden(alloc, rest),
         b"show_point" => shown::point(alloc, rest),
         b"refuse" => refusals::answer(rt, alloc, rest),
-        _ => "no such line".to_string(alloc),
+        _ => structures::answer(alloc, name, rest),
     }
 }
 
 fn main(rt: HostRuntime) -> io::Result<()> {
     for line in BufReader::new(rt.alloc(), rt.reader())?.lines(rt.alloc()) {
-        println!(&rt; "{}", answer(&rt, rt.alloc(), &line?)?)?;
+        let line = line?;
+        if !line.starts_with('#') {
+            println!(&rt; "{}", answer(&rt, rt.alloc(), &line)?)?;
+        }
     }
     Ok(())
 }
