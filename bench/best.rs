@@ -1,7 +1,7 @@
 //! Keys, identifiers and points as quick as safe Rust reads and writes them: short forms first and in line, the rest out
 //! of line, and no copy of what can be borrowed. It accepts what `sec1` accepts, which `main.rs` tests.
 #![allow(mismatched_lifetime_syntaxes)]
-use peer::{Error, Result};
+use peer::{Error, IDENTIFIER_CONTENT_MAX, IDENTIFIER_TEXT_MAX, Result};
 use std::cmp::Ordering;
 
 /// The element with this tag that the bytes begin with: its content, and the bytes behind it. A length of one byte, which
@@ -71,7 +71,7 @@ fn is_other_content(content: &[u8]) -> bool {
             0
         };
     }
-    !inside && !content.is_empty() && content.len() <= 39
+    !inside && !content.is_empty() && content.len() <= IDENTIFIER_CONTENT_MAX
 }
 
 impl<'a> Identifier<'a> {
@@ -89,7 +89,7 @@ impl<'a> Identifier<'a> {
     }
 
     /// Writes the dotted text into the buffer, digit by digit from the end of each number, and returns its length.
-    pub fn to_text(&self, text: &mut [u8; 158]) -> usize {
+    pub fn to_text(&self, text: &mut [u8; IDENTIFIER_TEXT_MAX]) -> usize {
         let mut len = 0;
         let mut number: u32 = 0;
         for &byte in self.0 {
@@ -128,7 +128,7 @@ fn decimal(mut number: u32, text: &mut [u8]) -> usize {
 
 /// An identifier's content that was made from its text.
 pub struct Content {
-    bytes: [u8; 39],
+    bytes: [u8; IDENTIFIER_CONTENT_MAX],
     len: usize,
 }
 
@@ -136,7 +136,7 @@ impl Content {
     /// Reads a dotted text in one pass over its characters.
     pub fn parse(text: &str) -> Result<Content> {
         let mut content = Content {
-            bytes: [0; 39],
+            bytes: [0; IDENTIFIER_CONTENT_MAX],
             len: 0,
         };
         let (mut first, mut count, mut rest) = (0, 0, text.as_bytes());
@@ -175,7 +175,7 @@ impl Content {
 
     fn push(&mut self, number: u64) -> Result<()> {
         let digits = (64 - (number | 1).leading_zeros() as usize).div_ceil(7);
-        if number >> 32 != 0 || self.len + digits > 39 {
+        if number >> 32 != 0 || self.len + digits > IDENTIFIER_CONTENT_MAX {
             return Err(Error::Value);
         }
         for i in 0..digits {
@@ -459,7 +459,7 @@ impl std::fmt::Display for Point {
 
 impl Identifier<'_> {
     pub fn text(&self) -> String {
-        let mut text = [0; 158];
+        let mut text = [0; IDENTIFIER_TEXT_MAX];
         let len = self.to_text(&mut text);
         String::from(std::str::from_utf8(&text[..len]).expect("digits"))
     }

@@ -7,7 +7,7 @@
 //!     main repeat LINE ours|peer|best|openssl COUNT     runs one side of one line so often, for a profiler
 mod heap;
 
-use peer::calls;
+use peer::{IDENTIFIER_CONTENT_MAX, IDENTIFIER_TEXT_MAX, calls};
 use std::arch::global_asm;
 use std::hint::black_box;
 use std::time::Instant;
@@ -804,26 +804,26 @@ fn c_lines(inputs: &Inputs) -> Vec<Line<'_>> {
         ),
         c!(
             "C: sec1_identifier_to_text",
-            ([0u8; 158], 0),
-            |o: &([u8; 158], usize)| o.1,
+            ([0u8; IDENTIFIER_TEXT_MAX], 0),
+            |o: &([u8; IDENTIFIER_TEXT_MAX], usize)| o.1,
             |out| sec1_identifier_to_text(
                 black_box(&CURVE).as_ptr(),
                 8,
                 out.0.as_mut_ptr(),
-                158,
+                IDENTIFIER_TEXT_MAX,
                 &mut out.1
             ),
             c_identifier_to_text(black_box(&CURVE), &mut out.0, &mut out.1)
         ),
         c!(
             "C: sec1_identifier_from_text",
-            ([0u8; 39], 0),
-            |o: &([u8; 39], usize)| o.1,
+            ([0u8; IDENTIFIER_CONTENT_MAX], 0),
+            |o: &([u8; IDENTIFIER_CONTENT_MAX], usize)| o.1,
             |out| sec1_identifier_from_text(
                 black_box(DOTTED).as_ptr(),
                 DOTTED.len(),
                 out.0.as_mut_ptr(),
-                39,
+                IDENTIFIER_CONTENT_MAX,
                 &mut out.1
             ),
             c_identifier_from_text(black_box(DOTTED), &mut out.0, &mut out.1)

@@ -7,6 +7,12 @@ use std::io::{self, Read, Write};
 /// The most bytes of a content.
 const MAX: usize = 0x0FFF_FFFF;
 
+/// The most bytes of an identifier's content.
+pub const IDENTIFIER_CONTENT_MAX: usize = 39;
+
+/// The most bytes of an identifier's text, with a byte behind it.
+pub const IDENTIFIER_TEXT_MAX: usize = 4 * IDENTIFIER_CONTENT_MAX + 2;
+
 /// The most bytes that are asked for in one read of a content.
 const STEP: usize = 4096;
 
@@ -116,14 +122,14 @@ fn only(bytes: &[u8], tag: u8) -> Result<&[u8]> {
 
 #[derive(Clone, Copy)]
 pub struct Identifier {
-    bytes: [u8; 39],
+    bytes: [u8; IDENTIFIER_CONTENT_MAX],
     len: usize,
 }
 
 use Identifier as Content;
 
 const ID_EC_PUBLIC_KEY: Identifier = {
-    let mut bytes = [0; 39];
+    let mut bytes = [0; IDENTIFIER_CONTENT_MAX];
     let content = [0x2A, 0x86, 0x48, 0xCE, 0x3D, 0x02, 0x01];
     let mut i = 0;
     while i < content.len() {
@@ -135,7 +141,7 @@ const ID_EC_PUBLIC_KEY: Identifier = {
 
 impl Identifier {
     pub fn from_bytes(content: &[u8]) -> Result<Identifier> {
-        if content.is_empty() || content.len() > 39 {
+        if content.is_empty() || content.len() > IDENTIFIER_CONTENT_MAX {
             return Err(Error::Value);
         }
         let mut number: u32 = 0;
@@ -154,7 +160,7 @@ impl Identifier {
         if inside {
             return Err(Error::Value);
         }
-        let mut bytes = [0; 39];
+        let mut bytes = [0; IDENTIFIER_CONTENT_MAX];
         bytes[..content.len()].copy_from_slice(content);
         Ok(Identifier {
             bytes,
@@ -170,7 +176,7 @@ impl Identifier {
             return Err(Error::Value);
         }
         let mut identifier = Identifier {
-            bytes: [0; 39],
+            bytes: [0; IDENTIFIER_CONTENT_MAX],
             len: 0,
         };
         identifier.push(second.checked_add(40 * first).ok_or(Error::Value)?)?;
@@ -201,10 +207,10 @@ impl Identifier {
         self.to_string()
     }
 
-    fn to_text(&self, text: &mut [u8; 158]) -> usize {
+    fn to_text(&self, text: &mut [u8; IDENTIFIER_TEXT_MAX]) -> usize {
         let mut rest = &mut text[..];
         write!(rest, "{self}").expect("enough room");
-        158 - rest.len()
+        IDENTIFIER_TEXT_MAX - rest.len()
     }
 }
 
@@ -1104,7 +1110,7 @@ macro_rules! calls {
             let Ok(identifier) = Identifier::from_bytes(content) else {
                 return 5;
             };
-            let mut text = [0; 158];
+            let mut text = [0; $crate::IDENTIFIER_TEXT_MAX];
             *len = identifier.to_text(&mut text) + 1;
             match out.get_mut(..*len) {
                 Some(room) => room.copy_from_slice(&text[..*len]),

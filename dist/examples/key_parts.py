@@ -3,6 +3,9 @@ import ctypes
 import sys
 from ctypes import POINTER, Structure, byref, c_char, c_char_p, c_size_t, c_uint32
 
+# as in sec1.h
+SEC1_IDENTIFIER_TEXT_MAX = 158
+
 
 class Part(Structure):
     _fields_ = [("offset", c_size_t), ("len", c_size_t), ("present", c_size_t)]
@@ -60,8 +63,8 @@ def main(library, file):
     print(f"private key: {parts.private_key.len} bytes at {parts.private_key.offset}")
     curve = parts.curve.of(key)
     if curve is not None:
-        text, length = ctypes.create_string_buffer(158), c_size_t()
-        status = sec1.sec1_identifier_to_text(curve, len(curve), text, 158, byref(length))
+        text, length = ctypes.create_string_buffer(SEC1_IDENTIFIER_TEXT_MAX), c_size_t()
+        status = sec1.sec1_identifier_to_text(curve, len(curve), text, len(text), byref(length))
         name = (sec1.sec1_status_text(status) if status else text.value).decode()
         print(f"curve: {name}")
     public_key = parts.public_key.of(key)

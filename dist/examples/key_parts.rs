@@ -2,6 +2,9 @@
 
 use std::ffi::{c_char, CStr};
 
+/// As in sec1.h.
+const SEC1_IDENTIFIER_TEXT_MAX: usize = 158;
+
 #[repr(C)]
 #[derive(Clone, Copy, Default)]
 struct Part {
@@ -71,7 +74,7 @@ fn read_key(bytes: &[u8]) -> Result<KeyParts, u32> {
 
 /// Returns the dotted text of an identifier.
 fn identifier_text(content: &[u8]) -> Option<String> {
-    let (mut text, mut len) = ([0; 158], 0);
+    let (mut text, mut len) = ([0; SEC1_IDENTIFIER_TEXT_MAX], 0);
     let status = unsafe {
         sec1_identifier_to_text(
             content.as_ptr(),

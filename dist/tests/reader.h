@@ -82,13 +82,16 @@ struct arcs {
     uint32_t arc[64];
 };
 
+/* The most bytes of an identifier's content. */
+enum { LONGEST_IDENTIFIER = 39 };
+
 /* Whether the bytes are the content of an identifier. Its arcs are stored. */
 static int is_identifier(const uint8_t *bytes, size_t len, struct arcs *arcs)
 {
     uint64_t number = 0;
     int inside = 0;
     arcs->count = 0;
-    if (len == 0 || len > 39)
+    if (len == 0 || len > LONGEST_IDENTIFIER)
         return 0;
     for (size_t i = 0; i < len; i++) {
         if (!inside && bytes[i] == 0x80)
@@ -164,7 +167,7 @@ static size_t put_content(uint8_t content[48], const char *text, size_t text_len
             return 0;
         while (arcs[i] >> (7 * digits))
             digits++;
-        if (len + (size_t)digits > 39)
+        if (len + (size_t)digits > LONGEST_IDENTIFIER)
             return 0;
         while (digits--)
             content[len++] = (uint8_t)((digits ? 0x80 : 0) | (arcs[i] >> (7 * digits) & 0x7F));

@@ -83,15 +83,18 @@ fn only(bytes: &[u8], tag: u8) -> Result<&[u8]> {
     Ok(content)
 }
 
+/// The most bytes of an identifier's content.
+const IDENTIFIER_CONTENT_MAX: usize = 39;
+
 #[derive(Clone, Copy)]
 pub struct Identifier {
-    bytes: [u8; 39],
+    bytes: [u8; IDENTIFIER_CONTENT_MAX],
     len: usize,
 }
 
 impl Identifier {
     pub fn from_bytes(content: &[u8]) -> Result<Identifier> {
-        if content.is_empty() || content.len() > 39 {
+        if content.is_empty() || content.len() > IDENTIFIER_CONTENT_MAX {
             return Err(Error::Value);
         }
         let mut number: u32 = 0;
@@ -106,7 +109,7 @@ impl Identifier {
         if inside {
             return Err(Error::Value);
         }
-        let mut bytes = [0; 39];
+        let mut bytes = [0; IDENTIFIER_CONTENT_MAX];
         bytes[..content.len()].copy_from_slice(content);
         Ok(Identifier { bytes, len: content.len() })
     }
@@ -118,7 +121,7 @@ impl Identifier {
         if first > 2 || (first < 2 && second >= 40) {
             return Err(Error::Value);
         }
-        let mut identifier = Identifier { bytes: [0; 39], len: 0 };
+        let mut identifier = Identifier { bytes: [0; IDENTIFIER_CONTENT_MAX], len: 0 };
         identifier.push(second.checked_add(40 * first).ok_or(Error::Value)?)?;
         for arc in arcs {
             identifier.push(arc?)?;
