@@ -104,9 +104,15 @@ class Crate:
         return sum(not re.search(r"\.fn\.|\+|\.TheImpl\.", it) for it in names)
 
 
+def lines_of(top):
+    """Returns the line of each of the repository's crates, and not the comments between them."""
+    lines = (top / "crates.txt").read_text().splitlines()
+    return [it for it in lines if re.match(r"\w+( staticlib)?:", it)]
+
+
 def uses_of(top):
     """Returns the names of the repository's crates, each with those that it uses itself."""
-    lines = [it.partition(":") for it in (top / "crates.txt").read_text().splitlines() if ":" in it]
+    lines = [it.partition(":") for it in lines_of(top)]
     names = [name.split()[0] for name, _, _ in lines]
     return {
         name: [it for it in used.split() if it in names] for name, (_, _, used) in zip(names, lines)
@@ -139,8 +145,8 @@ def sum_of(top, name, *more):
     the kit."""
     names = [*below_of(top, name), name]
     found = hashlib.sha256(repr([kit(), *more]).encode())
-    lines = (top / "crates.txt").read_text().splitlines()
-    found.update(repr([it for it in lines if it.split(":")[0].split(" ")[0] in names]).encode())
+    lines = [it for it in lines_of(top) if re.match(r"\w+", it)[0] in names]
+    found.update(repr(lines).encode())
     found.update((top / "HANDLES").read_bytes())
     for it in names:
         for file in files_of(top / "crates" / it):
@@ -204,9 +210,8 @@ def room_of(top, name, kept):
     below = below_of(top, name)
     with tempfile.TemporaryDirectory(prefix=f"{name}-") as made:
         room = Path(made)
-        lines = (top / "crates.txt").read_text().splitlines(keepends=True)
-        uses = [it for it in lines if re.match(r"\w+", it)[0] in [*below, name]]
-        (room / "crates.txt").write_text("".join(uses))
+        uses = [it for it in lines_of(top) if re.match(r"\w+", it)[0] in [*below, name]]
+        (room / "crates.txt").write_text("".join(f"{it}\n" for it in uses))
         shutil.copy2(top / "HANDLES", room)
         for used in below:
             copy_crate(Crate(top, used), room / "crates" / used, ["rlib"])
