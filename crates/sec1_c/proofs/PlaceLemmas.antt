@@ -7,21 +7,21 @@ use Rattle.sec1_der.specs.Elements.{element, header}
 use Rattle.sec1_der.specs.Identifiers.{content_of}
 use Rattle.sec1_der.specs.Trees.{leaf, branch, row, joined}
 use Rattle.sec1.specs.Keys.{Key, IsKeyOf}
-use Rattle.sec1_c.specs.Places.{StandsAt, IsPart, part_before}
+use Rattle.sec1_c.specs.Places.{StandsAt, IsPart, span_before}
 use Rattle.sec1_c.specs.KeyPlaces.{ArePartsOf, AreWithin, content_len, key_places, parameters_bytes, public_key_bytes}
 use Rattle.sec1_c.specs.declared.key.KeyParts.{KeyParts}
 
 -- what is between a front and a rest, by where the rest begins
 pub stands_before : (input front part rest : List ℕ) (end : ℕ) → input ≡ front ++ (part ++ rest) → end + length rest
     ≡ length input
-    → StandsAt input (part_before end (Some (length part))) part
+    → StandsAt input (span_before end (Some (length part))) part
 stands_before input front part rest end split ends = grind (arith, take_at, drop_at, length-append)
 
 -- the content of a field ends before the end of the field
 field_stands : (outer inner : ℕ) (unused input front part rest : List ℕ) (end : ℕ)
     → input ≡ front ++ (joined (row (branch outer (row (leaf inner (unused ++ part) ∷ [])) ∷ [])) ++ rest)
     → end + length rest ≡ length input
-    → StandsAt input (part_before end (Some (length part))) part
+    → StandsAt input (span_before end (Some (length part))) part
 field_stands outer inner unused input front part rest end split ends =
     let content = unused ++ part in
     let headers = header outer (length (element inner content)) ++ (header inner (length content) ++ unused) in
@@ -30,7 +30,7 @@ field_stands outer inner unused input front part rest end split ends =
 -- the content of the curve's identifier ends before the end of the field [0], if present
 curve_stands : (input front : List ℕ) (parameters : Option (List ℕ)) (rest : List ℕ) (end : ℕ)
     → input ≡ front ++ (parameters_bytes parameters ++ rest) → end + length rest ≡ length input
-    → IsPart input (part_before end (option_map content_len parameters)) (option_map content_of parameters)
+    → IsPart input (span_before end (option_map content_len parameters)) (option_map content_of parameters)
 curve_stands input front None rest end split ends = record { present = refl; offset = refl; len = refl }
 curve_stands input front (Some arcs) rest end split ends =
     field_stands 0xA0 0x06 [] input front (content_of arcs) rest end split ends
@@ -38,7 +38,7 @@ curve_stands input front (Some arcs) rest end split ends =
 -- the bytes of the public key end before the end of the field [1], if present
 public_stands : (input front : List ℕ) (public_key : Option (List ℕ)) → input ≡ front
     ++ public_key_bytes public_key
-    → IsPart input (part_before (length input) (option_map (λ bytes. length bytes) public_key)) public_key
+    → IsPart input (span_before (length input) (option_map (λ bytes. length bytes) public_key)) public_key
 public_stands input front None split = record { present = refl; offset = refl; len = refl }
 public_stands input front (Some bytes) split =
     field_stands 0xA1 0x03 (0 ∷ []) input front bytes [] (length input) (grind (arith, append-nil)) (omega arith)

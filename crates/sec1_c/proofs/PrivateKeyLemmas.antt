@@ -21,9 +21,9 @@ use Rattle.sec1_der.specs.declared.error.ErrorKind.TheVariants.{Tag}
 use Rattle.pkix.specs.EcKeys.{IsOnCurve}
 use Rattle.sec1_c.specs.Containers.{IsContainer, after_key, container_content, container_places}
 use Rattle.sec1_c.specs.KeyPlaces.{key_places}
-use Rattle.sec1_c.specs.Places.{IsPart, StandsAt, part_behind}
+use Rattle.sec1_c.specs.Places.{IsPart, StandsAt, span_shifted}
 use Rattle.sec1_c.specs.PrivateKeys.{AreContainedPartsOf, IsKeyIn, contained_places, has_algorithm, tag_fault}
-use Rattle.sec1_c.specs.declared.part.Part.{Part}
+use Rattle.sec1_c.specs.declared.span.Span.{Span}
 use Rattle.sec1_c.proofs.ContainerLemmas.{are_container_parts}
 use Rattle.sec1_c.proofs.PlaceLemmas.{are_parts, parts_within}
 
@@ -155,22 +155,22 @@ at_place input start most offset len fits =
     )
     refl
 
-moved : (start : ℕ) (part : Part) → part.present ≡ 1
-    → part_behind start part ≡ record { offset = start + part.offset; len = part.len; present = part.present }
+moved : (start : ℕ) (part : Span) → part.present ≡ 1
+    → span_shifted start part ≡ record { offset = start + part.offset; len = part.len; present = part.present }
 moved start part is =
     let present : (part.present == 0) ≡ false = rw is refl in
     ap (λ b. if b then part else record { offset = start + part.offset; len = part.len; present = part.present })
     present
 
-kept : (start : ℕ) (part : Part) → part.present ≡ 0 → part_behind start part ≡ part
+kept : (start : ℕ) (part : Span) → part.present ≡ 0 → span_shifted start part ≡ part
 kept start part is =
     let absent : (part.present == 0) ≡ true = rw is refl in
     ap (λ b. if b then part else record { offset = start + part.offset; len = part.len; present = part.present })
     absent
 
-stands_inside : (input content bytes : List ℕ) (outer inner : Part) → StandsAt input outer content
+stands_inside : (input content bytes : List ℕ) (outer inner : Span) → StandsAt input outer content
     → StandsAt content inner bytes
-    → StandsAt input (part_behind outer.offset inner) bytes
+    → StandsAt input (span_shifted outer.offset inner) bytes
 stands_inside input content bytes outer inner is inside =
     let short : length content ≤ outer.len = rw (← is.bytes_are) (grind (arith, length-take)) in
     let fits : inner.offset + inner.len ≤ outer.len = omega (arith, inside.within, short) in
@@ -182,9 +182,9 @@ stands_inside input content bytes outer inner is inside =
       bytes_are = sym (at_place input outer.offset outer.len inner.offset inner.len fits) ∙ there;
     })
 
-part_inside : (input content : List ℕ) (bytes : Option (List ℕ)) (outer inner : Part) → StandsAt input outer content
+part_inside : (input content : List ℕ) (bytes : Option (List ℕ)) (outer inner : Span) → StandsAt input outer content
     → IsPart content inner bytes
-    → IsPart input (part_behind outer.offset inner) bytes
+    → IsPart input (span_shifted outer.offset inner) bytes
 part_inside input content None outer inner is inside = rw (kept outer.offset inner inside.present) inside
 part_inside input content (Some bytes) outer inner is inside = stands_inside input content bytes outer inner is inside
 

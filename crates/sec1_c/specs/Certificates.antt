@@ -9,8 +9,8 @@ use Rattle.pkix.specs.declared.certificate.Certificate.{Certificate}
 use Rattle.sec1_der.specs.Elements.{element_of}
 use Rattle.sec1_der.specs.Parts.{join, optional_of}
 use Rattle.sec1_c.specs.Fields.{bytes_len}
-use Rattle.sec1_c.specs.Places.{part_before}
-use Rattle.sec1_c.specs.declared.part.Part.{Part}
+use Rattle.sec1_c.specs.Places.{span_before}
+use Rattle.sec1_c.specs.declared.span.Span.{Span}
 
 -- RFC 5280 section 4.1: the bytes are those of this Certificate
 abbrev pub IsCertificate : Certificate → List ℕ → Type 0
@@ -40,8 +40,8 @@ after_tbs certificate =
 
 -- the place of the SubjectPublicKeyInfo, counted from the end of the input by the lengths of the
 -- fields
-abbrev pub info_place : Certificate → List ℕ → Part
+abbrev pub info_place : Certificate → List ℕ → Span
 info_place certificate input =
-    part_before
+    span_before
     (length input - bytes_len (after_tbs certificate) - bytes_len (after_info certificate))
     (Some (bytes_len (info_of certificate)))

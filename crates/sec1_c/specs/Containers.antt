@@ -13,7 +13,7 @@ use Rattle.pkix.specs.declared.private_key.PrivateKeyInfo.{PrivateKeyInfo}
 use Rattle.sec1_der.specs.Elements.{element_of}
 use Rattle.sec1_der.specs.Parts.{join, optional_of}
 use Rattle.sec1_c.specs.Fields.{bytes_len}
-use Rattle.sec1_c.specs.Places.{StandsAt, part_before}
+use Rattle.sec1_c.specs.Places.{StandsAt, span_before}
 use Rattle.sec1_c.specs.declared.container.PrivateKeyInfoParts.{PrivateKeyInfoParts}
 
 -- RFC 5958 section 2: what follows the private key, attributes [0] IMPLICIT Attributes OPTIONAL and
@@ -77,10 +77,10 @@ key_end container input = length input - bytes_len (after_key container)
 abbrev pub container_places : Curve → OneAsymmetricKey → List ℕ → PrivateKeyInfoParts
 container_places curve container input = record {
   curve =
-      part_before
+      span_before
       (key_end container input - bytes_len (element_of 0x04 (Some container.private_key)))
       (Some (length (curve_content curve)));
-  key = part_before (key_end container input) (Some (length container.private_key));
+  key = span_before (key_end container input) (Some (length container.private_key));
 }
 
 -- the index at which the algorithm begins, which ends where the OCTET STRING begins

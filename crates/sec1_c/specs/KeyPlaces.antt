@@ -5,7 +5,7 @@ use Rattle.sec1_der.specs.Identifiers.{content_of}
 use Rattle.sec1_der.specs.Trees.{leaf, row, joined}
 use Rattle.sec1.specs.Keys.{Key, IsKeyOf, field}
 use Rattle.sec1_c.specs.GivenKeys.{IsGiven}
-use Rattle.sec1_c.specs.Places.{IsPart, IsWithin, StandsAt, bytes_at, part_before}
+use Rattle.sec1_c.specs.Places.{IsPart, IsWithin, StandsAt, bytes_at, span_before}
 use Rattle.sec1_c.specs.declared.key.KeyParts.{KeyParts}
 
 -- the bytes are those of some key
@@ -54,7 +54,7 @@ private_key_end key input =
 -- the places of the parts, counted from the end of the input by the lengths of the fields
 abbrev pub key_places : Key → List ℕ → KeyParts
 key_places key input = record {
-  private_key = part_before (private_key_end key input) (Some (length key.private_key));
-  curve = part_before (parameters_end key input) (option_map content_len key.parameters);
-  public_key = part_before (length input) (option_map (λ bytes. length bytes) key.public_key);
+  private_key = span_before (private_key_end key input) (Some (length key.private_key));
+  curve = span_before (parameters_end key input) (option_map content_len key.parameters);
+  public_key = span_before (length input) (option_map (λ bytes. length bytes) key.public_key);
 }

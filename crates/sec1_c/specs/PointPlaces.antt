@@ -2,7 +2,7 @@
 use Rattle.std.specs.Prelude.{◌≡◌, ◌+◌, ℕ, List}
 use Rattle.std.specs.Option.{option_map}
 use Rattle.sec1.specs.Points.{Point, tag_byte, x_of, y_of, fixed_width}
-use Rattle.sec1_c.specs.Places.{IsPart, part_from}
+use Rattle.sec1_c.specs.Places.{IsPart, span_from}
 use Rattle.sec1_c.specs.declared.point.PointParts.{PointParts}
 
 -- the tag of the point, and its coordinates in n bytes each, if its encoding has them
@@ -15,6 +15,6 @@ pub record ArePointPartsOf (n : ℕ) (p : Point) (input : List ℕ) (parts : Poi
 abbrev pub point_places : ℕ → Point → PointParts
 point_places n p = record {
   tag = tag_byte p;
-  x = part_from 1 (option_map (λ (_ : ℕ). n) (x_of p));
-  y = part_from (1 + n) (option_map (λ (_ : ℕ). n) (y_of p));
+  x = span_from 1 (option_map (λ (_ : ℕ). n) (x_of p));
+  y = span_from (1 + n) (option_map (λ (_ : ℕ). n) (y_of p));
 }

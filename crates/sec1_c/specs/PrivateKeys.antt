@@ -12,7 +12,7 @@ use Rattle.sec1_der.specs.Faults.{Fault, element_fault, no_fault}
 use Rattle.sec1_der.specs.declared.error.ErrorKind.TheVariants.{Tag, Truncated}
 use Rattle.sec1_c.specs.Containers.{IsContainer, container_places, key_end}
 use Rattle.sec1_c.specs.KeyPlaces.{key_places}
-use Rattle.sec1_c.specs.Places.{IsPart, StandsAt, part_behind}
+use Rattle.sec1_c.specs.Places.{IsPart, StandsAt, span_shifted}
 use Rattle.sec1_c.specs.declared.container.PrivateKeyInfoParts.{PrivateKeyInfoParts}
 use Rattle.sec1_c.specs.declared.key.KeyParts.{KeyParts}
 
@@ -55,9 +55,9 @@ pub record AreContainedPartsOf (curve : Curve) (key : Key) (input : List ℕ)
 -- curve in the container's algorithm
 abbrev pub places_behind : PrivateKeyInfoParts → KeyParts → KeyParts
 places_behind outer inner = record {
-  private_key = part_behind outer.key.offset inner.private_key;
+  private_key = span_shifted outer.key.offset inner.private_key;
   curve = outer.curve;
-  public_key = part_behind outer.key.offset inner.public_key;
+  public_key = span_shifted outer.key.offset inner.public_key;
 }
 
 -- the places of the parts in the bytes of the container

@@ -9,7 +9,7 @@ use Rattle.pkix.specs.declared.public_key.SubjectPublicKeyInfo.{SubjectPublicKey
 use Rattle.sec1.specs.Points.{Point}
 use Rattle.sec1_der.specs.Elements.{element, element_of}
 use Rattle.sec1_c.specs.Fields.{bytes_len}
-use Rattle.sec1_c.specs.Places.{StandsAt, part_before}
+use Rattle.sec1_c.specs.Places.{StandsAt, span_before}
 use Rattle.sec1_c.specs.declared.public_key.PublicKeyParts.{PublicKeyParts}
 
 -- RFC 5280 section 4.1: the bytes are those of this SubjectPublicKeyInfo
@@ -44,9 +44,9 @@ key_field_len key = length (element 0x03 (0 ∷ key))
 -- content where the key's BIT STRING begins.
 abbrev pub public_key_places : Curve → SubjectPublicKeyInfo → List ℕ → PublicKeyParts
 public_key_places curve info input = record {
-  curve = part_before (length input - key_field_len info.public_key.bytes)
+  curve = span_before (length input - key_field_len info.public_key.bytes)
       (Some (length (curve_content curve)));
-  public_key = part_before (length input) (Some (length info.public_key.bytes));
+  public_key = span_before (length input) (Some (length info.public_key.bytes));
 }
 
 -- the index at which the BIT STRING of the key begins, counted from the end of the input

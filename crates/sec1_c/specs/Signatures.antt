@@ -6,7 +6,7 @@ use Rattle.pkix.specs.declared.signature.EcdsaSigValue.{EcdsaSigValue}
 use Rattle.sec1_der.specs.Elements.{element_of}
 use Rattle.sec1_der.specs.Numbers.{number_of}
 use Rattle.sec1_c.specs.Fields.{bytes_len}
-use Rattle.sec1_c.specs.Places.{StandsAt, part_before}
+use Rattle.sec1_c.specs.Places.{StandsAt, span_before}
 use Rattle.sec1_c.specs.declared.signature.SignatureParts.{SignatureParts}
 
 -- the bytes are those of this signature
@@ -27,7 +27,7 @@ pub record AreSignaturePartsOf (value : EcdsaSigValue) (input : List ℕ)
 -- INTEGER s begins.
 abbrev pub signature_places : EcdsaSigValue → List ℕ → SignatureParts
 signature_places value input = record {
-  r = part_before (length input - bytes_len (element_of 0x02 (Some (unsigned_content value.s))))
+  r = span_before (length input - bytes_len (element_of 0x02 (Some (unsigned_content value.s))))
       (Some (length (unsigned_content value.r)));
-  s = part_before (length input) (Some (length (unsigned_content value.s)));
+  s = span_before (length input) (Some (length (unsigned_content value.s)));
 }

@@ -8,7 +8,7 @@ ghost use Rattle.sec1_c.specs.Places.{StandsAt};
 ghost use Rattle.sec1_c.specs.Statuses.{fault_number};
 
 use crate::fields::fields_len;
-use crate::part::Part;
+use crate::span::Span;
 use crate::status::{OK, kind_number};
 use pkix::Certificate;
 use sec1_der::Record;
@@ -22,7 +22,7 @@ use sec1_der::Record;
 /// leaves `part` unchanged.
 #[unsafe(no_mangle)]
 #[tactic(auto, using(crate::proofs::StatusLemmas::certificate_kind))]
-pub extern "C" fn sec1_certificate_read_public_key(bytes: &[u8], part: &mut Part) -> u32
+pub extern "C" fn sec1_certificate_read_public_key(bytes: &[u8], part: &mut Span) -> u32
     ensures found { result ≡ 0 → (certificate : Certificate)
         × IsCertificate certificate bytes.now }
     ensures only { (certificate : Certificate) → IsCertificate certificate bytes.now
@@ -45,12 +45,12 @@ pub extern "C" fn sec1_certificate_read_public_key(bytes: &[u8], part: &mut Part
 }
 
 /// Returns the place of the SubjectPublicKeyInfo in the certificate that was read from these bytes.
-fn public_key_place(bytes: &[u8], certificate: &Certificate) -> Part
+fn public_key_place(bytes: &[u8], certificate: &Certificate) -> Span
     requires { IsCertificate certificate.now bytes.now }
     ensures { result ≡ info_place certificate.now bytes.now }
 {
     let (_, after_tbs) = certificate.to_parts();
     let (_, (_, (info, after_info))) = certificate.tbs_certificate.to_parts();
     let end = bytes.len() - fields_len(&after_tbs) - fields_len(&after_info);
-    Part::before(end, Some(fields_len(&info)))
+    Span::before(end, Some(fields_len(&info)))
 }

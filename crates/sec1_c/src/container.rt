@@ -13,7 +13,7 @@ pub mod fault;
 mod write;
 
 use crate::fields::fields_len;
-use crate::part::Part;
+use crate::span::Span;
 use crate::status::{OK, curve_number, kind_number};
 use curves::Curve;
 use pkix::{OneAsymmetricKey, PrivateKeyInfo};
@@ -24,10 +24,10 @@ use sec1_der::{ErrorKind, Record, Result};
 #[derive(Clone, Copy)]
 pub struct PrivateKeyInfoParts {
     /// The content of the curve's object identifier, 5 to 9 bytes.
-    pub curve: Part,
+    pub curve: Span,
 
     /// The content of the OCTET STRING, which is the private key.
-    pub key: Part,
+    pub key: Span,
 }
 
 /// Reads an EC private key from its container, which is all of `bytes`, and stores the places of
@@ -119,7 +119,7 @@ pub fn places(bytes: &[u8], container: &OneAsymmetricKey, curve: Curve) -> Priva
     let (_, ((_, key), after_key)) = container.to_parts();
     let key_end = bytes.len() - fields_len(&after_key);
     PrivateKeyInfoParts {
-        curve: Part::before(key_end - fields_len(&key), Some(curve.content().len())),
-        key: Part::before(key_end, Some(container.private_key.bytes.len())),
+        curve: Span::before(key_end - fields_len(&key), Some(curve.content().len())),
+        key: Span::before(key_end, Some(container.private_key.bytes.len())),
     }
 }

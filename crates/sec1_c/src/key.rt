@@ -11,7 +11,7 @@ ghost use Rattle.sec1_c.specs.Statuses.{IsReadingNumber, fault_number, kind_numb
 pub mod given;
 pub mod places;
 
-use crate::part::Part;
+use crate::span::Span;
 use crate::status::{OK, error_number, kind_number};
 use given::key_given;
 use places::places;
@@ -23,13 +23,13 @@ use sec1::der::ErrorKind;
 #[derive(Clone, Copy)]
 pub struct KeyParts {
     /// The bytes of the private key. Always present.
-    pub private_key: Part,
+    pub private_key: Span,
 
     /// The content of the curve's object identifier, 1 to 39 bytes.
-    pub curve: Part,
+    pub curve: Span,
 
     /// The bytes of the public key, which may be none.
-    pub public_key: Part,
+    pub public_key: Span,
 }
 
 /// Reads a private key from its DER encoding, which is all of `bytes`, and stores the places of its

@@ -15,7 +15,7 @@ pub mod encoded;
 mod hexadecimal;
 mod made;
 
-use crate::part::Part;
+use crate::span::Span;
 use crate::status::{OK, error_number, field_length_number};
 use encoded::{compress, encoding_len, order_number, places, status_of, to_hybrid};
 use sec1::Error;
@@ -29,10 +29,10 @@ pub struct PointParts {
     pub tag: usize,
 
     /// The x-coordinate, absent only for the identity.
-    pub x: Part,
+    pub x: Span,
 
     /// The y-coordinate, present for uncompressed and hybrid points.
-    pub y: Part,
+    pub y: Span,
 }
 
 /// Checks that all of `bytes` is the encoding of a point over a field whose elements have

@@ -157,8 +157,8 @@ fn places_in(outer: &PrivateKeyInfoParts, inside: &[u8], key: &EcPrivateKey) -> 
 {
     let inner = key::places::places(inside, key);
     KeyParts {
-        private_key: inner.private_key.behind(outer.key.offset),
+        private_key: inner.private_key.shifted(outer.key.offset),
         curve: outer.curve,
-        public_key: inner.public_key.behind(outer.key.offset),
+        public_key: inner.public_key.shifted(outer.key.offset),
     }
 }

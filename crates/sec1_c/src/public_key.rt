@@ -16,8 +16,8 @@ ghost use Rattle.sec1_c.specs.Statuses.{curve_number, error_number, kind_number}
 mod fault;
 mod write;
 
-use crate::part::Part;
 use crate::point::encoded::status_of;
+use crate::span::Span;
 use crate::status::{OK, curve_number, error_number, kind_number};
 use curves::Curve;
 use der_types::Bits;
@@ -30,10 +30,10 @@ use sec1::der::{self, ErrorKind};
 #[derive(Clone, Copy)]
 pub struct PublicKeyParts {
     /// The content of the curve's object identifier, 5 to 9 bytes.
-    pub curve: Part,
+    pub curve: Span,
 
     /// The encoding of the point.
-    pub public_key: Part,
+    pub public_key: Span,
 }
 
 /// Reads an EC public key from its SubjectPublicKeyInfo, which is all of `bytes`, and stores the
@@ -94,8 +94,8 @@ fn places(bytes: &[u8], info: &SubjectPublicKeyInfo, curve: Curve, point: &[u8])
 {
     let field_start = bytes.len() - field_len_of(&info.public_key);
     PublicKeyParts {
-        curve: Part::before(field_start, Some(curve.content().len())),
-        public_key: Part::before(bytes.len(), Some(point.len())),
+        curve: Span::before(field_start, Some(curve.content().len())),
+        public_key: Span::before(bytes.len(), Some(point.len())),
     }
 }
 

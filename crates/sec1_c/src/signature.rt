@@ -13,7 +13,7 @@ mod number;
 
 use crate::encoding::write_value;
 use crate::fields::fields_len;
-use crate::part::Part;
+use crate::span::Span;
 use crate::status::{OK, kind_number};
 use number::Number;
 use pkix::EcdsaSigValue;
@@ -24,10 +24,10 @@ use sec1_der::{Distinct, Record, Required};
 #[derive(Clone, Copy)]
 pub struct SignatureParts {
     /// The content of the INTEGER r.
-    pub r: Part,
+    pub r: Span,
 
     /// The content of the INTEGER s.
-    pub s: Part,
+    pub s: Span,
 }
 
 /// Reads a signature from its DER encoding, which is all of `bytes`, and stores the places of the
@@ -66,8 +66,8 @@ fn places(bytes: &[u8], value: &EcdsaSigValue) -> SignatureParts
     let (_, s) = value.to_parts();
     let end = bytes.len() - fields_len(&s);
     SignatureParts {
-        r: Part::before(end, Some(value.r.as_bytes().len())),
-        s: Part::before(bytes.len(), Some(value.s.as_bytes().len())),
+        r: Span::before(end, Some(value.r.as_bytes().len())),
+        s: Span::before(bytes.len(), Some(value.s.as_bytes().len())),
     }
 }
 

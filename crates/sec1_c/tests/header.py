@@ -6,7 +6,7 @@ import sys
 
 ROOT = pathlib.Path(__file__).resolve().parent.parent
 STRUCTS = {
-    "Part": "struct sec1_part",
+    "Span": "struct sec1_part",
     "KeyParts": "struct sec1_key_parts",
     "PointParts": "struct sec1_point_parts",
     "PublicKeyParts": "struct sec1_public_key_parts",

@@ -10,7 +10,7 @@ ghost use Rattle.sec1_c.specs.KeyPlaces.{content_len, key_places, parameters_byt
 ghost use Rattle.sec1_c.specs.KeyPlaces.{public_key_bytes};
 
 use super::KeyParts;
-use crate::part::Part;
+use crate::span::Span;
 use sec1::der::{Context0, Explicit, ExplicitBits};
 use sec1::{EcParameters, EcPrivateKey, der};
 
@@ -23,9 +23,9 @@ pub fn places(bytes: &[u8], key: &EcPrivateKey) -> KeyParts
     let parameters_end = bytes.len() - public_key_field_len(key.public_key);
     let private_key_end = parameters_end - parameters_field_len(&key.parameters);
     KeyParts {
-        private_key: Part::before(private_key_end, Some(key.private_key.len())),
-        curve: Part::before(parameters_end, curve_len(&key.parameters)),
-        public_key: Part::before(bytes.len(), bytes_len(key.public_key)),
+        private_key: Span::before(private_key_end, Some(key.private_key.len())),
+        curve: Span::before(parameters_end, curve_len(&key.parameters)),
+        public_key: Span::before(bytes.len(), bytes_len(key.public_key)),
     }
 }
 

@@ -13,7 +13,7 @@ ghost use Rattle.sec1_c.specs.Statuses.{error_number, field_length_number};
 
 use super::PointParts;
 use crate::buffer::{write_bytes, write_tagged};
-use crate::part::Part;
+use crate::span::Span;
 use crate::status::{OK, error_number, field_length_number};
 use sec1::Error;
 use sec1::point::Tag;
@@ -66,8 +66,8 @@ pub fn places(bytes: &[u8], n: usize) -> PointParts
     let y = if has_y(tag) { Some(n) } else { None };
     PointParts {
         tag: usize::from(tag),
-        x: Part::from(1, x),
-        y: Part::from(1 + n, y),
+        x: Span::from(1, x),
+        y: Span::from(1 + n, y),
     }
 }
 

@@ -1,11 +1,11 @@
 //! The place of a part in the bytes that it was read from.
 ghost use Rattle.std.specs.Prelude.{◌≡◌, ◌≤◌, ◌<◌, ◌+◌, ◌^◌, IfSome};
-ghost use Rattle.sec1_c.specs.Places.{part_before, part_behind, part_from};
+ghost use Rattle.sec1_c.specs.Places.{span_before, span_from, span_shifted};
 
-/// A part of some bytes, by its place. All three numbers are 0 if the part is absent.
+/// The place of a part in some bytes. All three numbers are 0 if the part is absent.
 #[repr(C)]
 #[derive(Clone, Copy)]
-pub struct Part {
+pub struct Span {
     /// The index of the part's first byte.
     pub offset: usize,
 
@@ -16,15 +16,15 @@ pub struct Part {
     pub present: usize,
 }
 
-impl Part {
-    /// Returns the part of this length that ends at `end`, or the absent part.
-    pub fn before(end: usize, len: Option<usize>) -> Part
+impl Span {
+    /// Returns the place of this length that ends at `end`, or that of an absent part.
+    pub fn before(end: usize, len: Option<usize>) -> Span
         requires { IfSome len (λ len. len ≤ end) }
-        ensures { result ≡ part_before end len }
+        ensures { result ≡ span_before end len }
     {
         match len {
-            None => Part::absent(),
-            Some(len) => Part {
+            None => Span::absent(),
+            Some(len) => Span {
                 offset: end - len,
                 len,
                 present: 1,
@@ -32,13 +32,13 @@ impl Part {
         }
     }
 
-    /// Returns the part of this length that begins at `start`, or the absent part.
-    pub fn from(start: usize, len: Option<usize>) -> Part
-        ensures { result ≡ part_from start len }
+    /// Returns the place of this length that begins at `start`, or that of an absent part.
+    pub fn from(start: usize, len: Option<usize>) -> Span
+        ensures { result ≡ span_from start len }
     {
         match len {
-            None => Part::absent(),
-            Some(len) => Part {
+            None => Span::absent(),
+            Some(len) => Span {
                 offset: start,
                 len,
                 present: 1,
@@ -46,27 +46,26 @@ impl Part {
         }
     }
 
-    /// Returns the place of this part, which is that in bytes behind `start`, in the bytes around
-    /// them.
-    pub fn behind(self, start: usize) -> Part
+    /// Returns the place in bytes around those of this one, which begin at `start`.
+    pub fn shifted(self, start: usize) -> Span
         requires { start + self.offset < 2 ^ 64 }
-        ensures { result ≡ part_behind start self }
+        ensures { result ≡ span_shifted start self }
     {
         if self.present == 0 {
             return self;
         }
-        Part {
+        Span {
             offset: start + self.offset,
             len: self.len,
             present: self.present,
         }
     }
 
-    /// Returns the absent part.
-    fn absent() -> Part
+    /// Returns the place of an absent part.
+    fn absent() -> Span
         ensures { result ≡ record { offset = 0; len = 0; present = 0 } }
     {
-        Part {
+        Span {
             offset: 0,
             len: 0,
             present: 0,
