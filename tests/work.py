@@ -9,6 +9,7 @@ checkout. Rooms are made in TMPDIR, and are gone when the script ends, also by a
     RT      the command `rt`
     JOBS    how many processors to use; without it all that there is memory for
     BESIDE  set where something else needs half of the memory
+    DONE    a folder, which gets a file for each crate that is done with
 """
 
 import contextlib
@@ -162,6 +163,12 @@ def files_of(folder):
     return found + [folder / it for it in single if (folder / it).is_file()]
 
 
+def tell_done(name):
+    """Tells ./test that a crate is done with, proved or not."""
+    if os.environ.get("DONE"):
+        (Path(os.environ["DONE"]) / name).touch()
+
+
 def own_texts(name):
     """Returns the texts of a script of tests/ and of this file."""
     return [(TOP / "tests" / it).read_text() for it in (name, "work.py")]
@@ -241,9 +248,10 @@ def outs(crate):
 running, stopped = set(), threading.Event()
 
 
-def run_in(folder, command, given=None, env=None, see=None):
+def run_in(folder, command, given=None, env=None, see=None, seconds=None):
     """Runs a command in a folder, and returns how it ended and what it printed. `see` gets each
-    line of its output as it comes."""
+    line of its output as it comes. Without `see`, a command that has not ended after so many
+    seconds is killed, and TimeoutExpired is raised."""
     how = {"stdin": subprocess.DEVNULL if given is None else subprocess.PIPE}
     how.update(stdout=subprocess.PIPE, cwd=folder, env=env)
     with tempfile.TemporaryFile() as errors:
@@ -255,8 +263,13 @@ def run_in(folder, command, given=None, env=None, see=None):
             for line in process.stdout if see else ():
                 lines.append(line)
                 see(line.decode(errors="replace"))
-            output = b"".join(lines) if see else process.communicate(given)[0]
-        running.discard(process)
+            try:
+                output = b"".join(lines) if see else process.communicate(given, seconds)[0]
+            except subprocess.TimeoutExpired:
+                process.kill()
+                raise
+            finally:
+                running.discard(process)
         errors.seek(0)
         return subprocess.CompletedProcess(command, process.returncode, output, errors.read())
 
@@ -379,8 +392,8 @@ def count(passed, failed):
 
 
 def weight_of(crate):
-    """Returns about how long the proof of a crate takes: as its functions are many."""
-    return crate.functions() + 20
+    """Returns about how many seconds of one processor the proof of a crate takes."""
+    return 20 + sum(it.count("\n") for it in crate.sources()) / 7
 
 
 def last_lines(ran, number=15):
@@ -392,7 +405,7 @@ def last_lines(ran, number=15):
 def command_of(crate, given):
     """Returns the command that proves a crate, and its environment. A program is only checked."""
     if (crate.folder / "build.sh").exists():
-        return ["./build.sh"], {**os.environ, "JOBS": str(given)}
+        return ["./build.sh"], {**os.environ, "JOBS": str(given), "SEC1_C_BUILT": ""}
     verb = "check" if crate.is_program else "lib"
     return [*RT, verb, "--jobs", str(given)], None
 

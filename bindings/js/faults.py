@@ -1,7 +1,6 @@
 #!/usr/bin/env python3
-"""Plants one fault at a time into the package, in a temporary copy, and runs its tests: each fault
-has to be caught. It takes some minutes, so test.sh doesn't run it. It prints each fault with
-'caught' or 'NOT CAUGHT', and 'N passed, M failed' at the end.
+"""Plants one fault at a time into the package, and runs its tests, which have to fail: see
+../plant.py.
 
   bindings/js/faults.py [FIRST [STEP]]    each STEP-th fault from FIRST on, by default all of them
 """
@@ -9,9 +8,12 @@ import pathlib
 import shutil
 import subprocess
 import sys
-import tempfile
 
+sys.dont_write_bytecode = True
 HERE = pathlib.Path(__file__).resolve().parent
+sys.path.insert(0, str(HERE.parent))
+import plant  # noqa: E402
+
 FAULTS = [
     # the memory of a call
     ("library.js", "memory.fill(0, HEAP, this.end);", ""),
@@ -186,43 +188,28 @@ FAULTS = [
 ]
 
 
-def main():
-    first, step = [int(word) for word in (sys.argv[1:] + ["0", "1"][len(sys.argv) - 1:])][:2]
-    option = "--experimental-wasm-memory64"
-    knows = subprocess.run(["node", option, "-e", "0"], capture_output=True).returncode == 0
-    command = ["node", *[option] * knows, "tests/test.js"]
-    passed = failed = 0
-    with tempfile.TemporaryDirectory() as folder:
-        copy = pathlib.Path(folder) / "package"
-        # Files in place of links, which lead to others of the repository.
-        shutil.copytree(HERE, copy)
-
-        def run():
-            try:
-                how = {"cwd": copy, "capture_output": True, "text": True, "timeout": 300}
-                return subprocess.run(command, **how)
-            except subprocess.TimeoutExpired:
-                return None
-
-        if (result := run()) is None or result.returncode:
-            sys.exit("the tests fail without a fault")
-        for name, old, new in FAULTS[first::step]:
-            path = copy / name
-            text = path.read_text(encoding="utf-8")
-            if text.count(old) == 1:
-                path.write_text(text.replace(old, new), encoding="utf-8")
-                result = run()
-                path.write_text(text, encoding="utf-8")
-                caught, reason = result is None or result.returncode != 0, ""
-                if result is not None and "SyntaxError" in result.stdout + result.stderr:
-                    caught, reason = False, ", since it can't be read"
-            else:
-                caught, reason = False, f", since the line is there {text.count(old)} times"
-            passed, failed = passed + caught, failed + (not caught)
-            said = f"{name}: {old!r} -> {new!r}"
-            print(f"{'caught' if caught else 'NOT CAUGHT' + reason}: {said}", flush=True)
-    print(f"{passed} passed, {failed} failed")
-    sys.exit(failed != 0)
+MEMORY_OF_64_BITS = "--experimental-wasm-memory64"
 
 
-main()
+def command():
+    """Returns the command that runs the tests, with the option that some versions of Node need."""
+    known = subprocess.run(["node", MEMORY_OF_64_BITS, "-e", "0"], capture_output=True, check=False)
+    return ["node", *[MEMORY_OF_64_BITS] * (known.returncode == 0), "tests/test.js"]
+
+
+def copy(folder):
+    """Copies the package, with files in place of links, which lead to others of the repository."""
+    return shutil.copytree(HERE, folder / "package")
+
+
+def run(sources):
+    """Returns whether the tests of a copy pass."""
+    is_right, said = plant.passes(sources, COMMAND, 300)
+    if "SyntaxError" in said:
+        raise plant.Unreadable("SyntaxError")
+    return is_right
+
+
+if __name__ == "__main__":
+    COMMAND = command()
+    sys.exit(plant.main(FAULTS, copy, run))

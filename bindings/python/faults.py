@@ -1,18 +1,20 @@
 #!/usr/bin/env python3
-"""Plants one fault at a time into the module, in a temporary copy, and runs its tests: each fault has to be caught. It
-takes some minutes, so test.sh doesn't run it. It prints each fault with 'caught' or 'NOT CAUGHT', and 'N passed, M
-failed' at the end.
+"""Plants one fault at a time into the module, and runs its tests, which have to fail: see
+../plant.py.
 
   bindings/python/faults.py [FIRST [STEP]]    each STEP-th fault from FIRST on, by default all of them
 """
 import os
 import pathlib
-import subprocess
 import sys
-import tempfile
 import zipfile
 
+sys.dont_write_bytecode = True
 HERE = pathlib.Path(__file__).resolve().parent
+sys.path[:0] = [str(HERE.parent), str(HERE)]
+import build_wheel  # noqa: E402
+import plant  # noqa: E402
+
 EQUAL = "    curve: Optional[ObjectIdentifier] = None\n    public_key: Optional[bytes] = None\n"
 FAULTS = [
     ("__init__.py", "private_key: bytes = field(repr=False)", "private_key: bytes = field(repr=False, compare=False)"),
@@ -74,44 +76,26 @@ FAULTS = [
 ]
 
 
-def main():
-    first, step = [int(word) for word in (sys.argv[1:] + ["0", "1"][len(sys.argv) - 1 :])][:2]
-    passed = failed = 0
-    sys.path.insert(0, str(HERE))
-    sys.dont_write_bytecode = True
-    import build_wheel
-
-    with tempfile.TemporaryDirectory() as folder:
-        name = build_wheel.build_wheel(folder)
-        with zipfile.ZipFile(pathlib.Path(folder) / name) as wheel:
-            wheel.extractall(folder)
-        environment = dict(os.environ, PYTHONPATH=folder, PYTHONDONTWRITEBYTECODE="1")
-        command = [sys.executable, "-s", str(HERE / "tests/test_sec1.py"), "--failfast"]
-
-        def run():
-            try:
-                return subprocess.run(command, env=environment, capture_output=True, text=True, timeout=120)
-            except subprocess.TimeoutExpired:
-                return None
-
-        if (result := run()) is None or result.returncode:
-            sys.exit("the tests fail without a fault")
-        for name, old, new in FAULTS[first::step]:
-            path = pathlib.Path(folder) / "sec1" / name
-            text = path.read_text()
-            if text.count(old) == 1:
-                path.write_text(text.replace(old, new))
-                result = run()
-                path.write_text(text)
-                caught, reason = result is None or result.returncode != 0, ""
-                if result is not None and "SyntaxError" in result.stderr:
-                    caught, reason = False, ", since it can't be read"
-            else:
-                caught, reason = False, f", since the line is there {text.count(old)} times"
-            passed, failed = passed + caught, failed + (not caught)
-            print(f"{'caught' if caught else 'NOT CAUGHT' + reason}: {name}: {old!r} -> {new!r}", flush=True)
-    print(f"{passed} passed, {failed} failed")
-    sys.exit(failed != 0)
+COMMAND = [sys.executable, "-s", str(HERE / "tests/test_sec1.py"), "--failfast"]
 
 
-main()
+def copy(folder):
+    """Unpacks what is packed of the package."""
+    name = build_wheel.build_wheel(str(folder))
+    with zipfile.ZipFile(folder / name) as wheel:
+        wheel.extractall(folder)
+    return folder / "sec1"
+
+
+def run(sources):
+    """Returns whether the tests of a copy pass."""
+    folder = sources.parent
+    environment = {**os.environ, "PYTHONPATH": str(folder), "PYTHONDONTWRITEBYTECODE": "1"}
+    is_right, said = plant.passes(folder, COMMAND, 120, environment)
+    if "SyntaxError" in said:
+        raise plant.Unreadable("SyntaxError")
+    return is_right
+
+
+if __name__ == "__main__":
+    sys.exit(plant.main(FAULTS, copy, run))

@@ -1,18 +1,20 @@
 #!/usr/bin/env python3
-"""Plants one fault at a time into the crate, in a temporary copy, and runs its tests: each fault has
-to be caught. It takes some minutes, so test.sh doesn't run it. It prints each fault with 'caught' or
-'NOT CAUGHT', and 'N passed, M failed' at the end.
+"""Plants one fault at a time into the crate, and runs its tests, which have to fail: see
+../plant.py. The test files are modules of one program here, which is linked once for each fault.
 
   bindings/rust/faults.py [FIRST [STEP]]    each STEP-th fault from FIRST on, by default all of them
 """
 import os
 import pathlib
+import re
 import shutil
-import subprocess
 import sys
-import tempfile
 
-TOP = pathlib.Path(__file__).resolve().parents[2]
+sys.dont_write_bytecode = True
+HERE = pathlib.Path(__file__).resolve().parent
+sys.path.insert(0, str(HERE.parent))
+import plant  # noqa: E402
+
 FAULTS = [
     ("raw.rs", "if part.present == 0", "if part.len == 0"),
     ("raw.rs", "bytes.get(part.offset..)", "bytes.get(part.offset + 1..)"),
@@ -128,6 +130,7 @@ FAULTS = [
     ("der/error.rs", "SEC1_DEPTH => ErrorKind::Depth", "SEC1_DEPTH => ErrorKind::Value"),
     ("der/error.rs", "SEC1_OVERLENGTH => ErrorKind::Overlength", "SEC1_OVERLENGTH => ErrorKind::Value"),
     ("der/document.rs", ".truncate(true)", ".truncate(false)"),
+    ("der/document.rs", "options.open(path)?.write_all(&self.bytes)?", "{ options.open(path)?.write(&self.bytes)?; }"),
     ("der/document.rs", "Self::try_from(fs::read(path)?)", 'Self::try_from(fs::read(path)?.trim_ascii_end())'),
     ("raw.rs", "for byte in bytes {", "for byte in bytes.iter_mut().step_by(2) {"),
     ("der/asn1/arcs.rs", "(first < 2 && second > 39)", "(first < 2 && second > 40)"),
@@ -173,38 +176,32 @@ FAULTS = [
 ]
 
 
-def main():
-    first, step = [int(word) for word in (sys.argv[1:] + ["0", "1"][len(sys.argv) - 1 :])][:2]
-    passed = failed = 0
-    with tempfile.TemporaryDirectory() as folder:
-        top = pathlib.Path(folder)
-        # As files in place of links: the tests and the assembly stand elsewhere in the repository.
-        ignored = shutil.ignore_patterns("target")
-        shutil.copytree(TOP / "bindings/rust", top / "bindings/rust", ignore=ignored)
-        environment = dict(os.environ, CARGO_TARGET_DIR=str(top / "target"))
-        command = ["cargo", "test", "--offline", "--features", "std", "--tests", "-p", "bridgeacacia-sec1"]
-
-        def run():
-            return subprocess.run(command, cwd=top / "bindings/rust", env=environment, capture_output=True, text=True)
-
-        if run().returncode != 0:
-            sys.exit("the tests fail without a fault")
-        for name, old, new in FAULTS[first::step]:
-            path = top / "bindings/rust/sec1/src" / name
-            text = path.read_text()
-            if text.count(old) == 1:
-                path.write_text(text.replace(old, new))
-                result = run()
-                path.write_text(text)
-                compiles = "could not compile" not in result.stderr
-                caught = result.returncode != 0 and compiles
-                reason = "" if compiles else ", since it doesn't compile"
-            else:
-                caught, reason = False, f", since the line is there {text.count(old)} times"
-            passed, failed = passed + caught, failed + (not caught)
-            print(f"{'caught' if caught else 'NOT CAUGHT' + reason}: {name}: {old!r} -> {new!r}", flush=True)
-    print(f"{passed} passed, {failed} failed")
-    sys.exit(failed != 0)
+# A test file that has an allocator of its own, and so is a program of its own.
+ALONE = "wiping"
+CARGO = """cargo test --offline --no-run --message-format=json-render-diagnostics --features std
+    -p bridgeacacia-sec1 --test all --test""".split() + [ALONE]
 
 
-main()
+def copy(folder):
+    """Copies the crates, with files in place of links, which lead to others of the repository."""
+    shutil.copytree(HERE, folder / "rust", ignore=shutil.ignore_patterns("target"))
+    tests = folder / "rust/sec1/tests"
+    names = sorted(it.stem for it in tests.glob("*.rs") if it.stem != ALONE)
+    modules = [f'#[path = "{it}.rs"]\nmod {it};\n' for it in names]
+    (tests / "all.rs").write_text("".join(modules))
+    return folder / "rust/sec1/src"
+
+
+def run(sources):
+    """Returns whether the tests of a copy pass."""
+    folder = sources.parents[1]
+    more = {"CARGO_TARGET_DIR": str(folder / "target"), "CARGO_PROFILE_DEV_DEBUG": "0"}
+    is_built, said = plant.passes(folder, CARGO, 600, {**os.environ, **more})
+    if not is_built:
+        raise plant.Unreadable("".join(re.findall(r"^error.*$", said, re.M)[:1]))
+    programs = re.findall(r'"executable":"([^"]+)"', said)
+    return all(plant.passes(folder, [it, "--test-threads=1"], 300)[0] for it in programs)
+
+
+if __name__ == "__main__":
+    sys.exit(plant.main(FAULTS, copy, run))

@@ -148,6 +148,28 @@ fn files_are_replaced_and_hold_one_element() {
     std::fs::remove_file(&path).unwrap();
 }
 
+/// The system takes a part of a document where a file may not grow as long as it, and refuses the
+/// rest: the shell lets the files of the test below have 512 or 1,024 bytes.
+#[test]
+fn a_file_with_a_part_of_a_document_is_an_error() {
+    let status = std::process::Command::new("sh")
+        .args(["-c", "trap '' XFSZ; ulimit -f 1; exec \"$@\"", "sh"])
+        .arg(std::env::current_exe().unwrap())
+        .args(["--ignored", "document_longer_than_its_file"])
+        .status();
+    assert!(status.unwrap().success());
+}
+
+#[test]
+#[ignore = "another test runs it, with a limit of what a file may have"]
+fn document_longer_than_its_file() {
+    let path = std::env::temp_dir().join(format!("sec1-part-{}.der", std::process::id()));
+    let element = [&[4, 0x82, 0x07, 0xD0][..], &[7; 2000]].concat();
+    let written = der::SecretDocument::try_from(element).unwrap().write_der_file(&path);
+    assert_eq!(written.unwrap_err().kind(), der::ErrorKind::Io(std::io::ErrorKind::FileTooLarge));
+    std::fs::remove_file(&path).unwrap();
+}
+
 #[test]
 fn zeroize_leaves_the_identity() {
     let mut point = EncodedPoint::<U32>::from_bytes([4; 65]).unwrap();
