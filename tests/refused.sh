@@ -1,6 +1,7 @@
 #!/usr/bin/env bash
-# Runs those built tests that refuse memory, reads and writes one by one, over an allocator that refuses (tests/refuse.c), and prints
-# how many requests each call makes. Its last line is 'N passed, M failed'.
+# Runs those built tests that refuse memory, reads and writes one by one, over an allocator that
+# refuses (tests/refuse.c), and prints how many requests each call makes; tests/calls/run has the
+# calls of sec1 and sec1_der that allocate. Its last line is 'N passed, M failed'.
 set -u
 top=$(cd "$(dirname "$0")/.." && pwd)
 . "$top/tests/count.sh"
@@ -9,23 +10,6 @@ trap 'rm -rf "$room"' EXIT
 
 # The calls whose requests have to be refused, by crate, and those that have to make none.
 calls=(
-    'sec1_der to_der'
-    'sec1_der SecretDocument::encode_msg'
-    'sec1_der SecretDocument::from_der'
-    'sec1_der SecretDocument::read_der_from'
-    'sec1_der SecretDocument::read_der_from of 10,004 bytes'
-    'sec1_der SecretDocument::read_der_file'
-    'sec1 EcPrivateKey::to_der'
-    'sec1 EcPrivateKey::document_ref'
-    'sec1 EcPrivateKey::document'
-    'sec1 read_sec1_der_from'
-    'sec1 write_sec1_der_to'
-    'sec1 read_sec1_der_file'
-    'sec1 write_sec1_der_file'
-    'sec1 to_bytes'
-    'sec1 to_lower_hex'
-    'sec1 to_upper_hex'
-    'sec1 to_json'
     'sec1_inspect run'
     'sec1_inspect run_der'
 )

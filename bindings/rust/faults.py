@@ -181,6 +181,10 @@ ALONE = "wiping"
 CARGO = """cargo test --offline --no-run --message-format=json-render-diagnostics --features std
     -p bridgeacacia-sec1 --test all --test""".split() + [ALONE]
 
+# What takes most of the time, compared in many draws, is run where all else passes.
+SLOW = ["against_", "openssl"]
+FAST = [word for name in SLOW for word in ("--skip", name)]
+
 
 def copy(folder):
     """Copies the crates, with files in place of links, which lead to others of the repository."""
@@ -200,7 +204,11 @@ def run(sources):
     if not is_built:
         raise plant.Unreadable("".join(re.findall(r"^error.*$", said, re.M)[:1]))
     programs = re.findall(r'"executable":"([^"]+)"', said)
-    return all(plant.passes(folder, [it, "--test-threads=1"], 300)[0] for it in programs)
+    return all(
+        plant.passes(folder, [it, "--test-threads=1", *words], 600)[0]
+        for words in (FAST, SLOW)
+        for it in programs
+    )
 
 
 if __name__ == "__main__":

@@ -145,6 +145,11 @@ def break_rows():
             for after in sorted({place + more for place in near for more in (-1, 0, 1)}):
                 if after <= whole + 1:
                     yield break_row(how, after, 5000, private_len)
+    # each read and each write of the bytes of a key fails once
+    whole = len(element(0x30, key(114)))
+    assert whole == 121
+    for after in range(whole + 1):
+        yield break_row("Other", after, 1, 114)
     for step in (1, 2, 3, 7, 100, 4095, 4096, 4097):
         for private_len in (0, 4, 66, 300, 4081, 4082, 4083, 5000, 8177, 8178, 8179):
             yield break_row("None", 0, step, private_len)
@@ -166,6 +171,14 @@ def encode_rows():
     assert whole == bytes.fromhex("30050201010400")
 
 
+# A key of P-256 with both fields, and without its curve (RFC 5915 section 3).
+PRIVATE = "69624171561a63340de0e7d869f2a05492558e1a04868b6a9f854a866788188d"
+PUBLIC = ("a144034200041cacffb55f2f2cefd89d89eb374b2681152452802deea09916068137d839cf7fc481a44492304d7ef66a"
+          "c117befe83a8d08f155f2b52f9f618dd447029048e0f")
+WHOLE = f"30770201010420{PRIVATE}a00a0608{CURVE}{PUBLIC}"
+WITHOUT_CURVE = f"306b0201010420{PRIVATE}{PUBLIC}"
+
+
 def document_rows():
     """Documents, and whether the bytes are a tree; over a stream they are what they are in memory."""
     wrapped = b""
@@ -183,6 +196,10 @@ def document_rows():
     tests += [("30800000", "Length Length")]
     tests += [("3002050000", "TrailingData TrailingData"), (wrapped.hex(), f"{len(wrapped)} 64")]
     tests += [(octet.hex(), f"{len(octet)} 64")]
+    tests += [(WHOLE, "121 7"), (WITHOUT_CURVE, "109 5"), ("30050201010400", "7 3")]
+    # an INTEGER of two bytes, and a field that occurs twice, are a key's no more, but a tree's
+    tests += [("3006020200010400", "8 3"), ("30110201010400a00406022a03a00406022a03", "19 7")]
+    tests += [("3081050201010400", "Length Length")]
     for inner in (wrapped, octet):
         outer = element(0x30, inner)
         tests += [(outer.hex(), f"{len(outer)} Depth")]
@@ -194,6 +211,116 @@ def document_rows():
             tests += [(der.hex(), f"{len(der)} {count}" if is_tag else "Tag Tag")]
     for digits, found in tests:
         yield f"document {digits}", f"document {found} {found.split()[0]}"
+
+
+class Refused(Exception):
+    """The kind by which bytes are refused."""
+
+
+def header_at(data):
+    """The tag, the content and the bytes behind the element that the bytes begin with (X.690
+    sections 8.1.2, 8.1.3 and 10.1), of at most 268,435,455 bytes."""
+    if not data:
+        raise Refused("Truncated")
+    if data[0] == 0 or data[0] % 32 == 31:
+        raise Refused("Tag")
+    if len(data) < 2:
+        raise Refused("Truncated")
+    first, begin, length = data[1], 2, data[1]
+    if first >= 0x80:
+        if not 0x81 <= first <= 0x84:
+            raise Refused("Length")
+        begin += first - 0x80
+        if len(data) < begin:
+            raise Refused("Truncated")
+        length = int.from_bytes(data[2:begin], "big")
+        if length < max(0x80, 1 << 8 * (first - 0x81)) or length > 268435455:
+            raise Refused("Length")
+    if len(data) < begin + length:
+        raise Refused("Truncated")
+    return data[0], data[begin : begin + length], data[begin + length :]
+
+
+def elements_of(data, levels=64):
+    """The number of elements of the tree that the bytes begin with, of at most so many levels, and
+    the bytes behind it."""
+    tag, content, rest = header_at(data)
+    count = 1
+    while tag & 0x20 and content:
+        if levels == 1:
+            raise Refused("Depth")
+        more, content = elements_of(content, levels - 1)
+        count += more
+    return count, rest
+
+
+def document_row(data):
+    """What the calls on a document of these bytes return, by the two functions above."""
+    try:
+        found = str(len(data)) if not header_at(data)[2] else "TrailingData"
+    except Refused as refused:
+        found = str(refused)
+    try:
+        count, rest = elements_of(data)
+        tree = "TrailingData" if rest else str(count)
+    except Refused as refused:
+        tree = str(refused)
+    return f"document {data.hex()}", f"document {found} {tree} {found}"
+
+
+class Numbers:
+    """Numbers without a pattern, the same in each run."""
+
+    def __init__(self):
+        self.state = 1
+
+    def next(self, limit):
+        self.state = (self.state * 6364136223846793005 + 1442695040888963407) % 2**64
+        return (self.state >> 33) % limit
+
+
+def made_tree(numbers):
+    """A tree, grown from a leaf: a leaf goes behind the row or before it, the row is written twice,
+    or a node goes around it. Returns the number of its elements and its depth too."""
+    row, count, depth = element(4, b""), 1, 1
+    for _ in range(numbers.next(100)):
+        how = numbers.next(8)
+        if how == 0:
+            row, count = row + element(4, b"\x30" * numbers.next(200)), count + 1
+        elif how == 1:
+            row, count = element(0xA0, b"") + row, count + 1
+        elif how == 2 and len(row) < 500:
+            row, count = row + row, count * 2
+        else:
+            row, count, depth = element(0x30, row), count + 1, depth + 1
+    return element(0xBE, row), count + 1, depth + 1
+
+
+def tree_rows():
+    """For each of 2,000 trees its lines: as it is, and each with a byte changed, cut off there, and
+    with a byte more."""
+    numbers = Numbers()
+    for _ in range(2000):
+        der, count, depth = made_tree(numbers)
+        asked, wanted = document_row(der)
+        tree = count if depth <= 64 else "Depth"
+        assert wanted == f"document {len(der)} {tree} {len(der)}"
+        rows = [(asked, wanted)]
+        for _ in range(8):
+            at, byte = numbers.next(len(der)), bytes([numbers.next(256)])
+            rows += [document_row(der[:at] + byte + der[at + 1 :]), document_row(der[:at])]
+        yield rows + [document_row(der + bytes([numbers.next(256)]))]
+
+
+def short_rows():
+    """For each first byte the lines of each list of up to two bytes, and of those with a third one."""
+    for first in range(256):
+        begin = bytes([first])
+        rows = [document_row(b""), document_row(begin)]
+        for second in range(256):
+            for rest in (b"", b"\x00", b"\x05", b"\x80"):
+                rows.append(document_row(begin + bytes([second]) + rest))
+        yield rows
 
 
 def failed_rows():
@@ -231,8 +358,8 @@ def parts_of(size, encoding):
 
 def part_encodings():
     """Sizes and bytes: known points, and those that are none."""
-    for digits in ("02ff", "0300", "0401ff", "040200", "0507", "050700", "060102", "070103", "070102", "0602ff",
-                   "00", "0000", "01", "06", "07", "ff", "", "040101", "040103"):
+    for digits in ("02ff", "0201", "0300", "0401ff", "040200", "0507", "050700", "060102", "060103", "070103",
+                   "070102", "0602ff", "00", "0000", "01", "06", "07", "0801", "ff", "", "040101", "040103"):
         yield 1, bytes.fromhex(digits)
     for digits in ("0400000100", "0400000001", "0600000100", "0700000001", "0700000100"):
         yield 2, bytes.fromhex(digits)

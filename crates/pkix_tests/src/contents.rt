@@ -130,38 +130,64 @@ fn recognizes_generalized_times(rt: HostRuntime) {
 }
 
 /// Returns the time that a UTCTime's content gives.
-pub(crate) fn utc_time(content: &[u8]) -> Result<Option<DateTime>> {
+fn utc_time(content: &[u8]) -> Result<Option<DateTime>> {
     Ok(UtcTime::new(content)?.date_time())
 }
 
 /// Returns the time that a GeneralizedTime's content gives.
-pub(crate) fn generalized_time(content: &[u8]) -> Result<Option<DateTime>> {
+fn generalized_time(content: &[u8]) -> Result<Option<DateTime>> {
     Ok(GeneralizedTime::new(content)?.date_time())
 }
 
+/// A time in the first year that a UTCTime can give, and one in the last.
+const FIRST: DateTime = DateTime {
+    year: 1950,
+    month: 1,
+    day: 2,
+    hour: 3,
+    minute: 4,
+    second: 5,
+};
+
+const LAST: DateTime = DateTime {
+    year: 2049,
+    month: 12,
+    day: 31,
+    hour: 23,
+    minute: 59,
+    second: 58,
+};
+
+/// The examples of X.690 sections 11.7.5 and 11.8.3.
+const EXAMPLE: DateTime = DateTime {
+    year: 1992,
+    month: 6,
+    day: 22,
+    hour: 12,
+    minute: 34,
+    second: 21,
+};
+
+/// Texts of times, which of them are a UTCTime's, and the times that they give.
+static TIMES: [(&[u8], bool, DateTime); 5] = [
+    (b"500102030405Z", true, FIRST),
+    (b"491231235958Z", true, LAST),
+    (b"920622123421Z", true, EXAMPLE),
+    (b"20491231235958.5Z", false, LAST),
+    (b"19920622123421Z", false, EXAMPLE),
+];
+
 #[test]
-fn reads_times(rt: HostRuntime) -> std::result::Result<(), Fail> {
-    let first = DateTime {
-        year: 1950,
-        month: 1,
-        day: 2,
-        hour: 3,
-        minute: 4,
-        second: 5,
-    };
-    let last = DateTime {
-        year: 2049,
-        month: 12,
-        day: 31,
-        hour: 23,
-        minute: 59,
-        second: 58,
-    };
-    assert_equal(&rt, &utc_time(b"500102030405Z")?, &Some(first));
-    assert_equal(&rt, &utc_time(b"491231235958Z")?, &Some(last));
-    assert_equal(&rt, &generalized_time(b"20491231235958.5Z")?, &Some(last));
-    assert!(rt; first < last && first.is_valid());
-    Ok(())
+fn reads_times(rt: HostRuntime) {
+    for &(text, is_utc, time) in TIMES.iter() {
+        let found = if is_utc {
+            utc_time(text)
+        } else {
+            generalized_time(text)
+        };
+        assert_equal_for(&rt, &text, &found, &Ok(Some(time)));
+    }
+    assert!(rt; FIRST < LAST && FIRST.is_valid());
 }
 
 /// Times in ascending order. Of two in a row, the first field in which they differ decides, and
@@ -176,18 +202,22 @@ static ASCENDING_TIMES: [&[u8]; 7] = [
     b"20241230215655Z",
 ];
 
-#[test]
-fn orders_times(rt: HostRuntime) -> std::result::Result<(), Fail> {
-    let mut last: Option<DateTime> = None;
-    for text in ASCENDING_TIMES.iter() {
-        let time = generalized_time(text)?;
-        if let (Some(before), Some(after)) = (last, time) {
-            assert!(rt; before < after && after > before && before.max(after) == after);
+/// Returns `true` if both are times, and the first is the earlier by each comparison.
+fn is_earlier(before: &[u8], after: &[u8]) -> bool {
+    match (generalized_time(before), generalized_time(after)) {
+        (Ok(Some(before)), Ok(Some(after))) => {
+            before < after && after > before && before.max(after) == after
         }
-        assert!(rt; time.is_some());
-        last = time;
+        _ => false,
     }
-    Ok(())
+}
+
+#[test]
+fn orders_times(rt: HostRuntime) {
+    for (place, &after) in ASCENDING_TIMES.iter().enumerate().skip(1) {
+        let before = ASCENDING_TIMES[place - 1];
+        assert_equal_for(&rt, &after, &is_earlier(before, after), &true);
+    }
 }
 
 /// Contents, and whether they are a NumericString's, a PrintableString's, a VisibleString's, an

@@ -69,17 +69,31 @@ fn is_described(curve: Curve, name: &str, identifier: &ObjectIdentifier, field_l
         && curve.field_len() == field_len
 }
 
+/// Returns the length of a field element in bytes and the identifier, as a line of OpenSSL's table
+/// has them.
+fn described(alloc: Global, line: &str) -> Result<(usize, ObjectIdentifier), Fail> {
+    let mut words = line.split(' ').skip(1);
+    let field_len = words.next().unwrap_or("").parse::<usize>()?.div_ceil(8);
+    let identifier = bytes(alloc, words.next().unwrap_or(""))?;
+    Ok((field_len, from_der(&identifier)?))
+}
+
+/// Returns the curve of this name, and those of this identifier and of its content.
+fn curves(name: &str, identifier: &ObjectIdentifier) -> [Option<Curve>; 3] {
+    [
+        Curve::from_name(name),
+        Curve::from_identifier(identifier),
+        Curve::from_content(identifier.as_bytes()),
+    ]
+}
+
 /// Returns the curve that a line of OpenSSL's table describes. Fails the test if it is found
 /// otherwise by its name or its identifier, or isn't in the table though it should be.
 fn curve_of(rt: &(impl Abort + AllocGlobal), line: &str) -> Result<Option<Curve>, Fail> {
-    let mut words = line.split(' ');
-    let name = words.next().unwrap_or("");
-    let field_len = words.next().unwrap_or("").parse::<usize>()?.div_ceil(8);
-    let identifier: ObjectIdentifier = from_der(&bytes(rt.alloc(), words.next().unwrap_or(""))?)?;
-    let curve = Curve::from_identifier(&identifier);
-    assert_equal_for(rt, &name, &Curve::from_name(name), &curve);
-    let by_content = Curve::from_content(identifier.as_bytes());
-    assert_equal_for(rt, &name, &by_content, &curve);
+    let name = line.split(' ').next().unwrap_or("");
+    let (field_len, identifier) = described(rt.alloc(), line)?;
+    let curve = Curve::from_name(name);
+    assert_equal_for(rt, &name, &curves(name, &identifier), &[curve; 3]);
     let is_right = match curve {
         Some(curve) => is_described(curve, name, &identifier, field_len),
         None => name == "SM2" || name.starts_with("wap-wsg-idm-ecid-wtls"),
@@ -88,17 +102,23 @@ fn curve_of(rt: &(impl Abort + AllocGlobal), line: &str) -> Result<Option<Curve>
     Ok(curve)
 }
 
+/// Returns the curves that the lines of OpenSSL's table describe.
+fn curves_of(rt: &(impl Abort + AllocGlobal)) -> Result<Vec<Curve>, Fail> {
+    let mut found = Vec::new(rt.alloc());
+    for line in OPENSSL.lines().skip(1) {
+        if let Some(curve) = curve_of(rt, line)? {
+            found.push(curve)?;
+        }
+    }
+    Ok(found)
+}
+
 /// Each curve of the table is one of OpenSSL's, with the name, the identifier and the length of the
 /// field that it has there. Of OpenSSL's curves over prime fields only those of WTLS and SM2 aren't
 /// in the table.
 #[test]
 fn has_the_curves_of_openssl(rt: HostRuntime) -> Result<(), Fail> {
-    let mut found = Vec::new(rt.alloc());
-    for line in OPENSSL.lines().skip(1) {
-        if let Some(curve) = curve_of(&rt, line)? {
-            found.push(curve)?;
-        }
-    }
+    let found = curves_of(&rt)?;
     assert_equal(&rt, &found.len(), &Curve::ALL.len());
     for curve in Curve::ALL {
         assert_equal_for(&rt, &curve, &found.contains(&curve), &true);
@@ -106,25 +126,30 @@ fn has_the_curves_of_openssl(rt: HostRuntime) -> Result<(), Fail> {
     Ok(())
 }
 
-/// Names that OpenSSL takes for a curve beside the one that it lists:
-/// `openssl ecparam -name P-256`.
+/// Names that OpenSSL takes for a curve beside the one that it lists, as by
+/// `openssl ecparam -name P-256`, and names that it doesn't know.
+static NAMES: [(&str, Option<Curve>); 16] = [
+    ("P-192", Some(Curve::Secp192r1)),
+    ("P-224", Some(Curve::Secp224r1)),
+    ("P-256", Some(Curve::Secp256r1)),
+    ("P-384", Some(Curve::Secp384r1)),
+    ("P-521", Some(Curve::Secp521r1)),
+    ("secp192r1", Some(Curve::Secp192r1)),
+    ("secp256r1", Some(Curve::Secp256r1)),
+    ("prime192v1", Some(Curve::Secp192r1)),
+    ("prime256v1", Some(Curve::Secp256r1)),
+    ("brainpoolP512t1", Some(Curve::BrainpoolP512t1)),
+    ("", None),
+    ("p-256", None),
+    ("P-256 ", None),
+    ("SECP256R1", None),
+    ("prime256", None),
+    ("SM2", None),
+];
+
 #[test]
 fn finds_curves_by_each_name(rt: HostRuntime) {
-    for (name, curve) in [
-        ("P-192", Curve::Secp192r1),
-        ("P-224", Curve::Secp224r1),
-        ("P-256", Curve::Secp256r1),
-        ("P-384", Curve::Secp384r1),
-        ("P-521", Curve::Secp521r1),
-        ("secp192r1", Curve::Secp192r1),
-        ("secp256r1", Curve::Secp256r1),
-        ("prime192v1", Curve::Secp192r1),
-        ("prime256v1", Curve::Secp256r1),
-        ("brainpoolP512t1", Curve::BrainpoolP512t1),
-    ] {
-        assert_equal_for(&rt, &name, &Curve::from_name(name), &Some(curve));
-    }
-    for name in ["", "p-256", "P-256 ", "SECP256R1", "prime256", "SM2"] {
-        assert_equal_for(&rt, &name, &Curve::from_name(name), &None);
+    for &(name, curve) in NAMES.iter() {
+        assert_equal_for(&rt, &name, &Curve::from_name(name), &curve);
     }
 }

@@ -34,16 +34,24 @@ const NAMED: [u8; 48] = [
     0x01, 0x04, 0x01, 0xAA, 0xA0, 0x0A, 0x06, 0x08, 0x2A, 0x86, 0x48, 0xCE, 0x3D, 0x03, 0x01, 0x07,
 ];
 
+/// Reads a public key.
+fn public_key(der: &[u8]) -> sec1_der::Result<SubjectPublicKeyInfo<'_>> {
+    read_der(der)
+}
+
+/// Reads the container of a private key.
+fn container(der: &[u8]) -> sec1_der::Result<PrivateKeyInfo<'_>> {
+    read_der(der)
+}
+
 /// Returns the point of a public key, for field elements of N bytes.
 fn point_of<const N: usize, const L: usize>(der: &[u8]) -> Result<EncodedPoint<N, L>> {
-    let info: SubjectPublicKeyInfo = read_der(der)?;
-    info.point()
+    public_key(der)?.point()
 }
 
 /// Returns the private key in a container.
 fn private_key_of(der: &[u8]) -> Result<&[u8]> {
-    let info: PrivateKeyInfo = read_der(der)?;
-    Ok(info.ec_private_key()?.private_key)
+    Ok(container(der)?.ec_private_key()?.private_key)
 }
 
 #[test]

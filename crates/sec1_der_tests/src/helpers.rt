@@ -4,7 +4,7 @@ use sec1_der::{
     DecodeValue, EncodeValue, ErrorKind, Result, SecretDocument, Tagged, UniqueContent,
     encode_to_slice, encoded_len, from_der, read_der, to_der,
 };
-use std::alloc::{AllocError, Global};
+use std::alloc::Global;
 use std::fmt::{Debug, Display};
 use std::fs;
 use std::process::Abort;
@@ -54,23 +54,19 @@ pub fn write<'r, T: EncodeValue + Tagged>(value: &T, room: &'r mut [u8]) -> Resu
     Ok(&room[..count])
 }
 
-/// Returns the encoding of the value, and the length that is given for it.
-pub fn encoded<T: EncodeValue + Tagged>(alloc: Global, value: &T) -> Result<(Vec<u8>, usize)> {
-    let length = encoded_len(value)?;
-    Ok((to_der(alloc, value)?, length))
-}
-
-/// Fails the test unless the value has this encoding.
+/// Fails the test unless the value has this encoding, and this is the length that is given for it.
 pub fn assert_written<T: EncodeValue + Tagged>(
     rt: &impl Abort,
     alloc: Global,
     value: &T,
     wanted: &[u8],
-) -> Result<()> {
-    let (bytes, length) = encoded(alloc, value)?;
-    assert_equal(rt, &bytes.as_slice(), &wanted);
-    assert_equal(rt, &length, &wanted.len());
-    Ok(())
+) {
+    let (bytes, length) = (to_der(alloc, value).ok(), encoded_len(value).ok());
+    assert_equal(
+        rt,
+        &(bytes.as_deref(), length),
+        &(Some(wanted), Some(wanted.len())),
+    );
 }
 
 /// Returns the bytes as a document.
@@ -96,19 +92,15 @@ where
     T: DecodeValue<'a> + EncodeValue + Tagged + UniqueContent + Drop,
 {
     let value: T = read_der(bytes)?;
-    assert_written(rt, alloc, &value, bytes)?;
+    assert_written(rt, alloc, &value, bytes);
     assert_prefixes_refused::<T>(rt, bytes);
     Ok(value)
 }
 
-/// Returns the text by `{}`.
-pub fn text_of<T: Display>(alloc: Global, value: &T) -> std::result::Result<String, AllocError> {
-    value.to_string(alloc)
-}
-
-/// Returns the kind of the error by which the file isn't read as a document.
-pub fn file_refusal(rt: &HostRuntime, path: &str) -> Option<ErrorKind> {
-    kind_of(SecretDocument::read_der_file(rt, rt.alloc(), path))
+/// Fails the test unless the value is printed as this text by `{}`.
+pub fn assert_shows<R: Abort + AllocGlobal, T: Display>(rt: &R, value: &T, text: &str) {
+    let shown = value.to_string(rt.alloc()).ok();
+    assert_equal(rt, &shown.as_deref(), &Some(text));
 }
 
 /// Removes the file.

@@ -25,8 +25,4 @@ mod records;
 #[cfg(test)]
 mod streams;
 #[cfg(test)]
-mod trees;
-#[cfg(test)]
-mod values;
-#[cfg(test)]
 mod writing;

@@ -1,49 +1,19 @@
-//! What is returned while requests for memory are refused, one by one.
+//! What calls without an allocator return while each request for memory is refused, and how a
+//! document grows.
 //!
 //! They are refused by `tests/refuse.c`, an allocator that replaces the C library's in the built
 //! tests. A test controls it by requests of sizes that no allocator grants. Without it nothing is
-//! refused, and each call is made once.
-//!
-//! The functions that control it are in each crate that has such tests: a library of them would be
-//! proved and exported only for tests.
+//! refused. `sec1_calls` makes the calls that allocate, with each of their requests refused once.
 use super::streams::KEY;
-use crate::helpers::{remove_file, temporary_path};
+use crate::helpers::{assert_equal, assert_for, document, kind_of};
 use sec1_der::{
-    ErrorKind, OctetStringRef, Read, SecretDocument, StdReader, StdWriter, check_tree,
-    encode_to_slice, encoded_len, from_der, to_der,
+    ErrorKind, OctetStringRef, SecretDocument, StdReader, StdWriter, check_tree, encode_to_slice,
+    encoded_len, from_der,
 };
 use std::alloc::Global;
+use std::io;
+use std::process::Abort;
 use std::test::Fail;
-use std::{fs, io};
-
-/// How a call ended.
-#[derive(Clone, Copy)]
-enum Outcome {
-    /// It returned what it returns with memory to spare.
-    Right,
-    /// It returned Memory, and left everything as promised.
-    Refused,
-    /// Anything else.
-    Wrong,
-}
-
-/// Returns the outcome of a call that wasn't refused.
-fn right(is_right: bool) -> Outcome {
-    if is_right {
-        Outcome::Right
-    } else {
-        Outcome::Wrong
-    }
-}
-
-/// Returns the outcome of a call that was refused.
-fn refused(is_kept: bool) -> Outcome {
-    if is_kept {
-        Outcome::Refused
-    } else {
-        Outcome::Wrong
-    }
-}
 
 /// Asks for `more` bytes above what any allocator grants. Returns `true` if the allocator of the
 /// tests granted them.
@@ -65,144 +35,6 @@ fn were_made(alloc: Global, count: u16) -> bool {
 /// Returns `true` if none of them was for more than `bytes` bytes.
 fn were_at_most(alloc: Global, bytes: u16) -> bool {
     signal(alloc, 0x2_0000 + u32::from(bytes))
-}
-
-/// Returns `true` if one of them was refused.
-fn one_was_refused(alloc: Global) -> bool {
-    signal(alloc, 0x3_0000)
-}
-
-/// Makes the call with its first request refused, with its second, and so on until it makes no
-/// more, and prints how many it makes. Returns `true` if each of these calls was refused, or
-/// succeeded after a request for less memory.
-fn is_refused_in_turn<F: FnMut() -> Outcome>(
-    rt: &impl Print,
-    alloc: Global,
-    name: &str,
-    mut call: F,
-) -> bool
-    requires { F.IsAlwaysCallable call }
-{
-    let mut refusals = 0u16;
-    for count in 0..1000u16 {
-        let is_refusing = refuse(alloc, count + 1);
-        let outcome = call();
-        let is_refused = is_refusing && one_was_refused(alloc);
-        match outcome {
-            Outcome::Refused if is_refused => refusals = refusals.saturating_add(1),
-            Outcome::Right if is_refused => {}
-            Outcome::Right if is_refusing => {
-                return refusals > 0
-                    && were_made(alloc, count)
-                    && println!(rt; "{name}: {refusals} of {count} requests end it").is_ok();
-            }
-            Outcome::Right => return true,
-            _ => return false,
-        }
-    }
-    false
-}
-
-/// Returns `true` if the call is right and makes no request.
-fn needs_no_memory<F: FnMut() -> bool>(
-    rt: &impl Print,
-    alloc: Global,
-    name: &str,
-    mut call: F,
-) -> bool
-    requires { F.IsAlwaysCallable call }
-{
-    let is_refusing = refuse(alloc, 1);
-    let is_right = call();
-    if !is_refusing {
-        return is_right;
-    }
-    is_right && were_made(alloc, 0) && println!(rt; "{name}: no request").is_ok()
-}
-
-#[test]
-fn reports_memory_from_writing_calls(rt: HostRuntime) -> Result<(), Fail> {
-    let alloc = rt.alloc();
-    let octets = OctetStringRef::new(&[0xAA; 300])?;
-    let header = b"\x04\x82\x01\x2C".as_slice();
-    assert!(rt;
-        is_refused_in_turn(&rt, alloc, "to_der", || match to_der(alloc, &octets) {
-            Ok(der) => right(der.len() == 304 && der.starts_with(header)),
-            Err(error) => refused(error.kind == ErrorKind::Memory),
-        })
-    );
-    assert!(rt;
-        is_refused_in_turn(&rt, alloc, "SecretDocument::encode_msg", || {
-            match SecretDocument::encode_msg(alloc, &octets) {
-                Ok(document) => {
-                    right(document.len() == 304 && document.as_bytes().starts_with(header))
-                }
-                Err(error) => refused(error.kind == ErrorKind::Memory),
-            }
-        })
-    );
-    Ok(())
-}
-
-/// Returns the outcome of reading a document from these bytes. On an error the reader is after the
-/// bytes it gave.
-fn read_outcome(alloc: Global, bytes: &[u8]) -> Outcome {
-    let mut reader = StdReader::new(bytes);
-    let result = SecretDocument::read_der_from(alloc, &mut reader);
-    let has_failed = reader.has_failed();
-    let rest = reader.into_inner();
-    match result {
-        Ok(document) => right(document.as_bytes() == bytes && rest.is_empty()),
-        Err(error) => {
-            refused(error.kind == ErrorKind::Memory && !has_failed && bytes.ends_with(rest))
-        }
-    }
-}
-
-#[test]
-fn reports_memory_from_reading_calls(rt: HostRuntime) -> Result<(), Fail> {
-    let alloc = rt.alloc();
-    assert!(rt;
-        is_refused_in_turn(&rt, alloc, "SecretDocument::from_der", || {
-            match SecretDocument::from_der(alloc, KEY) {
-                Ok(document) => right(document.as_bytes() == KEY),
-                Err(error) => refused(error.kind == ErrorKind::Memory),
-            }
-        })
-    );
-    assert!(rt;
-        is_refused_in_turn(&rt, alloc, "SecretDocument::read_der_from", || {
-            read_outcome(alloc, KEY)
-        })
-    );
-    let mut long = vec![in alloc; 0x04, 0x82, 0x27, 0x10]?;
-    long.extend_from_slice(&[0xAA; 10_000])?;
-    assert!(rt;
-        is_refused_in_turn(
-            &rt,
-            alloc,
-            "SecretDocument::read_der_from of 10,004 bytes",
-            || { read_outcome(alloc, &long) }
-        )
-    );
-    Ok(())
-}
-
-/// A request of opening a file is refused as a failed read.
-#[test]
-fn reports_memory_from_calls_on_files(rt: HostRuntime) -> Result<(), Fail> {
-    let alloc = rt.alloc();
-    let path = temporary_path(&rt, "memory")?;
-    fs::write(&rt, &path, KEY)?;
-    assert!(rt;
-        is_refused_in_turn(&rt, alloc, "SecretDocument::read_der_file", || {
-            match SecretDocument::read_der_file(&rt, alloc, &path) {
-                Ok(document) => right(document.as_bytes() == KEY),
-                Err(error) => refused(matches!(error.kind, ErrorKind::Memory | ErrorKind::Io)),
-            }
-        })
-    );
-    remove_file(&rt, &path)
 }
 
 /// A reader of a header that announces the greatest length, which gives three requests of content
@@ -229,52 +61,78 @@ impl io::Read for Endless {
     }
 }
 
-#[test]
-fn grows_documents_by_4096_bytes(rt: HostRuntime) -> Result<(), Fail> {
-    let alloc = rt.alloc();
-    let is_refusing = refuse(alloc, u16::MAX);
+/// Reads a document of a header that announces the greatest length, over a reader that fails after
+/// three requests of content. Returns the kind of the error.
+fn endless_refusal(alloc: Global) -> Option<ErrorKind> {
     let mut reader = StdReader::new(Endless {
         header: b"\x30\x84\x0F\xFF\xFF\xFF",
         times: 3,
     });
-    let result = SecretDocument::read_der_from(alloc, &mut reader);
+    kind_of(SecretDocument::read_der_from(alloc, &mut reader))
+}
+
+#[test]
+fn grows_documents_by_4096_bytes(rt: HostRuntime) {
+    let alloc = rt.alloc();
+    let is_refusing = refuse(alloc, u16::MAX);
+    let refused = endless_refusal(alloc);
     if is_refusing {
         // six bytes of the header, and four requests of 4,096
         assert!(rt; were_at_most(alloc, 16_390) && !were_at_most(alloc, 16_389));
         let _ = println!(&rt; "SecretDocument::read_der_from grows by 4,096 bytes");
     }
-    assert!(rt; result.is_err_and(|error| error.kind == ErrorKind::Io));
-    Ok(())
+    assert_equal(&rt, &refused, &Some(ErrorKind::Io));
+}
+
+/// Returns `true` if the document is written to a writer, and is [`KEY`].
+fn is_written(document: &SecretDocument) -> bool {
+    let mut room = [0u8; 121];
+    let written = document.write_der_to(&mut StdWriter::new(room.as_mut_slice()));
+    written.is_ok() && room.as_slice() == KEY
+}
+
+/// Returns `true` if an octet string is read, measured and written, and [`KEY`] is a tree.
+fn is_read_and_written() -> bool {
+    let Ok(octets) = from_der::<OctetStringRef>(b"\x04\x01\xAA") else {
+        return false;
+    };
+    let mut room = [0u8; 3];
+    octets.as_bytes() == [0xAA].as_slice()
+        && encoded_len(&octets) == Ok(3)
+        && encode_to_slice(&octets, &mut room) == Ok(3)
+        && room == [0x04, 0x01, 0xAA]
+        && check_tree(KEY) == Ok(7)
+}
+
+/// Fails the test unless the calls made since [`refuse`] were right, and made no request.
+fn assert_made_none<R: Print + Abort>(
+    rt: &R,
+    alloc: Global,
+    calls: &str,
+    is_refusing: bool,
+    is_right: bool,
+) {
+    assert_for(
+        rt,
+        &calls,
+        is_right && (!is_refusing || were_made(alloc, 0)),
+    );
+    if is_refusing {
+        let _ = println!(rt; "{calls}: no request");
+    }
 }
 
 #[test]
 fn takes_no_memory_without_an_allocator(rt: HostRuntime) -> Result<(), Fail> {
     let alloc = rt.alloc();
-    let document = SecretDocument::from_der(alloc, KEY)?;
-    assert!(rt;
-        needs_no_memory(&rt, alloc, "SecretDocument::write_der_to", || {
-            let mut room = [0u8; 121];
-            let written = document.write_der_to(&mut StdWriter::new(room.as_mut_slice()));
-            written.is_ok() && room.as_slice() == KEY
-        })
-    );
-    assert!(rt;
-        needs_no_memory(
-            &rt,
-            alloc,
-            "from_der, encoded_len, encode_to_slice, check_tree",
-            || {
-                let Ok(octets) = from_der::<OctetStringRef>(b"\x04\x01\xAA") else {
-                    return false;
-                };
-                let mut room = [0u8; 3];
-                octets.as_bytes() == [0xAA].as_slice()
-                    && encoded_len(&octets) == Ok(3)
-                    && encode_to_slice(&octets, &mut room) == Ok(3)
-                    && room == [0x04, 0x01, 0xAA]
-                    && check_tree(KEY) == Ok(7)
-            }
-        )
-    );
+    let document = document(alloc, KEY)?;
+    let is_refusing = refuse(alloc, 1);
+    let is_right = is_written(&document);
+    let calls = "SecretDocument::write_der_to";
+    assert_made_none(&rt, alloc, calls, is_refusing, is_right);
+    let is_refusing = refuse(alloc, 1);
+    let is_right = is_read_and_written();
+    let calls = "from_der, encoded_len, encode_to_slice, check_tree";
+    assert_made_none(&rt, alloc, calls, is_refusing, is_right);
     Ok(())
 }

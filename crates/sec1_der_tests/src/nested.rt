@@ -8,13 +8,13 @@ ghost use Rattle.sec1_der_tests.specs.Nested.{Four, inner_content, inner_fault};
 ghost use Rattle.sec1_der_tests.specs.Nested.{middle_content, middle_fault};
 
 use crate::helpers::{assert_equal, read_and_write};
-use crate::records::wrapped;
+use crate::records::{identifier, wrapped};
 use sec1_der::{
     BackWriter, DecodePart, Distinct, EncodePart, Length, ObjectIdentifier, Optional, Part, Record,
     Required, Result, SliceReader, UniquePart, VersionOne, component_len, decode_component,
 };
 use std::marker::Model;
-use std::test::Fail;
+use std::process::Abort;
 
 /// Four parts: two identifiers, and a version behind each that may be absent.
 type Row = (
@@ -272,17 +272,19 @@ impl Distinct for Outer {
 /// A [`Row`] of the identifiers 0.7 and 0.8, the second with a version.
 static ROW: [u8; 9] = [0x06, 0x01, 0x07, 0x06, 0x01, 0x08, 0x02, 0x01, 0x01];
 
+/// Reads and writes a [`Wide`], and returns its last row.
+fn read_wide<R: Abort + AllocGlobal>(rt: &R, bytes: &[u8]) -> Result<Row> {
+    let wide: Wide = read_and_write(rt, rt.alloc(), bytes)?;
+    Ok(wide.fourth)
+}
+
 #[test]
-fn reads_and_writes_a_record_of_16_parts(rt: HostRuntime) -> std::result::Result<(), Fail> {
-    let bytes = wrapped(rt.alloc(), &[0x30, 0x24], &[&ROW, &ROW, &ROW, &ROW])?;
+fn reads_and_writes_a_record_of_16_parts(rt: HostRuntime) {
+    let bytes = wrapped(&rt, &[0x30, 0x24], &[&ROW, &ROW, &ROW, &ROW]);
     assert_equal(&rt, &bytes.len(), &38);
-    let wide: Wide = read_and_write(&rt, rt.alloc(), &bytes)?;
-    let ((first, absent), (second, version)) = &wide.fourth;
-    assert_equal(&rt, &first.0.as_bytes(), &[0x07].as_slice());
-    assert_equal(&rt, &second.0.as_bytes(), &[0x08].as_slice());
-    assert_equal(&rt, &absent.0, &None);
-    assert_equal(&rt, &version.0, &Some(VersionOne));
-    Ok(())
+    let absent = (Required(identifier(&rt, 7)), Optional(None));
+    let present = (Required(identifier(&rt, 8)), Optional(Some(VersionOne)));
+    assert_equal(&rt, &read_wide(&rt, &bytes), &Ok((absent, present)));
 }
 
 /// An [`Inner`] of the identifiers 0.7 to 0.10.
@@ -290,18 +292,17 @@ static INNER: [u8; 14] = [
     0x30, 0x0C, 0x06, 0x01, 0x07, 0x06, 0x01, 0x08, 0x06, 0x01, 0x09, 0x06, 0x01, 0x0A,
 ];
 
+/// Reads and writes an [`Outer`], and returns one of its last identifiers.
+fn read_outer<R: Abort + AllocGlobal>(rt: &R, bytes: &[u8]) -> Result<ObjectIdentifier> {
+    let outer: Outer = read_and_write(rt, rt.alloc(), bytes)?;
+    Ok(outer.third.second.fourth)
+}
+
 #[test]
-fn reads_and_writes_64_identifiers_in_21_records(rt: HostRuntime) -> std::result::Result<(), Fail> {
-    let middle = wrapped(rt.alloc(), &[0x30, 0x38], &[&INNER, &INNER, &INNER, &INNER])?;
-    let middle = middle.as_slice();
-    let bytes = wrapped(
-        rt.alloc(),
-        &[0x30, 0x81, 0xE8],
-        &[middle, middle, middle, middle],
-    )?;
+fn reads_and_writes_64_identifiers_in_21_records(rt: HostRuntime) {
+    let middle = wrapped(&rt, &[0x30, 0x38], &[&INNER, &INNER, &INNER, &INNER]);
+    let rows = [middle.as_slice(); 4];
+    let bytes = wrapped(&rt, &[0x30, 0x81, 0xE8], &rows);
     assert_equal(&rt, &bytes.len(), &235);
-    let outer: Outer = read_and_write(&rt, rt.alloc(), &bytes)?;
-    let last = &outer.third.second.fourth;
-    assert_equal(&rt, &last.as_bytes(), &[0x0A].as_slice());
-    Ok(())
+    assert_equal(&rt, &read_outer(&rt, &bytes), &Ok(identifier(&rt, 0x0A)));
 }

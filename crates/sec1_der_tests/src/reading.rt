@@ -1,10 +1,8 @@
 //! What is read, by examples with known results.
-ghost use Rattle.std.specs.Prelude.{◌≤◌};
-
-use crate::helpers::{assert_equal, assert_equal_for, kind_of, read, refusal_of, text_of, write};
+use crate::helpers::{assert_equal, assert_equal_for, assert_shows, kind_of, read, refusal_of};
 use sec1_der::{
-    AnyRef, BitStringRef, Error, ErrorKind, Header, ID_EC_PUBLIC_KEY, IdentifierRef, Length,
-    ObjectIdentifier, OctetStringRef, SliceReader, Tag, VersionOne,
+    AnyRef, BitStringRef, Error, ErrorKind, Header, IdentifierRef, Length, ObjectIdentifier,
+    OctetStringRef, SliceReader, Tag,
 };
 use std::process::Abort;
 use std::test::Fail;
@@ -27,24 +25,29 @@ static TEXTS: [(ErrorKind, &str); 11] = [
 ];
 
 #[test]
-fn prints_errors_by_their_kinds(rt: HostRuntime) -> Result<(), Fail> {
+fn prints_errors_by_their_kinds(rt: HostRuntime) {
     for &(kind, text) in TEXTS.iter() {
         let error = Error::from(kind);
         assert_equal(&rt, &error.kind(), &kind);
-        assert_equal(&rt, &text_of(rt.alloc(), &error)?.as_str(), &text);
+        assert_shows(&rt, &error, text);
     }
-    Ok(())
+}
+
+/// Returns the number that a length is made of, or the kind of the error.
+fn length_of(bytes: usize) -> Result<usize, ErrorKind> {
+    match Length::new(bytes) {
+        Ok(length) => Ok(length.get()),
+        Err(error) => Err(error.kind),
+    }
 }
 
 #[test]
-fn refuses_lengths_above_the_limit(rt: HostRuntime) -> Result<(), Fail> {
-    assert_equal(&rt, &Length::new(Length::MAX)?.get(), &268_435_455);
+fn refuses_lengths_above_the_limit(rt: HostRuntime) {
     assert_equal(
         &rt,
-        &kind_of(Length::new(268_435_456)),
-        &Some(ErrorKind::Overlength),
+        &(length_of(Length::MAX), length_of(268_435_456)),
+        &(Ok(268_435_455), Err(ErrorKind::Overlength)),
     );
-    Ok(())
 }
 
 /// The tag byte and the length of the header that the bytes begin with.
@@ -104,114 +107,105 @@ fn reads_octet_strings(rt: HostRuntime) {
     }
 }
 
-#[test]
-fn reads_bit_strings(rt: HostRuntime) -> Result<(), Fail> {
-    let bits: BitStringRef = read(b"\x03\x02\x04\xF0")?;
-    assert_equal(&rt, &bits.unused_bits(), &4);
-    assert_equal(&rt, &bits.raw_bytes(), &b"\xF0".as_slice());
-    assert_equal(&rt, &bits.as_bytes(), &None);
-    let whole: BitStringRef = read(b"\x03\x02\x00\xF0")?;
-    assert_equal(&rt, &whole.as_bytes(), &Some(b"\xF0".as_slice()));
-    for bytes in [b"\x03\x02\x04\xF8".as_slice(), b"\x03\x00", b"\x03\x01\x01"] {
-        let refused = refusal_of::<BitStringRef>(bytes);
-        assert_equal_for(&rt, &bytes, &refused, &Some(ErrorKind::Value));
+/// What is read or made of a BIT STRING: the number of its unused bits, its bytes, and its bytes if
+/// no bit is unused; or the kind of the error.
+type Bits<'a> = Result<(u8, &'a [u8], Option<&'a [u8]>), ErrorKind>;
+
+/// Returns what a BIT STRING was read or made as.
+fn bits(made: sec1_der::Result<BitStringRef>) -> Bits<'_> {
+    match made {
+        Ok(bits) => Ok((bits.unused_bits(), bits.raw_bytes(), bits.as_bytes())),
+        Err(error) => Err(error.kind),
     }
-    Ok(())
 }
 
+static BIT_STRINGS: [(&[u8], Bits); 5] = [
+    (b"\x03\x02\x04\xF0", Ok((4, b"\xF0", None))),
+    (b"\x03\x02\x00\xF0", Ok((0, b"\xF0", Some(b"\xF0")))),
+    (b"\x03\x02\x04\xF8", Err(ErrorKind::Value)),
+    (b"\x03\x00", Err(ErrorKind::Value)),
+    (b"\x03\x01\x01", Err(ErrorKind::Value)),
+];
+
 #[test]
-fn makes_bit_strings(rt: HostRuntime) -> Result<(), Fail> {
-    assert_equal(&rt, &BitStringRef::new(1, b"\x00")?.as_bytes(), &None);
-    assert_equal(
-        &rt,
-        &BitStringRef::from_bytes(b"\x01")?.as_bytes(),
-        &Some(b"\x01".as_slice()),
-    );
-    for (unused, bytes) in [(1, b"\x01".as_slice()), (1, b""), (8, b"\x00")] {
-        let refused = kind_of(BitStringRef::new(unused, bytes));
-        assert_equal_for(&rt, &(unused, bytes), &refused, &Some(ErrorKind::Value));
+fn reads_bit_strings(rt: HostRuntime) {
+    for &(bytes, ref want) in BIT_STRINGS.iter() {
+        assert_equal_for(&rt, &bytes, &bits(read(bytes)), want);
     }
-    Ok(())
+}
+
+/// Numbers of unused bits, bytes, and what is made of them.
+static MADE_BIT_STRINGS: [(u8, &[u8], Bits); 5] = [
+    (1, b"\x00", Ok((1, b"\x00", None))),
+    (0, b"\x01", Ok((0, b"\x01", Some(b"\x01")))),
+    (1, b"\x01", Err(ErrorKind::Value)),
+    (1, b"", Err(ErrorKind::Value)),
+    (8, b"\x00", Err(ErrorKind::Value)),
+];
+
+/// Returns what is made of bytes without an unused bit.
+fn bits_of(bytes: &[u8]) -> Bits<'_> {
+    bits(BitStringRef::from_bytes(bytes))
 }
 
 #[test]
-fn reads_version_one(rt: HostRuntime) -> Result<(), Fail> {
-    assert_equal(&rt, &read(b"\x02\x01\x01")?, &VersionOne);
-    let refused = refusal_of::<VersionOne>(b"\x02\x01\x02");
-    assert_equal(&rt, &refused, &Some(ErrorKind::Value));
-    Ok(())
+fn makes_bit_strings(rt: HostRuntime) {
+    for &(unused, bytes, ref want) in MADE_BIT_STRINGS.iter() {
+        let made = bits(BitStringRef::new(unused, bytes));
+        assert_equal_for(&rt, &(unused, bytes), &made, want);
+    }
+    let whole = Ok((0, b"\x01".as_slice(), Some(b"\x01".as_slice())));
+    assert_equal(&rt, &bits_of(b"\x01"), &whole);
+}
+
+/// Returns the element of any tag that the bytes begin with, and the number of the bytes behind it.
+fn any(bytes: &[u8]) -> Option<(AnyRef<'_>, usize)> {
+    let mut reader = SliceReader::new(bytes);
+    let any = AnyRef::decode(&mut reader).ok()?;
+    Some((any, reader.remaining_len()))
 }
 
 #[test]
-fn reads_elements_of_any_tag(rt: HostRuntime) -> Result<(), Fail> {
-    let mut reader = SliceReader::new(b"\x30\x02\xAA\xBB\x05");
-    let Ok(any) = AnyRef::decode(&mut reader) else {
-        return Err("refused")?;
+fn reads_elements_of_any_tag(rt: HostRuntime) {
+    let content = b"\xAA\xBB".as_slice();
+    let (any, left) = any(b"\x30\x02\xAA\xBB\x05").expect(&rt, "an element");
+    let found = (any.tag(), any.value(), left);
+    assert_equal(&rt, &found, &(Tag::SEQUENCE, content, 1));
+    assert_equal(&rt, &AnyRef::new(Tag::SEQUENCE, content), &Ok(any));
+}
+
+/// What reading a field gives: the bytes of the octet string in it, or the kind of the error; and
+/// the number of the bytes that remain, unless the reader has failed.
+type Field<'a> = (Result<Option<&'a [u8]>, ErrorKind>, Option<usize>);
+
+/// Reads the octet string inside the field of this number, at most 30, if it is next.
+fn field(bytes: &[u8], number: u8) -> Field<'_> {
+    let mut reader = SliceReader::new(bytes);
+    let found = match reader.context_specific::<OctetStringRef>(number.min(30)) {
+        Ok(Some(octets)) => Ok(Some(octets.as_bytes())),
+        Ok(None) => Ok(None),
+        Err(error) => Err(error.kind),
     };
-    assert_equal(&rt, &any.tag(), &Tag::SEQUENCE);
-    assert_equal(&rt, &any.value(), &b"\xAA\xBB".as_slice());
-    assert_equal(&rt, &reader.remaining_len(), &1);
-    assert!(rt; AnyRef::new(Tag::SEQUENCE, b"\xAA\xBB") == Ok(any));
-    Ok(())
+    let is_failed = reader.is_failed();
+    (found, (!is_failed).then_some(reader.remaining_len()))
 }
 
-/// Reads the octet string inside the field of this number, if it is next.
-fn field<'a>(reader: &mut SliceReader<'a>, number: u8) -> sec1_der::Result<Option<&'a [u8]>>
-    requires { number ≤ 30 }
-{
-    match reader.context_specific::<OctetStringRef>(number)? {
-        Some(octets) => Ok(Some(octets.as_bytes())),
-        None => Ok(None),
-    }
-}
+static FIELDS: [(&[u8], u8, Field); 4] = [
+    (b"\xA1\x03\x03\x01\x00", 0, (Ok(None), Some(5))),
+    (b"", 0, (Ok(None), Some(0))),
+    (b"\xBE\x02\x04\x00", 30, (Ok(Some(b"")), Some(0))),
+    (
+        b"\xA0\x03\x04\x00\x00",
+        0,
+        (Err(ErrorKind::TrailingData), None),
+    ),
+];
 
 #[test]
-fn reads_context_fields(rt: HostRuntime) -> Result<(), Fail> {
-    let mut other = SliceReader::new(b"\xA1\x03\x03\x01\x00");
-    assert_equal(&rt, &field(&mut other, 0)?, &None);
-    assert_equal(&rt, &other.remaining_len(), &5);
-    let mut nothing = SliceReader::new(b"");
-    assert_equal(&rt, &field(&mut nothing, 0)?, &None);
-    let mut last = SliceReader::new(b"\xBE\x02\x04\x00");
-    assert_equal(&rt, &field(&mut last, 30)?, &Some(b"".as_slice()));
-    let mut long = SliceReader::new(b"\xA0\x03\x04\x00\x00");
-    assert_equal(
-        &rt,
-        &kind_of(field(&mut long, 0)),
-        &Some(ErrorKind::TrailingData),
-    );
-    assert_equal(&rt, &long.is_failed(), &true);
-    Ok(())
-}
-
-#[test]
-fn stays_where_it_refused(rt: HostRuntime) -> Result<(), Fail> {
-    let mut reader = SliceReader::new(b"\x05\x00\x04\x00");
-    let refused = kind_of(reader.decode::<OctetStringRef>());
-    assert_equal(&rt, &refused, &Some(ErrorKind::Tag));
-    assert_equal(&rt, &reader.is_failed(), &true);
-    assert_equal(&rt, &reader.peek_tag_byte(), &None);
-    let left = reader.remaining_len();
-    let ends = [
-        (
-            kind_of(reader.decode::<OctetStringRef>()),
-            reader.remaining_len(),
-        ),
-        (kind_of(field(&mut reader, 0)), reader.remaining_len()),
-        (
-            kind_of(reader.read_slice(Length::new(1)?)),
-            reader.remaining_len(),
-        ),
-        (
-            kind_of(reader.read_nested(Length::new(1)?)),
-            reader.remaining_len(),
-        ),
-        (kind_of(reader.finish()), reader.remaining_len()),
-    ];
-    for end in ends.iter() {
-        assert_equal(&rt, end, &(Some(ErrorKind::Failed), left));
+fn reads_context_fields(rt: HostRuntime) {
+    for &(bytes, number, ref want) in FIELDS.iter() {
+        assert_equal_for(&rt, &bytes, &field(bytes, number), want);
     }
-    Ok(())
 }
 
 static IDENTIFIERS: [(&str, &[u8]); 9] = [
@@ -226,36 +220,35 @@ static IDENTIFIERS: [(&str, &[u8]); 9] = [
     ("2.4294967215", b"\x8F\xFF\xFF\xFF\x7F"),
 ];
 
-#[test]
-fn reads_and_prints_identifiers(rt: HostRuntime) -> Result<(), Fail> {
-    for &(text, content) in IDENTIFIERS.iter() {
-        let identifier = ObjectIdentifier::new(text)?;
-        assert_equal_for(&rt, &text, &identifier.as_bytes(), &content);
-        assert_equal_for(
-            &rt,
-            &text,
-            &ObjectIdentifier::from_bytes(content)?,
-            &identifier,
-        );
-        assert_equal(&rt, &text_of(rt.alloc(), &identifier)?.as_str(), &text);
-    }
-    Ok(())
+/// Fails the test unless the identifier of this text has this content, is made of it too, and is
+/// printed as the text.
+fn assert_identifier<R: Abort + AllocGlobal>(rt: &R, text: &str, content: &[u8]) {
+    let identifier = ObjectIdentifier::new(text).expect(rt, "an identifier");
+    assert_equal_for(rt, &text, &identifier.as_bytes(), &content);
+    let same = ObjectIdentifier::from_bytes(content);
+    assert_equal_for(rt, &text, &same, &Ok(identifier));
+    assert_shows(rt, &identifier, text);
 }
 
 #[test]
-fn has_identifiers_as_constants(rt: HostRuntime) -> Result<(), Fail> {
-    let identifier = ObjectIdentifier::new("1.2.3")?;
-    assert_equal(
-        &rt,
-        &format!(in rt.alloc(); "{identifier:?}")?.as_str(),
-        &"ObjectIdentifier(1.2.3)",
-    );
-    assert_equal(
-        &rt,
-        &ObjectIdentifier::new("1.2.840.10045.2.1")?,
-        &ID_EC_PUBLIC_KEY,
-    );
-    Ok(())
+fn reads_and_prints_identifiers(rt: HostRuntime) {
+    for &(text, content) in IDENTIFIERS.iter() {
+        assert_identifier(&rt, text, content);
+    }
+}
+
+#[test]
+fn reads_elements_of_identifiers(rt: HostRuntime) {
+    let identifier: ObjectIdentifier = read(b"\x06\x02\x88\x37").expect(&rt, "an identifier");
+    assert_shows(&rt, &identifier, "2.999");
+    for (bytes, kind) in [
+        (b"\x06\x00".as_slice(), ErrorKind::Value),
+        (b"\x06\x01\x80", ErrorKind::Value),
+        (b"\x05\x00", ErrorKind::Tag),
+    ] {
+        let refused = refusal_of::<ObjectIdentifier>(bytes);
+        assert_equal_for(&rt, &bytes, &refused, &Some(kind));
+    }
 }
 
 static REFUSED_TEXTS: [&str; 12] = [
@@ -282,43 +275,49 @@ static REFUSED_CONTENTS: [&[u8]; 6] = [
     b"\x2A\x90\x80\x80\x80\x00",
 ];
 
+/// Returns the kinds by which this content is refused as an identifier, owned and borrowed.
+fn content_refusals(content: &[u8]) -> [Option<ErrorKind>; 2] {
+    [
+        kind_of(ObjectIdentifier::from_bytes(content)),
+        kind_of(IdentifierRef::from_bytes(content)),
+    ]
+}
+
 #[test]
 fn refuses_other_identifiers(rt: HostRuntime) {
+    for &content in REFUSED_CONTENTS.iter() {
+        let refused = content_refusals(content);
+        assert_equal_for(&rt, &content, &refused, &[Some(ErrorKind::Value); 2]);
+    }
+}
+
+#[test]
+fn refuses_other_texts_of_identifiers(rt: HostRuntime) {
     for &text in REFUSED_TEXTS.iter() {
         let refused = kind_of(ObjectIdentifier::new(text));
         assert_equal_for(&rt, &text, &refused, &Some(ErrorKind::Value));
     }
-    for &content in REFUSED_CONTENTS.iter() {
-        let refused = kind_of(ObjectIdentifier::from_bytes(content));
-        assert_equal_for(&rt, &content, &refused, &Some(ErrorKind::Value));
-        let refused = kind_of(IdentifierRef::from_bytes(content));
-        assert_equal_for(&rt, &content, &refused, &Some(ErrorKind::Value));
-    }
 }
 
-/// Fails the test unless the identifier is written with this content, and read again.
-fn assert_written_again(
-    rt: &impl Abort,
-    identifier: &IdentifierRef,
-    content: &[u8],
-) -> sec1_der::Result<()> {
-    let mut room = [0xAA; 16];
-    let bytes = write(identifier, &mut room)?;
-    assert_equal_for(rt, &content, &bytes.len(), &(2 + content.len()));
-    assert_equal_for(rt, &content, &bytes.first(), &Some(&0x06));
-    assert_equal(rt, &read::<IdentifierRef>(bytes)?.as_bytes(), &content);
-    Ok(())
+/// Returns the identifier whose content is borrowed here.
+fn borrowed(content: &[u8]) -> sec1_der::Result<ObjectIdentifier> {
+    Ok(IdentifierRef::from_bytes(content)?.to_identifier())
 }
 
 #[test]
-fn reads_and_writes_borrowed_identifiers(rt: HostRuntime) -> Result<(), Fail> {
+fn borrows_identifiers(rt: HostRuntime) {
     for &(text, content) in IDENTIFIERS.iter() {
-        let identifier = IdentifierRef::from_bytes(content)?;
-        let owned = identifier.to_identifier();
-        assert_equal_for(&rt, &text, &owned, &ObjectIdentifier::new(text)?);
-        assert_written_again(&rt, &identifier.reborrow(), content)?;
+        let wanted = ObjectIdentifier::new(text);
+        assert_equal_for(&rt, &text, &borrowed(content), &wanted);
     }
-    Ok(())
+}
+
+/// Returns the length of the content of the identifier of this text, or the kind of the error.
+fn content_len(text: &str) -> Result<usize, ErrorKind> {
+    match ObjectIdentifier::new(text) {
+        Ok(identifier) => Ok(identifier.as_bytes().len()),
+        Err(error) => Err(error.kind),
+    }
 }
 
 #[test]
@@ -327,13 +326,8 @@ fn refuses_identifiers_above_39_bytes(rt: HostRuntime) -> Result<(), Fail> {
     for _ in 0..38 {
         text.push_str(".1")?;
     }
-    assert_equal(
-        &rt,
-        &ObjectIdentifier::new(text.as_str())?.as_bytes().len(),
-        &39,
-    );
+    assert_equal(&rt, &content_len(&text), &Ok(39));
     text.push_str(".1")?;
-    let refused = kind_of(ObjectIdentifier::new(text.as_str()));
-    assert_equal(&rt, &refused, &Some(ErrorKind::Value));
+    assert_equal(&rt, &content_len(&text), &Err(ErrorKind::Value));
     Ok(())
 }

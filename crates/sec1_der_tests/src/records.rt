@@ -2,7 +2,7 @@
 ghost use Rattle.std.specs.Option.{option_map};
 ghost use Rattle.std.specs.Prelude.{ℕ, List, Option, refl};
 
-use crate::helpers::{assert_equal, assert_equal_for, kind_of, read_and_write, refusal_of, write};
+use crate::helpers::{assert_equal, assert_equal_for, read_and_write, refusal_of, write};
 use sec1_der::{
     Context0, Context1, Context2, Context3, Distinct, ErrorKind, Explicit, ExplicitBits, FixedTag,
     ObjectIdentifier, Octets, Optional, Primitive0, Primitive1, Primitive2, Primitive3, Record,
@@ -11,7 +11,6 @@ use sec1_der::{
 use std::alloc::{AllocError, Global};
 use std::marker::Model;
 use std::process::Abort;
-use std::test::Fail;
 
 /// Four parts: a version and an identifier, and one of each that may be absent.
 #[derive(Clone, Copy, PartialEq, Eq, Debug)]
@@ -98,12 +97,13 @@ impl Distinct for Middle {
     ghost apart = { refl };
 }
 
+/// Returns the header and the parts behind it. Fails the test if there is no memory.
+pub(crate) fn wrapped<R: Abort + AllocGlobal>(rt: &R, header: &[u8], parts: &[&[u8]]) -> Vec<u8> {
+    joined(rt.alloc(), header, parts).expect(rt, "no memory")
+}
+
 /// Returns the header and the parts behind it.
-pub(crate) fn wrapped(
-    alloc: Global,
-    header: &[u8],
-    parts: &[&[u8]],
-) -> Result<Vec<u8>, AllocError> {
+fn joined(alloc: Global, header: &[u8], parts: &[&[u8]]) -> Result<Vec<u8>, AllocError> {
     let mut bytes = Vec::new(alloc);
     bytes.extend_from_slice(header)?;
     for &part in parts.iter() {
@@ -125,39 +125,79 @@ fn read_middle(rt: &impl Abort, alloc: Global, bytes: &[u8]) -> sec1_der::Result
     read_and_write(rt, alloc, bytes)
 }
 
+/// Returns the identifier whose content is this byte.
+pub(crate) fn identifier(rt: &impl Abort, byte: u8) -> ObjectIdentifier {
+    ObjectIdentifier::from_bytes(&[byte]).expect(rt, "an identifier")
+}
+
+/// Returns the value of [`SHORT`].
+fn short(rt: &impl Abort) -> Inner {
+    Inner {
+        identifier: identifier(rt, 7),
+        version: None,
+        other: None,
+    }
+}
+
+/// Returns the value of [`WHOLE`].
+fn whole(rt: &impl Abort) -> Inner {
+    Inner {
+        identifier: identifier(rt, 7),
+        version: Some(VersionOne),
+        other: Some(identifier(rt, 8)),
+    }
+}
+
 #[test]
-fn reads_and_writes_records_in_records(rt: HostRuntime) -> Result<(), Fail> {
-    let bytes = wrapped(rt.alloc(), &[0x30, 0x32], &[&SHORT, &WHOLE, &WHOLE, &WHOLE])?;
-    assert_equal(&rt, &bytes.len(), &52);
-    let read = read_middle(&rt, rt.alloc(), &bytes)?;
-    assert_equal(&rt, &read.first.version, &None);
-    assert_equal(&rt, &read.second.version, &Some(VersionOne));
-    assert_equal(&rt, &read.third, &read.second);
-    assert_equal(&rt, &read.fourth, &Some(read.second));
-    assert_equal(&rt, &Middle::TAG.byte(), &0x30);
-    let bytes = wrapped(rt.alloc(), &[0x30, 0x18], &[&SHORT, &SHORT, &SHORT])?;
-    let read = read_middle(&rt, rt.alloc(), &bytes)?;
-    assert_equal(&rt, &read.fourth, &None);
-    Ok(())
+fn reads_and_writes_records_in_records(rt: HostRuntime) {
+    let bytes = wrapped(&rt, &[0x30, 0x32], &[&SHORT, &WHOLE, &WHOLE, &WHOLE]);
+    let wanted = Middle {
+        first: short(&rt),
+        second: whole(&rt),
+        third: whole(&rt),
+        fourth: Some(whole(&rt)),
+    };
+    assert_equal(&rt, &read_middle(&rt, rt.alloc(), &bytes), &Ok(wanted));
+    assert_equal(&rt, &(bytes.len(), Middle::TAG.byte()), &(52, 0x30));
+}
+
+#[test]
+fn reads_and_writes_a_record_without_the_last(rt: HostRuntime) {
+    let bytes = wrapped(&rt, &[0x30, 0x18], &[&SHORT, &SHORT, &SHORT]);
+    let wanted = Middle {
+        first: short(&rt),
+        second: short(&rt),
+        third: short(&rt),
+        fourth: None,
+    };
+    assert_equal(&rt, &read_middle(&rt, rt.alloc(), &bytes), &Ok(wanted));
 }
 
 /// An [`Inner`] whose parts are in another order, are cut off, have another value, or are repeated.
+static OTHER_RECORDS: [(&[u8], ErrorKind); 7] = [
+    (b"\x30\x06\x06\x01\x07\x02\x01\x00", ErrorKind::Tag),
+    (b"\x30\x03\x02\x01\x00", ErrorKind::Truncated),
+    (b"\x30\x06\x02\x01\x01\x06\x01\x07", ErrorKind::Value),
+    (b"\x30\x06\x02\x01\x00\x06\x01\x80", ErrorKind::Value),
+    (
+        b"\x30\x09\x02\x01\x00\x06\x01\x07\x02\x01\x02",
+        ErrorKind::Value,
+    ),
+    (
+        b"\x30\x0C\x02\x01\x00\x06\x01\x07\x06\x01\x08\x02\x01\x01",
+        ErrorKind::TrailingData,
+    ),
+    (
+        b"\x30\x0C\x02\x01\x00\x06\x01\x07\x02\x01\x01\x02\x01\x01",
+        ErrorKind::TrailingData,
+    ),
+];
+
 #[test]
 fn refuses_other_records(rt: HostRuntime) {
-    let order = refusal_of::<Inner>(b"\x30\x06\x06\x01\x07\x02\x01\x00");
-    assert_equal(&rt, &order, &Some(ErrorKind::Tag));
-    let cut = refusal_of::<Inner>(b"\x30\x03\x02\x01\x00");
-    assert_equal(&rt, &cut, &Some(ErrorKind::Truncated));
-    let version = refusal_of::<Inner>(b"\x30\x06\x02\x01\x01\x06\x01\x07");
-    assert_equal(&rt, &version, &Some(ErrorKind::Value));
-    let identifier = refusal_of::<Inner>(b"\x30\x06\x02\x01\x00\x06\x01\x80");
-    assert_equal(&rt, &identifier, &Some(ErrorKind::Value));
-    let optional = refusal_of::<Inner>(b"\x30\x09\x02\x01\x00\x06\x01\x07\x02\x01\x02");
-    assert_equal(&rt, &optional, &Some(ErrorKind::Value));
-    let late = refusal_of::<Inner>(b"\x30\x0C\x02\x01\x00\x06\x01\x07\x06\x01\x08\x02\x01\x01");
-    assert_equal(&rt, &late, &Some(ErrorKind::TrailingData));
-    let twice = refusal_of::<Inner>(b"\x30\x0C\x02\x01\x00\x06\x01\x07\x02\x01\x01\x02\x01\x01");
-    assert_equal(&rt, &twice, &Some(ErrorKind::TrailingData));
+    for &(bytes, kind) in OTHER_RECORDS.iter() {
+        assert_equal_for(&rt, &bytes, &refusal_of::<Inner>(bytes), &Some(kind));
+    }
 }
 
 /// Bytes that are borrowed.
@@ -261,25 +301,31 @@ fn read_borrowed<'a>(
     read_and_write(rt, alloc, bytes)
 }
 
-#[test]
-fn reads_and_writes_borrowed_parts(rt: HostRuntime) -> Result<(), Fail> {
-    let whole = read_borrowed(&rt, rt.alloc(), &BORROWED)?;
-    assert_equal(&rt, &whole.octets, &b"\xAA\xBB".as_slice());
-    assert_equal(&rt, &whole.bits, &Some(b"\xCC".as_slice()));
-    assert_equal(&rt, &whole.public_key, &Some(b"\xDD".as_slice()));
-    assert_equal(&rt, &whole.field, &Some(b"".as_slice()));
+/// Reads bytes, writes what they are and reads it again. Fails the test if there is none.
+fn parts_of<'a>(rt: &impl Abort, alloc: Global, bytes: &'a [u8]) -> Parts<'a> {
+    let read = read_borrowed(rt, alloc, bytes).expect(rt, "a record");
     let mut room = [0; 20];
-    assert_equal(&rt, &write(&whole, &mut room)?, &BORROWED.as_slice());
-    Ok(())
+    assert_equal(rt, &write(&read, &mut room), &Ok(bytes));
+    (read.octets, read.bits, read.public_key, read.field)
 }
 
+/// The parts of a [`Borrowed`].
+type Parts<'a> = (
+    &'a [u8],
+    Option<&'a [u8]>,
+    Option<&'a [u8]>,
+    Option<&'a [u8]>,
+);
+
+/// The value of [`BORROWED`].
+static BORROWED_PARTS: Parts = (b"\xAA\xBB", Some(b"\xCC"), Some(b"\xDD"), Some(b""));
+
 #[test]
-fn reads_and_writes_absent_parts(rt: HostRuntime) -> Result<(), Fail> {
-    let short = read_borrowed(&rt, rt.alloc(), &[0x30, 0x02, 0x04, 0x00])?;
-    assert_equal(&rt, &short.bits, &None);
-    assert_equal(&rt, &short.public_key, &None);
-    assert_equal(&rt, &short.field, &None);
-    Ok(())
+fn reads_and_writes_borrowed_parts(rt: HostRuntime) {
+    let whole = parts_of(&rt, rt.alloc(), &BORROWED);
+    assert_equal(&rt, &whole, &BORROWED_PARTS);
+    let short = parts_of(&rt, rt.alloc(), &[0x30, 0x02, 0x04, 0x00]);
+    assert_equal(&rt, &short, &(b"".as_slice(), None, None, None));
 }
 
 /// Unused bits in `[1]` are refused after the bytes behind the BIT STRING.
@@ -306,47 +352,35 @@ fn refuses_unused_bits(rt: HostRuntime) {
     }
 }
 
-/// Reads an identifier inside an element with this tag byte as one inside the tag of `K`, and fails
-/// the test unless writing it gives the same bytes.
-fn assert_reads_inside<K: Tagged>(rt: &impl Abort, tag: u8) -> sec1_der::Result<()> {
+/// Reads an identifier inside an element with this tag byte as one inside the tag of `K`. Returns
+/// whether writing it gives the same bytes, or the kind of the error.
+fn reads_inside<K: Tagged>(tag: u8) -> Result<bool, ErrorKind> {
     let bytes = [tag, 0x03, 0x06, 0x01, 0x07];
-    let field: Explicit<K, ObjectIdentifier> = read_der(&bytes)?;
-    assert_equal(rt, &field.value.as_bytes(), &[0x07].as_slice());
-    let mut room = [0; 5];
-    assert_equal(rt, &write(&field, &mut room)?, &bytes.as_slice());
-    Ok(())
+    match read_der::<Explicit<K, ObjectIdentifier>>(&bytes) {
+        Ok(field) => {
+            let mut room = [0; 5];
+            Ok(
+                field.value.as_bytes() == [0x07].as_slice()
+                    && write(&field, &mut room) == Ok(&bytes),
+            )
+        }
+        Err(error) => Err(error.kind),
+    }
 }
 
 #[test]
-fn reads_and_writes_explicit_tags(rt: HostRuntime) -> Result<(), Fail> {
-    assert_reads_inside::<Context0>(&rt, 0xA0)?;
-    assert_reads_inside::<Context1>(&rt, 0xA1)?;
-    assert_reads_inside::<Context2>(&rt, 0xA2)?;
-    assert_reads_inside::<Context3>(&rt, 0xA3)?;
-    assert_reads_inside::<Primitive0>(&rt, 0x80)?;
-    assert_reads_inside::<Primitive1>(&rt, 0x81)?;
-    assert_reads_inside::<Primitive2>(&rt, 0x82)?;
-    assert_reads_inside::<Primitive3>(&rt, 0x83)?;
-    let refused = kind_of(assert_reads_inside::<Context0>(&rt, 0xA1));
-    assert_equal(&rt, &refused, &Some(ErrorKind::Tag));
-    Ok(())
-}
-
-#[test]
-fn compares_and_prints_parts(rt: HostRuntime) -> Result<(), Fail> {
-    let part = Required(VersionOne);
-    assert!(rt; part.clone()? == part);
-    assert_equal(
-        &rt,
-        &format!(in rt.alloc(); "{part:?}")?.as_str(),
-        &"Required(VersionOne)",
-    );
-    let absent: Optional<VersionOne> = Optional(None);
-    assert!(rt; absent != Optional(Some(VersionOne)));
-    assert_equal(
-        &rt,
-        &format!(in rt.alloc(); "{absent:?}")?.as_str(),
-        &"Optional(None)",
-    );
-    Ok(())
+fn reads_and_writes_explicit_tags(rt: HostRuntime) {
+    let found = [
+        reads_inside::<Context0>(0xA0),
+        reads_inside::<Context1>(0xA1),
+        reads_inside::<Context2>(0xA2),
+        reads_inside::<Context3>(0xA3),
+        reads_inside::<Primitive0>(0x80),
+        reads_inside::<Primitive1>(0x81),
+        reads_inside::<Primitive2>(0x82),
+        reads_inside::<Primitive3>(0x83),
+    ];
+    assert_equal(&rt, &found, &[Ok(true); 8]);
+    let other = reads_inside::<Context0>(0xA1);
+    assert_equal(&rt, &other, &Err(ErrorKind::Tag));
 }

@@ -1,8 +1,7 @@
 //! Documents over readers and writers that give and take a few bytes at a time, break or never end,
 //! and in files.
 use crate::helpers::{
-    assert_equal, assert_equal_for, assert_for, document, file_refusal, kind_of, remove_file,
-    temporary_path,
+    assert_equal, assert_equal_for, assert_for, document, kind_of, remove_file, temporary_path,
 };
 use sec1_der::{ErrorKind, SecretDocument, StdReader, StdWriter};
 use std::alloc::Global;
@@ -151,16 +150,6 @@ fn reads_documents_in_pieces(rt: HostRuntime) {
     }
 }
 
-#[test]
-fn reports_failed_reads_in_turn(rt: HostRuntime) {
-    for given in 0..=KEY.len() {
-        let (result, pieces) = Pieces::new(KEY, given, 1, Then::Fail).document(rt.alloc());
-        assert_equal_for(&rt, &given, &kind_of(result), &Some(ErrorKind::Io));
-        assert_equal(&rt, &pieces.taken, &given);
-    }
-    let _ = println!(&rt; "SecretDocument::read_der_from: each of its 122 reads fails");
-}
-
 /// A writer that takes `room` bytes, at most `step` a call, and then fails or takes none.
 #[derive(Drop)]
 struct Narrow {
@@ -217,59 +206,36 @@ static WRITES: [(usize, usize, bool, Option<ErrorKind>, usize); 5] = [
 
 #[test]
 fn writes_documents_in_pieces(rt: HostRuntime) -> Result<(), Fail> {
-    let document = SecretDocument::read_der_from(rt.alloc(), &mut StdReader::new(KEY))?;
+    let document = document(rt.alloc(), KEY)?;
     for &(step, room, fails, want, count) in WRITES.iter() {
         let (kind, taken) = written(rt.alloc(), &document, step, room, fails);
-        assert_equal_for(&rt, &room, &kind, &want);
-        assert_equal_for(&rt, &room, &Some(taken.as_slice()), &KEY.get(..count));
+        let found = (kind, Some(taken.as_slice()));
+        assert_equal_for(&rt, &room, &found, &(want, KEY.get(..count)));
     }
     Ok(())
 }
 
-#[test]
-fn reports_failed_writes_in_turn(rt: HostRuntime) -> Result<(), Fail> {
-    let document = document(rt.alloc(), KEY)?;
-    for room in 0..KEY.len() {
-        for fails in [true, false] {
-            let (kind, taken) = written(rt.alloc(), &document, 1, room, fails);
-            assert_equal_for(&rt, &room, &kind, &Some(ErrorKind::Io));
-            assert_equal(&rt, &Some(taken.as_slice()), &KEY.get(..room));
-        }
+/// Writes a document of these bytes into a file, and reads the file. Returns the kind of the error,
+/// if there is one, and whether the bytes were read.
+fn is_kept(rt: &HostRuntime, path: &str, bytes: &[u8]) -> (Option<ErrorKind>, bool) {
+    match read_back(rt, path, bytes) {
+        Ok(again) => (None, again.as_bytes() == bytes),
+        Err(error) => (Some(error.kind), false),
     }
-    let _ = println!(&rt; "SecretDocument::write_der_to: each of its 121 writes fails");
-    Ok(())
 }
 
-/// Writes the document into a file, and reads the file.
-fn read_back(
-    rt: &HostRuntime,
-    path: &str,
-    document: &SecretDocument,
-) -> sec1_der::Result<SecretDocument> {
-    document.write_der_file(rt, path)?;
+/// Writes a document of these bytes into a file, and reads the file.
+fn read_back(rt: &HostRuntime, path: &str, bytes: &[u8]) -> sec1_der::Result<SecretDocument> {
+    document(rt.alloc(), bytes)?.write_der_file(rt, path)?;
     SecretDocument::read_der_file(rt, rt.alloc(), path)
 }
 
 #[test]
 fn keeps_documents_in_files(rt: HostRuntime) -> Result<(), Fail> {
     let path = temporary_path(&rt, "document")?;
-    let empty = document(rt.alloc(), b"\x30\x00")?;
-    let whole = document(rt.alloc(), KEY)?;
     // the second is longer than the first, and the third shorter
-    for document in [&empty, &whole, &empty] {
-        let again = read_back(&rt, &path, document)?;
-        assert_equal(&rt, &again.as_bytes(), &document.as_bytes());
+    for bytes in [b"\x30\x00".as_slice(), KEY, b"\x30\x00"] {
+        assert_equal(&rt, &is_kept(&rt, &path, bytes), &(None, true));
     }
     remove_file(&rt, &path)
-}
-
-#[test]
-fn reports_missing_files(rt: HostRuntime) -> Result<(), Fail> {
-    let path = temporary_path(&rt, "missing")?;
-    assert_equal(&rt, &file_refusal(&rt, &path), &Some(ErrorKind::Io));
-    let nowhere = format!(in rt.alloc(); "{path}/none")?;
-    let document = document(rt.alloc(), KEY)?;
-    let unmade = kind_of(document.write_der_file(&rt, &nowhere));
-    assert_equal(&rt, &unmade, &Some(ErrorKind::Io));
-    Ok(())
 }

@@ -17,20 +17,16 @@ mod points;
 #[cfg(test)]
 mod reading;
 #[cfg(test)]
-mod streams;
-#[cfg(test)]
 mod traits;
 #[cfg(test)]
 mod writing;
 
 #[cfg(test)]
-use std::alloc::Global;
+use std::alloc::AllocError;
 #[cfg(test)]
 use std::fmt::Debug;
 #[cfg(test)]
 use std::process::Abort;
-#[cfg(test)]
-use std::test::Fail;
 
 /// Fails the test unless the two are equal.
 // A call of this takes the prover a fraction of the time that `assert_eq!` takes in line.
@@ -50,22 +46,24 @@ fn assert_equal_for<C: Debug, T: PartialEq + Debug>(
     assert_eq!(rt; *found, *wanted, "of {case:?}");
 }
 
-/// Fails the test if the two are equal.
+/// Fails the test unless what was printed is this text.
 #[cfg(test)]
-fn assert_unequal<T: PartialEq + Debug>(rt: &impl Abort, found: &T, other: &T) {
-    assert_ne!(rt; *found, *other);
+fn assert_printed(rt: &impl Abort, printed: Result<String, AllocError>, text: &str) {
+    assert_equal(rt, &printed.expect(rt, "no memory").as_str(), &text);
+}
+
+/// Fails the test unless each text between two `|` of what was printed is this one.
+#[cfg(test)]
+fn assert_printed_alike(rt: &impl Abort, printed: Result<String, AllocError>, text: &str) {
+    let printed = printed.expect(rt, "no memory");
+    for found in printed.split('|') {
+        assert_equal(rt, &found, &text);
+    }
 }
 
 /// Fails the test unless the value is printed as the text by `{:?}`, and as the lines by `{:#?}`.
 #[cfg(test)]
-fn assert_debug_texts(
-    rt: &impl Abort,
-    alloc: Global,
-    value: &impl Debug,
-    text: &str,
-    lines: &str,
-) -> Result<(), Fail> {
-    assert_equal(rt, &format!(in alloc; "{value:?}")?.as_str(), &text);
-    assert_equal(rt, &format!(in alloc; "{value:#?}")?.as_str(), &lines);
-    Ok(())
+fn assert_debug_texts<R: Abort + AllocGlobal>(rt: &R, value: &impl Debug, text: &str, lines: &str) {
+    assert_printed(rt, format!(in rt.alloc(); "{value:?}"), text);
+    assert_printed(rt, format!(in rt.alloc(); "{value:#?}"), lines);
 }

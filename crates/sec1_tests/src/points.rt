@@ -2,15 +2,18 @@
 
 ghost use Rattle.std.specs.Prelude.{◌+◌, ◌*◌, ◌%◌, ◌^◌, fold};
 
-use crate::{assert_debug_texts, assert_equal, assert_equal_for, assert_unequal};
+use crate::{
+    assert_debug_texts, assert_equal, assert_equal_for, assert_printed, assert_printed_alike,
+};
 use sec1::Error;
 use sec1::der::{self, ErrorKind};
-use sec1::point::Coordinates::{Compact, Compressed, Hybrid, Identity, Uncompressed};
+use sec1::point::Coordinates::{Compact, Compressed, Hybrid, Uncompressed};
 use sec1::point::{
     Coordinates, EncodedPoint, EncodedPoint28, EncodedPoint32, EncodedPoint48, EncodedPoint66, Tag,
 };
 use serde_json::Value;
 use std::alloc::Global;
+use std::boxed::BoxedSlice;
 use std::cmp::Ordering;
 use std::collections::HashSet;
 use std::fmt::Display;
@@ -20,34 +23,6 @@ use std::str::FromStr;
 use std::test::Fail;
 
 type Point1 = EncodedPoint<1, 3>;
-
-type Point2 = EncodedPoint<2, 5>;
-
-// An encoding, and what it compresses to.
-static COMPRESSED_1: [(&[u8], &[u8]); 7] = [
-    (&[4, 1, 0xFF], &[3, 1]),
-    (&[4, 1, 1], &[3, 1]),
-    (&[4, 1, 3], &[3, 1]),
-    (&[5, 7], &[5, 7]),
-    (&[6, 1, 2], &[2, 1]),
-    (&[7, 1, 3], &[3, 1]),
-    (&[0], &[0]),
-];
-
-static COMPRESSED_2: [(&[u8], &[u8]); 2] = [
-    (&[4, 0, 0, 1, 0], &[2, 0, 0]),
-    (&[4, 0, 0, 0, 1], &[3, 0, 0]),
-];
-
-// An encoding, and its hybrid form.
-static HYBRID: [(&[u8], &[u8]); 4] = [
-    (&[4, 1, 3], &[7, 1, 3]),
-    (&[6, 1, 2], &[6, 1, 2]),
-    (&[2, 1], &[2, 1]),
-    (&[0], &[0]),
-];
-
-static NO_ENCODING: [&[u8]; 6] = [&[], &[1], &[5, 7, 0], &[7, 1, 2], &[6, 1, 3], &[8, 1]];
 
 // Each encoding is less than the next.
 static ORDERED: [&[u8]; 8] = [
@@ -80,6 +55,9 @@ static TEXTS_32: [(&str, &str); 3] = [
     ),
 ];
 
+/// The error by which bytes are refused as a point.
+const REFUSED: Option<Error> = Some(Error::PointEncoding);
+
 // 02 and 32 bytes 11.
 fn compressed_32() -> [u8; 33] {
     let mut bytes = [0x11; 33];
@@ -108,81 +86,17 @@ fn point_32(rt: &impl Abort, bytes: &[u8]) -> EncodedPoint32 {
 }
 
 #[test]
-fn compresses_points(rt: HostRuntime) {
-    for &(bytes, compressed) in COMPRESSED_1.iter() {
-        let point = point_1(&rt, bytes).compress();
-        assert_equal_for(&rt, &bytes, &point.as_bytes(), &compressed);
-        assert_equal_for(&rt, &bytes, &point.len(), &compressed.len());
-        assert_equal_for(&rt, &bytes, &point, &point_1(&rt, compressed));
-    }
-}
-
-#[test]
-fn compresses_points_at_two_bytes(rt: HostRuntime) -> Result<(), Fail> {
-    for &(bytes, compressed) in COMPRESSED_2.iter() {
-        let point = Point2::try_from(bytes)?.compress();
-        assert_equal_for(&rt, &bytes, &point.as_bytes(), &compressed);
-    }
-    Ok(())
-}
-
-#[test]
-fn makes_hybrid_points(rt: HostRuntime) {
-    for &(bytes, hybrid) in HYBRID.iter() {
-        let point = point_1(&rt, bytes).to_hybrid();
-        assert_equal_for(&rt, &bytes, &point.as_bytes(), &hybrid);
-    }
-}
-
-/// Returns the error by which the bytes are refused as a point at 32 bytes.
-fn refusal_32(bytes: &[u8]) -> Option<Error> {
-    EncodedPoint32::from_bytes(bytes).err()
-}
-
-/// Fails the test unless each proper prefix of the bytes is refused.
-fn assert_prefixes_refused(rt: &impl Abort, bytes: &[u8]) {
-    for end in 0..bytes.len() {
-        let refused = refusal_32(&bytes[..end]);
-        assert_equal_for(rt, &end, &refused, &Some(Error::PointEncoding));
-    }
-}
-
-#[test]
-fn refuses_other_bytes(rt: HostRuntime) {
-    for &bytes in NO_ENCODING.iter() {
-        let refused = Point1::from_bytes(bytes).err();
-        assert_equal_for(&rt, &bytes, &refused, &Some(Error::PointEncoding));
-    }
-    assert_prefixes_refused(&rt, compressed_32().as_slice());
-    assert_prefixes_refused(&rt, uncompressed_32().as_slice());
-}
-
-#[test]
-fn refuses_other_first_bytes(rt: HostRuntime) {
-    let mut compressed = compressed_32();
-    let mut uncompressed = uncompressed_32();
-    for first in 0..=255u8 {
-        compressed[0] = first;
-        uncompressed[0] = first;
-        let read = (
-            refusal_32(&compressed).is_none(),
-            refusal_32(&uncompressed).is_none(),
-        );
-        let wanted = (matches!(first, 2 | 3 | 5), matches!(first, 4 | 6));
-        assert_equal_for(&rt, &first, &read, &wanted);
-    }
-}
-
-#[test]
 fn has_no_points_of_other_sizes(rt: HostRuntime) {
-    assert_equal(&rt, &Point1::fits(), &true);
-    assert_equal(&rt, &EncodedPoint32::fits(), &true);
-    assert_equal(&rt, &EncodedPoint::<32, 64>::fits(), &false);
-    assert_equal(&rt, &EncodedPoint::<0, 1>::fits(), &false);
-    let even = EncodedPoint::<32, 64>::from_bytes(&[0]);
-    assert_equal(&rt, &even.err(), &Some(Error::PointEncoding));
-    let empty = EncodedPoint::<0, 1>::from_bytes(&[0]);
-    assert_equal(&rt, &empty.err(), &Some(Error::PointEncoding));
+    let fits = [
+        Point1::fits(),
+        EncodedPoint32::fits(),
+        EncodedPoint::<32, 64>::fits(),
+        EncodedPoint::<0, 1>::fits(),
+    ];
+    assert_equal(&rt, &fits, &[true, true, false, false]);
+    let even = EncodedPoint::<32, 64>::from_bytes(&[0]).err();
+    let empty = EncodedPoint::<0, 1>::from_bytes(&[0]).err();
+    assert_equal(&rt, &[even, empty], &[REFUSED; 2]);
 }
 
 /// Returns whether the point is compact, compressed, hybrid, and the identity.
@@ -195,44 +109,48 @@ fn forms<const N: usize, const L: usize>(point: &EncodedPoint<N, L>) -> [bool; 4
     ]
 }
 
-/// Fails the test unless the point and its coordinates have this tag, and the coordinates are
-/// these.
-fn assert_coordinates<const N: usize, const L: usize>(
-    rt: &impl Abort,
-    point: &EncodedPoint<N, L>,
-    tag: Tag,
-    coordinates: Coordinates<'_, N>,
-) {
-    let found = point.coordinates();
-    assert_equal(rt, &found, &coordinates);
-    assert_equal(rt, &(point.tag(), found.tag()), &(tag, tag));
+/// The tags of a point and of its coordinates, these, its x and its y.
+type Facts<'a, const N: usize> = (
+    (Tag, Tag),
+    Coordinates<'a, N>,
+    (Option<&'a [u8; N]>, Option<&'a [u8; N]>),
+);
+
+/// Returns what is known of a point.
+fn facts<const N: usize, const L: usize>(point: &EncodedPoint<N, L>) -> Facts<'_, N> {
+    let coordinates = point.coordinates();
+    (
+        (point.tag(), coordinates.tag()),
+        coordinates,
+        (point.x(), point.y()),
+    )
 }
 
 #[test]
-fn borrows_coordinates(rt: HostRuntime) -> Result<(), Fail> {
+fn borrows_coordinates(rt: HostRuntime) {
     let (x, y) = (&[0x11; 32], &[0x22; 32]);
     let whole = EncodedPoint32::from_affine_coordinates(x, y, false);
-    assert_equal(&rt, &whole.as_bytes(), &uncompressed_32().as_slice());
-    assert_equal(&rt, &whole.len(), &65);
-    assert_coordinates(&rt, &whole, Tag::Uncompressed, Uncompressed { x, y });
-    assert_equal(&rt, &(whole.x(), whole.y()), &(Some(x), Some(y)));
-    assert_equal(&rt, &whole.clone()?, &whole);
+    let bytes = uncompressed_32();
+    let found = (whole.as_bytes(), whole.len());
+    assert_equal(&rt, &found, &(bytes.as_slice(), 65));
+    let tags = (Tag::Uncompressed, Tag::Uncompressed);
+    let wanted = (tags, Uncompressed { x, y }, (Some(x), Some(y)));
+    assert_equal(&rt, &facts(&whole), &wanted);
     let untagged = EncodedPoint32::from_untagged_bytes(&uncompressed_32()[1..]);
     assert_equal(&rt, &untagged, &whole);
-    Ok(())
 }
 
 #[test]
 fn borrows_coordinates_of_compressed_points(rt: HostRuntime) {
     let x = &[0x11; 32];
     let point = EncodedPoint32::from_affine_coordinates(x, &[0x22; 32], true);
-    assert_equal(&rt, &point.as_bytes(), &compressed_32().as_slice());
-    assert_equal(&rt, &point.len(), &33);
-    let y_is_odd = false;
-    let coordinates = Compressed { x, y_is_odd };
-    assert_coordinates(&rt, &point, Tag::CompressedEvenY, coordinates);
-    assert_equal(&rt, &(point.x(), point.y()), &(Some(x), None));
-    assert_equal(&rt, &forms(&point), &[false, true, false, false]);
+    let bytes = compressed_32();
+    let found = (point.as_bytes(), point.len(), forms(&point));
+    let wanted = (bytes.as_slice(), 33, [false, true, false, false]);
+    assert_equal(&rt, &found, &wanted);
+    let (tag, y_is_odd) = (Tag::CompressedEvenY, false);
+    let wanted = ((tag, tag), Compressed { x, y_is_odd }, (Some(x), None));
+    assert_equal(&rt, &facts(&point), &wanted);
 }
 
 #[test]
@@ -242,148 +160,101 @@ fn distinguishes_compact_and_hybrid_points(rt: HostRuntime) {
     let hybrid = point_1(&rt, &[4, 1, 3]).to_hybrid();
     assert_equal(&rt, &forms(&hybrid), &[false, false, true, false]);
     let odd = point_1(&rt, &[7, 1, 3]);
-    let coordinates = Hybrid { x: &[1], y: &[3] };
-    assert_coordinates(&rt, &odd, Tag::HybridOddY, coordinates);
+    let (x, y) = (&[1], &[3]);
+    let tags = (Tag::HybridOddY, Tag::HybridOddY);
+    let wanted = (tags, Hybrid { x, y }, (Some(x), Some(y)));
+    assert_equal(&rt, &facts(&odd), &wanted);
 }
 
 #[test]
-fn prints_coordinates(rt: HostRuntime) -> Result<(), Fail> {
+fn prints_coordinates(rt: HostRuntime) {
     let (x, y) = (&[1, 255], &[0, 3]);
     let identity = Coordinates::<'_, 2>::Identity;
-    assert_debug_texts(&rt, rt.alloc(), &identity, "Identity", "Identity")?;
+    assert_debug_texts(&rt, &identity, "Identity", "Identity");
     assert_debug_texts(
         &rt,
-        rt.alloc(),
         &Compact { x },
         "Compact { x: [1, 255] }",
         "Compact {\n    x: [\n        1,\n        255,\n    ],\n}",
-    )?;
+    );
     let y_is_odd = true;
     assert_debug_texts(
         &rt,
-        rt.alloc(),
         &Compressed { x, y_is_odd },
         "Compressed { x: [1, 255], y_is_odd: true }",
         "Compressed {\n    x: [\n        1,\n        255,\n    ],\n    y_is_odd: true,\n}",
-    )?;
+    );
     assert_debug_texts(
         &rt,
-        rt.alloc(),
         &Uncompressed { x, y },
         "Uncompressed { x: [1, 255], y: [0, 3] }",
         "Uncompressed {\n    x: [\n        1,\n        255,\n    ],\n    y: [\n        0,\n        3,\n    ],\n}",
-    )?;
+    );
     assert_debug_texts(
         &rt,
-        rt.alloc(),
         &Hybrid { x, y },
         "Hybrid { x: [1, 255], y: [0, 3] }",
         "Hybrid {\n    x: [\n        1,\n        255,\n    ],\n    y: [\n        0,\n        3,\n    ],\n}",
-    )
+    );
 }
 
+/// A coordinate of 32 bytes, and what is printed of it.
+static X: [u8; 32] = [
+    100, 101, 102, 103, 104, 105, 106, 107, 108, 109, 110, 111, 112, 113, 114, 115, 116, 117, 118,
+    119, 120, 121, 122, 123, 124, 125, 126, 127, 128, 129, 130, 131,
+];
+
+static X_LINES: &str =
+    "Compact {\n    x: [\n        100,\n        101,\n        102,\n        103,\n        104,\n        105,\n        106,\n        107,\n        108,\n        109,\n        110,\n        111,\n        112,\n        113,\n        114,\n        115,\n        116,\n        117,\n        118,\n        119,\n        120,\n        121,\n        122,\n        123,\n        124,\n        125,\n        126,\n        127,\n        128,\n        129,\n        130,\n        131,\n    ],\n}";
+
 #[test]
-fn prints_each_byte_of_a_coordinate(rt: HostRuntime) -> Result<(), Fail> {
-    let alloc = rt.alloc();
-    let mut x = [0; 32];
-    let mut lines = "Compact {\n    x: [\n".to_string(alloc)?;
-    for place in 0..32u8 {
-        x[usize::from(place)] = 100 + place;
-        lines.push_str(format!(in alloc; "        {},\n", 100 + place)?.as_str())?;
-    }
-    lines.push_str("    ],\n}")?;
-    let printed = format!(in alloc; "{:#?}", Compact { x: &x })?;
-    assert_equal(&rt, &printed.as_str(), &lines.as_str());
-    Ok(())
+fn prints_each_byte_of_a_coordinate(rt: HostRuntime) {
+    let printed = format!(in rt.alloc(); "{:#?}", Compact { x: &X });
+    assert_printed(&rt, printed, X_LINES);
 }
 
 /// Fails the test unless the value is printed as this text, whatever is asked for.
-fn assert_displayed(
-    rt: &impl Abort,
-    alloc: Global,
-    value: &impl Display,
-    text: &str,
-) -> Result<(), Fail> {
-    let texts = format!(in alloc;
+fn assert_displayed<R: Abort + AllocGlobal>(rt: &R, value: &impl Display, text: &str) {
+    let texts = format!(in rt.alloc();
         "{value}|{value:#}|{value:.1}|{value:.3}|{value:>9}|{value:<+09}|{value:>60}|{value:>200}"
-    )?;
-    for printed in texts.split('|') {
-        assert_equal(rt, &printed, &text);
-    }
-    Ok(())
+    );
+    assert_printed_alike(rt, texts, text);
 }
 
 #[test]
-fn prints_the_same_whatever_is_asked(rt: HostRuntime) -> Result<(), Fail> {
-    let alloc = rt.alloc();
-    let point = point_1(&rt, &[2, 0xAF]);
-    assert_displayed(&rt, alloc, &point, "02AF")?;
+fn prints_the_same_whatever_is_asked(rt: HostRuntime) {
+    assert_displayed(&rt, &point_1(&rt, &[2, 0xAF]), "02AF");
     let error = Error::Asn1(der::Error::from(ErrorKind::Value));
     assert_displayed(
         &rt,
-        alloc,
         &error,
         "SEC1 ASN.1 error: content not valid for its tag",
-    )?;
+    );
     assert_debug_texts(
         &rt,
-        alloc,
         &error,
         "Asn1(Error { kind: Value })",
         "Asn1(\n    Error {\n        kind: Value,\n    },\n)",
-    )?;
-    let tag = Tag::HybridOddY;
-    assert_debug_texts(&rt, alloc, &tag, "HybridOddY", "HybridOddY")?;
-    let texts = format!(in alloc; "{tag:>20?}|{tag:5?}|{tag:.1?}|{tag:+?}|{tag:05?}")?;
-    for text in texts.split('|') {
-        assert_equal(&rt, &text, &"HybridOddY");
-    }
-    Ok(())
-}
-
-#[test]
-fn compares_coordinates(rt: HostRuntime) {
-    let (x, other) = (&[1, 2], &[1, 3]);
-    let y_is_odd = false;
-    let even = Compressed { x, y_is_odd };
-    assert_equal(
-        &rt,
-        &even,
-        &Compressed {
-            x: &[1, 2],
-            y_is_odd,
-        },
     );
-    assert_unequal(&rt, &even, &Compressed { x, y_is_odd: true });
-    assert_unequal(&rt, &even, &Compressed { x: other, y_is_odd });
-    assert_unequal(&rt, &even, &Compact { x });
-    assert_unequal(&rt, &even, &Identity);
-    assert_equal(&rt, &Identity, &Coordinates::<'_, 2>::Identity);
 }
 
 #[test]
-fn compares_coordinates_with_y(rt: HostRuntime) {
-    let (x, other, y) = (&[1, 2], &[1, 3], &[0, 3]);
-    let uncompressed = Uncompressed { x, y };
-    let hybrid = Hybrid { x, y };
-    assert_equal(&rt, &uncompressed, &Uncompressed { x, y });
-    assert_unequal(&rt, &uncompressed, &Uncompressed { x: other, y });
-    assert_unequal(&rt, &uncompressed, &Uncompressed { x, y: other });
-    assert_unequal(&rt, &uncompressed, &hybrid);
-    assert_equal(&rt, &hybrid, &Hybrid { x, y });
+fn prints_tags(rt: HostRuntime) {
+    let tag = Tag::HybridOddY;
+    assert_debug_texts(&rt, &tag, "HybridOddY", "HybridOddY");
+    let texts = format!(in rt.alloc(); "{tag:>20?}|{tag:5?}|{tag:.1?}|{tag:+?}|{tag:05?}");
+    assert_printed_alike(&rt, texts, "HybridOddY");
 }
 
-/// Fails the test unless the bytes are a compressed point of this tag and parity.
-fn assert_parity(rt: &impl Abort, bytes: [u8; 33], tag: Tag, y_is_odd: bool) {
+/// Returns the tag, the length and the y of the point of these bytes, and, of a compressed one,
+/// whether its y is odd.
+fn parity(rt: &impl Abort, bytes: [u8; 33]) -> (Tag, usize, bool, Option<bool>) {
     let point = point_32(rt, &bytes);
-    assert_equal(rt, &point.tag(), &tag);
-    assert_equal(rt, &point.len(), &33);
-    assert_equal(rt, &point.y(), &None);
     let is_odd = match point.coordinates() {
         Compressed { y_is_odd, .. } => Some(y_is_odd),
         _ => None,
     };
-    assert_equal(rt, &is_odd, &Some(y_is_odd));
+    (point.tag(), point.len(), point.y().is_none(), is_odd)
 }
 
 #[test]
@@ -391,48 +262,64 @@ fn reads_parities(rt: HostRuntime) {
     let mut bytes = [0; 33];
     bytes[0] = 2;
     bytes[1] = 1;
-    assert_parity(&rt, bytes, Tag::CompressedEvenY, false);
+    let even = (Tag::CompressedEvenY, 33, true, Some(false));
+    assert_equal(&rt, &parity(&rt, bytes), &even);
     bytes[0] = 3;
     bytes[1] = 2;
-    assert_parity(&rt, bytes, Tag::CompressedOddY, true);
+    let odd = (Tag::CompressedOddY, 33, true, Some(true));
+    assert_equal(&rt, &parity(&rt, bytes), &odd);
 }
+
+/// Returns the bytes, the length and the tag of the point, and whether it has an x and a y.
+fn parts<const N: usize, const L: usize>(
+    point: &EncodedPoint<N, L>,
+) -> (&[u8], usize, Tag, [bool; 2]) {
+    (
+        point.as_bytes(),
+        point.len(),
+        point.tag(),
+        [point.x().is_some(), point.y().is_some()],
+    )
+}
+
+/// The parts of an identity.
+static IDENTITY: (&[u8], usize, Tag, [bool; 2]) = (&[0], 1, Tag::Identity, [false, false]);
 
 #[test]
 fn has_identities(rt: HostRuntime) {
     let identity = EncodedPoint32::identity();
     assert_equal(&rt, &forms(&identity), &[false, false, false, true]);
-    assert_equal(&rt, &(identity.x(), identity.y()), &(None, None));
-    assert_equal(&rt, &identity.tag(), &Tag::Identity);
-    assert_equal(&rt, &identity.as_bytes(), &[0].as_slice());
+    assert_equal(&rt, &parts(&identity), &IDENTITY);
     assert_equal(&rt, &EncodedPoint32::from_bytes(&[0]), &Ok(identity));
-    assert_equal(&rt, &Point1::identity().len(), &1);
+    assert_equal(&rt, &parts(&Point1::identity()), &IDENTITY);
 }
 
 #[test]
 fn has_identities_by_default(rt: HostRuntime) {
-    assert_equal(&rt, &EncodedPoint28::default(), &EncodedPoint28::identity());
-    assert_equal(&rt, &EncodedPoint32::default(), &EncodedPoint32::identity());
-    assert_equal(&rt, &EncodedPoint48::default(), &EncodedPoint48::identity());
-    assert_equal(&rt, &EncodedPoint66::default(), &EncodedPoint66::identity());
-    assert_equal(&rt, &EncodedPoint32::default().tag(), &Tag::Identity);
-    assert_equal(&rt, &EncodedPoint32::default().as_bytes(), &[0].as_slice());
-    assert_equal(&rt, &EncodedPoint32::default().len(), &1);
+    let are_equal = [
+        EncodedPoint28::default() == EncodedPoint28::identity(),
+        EncodedPoint32::default() == EncodedPoint32::identity(),
+        EncodedPoint48::default() == EncodedPoint48::identity(),
+        EncodedPoint66::default() == EncodedPoint66::identity(),
+    ];
+    assert_equal(&rt, &are_equal, &[true; 4]);
+    assert_equal(&rt, &parts(&EncodedPoint32::default()), &IDENTITY);
 }
 
 #[test]
-fn has_tags(rt: HostRuntime) -> Result<(), Fail> {
-    assert_equal(&rt, &Tag::Identity.message_len(66), &1);
-    assert_equal(&rt, &Tag::Compact.message_len(66), &67);
-    assert_equal(&rt, &Tag::Uncompressed.message_len(66), &133);
-    assert_equal(&rt, &Tag::from_u8(6)?, &Tag::HybridEvenY);
-    assert_equal(&rt, &Tag::from_u8(7)?, &Tag::HybridOddY);
-    assert_equal(&rt, &Tag::try_from(7)?, &Tag::HybridOddY);
+fn has_tags(rt: HostRuntime) {
+    let lengths = [Tag::Identity, Tag::Compact, Tag::Uncompressed].map(|tag| tag.message_len(66));
+    assert_equal(&rt, &lengths, &[1, 67, 133]);
+    let found = [Tag::from_u8(6), Tag::from_u8(7), Tag::try_from(7)];
+    let wanted = [
+        Ok(Tag::HybridEvenY),
+        Ok(Tag::HybridOddY),
+        Ok(Tag::HybridOddY),
+    ];
+    assert_equal(&rt, &found, &wanted);
     assert_equal(&rt, &u8::from(Tag::HybridOddY), &7);
-    for byte in [1, 8, 0xFF] {
-        let refused = Tag::from_u8(byte).err();
-        assert_equal_for(&rt, &byte, &refused, &Some(Error::PointEncoding));
-    }
-    Ok(())
+    let refused = [1, 8, 0xFF].map(|byte| Tag::from_u8(byte).err());
+    assert_equal(&rt, &refused, &[REFUSED; 3]);
 }
 
 /// Fails the test unless the first point is less than the second.
@@ -463,6 +350,9 @@ fn compares_points_by_their_encodings(rt: HostRuntime) {
     assert_equal(&rt, &compressed, &read);
     assert_equal(&rt, &compressed.ct_eq(&read), &true);
     assert_equal(&rt, &compressed.cmp(&read), &Ordering::Equal);
+    for uncompressed in [[4, 1, 1], [4, 1, 3]] {
+        assert_equal(&rt, &point_1(&rt, &uncompressed).compress(), &read);
+    }
 }
 
 // The bytes that were fed, up to 15 of them, as the digits after the first one, 1, of a number in
@@ -507,49 +397,65 @@ fn hashes_points(rt: HostRuntime) -> Result<(), Fail> {
     Ok(())
 }
 
+/// Returns whether each of these points is added to a set in turn, the number of those that it
+/// then has, and whether it has the first.
+fn added(alloc: Global, points: [Point1; 4]) -> Result<([bool; 4], usize, bool), Fail> {
+    let mut set = HashSet::new(alloc);
+    let mut added = [false; 4];
+    for place in 0..4 {
+        added[place] = set.insert(points[place])?;
+    }
+    Ok((added, set.len(), set.contains(&points[0])))
+}
+
 #[test]
 fn finds_points_in_sets(rt: HostRuntime) -> Result<(), Fail> {
-    let compressed = point_1(&rt, &[4, 0xAF, 2]).compress();
-    let odd = point_1(&rt, &[4, 1, 0xFF]).compress();
-    let mut points = HashSet::new(rt.alloc());
-    assert_equal(&rt, &points.insert(Point1::from_str("02AF")?)?, &true);
-    let read = point_1(&rt, &[2, 0xAF]);
-    assert_equal(&rt, &points.contains(&read), &true);
-    assert_equal(&rt, &points.insert(compressed)?, &false);
-    assert_equal(&rt, &points.len(), &1);
-    assert_equal(&rt, &points.insert(odd)?, &true);
-    assert_equal(&rt, &points.insert(point_1(&rt, &[3, 1]))?, &false);
-    assert_equal(&rt, &points.len(), &2);
+    let points = [
+        Point1::from_str("02AF")?,
+        point_1(&rt, &[4, 0xAF, 2]).compress(),
+        point_1(&rt, &[4, 1, 0xFF]).compress(),
+        point_1(&rt, &[3, 1]),
+    ];
+    let wanted = ([true, false, true, false], 2, true);
+    assert_equal(&rt, &added(rt.alloc(), points)?, &wanted);
     Ok(())
 }
 
-/// Fails the test unless each selection between the two returns the one that is chosen.
+/// Returns whether each selection between the two returns the one that is chosen.
+fn selects<const N: usize, const L: usize>(
+    a: &EncodedPoint<N, L>,
+    b: &EncodedPoint<N, L>,
+) -> [bool; 4] {
+    [
+        EncodedPoint::conditional_select(a, b, false).as_bytes() == a.as_bytes(),
+        EncodedPoint::conditional_select(a, b, true).as_bytes() == b.as_bytes(),
+        a.ct_select(b, false).as_bytes() == a.as_bytes(),
+        a.ct_select(b, true).as_bytes() == b.as_bytes(),
+    ]
+}
+
+/// Returns whether an assignment changes the point to the other if it is chosen, and only then.
+fn assigns<const N: usize, const L: usize>(
+    a: &EncodedPoint<N, L>,
+    b: &EncodedPoint<N, L>,
+) -> [bool; 4] {
+    let mut point = *a;
+    point.ct_assign(b, false);
+    let is_kept = point.as_bytes() == a.as_bytes();
+    point.ct_assign(b, true);
+    let is_assigned = point.as_bytes() == b.as_bytes();
+    [is_kept, is_assigned, point.ct_eq(b), !point.ct_eq(a)]
+}
+
+/// Fails the test unless the two are selected and assigned as it is chosen.
 fn assert_selects<const N: usize, const L: usize>(
     rt: &impl Abort,
     a: EncodedPoint<N, L>,
     b: EncodedPoint<N, L>,
 ) {
-    for (choice, chosen) in [(false, a), (true, b)] {
-        let selected = EncodedPoint::conditional_select(&a, &b, choice);
-        assert_equal(rt, &selected.as_bytes(), &chosen.as_bytes());
-        assert_equal(rt, &a.ct_select(&b, choice).as_bytes(), &chosen.as_bytes());
-    }
-    assert_assigns(rt, a, b);
-}
-
-/// Fails the test unless an assignment changes the point to the other if it is chosen, and only
-/// then.
-fn assert_assigns<const N: usize, const L: usize>(
-    rt: &impl Abort,
-    a: EncodedPoint<N, L>,
-    b: EncodedPoint<N, L>,
-) {
-    let mut point = a;
-    point.ct_assign(&b, false);
-    assert_equal(rt, &point.as_bytes(), &a.as_bytes());
-    point.ct_assign(&b, true);
-    assert_equal(rt, &point.as_bytes(), &b.as_bytes());
-    assert_equal(rt, &(point.ct_eq(&b), point.ct_eq(&a)), &(true, false));
+    let found = (selects(&a, &b), assigns(&a, &b));
+    assert_equal(rt, &found, &([true; 4], [true; 4]));
+    let mut point = b;
     point.zeroize();
     assert_equal(rt, &point.as_bytes(), &[0].as_slice());
 }
@@ -569,52 +475,47 @@ fn assigns_points(rt: HostRuntime) {
     let whole = point_1(&rt, &[4, 1, 2]);
     let mut assigned = whole;
     assigned.ct_assign(&Point1::identity(), true);
-    assert_equal(&rt, &assigned.as_bytes(), &[0].as_slice());
-    assert_equal(&rt, &assigned.len(), &1);
+    assert_equal(&rt, &parts(&assigned), &IDENTITY);
     assert_equal(&rt, &assigned.ct_eq(&Point1::identity()), &true);
-    let mut assigned = Point1::identity();
     assigned.ct_assign(&whole, true);
-    assert_equal(&rt, &assigned.as_bytes(), &[4, 1, 2].as_slice());
-    assert_equal(&rt, &assigned.len(), &3);
+    let found = (assigned.as_bytes(), assigned.len());
+    assert_equal(&rt, &found, &([4, 1, 2].as_slice(), 3));
 }
 
-/// Fails the test unless the point is read from the text.
-fn assert_read_from<const N: usize, const L: usize>(
-    rt: &impl Abort,
+/// Returns the texts of the point, and its bytes.
+fn texts<const N: usize, const L: usize>(
+    alloc: Global,
     point: &EncodedPoint<N, L>,
-    text: &str,
-) -> Result<(), Fail> {
-    assert_equal(rt, &EncodedPoint::from_str(text)?, point);
-    Ok(())
+) -> sec1::Result<(String, String, BoxedSlice<u8>)> {
+    let (upper, lower) = (point.to_upper_hex(alloc)?, point.to_lower_hex(alloc)?);
+    Ok((upper, lower, point.to_bytes(alloc)?))
 }
 
 /// Fails the test unless the point has these texts, and is read from both.
-fn assert_texts<const N: usize, const L: usize>(
-    rt: &impl Abort,
-    alloc: Global,
-    point: EncodedPoint<N, L>,
+fn assert_texts<R: Abort + AllocGlobal, const N: usize, const L: usize>(
+    rt: &R,
+    point: &EncodedPoint<N, L>,
     upper: &str,
     lower: &str,
-) -> Result<(), Fail> {
-    assert_read_from(rt, &point, upper)?;
-    assert_read_from(rt, &point, lower)?;
-    assert_equal(rt, &point.to_upper_hex(alloc)?.as_str(), &upper);
-    assert_equal(rt, &point.to_lower_hex(alloc)?.as_str(), &lower);
-    assert_equal(rt, &point.to_bytes(alloc)?.as_slice(), &point.as_bytes());
-    assert_displayed(rt, alloc, &point, upper)?;
-    assert_json(rt, alloc, &point, upper)
+) {
+    assert_equal(rt, &EncodedPoint::from_str(upper), &Ok(*point));
+    assert_equal(rt, &EncodedPoint::from_str(lower), &Ok(*point));
+    let found = texts(rt.alloc(), point).expect(rt, "no memory");
+    let found = (found.0.as_str(), found.1.as_str(), found.2.as_slice());
+    assert_equal(rt, &found, &(upper, lower, point.as_bytes()));
+    assert_displayed(rt, point, upper);
+    assert_json(rt, point, upper);
 }
 
 /// Fails the test unless the point is the string of this text in JSON, and is read from it.
-fn assert_json<const N: usize, const L: usize>(
-    rt: &impl Abort,
-    alloc: Global,
+fn assert_json<R: Abort + AllocGlobal, const N: usize, const L: usize>(
+    rt: &R,
     point: &EncodedPoint<N, L>,
     upper: &str,
-) -> Result<(), Fail> {
-    let json = point.to_json(alloc)?;
+) {
+    let json = point.to_json(rt.alloc()).expect(rt, "no memory");
     assert_equal(rt, &json.as_str(), &Some(upper));
-    assert_read_from_json(rt, point, &json)
+    assert_read_from_json(rt, point, &json);
 }
 
 /// Fails the test unless the point is read from the JSON.
@@ -622,25 +523,19 @@ fn assert_read_from_json<const N: usize, const L: usize>(
     rt: &impl Abort,
     point: &EncodedPoint<N, L>,
     json: &Value,
-) -> Result<(), Fail> {
-    assert_equal(rt, &EncodedPoint::from_json(json)?, point);
-    Ok(())
+) {
+    assert_equal(rt, &EncodedPoint::from_json(json), &Ok(*point));
 }
 
 #[test]
 fn writes_texts(rt: HostRuntime) -> Result<(), Fail> {
-    let alloc = rt.alloc();
-    assert_texts(&rt, alloc, point_1(&rt, &[2, 0xAF]), "02AF", "02af")?;
+    assert_texts(&rt, &point_1(&rt, &[2, 0xAF]), "02AF", "02af");
     for &(upper, lower) in TEXTS_32.iter() {
-        let bytes = hex::decode(alloc, upper)?;
-        let point = point_32(&rt, &bytes);
-        assert_texts(&rt, alloc, point, upper, lower)?;
+        let bytes = hex::decode(rt.alloc(), upper)?;
+        assert_texts(&rt, &point_32(&rt, &bytes), upper, lower);
     }
-    assert_equal(
-        &rt,
-        &Point1::from_str("070103")?.as_bytes(),
-        &[7, 1, 3].as_slice(),
-    );
+    let hybrid = point_1(&rt, &[7, 1, 3]);
+    assert_equal(&rt, &Point1::from_str("070103"), &Ok(hybrid));
     Ok(())
 }
 
@@ -653,21 +548,4 @@ fn refuses_other_texts(rt: HostRuntime) {
     for value in [Value::from(2u8), Value::from(0.5)] {
         assert_equal(&rt, &Point1::from_json(&value).err(), &wanted);
     }
-}
-
-#[test]
-fn prints_the_coordinates(rt: HostRuntime) -> Result<(), Fail> {
-    let alloc = rt.alloc();
-    let point = point_1(&rt, &[2, 0xAF]);
-    assert_equal(
-        &rt,
-        &format!(in alloc; "{point:?}")?.as_str(),
-        &"EncodedPoint(Compressed { x: [175], y_is_odd: false })",
-    );
-    assert_equal(
-        &rt,
-        &format!(in alloc; "{:?}", EncodedPoint32::identity())?.as_str(),
-        &"EncodedPoint(Identity)",
-    );
-    Ok(())
 }

@@ -1,7 +1,7 @@
 //! Keys that are read and bytes that are refused, by examples with known results.
-use crate::{assert_debug_texts, assert_equal, assert_equal_for};
+use crate::{assert_debug_texts, assert_equal, assert_equal_for, assert_printed};
 use der::{ErrorKind, FixedTag, ObjectIdentifier};
-use sec1::{ALGORITHM_OID, EcParameters, EcPrivateKey, Error, Result, der};
+use sec1::{EcParameters, EcPrivateKey, Error, Result, der};
 use std::alloc::Global;
 use std::process::Abort;
 use std::test::Fail;
@@ -54,12 +54,16 @@ fn assert_key(
     bytes: &[u8],
     parameters: Option<EcParameters>,
 ) -> std::result::Result<(), Fail> {
-    let key = read_key(bytes)?;
     let private_key = hex::decode(alloc, PRIVATE_KEY)?;
     let public_key = hex::decode(alloc, PUBLIC_KEY)?;
-    assert_equal(rt, &key.private_key, &private_key.as_slice());
-    assert_equal(rt, &key.parameters, &parameters);
-    assert_equal(rt, &key.public_key, &Some(public_key.as_slice()));
+    let key = read_key(bytes)?;
+    let found = (key.private_key, key.parameters, key.public_key);
+    let wanted = (
+        private_key.as_slice(),
+        parameters,
+        Some(public_key.as_slice()),
+    );
+    assert_equal(rt, &found, &wanted);
     Ok(())
 }
 
@@ -97,60 +101,44 @@ static KEYS: [(&str, Option<&str>, Option<&str>); 6] = [
     ),
 ];
 
-/// The dotted text of the curve.
-fn curve(alloc: Global, key: &EcPrivateKey) -> std::result::Result<Option<String>, Fail> {
-    match key.parameters {
-        Some(EcParameters::NamedCurve(identifier)) => {
-            Ok(Some(format!(in alloc; "{identifier}")?))
-        }
-        None => Ok(None),
-    }
+/// The parameters that name the curve of this dotted text.
+fn named(text: Option<&str>) -> Option<EcParameters> {
+    let identifier = ObjectIdentifier::new(text?).ok()?;
+    Some(EcParameters::from(identifier))
 }
 
 /// Decodes hexadecimal, if there is any.
-fn decoded(alloc: Global, text: Option<&str>) -> std::result::Result<Option<Vec<u8>>, Fail> {
-    match text {
-        Some(digits) => Ok(Some(hex::decode(alloc, digits)?)),
-        None => Ok(None),
-    }
+fn decoded(alloc: Global, text: Option<&str>) -> Option<Vec<u8>> {
+    hex::decode(alloc, text?).ok()
 }
 
-/// Fails the test unless the key of this text has an empty private key, and these other fields.
+/// Fails the test unless the key has an empty private key, and these other fields.
 fn assert_fields(
     rt: &impl Abort,
     alloc: Global,
-    text: &str,
     key: &EcPrivateKey,
-    named: Option<&str>,
+    curve: Option<&str>,
     public_key: Option<&str>,
-) -> std::result::Result<(), Fail> {
-    assert_equal_for(rt, &text, &key.private_key, &[].as_slice());
-    let curve = curve(alloc, key)?;
-    assert_equal_for(rt, &text, &curve.as_deref(), &named);
-    let wanted = decoded(alloc, public_key)?;
-    assert_equal_for(rt, &text, &key.public_key, &wanted.as_deref());
-    Ok(())
+) {
+    let public_key = decoded(alloc, public_key);
+    let found = (key.private_key, key.parameters, key.public_key);
+    let wanted = ([].as_slice(), named(curve), public_key.as_deref());
+    assert_equal(rt, &found, &wanted);
 }
 
 /// Fails the test unless the key is written as these bytes.
-pub fn assert_written(
-    rt: &impl Abort,
-    alloc: Global,
-    key: &EcPrivateKey,
-    bytes: &[u8],
-) -> std::result::Result<(), Fail> {
-    let written = key.to_der(alloc)?;
-    assert_equal_for(rt, key, &written.as_slice(), &bytes);
-    Ok(())
+pub fn assert_written(rt: &impl Abort, alloc: Global, key: &EcPrivateKey, bytes: &[u8]) {
+    let written = key.to_der(alloc).ok();
+    assert_equal_for(rt, key, &written.as_deref(), &Some(bytes));
 }
 
 #[test]
 fn reads_and_writes_optional_fields(rt: HostRuntime) -> std::result::Result<(), Fail> {
-    for &(text, named, public_key) in KEYS.iter() {
+    for &(text, curve, public_key) in KEYS.iter() {
         let bytes = hex::decode(rt.alloc(), text)?;
         let key = read_key(&bytes)?;
-        assert_fields(&rt, rt.alloc(), text, &key, named, public_key)?;
-        assert_written(&rt, rt.alloc(), &key, &bytes)?;
+        assert_fields(&rt, rt.alloc(), &key, curve, public_key);
+        assert_written(&rt, rt.alloc(), &key, &bytes);
     }
     Ok(())
 }
@@ -249,25 +237,6 @@ fn refuses_wrong_parts_of_a_key(rt: HostRuntime) -> std::result::Result<(), Fail
     Ok(())
 }
 
-/// What a caller with a result of its own makes of a key.
-fn private_key_len(bytes: &[u8]) -> Result<usize> {
-    let key = EcPrivateKey::try_from(bytes)?;
-    Ok(key.private_key.len())
-}
-
-#[test]
-fn hands_refusals_on(rt: HostRuntime) -> std::result::Result<(), Fail> {
-    assert_equal(
-        &rt,
-        &private_key_len(b"\x30\x06\x02\x01\x01\x04\x01\x07")?,
-        &1,
-    );
-    let refused = private_key_len(b"\x31\x80");
-    let wanted = Err(Error::from(der::Error::from(ErrorKind::Tag)));
-    assert_equal(&rt, &refused, &wanted);
-    Ok(())
-}
-
 static TEXTS: [(Error, &str); 6] = [
     (
         Error::Asn1(der::Error {
@@ -288,13 +257,12 @@ static TEXTS: [(Error, &str); 6] = [
 ];
 
 #[test]
-fn prints_errors(rt: HostRuntime) -> std::result::Result<(), Fail> {
+fn prints_errors(rt: HostRuntime) {
     for (error, text) in TEXTS.iter() {
-        assert_equal(&rt, &format!(in rt.alloc(); "{error}")?.as_str(), &*text);
+        assert_printed(&rt, format!(in rt.alloc(); "{error}"), text);
     }
     let refused_growth = Error::from(der::Error::from(ErrorKind::Memory));
     assert_equal(&rt, &refused_growth, &Error::Memory);
-    Ok(())
 }
 
 /// Keys, and their texts by `{:?}` and `{:#?}`. Of the private key no byte is shown.
@@ -329,35 +297,14 @@ static DEBUG_TEXTS: [(&[u8], &str, &str); 5] = [
 #[test]
 fn shows_no_private_key_in_debug_texts(rt: HostRuntime) -> std::result::Result<(), Fail> {
     for &(bytes, text, lines) in DEBUG_TEXTS.iter() {
-        assert_debug_texts(&rt, rt.alloc(), &read_key(bytes)?, text, lines)?;
+        assert_debug_texts(&rt, &read_key(bytes)?, text, lines);
     }
     let curve = EcParameters::from(ObjectIdentifier::new("1.2.3")?);
     assert_debug_texts(
         &rt,
-        rt.alloc(),
         &curve,
         "NamedCurve(ObjectIdentifier(1.2.3))",
         "NamedCurve(\n    ObjectIdentifier(1.2.3),\n)",
-    )
-}
-
-#[test]
-fn copies_keys(rt: HostRuntime) -> std::result::Result<(), Fail> {
-    let bytes = whole_key(rt.alloc())?;
-    let key = read_key(&bytes)?;
-    let copy = key.clone()?;
-    assert_equal(&rt, &copy.private_key, &key.private_key);
-    assert_equal(&rt, &copy.parameters, &key.parameters);
-    assert_equal(&rt, &copy.public_key, &key.public_key);
-    Ok(())
-}
-
-#[test]
-fn names_curves(rt: HostRuntime) -> std::result::Result<(), Fail> {
-    let curve = ObjectIdentifier::new("1.3.132.0.34")?;
-    let named = EcParameters::from(curve).named_curve();
-    assert_equal(&rt, &named, &Some(curve));
-    let algorithm = ObjectIdentifier::new("1.2.840.10045.2.1")?;
-    assert_equal(&rt, &ALGORITHM_OID, &algorithm);
+    );
     Ok(())
 }

@@ -6,7 +6,6 @@ use crate::{assert_equal, assert_equal_for};
 use der::{ErrorKind, SecretDocument, StdReader, StdWriter};
 use sec1::{DecodeEcPrivateKey, EncodeEcPrivateKey, Error, Result, der};
 use std::alloc::Global;
-use std::io;
 use std::test::Fail;
 
 /// A key that is any bytes. It is written if they are one element.
@@ -38,12 +37,13 @@ impl EncodeEcPrivateKey for Copied {
     }
 }
 
-/// Bytes of which each is a key, and whether they are one element.
-static BYTES: [(&[u8], bool); 4] = [
-    (b"", false),
-    (b"\x04\x01\xAA", true),
-    (b"\x04\x02\xAA", false),
-    (b"\x00\xFF", false),
+/// Bytes of which each is a key, and the error by which a reader of them isn't read as one.
+static BYTES: [(&[u8], Option<ErrorKind>); 5] = [
+    (b"", Some(ErrorKind::Truncated)),
+    (b"\x04\x01\xAA", None),
+    (b"\x04\x02\xAA", Some(ErrorKind::Truncated)),
+    (b"\x00\xFF", Some(ErrorKind::Tag)),
+    (b"\x05\x00\x00", Some(ErrorKind::TrailingData)),
 ];
 
 /// The error of this kind.
@@ -51,74 +51,27 @@ pub fn asn1(kind: ErrorKind) -> Option<Error> {
     Some(Error::Asn1(der::Error::from(kind)))
 }
 
-/// Reads a key from a reader of these bytes.
-fn read_from(alloc: Global, bytes: &[u8]) -> Result<Copied> {
-    Copied::read_sec1_der_from(alloc, &mut StdReader::new(bytes))
+/// Reads a key from a reader of these bytes. Returns whether it is the key of these bytes, or the
+/// kind of the error.
+fn read_from(alloc: Global, bytes: &[u8]) -> (bool, Option<ErrorKind>) {
+    match Copied::read_sec1_der_from(alloc, &mut StdReader::new(bytes)) {
+        Ok(key) => (key.bytes.as_slice() == bytes, None),
+        Err(Error::Asn1(error)) => (false, Some(error.kind)),
+        Err(_) => (false, None),
+    }
 }
 
 #[test]
 fn reads_keys(rt: HostRuntime) -> std::result::Result<(), Fail> {
     let alloc = rt.alloc();
-    for &(bytes, is_element) in BYTES.iter() {
+    for &(bytes, refused) in BYTES.iter() {
         let key = Copied::from_sec1_der(alloc, bytes)?;
         assert_equal(&rt, &key.bytes.as_slice(), &bytes);
-        let read = match read_from(alloc, bytes) {
-            Ok(key) => key.bytes.as_slice() == bytes,
-            Err(_) => false,
-        };
-        assert_equal_for(&rt, &bytes, &read, &is_element);
+        let wanted = (refused.is_none(), refused);
+        assert_equal_for(&rt, &bytes, &read_from(alloc, bytes), &wanted);
     }
     let bytes = whole_key(alloc)?;
-    assert_equal(&rt, &read_from(alloc, &bytes)?.bytes, &bytes);
-    assert_equal(
-        &rt,
-        &read_from(alloc, b"\x04\x02\xAA").err(),
-        &asn1(ErrorKind::Truncated),
-    );
-    Ok(())
-}
-
-/// A writer that takes seven bytes and then fails.
-#[derive(Drop)]
-struct SevenBytes {
-    taken: Vec<u8>,
-}
-
-impl io::Write for SevenBytes {
-    fn write(&mut self, buf: &[u8]) -> io::Result<usize> {
-        let count = buf.len().min(7usize.saturating_sub(self.taken.len()));
-        if count == 0 {
-            return Err(io::Error::from(io::ErrorKind::Other));
-        }
-        self.taken.extend_from_slice(&buf[..count])?;
-        Ok(count)
-    }
-
-    fn flush(&mut self) -> io::Result<()> {
-        Ok(())
-    }
-}
-
-#[test]
-fn writes_keys(rt: HostRuntime) -> std::result::Result<(), Fail> {
-    let alloc = rt.alloc();
-    let key = Copied {
-        bytes: whole_key(alloc)?,
-    };
-    let mut writer = StdWriter::new(Vec::new(alloc));
-    key.write_sec1_der_to(alloc, &mut writer)?;
-    assert_equal(&rt, &writer.into_inner().as_slice(), &key.bytes.as_slice());
-
-    let mut writer = StdWriter::new(SevenBytes {
-        taken: Vec::new(alloc),
-    });
-    let broken = key.write_sec1_der_to(alloc, &mut writer);
-    assert_equal(&rt, &broken.err(), &asn1(ErrorKind::Io));
-    assert_equal(
-        &rt,
-        &writer.into_inner().taken.as_slice(),
-        &b"\x30\x77\x02\x01\x01\x04\x20".as_slice(),
-    );
+    assert_equal(&rt, &read_from(alloc, &bytes), &(true, None));
     Ok(())
 }
 
@@ -127,8 +80,8 @@ fn writes_nothing_of_refused_keys(rt: HostRuntime) -> std::result::Result<(), Fa
     let alloc = rt.alloc();
     let key = Copied::from_sec1_der(alloc, b"\x04\x02\xAA")?;
     let mut writer = StdWriter::new(Vec::new(alloc));
-    let refused = key.write_sec1_der_to(alloc, &mut writer);
-    assert_equal(&rt, &refused.err(), &asn1(ErrorKind::Truncated));
-    assert!(rt; writer.into_inner().is_empty());
+    let refused = key.write_sec1_der_to(alloc, &mut writer).err();
+    let found = (refused, writer.into_inner().is_empty());
+    assert_equal(&rt, &found, &(asn1(ErrorKind::Truncated), true));
     Ok(())
 }

@@ -1,8 +1,8 @@
 //! Keys that are written, by examples with known results.
 use super::reading::{assert_written, read_key, whole_key};
 use crate::{assert_equal, assert_equal_for};
-use sec1::der::{self, AnyRef, EncodeValue, ErrorKind, ObjectIdentifier, SliceWriter, Tag};
-use sec1::{EcParameters, EcPrivateKey, Error};
+use sec1::der::{self, ErrorKind};
+use sec1::{EcPrivateKey, Error};
 use std::alloc::Global;
 use std::process::Abort;
 use std::test::Fail;
@@ -14,9 +14,6 @@ fn p256_key(alloc: Global) -> Result<[u8; 121], Fail> {
     Ok(bytes)
 }
 
-/// A key with no bytes and no other part.
-static EMPTY_KEY: [u8; 7] = [0x30, 0x05, 0x02, 0x01, 0x01, 0x04, 0x00];
-
 /// Writes the key, and returns the length of its encoding.
 // A caller takes the prover less time than one of `encode_to_slice`, whose contract is long.
 fn encode(key: &EcPrivateKey, room: &mut [u8]) -> sec1::Result<usize> {
@@ -27,92 +24,15 @@ fn encode(key: &EcPrivateKey, room: &mut [u8]) -> sec1::Result<usize> {
 fn writes_all_parts(rt: HostRuntime) -> Result<(), Fail> {
     let whole = p256_key(rt.alloc())?;
     let key = read_key(&whole)?;
-    assert_equal(&rt, &key.encoded_len()?, &121);
-    assert_written(&rt, rt.alloc(), &key, &whole)?;
+    assert_written(&rt, rt.alloc(), &key, &whole);
     let mut room = [0xAA; 130];
-    assert_equal(&rt, &encode(&key, &mut room)?, &121);
+    let lengths = (key.encoded_len(), encode(&key, &mut room));
+    assert_equal(&rt, &lengths, &(Ok(121), Ok(121)));
     let (front, rest) = room.split_at(121);
-    assert_equal(&rt, &front, &whole.as_slice());
-    assert_equal(&rt, &rest, &[0xAA; 9].as_slice());
-    Ok(())
-}
-
-#[test]
-fn holds_the_encoding_in_documents(rt: HostRuntime) -> Result<(), Fail> {
-    let key = read_key(&EMPTY_KEY)?;
-    let copied = key.document_ref(rt.alloc())?;
-    assert_equal(&rt, &copied.as_bytes(), &EMPTY_KEY.as_slice());
-    let moved = key.document(rt.alloc())?;
-    assert_equal(&rt, &moved.as_bytes(), &EMPTY_KEY.as_slice());
-    Ok(())
-}
-
-/// From a content of 128 bytes on the length has two bytes. The private key, and the bytes before
-/// it.
-static LONG_FORMS: [(usize, &[u8]); 2] = [
-    (122, &[0x30, 0x7F, 0x02, 0x01, 0x01, 0x04, 0x7A]),
-    (123, &[0x30, 0x81, 0x80, 0x02, 0x01, 0x01, 0x04, 0x7B]),
-];
-
-#[test]
-fn writes_the_long_form(rt: HostRuntime) -> Result<(), Fail> {
-    for &(count, front) in LONG_FORMS.iter() {
-        let mut wanted = front.to_vec(rt.alloc())?;
-        wanted.extend_from_slice(&[0; 123][..count])?;
-        let zeros = [0; 123];
-        let key = EcPrivateKey {
-            private_key: &zeros[..count],
-            parameters: None,
-            public_key: None,
-        };
-        let mut room = [0xAA; 140];
-        assert_equal_for(&rt, &count, &encode(&key, &mut room)?, &wanted.len());
-        assert_equal_for(&rt, &count, &room.starts_with(&wanted), &true);
-        assert_equal_for(
-            &rt,
-            &count,
-            &read_key(&wanted)?.private_key,
-            &&zeros[..count],
-        );
-    }
-    Ok(())
-}
-
-/// Writes the content of the key, and returns its length.
-fn encode_content(key: &EcPrivateKey, room: &mut [u8]) -> sec1::Result<usize> {
-    let mut writer = SliceWriter::new(room);
-    key.encode_value(&mut writer)?;
-    Ok(writer.written())
-}
-
-#[test]
-fn writes_the_content(rt: HostRuntime) -> Result<(), Fail> {
-    let whole = p256_key(rt.alloc())?;
-    let key = read_key(&whole)?;
-    let mut room = [0xAA; 121];
-    assert_equal(&rt, &encode_content(&key, &mut room)?, &119);
-    let (content, rest) = room.split_at(119);
-    assert_equal(&rt, &content, &&whole[2..]);
-    assert_equal(&rt, &rest, &[0xAA, 0xAA].as_slice());
-    Ok(())
-}
-
-#[test]
-fn borrows_the_identifier_of_parameters(rt: HostRuntime) -> Result<(), Fail> {
-    let parameters = EcParameters::from(ObjectIdentifier::new("1.2.840.10045.3.1.7")?);
-    let any = AnyRef::from(&parameters);
-    assert_equal(&rt, &any.tag(), &Tag::OBJECT_IDENTIFIER);
     assert_equal(
         &rt,
-        &any.value(),
-        &[0x2A, 0x86, 0x48, 0xCE, 0x3D, 0x03, 0x01, 0x07].as_slice(),
-    );
-    let mut room = [0; 10];
-    assert_equal(&rt, &der::encode_to_slice(&parameters, &mut room)?, &10);
-    assert_equal(
-        &rt,
-        &room,
-        &[0x06, 0x08, 0x2A, 0x86, 0x48, 0xCE, 0x3D, 0x03, 0x01, 0x07],
+        &(front, rest),
+        &(whole.as_slice(), [0xAA; 9].as_slice()),
     );
     Ok(())
 }
@@ -144,8 +64,8 @@ fn rewrite(rt: &impl Abort, bytes: &[u8; 121]) -> Option<Error> {
     match read_key(bytes) {
         Ok(key) => {
             let mut room = [0; 121];
-            assert_equal(rt, &encode(&key, &mut room), &Ok(121));
-            assert_equal(rt, &room, bytes);
+            let written = encode(&key, &mut room);
+            assert_equal(rt, &(written, room), &(Ok(121), *bytes));
             None
         }
         Err(error) => Some(error),
