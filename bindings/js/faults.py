@@ -211,5 +211,8 @@ def run(sources):
 
 
 if __name__ == "__main__":
+    if not shutil.which("node"):
+        print(f"there is no node\n0 passed, 0 failed, {len(FAULTS)} skipped")
+        sys.exit(0)
     COMMAND = command()
     sys.exit(plant.main(FAULTS, copy, run))

@@ -41,7 +41,7 @@ FAULTS = [
     ("private_key.rs", "public_key: self.public_key,", "public_key: None,"),
     ("raw.rs", "usize::from(lower_case)", "usize::from(!lower_case)"),
     ("raw.rs", "usize::from(compress)", "usize::from(!compress)"),
-    ("der/element.rs", "raw::tree_fault_at(bytes)", "raw::key_fault_at(bytes)"),
+    ("raw.rs", "sec1_tree_fault_at(bytes.as_ptr()", "sec1_key_fault_at(bytes.as_ptr()"),
     ("der/element.rs", "Ok((Element { tag, content }, rest))", "Ok((Element { tag, content: rest }, content))"),
     ("der/error.rs", "SEC1_CURVE => ErrorKind::Curve", "SEC1_CURVE => ErrorKind::Value"),
     ("der/error.rs", "Error { position: Length::try_from(offset).ok(), ..Error::of(status) }", "{ let _ = offset; Error::of(status) }"),
