@@ -1,6 +1,6 @@
 //! A key in a file. `tests/calls` has other keys, files that another program wrote, those that are
 //! refused or can't be written, and long paths.
-use super::reading::whole_key;
+use super::reading::WHOLE_KEY;
 use super::traits::Copied;
 use crate::assert_equal;
 use sec1::{DecodeEcPrivateKey, EncodeEcPrivateKey, Error};
@@ -39,9 +39,8 @@ fn held(rt: &HostRuntime, path: &str) -> Option<Vec<u8>> {
 #[test]
 fn keeps_keys_in_files(rt: HostRuntime) -> Result<(), Fail> {
     let path = path(&rt, "key")?;
-    let whole = whole_key(rt.alloc())?;
     // the shortest element, over the longer file
-    for bytes in [whole.as_slice(), b"\x05\x00"] {
+    for bytes in [WHOLE_KEY.as_slice(), b"\x05\x00"] {
         assert_equal(&rt, &write(&rt, &path, bytes), &Ok(()));
         assert_equal(&rt, &held(&rt, &path).as_deref(), &Some(bytes));
         assert_equal(&rt, &read(&rt, &path).as_deref(), &Ok(bytes));

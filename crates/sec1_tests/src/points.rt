@@ -2,6 +2,7 @@
 
 ghost use Rattle.std.specs.Prelude.{◌+◌, ◌*◌, ◌%◌, ◌^◌, fold};
 
+use crate::reading::bytes_of;
 use crate::{
     assert_debug_texts, assert_equal, assert_equal_for, assert_printed, assert_printed_alike,
 };
@@ -528,15 +529,14 @@ fn assert_read_from_json<const N: usize, const L: usize>(
 }
 
 #[test]
-fn writes_texts(rt: HostRuntime) -> Result<(), Fail> {
+fn writes_texts(rt: HostRuntime) {
     assert_texts(&rt, &point_1(&rt, &[2, 0xAF]), "02AF", "02af");
     for &(upper, lower) in TEXTS_32.iter() {
-        let bytes = hex::decode(rt.alloc(), upper)?;
-        assert_texts(&rt, &point_32(&rt, &bytes), upper, lower);
+        let point = point_32(&rt, &bytes_of(&rt, upper));
+        assert_texts(&rt, &point, upper, lower);
     }
     let hybrid = point_1(&rt, &[7, 1, 3]);
     assert_equal(&rt, &Point1::from_str("070103"), &Ok(hybrid));
-    Ok(())
 }
 
 #[test]

@@ -4,27 +4,33 @@ use der::{ErrorKind, FixedTag, ObjectIdentifier};
 use sec1::{EcParameters, EcPrivateKey, Error, Result, der};
 use std::alloc::Global;
 use std::process::Abort;
-use std::test::Fail;
 
-/// The private key of a key on P-256.
-static PRIVATE_KEY: &str = "69624171561A63340DE0E7D869F2A05492558E1A04868B6A9F854A866788188D";
+/// A key on P-256 with all its fields.
+pub static WHOLE_KEY: [u8; 121] = [
+    0x30, 0x77, 0x02, 0x01, 0x01, 0x04, 0x20, 0x69, 0x62, 0x41, 0x71, 0x56, 0x1A, 0x63, 0x34, 0x0D,
+    0xE0, 0xE7, 0xD8, 0x69, 0xF2, 0xA0, 0x54, 0x92, 0x55, 0x8E, 0x1A, 0x04, 0x86, 0x8B, 0x6A, 0x9F,
+    0x85, 0x4A, 0x86, 0x67, 0x88, 0x18, 0x8D, 0xA0, 0x0A, 0x06, 0x08, 0x2A, 0x86, 0x48, 0xCE, 0x3D,
+    0x03, 0x01, 0x07, 0xA1, 0x44, 0x03, 0x42, 0x00, 0x04, 0x1C, 0xAC, 0xFF, 0xB5, 0x5F, 0x2F, 0x2C,
+    0xEF, 0xD8, 0x9D, 0x89, 0xEB, 0x37, 0x4B, 0x26, 0x81, 0x15, 0x24, 0x52, 0x80, 0x2D, 0xEE, 0xA0,
+    0x99, 0x16, 0x06, 0x81, 0x37, 0xD8, 0x39, 0xCF, 0x7F, 0xC4, 0x81, 0xA4, 0x44, 0x92, 0x30, 0x4D,
+    0x7E, 0xF6, 0x6A, 0xC1, 0x17, 0xBE, 0xFE, 0x83, 0xA8, 0xD0, 0x8F, 0x15, 0x5F, 0x2B, 0x52, 0xF9,
+    0xF6, 0x18, 0xDD, 0x44, 0x70, 0x29, 0x04, 0x8E, 0x0F,
+];
 
-/// Its public key.
-static PUBLIC_KEY: &str =
-    "041CACFFB55F2F2CEFD89D89EB374B2681152452802DEEA09916068137D839CF7FC481A44492304D7EF66AC117BEFE83A8D08F155F2B52F9F618DD447029048E0F";
+/// The same key without its curve, as inside PKCS#8.
+static WITHOUT_CURVE: [u8; 109] = [
+    0x30, 0x6B, 0x02, 0x01, 0x01, 0x04, 0x20, 0x69, 0x62, 0x41, 0x71, 0x56, 0x1A, 0x63, 0x34, 0x0D,
+    0xE0, 0xE7, 0xD8, 0x69, 0xF2, 0xA0, 0x54, 0x92, 0x55, 0x8E, 0x1A, 0x04, 0x86, 0x8B, 0x6A, 0x9F,
+    0x85, 0x4A, 0x86, 0x67, 0x88, 0x18, 0x8D, 0xA1, 0x44, 0x03, 0x42, 0x00, 0x04, 0x1C, 0xAC, 0xFF,
+    0xB5, 0x5F, 0x2F, 0x2C, 0xEF, 0xD8, 0x9D, 0x89, 0xEB, 0x37, 0x4B, 0x26, 0x81, 0x15, 0x24, 0x52,
+    0x80, 0x2D, 0xEE, 0xA0, 0x99, 0x16, 0x06, 0x81, 0x37, 0xD8, 0x39, 0xCF, 0x7F, 0xC4, 0x81, 0xA4,
+    0x44, 0x92, 0x30, 0x4D, 0x7E, 0xF6, 0x6A, 0xC1, 0x17, 0xBE, 0xFE, 0x83, 0xA8, 0xD0, 0x8F, 0x15,
+    0x5F, 0x2B, 0x52, 0xF9, 0xF6, 0x18, 0xDD, 0x44, 0x70, 0x29, 0x04, 0x8E, 0x0F,
+];
 
-/// Returns the key with all its fields, 121 bytes.
-pub fn whole_key(alloc: Global) -> std::result::Result<Vec<u8>, Fail> {
-    let parameters = "A00A06082A8648CE3D030107";
-    key_with(alloc, "3077", parameters)
-}
-
-/// Returns the key with this header and these parameters.
-fn key_with(alloc: Global, header: &str, parameters: &str) -> std::result::Result<Vec<u8>, Fail> {
-    let text = format!(in alloc;
-        "{header}0201010420{PRIVATE_KEY}{parameters}A144034200{PUBLIC_KEY}"
-    )?;
-    Ok(hex::decode(alloc, text.as_str())?)
+/// Returns the bytes that a text has in hexadecimal.
+pub fn bytes_of<R: Abort + AllocGlobal>(rt: &R, text: &str) -> Vec<u8> {
+    hex::decode(rt.alloc(), text).expect(rt, "hexadecimal")
 }
 
 /// Reads a key.
@@ -47,35 +53,23 @@ fn has_the_tag_of_a_sequence(rt: HostRuntime) {
     assert_equal(&rt, &EcPrivateKey::TAG.byte(), &0x30);
 }
 
-/// Fails the test unless the bytes are the key, with these parameters.
-fn assert_key(
-    rt: &impl Abort,
-    alloc: Global,
-    bytes: &[u8],
-    parameters: Option<EcParameters>,
-) -> std::result::Result<(), Fail> {
-    let private_key = hex::decode(alloc, PRIVATE_KEY)?;
-    let public_key = hex::decode(alloc, PUBLIC_KEY)?;
+/// The parts of a key.
+type Parts<'a> = (&'a [u8], Option<EcParameters>, Option<&'a [u8]>);
+
+/// Returns the parts of the key of these bytes.
+fn parts(bytes: &[u8]) -> Result<Parts<'_>> {
     let key = read_key(bytes)?;
-    let found = (key.private_key, key.parameters, key.public_key);
-    let wanted = (
-        private_key.as_slice(),
-        parameters,
-        Some(public_key.as_slice()),
-    );
-    assert_equal(rt, &found, &wanted);
-    Ok(())
+    Ok((key.private_key, key.parameters, key.public_key))
 }
 
 #[test]
-fn reads_whole_keys(rt: HostRuntime) -> std::result::Result<(), Fail> {
-    let p_256 = ObjectIdentifier::new("1.2.840.10045.3.1.7")?;
-    let bytes = whole_key(rt.alloc())?;
-    assert_key(&rt, rt.alloc(), &bytes, Some(EcParameters::from(p_256)))?;
-
-    // without parameters, as inside PKCS#8
-    let bytes = key_with(rt.alloc(), "306B", "")?;
-    assert_key(&rt, rt.alloc(), &bytes, None)
+fn reads_whole_keys(rt: HostRuntime) {
+    let (private_key, public_key) = (&WHOLE_KEY[7..39], Some(&WHOLE_KEY[56..]));
+    let p_256 = named(Some("1.2.840.10045.3.1.7"));
+    let wanted = Ok((private_key, p_256, public_key));
+    assert_equal(&rt, &parts(&WHOLE_KEY), &wanted);
+    let wanted = Ok((private_key, None, public_key));
+    assert_equal(&rt, &parts(&WITHOUT_CURVE), &wanted);
 }
 
 /// Keys without a private key: the bytes, the dotted text of the curve, the hexadecimal of the
@@ -112,35 +106,32 @@ fn decoded(alloc: Global, text: Option<&str>) -> Option<Vec<u8>> {
     hex::decode(alloc, text?).ok()
 }
 
-/// Fails the test unless the key has an empty private key, and these other fields.
-fn assert_fields(
-    rt: &impl Abort,
-    alloc: Global,
-    key: &EcPrivateKey,
+/// Fails the test unless the bytes are a key with an empty private key and these other fields.
+fn assert_fields<R: Abort + AllocGlobal>(
+    rt: &R,
+    bytes: &[u8],
     curve: Option<&str>,
     public_key: Option<&str>,
 ) {
-    let public_key = decoded(alloc, public_key);
-    let found = (key.private_key, key.parameters, key.public_key);
+    let public_key = decoded(rt.alloc(), public_key);
     let wanted = ([].as_slice(), named(curve), public_key.as_deref());
-    assert_equal(rt, &found, &wanted);
+    assert_equal(rt, &parts(bytes), &Ok(wanted));
 }
 
-/// Fails the test unless the key is written as these bytes.
-pub fn assert_written(rt: &impl Abort, alloc: Global, key: &EcPrivateKey, bytes: &[u8]) {
-    let written = key.to_der(alloc).ok();
-    assert_equal_for(rt, key, &written.as_deref(), &Some(bytes));
+/// Fails the test unless the bytes are a key, which is written as the same.
+pub fn assert_rewritten<R: Abort + AllocGlobal>(rt: &R, bytes: &[u8]) {
+    let key = read_key(bytes).expect(rt, "a key");
+    let written = key.to_der(rt.alloc()).ok();
+    assert_equal_for(rt, &key, &written.as_deref(), &Some(bytes));
 }
 
 #[test]
-fn reads_and_writes_optional_fields(rt: HostRuntime) -> std::result::Result<(), Fail> {
+fn reads_and_writes_optional_fields(rt: HostRuntime) {
     for &(text, curve, public_key) in KEYS.iter() {
-        let bytes = hex::decode(rt.alloc(), text)?;
-        let key = read_key(&bytes)?;
-        assert_fields(&rt, rt.alloc(), &key, curve, public_key);
-        assert_written(&rt, rt.alloc(), &key, &bytes);
+        let bytes = bytes_of(&rt, text);
+        assert_fields(&rt, &bytes, curve, public_key);
+        assert_rewritten(&rt, &bytes);
     }
-    Ok(())
 }
 
 static REFUSED: [(&str, ErrorKind); 35] = [
@@ -217,24 +208,22 @@ static REFUSED: [(&str, ErrorKind); 35] = [
 ];
 
 #[test]
-fn refuses_bytes_of_no_key(rt: HostRuntime) -> std::result::Result<(), Fail> {
+fn refuses_bytes_of_no_key(rt: HostRuntime) {
     for &(text, kind) in REFUSED.iter() {
-        let bytes = hex::decode(rt.alloc(), text)?;
+        let bytes = bytes_of(&rt, text);
         assert_equal_for(&rt, &text, &refusal(&bytes), &Some(kind));
     }
-    Ok(())
 }
 
 #[test]
-fn refuses_wrong_parts_of_a_key(rt: HostRuntime) -> std::result::Result<(), Fail> {
-    let mut bytes = whole_key(rt.alloc())?;
-    for count in 0..bytes.len() {
-        let refused = refusal(&bytes[..count]);
+fn refuses_wrong_parts_of_a_key(rt: HostRuntime) {
+    for count in 0..WHOLE_KEY.len() {
+        let refused = refusal(&WHOLE_KEY[..count]);
         assert_equal_for(&rt, &count, &refused, &Some(ErrorKind::Truncated));
     }
-    bytes.push(0)?;
-    assert_equal(&rt, &refusal(&bytes), &Some(ErrorKind::TrailingData));
-    Ok(())
+    let mut longer = [0; 122];
+    longer[..121].copy_from_slice(&WHOLE_KEY);
+    assert_equal(&rt, &refusal(&longer), &Some(ErrorKind::TrailingData));
 }
 
 static TEXTS: [(Error, &str); 6] = [
@@ -295,16 +284,15 @@ static DEBUG_TEXTS: [(&[u8], &str, &str); 5] = [
 ];
 
 #[test]
-fn shows_no_private_key_in_debug_texts(rt: HostRuntime) -> std::result::Result<(), Fail> {
+fn shows_no_private_key_in_debug_texts(rt: HostRuntime) {
     for &(bytes, text, lines) in DEBUG_TEXTS.iter() {
-        assert_debug_texts(&rt, &read_key(bytes)?, text, lines);
+        let key = read_key(bytes).expect(&rt, "a key");
+        assert_debug_texts(&rt, &key, text, lines);
     }
-    let curve = EcParameters::from(ObjectIdentifier::new("1.2.3")?);
     assert_debug_texts(
         &rt,
-        &curve,
-        "NamedCurve(ObjectIdentifier(1.2.3))",
-        "NamedCurve(\n    ObjectIdentifier(1.2.3),\n)",
+        &named(Some("1.2.3")),
+        "Some(NamedCurve(ObjectIdentifier(1.2.3)))",
+        "Some(\n    NamedCurve(\n        ObjectIdentifier(1.2.3),\n    ),\n)",
     );
-    Ok(())
 }

@@ -1,18 +1,11 @@
 //! Keys that are written, by examples with known results.
-use super::reading::{assert_written, read_key, whole_key};
+ghost use Rattle.std.specs.Prelude.{◌<◌};
+
+use super::reading::{WHOLE_KEY, assert_rewritten, read_key};
 use crate::{assert_equal, assert_equal_for};
 use sec1::der::{self, ErrorKind};
 use sec1::{EcPrivateKey, Error};
-use std::alloc::Global;
 use std::process::Abort;
-use std::test::Fail;
-
-/// Returns a key of the curve P-256 with all of its parts.
-fn p256_key(alloc: Global) -> Result<[u8; 121], Fail> {
-    let mut bytes = [0; 121];
-    bytes.copy_from_slice(whole_key(alloc)?.get(..121).ok_or("too short")?);
-    Ok(bytes)
-}
 
 /// Writes the key, and returns the length of its encoding.
 // A caller takes the prover less time than one of `encode_to_slice`, whose contract is long.
@@ -20,21 +13,21 @@ fn encode(key: &EcPrivateKey, room: &mut [u8]) -> sec1::Result<usize> {
     key.encode_to_slice(room)
 }
 
+/// Returns the length that is given for the encoding of [`WHOLE_KEY`], and that of what is written
+/// of it.
+fn lengths(room: &mut [u8]) -> sec1::Result<(usize, usize)> {
+    let key = read_key(&WHOLE_KEY)?;
+    Ok((key.encoded_len()?, encode(&key, room)?))
+}
+
 #[test]
-fn writes_all_parts(rt: HostRuntime) -> Result<(), Fail> {
-    let whole = p256_key(rt.alloc())?;
-    let key = read_key(&whole)?;
-    assert_written(&rt, rt.alloc(), &key, &whole);
+fn writes_all_parts(rt: HostRuntime) {
+    assert_rewritten(&rt, &WHOLE_KEY);
     let mut room = [0xAA; 130];
-    let lengths = (key.encoded_len(), encode(&key, &mut room));
-    assert_equal(&rt, &lengths, &(Ok(121), Ok(121)));
-    let (front, rest) = room.split_at(121);
-    assert_equal(
-        &rt,
-        &(front, rest),
-        &(whole.as_slice(), [0xAA; 9].as_slice()),
-    );
-    Ok(())
+    assert_equal(&rt, &lengths(&mut room), &Ok((121, 121)));
+    let mut wanted = [0xAA; 130];
+    wanted[..121].copy_from_slice(&WHOLE_KEY);
+    assert_equal(&rt, &room, &wanted);
 }
 
 /// Returns at how many of the 255 other values of this byte the key is still one, by another
@@ -81,30 +74,34 @@ fn count_refusal(counts: &mut [u32; 5], error: Error) {
     }
 }
 
+/// Returns at how many of the 255 other values of this byte [`WHOLE_KEY`] is still a key, and
+/// counts the others under their kinds. Fails the test unless what is read is written as it came.
+fn accepted(rt: &impl Abort, place: usize, refused: &mut [u32; 5]) -> u32
+    requires { place < 121 }
+{
+    let mut accepted = 0u32;
+    for other in 1..=255u8 {
+        let mut changed = WHOLE_KEY;
+        changed[place] ^= other;
+        match rewrite(rt, &changed) {
+            None => accepted = accepted.saturating_add(1),
+            Some(error) => count_refusal(refused, error),
+        }
+    }
+    accepted
+}
+
 /// Whatever byte of a key is changed, what is still read is written just as it came.
 /// `tests/keys/reader.py` counted the 26,644 of the 30,855 changed keys that are read, and how the
 /// others are refused.
 #[test]
-fn writes_what_is_read(rt: HostRuntime) -> Result<(), Fail> {
-    let whole = p256_key(rt.alloc())?;
-    let mut all = 0u32;
-    let mut refused = [0u32; 5];
+fn writes_what_is_read(rt: HostRuntime) {
+    let (mut all, mut refused) = (0u32, [0u32; 5]);
     for place in 0..121 {
-        let mut accepted = 0u32;
-        for other in 1..=255u8 {
-            let mut changed = whole;
-            changed[place] ^= other;
-            match rewrite(&rt, &changed) {
-                None => accepted = accepted.saturating_add(1),
-                Some(error) => count_refusal(&mut refused, error),
-            }
-        }
+        let accepted = accepted(&rt, place, &mut refused);
         assert_equal_for(&rt, &place, &accepted, &accepted_at(place));
         all = all.saturating_add(accepted);
     }
-    assert_equal(&rt, &all, &26_644);
-    for (count, (kind, wanted)) in refused.iter().zip(REFUSALS.iter()) {
-        assert_equal_for(&rt, kind, count, wanted);
-    }
-    Ok(())
+    let wanted = REFUSALS.map(|(_, count)| count);
+    assert_equal(&rt, &(all, refused), &(26_644, wanted));
 }
