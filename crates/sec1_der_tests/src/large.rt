@@ -59,15 +59,21 @@ fn assert_same(rt: &impl Abort, found: &[u8], wanted: &[u8]) {
     assert!(rt; found == wanted, "of {} bytes", wanted.len());
 }
 
+/// Fails the test unless the bytes are a document in memory, and over each uneven reader.
+fn assert_held(rt: &impl Abort, alloc: Global, bytes: &[u8]) {
+    let held = document(alloc, bytes).expect(rt, "a document");
+    assert_same(rt, held.as_bytes(), bytes);
+    for turn in 0..6 {
+        let read = read_unevenly(alloc, bytes, turn).expect(rt, "a document");
+        assert_same(rt, read.as_bytes(), bytes);
+    }
+}
+
 #[test]
 fn reads_large_documents(rt: HostRuntime) -> Result<(), Fail> {
-    let alloc = rt.alloc();
     for &(header, length) in HEADERS.iter() {
-        let bytes = element(alloc, header, length)?;
-        assert_same(&rt, document(alloc, &bytes)?.as_bytes(), &bytes);
-        for turn in 0..6 {
-            assert_same(&rt, read_unevenly(alloc, &bytes, turn)?.as_bytes(), &bytes);
-        }
+        let bytes = element(rt.alloc(), header, length)?;
+        assert_held(&rt, rt.alloc(), &bytes);
     }
     Ok(())
 }

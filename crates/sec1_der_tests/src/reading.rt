@@ -4,6 +4,7 @@ use sec1_der::{
     AnyRef, BitStringRef, Error, ErrorKind, Header, IdentifierRef, Length, ObjectIdentifier,
     OctetStringRef, SliceReader, Tag,
 };
+use std::alloc::{AllocError, Global};
 use std::process::Abort;
 use std::test::Fail;
 
@@ -320,14 +321,20 @@ fn content_len(text: &str) -> Result<usize, ErrorKind> {
     }
 }
 
-#[test]
-fn refuses_identifiers_above_39_bytes(rt: HostRuntime) -> Result<(), Fail> {
-    let mut text = "1.2".to_string(rt.alloc())?;
-    for _ in 0..38 {
+/// Returns 1.2 and this many further arcs of 1, each of which takes a byte.
+fn arcs(alloc: Global, count: usize) -> Result<String, AllocError> {
+    let mut text = "1.2".to_string(alloc)?;
+    for _ in 0..count {
         text.push_str(".1")?;
     }
-    assert_equal(&rt, &content_len(&text), &Ok(39));
-    text.push_str(".1")?;
-    assert_equal(&rt, &content_len(&text), &Err(ErrorKind::Value));
+    Ok(text)
+}
+
+#[test]
+fn refuses_identifiers_above_39_bytes(rt: HostRuntime) -> Result<(), Fail> {
+    let longest = arcs(rt.alloc(), 38)?;
+    assert_equal(&rt, &content_len(&longest), &Ok(39));
+    let longer = arcs(rt.alloc(), 39)?;
+    assert_equal(&rt, &content_len(&longer), &Err(ErrorKind::Value));
     Ok(())
 }

@@ -1,7 +1,7 @@
 //! Documents over readers and writers that give and take a few bytes at a time, break or never end,
 //! and in files.
 use crate::helpers::{
-    assert_equal, assert_equal_for, assert_for, document, kind_of, remove_file, temporary_path,
+    assert_equal, assert_equal_for, document, kind_of, remove_file, temporary_path,
 };
 use sec1_der::{ErrorKind, SecretDocument, StdReader, StdWriter};
 use std::alloc::Global;
@@ -137,16 +137,24 @@ static READS: [(&[u8], usize, usize, Then, Option<ErrorKind>, usize); 12] = [
     ),
 ];
 
+/// Reads a document of the pieces. Returns the kind of the error, if there is one, how many bytes
+/// were read, and whether these are the document, and were asked for 4,096 at most at once.
+fn read_pieces(alloc: Global, pieces: Pieces, bytes: &[u8]) -> (Option<ErrorKind>, usize, bool) {
+    let (result, pieces) = pieces.document(alloc);
+    let is_right = match &result {
+        Ok(document) => document.as_bytes() == bytes,
+        Err(_) => true,
+    };
+    let is_modest = pieces.most_asked <= 4096;
+    (kind_of(result), pieces.taken, is_right && is_modest)
+}
+
 #[test]
 fn reads_documents_in_pieces(rt: HostRuntime) {
     for (row, &(bytes, given, step, then, want, taken)) in READS.iter().enumerate() {
-        let (result, pieces) = Pieces::new(bytes, given, step, then).document(rt.alloc());
-        assert_equal_for(&rt, &row, &pieces.taken, &taken);
-        assert_for(&rt, &row, pieces.most_asked <= 4096);
-        if let Ok(document) = &result {
-            assert_equal_for(&rt, &row, &document.as_bytes(), &bytes);
-        }
-        assert_equal_for(&rt, &row, &kind_of(result), &want);
+        let pieces = Pieces::new(bytes, given, step, then);
+        let found = read_pieces(rt.alloc(), pieces, bytes);
+        assert_equal_for(&rt, &row, &found, &(want, taken, true));
     }
 }
 
