@@ -1,2 +1,3 @@
 mod CurveLemmas
+mod InPlaceLemmas
 pub mod KindLaws

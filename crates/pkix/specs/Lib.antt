@@ -1,3 +1,4 @@
 pub mod EcKeys
+pub mod InPlace
 pub mod Records
 pub mod Versions

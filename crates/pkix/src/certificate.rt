@@ -8,12 +8,13 @@ ghost use Rattle.pkix.specs.Records.{certificate_content, certificate_fault};
 ghost use Rattle.sec1_der.specs.Encodings.{ReadsElement};
 ghost use Rattle.pkix.specs.Records.{tbs_content, tbs_fault};
 
+use crate::in_place::{ReadInPlace, read_record, read_whole};
 use crate::{AlgorithmIdentifier, Extension, LaterVersion, Name, SubjectPublicKeyInfo, Validity};
 use der_types::{Bits, Implicit, Integer, SequenceOf};
 use sec1_der::{
     BackWriter, Context0, Context3, DecodePart, Distinct, EncodePart, Explicit, Length, Optional,
     Part, Primitive1, Primitive2, Record, Required, Result, SliceReader, UniquePart, component_len,
-    decode_component, read_der,
+    decode_component,
 };
 
 /// A TBSCertificate (RFC 5280 section 4.1.2).
@@ -175,6 +176,16 @@ impl<'a> DecodePart<'a> for TbsCertificate<'a> {
     }
 }
 
+impl<'a> ReadInPlace<'a> for TbsCertificate<'a> {
+    fn empty() -> Self {
+        Self::from_parts(ReadInPlace::empty())
+    }
+
+    fn read_in_place(&mut self, reader: &mut SliceReader<'a>) -> Result<()> {
+        read_record(self, reader)
+    }
+}
+
 impl UniquePart for TbsCertificate<'_> {
     fn one_part()
         ensures { AreApart (one_tag 0x30) (λ value. element_of 0x30 (tbs_content value)) }
@@ -239,10 +250,10 @@ impl<'a> Certificate<'a> {
     ///
     /// # Errors
     ///
-    /// Those of [`read_der`].
+    /// Those of [`read_der`](sec1_der::read_der).
     pub fn from_der(bytes: &'a [u8]) -> Result<Certificate<'a>>
         ensures { ReadsElement 0x30 certificate_content certificate_fault bytes.now result }
     {
-        read_der(bytes)
+        read_whole(bytes)
     }
 }

@@ -3,6 +3,7 @@
 mod algorithm;
 mod certificate;
 mod extension;
+mod in_place;
 mod keys;
 mod name;
 mod private_key;

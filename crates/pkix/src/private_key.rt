@@ -5,10 +5,11 @@ ghost use Rattle.sec1_der.specs.Encodings.{ReadsElement};
 ghost use Rattle.pkix.specs.Records.{private_key_content, private_key_fault};
 
 use crate::AlgorithmIdentifier;
+use crate::in_place::read_whole;
 use der_types::{Bits, Implicit, Kind, Leaf, ObjectIdentifierRef, SetOf};
 use sec1_der::{
     Context0, Distinct, Octets, Optional, Primitive1, Record, Required, Result, SmallInteger, Tag,
-    Tagged, read_der,
+    Tagged,
 };
 
 /// The SET of the values of an attribute, whose content isn't examined.
@@ -208,11 +209,11 @@ impl<'a> PrivateKeyInfo<'a> {
     ///
     /// # Errors
     ///
-    /// Those of [`read_der`].
+    /// Those of [`read_der`](sec1_der::read_der).
     pub fn from_der(bytes: &'a [u8]) -> Result<PrivateKeyInfo<'a>>
         ensures { ReadsElement 0x30 private_key_content private_key_fault bytes.now result }
     {
-        read_der::<PrivateKeyInfo>(bytes)
+        read_whole(bytes)
     }
 }
 
@@ -221,11 +222,11 @@ impl<'a> OneAsymmetricKey<'a> {
     ///
     /// # Errors
     ///
-    /// Those of [`read_der`].
+    /// Those of [`read_der`](sec1_der::read_der).
     pub fn from_der(bytes: &'a [u8]) -> Result<OneAsymmetricKey<'a>>
         ensures { ReadsElement 0x30 asymmetric_key_content asymmetric_key_fault bytes.now
             result }
     {
-        read_der::<OneAsymmetricKey>(bytes)
+        read_whole(bytes)
     }
 }

@@ -8,10 +8,11 @@ ghost use Rattle.pkix.specs.Records.{public_key_content, public_key_fault};
 ghost use Rattle.sec1_der.specs.Encodings.{ReadsElement};
 
 use crate::AlgorithmIdentifier;
+use crate::in_place::{ReadInPlace, read_record, read_whole};
 use der_types::Bits;
 use sec1_der::{
     BackWriter, DecodePart, Distinct, EncodePart, Length, Part, Record, Required, Result,
-    SliceReader, UniquePart, component_len, decode_component, read_der,
+    SliceReader, UniquePart, component_len, decode_component,
 };
 
 /// A SubjectPublicKeyInfo (RFC 5280 section 4.1).
@@ -77,6 +78,16 @@ impl<'a> DecodePart<'a> for SubjectPublicKeyInfo<'a> {
     }
 }
 
+impl<'a> ReadInPlace<'a> for SubjectPublicKeyInfo<'a> {
+    fn empty() -> Self {
+        Self::from_parts(ReadInPlace::empty())
+    }
+
+    fn read_in_place(&mut self, reader: &mut SliceReader<'a>) -> Result<()> {
+        read_record(self, reader)
+    }
+}
+
 impl UniquePart for SubjectPublicKeyInfo<'_> {
     fn one_part()
         ensures { AreApart (one_tag 0x30) (λ value. element_of 0x30 (public_key_content value)) }
@@ -90,10 +101,10 @@ impl<'a> SubjectPublicKeyInfo<'a> {
     ///
     /// # Errors
     ///
-    /// Those of [`read_der`].
+    /// Those of [`read_der`](sec1_der::read_der).
     pub fn from_der(bytes: &'a [u8]) -> Result<SubjectPublicKeyInfo<'a>>
         ensures { ReadsElement 0x30 public_key_content public_key_fault bytes.now result }
     {
-        read_der(bytes)
+        read_whole(bytes)
     }
 }

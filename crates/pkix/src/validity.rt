@@ -6,6 +6,7 @@ ghost use Rattle.sec1_der.specs.PartLaws.{element_begins};
 ghost use Rattle.sec1_der.specs.Faults.{element_fault};
 ghost use Rattle.pkix.specs.Records.{validity_content, validity_fault};
 
+use crate::in_place::{ReadInPlace, read_record};
 use der_types::{Choice, GeneralizedTime, UtcTime};
 use sec1_der::{
     BackWriter, DecodePart, Distinct, EncodePart, Length, Part, Record, Required, Result,
@@ -72,6 +73,16 @@ impl EncodePart for Validity<'_> {
 impl<'a> DecodePart<'a> for Validity<'a> {
     fn decode_part(reader: &mut SliceReader<'a>) -> Result<Self> {
         decode_component(reader)
+    }
+}
+
+impl<'a> ReadInPlace<'a> for Validity<'a> {
+    fn empty() -> Self {
+        Self::from_parts(ReadInPlace::empty())
+    }
+
+    fn read_in_place(&mut self, reader: &mut SliceReader<'a>) -> Result<()> {
+        read_record(self, reader)
     }
 }
 
