@@ -254,6 +254,8 @@ impl<'a> Certificate<'a> {
     pub fn from_der(bytes: &'a [u8]) -> Result<Certificate<'a>>
         ensures { ReadsElement 0x30 certificate_content certificate_fault bytes.now result }
     {
-        read_whole(bytes)
+        let mut parts = <Self as Record>::Parts::empty();
+        read_whole::<Self>(&mut parts, bytes)?;
+        Ok(Self::from_parts(parts))
     }
 }

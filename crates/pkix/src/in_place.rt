@@ -170,16 +170,18 @@ where
     }
 }
 
-/// Reads a record from its whole DER encoding.
+/// Reads the parts of a record from its whole DER encoding into a place. The caller makes the record
+/// of them, so that it isn't moved from the result of one call to that of the next.
 ///
 /// # Errors
 ///
 /// Those of [`read_der`](sec1_der::read_der).
-pub(crate) fn read_whole<'a, T: Distinct>(input: &'a [u8]) -> Result<T>
+pub(crate) fn read_whole<'a, T: Distinct>(parts: &mut T::Parts, input: &'a [u8]) -> Result<()>
 where
     T::Parts: ReadInPlace<'a> + UniquePart,
-    ensures { ReadsElement 0x30 (λ value. T.Parts.bytes (T.parts value))
-        (T.Parts.fault_then end_fault) input.now result }
+    ensures { (place : T) → T.parts place ≡ parts.new
+        → ReadsElement 0x30 (λ value. T.Parts.bytes (T.parts value))
+        (T.Parts.fault_then end_fault) input.now (placed place result) }
 {
     T::one();
     let mut reader = SliceReader::new(input);
@@ -187,13 +189,12 @@ where
         Ok(content) => content,
         Err(e) => return Err(e),
     };
-    let mut parts = T::Parts::empty();
-    match read_parts(&mut parts, &mut content) {
+    match read_parts(parts, &mut content) {
         Ok(()) => {}
         Err(e) => return Err(e),
     }
     match reader.finish() {
-        Ok(()) => Ok(T::from_parts(parts)),
+        Ok(()) => Ok(()),
         Err(e) => Err(e),
     }
 }

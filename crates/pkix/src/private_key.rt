@@ -5,7 +5,7 @@ ghost use Rattle.sec1_der.specs.Encodings.{ReadsElement};
 ghost use Rattle.pkix.specs.Records.{private_key_content, private_key_fault};
 
 use crate::AlgorithmIdentifier;
-use crate::in_place::read_whole;
+use crate::in_place::{ReadInPlace, read_whole};
 use der_types::{Bits, Implicit, Kind, Leaf, ObjectIdentifierRef, SetOf};
 use sec1_der::{
     Context0, Distinct, Octets, Optional, Primitive1, Record, Required, Result, SmallInteger, Tag,
@@ -213,7 +213,9 @@ impl<'a> PrivateKeyInfo<'a> {
     pub fn from_der(bytes: &'a [u8]) -> Result<PrivateKeyInfo<'a>>
         ensures { ReadsElement 0x30 private_key_content private_key_fault bytes.now result }
     {
-        read_whole(bytes)
+        let mut parts = <PrivateKeyInfo as Record>::Parts::empty();
+        read_whole::<PrivateKeyInfo>(&mut parts, bytes)?;
+        Ok(PrivateKeyInfo::from_parts(parts))
     }
 }
 
@@ -227,6 +229,8 @@ impl<'a> OneAsymmetricKey<'a> {
         ensures { ReadsElement 0x30 asymmetric_key_content asymmetric_key_fault bytes.now
             result }
     {
-        read_whole(bytes)
+        let mut parts = <OneAsymmetricKey as Record>::Parts::empty();
+        read_whole::<OneAsymmetricKey>(&mut parts, bytes)?;
+        Ok(OneAsymmetricKey::from_parts(parts))
     }
 }

@@ -105,6 +105,8 @@ impl<'a> SubjectPublicKeyInfo<'a> {
     pub fn from_der(bytes: &'a [u8]) -> Result<SubjectPublicKeyInfo<'a>>
         ensures { ReadsElement 0x30 public_key_content public_key_fault bytes.now result }
     {
-        read_whole(bytes)
+        let mut parts = <Self as Record>::Parts::empty();
+        read_whole::<Self>(&mut parts, bytes)?;
+        Ok(Self::from_parts(parts))
     }
 }
