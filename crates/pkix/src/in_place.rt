@@ -170,8 +170,8 @@ where
     }
 }
 
-/// Reads the parts of a record from its whole DER encoding into a place. The caller makes the record
-/// of them, so that it isn't moved from the result of one call to that of the next.
+/// Reads the parts of a record from its whole DER encoding into a place. The caller makes the
+/// record of them, so that it isn't moved from the result of one call to that of the next.
 ///
 /// # Errors
 ///
