@@ -1,9 +1,9 @@
 -- What a line keeps of a text that is appended in pieces.
-use Rattle.std.proofs.Common.{◌≡◌, ℕ, ◌+◌, ◌-◌, ◌≤◌, ◌<◌, List, ◌++◌, length, take}
-use Rattle.std.proofs.Common.{sym, ◌∙◌, ap, arith, append_assoc, length-append, inl, inr, ◌⊎◌}
+use Rattle.std.proofs.Common.{◌≡◌, ℕ, ◌+◌, ◌-◌, ◌≤◌, ◌<◌, List, [], ◌++◌, length, take}
+use Rattle.std.proofs.Common.{append-nil, refl, sym, ◌∙◌, ap, arith, append_assoc, length-append, inl, inr, ◌⊎◌}
 use Rattle.std.proofs.Math.Seq.{take-append-add}
 use Rattle.std.proofs.lemmas.Bool.{cases_lt}
-use Rattle.std.proofs.lemmas.List.{take_all, take-append-le, length-take-le}
+use Rattle.std.proofs.lemmas.List.{take_all, take-append-le, take-take, length-take-le}
 use Rattle.std.proofs.lemmas.List.{replicate-append-replicate, length-replicate}
 use Rattle.std.specs.Prelude.{replicate, min}
 use Rattle.der_view.specs.Lines.{kept}
@@ -70,3 +70,26 @@ kept-four old a b c d x y z w ex ey ez ew =
     let first : x ≡ kept (old ++ a) = ex in
     let rest : w ≡ kept (x ++ (b ++ (c ++ d))) = kept-three x b c d y z w ey ez ew in
     rest ∙ (ap (λ t. kept (t ++ (b ++ (c ++ d)))) first ∙ kept-pieces old a (b ++ (c ++ d)))
+
+-- what is kept is kept whole
+pub kept-kept : (text : List ℕ) → kept (kept text) ≡ kept text
+kept-kept text = take-take 101 101 text (omega arith)
+
+-- a piece that is kept, and the rest of the text
+pub kept-rest : (old a rest whole x : List ℕ) → x ≡ kept (old ++ a) → whole ≡ a ++ rest
+    → kept (x ++ rest) ≡ kept (old ++ whole)
+kept-rest old a rest whole x ex e =
+    ap (λ t. kept (t ++ rest)) ex ∙ (kept-pieces old a rest ∙ ap (λ t. kept (old ++ t)) (sym e))
+
+-- two pieces
+pub kept-next : (old a b x y : List ℕ) → x ≡ kept (old ++ a) → y ≡ kept (x ++ b) → y ≡ kept (old ++ (a ++ b))
+kept-next old a b x y ex ey = ey ∙ kept-rest old a b (a ++ b) x ex refl
+
+-- nothing follows what is kept
+pub kept-last : (text rest : List ℕ) → length text ≤ 101 → rest ≡ [] → text ≡ kept (text ++ rest)
+kept-last text rest short last =
+    sym (ap (λ t. kept (text ++ t)) last ∙ (ap kept (append-nil text) ∙ take_all 101 text short))
+
+-- nothing that follows a full line is kept
+pub kept-over : (text rest : List ℕ) → length text ≤ 101 → 100 < length text → text ≡ kept (text ++ rest)
+kept-over text rest short long = sym (kept-full text rest (omega arith) ∙ take_all 101 text short)

@@ -2,11 +2,7 @@
 use Rattle.std.specs.Prelude.{◌≡◌, ℕ, ◌+◌, ◌-◌, ◌*◌, ◌/◌, ◌%◌, ◌^◌, ◌<◌, ◌≤◌, List, [], ◌∷◌, length}
 use Rattle.std.specs.Prelude.{pos, negsuc, slice_index, nat_lt, false, Some}
 use Rattle.std.proofs.lemmas.Bool.Decides.{nat_tests}
-use Rattle.std.proofs.Common.{◌++◌, ◌⊎◌, inl, inr, length-append}
-use Rattle.std.proofs.Math.Seq.{get_or-append_seam}
-use Rattle.std.proofs.lemmas.Bool.{cases_lt}
-use Rattle.std.proofs.lemmas.List.{get_or_append_left}
-use Rattle.der_view.specs.Values.{AreBits, bit_digit, integer_text}
+use Rattle.der_view.specs.Values.{integer_text}
 use Rattle.std.proofs.Common.{arith, ap, ◌∙◌}
 use Rattle.std.specs.Fmt.{decimal, signed_decimal}
 use Rattle.std.proofs.Math.Nat.{pow-suc, mul-le-mul_right}
@@ -71,23 +67,6 @@ integer_text-high [] are some few high = absurd (omega arith)
 integer_text-high (first ∷ bytes) are some few high =
     let short : nat_lt 7 (length bytes) ≡ false = grind (arith, nat_tests) in
     rw short (ap Some (signed-high first bytes are high))
-
-one-bit : (bytes old : List ℕ) → AreBits bytes old → (place : ℕ) → place ≤ length old
-    → ((place < length old) ⊎ (length old ≤ place))
-    → slice_index (old ++ bit_digit bytes (length old) ∷ []) place ≡ bit_digit bytes place
-one-bit bytes old are place within (inl before) =
-    get_or_append_left old (bit_digit bytes (length old) ∷ []) 0 place before ∙ are place before
-one-bit bytes old are place within (inr behind) =
-    let last : place ≡ length old = omega arith in
-    rw last (get_or-append_seam old (bit_digit bytes (length old)) [] 0)
-
--- one digit more
-pub one-bit-more : (bytes old new : List ℕ) → new ≡ old ++ bit_digit bytes (length old) ∷ []
-    → AreBits bytes old → AreBits bytes new
-one-bit-more bytes old new is are =
-    rw is (λ place below. one-bit bytes old are place
-    (omega (arith, length-append old (bit_digit bytes (length old) ∷ [])))
-    (cases_lt place (length old)))
 
 pub ruleset signed = (signed-low)
 

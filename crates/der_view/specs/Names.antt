@@ -4,10 +4,12 @@
 use Rattle.std.specs.Prelude.{◌==◌, ℕ, Bool, true, false, ◌&&◌, if◌then◌else◌, List, [], ◌∷◌}
 use Rattle.std.specs.Prelude.{find, length, codes, Option, Some, None, option_map, is_some}
 use Rattle.std.specs.Prelude.{take, ◌-◌, slice_index}
+use Rattle.std.specs.Option.{option_or}
 use Rattle.std.specs.Str.{bytes_eq}
 use Rattle.sec1_der.specs.Identifiers.{content_of}
-use Rattle.curves.specs.Curves.{curve_name, curve_alias}
+use Rattle.curves.specs.Curves.{curve_name, curve_alias, curve_content}
 use Rattle.curves.specs.declared.curve.Curve.{Curve}
+use Rattle.curves.specs.declared.curve.TheConstants.Curve as curves
 use Rattle.der_view.specs.declared.names.word.Word.{Word}
 use Rattle.der_view.specs.declared.names.word.Word.TheVariants as words
 use Rattle.der_view.specs.declared.names.Name.{Name}
@@ -232,3 +234,11 @@ curve_name_view curve = record {
   name = alias_or (curve_alias curve) (curve_name curve);
   word = words.Curve;
 }
+
+-- the curve whose identifier has this content
+abbrev pub curve_by : List ℕ → Option Curve
+curve_by content = find (λ curve. bytes_eq (curve_content curve) content) curves.ALL
+
+-- the name of the identifier with this content: that of the table, or else that of the curve
+abbrev pub name_by : List ℕ → Option NameView
+name_by content = option_or (row_by content) (option_map curve_name_view (curve_by content))

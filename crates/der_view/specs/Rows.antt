@@ -1,46 +1,61 @@
 -- The rows of bytes: what they are of, and what they show.
-use Rattle.std.specs.Prelude.{◌≡◌, ℕ, ◌+◌, ◌<◌, ◌≤◌, Bool, List, [], ◌∷◌, ◌++◌, length, take}
-use Rattle.std.specs.Prelude.{drop, None}
-use Rattle.der_view.specs.Seen.{IsFirst, seen_len}
+use Rattle.std.specs.Prelude.{◌≡◌, ℕ, ◌+◌, ◌<◌, ◌≤◌, Bool, true, false, List, [], ◌∷◌, ◌++◌}
+use Rattle.std.specs.Prelude.{length, take, drop, None, option_map, unwrap_or}
+use Rattle.der_view.specs.Seen.{IsFirst, IsShown, open_len}
 use Rattle.der_view.specs.declared.header.Tag.{Tag}
 use Rattle.der_view.specs.declared.row.Kind.{Kind}
 use Rattle.der_view.specs.declared.row.Kind.TheVariants.{Element}
 use Rattle.der_view.specs.declared.row.OpenRow.{OpenRow}
 use Rattle.der_view.specs.declared.row.Shown.{Shown}
-use Rattle.der_view.specs.declared.row.Shown.TheVariants.{Value}
+use Rattle.der_view.specs.declared.row.Shown.TheVariants.{Nothing}
 
--- the bytes that have no row yet, how many are before them, and whether the picture is guarded
+-- the bytes that have no row yet, how many are before them, whether all contents are in the rows,
+-- and whether the picture is guarded
 pub record Undrawn : Type 0 where
   pub offset : ℕ
   pub left : List ℕ
+  pub all : Bool
   pub guarded : Bool
 
 -- the number of bytes that a row is of: its header, and its content unless that has other rows
 abbrev pub row_len : OpenRow → ℕ
 row_len row = length row.header.now + row.own_len
 
--- the bytes begin with those of the row, of which there are some
+-- the bytes begin with those of the row, of which there are some, and with its whole content
 pub record BeginsWith (bytes : List ℕ) (row : OpenRow) : Type 0 where
   pub header : row.header.now ≡ take (length row.header.now) bytes
   pub some : 0 < row_len row
-  pub fits : row_len row ≤ length bytes
+  pub own : row.own_len ≤ row.len
+  pub fits : length row.header.now + row.len ≤ length bytes
 
 -- the content of the row that these bytes begin with
 abbrev pub content_of : OpenRow → List ℕ → List ℕ
 content_of row bytes = take row.len (drop (length row.header.now) bytes)
 
--- a value that is shown is of an element, and is among the bytes that are seen of its content
-abbrev pub IsSeen : Kind → Shown → (Tag → ℕ) → List ℕ → Type 0
-IsSeen (Element tag) (Value part) most content = IsFirst (most tag) content part.now
-IsSeen _ (Value part) most content = length part.now ≡ 0
-IsSeen _ _ most content = Unit {0}
+-- the bytes of it that have no other row
+abbrev pub own_content_of : OpenRow → List ℕ → List ℕ
+own_content_of row bytes = take row.own_len (drop (length row.header.now) bytes)
 
--- the row, which these bytes begin with, has no bytes of its content but those that are seen in a
--- guarded picture
-pub record IsGuarded (bytes : List ℕ) (row : OpenRow) : Type 0 where
-  pub hidden : row.content ≡ None
+-- What is shown of an element's content is made of first bytes of it, so many at most. Nothing is
+-- shown of another row's.
+abbrev pub IsSeen : Kind → Shown → (Tag → ℕ) → List ℕ → Type 0
+IsSeen (Element tag) shown most content =
+    (part : List ℕ) × IsFirst (most tag) content part × IsShown (length content) part shown
+IsSeen _ shown most content = shown ≡ Nothing
+
+-- the bytes that a row has of its content, beside what is shown of it
+abbrev pub content_bytes : OpenRow → List ℕ
+content_bytes row = unwrap_or (option_map (λ content. content.now) row.content) []
+
+-- The row, which the bytes that are left begin with, has no byte of its content but those that may
+-- be seen. With all contents it has those that have no other row too.
+pub record IsOpen (old : Undrawn) (row : OpenRow) : Type 0 where
+  pub hidden : old.all ≡ false → row.content ≡ None
+  pub whole : old.all ≡ true → content_bytes row ≡ own_content_of row old.left
   pub shown :
-      IsSeen row.kind row.shown (λ tag. seen_len tag row.field row.len) (content_of row bytes)
+      IsSeen row.kind row.shown
+      (λ tag. open_len old.guarded tag row.field (content_of row old.left))
+      (content_of row old.left)
 
 -- the row is of the next bytes, and these are left after it
 pub record IsNext (old : Undrawn) (row : OpenRow) (new : Undrawn) : Type 0 where
@@ -48,6 +63,7 @@ pub record IsNext (old : Undrawn) (row : OpenRow) (new : Undrawn) : Type 0 where
   pub bytes : BeginsWith old.left row
   pub left : new.left ≡ drop (row_len row) old.left
   pub offset : new.offset ≡ old.offset + row_len row
+  pub all : new.all ≡ old.all
   pub guarded : new.guarded ≡ old.guarded
 
 -- these are the next rows, one after the other, and what has no row yet after them

@@ -1,13 +1,16 @@
 -- What is seen of a content.
-use Rattle.std.specs.Prelude.{◌≡◌, ℕ, ◌≤◌, List, length, take, Option, Some}
-use Rattle.std.specs.Prelude.{◌==◌, if◌then◌else◌}
+use Rattle.std.specs.Prelude.{◌≡◌, ℕ, ◌-◌, ◌/◌, ◌%◌, ◌≤◌, nat_le, Bool, ◌||◌, ◌&&◌, List, [], ◌∷◌}
+use Rattle.std.specs.Prelude.{length, take, Option, Some, ◌==◌, if◌then◌else◌}
+use Rattle.der_types.specs.Strings.{is_visible}
 use Rattle.der_view.specs.declared.field.Field.{Field}
 use Rattle.der_view.specs.declared.field.Field.TheVariants as fields
 use Rattle.der_view.specs.declared.header.Class.{Class}
-use Rattle.der_view.specs.declared.header.Class.TheVariants.{Universal}
+use Rattle.der_view.specs.declared.header.Class.TheVariants.{Context, Universal}
 use Rattle.der_view.specs.declared.header.Tag.{Tag}
+use Rattle.der_view.specs.declared.row.Point.{Point}
+use Rattle.der_view.specs.declared.row.Point.TheVariants as points
 use Rattle.der_view.specs.declared.row.Shown.{Shown}
-use Rattle.der_view.specs.declared.row.Shown.TheVariants.{Value}
+use Rattle.der_view.specs.declared.row.Shown.TheVariants as shows
 
 -- the number of unused bits of a BIT STRING, and the first byte of a point behind it
 abbrev pub seen_of_bits : Option Field → ℕ
@@ -33,12 +36,63 @@ seen_of_class _ number field len = 0
 abbrev pub seen_len : Tag → Option Field → ℕ → ℕ
 seen_len tag field len = seen_of_class tag.class tag.number field len
 
+-- the types of X.680 whose contents are seen at any length: BOOLEAN, NULL, OBJECT IDENTIFIER,
+-- UTF8String, the other strings of characters and the times
+abbrev pub is_seen_type : ℕ → Bool
+is_seen_type number =
+    number == 1 || number == 5 || number == 6 || number == 12
+    || (nat_le 18 number && nat_le number 28)
+    || number == 30
+
+-- an INTEGER and an ENUMERATED of at most 8 bytes, and a BIT STRING of at most 4, the number of its
+-- unused bits among them, of which else the first two are seen
+abbrev pub public_of_universal : ℕ → ℕ → ℕ
+public_of_universal number len =
+    if number == 2 || number == 10 then (if nat_le len 8 then len else 0)
+    else (if number == 3 then (if nat_le len 4 then len else 2)
+    else (if is_seen_type number then len else 0))
+
+-- a field whose bytes are characters that print
+abbrev pub public_of_class : Class → ℕ → List ℕ → ℕ
+public_of_class Universal number content = public_of_universal number (length content)
+public_of_class Context number content = if is_visible content then length content else 0
+public_of_class _ number content = 0
+
+-- the number of first bytes of a content that are seen in a picture that isn't guarded: none of an
+-- OCTET STRING, nor of a longer INTEGER
+abbrev pub public_len : Tag → List ℕ → ℕ
+public_len tag content = public_of_class tag.class tag.number content
+
+-- the number of first bytes of a content that may be seen
+abbrev pub open_len : Bool → Tag → Option Field → List ℕ → ℕ
+open_len guarded tag field content =
+    if guarded then seen_len tag field (length content) else public_len tag content
+
 -- the second bytes are first ones of the first bytes, so many at most
 pub record IsFirst (most : ℕ) (bytes part : List ℕ) : Type 0 where
   pub first : part ≡ take (length part) bytes
   pub few : length part ≤ most
 
--- what is shown of a content has no other bytes than these
-abbrev pub IsShown : List ℕ → Shown → Type 0
-IsShown seen (Value bytes) = bytes.now ≡ seen
-IsShown seen _ = Unit {0}
+-- SEC1 v2.0 section 2.3.3, and of hybrid forms ANSI X9.62: the form of a point of so many bytes, of
+-- which the first is this
+abbrev pub point_of_form : ℕ → ℕ → Point
+point_of_form form len =
+    if form == 0 && len == 1 then points.Infinity
+    else (if nat_le len 1 then points.None
+    else (if form == 2 || form == 3 then points.Compressed (len - 1)
+    else (if form == 4 && (len - 1) % 2 == 0 then points.Uncompressed ((len - 1) / 2)
+    else (if form == 5 then points.Compact (len - 1)
+    else (if (form == 6 || form == 7) && (len - 1) % 2 == 0 then points.Hybrid ((len - 1) / 2)
+    else points.None)))))
+
+-- the form of the point in a BIT STRING of this length that begins with these two bytes
+abbrev pub point_by : ℕ → List ℕ → Point
+point_by len (unused ∷ form ∷ []) = point_of_form form (len - 1)
+point_by len _ = points.None
+
+-- what is shown of a content of this length is made of these first bytes of it alone
+abbrev pub IsShown : ℕ → List ℕ → Shown → Type 0
+IsShown len seen (shows.Value bytes) = bytes.now ≡ seen
+IsShown len seen (shows.Unused unused) = take 1 seen ≡ unused ∷ []
+IsShown len seen (shows.Point point) = point ≡ point_by len seen
+IsShown len seen _ = Unit {0}

@@ -1,14 +1,23 @@
 -- What is shown of the content of a primitive element.
-use Rattle.std.specs.Prelude.{◌==◌, ◌<◌, ℕ, ◌+◌, ◌-◌, ◌*◌, ◌/◌, ◌%◌, ◌^◌, nat_lt}
-use Rattle.std.specs.Prelude.{if◌then◌else◌, List, [], ◌∷◌, ◌++◌, length}
-use Rattle.std.specs.Prelude.{codes, slice_index, ◌≡◌, drop, Option, Some, None}
+use Rattle.std.specs.Prelude.{◌==◌, ℕ, zero, suc, ◌+◌, ◌-◌, ◌*◌, ◌/◌, ◌%◌, ◌^◌, nat_lt}
+use Rattle.std.specs.Prelude.{if◌then◌else◌, List, [], ◌∷◌, ◌++◌, length, Bool, ◌&&◌, ◌||◌}
+use Rattle.std.specs.Prelude.{codes, slice_index, take, drop, Option, Some, None, option_map}
+use Rattle.std.specs.Prelude.{take_while}
 use Rattle.std.specs.Fmt.{decimal, signed_decimal}
-use Rattle.sec1_der.specs.ArcsOf.{numbers_after}
+use Rattle.std.specs.List.{list_all}
+use Rattle.sec1_der.specs.ArcsOf.{arcs_of, numbers_after}
+use Rattle.sec1_der.specs.Identifiers.{dotted}
 use Rattle.der_types.specs.Integers.{signed_number}
+use Rattle.der_types.specs.ObjectIdentifiers.{is_object_identifier}
+use Rattle.der_types.specs.Strings.{is_visible}
+use Rattle.der_types.specs.Times.{is_generalized_time, is_utc_time}
+use Rattle.der_view.specs.Characters.{codes_of, escaped_all, string_codes}
+use Rattle.der_view.specs.Names.{NameView, name_by, name_view}
 use Rattle.der_view.specs.declared.header.Class.{Class}
 use Rattle.der_view.specs.declared.header.Class.TheVariants as classes
 use Rattle.der_view.specs.declared.header.Tag.{Tag}
-use Rattle.der_view.specs.declared.values.characters.Characters.{Characters}
+use Rattle.der_view.specs.declared.values.Value.{Value}
+use Rattle.der_view.specs.declared.values.Value.TheVariants as values
 use Rattle.der_view.specs.declared.values.arcs.Arcs.{Arcs}
 
 -- X.680 section 8.4, table 1: the type with this tag number
@@ -102,23 +111,37 @@ integer_text (first ∷ bytes) =
 abbrev pub bit_digit : List ℕ → ℕ → ℕ
 bit_digit bytes place = 0x30 + slice_index bytes (place / 8) / 2 ^ (7 - place % 8) % 2
 
--- the digits are those of the first bits
-abbrev pub AreBits : List ℕ → List ℕ → Type 0
-AreBits bytes digits =
-    (place : ℕ) → place < length digits → slice_index digits place ≡ bit_digit bytes place
+-- the digits of the first bits, so many of them
+abbrev pub bits_text : List ℕ → ℕ → List ℕ
+bits_text bytes zero = []
+bits_text bytes (suc count) = bits_text bytes count ++ bit_digit bytes count ∷ []
 
--- X.690 section 8.6.2.2: the digits are those of all bits, without the unused ones
-pub record AreBitsOf (content digits : List ℕ) : Type 0 where
-  pub count : length digits ≡ 8 * (length content - 1) - slice_index content 0
-  pub bits : AreBits (drop 1 content) digits
+-- X.690 section 8.6.2: the bits without the unused ones, of one to three bytes
+abbrev pub bit_string_text : List ℕ → Option (List ℕ)
+bit_string_text [] = None
+bit_string_text (unused ∷ bytes) =
+    if nat_lt unused 8 && (nat_lt 0 (length bytes) && nat_lt (length bytes) 4)
+    then Some (bits_text bytes (8 * length bytes - unused)) else None
+
+-- an arc as `Arcs` has it: below 2^128
+abbrev pub is_u128 : ℕ → Bool
+is_u128 arc = nat_lt arc (2 ^ 128)
+
+-- X.690 section 8.19.2: the subidentifiers in these bytes before one that isn't below 2^128; `high`
+-- is the number in the digits of the first one that were read before
+abbrev pub numbers_below : ℕ → List ℕ → List ℕ
+numbers_below high bytes = take_while is_u128 (numbers_after high bytes)
 
 -- X.690 section 8.19.4: the arcs of an identifier
 abbrev pub arcs_view : Arcs → List ℕ
-arcs_view arcs = arcs.first ∷ arcs.second ∷ numbers_after 0 arcs.further.now
+arcs_view arcs = arcs.first ∷ arcs.second ∷ numbers_below 0 arcs.further.now
 
--- the bytes of the characters that are left
-abbrev pub characters_left : Characters → List ℕ
-characters_left characters = characters.bytes.now
+-- X.690 section 8.19: the arcs of the identifier with this content, if each of its subidentifiers is
+-- below 2^128
+abbrev pub arcs_by : List ℕ → Option (List ℕ)
+arcs_by content =
+    if is_object_identifier content && list_all is_u128 (numbers_after 0 content)
+    then Some (arcs_of content) else None
 
 -- the years of a UTCTime before their last two digits (RFC 5280 section 4.1.2.5.1): 50 to 99 are
 -- in the twentieth century
@@ -134,3 +157,104 @@ time_text century digits =
     ∷ 0x20 ∷ slice_index digits 6 ∷ slice_index digits 7
     ∷ 0x3A ∷ slice_index digits 8 ∷ slice_index digits 9
     ∷ 0x3A ∷ slice_index digits 10 ∷ slice_index digits 11 ∷ []
+
+-- what is shown of a content
+pub data ValueView : Type 0 where
+  Nothing : ValueView
+  Count : ℕ → ValueView
+  Bits : ℕ → ℕ → ValueView
+  Text : List ℕ → ValueView
+  Time : List ℕ → List ℕ → ValueView
+  Identifier : Option NameView → List ℕ → ValueView
+  String : List ℕ → ValueView
+
+abbrev pub value_view : Value → ValueView
+value_view values.Nothing = Nothing
+value_view (values.Count count) = Count count
+value_view (values.Bits count unused) = Bits count unused
+value_view (values.Text text) = Text text.bytes
+value_view (values.Time time end) = Time time end.now
+value_view (values.Identifier name arcs) = Identifier (option_map name_view name) (arcs_view arcs)
+value_view (values.String characters) = String (codes_of characters)
+
+-- a text, or else the number of bytes
+abbrev pub text_or_count : Option (List ℕ) → List ℕ → ValueView
+text_or_count (Some text) content = Text text
+text_or_count None content = Count (length content)
+
+-- X.690 section 8.6.2: the bits, or else the number of bytes and of unused bits
+abbrev pub bits_or_count : Option (List ℕ) → List ℕ → ValueView
+bits_or_count (Some text) content = Text text
+bits_or_count None [] = Count 0
+bits_or_count None (unused ∷ bytes) = Bits (length bytes) unused
+
+-- X.690 section 8.19: the name and the arcs
+abbrev pub identifier_or_count : Option (List ℕ) → List ℕ → ValueView
+identifier_or_count (Some arcs) content = Identifier (name_by content) arcs
+identifier_or_count None content = Count (length content)
+
+-- X.690 sections 11.7 and 11.8: a time to the second and what follows it, or the characters of what
+-- is no time in DER
+abbrev pub utc_time_or_text : List ℕ → ValueView
+utc_time_or_text content =
+    if is_utc_time content
+    then Time (time_text (century (slice_index content 0)) (take 12 content)) (drop 12 content)
+    else String content
+
+abbrev pub generalized_time_or_text : List ℕ → ValueView
+generalized_time_or_text content =
+    if is_generalized_time content
+    then Time (time_text (take 2 content) (take 12 (drop 2 content))) (drop 14 content)
+    else String content
+
+-- the characters, or else the number of bytes
+abbrev pub string_or_count : Option (List ℕ) → List ℕ → ValueView
+string_or_count (Some characters) content = String characters
+string_or_count None content = Count (length content)
+
+-- X.690 section 8.8: nothing of a NULL, which has no content
+abbrev pub null_value : List ℕ → ValueView
+null_value content = if length content == 0 then Nothing else Count (length content)
+
+-- what is shown of the content of the type of X.680 with this tag number
+abbrev pub universal_value : ℕ → List ℕ → ValueView
+universal_value number content =
+    if number == 1 then text_or_count (boolean_text content) content
+    else (if number == 2 || number == 10 then text_or_count (integer_text content) content
+    else (if number == 3 then bits_or_count (bit_string_text content) content
+    else (if number == 5 then null_value content
+    else (if number == 6 then identifier_or_count (arcs_by content) content
+    else (if number == 23 then utc_time_or_text content
+    else (if number == 24 then generalized_time_or_text content
+    else string_or_count (string_codes number content) content))))))
+
+-- the characters of a field, if all of them print
+abbrev pub field_value : List ℕ → ValueView
+field_value content = if is_visible content then String content else Count (length content)
+
+abbrev pub class_value : Class → ℕ → List ℕ → ValueView
+class_value classes.Universal number content = universal_value number content
+class_value _ number content = field_value content
+
+-- what is shown of the content of a primitive element with this tag
+abbrev pub value_by : Tag → List ℕ → ValueView
+value_by tag content = class_value tag.class tag.number content
+
+-- the unused bits of a BIT STRING, if there are some
+abbrev pub some_unused : ℕ → List ℕ
+some_unused unused = if unused == 0 then [] else unused_text unused
+
+-- an identifier, behind its name if it has one
+abbrev pub identifier_text : Option NameView → List ℕ → List ℕ
+identifier_text None arcs = dotted arcs
+identifier_text (Some name) arcs = name.name ++ (codes " (" ++ (dotted arcs ++ codes ")"))
+
+-- what is shown of a content, behind the name of its type
+abbrev pub value_text : ValueView → List ℕ
+value_text Nothing = []
+value_text (Count count) = count_text count
+value_text (Bits count unused) = count_text count ++ some_unused unused
+value_text (Text text) = codes " " ++ text
+value_text (Time time end) = codes " " ++ (time ++ end)
+value_text (Identifier name arcs) = codes " " ++ identifier_text name arcs
+value_text (String characters) = 0x20 ∷ 0x22 ∷ (escaped_all characters ++ 0x22 ∷ [])

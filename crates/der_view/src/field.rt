@@ -1,4 +1,6 @@
 //! The fields of known structures, by the tags of the elements.
+ghost use Rattle.std.specs.Prelude.{◌≡◌};
+ghost use Rattle.der_view.specs.Fields.{field_name, public_name};
 
 /// What the whole of some bytes is.
 #[derive(Clone, Copy, PartialEq, Eq)]
@@ -192,7 +194,9 @@ pub enum Field {
 
 impl Field {
     /// Returns the name of the field in its standard; empty if it isn't printed.
-    pub fn name(self) -> &'static str {
+    pub fn name(self) -> &'static str
+        ensures { result.now ≡ field_name self }
+    {
         match self {
             Field::EcPrivateKey => "ECPrivateKey",
             Field::Version => "version",
@@ -228,7 +232,9 @@ impl Field {
     }
 
     /// Returns the name of a field of a structure without a private key.
-    fn public_name(self) -> &'static str {
+    fn public_name(self) -> &'static str
+        ensures { result.now ≡ public_name self }
+    {
         match self {
             Field::Certificate => "Certificate",
             Field::TbsCertificate => "tbsCertificate",

@@ -1,5 +1,7 @@
 //! The header of an element in BER (X.690 section 8.1).
-ghost use Rattle.std.specs.Prelude.{◌<◌, ◌≤◌, length, IfOk};
+ghost use Rattle.std.specs.Prelude.{◌≡◌, ◌<◌, ◌≤◌, ◌+◌, ◌*◌, ◌%◌, ◌∷◌, [], length, IfOk};
+ghost use Rattle.sec1_der.specs.Numbers.{number_of};
+ghost use Rattle.der_view.specs.Headers.{class_of, header_of, length_at, number_after, tag_at};
 
 use crate::mark::ElementFault;
 
@@ -55,7 +57,8 @@ impl Header {
     ///
     /// What is wrong with the first bytes, if they are no header.
     pub fn read(bytes: &[u8]) -> Result<Header, ElementFault>
-        ensures { IfOk result
+        ensures exact { result ≡ header_of bytes.now }
+        ensures bounds { IfOk result
             (λ h. (0 < h.tag_len) × (h.tag_len < h.len) × (h.len ≤ length bytes.now)) }
     {
         let (tag, tag_len) = tag_at(bytes)?;
@@ -74,9 +77,10 @@ impl Header {
 
 /// Returns the tag at the beginning of the bytes, and the number of its bytes.
 fn tag_at(bytes: &[u8]) -> Result<(Tag, usize), ElementFault>
-    ensures { IfOk result (λ x. (0 < x.1) × (x.1 ≤ length bytes.now)) }
+    ensures exact { result ≡ tag_at bytes.now }
+    ensures bounds { IfOk result (λ x. (0 < x.1) × (x.1 ≤ length bytes.now)) }
 {
-    let Some(first) = bytes.first() else {
+    let [first, behind @ ..] = bytes else {
         return Err(ElementFault::TagCut);
     };
     let first = *first;
@@ -85,20 +89,22 @@ fn tag_at(bytes: &[u8]) -> Result<(Tag, usize), ElementFault>
     }
     let low = first % 0x20;
     let (number, len) = if low < 0x1F {
-        (low as u32, 1)
+        (low as u32, 0)
     } else {
-        high_number(bytes)?
+        high_number(behind)?
     };
     let tag = Tag {
         class: class_of(first),
-        constructed: first & 0x20 != 0,
+        constructed: first / 0x20 % 2 == 1,
         number,
     };
-    Ok((tag, len))
+    Ok((tag, len + 1))
 }
 
 /// Returns the class of a tag that begins with this byte.
-fn class_of(first: u8) -> Class {
+fn class_of(first: u8) -> Class
+    ensures { result ≡ class_of first }
+{
     match first / 0x40 {
         0 => Class::Universal,
         1 => Class::Application,
@@ -107,33 +113,35 @@ fn class_of(first: u8) -> Class {
     }
 }
 
-/// Returns the number of a tag in the high form (X.690 section 8.1.2.4), which these bytes begin
-/// with, and the number of the tag's bytes.
+/// Returns the number of a tag in the high form (X.690 section 8.1.2.4), which these bytes behind
+/// its first one begin with, and the number of its bytes.
 fn high_number(bytes: &[u8]) -> Result<(u32, usize), ElementFault>
-    ensures { IfOk result (λ x. (0 < x.1) × (x.1 ≤ length bytes.now)) }
+    ensures exact { result ≡ number_after 4 0 bytes.now }
+    ensures bounds { IfOk result (λ x. x.1 ≤ length bytes.now) }
 {
     match bytes {
-        [_, a, ..] if *a < 0x80 => Ok((joined(0, *a), 2)),
-        [_, a, b, ..] if *b < 0x80 => Ok((joined(joined(0, *a), *b), 3)),
-        [_, a, b, c, ..] if *c < 0x80 => Ok((joined(joined(joined(0, *a), *b), *c), 4)),
-        [_, a, b, c, d, ..] if *d < 0x80 => Ok((
-            joined(joined(joined(joined(0, *a), *b), *c), *d),
-            5,
-        )),
-        [_, _, _, _, _, ..] => Err(ElementFault::TagTooLarge),
+        [a, ..] if *a < 0x80 => Ok((joined(0, *a), 1)),
+        [a, b, ..] if *b < 0x80 => Ok((joined(joined(0, *a), *b), 2)),
+        [a, b, c, ..] if *c < 0x80 => Ok((joined(joined(joined(0, *a), *b), *c), 3)),
+        [a, b, c, d, ..] if *d < 0x80 => Ok((joined(joined(joined(joined(0, *a), *b), *c), *d), 4)),
+        [_, _, _, _, ..] => Err(ElementFault::TagTooLarge),
         _ => Err(ElementFault::TagCut),
     }
 }
 
 /// Returns the number with one more digit of seven bits, the low ones of this byte.
-fn joined(number: u32, byte: u8) -> u32 {
-    number % 0x20_0000 * 0x80 + (byte % 0x80) as u32
+fn joined(number: u32, byte: u8) -> u32
+    requires { number < 0x200000 }
+    ensures { result ≡ number * 0x80 + byte % 0x80 }
+{
+    number * 0x80 + (byte % 0x80) as u32
 }
 
 /// Returns the length at the beginning of the bytes, `None` if it is indefinite, and the number of
 /// its bytes (X.690 section 8.1.3).
 fn length_at(bytes: &[u8]) -> Result<(Option<usize>, usize), ElementFault>
-    ensures { IfOk result (λ x. (0 < x.1) × (x.1 ≤ length bytes.now)) }
+    ensures exact { result ≡ length_at bytes.now }
+    ensures bounds { IfOk result (λ x. (0 < x.1) × (x.1 ≤ length bytes.now)) }
 {
     match bytes {
         [] => Err(ElementFault::LengthCut),
@@ -157,7 +165,9 @@ fn length_at(bytes: &[u8]) -> Result<(Option<usize>, usize), ElementFault>
 }
 
 /// Returns the number of these three digits of eight bits.
-fn number(a: u8, b: u8, c: u8) -> usize {
+fn number(a: u8, b: u8, c: u8) -> usize
+    ensures { result ≡ number_of (a ∷ b ∷ c ∷ []) }
+{
     (a as usize * 0x100 + b as usize) * 0x100 + c as usize
 }
 

@@ -1,9 +1,9 @@
 //! A line of a picture, in memory of a fixed size.
 ghost use Rattle.std.specs.Prelude.{◌≡◌, ◌↔◌, ◌≤◌, ◌+◌, ◌-◌, ℕ, List, [], ◌∷◌, ◌++◌, IsTrue};
-ghost use Rattle.std.specs.Prelude.{length, ◌<◌, replicate, slice_index};
-ghost use Rattle.std.specs.Fmt.{decimal};
+ghost use Rattle.std.specs.Prelude.{length, ◌<◌, replicate, true};
+ghost use Rattle.std.specs.Fmt.{decimal, digit_glyph};
 ghost use Rattle.der_view.specs.Lines.{kept, shown};
-ghost use Rattle.hex.specs.Hex.{encode_upper, upper_digits};
+ghost use Rattle.hex.specs.Hex.{encode_upper};
 
 use arrayvec::ArrayVec;
 use itoa::Buffer;
@@ -50,7 +50,8 @@ impl Line {
     /// Returns the number of characters that are kept, which is above [`MAX_WIDTH`] for a text that
     /// is longer.
     pub fn len(&self) -> usize
-        ensures { result ≡ length self.now }
+        ensures value { result ≡ length self.now }
+        ensures most { result ≤ 101 }
     {
         self.text.len()
     }
@@ -117,9 +118,13 @@ impl Line {
     /// Appends a hexadecimal digit.
     pub(crate) fn push_digit(&mut self, digit: u8)
         requires { digit < 16 }
-        ensures { self.new ≡ kept (self.old ++ slice_index upper_digits digit ∷ []) }
+        ensures { self.new ≡ kept (self.old ++ digit_glyph true digit ∷ []) }
     {
-        self.push_byte(DIGITS[usize::from(digit)]);
+        self.push_byte(if digit < 10 {
+            b'0' + digit
+        } else {
+            b'A' + (digit - 10)
+        });
     }
 
     /// Appends as many spaces.

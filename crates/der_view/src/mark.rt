@@ -1,4 +1,8 @@
 //! What is marked below a row: a rule of X.690 that is broken there, or what a key has there.
+ghost use Rattle.std.specs.Prelude.{◌≡◌, Some, option_map};
+ghost use Rattle.std.specs.Fmt.{WritesOnOk};
+ghost use Rattle.der_view.specs.Marks.{bytes_word, content_words, element_words, mark_kind};
+ghost use Rattle.der_view.specs.Marks.{mark_part, mark_words, part_name, part_words};
 
 use std::fmt;
 
@@ -124,7 +128,9 @@ pub enum Mark {
 
 impl Mark {
     /// Returns the kind of the mark.
-    pub fn kind(self) -> &'static str {
+    pub fn kind(self) -> &'static str
+        ensures { result.now ≡ mark_kind self }
+    {
         match self {
             Mark::Missing { .. } => "missing",
             Mark::Overlong { .. } => "overlong",
@@ -141,24 +147,35 @@ impl Mark {
     }
 
     /// Returns the part of a key that is expected, of such a mark.
-    pub fn part(self) -> Option<&'static str> {
-        let Mark::Expected(part) = self else {
-            return None;
-        };
-        Some(match part {
-            Part::Key => "key",
-            Part::Version => "version",
-            Part::PrivateKey => "privateKey",
-            Part::Parameters => "parameters",
-            Part::PublicKey => "publicKey",
-            Part::Fields { .. } => "fields",
-            Part::End => "end",
-        })
+    pub fn part(self) -> Option<&'static str>
+        ensures { option_map (λ name. name.now) result ≡ mark_part self }
+    {
+        match self {
+            Mark::Expected(part) => Some(part_name(part)),
+            _ => None,
+        }
+    }
+}
+
+/// Returns the name of a part of a key.
+fn part_name(part: Part) -> &'static str
+    ensures { result.now ≡ part_name part }
+{
+    match part {
+        Part::Key => "key",
+        Part::Version => "version",
+        Part::PrivateKey => "privateKey",
+        Part::Parameters => "parameters",
+        Part::PublicKey => "publicKey",
+        Part::Fields { .. } => "fields",
+        Part::End => "end",
     }
 }
 
 /// Prints the words of the mark.
 impl fmt::Display for Mark {
+    ghost output = { λ mark. Some (mark_words mark) };
+
     fn fmt<W: fmt::Write>(&self, f: &mut fmt::Formatter<W>) -> fmt::Result {
         match *self {
             Mark::Missing { missing, announced } => {
@@ -195,12 +212,16 @@ impl fmt::Display for Mark {
 }
 
 /// Returns the word for as many bytes.
-fn bytes_word(count: usize) -> &'static str {
+fn bytes_word(count: usize) -> &'static str
+    ensures { result.now ≡ bytes_word count }
+{
     if count == 1 { "byte" } else { "bytes" }
 }
 
 /// Writes what is wrong with a content.
-fn write_content<W: fmt::Write>(f: &mut fmt::Formatter<W>, fault: ContentFault) -> fmt::Result {
+fn write_content<W: fmt::Write>(f: &mut fmt::Formatter<W>, fault: ContentFault) -> fmt::Result
+    ensures { WritesOnOk W.write_str_gives f.old result (content_words fault) f.new }
+{
     f.write_str(match fault {
         ContentFault::TrueIsFf => "TRUE is FF (X.690 11.1)",
         ContentFault::BooleanLength => "BOOLEAN has 1 byte (X.690 8.2.1)",
@@ -219,7 +240,9 @@ fn write_content<W: fmt::Write>(f: &mut fmt::Formatter<W>, fault: ContentFault) 
 }
 
 /// Writes why no element is there.
-fn write_element<W: fmt::Write>(f: &mut fmt::Formatter<W>, fault: ElementFault) -> fmt::Result {
+fn write_element<W: fmt::Write>(f: &mut fmt::Formatter<W>, fault: ElementFault) -> fmt::Result
+    ensures { WritesOnOk W.write_str_gives f.old result (element_words fault) f.new }
+{
     f.write_str(match fault {
         ElementFault::ReservedTag(tag) => return write!(f, "tag {tag:02X} (X.690 8.1.5)"),
         ElementFault::TagCut => "the tag is cut off",
@@ -238,7 +261,9 @@ fn write_element<W: fmt::Write>(f: &mut fmt::Formatter<W>, fault: ElementFault) 
 }
 
 /// Returns what a key has, in the words of RFC 5915 section 3.
-fn part_words(part: Part) -> &'static str {
+fn part_words(part: Part) -> &'static str
+    ensures { result.now ≡ part_words part }
+{
     match part {
         Part::Key => "ECPrivateKey, a SEQUENCE (30)",
         Part::Version => "version, INTEGER { ecPrivkeyVer1(1) } (02 01 01)",

@@ -1,8 +1,6 @@
 //! The names of object identifiers.
-ghost use Rattle.std.specs.Prelude.{◌≡◌, Some, None, find, option_map};
-ghost use Rattle.curves.specs.Curves.{curve_content};
-ghost use Rattle.curves.specs.declared.curve.Curve.{Curve};
-ghost use Rattle.der_view.specs.Names.{NameView, curve_name_view, has_row, is_extension, name_view};
+ghost use Rattle.std.specs.Prelude.{◌≡◌, find, option_map};
+ghost use Rattle.der_view.specs.Names.{curve_name_view, has_row, is_extension, name_by, name_view};
 ghost use Rattle.der_view.specs.Names.{named_in, row_by};
 
 mod family;
@@ -25,12 +23,7 @@ pub struct Name {
 /// Returns the name of the identifier with this content: that of the table, or else that of the
 /// curve; `None` if there is neither.
 pub fn name_of(content: &[u8]) -> Option<Name>
-    ensures table { (name : NameView) → row_by content.now ≡ Some name
-        → option_map name_view result ≡ Some name }
-    ensures curve { (curve : Curve) → row_by content.now ≡ None → curve_content curve ≡ content.now
-        → option_map name_view result ≡ Some (curve_name_view curve) }
-    ensures none { row_by content.now ≡ None
-        → ((curve : Curve) → ¬ curve_content curve ≡ content.now) → result ≡ None }
+    ensures { option_map name_view result ≡ name_by content.now }
 {
     match row_of(content) {
         Some(name) => Some(name),

@@ -1,7 +1,8 @@
 //! The next row.
-ghost use Rattle.std.specs.Prelude.{◌≡◌, ◌<◌, ◌≤◌, length, take, true, false};
-ghost use Rattle.der_view.specs.Rows.{BeginsWith, IsGuarded};
-ghost use Rattle.der_view.specs.Seen.{IsFirst, IsShown, seen_len};
+ghost use Rattle.std.specs.Prelude.{◌≡◌, ◌<◌, ◌≤◌, length, take, false, true, None};
+ghost use Rattle.der_view.specs.Places.{undrawn_at};
+ghost use Rattle.der_view.specs.Rows.{BeginsWith, IsOpen, content_bytes};
+ghost use Rattle.der_view.specs.Seen.{IsFirst, IsShown, open_len};
 
 use crate::field::{Field, inner_field};
 use crate::header::{Class, Header, Tag};
@@ -62,8 +63,7 @@ impl<'a> Place<'a> {
     pub(crate) fn step(self, level: Option<Level>) -> Step<'a>
         requires { 0 < length self.left.now }
         ensures bytes { BeginsWith self.entry.left.now result.row }
-        ensures guarded { self.entry.plan.guarded ≡ true
-            → IsGuarded self.entry.left.now result.row }
+        ensures open { IsOpen (undrawn_at self.entry) result.row }
         ensures at { result.row.offset ≡ self.entry.offset }
     {
         let is_over = !self.all
@@ -79,8 +79,7 @@ impl<'a> Place<'a> {
     fn rest(self) -> Step<'a>
         requires { 0 < length self.left.now }
         ensures bytes { BeginsWith self.entry.left.now result.row }
-        ensures guarded { self.entry.plan.guarded ≡ true
-            → IsGuarded self.entry.left.now result.row }
+        ensures open { IsOpen (undrawn_at self.entry) result.row }
         ensures at { result.row.offset ≡ self.entry.offset }
     {
         let marks = Marks::NONE.with(self.expected()).with(Some(Mark::Rest {
@@ -100,8 +99,7 @@ impl<'a> Place<'a> {
     fn next_in(self, level: Level) -> Step<'a>
         requires { level.behind < length self.left.now }
         ensures bytes { BeginsWith self.entry.left.now result.row }
-        ensures guarded { self.entry.plan.guarded ≡ true
-            → IsGuarded self.entry.left.now result.row }
+        ensures open { IsOpen (undrawn_at self.entry) result.row }
         ensures at { result.row.offset ≡ self.entry.offset }
     {
         let inside = &self.left[..self.left.len() - level.behind];
@@ -132,8 +130,11 @@ impl<'a> Place<'a> {
     fn row(self, kind: Kind, header: &'a [u8], content: &'a [u8], marks: Marks) -> OpenRow<'a>
         ensures at { result.offset ≡ self.entry.offset }
         ensures header { result.header.now ≡ header.now }
-        ensures content { result.own_len ≡ length content.now }
-        ensures hidden { self.entry.plan.guarded ≡ true → result.content ≡ None }
+        ensures own { result.own_len ≡ length content.now }
+        ensures len { result.len ≡ length content.now }
+        ensures kind { result.kind ≡ kind }
+        ensures hidden { self.entry.all ≡ false → result.content ≡ None }
+        ensures whole { self.entry.all ≡ true → content_bytes result ≡ content.now }
         ensures shown { result.shown ≡ Shown.Nothing }
     {
         OpenRow {
@@ -149,19 +150,8 @@ impl<'a> Place<'a> {
             secret: false,
             marks,
             shown: Shown::Nothing,
-            content: if self.shows_all() {
-                Some(content)
-            } else {
-                None
-            },
+            content: if self.all { Some(content) } else { None },
         }
-    }
-
-    /// Returns `true` if all contents are shown.
-    fn shows_all(&self) -> bool
-        ensures { self.now.plan.guarded ≡ true → result ≡ false }
-    {
-        self.all && !self.plan.guarded
     }
 
     /// Returns the mark of what a key has at this place, if the bytes are others.
@@ -180,8 +170,7 @@ impl<'a> Place<'a> {
         requires inside { inside.now ≡ take (length inside.now) self.left.now }
         requires fits { length inside.now ≤ length self.left.now }
         ensures bytes { BeginsWith self.entry.left.now result.row }
-        ensures guarded { self.entry.plan.guarded ≡ true
-            → IsGuarded self.entry.left.now result.row }
+        ensures open { IsOpen (undrawn_at self.entry) result.row }
         ensures at { result.row.offset ≡ self.entry.offset }
     {
         let behind = &inside[head.len..];
@@ -209,7 +198,7 @@ impl<'a> Place<'a> {
         };
         let row = self.element_row(&element, depth, opened.is_some(), own_len);
         Step {
-            row: if self.shows_all() {
+            row: if self.all {
                 row.with(&content[..own_len])
             } else {
                 row
@@ -242,8 +231,8 @@ impl<'a> Place<'a> {
 
     /// Returns the part of an element's content that is seen: none if the content is cut.
     fn seen(&self, tag: Tag, field: Option<Field>, cut: Option<Mark>, content: &'a [u8]) -> &'a [u8]
-        ensures { self.now.plan.guarded ≡ true
-            → IsFirst (seen_len tag field (length content.now)) content.now result.now }
+        ensures { IsFirst (open_len self.now.plan.guarded tag field content.now) content.now
+            result.now }
     {
         // A guarded root that isn't of a known form is a leaf of any tag.
         if cut.is_some() || (self.plan.guarded && self.depth == 0 && field.is_none()) {
@@ -308,7 +297,7 @@ impl<'a> Place<'a> {
         ensures header { result.header.now ≡ element.now.header.now }
         ensures own { result.own_len ≡ own_len }
         ensures hidden { result.content ≡ None }
-        ensures shown { IsShown element.now.seen.now result.shown }
+        ensures shown { IsShown element.now.len element.now.seen.now result.shown }
         ensures kind { result.kind ≡ Kind.Element element.now.head.tag }
         ensures field { result.field ≡ element.now.field }
         ensures len { result.len ≡ element.now.len }

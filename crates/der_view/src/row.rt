@@ -1,10 +1,12 @@
 //! What is seen of a row.
 ghost use Rattle.std.specs.Prelude.{◌≡◌, length};
-ghost use Rattle.der_view.specs.Seen.{IsFirst, IsShown, seen_len};
+ghost use Rattle.der_view.specs.Rows.{content_bytes};
+ghost use Rattle.der_view.specs.Seen.{IsFirst, IsShown, point_by, public_len, seen_len};
 
 use crate::field::Field;
 use crate::header::{Class, Header, Tag, length_len};
 use crate::mark::{Mark, Marks};
+use der_types::kind::{Kind as _, VisibleString};
 
 /// What a row is of.
 #[derive(Clone, Copy)]
@@ -91,6 +93,11 @@ impl<'a> OpenRow<'a> {
         ensures at { result.offset ≡ self.entry.offset }
         ensures header { result.header.now ≡ self.entry.header.now }
         ensures own { result.own_len ≡ self.entry.own_len }
+        ensures len { result.len ≡ self.entry.len }
+        ensures kind { result.kind ≡ self.entry.kind }
+        ensures field { result.field ≡ self.entry.field }
+        ensures shown { result.shown ≡ self.entry.shown }
+        ensures content { content_bytes result ≡ content.now }
     {
         OpenRow {
             content: if content.is_empty() {
@@ -155,26 +162,30 @@ pub(crate) fn guarded_part<'a>(tag: Tag, field: Option<Field>, content: &'a [u8]
 
 /// Returns the part of a content that is seen in any other picture: none of an OCTET STRING, nor of
 /// a long INTEGER.
-pub(crate) fn public_part<'a>(tag: Tag, content: &'a [u8]) -> &'a [u8] {
-    let is_text = content.iter().all(|byte| *byte >= 0x20 && *byte < 0x7F);
-    let all = match (tag.class, tag.number) {
-        (Class::Universal, 2 | 10) => content.len() <= 8,
-        (Class::Universal, 3) => content.len() <= 4,
-        (Class::Universal, 1 | 5 | 6 | 12 | 18..=28 | 30) => true,
-        (Class::Context, _) => is_text,
-        _ => false,
-    };
-    let len = match (tag.class, tag.number) {
-        _ if all => content.len(),
-        (Class::Universal, 3) => 2,
+pub(crate) fn public_part<'a>(tag: Tag, content: &'a [u8]) -> &'a [u8]
+    ensures { IsFirst (public_len tag content.now) content.now result.now }
+{
+    &content[..public_len(tag, content).min(content.len())]
+}
+
+/// Returns the number of first bytes of a content of this tag that are seen in a picture that isn't
+/// guarded.
+fn public_len(tag: Tag, content: &[u8]) -> usize
+    ensures { result ≡ public_len tag content.now }
+{
+    let len = content.len();
+    match (tag.class, tag.number) {
+        (Class::Universal, 2 | 10) => if len <= 8 { len } else { 0 },
+        (Class::Universal, 3) => if len <= 4 { len } else { 2 },
+        (Class::Universal, 1 | 5 | 6 | 12 | 18..=28 | 30) => len,
+        (Class::Context, _) if VisibleString::test(content) => len,
         _ => 0,
-    };
-    &content[..len.min(content.len())]
+    }
 }
 
 /// Returns what is shown of a primitive element's content of this length, of which this is seen.
 pub(crate) fn shown_of<'a>(tag: Tag, field: Option<Field>, len: usize, seen: &'a [u8]) -> Shown<'a>
-    ensures { IsShown seen.now result }
+    ensures { IsShown len seen.now result }
 {
     match (tag.class, tag.number, seen) {
         (Class::Universal, 3, [0x00, ..]) if field == Some(Field::Point) => Shown::Point(point_of(
@@ -191,7 +202,9 @@ pub(crate) fn shown_of<'a>(tag: Tag, field: Option<Field>, len: usize, seen: &'a
 }
 
 /// Returns the form of the point in a BIT STRING of this length, which begins with these bytes.
-fn point_of(len: usize, seen: &[u8]) -> Point {
+fn point_of(len: usize, seen: &[u8]) -> Point
+    ensures { result ≡ point_by len seen.now }
+{
     let coordinates = len.saturating_sub(2);
     match seen {
         [_, 0x00] if len == 2 => Point::Infinity,

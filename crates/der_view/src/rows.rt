@@ -1,6 +1,6 @@
 //! The rows of any bytes.
 ghost use Rattle.std.specs.Prelude.{◌≡◌, ◌≤◌, ◌-◌, [], true, false, length, IfSome, MatchOption};
-ghost use Rattle.der_view.specs.Rows.{IsGuarded, IsNext, Undrawn};
+ghost use Rattle.der_view.specs.Rows.{IsNext, IsOpen, Undrawn};
 
 use crate::levels::{Level, Levels};
 use crate::mark::{ElementFault, Mark};
@@ -30,10 +30,12 @@ impl<'a> Model for Rows<'a> {
     ghost view = { λ rows. record {
       offset = rows.len - length rows.left.now;
       left = rows.left.now;
+      all = rows.all;
       guarded = rows.plan.guarded;
     } };
 
-    ghost invariant = { λ rows. length rows.left.now ≤ rows.len };
+    ghost invariant = { λ rows. (length rows.left.now ≤ rows.len)
+        × (rows.all ≡ true → rows.plan.guarded ≡ false) };
 }
 
 impl<'a> Rows<'a> {
@@ -42,6 +44,7 @@ impl<'a> Rows<'a> {
     pub fn new(input: &'a [u8], all: bool) -> Rows<'a>
         ensures left { result.left ≡ input.now }
         ensures offset { result.offset ≡ 0 }
+        ensures all { result.all ≡ all }
         ensures guarded { all ≡ true → result.guarded ≡ false }
     {
         let known = Plan::new(input);
@@ -69,9 +72,8 @@ impl<'a> Rows<'a> {
     pub fn next_row(&mut self) -> Option<OpenRow<'a>>
         ensures next { MatchOption result ((self.old.left ≡ []) × (self.new ≡ self.old))
             (λ row. IsNext self.old row self.new) }
-        // In a guarded picture few bytes of contents are in the row.
-        ensures guarded { IfSome result
-            (λ row. self.old.guarded ≡ true → IsGuarded self.old.left row) }
+        // Without `all`, few bytes of contents are in the row, and in a guarded picture fewer.
+        ensures open { IfSome result (λ row. IsOpen self.old row) }
     {
         if self.left.is_empty() {
             return None;

@@ -1,4 +1,11 @@
 //! What is shown of the content of a primitive element.
+ghost use Rattle.std.specs.Prelude.{◌≡◌, option_map};
+ghost use Rattle.der_view.specs.Values.{bit_string_text, bits_or_count, class_value, field_value};
+ghost use Rattle.der_view.specs.Values.{arcs_by, century, generalized_time_or_text};
+ghost use Rattle.der_view.specs.Values.{identifier_or_count, null_value};
+ghost use Rattle.der_view.specs.Values.{string_or_count, text_or_count, universal_value, value_by};
+ghost use Rattle.der_view.specs.Values.{utc_time_or_text, value_view};
+ghost use Rattle.der_view.specs.Characters.{string_codes};
 
 mod arcs;
 mod characters;
@@ -42,7 +49,9 @@ pub enum Value<'a> {
 }
 
 /// Returns what is shown of the content of a primitive element with this tag.
-pub fn value_of<'a>(tag: Tag, content: &'a [u8]) -> Value<'a> {
+pub fn value_of<'a>(tag: Tag, content: &'a [u8]) -> Value<'a>
+    ensures { value_view result ≡ value_by tag content.now }
+{
     match tag.class {
         Class::Universal => universal_value(tag.number, content),
         _ if VisibleString::test(content) => Value::String(Characters::latin1(content)),
@@ -51,12 +60,14 @@ pub fn value_of<'a>(tag: Tag, content: &'a [u8]) -> Value<'a> {
 }
 
 /// Returns what is shown of the content of a type of X.680.
-fn universal_value<'a>(number: u32, content: &'a [u8]) -> Value<'a> {
+fn universal_value<'a>(number: u32, content: &'a [u8]) -> Value<'a>
+    ensures { value_view result ≡ universal_value number content.now }
+{
     match number {
         1 => text_or_count(short::boolean(content), content),
         2 | 10 => text_or_count(short::integer(content), content),
         3 => bits(content),
-        5 if content.is_empty() => Value::Nothing,
+        5 => null_value(content),
         6 => identifier(content),
         23 => utc_time(content),
         24 => generalized_time(content),
@@ -64,8 +75,22 @@ fn universal_value<'a>(number: u32, content: &'a [u8]) -> Value<'a> {
     }
 }
 
+/// Returns what is shown of a NULL.
+fn null_value<'a>(content: &'a [u8]) -> Value<'a>
+    ensures { value_view result ≡ null_value content.now }
+{
+    if content.is_empty() {
+        Value::Nothing
+    } else {
+        Value::Count(content.len())
+    }
+}
+
 /// Returns the short text, or else the number of bytes.
-fn text_or_count<'a>(text: Option<ShortText>, content: &'a [u8]) -> Value<'a> {
+fn text_or_count<'a>(text: Option<ShortText>, content: &'a [u8]) -> Value<'a>
+    ensures { value_view result
+        ≡ text_or_count (option_map (λ text. text.bytes) text) content.now }
+{
     match text {
         Some(text) => Value::Text(text),
         None => Value::Count(content.len()),
@@ -73,7 +98,9 @@ fn text_or_count<'a>(text: Option<ShortText>, content: &'a [u8]) -> Value<'a> {
 }
 
 /// Returns what is shown of a BIT STRING: its bits, if there are at most 24.
-fn bits<'a>(content: &'a [u8]) -> Value<'a> {
+fn bits<'a>(content: &'a [u8]) -> Value<'a>
+    ensures { value_view result ≡ bits_or_count (bit_string_text content.now) content.now }
+{
     match short::bits(content) {
         Some(text) => Value::Text(text),
         None => match content {
@@ -87,7 +114,9 @@ fn bits<'a>(content: &'a [u8]) -> Value<'a> {
 }
 
 /// Returns what is shown of an OBJECT IDENTIFIER.
-fn identifier<'a>(content: &'a [u8]) -> Value<'a> {
+fn identifier<'a>(content: &'a [u8]) -> Value<'a>
+    ensures { value_view result ≡ identifier_or_count (arcs_by content.now) content.now }
+{
     match Arcs::new(content) {
         Some(arcs) => Value::Identifier(name_of(content), arcs),
         None => Value::Count(content.len()),
@@ -97,16 +126,27 @@ fn identifier<'a>(content: &'a [u8]) -> Value<'a> {
 /// Returns what is shown of a UTCTime, whose years from 50 on are in the twentieth century
 /// (RFC 5280 section 4.1.2.5.1).
 #[tactic(auto, using(der_types::proofs::TimeLaws::utc_digits))]
-fn utc_time<'a>(content: &'a [u8]) -> Value<'a> {
+fn utc_time<'a>(content: &'a [u8]) -> Value<'a>
+    ensures { value_view result ≡ utc_time_or_text content.now }
+{
     if !UtcTime::test(content) {
         return Value::String(Characters::latin1(content));
     }
-    let century = if content[0] < b'5' { b"20" } else { b"19" };
-    Value::Time(short::date_time(century, &content[..12]), &content[12..])
+    let time = short::date_time(century(content[0]), &content[..12]);
+    Value::Time(time, &content[12..])
+}
+
+/// Returns the first two digits of the year that has this digit as its third.
+fn century(digit: u8) -> &'static [u8]
+    ensures { result.now ≡ century digit }
+{
+    if digit < b'5' { b"20" } else { b"19" }
 }
 
 /// Returns what is shown of a GeneralizedTime.
-fn generalized_time<'a>(content: &'a [u8]) -> Value<'a> {
+fn generalized_time<'a>(content: &'a [u8]) -> Value<'a>
+    ensures { value_view result ≡ generalized_time_or_text content.now }
+{
     if !GeneralizedTime::test(content) {
         return Value::String(Characters::latin1(content));
     }
@@ -115,7 +155,10 @@ fn generalized_time<'a>(content: &'a [u8]) -> Value<'a> {
 }
 
 /// Returns what is shown of a string of characters, or of another type.
-fn string_or_count<'a>(number: u32, content: &'a [u8]) -> Value<'a> {
+fn string_or_count<'a>(number: u32, content: &'a [u8]) -> Value<'a>
+    ensures { value_view result
+        ≡ string_or_count (string_codes number content.now) content.now }
+{
     match Characters::of_string(number, content) {
         Some(characters) => Value::String(characters),
         None => Value::Count(content.len()),

@@ -1,8 +1,10 @@
 //! The arcs of an identifier.
-ghost use Rattle.std.specs.Prelude.{◌≡◌, ◌<◌, ◌+◌, ◌∷◌, ℕ, List, IfSome, length, true};
-ghost use Rattle.sec1_der.specs.ArcsOf.{arcs_of, arcs_of_numbers, numbers_after};
-ghost use Rattle.der_types.specs.ObjectIdentifiers.{is_object_identifier};
-ghost use Rattle.der_view.specs.Values.{arcs_view};
+ghost use Rattle.std.specs.Prelude.{◌≡◌, ◌∷◌, ◌<◌, [], Bool, ℕ, List, IfSome, MatchOption};
+ghost use Rattle.std.specs.Prelude.{length, option_map, true};
+ghost use Rattle.std.specs.List.{list_all};
+ghost use Rattle.sec1_der.specs.ArcsOf.{arcs_of_numbers, numbers_after};
+ghost use Rattle.der_types.specs.ObjectIdentifiers.{are_subidentifiers};
+ghost use Rattle.der_view.specs.Values.{arcs_by, arcs_view, is_u128, numbers_below};
 
 use der_types::kind::{Kind, ObjectIdentifier};
 
@@ -22,8 +24,7 @@ impl<'a> Arcs<'a> {
     /// Returns the arcs of the identifier with this content; `None` if it is no identifier's, or a
     /// subidentifier isn't below 2^128.
     pub fn new(content: &'a [u8]) -> Option<Arcs<'a>>
-        ensures { IfSome result (λ arcs. (arcs_view arcs ≡ arcs_of content.now)
-            × (is_object_identifier content.now ≡ true)) }
+        ensures { option_map arcs_view result ≡ arcs_by content.now }
     {
         if !ObjectIdentifier::test(content) || !fit(content) {
             return None;
@@ -39,10 +40,10 @@ impl<'a> Arcs<'a> {
 
     /// Returns the next arc after the first two; `None` after the last one.
     pub fn next_further(&mut self) -> Option<u128>
-        ensures next { IfSome result (λ arc. numbers_after 0 self.old.further.now
-            ≡ arc ∷ numbers_after 0 self.new.further.now) }
-        ensures shorter { IfSome result (λ arc.
-            length self.new.further.now < length self.old.further.now) }
+        ensures { MatchOption result
+            ((numbers_below 0 self.old.further.now ≡ []) × (self.new ≡ self.old))
+            (λ arc. numbers_below 0 self.old.further.now
+            ≡ arc ∷ numbers_below 0 self.new.further.now) }
     {
         let (number, rest) = split_subidentifier(0, self.further)?;
         self.further = rest;
@@ -65,7 +66,10 @@ fn first_arcs(number: u128) -> (u128, u128)
 }
 
 /// Returns `true` if each subidentifier in these bytes is below 2^128.
-fn fit(bytes: &[u8]) -> bool {
+fn fit(bytes: &[u8]) -> bool
+    requires { are_subidentifiers true bytes.now ≡ true }
+    ensures { result ≡ list_all is_u128 (numbers_after 0 bytes.now) }
+{
     let mut rest = bytes;
     while let Some((_, after)) = split_subidentifier(0, rest) {
         rest = after;
@@ -76,9 +80,14 @@ fn fit(bytes: &[u8]) -> bool {
 /// Returns the first subidentifier (X.690 section 8.19.2) and the bytes after it; `high` is the
 /// number in its digits before these. `None` if none ends in these bytes, or it isn't below 2^128.
 fn split_subidentifier(high: u128, bytes: &[u8]) -> Option<(u128, &[u8])>
-    ensures next { IfSome result (λ split. numbers_after high bytes.now
-        ≡ split.0 ∷ numbers_after 0 split.1.now) }
+    ensures next { MatchOption result (numbers_below high bytes.now ≡ [])
+        (λ split. numbers_below high bytes.now ≡ split.0 ∷ numbers_below 0 split.1.now) }
     ensures shorter { IfSome result (λ split. length split.1.now < length bytes.now) }
+    ensures all { IfSome result (λ split. list_all is_u128 (numbers_after high bytes.now)
+        ≡ list_all is_u128 (numbers_after 0 split.1.now)) }
+    ensures valid { IfSome result (λ split. (begins : Bool)
+        → are_subidentifiers begins bytes.now ≡ true
+        → are_subidentifiers true split.1.now ≡ true) }
 {
     let Some((byte, rest)) = bytes.split_first() else {
         return None;

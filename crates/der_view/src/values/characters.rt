@@ -1,6 +1,8 @@
 //! The characters of a string.
-ghost use Rattle.std.specs.Prelude.{◌≡◌, ◌<◌, ◌+◌, ◌*◌, IfSome, length};
-ghost use Rattle.der_view.specs.Values.{characters_left};
+ghost use Rattle.std.specs.Prelude.{◌≡◌, ◌==◌, ◌<◌, ◌+◌, ◌-◌, ◌*◌, [], ◌∷◌, IfSome, MatchOption};
+ghost use Rattle.std.specs.Prelude.{length, option_map};
+ghost use Rattle.der_view.specs.Characters.{are_characters, codes_by, codes_of, encoding_of, is_utf16};
+ghost use Rattle.der_view.specs.Characters.{is_utf32, string_codes, units_of};
 
 use der_types::kind::{Ia5String, Kind, NumericString, PrintableString, Utf8String, VisibleString};
 
@@ -26,7 +28,9 @@ pub struct Characters<'a> {
 
 impl<'a> Characters<'a> {
     /// Returns the characters that the bytes stand for in ISO 8859-1.
-    pub(super) fn latin1(bytes: &'a [u8]) -> Characters<'a> {
+    pub(super) fn latin1(bytes: &'a [u8]) -> Characters<'a>
+        ensures { codes_of result ≡ bytes.now }
+    {
         Characters {
             encoding: Encoding::Latin1,
             bytes,
@@ -35,7 +39,9 @@ impl<'a> Characters<'a> {
 
     /// Returns the characters of the content of a string type of X.680, given by its tag number;
     /// `None` if the type is none, or the bytes aren't characters of it.
-    pub(super) fn of_string(number: u32, bytes: &'a [u8]) -> Option<Characters<'a>> {
+    pub(super) fn of_string(number: u32, bytes: &'a [u8]) -> Option<Characters<'a>>
+        ensures { option_map codes_of result ≡ string_codes number bytes.now }
+    {
         match encoding_of(number) {
             Some(encoding) if are_characters(number, bytes) => Some(Characters { encoding, bytes }),
             _ => None,
@@ -44,8 +50,8 @@ impl<'a> Characters<'a> {
 
     /// Returns the code of the next character (ISO/IEC 10646); `None` after the last one.
     pub fn next_character(&mut self) -> Option<u32>
-        ensures shorter { IfSome result (λ _.
-            length (characters_left self.new) < length (characters_left self.old)) }
+        ensures { MatchOption result ((codes_of self.old ≡ []) × (self.new ≡ self.old))
+            (λ code. codes_of self.old ≡ code ∷ codes_of self.new) }
     {
         let (character, rest) = split_character(self.encoding, self.bytes)?;
         self.bytes = rest;
@@ -55,7 +61,9 @@ impl<'a> Characters<'a> {
 
 /// Returns how the characters of a string type of X.680 are encoded (X.690 section 8.23); `None` if
 /// the type is none.
-fn encoding_of(number: u32) -> Option<Encoding> {
+fn encoding_of(number: u32) -> Option<Encoding>
+    ensures { result ≡ encoding_of number }
+{
     match number {
         12 => Some(Encoding::Utf8),
         18..=22 | 25..=27 => Some(Encoding::Latin1),
@@ -67,23 +75,38 @@ fn encoding_of(number: u32) -> Option<Encoding> {
 
 /// Returns `true` if the bytes are characters of this string type of X.680; of TeletexString,
 /// VideotexString, GraphicString and GeneralString any are.
-pub(super) fn are_characters(number: u32, bytes: &[u8]) -> bool {
+pub(super) fn are_characters(number: u32, bytes: &[u8]) -> bool
+    ensures { result ≡ are_characters number bytes.now }
+{
     match number {
         12 => Utf8String::test(bytes),
         18 => NumericString::test(bytes),
         19 => PrintableString::test(bytes),
         22 => Ia5String::test(bytes),
         26 => VisibleString::test(bytes),
-        28 => are_encoded(Encoding::Utf32, bytes),
-        30 => are_encoded(Encoding::Utf16, bytes),
+        28 => are_utf32(bytes),
+        30 => are_utf16(bytes),
         _ => true,
     }
 }
 
-/// Returns `true` if the bytes are those of characters.
-fn are_encoded(encoding: Encoding, bytes: &[u8]) -> bool {
+/// Returns `true` if the bytes are characters in UTF-16.
+fn are_utf16(bytes: &[u8]) -> bool
+    ensures { result ≡ is_utf16 bytes.now }
+{
     let mut rest = bytes;
-    while let Some((_, after)) = split_character(encoding, rest) {
+    while let Some((_, after)) = split_utf16(rest) {
+        rest = after;
+    }
+    rest.is_empty()
+}
+
+/// Returns `true` if the bytes are characters in UTF-32.
+fn are_utf32(bytes: &[u8]) -> bool
+    ensures { result ≡ is_utf32 bytes.now }
+{
+    let mut rest = bytes;
+    while let Some((_, after)) = split_utf32(rest) {
         rest = after;
     }
     rest.is_empty()
@@ -91,7 +114,8 @@ fn are_encoded(encoding: Encoding, bytes: &[u8]) -> bool {
 
 /// Returns the first character and the bytes after it; `None` if the bytes don't begin with one.
 fn split_character(encoding: Encoding, bytes: &[u8]) -> Option<(u32, &[u8])>
-    ensures { IfSome result (λ split. length split.1.now < length bytes.now) }
+    ensures { MatchOption result (codes_by encoding bytes.now ≡ [])
+        (λ split. codes_by encoding bytes.now ≡ split.0 ∷ codes_by encoding split.1.now) }
 {
     match encoding {
         Encoding::Utf8 => split_utf8(bytes),
@@ -103,7 +127,8 @@ fn split_character(encoding: Encoding, bytes: &[u8]) -> Option<(u32, &[u8])>
 
 /// Returns the first character in ISO 8859-1 and the bytes after it.
 fn split_latin1(bytes: &[u8]) -> Option<(u32, &[u8])>
-    ensures { IfSome result (λ split. length split.1.now < length bytes.now) }
+    ensures { MatchOption result (codes_by Encoding.Latin1 bytes.now ≡ [])
+        (λ split. codes_by Encoding.Latin1 bytes.now ≡ split.0 ∷ codes_by Encoding.Latin1 split.1.now) }
 {
     match bytes {
         [byte, rest @ ..] => Some((u32::from(*byte), rest)),
@@ -114,74 +139,92 @@ fn split_latin1(bytes: &[u8]) -> Option<(u32, &[u8])>
 /// Returns the first character in UTF-8 (RFC 3629 section 3), whose bytes were tested, and the
 /// bytes after it.
 fn split_utf8(bytes: &[u8]) -> Option<(u32, &[u8])>
-    ensures { IfSome result (λ split. length split.1.now < length bytes.now) }
+    ensures { MatchOption result (codes_by Encoding.Utf8 bytes.now ≡ [])
+        (λ split. codes_by Encoding.Utf8 bytes.now ≡ split.0 ∷ codes_by Encoding.Utf8 split.1.now) }
 {
-    match bytes {
-        [first @ 0x00..=0x7F, rest @ ..] => Some((u32::from(*first), rest)),
-        [first @ 0x80..=0xDF, second, rest @ ..] => {
-            Some((0x40 * u32::from(*first % 0x20) + tail(*second), rest))
-        }
-        [first @ 0xE0..=0xEF, second, third, rest @ ..] => Some((
-            0x1000 * u32::from(*first % 0x10) + 0x40 * tail(*second) + tail(*third),
-            rest,
-        )),
-        [first, second, third, fourth, rest @ ..] => Some((
-            0x4_0000 * u32::from(*first % 0x08)
-                + 0x1000 * tail(*second)
-                + 0x40 * tail(*third)
-                + tail(*fourth),
-            rest,
-        )),
-        _ => None,
+    let (first, behind) = bytes.split_first()?;
+    if *first < 0x80 {
+        return Some((u32::from(*first), behind));
     }
+    let (second, behind) = behind.split_first()?;
+    if *first < 0xE0 {
+        return Some((0x40 * bits(*first, 0xC0) + bits(*second, 0x80), behind));
+    }
+    let (third, behind) = behind.split_first()?;
+    let high = 0x40 * bits(*second, 0x80) + bits(*third, 0x80);
+    if *first < 0xF0 {
+        return Some((0x1000 * bits(*first, 0xE0) + high, behind));
+    }
+    let (fourth, behind) = behind.split_first()?;
+    Some((
+        0x4_0000 * bits(*first, 0xF0) + 0x40 * high + bits(*fourth, 0x80),
+        behind,
+    ))
 }
 
-/// Returns the six bits of a character in a byte that isn't its first.
-fn tail(byte: u8) -> u32
-    ensures { result < 0x40 }
+/// Returns the bits of a character in a byte: what it has above its mark.
+fn bits(byte: u8, mark: u8) -> u32
+    ensures { result ≡ byte - mark }
 {
-    u32::from(byte % 0x40)
+    u32::from(byte.saturating_sub(mark))
+}
+
+/// Returns the first unit of 16 bits, the most significant byte first, and the bytes after it;
+/// `None` if there aren't two bytes.
+fn split_unit(bytes: &[u8]) -> Option<(u32, &[u8])>
+    ensures units { MatchOption result (units_of bytes.now ≡ [])
+        (λ split. units_of bytes.now ≡ split.0 ∷ units_of split.1.now) }
+    ensures count { MatchOption result (length bytes.now < 2)
+        (λ split. length bytes.now ≡ length split.1.now + 2) }
+{
+    match bytes {
+        [high, low, rest @ ..] => Some((0x100 * u32::from(*high) + u32::from(*low), rest)),
+        _ => None,
+    }
 }
 
 /// Returns the first character in UTF-16 (ISO/IEC 10646 section 9.4) and the bytes after it; `None`
 /// if the bytes don't begin with one.
 fn split_utf16(bytes: &[u8]) -> Option<(u32, &[u8])>
-    ensures { IfSome result (λ split. length split.1.now < length bytes.now) }
+    ensures codes { MatchOption result (codes_by Encoding.Utf16 bytes.now ≡ [])
+        (λ split. codes_by Encoding.Utf16 bytes.now
+        ≡ split.0 ∷ codes_by Encoding.Utf16 split.1.now) }
+    ensures valid { MatchOption result (is_utf16 bytes.now ≡ (length bytes.now == 0))
+        (λ split. is_utf16 bytes.now ≡ is_utf16 split.1.now) }
+    ensures shorter { IfSome result (λ split. length split.1.now < length bytes.now) }
 {
-    match bytes {
-        [
-            high @ 0xD8..=0xDB,
-            low,
-            high_tail @ 0xDC..=0xDF,
-            low_tail,
-            rest @ ..,
-        ] => Some((
-            0x1_0000 + 0x400 * unit(*high - 0xD8, *low) + unit(*high_tail - 0xDC, *low_tail),
-            rest,
-        )),
-        [0xD8..=0xDF, ..] => None,
-        [high, low, rest @ ..] => Some((unit(*high, *low), rest)),
-        _ => None,
+    let (high, behind) = split_unit(bytes)?;
+    if high < 0xD800 || high >= 0xE000 {
+        return Some((high, behind));
     }
-}
-
-/// Returns the number in two bytes.
-fn unit(high: u8, low: u8) -> u32
-    ensures { result ≡ 256 * high + low }
-{
-    256 * u32::from(high) + u32::from(low)
+    let (low, rest) = split_unit(behind)?;
+    if high < 0xDC00 && low >= 0xDC00 && low < 0xE000 {
+        Some((0x1_0000 + (high - 0xD800) * 0x400 + (low - 0xDC00), rest))
+    } else {
+        None
+    }
 }
 
 /// Returns the first character in UTF-32 and the bytes after it; `None` if the bytes don't begin
 /// with one.
 fn split_utf32(bytes: &[u8]) -> Option<(u32, &[u8])>
-    ensures { IfSome result (λ split. length split.1.now < length bytes.now) }
+    ensures codes { MatchOption result (codes_by Encoding.Utf32 bytes.now ≡ [])
+        (λ split. codes_by Encoding.Utf32 bytes.now
+        ≡ split.0 ∷ codes_by Encoding.Utf32 split.1.now) }
+    ensures valid { MatchOption result (is_utf32 bytes.now ≡ (length bytes.now == 0))
+        (λ split. is_utf32 bytes.now ≡ is_utf32 split.1.now) }
+    ensures shorter { IfSome result (λ split. length split.1.now < length bytes.now) }
 {
-    match bytes {
-        [0, 0, 0xD8..=0xDF, _, ..] => None,
-        [0, plane @ 0..=0x10, high, low, rest @ ..] => {
-            Some((0x1_0000 * u32::from(*plane) + unit(*high, *low), rest))
-        }
-        _ => None,
+    let [a, b, c, d, rest @ ..] = bytes else {
+        return None;
+    };
+    let code = 0x100_0000 * u32::from(*a)
+        + 0x1_0000 * u32::from(*b)
+        + 0x100 * u32::from(*c)
+        + u32::from(*d);
+    if (code >= 0xD800 && code < 0xE000) || code >= 0x11_0000 {
+        None
+    } else {
+        Some((code, rest))
     }
 }

@@ -1,19 +1,25 @@
 //! What is shown of a content, in a line.
-ghost use Rattle.std.specs.Prelude.{◌≡◌, ◌++◌};
-ghost use Rattle.std.specs.Fmt.{decimal};
+ghost use Rattle.std.specs.Prelude.{◌≡◌, ◌++◌, codes, option_map, true};
+ghost use Rattle.std.specs.Fmt.{decimal, digits};
+ghost use Rattle.sec1_der.specs.Identifiers.{dotted};
+ghost use Rattle.der_view.specs.Characters.{codes_of, escaped, escaped_all};
 ghost use Rattle.der_view.specs.Lines.{kept};
-ghost use Rattle.der_view.specs.Values.{count_text, one_or_more, unused_text};
+ghost use Rattle.der_view.specs.Names.{name_view};
+ghost use Rattle.der_view.specs.Values.{arcs_view, count_text, identifier_text, one_or_more};
+ghost use Rattle.der_view.specs.Values.{unused_text, value_text, value_view};
 
 use super::{Arcs, Characters, Value};
-use crate::line::Line;
+use crate::line::{Line, MAX_WIDTH};
 use crate::names::Name;
 use itoa::Buffer;
 
 impl Line {
     /// Appends what is shown of a content, which follows the name of its type.
-    pub fn push_value(&mut self, value: &Value<'_>) {
+    pub fn push_value(&mut self, value: &Value<'_>)
+        ensures { self.new ≡ kept (self.old ++ value_text (value_view value.now)) }
+    {
         match value {
-            Value::Nothing => {}
+            Value::Nothing => self.push_str(""),
             Value::Count(count) => self.push_count(*count),
             Value::Bits { count, unused } => {
                 self.push_count(*count);
@@ -33,14 +39,19 @@ impl Line {
     }
 
     /// Appends a space, a text and its end.
-    fn push_text(&mut self, text: &[u8], end: &[u8]) {
+    fn push_text(&mut self, text: &[u8], end: &[u8])
+        ensures { self.new ≡ kept (self.old ++ (codes " " ++ (text.now ++ end.now))) }
+    {
         self.push_byte(b' ');
         self.push_bytes(text);
         self.push_bytes(end);
     }
 
     /// Appends a space, and the arcs of an identifier, behind its name if it has one.
-    fn push_identifier(&mut self, name: Option<Name>, arcs: Arcs<'_>) {
+    fn push_identifier(&mut self, name: Option<Name>, arcs: Arcs<'_>)
+        ensures { self.new ≡ kept (self.old
+            ++ (codes " " ++ identifier_text (option_map name_view name) (arcs_view arcs.entry))) }
+    {
         self.push_byte(b' ');
         match name {
             None => self.push_arcs(arcs),
@@ -72,12 +83,17 @@ impl Line {
     }
 
     /// Appends the arcs of an identifier, joined by full stops.
-    pub fn push_arcs(&mut self, arcs: Arcs<'_>) {
+    pub fn push_arcs(&mut self, arcs: Arcs<'_>)
+        ensures { self.new ≡ kept (self.old ++ dotted (arcs_view arcs.entry)) }
+    {
         self.push_arc(arcs.first);
         self.push_byte(b'.');
         self.push_arc(arcs.second);
-        let mut arcs = arcs;
-        while let Some(arc) = arcs.next_further() {
+        let mut left = arcs;
+        while self.len() <= MAX_WIDTH {
+            let Some(arc) = left.next_further() else {
+                return;
+            };
             self.push_byte(b'.');
             self.push_arc(arc);
         }
@@ -91,29 +107,40 @@ impl Line {
     }
 
     /// Appends characters; those that don't print in ASCII, `"` and `\` are escaped.
-    pub fn push_characters(&mut self, characters: Characters<'_>) {
-        let mut characters = characters;
-        while let Some(character) = characters.next_character() {
+    pub fn push_characters(&mut self, characters: Characters<'_>)
+        ensures { self.new ≡ kept (self.old ++ escaped_all (codes_of characters.entry)) }
+    {
+        let mut left = characters;
+        while self.len() <= MAX_WIDTH {
+            let Some(character) = left.next_character() else {
+                return;
+            };
             self.push_character(character);
         }
     }
 
     /// Appends a character: as itself if it prints in ASCII, `"` and `\` behind a `\`, and another
     /// one by its code, as `\u{E4}`.
-    fn push_character(&mut self, character: u32) {
-        match character {
-            0x22 | 0x5C => self.push_bytes(&[b'\\', character as u8]),
-            0x20..=0x7E => self.push_byte(character as u8),
-            _ => {
-                self.push_str("\\u{");
-                self.push_code(character);
-                self.push_byte(b'}');
-            }
+    fn push_character(&mut self, character: u32)
+        ensures { self.new ≡ kept (self.old ++ escaped character) }
+    {
+        if character == 0x22 {
+            self.push_str("\\\"");
+        } else if character == 0x5C {
+            self.push_str("\\\\");
+        } else if character >= 0x20 && character <= 0x7E {
+            self.push_byte(character as u8);
+        } else {
+            self.push_str("\\u{");
+            self.push_code(character);
+            self.push_byte(b'}');
         }
     }
 
     /// Appends a number in hexadecimal digits, without zeros in front.
-    fn push_code(&mut self, number: u32) {
+    fn push_code(&mut self, number: u32)
+        ensures { self.new ≡ kept (self.old ++ digits 16 true number) }
+    {
         if number >= 16 {
             self.push_code(number / 16);
         }

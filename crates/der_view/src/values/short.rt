@@ -1,9 +1,10 @@
 //! Short texts: TRUE and FALSE, numbers, bits and times.
 ghost use Rattle.std.specs.Prelude.{◌≡◌, ◌<◌, ◌≤◌, ◌+◌, ◌-◌, ◌*◌, ◌/◌, ◌%◌, ◌^◌, [], ◌∷◌};
-ghost use Rattle.std.specs.Prelude.{◌++◌, IfSome, length, option_map};
+ghost use Rattle.std.specs.Prelude.{◌++◌, length, option_map};
 ghost use Rattle.std.specs.Fmt.{decimal};
 ghost use Rattle.sec1_der.specs.Numbers.{number_of};
-ghost use Rattle.der_view.specs.Values.{AreBits, AreBitsOf, boolean_text, integer_text, time_text};
+ghost use Rattle.der_view.specs.Values.{bit_string_text, bits_text, boolean_text, integer_text};
+ghost use Rattle.der_view.specs.Values.{time_text};
 
 use arrayvec::ArrayString;
 use itoa::Buffer;
@@ -101,7 +102,7 @@ fn magnitude(digits: &[u8]) -> u64
 /// Returns the bits of a BIT STRING, the first one first; `None` if this is no content of a BIT
 /// STRING (X.690 section 8.6.2), or one of more than three bytes or of none.
 pub(super) fn bits(content: &[u8]) -> Option<ShortText>
-    ensures { IfSome result (λ text. AreBitsOf content.now text.bytes) }
+    ensures { option_map (λ text. text.bytes) result ≡ bit_string_text content.now }
 {
     match content {
         [unused @ 0..=7, bytes @ ..] if !bytes.is_empty() && bytes.len() <= 3 => {
@@ -116,7 +117,7 @@ fn bit_digits(bytes: &[u8], count: usize) -> ShortText
     requires few { count ≤ 24 }
     requires within { count ≤ 8 * length bytes.now }
     ensures count { length result.bytes ≡ count }
-    ensures digits { AreBits bytes.now result.bytes }
+    ensures digits { result.bytes ≡ bits_text bytes.now count }
 {
     let mut text = ShortText::new();
     for place in 0..count {

@@ -1,5 +1,13 @@
-use Rattle.std.proofs.Common.{length}
+use Rattle.std.proofs.Common.{◌≡◌, ◌++◌, length}
+use Rattle.der_view.specs.Lines.{kept}
+use Rattle.der_view.specs.Values.{numbers_below}
+use Rattle.der_view.proofs.TextLemmas.{further_text}
 use Rattle.der_view.proofs.line.Line.push_arcs.Given as goal
 
-abbrev pub decreases-loop-arc : goal.decreases-loop-arc
-decreases-loop-arc l = length l.arcs.further.now
+abbrev pub invariant-loop-left : goal.invariant-loop-left
+invariant-loop-left l =
+    kept (l.self ++ further_text (numbers_below 0 l.left.further.now))
+    ≡ kept (l.initial.self ++ further_text (numbers_below 0 l.initial.left.further.now))
+
+abbrev pub decreases-loop-left : goal.decreases-loop-left
+decreases-loop-left l = length (numbers_below 0 l.left.further.now)

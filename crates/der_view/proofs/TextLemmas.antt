@@ -1,0 +1,86 @@
+-- Numbers and characters as text.
+use Rattle.std.proofs.Common.{◌≡◌, ℕ, zero, suc, ◌*◌, ◌/◌, ◌%◌, ◌^◌, ◌<◌, ◌≤◌, List, [], ◌∷◌, ◌++◌}
+use Rattle.std.proofs.Common.{true, refl, sym, ◌∙◌, ap, arith, append_assoc, append-nil, inl, inr, ◌⊎◌}
+use Rattle.std.specs.Fmt.{decimal, digit_glyph, digits, digits_onto}
+use Rattle.std.specs.Prelude.{◌==◌, ◌≢◌, nat_le, false}
+use Rattle.der_view.specs.Characters.{escaped}
+use Rattle.std.specs.List.{flat_map}
+use Rattle.std.proofs.lemmas.Bool.{cases_lt}
+use Rattle.std.proofs.lemmas.Bool.Decides.{nat_tests}
+use Rattle.std.proofs.Math.Nat.{pow-suc}
+use Rattle.sec1_der.specs.Identifiers.{dotted}
+
+-- a number of one digit, and one of more
+onto-last : (k n : ℕ) (behind : List ℕ) → n < 16
+    → digits_onto (suc k) 16 true n behind ≡ digit_glyph true (n % 16) ∷ behind
+onto-last k n behind low = let one : (n / 16 == 0) ≡ true = grind (arith, nat_tests) in rw one refl
+
+onto-step : (k n : ℕ) (behind : List ℕ) → 16 ≤ n
+    → digits_onto (suc k) 16 true n behind ≡ digits_onto k 16 true (n / 16) (digit_glyph true (n % 16) ∷ behind)
+onto-step k n behind high = let more : (n / 16 == 0) ≡ false = grind (arith, nat_tests) in rw more refl
+
+-- what digits are put in front of
+onto-append : (k n : ℕ) (behind : List ℕ) → digits_onto k 16 true n behind ≡ digits_onto k 16 true n [] ++ behind
+onto-append zero n behind = refl
+onto-append (suc k) n behind =
+    let d : ℕ = digit_glyph true (n % 16) in
+    elim (cases_lt n 16) [
+      | inl low ↦ onto-last k n behind low ∙ ap (λ digits. digits ++ behind) (sym (onto-last k n [] low))
+      | inr high ↦
+          onto-step k n behind high
+          ∙ (onto-append k (n / 16) (d ∷ behind)
+          ∙ (sym (append_assoc (digits_onto k 16 true (n / 16) []) (d ∷ []) behind)
+          ∙ ap (λ digits. digits ++ behind) (sym (onto-step k n [] high ∙ onto-append k (n / 16) (d ∷ [])))))
+    ]
+
+-- more digits than there are change nothing
+onto-more : (k n : ℕ) (behind : List ℕ) → n < 16 ^ suc k
+    → digits_onto (suc (suc k)) 16 true n behind ≡ digits_onto (suc k) 16 true n behind
+onto-more zero n behind fits =
+    let low : n < 16 = fits in onto-last (suc zero) n behind low ∙ sym (onto-last zero n behind low)
+onto-more (suc k) n behind fits =
+    let d : ℕ = digit_glyph true (n % 16) in
+    elim (cases_lt n 16) [
+      | inl low ↦ onto-last (suc (suc k)) n behind low ∙ sym (onto-last (suc k) n behind low)
+      | inr high ↦
+          let power : 16 ^ suc (suc k) ≡ 16 ^ suc k * 16 = pow-suc 16 (suc k) in
+          let less : n / 16 < 16 ^ suc k = omega arith in
+          onto-step (suc (suc k)) n behind high
+          ∙ (onto-more k (n / 16) (d ∷ behind) less ∙ sym (onto-step (suc k) n behind high))
+    ]
+
+-- a number in hexadecimal: the digits before its last one, and that
+pub hexadecimal-step : (n : ℕ) → 16 ≤ n → n < 2 ^ 64
+    → digits 16 true n ≡ digits 16 true (n / 16) ++ digit_glyph true (n % 16) ∷ []
+unfolding digits
+hexadecimal-step n high fits =
+    let d : ℕ = digit_glyph true (n % 16) in
+    onto-step 63 n [] high
+    ∙ (onto-append 63 (n / 16) (d ∷ [])
+    ∙ ap (λ digits. digits ++ d ∷ []) (sym (onto-more 62 (n / 16) [] (omega arith))))
+
+pub hexadecimal-last : (n : ℕ) → n < 16 → digits 16 true n ≡ digit_glyph true (n % 16) ∷ []
+unfolding digits
+hexadecimal-last n low = onto-last 63 n [] low
+
+-- arcs behind a full stop each
+abbrev pub further_text : List ℕ → List ℕ
+further_text arcs = flat_map (λ arc. 0x2E ∷ decimal arc) arcs
+
+-- the first arc, and those behind it
+pub dotted-cons : (arc : ℕ) (further : List ℕ) → dotted (arc ∷ further) ≡ decimal arc ++ further_text further
+dotted-cons arc [] = sym (append-nil (decimal arc))
+dotted-cons arc (next ∷ further) = ap (λ text. decimal arc ++ 0x2E ∷ text) (dotted-cons next further)
+
+-- a character that doesn't print
+pub escaped-other : (code : ℕ) → code ≢ 0x22 → code ≢ 0x5C → ((code < 0x20) ⊎ (0x7E < code))
+    → escaped code ≡ 0x5C ∷ 0x75 ∷ 0x7B ∷ (digits 16 true code ++ 0x7D ∷ [])
+escaped-other code quote slash beyond =
+    let a : (code == 0x22) ≡ false = grind (arith, nat_tests) in
+    let b : (code == 0x5C) ≡ false = grind (arith, nat_tests) in
+    elim beyond [
+      | inl low ↦ let t : nat_le 0x20 code ≡ false = grind (arith, nat_tests) in rw (a, b, t) refl
+      | inr high ↦
+          let s : nat_le 0x20 code ≡ true = grind (arith, nat_tests) in
+          let t : nat_le code 0x7E ≡ false = grind (arith, nat_tests) in rw (a, b, s, t) refl
+    ]

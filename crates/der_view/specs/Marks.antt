@@ -1,0 +1,121 @@
+-- The words of marks, and their kinds.
+use Rattle.std.specs.Prelude.{ℕ, ◌==◌, ◌/◌, ◌%◌, true, false, if◌then◌else◌, List, [], ◌∷◌, ◌++◌}
+use Rattle.std.specs.Prelude.{codes, Option, Some, None}
+use Rattle.std.specs.Fmt.{decimal, digit_glyph}
+use Rattle.der_view.specs.declared.mark.ContentFault.{ContentFault}
+use Rattle.der_view.specs.declared.mark.ContentFault.TheVariants as contents
+use Rattle.der_view.specs.declared.mark.ElementFault.{ElementFault}
+use Rattle.der_view.specs.declared.mark.ElementFault.TheVariants as elements
+use Rattle.der_view.specs.declared.mark.Mark.{Mark}
+use Rattle.der_view.specs.declared.mark.Mark.TheVariants as marks
+use Rattle.der_view.specs.declared.mark.Part.{Part}
+use Rattle.der_view.specs.declared.mark.Part.TheVariants as parts
+
+-- the word for as many bytes
+abbrev pub bytes_word : ℕ → List ℕ
+bytes_word count = if count == 1 then codes "byte" else codes "bytes"
+
+-- a byte in two hexadecimal digits
+abbrev pub hex_text : ℕ → List ℕ
+hex_text byte = digit_glyph true (byte / 16) ∷ digit_glyph true (byte % 16) ∷ []
+
+-- why no element is there
+abbrev pub element_words : ElementFault → List ℕ
+element_words (elements.ReservedTag tag) =
+    codes "tag " ++ (hex_text tag ++ codes " (X.690 8.1.5)")
+element_words elements.TagCut = codes "the tag is cut off"
+element_words elements.TagTooLarge = codes "a tag number above 268,435,455"
+element_words elements.LengthCut = codes "the length is cut off"
+element_words elements.ReservedLength = codes "length byte FF (X.690 8.1.3.5)"
+element_words (elements.LongLength first) =
+    codes "length byte " ++ (hex_text first ++ codes ": more than 4 bytes of length")
+element_words elements.LengthTooLarge = codes "a length above 16,777,215"
+element_words elements.IndefinitePrimitive =
+    codes "indefinite length of a primitive element (X.690 8.1.3.2)"
+element_words elements.NoEndOfContents = codes "end-of-contents is missing (X.690 8.1.5)"
+
+-- what is wrong with a content
+abbrev pub content_words : ContentFault → List ℕ
+content_words contents.TrueIsFf = codes "TRUE is FF (X.690 11.1)"
+content_words contents.BooleanLength = codes "BOOLEAN has 1 byte (X.690 8.2.1)"
+content_words contents.NeedlessFirstByte = codes "needless first byte (X.690 8.3.2)"
+content_words contents.EmptyInteger = codes "INTEGER has a byte or more (X.690 8.3.1)"
+content_words contents.NullContent = codes "NULL has no content (X.690 8.8.2)"
+content_words contents.NoIdentifier = codes "no identifier (X.690 8.19.2)"
+content_words contents.EmptyBitString = codes "BIT STRING has a byte or more (X.690 8.6.2.2)"
+content_words contents.UnusedAboveSeven = codes "more than 7 unused bits (X.690 8.6.2.2)"
+content_words contents.UnusedInEmpty =
+    codes "unused bits in an empty BIT STRING (X.690 8.6.2.3)"
+content_words contents.UnusedNotZero = codes "unused bits that aren't 0 (X.690 11.2.1)"
+content_words contents.UtcTime = codes "not YYMMDDhhmmssZ (X.690 11.8)"
+content_words contents.GeneralizedTime = codes "not YYYYMMDDhhmmss[.f]Z (X.690 11.7)"
+content_words (contents.Characters name) = codes "not the characters of " ++ name.now
+
+-- what a key has, in the words of RFC 5915 section 3
+abbrev pub part_words : Part → List ℕ
+part_words parts.Key = codes "ECPrivateKey, a SEQUENCE (30)"
+part_words parts.Version = codes "version, INTEGER { ecPrivkeyVer1(1) } (02 01 01)"
+part_words parts.PrivateKey = codes "privateKey, OCTET STRING (04)"
+part_words parts.Parameters =
+    codes "parameters [0] (A0) with namedCurve, OBJECT IDENTIFIER (06)"
+part_words parts.PublicKey = codes "publicKey [1] (A1) with a BIT STRING (03) of whole bytes"
+part_words (parts.Fields true public_key) =
+    codes "parameters [0] (A0), publicKey [1] (A1), or the end of the SEQUENCE"
+part_words (parts.Fields false true) = codes "publicKey [1] (A1), or the end of the SEQUENCE"
+part_words (parts.Fields false false) = codes "the end of the SEQUENCE"
+part_words parts.End = codes "the end of the input"
+
+-- the words of a mark
+abbrev pub mark_words : Mark → List ℕ
+mark_words (marks.Missing missing announced) =
+    decimal missing
+    ++ (codes " of "
+    ++ (decimal announced ++ (codes " " ++ (bytes_word announced ++ codes " missing"))))
+mark_words (marks.Overlong announced left) =
+    decimal announced
+    ++ (codes " "
+    ++ (bytes_word announced
+    ++ (codes ", but the element around it has " ++ (decimal left ++ codes " left"))))
+mark_words marks.Depth = codes "more than 64 levels: not opened"
+mark_words marks.LowTag = codes "tag number below 31 in the high form (X.690 8.1.2.2)"
+mark_words marks.PaddedTag = codes "tag number with a needless byte 80 (X.690 8.1.2.4.2)"
+mark_words marks.Length = codes "length in more bytes than needed (X.690 10.1)"
+mark_words marks.Indefinite =
+    codes "indefinite length (X.690 8.1.3.6); DER has definite ones (10.1)"
+mark_words marks.ConstructedString =
+    codes "constructed string; DER has primitive ones (X.690 10.2)"
+mark_words (marks.Content fault) = content_words fault
+mark_words (marks.Element fault) = element_words fault
+mark_words (marks.Expected part) = codes "expected " ++ part_words part
+mark_words (marks.Rest true) = codes "may be bytes of a damaged private key: --all draws them"
+mark_words (marks.Rest false) = codes "after the end of the root: --all draws them"
+
+-- the kind of a mark
+abbrev pub mark_kind : Mark → List ℕ
+mark_kind (marks.Missing missing announced) = codes "missing"
+mark_kind (marks.Overlong announced left) = codes "overlong"
+mark_kind marks.Depth = codes "depth"
+mark_kind marks.LowTag = codes "tag"
+mark_kind marks.PaddedTag = codes "tag"
+mark_kind marks.Length = codes "length"
+mark_kind marks.Indefinite = codes "indefinite"
+mark_kind marks.ConstructedString = codes "string"
+mark_kind (marks.Content fault) = codes "content"
+mark_kind (marks.Element fault) = codes "element"
+mark_kind (marks.Expected part) = codes "expected"
+mark_kind (marks.Rest damaged) = codes "rest"
+
+-- the name of a part of a key
+abbrev pub part_name : Part → List ℕ
+part_name parts.Key = codes "key"
+part_name parts.Version = codes "version"
+part_name parts.PrivateKey = codes "privateKey"
+part_name parts.Parameters = codes "parameters"
+part_name parts.PublicKey = codes "publicKey"
+part_name (parts.Fields parameters public_key) = codes "fields"
+part_name parts.End = codes "end"
+
+-- the part that is expected, of such a mark
+abbrev pub mark_part : Mark → Option (List ℕ)
+mark_part (marks.Expected part) = Some (part_name part)
+mark_part _ = None
