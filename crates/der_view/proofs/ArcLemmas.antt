@@ -55,7 +55,8 @@ pub none-fits : (numbers : List ℕ) → take_while is_u128 numbers ≡ [] → 0
 none-fits [] none some = absurd (omega arith)
 none-fits (n ∷ numbers) none some = by (is_u128 n) refl (sym (take_while-cons is_u128 n numbers) ∙ none)
   where
-    by : (fits : Bool) → is_u128 n ≡ fits → cond fits (n ∷ take_while is_u128 numbers) [] ≡ [] → is_u128 n && list_all is_u128 numbers ≡ false
+    by : (fits : Bool) → is_u128 n ≡ fits → cond fits (n ∷ take_while is_u128 numbers) [] ≡ []
+        → is_u128 n && list_all is_u128 numbers ≡ false
     by false over none = rw over refl
     by true fits none = absurd (cc none)
 

@@ -132,15 +132,10 @@ utf16-unit u us plain = by us
     by (v ∷ us) = rw (first, test) refl
 
 -- two surrogates
-pub utf16-pair : (u v : ℕ) (us : List ℕ) → 0xD800 ≤ u → u < 0xDC00 → 0xDC00 ≤ v → v < 0xE000
+pub utf16-pair : (u v : ℕ) (us : List ℕ) → is_high_surrogate u && is_low_surrogate v ≡ true
     → utf16_chars (u ∷ v ∷ us) ≡ Some (0x10000 + (u - 0xD800) * 0x400 + (v - 0xDC00)) ∷ utf16_chars us
 unfolding utf16_chars
-utf16-pair u v us least most low high =
-    let a : nat_le 0xD800 u ≡ true = grind (arith, nat_tests) in
-    let b : nat_lt u 0xDC00 ≡ true = grind (arith, nat_tests) in
-    let c : nat_le 0xDC00 v ≡ true = grind (arith, nat_tests) in
-    let d : nat_lt v 0xE000 ≡ true = grind (arith, nat_tests) in
-    rw (a, b, c, d) refl
+utf16-pair u v us pair = rw pair refl
 
 -- a surrogate without another one
 pub utf16-lost_end : (u : ℕ) → 0xD800 ≤ u → u < 0xE000 → utf16_chars (u ∷ []) ≡ None ∷ []
@@ -158,23 +153,6 @@ utf16-lost u v us least most unpaired =
     let b : nat_lt u 0xE000 ≡ true = grind (arith, nat_tests) in
     let alone : lone_unit_char u ≡ None = rw (a, b) refl in
     rw (unpaired, alone) refl
-
--- a first surrogate that is a second one, and a second unit that is none
-pub unpaired-high : (u v : ℕ) → 0xDC00 ≤ u → is_high_surrogate u && is_low_surrogate v ≡ false
-unpaired-high u v over =
-    let t : nat_lt u 0xDC00 ≡ false = grind (arith, nat_tests) in
-    let first : is_high_surrogate u ≡ false = rw t (and-false (nat_le 0xD800 u)) in rw first refl
-
-pub unpaired-low : (u v : ℕ) → v < 0xDC00 → is_high_surrogate u && is_low_surrogate v ≡ false
-unpaired-low u v under =
-    let t : nat_le 0xDC00 v ≡ false = grind (arith, nat_tests) in
-    let second : is_low_surrogate v ≡ false = rw t refl in rw second (and-false (is_high_surrogate u))
-
-pub unpaired-over : (u v : ℕ) → 0xE000 ≤ v → is_high_surrogate u && is_low_surrogate v ≡ false
-unpaired-over u v over =
-    let t : nat_lt v 0xE000 ≡ false = grind (arith, nat_tests) in
-    let second : is_low_surrogate v ≡ false = rw t (and-false (nat_le 0xDC00 v)) in
-    rw second (and-false (is_high_surrogate u))
 
 -- the first character in UTF-16, and that the bytes are characters if those behind it are
 pub utf16-some : (bytes rest : List ℕ) (code : ℕ)

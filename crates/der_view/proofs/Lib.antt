@@ -1,5 +1,6 @@
 pub mod ArcLemmas
 pub mod CharacterLemmas
+pub mod LevelLemmas
 pub mod LineLemmas
 pub mod NameLemmas
 pub mod RowLemmas

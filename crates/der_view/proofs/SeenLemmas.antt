@@ -1,8 +1,8 @@
 -- What is seen of a content.
-use Rattle.std.proofs.Common.{◌≡◌, ℕ, ◌+◌, ◌-◌, ◌≤◌, List, Option, length, take, drop, ◌∙◌, sym, ap, arith}
+use Rattle.std.proofs.Common.{Bool, ◌≡◌, ℕ, ◌+◌, ◌-◌, ◌≤◌, List, Option, length, take, drop, ◌∙◌, sym, ap, arith}
 use Rattle.std.proofs.Common.{length-drop}
 use Rattle.std.proofs.lemmas.List.{drop-take, take-take, length-take-le}
-use Rattle.der_view.specs.Rows.{IsSeen, Undrawn, content_of}
+use Rattle.der_view.specs.Rows.{IsSeen, content_of}
 use Rattle.der_view.specs.Seen.{IsFirst, IsShown, open_len}
 use Rattle.der_view.specs.declared.field.Field.{Field}
 use Rattle.der_view.specs.declared.header.Tag.{Tag}
@@ -21,18 +21,19 @@ content_inside left inside h n e fits =
     ∙ take-take n m (drop h left) few
 
 -- what is shown of an element is seen
-pub seen_shown : (old : Undrawn) (row : OpenRow) (inside seen : List ℕ) (tag : Tag) (field : Option Field) (h n : ℕ)
-    → inside ≡ take (length inside) old.left → h + n ≤ length inside → row.kind ≡ Element tag → row.field ≡ field
+pub seen_shown : (guarded : Bool) (left : List ℕ) (row : OpenRow) (inside seen : List ℕ) (tag : Tag)
+    (field : Option Field) (h n : ℕ) → inside ≡ take (length inside) left → h + n ≤ length inside
+    → row.kind ≡ Element tag → row.field ≡ field
     → row.len ≡ n → length row.header.now ≡ h → IsShown n seen row.shown
-    → IsFirst (open_len old.guarded tag field (take n (drop h inside))) (take n (drop h inside)) seen
-    → IsSeen row.kind row.shown (λ t. open_len old.guarded t row.field (content_of row old.left))
-    (content_of row old.left)
-seen_shown old row inside seen tag field h n e fits kind same_field len header is first =
-    let same : take n (drop h inside) ≡ take n (drop h old.left) = content_inside old.left inside h n e fits in
+    → IsFirst (open_len guarded tag field (take n (drop h inside))) (take n (drop h inside)) seen
+    → IsSeen row.kind row.shown (λ t. open_len guarded t row.field (content_of row left))
+    (content_of row left)
+seen_shown guarded left row inside seen tag field h n e fits kind same_field len header is first =
+    let same : take n (drop h inside) ≡ take n (drop h left) = content_inside left inside h n e fits in
     let behind : n ≤ length (drop h inside) = omega (arith, length-drop h inside) in
-    let size : length (take n (drop h old.left)) ≡ n =
+    let size : length (take n (drop h left)) ≡ n =
     ap length (sym same) ∙ length-take-le n (drop h inside) behind in
-    let here : IsFirst (open_len old.guarded tag field (take n (drop h old.left))) (take n (drop h old.left)) seen =
+    let here : IsFirst (open_len guarded tag field (take n (drop h left))) (take n (drop h left)) seen =
     rw same at first in
-    let shown : IsShown (length (take n (drop h old.left))) seen row.shown = rw size is in
+    let shown : IsShown (length (take n (drop h left))) seen row.shown = rw size is in
     rw (kind, same_field, len, header) (seen, here, shown)

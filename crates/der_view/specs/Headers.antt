@@ -45,8 +45,8 @@ high_tag first (Err fault) = Err fault
 high_tag first (Ok (number, len)) = Ok (tag_of first number, len + 1)
 
 -- X.690 section 8.1.2: the tag that bytes begin with, and how many bytes it is of. Its number is
--- in bits 5 to 1 of the first byte; if these are all one, it is in up to four more. 00 and 20 are no
--- tag, since 00 is that of end-of-contents (section 8.1.5).
+-- in bits 5 to 1 of the first byte; if these are all one, it is in up to four more. 00 and 20 are
+-- no tag, since 00 is that of end-of-contents (section 8.1.5).
 abbrev pub tag_at : List ℕ → Result (Tag × ℕ) ElementFault
 tag_at [] = Err faults.TagCut
 tag_at (first ∷ bytes) =
@@ -66,8 +66,8 @@ long_length count bytes =
     else Ok (Some (number_of (take count bytes)), count + 1))
 
 -- X.690 section 8.1.3: the length that bytes begin with, and how many bytes it is of. Below 80 the
--- first byte is the length (8.1.3.4), 80 is the indefinite form (8.1.3.6), FF is reserved (8.1.3.5),
--- and any other says in how many bytes the length follows, of which four are read here.
+-- first byte is the length (8.1.3.4), 80 is the indefinite form (8.1.3.6), and FF is reserved
+-- (8.1.3.5). Any other says in how many bytes the length follows, of which four are read here.
 abbrev pub length_at : List ℕ → Result (Option ℕ × ℕ) ElementFault
 length_at [] = Err faults.LengthCut
 length_at (first ∷ bytes) =

@@ -6,6 +6,8 @@ use Rattle.der_view.specs.declared.row.OpenRow.{OpenRow}
 -- The bytes of the rows, and then those that have no row yet, are the input.
 abbrev pub RowsAreInput : Type 0
 RowsAreInput =
-    (input : List ℕ) (all guarded : Bool) (rows : List OpenRow) (new : Undrawn)
-    → Draws rows (record { offset = 0; left = input; all = all; guarded = guarded }) new
+    (input behind : List ℕ) (all guarded : Bool) (rows : List OpenRow) (new : Undrawn)
+    → Draws rows
+    (record { offset = 0; left = input; behind = behind; all = all; guarded = guarded })
+    new
     → input ≡ bytes_of_rows input rows ++ new.left

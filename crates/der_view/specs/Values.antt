@@ -136,8 +136,8 @@ numbers_below high bytes = take_while is_u128 (numbers_after high bytes)
 abbrev pub arcs_view : Arcs → List ℕ
 arcs_view arcs = arcs.first ∷ arcs.second ∷ numbers_below 0 arcs.further.now
 
--- X.690 section 8.19: the arcs of the identifier with this content, if each of its subidentifiers is
--- below 2^128
+-- X.690 section 8.19: the arcs of the identifier with this content, if each of its subidentifiers
+-- is below 2^128
 abbrev pub arcs_by : List ℕ → Option (List ℕ)
 arcs_by content =
     if is_object_identifier content && list_all is_u128 (numbers_after 0 content)

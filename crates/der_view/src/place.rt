@@ -1,7 +1,10 @@
 //! The next row.
-ghost use Rattle.std.specs.Prelude.{◌≡◌, ◌<◌, ◌≤◌, length, take, false, true, None};
-ghost use Rattle.der_view.specs.Places.{undrawn_at};
-ghost use Rattle.der_view.specs.Rows.{BeginsWith, IsOpen, content_bytes};
+ghost use Rattle.std.specs.Prelude.{◌≡◌, ◌<◌, ◌≤◌, ◌-◌, length, take, false, true, Option};
+ghost use Rattle.std.specs.Prelude.{Some, None, Ok};
+ghost use Rattle.der_view.specs.Headers.{header_of};
+ghost use Rattle.der_view.specs.Places.{IsStep};
+ghost use Rattle.der_view.specs.Rows.{BeginsWith, IsOpen, content_bytes, len_within};
+ghost use Rattle.der_view.specs.declared.levels.Level.{Level};
 ghost use Rattle.der_view.specs.Seen.{IsFirst, IsShown, open_len};
 
 use crate::field::{Field, inner_field};
@@ -63,8 +66,10 @@ impl<'a> Place<'a> {
     pub(crate) fn step(self, level: Option<Level>) -> Step<'a>
         requires { 0 < length self.left.now }
         ensures bytes { BeginsWith self.entry.left.now result.row }
-        ensures open { IsOpen (undrawn_at self.entry) result.row }
+        ensures open { IsOpen self.entry.all self.entry.plan.guarded self.entry.left.now
+            result.row }
         ensures at { result.row.offset ≡ self.entry.offset }
+        ensures follows { IsStep self.entry level result }
     {
         let is_over = !self.all
             && ((self.plan.guarded && self.offset >= self.plan.drawn_to)
@@ -79,8 +84,10 @@ impl<'a> Place<'a> {
     fn rest(self) -> Step<'a>
         requires { 0 < length self.left.now }
         ensures bytes { BeginsWith self.entry.left.now result.row }
-        ensures open { IsOpen (undrawn_at self.entry) result.row }
+        ensures open { IsOpen self.entry.all self.entry.plan.guarded self.entry.left.now
+            result.row }
         ensures at { result.row.offset ≡ self.entry.offset }
+        ensures follows { (level : Option Level) → IsStep self.entry level result }
     {
         let marks = Marks::NONE.with(self.expected()).with(Some(Mark::Rest {
             damaged: self.plan.guarded,
@@ -99,8 +106,10 @@ impl<'a> Place<'a> {
     fn next_in(self, level: Level) -> Step<'a>
         requires { level.behind < length self.left.now }
         ensures bytes { BeginsWith self.entry.left.now result.row }
-        ensures open { IsOpen (undrawn_at self.entry) result.row }
+        ensures open { IsOpen self.entry.all self.entry.plan.guarded self.entry.left.now
+            result.row }
         ensures at { result.row.offset ≡ self.entry.offset }
+        ensures follows { IsStep self.entry (Some level) result }
     {
         let inside = &self.left[..self.left.len() - level.behind];
         match Header::read(inside) {
@@ -132,6 +141,8 @@ impl<'a> Place<'a> {
         ensures header { result.header.now ≡ header.now }
         ensures own { result.own_len ≡ length content.now }
         ensures len { result.len ≡ length content.now }
+        ensures depth { result.depth ≡ self.entry.depth }
+        ensures announced { result.announced ≡ None }
         ensures kind { result.kind ≡ kind }
         ensures hidden { self.entry.all ≡ false → result.content ≡ None }
         ensures whole { self.entry.all ≡ true → content_bytes result ≡ content.now }
@@ -167,11 +178,15 @@ impl<'a> Place<'a> {
     /// Returns the row of an element with this header, which is inside this level.
     fn element(self, level: Level, inside: &'a [u8], head: Header) -> Step<'a>
         requires header { (0 < head.len) × (head.len ≤ length inside.now) }
+        requires head { header_of inside.now ≡ Ok head }
         requires inside { inside.now ≡ take (length inside.now) self.left.now }
         requires fits { length inside.now ≤ length self.left.now }
+        requires count { length inside.now ≡ length self.left.now - level.behind }
         ensures bytes { BeginsWith self.entry.left.now result.row }
-        ensures open { IsOpen (undrawn_at self.entry) result.row }
+        ensures open { IsOpen self.entry.all self.entry.plan.guarded self.entry.left.now
+            result.row }
         ensures at { result.row.offset ≡ self.entry.offset }
+        ensures follows { IsStep self.entry (Some level) result }
     {
         let behind = &inside[head.len..];
         let (len, cut) = content_there(level, head.content_len, behind.len());
@@ -212,7 +227,10 @@ impl<'a> Place<'a> {
     }
 
     /// Returns the level that the element at this place opens.
-    fn level_inside(&self, element: &Element) -> Level {
+    fn level_inside(&self, element: &Element) -> Level
+        ensures { result.behind
+            ≡ length self.now.left.now - element.now.head.len - element.now.len }
+    {
         let head = element.head;
         Level {
             behind: self
@@ -301,6 +319,8 @@ impl<'a> Place<'a> {
         ensures kind { result.kind ≡ Kind.Element element.now.head.tag }
         ensures field { result.field ≡ element.now.field }
         ensures len { result.len ≡ element.now.len }
+        ensures depth { result.depth ≡ self.entry.depth }
+        ensures announced { result.announced ≡ element.now.head.content_len }
     {
         let head = element.head;
         let shown = if opened || head.tag.constructed {
@@ -349,7 +369,8 @@ fn is_sequence(bytes: &[u8]) -> bool {
 /// Returns the number of bytes that are there of a content of this length inside a level, where as
 /// many bytes are left, and what is marked if that isn't all.
 fn content_there(level: Level, announced: Option<usize>, left: usize) -> (usize, Option<Mark>)
-    ensures { result.0 ≤ left }
+    ensures fits { result.0 ≤ left }
+    ensures len { result.0 ≡ len_within announced left }
 {
     match announced {
         None => (left, None),

@@ -97,6 +97,8 @@ impl<'a> OpenRow<'a> {
         ensures kind { result.kind ≡ self.entry.kind }
         ensures field { result.field ≡ self.entry.field }
         ensures shown { result.shown ≡ self.entry.shown }
+        ensures depth { result.depth ≡ self.entry.depth }
+        ensures announced { result.announced ≡ self.entry.announced }
         ensures content { content_bytes result ≡ content.now }
     {
         OpenRow {

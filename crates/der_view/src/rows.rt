@@ -1,5 +1,7 @@
 //! The rows of any bytes.
-ghost use Rattle.std.specs.Prelude.{◌≡◌, ◌≤◌, ◌-◌, [], true, false, length, IfSome, MatchOption};
+ghost use Rattle.std.specs.Prelude.{◌≡◌, ◌≤◌, ◌-◌, [], ◌∷◌, true, false, length, IfSome};
+ghost use Rattle.std.specs.Prelude.{MatchOption};
+ghost use Rattle.der_view.specs.Levels.{levels_view};
 ghost use Rattle.der_view.specs.Rows.{IsNext, IsOpen, Undrawn};
 
 use crate::levels::{Level, Levels};
@@ -30,6 +32,7 @@ impl<'a> Model for Rows<'a> {
     ghost view = { λ rows. record {
       offset = rows.len - length rows.left.now;
       left = rows.left.now;
+      behind = levels_view rows.levels;
       all = rows.all;
       guarded = rows.plan.guarded;
     } };
@@ -44,6 +47,7 @@ impl<'a> Rows<'a> {
     pub fn new(input: &'a [u8], all: bool) -> Rows<'a>
         ensures left { result.left ≡ input.now }
         ensures offset { result.offset ≡ 0 }
+        ensures behind { result.behind ≡ 0 ∷ [] }
         ensures all { result.all ≡ all }
         ensures guarded { all ≡ true → result.guarded ≡ false }
     {
@@ -73,7 +77,8 @@ impl<'a> Rows<'a> {
         ensures next { MatchOption result ((self.old.left ≡ []) × (self.new ≡ self.old))
             (λ row. IsNext self.old row self.new) }
         // Without `all`, few bytes of contents are in the row, and in a guarded picture fewer.
-        ensures open { IfSome result (λ row. IsOpen self.old row) }
+        ensures open { IfSome result
+            (λ row. IsOpen self.old.all self.old.guarded self.old.left row) }
     {
         if self.left.is_empty() {
             return None;

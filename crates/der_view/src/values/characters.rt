@@ -1,8 +1,10 @@
 //! The characters of a string.
 ghost use Rattle.std.specs.Prelude.{◌≡◌, ◌==◌, ◌<◌, ◌+◌, ◌-◌, ◌*◌, [], ◌∷◌, IfSome, MatchOption};
 ghost use Rattle.std.specs.Prelude.{length, option_map};
-ghost use Rattle.der_view.specs.Characters.{are_characters, codes_by, codes_of, encoding_of, is_utf16};
-ghost use Rattle.der_view.specs.Characters.{is_utf32, string_codes, units_of};
+ghost use Rattle.std.specs.Prelude.{◌&&◌};
+ghost use Rattle.std.specs.Char.Utf16.{is_high_surrogate, is_low_surrogate};
+ghost use Rattle.der_view.specs.Characters.{are_characters, codes_by, codes_of, encoding_of};
+ghost use Rattle.der_view.specs.Characters.{is_utf16, is_utf32, string_codes, units_of};
 
 use der_types::kind::{Ia5String, Kind, NumericString, PrintableString, Utf8String, VisibleString};
 
@@ -128,7 +130,8 @@ fn split_character(encoding: Encoding, bytes: &[u8]) -> Option<(u32, &[u8])>
 /// Returns the first character in ISO 8859-1 and the bytes after it.
 fn split_latin1(bytes: &[u8]) -> Option<(u32, &[u8])>
     ensures { MatchOption result (codes_by Encoding.Latin1 bytes.now ≡ [])
-        (λ split. codes_by Encoding.Latin1 bytes.now ≡ split.0 ∷ codes_by Encoding.Latin1 split.1.now) }
+        (λ split. codes_by Encoding.Latin1 bytes.now
+        ≡ split.0 ∷ codes_by Encoding.Latin1 split.1.now) }
 {
     match bytes {
         [byte, rest @ ..] => Some((u32::from(*byte), rest)),
@@ -198,11 +201,18 @@ fn split_utf16(bytes: &[u8]) -> Option<(u32, &[u8])>
         return Some((high, behind));
     }
     let (low, rest) = split_unit(behind)?;
-    if high < 0xDC00 && low >= 0xDC00 && low < 0xE000 {
+    if are_pair(high, low) {
         Some((0x1_0000 + (high - 0xD800) * 0x400 + (low - 0xDC00), rest))
     } else {
         None
     }
+}
+
+/// Returns `true` if the two units are those of one character.
+fn are_pair(high: u32, low: u32) -> bool
+    ensures { result ≡ (is_high_surrogate high && is_low_surrogate low) }
+{
+    (high >= 0xD800 && high < 0xDC00) && (low >= 0xDC00 && low < 0xE000)
 }
 
 /// Returns the first character in UTF-32 and the bytes after it; `None` if the bytes don't begin

@@ -8,5 +8,6 @@ pub returns-in-None-from_content : goal.returns-in-None-from_content
 returns-in-None-from_content c =
     let table : row_by c.args.content.now ≡ None = sym c.in-None.ensures in
     let curve : curve_by c.args.content.now ≡ None =
-    curve_by-none c.args.content.now (λ curve same. let e = c.in-None-from_content.ensures.only curve same in absurd (cc e)) in
+    curve_by-none c.args.content.now
+    (λ curve same. let e = c.in-None-from_content.ensures.only curve same in absurd (cc e)) in
     rw (table, curve) refl

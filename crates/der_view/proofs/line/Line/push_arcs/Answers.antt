@@ -21,7 +21,8 @@ begun old x y z first second numbers ex ey ez =
 
 pub loop-left-preserved : goal.loop-left-preserved
 loop-left-preserved c =
-    kept-rest c.loop-left.self (0x2E ∷ decimal c.in-Some.arc) (further_text (numbers_below 0 c.next_further.new.self.further.now))
+    kept-rest c.loop-left.self (0x2E ∷ decimal c.in-Some.arc)
+    (further_text (numbers_below 0 c.next_further.new.self.further.now))
     (further_text (numbers_below 0 c.loop-left.left.further.now)) c.push_arc-in-loop-left.new.self
     (kept-next c.loop-left.self _ _ _ _ c.push_byte-in-loop-left.ensures c.push_arc-in-loop-left.ensures)
     (ap further_text c.in-Some.ensures)
@@ -32,13 +33,15 @@ returns-in_default c =
     let short : length c.loop-left.self ≤ 101 = omega (arith, c.len.ensures.value, c.len.ensures.most) in
     kept-last c.loop-left.self (further_text (numbers_below 0 c.loop-left.left.further.now)) short
     (ap further_text c.in_default.ensures.0)
-    ∙ (c.loop-left.invariant ∙ begun c.args.self.now _ _ _ c.args.arcs.first c.args.arcs.second (numbers_below 0 c.args.arcs.further.now) c.push_arc.ensures
-    c.push_byte.ensures c.push_arc-2.ensures)
+    ∙ (c.loop-left.invariant
+    ∙ begun c.args.self.now _ _ _ c.args.arcs.first c.args.arcs.second (numbers_below 0 c.args.arcs.further.now)
+    c.push_arc.ensures c.push_byte.ensures c.push_arc-2.ensures)
 
 pub returns : goal.returns
 returns c =
     let short : length c.loop-left.self ≤ 101 = omega (arith, c.len.ensures.value, c.len.ensures.most) in
     let long : 100 < length c.loop-left.self = omega (arith, c.len.ensures.value, c.loop-left-test.false) in
     kept-over c.loop-left.self (further_text (numbers_below 0 c.loop-left.left.further.now)) short long
-    ∙ (c.loop-left.invariant ∙ begun c.args.self.now _ _ _ c.args.arcs.first c.args.arcs.second (numbers_below 0 c.args.arcs.further.now) c.push_arc.ensures
-    c.push_byte.ensures c.push_arc-2.ensures)
+    ∙ (c.loop-left.invariant
+    ∙ begun c.args.self.now _ _ _ c.args.arcs.first c.args.arcs.second (numbers_below 0 c.args.arcs.further.now)
+    c.push_arc.ensures c.push_byte.ensures c.push_arc-2.ensures)
