@@ -3,7 +3,7 @@ use Rattle.std.proofs.Common.{◌≡◌, ℕ, zero, suc, ◌+◌, ◌-◌, ◌<�
 use Rattle.std.proofs.Common.{◌++◌, get_or-set_other, get_or-set_same}
 use Rattle.std.proofs.lemmas.List.{length-map, map-set}
 use Rattle.std.specs.Prelude.{false, map, nat_lt, slice_index, slice_set, take, true, ◌≢◌}
-use Rattle.std.specs.Prelude.{MatchOption, None, Option, Some}
+use Rattle.std.specs.Prelude.{Bool, is_some, MatchOption, None, Option, Some, ◌&&◌}
 use Rattle.std.proofs.lemmas.Bool.Decides.{nat_tests}
 use Rattle.der_view.specs.Levels.{after_row, behind_of, followed, inside_of, kept_by, last_first, levels_view}
 use Rattle.der_view.specs.Levels.{still_open}
@@ -131,3 +131,9 @@ inside_at-first None (first ∷ levels) left e = absurd (cons-nil first [] e)
 inside_at-first (Some level) [] left e = absurd (cons-nil level.behind [] (sym e))
 inside_at-first (Some level) (first ∷ levels) left e =
     ap (λ end. take (length left - end) left) (ap (λ xs. slice_index xs 0) e)
+
+-- a content that has rows is opened
+pub string_opened : (P : Level → Type 0) (row primitive : Bool) (opened : Option Level) (own len : ℕ)
+    → row ≡ (is_some opened && primitive) → MatchOption opened (own ≡ len) P → own < len → row ≡ primitive
+string_opened P row primitive None own len is closed less = absurd (omega arith)
+string_opened P row primitive (Some level) own len is closed less = is

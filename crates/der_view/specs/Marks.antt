@@ -1,13 +1,19 @@
 -- The words of marks, and their kinds.
 use Rattle.std.specs.Prelude.{ℕ, ◌==◌, ◌/◌, ◌%◌, true, false, if◌then◌else◌, List, [], ◌∷◌, ◌++◌}
-use Rattle.std.specs.Prelude.{codes, Option, Some, None}
+use Rattle.std.specs.Prelude.{Bool, ◌-◌, ◌||◌, ◌&&◌, nat_le, nat_lt, slice_index, codes, Option}
+use Rattle.std.specs.Prelude.{Some, None}
 use Rattle.std.specs.Fmt.{decimal, digit_glyph}
+use Rattle.der_view.specs.declared.header.Class.{Class}
+use Rattle.der_view.specs.declared.header.Class.TheVariants.{Universal}
+use Rattle.der_view.specs.declared.header.Header.{Header}
+use Rattle.der_view.specs.declared.header.Tag.{Tag}
 use Rattle.der_view.specs.declared.mark.ContentFault.{ContentFault}
 use Rattle.der_view.specs.declared.mark.ContentFault.TheVariants as contents
 use Rattle.der_view.specs.declared.mark.ElementFault.{ElementFault}
 use Rattle.der_view.specs.declared.mark.ElementFault.TheVariants as elements
 use Rattle.der_view.specs.declared.mark.Mark.{Mark}
 use Rattle.der_view.specs.declared.mark.Mark.TheVariants as marks
+use Rattle.der_view.specs.declared.mark.Marks.{Marks}
 use Rattle.der_view.specs.declared.mark.Part.{Part}
 use Rattle.der_view.specs.declared.mark.Part.TheVariants as parts
 
@@ -119,3 +125,62 @@ part_name parts.End = codes "end"
 abbrev pub mark_part : Mark → Option (List ℕ)
 mark_part (marks.Expected part) = Some (part_name part)
 mark_part _ = None
+
+-- the marks of a row, of which there are two at most
+abbrev pub first_mark : Marks → Option Mark
+first_mark row_marks = row_marks.first
+
+abbrev pub second_mark : Marks → Option Mark
+second_mark row_marks = row_marks.second
+
+-- the marks with one more, if there is room for it
+abbrev pub marks_by : Option Mark → Option Mark → Option Mark → Marks
+marks_by None second more = record { first = more; second = None }
+marks_by (Some first) None more = record { first = Some first; second = more }
+marks_by (Some first) (Some second) more = record { first = Some first; second = Some second }
+
+abbrev pub marks_with : Marks → Option Mark → Marks
+marks_with row_marks more = marks_by row_marks.first row_marks.second more
+
+-- X.690 sections 8.1.2.2 and 8.1.2.4.2: a number below 31 is in the first byte, and the first byte
+-- after that isn't 80
+abbrev pub tag_mark : List ℕ → ℕ → Option Mark
+tag_mark header number =
+    if slice_index header 0 % 0x20 == 0x1F
+    then (if slice_index header 1 == 0x80 then Some marks.PaddedTag
+    else (if nat_lt number 31 then Some marks.LowTag else None))
+    else None
+
+-- X.690 sections 8.1.3.4 and 8.1.3.5: the number of bytes of the shortest form of a length
+abbrev pub length_len : ℕ → ℕ
+length_len len =
+    if nat_lt len 0x80 then 1
+    else (if nat_lt len 0x100 then 2 else (if nat_lt len 0x10000 then 3 else 4))
+
+-- X.690 section 10.1: the length is definite and in its shortest form
+abbrev pub length_mark : Option ℕ → ℕ → Option Mark
+length_mark None len = Some marks.Indefinite
+length_mark (Some content_len) len =
+    if nat_lt (length_len content_len) len then Some marks.Length else None
+
+-- X.680 section 8.4: BIT STRING, OCTET STRING, UTF8String, the other strings of characters, and the
+-- times, which are VisibleStrings
+abbrev pub is_string : Class → ℕ → Bool
+is_string Universal number =
+    number == 3 || number == 4 || number == 12 || (nat_le 18 number && nat_le number 28)
+    || number == 30
+is_string _ number = false
+
+-- X.690 section 10.2: no string is constructed
+abbrev pub string_mark : Tag → Option Mark
+string_mark tag =
+    if tag.constructed && is_string tag.class tag.number then Some marks.ConstructedString
+    else None
+
+-- the marks of a header: of its tag, of its length, and of its type
+abbrev pub marks_of_header : List ℕ → Header → Marks → Marks
+marks_of_header header head row_marks =
+    marks_with
+    (marks_with (marks_with row_marks (tag_mark header head.tag.number))
+    (length_mark head.content_len (head.len - head.tag_len)))
+    (string_mark head.tag)

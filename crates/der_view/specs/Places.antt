@@ -1,8 +1,8 @@
 -- Where the next row is, and what follows from it.
 use Rattle.std.specs.Prelude.{◌≡◌, ℕ, ◌-◌, List, true, length, take, Option, Some, None}
-use Rattle.std.specs.Prelude.{MatchOption}
+use Rattle.std.specs.Prelude.{MatchOption, is_some, ◌&&◌}
 use Rattle.der_view.specs.Levels.{behind_of, depth_by, kept_by}
-use Rattle.der_view.specs.Rows.{IsRowOf}
+use Rattle.der_view.specs.Rows.{IsRowOf, is_primitive}
 use Rattle.der_view.specs.declared.header.Tag.{Tag}
 use Rattle.der_view.specs.declared.levels.Level.{Level}
 use Rattle.der_view.specs.declared.place.Place.{Place}
@@ -21,6 +21,7 @@ pub record IsStep (place : Place) (level : Option Level) (step : Step) : Type 0 
       step.row.announced step.row.len
   pub depth : step.row.depth ≡ depth_by step.row.kind place.depth
   pub kept : behind_of step.level ≡ kept_by step.row.kind (behind_of level)
+  pub string : step.row.opened ≡ (is_some step.opened && is_primitive step.row.kind)
   pub opened :
       MatchOption step.opened (step.row.own_len ≡ step.row.len)
       (λ opened. (place.has_room ≡ true) × ((tag : Tag) × step.row.kind ≡ Element tag)

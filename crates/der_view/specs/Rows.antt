@@ -1,7 +1,7 @@
 -- The rows of bytes: what they are of, and what they show.
 use Rattle.std.specs.Prelude.{◌≡◌, ℕ, ◌+◌, ◌<◌, ◌≤◌, Bool, true, false, List, [], ◌∷◌, ◌++◌}
 use Rattle.std.specs.Prelude.{◌-◌, nat_le, if◌then◌else◌, length, take, drop, Option, Some, None}
-use Rattle.std.specs.Prelude.{option_map, unwrap_or, Ok, Err}
+use Rattle.std.specs.Prelude.{option_map, unwrap_or, Ok, Err, not}
 use Rattle.der_view.specs.Headers.{header_of}
 use Rattle.der_view.specs.Levels.{after_row, depth_by, inside_of, still_open}
 use Rattle.der_view.specs.Seen.{IsFirst, IsShown, open_len}
@@ -76,6 +76,11 @@ IsRowOf kinds.NoElement left inside header announced len =
 IsRowOf kinds.NotDrawn left inside header announced len =
     (header ≡ []) × (announced ≡ None) × (len ≡ length left)
 
+-- X.690 section 8.1.2.5: the tag of the element says that its content is no elements
+abbrev pub is_primitive : Kind → Bool
+is_primitive (kinds.Element tag) = not tag.constructed
+is_primitive _ = false
+
 -- The row, which the bytes that are left begin with, has no byte of its content but those that may
 -- be seen. With all contents it has those that have no other row too.
 pub record IsOpen (all guarded : Bool) (left : List ℕ) (row : OpenRow) : Type 0 where
@@ -92,6 +97,8 @@ pub record IsNext (old : Undrawn) (row : OpenRow) (new : Undrawn) : Type 0 where
   pub left : new.left ≡ drop (row_len row) old.left
   pub kind :
       IsRowOf row.kind old.left (inside_of old.behind old.left) row.header.now row.announced row.len
+  pub opened : row.own_len < row.len → row.opened ≡ is_primitive row.kind
+  pub closed : row.opened ≡ true → is_primitive row.kind ≡ true
   pub depth : row.depth ≡ depth_by row.kind (length old.behind - 1)
   pub offset : new.offset ≡ old.offset + row_len row
   pub behind :

@@ -1,6 +1,7 @@
 //! The header of an element in BER (X.690 section 8.1).
 ghost use Rattle.std.specs.Prelude.{◌≡◌, ◌<◌, ◌≤◌, ◌+◌, ◌*◌, ◌%◌, ◌∷◌, [], length, IfOk};
 ghost use Rattle.sec1_der.specs.Numbers.{number_of};
+ghost use Rattle.der_view.specs.Marks.{length_len};
 ghost use Rattle.der_view.specs.Headers.{class_of, header_of, length_at, number_after, tag_at};
 
 use crate::mark::ElementFault;
@@ -172,7 +173,9 @@ fn number(a: u8, b: u8, c: u8) -> usize
 }
 
 /// Returns the number of bytes of this length's shortest form (X.690 section 10.1).
-pub(crate) fn length_len(length: usize) -> usize {
+pub(crate) fn length_len(length: usize) -> usize
+    ensures { result ≡ length_len length }
+{
     if length < 0x80 {
         1
     } else if length < 0x100 {

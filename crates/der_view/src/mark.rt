@@ -1,8 +1,9 @@
 //! What is marked below a row: a rule of X.690 that is broken there, or what a key has there.
-ghost use Rattle.std.specs.Prelude.{◌≡◌, Some, option_map};
+ghost use Rattle.std.specs.Prelude.{◌≡◌, Some, option_map, is_none};
 ghost use Rattle.std.specs.Fmt.{WritesOnOk};
 ghost use Rattle.der_view.specs.Marks.{bytes_word, content_words, element_words, mark_kind};
-ghost use Rattle.der_view.specs.Marks.{mark_part, mark_words, part_name, part_words};
+ghost use Rattle.der_view.specs.Marks.{first_mark, mark_part, mark_words, marks_with, part_name};
+ghost use Rattle.der_view.specs.Marks.{part_words, second_mark};
 
 use std::fmt;
 
@@ -301,7 +302,9 @@ impl Marks {
     };
 
     /// Returns the marks with one more, if there is one and two are not there yet.
-    pub(crate) fn with(self, mark: Option<Mark>) -> Marks {
+    pub(crate) fn with(self, mark: Option<Mark>) -> Marks
+        ensures { result ≡ marks_with self mark }
+    {
         if self.first.is_none() {
             Marks {
                 first: mark,
@@ -318,17 +321,23 @@ impl Marks {
     }
 
     /// Returns the first mark.
-    pub fn first(self) -> Option<Mark> {
+    pub fn first(self) -> Option<Mark>
+        ensures { result ≡ first_mark self }
+    {
         self.first
     }
 
     /// Returns the second mark.
-    pub fn second(self) -> Option<Mark> {
+    pub fn second(self) -> Option<Mark>
+        ensures { result ≡ second_mark self }
+    {
         self.second
     }
 
     /// Returns `true` if there is no mark.
-    pub fn is_empty(self) -> bool {
+    pub fn is_empty(self) -> bool
+        ensures { result ≡ is_none (first_mark self) }
+    {
         self.first.is_none()
     }
 }

@@ -1,6 +1,6 @@
 //! The next row.
 ghost use Rattle.std.specs.Prelude.{◌≡◌, ◌<◌, ◌≤◌, ◌-◌, length, take, false, true, Option};
-ghost use Rattle.std.specs.Prelude.{Some, None, Ok};
+ghost use Rattle.std.specs.Prelude.{Some, None, Ok, ◌&&◌, not};
 ghost use Rattle.der_view.specs.Headers.{header_of};
 ghost use Rattle.der_view.specs.Places.{IsStep};
 ghost use Rattle.der_view.specs.Rows.{BeginsWith, IsOpen, content_bytes, len_within};
@@ -143,6 +143,7 @@ impl<'a> Place<'a> {
         ensures len { result.len ≡ length content.now }
         ensures depth { result.depth ≡ self.entry.depth }
         ensures announced { result.announced ≡ None }
+        ensures opened { result.opened ≡ false }
         ensures kind { result.kind ≡ kind }
         ensures hidden { self.entry.all ≡ false → result.content ≡ None }
         ensures whole { self.entry.all ≡ true → content_bytes result ≡ content.now }
@@ -178,6 +179,7 @@ impl<'a> Place<'a> {
     /// Returns the row of an element with this header, which is inside this level.
     fn element(self, level: Level, inside: &'a [u8], head: Header) -> Step<'a>
         requires header { (0 < head.len) × (head.len ≤ length inside.now) }
+        requires tag { head.tag_len ≤ head.len }
         requires head { header_of inside.now ≡ Ok head }
         requires inside { inside.now ≡ take (length inside.now) self.left.now }
         requires fits { length inside.now ≤ length self.left.now }
@@ -311,6 +313,7 @@ impl<'a> Place<'a> {
         opened: bool,
         own_len: usize,
     ) -> OpenRow<'a>
+        requires { element.now.head.tag_len ≤ element.now.head.len }
         ensures at { result.offset ≡ self.entry.offset }
         ensures header { result.header.now ≡ element.now.header.now }
         ensures own { result.own_len ≡ own_len }
@@ -321,6 +324,7 @@ impl<'a> Place<'a> {
         ensures len { result.len ≡ element.now.len }
         ensures depth { result.depth ≡ self.entry.depth }
         ensures announced { result.announced ≡ element.now.head.content_len }
+        ensures opened { result.opened ≡ (opened && not element.now.head.tag.constructed) }
     {
         let head = element.head;
         let shown = if opened || head.tag.constructed {

@@ -1,5 +1,7 @@
 //! What is seen of a row.
-ghost use Rattle.std.specs.Prelude.{◌≡◌, length};
+ghost use Rattle.std.specs.Prelude.{◌≡◌, ◌≤◌, length};
+ghost use Rattle.der_view.specs.Marks.{is_string, length_mark, marks_of_header, string_mark};
+ghost use Rattle.der_view.specs.Marks.{tag_mark};
 ghost use Rattle.der_view.specs.Rows.{content_bytes};
 ghost use Rattle.der_view.specs.Seen.{IsFirst, IsShown, point_by, public_len, seen_len};
 
@@ -99,6 +101,7 @@ impl<'a> OpenRow<'a> {
         ensures shown { result.shown ≡ self.entry.shown }
         ensures depth { result.depth ≡ self.entry.depth }
         ensures announced { result.announced ≡ self.entry.announced }
+        ensures opened { result.opened ≡ self.entry.opened }
         ensures content { content_bytes result ≡ content.now }
     {
         OpenRow {
@@ -112,28 +115,54 @@ impl<'a> OpenRow<'a> {
     }
 }
 
-/// Returns the marks of a header with these bytes.
-pub(crate) fn header_marks(bytes: &[u8], head: &Header, marks: Marks) -> Marks {
-    let tag = match bytes {
-        [first, 0x80, ..] if first % 0x20 == 0x1F => Some(Mark::PaddedTag),
-        [first, ..] if first % 0x20 == 0x1F && head.tag.number < 31 => Some(Mark::LowTag),
+/// Returns the marks of a header with these bytes, behind others.
+pub(crate) fn header_marks(bytes: &[u8], head: &Header, marks: Marks) -> Marks
+    requires { head.now.tag_len ≤ head.now.len }
+    ensures { result ≡ marks_of_header bytes.now head.now marks }
+{
+    marks
+        .with(tag_mark(bytes, head.tag.number))
+        .with(length_mark(head.content_len, head.len - head.tag_len))
+        .with(string_mark(head.tag))
+}
+
+/// Returns the mark of a tag with this number, whose header has these bytes (X.690 section 8.1.2).
+fn tag_mark(bytes: &[u8], number: u32) -> Option<Mark>
+    ensures { result ≡ tag_mark bytes.now number }
+{
+    match bytes {
+        [first, 0x80, ..] if *first % 0x20 == 0x1F => Some(Mark::PaddedTag),
+        [first, ..] if *first % 0x20 == 0x1F && number < 31 => Some(Mark::LowTag),
         _ => None,
-    };
-    let tag_and_length = match head.content_len {
-        Some(len) if head.len > head.tag_len.saturating_add(length_len(len)) => Some(Mark::Length),
-        Some(_) => None,
+    }
+}
+
+/// Returns the mark of this length of a content, which is of so many bytes (X.690 section 10.1).
+fn length_mark(content_len: Option<usize>, len: usize) -> Option<Mark>
+    ensures { result ≡ length_mark content_len len }
+{
+    match content_len {
         None => Some(Mark::Indefinite),
-    };
-    let string = if head.tag.constructed && is_string(head.tag) {
+        Some(content_len) if len > length_len(content_len) => Some(Mark::Length),
+        Some(_) => None,
+    }
+}
+
+/// Returns the mark of a tag that is a constructed string's (X.690 section 10.2).
+fn string_mark(tag: Tag) -> Option<Mark>
+    ensures { result ≡ string_mark tag }
+{
+    if tag.constructed && is_string(tag) {
         Some(Mark::ConstructedString)
     } else {
         None
-    };
-    marks.with(tag).with(tag_and_length).with(string)
+    }
 }
 
 /// Returns `true` if the tag is that of a string (X.690 section 10.2).
-fn is_string(tag: Tag) -> bool {
+fn is_string(tag: Tag) -> bool
+    ensures { result ≡ is_string tag.class tag.number }
+{
     matches!(
         (tag.class, tag.number),
         (Class::Universal, 3 | 4 | 12 | 18..=28 | 30)

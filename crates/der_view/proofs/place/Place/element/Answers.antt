@@ -5,6 +5,7 @@ use Rattle.std.proofs.lemmas.Option.{none-some}
 use Rattle.der_view.specs.Seen.{IsFirst, open_len}
 use Rattle.der_view.proofs.SeenLemmas.{content_inside, seen_shown}
 use Rattle.der_view.proofs.place.Place.element.Goals as goal
+use Rattle.std.specs.Prelude.{is_some, ◌&&◌, not}
 use Rattle.der_view.specs.declared.row.Kind.TheVariants.{Element}
 use Rattle.der_view.proofs.place.Place.element.Goals.{then-self-2, else-self-2, in-Some, in-None}
 use Rattle.der_view.proofs.place.Place.element.Goals.{in-Some-opened, in-None-opened, then-self, else-self}
@@ -109,6 +110,22 @@ header_is c =
       | else-self-2 w ↦ rw w.result-is (ap length c.element_row-row.ensures.header ∙ cut)
     ]
 
+opened_is : (c : goal.Joined-opened-2)
+    → c.if-self-2.result.opened ≡ (is_some c.match-opened-2.result && not c.args.head.tag.constructed)
+opened_is c =
+    let same : is_some c.match-opened.opened ≡ is_some c.match-opened-2.result =
+    elim c.match-opened-2.branch [
+      | in-Some-opened w ↦ rw (w.result-is, w.in-Some-opened.is) refl
+      | in-None-opened w ↦ rw (w.result-is, w.in-None-opened.is) refl
+    ] in
+    let primitive = not c.args.head.tag.constructed in
+    let row : c.element_row-row.result.opened ≡ (is_some c.match-opened-2.result && primitive) =
+    c.element_row-row.ensures.opened ∙ ap (λ some. some && primitive) (c.is_some-2.ensures ∙ same) in
+    elim c.if-self-2.branch [
+      | then-self-2 w ↦ rw w.result-is (w.with.ensures.opened ∙ row)
+      | else-self-2 w ↦ rw w.result-is row
+    ]
+
 -- what is opened has room
 room_is : (c : goal.Joined-opened-2) (own : ℕ) → c.match-opened.opened ≡ Some own → c.args.self.has_room ≡ true
 room_is c own some =
@@ -143,6 +160,7 @@ returns-clause-follows c =
       kind = rw (kind_is c, same) (c.args.head, c.requires.head, refl, header_is c, announced_is c, len_is c ∙ len);
       depth = rw (kind_is c) (depth_is c);
       kept = rw (kind_is c) (ap (λ end. end ∷ []) c.after.ensures);
+      string = rw (kind_is c) (opened_is c);
       opened = elim c.match-opened-2.branch [
         | in-Some-opened w ↦
             rw (w.result-is, header_is c, len_is c) (

@@ -1,6 +1,10 @@
-use Rattle.std.proofs.Common.{◌≡◌, ℕ, ◌+◌, ◌-◌, List, ◌∙◌, refl, ap, arith, sym, drop, take, length, length-drop}
+use Rattle.std.proofs.Common.{◌≡◌, ℕ, ◌+◌, ◌-◌, ◌<◌, List, true, ◌∙◌, refl, ap, arith, sym, drop, take, length}
+use Rattle.std.proofs.Common.{length-drop}
+use Rattle.std.specs.Prelude.{is_some}
+use Rattle.std.proofs.lemmas.Bool.{and_parts}
 use Rattle.std.proofs.lemmas.List.{take_all}
-use Rattle.der_view.proofs.LevelLemmas.{inside_at-first, levels-after}
+use Rattle.der_view.specs.Rows.{is_primitive}
+use Rattle.der_view.proofs.LevelLemmas.{inside_at-first, levels-after, string_opened}
 use Rattle.der_view.specs.Levels.{behind_of, depth_by, kept_by, levels_view, still_open}
 use Rattle.der_view.proofs.rows.Rows.next_row.Goals as goal
 use Rattle.der_view.proofs.rows.Rows.next_row.Goals.{then-unfinished+then-not-matches, else-unfinished}
@@ -37,6 +41,11 @@ returns-clause-next c =
     let kind = rw (inside_at-first c.innermost.result levels left first) at step.follows.kind in
     let offset : c.self.inside.len - rest ≡ c.self.inside.len - length left + n =
     omega (arith, size, c.self.invariant.0, bytes.fits, bytes.own) in
+    let opened : row.own_len < row.len → row.opened ≡ is_primitive row.kind =
+    string_opened _ row.opened (is_primitive row.kind) c.step-step.result.opened row.own_len row.len
+    step.follows.string step.follows.opened in
+    let closed : row.opened ≡ true → is_primitive row.kind ≡ true =
+    λ is. (and_parts (is_some c.step-step.result.opened) (is_primitive row.kind) (sym step.follows.string ∙ is)).1 in
     elim c.if-unfinished.branch [
       | then-unfinished+then-not-matches w ↦
           rw (w.row-is, sym c.self.view_is)
@@ -45,6 +54,8 @@ returns-clause-next c =
             bytes = record { header = bytes.header; some = bytes.some; own = bytes.own; fits = bytes.fits };
             left = cut;
             kind = kind;
+            opened = opened;
+            closed = closed;
             depth = step.follows.depth ∙ ap (depth_by row.kind) c.depth.ensures;
             offset = offset;
             behind = c.close_finished-unfinished.ensures ∙ (ap (λ l. still_open rest l) c.follow.ensures ∙ behind);
@@ -58,6 +69,8 @@ returns-clause-next c =
             bytes = record { header = bytes.header; some = bytes.some; own = bytes.own; fits = bytes.fits };
             left = cut;
             kind = kind;
+            opened = opened;
+            closed = closed;
             depth = step.follows.depth ∙ ap (depth_by row.kind) c.depth.ensures;
             offset = offset;
             behind = c.close_finished-unfinished.ensures ∙ (ap (λ l. still_open rest l) c.follow.ensures ∙ behind);
