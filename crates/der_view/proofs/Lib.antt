@@ -1,9 +1,14 @@
 pub mod ArcLemmas
 pub mod CharacterLemmas
+pub mod EncodedLemmas
 pub mod LevelLemmas
 pub mod LineLemmas
 pub mod NameLemmas
+pub mod PictureLemmas
 pub mod RowLemmas
+pub mod RowLineLemmas
 pub mod SeenLemmas
+pub mod SourceLemmas
 pub mod TextLemmas
 pub mod ValueLemmas
+pub mod VerdictLemmas

@@ -1,5 +1,6 @@
-//! What is seen of any bytes: a row for each header of BER (X.690 section 8.1), in order, with what
-//! may be shown of the contents, as text in lines. No call allocates.
+//! What is seen of any input: DER, or a text that encodes some. There is a row for each header of
+//! BER (X.690 section 8.1), in order, with what may be shown of the contents; a last line says what
+//! the bytes are. No call allocates.
 #![tactic(auto)]
 
 mod children;
@@ -10,10 +11,12 @@ mod levels;
 mod line;
 mod mark;
 mod names;
+mod picture;
 mod place;
 mod plan;
 mod row;
 mod rows;
+mod text;
 mod values;
 
 pub use field::{Field, Form};
@@ -21,9 +24,11 @@ pub use header::{Class, Header, Tag};
 pub use line::{Line, MAX_WIDTH};
 pub use mark::{ContentFault, ElementFault, Mark, Marks, Part};
 pub use names::{Name, Word, name_of};
+pub use picture::{Reading, Subject, Verdict, draw, is_key};
 pub use plan::Plan;
 pub use row::{Kind, OpenRow, Point, Shown};
 pub use rows::Rows;
+pub use text::{Block, Encoding, Found, Note, Source, Sources, room_len};
 pub use values::{Arcs, Characters, ShortText, Value, universal_name, value_of};
 
 #[cfg(test)]

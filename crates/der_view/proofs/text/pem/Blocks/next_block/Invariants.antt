@@ -1,0 +1,8 @@
+use Rattle.std.proofs.Common.{◌≤◌, length}
+use Rattle.der_view.proofs.text.pem.Blocks.next_block.Given as goal
+
+abbrev pub invariant-loop-line : goal.invariant-loop-line
+invariant-loop-line l = length l.self.lines.rest.now ≤ length l.fn.self.lines.rest.now
+
+abbrev pub decreases-loop-line : goal.decreases-loop-line
+decreases-loop-line l = length l.self.lines.rest.now

@@ -1,0 +1,8 @@
+use Rattle.std.proofs.Common.{length}
+use Rattle.der_view.proofs.text.pem.are_of_encryption.Given as goal
+
+abbrev pub invariant-loop-line : goal.invariant-loop-line
+invariant-loop-line l = Unit {0}
+
+abbrev pub decreases-loop-line : goal.decreases-loop-line
+decreases-loop-line l = length l.lines.rest.now
