@@ -12,7 +12,8 @@ use Rattle.der_view.specs.Rows.{content_bytes}
 use Rattle.der_view.specs.declared.mark.Mark.{Mark}
 use Rattle.der_view.specs.Lines.{shown}
 use Rattle.der_view.specs.Verdicts.{VerdictView}
-use Rattle.der_view.specs.Pictures.{AreRowsOf, command_text, lead_text, verdict_text, mark_text, content_piece, content_text, row_text, rows_text}
+use Rattle.der_view.specs.Pictures.{AreRowsOf, command_text, lead_text, verdict_text, mark_text, content_piece}
+use Rattle.der_view.specs.Pictures.{content_text, row_text, rows_text}
 use Rattle.der_view.specs.Rows.{IsNext, IsOpen, Undrawn}
 use Rattle.der_view.specs.declared.row.OpenRow.{OpenRow}
 
@@ -25,7 +26,8 @@ AreRowsOf-snoc (first ∷ rows) row old mid new (between, one, seen, more) next 
     (between, one, seen, AreRowsOf-snoc rows row between mid new more next is)
 
 -- and its lines
-pub rows_text-snoc : (rows : List OpenRow) (row : OpenRow) → rows_text (rows ++ row ∷ []) ≡ rows_text rows ++ row_text row
+pub rows_text-snoc : (rows : List OpenRow) (row : OpenRow)
+    → rows_text (rows ++ row ∷ []) ≡ rows_text rows ++ row_text row
 rows_text-snoc [] row = append-nil (row_text row)
 rows_text-snoc (first ∷ rows) row =
     ap (λ (text : List ℕ). row_text first ++ text) (rows_text-snoc rows row)
@@ -50,8 +52,10 @@ content_text-snoc count [] byte =
     append-nil (content_piece count byte) ∙ ap (λ (n : ℕ). content_piece n byte) (sym (add-zero count))
 content_text-snoc count (first ∷ bytes) byte =
     ap (λ (text : List ℕ). content_piece count first ++ text)
-    (content_text-snoc (count + 1) bytes byte ∙ ap (λ (n : ℕ). content_text (count + 1) bytes ++ content_piece n byte) (omega arith))
-    ∙ sym (append_assoc (content_piece count first) (content_text (count + 1) bytes) (content_piece (count + length (first ∷ bytes)) byte))
+    (content_text-snoc (count + 1) bytes byte
+    ∙ ap (λ (n : ℕ). content_text (count + 1) bytes ++ content_piece n byte) (omega arith))
+    ∙ sym (append_assoc (content_piece count first) (content_text (count + 1) bytes)
+    (content_piece (count + length (first ∷ bytes)) byte))
 
 pub content_written : (a b c : Option (List ℕ)) (content : List ℕ) (i : ℕ) → i < length content
     → Appends a b (content_text 0 (take i content)) → Appends b c (content_piece i (get_or content i 0))
@@ -82,7 +86,8 @@ pub verdict_written : (a b c d : Option (List ℕ)) (words lead : List ℕ) (com
     → Appends a d (shown words ++ (codes "\n" ++ (lead_text lead ++ command_text command)))
 verdict_written a b c d words lead command wa wb wc =
     rw (sym (append_assoc (shown words) (codes "\n") (lead_text lead ++ command_text command)))
-    (Appends-trans a b d (shown words ++ codes "\n") _ wa (Appends-trans b c d (lead_text lead) (command_text command) wb wc))
+    (Appends-trans a b d (shown words ++ codes "\n") _ wa
+    (Appends-trans b c d (lead_text lead) (command_text command) wb wc))
 
 -- what is said, written
 pub verdict_as : (a b : Option (List ℕ)) (v w : VerdictView) → v ≡ w → Appends a b (verdict_text v)

@@ -27,7 +27,8 @@ hex_words-snoc (first ∷ bytes) byte =
     ap (λ (t : List ℕ). codes " " ++ (encode_upper (first ∷ []) ++ t)) (hex_words-snoc bytes byte)
     ∙ (ap (λ (t : List ℕ). codes " " ++ t)
     (sym (append_assoc (encode_upper (first ∷ [])) (hex_words bytes) (codes " " ++ encode_upper (byte ∷ []))))
-    ∙ sym (append_assoc (codes " ") (encode_upper (first ∷ []) ++ hex_words bytes) (codes " " ++ encode_upper (byte ∷ []))))
+    ∙ sym (append_assoc (codes " ") (encode_upper (first ∷ []) ++ hex_words bytes)
+    (codes " " ++ encode_upper (byte ∷ []))))
 
 -- one more byte of a header
 pub header_more : (old header x y z : List ℕ) (i : ℕ) → i < length header → x ≡ kept (old ++ hex_words (take i header))
@@ -55,7 +56,8 @@ pub label_not_drawn : (old text x y : List ℕ) (kind : Kind) (len : ℕ) → ki
 label_not_drawn old text x y kind len is ex ey = rw is (kept-next old (bytes_text len) (codes " not drawn") x y ex ey)
 
 -- a value, or what is shown but it
-pub shown_some : (old new : List ℕ) (r : Option Value) (value : Value) (view : Option ValueView) (shown : Shown) (count : ℕ)
+pub shown_some : (old new : List ℕ) (r : Option Value) (value : Value) (view : Option ValueView) (shown : Shown)
+    (count : ℕ)
     → option_map value_view r ≡ view → r ≡ Some value → new ≡ kept (old ++ value_text (value_view value))
     → new ≡ kept (old ++ shown_text view shown count)
 shown_some old new r value view shown count e is same = rw (sym e, is) same

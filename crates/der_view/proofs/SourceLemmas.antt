@@ -36,7 +36,8 @@ or-assoc true b c = refl
 or-assoc false b c = refl
 
 -- one more picture
-pub ArePictures-snoc : (all : Bool) (sources : List Source) (source : Source) (text more : List ℕ) (has_key is_key : Bool)
+pub ArePictures-snoc : (all : Bool) (sources : List Source) (source : Source) (text more : List ℕ)
+    (has_key is_key : Bool)
     → ArePictures all sources text has_key → IsPictureOfSource all source more is_key
     → ArePictures all (sources ++ source ∷ []) (text ++ more) (has_key || is_key)
 ArePictures-snoc all [] source text more has_key is_key (none, never) is = (
@@ -49,16 +50,17 @@ ArePictures-snoc all [] source text more has_key is_key (none, never) is = (
   (ap (λ (t : List ℕ). t ++ more) none ∙ sym (append-nil more)),
   (ap (λ (b : Bool). b || is_key) never ∙ or-false is_key),
 )
-ArePictures-snoc all (first ∷ sources) source text more has_key is_key (one, rest, key, others, drawn, are, whole, any) is = (
-  one,
-  rest ++ more,
-  key,
-  others || is_key,
-  drawn,
-  ArePictures-snoc all sources source rest more others is_key are is,
-  (ap (λ (t : List ℕ). t ++ more) whole ∙ append_assoc one rest more),
-  (ap (λ (b : Bool). b || is_key) any ∙ or-assoc key others is_key),
-)
+ArePictures-snoc all (first ∷ sources) source text more has_key is_key
+    (one, rest, key, others, drawn, are, whole, any) is = (
+      one,
+      rest ++ more,
+      key,
+      others || is_key,
+      drawn,
+      ArePictures-snoc all sources source rest more others is_key are is,
+      (ap (λ (t : List ℕ). t ++ more) whole ∙ append_assoc one rest more),
+      (ap (λ (b : Bool). b || is_key) any ∙ or-assoc key others is_key),
+    )
 
 -- a text that encodes nothing
 pub text_none : (a b c : Option (List ℕ)) (all : Bool) (read : Reading) (bytes : Option (List ℕ)) (front more : List ℕ)

@@ -50,7 +50,8 @@ said_kept words line other result e is =
 -- what a key is on
 pub key_words_some : (facts : Facts) (front : List ℕ) (known : Bool) (line : Option (List ℕ)) (words : List ℕ)
     → known ≡ knows_curve facts → front ≡ key_front known
-    → line ≡ option_map kept (named front (curve_of facts) (codes ".")) → line ≡ Some words → words ≡ kept (key_words facts)
+    → line ≡ option_map kept (named front (curve_of facts) (codes ".")) → line ≡ Some words
+    → words ≡ kept (key_words facts)
 key_words_some facts front known line words k f e is =
     words_kept (named (key_front (knows_curve facts)) (curve_of facts) (codes ".")) words _
     (rw (f, k) at (sym e ∙ is))

@@ -18,7 +18,8 @@ reading_of sources.Utf16 = readings.Nothing
 -- behind its heading, the picture of what a text encodes; a text that encodes nothing is no key
 abbrev pub IsPictureOfText : Bool → Reading → Option (List ℕ) → List ℕ → Bool → Type 0
 IsPictureOfText all reading (Some bytes) text has_key =
-    (front : List ℕ) × (rest : List ℕ) × IsPicture all reading bytes rest has_key × (text ≡ front ++ rest)
+    (front : List ℕ) × (rest : List ℕ) × IsPicture all reading bytes rest has_key
+    × (text ≡ front ++ rest)
 IsPictureOfText all reading None text has_key = has_key ≡ false
 
 -- the picture of a source

@@ -36,7 +36,8 @@ mark_text (Some mark) = codes "     ^ " ++ (mark_words mark ++ codes "\n")
 abbrev pub row_text : OpenRow → List ℕ
 row_text row =
     row_line row
-    ++ (content_text 0 (content_bytes row) ++ (codes "\n" ++ (mark_text row.marks.first ++ mark_text row.marks.second)))
+    ++ (content_text 0 (content_bytes row)
+    ++ (codes "\n" ++ (mark_text row.marks.first ++ mark_text row.marks.second)))
 
 -- the lines of rows
 abbrev pub rows_text : List OpenRow → List ℕ

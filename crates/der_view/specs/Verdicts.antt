@@ -94,7 +94,8 @@ name_or_arcs None arcs = option_map dotted arcs
 abbrev pub named : List ℕ → Option (List ℕ) → List ℕ → Option (List ℕ)
 named before None after = None
 named before (Some content) after =
-    option_map (λ name. before ++ (name ++ after)) (name_or_arcs (name_by content) (arcs_by content))
+    option_map (λ name. before ++ (name ++ after))
+    (name_or_arcs (name_by content) (arcs_by content))
 
 -- whether OpenSSL knows the curve
 abbrev pub curve_of : Facts → Option (List ℕ)
@@ -214,7 +215,8 @@ of_whole forms.DsaPrivateKey reading len plan facts =
 of_whole forms.Signature reading len plan facts =
     said (codes "These are two INTEGERs, as of an ECDSA signature (RFC 3279): no key.")
 of_whole forms.Curve reading len plan facts =
-    said_or (named (codes "This names the curve ") (curve_of facts) (codes ": it has no private key."))
+    said_or (named (codes "This names the curve ") (curve_of facts)
+    (codes ": it has no private key."))
     (of_damaged reading len plan facts)
 of_whole form reading len plan facts = of_damaged reading len plan facts
 

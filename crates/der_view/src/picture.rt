@@ -1,13 +1,15 @@
 //! The picture of an input: what is printed of it.
 ghost use Rattle.hex.specs.Hex.{encode_upper};
-ghost use Rattle.std.specs.Prelude.{◌≡◌, ◌++◌, ◌∷◌, ◌≤◌, ◌+◌, ◌*◌, [], ℕ, List, length, IfOk, OnOk, codes, option_map};
+ghost use Rattle.std.specs.Prelude.{◌≡◌, ◌++◌, ◌∷◌, ◌≤◌, ◌+◌, ◌*◌, [], ℕ, List, length, IfOk, OnOk};
+ghost use Rattle.std.specs.Prelude.{codes, option_map};
 ghost use Rattle.std.specs.Io.KnownBytes.{Appends};
 ghost use Rattle.der_view.specs.Lines.{shown};
 ghost use Rattle.der_view.specs.Pictures.{AreRows, IsKey, IsPicture, command_text};
 ghost use Rattle.der_view.specs.Pictures.{content_piece, content_text, lead_text, line_front};
 ghost use Rattle.der_view.specs.Pictures.{mark_text, row_text, rows_text, verdict_text};
 ghost use Rattle.der_view.specs.Contents.{bytes_in};
-ghost use Rattle.der_view.specs.Inputs.{ArePictures, IsPictureOfSource, IsPictureOfText, reading_of};
+ghost use Rattle.der_view.specs.Inputs.{ArePictures, IsPictureOfSource, IsPictureOfText};
+ghost use Rattle.der_view.specs.Inputs.{reading_of};
 ghost use Rattle.der_view.specs.Rows.{content_bytes};
 ghost use Rattle.der_view.specs.Sources.{source_len, text_len};
 ghost use Rattle.der_view.specs.declared.text.Source.{Source};

@@ -1,6 +1,8 @@
 //! What an input is: DER, or a text that encodes some.
-ghost use Rattle.std.specs.Prelude.{◌≡◌, ◌≤◌, ◌<◌, ◌+◌, ◌*◌, ◌^◌, ◌-◌, ℕ, length, min, IfNone, IfSome};
-ghost use Rattle.der_view.specs.Contents.{IsFound, block_bytes, bytes_in, is_dump, sequence_in, text_bytes};
+ghost use Rattle.std.specs.Prelude.{◌≡◌, ◌≤◌, ◌<◌, ◌+◌, ◌*◌, ◌^◌, ◌-◌, ℕ, length, min, IfNone};
+ghost use Rattle.std.specs.Prelude.{IfSome};
+ghost use Rattle.der_view.specs.Contents.{IsFound, block_bytes, bytes_in, is_dump, sequence_in};
+ghost use Rattle.der_view.specs.Contents.{text_bytes};
 ghost use Rattle.der_view.specs.Encoded.{base64_bytes};
 ghost use Rattle.der_view.specs.Sources.{IsWithin, is_text, source_len, sources_left, text_len};
 

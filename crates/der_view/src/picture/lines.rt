@@ -3,7 +3,8 @@ ghost use Rattle.std.specs.Prelude.{◌≡◌, ◌≤◌, ◌+◌, ◌-◌, ◌*
 ghost use Rattle.std.specs.Fmt.{decimal};
 ghost use Rattle.der_view.specs.Lines.{kept};
 ghost use Rattle.der_view.specs.RowLines.{bit_count, byte_word, bytes_text, columns, count_of};
-ghost use Rattle.der_view.specs.RowLines.{field_if, field_note, hex_words, indent, label_by, len_in};
+ghost use Rattle.der_view.specs.RowLines.{field_if, field_note, hex_words, indent, label_by};
+ghost use Rattle.der_view.specs.RowLines.{len_in};
 ghost use Rattle.der_view.specs.RowLines.{len_of};
 ghost use Rattle.der_view.specs.RowLines.{length_text, level_text, note_by, number_or_mark};
 ghost use Rattle.der_view.specs.RowLines.{offset_text, or_len, point_text, printed_len, row_line};

@@ -96,7 +96,8 @@ impl Verdict {
 
     /// Returns a line with this command, if there is one, below what it does.
     fn below(words: Line, lead: &'static str, command: Option<&'static str>) -> Verdict
-        ensures { verdict_view result ≡ below words lead.now (option_map (λ text. text.now) command.entry) }
+        ensures { verdict_view result ≡ below words lead.now
+            (option_map (λ text. text.now) command.entry) }
     {
         Verdict {
             words,
@@ -192,7 +193,8 @@ impl<'a> Subject<'a> {
 
     /// Returns what is said of the bytes, which are a key's or not.
     pub fn verdict(&self, is_key: bool) -> Verdict
-        ensures { verdict_view result ≡ kept_verdict (verdict_of self.now.reading self.now.len is_key
+        ensures { verdict_view result ≡ kept_verdict
+            (verdict_of self.now.reading self.now.len is_key
             self.now.plan self.now.facts) }
     {
         if is_key {
@@ -206,7 +208,8 @@ impl<'a> Subject<'a> {
 
     /// Returns what is said of the bytes by what they are.
     fn of_form(&self) -> Verdict
-        ensures { verdict_view result ≡ kept_verdict (of_form self.now.plan.form self.now.reading self.now.len
+        ensures { verdict_view result ≡ kept_verdict
+            (of_form self.now.plan.form self.now.reading self.now.len
             self.now.plan self.now.facts) }
     {
         match self.plan.form {
@@ -273,7 +276,8 @@ impl<'a> Subject<'a> {
 
     /// Returns what is said of encrypted PKCS #8.
     fn of_encrypted(&self) -> Verdict
-        ensures { verdict_view result ≡ kept_verdict (of_encrypted self.now.reading self.now.facts) }
+        ensures { verdict_view result ≡ kept_verdict
+            (of_encrypted self.now.reading self.now.facts) }
     {
         let words = "This is encrypted PKCS #8 (RFC 5958).";
         if self.facts.marked.is_some() {
@@ -288,7 +292,8 @@ impl<'a> Subject<'a> {
 
     /// Returns what is said of bytes that are all of a form which may have a private key.
     fn of_whole(&self) -> Verdict
-        ensures { verdict_view result ≡ kept_verdict (of_whole self.now.plan.form self.now.reading self.now.len
+        ensures { verdict_view result ≡ kept_verdict
+            (of_whole self.now.plan.form self.now.reading self.now.len
             self.now.plan self.now.facts) }
     {
         match self.plan.form {
@@ -315,7 +320,8 @@ impl<'a> Subject<'a> {
 
     /// Returns these words, or else what is said of damaged bytes.
     fn said_or_damaged(&self, words: Option<Line>) -> Verdict
-        ensures { verdict_view result ≡ said_or words (kept_verdict (of_damaged self.now.reading self.now.len
+        ensures { verdict_view result ≡ said_or words
+            (kept_verdict (of_damaged self.now.reading self.now.len
             self.now.plan self.now.facts)) }
     {
         match words {
@@ -326,7 +332,8 @@ impl<'a> Subject<'a> {
 
     /// Returns what is said of PKCS #8.
     fn of_container(&self) -> Verdict
-        ensures { verdict_view result ≡ kept_verdict (of_container self.now.reading self.now.len self.now.plan
+        ensures { verdict_view result ≡ kept_verdict
+            (of_container self.now.reading self.now.len self.now.plan
             self.now.facts (option_map (λ content. content.now) self.now.facts.algorithm)) }
     {
         match self.facts.algorithm {
@@ -362,7 +369,8 @@ impl<'a> Subject<'a> {
 
     /// Returns what is said of bytes that are of no form, or not all of one.
     fn of_damaged(&self) -> Verdict
-        ensures { verdict_view result ≡ kept_verdict (of_damaged self.now.reading self.now.len self.now.plan
+        ensures { verdict_view result ≡ kept_verdict
+            (of_damaged self.now.reading self.now.len self.now.plan
             self.now.facts) }
     {
         if self.plan.guarded {
@@ -374,7 +382,8 @@ impl<'a> Subject<'a> {
 
     /// Returns what is said of a guarded picture that is of no form, or not all of one.
     fn of_guarded(&self) -> Verdict
-        ensures { verdict_view result ≡ kept_verdict (of_guarded self.now.reading self.now.len self.now.plan
+        ensures { verdict_view result ≡ kept_verdict
+            (of_guarded self.now.reading self.now.len self.now.plan
             self.now.facts self.now.facts.whole_len) }
     {
         match self.facts.whole_len {

@@ -12,7 +12,8 @@ fn is_blank(byte: u8) -> bool
     byte == b' ' || byte == b'\t' || byte == b'\r' || byte == b'\n'
 }
 
-/// Writes the bytes of a text that are no blanks to the front of `digits`, and returns their number.
+/// Writes the bytes of a text that are no blanks to the front of `digits`, and returns their
+/// number.
 fn strip(text: &[u8], digits: &mut [u8]) -> usize
     requires { length text.now ≤ length digits.old }
     ensures digits { take result digits.new ≡ stripped text.now }

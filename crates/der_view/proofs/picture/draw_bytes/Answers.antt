@@ -9,7 +9,8 @@ returns g c =
     let rows = c.in_ok-write_rows.ensures.0 in (
       rows_text rows ++ verdict_text (verdict_on c.new.result c.is_key-is_key.result),
       Appends-trans _ _ _ _ _ c.in_ok-write_rows.ensures.2
-          (verdict_as _ _ _ (verdict_on c.new.result c.is_key-is_key.result) c.verdict.ensures c.in_ok-write_verdict.ensures),
+          (verdict_as _ _ _ (verdict_on c.new.result c.is_key-is_key.result) c.verdict.ensures
+          c.in_ok-write_verdict.ensures),
       record {
         rows = rows;
         subject = c.new.result;

@@ -5,4 +5,5 @@ use Rattle.der_view.proofs.picture.write_content.Given as goal
 
 abbrev pub invariant-loop-index : goal.invariant-loop-index
 invariant-loop-index g l =
-    Appends (g.W.Write.contents l.initial.writer) (g.W.Write.contents l.writer) (content_text 0 (take l.index l.content))
+    Appends (g.W.Write.contents l.initial.writer) (g.W.Write.contents l.writer)
+    (content_text 0 (take l.index l.content))

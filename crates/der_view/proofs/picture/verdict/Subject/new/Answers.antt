@@ -11,7 +11,8 @@ loop-row-preserved c =
     let rows = c.loop-row.invariant.0 in
     let row = c.in-Some.row in
     let same : c.see.new.self ≡ with_rows no_facts (rows ++ row ∷ []) =
-    c.see.ensures ∙ (ap (λ facts. with_row facts row) c.loop-row.invariant.2 ∙ sym (with_rows-snoc no_facts rows row)) in (
+    c.see.ensures ∙ (ap (λ facts. with_row facts row) c.loop-row.invariant.2
+    ∙ sym (with_rows-snoc no_facts rows row)) in (
       rows ++ row ∷ [],
       AreRowsOf-snoc rows row _ _ _ c.loop-row.invariant.1 c.in-Some.ensures.next c.in-Some.ensures.open,
       same,
