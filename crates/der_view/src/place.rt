@@ -193,7 +193,7 @@ impl<'a> Place<'a> {
         let behind = &inside[head.len..];
         let (len, cut) = content_there(level, head.content_len, behind.len());
         let content = &behind[..len];
-        let field = field_in(level, inside);
+        let field = self.field(level, inside);
         let element = Element {
             head,
             header: &inside[..head.len],
@@ -261,6 +261,17 @@ impl<'a> Place<'a> {
             guarded_part(tag, field, content)
         } else {
             public_part(tag, content)
+        }
+    }
+
+    /// Returns the field of the element at this place. What follows the part of a damaged key that
+    /// has its form is no field.
+    fn field(&self, level: Level, inside: &[u8]) -> Option<Field> {
+        let end = self.plan.drawn_to;
+        if self.depth > 0 && end > 0 && self.offset >= end {
+            None
+        } else {
+            field_in(level, inside)
         }
     }
 

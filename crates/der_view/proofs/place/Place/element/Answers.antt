@@ -28,12 +28,12 @@ returns-clause-open c =
       | in-None w ↦ omega (arith, w.own_len-is)
     ] in
     let content = take n (drop h inside) in
-    let most = open_len c.args.self.plan.guarded c.args.head.tag c.field_in-field.result content in
+    let most = open_len c.args.self.plan.guarded c.args.head.tag c.field-field.result content in
     let first : IsFirst most content c.seen.result.now = rw all at c.seen.ensures in
     let header : length row.header.now ≡ h =
     ap length c.element_row-row.ensures.header ∙ length-take-le h inside c.requires.header.1 in
     let shown =
-    seen_shown c.args.self.plan.guarded left row inside c.seen.result.now c.args.head.tag c.field_in-field.result h n
+    seen_shown c.args.self.plan.guarded left row inside c.seen.result.now c.args.head.tag c.field-field.result h n
     c.requires.inside fits c.element_row-row.ensures.kind c.element_row-row.ensures.field
     c.element_row-row.ensures.len header c.element_row-row.ensures.shown first in
     elim c.if-self-2.branch [
@@ -52,7 +52,7 @@ returns-clause-open c =
                 ∙ content_inside left inside h own c.requires.inside (omega arith)));
             shown =
                 seen_shown c.args.self.plan.guarded left whole_row inside c.seen.result.now c.args.head.tag
-                c.field_in-field.result h n c.requires.inside fits (same.kind ∙ c.element_row-row.ensures.kind)
+                c.field-field.result h n c.requires.inside fits (same.kind ∙ c.element_row-row.ensures.kind)
                 (same.field ∙ c.element_row-row.ensures.field) (same.len ∙ c.element_row-row.ensures.len) size
                 (rw same.shown c.element_row-row.ensures.shown) first;
           }
