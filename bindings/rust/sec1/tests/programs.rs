@@ -152,12 +152,14 @@ fn files_are_replaced_and_hold_one_element() {
 /// rest: the shell lets the files of the test below have 512 or 1,024 bytes.
 #[test]
 fn a_file_with_a_part_of_a_document_is_an_error() {
-    let status = std::process::Command::new("sh")
+    // By pipes: what this program prints may go to a file too.
+    let ran = std::process::Command::new("sh")
         .args(["-c", "trap '' XFSZ; ulimit -f 1; exec \"$@\"", "sh"])
         .arg(std::env::current_exe().unwrap())
         .args(["--ignored", "document_longer_than_its_file"])
-        .status();
-    assert!(status.unwrap().success());
+        .output()
+        .unwrap();
+    assert!(ran.status.success(), "{ran:?}");
 }
 
 #[test]
