@@ -168,7 +168,8 @@ impl<'a> Sources<'a> {
 
     /// Returns the next block of PEM.
     fn next_block(&mut self) -> Option<Source<'a>>
-        ensures less { length self.new.blocks.lines.rest.now ≤ length self.old.blocks.lines.rest.now }
+        ensures less { length self.new.blocks.lines.rest.now
+            ≤ length self.old.blocks.lines.rest.now }
         ensures fewer { IfSome result (λ source.
             length self.new.blocks.lines.rest.now < length self.old.blocks.lines.rest.now) }
         ensures source { IfSome result (λ source.
