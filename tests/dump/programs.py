@@ -1,0 +1,69 @@
+#!/usr/bin/env python3
+"""Runs programs that draw a file over the pictures that were drawn by hand, over stored keys,
+structures and damaged keys, and compares what each prints and its status with those pictures and
+with the second reader: programs.py COMMAND.., each called as `COMMAND [--all] FILE`.
+
+The last line is `N passed, M failed`.
+"""
+import pathlib
+import random
+import shlex
+import subprocess
+import sys
+import tempfile
+
+HERE = pathlib.Path(__file__).resolve().parent
+sys.path.insert(0, str(HERE))
+import picture  # noqa: E402
+
+
+def drawn_by_hand():
+    """The name of each picture that was drawn by hand, its input, the option, the text and the
+    status."""
+    for block in (HERE / "pictures.txt").read_text().rstrip("\n").split("\n\n"):
+        lines = block.splitlines()
+        digits = "".join(line[2:] for line in lines if line.startswith("x "))
+        written = "".join(line[2:] + "\n" for line in lines if line.startswith("< "))
+        asked = next(at for at, line in enumerate(lines) if line.startswith("$"))
+        text = "".join(line + "\n" for line in lines[asked + 1:-1])
+        data = bytes.fromhex(digits) if digits else written.encode()
+        yield lines[0][2:], data, lines[asked].split()[1:], text, int(lines[-1][2:])
+
+
+def stored():
+    """The same of stored keys, structures and damaged keys, by the second reader."""
+    keys = (HERE.parent / "keys/openssl.txt").read_text().splitlines()
+    keys = [bytes.fromhex(line) for line in keys if not line.startswith("#")]
+    others = (HERE.parent / "certificates/openssl.txt").read_text().splitlines()
+    others = [bytes.fromhex(line.split()[1]) for line in others]
+    numbers = random.Random(2026)
+    damaged = []
+    for key in numbers.sample(keys, 60):
+        at = numbers.randrange(len(key))
+        damaged += [key[:at], key[:at] + bytes([numbers.randrange(256)]) + key[at + 1:]]
+    for kind, inputs in (("key", keys[::10]), ("structure", others[::8]), ("damaged key", damaged)):
+        for number, data in enumerate(inputs):
+            asked = ["--all"] if number % 5 == 0 else []
+            text, is_key = picture.draw(data, bool(asked))
+            yield f"{kind} {number}", data, asked, text, int(not is_key)
+
+
+def main(commands):
+    passed = failed = 0
+    with tempfile.TemporaryDirectory() as folder:
+        file = pathlib.Path(folder) / "file"
+        for name, data, asked, text, status in [*drawn_by_hand(), *stored()]:
+            file.write_bytes(data)
+            for command in commands:
+                ran = subprocess.run([*shlex.split(command), *asked, file], capture_output=True)
+                holds = ran.stdout.decode() == text and ran.returncode == status
+                passed, failed = passed + holds, failed + (not holds)
+                if not holds:
+                    print(f"FAILED: {command} of {name}: {ran.stdout[:300]!r}, {ran.returncode}, "
+                          f"{ran.stderr[-200:]!r}, in place of {text[:300]!r}, {status}")
+    print(f"{passed} passed, {failed} failed")
+    return failed != 0
+
+
+if __name__ == "__main__":
+    sys.exit(main(sys.argv[1:]))

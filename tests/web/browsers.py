@@ -1,0 +1,391 @@
+"""Two browsers without a screen, driven as a person drives them: by files, keys and the clipboard.
+Chromium is spoken to by its DevTools protocol over a pipe, Firefox by Marionette.
+"""
+import base64
+import json
+import os
+import pathlib
+import socket
+import socketserver
+import subprocess
+import threading
+import time
+import urllib.parse
+
+HERE = pathlib.Path(__file__).resolve().parent
+# A page of its own, for what a person would do in another window.
+OTHER = "data:text/html,<textarea autofocus></textarea>"
+TEXT = "document.querySelector('textarea')"
+# Hosts that a browser asks by itself: for updates, lists and times.
+OWN = ("mozilla.org", "mozilla.com", "mozilla.net", "firefox.com", "google.com", "gvt1.com",
+       "googleapis.com", "google-analytics.com", "digicert.com", "mozgcp.net")
+PATIENCE = 60
+
+
+class Failed(Exception):
+    """What a browser was asked for hasn't come."""
+
+
+class Proxy(socketserver.ThreadingTCPServer):
+    """Takes all that is asked for on the network, answers nothing, and keeps which hosts."""
+
+    allow_reuse_address = daemon_threads = True
+
+    def __init__(self):
+        self.asked = []
+        proxy = self
+
+        class Handler(socketserver.StreamRequestHandler):
+            def handle(self):
+                words = self.rfile.readline(4096).decode("latin-1").split()
+                url = words[1] if len(words) > 1 else ""
+                url = url if "//" in url else "//" + url
+                host = urllib.parse.urlsplit(url).hostname or "?"
+                if not host.endswith(OWN):
+                    proxy.asked.append(host)
+
+        super().__init__(("127.0.0.1", 0), Handler)
+        threading.Thread(target=self.serve_forever, daemon=True).start()
+
+
+class Browser:
+    """What both have: pages by number, of which the first is the one that is tested."""
+
+    def __init__(self, room):
+        self.room = pathlib.Path(room) / self.name
+        self.room.mkdir()
+        self.proxy = Proxy()
+        self.start()
+
+    def wait(self, expression, what=None):
+        """Waits until this is true in the page."""
+        end = time.monotonic() + PATIENCE
+        while not self.run(expression):
+            if time.monotonic() > end:
+                raise Failed(what or expression)
+            time.sleep(0.02)
+
+    def write_clipboard(self, text):
+        """Puts a text on the clipboard, as one copies it in another window."""
+        self.turn_to(1)
+        self.run(f"{TEXT}.value = {json.dumps(text)}")
+        self.run(f"{TEXT}.focus()")
+        self.press("a", "selectAll")
+        self.press("c", "copy")
+        self.turn_to(0)
+
+    def read_clipboard(self):
+        """Returns what is on the clipboard, as one pastes it in another window."""
+        self.turn_to(1)
+        self.run(f"{TEXT}.value = ''")
+        self.run(f"{TEXT}.focus()")
+        self.press("v", "paste")
+        found = self.run(f"{TEXT}.value")
+        self.turn_to(0)
+        return found
+
+    def paste(self):
+        self.press("v", "paste")
+
+
+class Chromium(Browser):
+    name = "chromium"
+
+    def start(self):
+        ask, self.asks = os.pipe()
+        self.answers, answer = os.pipe()
+
+        def hand_over():
+            # Both may be among the numbers that they get.
+            os.dup2(ask, 1003)
+            os.dup2(answer, 1004)
+            os.dup2(1003, 3)
+            os.dup2(1004, 4)
+
+        words = [
+            "chromium", "--headless", "--no-sandbox", "--disable-gpu", "--remote-debugging-pipe",
+            "--disable-background-networking", "--disable-component-update", "--no-first-run",
+            "--disable-sync", "--disable-default-apps", "--force-color-profile=srgb",
+            f"--proxy-server=127.0.0.1:{self.proxy.server_address[1]}",
+            "--proxy-bypass-list=<-loopback>", f"--user-data-dir={self.room}", "about:blank"]
+        with open(self.room / "said", "wb") as said:
+            self.process = subprocess.Popen(
+                words, stdin=subprocess.DEVNULL, stdout=said, stderr=said, preexec_fn=hand_over,
+                close_fds=False, env=os.environ | {"HOME": str(self.room)}, start_new_session=True)
+        os.close(ask)
+        os.close(answer)
+        self.number, self.left, self.events = 0, b"", []
+        self.sessions, self.page = [], None
+        for url in ("about:blank", OTHER):
+            target = self.ask("Target.createTarget", url=url)["targetId"]
+            session = self.ask("Target.attachToTarget", targetId=target, flatten=True)["sessionId"]
+            self.sessions.append((target, session))
+            self.page = session
+            for domain in ("Page", "Runtime", "Network", "Log"):
+                self.ask(f"{domain}.enable")
+        self.turn_to(0)
+
+    def ask(self, method, **given):
+        """Asks for something, and returns the answer. What is told meanwhile is kept."""
+        self.number += 1
+        said = {"id": self.number, "method": method, "params": given}
+        if self.page and not method.startswith(("Target.", "Browser.")):
+            said["sessionId"] = self.page
+        os.write(self.asks, json.dumps(said).encode() + b"\0")
+        end = time.monotonic() + PATIENCE
+        while time.monotonic() < end:
+            while b"\0" in self.left:
+                line, self.left = self.left.split(b"\0", 1)
+                told = json.loads(line)
+                if told.get("id") == self.number:
+                    if "error" in told:
+                        raise Failed(f"{method}: {told['error']['message']}")
+                    return told["result"]
+                self.events.append(told)
+            more = os.read(self.answers, 1 << 20)
+            if not more:
+                raise Failed("chromium has ended")
+            self.left += more
+        raise Failed(method)
+
+    def turn_to(self, page):
+        target, self.page = self.sessions[page]
+        self.ask("Target.activateTarget", targetId=target)
+
+    def open(self, url):
+        self.events.clear()
+        self.ask("Page.navigate", url=url)
+        self.wait("document.readyState === 'complete'")
+
+    def run(self, expression):
+        """Returns the value of an expression in the page."""
+        told = self.ask("Runtime.evaluate", expression=expression, returnByValue=True,
+                        awaitPromise=True, userGesture=True)
+        if "exceptionDetails" in told:
+            raise Failed(f"{expression}: {told['exceptionDetails']['exception'].get('description')}")
+        return told["result"].get("value")
+
+    def press(self, key, command=None):
+        """Presses a key; a command is what its combination with Ctrl does."""
+        codes = {"Enter": 13, " ": 32, "Tab": 9, "PageUp": 33, "PageDown": 34, "End": 35,
+                 "Home": 36, "ArrowLeft": 37, "ArrowUp": 38, "ArrowRight": 39, "ArrowDown": 40}
+        given = {"key": key, "windowsVirtualKeyCode": codes.get(key, ord(key[0].upper())),
+                 "code": key if len(key) > 1 else f"Key{key.upper()}"}
+        if command:
+            given |= {"modifiers": 2, "commands": [command]}
+        elif key == "Enter" or len(key) == 1:
+            given["text"] = "\r" if key == "Enter" else key
+        self.ask("Input.dispatchKeyEvent", type="keyDown", **given)
+        given.pop("text", None)
+        given.pop("commands", None)
+        self.ask("Input.dispatchKeyEvent", type="keyUp", **given)
+
+    def click(self, selector):
+        """Clicks in the middle of an element."""
+        where = self.run(
+            f"(() => {{ const it = document.querySelector({json.dumps(selector)});"
+            "it.scrollIntoView({ block: 'nearest' });"
+            "const { x, y, width, height } = it.getBoundingClientRect();"
+            "return [x + width / 2, y + height / 2]; })()")
+        for kind in ("mousePressed", "mouseReleased"):
+            self.ask("Input.dispatchMouseEvent", type=kind, x=where[0], y=where[1], button="left",
+                     clickCount=1)
+
+    def choose(self, path):
+        """Chooses a file."""
+        root = self.ask("DOM.getDocument")["root"]["nodeId"]
+        node = self.ask("DOM.querySelector", nodeId=root, selector="#file")["nodeId"]
+        self.ask("DOM.setFileInputFiles", files=[str(path)], nodeId=node)
+
+    def drop(self, path):
+        """Drops a file onto the page."""
+        data = {"items": [], "files": [str(path)], "dragOperationsMask": 1}
+        for kind in ("dragEnter", "dragOver", "drop"):
+            self.ask("Input.dispatchDragEvent", type=kind, x=200, y=60, data=data)
+
+    def size(self, width, height, scale=1):
+        self.ask("Emulation.setDeviceMetricsOverride", width=width, height=height,
+                 deviceScaleFactor=scale, mobile=False)
+
+    def darken(self, is_dark):
+        value = "dark" if is_dark else "light"
+        self.ask("Emulation.setEmulatedMedia",
+                 features=[{"name": "prefers-color-scheme", "value": value}])
+
+    def shot(self, path):
+        told = self.ask("Page.captureScreenshot", format="png")
+        pathlib.Path(path).write_bytes(base64.b64decode(told["data"]))
+
+    def begin_with(self, script):
+        """Has each page run a script before its own."""
+        self.ask("Page.addScriptToEvaluateOnNewDocument", source=script)
+
+    def complaints(self):
+        """Returns what the page has asked for beside itself, and what it was refused."""
+        self.run("0")
+        found = [f"asked for {host}" for host in self.proxy.asked]
+        page = self.sessions[0][1]
+        for told in self.events:
+            if told.get("sessionId") != page:
+                continue
+            if told["method"] == "Network.requestWillBeSent":
+                url = told["params"]["request"]["url"]
+                if not url.startswith(("file:", "data:", "about:")):
+                    found.append(f"asked for {url}")
+            elif told["method"] == "Log.entryAdded":
+                found.append(told["params"]["entry"]["text"])
+            elif told["method"] == "Runtime.exceptionThrown":
+                details = told["params"]["exceptionDetails"]
+                found.append(details.get("exception", {}).get("description", details["text"]))
+        return found
+
+    def close(self):
+        os.close(self.asks)
+        self.process.terminate()
+        self.process.wait()
+        os.close(self.answers)
+        self.proxy.shutdown()
+
+
+PREFERENCES = """
+user_pref("marionette.port", 0);
+user_pref("network.proxy.type", 1);
+user_pref("network.proxy.http", "127.0.0.1");
+user_pref("network.proxy.http_port", {port});
+user_pref("network.proxy.ssl", "127.0.0.1");
+user_pref("network.proxy.ssl_port", {port});
+user_pref("network.proxy.no_proxies_on", "");
+user_pref("network.proxy.allow_hijacking_localhost", true);
+user_pref("network.captive-portal-service.enabled", false);
+user_pref("network.connectivity-service.enabled", false);
+user_pref("browser.newtabpage.enabled", false);
+user_pref("datareporting.policy.dataSubmissionEnabled", false);
+user_pref("toolkit.telemetry.reportingpolicy.firstRun", false);
+user_pref("app.update.disabledForTesting", true);
+"""
+KEYS = {"Enter": "\ue007", "Tab": "\ue004", "PageUp": "\ue00e", "PageDown": "\ue00f",
+        "End": "\ue010", "Home": "\ue011", "ArrowLeft": "\ue012", "ArrowUp": "\ue013",
+        "ArrowRight": "\ue014", "ArrowDown": "\ue015"}
+CONTROL = "\ue009"
+# The messages of the console that are of a policy, or of an error in a page.
+CONSOLE = """
+return Services.console.getMessageArray().filter((it) => it instanceof Ci.nsIScriptError
+  && (it.category.startsWith('CSP') || it.category.startsWith('content javascript')))
+  .map((it) => it.errorMessage);
+"""
+
+
+class Firefox(Browser):
+    name = "firefox-esr"
+
+    def start(self):
+        port = self.proxy.server_address[1]
+        (self.room / "user.js").write_text(PREFERENCES.replace("{port}", str(port)))
+        with open(self.room / "said", "wb") as said:
+            self.process = subprocess.Popen(
+                ["firefox-esr", "--headless", "--no-remote", "--marionette",
+                 "--remote-allow-system-access", "--profile", str(self.room)], stdin=subprocess.DEVNULL, stdout=said, stderr=said,
+                env=os.environ | {"HOME": str(self.room)}, start_new_session=True)
+        file, end = self.room / "MarionetteActivePort", time.monotonic() + PATIENCE
+        while not file.exists() or not file.read_text().strip():
+            if time.monotonic() > end or self.process.poll() is not None:
+                raise Failed("firefox-esr hasn't started")
+            time.sleep(0.05)
+        self.socket = socket.create_connection(("127.0.0.1", int(file.read_text())), PATIENCE)
+        self.stream, self.number = self.socket.makefile("rb"), 0
+        self.read()
+        self.ask("WebDriver:NewSession", capabilities={"alwaysMatch": {
+            "unhandledPromptBehavior": "accept"}})
+        self.handles = [self.ask("WebDriver:GetWindowHandle")["value"]]
+        self.handles.append(self.ask("WebDriver:NewWindow", type="tab")["handle"])
+        self.turn_to(1)
+        self.ask("WebDriver:Navigate", url=OTHER)
+        self.turn_to(0)
+
+    def read(self):
+        """Reads a message: its length, a colon, and JSON."""
+        digits = b""
+        while (byte := self.stream.read(1)) != b":":
+            if not byte:
+                raise Failed("firefox-esr has ended")
+            digits += byte
+        return json.loads(self.stream.read(int(digits)))
+
+    def ask(self, command, **given):
+        self.number += 1
+        said = json.dumps([0, self.number, command, given]).encode()
+        self.socket.sendall(b"%d:%s" % (len(said), said))
+        while True:
+            _, number, error, result = self.read()
+            if number == self.number:
+                if error:
+                    raise Failed(f"{command}: {error['message']}")
+                return result
+
+    def turn_to(self, page):
+        self.ask("WebDriver:SwitchToWindow", handle=self.handles[page], focus=True)
+
+    def open(self, url):
+        self.in_chrome("Services.console.reset()")
+        self.ask("WebDriver:Navigate", url=url)
+
+    def run(self, expression):
+        return self.ask("WebDriver:ExecuteScript", script=f"return {expression}", args=[])["value"]
+
+    def element(self, selector):
+        found = self.ask("WebDriver:FindElement", using="css selector", value=selector)["value"]
+        return next(iter(found.values()))
+
+    def press(self, key, command=None):
+        keys = ([CONTROL] if command else []) + [KEYS.get(key, key)]
+        strokes = [{"type": "keyDown", "value": it} for it in keys]
+        strokes += [{"type": "keyUp", "value": it} for it in reversed(keys)]
+        self.ask("WebDriver:PerformActions", actions=[
+            {"type": "key", "id": "keyboard", "actions": strokes}])
+
+    def click(self, selector):
+        self.ask("WebDriver:ElementClick", id=self.element(selector))
+
+    def choose(self, path):
+        self.ask("WebDriver:ElementSendKeys", id=self.element("#file"), text=str(path))
+
+    def drop(self, path):
+        """Drops a file onto the page. Marionette has no drop: a script makes its events."""
+        data = json.dumps(base64.b64encode(pathlib.Path(path).read_bytes()).decode())
+        name = json.dumps(pathlib.Path(path).name)
+        self.run(
+            "(() => { const dataTransfer = new DataTransfer();"
+            f"const bytes = Uint8Array.from(atob({data}), (it) => it.charCodeAt(0));"
+            f"dataTransfer.items.add(new File([bytes], {name}));"
+            "for (const kind of ['dragenter', 'dragover', 'drop']) { document.body.dispatchEvent("
+            "new DragEvent(kind, { dataTransfer, bubbles: true, cancelable: true })); } })()")
+
+    def size(self, width, height, scale=1):
+        self.ask("WebDriver:SetWindowRect", width=width, height=height)
+
+    def in_chrome(self, script):
+        self.ask("Marionette:SetContext", value="chrome")
+        try:
+            return self.ask("WebDriver:ExecuteScript", script=script, args=[])["value"]
+        finally:
+            self.ask("Marionette:SetContext", value="content")
+
+    def darken(self, is_dark):
+        self.in_chrome(f"Services.prefs.setIntPref('ui.systemUsesDarkTheme', {int(is_dark)});"
+                       "Services.prefs.setIntPref('layout.css.prefers-color-scheme.content-override',"
+                       f" {int(not is_dark)});")
+
+    def shot(self, path):
+        told = self.ask("WebDriver:TakeScreenshot", full=False)["value"]
+        pathlib.Path(path).write_bytes(base64.b64decode(told))
+
+    def complaints(self):
+        return [f"asked for {host}" for host in self.proxy.asked] + self.in_chrome(CONSOLE)
+
+    def close(self):
+        try:
+            self.ask("Marionette:Quit", flags=["eForceQuit"])
+        except (Failed, OSError):
+            self.process.kill()
+        self.process.wait()
+        self.proxy.shutdown()
