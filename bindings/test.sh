@@ -70,6 +70,10 @@ rust() {
     check "the packed crate passes its tests" cargo test --features std "${packed[@]}"
     check "the packed crate has its examples without std" cargo test "${packed[@]}"
     on_aarch64 "${packed[@]}"
+    check "the example of the packed crate is built" \
+        cargo build --quiet --example view --features std "${packed[@]}"
+    check "it draws what a second reader draws" \
+        python3 -B "$top/tests/dump/programs.py" "$CARGO_TARGET_DIR/debug/examples/view"
     cd "$work/rust" || return
     lints
     refuses "another processor is refused" "not for riscv64gc" other_target
@@ -258,6 +262,8 @@ assert sec1.EcPrivateKey.from_der(sec1.EcPrivateKey(b"\1").to_der()).private_key
         check "the library needs no newer glibc than its tag says" \
             is_manylinux "$("$bin/python" -I -c 'import sec1; print(sec1.__path__[0])')/libsec1.so"
     fi
+    check "python -m sec1 draws what a second reader draws" \
+        python3 -B "$top/tests/dump/programs.py" "$bin/python -I -m sec1"
     check "no file is left in the repository" \
         test -z "$(find "$here/python" -name '__pycache__' -o -name '*.egg-info' -o -name build)"
 }

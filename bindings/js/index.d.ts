@@ -282,3 +282,37 @@ export function checkTree(data: Bytes): number;
  * it.
  */
 export function documentLength(data: Bytes): number | null;
+
+/** A row of a picture: an element's header on the input, or bytes that are no element. */
+export interface PictureRow {
+  /** The line that is printed. */
+  readonly line: string;
+  /** The lines below it, which say what is wrong with it. */
+  readonly marks: readonly string[];
+  /** The number of bytes before it, in the part that it is of. */
+  readonly offset: number;
+  readonly headerLength: number;
+  /** The number of bytes of its content that have no other row. */
+  readonly contentLength: number;
+  /** The number of elements around it. */
+  readonly depth: number;
+  /** Whether its content isn't shown, and isn't known to be public. */
+  readonly isHidden: boolean;
+}
+
+/** What is in an input. */
+export interface Picture {
+  /** Lines of at most 100 characters of ASCII, each of which ends in a line feed. */
+  readonly text: string;
+  /** Whether some part of the input is an EC private key (RFC 5915). */
+  readonly hasKey: boolean;
+  /** The rows of all parts, as they are without `all`. */
+  readonly rows: readonly PictureRow[];
+}
+
+/**
+ * Returns the picture of any bytes: of DER, damaged perhaps, or of what a text of PEM, hexadecimal or
+ * base64 encodes. Each byte is in one row. No content of what may be a private key is in the text,
+ * unless `all` is true.
+ */
+export function draw(data: Bytes, options?: { all?: boolean }): Picture;

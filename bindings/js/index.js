@@ -2,7 +2,7 @@
 // (RFC 5480), signatures of ECDSA (RFC 3279), points (SEC1 v2.0 section 2.3.3), object identifiers
 // and trees of DER. A module that is proved to meet its contracts decides what is accepted and what
 // is written. index.d.ts says what each name does.
-import { call } from './library.js';
+import { call, drawn, lines } from './library.js';
 
 export const version = '0.2.0';
 
@@ -490,4 +490,44 @@ export function checkTree(data) {
 
 export function documentLength(data) {
   return call('sec1_document_len', bytesOf(data))[1] || null;
+}
+
+// ---- pictures
+
+/** What a line of a picture is: enum sec1_line of sec1.h, and how many numbers are of each. */
+const [ROW, MARK, NUMBERS] = [1, 2, 6];
+
+/** Returns each line of a picture that shows no contents, and its numbers. */
+function linesOf(bytes, text) {
+  const texts = text.split('\n').slice(0, -1);
+  const [status, , numbers] = lines(bytes, texts.length);
+  check(status);
+  return texts.map((line, at) => [line, ...numbers.subarray(at * NUMBERS, (at + 1) * NUMBERS)]);
+}
+
+/** Returns the rows of a picture. */
+function rowsOf(bytes, text) {
+  const rows = [];
+  for (const [line, kind, offset, headerLength, contentLength, depth, hidden] of
+    linesOf(bytes, text)) {
+    const isHidden = hidden === 1;
+    if (kind === ROW) {
+      rows.push({ line, marks: [], offset, headerLength, contentLength, depth, isHidden });
+    } else if (kind === MARK) {
+      rows.at(-1).marks.push(line);
+    }
+  }
+  return rows;
+}
+
+export function draw(data, { all = false } = {}) {
+  const bytes = bytesOf(data);
+  const pictureOf = (asked) => {
+    const [status, text, isKey] = drawn(bytes, Number(asked));
+    check(status);
+    return { text: new TextDecoder().decode(text), hasKey: isKey === 1 };
+  };
+  const isAll = Boolean(all);
+  const picture = pictureOf(isAll);
+  return { ...picture, rows: rowsOf(bytes, isAll ? pictureOf(false).text : picture.text) };
 }

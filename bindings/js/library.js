@@ -11,6 +11,8 @@ const BUFFER = 7;
 /** The room that a call gets to write into at first, in bytes. */
 const ROOM = 512;
 const PAGE = 65536;
+/** The number of bytes of a line of a picture. */
+const LINE = 48;
 const HEAP = Number(exports.__heap_base.value);
 
 let view = new DataView(exports.memory.buffer);
@@ -77,6 +79,26 @@ class Size {
   }
 }
 
+/** Memory that a call works in: an array of as many bytes as the argument says. */
+class Room {
+  static takes = true;
+  #place;
+  #length;
+
+  constructor(scratch, length) {
+    this.#place = scratch.reserve(length);
+    this.#length = length;
+  }
+
+  get words() {
+    return [BigInt(this.#place), BigInt(this.#length)];
+  }
+
+  stored() {
+    return [memory.slice(this.#place, this.#place + this.#length)];
+  }
+}
+
 /** A buffer, its length, and a pointer to the length of what is written: an array of bytes. */
 class Out {
   #length;
@@ -103,6 +125,54 @@ class Out {
 
   stored() {
     return [memory.slice(this.#place, this.#place + wordAt(this.#length))];
+  }
+}
+
+/** A buffer of as many bytes as the argument says, and what is written into it, and how much of it
+ * there is: more than that if it is too short. */
+class Text {
+  static takes = true;
+  #place;
+  #room;
+  #length;
+
+  constructor(scratch, room) {
+    this.#place = scratch.reserve(room);
+    this.#room = room;
+    this.#length = scratch.reserve(8);
+  }
+
+  get words() {
+    return [this.#place, this.#room, this.#length].map(BigInt);
+  }
+
+  stored() {
+    const length = wordAt(this.#length);
+    return [memory.slice(this.#place, this.#place + Math.min(length, this.#room)), length];
+  }
+}
+
+/** A buffer of as many lines of a picture as the argument says: an array of six numbers for each. */
+class Lines {
+  static takes = true;
+  #place;
+  #room;
+  #length;
+
+  constructor(scratch, room) {
+    this.#place = scratch.reserve(room * LINE);
+    this.#room = room;
+    this.#length = scratch.reserve(8);
+  }
+
+  get words() {
+    return [this.#place, this.#room, this.#length].map(BigInt);
+  }
+
+  stored() {
+    const end = this.#place + Math.min(wordAt(this.#length), this.#room) * LINE;
+    // The upper halves of these numbers are 0: no input has 4 GiB.
+    return [new Uint32Array(memory.slice(this.#place, end).buffer).filter((_, at) => at % 2 === 0)];
   }
 }
 
@@ -166,6 +236,8 @@ const CALLS = {
   sec1_tree_check: [Bytes, stores(size)],
   sec1_tree_fault_at: [Bytes, offset],
   sec1_document_len: [Bytes, stores(size)],
+  sec1_picture_draw: [Bytes, Size, Room, Text, stores(size)],
+  sec1_picture_lines: [Bytes, Room, Lines],
 };
 
 /** Makes a call with these arrays of bytes and numbers. Returns its status, and what it stores. */
@@ -176,9 +248,27 @@ export function call(name, ...given) {
     const placed = CALLS[name].map((Kind) => new Kind(scratch, Kind.takes && next.next().value));
     let status;
     do status = exports[name](...placed.flatMap((it) => it.words));
-    while (status === BUFFER && placed.at(-1).extended(scratch));
+    while (status === BUFFER && placed.at(-1).extended?.(scratch));
     return [status, ...placed.flatMap((it) => it.stored?.() ?? [])];
   } finally {
     scratch.wipe();
   }
+}
+
+/** Returns the text of the picture of an input, and whether it has a key: with all contents, if the
+ * number isn't 0. */
+export function drawn(input, all) {
+  // Room for most pictures; a longer one is drawn once more.
+  let most = 16 * input.length + 4096;
+  for (;;) {
+    const [status, , text, length, isKey] =
+      call('sec1_picture_draw', input, all, 2 * input.length + 2 + most, most);
+    if (status !== BUFFER || length <= most) return [status, text, isKey];
+    most = length;
+  }
+}
+
+/** Returns what each of so many lines of the picture of an input is of, and what was decoded. */
+export function lines(input, count) {
+  return call('sec1_picture_lines', input, 2 * input.length + 2, count);
 }

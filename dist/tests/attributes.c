@@ -13,6 +13,7 @@ static struct sec1_signature_parts signature;
 static uint32_t arcs[SEC1_IDENTIFIER_ARCS_MAX];
 static uint8_t info[SEC1_PUBLIC_KEY_MAX];
 static size_t len, other_len;
+static struct sec1_picture_line lines[2];
 static int32_t order;
 static const struct sec1_key given = {key, 32, NULL, 0, key, 65, 1};
 
@@ -98,6 +99,10 @@ uint32_t right_calls(size_t some)
     status |= sec1_point_to_hex(key, 65, 32, 1, NULL, 0, &len);
     status |= sec1_point_from_hex("00", 2, 32, out, sizeof out, &len);
     status |= sec1_point_from_hex(text, some, 32, NULL, 0, &len);
+    status |= sec1_picture_draw(key, some, 0, out, sizeof out, text, sizeof text, &len, &other_len);
+    status |= sec1_picture_draw(NULL, 0, 1, NULL, 0, NULL, 0, &len, &other_len);
+    status |= sec1_picture_lines(key, some, out, sizeof out, lines, 2, &len);
+    status |= sec1_picture_lines(NULL, 0, NULL, 0, NULL, 0, &len);
     return sec1_status_text(status)[0] == 'o' ? sec1_version() : status;
 }
 

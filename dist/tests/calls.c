@@ -2080,6 +2080,141 @@ static void test_elements(void)
     expect_fault(sec1_tree_fault_at, joined(unhex("308180"), tree), SEC1_DEPTH, 129);
 }
 
+/* ---- pictures */
+
+#define FIRST_ROWS                                                                                  \
+    "   0 30 77           119  SEQUENCE                     ECPrivateKey\n"                         \
+    "   2 02 01             1    INTEGER 1                  version\n"                              \
+    "   5 04 20            32    OCTET STRING, 32 bytes     privateKey, not shown\n"                \
+    "  39 A0 0A            10    [0]                        parameters\n"                           \
+    "  41 06 08             8      OBJECT IDENTIFIER P-256 (1.2.840.10045.3.1.7)\n"                 \
+    "  51 A1 44            68    [1]                        publicKey\n"
+#define LAST_ROW "  53 03 42            66      BIT STRING, 65 bytes     uncompressed, 2 x 32 bytes\n"
+
+/* An input in hexadecimal or as a text, its picture, and the lines of that: kind, offset, lengths,
+ * depth, and whether the content is hidden. */
+static const struct picture {
+    const char *bytes, *written, *text;
+    size_t is_key, count;
+    struct sec1_picture_line lines[12];
+} pictures[] = {
+    {WHOLE_KEY, NULL, FIRST_ROWS LAST_ROW "This is an EC private key (RFC 5915) on P-256.\n", 1, 8,
+     {{1, 0, 2, 0, 0, 0}, {1, 2, 2, 1, 1, 0}, {1, 5, 2, 32, 1, 1}, {1, 39, 2, 0, 1, 0},
+      {1, 41, 2, 8, 2, 0}, {1, 51, 2, 0, 1, 0}, {1, 53, 2, 66, 2, 0}, {3, 0, 0, 0, 0, 0}}},
+    {WHOLE_KEY "0A", NULL,
+     FIRST_ROWS LAST_ROW " 121                   1  1 byte not drawn\n"
+     "     ^ expected the end of the input\n"
+     "     ^ may be bytes of a damaged private key: --all draws them\n"
+     "This is no EC private key (RFC 5915): see offset 121.\n"
+     "This writes it without the bytes after it:\n"
+     "  openssl ec -inform DER -in FILE -outform DER -out key.der\n", 0, 13,
+     {{1, 0, 2, 0, 0, 0}, {1, 2, 2, 1, 1, 0}, {1, 5, 2, 32, 1, 1}, {1, 39, 2, 0, 1, 0},
+      {1, 41, 2, 8, 2, 0}, {1, 51, 2, 0, 1, 0}, {1, 53, 2, 66, 2, 1}, {1, 121, 0, 1, 0, 1},
+      {2, 0, 0, 0, 0, 0}, {2, 0, 0, 0, 0, 0}, {3, 0, 0, 0, 0, 0}, {3, 0, 0, 0, 0, 0}}},
+    {"", NULL, "The input is empty.\n", 0, 1, {{3, 0, 0, 0, 0, 0}}},
+    {NULL, "hello", "This is text, and no PEM, hexadecimal or base64.\n", 0, 1,
+     {{3, 0, 0, 0, 0, 0}}},
+    {NULL, "00000000: 3077", "This is the output of xxd, hexdump or od. If it is xxd's, this draws it:\n"
+     "  xxd -r FILE | sec1_dump\n", 0, 2, {{3, 0, 0, 0, 0, 0}, {4, 0, 0, 0, 0, 0}}},
+    {NULL, "30:06:02:01:01:04:01:09",
+     "hexadecimal: 8 bytes\n"
+     "   0 30 06             6  SEQUENCE                     ECPrivateKey\n"
+     "   2 02 01             1    INTEGER 1                  version\n"
+     "   5 04 01             1    OCTET STRING, 1 byte       privateKey, not shown\n"
+     "This is an EC private key (RFC 5915), with no curve named.\n", 1, 5,
+     {{0, 0, 0, 8, 0, 0}, {1, 0, 2, 0, 0, 0}, {1, 2, 2, 1, 1, 0}, {1, 5, 2, 1, 1, 1},
+      {3, 0, 0, 0, 0, 0}}},
+};
+
+static struct bytes input_of(const struct picture *picture)
+{
+    struct bytes written = {0};
+    if (picture->bytes)
+        return unhex(picture->bytes);
+    written.len = strlen(picture->written);
+    memcpy(written.data, picture->written, written.len);
+    return written;
+}
+
+/* The picture is the same at every length of the buffer, which is unchanged if it is too short. */
+static void expect_picture(const struct picture *picture, enum side side)
+{
+    struct bytes b = input_of(picture);
+    size_t whole = strlen(picture->text);
+    for (size_t room = 0; room <= whole + 2; room += room && room + 40 < whole ? 37 : 1) {
+        size_t len = 777777, is_key = 777777, work = SEC1_PICTURE_ROOM(b.len, room);
+        struct guarded in = map_input(b.data, b.len, side), memory = map_guarded(work, side);
+        struct guarded out = map_guarded(room, side);
+        memset(out.data, 0xEE, room);
+        uint32_t status = sec1_picture_draw(in.data, b.len, 0, memory.data, work, (char *)out.data,
+                                            room, &len, &is_key);
+        EXPECT(len == whole && status == (room < whole ? SEC1_BUFFER : SEC1_OK));
+        EXPECT(is_key == (status ? 0 : picture->is_key));
+        EXPECT(status || memcmp(out.data, picture->text, whole) == 0);
+        EXPECT(all_are(out.data + (status ? 0 : whole), room - (status ? 0 : whole), 0xEE));
+        unmap(in);
+        unmap(memory);
+        unmap(out);
+    }
+}
+
+/* The lines are the same at every length of the array, of which the first ones are stored. */
+static void expect_lines(const struct picture *picture, enum side side)
+{
+    struct bytes b = input_of(picture);
+    for (size_t room = 0; room <= picture->count + 1; room++) {
+        size_t count = 777777, work = SEC1_PICTURE_ROOM(b.len, 0), size = room * sizeof *picture->lines;
+        struct guarded in = map_input(b.data, b.len, side), memory = map_guarded(work, side);
+        struct guarded out = map_guarded(size, side);
+        struct sec1_picture_line *lines = (struct sec1_picture_line *)out.data;
+        memset(out.data, 0xEE, size);
+        uint32_t status = sec1_picture_lines(in.data, b.len, memory.data, work, lines, room, &count);
+        EXPECT(count == picture->count && status == (room < count ? SEC1_BUFFER : SEC1_OK));
+        for (size_t i = 0; i < room && i < count && i < 12; i++) {
+            struct sec1_picture_line line = lines[i];
+            if (line.kind == SEC1_LINE_HEADING) {
+                /* What was decoded is in the memory at this place. */
+                EXPECT(line.offset + line.content_len <= work && line.content_len == 8 &&
+                       memcmp(memory.data + line.offset, "\x30\x06\x02\x01\x01\x04\x01\x09", 8) == 0);
+                line.offset = 0;
+            }
+            EXPECT(memcmp(&line, &picture->lines[i], sizeof line) == 0);
+        }
+        EXPECT(room <= count || all_are(out.data + count * sizeof *lines, sizeof *lines, 0xEE));
+        unmap(in);
+        unmap(memory);
+        unmap(out);
+    }
+}
+
+static void test_pictures(void)
+{
+    for (size_t i = 0; i < sizeof pictures / sizeof *pictures; i++) {
+        for (enum side side = AT_END; side <= AT_START; side++) {
+            expect_picture(&pictures[i], side);
+            expect_lines(&pictures[i], side);
+        }
+    }
+    /* DER takes no memory but that for the text, and a text takes some. */
+    struct bytes key = unhex(WHOLE_KEY), text = repeated('0', 64);
+    uint8_t memory[1024];
+    char out[600];
+    size_t len = 777777, is_key = 777777, count = 777777;
+    struct sec1_picture_line lines[16];
+    EXPECT(sec1_picture_draw(key.data, key.len, 0, memory, sizeof out, out, sizeof out, &len,
+                             &is_key) == SEC1_OK && is_key == 1);
+    EXPECT(sec1_picture_draw(key.data, key.len, 0, memory, sizeof out - 1, out, sizeof out, &len,
+                             &is_key) == SEC1_BUFFER && len == 0 && is_key == 0);
+    EXPECT(sec1_picture_draw(text.data, text.len, 0, memory, SEC1_PICTURE_ROOM(text.len, 0) - 1, NULL,
+                             0, &len, &is_key) == SEC1_BUFFER && len == 0);
+    EXPECT(sec1_picture_lines(key.data, key.len, NULL, 0, lines, 16, &count) == SEC1_OK && count == 8);
+    EXPECT(sec1_picture_lines(text.data, text.len, memory, SEC1_PICTURE_ROOM(text.len, 0) - 1, lines,
+                              16, &count) == SEC1_BUFFER && count == 0);
+    /* With all contents: 32 bytes in two lines. */
+    EXPECT(sec1_picture_draw(key.data, key.len, 1, memory, sizeof memory, NULL, 0, &len, &is_key) ==
+               SEC1_BUFFER && len > strlen(pictures[0].text) + 150);
+}
+
 /* ---- random bytes */
 
 /* Bytes of small DER in no order, so that many of them are read far. */
@@ -2171,6 +2306,7 @@ int main(void)
         {"faults of public keys", test_public_key_faults},
         {"faults of containers", test_container_faults},
         {"faults of signatures", test_signature_faults},
+        {"pictures", test_pictures},
         {"random bytes", test_random_bytes},
     };
     unsigned tests_passed = 0, tests_failed = 0;

@@ -1,5 +1,5 @@
 // The engine: the calls of sec1.h that draw.
-import { call } from './library.js';
+import { drawn, lines } from './library.js';
 
 /** The kind of a line that stands above the rows of what was decoded. */
 const HEADING = 0;
@@ -7,12 +7,10 @@ const HEADING = 0;
 /** Returns the picture of an input: its text, numbers of each of its lines, and the bytes that it is
  * of, which are the input or were decoded from it. */
 export function draw(input) {
-  const room = 2 * input.length;
-  // Long enough for most inputs; otherwise it is drawn once more.
-  const [drawn, , text] = call('sec1_picture_draw', input, 0, room, 16 * input.length + 4096);
+  const [status, text] = drawn(input, 0);
   const count = text.reduce((found, byte) => found + Number(byte === 10), 0);
-  const [told, decoded, numbers] = call('sec1_picture_lines', input, room, count);
-  if (drawn || told) throw new Error(`the library broke its contract: ${drawn}, ${told}`);
+  const [told, decoded, numbers] = lines(input, count);
+  if (status || told) throw new Error(`the library broke its contract: ${status}, ${told}`);
   // DER is what it is, and only a text has headings.
   return { text, numbers, bytes: numbers[0] === HEADING ? decoded : input.slice() };
 }

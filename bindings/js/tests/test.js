@@ -160,7 +160,7 @@ test('refuses values of wrong types', () => {
   for (const wrong of [5, 'text', [1, 2], {}, undefined, true]) {
     for (const call of [
       EcPrivateKey.fromDer, EcPrivateKey.fromPkcs8Der, EcPrivateKey.read, EcPublicKey.fromDer,
-      Signature.fromDer, sec1.certificatePublicKey, sec1.checkTree, sec1.documentLength,
+      Signature.fromDer, sec1.certificatePublicKey, sec1.checkTree, sec1.documentLength, sec1.draw,
       (it) => new EcPrivateKey(it), (it) => new ObjectIdentifier(it), (it) => new Point(it, 32),
       (it) => new Signature(it, bytes('01')), (it) => new Signature(bytes('01'), it),
       (it) => new EcPublicKey(p256, it), (it) => Point.fromCoordinates(it, bytes('01')),
@@ -688,6 +688,69 @@ test('wipes memory after each call that sees a private key', () => {
     else call();
     assertWiped();
   }
+});
+
+// ---- pictures
+
+/** Returns the pictures that were drawn by hand: input, option, lines and status. */
+function drawnByHand() {
+  return read('data/pictures.txt').toString().trimEnd().split('\n\n').map((block) => {
+    const all = block.split('\n');
+    const after = (front) => all.filter((it) => it.startsWith(front)).map((it) => it.slice(2));
+    const asked = all.findIndex((it) => it.startsWith('$'));
+    const digits = after('x ').join('');
+    const input = digits ? bytes(digits) : Buffer.from(`${after('< ').join('\n')}\n`);
+    const option = { all: all[asked].endsWith('--all') };
+    return { input, option, shown: all.slice(asked + 1, -1), status: Number(all.at(-1).slice(2)) };
+  });
+}
+
+test('draws the pictures that were drawn by hand, and tells their rows', () => {
+  const drawn = drawnByHand();
+  assert.equal(drawn.length, 14);
+  for (const { input, option, shown, status } of drawn) {
+    const { text, hasKey, rows } = sec1.draw(input, option);
+    assert.deepEqual([text.split('\n'), hasKey], [[...shown, ''], status === 0]);
+    assertWiped();
+    const { text: plain } = sec1.draw(input);
+    const lines = plain.split('\n').filter((it) => /^ {0,5}(\d|\^)/.test(it));
+    assert.deepEqual(rows.flatMap(({ line, marks }) => [line, ...marks]), lines);
+    let next = 0;
+    for (const row of rows) {
+      assert.equal(row.line.trimStart().split(' ')[0], String(row.offset));
+      if (row.offset === 0) next = 0;
+      assert.equal(row.offset, next);
+      next += row.headerLength + row.contentLength;
+      assert.equal(row.depth, row.line.slice(26).match(/^ */)[0].length / 2);
+    }
+  }
+});
+
+test('says which contents are hidden', () => {
+  const hidden = (input) => sec1.draw(input).rows.filter((it) => it.isHidden)
+    .map((it) => [it.offset, it.headerLength, it.contentLength]);
+  const key = read('data/p256.der');
+  assert.deepEqual(hidden(key), [[5, 2, 32]]);
+  // Of another version, and cut: the point isn't known to be one.
+  assert.deepEqual(hidden(Buffer.from(key).fill(2, 4, 5)), [[5, 2, 32], [53, 2, 66]]);
+  assert.deepEqual(hidden(key.subarray(0, 60)), [[5, 2, 32], [51, 2, 7]]);
+  // What isn't drawn.
+  assert.deepEqual(hidden(Buffer.from(key).fill(6, 5, 6)), [[5, 0, 116]]);
+  assert.deepEqual(hidden(bytes('3006020101040109')), [[5, 2, 1]]);
+  // Two numbers, which are a signature's, and six, of which one is a key.
+  assert.deepEqual(hidden(bytes('300602010102010f')), []);
+  assert.deepEqual(hidden(bytes(`3012${'020105'.repeat(6)}`)), [[17, 2, 1]]);
+});
+
+test('draws large inputs, and wipes what was decoded', () => {
+  const numbers = new Uint8Array(1 << 20).map((_, at) => [2, 1, 5, 5, 0][at % 5]);
+  const large = new Uint8Array([0x30, 0x83, 0x10, 0, 0, ...numbers]);
+  const { rows } = sec1.draw(large);
+  assert.equal(rows.length, 1 + Math.ceil(numbers.length / 2.5));
+  assertWiped();
+  const pem = Buffer.from(`-----BEGIN X-----\n${Buffer.from(large).toString('base64')}\n`);
+  assert.equal(sec1.draw(pem).rows.length, rows.length);
+  assertWiped();
 });
 
 // ---- the package

@@ -1,9 +1,9 @@
 // A program of each name, for `tsc --strict`; the lines below the last comment are refused by it.
 import {
   type Bytes, certificatePublicKey, checkTree, Curve, CurveError, DepthError, documentLength,
-  EcPrivateKey, EcPublicKey, FieldLengthError, LengthError, ObjectIdentifier, OtherCurveError,
-  OverlengthError, Point, PointEncodingError, Sec1Error, Signature, Tag, TagError,
-  TrailingDataError, TruncatedError, ValueContentError, version,
+  draw, EcPrivateKey, EcPublicKey, FieldLengthError, LengthError, ObjectIdentifier, OtherCurveError,
+  OverlengthError, type Picture, type PictureRow, Point, PointEncodingError, Sec1Error, Signature,
+  Tag, TagError, TrailingDataError, TruncatedError, ValueContentError, version,
 } from 'bridgeacacia-sec1';
 
 const bytes: Bytes = new Uint8Array(1);
@@ -35,9 +35,13 @@ const isHybrid: boolean = point.tag === Tag.HYBRID_EVEN || point.tag === Tag.HYB
 const signature: Signature = new Signature(bytes, bytes);
 const numbers: number[] = [checkTree(bytes), curve.fieldLength, ...identifier.arcs];
 const length: number | null = documentLength(bytes);
-const texts: string[] = [version, curve.name, point.hex(true), `${identifier}`];
+const picture: Picture = draw(bytes, { all: true });
+const row: PictureRow = draw(bytes).rows[0];
+const drawn: [boolean, number, readonly string[]] = [picture.hasKey, row.depth, row.marks];
+const texts: string[] = [picture.text, row.line, version, curve.name, point.hex(true), `${identifier}`];
 export default {
   errors, refused, parts, keys, written, coordinates, isHybrid, signature, numbers, length, texts,
+  drawn,
 };
 
 // Refused, each.

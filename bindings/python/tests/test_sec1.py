@@ -6,6 +6,9 @@ import importlib.metadata
 import pathlib
 import pickle
 import random
+import subprocess
+import sys
+import tempfile
 import unittest
 
 import sec1
@@ -369,6 +372,43 @@ class Others(unittest.TestCase):
         for wrong in (5, "text", None):
             with self.assertRaises(TypeError):
                 sec1.document_length(wrong)
+
+    def test_pictures_drawn_by_hand(self):
+        blocks = (HERE / "data/pictures.txt").read_text().rstrip("\n").split("\n\n")
+        self.assertEqual(len(blocks), 14)
+        for lines in (block.splitlines() for block in blocks):
+            digits = "".join(line[2:] for line in lines if line.startswith("x "))
+            written = "".join(line[2:] + "\n" for line in lines if line.startswith("< "))
+            asked = next(at for at, line in enumerate(lines) if line.startswith("$"))
+            data = bytes.fromhex(digits) if digits else written.encode()
+            text = "".join(line + "\n" for line in lines[asked + 1 : -1])
+            found = sec1.draw(data, "--all" in lines[asked])
+            self.assertEqual(found, sec1.Picture(text, lines[-1] == "= 0"))
+
+    def test_pictures(self):
+        self.assertEqual(sec1.draw(b""), sec1.Picture("The input is empty.\n", False))
+        self.assertGreater(len(sec1.draw(b"\x30\x82\x20\x00" + b"\x05\x00" * 4096).text), 100_000)
+        for wrong in (5, "text", None):
+            with self.assertRaises(TypeError):
+                sec1.draw(wrong)
+
+    def test_the_program(self):
+        with tempfile.TemporaryDirectory() as folder:
+            file = pathlib.Path(folder) / "file"
+            file.write_bytes(bytes.fromhex("3006020101040109"))
+            command = [sys.executable, "-m", "sec1"]
+            shown = sec1.draw(file.read_bytes()).text
+            for words, given, status, text in (
+                ([file], b"", 0, shown),
+                (["--all", file], b"", 0, sec1.draw(file.read_bytes(), True).text),
+                ([], b"", 1, "The input is empty.\n"),
+                (["-"], file.read_bytes(), 0, shown),
+                ([file, file], b"", 0, f"{file}:\n{shown}" * 2),
+                ([folder], b"", 2, ""),
+                (["--none", file], b"", 2, ""),
+            ):
+                ran = subprocess.run([*command, *words], input=given, capture_output=True)
+                self.assertEqual((ran.returncode, ran.stdout.decode()), (status, text), words)
 
     def test_documentation(self):
         self.assertEqual(doctest.testfile(str(HERE.parent / "README.md"), False).failed, 0)

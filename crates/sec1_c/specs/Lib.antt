@@ -19,3 +19,4 @@ pub mod Signatures
 pub mod Containers
 pub mod WrittenKeys
 pub mod PrivateKeys
+pub mod Pictures

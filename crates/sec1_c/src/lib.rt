@@ -20,6 +20,7 @@ mod fault;
 mod fields;
 mod identifier;
 mod key;
+mod picture;
 mod point;
 mod private_key;
 mod public_key;

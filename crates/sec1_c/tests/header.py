@@ -12,6 +12,7 @@ STRUCTS = {
     "PublicKeyParts": "struct sec1_public_key_parts",
     "SignatureParts": "struct sec1_signature_parts",
     "PrivateKeyInfoParts": "struct sec1_private_key_info_parts",
+    "PictureLine": "struct sec1_picture_line",
 }
 # What the header alone has: a struct whose members are given to a call by inline functions.
 UNPROVED = {"struct sec1_key", "sec1_key_len_of", "sec1_key_write_of"}
@@ -24,8 +25,8 @@ def c_types(rust):
         return ["const uint8_t*", "size_t"]
     if rust == "&mut [u8]":
         return ["uint8_t*", "size_t"]
-    if rust == "&mut [u32]":
-        return ["uint32_t*", "size_t"]
+    if rust.startswith("&mut ["):
+        return [c_type(rust[6:-1]) + "*", "size_t"]
     if rust.startswith("&mut "):
         return [c_type(rust[5:]) + "*"]
     return [c_type(rust)]

@@ -25,6 +25,7 @@ __all__ = [
     "ObjectIdentifier",
     "OtherCurveError",
     "OverlengthError",
+    "Picture",
     "Point",
     "PointEncodingError",
     "Tag",
@@ -35,6 +36,7 @@ __all__ = [
     "certificate_public_key",
     "check_tree",
     "document_length",
+    "draw",
 ]
 
 
@@ -432,3 +434,22 @@ def document_length(data: bytes) -> Optional[int]:
     data, length = _bytes(data), c_size_t()
     _library.call("sec1_document_len", data, len(data), byref(length))
     return length.value or None
+
+
+@dataclass(frozen=True)
+class Picture:
+    """A picture of bytes: its text, of lines of ASCII that each end in a line feed, and whether some part of
+    the bytes is an EC private key (RFC 5915)."""
+
+    text: str
+    has_key: bool
+
+
+def draw(data: bytes, show_all: bool = False) -> Picture:
+    """Returns the picture of any bytes: of DER, damaged perhaps, or of what a text of PEM, hexadecimal or
+    base64 encodes. Each byte is in one row. No content of what may be a private key is shown, unless
+    `show_all` is true."""
+    data = _bytes(data)
+    status, text, is_key = _library.drawn(data, int(bool(show_all)))
+    _check(status)
+    return Picture(text.decode("ascii"), is_key == 1)

@@ -62,6 +62,7 @@ for _name, _types in {
     "sec1_identifier_from_text": [*_BYTES, *_OUT],
     "sec1_tree_check": [*_BYTES, POINTER(c_size_t)],
     "sec1_document_len": [*_BYTES, POINTER(c_size_t)],
+    "sec1_picture_draw": [*_BYTES, c_size_t, POINTER(c_char), c_size_t, *_OUT, POINTER(c_size_t)],
 }.items():
     getattr(_sec1, _name).argtypes, getattr(_sec1, _name).restype = _types, c_uint32
 
@@ -81,3 +82,20 @@ def written(name: str, *arguments: Any) -> "tuple[int, bytes]":
             room = length.value
             continue
         return status, buffer.raw[: length.value] if status == 0 else b""
+
+
+def drawn(data: bytes, show_all: int) -> "tuple[int, bytes, int]":
+    """Returns the status, the text of a picture, and whether some part of the bytes is a key. What was
+    decoded, and the text, are overwritten in the memory that was theirs."""
+    length, is_key, most = c_size_t(), c_size_t(), 4096
+    while True:
+        room = ctypes.create_string_buffer(2 * len(data) + 2 + most)
+        text = ctypes.create_string_buffer(most)
+        given = (data, len(data), show_all, room, len(room), text, most, byref(length), byref(is_key))
+        status = call("sec1_picture_draw", *given)
+        found = text.raw[: length.value] if status == 0 else b""
+        for buffer in (room, text):
+            ctypes.memset(buffer, 0, len(buffer))
+        if status != BUFFER or length.value <= most:
+            return status, found, is_key.value
+        most = length.value

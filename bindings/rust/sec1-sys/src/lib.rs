@@ -567,4 +567,21 @@ unsafe extern "C" {
         arcs_len: usize,
         count: *mut usize,
     ) -> u32;
+    /// Writes the picture of an input, and stores its length and whether it has a key.
+    ///
+    /// # Safety
+    ///
+    /// `input` is readable for `input_len` bytes, `room` and `text` are writable for the lengths
+    /// after them, `len` and `is_key` are writable, and none of these overlaps another argument.
+    pub fn sec1_picture_draw(
+        input: *const u8,
+        input_len: usize,
+        all: usize,
+        room: *mut u8,
+        room_len: usize,
+        text: *mut u8,
+        text_len: usize,
+        len: *mut usize,
+        is_key: *mut usize,
+    ) -> u32;
 }

@@ -27,6 +27,8 @@ mod certificate;
 mod curve;
 mod error;
 mod parameters;
+#[cfg(feature = "alloc")]
+mod picture;
 mod private_key;
 #[allow(unsafe_code)]
 mod raw;
@@ -37,6 +39,8 @@ pub use crate::consts::Array;
 pub use crate::curve::Curve;
 pub use crate::error::{Error, Result};
 pub use crate::parameters::EcParameters;
+#[cfg(feature = "alloc")]
+pub use crate::picture::{Picture, draw};
 pub use crate::point::EncodedPoint;
 pub use crate::private_key::EcPrivateKey;
 pub use crate::traits::DecodeEcPrivateKey;

@@ -405,6 +405,38 @@ pub(crate) fn document_len(bytes: &[u8]) -> Result<usize, Status> {
     answer(status, len)
 }
 
+/// Writes the picture of an input at the beginning of `text`, and returns its length and whether it
+/// has a key. What is decoded is written into `room`.
+///
+/// # Errors
+///
+/// The refusal, and the length of the picture.
+#[cfg(feature = "alloc")]
+pub(crate) fn picture_draw(
+    input: &[u8],
+    all: bool,
+    room: &mut [u8],
+    text: &mut [u8],
+) -> Result<(usize, bool), (Status, usize)> {
+    let (mut len, mut is_key) = (0, 0);
+    // SAFETY: each pointer and length are of one slice, `room` and `text` are borrowed by `&mut`,
+    // and `len` and `is_key` are places of this function.
+    let status = unsafe {
+        sec1_picture_draw(
+            input.as_ptr(),
+            input.len(),
+            usize::from(all),
+            room.as_mut_ptr(),
+            room.len(),
+            text.as_mut_ptr(),
+            text.len(),
+            &mut len,
+            &mut is_key,
+        )
+    };
+    answer(status, (len, is_key == 1)).map_err(|status| (status, len))
+}
+
 /// Borrows Rust's own array as an `Array`.
 #[inline]
 pub(crate) fn array<T: Copy, Size: ArraySize>(array: &Size::ArrayType<T>) -> &Array<T, Size> {

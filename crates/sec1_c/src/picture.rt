@@ -1,0 +1,99 @@
+//! Pictures of any input, DER or a text that encodes some: `sec1_picture_draw` and
+//! `sec1_picture_lines`.
+ghost use Rattle.std.specs.Prelude.{◌≡◌, ◌≢◌, ◌≤◌, length};
+ghost use Rattle.sec1_c.specs.Pictures.{IsDrawn};
+
+mod lines;
+mod text;
+
+use crate::buffer::write_bytes;
+use crate::status::{OK, kind_number};
+use der_view::{Sources, draw, room_len};
+use lines::Lines;
+pub use lines::PictureLine;
+use sec1::der::ErrorKind;
+use text::{Counter, Text};
+
+/// Writes the picture of an input at the beginning of `text`, and stores its length and whether
+/// some part of the input is a key (RFC 5915 section 3), as 1 or 0. With `all` other than 0 every
+/// content is shown. `room` is memory to work in; what it holds afterwards isn't said.
+///
+/// # Errors
+///
+/// Returns the number of Buffer if `text` is too short, and stores the length; or if `room` isn't
+/// longer than `text` by what [`room_len`] says, and stores the length 0. `text` is unchanged, and
+/// 0 is stored for a key, in both cases.
+#[unsafe(no_mangle)]
+pub extern "C" fn sec1_picture_draw(
+    input: &[u8],
+    all: usize,
+    room: &mut [u8],
+    text: &mut [u8],
+    len: &mut usize,
+    is_key: &mut usize,
+) -> u32
+    ensures drawn { result ≡ 0
+        → IsDrawn all input.now text.old text.new len.new is_key.new }
+    ensures short { result ≢ 0
+        → (result ≡ 7) × (text.new ≡ text.old) × (is_key.new ≡ 0) }
+{
+    *len = 0;
+    *is_key = 0;
+    if room.len() < text.len() || room.len() - text.len() < room_len(input) {
+        return kind_number(ErrorKind::Buffer);
+    }
+    let (copy, room) = room.split_at_mut(text.len());
+    let mut writer = Text::new(copy);
+    if let Ok(has_key) = draw(&mut writer, input, room, all != 0)
+        && write_bytes(writer.as_bytes(), text, len) == OK
+    {
+        *is_key = if has_key { 1 } else { 0 };
+        return OK;
+    }
+    let mut counter = Counter::new();
+    let _ = draw(&mut counter, input, room, all != 0);
+    *len = counter.len();
+    kind_number(ErrorKind::Buffer)
+}
+
+/// Stores what each line of the picture of an input is of, and their number. What is decoded is
+/// written into `room`, one part after the other.
+///
+/// # Errors
+///
+/// Returns the number of Buffer if there are more lines than `lines` has room for, and stores the
+/// first ones; or if `room` is shorter than [`room_len`] says, and stores the number 0.
+#[unsafe(no_mangle)]
+pub extern "C" fn sec1_picture_lines(
+    input: &[u8],
+    room: &mut [u8],
+    lines: &mut [PictureLine],
+    count: &mut usize,
+) -> u32
+    ensures fits { result ≡ 0 → count.new ≤ length lines.old }
+    ensures short { result ≢ 0 → result ≡ 7 }
+{
+    *count = 0;
+    if room.len() < room_len(input) {
+        return kind_number(ErrorKind::Buffer);
+    }
+    let most = lines.len();
+    let (digits, bytes) = room.split_at_mut(input.len().min(room.len() / 2));
+    let mut lines = Lines::new(lines);
+    let mut sources = Sources::new(input);
+    let mut used = 0;
+    // There are fewer parts than bytes, but for the one of an empty input.
+    for _ in 0..input.len().saturating_add(1) {
+        let Some(source) = sources.next_source() else {
+            break;
+        };
+        let before = digits.len().saturating_add(used);
+        used += lines.push_source(&source, before, digits, &mut bytes[used..]);
+    }
+    *count = lines.count();
+    if lines.count() <= most {
+        OK
+    } else {
+        kind_number(ErrorKind::Buffer)
+    }
+}
