@@ -152,7 +152,7 @@ class Text {
   }
 }
 
-/** A buffer of as many lines of a picture as the argument says: an array of six numbers for each. */
+/** A buffer of as many lines of a picture as the argument says: an array, six numbers for each. */
 class Lines {
   static takes = true;
   #place;
@@ -170,9 +170,12 @@ class Lines {
   }
 
   stored() {
-    const end = this.#place + Math.min(wordAt(this.#length), this.#room) * LINE;
+    const count = Math.min(wordAt(this.#length), this.#room) * (LINE / 8);
+    const halves = new Uint32Array(memory.buffer, this.#place, 2 * count);
+    const numbers = new Uint32Array(count);
     // The upper halves of these numbers are 0: no input has 4 GiB.
-    return [new Uint32Array(memory.slice(this.#place, end).buffer).filter((_, at) => at % 2 === 0)];
+    for (let at = 0; at < count; at += 1) numbers[at] = halves[2 * at];
+    return [numbers];
   }
 }
 
@@ -259,7 +262,7 @@ export function call(name, ...given) {
  * number isn't 0. */
 export function drawn(input, all) {
   // Room for most pictures; a longer one is drawn once more.
-  let most = 16 * input.length + 4096;
+  let most = 24 * input.length + 4096;
   for (;;) {
     const [status, , text, length, isKey] =
       call('sec1_picture_draw', input, all, 2 * input.length + 2 + most, most);

@@ -1,4 +1,4 @@
-/* Draws a file of DER, PEM, hexadecimal or base64: sec1_view [--all] FILE. It is C99, and C++ as well. */
+/* Draws a file of DER, PEM, hexadecimal or base64: sec1_view [--all] FILE. It is C99, and C++. */
 #include <sec1.h>
 #include <stdio.h>
 #include <stdlib.h>

@@ -162,7 +162,8 @@ class Chromium(Browser):
         told = self.ask("Runtime.evaluate", expression=expression, returnByValue=True,
                         awaitPromise=True, userGesture=True)
         if "exceptionDetails" in told:
-            raise Failed(f"{expression}: {told['exceptionDetails']['exception'].get('description')}")
+            thrown = told["exceptionDetails"]["exception"]
+            raise Failed(f"{expression}: {thrown.get('description')}")
         return told["result"].get("value")
 
     def press(self, key, command=None):
@@ -284,7 +285,8 @@ class Firefox(Browser):
         with open(self.room / "said", "wb") as said:
             self.process = subprocess.Popen(
                 ["firefox-esr", "--headless", "--no-remote", "--marionette",
-                 "--remote-allow-system-access", "--profile", str(self.room)], stdin=subprocess.DEVNULL, stdout=said, stderr=said,
+                 "--remote-allow-system-access", "--profile", str(self.room)],
+                stdin=subprocess.DEVNULL, stdout=said, stderr=said,
                 env=os.environ | {"HOME": str(self.room)}, start_new_session=True)
         file, end = self.room / "MarionetteActivePort", time.monotonic() + PATIENCE
         while not file.exists() or not file.read_text().strip():
@@ -371,9 +373,9 @@ class Firefox(Browser):
             self.ask("Marionette:SetContext", value="content")
 
     def darken(self, is_dark):
-        self.in_chrome(f"Services.prefs.setIntPref('ui.systemUsesDarkTheme', {int(is_dark)});"
-                       "Services.prefs.setIntPref('layout.css.prefers-color-scheme.content-override',"
-                       f" {int(not is_dark)});")
+        for name, number in (("ui.systemUsesDarkTheme", int(is_dark)),
+                             ("layout.css.prefers-color-scheme.content-override", int(not is_dark))):
+            self.in_chrome(f"Services.prefs.setIntPref('{name}', {number});")
 
     def shot(self, path):
         told = self.ask("WebDriver:TakeScreenshot", full=False)["value"]

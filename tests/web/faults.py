@@ -45,7 +45,8 @@ FAULTS = [
           "  part('typed')"),
     Fault("rows out of sight", "large", "const top = share * this.#box.clientHeight",
           "const top = 2 * share * this.#box.clientHeight"),
-    Fault("rows that stay", "large", "() => this.#draw());\n    new Resize", "() => 0);\n    new Resize"),
+    Fault("rows that stay", "large", "() => this.#draw());\n    new Resize",
+          "() => 0);\n    new Resize"),
     Fault("a page of memory that isn't wiped", "memory", "memory.fill(0, HEAP, this.end);",
           "memory.fill(0, HEAP + 65536, this.end);"),
     Fault("the stack that isn't wiped", "memory", "memory.fill(0, 0, CONSTANTS);", ""),
@@ -75,5 +76,5 @@ def allowed(text):
     """Returns the page with a request, and no policy."""
     begin = text.index("<meta http-equiv")
     end = text.index("\n", begin)
-    return (text[:begin] + text[end:]).replace('<script type="module">', f"<script>{REQUEST}</script>"
-                                               '<script type="module">')
+    front = '<script type="module">'
+    return (text[:begin] + text[end:]).replace(front, f"<script>{REQUEST}</script>{front}")

@@ -10,8 +10,9 @@ import picture  # noqa: E402
 import programs  # noqa: E402
 from expected import ROW, WORDS, Line  # noqa: E402
 
-# How long a megabyte may take from the choice of the file to its rows; a machine may be busy.
-SECONDS = 5
+# How long a megabyte may take from the choice of the file to its rows: on a machine that does
+# nothing else it takes one second.
+SECONDS = 20
 KEY = bytes.fromhex(
     "307702010104202d01ca44ef8a07fdb8664555f78a1e0d807c93655d1936ee7c8979bacff71a0ba00a06082a8648ce"
     "3d030107a14403420004485bfbba7f3270c4c8424b68bac0aca161c6d61f63f4370f71a8141d1f279811cbf2c62f4a"
@@ -90,16 +91,18 @@ def secrets():
 def large():
     """A megabyte of numbers, and one of empty elements: the name, the bytes, and the lines."""
     for name, front, count, words in (
-            ("numbers.der", b"\2\2\x55", 262_000, "INTEGER {number}"), ("empty.der", b"\5", 524_100, "NULL")):
-        parts = [front + bytes([at % 256 if front[0] == 2 else 0]) for at in range(count)]
+            ("numbers.der", b"\x0A\2\x55", 262_000, "ENUMERATED {number}"),
+            ("empty.der", b"\5", 524_100, "NULL")):
+        parts = [front + bytes([at % 256 if front[0] == 10 else 0]) for at in range(count)]
         data = element(0x30, b"".join(parts))
         length, step = len(data) - 5, len(parts[0])
         lines = [Line(f"   0 {data[:5].hex(' ').upper()} {length}  SEQUENCE", ROW, 0, 5)]
         for at in range(count):
             head = parts[0][:2].hex(" ").upper()
             shown = words.format(number=0x5500 + at % 256)
-            lines.append(Line(f"{5 + step * at:>4} {head}{step - 2:>14}    {shown}", ROW, 5 + step * at, 2,
-                              step - 2, 1))
+            place = 5 + step * at
+            line = f"{place:>4} {head}{step - 2:>14}    {shown}"
+            lines.append(Line(line, ROW, place, 2, step - 2, 1))
         yield name, data, [*lines, Line("This is no EC private key (RFC 5915).", WORDS)]
 
 

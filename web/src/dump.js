@@ -32,7 +32,7 @@ export class Dump {
     });
   }
 
-  /** Shows the bytes of an item of a picture, by a table that knows which private ones are shown. */
+  /** Shows the bytes of an item of a picture, by a table that knows which are shown. */
   draw(picture, item, table) {
     const bytes = picture.bytes(item);
     const isOther = picture !== this.#picture || bytes !== this.#bytes;

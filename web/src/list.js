@@ -98,8 +98,8 @@ export class List {
     this.#drawn();
   }
 
-  /** Makes the items in sight. What is scrolled of all items is scrolled of the box: the item at this
-   * share of the list stands at the same share of the box. */
+  /** Makes the items in sight. What is scrolled of all items is scrolled of the box: the item at
+   * this share of the list stands at the same share of the box. */
   #drawAround() {
     const share = Math.min(this.#box.scrollTop / this.#most, 1);
     const at = share * this.#count;

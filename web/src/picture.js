@@ -4,8 +4,8 @@
 export const Kind = Object.freeze({ HEADING: 0, ROW: 1, MARK: 2, WORDS: 3, COMMAND: 4 });
 
 /** The numbers of each line: its kind, and of a row its offset, the lengths of its header and of
- * its content, its depth, and whether the content is private. Of a heading the offset and the length
- * are those of the part's bytes among all that were decoded. */
+ * its content, its depth, and whether the content is private. Of a heading the offset and the
+ * length are those of the part's bytes among all that were decoded. */
 const NUMBERS = 6;
 const [KIND, OFFSET, , CONTENT, DEPTH] = [0, 1, 2, 3, 4];
 const CODE = new TextDecoder();
@@ -60,11 +60,12 @@ export class Picture {
   /** Finds the parts, and returns the lines of the items. */
   #find(count) {
     const items = new Uint32Array(count);
+    const isHeadingAt = (line) => this.#kind(line) === Kind.HEADING;
     let found = 0;
     let headings = 0;
-    for (let line = 0; line < count; line += 1) headings += Number(this.#kind(line) === Kind.HEADING);
+    for (let line = 0; line < count; line += 1) headings += Number(isHeadingAt(line));
     for (let line = 0; line < count; line += 1) {
-      const isHeading = this.#kind(line) === Kind.HEADING;
+      const isHeading = isHeadingAt(line);
       if (isHeading || line === 0) {
         const [begin, length] = isHeading
           ? [this.#number(line, OFFSET), this.#number(line, CONTENT)] : [0, this.#bytes.length];

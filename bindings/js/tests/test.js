@@ -743,7 +743,7 @@ test('says which contents are hidden', () => {
 });
 
 test('draws large inputs, and wipes what was decoded', () => {
-  const numbers = new Uint8Array(1 << 20).map((_, at) => [2, 1, 5, 5, 0][at % 5]);
+  const numbers = new Uint8Array(1 << 20).map((_, at) => [10, 1, 5, 5, 0][at % 5]);
   const large = new Uint8Array([0x30, 0x83, 0x10, 0, 0, ...numbers]);
   const { rows } = sec1.draw(large);
   assert.equal(rows.length, 1 + Math.ceil(numbers.length / 2.5));

@@ -38,7 +38,9 @@ const length: number | null = documentLength(bytes);
 const picture: Picture = draw(bytes, { all: true });
 const row: PictureRow = draw(bytes).rows[0];
 const drawn: [boolean, number, readonly string[]] = [picture.hasKey, row.depth, row.marks];
-const texts: string[] = [picture.text, row.line, version, curve.name, point.hex(true), `${identifier}`];
+const texts: string[] = [
+  picture.text, row.line, version, curve.name, point.hex(true), `${identifier}`,
+];
 export default {
   errors, refused, parts, keys, written, coordinates, isHybrid, signature, numbers, length, texts,
   drawn,

@@ -17,7 +17,8 @@ def drawn(file: BinaryIO, show_all: bool) -> int:
 
 def main(words: List[str]) -> int:
     """Draws the files that the arguments name, or standard input, and returns the status."""
-    parser = argparse.ArgumentParser(prog="python -m sec1", description="Draws files of DER, PEM, hexadecimal or base64.")
+    about = "Draws files of DER, PEM, hexadecimal or base64."
+    parser = argparse.ArgumentParser(prog="python -m sec1", description=about)
     parser.add_argument("--all", action="store_true", help="show every content, private keys too")
     parser.add_argument("files", metavar="FILE", nargs="*", help="standard input if there is none, or for -")
     given = parser.parse_args(words)

@@ -55,9 +55,9 @@ impl<'a> Lines<'a> {
         self.count
     }
 
-    /// Adds the lines of a part of an input. What it encodes is decoded into `bytes`, before which
-    /// as many bytes are in the memory for all parts; `digits` is memory for its digits. Returns how
-    /// many bytes were decoded.
+    /// Adds the lines of a part of an input. What it encodes is decoded into `bytes`, which begin
+    /// behind `before` bytes of the memory for all parts; `digits` is memory for its digits.
+    /// Returns the number of bytes that were decoded.
     pub fn push_source(
         &mut self,
         source: &Source,
