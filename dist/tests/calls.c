@@ -2195,19 +2195,21 @@ static void test_pictures(void)
             expect_lines(&pictures[i], side);
         }
     }
-    /* DER takes no memory but that for the text, and a text takes some. */
+    /* DER takes two bytes of memory beside the text's, and a text takes more. */
     struct bytes key = unhex(WHOLE_KEY), text = repeated('0', 64);
     uint8_t memory[1024];
     char out[600];
     size_t len = 777777, is_key = 777777, count = 777777;
     struct sec1_picture_line lines[16];
-    EXPECT(sec1_picture_draw(key.data, key.len, 0, memory, sizeof out, out, sizeof out, &len,
+    EXPECT(sec1_picture_draw(key.data, key.len, 0, memory, sizeof out + 2, out, sizeof out, &len,
                              &is_key) == SEC1_OK && is_key == 1);
-    EXPECT(sec1_picture_draw(key.data, key.len, 0, memory, sizeof out - 1, out, sizeof out, &len,
+    EXPECT(sec1_picture_draw(key.data, key.len, 0, memory, sizeof out + 1, out, sizeof out, &len,
                              &is_key) == SEC1_BUFFER && len == 0 && is_key == 0);
     EXPECT(sec1_picture_draw(text.data, text.len, 0, memory, SEC1_PICTURE_ROOM(text.len, 0) - 1, NULL,
                              0, &len, &is_key) == SEC1_BUFFER && len == 0);
-    EXPECT(sec1_picture_lines(key.data, key.len, NULL, 0, lines, 16, &count) == SEC1_OK && count == 8);
+    EXPECT(sec1_picture_lines(key.data, key.len, memory, 2, lines, 16, &count) == SEC1_OK && count == 8);
+    EXPECT(sec1_picture_lines(key.data, key.len, memory, 1, lines, 16, &count) == SEC1_BUFFER &&
+           count == 0);
     EXPECT(sec1_picture_lines(text.data, text.len, memory, SEC1_PICTURE_ROOM(text.len, 0) - 1, lines,
                               16, &count) == SEC1_BUFFER && count == 0);
     /* With all contents: 32 bytes in two lines. */

@@ -1,6 +1,7 @@
 //! Pictures of any input, DER or a text that encodes some: `sec1_picture_draw` and
 //! `sec1_picture_lines`.
 ghost use Rattle.std.specs.Prelude.{◌≡◌, ◌≢◌, ◌≤◌, length};
+ghost use Rattle.der_view.specs.Sources.{source_len};
 ghost use Rattle.sec1_c.specs.Pictures.{IsDrawn};
 
 mod lines;
@@ -8,7 +9,7 @@ mod text;
 
 use crate::buffer::write_bytes;
 use crate::status::{OK, kind_number};
-use der_view::{Sources, draw, room_len};
+use der_view::{Source, Sources, draw, room_len};
 use lines::Lines;
 pub use lines::PictureLine;
 use sec1::der::ErrorKind;
@@ -33,7 +34,7 @@ pub extern "C" fn sec1_picture_draw(
     is_key: &mut usize,
 ) -> u32
     ensures drawn { result ≡ 0
-        → IsDrawn all input.now text.old text.new len.new is_key.new }
+        → IsDrawn all text.old text.new len.new is_key.new }
     ensures short { result ≢ 0
         → (result ≡ 7) × (text.new ≡ text.old) × (is_key.new ≡ 0) }
 {
@@ -78,7 +79,7 @@ pub extern "C" fn sec1_picture_lines(
         return kind_number(ErrorKind::Buffer);
     }
     let most = lines.len();
-    let (digits, bytes) = room.split_at_mut(input.len().min(room.len() / 2));
+    let (digits, bytes) = room.split_at_mut((room.len() / 2).saturating_sub(1));
     let mut lines = Lines::new(lines);
     let mut sources = Sources::new(input);
     let mut used = 0;
@@ -87,13 +88,28 @@ pub extern "C" fn sec1_picture_lines(
         let Some(source) = sources.next_source() else {
             break;
         };
-        let before = digits.len().saturating_add(used);
-        used += lines.push_source(&source, before, digits, &mut bytes[used..]);
+        let rest = &mut bytes[used..];
+        let source_len = source_len(&source);
+        if digits.len() < source_len || rest.len() < source_len.saturating_add(2) {
+            return kind_number(ErrorKind::Buffer);
+        }
+        used += lines.push_source(&source, digits.len().saturating_add(used), digits, rest);
     }
     *count = lines.count();
     if lines.count() <= most {
         OK
     } else {
         kind_number(ErrorKind::Buffer)
+    }
+}
+
+/// Returns the number of characters of a part that may encode bytes.
+fn source_len(source: &Source) -> usize
+    ensures { result ≡ source_len source.now }
+{
+    match source {
+        Source::Pem { block, .. } => block.body.len(),
+        Source::Text(text) => text.len(),
+        Source::Der(_) | Source::Utf16 => 0,
     }
 }

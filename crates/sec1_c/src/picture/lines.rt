@@ -1,13 +1,18 @@
 //! What the lines of a picture are of.
-ghost use Rattle.std.specs.Prelude.{◌≡◌, ◌≤◌, length};
+ghost use Rattle.std.specs.Prelude.{◌≡◌, ◌≤◌, ◌+◌, length};
+ghost use Rattle.der_view.specs.Sources.{source_len};
 
 use der_view::{Field, Form, Found, OpenRow, Plan, Rows, Shown, Source, Subject, is_key};
 
 /// The kinds of lines.
 const HEADING: usize = 0;
+
 const ROW: usize = 1;
+
 const MARK: usize = 2;
+
 const WORDS: usize = 3;
+
 const COMMAND: usize = 4;
 
 /// A line of a picture. What doesn't apply to its kind is 0.
@@ -65,6 +70,8 @@ impl<'a> Lines<'a> {
         digits: &mut [u8],
         bytes: &mut [u8],
     ) -> usize
+        requires digits { source_len source.now ≤ length digits.old }
+        requires bytes { source_len source.now + 2 ≤ length bytes.old }
         ensures { result ≤ length bytes.old }
     {
         let found = source.find(digits, bytes);
@@ -165,10 +172,7 @@ fn is_hidden(plan: &Plan, is_whole: bool, row: &OpenRow) -> bool {
 fn is_keyless(form: Form) -> bool {
     matches!(
         form,
-        Form::Certificate
-            | Form::CertificationRequest
-            | Form::CertificateList
-            | Form::PublicKey
+        Form::Certificate | Form::CertificationRequest | Form::CertificateList | Form::PublicKey
     )
 }
 
@@ -178,15 +182,15 @@ fn is_public(field: Option<Field>) -> bool {
         field,
         Some(
             Field::PublicKey
-            | Field::Point
-            | Field::Modulus
-            | Field::PublicExponent
-            | Field::P
-            | Field::Q
-            | Field::G
-            | Field::Y
-            | Field::R
-            | Field::S
+                | Field::Point
+                | Field::Modulus
+                | Field::PublicExponent
+                | Field::P
+                | Field::Q
+                | Field::G
+                | Field::Y
+                | Field::R
+                | Field::S
         )
     )
 }
