@@ -26,7 +26,7 @@ wanted() { # MODE PATH, or MODE PATH -> TARGET
     printf '644 %s\n' include/sec1.h $lib/cmake/sec1/sec1-config-version.cmake \
         $lib/cmake/sec1/sec1-config.cmake $lib/libsec1.a $lib/pkgconfig/sec1.pc \
         share/doc/sec1/{LICENSE-APACHE,LICENSE-MIT,README.md,CALLS.md,licences.txt} \
-        share/doc/sec1/examples/key_parts.{c,py,rs} share/man/man3/sec1.3
+        share/doc/sec1/examples/{key_parts.{c,py,rs},sec1_view.c} share/man/man3/sec1.3
     printf '755 %s\n' "$lib/libsec1.so.$version"
     printf '777 %s\n' "$lib/libsec1.so -> libsec1.so.0" "$lib/libsec1.so.0 -> libsec1.so.$version"
     for page in $functions; do echo "777 share/man/man3/$page.3 -> sec1.3"; done
