@@ -45,7 +45,8 @@ FAULTS = [
     ("library.js", "(wordAt(it + 16) ? ", "(wordAt(it + 8) ? "),
     ("library.js", "memory.slice(begin,", "memory.subarray(begin,"),
     ("library.js", "HEAP + wordAt(it);", "HEAP + wordAt(it) + 1;"),
-    ("library.js", "return [memory.slice(this.#place", "return [memory.subarray(this.#place"),
+    *[("library.js", f"return [memory.slice({it}", f"return [memory.subarray({it}")
+      for it in ("this.#place, this.#place + wordAt(", "this.#place, this.#place + Math.min(")],
     *[("library.js", f"sec1_{it}_fault_at: [Bytes, offset]", f"sec1_{it}_fault_at: [Bytes, Size]")
       for it in ("certificate", "private_key", "private_key_info", "public_key", "signature")],
     ("library.js", "stores(size, part, part)", "stores(part, part, size)"),
