@@ -36,7 +36,7 @@ pub struct PictureLine {
     /// Of a row the number of elements around it.
     pub depth: usize,
 
-    /// Of a row 1 if its content isn't shown in the picture, and isn't known to be public.
+    /// Of a row, the number 1 if its content isn't shown, nor known to be public; otherwise 0.
     pub hidden: usize,
 }
 
