@@ -73,7 +73,7 @@ rust() {
     check "the example of the packed crate is built" \
         cargo build --quiet --example view --features std "${packed[@]}"
     check "it draws what a second reader draws" \
-        python3 -B "$top/tests/dump/programs.py" "$CARGO_TARGET_DIR/debug/examples/view"
+        python3 -B "$top/tests/dump/programs.py" --several "$CARGO_TARGET_DIR/debug/examples/view"
     cd "$work/rust" || return
     lints
     refuses "another processor is refused" "not for riscv64gc" other_target

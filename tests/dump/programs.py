@@ -1,7 +1,9 @@
 #!/usr/bin/env python3
 """Runs programs that draw a file over the pictures that were drawn by hand, over stored keys,
 structures and damaged keys, and compares what each prints and its status with those pictures and
-with the second reader: programs.py COMMAND.., each called as `COMMAND [--all] FILE`.
+with the second reader: programs.py [--several] COMMAND.., each called as `COMMAND [--all] FILE`,
+and with --several also as `COMMAND [--all] FILE..` with several files, missing ones, and none: what
+begins with -- and isn't that option is a file.
 
 The last line is `N passed, M failed`.
 """
@@ -48,15 +50,49 @@ def stored():
             yield f"{kind} {number}", data, asked, text, int(not is_key)
 
 
-def main(commands):
+def several(folder):
+    """The words after the command, what is printed, the status, and what stands in each line that
+    is said of an error: of files that were drawn by hand, and of others."""
+    drawn = {status: (data, text) for _, data, asked, text, status in drawn_by_hand() if not asked}
+    word = "--none"
+    key, other, none = (str(folder / name) for name in ("key", "other", "none"))
+    for path, status in ((key, 0), (other, 1)):
+        pathlib.Path(path).write_bytes(drawn[status][0])
+    texts = {path: f"{path}:\n{drawn[status][1]}" for path, status in ((key, 0), (other, 1))}
+    texts |= {none: f"{none}:\n", word: f"{word}:\n"}
+    for *paths, status in ((key, key, 0), (key, other, 1), (other, key, 1), (none, key, 2),
+                           (other, none, key, 2), (word, key, 2)):
+        said = [f": {path}: No such file or directory" for path in paths if path in (none, word)]
+        yield paths, "".join(texts[path] for path in paths), status, said
+    all_shown = picture.draw(drawn[0][0], True)[0]
+    yield [key, "--all"], all_shown, 0, []
+    yield [key, "--all", key], f"{key}:\n{all_shown}" * 2, 0, []
+    for words, said in (([none], f": {none}: No such file or directory"),
+                        ([str(folder)], f": {folder}: Is a directory"), ([], " [--all] FILE..")):
+        yield words, "", 2, [said]
+
+
+def is_told(errors, wanted):
+    """Returns whether each line that was said of an error has what is wanted."""
+    lines = errors.decode().splitlines()
+    return len(lines) == len(wanted) and all(map(str.__contains__, lines, wanted))
+
+
+def main(arguments):
     passed = failed = 0
+    is_several = arguments[0] == "--several"
     with tempfile.TemporaryDirectory() as folder:
         file = pathlib.Path(folder) / "file"
-        for name, data, asked, text, status in [*drawn_by_hand(), *stored()]:
+        cases = [(name, data, [*asked, file], text, status, [])
+                 for name, data, asked, text, status in [*drawn_by_hand(), *stored()]]
+        for words, *wanted in several(pathlib.Path(folder)) if is_several else ():
+            cases.append((f"{len(words)} words", b"", words, *wanted))
+        for name, data, words, text, status, said in cases:
             file.write_bytes(data)
-            for command in commands:
-                ran = subprocess.run([*shlex.split(command), *asked, file], capture_output=True)
+            for command in arguments[is_several:]:
+                ran = subprocess.run([*shlex.split(command), *words], capture_output=True)
                 holds = ran.stdout.decode() == text and ran.returncode == status
+                holds = holds and is_told(ran.stderr, said)
                 passed, failed = passed + holds, failed + (not holds)
                 if not holds:
                     print(f"FAILED: {command} of {name}: {ran.stdout[:300]!r}, {ran.returncode}, "
