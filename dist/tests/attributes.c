@@ -103,6 +103,8 @@ uint32_t right_calls(size_t some)
     status |= sec1_picture_draw(NULL, 0, 1, NULL, 0, NULL, 0, &len, &other_len);
     status |= sec1_picture_lines(key, some, out, sizeof out, lines, 2, &len);
     status |= sec1_picture_lines(NULL, 0, NULL, 0, NULL, 0, &len);
+    status |= sec1_status_to_text(some, text, sizeof text, &len);
+    status |= sec1_status_to_text(0, NULL, 0, &len);
     return sec1_status_text(status)[0] == 'o' ? sec1_version() : status;
 }
 

@@ -112,6 +112,14 @@ static struct bytes unhex(const char *text)
     return b;
 }
 
+static struct bytes text_bytes(const char *text)
+{
+    struct bytes b = {0};
+    b.len = strlen(text);
+    memcpy(b.data, text, b.len);
+    return b;
+}
+
 static struct bytes joined(struct bytes a, struct bytes b)
 {
     memcpy(a.data + a.len, b.data, b.len);
@@ -298,6 +306,14 @@ static void expect_refused(converter convert, struct bytes input, uint32_t wante
 
 /* ---- the header */
 
+/* The status is the number of bytes. */
+static uint32_t status_to_text(const uint8_t *bytes, size_t bytes_len, uint8_t *out, size_t out_len,
+                               size_t *len)
+{
+    (void)bytes;
+    return sec1_status_to_text(bytes_len, (char *)out, out_len, len);
+}
+
 static void test_header(void)
 {
     EXPECT(sizeof(struct sec1_part) == 3 * sizeof(size_t));
@@ -334,6 +350,7 @@ static void test_header(void)
     EXPECT(SEC1_IDENTIFIER_CONTENT_MAX == 39 && SEC1_IDENTIFIER_TEXT_MAX == 158 &&
            SEC1_IDENTIFIER_ARCS_MAX == 40 && SEC1_PUBLIC_KEY_MAX == 158);
     EXPECT(SEC1_POINT_MAX == 133 && SEC1_CURVE_NAME_MAX == 16 && SEC1_POINT_TEXT_MAX == 267);
+    EXPECT(SEC1_STATUS_TEXT_MAX == 42);
     EXPECT(sec1_version() == SEC1_VERSION);
 
     static const char *const texts[] = {
@@ -350,11 +367,24 @@ static void test_header(void)
         "length of field elements not supported",
         "curve not in the table",
         "key and container name different curves",
+        "unknown status",
+        "unknown status",
     };
-    for (uint32_t status = 0; status < 13; status++)
+    for (uint32_t status = 0; status < 15; status++) {
+        struct bytes ended = text_bytes(texts[status]);
+        ended.len++;
         EXPECT(strcmp(sec1_status_text(status), texts[status]) == 0);
-    EXPECT(strcmp(sec1_status_text(13), "unknown status") == 0);
+        EXPECT(ended.len <= SEC1_STATUS_TEXT_MAX);
+        expect_converted(status_to_text, (struct bytes){.len = status}, ended);
+    }
     EXPECT(strcmp(sec1_status_text(UINT32_MAX), "unknown status") == 0);
+    struct bytes unknown = text_bytes("unknown status");
+    char text[SEC1_STATUS_TEXT_MAX];
+    size_t len;
+    for (size_t number = 16; number; number *= 2) {
+        EXPECT(sec1_status_to_text(number, text, sizeof text, &len) == SEC1_OK);
+        EXPECT(len == unknown.len + 1 && memcmp(text, unknown.data, len) == 0);
+    }
 }
 
 /* ---- keys */
@@ -1372,14 +1402,6 @@ static uint32_t from_text(const uint8_t *bytes, size_t bytes_len, uint8_t *out, 
                           size_t *len)
 {
     return sec1_identifier_from_text((const char *)bytes, bytes_len, out, out_len, len);
-}
-
-static struct bytes text_bytes(const char *text)
-{
-    struct bytes b = {0};
-    b.len = strlen(text);
-    memcpy(b.data, text, b.len);
-    return b;
 }
 
 static uint32_t check_identifier(struct bytes content)

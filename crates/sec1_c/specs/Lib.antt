@@ -1,4 +1,5 @@
 pub mod Statuses
+pub mod StatusTexts
 pub mod Outputs
 pub mod Places
 pub mod KeyPlaces

@@ -4,6 +4,8 @@ ghost use Rattle.sec1.specs.Errors.{IsAsn1, IsAsn1Where};
 ghost use Rattle.sec1_c.specs.Statuses.{curve_number, error_number, fault_number};
 ghost use Rattle.sec1_c.specs.Statuses.{field_length_number, kind_number, other_curve_number};
 
+mod text;
+
 use sec1::Error;
 use sec1::der::ErrorKind;
 
