@@ -62,77 +62,66 @@ class Error(ValueError):
 class TruncatedError(Error):
     """The input, or the element around a part, ends too early."""
 
-    text = "input ends inside an element"
     status = 1
 
 
 class TagError(Error):
     """A tag that isn't the expected one, or that no element has."""
 
-    text = "unexpected or unsupported tag"
     status = 2
 
 
 class LengthError(Error):
     """A length that isn't in the form of DER, or is above 268,435,455."""
 
-    text = "length not in DER form or above the limit"
     status = 3
 
 
 class TrailingDataError(Error):
     """Bytes after the last part."""
 
-    text = "bytes after the value"
     status = 4
 
 
 class ValueContentError(Error):
     """A content that isn't valid for its tag, or a text that isn't an identifier's."""
 
-    text = "content not valid for its tag"
     status = 5
 
 
 class OverlengthError(Error):
     """A content to write is above 268,435,455 bytes."""
 
-    text = "value longer than 268435455 bytes"
     status = 6
 
 
 class BufferTooShort(Error):
     """The buffer to write into is too short. No call of this module raises it."""
 
-    text = "output buffer too small"
     status = 7
 
 
 class DepthError(Error):
     """More than 64 nested elements."""
 
-    text = "more than 64 nested elements"
     status = 8
 
 
 class PointEncodingError(Error):
     """The bytes aren't the encoding of a point."""
 
-    text = "elliptic curve point encoding error"
     status = 9
 
 
 class FieldLengthError(Error):
     """The length of field elements isn't 1 to 66, or two lengths differ."""
 
-    text = "length of field elements not supported"
     status = 10
 
 
 class CurveError(Error):
     """No curve of the library's table has this identifier or this name."""
 
-    text = "curve not in the table"
     status = 11
 
 
@@ -140,11 +129,12 @@ class OtherCurveError(Error):
     """A private key names another curve than its container. `offset` is that of the identifier's content in
     the key."""
 
-    text = "key and container name different curves"
     status = 12
 
 
 _ERRORS = {kind.status: kind for kind in Error.__subclasses__()}
+for _kind in Error.__subclasses__():
+    _kind.text = _library.written("sec1_status_to_text", _kind.status)[1][:-1].decode("ascii")
 
 
 def _bytes(data: bytes) -> bytes:

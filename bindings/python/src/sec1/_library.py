@@ -63,6 +63,7 @@ for _name, _types in {
     "sec1_tree_check": [*_BYTES, POINTER(c_size_t)],
     "sec1_document_len": [*_BYTES, POINTER(c_size_t)],
     "sec1_picture_draw": [*_BYTES, c_size_t, POINTER(c_char), c_size_t, *_OUT, POINTER(c_size_t)],
+    "sec1_status_to_text": [c_size_t, *_OUT],
 }.items():
     getattr(_sec1, _name).argtypes, getattr(_sec1, _name).restype = _types, c_uint32
 

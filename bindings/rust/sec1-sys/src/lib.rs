@@ -61,6 +61,8 @@ pub const SEC1_PUBLIC_KEY_MAX: usize = 158;
 pub const SEC1_CURVE_NAME_MAX: usize = 16;
 /// The greatest length of a point's hexadecimal text with the byte 0 at its end.
 pub const SEC1_POINT_TEXT_MAX: usize = 267;
+/// The greatest length of a status's text with the byte 0 at its end.
+pub const SEC1_STATUS_TEXT_MAX: usize = 42;
 
 /// A part of some bytes, by its place.
 #[repr(C)]
@@ -583,5 +585,17 @@ unsafe extern "C" {
         text_len: usize,
         len: *mut usize,
         is_key: *mut usize,
+    ) -> u32;
+    /// Writes the text of a status and a byte 0, and stores the length of both.
+    ///
+    /// # Safety
+    ///
+    /// `text` is writable for `text_len` bytes, `len` is writable, and neither overlaps another
+    /// argument.
+    pub fn sec1_status_to_text(
+        status: usize,
+        text: *mut u8,
+        text_len: usize,
+        len: *mut usize,
     ) -> u32;
 }

@@ -15,6 +15,7 @@ mod writer;
 #[cfg(feature = "alloc")]
 pub use document::SecretDocument;
 pub use element::{Element, check_tree};
+pub(crate) use error::print_status;
 pub use error::{Error, ErrorKind};
 #[cfg(feature = "alloc")]
 pub(crate) use header::content_len_of;

@@ -1,6 +1,6 @@
 //! Why a call of this crate refuses.
 
-use crate::der;
+use crate::der::{self, print_status};
 use core::fmt;
 
 /// A `Result` with this crate's [`Error`].
@@ -56,7 +56,7 @@ impl fmt::Display for Error {
         match self {
             Error::Asn1(error) => write!(f, "SEC1 ASN.1 error: {error}"),
             Error::Crypto => f.write_str("SEC1 cryptographic error"),
-            Error::PointEncoding => f.write_str("elliptic curve point encoding error"),
+            Error::PointEncoding => print_status(sec1_sys::SEC1_POINT_ENCODING, f),
             Error::Version => f.write_str("SEC1 version error"),
         }
     }

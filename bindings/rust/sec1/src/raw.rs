@@ -437,6 +437,14 @@ pub(crate) fn picture_draw(
     answer(status, (len, is_key == 1)).map_err(|status| (status, len))
 }
 
+/// Writes the text of a status and a byte 0, and returns the length of both.
+pub(crate) fn status_to_text(number: u32, text: &mut [u8]) -> Result<usize, Status> {
+    let (number, mut len) = (usize::try_from(number).unwrap_or(usize::MAX), 0);
+    // SAFETY: `text` is one slice that is borrowed by `&mut`, and `len` is a place of this function.
+    let status = unsafe { sec1_status_to_text(number, text.as_mut_ptr(), text.len(), &mut len) };
+    answer(status, len)
+}
+
 /// Borrows Rust's own array as an `Array`.
 #[inline]
 pub(crate) fn array<T: Copy, Size: ArraySize>(array: &Size::ArrayType<T>) -> &Array<T, Size> {

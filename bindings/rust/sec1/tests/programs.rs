@@ -370,6 +370,29 @@ fn curves_have_names() {
 }
 
 #[test]
+fn kinds_have_texts() {
+    use der::{Error, ErrorKind};
+    for (kind, text) in [
+        (ErrorKind::Truncated, "input ends inside an element"),
+        (ErrorKind::Tag, "unexpected or unsupported tag"),
+        (ErrorKind::Length, "length not in DER form or above the limit"),
+        (ErrorKind::TrailingData, "bytes after the value"),
+        (ErrorKind::Value, "content not valid for its tag"),
+        (ErrorKind::Overlength, "value longer than 268435455 bytes"),
+        (ErrorKind::Buffer, "output buffer too small"),
+        (ErrorKind::Depth, "more than 64 nested elements"),
+        (ErrorKind::Curve, "curve not in the table"),
+        (ErrorKind::OtherCurve, "key and container name different curves"),
+        (ErrorKind::Failed, "the library broke its contract"),
+        (ErrorKind::Memory, "out of memory"),
+    ] {
+        assert_eq!((kind.to_string(), Error::from(kind).to_string()), (text.into(), text.into()));
+    }
+    #[cfg(feature = "std")]
+    assert_eq!(ErrorKind::Io(std::io::ErrorKind::NotFound).to_string(), "read or write failed");
+}
+
+#[test]
 fn faults_have_offsets() {
     use der::{Decode, ErrorKind, check_tree};
     let key = [0x30, 6, 2, 1, 1, 4, 1, 9];

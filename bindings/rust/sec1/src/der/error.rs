@@ -1,8 +1,9 @@
 //! Why a call of this module refuses.
 
 use super::Length;
-use crate::raw::Status;
+use crate::raw::{self, Status};
 use core::fmt;
+use core::str;
 #[cfg(feature = "std")]
 use std::io;
 
@@ -68,6 +69,20 @@ pub enum ErrorKind {
     Io(io::ErrorKind),
 }
 
+/// The kinds that are statuses of the library.
+const STATUSES: [(u32, ErrorKind); 10] = [
+    (sec1_sys::SEC1_TRUNCATED, ErrorKind::Truncated),
+    (sec1_sys::SEC1_TAG, ErrorKind::Tag),
+    (sec1_sys::SEC1_LENGTH, ErrorKind::Length),
+    (sec1_sys::SEC1_TRAILING_DATA, ErrorKind::TrailingData),
+    (sec1_sys::SEC1_VALUE, ErrorKind::Value),
+    (sec1_sys::SEC1_OVERLENGTH, ErrorKind::Overlength),
+    (sec1_sys::SEC1_BUFFER, ErrorKind::Buffer),
+    (sec1_sys::SEC1_DEPTH, ErrorKind::Depth),
+    (sec1_sys::SEC1_CURVE, ErrorKind::Curve),
+    (sec1_sys::SEC1_OTHER_CURVE, ErrorKind::OtherCurve),
+];
+
 impl Error {
     /// Returns the error of this kind, at this offset in the bytes.
     ///
@@ -91,19 +106,8 @@ impl Error {
 
     /// Returns the error of a status, which isn't one of points.
     pub(crate) fn of(status: Status) -> Error {
-        Error::of_kind(match status.get() {
-            sec1_sys::SEC1_TRUNCATED => ErrorKind::Truncated,
-            sec1_sys::SEC1_TAG => ErrorKind::Tag,
-            sec1_sys::SEC1_LENGTH => ErrorKind::Length,
-            sec1_sys::SEC1_TRAILING_DATA => ErrorKind::TrailingData,
-            sec1_sys::SEC1_VALUE => ErrorKind::Value,
-            sec1_sys::SEC1_OVERLENGTH => ErrorKind::Overlength,
-            sec1_sys::SEC1_BUFFER => ErrorKind::Buffer,
-            sec1_sys::SEC1_DEPTH => ErrorKind::Depth,
-            sec1_sys::SEC1_CURVE => ErrorKind::Curve,
-            sec1_sys::SEC1_OTHER_CURVE => ErrorKind::OtherCurve,
-            _ => ErrorKind::Failed,
-        })
+        let known = STATUSES.iter().find(|(number, _)| *number == status.get());
+        Error::of_kind(known.map_or(ErrorKind::Failed, |(_, kind)| *kind))
     }
 
     /// Returns the error of a status, at the offset that the library stored.
@@ -161,23 +165,25 @@ impl fmt::Display for Error {
 
 impl fmt::Display for ErrorKind {
     fn fmt(&self, f: &mut fmt::Formatter<'_>) -> fmt::Result {
+        if let Some((number, _)) = STATUSES.iter().find(|(_, kind)| kind == self) {
+            return print_status(*number, f);
+        }
         f.write_str(match self {
-            ErrorKind::Truncated => "input ends inside an element",
-            ErrorKind::Tag => "unexpected or unsupported tag",
-            ErrorKind::Length => "length not in DER form or above the limit",
-            ErrorKind::TrailingData => "bytes after the value",
-            ErrorKind::Value => "content not valid for its tag",
-            ErrorKind::Overlength => "value longer than 268435455 bytes",
-            ErrorKind::Buffer => "output buffer too small",
-            ErrorKind::Depth => "more than 64 nested elements",
-            ErrorKind::Curve => "curve not in the table",
-            ErrorKind::OtherCurve => "key and container name different curves",
-            ErrorKind::Failed => "the library broke its contract",
             ErrorKind::Memory => "out of memory",
             #[cfg(feature = "std")]
             ErrorKind::Io(_) => "read or write failed",
+            _ => "the library broke its contract",
         })
     }
+}
+
+/// Prints the text that the library has for a status.
+pub(crate) fn print_status(number: u32, f: &mut fmt::Formatter<'_>) -> fmt::Result {
+    let mut text = [0; sec1_sys::SEC1_STATUS_TEXT_MAX];
+    // The length counts the byte 0 at the end.
+    let len = raw::status_to_text(number, &mut text).unwrap_or_default().saturating_sub(1);
+    let text = text.get(..len).unwrap_or_default();
+    f.write_str(str::from_utf8(text).unwrap_or_default())
 }
 
 impl From<ErrorKind> for Error {
