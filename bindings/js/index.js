@@ -2,7 +2,7 @@
 // (RFC 5480), signatures of ECDSA (RFC 3279), points (SEC1 v2.0 section 2.3.3), object identifiers
 // and trees of DER. A module that is proved to meet its contracts decides what is accepted and what
 // is written. index.d.ts says what each name does.
-import { call, drawn, lines } from './library.js';
+import { Kind, NUMBERS, call, drawn, picture } from './library.js';
 
 export const version = '0.2.0';
 
@@ -32,67 +32,56 @@ export class Sec1Error extends Error {
 export class TruncatedError extends Sec1Error {
   static kind = 'Truncated';
   static status = 1;
-  static text = 'input ends inside an element';
 }
 
 export class TagError extends Sec1Error {
   static kind = 'Tag';
   static status = 2;
-  static text = 'unexpected or unsupported tag';
 }
 
 export class LengthError extends Sec1Error {
   static kind = 'Length';
   static status = 3;
-  static text = 'length not in DER form or above the limit';
 }
 
 export class TrailingDataError extends Sec1Error {
   static kind = 'TrailingData';
   static status = 4;
-  static text = 'bytes after the value';
 }
 
 export class ValueContentError extends Sec1Error {
   static kind = 'Value';
   static status = 5;
-  static text = 'content not valid for its tag';
 }
 
 export class OverlengthError extends Sec1Error {
   static kind = 'Overlength';
   static status = 6;
-  static text = 'value longer than 268435455 bytes';
 }
 
 export class DepthError extends Sec1Error {
   static kind = 'Depth';
   static status = 8;
-  static text = 'more than 64 nested elements';
 }
 
 export class PointEncodingError extends Sec1Error {
   static kind = 'PointEncoding';
   static status = 9;
-  static text = 'elliptic curve point encoding error';
 }
 
 export class FieldLengthError extends Sec1Error {
   static kind = 'FieldLength';
   static status = 10;
-  static text = 'length of field elements not supported';
 }
 
 export class CurveError extends Sec1Error {
   static kind = 'Curve';
   static status = 11;
-  static text = 'curve not in the table';
 }
 
 export class OtherCurveError extends Sec1Error {
   static kind = 'OtherCurve';
   static status = 12;
-  static text = 'key and container name different curves';
 }
 
 const ERRORS = new Map(
@@ -159,6 +148,9 @@ function made(name, ...given) {
   check(status);
   return result;
 }
+
+// The texts of refusals are the library's.
+for (const kind of ERRORS.values()) kind.text = textOf(made('sec1_status_to_text', kind.status));
 
 const NOTHING = new Uint8Array(0);
 
@@ -494,26 +486,18 @@ export function documentLength(data) {
 
 // ---- pictures
 
-/** What a line of a picture is: enum sec1_line of sec1.h, and how many numbers are of each. */
-const [ROW, MARK, NUMBERS] = [1, 2, 6];
+const CODE = new TextDecoder();
 
-/** Returns each line of a picture that shows no contents, and its numbers. */
-function linesOf(bytes, text) {
-  const texts = text.split('\n').slice(0, -1);
-  const [status, , numbers] = lines(bytes, texts.length);
-  check(status);
-  return texts.map((line, at) => [line, ...numbers.subarray(at * NUMBERS, (at + 1) * NUMBERS)]);
-}
-
-/** Returns the rows of a picture. */
-function rowsOf(bytes, text) {
+/** Returns the rows of a picture, by its text and the numbers of its lines. */
+function rowsOf(text, numbers) {
   const rows = [];
-  for (const [line, kind, offset, headerLength, contentLength, depth, hidden] of
-    linesOf(bytes, text)) {
+  for (const [at, line] of text.split('\n').slice(0, -1).entries()) {
+    const [kind, offset, headerLength, contentLength, depth, hidden] =
+      numbers.subarray(at * NUMBERS, (at + 1) * NUMBERS);
     const isHidden = hidden === 1;
-    if (kind === ROW) {
+    if (kind === Kind.ROW) {
       rows.push({ line, marks: [], offset, headerLength, contentLength, depth, isHidden });
-    } else if (kind === MARK) {
+    } else if (kind === Kind.MARK) {
       rows.at(-1).marks.push(line);
     }
   }
@@ -522,12 +506,10 @@ function rowsOf(bytes, text) {
 
 export function draw(data, { all = false } = {}) {
   const bytes = bytesOf(data);
-  const pictureOf = (asked) => {
-    const [status, text, isKey] = drawn(bytes, Number(asked));
-    check(status);
-    return { text: new TextDecoder().decode(text), hasKey: isKey === 1 };
-  };
-  const isAll = Boolean(all);
-  const picture = pictureOf(isAll);
-  return { ...picture, rows: rowsOf(bytes, isAll ? pictureOf(false).text : picture.text) };
+  const plain = picture(bytes);
+  check(plain.status);
+  const rows = rowsOf(CODE.decode(plain.text), plain.numbers);
+  const [status, text, isKey] = all ? drawn(bytes, 1) : [0, plain.text, plain.isKey];
+  check(status);
+  return { text: CODE.decode(text), hasKey: isKey === 1, rows };
 }

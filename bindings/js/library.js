@@ -11,8 +11,12 @@ const BUFFER = 7;
 /** The room that a call gets to write into at first, in bytes. */
 const ROOM = 512;
 const PAGE = 65536;
-/** The number of bytes of a line of a picture. */
-const LINE = 48;
+/** What a line of a picture is: enum sec1_line of sec1.h. */
+export const Kind = Object.freeze({ HEADING: 0, ROW: 1, MARK: 2, WORDS: 3, COMMAND: 4 });
+/** How many numbers a line has: its kind, and of a row its offset, the lengths of its header and of
+ * its content, its depth, and 1 if the content is hidden. Of a heading the offset and the length
+ * are those of the part's bytes among all that were decoded. */
+export const NUMBERS = 6;
 const HEAP = Number(exports.__heap_base.value);
 
 let view = new DataView(exports.memory.buffer);
@@ -152,7 +156,7 @@ class Text {
   }
 }
 
-/** A buffer of as many lines of a picture as the argument says: an array, six numbers for each. */
+/** A buffer of as many lines of a picture as the argument says: an array of their numbers. */
 class Lines {
   static takes = true;
   #place;
@@ -160,7 +164,7 @@ class Lines {
   #length;
 
   constructor(scratch, room) {
-    this.#place = scratch.reserve(room * LINE);
+    this.#place = scratch.reserve(room * NUMBERS * 8);
     this.#room = room;
     this.#length = scratch.reserve(8);
   }
@@ -170,7 +174,7 @@ class Lines {
   }
 
   stored() {
-    const count = Math.min(wordAt(this.#length), this.#room) * (LINE / 8);
+    const count = Math.min(wordAt(this.#length), this.#room) * NUMBERS;
     const halves = new Uint32Array(memory.buffer, this.#place, 2 * count);
     const numbers = new Uint32Array(count);
     // The upper halves of these numbers are 0: no input has 4 GiB.
@@ -241,6 +245,7 @@ const CALLS = {
   sec1_document_len: [Bytes, stores(size)],
   sec1_picture_draw: [Bytes, Size, Room, Text, stores(size)],
   sec1_picture_lines: [Bytes, Room, Lines],
+  sec1_status_to_text: [Size, Out],
 };
 
 /** Makes a call with these arrays of bytes and numbers. Returns its status, and what it stores. */
@@ -258,8 +263,8 @@ export function call(name, ...given) {
   }
 }
 
-/** Returns the text of the picture of an input, and whether it has a key: with all contents, if the
- * number isn't 0. */
+/** Returns the status, the text of the picture of an input, and 1 if the input has a key: with all
+ * contents, if the number isn't 0. */
 export function drawn(input, all) {
   // Room for most pictures; a longer one is drawn once more.
   let most = 24 * input.length + 4096;
@@ -271,7 +276,12 @@ export function drawn(input, all) {
   }
 }
 
-/** Returns what each of so many lines of the picture of an input is of, and what was decoded. */
-export function lines(input, count) {
-  return call('sec1_picture_lines', input, 2 * input.length + 2, count);
+/** Returns the same of the picture without private contents, the numbers of its lines, and the
+ * bytes that were decoded. */
+export function picture(input) {
+  const [status, text, isKey] = drawn(input, 0);
+  let count = 0;
+  for (let at = text.indexOf(10); at >= 0; at = text.indexOf(10, at + 1)) count += 1;
+  const [told, decoded, numbers] = call('sec1_picture_lines', input, 2 * input.length + 2, count);
+  return { status: status || told, text, isKey, numbers, decoded };
 }

@@ -1,5 +1,5 @@
 // The bytes in hexadecimal, beside the rows. Private ones are veiled until they are shown.
-import { Kind } from './picture.js';
+import { Kind } from './library.js';
 import { List } from './list.js';
 
 /** The numbers of bytes in a line, and where there is little room. */

@@ -1,7 +1,7 @@
-// The page: what is dropped, chosen or pasted is drawn by the engine, and laid out.
-import { draw } from './engine.js';
+// The page: what is dropped, chosen or pasted is drawn by the library, and laid out.
 import { Dump } from './dump.js';
-import { Kind, Picture } from './picture.js';
+import { Kind } from './library.js';
+import { Picture } from './picture.js';
 import { Table } from './table.js';
 
 /** The number of bytes up to which an input is read. */
@@ -74,7 +74,7 @@ function show(input, title) {
     return false;
   }
   try {
-    picture = new Picture(draw(input));
+    picture = new Picture(input);
   } catch (error) {
     refuse(String(error));
     return false;
@@ -155,5 +155,5 @@ addEventListener('pagehide', () => {
   clear();
 });
 
-// What stands there until the engine does.
+// What stands there until the library does.
 clear();

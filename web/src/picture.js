@@ -1,12 +1,7 @@
-// What the engine says of an input: the lines of its text, what each is of, and the bytes.
+// What the library says of an input: the lines of its picture, what each is of, and the bytes.
+import { Kind, NUMBERS, picture } from './library.js';
 
-/** What a line is. */
-export const Kind = Object.freeze({ HEADING: 0, ROW: 1, MARK: 2, WORDS: 3, COMMAND: 4 });
-
-/** The numbers of each line: its kind, and of a row its offset, the lengths of its header and of
- * its content, its depth, and whether the content is private. Of a heading the offset and the
- * length are those of the part's bytes among all that were decoded. */
-const NUMBERS = 6;
+/** The places of a line's numbers. */
 const [KIND, OFFSET, , CONTENT, DEPTH] = [0, 1, 2, 3, 4];
 const CODE = new TextDecoder();
 
@@ -46,8 +41,12 @@ export class Picture {
   #items;
   #parts = [];
 
-  /** A picture: its text, the numbers of its lines, and all bytes that it is of. */
-  constructor({ text, numbers, bytes }) {
+  /** The picture of an input. The bytes that it is of are the input or were decoded from it. */
+  constructor(input) {
+    const { status, text, numbers, decoded } = picture(input);
+    if (status) throw new Error(`the library broke its contract: ${status}`);
+    // DER is what it is, and only a text has headings.
+    const bytes = numbers[0] === Kind.HEADING ? decoded : input.slice();
     [this.#text, this.#numbers, this.#bytes] = [text, numbers, bytes];
     const count = numbers.length / NUMBERS;
     this.#starts = new Uint32Array(count + 1);

@@ -1,5 +1,5 @@
 // The table of rows, which is walked by keys.
-import { Kind } from './picture.js';
+import { Kind } from './library.js';
 import { List } from './list.js';
 
 /** About the height of a row in pixels. */
