@@ -15,6 +15,8 @@ HERE = pathlib.Path(__file__).resolve().parent
 sys.path.insert(0, str(HERE.parent))
 import plant  # noqa: E402
 
+PROGRAMS = plant.TOP / "tests/dump/programs.py"
+
 FAULTS = [
     ("raw.rs", "if part.present == 0", "if part.len == 0"),
     ("raw.rs", "bytes.get(part.offset..)", "bytes.get(part.offset + 1..)"),
@@ -22,13 +24,16 @@ FAULTS = [
     ("raw.rs", "usize::from(fields.public_key.is_some()),\n            out", "0,\n            out"),
     ("raw.rs", "core::ptr::write_volatile(byte, 0)", "core::ptr::write_volatile(byte, *byte)"),
     ("error.rs", "Error::Asn1(error)\n", "{ let _ = error; Error::Crypto }\n"),
-    ("der/error.rs", "SEC1_TRUNCATED => ErrorKind::Truncated", "SEC1_TRUNCATED => ErrorKind::Tag"),
-    ("der/error.rs", "SEC1_TAG => ErrorKind::Tag", "SEC1_TAG => ErrorKind::Value"),
-    ("der/error.rs", "SEC1_LENGTH => ErrorKind::Length", "SEC1_LENGTH => ErrorKind::Overlength"),
-    ("der/error.rs", "SEC1_TRAILING_DATA => ErrorKind::TrailingData", "SEC1_TRAILING_DATA => ErrorKind::Failed"),
-    ("der/error.rs", "SEC1_VALUE => ErrorKind::Value", "SEC1_VALUE => ErrorKind::Tag"),
-    ("der/error.rs", "SEC1_BUFFER => ErrorKind::Buffer", "SEC1_BUFFER => ErrorKind::Length"),
-    ("der/error.rs", '"unexpected or unsupported tag"', '"unexpected tag"'),
+    ("der/error.rs", "(sec1_sys::SEC1_TRUNCATED, ErrorKind::Truncated)", "(sec1_sys::SEC1_TRUNCATED, ErrorKind::Tag)"),
+    ("der/error.rs", "(sec1_sys::SEC1_TAG, ErrorKind::Tag)", "(sec1_sys::SEC1_TAG, ErrorKind::Value)"),
+    ("der/error.rs", "(sec1_sys::SEC1_LENGTH, ErrorKind::Length)", "(sec1_sys::SEC1_LENGTH, ErrorKind::Overlength)"),
+    ("der/error.rs", "(sec1_sys::SEC1_TRAILING_DATA, ErrorKind::TrailingData)", "(sec1_sys::SEC1_TRAILING_DATA, ErrorKind::Failed)"),
+    ("der/error.rs", "(sec1_sys::SEC1_VALUE, ErrorKind::Value)", "(sec1_sys::SEC1_VALUE, ErrorKind::Tag)"),
+    ("der/error.rs", "(sec1_sys::SEC1_BUFFER, ErrorKind::Buffer)", "(sec1_sys::SEC1_BUFFER, ErrorKind::Length)"),
+    ("der/error.rs", "return print_status(*number, f);", "return print_status(sec1_sys::SEC1_TAG, f);"),
+    ("der/error.rs", ".unwrap_or_default().saturating_sub(1);", ".unwrap_or_default();"),
+    ("raw.rs", "usize::try_from(number).unwrap_or(usize::MAX)", "usize::MAX"),
+    ("error.rs", "print_status(sec1_sys::SEC1_POINT_ENCODING, f)", "print_status(sec1_sys::SEC1_FIELD_LENGTH, f)"),
     ("der.rs", "start.saturating_add(more)", "start.saturating_add(more).max(9)"),
     ("der.rs", "buf.get_mut(start..)", "buf.get_mut(0..)"),
     ("der/asn1.rs", "raw::identifier_check(content).map_err(Error::of)?;", "raw::identifier_check(content).ok();"),
@@ -43,7 +48,7 @@ FAULTS = [
     ("raw.rs", "usize::from(compress)", "usize::from(!compress)"),
     ("raw.rs", "sec1_tree_fault_at(bytes.as_ptr()", "sec1_key_fault_at(bytes.as_ptr()"),
     ("der/element.rs", "Ok((Element { tag, content }, rest))", "Ok((Element { tag, content: rest }, content))"),
-    ("der/error.rs", "SEC1_CURVE => ErrorKind::Curve", "SEC1_CURVE => ErrorKind::Value"),
+    ("der/error.rs", "(sec1_sys::SEC1_CURVE, ErrorKind::Curve)", "(sec1_sys::SEC1_CURVE, ErrorKind::Value)"),
     ("der/error.rs", "Error { position: Length::try_from(offset).ok(), ..Error::of(status) }", "{ let _ = offset; Error::of(status) }"),
     ("private_key.rs", "Some(content) => Some(ObjectIdentifier::of_content(content)?.into()),", "Some(_) => None,"),
     ("private_key.rs", "let curve = self.parameters.and_then(EcParameters::named_curve);", "let curve: Option<ObjectIdentifier> = None;"),
@@ -127,8 +132,8 @@ FAULTS = [
     ("error.rs", '"SEC1 version error"', '"SEC1 cryptographic error"'),
     ("subtle.rs", "Choice(number & 1)", "Choice(u8::from(number == 1))"),
     ("curve.rs", "        curve.identifier\n", "        { let _ = curve; crate::ALGORITHM_OID }\n"),
-    ("der/error.rs", "SEC1_DEPTH => ErrorKind::Depth", "SEC1_DEPTH => ErrorKind::Value"),
-    ("der/error.rs", "SEC1_OVERLENGTH => ErrorKind::Overlength", "SEC1_OVERLENGTH => ErrorKind::Value"),
+    ("der/error.rs", "(sec1_sys::SEC1_DEPTH, ErrorKind::Depth)", "(sec1_sys::SEC1_DEPTH, ErrorKind::Value)"),
+    ("der/error.rs", "(sec1_sys::SEC1_OVERLENGTH, ErrorKind::Overlength)", "(sec1_sys::SEC1_OVERLENGTH, ErrorKind::Value)"),
     ("der/document.rs", ".truncate(true)", ".truncate(false)"),
     ("der/document.rs", "options.open(path)?.write_all(&self.bytes)?", "{ options.open(path)?.write(&self.bytes)?; }"),
     ("der/document.rs", "Self::try_from(fs::read(path)?)", 'Self::try_from(fs::read(path)?.trim_ascii_end())'),
@@ -171,8 +176,46 @@ FAULTS = [
     ("raw.rs", "sec1_certificate_fault_at(bytes.as_ptr()", "sec1_public_key_fault_at(bytes.as_ptr()"),
     ("certificate.rs", "Error::at(status, offset)", "{ let _ = offset; Error::of(status) }"),
     ("certificate.rs", "    info.ok_or(", "    let _ = info;\n    Some(bytes).ok_or("),
-    ("der/error.rs", "SEC1_OTHER_CURVE => ErrorKind::OtherCurve", "SEC1_OTHER_CURVE => ErrorKind::Curve"),
-    ("der/error.rs", '"key and container name different curves"', '"curve not in the table"'),
+    ("der/error.rs", "(sec1_sys::SEC1_OTHER_CURVE, ErrorKind::OtherCurve)", "(sec1_sys::SEC1_OTHER_CURVE, ErrorKind::Curve)"),
+    # pictures
+    ("picture.rs", "saturating_mul(2)", "saturating_mul(1)"),
+    ("picture.rs", "saturating_add(2)", "saturating_add(1)"),
+    ("picture.rs", ".saturating_add(len)]", "]"),
+    ("picture.rs", "raw::picture_draw(input, all,", "raw::picture_draw(input, false,"),
+    ("picture.rs", "        raw::wipe(&mut room);\n", ""),
+    ("picture.rs", "raw::wipe(&mut room);", "raw::wipe(&mut room[..len]);"),
+    ("picture.rs", "Err((_, wanted)) if wanted > len => len = wanted,", "Err((_, wanted)) if wanted > len => len = wanted + 1,"),
+    ("picture.rs", "if wanted > len =>", "if wanted > len && len > 0 =>"),
+    ("picture.rs", "if wanted > len =>", "if wanted > len && wanted < 4096 =>"),
+    ("picture.rs", "matches!(drawn, Ok((_, true)))", "drawn.is_ok()"),
+    ("picture.rs", "matches!(drawn, Ok((_, true)))", "matches!(drawn, Ok((_, false)))"),
+    ("picture.rs", "String::from_utf8(text).unwrap_or_default()", "String::from_utf8(text).unwrap_or_default().trim_end().into()"),
+    ("raw.rs", "usize::from(all)", "usize::from(!all)"),
+    ("raw.rs", "is_key == 1", "is_key == 0"),
+    ("raw.rs", "map_err(|status| (status, len))", "map_err(|status| (status, room.len()))"),
+    ("raw.rs", "map_err(|status| (status, len))", "map_err(|status| (status, 0))"),
+    # the example
+    ("../examples/view.rs", "sec1::draw(&fs::read(path)?, all)", "sec1::draw(&fs::read(path)?, false)"),
+    ("../examples/view.rs", "sec1::draw(&fs::read(path)?, all)", "sec1::draw(&fs::read(path)?[..0], all)"),
+    ("../examples/view.rs", "sec1::draw(&fs::read(path)?, all)", "sec1::draw(&fs::read(path).unwrap_or_default(), all)"),
+    ("../examples/view.rs", "picture.text.as_bytes()", "picture.text.trim_end().as_bytes()"),
+    ("../examples/view.rs", "Ok(picture.has_key)", "Ok(true)"),
+    ("../examples/view.rs", 'partition(|word| word == "--all")', 'partition(|word| word.starts_with("--"))'),
+    ("../examples/view.rs", "skip(1)", "skip(2)"),
+    ("../examples/view.rs", "if paths.is_empty() {", "if false {"),
+    ("../examples/view.rs", 'eprintln!("usage: view [--all] FILE..");', ""),
+    ("../examples/view.rs", "return ExitCode::from(2);", "return ExitCode::from(1);"),
+    ("../examples/view.rs", "if paths.len() > 1 {", "if paths.len() > 2 {"),
+    ("../examples/view.rs", "if paths.len() > 1 {", "if paths.len() > 0 {"),
+    ("../examples/view.rs", 'println!("{path}:")', 'println!("{path}")'),
+    ("../examples/view.rs", "!options.is_empty()", "options.is_empty()"),
+    ("../examples/view.rs", "status = status.max(u8::from(!has_key))", "status = u8::from(!has_key)"),
+    ("../examples/view.rs", "status.max(u8::from(!has_key))", "status.max(u8::from(has_key))"),
+    ("../examples/view.rs", 'eprintln!("view: {path}: {error}")', 'println!("view: {path}: {error}")'),
+    ("../examples/view.rs", 'eprintln!("view: {path}: {error}")', 'eprintln!("view: {error}")'),
+    ("../examples/view.rs", "status = 2;", "status = 1;"),
+    ("../examples/view.rs", "status = 2;", "return ExitCode::from(2);"),
+    ("../examples/view.rs", "ExitCode::from(status)", "ExitCode::SUCCESS"),
 ]
 
 
@@ -180,6 +223,8 @@ FAULTS = [
 ALONE = "wiping"
 CARGO = """cargo test --offline --no-run --message-format=json-render-diagnostics --features std
     -p bridgeacacia-sec1 --test all --test""".split() + [ALONE]
+# What it prints is compared with what a second reader draws.
+EXAMPLE = "cargo build --offline --features std -p bridgeacacia-sec1 --example view".split()
 
 # What takes most of the time, compared in many draws, is run where all else passes.
 SLOW = ["against_", "openssl"]
@@ -200,15 +245,17 @@ def run(sources):
     """Returns whether the tests of a copy pass."""
     folder = sources.parents[1]
     more = {"CARGO_TARGET_DIR": str(folder / "target"), "CARGO_PROFILE_DEV_DEBUG": "0"}
-    is_built, said = plant.passes(folder, CARGO, 600, {**os.environ, **more})
-    if not is_built:
-        raise plant.Unreadable("".join(re.findall(r"^error.*$", said, re.M)[:1]))
+    for command in (EXAMPLE, CARGO):
+        is_built, said = plant.passes(folder, command, 600, {**os.environ, **more})
+        if not is_built:
+            raise plant.Unreadable("".join(re.findall(r"^error.*$", said, re.M)[:1]))
     programs = re.findall(r'"executable":"([^"]+)"', said)
+    example = folder / "target/debug/examples/view"
     return all(
         plant.passes(folder, [it, "--test-threads=1", *words], 600)[0]
         for words in (FAST, SLOW)
         for it in programs
-    )
+    ) and plant.passes(folder, [sys.executable, "-B", PROGRAMS, "--several", example], 600)[0]
 
 
 if __name__ == "__main__":

@@ -11,14 +11,17 @@ const lines = (name) => read(name).toString().trim().split('\n').filter((it) => 
 const bytes = (hex) => new Uint8Array(Buffer.from(hex.replaceAll(' ', ''), 'hex'));
 const hex = (data) => Buffer.from(data).toString('hex');
 
-// The package's memory is looked at from outside: its module is instantiated in sight.
+// The package's memory is looked at from outside: its module is instantiated in sight, and a test
+// may put another call in the place of one.
 let memory;
 let heap;
+let calls;
 const { instantiate } = WebAssembly;
 WebAssembly.instantiate = async (...given) => {
   const instance = await instantiate(...given);
-  ({ memory, __heap_base: { value: heap } } = instance.exports);
-  return instance;
+  calls = { ...instance.exports };
+  ({ memory, __heap_base: { value: heap } } = calls);
+  return { exports: calls };
 };
 const sec1 = await import('../index.js');
 WebAssembly.instantiate = instantiate;
@@ -742,15 +745,80 @@ test('says which contents are hidden', () => {
   assert.deepEqual(hidden(bytes(`3012${'020105'.repeat(6)}`)), [[17, 2, 1]]);
 });
 
+/** Returns a row's line: the offset, the header in hexadecimal, a length, and what it is. */
+function lineOf(offset, header, length, words) {
+  const count = String(length).padStart(18 - header.length);
+  return `${String(offset).padStart(4)} ${header} ${count}  ${words}`;
+}
+
+test('draws any buffer, and as it is asked to', () => {
+  const [{ input, shown }] = drawnByHand();
+  const text = `${shown.join('\n')}\n`;
+  const copies = [
+    new DataView(input.buffer, input.byteOffset, input.length),
+    new Uint8Array([9, ...input, 9]).subarray(1, -1).slice().buffer,
+    new Uint8Array([9, ...input, 9]).subarray(1, -1),
+  ];
+  for (const copy of copies) assert.equal(sec1.draw(copy).text, text);
+  for (const option of [undefined, {}, { all: false }, { all: 0 }, { all: undefined }]) {
+    assert.equal(sec1.draw(input, option).text, text);
+  }
+  const [, { input: four, shown: all }] = drawnByHand();
+  for (const option of [{ all: true }, { all: 1 }]) {
+    assert.equal(sec1.draw(four, option).text, `${all.join('\n')}\n`);
+  }
+});
+
 test('draws large inputs, and wipes what was decoded', () => {
   const numbers = new Uint8Array(1 << 20).map((_, at) => [10, 1, 5, 5, 0][at % 5]);
   const large = new Uint8Array([0x30, 0x83, 0x10, 0, 0, ...numbers]);
-  const { rows } = sec1.draw(large);
-  assert.equal(rows.length, 1 + Math.ceil(numbers.length / 2.5));
+  const wanted = [[lineOf(0, '30 83 10 00 00', 1 << 20, 'SEQUENCE'), 0, 5, 0, 0]];
+  for (let at = 0; at + 1 < numbers.length; at += 5) {
+    wanted.push([lineOf(at + 5, '0A 01', 1, '  ENUMERATED 5'), at + 5, 2, 1, 1]);
+    wanted.push([lineOf(at + 8, '05 00', 0, '  NULL'), at + 8, 2, 0, 1]);
+  }
+  const base64 = Buffer.from(large).toString('base64');
+  const pem = Buffer.from(`-----BEGIN X-----\n${base64}\n-----END X-----\n`);
+  for (const input of [large, pem]) {
+    const { rows } = sec1.draw(input);
+    assertWiped();
+    // The last byte is a tag alone.
+    assert.equal(rows.length, wanted.length + 1);
+    for (const [at, row] of wanted.entries()) {
+      const { line, offset, headerLength, contentLength, depth } = rows[at];
+      assert.deepEqual([line, offset, headerLength, contentLength, depth], row);
+    }
+  }
+});
+
+test('draws a text that is longer than the room for most', () => {
+  const count = 1 << 13;
+  const input = new Uint8Array(4 + 3 * count).map((_, at) => [4, 1, 9][(at + 2) % 3]);
+  input.set([0x30, 0x82, 0x60, 0]);
+  const { text } = sec1.draw(input, { all: true });
+  assert(text.length > 24 * input.length + 4096);
+  const lines = text.split('\n');
+  assert.equal(lines[0], lineOf(0, '30 82 60 00', 3 * count, 'SEQUENCE'));
+  for (let at = 0; at < count; at += 1) {
+    const row = lineOf(4 + 3 * at, '04 01', 1, '  OCTET STRING, 1 byte');
+    assert.deepEqual(lines.slice(1 + 2 * at, 3 + 2 * at), [row, `${' '.repeat(26)}09`]);
+  }
   assertWiped();
-  const pem = Buffer.from(`-----BEGIN X-----\n${Buffer.from(large).toString('base64')}\n`);
-  assert.equal(sec1.draw(pem).rows.length, rows.length);
-  assertWiped();
+});
+
+test('throws the refusal of each call that draws', () => {
+  for (const [name, Kind] of [
+    ['sec1_picture_draw', sec1.TagError], ['sec1_picture_lines', sec1.DepthError],
+  ]) {
+    const call = calls[name];
+    calls[name] = () => Kind.status;
+    try {
+      for (const all of [false, true]) refused(() => sec1.draw(bytes('0500'), { all }), Kind);
+    } finally {
+      calls[name] = call;
+    }
+  }
+  assert.equal(sec1.draw(bytes('0500')).rows.length, 1);
 });
 
 // ---- the package

@@ -1,5 +1,6 @@
 """Tests of the module: worked examples, the stored keys of OpenSSL, and random inputs."""
 import copy
+import ctypes
 import dataclasses
 import doctest
 import importlib.metadata
@@ -10,6 +11,7 @@ import subprocess
 import sys
 import tempfile
 import unittest
+from unittest import mock
 
 import sec1
 
@@ -182,6 +184,23 @@ class Points(unittest.TestCase):
         names = [tag.name for tag in sorted(sec1.Tag)]
         forms = ["COMPRESSED_EVEN", "COMPRESSED_ODD", "UNCOMPRESSED", "COMPACT", "HYBRID_EVEN", "HYBRID_ODD"]
         self.assertEqual((names, [*map(int, sec1.Tag)]), (["IDENTITY", *forms], [0, 2, 3, 4, 5, 6, 7]))
+
+
+NULLS = b"\x30\x82\x20\x00" + b"\x05\x00" * 4096
+
+
+def drawn_by_hand():
+    """The pictures that were drawn by hand: input, whether all is shown, text and status."""
+    found = []
+    for block in (HERE / "data/pictures.txt").read_text().rstrip("\n").split("\n\n"):
+        lines = block.splitlines()
+        digits = "".join(line[2:] for line in lines if line.startswith("x "))
+        written = "".join(line[2:] + "\n" for line in lines if line.startswith("< "))
+        asked = next(at for at, line in enumerate(lines) if line.startswith("$"))
+        data = bytes.fromhex(digits) if digits else written.encode()
+        text = "".join(line + "\n" for line in lines[asked + 1 : -1])
+        found.append((data, "--all" in lines[asked], text, int(lines[-1][2:])))
+    return found
 
 
 class Others(unittest.TestCase):
@@ -374,41 +393,79 @@ class Others(unittest.TestCase):
                 sec1.document_length(wrong)
 
     def test_pictures_drawn_by_hand(self):
-        blocks = (HERE / "data/pictures.txt").read_text().rstrip("\n").split("\n\n")
-        self.assertEqual(len(blocks), 14)
-        for lines in (block.splitlines() for block in blocks):
-            digits = "".join(line[2:] for line in lines if line.startswith("x "))
-            written = "".join(line[2:] + "\n" for line in lines if line.startswith("< "))
-            asked = next(at for at, line in enumerate(lines) if line.startswith("$"))
-            data = bytes.fromhex(digits) if digits else written.encode()
-            text = "".join(line + "\n" for line in lines[asked + 1 : -1])
-            found = sec1.draw(data, "--all" in lines[asked])
-            self.assertEqual(found, sec1.Picture(text, lines[-1] == "= 0"))
-
-    def test_pictures(self):
-        self.assertEqual(sec1.draw(b""), sec1.Picture("The input is empty.\n", False))
-        self.assertGreater(len(sec1.draw(b"\x30\x82\x20\x00" + b"\x05\x00" * 4096).text), 100_000)
+        drawn = drawn_by_hand()
+        self.assertEqual(len(drawn), 14)
+        for data, asked, text, status in drawn:
+            self.assertEqual(sec1.draw(data, asked), sec1.Picture(text, status == 0))
+        data, _, text, _ = drawn[0]
+        for copied in (bytearray(data), memoryview(data), memoryview(b"x" + data + b"x")[1:-1]):
+            self.assertEqual(sec1.draw(copied), sec1.Picture(text, True))
+        self.assertEqual(sec1.draw(data, show_all=False).text, text)
+        data, _, text, _ = drawn[1]
+        self.assertEqual(sec1.draw(data, show_all=True).text, text)
         for wrong in (5, "text", None):
             with self.assertRaises(TypeError):
                 sec1.draw(wrong)
 
+    def test_long_pictures(self):
+        rows = (f"{4 + 2 * at:>4} 05 00{0:>14}    NULL\n" for at in range(4096))
+        lines = ["   0 30 82 20 00    8192  SEQUENCE\n", *rows, "This is no EC private key (RFC 5915).\n"]
+        self.assertEqual(sec1.draw(NULLS), sec1.Picture("".join(lines), False))
+
+    def test_pictures_leave_nothing_in_memory(self):
+        """What was decoded and drawn is overwritten in each buffer."""
+        made, make = [], ctypes.create_string_buffer
+
+        def kept(size):
+            made.append(make(size))
+            return made[-1]
+
+        for data, asked, *_ in [*drawn_by_hand(), (NULLS, False)]:
+            with mock.patch.object(ctypes, "create_string_buffer", kept):
+                sec1.draw(data, asked)
+        self.assertGreaterEqual(len(made), 32)  # two for each, and two more for the long one
+        for buffer in made:
+            self.assertEqual(buffer.raw, bytes(len(buffer)))
+
+    def test_pictures_that_are_refused(self):
+        """Whatever the library returns is raised."""
+        for status, kind in sec1._ERRORS.items():
+            with mock.patch.object(sec1._library, "call", return_value=status):
+                with self.assertRaises(kind) as caught:
+                    sec1.draw(b"")
+            self.assertEqual((type(caught.exception), caught.exception.offset), (kind, None))
+
     def test_the_program(self):
         with tempfile.TemporaryDirectory() as folder:
-            file = pathlib.Path(folder) / "file"
-            file.write_bytes(bytes.fromhex("3006020101040109"))
-            command = [sys.executable, "-m", "sec1"]
-            shown = sec1.draw(file.read_bytes()).text
-            for words, given, status, text in (
-                ([file], b"", 0, shown),
-                (["--all", file], b"", 0, sec1.draw(file.read_bytes(), True).text),
-                ([], b"", 1, "The input is empty.\n"),
-                (["-"], file.read_bytes(), 0, shown),
-                ([file, file], b"", 0, f"{file}:\n{shown}" * 2),
-                ([folder], b"", 2, ""),
-                (["--none", file], b"", 2, ""),
+            folder = pathlib.Path(folder)
+            drawn = drawn_by_hand()
+            key, four, cut = folder / "key", folder / "four", folder / "cut"
+            for file, (data, _, _, _) in zip((key, four, cut), (drawn[0], drawn[1], drawn[3])):
+                file.write_bytes(data)
+            shown, all_shown, cut_shown = drawn[0][2], drawn[1][2], drawn[3][2]
+            none = folder / "none"
+            for words, given, status, text, said in (
+                ([key], b"", 0, shown, ""),
+                (["--all", four], b"", 0, all_shown, ""),
+                ([four, "--all"], b"", 0, all_shown, ""),
+                ([], b"", 1, "The input is empty.\n", ""),
+                ([], drawn[3][0], 1, cut_shown, ""),
+                (["-"], drawn[0][0], 0, shown, ""),
+                (["--all", "-"], drawn[1][0], 0, all_shown, ""),
+                ([key, key], b"", 0, f"{key}:\n{shown}" * 2, ""),
+                ([key, cut], b"", 1, f"{key}:\n{shown}{cut}:\n{cut_shown}", ""),
+                ([cut, key], b"", 1, f"{cut}:\n{cut_shown}{key}:\n{shown}", ""),
+                (["-", key], drawn[3][0], 1, f"-:\n{cut_shown}{key}:\n{shown}", ""),
+                ([cut, "-"], drawn[0][0], 1, f"{cut}:\n{cut_shown}-:\n{shown}", ""),
+                ([none], b"", 2, "", f"sec1: {none}: No such file or directory\n"),
+                ([none, key], b"", 2, f"{none}:\n{key}:\n{shown}", f"sec1: {none}: No such file or directory\n"),
+                ([none, "-"], drawn[0][0], 2, f"{none}:\n-:\n{shown}", f"sec1: {none}: No such file or directory\n"),
+                ([folder], b"", 2, "", f"sec1: {folder}: Is a directory\n"),
+                (["--none", key], b"", 2, "", "usage: python -m sec1 "),
             ):
-                ran = subprocess.run([*command, *words], input=given, capture_output=True)
+                ran = subprocess.run([sys.executable, "-m", "sec1", *words], input=given, capture_output=True)
                 self.assertEqual((ran.returncode, ran.stdout.decode()), (status, text), words)
+                self.assertTrue(ran.stderr.decode().startswith(said) and bool(said) == bool(ran.stderr), ran.stderr)
 
     def test_documentation(self):
         self.assertEqual(doctest.testfile(str(HERE.parent / "README.md"), False).failed, 0)

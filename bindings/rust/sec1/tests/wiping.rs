@@ -1,9 +1,9 @@
-//! A document is wiped before its memory is given back.
+//! A document, and what a picture decodes, are wiped before their memory is given back.
 #![cfg(feature = "std")]
 #![allow(clippy::unwrap_used)]
 
-use sec1::EcPrivateKey;
 use sec1::der::SecretDocument;
+use sec1::{EcPrivateKey, draw};
 use std::alloc::{GlobalAlloc, Layout, System};
 use std::sync::atomic::{AtomicUsize, Ordering};
 
@@ -65,7 +65,12 @@ fn secrets_are_wiped() {
     assert_eq!(freed(refused), 0);
     // Copies have memory of their own.
     let copy = document.clone();
+    // In hexadecimal, so that it is decoded.
+    let digits: String = document.as_bytes().iter().map(|byte| format!("{byte:02X}")).collect();
     assert_eq!(freed(|| drop(document)), 0);
     assert_eq!(copy.decode_msg::<EcPrivateKey<'_>>().unwrap().private_key, SECRET);
     assert_eq!(freed(|| drop(copy)), 0);
+    for all in [false, true] {
+        assert_eq!(freed(|| assert!(draw(digits.as_bytes(), all).has_key)), 0);
+    }
 }
