@@ -8,7 +8,7 @@
 #include <string.h>
 #include <valgrind/memcheck.h>
 
-enum { MOST = 600, LONGEST = 300 };
+enum { MOST = 600, LONGEST = 300, TEXT = 4000, LINES = 60 };
 
 static unsigned long calls, wrong;
 
@@ -41,6 +41,25 @@ static void append(struct bytes *out, size_t tag, const uint8_t *content, size_t
                                          MOST - out->len, &len);
     expect(status == 0, "sec1_element_write", content_len);
     out->len += len;
+}
+
+/* The calls that draw, without private contents, over all bytes and some of their beginnings. */
+static void draw(const struct bytes *input, size_t is_whole_key, size_t private_len)
+{
+    static uint8_t room[SEC1_PICTURE_ROOM(MOST, TEXT)];
+    static char text[TEXT];
+    static struct sec1_picture_line lines[LINES];
+    size_t cut, step = 1 + input->len / 8, len, is_key;
+    for (cut = input->len % step; cut <= input->len; cut += step) {
+        expect(sec1_picture_draw(input->data, cut, 0, room, sizeof room, text, TEXT, &len,
+                                 &is_key) == 0 &&
+                   is_key == (cut == input->len && is_whole_key) &&
+                   VALGRIND_CHECK_MEM_IS_DEFINED(text, len) == 0,
+               "sec1_picture_draw", private_len);
+        expect(sec1_picture_lines(input->data, cut, room, sizeof room, lines, LINES, &len) == 0 &&
+                   VALGRIND_CHECK_MEM_IS_DEFINED(lines, len * sizeof *lines) == 0,
+               "sec1_picture_lines", private_len);
+    }
 }
 
 /* The calls that read a key, over its bytes and over each of their beginnings. */
@@ -152,6 +171,7 @@ static void read_container(const struct bytes *key, size_t version, size_t priva
            "a cut container, read as a private key", private_len);
     expect(sec1_tree_check(container.data, container.len, &number) == 0, "a container's tree",
            private_len);
+    draw(&container, 0, private_len);
     find_faults(&container, &parts, key, private_len);
 }
 
@@ -187,6 +207,7 @@ static void write_key(const uint8_t *private_key, size_t private_len, size_t cur
                                          &other.len);
     expect(status == 0 && other.len > 0, "sec1_private_key_info_write", private_len);
     read_key(&key, private_len);
+    draw(&key, 1, private_len);
     read_container(&key, 0, private_len);
     read_container(&key, 1, private_len);
 }

@@ -11,19 +11,28 @@ work=$(mktemp -d)
 trap 'rm -rf "$work"' EXIT
 . tests/counts.sh
 
-# The calls of the library that secrets.c doesn't make, without those that get no private key, and
-# those that draw: where they branch isn't said to be the same for any private bytes.
+# The calls of the library that secrets.c doesn't make, without those that get no private key.
 not_made() {
     local call
     for call in $(sed -n 's/^ *\(sec1_[a-z0-9_]*\);$/\1/p' packaging/libsec1.map); do
         case ${call#sec1_} in
         point_* | identifier_* | curve_* | public_key_* | certificate_* | signature_*) ;;
-        status_text | version | picture_*) ;;
+        status_* | version) ;;
         *) grep -q "\b$call(" tests/secrets.c || echo "$call" ;;
         esac
     done
 }
-finds_nothing() { valgrind -q --error-exitcode=9 --leak-check=no "$1"; }
+# The branch of the calls that draw, which README.md names.
+cat >"$work/known" <<'END'
+{
+    Place::opening, inlined
+    Memcheck:Cond
+    fun:der_view*rows*Rows*next_row*
+}
+END
+finds_nothing() {
+    valgrind -q --error-exitcode=9 --leak-check=no --suppressions="$work/known" "$1"
+}
 built() { # COMPILER LEVEL ARCHIVE
     "$1" -std=c99 -Wall -Wextra "$2" -gdwarf-4 -I. -o "$work/secrets" tests/secrets.c "$3"
 }
