@@ -1,4 +1,5 @@
 pub mod ArcLemmas
+pub mod BlockLemmas
 pub mod CharacterLemmas
 pub mod EncodedLemmas
 pub mod LevelLemmas

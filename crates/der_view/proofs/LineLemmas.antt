@@ -2,11 +2,11 @@
 use Rattle.std.proofs.Common.{◌≡◌, ℕ, ◌+◌, ◌-◌, ◌≤◌, ◌<◌, List, [], ◌++◌, length, take}
 use Rattle.std.proofs.Common.{append-nil, refl, sym, ◌∙◌, ap, arith, append_assoc, length-append, inl, inr, ◌⊎◌}
 use Rattle.std.proofs.Math.Seq.{take-append-add}
-use Rattle.std.proofs.lemmas.Bool.{cases_lt}
-use Rattle.std.proofs.lemmas.List.{take_all, take-append-le, take-take, length-take-le}
+use Rattle.std.proofs.lemmas.Bool.{cases_lt, lt-leb}
+use Rattle.std.proofs.lemmas.List.{take_all, take-append-le, take-take, length-take, length-take-le}
 use Rattle.std.proofs.lemmas.List.{replicate-append-replicate, length-replicate}
-use Rattle.std.specs.Prelude.{replicate, min}
-use Rattle.der_view.specs.Lines.{kept}
+use Rattle.std.specs.Prelude.{false, codes, min, nat_le, replicate}
+use Rattle.der_view.specs.Lines.{kept, shown}
 
 -- a text that fits is kept
 pub kept-short : (old text : List ℕ) → length old + length text ≤ 101 → kept (old ++ text) ≡ old ++ text
@@ -93,3 +93,28 @@ kept-last text rest short last =
 -- nothing that follows a full line is kept
 pub kept-over : (text rest : List ℕ) → length text ≤ 101 → 100 < length text → text ≡ kept (text ++ rest)
 kept-over text rest short long = sym (kept-full text rest (omega arith) ∙ take_all 101 text short)
+
+shown_by : (text : List ℕ) → ((100 < length text) ⊎ (length text ≤ 100)) → shown (kept text) ≡ shown text
+shown_by text (inr short) = ap (λ (t : List ℕ). shown t) (take_all 101 text (omega arith))
+shown_by text (inl long) =
+    let whole : nat_le (length text) 100 ≡ false = lt-leb (length text) 100 long in
+    let cut : nat_le (length (kept text)) 100 ≡ false =
+    lt-leb (length (kept text)) 100 (omega (arith, length-take 101 text)) in
+    rw (whole, cut) (ap (λ (t : List ℕ). t ++ codes "...") (take-take 97 101 text (omega arith)))
+
+-- a line shows a text as it is shown
+pub shown-kept : (text : List ℕ) → shown (kept text) ≡ shown text
+shown-kept text = shown_by text (cases_lt 100 (length text))
+
+-- seven pieces of a new line
+pub kept-seven : (old a b c d e f g t u v w x y z : List ℕ) → old ≡ [] → t ≡ kept (old ++ a) → u ≡ kept (t ++ b)
+    → v ≡ kept (u ++ c) → w ≡ kept (v ++ d) → x ≡ kept (w ++ e) → y ≡ kept (x ++ f) → z ≡ kept (y ++ g)
+    → z ≡ kept (a ++ (b ++ (c ++ (d ++ (e ++ (f ++ g))))))
+kept-seven old a b c d e f g t u v w x y z none et eu ev ew ex ey ez =
+    let rest : List ℕ = d ++ (e ++ (f ++ g)) in
+    let front : v ≡ kept (old ++ (a ++ (b ++ c))) = kept-three old a b c t u v et eu ev in
+    let whole : a ++ (b ++ (c ++ rest)) ≡ (a ++ (b ++ c)) ++ rest =
+    sym (append_assoc a (b ++ c) rest ∙ ap (λ s. a ++ s) (append_assoc b c rest)) in
+    kept-four v d e f g w x y z ew ex ey ez
+    ∙ (kept-rest old (a ++ (b ++ c)) rest (a ++ (b ++ (c ++ rest))) v front whole
+    ∙ ap (λ o. kept (o ++ (a ++ (b ++ (c ++ rest))))) none)

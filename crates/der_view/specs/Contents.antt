@@ -2,18 +2,20 @@
 use Rattle.std.specs.Prelude.{◌≡◌, ℕ, ◌≤◌, ◌==◌, ◌||◌, Bool, if◌then◌else◌, List, ◌∷◌, length, take}
 use Rattle.std.specs.Prelude.{codes, Option, Some, None}
 use Rattle.std.specs.Str.{bytes_eq}
+use Rattle.der_view.specs.Blocks.{BlockView}
 use Rattle.der_view.specs.Encoded.{base64_bytes, hex_bytes}
+use Rattle.der_view.specs.Sources.{SourceView, Der, Pem, Text, Utf16}
 use Rattle.der_view.specs.declared.text.Found.{Found}
 use Rattle.der_view.specs.declared.text.Found.TheVariants as founds
-use Rattle.der_view.specs.declared.text.Source.{Source}
-use Rattle.der_view.specs.declared.text.Source.TheVariants as sources
-use Rattle.der_view.specs.declared.text.pem.Block.{Block}
+
+-- whether a block has OpenSSH's own form
+abbrev pub is_of_openssh : BlockView → Bool
+is_of_openssh block = bytes_eq block.label (codes "OPENSSH PRIVATE KEY")
 
 -- what a block of PEM encodes: nothing if it is encrypted, or has OpenSSH's own form
-abbrev pub block_bytes : Block → Option (List ℕ)
+abbrev pub block_bytes : BlockView → Option (List ℕ)
 block_bytes block =
-    if block.is_encrypted || bytes_eq block.label.now (codes "OPENSSH PRIVATE KEY") then None
-    else base64_bytes block.body.now
+    if block.is_encrypted || is_of_openssh block then None else base64_bytes block.body
 
 -- bytes that begin as a SEQUENCE does
 abbrev pub sequence_in : Option (List ℕ) → Option (List ℕ)
@@ -33,11 +35,11 @@ abbrev pub text_bytes : List ℕ → Option (List ℕ)
 text_bytes text = if is_dump text then None else or_base64 (hex_bytes text) text
 
 -- the bytes in a source that are decoded
-abbrev pub bytes_in : Source → Option (List ℕ)
-bytes_in (sources.Der input) = None
-bytes_in (sources.Pem block is_read) = block_bytes block
-bytes_in (sources.Text text) = text_bytes text.now
-bytes_in sources.Utf16 = None
+abbrev pub bytes_in : SourceView → Option (List ℕ)
+bytes_in (Der input) = None
+bytes_in (Pem block is_read) = block_bytes block
+bytes_in (Text text) = text_bytes text
+bytes_in Utf16 = None
 
 -- these bytes were found, at the front of the memory, or none
 abbrev pub IsFound : Option (List ℕ) → Found → List ℕ → Type 0

@@ -3,16 +3,19 @@ ghost use Rattle.hex.specs.Hex.{encode_upper};
 ghost use Rattle.std.specs.Prelude.{◌≡◌, ◌++◌, ◌∷◌, ◌≤◌, ◌+◌, ◌*◌, [], ℕ, List, length, IfOk, OnOk};
 ghost use Rattle.std.specs.Prelude.{codes, option_map};
 ghost use Rattle.std.specs.Io.KnownBytes.{Appends};
-ghost use Rattle.der_view.specs.Lines.{shown};
+ghost use Rattle.der_view.specs.Blocks.{block_view};
+ghost use Rattle.der_view.specs.Lines.{kept, shown};
 ghost use Rattle.der_view.specs.Pictures.{AreRows, IsKey, IsPicture, command_text};
 ghost use Rattle.der_view.specs.Pictures.{content_piece, content_text, lead_text, line_front};
 ghost use Rattle.der_view.specs.Pictures.{mark_text, row_text, rows_text, verdict_text};
 ghost use Rattle.der_view.specs.Contents.{bytes_in};
+ghost use Rattle.der_view.specs.Headings.{block_heading, encoding_word, end_text, found_text};
+ghost use Rattle.der_view.specs.Headings.{Said, found_view, heading_line, heading_of, said_text, text_heading};
 ghost use Rattle.der_view.specs.Inputs.{ArePictures, IsPictureOfSource, IsPictureOfText};
 ghost use Rattle.der_view.specs.Inputs.{reading_of};
+ghost use Rattle.der_view.specs.Notes.{note_view};
 ghost use Rattle.der_view.specs.Rows.{content_bytes};
-ghost use Rattle.der_view.specs.Sources.{source_len, text_len};
-ghost use Rattle.der_view.specs.declared.text.Source.{Source};
+ghost use Rattle.der_view.specs.Sources.{source_len, source_view, sources_of, text_len};
 ghost use Rattle.der_view.specs.Verdicts.{verdict_view};
 ghost use Rattle.der_view.specs.declared.row.OpenRow.{OpenRow};
 
@@ -24,7 +27,7 @@ use crate::line::Line;
 use crate::mark::Mark;
 use crate::row::OpenRow;
 use crate::rows::Rows;
-use crate::text::{Encoding, Found, Note, Source, Sources, text_len};
+use crate::text::{Block, Encoding, Found, Note, Source, Sources, text_len};
 pub use facts::Facts;
 use facts::either;
 use lines::row_line;
@@ -51,9 +54,9 @@ pub fn draw<W: io::Write>(
     all: bool,
 ) -> io::Result<bool>
     requires { 2 * text_len input.now + 2 ≤ length room.old }
-    ensures { IfOk result (λ has_key. (sources : List Source) × (text : List ℕ)
+    ensures { IfOk result (λ has_key. (text : List ℕ)
         × Appends (W.contents writer.old) (W.contents writer.new) text
-        × ArePictures all sources text has_key) }
+        × ArePictures all (sources_of input.now) text has_key) }
 {
     let (digits, bytes) = room.split_at_mut(text_len(input));
     let mut sources = Sources::new(input);
@@ -73,11 +76,11 @@ fn draw_source<W: io::Write>(
     bytes: &mut [u8],
     all: bool,
 ) -> io::Result<bool>
-    requires digits { source_len source.now ≤ length digits.old }
-    requires bytes { source_len source.now + 2 ≤ length bytes.old }
+    requires digits { source_len (source_view source.now) ≤ length digits.old }
+    requires bytes { source_len (source_view source.now) + 2 ≤ length bytes.old }
     ensures { IfOk result (λ has_key. (text : List ℕ)
         × Appends (W.contents writer.old) (W.contents writer.new) text
-        × IsPictureOfSource all source.now text has_key) }
+        × IsPictureOfSource all (source_view source.now) text has_key) }
 {
     match source {
         Source::Der(input) => draw_bytes(writer, *input, Reading::Der, all),
@@ -93,11 +96,12 @@ fn draw_text<W: io::Write>(
     bytes: &mut [u8],
     all: bool,
 ) -> io::Result<bool>
-    requires digits { source_len source.now ≤ length digits.old }
-    requires bytes { source_len source.now + 2 ≤ length bytes.old }
+    requires digits { source_len (source_view source.now) ≤ length digits.old }
+    requires bytes { source_len (source_view source.now) + 2 ≤ length bytes.old }
     ensures { IfOk result (λ has_key. (text : List ℕ)
         × Appends (W.contents writer.old) (W.contents writer.new) text
-        × IsPictureOfText all (reading_of source.now) (bytes_in source.now) text has_key) }
+        × IsPictureOfText all (source_view source.now) (bytes_in (source_view source.now))
+        text has_key) }
 {
     let found = source.find(digits, bytes);
     write_heading(writer, source, &found)?;
@@ -113,8 +117,8 @@ fn draw_text<W: io::Write>(
 
 /// Writes the line above the picture of a source, if it has one.
 fn write_heading<W: io::Write>(writer: &mut W, source: &Source, found: &Found) -> io::Result<()>
-    ensures { OnOk result ((front : List ℕ)
-        × Appends (W.contents writer.old) (W.contents writer.new) front) }
+    ensures { OnOk result (Appends (W.contents writer.old) (W.contents writer.new)
+        (heading_line (heading_of (source_view source.now) (found_view found.now)))) }
 {
     match source.heading(found) {
         Some(line) => write_line(writer, line),
@@ -296,8 +300,7 @@ fn write_command<W: io::Write>(writer: &mut W, command: Option<&str>) -> io::Res
 /// Writes what is said of a source that isn't drawn.
 fn write_note<W: io::Write>(writer: &mut W, note: Note) -> io::Result<()>
     ensures { OnOk result (Appends (W.contents writer.old) (W.contents writer.new)
-        (lead_text note.words.now
-        ++ command_text (option_map (λ text. text.now) note.command))) }
+        (said_text (Said (note_view note)))) }
 {
     write_lead(writer, note.words)?;
     write_command(writer, note.command)
@@ -305,38 +308,19 @@ fn write_note<W: io::Write>(writer: &mut W, note: Note) -> io::Result<()>
 
 impl<'a> Source<'a> {
     /// Returns the line above the picture of the source, if it has one: of which `found` was found.
-    pub fn heading(&self, found: &Found) -> Option<Line> {
-        let mut line = Line::new();
-        let mut end = "";
-        match (self, found) {
-            (Source::Pem { block, .. }, _) => {
-                line.push_str("PEM at line ");
-                line.push_decimal(block.line);
-                line.push_str(", ");
-                line.push_bytes(block.label);
-                end = if block.has_end {
-                    ""
-                } else {
-                    ", with no line END"
-                };
-            }
-            (_, Found::Decoded(Encoding::Hexadecimal, _)) => line.push_str("hexadecimal"),
-            (_, Found::Decoded(_, _)) => line.push_str("base64"),
-            _ => return None,
+    pub fn heading(&self, found: &Found) -> Option<Line>
+        ensures { result ≡ option_map kept
+            (heading_of (source_view self.now) (found_view found.now)) }
+    {
+        match self {
+            Source::Pem { block, .. } => Some(block_heading(block, found)),
+            _ => text_heading(found),
         }
-        line.push_str(": ");
-        match found {
-            Found::Decoded(_, len) => line.push_bytes_of(*len),
-            Found::Note(note) => line.push_str(note.heading),
-            Found::Der => {}
-        }
-        line.push_str(end);
-        Some(line)
     }
 
     /// Returns how OpenSSL reads the bytes in the source.
     pub fn reading(&self) -> Reading
-        ensures { result ≡ reading_of self.now }
+        ensures { result ≡ reading_of (source_view self.now) }
     {
         match self {
             Source::Der(_) => Reading::Der,
@@ -348,6 +332,67 @@ impl<'a> Source<'a> {
                 }
             }
             _ => Reading::Nothing,
+        }
+    }
+}
+
+/// Returns the line above the picture of a block, in which `found` was found.
+fn block_heading(block: &Block, found: &Found) -> Line
+    ensures { result ≡ kept (block_heading (block_view block.now) (found_view found.now)) }
+{
+    let mut line = Line::new();
+    line.push_str("PEM at line ");
+    line.push_decimal(block.line);
+    line.push_str(", ");
+    line.push_bytes(block.label);
+    line.push_str(": ");
+    line.push_found(found);
+    line.push_str(end_text(block.has_end));
+    line
+}
+
+/// Returns what is said in the heading of a block with its last line, or with none.
+fn end_text(has_end: bool) -> &'static str
+    ensures { result.now ≡ end_text has_end }
+{
+    if has_end { "" } else { ", with no line END" }
+}
+
+/// Returns the line above the picture of a text with no block, if bytes were decoded.
+fn text_heading(found: &Found) -> Option<Line>
+    ensures { result ≡ option_map kept (text_heading (found_view found.now)) }
+{
+    match found {
+        Found::Decoded(encoding, len) => {
+            let mut line = Line::new();
+            line.push_str(encoding_word(*encoding));
+            line.push_str(": ");
+            line.push_bytes_of(*len);
+            Some(line)
+        }
+        _ => None,
+    }
+}
+
+/// Returns the name of an encoding without armour.
+fn encoding_word(encoding: Encoding) -> &'static str
+    ensures { result.now ≡ encoding_word encoding }
+{
+    match encoding {
+        Encoding::Hexadecimal => "hexadecimal",
+        _ => "base64",
+    }
+}
+
+impl Line {
+    /// Appends what the heading of a block says is in it.
+    fn push_found(&mut self, found: &Found)
+        ensures { self.new ≡ kept (self.old ++ found_text (found_view found.now)) }
+    {
+        match found {
+            Found::Decoded(_, len) => self.push_bytes_of(*len),
+            Found::Note(note) => self.push_str(note.heading),
+            Found::Der => self.push_str(""),
         }
     }
 }

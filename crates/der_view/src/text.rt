@@ -1,10 +1,17 @@
 //! What an input is: DER, or a text that encodes some.
-ghost use Rattle.std.specs.Prelude.{◌≡◌, ◌≤◌, ◌<◌, ◌+◌, ◌*◌, ◌^◌, ◌-◌, ℕ, length, min, IfNone};
-ghost use Rattle.std.specs.Prelude.{IfSome};
+ghost use Rattle.std.specs.Prelude.{◌≡◌, ◌≤◌, ◌+◌, ◌*◌, ◌^◌, ◌-◌, [], ◌∷◌, List, length, min};
+ghost use Rattle.std.specs.Prelude.{MatchOption, None, Some, ◌&&◌, if◌then◌else◌, option_map};
+ghost use Rattle.std.specs.List.{cons_option};
+ghost use Rattle.der_view.specs.Blocks.{block_view, blocks_in, lines_of};
 ghost use Rattle.der_view.specs.Contents.{IsFound, block_bytes, bytes_in, is_dump, sequence_in};
 ghost use Rattle.der_view.specs.Contents.{text_bytes};
 ghost use Rattle.der_view.specs.Encoded.{base64_bytes};
-ghost use Rattle.der_view.specs.Sources.{IsWithin, is_text, source_len, sources_left, text_len};
+ghost use Rattle.der_view.specs.Headings.{base64_found, block_found, found_in, found_view};
+ghost use Rattle.der_view.specs.Headings.{text_found};
+ghost use Rattle.der_view.specs.Sources.{AreWithin, IsAhead, SourceView, is_text, is_utf16};
+ghost use Rattle.der_view.specs.Sources.{Text, pem_sources, source_len, source_view};
+ghost use Rattle.der_view.specs.Sources.{sources_left, sources_of, text_len, text_sources};
+ghost use Rattle.der_view.specs.Sources.{without_mark};
 
 mod encoded;
 mod note;
@@ -13,9 +20,10 @@ mod pem;
 use encoded::{base64_into, hex_into};
 pub(crate) use note::EC_OF_PEM;
 pub use note::Note;
-use note::note_of;
+use note::{encrypted_note, note_of};
 pub use pem::Block;
 use pem::Blocks;
+use std::marker::Model;
 
 /// The label of OpenSSH's own form.
 const OPENSSH: &[u8] = b"OPENSSH PRIVATE KEY";
@@ -62,7 +70,7 @@ pub enum Found {
     Note(Note),
 }
 
-/// The sources of an input, in order.
+/// The sources of an input that are still to come, in order. A contract sees them.
 #[derive(Drop)]
 pub struct Sources<'a> {
     /// The next source.
@@ -71,6 +79,16 @@ pub struct Sources<'a> {
     blocks: Blocks<'a>,
     /// Whether OpenSSL reads the next key.
     reads: bool,
+}
+
+impl<'a> Model for Sources<'a> {
+    ghost Value = { List SourceView };
+
+    ghost view = { λ sources. sources_left sources.next sources.reads
+        sources.blocks.lines.number sources.blocks.lines.rest.now };
+
+    ghost invariant = { λ sources. IsAhead sources.next (pem_sources sources.reads
+        (blocks_in sources.blocks.lines.number (lines_of sources.blocks.lines.rest.now))) };
 }
 
 /// Returns the number of bytes of memory that decoding an input needs: twice the length of a text,
@@ -96,9 +114,19 @@ fn is_text(input: &[u8]) -> bool
     input.iter().all(|byte| *byte >= 0x20 || matches!(byte, b'\t' | b'\n' | b'\r'))
 }
 
+/// Returns `true` if the input begins with the byte order mark of UTF-16.
+fn is_utf16(input: &[u8]) -> bool
+    ensures { result ≡ is_utf16 input.now }
+{
+    match input {
+        [0xFF, 0xFE, ..] | [0xFE, 0xFF, ..] => true,
+        _ => false,
+    }
+}
+
 /// Returns the text without the byte order mark in front of it.
 fn without_mark(text: &[u8]) -> &[u8]
-    ensures { length result.now ≤ length text.now }
+    ensures { result.now ≡ without_mark text.now }
 {
     match text {
         [0xEF, 0xBB, 0xBF, rest @ ..] => rest,
@@ -109,24 +137,21 @@ fn without_mark(text: &[u8]) -> &[u8]
 impl<'a> Sources<'a> {
     /// Returns the sources of an input, of which there is at least one.
     pub fn new(input: &'a [u8]) -> Sources<'a>
-        ensures { IsWithin (text_len input.now) result }
+        ensures sources { result ≡ sources_of input.now }
+        ensures within { AreWithin (text_len input.now) result }
     {
-        match input {
-            [] => Sources::of(Source::Der(input)),
-            [0xFF, 0xFE, ..] | [0xFE, 0xFF, ..] => Sources::of(Source::Utf16),
-            _ => {
-                if is_text(input) {
-                    Sources::of_text(without_mark(input))
-                } else {
-                    Sources::of(Source::Der(input))
-                }
-            }
+        if is_utf16(input) {
+            Sources::of(Source::Utf16)
+        } else if is_text(input) && !input.is_empty() {
+            Sources::of_text(without_mark(input))
+        } else {
+            Sources::of(Source::Der(input))
         }
     }
 
     /// Returns one source.
     fn of(source: Source<'a>) -> Sources<'a>
-        ensures { IsWithin (source_len source.entry) result }
+        ensures { result ≡ source_view source.entry ∷ [] }
     {
         Sources {
             next: Some(source),
@@ -137,60 +162,64 @@ impl<'a> Sources<'a> {
 
     /// Returns the sources of a text: its blocks of PEM, or if it has none, itself.
     fn of_text(text: &'a [u8]) -> Sources<'a>
-        ensures { IsWithin (length text.now) result }
+        ensures { result ≡ text_sources text.now }
     {
-        let mut sources = Sources {
-            next: None,
-            blocks: Blocks::new(text),
-            // OpenSSL reads no lines that end in a carriage return alone.
-            reads: text.contains(&b'\n'),
-        };
-        let first = sources.next_block();
-        sources.next = Some(or_text(first, text));
-        sources
+        let mut blocks = Blocks::new(text);
+        // OpenSSL reads no lines that end in a carriage return alone.
+        let mut reads = text.contains(&b'\n');
+        let first = next_block(&mut blocks, &mut reads);
+        Sources {
+            next: Some(or_text(first, text)),
+            blocks,
+            reads,
+        }
     }
 
-    /// Returns the next source; `None` after the last one.
+    /// Returns the next source; `None`, changing nothing, after the last one.
     pub fn next_source(&mut self) -> Option<Source<'a>>
-        ensures fewer { IfSome result (λ source. sources_left self.new < sources_left self.old) }
-        ensures within { (most : ℕ) → IsWithin most self.old → IsWithin most self.new }
-        ensures source { (most : ℕ) → IsWithin most self.old
-            → IfSome result (λ source. source_len source ≤ most) }
+        ensures { MatchOption result ((self.old ≡ []) × (self.new ≡ self.old))
+            (λ source. self.old ≡ source_view source ∷ self.new) }
     {
         match self.next {
             None => None,
             Some(source) => {
-                self.next = self.next_block();
+                self.next = next_block(&mut self.blocks, &mut self.reads);
                 Some(source)
-            }
-        }
-    }
-
-    /// Returns the next block of PEM.
-    fn next_block(&mut self) -> Option<Source<'a>>
-        ensures less { length self.new.blocks.lines.rest.now
-            ≤ length self.old.blocks.lines.rest.now }
-        ensures fewer { IfSome result (λ source.
-            length self.new.blocks.lines.rest.now < length self.old.blocks.lines.rest.now) }
-        ensures source { IfSome result (λ source.
-            source_len source ≤ length self.old.blocks.lines.rest.now) }
-        ensures next { self.new.next ≡ self.old.next }
-    {
-        match self.blocks.next_block() {
-            None => None,
-            Some(block) => {
-                let is_read = self.reads && block.is_key_of_openssl();
-                self.reads = self.reads && !block.label.ends_with(b"PRIVATE KEY");
-                Some(Source::Pem { block, is_read })
             }
         }
     }
 }
 
+/// Returns the next block of PEM. `reads` says whether OpenSSL reads the next key.
+fn next_block<'a>(blocks: &mut Blocks<'a>, reads: &mut bool) -> Option<Source<'a>>
+    ensures next { pem_sources reads.old
+        (blocks_in blocks.old.lines.number (lines_of blocks.old.lines.rest.now))
+        ≡ cons_option (option_map source_view result) (pem_sources reads.new
+        (blocks_in blocks.new.lines.number (lines_of blocks.new.lines.rest.now))) }
+    ensures ahead { IsAhead result (pem_sources reads.new
+        (blocks_in blocks.new.lines.number (lines_of blocks.new.lines.rest.now))) }
+{
+    match blocks.next_block() {
+        None => None,
+        Some(block) => {
+            let is_read = both(*reads, block.is_key_of_openssl());
+            *reads = both(*reads, !block.is_of_private_key());
+            Some(Source::Pem { block, is_read })
+        }
+    }
+}
+
+/// Returns `true` if both are.
+fn both(first: bool, second: bool) -> bool
+    ensures { result ≡ (first && second) }
+{
+    first && second
+}
+
 /// Returns the source, or else the text.
 fn or_text<'a>(source: Option<Source<'a>>, text: &'a [u8]) -> Source<'a>
-    requires { IfSome source (λ block. source_len block ≤ length text.now) }
-    ensures { source_len result ≤ length text.now }
+    ensures { MatchOption source.entry (source_view result ≡ Text text.now)
+        (λ source. result ≡ source) }
 {
     match source {
         Some(source) => source,
@@ -202,9 +231,10 @@ impl<'a> Source<'a> {
     /// Returns what is in the source. Bytes that are encoded are decoded into the front of `bytes`;
     /// `digits` is memory for their digits.
     pub fn find(&self, digits: &mut [u8], bytes: &mut [u8]) -> Found
-        requires digits { source_len self.now ≤ length digits.old }
-        requires bytes { source_len self.now + 2 ≤ length bytes.old }
-        ensures { IsFound (bytes_in self.now) result bytes.new }
+        requires digits { source_len (source_view self.now) ≤ length digits.old }
+        requires bytes { source_len (source_view self.now) + 2 ≤ length bytes.old }
+        ensures found { found_view result ≡ found_in (source_view self.now) }
+        ensures bytes { IsFound (bytes_in (source_view self.now)) result bytes.new }
     {
         match self {
             Source::Der(_) => Found::Der,
@@ -219,14 +249,11 @@ impl<'a> Source<'a> {
 fn find_in_block(block: &Block, is_read: bool, digits: &mut [u8], bytes: &mut [u8]) -> Found
     requires digits { length block.now.body.now ≤ length digits.old }
     requires bytes { length block.now.body.now + 2 ≤ length bytes.old }
-    ensures { IsFound (block_bytes block.now) result bytes.new }
+    ensures found { found_view result ≡ block_found (block_view block.now) is_read }
+    ensures bytes { IsFound (block_bytes (block_view block.now)) result bytes.new }
 {
     if block.is_encrypted {
-        return Found::Note(if is_read && block.label == b"EC PRIVATE KEY".as_slice() {
-            Note::ENCRYPTED_KEY
-        } else {
-            Note::ENCRYPTED
-        });
+        return Found::Note(encrypted_note(is_read && block.label == b"EC PRIVATE KEY".as_slice()));
     }
     if block.label == OPENSSH {
         return Found::Note(Note::OPENSSH);
@@ -241,7 +268,8 @@ fn find_in_block(block: &Block, is_read: bool, digits: &mut [u8], bytes: &mut [u
 fn find_in_text(text: &[u8], digits: &mut [u8], bytes: &mut [u8]) -> Found
     requires digits { length text.now ≤ length digits.old }
     requires bytes { length text.now + 2 ≤ length bytes.old }
-    ensures { IsFound (text_bytes text.now) result bytes.new }
+    ensures found { found_view result ≡ text_found text.now }
+    ensures bytes { IsFound (text_bytes text.now) result bytes.new }
 {
     if is_dump(text) {
         return Found::Note(Note::DUMP);
@@ -256,17 +284,28 @@ fn find_in_text(text: &[u8], digits: &mut [u8], bytes: &mut [u8]) -> Found
 fn find_in_base64(text: &[u8], digits: &mut [u8], bytes: &mut [u8]) -> Found
     requires digits { length text.now ≤ length digits.old }
     requires bytes { length text.now + 2 ≤ length bytes.old }
-    ensures { IsFound (sequence_in (base64_bytes text.now)) result bytes.new }
+    ensures found { found_view result ≡ base64_found text.now }
+    ensures bytes { IsFound (sequence_in (base64_bytes text.now)) result bytes.new }
 {
     match base64_into(text, digits, bytes) {
         None => Found::Note(note_of(text)),
         Some(len) => {
-            if len > 0 && bytes[0] == 0x30 {
+            if is_sequence(&bytes[..len]) {
                 Found::Decoded(Encoding::Base64, len)
             } else {
                 Found::Note(note_of(text))
             }
         }
+    }
+}
+
+/// Returns `true` if bytes begin as a SEQUENCE does.
+fn is_sequence(bytes: &[u8]) -> bool
+    ensures { sequence_in (Some bytes.now) ≡ (if result then Some bytes.now else None) }
+{
+    match bytes {
+        [0x30, ..] => true,
+        _ => false,
     }
 }
 

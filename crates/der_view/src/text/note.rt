@@ -1,4 +1,6 @@
 //! What is said of a source that isn't drawn.
+ghost use Rattle.std.specs.Prelude.{◌≡◌};
+ghost use Rattle.der_view.specs.Notes.{encrypted_note, is_json, is_ssh, note_of, note_view};
 
 /// What is said of a source that isn't drawn.
 #[derive(Clone, Copy)]
@@ -86,13 +88,27 @@ impl Note {
     };
 }
 
+/// Returns what is said of a block of PEM that is encrypted (RFC 1421): of a key that OpenSSL reads,
+/// or of any other.
+pub(super) fn encrypted_note(is_key: bool) -> Note
+    ensures { note_view result ≡ encrypted_note is_key }
+{
+    if is_key {
+        Note::ENCRYPTED_KEY
+    } else {
+        Note::ENCRYPTED
+    }
+}
+
 /// Returns what is said of a text that is no PEM, hexadecimal or base64.
-pub(super) fn note_of(text: &[u8]) -> Note {
+pub(super) fn note_of(text: &[u8]) -> Note
+    ensures { note_view result ≡ note_of text.now }
+{
     if text.starts_with(b"PuTTY-User-Key-File-") {
         Note::PUTTY
     } else if is_ssh(text) {
         Note::SSH
-    } else if text.trim_ascii_start().starts_with(b"{") {
+    } else if is_json(text) {
         Note::JSON
     } else {
         Note::TEXT
@@ -100,6 +116,15 @@ pub(super) fn note_of(text: &[u8]) -> Note {
 }
 
 /// Returns `true` if the text begins as a public key of OpenSSH does.
-fn is_ssh(text: &[u8]) -> bool {
+fn is_ssh(text: &[u8]) -> bool
+    ensures { result ≡ is_ssh text.now }
+{
     text.starts_with(b"ssh-") || text.starts_with(b"ecdsa-sha2-") || text.starts_with(b"sk-")
+}
+
+/// Returns `true` if the text begins as JSON does.
+fn is_json(text: &[u8]) -> bool
+    ensures { result ≡ is_json text.now }
+{
+    text.trim_ascii_start().starts_with(b"{")
 }

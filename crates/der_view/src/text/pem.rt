@@ -1,5 +1,12 @@
 //! The blocks of PEM in a text (RFC 7468 section 2).
-ghost use Rattle.std.specs.Prelude.{◌≡◌, ◌≤◌, ◌<◌, ◌-◌, length, IfSome, IfNone};
+ghost use Rattle.std.specs.Prelude.{◌≡◌, ◌≤◌, ◌<◌, ◌+◌, ◌-◌, ◌^◌, [], ◌∷◌, length, IfSome, None};
+ghost use Rattle.std.specs.Prelude.{MatchOption, find, is_some, option_map, position, true};
+ghost use Rattle.std.specs.List.{after_first, before_first, concat, list_all, list_any, position_or_len};
+ghost use Rattle.der_view.specs.Blocks.{IsFirstLine, after_end, block_before, block_of, block_view};
+ghost use Rattle.der_view.specs.Blocks.{blocks_in, body_of, headers_of, is_blank, is_empty_line, is_end};
+ghost use Rattle.der_view.specs.Blocks.{between, is_key_of_openssl, is_label_byte, is_label_of_openssl};
+ghost use Rattle.der_view.specs.Blocks.{is_line_end, is_of_encryption, is_label, is_of_private_key};
+ghost use Rattle.der_view.specs.Blocks.{label_of, lines_of, trimmed};
 
 /// The greatest number of characters of a label.
 const LABEL_MOST: usize = 40;
@@ -11,12 +18,14 @@ pub(crate) struct Lines<'a> {
     rest: &'a [u8],
     /// The number of lines before them.
     number: usize,
+    ghost counted: { number + length rest.now < 2 ^ 64 },
 }
 
 impl<'a> Lines<'a> {
     /// Returns the lines of a text.
     pub fn new(text: &'a [u8]) -> Lines<'a>
-        ensures { result.rest.now ≡ text.now }
+        ensures rest { result.rest.now ≡ text.now }
+        ensures number { result.number ≡ 0 }
     {
         Lines {
             rest: text,
@@ -26,9 +35,12 @@ impl<'a> Lines<'a> {
 
     /// Returns the next line without its end; `None`, changing nothing, if there is none.
     pub fn next_line(&mut self) -> Option<&'a [u8]>
+        ensures next { MatchOption result
+            ((self.old.rest.now ≡ []) × (self.new.rest.now ≡ []))
+            (λ line. IsFirstLine self.old.rest.now line.now self.new.rest.now
+            × (self.new.number ≡ self.old.number + 1)) }
         ensures shorter { IfSome result
             (λ line. length self.new.rest.now < length self.old.rest.now) }
-        ensures end { IfNone result (self.new ≡ self.old) }
     {
         if self.rest.is_empty() {
             return None;
@@ -36,24 +48,37 @@ impl<'a> Lines<'a> {
         let text = self.rest;
         let len = line_len(text);
         self.rest = after_end(&text[len..]);
-        self.number = self.number.saturating_add(1);
+        self.number += 1;
         Some(&text[..len])
     }
 }
 
 /// Returns the number of bytes before the first end of a line.
 fn line_len(text: &[u8]) -> usize
-    ensures { result ≤ length text.now }
+    ensures value { result ≡ position_or_len is_line_end text.now }
+    ensures within { result ≤ length text.now }
 {
-    let end = text
-        .iter()
-        .position(|byte| *byte == b'\r' || *byte == b'\n');
-    end.unwrap_or(text.len())
+    line_end(text).unwrap_or(text.len())
+}
+
+/// Returns where the first end of a line is; `None` if there is none.
+fn line_end(text: &[u8]) -> Option<usize>
+    ensures { result ≡ position is_line_end text.now }
+{
+    text.iter().position(|byte| is_line_end(*byte))
+}
+
+/// Returns `true` if the byte is a carriage return or a line feed.
+fn is_line_end(byte: u8) -> bool
+    ensures { result ≡ is_line_end byte }
+{
+    byte == b'\r' || byte == b'\n'
 }
 
 /// Returns what is behind the end of a line, which these bytes begin with unless they are empty.
 fn after_end(text: &[u8]) -> &[u8]
-    ensures { length result.now ≤ length text.now - 1 }
+    ensures value { result.now ≡ after_end text.now }
+    ensures shorter { length result.now ≤ length text.now - 1 }
 {
     match text {
         [b'\r', b'\n', rest @ ..] | [_, rest @ ..] => rest,
@@ -88,7 +113,8 @@ pub struct Blocks<'a> {
 impl<'a> Blocks<'a> {
     /// Returns the blocks of a text.
     pub fn new(text: &'a [u8]) -> Blocks<'a>
-        ensures { result.lines.rest.now ≡ text.now }
+        ensures rest { result.lines.rest.now ≡ text.now }
+        ensures number { result.lines.number ≡ 0 }
     {
         Blocks {
             lines: Lines::new(text),
@@ -97,11 +123,9 @@ impl<'a> Blocks<'a> {
 
     /// Returns the next block; `None` if there is none.
     pub fn next_block(&mut self) -> Option<Block<'a>>
-        ensures shorter { IfSome result
-            (λ block. length self.new.lines.rest.now < length self.old.lines.rest.now) }
-        ensures less { length self.new.lines.rest.now ≤ length self.old.lines.rest.now }
-        ensures body { IfSome result
-            (λ block. length block.body.now ≤ length self.old.lines.rest.now) }
+        ensures { let old = blocks_in self.old.lines.number (lines_of self.old.lines.rest.now) in
+            let new = blocks_in self.new.lines.number (lines_of self.new.lines.rest.now) in
+            MatchOption result ((old ≡ []) × (new ≡ [])) (λ block. old ≡ block_view block ∷ new) }
     {
         while let Some(line) = self.lines.next_line() {
             if let Some(label) = label_of(line) {
@@ -113,8 +137,10 @@ impl<'a> Blocks<'a> {
 
     /// Returns the block with this label, behind its first line.
     fn block(&mut self, label: &'a [u8]) -> Block<'a>
-        ensures less { length self.new.lines.rest.now ≤ length self.old.lines.rest.now }
-        ensures body { length result.body.now ≤ length self.old.lines.rest.now }
+        ensures value { block_view result ≡ block_before self.old.lines.number label.now
+            (lines_of self.old.lines.rest.now) }
+        ensures left { blocks_in self.new.lines.number (lines_of self.new.lines.rest.now)
+            ≡ blocks_in self.old.lines.number (lines_of self.old.lines.rest.now) }
     {
         let line = self.lines.number;
         let text = self.lines.rest;
@@ -132,52 +158,108 @@ impl<'a> Blocks<'a> {
 }
 
 /// Returns the line without the blanks at its end.
-fn without_trailing_blanks(line: &[u8]) -> &[u8] {
+fn without_trailing_blanks(line: &[u8]) -> &[u8]
+    ensures { result.now ≡ trimmed line.now }
+{
     line.trim_ascii_end()
 }
 
+/// Returns `true` if the line is empty, but for blanks.
+fn is_blank(line: &[u8]) -> bool
+    ensures { result ≡ is_blank line.now }
+{
+    without_trailing_blanks(line).is_empty()
+}
+
+/// Returns what a line has between this front and the dashes at its end; `None` if it is no such
+/// line.
+fn between<'a>(front: &[u8], line: &'a [u8]) -> Option<&'a [u8]>
+    ensures { option_map (λ text. text.now) result ≡ between front.now line.now }
+{
+    without_trailing_blanks(line)
+        .strip_prefix(front)?
+        .strip_suffix(b"-----")
+}
+
 /// Returns the label of a block's first line; `None` if the line is none.
-fn label_of(line: &[u8]) -> Option<&[u8]> {
-    let label = without_trailing_blanks(line)
-        .strip_prefix(b"-----BEGIN ")?
-        .strip_suffix(b"-----")?;
-    let is_label = |byte: &u8| matches!(byte, b'A'..=b'Z' | b'0'..=b'9' | b' ' | b'#' | b'.');
-    if label.is_empty() || label.len() > LABEL_MOST || !label.iter().all(is_label) {
-        return None;
-    }
-    Some(label)
+fn label_of(line: &[u8]) -> Option<&[u8]>
+    ensures { option_map (λ label. label.now) result ≡ label_of line.now }
+{
+    let text = between(b"-----BEGIN ", line)?;
+    if is_label(text) { Some(text) } else { None }
+}
+
+/// Returns `true` if the text is a label.
+fn is_label(text: &[u8]) -> bool
+    ensures { result ≡ is_label text.now }
+{
+    1 <= text.len() && text.len() <= LABEL_MOST && are_label_bytes(text)
+}
+
+/// Returns `true` if each byte may be in a label.
+fn are_label_bytes(text: &[u8]) -> bool
+    ensures { result ≡ list_all is_label_byte text.now }
+{
+    text.iter().all(|byte| is_label_byte(*byte))
+}
+
+/// Returns `true` if the byte may be in a label.
+fn is_label_byte(byte: u8) -> bool
+    ensures { result ≡ is_label_byte byte }
+{
+    matches!(byte, b'A'..=b'Z' | b'0'..=b'9' | b' ' | b'#' | b'.')
 }
 
 /// Returns `true` if the line is the last one of a block with this label.
-fn is_end(line: &[u8], label: &[u8]) -> bool {
-    match without_trailing_blanks(line).strip_prefix(b"-----END ") {
-        Some(rest) => rest.strip_suffix(b"-----") == Some(label),
+fn is_end(line: &[u8], label: &[u8]) -> bool
+    ensures { result ≡ is_end line.now label.now }
+{
+    match between(b"-----END ", line) {
+        Some(text) => text == label,
         None => false,
     }
+}
+
+/// Returns the lines before the first empty one, and those after it; `None` if there is none.
+fn around_empty_line(inside: &[u8]) -> Option<(&[u8], &[u8])>
+    ensures { MatchOption result (find is_empty_line (lines_of inside.now) ≡ None)
+        (λ parts. (is_some (find is_empty_line (lines_of inside.now)) ≡ true)
+        × (parts.0.now ≡ concat (before_first is_empty_line (lines_of inside.now)))
+        × (parts.1.now ≡ concat (after_first is_empty_line (lines_of inside.now)))) }
+{
+    let mut lines = Lines::new(inside);
+    let mut before = lines;
+    while let Some(line) = lines.next_line() {
+        if is_blank(line) {
+            return Some((&inside[..inside.len() - before.rest.len()], lines.rest));
+        }
+        before = lines;
+    }
+    None
 }
 
 /// Returns the headers of a block with these lines (RFC 1421 section 4.4), and the lines after
 /// them. The headers are the lines up to an empty one, if one of them has a colon.
 fn split_headers(inside: &[u8]) -> (&[u8], &[u8])
-    ensures { length result.1.now ≤ length inside.now }
+    ensures headers { result.0.now ≡ headers_of inside.now }
+    ensures body { result.1.now ≡ body_of inside.now }
 {
-    let mut lines = Lines::new(inside);
-    let mut before = lines;
-    while let Some(line) = lines.next_line() {
-        if without_trailing_blanks(line).is_empty() {
-            let headers = &inside[..inside.len() - before.rest.len()];
+    match around_empty_line(inside) {
+        Some((headers, body)) => {
             if headers.contains(&b':') {
-                return (headers, lines.rest);
+                (headers, body)
+            } else {
+                (&inside[..0], inside)
             }
-            break;
         }
-        before = lines;
+        None => (&inside[..0], inside),
     }
-    (&inside[..0], inside)
 }
 
 /// Returns `true` if headers say that the body is encrypted (RFC 1421 section 4.6.1.1).
-fn are_of_encryption(headers: &[u8]) -> bool {
+fn are_of_encryption(headers: &[u8]) -> bool
+    ensures { result ≡ list_any is_of_encryption (lines_of headers.now) }
+{
     let mut lines = Lines::new(headers);
     while let Some(line) = lines.next_line() {
         if line.starts_with(b"Proc-Type: 4,ENCRYPTED") {
@@ -190,7 +272,7 @@ fn are_of_encryption(headers: &[u8]) -> bool {
 impl<'a> Block<'a> {
     /// Returns the block with this first line and label, these lines, and its last line or not.
     fn new(line: usize, label: &'a [u8], inside: &'a [u8], has_end: bool) -> Block<'a>
-        ensures { length result.body.now ≤ length inside.now }
+        ensures { block_view result ≡ block_of line label.now inside.now has_end }
     {
         let (headers, body) = split_headers(inside);
         Block {
@@ -203,12 +285,27 @@ impl<'a> Block<'a> {
         }
     }
 
+    /// Returns `true` if the label ends in the words that those of private keys end in.
+    pub(super) fn is_of_private_key(&self) -> bool
+        ensures { result ≡ is_of_private_key (block_view self.now) }
+    {
+        self.label.ends_with(b"PRIVATE KEY")
+    }
+
     /// Returns `true` if OpenSSL reads a key from this block, if it is the first one of a text: it
     /// has its last line, one of three labels, and no headers but those of encryption.
-    pub fn is_key_of_openssl(&self) -> bool {
-        let labels: [&[u8]; 3] = [b"EC PRIVATE KEY", b"PRIVATE KEY", b"ENCRYPTED PRIVATE KEY"];
-        self.has_end
-            && labels.iter().any(|label| *label == self.label)
-            && (!self.has_headers || self.is_encrypted)
+    pub fn is_key_of_openssl(&self) -> bool
+        ensures { result ≡ is_key_of_openssl (block_view self.now) }
+    {
+        self.has_end && self.has_label_of_openssl() && (!self.has_headers || self.is_encrypted)
+    }
+
+    /// Returns `true` if the label is one of those that OpenSSL reads a key of.
+    fn has_label_of_openssl(&self) -> bool
+        ensures { result ≡ is_label_of_openssl self.now.label.now }
+    {
+        self.label == b"EC PRIVATE KEY".as_slice()
+            || self.label == b"PRIVATE KEY".as_slice()
+            || self.label == b"ENCRYPTED PRIVATE KEY".as_slice()
     }
 }
