@@ -1,6 +1,7 @@
 -- The lines of a text, and the blocks of PEM in them.
-use Rattle.std.proofs.Common.{◌≡◌, ℕ, suc, ◌+◌, ◌-◌, ◌<◌, ◌≤◌, ◌==◌, ◌&&◌, Bool, true, false, cond, not, List, [], ◌∷◌, ◌++◌}
-use Rattle.std.proofs.Common.{length, take, drop, refl, sym, ap, ◌∙◌, arith, append_assoc, append-nil, length-append, Some, None}
+use Rattle.std.proofs.Common.{◌≡◌, ℕ, suc, ◌+◌, ◌-◌, ◌<◌, ◌≤◌, ◌==◌, ◌&&◌, Bool, true, false, cond, not, List, []}
+use Rattle.std.proofs.Common.{◌∷◌, ◌++◌, length, take, drop, refl, sym, ap, ◌∙◌, arith, append_assoc, append-nil}
+use Rattle.std.proofs.Common.{length-append, Some, None}
 use Rattle.std.proofs.Common.{codes, nat_eq, find, inl, inr, ltb, ◌⊎◌, unwrap_or}
 use Rattle.std.proofs.lemmas.Bool.{and_right, cases_lt, false≢true, le-ltb, lt-ltb}
 use Rattle.std.proofs.lemmas.List.{length-take, take-append-drop, take-take, take_at}
@@ -46,7 +47,8 @@ place_by p xs (inr past) =
     rw test (omega (arith, prefix_len-le-length (λ x. not (p x)) xs))
 
 -- the first place that passes, or else the length
-pub place_or-length : {X : Type 0} (p : X → Bool) (xs : List X) → unwrap_or (position p xs) (length xs) ≡ position_or_len p xs
+pub place_or-length : {X : Type 0} (p : X → Bool) (xs : List X)
+    → unwrap_or (position p xs) (length xs) ≡ position_or_len p xs
 place_or-length p xs = place_by p xs (cases_lt (position_or_len p xs) (length xs))
 
 -- what is behind a line's text: its end, and the text behind that
@@ -147,7 +149,8 @@ concat-lines_of (byte ∷ next ∷ text) =
             | false ↦ ap (λ (t : List ℕ). byte ∷ t) (concat-lines_of (next ∷ text))
           ]
       | false ↦
-          concat-onto_first byte (lines_of (next ∷ text)) ∙ ap (λ (t : List ℕ). byte ∷ t) (concat-lines_of (next ∷ text))
+          concat-onto_first byte (lines_of (next ∷ text))
+          ∙ ap (λ (t : List ℕ). byte ∷ t) (concat-lines_of (next ∷ text))
     ]
 
 -- a loop over the lines of a text up to one whose text passes a test, with this rest

@@ -1,28 +1,29 @@
 -- The sources of an input, and their pictures.
-use Rattle.std.proofs.Common.{◌≡◌, ℕ, zero, suc, ◌+◌, ◌≤◌, Bool, true, false, cond, not, List, [], ◌∷◌, ◌++◌, length, take, drop}
-use Rattle.std.proofs.Common.{Option, Some, None, refl, sym, ap, ◌∙◌, arith, append_assoc, length-append, length-drop, codes, nat_eq}
-use Rattle.std.proofs.Common.{append-nil, Result, Ok, Err, IfOk, ◌||◌, ◌&&◌, subst}
+use Rattle.std.proofs.Common.{◌≡◌, ℕ, zero, suc, ◌+◌, ◌≤◌, Bool, true, false, cond, not, List, [], ◌∷◌, ◌++◌, length}
+use Rattle.std.proofs.Common.{take, drop, Option, Some, None, refl, sym, ap, ◌∙◌, arith, append_assoc, length-append}
+use Rattle.std.proofs.Common.{length-drop, codes, nat_eq, append-nil, Result, Ok, Err, IfOk, ◌||◌, ◌&&◌, subst}
 use Rattle.std.proofs.KnownBytes.{Appends-trans}
 use Rattle.std.proofs.lemmas.Bool.{false≢true}
+use Rattle.std.proofs.lemmas.List.{length-take-le}
+use Rattle.std.proofs.lemmas.Option.{same_Some}
 use Rattle.std.proofs.lemmas.Slice.Eq.{bytes_eq-Decides}
 use Rattle.std.specs.Io.KnownBytes.{Appends}
 use Rattle.std.specs.List.{after_first, before_first, concat, ends_with, position_or_len}
+use Rattle.std.specs.Option.{option_map}
 use Rattle.std.specs.Str.{bytes_eq}
 use Rattle.der_view.proofs.BlockLemmas.{concat-lines_of}
-use Rattle.der_view.specs.Blocks.{BlockView, begins_with_headers, block_before, blocks_in, body_of, is_boundary, is_empty_line}
-use Rattle.der_view.specs.Blocks.{is_key_of_openssl, is_label_of_openssl, is_of_private_key, label_of, line_text, lines_of, with_block}
-use Rattle.std.proofs.lemmas.List.{length-take-le}
-use Rattle.std.proofs.lemmas.Option.{same_Some}
-use Rattle.std.specs.Option.{option_map}
 use Rattle.der_view.proofs.LineLemmas.{shown-kept}
-use Rattle.der_view.specs.Lines.{kept, shown}
-use Rattle.der_view.specs.declared.text.Encoding.{Encoding}
+use Rattle.der_view.specs.Blocks.{BlockView, begins_with_headers, block_before, blocks_in, body_of, is_boundary}
+use Rattle.der_view.specs.Blocks.{is_empty_line, is_key_of_openssl, is_label_of_openssl, is_of_private_key, label_of}
+use Rattle.der_view.specs.Blocks.{line_text, lines_of, with_block}
 use Rattle.der_view.specs.Headings.{Decoded, decoded_or, FoundView, found_in, heading_line, heading_of, said_text}
 use Rattle.der_view.specs.Inputs.{ArePictures, IsPictureOfSource, IsPictureOfText, reading_of}
+use Rattle.der_view.specs.Lines.{kept, shown}
 use Rattle.der_view.specs.Pictures.{IsPicture}
 use Rattle.der_view.specs.Sources.{AreWithin, Pem, SourceView, is_text, or_text, pem_sources}
 use Rattle.der_view.specs.Sources.{text_len, text_sources, without_mark}
 use Rattle.der_view.specs.declared.picture.verdict.Reading.{Reading}
+use Rattle.der_view.specs.declared.text.Encoding.{Encoding}
 
 concat_split : (n : ℕ) (lines : List (List ℕ)) → concat (take n lines) ++ concat (drop n lines) ≡ concat lines
 concat_split zero lines = refl
@@ -103,7 +104,8 @@ sources_within input text sources is behind are =
 ends_so : (label whole : List ℕ) → bytes_eq label whole ≡ true → ends_with nat_eq whole (codes "PRIVATE KEY") ≡ true
     → ends_with nat_eq label (codes "PRIVATE KEY") ≡ true
 ends_so label whole same ends =
-    subst (λ (t : List ℕ). ends_with nat_eq t (codes "PRIVATE KEY") ≡ true) (sym ((bytes_eq-Decides label whole).0 same))
+    subst (λ (t : List ℕ). ends_with nat_eq t (codes "PRIVATE KEY") ≡ true)
+    (sym ((bytes_eq-Decides label whole).0 same))
     ends
 
 label_by : (label : List ℕ) (a b c : Bool) → bytes_eq label (codes "EC PRIVATE KEY") ≡ a

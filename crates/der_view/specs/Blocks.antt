@@ -3,8 +3,8 @@ use Rattle.std.specs.Prelude.{ℕ, ◌+◌, ◌-◌, ◌==◌, ◌≡◌, ◌&&�
 use Rattle.std.specs.Prelude.{if◌then◌else◌, List, [], ◌∷◌, ◌++◌, length, take, drop, codes, find}
 use Rattle.std.specs.Prelude.{Option, Some, None, is_some, option_and_then}
 use Rattle.std.specs.Char.{is_ascii_whitespace}
-use Rattle.std.specs.List.{after_first, before_first, concat, ends_with, list_all, list_any, onto_first}
-use Rattle.std.specs.List.{starts_with, suffix_len}
+use Rattle.std.specs.List.{after_first, before_first, concat, ends_with, list_all, list_any}
+use Rattle.std.specs.List.{onto_first, starts_with, suffix_len}
 use Rattle.std.specs.Str.{bytes_eq}
 use Rattle.der_view.specs.declared.text.pem.Block.{Block}
 
@@ -112,7 +112,8 @@ headers_of inside =
 
 abbrev pub body_of : List ℕ → List ℕ
 body_of inside =
-    if begins_with_headers inside then concat (after_first is_empty_line (lines_of inside)) else inside
+    if begins_with_headers inside then concat (after_first is_empty_line (lines_of inside))
+    else inside
 
 -- whether a header says that the body is encrypted (RFC 1421 section 4.6.1.1)
 abbrev pub is_of_encryption : List ℕ → Bool
@@ -176,8 +177,8 @@ blocks_in number (line ∷ lines) =
 abbrev pub is_of_private_key : BlockView → Bool
 is_of_private_key block = ends_with nat_eq block.label (codes "PRIVATE KEY")
 
--- whether OpenSSL reads a key from a block, if it is the first one of a private key: it has its last
--- line, one of three labels, and no headers but those of encryption
+-- whether OpenSSL reads a key from a block, if it is the first one of a private key: it has its
+-- last line, one of three labels, and no headers but those of encryption
 abbrev pub is_label_of_openssl : List ℕ → Bool
 is_label_of_openssl label =
     bytes_eq label (codes "EC PRIVATE KEY")

@@ -68,7 +68,8 @@ abbrev pub block_heading : BlockView → FoundView → List ℕ
 block_heading block found =
     codes "PEM at line "
     ++ (decimal block.line
-    ++ (codes ", " ++ (block.label ++ (codes ": " ++ (found_text found ++ end_text block.has_end)))))
+    ++ (codes ", "
+    ++ (block.label ++ (codes ": " ++ (found_text found ++ end_text block.has_end)))))
 
 -- the name of an encoding without armour
 abbrev pub encoding_word : Encoding → List ℕ

@@ -10,7 +10,8 @@ ghost use Rattle.der_view.specs.Pictures.{content_piece, content_text, lead_text
 ghost use Rattle.der_view.specs.Pictures.{mark_text, row_text, rows_text, verdict_text};
 ghost use Rattle.der_view.specs.Contents.{bytes_in};
 ghost use Rattle.der_view.specs.Headings.{block_heading, encoding_word, end_text, found_text};
-ghost use Rattle.der_view.specs.Headings.{Said, found_view, heading_line, heading_of, said_text, text_heading};
+ghost use Rattle.der_view.specs.Headings.{Said, found_view, heading_line, heading_of, said_text};
+ghost use Rattle.der_view.specs.Headings.{text_heading};
 ghost use Rattle.der_view.specs.Inputs.{ArePictures, IsPictureOfSource, IsPictureOfText};
 ghost use Rattle.der_view.specs.Inputs.{reading_of};
 ghost use Rattle.der_view.specs.Notes.{note_view};

@@ -1,7 +1,7 @@
 //! Pictures of any input, DER or a text that encodes some: `sec1_picture_draw` and
 //! `sec1_picture_lines`.
 ghost use Rattle.std.specs.Prelude.{◌≡◌, ◌≢◌, ◌≤◌, length};
-ghost use Rattle.der_view.specs.Sources.{source_len};
+ghost use Rattle.der_view.specs.Sources.{source_len, source_view};
 ghost use Rattle.sec1_c.specs.Pictures.{IsDrawn};
 
 mod lines;
@@ -34,7 +34,7 @@ pub extern "C" fn sec1_picture_draw(
     is_key: &mut usize,
 ) -> u32
     ensures drawn { result ≡ 0
-        → IsDrawn all text.old text.new len.new is_key.new }
+        → IsDrawn input.now all text.old text.new len.new is_key.new }
     ensures short { result ≢ 0
         → (result ≡ 7) × (text.new ≡ text.old) × (is_key.new ≡ 0) }
 {
@@ -105,7 +105,7 @@ pub extern "C" fn sec1_picture_lines(
 
 /// Returns the number of characters of a part that may encode bytes.
 fn source_len(source: &Source) -> usize
-    ensures { result ≡ source_len source.now }
+    ensures { result ≡ source_len (source_view source.now) }
 {
     match source {
         Source::Pem { block, .. } => block.body.len(),

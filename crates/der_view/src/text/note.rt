@@ -88,8 +88,8 @@ impl Note {
     };
 }
 
-/// Returns what is said of a block of PEM that is encrypted (RFC 1421): of a key that OpenSSL reads,
-/// or of any other.
+/// Returns what is said of a block of PEM that is encrypted (RFC 1421): of a key that OpenSSL
+/// reads, or of any other.
 pub(super) fn encrypted_note(is_key: bool) -> Note
     ensures { note_view result ≡ encrypted_note is_key }
 {

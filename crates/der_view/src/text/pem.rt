@@ -1,12 +1,14 @@
 //! The blocks of PEM in a text (RFC 7468 section 2).
 ghost use Rattle.std.specs.Prelude.{◌≡◌, ◌≤◌, ◌<◌, ◌+◌, ◌-◌, ◌^◌, [], ◌∷◌, length, IfSome, None};
 ghost use Rattle.std.specs.Prelude.{MatchOption, find, is_some, option_map, position, true};
-ghost use Rattle.std.specs.List.{after_first, before_first, concat, list_all, list_any, position_or_len};
-ghost use Rattle.der_view.specs.Blocks.{IsFirstLine, after_end, block_before, block_of, block_view};
-ghost use Rattle.der_view.specs.Blocks.{blocks_in, body_of, headers_of, is_blank, is_empty_line, is_end};
-ghost use Rattle.der_view.specs.Blocks.{between, is_key_of_openssl, is_label_byte, is_label_of_openssl};
-ghost use Rattle.der_view.specs.Blocks.{is_line_end, is_of_encryption, is_label, is_of_private_key};
-ghost use Rattle.der_view.specs.Blocks.{label_of, lines_of, trimmed};
+ghost use Rattle.std.specs.List.{after_first, before_first, concat, list_all, list_any};
+ghost use Rattle.std.specs.List.{position_or_len};
+ghost use Rattle.der_view.specs.Blocks.{IsFirstLine, after_end, between, block_before, block_of};
+ghost use Rattle.der_view.specs.Blocks.{block_view, blocks_in, body_of, headers_of, is_blank};
+ghost use Rattle.der_view.specs.Blocks.{is_empty_line, is_end, is_key_of_openssl, is_label};
+ghost use Rattle.der_view.specs.Blocks.{is_label_byte, is_label_of_openssl, is_line_end};
+ghost use Rattle.der_view.specs.Blocks.{is_of_encryption, is_of_private_key, label_of, lines_of};
+ghost use Rattle.der_view.specs.Blocks.{trimmed};
 
 /// The greatest number of characters of a label.
 const LABEL_MOST: usize = 40;

@@ -1,6 +1,6 @@
 //! What the lines of a picture are of.
 ghost use Rattle.std.specs.Prelude.{◌≡◌, ◌≤◌, ◌+◌, length};
-ghost use Rattle.der_view.specs.Sources.{source_len};
+ghost use Rattle.der_view.specs.Sources.{source_len, source_view};
 
 use der_view::{Field, Form, Found, OpenRow, Plan, Rows, Shown, Source, Subject, is_key};
 
@@ -70,8 +70,8 @@ impl<'a> Lines<'a> {
         digits: &mut [u8],
         bytes: &mut [u8],
     ) -> usize
-        requires digits { source_len source.now ≤ length digits.old }
-        requires bytes { source_len source.now + 2 ≤ length bytes.old }
+        requires digits { source_len (source_view source.now) ≤ length digits.old }
+        requires bytes { source_len (source_view source.now) + 2 ≤ length bytes.old }
         ensures { result ≤ length bytes.old }
     {
         let found = source.find(digits, bytes);
