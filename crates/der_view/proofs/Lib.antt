@@ -1,6 +1,7 @@
 pub mod ArcLemmas
 pub mod BlockLemmas
 pub mod CharacterLemmas
+pub mod ChildLemmas
 pub mod EncodedLemmas
 pub mod LevelLemmas
 pub mod LineLemmas

@@ -19,7 +19,7 @@ use Rattle.der_view.specs.declared.row.OpenRow.{OpenRow}
 
 -- one more row
 pub AreRowsOf-snoc : (rows : List OpenRow) (row : OpenRow) (old mid new : Undrawn) → AreRowsOf rows old mid
-    → IsNext mid row new → IsOpen mid.all mid.guarded mid.left row → AreRowsOf (rows ++ row ∷ []) old new
+    → IsNext mid row new → IsOpen mid.all mid.plan.guarded mid.left row → AreRowsOf (rows ++ row ∷ []) old new
 AreRowsOf-snoc [] row old mid new same next is =
     rw same (new, next, is, refl)
 AreRowsOf-snoc (first ∷ rows) row old mid new (between, one, seen, more) next is =

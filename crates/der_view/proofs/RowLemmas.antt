@@ -22,4 +22,4 @@ drawn_bytes input (row ∷ rows) old new (between, is, more) at =
     (ap (λ tail. take n old.left ++ tail) (sym is.left ∙ behind))
 
 pub rows_are_input : RowsAreInput
-rows_are_input input behind all guarded rows new d = drawn_bytes input rows _ new d refl
+rows_are_input input behind all plan rows new d = drawn_bytes input rows _ new d refl

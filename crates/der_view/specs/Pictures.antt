@@ -7,6 +7,7 @@ use Rattle.sec1.specs.Keys.{Key, IsKeyOf}
 use Rattle.der_view.specs.Facts.{no_facts, with_rows}
 use Rattle.der_view.specs.Lines.{shown}
 use Rattle.der_view.specs.Marks.{mark_words}
+use Rattle.der_view.specs.Plans.{plan_of, plan_with}
 use Rattle.der_view.specs.RowLines.{row_line, spaces}
 use Rattle.der_view.specs.Rows.{IsNext, IsOpen, Undrawn, content_bytes}
 use Rattle.der_view.specs.Verdicts.{VerdictView, kept_verdict, verdict_of}
@@ -48,7 +49,7 @@ rows_text rows = flat_map row_text rows
 abbrev pub AreRowsOf : List OpenRow → Undrawn → Undrawn → Type 0
 AreRowsOf [] old new = old ≡ new
 AreRowsOf (row ∷ rows) old new =
-    (between : Undrawn) × IsNext old row between × IsOpen old.all old.guarded old.left row
+    (between : Undrawn) × IsNext old row between × IsOpen old.all old.plan.guarded old.left row
     × AreRowsOf rows between new
 
 -- all rows of some bytes, with the contents or without
@@ -58,6 +59,7 @@ pub record AreRows (all : Bool) (bytes : List ℕ) (rows : List OpenRow) : Type 
   pub left : first.left ≡ bytes
   pub offset : first.offset ≡ 0
   pub shows : first.all ≡ all
+  pub plan : first.plan ≡ plan_with all (plan_of bytes)
   pub drawn : AreRowsOf rows first last
   pub ended : last.left ≡ []
 
@@ -86,6 +88,7 @@ pub record IsSubject (bytes : List ℕ) (reading : Reading) (subject : Subject) 
   pub are_rows : AreRows false bytes rows
   pub read : subject.reading ≡ reading
   pub len : subject.len ≡ length bytes
+  pub plan : subject.plan ≡ plan_of bytes
   pub facts : subject.facts ≡ with_rows no_facts rows
 
 -- what is said of it, if it is a key or not

@@ -8,6 +8,7 @@ use Rattle.der_view.specs.Seen.{IsFirst, IsShown, open_len}
 use Rattle.der_view.specs.declared.header.Header.{Header}
 use Rattle.der_view.specs.declared.header.Tag.{Tag}
 use Rattle.der_view.specs.declared.mark.ElementFault.{ElementFault}
+use Rattle.der_view.specs.declared.plan.Plan.{Plan}
 use Rattle.der_view.specs.declared.row.Kind.{Kind}
 use Rattle.der_view.specs.declared.row.Kind.TheVariants as kinds
 use Rattle.der_view.specs.declared.row.OpenRow.{OpenRow}
@@ -16,13 +17,13 @@ use Rattle.der_view.specs.declared.row.Shown.TheVariants.{Nothing}
 
 -- The bytes that have no row yet, and how many are before them. How many bytes are behind each open
 -- element, the innermost first, and behind the input. Whether all contents are in the rows, and
--- whether the picture is guarded.
+-- what is known of the whole input.
 pub record Undrawn : Type 0 where
   pub offset : ℕ
   pub left : List ℕ
   pub behind : List ℕ
   pub all : Bool
-  pub guarded : Bool
+  pub plan : Plan
 
 -- the number of bytes that a row is of: its header, and its content unless that has other rows
 abbrev pub row_len : OpenRow → ℕ
@@ -106,7 +107,7 @@ pub record IsNext (old : Undrawn) (row : OpenRow) (new : Undrawn) : Type 0 where
       ≡ still_open (length new.left)
       (after_row row.kind (length new.left - (row.len - row.own_len)) old.behind)
   pub all : new.all ≡ old.all
-  pub guarded : new.guarded ≡ old.guarded
+  pub plan : new.plan ≡ old.plan
 
 -- these are the next rows, one after the other, and what has no row yet after them
 abbrev pub Draws : List OpenRow → Undrawn → Undrawn → Type 0

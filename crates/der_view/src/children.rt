@@ -1,349 +1,420 @@
-//! The children of a root, as far as they follow the form of a private key.
+//! The children of a root that begin a structure which may have a private key.
+ghost use Rattle.std.specs.Prelude.{◌≡◌, ◌<◌, ◌≤◌, ◌+◌, drop, length, true};
+ghost use Rattle.der_view.specs.Children.{child_at, child_if, child_of, children_at, children_of};
+ghost use Rattle.der_view.specs.Children.{ec_private_key, first_tag, fit, followed, has_content};
+ghost use Rattle.der_view.specs.Children.{inside, is_cut, is_end, is_in, is_whole, len_of};
+ghost use Rattle.der_view.specs.Children.{most_children, none_at, nth, one_asymmetric_key};
+ghost use Rattle.der_view.specs.Children.{optional, pfx, required, rsa_private_key, run_of};
 
-use crate::field::{Field, Form};
 use crate::header::Header;
-use crate::mark::Part;
-use sec1_der::{ObjectIdentifier, check_tree};
+use sec1_der::check_tree;
 
-/// The greatest number of children of a form: those of RSAPrivateKey.
-const MOST: usize = 9;
+/// As many children as a structure has, and the place behind them.
+const MOST: usize = 10;
 
 /// Returns the tag byte at the beginning of the bytes; 00, which is no tag, if there is none.
-pub(crate) fn first_tag(bytes: &[u8]) -> u8 {
+pub(crate) fn first_tag(bytes: &[u8]) -> u8
+    ensures { result ≡ first_tag bytes.now }
+{
     match bytes {
         [first, ..] => *first,
         [] => 0x00,
     }
 }
 
+/// Returns `true` if the bytes are one element and those inside it in DER.
+#[tactic(auto, unfolding(crate::specs::Children::is_whole))]
+pub(crate) fn is_whole(bytes: &[u8]) -> bool
+    ensures { result ≡ is_whole bytes.now }
+{
+    match check_tree(bytes) {
+        Ok(_) => true,
+        Err(_) => false,
+    }
+}
+
+/// Returns the bytes behind so many; none, if there are fewer.
+pub(crate) fn after<'a>(bytes: &'a [u8], count: usize) -> &'a [u8]
+    ensures { result.now ≡ drop count bytes.now }
+{
+    &bytes[count.min(bytes.len())..]
+}
+
+/// Returns the bytes behind the header that these begin with.
+#[tactic(auto, unfolding(crate::specs::Children::inside))]
+pub(crate) fn inside<'a>(bytes: &'a [u8]) -> &'a [u8]
+    ensures { result.now ≡ inside bytes.now }
+{
+    match Header::read(bytes) {
+        Ok(head) => &bytes[head.len..],
+        Err(_) => &[],
+    }
+}
+
 /// A child of a root.
 #[derive(Clone, Copy)]
-struct Child<'a> {
+pub(crate) struct Child {
+    /// The tag byte; 00, which is no tag, of no child.
+    pub tag: u8,
+    /// The number of bytes of the root before it.
+    pub at: usize,
+    /// The number of bytes of the root before its content.
+    pub start: usize,
+    /// The number of bytes of the root up to its end, or to where the input ends inside it.
+    pub end: usize,
+    /// The length of the content, as the header says.
+    pub announced: usize,
+    /// The tag byte of the first element in the content.
+    pub inner: u8,
+    /// Whether the content is one element in DER.
+    pub alone: bool,
+}
+
+/// No child.
+const NO_CHILD: Child = Child {
+    tag: 0x00,
+    at: 0,
+    start: 0,
+    end: 0,
+    announced: 0,
+    inner: 0x00,
+    alone: false,
+};
+
+impl Child {
+    /// Returns the child behind so many of these bytes, if it is whole in DER, or they end inside
+    /// it and that may be.
+    #[tactic(auto, unfolding(crate::specs::Children::child_at))]
+    fn new(bytes: &[u8], at: usize, may_be_cut: bool) -> Child
+        requires { at ≤ length bytes.now }
+        ensures exact { result ≡ child_at may_be_cut bytes.now at }
+        ensures fits { result.end ≤ length bytes.now }
+    {
+        let rest = &bytes[at..];
+        match Header::read(rest) {
+            Ok(head) => match head.content_len {
+                Some(announced) => Child::within(rest, at, head.len, announced, may_be_cut),
+                None => Child::none(at),
+            },
+            Err(_) => Child::none(at),
+        }
+    }
+
+    /// Returns the child at the beginning of these bytes, with a header and a content of these
+    /// lengths, if it is whole in DER, or the bytes end inside it and that may be.
+    fn within(
+        bytes: &[u8],
+        at: usize,
+        header_len: usize,
+        announced: usize,
+        may_be_cut: bool,
+    ) -> Child
+        requires header { header_len ≤ length bytes.now }
+        requires at { at + length bytes.now < 0x8000000000000000 }
+        ensures exact { result ≡ child_if may_be_cut at bytes.now header_len announced }
+        ensures fits { result.end ≤ at + length bytes.now }
+    {
+        let left = bytes.len() - header_len;
+        if left < announced {
+            if may_be_cut {
+                Child::of(bytes, at, header_len, announced, left)
+            } else {
+                Child::none(at)
+            }
+        } else if is_whole(&bytes[..header_len + announced]) {
+            Child::of(bytes, at, header_len, announced, announced)
+        } else {
+            Child::none(at)
+        }
+    }
+
+    /// Returns the child at the beginning of these bytes, with a header and a content of these
+    /// lengths, of which so many bytes are there.
+    fn of(bytes: &[u8], at: usize, header_len: usize, announced: usize, len: usize) -> Child
+        requires content { header_len + len ≤ length bytes.now }
+        requires at { at + length bytes.now < 0x8000000000000000 }
+        ensures { result ≡ child_of at bytes.now header_len announced len }
+    {
+        let content = &bytes[header_len..][..len];
+        Child {
+            tag: first_tag(bytes),
+            at,
+            start: at + header_len,
+            end: at + header_len + len,
+            announced,
+            inner: first_tag(content),
+            alone: is_whole(content),
+        }
+    }
+
+    /// Returns no child, behind so many bytes.
+    fn none(at: usize) -> Child
+        ensures { result ≡ none_at at }
+    {
+        Child {
+            at,
+            start: at,
+            end: at,
+            ..NO_CHILD
+        }
+    }
+
+    /// Returns the number of bytes of the content that are there.
+    pub(crate) fn len(self) -> usize
+        ensures { result ≡ len_of self }
+    {
+        self.end.saturating_sub(self.start)
+    }
+
+    /// Returns `true` if the input ends inside the child.
+    fn is_cut(self) -> bool
+        ensures { result ≡ is_cut self }
+    {
+        self.len() < self.announced
+    }
+}
+
+/// What is inside a component of a structure.
+#[derive(Clone, Copy)]
+enum Content {
+    /// Anything.
+    Any,
+    /// Elements, of which the first one has this tag byte.
+    Begins(u8),
+    /// One element, which has one of these two tag bytes.
+    Is(u8, u8),
+}
+
+impl Content {
+    /// Returns `true` if this is inside the child, as far as it is there.
+    fn is_of(self, child: Child) -> bool
+        ensures { result ≡ has_content self child }
+    {
+        match self {
+            Content::Any => true,
+            Content::Begins(first) => child.is_cut() || child.inner == first,
+            Content::Is(one, other) => {
+                child.is_cut() || (child.alone && (child.inner == one || child.inner == other))
+            }
+        }
+    }
+}
+
+/// A component of a structure.
+#[derive(Clone, Copy)]
+struct Component {
     /// The tag byte.
     tag: u8,
-    /// The number of bytes of the header.
-    header_len: usize,
-    /// The length of the content.
-    announced: usize,
-    /// The content that is there.
-    content: &'a [u8],
-    /// The bytes after the child.
-    behind: &'a [u8],
-    /// Whether the input ends inside the child.
-    cut: bool,
+    /// What is inside it.
+    content: Content,
+    /// Whether it may be absent.
+    optional: bool,
 }
 
-impl<'a> Child<'a> {
-    /// Returns the child at the beginning of the bytes, if it is whole in DER, or the input ends
-    /// inside it and that is allowed.
-    fn new(bytes: &'a [u8], may_be_cut: bool) -> Option<Child<'a>> {
-        let Ok(head) = Header::read(bytes) else {
-            return None;
-        };
-        let announced = head.content_len?;
-        let rest = &bytes[head.len..];
-        let cut = rest.len() < announced;
-        let (content, behind) = rest.split_at(rest.len().min(announced));
-        let whole = &bytes[..bytes.len() - behind.len()];
-        let may_follow = if cut {
-            may_be_cut
-        } else {
-            check_tree(whole).is_ok()
-        };
-        if !may_follow {
-            return None;
-        }
-        Some(Child {
-            tag: first_tag(bytes),
-            header_len: head.len,
-            announced,
-            content,
-            behind,
-            cut,
-        })
-    }
-
-    /// Returns `true` if the child has this tag byte, and its content is one element with one of
-    /// these two, as far as it is there.
-    fn is_around(&self, tag: u8, first: u8, second: u8) -> bool {
-        let inner = first_tag(self.content);
-        self.tag == tag
-            && (self.cut
-                || ((inner == first || inner == second) && check_tree(self.content).is_ok()))
+impl Component {
+    /// Returns `true` if this is the child.
+    fn is(self, child: Child) -> bool
+        ensures { result ≡ is_in self child }
+    {
+        self.tag == child.tag && self.content.is_of(child)
     }
 }
 
-/// The children of a root that follow the form of a private key.
-#[derive(Clone, Copy)]
-pub(crate) struct Children<'a> {
-    /// Their tag bytes.
-    tags: [u8; MOST],
-    /// Their contents that are there.
-    contents: [&'a [u8]; MOST],
-    /// The numbers of bytes between the root's header and them.
-    offsets: [usize; MOST],
-    /// Their number.
-    count: usize,
-    /// The number of bytes up to the end of the last one.
-    end: usize,
-    /// Whether the root ends after them.
-    finished: bool,
-    /// Whether the input ends inside them.
-    cut: bool,
-    /// Whether the content of the first one has one byte, as that of a version.
-    pub versioned: bool,
-    /// Whether the length of the second one has more than one byte.
-    is_long: bool,
-}
-
-impl<'a> Children<'a> {
-    /// Returns the children in the content of a root, which may have an indefinite length and may
-    /// be cut at the end of the input.
-    pub(crate) fn new(content: &'a [u8], indefinite: bool, may_be_cut: bool) -> Children<'a> {
-        let mut children = Children {
-            tags: [0; MOST],
-            contents: [content; MOST],
-            offsets: [0; MOST],
-            count: 0,
-            end: 0,
-            finished: false,
-            cut: false,
-            versioned: false,
-            is_long: false,
-        };
-        let mut rest = content;
-        for _ in 0..MOST + 1 {
-            children.end = content.len().saturating_sub(rest.len());
-            if rest.is_empty() {
-                children.finished = !indefinite && !may_be_cut;
-                children.cut = may_be_cut;
-                break;
-            }
-            if indefinite && rest.starts_with(&[0x00, 0x00]) {
-                children.finished = true;
-                children.end += 2;
-                break;
-            }
-            let Some(child) = Child::new(rest, may_be_cut) else {
-                break;
-            };
-            if !children.push(child) {
-                break;
-            }
-            rest = child.behind;
-        }
-        children
-    }
-
-    /// Adds a child if it follows. Returns `false` if it doesn't.
-    fn push(&mut self, child: Child<'a>) -> bool {
-        let follows = self.count < MOST && follows(self.tags, &child);
-        if follows {
-            self.tags[self.count] = child.tag;
-            self.contents[self.count] = child.content;
-            self.offsets[self.count] = self.end;
-            match self.count {
-                0 => self.versioned = child.announced == 1,
-                1 => self.is_long = child.header_len > 2,
-                _ => {}
-            }
-            self.count += 1;
-        }
-        follows
-    }
-
-    /// Returns what the root is.
-    pub(crate) fn form(&self) -> Form {
-        match self.tags {
-            [0x02, 0x02, ..] => self.form_of_integers(),
-            _ if !self.versioned => Form::Other,
-            [0x02, 0x04, ..] if self.finished || !self.is_long => Form::EcPrivateKey,
-            [0x02, 0x30, 0x04, ..] => Form::PrivateKeyInfo,
-            [0x02, 0x30, 0x30, ..] => Form::Pkcs12,
-            [0x02, 0x30, 0x00, ..] if self.finished => Form::Pkcs12,
-            _ => Form::Other,
-        }
-    }
-
-    /// Returns what a root with two INTEGERs and more is.
-    fn form_of_integers(&self) -> Form {
-        let [r, s, ..] = self.contents;
-        if !self.finished {
-            Form::Other
-        } else if self.count == 2 && r.len().abs_diff(s.len()) <= 3 {
-            Form::Signature
-        } else if self.count == 6 && self.versioned {
-            Form::DsaPrivateKey
-        } else if self.count == 9 && self.versioned {
-            Form::RsaPrivateKey
-        } else {
-            Form::Other
-        }
-    }
-
-    /// Returns the number of children that are drawn.
-    pub(crate) fn drawn(&self) -> usize {
-        let form = self.form();
-        match self.tags {
-            [0x02, 0x02, ..] if form != Form::Other || self.cut => self.count,
-            _ if !self.versioned => 0,
-            [0x02, 0x30, 0x04, ..] if self.inside().is_none() => self.count.min(3),
-            [0x02, 0x30, ..] => self.count,
-            _ if form == Form::Other => self.count.min(1),
-            _ => self.count,
-        }
-    }
-
-    /// Returns the number of bytes up to the end of the children that are drawn.
-    pub(crate) fn drawn_to(&self) -> usize {
-        match self.offsets.get(self.drawn()) {
-            Some(offset) if self.drawn() < self.count => *offset,
-            _ => self.end,
-        }
-    }
-
-    /// Returns `true` if the root has the children that are drawn and no more.
-    pub(crate) fn is_finished(&self) -> bool {
-        self.finished && self.drawn() == self.count
-    }
-
-    /// Returns the field inside the private key of PKCS #8, if that is wholly of a known form, and
-    /// the number of bytes between the root's header and the private key.
-    pub(crate) fn inside(&self) -> Option<(usize, Field)> {
-        if self.form() != Form::PrivateKeyInfo {
-            return None;
-        }
-        let [_, _, content, ..] = self.contents;
-        let [_, _, offset, ..] = self.offsets;
-        if check_tree(content).is_err() {
-            return None;
-        }
-        match first_tag(content) {
-            0x02 | 0x04 => Some((offset, Field::TheKey)),
-            0x30 => {
-                let Ok(root) = Header::read(content) else {
-                    return None;
-                };
-                let children = Children::new(&content[root.len..], false, false);
-                match children.form() {
-                    Form::EcPrivateKey | Form::RsaPrivateKey | Form::DsaPrivateKey
-                        if children.finished => Some((offset, children.form().root()?)),
-                    _ => None,
-                }
-            }
-            _ => None,
-        }
-    }
-
-    /// Returns where the children aren't those of an ECPrivateKey, as a number of bytes behind the
-    /// root's header, and what such a key has there. Returns `None` if they are, or if the second
-    /// one is a SEQUENCE.
-    pub(crate) fn expected(&self) -> Option<(usize, Part)> {
-        let drawn = self.drawn();
-        let [version, _, parameters, ..] = self.contents;
-        let [_, second, third, fourth, ..] = self.offsets;
-        match self.tags {
-            [_, 0x30, ..] if drawn > 1 => return None,
-            _ if drawn == 0 || version != [0x01].as_slice() => return Some((0, Part::Version)),
-            _ if drawn == 1 => return Some((self.drawn_to(), Part::PrivateKey)),
-            [_, 0x02, ..] => return Some((second, Part::PrivateKey)),
-            _ => {}
-        }
-        match self.tags {
-            [_, _, 0xA0, ..] if !is_identifier(parameters) => Some((third, Part::Parameters)),
-            [_, _, 0xA1, ..] if !has_whole_bytes(parameters) => Some((third, Part::PublicKey)),
-            [_, _, _, 0xA1, ..] if !has_whole_bytes(self.contents[3]) => Some((
-                fourth,
-                Part::PublicKey,
-            )),
-            _ if self.finished => None,
-            [_, _, _, 0xA1, ..] | [_, _, 0xA1, ..] => Some((self.end, fields(false, false))),
-            [_, _, 0xA0, ..] => Some((self.end, fields(false, true))),
-            _ => Some((self.end, fields(true, true))),
-        }
+/// Returns a component that is there.
+fn required(tag: u8, content: Content) -> Component
+    ensures { result ≡ required tag content }
+{
+    Component {
+        tag,
+        content,
+        optional: false,
     }
 }
 
-/// Returns the fields that may follow, or the end.
-fn fields(parameters: bool, public_key: bool) -> Part {
-    Part::Fields {
-        parameters,
-        public_key,
+/// Returns a component that may be absent.
+fn optional(tag: u8, content: Content) -> Component
+    ensures { result ≡ optional tag content }
+{
+    Component {
+        tag,
+        content,
+        optional: true,
     }
 }
 
-/// Returns `true` if the bytes begin with an OBJECT IDENTIFIER that a key may have.
-fn is_identifier(bytes: &[u8]) -> bool {
-    match Header::read(bytes) {
-        Ok(head) => first_tag(bytes) == 0x06
-            && ObjectIdentifier::from_bytes(&bytes[head.len..]).is_ok(),
-        Err(_) => false,
-    }
+/// Returns the components of ECPrivateKey (RFC 5915 section 3).
+fn ec_private_key() -> [Component; 4]
+    ensures { result ≡ ec_private_key }
+{
+    [
+        required(0x02, Content::Any),
+        required(0x04, Content::Any),
+        optional(0xA0, Content::Is(0x06, 0x30)),
+        optional(0xA1, Content::Is(0x03, 0x03)),
+    ]
 }
 
-/// Returns `true` if the bytes begin with a BIT STRING without unused bits.
-fn has_whole_bytes(bytes: &[u8]) -> bool {
-    match Header::read(bytes) {
-        Ok(head) => bytes[head.len..].starts_with(&[0x00]),
-        Err(_) => false,
-    }
+/// Returns the components of OneAsymmetricKey (RFC 5958 section 2).
+fn one_asymmetric_key() -> [Component; 5]
+    ensures { result ≡ one_asymmetric_key }
+{
+    [
+        required(0x02, Content::Any),
+        required(0x30, Content::Begins(0x06)),
+        required(0x04, Content::Any),
+        optional(0xA0, Content::Any),
+        optional(0x81, Content::Any),
+    ]
 }
 
-/// Returns `true` if the child may follow children with these tag bytes.
-fn follows(tags: [u8; MOST], child: &Child) -> bool {
-    let tag = child.tag;
-    match tags {
-        [0x00, ..] => tag == 0x02,
-        [_, 0x00, ..] => tag == 0x02
-            || tag == 0x04
-            || (tag == 0x30 && (child.cut || first_tag(child.content) == 0x06)),
-        [_, 0x02, ..] => tag == 0x02,
-        [_, 0x04, 0x00, ..] => child.is_around(0xA0, 0x06, 0x30)
-            || child.is_around(0xA1, 0x03, 0x03),
-        [_, 0x04, 0xA0, 0x00, ..] => child.is_around(0xA1, 0x03, 0x03),
-        [_, 0x30, 0x00, ..] => tag == 0x04 || tag == 0x30,
-        [_, 0x30, 0x04, 0x00, ..] => tag == 0xA0 || tag == 0x81,
-        [_, 0x30, 0x04, 0xA0, 0x00, ..] => tag == 0x81,
-        _ => false,
-    }
+/// Returns the components of PFX (RFC 7292 section 4).
+fn pfx() -> [Component; 3]
+    ensures { result ≡ pfx }
+{
+    [
+        required(0x02, Content::Any),
+        required(0x30, Content::Begins(0x06)),
+        optional(0x30, Content::Any),
+    ]
 }
 
-/// Returns the tag bytes of the first four elements; 00, which is no tag, where there is none.
-fn first_tags(bytes: &[u8]) -> [u8; 4] {
-    let mut tags = [0; 4];
-    let mut rest = bytes;
-    for tag in &mut tags {
-        let Ok(head) = Header::read(rest) else {
-            break;
-        };
-        *tag = first_tag(rest);
-        let behind = &rest[head.len..];
-        rest = match head.content_len {
-            Some(len) => &behind[len.min(behind.len())..],
-            None => &[],
-        };
-    }
-    tags
+/// Returns the components of RSAPrivateKey (RFC 8017 appendix A.1.2).
+fn rsa_private_key() -> [Component; 9]
+    ensures { result ≡ rsa_private_key }
+{
+    [required(0x02, Content::Any); 9]
 }
 
-/// Returns what bytes are that aren't guarded, by the tags of the elements in this content of
-/// their root, and of those in the first of these.
-pub(crate) fn public_form(content: &[u8]) -> Form {
-    let inner = match Header::read(content) {
-        Ok(first) => first_tags(&content[first.len..]),
-        Err(_) => [0; 4],
+/// Returns how many of the children, from the first one on, are the next components.
+#[tactic(auto, unfolding(crate::specs::Children::fit))]
+fn fit(components: &[Component], children: &[Child]) -> usize
+    ensures exact { result ≡ fit components.now children.now }
+    ensures few { result ≤ length components.now }
+{
+    let [component, components @ ..] = components else {
+        return 0;
     };
-    match (first_tags(content), inner) {
-        ([0x30, 0x30, 0x03, 0x00], [0xA0, 0x02, 0x30, 0x30] | [0x02, 0x30, 0x30, 0x30]) =>
-            Form::Certificate,
-        ([0x30, 0x30, 0x03, 0x00], [0x02, 0x30, 0x30, 0xA0]) => Form::CertificationRequest,
-        (
-            [0x30, 0x30, 0x03, 0x00],
-            [0x30, 0x30, 0x17 | 0x18, _] | [0x02, 0x30, 0x30, 0x17 | 0x18],
-        ) => Form::CertificateList,
-        ([0x30, 0x03, 0x00, 0x00], [0x06, ..]) => Form::PublicKey,
-        ([0x30, 0x04, 0x00, 0x00], [0x06, ..]) => Form::EncryptedPrivateKeyInfo,
-        ([0x06, 0xA0, 0x00, 0x00], _) => Form::Cms,
-        _ => Form::Other,
+    let [child, behind @ ..] = children else {
+        return 0;
+    };
+    if component.is(*child) {
+        1 + fit(components, behind)
+    } else if component.optional {
+        fit(components, children)
+    } else {
+        0
+    }
+}
+
+/// Returns how many of the children begin a known structure.
+fn followed(children: &[Child]) -> usize
+    ensures exact { result ≡ followed children.now }
+    ensures few { result ≤ 9 }
+{
+    let keys = fit(&ec_private_key(), children).max(fit(&one_asymmetric_key(), children));
+    let others = fit(&pfx(), children).max(fit(&rsa_private_key(), children));
+    keys.max(others)
+}
+
+/// Returns the child behind so many others; no child, if there are fewer.
+#[tactic(auto, unfolding(crate::specs::Children::nth))]
+fn nth(children: &[Child], index: usize) -> Child
+    ensures { result ≡ nth children.now index }
+{
+    match children.get(index) {
+        Some(child) => *child,
+        None => NO_CHILD,
+    }
+}
+
+/// Returns the children in these bytes of a root, the first one behind so many of them.
+fn children_at(bytes: &[u8], start: usize, may_be_cut: bool) -> [Child; MOST]
+    requires { start ≤ length bytes.now }
+    ensures { result ≡ children_at most_children may_be_cut bytes.now start }
+{
+    let mut children = [NO_CHILD; MOST];
+    let mut at = start;
+    for index in 0..MOST {
+        let child = Child::new(bytes, at, may_be_cut);
+        children[index] = child;
+        at = child.end;
+    }
+    children
+}
+
+/// The children of a root that begin a known structure.
+#[derive(Clone, Copy)]
+pub(crate) struct Children {
+    /// The number of bytes of the root before them.
+    pub start: usize,
+    /// The first one.
+    pub first: Child,
+    /// The second one.
+    pub second: Child,
+    /// The third one.
+    pub third: Child,
+    /// The fourth one.
+    pub fourth: Child,
+    /// Their number.
+    pub count: usize,
+    /// The number of bytes of the root up to the end of the last one, and of an end-of-contents.
+    pub end: usize,
+    /// Whether the root ends after them.
+    pub finished: bool,
+    /// Whether the input ends inside them.
+    pub cut: bool,
+}
+
+impl Children {
+    /// Returns the children in these bytes of a root with a header of this length, which may have
+    /// an indefinite length and may be cut at the end of the input.
+    #[tactic(auto, unfolding(crate::specs::Children::children_of))]
+    pub(crate) fn new(bytes: &[u8], start: usize, indefinite: bool, is_cut: bool) -> Children
+        requires { start ≤ length bytes.now }
+        ensures { result ≡ children_of bytes.now start indefinite is_cut }
+    {
+        let children = children_at(bytes, start, is_cut);
+        let count = followed(&children);
+        let end = nth(&children, count).at;
+        Children::of(bytes, start, indefinite, is_cut, &children[..count], end)
+    }
+
+    /// Returns these children, which end behind so many bytes of the root.
+    fn of(
+        bytes: &[u8],
+        start: usize,
+        indefinite: bool,
+        is_cut: bool,
+        children: &[Child],
+        end: usize,
+    ) -> Children
+        ensures { result ≡ run_of bytes.now start indefinite is_cut children.now end }
+    {
+        let left = after(bytes, end);
+        let finished = is_end(left, indefinite, is_cut);
+        Children {
+            start,
+            first: nth(children, 0),
+            second: nth(children, 1),
+            third: nth(children, 2),
+            fourth: nth(children, 3),
+            count: children.len(),
+            end: if indefinite && finished { end + 2 } else { end },
+            finished,
+            cut: left.is_empty() && is_cut,
+        }
+    }
+}
+
+/// Returns `true` if a root ends before these bytes, which may have an indefinite length and may be
+/// cut at the end of the input.
+fn is_end(left: &[u8], indefinite: bool, is_cut: bool) -> bool
+    ensures exact { result ≡ is_end left.now indefinite is_cut }
+    ensures room { indefinite ≡ true → result ≡ true → 2 ≤ length left.now }
+{
+    if indefinite {
+        left.starts_with(&[0x00, 0x00])
+    } else {
+        left.is_empty() && !is_cut
     }
 }

@@ -1,6 +1,7 @@
 //! The fields of known structures, by the tags of the elements.
 ghost use Rattle.std.specs.Prelude.{◌≡◌};
 ghost use Rattle.der_view.specs.Fields.{field_name, public_name};
+ghost use Rattle.der_view.specs.Plans.{root_of};
 
 /// What the whole of some bytes is.
 #[derive(Clone, Copy, PartialEq, Eq)]
@@ -37,7 +38,9 @@ pub enum Form {
 
 impl Form {
     /// Returns the field that is the root of this form.
-    pub(crate) fn root(self) -> Option<Field> {
+    pub(crate) fn root(self) -> Option<Field>
+        ensures { result ≡ root_of self }
+    {
         match self {
             Form::EcPrivateKey => Some(Field::EcPrivateKey),
             Form::PrivateKeyInfo => Some(Field::PrivateKeyInfo),

@@ -4,8 +4,10 @@
 #![tactic(auto)]
 
 mod children;
+mod expected;
 mod field;
 mod header;
+mod key_form;
 pub mod laws;
 mod levels;
 mod line;
@@ -14,6 +16,7 @@ mod names;
 mod picture;
 mod place;
 mod plan;
+mod public_form;
 mod row;
 mod rows;
 mod text;

@@ -1,5 +1,6 @@
 //! The names of object identifiers.
 ghost use Rattle.std.specs.Prelude.{◌≡◌, find, option_map};
+ghost use Rattle.der_view.specs.Curves.{is_curve};
 ghost use Rattle.der_view.specs.Names.{curve_name_view, has_row, is_extension, name_by, name_view};
 ghost use Rattle.der_view.specs.Names.{named_in, row_by};
 
@@ -31,6 +32,16 @@ pub fn name_of(content: &[u8]) -> Option<Name>
             Some(curve) => Some(curve_name(curve)),
             None => None,
         },
+    }
+}
+
+/// Returns `true` if an identifier's content is that of a curve.
+pub(crate) fn is_curve(content: &[u8]) -> bool
+    ensures { result ≡ is_curve content.now }
+{
+    match Curve::from_content(content) {
+        Some(_) => true,
+        None => false,
     }
 }
 

@@ -2,6 +2,7 @@
 ghost use Rattle.std.specs.Prelude.{◌≡◌, ◌≤◌, ◌-◌, [], ◌∷◌, true, false, length, IfSome};
 ghost use Rattle.std.specs.Prelude.{MatchOption};
 ghost use Rattle.der_view.specs.Levels.{levels_view};
+ghost use Rattle.der_view.specs.Plans.{plan_of, plan_with};
 ghost use Rattle.der_view.specs.Rows.{IsNext, IsOpen, Undrawn};
 
 use crate::levels::{Level, Levels};
@@ -34,7 +35,7 @@ impl<'a> Model for Rows<'a> {
       left = rows.left.now;
       behind = levels_view rows.levels;
       all = rows.all;
-      guarded = rows.plan.guarded;
+      plan = rows.plan;
     } };
 
     ghost invariant = { λ rows. (length rows.left.now ≤ rows.len)
@@ -49,12 +50,16 @@ impl<'a> Rows<'a> {
         ensures offset { result.offset ≡ 0 }
         ensures behind { result.behind ≡ 0 ∷ [] }
         ensures all { result.all ≡ all }
-        ensures guarded { all ≡ true → result.guarded ≡ false }
+        ensures plan { result.plan ≡ plan_with all (plan_of input.now) }
     {
         let known = Plan::new(input);
-        let plan = Plan {
-            guarded: known.guarded && !all,
-            ..known
+        let plan = if all {
+            Plan {
+                guarded: false,
+                ..known
+            }
+        } else {
+            known
         };
         Rows {
             len: input.len(),
@@ -67,7 +72,7 @@ impl<'a> Rows<'a> {
 
     /// Returns what the bytes are.
     pub fn plan(&self) -> Plan
-        ensures { result.guarded ≡ self.now.guarded }
+        ensures { result ≡ self.now.plan }
     {
         self.plan
     }
@@ -78,7 +83,7 @@ impl<'a> Rows<'a> {
             (λ row. IsNext self.old row self.new) }
         // Without `all`, few bytes of contents are in the row, and in a guarded picture fewer.
         ensures open { IfSome result
-            (λ row. IsOpen self.old.all self.old.guarded self.old.left row) }
+            (λ row. IsOpen self.old.all self.old.plan.guarded self.old.left row) }
     {
         if self.left.is_empty() {
             return None;

@@ -4,13 +4,12 @@ ghost use Rattle.der_view.specs.Verdicts.{knows_curve};
 ghost use Rattle.der_view.specs.Facts.{first_marked, is_before_curve, is_sequence, is_sequence_in};
 ghost use Rattle.der_view.specs.Facts.{no_facts, value_in, with_field};
 ghost use Rattle.der_view.specs.Facts.{with_mark_if, with_row, with_sequence};
-ghost use Rattle.der_view.specs.Curves.{is_curve};
 
 use crate::field::Field;
 use crate::header::{Class, Tag};
 use crate::mark::{Mark, Part};
+use crate::names::is_curve;
 use crate::row::{Kind, OpenRow, Shown};
-use curves::Curve;
 
 /// What is known of the rows that were drawn.
 #[derive(Drop)]
@@ -125,16 +124,6 @@ impl<'a> Facts<'a> {
             Some(content) => is_curve(content),
             None => self.explicit,
         }
-    }
-}
-
-/// Returns `true` if an identifier's content is that of a curve.
-fn is_curve(content: &[u8]) -> bool
-    ensures { result ≡ is_curve content.now }
-{
-    match Curve::from_content(content) {
-        Some(_) => true,
-        None => false,
     }
 }
 

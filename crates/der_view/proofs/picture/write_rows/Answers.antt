@@ -23,6 +23,7 @@ returns g c = (
     left = c.new-rows.ensures.left;
     offset = c.new-rows.ensures.offset;
     shows = c.new-rows.ensures.all;
+    plan = c.new-rows.ensures.plan;
     drawn = c.loop-row.invariant.1;
     ended = c.in_default.ensures.next.0;
   },

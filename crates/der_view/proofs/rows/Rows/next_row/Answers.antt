@@ -60,7 +60,7 @@ returns-clause-next c =
             offset = offset;
             behind = c.close_finished-unfinished.ensures ∙ (ap (λ l. still_open rest l) c.follow.ensures ∙ behind);
             all = refl;
-            guarded = refl;
+            plan = refl;
           }
       | else-unfinished w ↦
           rw (w.row-is, sym c.self.view_is)
@@ -75,6 +75,6 @@ returns-clause-next c =
             offset = offset;
             behind = c.close_finished-unfinished.ensures ∙ (ap (λ l. still_open rest l) c.follow.ensures ∙ behind);
             all = refl;
-            guarded = refl;
+            plan = refl;
           }
     ]

@@ -27,10 +27,12 @@ returns c = record {
     left = c.new-rows.ensures.left;
     offset = c.new-rows.ensures.offset;
     shows = c.new-rows.ensures.all;
+    plan = c.new-rows.ensures.plan;
     drawn = c.loop-row.invariant.1;
     ended = c.in_default.ensures.next.0;
   };
   read = refl;
   len = refl;
+  plan = c.plan-plan.ensures ∙ c.new-rows.ensures.plan;
   facts = c.loop-row.invariant.2;
 }

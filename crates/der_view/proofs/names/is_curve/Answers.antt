@@ -1,6 +1,6 @@
 use Rattle.std.proofs.Common.{refl}
 use Rattle.der_view.proofs.NameLemmas.{curve_by-none, curve_by-some}
-use Rattle.der_view.proofs.picture.facts.is_curve.Goals as goal
+use Rattle.der_view.proofs.names.is_curve.Goals as goal
 
 pub returns-in-Some : goal.returns-in-Some
 returns-in-Some c = rw (curve_by-some _ c.args.content.now c.in-Some.ensures.found) refl
