@@ -2,6 +2,9 @@
 use Rattle.std.proofs.Common.{Bool, ◌≡◌, ℕ, ◌+◌, ◌-◌, ◌≤◌, List, Option, length, take, drop, ◌∙◌, sym, ap, arith}
 use Rattle.std.proofs.Common.{length-drop}
 use Rattle.std.proofs.lemmas.List.{drop-take, take-take, length-take-le}
+use Rattle.std.proofs.lemmas.Bool.Decides.{nat_tests}
+use Rattle.std.specs.Prelude.{None, Some}
+use Rattle.der_view.specs.Places.{len_within}
 use Rattle.der_view.specs.Rows.{IsSeen, content_of}
 use Rattle.der_view.specs.Seen.{IsFirst, IsShown, open_len}
 use Rattle.der_view.specs.declared.field.Field.{Field}
@@ -19,6 +22,11 @@ content_inside left inside h n e fits =
     ap (λ (bytes : List ℕ). take n (drop h bytes)) (e ∙ ap (λ (j : ℕ). take j left) k)
     ∙ ap (λ (bytes : List ℕ). take n bytes) (drop-take h m left)
     ∙ take-take n m (drop h left) few
+
+-- no more of a content than is left
+pub len_within-le : (announced : Option ℕ) (left : ℕ) → len_within announced left ≤ left
+len_within-le None left = omega arith
+len_within-le (Some len) left = grind (arith, nat_tests)
 
 -- what is shown of an element is seen
 pub seen_shown : (guarded : Bool) (left : List ℕ) (row : OpenRow) (inside seen : List ℕ) (tag : Tag)

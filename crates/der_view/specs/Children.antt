@@ -2,10 +2,10 @@
 use Rattle.std.specs.Prelude.{ℕ, zero, suc, ◌+◌, ◌-◌, ◌==◌, ◌&&◌, ◌||◌, not, nat_lt, max, Bool}
 use Rattle.std.specs.Prelude.{true, false, if◌then◌else◌, List, [], ◌∷◌, length, take, drop}
 use Rattle.std.specs.Prelude.{slice_get, slice_index, unwrap_or, Option, Some, None}
-use Rattle.std.specs.Prelude.{is_none, Result, Ok, Err}
+use Rattle.std.specs.Prelude.{Result, Ok, Err}
 use Rattle.std.specs.List.{starts_with}
-use Rattle.sec1_der.specs.Faults.{tree_fault}
 use Rattle.der_view.specs.Headers.{header_of}
+use Rattle.der_view.specs.Openings.{is_tree}
 use Rattle.der_view.specs.declared.children.Child.{Child}
 use Rattle.der_view.specs.declared.children.Children.{Children}
 use Rattle.der_view.specs.declared.children.Component.{Component}
@@ -17,10 +17,6 @@ use Rattle.der_view.specs.declared.mark.ElementFault.{ElementFault}
 -- the first byte, which is a tag's; 00, which is none (X.690 section 8.1.5), of no bytes
 abbrev pub first_tag : List ℕ → ℕ
 first_tag bytes = slice_index bytes 0
-
--- X.690 section 10: these are the bytes of one element, and of those inside it, in DER
-unfoldable pub is_whole : List ℕ → Bool
-is_whole bytes = is_none (tree_fault bytes)
 
 -- whether bytes begin with others
 abbrev pub begins : List ℕ → List ℕ → Bool
@@ -62,7 +58,7 @@ child_of at bytes header_len announced len =
       end = at + header_len + len;
       announced = announced;
       inner = first_tag content;
-      alone = is_whole content;
+      alone = is_tree content;
     }
 
 -- X.690 section 10.1: the child is whole in DER, or the bytes end inside it, if that may be
@@ -71,7 +67,7 @@ child_if may_be_cut at bytes header_len announced =
     let left = length bytes - header_len in
     if nat_lt left announced
     then (if may_be_cut then child_of at bytes header_len announced left else none_at at)
-    else (if is_whole (take (header_len + announced) bytes)
+    else (if is_tree (take (header_len + announced) bytes)
     then child_of at bytes header_len announced announced else none_at at)
 
 abbrev pub child_by : Bool → ℕ → List ℕ → ℕ → Option ℕ → Child

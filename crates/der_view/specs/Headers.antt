@@ -1,7 +1,8 @@
 -- The header of an element in BER, and what is none (X.690 section 8.1).
 use Rattle.std.specs.Prelude.{◌==◌, ℕ, zero, suc, ◌+◌, ◌-◌, ◌*◌, ◌/◌, ◌%◌, nat_lt, ◌||◌}
 use Rattle.std.specs.Prelude.{if◌then◌else◌, List, [], ◌∷◌, length, take, drop}
-use Rattle.std.specs.Prelude.{Option, Some, None, is_none, Result, Ok, Err, ◌&&◌, not}
+use Rattle.std.specs.Prelude.{Option, Some, None, is_none, Result, Ok, Err, ◌&&◌, not, Bool}
+use Rattle.std.specs.Prelude.{false}
 use Rattle.sec1_der.specs.Numbers.{number_of}
 use Rattle.der_view.specs.declared.header.Class.{Class}
 use Rattle.der_view.specs.declared.header.Class.TheVariants as classes
@@ -97,3 +98,11 @@ header_after bytes (Ok (tag, tag_len)) =
 -- the header that bytes begin with, or why they begin with none
 abbrev pub header_of : List ℕ → Result Header ElementFault
 header_of bytes = header_after bytes (tag_at bytes)
+
+-- X.680 section 8.4: whether a tag is that of the type with this number
+abbrev pub is_type_in : Class → ℕ → ℕ → Bool
+is_type_in classes.Universal number wanted = number == wanted
+is_type_in _ number wanted = false
+
+abbrev pub is_type : Tag → ℕ → Bool
+is_type tag number = is_type_in tag.class tag.number number

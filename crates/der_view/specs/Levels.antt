@@ -1,58 +1,63 @@
 -- The elements around a row.
-use Rattle.std.specs.Prelude.{ℕ, zero, suc, ◌-◌, nat_lt, if◌then◌else◌, List, [], ◌∷◌, map}
-use Rattle.std.specs.Prelude.{length, slice_index, take, Option, Some, None}
-use Rattle.der_view.specs.declared.levels.Level.{Level}
+use Rattle.std.specs.Prelude.{ℕ, nat_lt, if◌then◌else◌, List, [], ◌∷◌, Bool, false, not}
+use Rattle.std.specs.Prelude.{◌&&◌, ◌||◌, Option, Some, None, reverse, take}
+use Rattle.der_view.specs.Headers.{is_type}
+use Rattle.der_view.specs.Names.{is_extension, row_by}
+use Rattle.der_view.specs.declared.field.Field.{Field}
+use Rattle.der_view.specs.declared.header.Tag.{Tag}
+use Rattle.der_view.specs.declared.level.Level.{Level}
 use Rattle.der_view.specs.declared.levels.Levels.{Levels}
-use Rattle.der_view.specs.declared.row.Kind.{Kind}
-use Rattle.der_view.specs.declared.row.Kind.TheVariants as kinds
 
--- the first numbers of a table, so many of them, the last one first
-abbrev pub last_first : List ℕ → ℕ → List ℕ
-last_first table zero = []
-last_first table (suc count) = slice_index table count ∷ last_first table count
+-- the elements that are open, the innermost first, and the input around them
+abbrev pub levels_view : Levels → List Level
+levels_view levels = reverse (take levels.count levels.table)
 
--- how many bytes are behind each open element, the innermost first, and behind the input
-abbrev pub levels_view : Levels → List ℕ
-levels_view levels = last_first (map (λ level. level.behind) levels.table) levels.count
+-- the input around its root, which is this field
+abbrev pub input_level : Option Field → Level
+input_level root = record {
+  behind = 0;
+  indefinite = false;
+  field = None;
+  next = root;
+  passed = 0;
+  begins = false;
+  extension = false;
+}
 
-abbrev pub behind_of : Option Level → List ℕ
-behind_of None = []
-behind_of (Some level) = level.behind ∷ []
+-- RFC 5280 section 4.1: an Extension begins with its identifier
+abbrev pub names_extension : Tag → List ℕ → Bool
+names_extension tag content =
+    not tag.constructed && (is_type tag 6 && is_extension (row_by content))
 
--- the bytes that are left of the innermost element, or of the input
-abbrev pub inside_of : List ℕ → List ℕ → List ℕ
-inside_of [] left = left
-inside_of (level ∷ levels) left = take (length left - level) left
-
--- X.690 section 8.1.5: an end-of-contents closes the innermost element
-abbrev pub kept_by : Kind → List ℕ → List ℕ
-kept_by (kinds.Element tag) levels = levels
-kept_by kinds.NoElement levels = levels
-kept_by _ (level ∷ levels) = levels
-kept_by _ [] = []
-
--- the levels after a row of this kind, with those that are over; behind the content of an element
--- are so many bytes
-abbrev pub after_row : Kind → ℕ → List ℕ → List ℕ
-after_row (kinds.Element tag) end levels = end ∷ levels
-after_row kind end levels = kept_by kind levels
+-- a level after an element in it with this tag and content, behind so many of its components
+unfoldable pub level_after : Level → ℕ → Tag → List ℕ → Level
+level_after level passed tag content = record level {
+  next = None;
+  passed = passed;
+  begins = false;
+  extension = level.extension || (level.begins && names_extension tag content);
+}
 
 -- the innermost level is set or closed
-abbrev pub followed : Option Level → List ℕ → List ℕ
-followed (Some level) levels = levels
-followed None [] = []
-followed None (level ∷ levels) = levels
+abbrev pub followed : Option Level → List Level → List Level
+followed level [] = []
+followed (Some level) (first ∷ levels) = level ∷ levels
+followed None (first ∷ levels) = levels
 
--- the elements that as many bytes of the input are left of
-abbrev pub still_open : ℕ → List ℕ → List ℕ
+-- one more level, if there is one
+abbrev pub opened_in : Option Level → List Level → List Level
+opened_in None levels = levels
+opened_in (Some level) levels = level ∷ levels
+
+-- the levels that as many bytes of the input are left of
+abbrev pub still_open : ℕ → List Level → List Level
 still_open left [] = []
 still_open left (level ∷ levels) =
-    if nat_lt level left then level ∷ levels else still_open left levels
+    if nat_lt level.behind left then level ∷ levels else still_open left levels
 
--- The number of elements around a row, where so many are open; around an end-of-contents, those
--- around the element that ends there. Bytes that aren't drawn are in none.
-abbrev pub depth_by : Kind → ℕ → ℕ
-depth_by (kinds.Element tag) depth = depth
-depth_by kinds.NoElement depth = depth
-depth_by kinds.EndOfContents depth = depth - 1
-depth_by kinds.NotDrawn depth = 0
+-- X.690 section 8.1.5: whether one of the others has an indefinite length, so that its
+-- end-of-contents is missing
+abbrev pub is_unended : ℕ → List Level → Bool
+is_unended left [] = false
+is_unended left (level ∷ levels) =
+    if nat_lt level.behind left then false else level.indefinite || is_unended left levels

@@ -1,8 +1,12 @@
 -- The words of marks, and their kinds.
 use Rattle.std.specs.Prelude.{ℕ, ◌==◌, ◌/◌, ◌%◌, true, false, if◌then◌else◌, List, [], ◌∷◌, ◌++◌}
 use Rattle.std.specs.Prelude.{Bool, ◌-◌, ◌||◌, ◌&&◌, nat_le, nat_lt, slice_index, codes, Option}
-use Rattle.std.specs.Prelude.{Some, None}
+use Rattle.std.specs.Prelude.{Some, None, unwrap_or}
 use Rattle.std.specs.Fmt.{decimal, digit_glyph}
+use Rattle.der_view.specs.ContentFaults.{content_fault}
+use Rattle.der_view.specs.Headers.{is_type}
+use Rattle.der_view.specs.Seen.{ShownView, Bytes, Count, Unused}
+use Rattle.der_view.specs.Values.{universal_type}
 use Rattle.der_view.specs.declared.header.Class.{Class}
 use Rattle.der_view.specs.declared.header.Class.TheVariants.{Universal}
 use Rattle.der_view.specs.declared.header.Header.{Header}
@@ -40,6 +44,10 @@ element_words elements.IndefinitePrimitive =
     codes "indefinite length of a primitive element (X.690 8.1.3.2)"
 element_words elements.NoEndOfContents = codes "end-of-contents is missing (X.690 8.1.5)"
 
+-- the name of the type of X.680 with this tag number; nothing if it has none
+abbrev pub type_word : ℕ → List ℕ
+type_word number = unwrap_or (universal_type number) []
+
 -- what is wrong with a content
 abbrev pub content_words : ContentFault → List ℕ
 content_words contents.TrueIsFf = codes "TRUE is FF (X.690 11.1)"
@@ -55,7 +63,7 @@ content_words contents.UnusedInEmpty =
 content_words contents.UnusedNotZero = codes "unused bits that aren't 0 (X.690 11.2.1)"
 content_words contents.UtcTime = codes "not YYMMDDhhmmssZ (X.690 11.8)"
 content_words contents.GeneralizedTime = codes "not YYYYMMDDhhmmss[.f]Z (X.690 11.7)"
-content_words (contents.Characters name) = codes "not the characters of " ++ name.now
+content_words (contents.Characters number) = codes "not the characters of " ++ type_word number
 
 -- what a key has, in the words of RFC 5915 section 3
 abbrev pub part_words : Part → List ℕ
@@ -184,3 +192,42 @@ marks_of_header header head row_marks =
     (marks_with (marks_with row_marks (tag_mark header head.tag.number))
     (length_mark head.content_len (head.len - head.tag_len)))
     (string_mark head.tag)
+
+-- no mark
+abbrev pub no_marks : Marks
+no_marks = record { first = None; second = None }
+
+-- X.690 section 8.1.4: the mark of a content of this length, or of an indefinite one, where so many
+-- bytes are left, inside a level that so many bytes of the input are behind
+abbrev pub cut_mark : ℕ → Option ℕ → ℕ → Option Mark
+cut_mark behind None left = None
+cut_mark behind (Some len) left =
+    if nat_le len left then None
+    else Some (if behind == 0 then marks.Missing (len - left) len else marks.Overlong len left)
+
+-- what is wrong with the content of an element of this class and number
+abbrev pub value_fault : Class → ℕ → List ℕ → Option ContentFault
+value_fault Universal number content = content_fault number content
+value_fault _ number content = None
+
+-- X.690 sections 8.6.2.2 and 8.6.2.3: what is wrong with a number of unused bits in a content of
+-- this length
+abbrev pub unused_bits_fault : ℕ → ℕ → Option ContentFault
+unused_bits_fault unused len =
+    if nat_lt 7 unused then Some contents.UnusedAboveSeven
+    else (if len == 1 then Some contents.UnusedInEmpty else None)
+
+-- what is wrong with a whole content of this length, as far as it is shown
+abbrev pub shown_fault : Tag → ShownView → ℕ → Option ContentFault
+shown_fault tag (Bytes content) len = value_fault tag.class tag.number content
+shown_fault tag (Unused unused) len = unused_bits_fault unused len
+shown_fault tag Count len =
+    if len == 0 && is_type tag 3 then Some contents.EmptyBitString else None
+shown_fault tag _ len = None
+
+abbrev pub fault_mark : Option ContentFault → Option Mark
+fault_mark None = None
+fault_mark (Some fault) = Some (marks.Content fault)
+
+unfoldable pub content_mark : Tag → ShownView → ℕ → Option Mark
+content_mark tag shown len = fault_mark (shown_fault tag shown len)

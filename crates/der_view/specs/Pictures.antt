@@ -5,6 +5,7 @@ use Rattle.std.specs.List.{flat_map}
 use Rattle.hex.specs.Hex.{encode_upper}
 use Rattle.sec1.specs.Keys.{Key, IsKeyOf}
 use Rattle.der_view.specs.Facts.{no_facts, with_rows}
+use Rattle.der_view.specs.Levels.{input_level}
 use Rattle.der_view.specs.Lines.{shown}
 use Rattle.der_view.specs.Marks.{mark_words}
 use Rattle.der_view.specs.Plans.{plan_of, plan_with}
@@ -58,6 +59,7 @@ pub record AreRows (all : Bool) (bytes : List ℕ) (rows : List OpenRow) : Type 
   pub last : Undrawn
   pub left : first.left ≡ bytes
   pub offset : first.offset ≡ 0
+  pub levels : first.levels ≡ input_level first.plan.root ∷ []
   pub shows : first.all ≡ all
   pub plan : first.plan ≡ plan_with all (plan_of bytes)
   pub drawn : AreRowsOf rows first last

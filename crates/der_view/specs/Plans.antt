@@ -2,14 +2,15 @@
 use Rattle.std.specs.Prelude.{ℕ, ◌+◌, ◌-◌, ◌%◌, ◌==◌, ◌&&◌, ◌||◌, not, nat_lt, Bool, true, false}
 use Rattle.std.specs.Prelude.{if◌then◌else◌, List, length, take, drop, Option, Some, None, is_none}
 use Rattle.std.specs.Prelude.{is_some, Result, Ok, Err}
-use Rattle.der_view.specs.Children.{children_of, first_tag, is_whole}
+use Rattle.der_view.specs.Children.{children_of, first_tag}
 use Rattle.der_view.specs.Curves.{is_curve}
 use Rattle.der_view.specs.Expected.{ends, expected_of}
 use Rattle.der_view.specs.Headers.{header_of}
 use Rattle.der_view.specs.KeyForms.{drawn, drawn_to, form_of, inside_of, is_other, is_versioned}
 use Rattle.der_view.specs.Marks.{length_mark}
+use Rattle.der_view.specs.Openings.{is_tree}
+use Rattle.der_view.specs.Places.{len_within}
 use Rattle.der_view.specs.PublicForms.{public_form}
-use Rattle.der_view.specs.Rows.{len_within}
 use Rattle.der_view.specs.declared.children.Children.{Children}
 use Rattle.der_view.specs.declared.field.Field.{Field}
 use Rattle.der_view.specs.declared.field.Field.TheVariants as fields
@@ -92,7 +93,7 @@ guarded_plan bytes head root =
 abbrev pub leaf_of : List ℕ → ℕ → Bool → Plan
 leaf_of bytes end true = record {
   form = forms.Curve;
-  complete = is_whole bytes;
+  complete = is_tree bytes;
   guarded = true;
   root = Some fields.NamedCurve;
   drawn_to = end;

@@ -1,13 +1,18 @@
 -- The rows of bytes: what they are of, and what they show.
-use Rattle.std.specs.Prelude.{◌≡◌, ℕ, ◌+◌, ◌<◌, ◌≤◌, Bool, true, false, List, [], ◌∷◌, ◌++◌}
-use Rattle.std.specs.Prelude.{◌-◌, nat_le, if◌then◌else◌, length, take, drop, Option, Some, None}
-use Rattle.std.specs.Prelude.{option_map, unwrap_or, Ok, Err, not}
-use Rattle.der_view.specs.Headers.{header_of}
-use Rattle.der_view.specs.Levels.{after_row, depth_by, inside_of, still_open}
+use Rattle.std.specs.Prelude.{◌≡◌, ℕ, ◌+◌, ◌-◌, ◌<◌, ◌≤◌, nat_lt, Bool, true, false, List, []}
+use Rattle.std.specs.Prelude.{◌∷◌, ◌++◌, if◌then◌else◌, length, take, drop, slice_get}
+use Rattle.std.specs.Prelude.{Some, None, option_map, unwrap_or}
+use Rattle.der_view.specs.Levels.{followed, is_unended, opened_in, still_open}
+use Rattle.der_view.specs.Marks.{marks_with}
+use Rattle.der_view.specs.Places.{IsStep}
 use Rattle.der_view.specs.Seen.{IsFirst, IsShown, open_len}
-use Rattle.der_view.specs.declared.header.Header.{Header}
 use Rattle.der_view.specs.declared.header.Tag.{Tag}
-use Rattle.der_view.specs.declared.mark.ElementFault.{ElementFault}
+use Rattle.der_view.specs.declared.level.Level.{Level}
+use Rattle.der_view.specs.declared.mark.ElementFault.TheVariants as faults
+use Rattle.der_view.specs.declared.mark.Mark.TheVariants as marks
+use Rattle.der_view.specs.declared.mark.Marks.{Marks}
+use Rattle.der_view.specs.declared.place.Place.{Place}
+use Rattle.der_view.specs.declared.place.Step.{Step}
 use Rattle.der_view.specs.declared.plan.Plan.{Plan}
 use Rattle.der_view.specs.declared.row.Kind.{Kind}
 use Rattle.der_view.specs.declared.row.Kind.TheVariants as kinds
@@ -15,13 +20,13 @@ use Rattle.der_view.specs.declared.row.OpenRow.{OpenRow}
 use Rattle.der_view.specs.declared.row.Shown.{Shown}
 use Rattle.der_view.specs.declared.row.Shown.TheVariants.{Nothing}
 
--- The bytes that have no row yet, and how many are before them. How many bytes are behind each open
--- element, the innermost first, and behind the input. Whether all contents are in the rows, and
--- what is known of the whole input.
+-- The bytes that have no row yet, and how many are before them. The elements that are open, the
+-- innermost first, and the input. Whether all contents are in the rows, and what is known of the
+-- whole input.
 pub record Undrawn : Type 0 where
   pub offset : ℕ
   pub left : List ℕ
-  pub behind : List ℕ
+  pub levels : List Level
   pub all : Bool
   pub plan : Plan
 
@@ -55,33 +60,6 @@ IsSeen _ shown most content = shown ≡ Nothing
 abbrev pub content_bytes : OpenRow → List ℕ
 content_bytes row = unwrap_or (option_map (λ content. content.now) row.content) []
 
--- X.690 section 8.1.3: a content of this length, or of an indefinite one, where so many bytes are
--- left
-abbrev pub len_within : Option ℕ → ℕ → ℕ
-len_within None left = left
-len_within (Some len) left = if nat_le len left then len else left
-
--- X.690 section 8.1: what a row is of. It is of the header that the bytes inside the innermost
--- element begin with, or of an end-of-contents (section 8.1.5), or of all of these bytes if they
--- begin with neither; or of all bytes that are left, which aren't drawn.
-abbrev pub IsRowOf : Kind → List ℕ → List ℕ → List ℕ → Option ℕ → ℕ → Type 0
-IsRowOf (kinds.Element tag) left inside header announced len =
-    (head : Header) × (header_of inside ≡ Ok head) × (tag ≡ head.tag)
-    × (length header ≡ head.len) × (announced ≡ head.content_len)
-    × (len ≡ len_within head.content_len (length inside - head.len))
-IsRowOf kinds.EndOfContents left inside header announced len =
-    (header ≡ 0x00 ∷ 0x00 ∷ []) × (announced ≡ None) × (len ≡ 0)
-IsRowOf kinds.NoElement left inside header announced len =
-    (fault : ElementFault) × (header_of inside ≡ Err fault) × (header ≡ [])
-    × (announced ≡ None) × (len ≡ length inside)
-IsRowOf kinds.NotDrawn left inside header announced len =
-    (header ≡ []) × (announced ≡ None) × (len ≡ length left)
-
--- X.690 section 8.1.2.5: the tag of the element says that its content is no elements
-abbrev pub is_primitive : Kind → Bool
-is_primitive (kinds.Element tag) = not tag.constructed
-is_primitive _ = false
-
 -- The row, which the bytes that are left begin with, has no byte of its content but those that may
 -- be seen. With all contents it has those that have no other row too.
 pub record IsOpen (all guarded : Bool) (left : List ℕ) (row : OpenRow) : Type 0 where
@@ -91,21 +69,43 @@ pub record IsOpen (all guarded : Bool) (left : List ℕ) (row : OpenRow) : Type 
       IsSeen row.kind row.shown (λ tag. open_len guarded tag row.field (content_of row left))
       (content_of row left)
 
+-- where the next row is
+abbrev pub place_of : Undrawn → Place
+place_of state = record {
+  offset = state.offset;
+  depth = length state.levels - 1;
+  has_room = nat_lt (length state.levels) 64;
+  all = state.all;
+  plan = state.plan;
+}
+
+-- X.690 section 8.1.5: bytes that are drawn are marked if an end-of-contents is missing behind them
+abbrev pub ended_marks : Bool → Kind → Marks → Marks
+ended_marks unended kinds.NotDrawn row_marks = row_marks
+ended_marks unended _ row_marks =
+    if unended then marks_with row_marks (Some (marks.Element faults.NoEndOfContents))
+    else row_marks
+
+-- the levels after a step, with those that are over
+abbrev pub stepped : Step → List Level → List Level
+stepped step levels = opened_in step.opened (followed step.level levels)
+
 -- the row is of the next bytes, by the header that they begin with, and these are left after it
 pub record IsNext (old : Undrawn) (row : OpenRow) (new : Undrawn) : Type 0 where
   pub at : row.offset ≡ old.offset
   pub bytes : BeginsWith old.left row
+  pub step : Step
+  pub is_step : IsStep (place_of old) old.left (slice_get old.levels 0) step
+  pub is_row :
+      row
+      ≡ record step.row {
+        marks =
+            ended_marks (is_unended (length new.left) (stepped step old.levels)) step.row.kind
+            step.row.marks;
+      }
   pub left : new.left ≡ drop (row_len row) old.left
-  pub kind :
-      IsRowOf row.kind old.left (inside_of old.behind old.left) row.header.now row.announced row.len
-  pub opened : row.own_len < row.len → row.opened ≡ is_primitive row.kind
-  pub closed : row.opened ≡ true → is_primitive row.kind ≡ true
-  pub depth : row.depth ≡ depth_by row.kind (length old.behind - 1)
   pub offset : new.offset ≡ old.offset + row_len row
-  pub behind :
-      new.behind
-      ≡ still_open (length new.left)
-      (after_row row.kind (length new.left - (row.len - row.own_len)) old.behind)
+  pub levels : new.levels ≡ still_open (length new.left) (stepped step old.levels)
   pub all : new.all ≡ old.all
   pub plan : new.plan ≡ old.plan
 

@@ -1,6 +1,6 @@
 -- What is seen of a content.
 use Rattle.std.specs.Prelude.{◌≡◌, ℕ, ◌-◌, ◌/◌, ◌%◌, ◌≤◌, nat_le, Bool, ◌||◌, ◌&&◌, List, [], ◌∷◌}
-use Rattle.std.specs.Prelude.{length, take, Option, Some, ◌==◌, if◌then◌else◌}
+use Rattle.std.specs.Prelude.{length, take, Option, Some, ◌==◌, if◌then◌else◌, nat_lt, true, false}
 use Rattle.der_types.specs.Strings.{is_visible}
 use Rattle.der_view.specs.declared.field.Field.{Field}
 use Rattle.der_view.specs.declared.field.Field.TheVariants as fields
@@ -96,3 +96,57 @@ IsShown len seen (shows.Value bytes) = bytes.now ≡ seen
 IsShown len seen (shows.Unused unused) = take 1 seen ≡ unused ∷ []
 IsShown len seen (shows.Point point) = point ≡ point_by len seen
 IsShown len seen _ = Unit {0}
+
+-- what is shown of a content: nothing, the number of its bytes, the number of unused bits, the form
+-- of a point, or all bytes
+pub data ShownView : Type 0 where
+  Nothing : ShownView
+  Count : ShownView
+  Unused : ℕ → ShownView
+  Form : Point → ShownView
+  Bytes : List ℕ → ShownView
+
+abbrev pub shown_view : Shown → ShownView
+shown_view shows.Nothing = Nothing
+shown_view shows.Count = Count
+shown_view (shows.Unused unused) = Unused unused
+shown_view (shows.Point point) = Form point
+shown_view (shows.Value bytes) = Bytes bytes.now
+
+-- a value of which all bytes are seen, or else their number
+abbrev pub whole_or_count : ℕ → List ℕ → ShownView
+whole_or_count len seen = if length seen == len then Bytes seen else Count
+
+abbrev pub is_point : Option Field → Bool
+is_point (Some fields.Point) = true
+is_point _ = false
+
+-- X.690 section 8.6.2: of a BIT STRING whose bytes aren't all seen, the number of unused bits; if
+-- that is 0, and the bytes are a point, its form
+abbrev pub shown_bits : Option Field → ℕ → List ℕ → ShownView
+shown_bits field len [] = Count
+shown_bits field len (unused ∷ bytes) =
+    if unused == 0 && is_point field then Form (point_by len (unused ∷ bytes))
+    else (if length (unused ∷ bytes) == len then Bytes (unused ∷ bytes)
+    else (if unused == 0 then Count else Unused unused))
+
+-- INTEGER, ENUMERATED and the other types whose contents are seen
+abbrev pub is_valued_type : ℕ → Bool
+is_valued_type number = number == 2 || number == 10 || is_seen_type number
+
+-- X.690 section 8.8.2: nothing of a NULL, which has no content. Of no bytes of a type without
+-- values the number is shown.
+abbrev pub shown_of_type : ℕ → Option Field → ℕ → List ℕ → ShownView
+shown_of_type number field len seen =
+    if number == 3 then shown_bits field len seen
+    else (if number == 5 && len == 0 then Nothing
+    else (if is_valued_type number || nat_lt 0 len then whole_or_count len seen else Count))
+
+abbrev pub shown_of_class : Class → ℕ → Option Field → ℕ → List ℕ → ShownView
+shown_of_class Universal number field len seen = shown_of_type number field len seen
+shown_of_class _ number field len seen =
+    if nat_lt 0 len then whole_or_count len seen else Count
+
+-- what is shown of a content of this length, of which these first bytes are seen
+unfoldable pub shown_by : Tag → Option Field → ℕ → List ℕ → ShownView
+shown_by tag field len seen = shown_of_class tag.class tag.number field len seen

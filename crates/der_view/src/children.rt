@@ -2,12 +2,12 @@
 ghost use Rattle.std.specs.Prelude.{◌≡◌, ◌<◌, ◌≤◌, ◌+◌, drop, length, true};
 ghost use Rattle.der_view.specs.Children.{child_at, child_if, child_of, children_at, children_of};
 ghost use Rattle.der_view.specs.Children.{ec_private_key, first_tag, fit, followed, has_content};
-ghost use Rattle.der_view.specs.Children.{inside, is_cut, is_end, is_in, is_whole, len_of};
+ghost use Rattle.der_view.specs.Children.{inside, is_cut, is_end, is_in, len_of};
 ghost use Rattle.der_view.specs.Children.{most_children, none_at, nth, one_asymmetric_key};
 ghost use Rattle.der_view.specs.Children.{optional, pfx, required, rsa_private_key, run_of};
 
+use crate::element::is_tree;
 use crate::header::Header;
-use sec1_der::check_tree;
 
 /// As many children as a structure has, and the place behind them.
 const MOST: usize = 10;
@@ -19,17 +19,6 @@ pub(crate) fn first_tag(bytes: &[u8]) -> u8
     match bytes {
         [first, ..] => *first,
         [] => 0x00,
-    }
-}
-
-/// Returns `true` if the bytes are one element and those inside it in DER.
-#[tactic(auto, unfolding(crate::specs::Children::is_whole))]
-pub(crate) fn is_whole(bytes: &[u8]) -> bool
-    ensures { result ≡ is_whole bytes.now }
-{
-    match check_tree(bytes) {
-        Ok(_) => true,
-        Err(_) => false,
     }
 }
 
@@ -121,7 +110,7 @@ impl Child {
             } else {
                 Child::none(at)
             }
-        } else if is_whole(&bytes[..header_len + announced]) {
+        } else if is_tree(&bytes[..header_len + announced]) {
             Child::of(bytes, at, header_len, announced, announced)
         } else {
             Child::none(at)
@@ -143,7 +132,7 @@ impl Child {
             end: at + header_len + len,
             announced,
             inner: first_tag(content),
-            alone: is_whole(content),
+            alone: is_tree(content),
         }
     }
 

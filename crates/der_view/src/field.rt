@@ -1,7 +1,8 @@
-//! The fields of known structures, by the tags of the elements.
+//! The fields of known structures.
 ghost use Rattle.std.specs.Prelude.{◌≡◌};
 ghost use Rattle.der_view.specs.Fields.{field_name, public_name};
 ghost use Rattle.der_view.specs.Plans.{root_of};
+ghost use Rattle.der_view.specs.Structures.{is_secret};
 
 /// What the whole of some bytes is.
 #[derive(Clone, Copy, PartialEq, Eq)]
@@ -274,16 +275,10 @@ impl Field {
         }
     }
 
-    /// Returns `true` if the field is a SubjectPublicKeyInfo (RFC 5280 section 4.1).
-    fn is_public_key(self) -> bool {
-        matches!(
-            &self,
-            Field::PublicKeyInfo | Field::SubjectPublicKeyInfo | Field::SubjectPkInfo
-        )
-    }
-
     /// Returns `true` if the content of the field is private.
-    pub(crate) fn is_secret(self) -> bool {
+    pub(crate) fn is_secret(self) -> bool
+        ensures { result ≡ is_secret self }
+    {
         matches!(
             &self,
             Field::PrivateKey
@@ -296,143 +291,5 @@ impl Field {
                 | Field::Coefficient
                 | Field::X
         )
-    }
-}
-
-/// Returns the field of an element with this tag byte inside one with the first field, after one
-/// with the second field or as the first.
-pub(crate) fn inner_field(outer: Field, last: Option<Field>, tag: u8) -> Option<Field> {
-    match outer {
-        Field::EcPrivateKey => key_field(last, tag),
-        Field::Unknown if last.is_none() && tag == 0x02 => Some(Field::Version),
-        Field::PrivateKeyInfo => container_field(last, tag),
-        Field::Pfx => match (last, tag) {
-            (None, 0x02) => Some(Field::Version),
-            (Some(Field::Version), 0x30) => Some(Field::AuthSafe),
-            (Some(Field::AuthSafe), 0x30) => Some(Field::MacData),
-            _ => None,
-        },
-        Field::RsaPrivateKey => rsa_field(last),
-        Field::DsaPrivateKey => dsa_field(last),
-        Field::TwoIntegers => Some(if last.is_none() { Field::R } else { Field::S }),
-        Field::Parameters if tag == 0x06 => Some(Field::NamedCurve),
-        Field::PublicKey if tag == 0x03 => Some(Field::Point),
-        Field::PrivateKeyAlgorithm => match (last, tag) {
-            (None, 0x06) => Some(Field::Algorithm),
-            (Some(Field::Algorithm), 0x06) => Some(Field::NamedCurve),
-            _ => None,
-        },
-        _ => public_field(outer, last, tag),
-    }
-}
-
-/// Returns the field of ECPrivateKey (RFC 5915 section 3).
-fn key_field(last: Option<Field>, tag: u8) -> Option<Field> {
-    match (last, tag) {
-        (None, 0x02) => Some(Field::Version),
-        (Some(Field::Version), 0x04) => Some(Field::PrivateKey),
-        (Some(Field::PrivateKey), 0xA0) => Some(Field::Parameters),
-        (Some(Field::PrivateKey | Field::Parameters), 0xA1) => Some(Field::PublicKey),
-        _ => None,
-    }
-}
-
-/// Returns the field of OneAsymmetricKey (RFC 5958 section 2).
-fn container_field(last: Option<Field>, tag: u8) -> Option<Field> {
-    match (last, tag) {
-        (None, 0x02) => Some(Field::Version),
-        (Some(Field::Version), 0x30) => Some(Field::PrivateKeyAlgorithm),
-        (Some(Field::PrivateKeyAlgorithm), 0x04) => Some(Field::PrivateKey),
-        (Some(Field::PrivateKey), 0xA0) => Some(Field::Attributes),
-        (Some(Field::PrivateKey | Field::Attributes), 0x81) => Some(Field::PublicKey),
-        _ => None,
-    }
-}
-
-/// Returns the field of RSAPrivateKey (RFC 8017 appendix A.1.2) after this one.
-fn rsa_field(last: Option<Field>) -> Option<Field> {
-    match last {
-        None => Some(Field::Version),
-        Some(Field::Version) => Some(Field::Modulus),
-        Some(Field::Modulus) => Some(Field::PublicExponent),
-        Some(Field::PublicExponent) => Some(Field::PrivateExponent),
-        Some(Field::PrivateExponent) => Some(Field::Prime1),
-        Some(Field::Prime1) => Some(Field::Prime2),
-        Some(Field::Prime2) => Some(Field::Exponent1),
-        Some(Field::Exponent1) => Some(Field::Exponent2),
-        Some(Field::Exponent2) => Some(Field::Coefficient),
-        _ => None,
-    }
-}
-
-/// Returns the field of a DSA key after this one.
-fn dsa_field(last: Option<Field>) -> Option<Field> {
-    match last {
-        None => Some(Field::Version),
-        Some(Field::Version) => Some(Field::P),
-        Some(Field::P) => Some(Field::Q),
-        Some(Field::Q) => Some(Field::G),
-        Some(Field::G) => Some(Field::Y),
-        Some(Field::Y) => Some(Field::X),
-        _ => None,
-    }
-}
-
-/// Returns the field of a structure without a private key.
-fn public_field(outer: Field, last: Option<Field>, tag: u8) -> Option<Field> {
-    match (outer, last, tag) {
-        (Field::Certificate, None, _) => Some(Field::TbsCertificate),
-        (Field::Certificate, Some(Field::TbsCertificate), _) => Some(Field::SignatureAlgorithm),
-        (Field::Certificate, _, 0x03) => Some(Field::SignatureValue),
-        (Field::TbsCertificate, _, _) => certificate_field(last, tag),
-        (Field::CertificationRequest, None, _) => Some(Field::CertificationRequestInfo),
-        (Field::CertificationRequest, _, 0x30) => Some(Field::SignatureAlgorithm),
-        (Field::CertificationRequest, _, 0x03) => Some(Field::Signature),
-        (Field::CertificationRequestInfo, None, 0x02) => Some(Field::Version),
-        (Field::CertificationRequestInfo, Some(Field::Version), 0x30) => Some(Field::Subject),
-        (Field::CertificationRequestInfo, _, 0x30) => Some(Field::SubjectPkInfo),
-        (Field::CertificationRequestInfo, _, 0xA0) => Some(Field::Attributes),
-        (Field::CertificateList, None, _) => Some(Field::TbsCertList),
-        (Field::CertificateList, _, 0x30) => Some(Field::SignatureAlgorithm),
-        (Field::CertificateList, _, 0x03) => Some(Field::SignatureValue),
-        (Field::TbsCertList, _, _) => list_field(last, tag),
-        (_, None, 0x30) if outer.is_public_key() => Some(Field::PublicKeyAlgorithm),
-        (_, _, 0x03) if outer.is_public_key() => Some(Field::SubjectPublicKey),
-        (Field::ContentInfo, None, 0x06) => Some(Field::ContentType),
-        (Field::ContentInfo, _, 0xA0) => Some(Field::Content),
-        (Field::EncryptedPrivateKeyInfo, None, 0x30) => Some(Field::EncryptionAlgorithm),
-        (Field::EncryptedPrivateKeyInfo, _, 0x04) => Some(Field::EncryptedData),
-        _ => None,
-    }
-}
-
-/// Returns the field of TBSCertificate (RFC 5280 section 4.1).
-fn certificate_field(last: Option<Field>, tag: u8) -> Option<Field> {
-    match (last, tag) {
-        (None, 0xA0) => Some(Field::Version),
-        (None | Some(Field::Version), 0x02) => Some(Field::SerialNumber),
-        (Some(Field::SerialNumber), 0x30) => Some(Field::Signature),
-        (Some(Field::Signature), 0x30) => Some(Field::Issuer),
-        (Some(Field::Issuer), 0x30) => Some(Field::Validity),
-        (Some(Field::Validity), 0x30) => Some(Field::Subject),
-        (Some(Field::Subject), 0x30) => Some(Field::SubjectPublicKeyInfo),
-        (_, 0x81) => Some(Field::IssuerUniqueId),
-        (_, 0x82) => Some(Field::SubjectUniqueId),
-        (_, 0xA3) => Some(Field::Extensions),
-        _ => None,
-    }
-}
-
-/// Returns the field of TBSCertList (RFC 5280 section 5.1).
-fn list_field(last: Option<Field>, tag: u8) -> Option<Field> {
-    match (last, tag) {
-        (None, 0x02) => Some(Field::Version),
-        (None | Some(Field::Version), 0x30) => Some(Field::Signature),
-        (Some(Field::Signature), 0x30) => Some(Field::Issuer),
-        (Some(Field::Issuer), 0x17 | 0x18) => Some(Field::ThisUpdate),
-        (Some(Field::ThisUpdate), 0x17 | 0x18) => Some(Field::NextUpdate),
-        (Some(Field::ThisUpdate | Field::NextUpdate), 0x30) => Some(Field::RevokedCertificates),
-        (_, 0xA0) => Some(Field::CrlExtensions),
-        _ => None,
     }
 }

@@ -2,7 +2,8 @@
 ghost use Rattle.std.specs.Prelude.{◌≡◌, ◌<◌, ◌≤◌, ◌+◌, ◌*◌, ◌%◌, ◌∷◌, [], length, IfOk};
 ghost use Rattle.sec1_der.specs.Numbers.{number_of};
 ghost use Rattle.der_view.specs.Marks.{length_len};
-ghost use Rattle.der_view.specs.Headers.{class_of, header_of, length_at, number_after, tag_at};
+ghost use Rattle.der_view.specs.Headers.{class_of, header_of, is_type, length_at, number_after};
+ghost use Rattle.der_view.specs.Headers.{tag_at};
 
 use crate::mark::ElementFault;
 
@@ -32,7 +33,9 @@ pub struct Tag {
 
 impl Tag {
     /// Returns `true` if this is the tag of a type of X.680 with this number.
-    pub fn is_universal(self, number: u32) -> bool {
+    pub fn is_universal(self, number: u32) -> bool
+        ensures { result ≡ is_type self number }
+    {
         matches!(&self.class, Class::Universal) && self.number == number
     }
 }

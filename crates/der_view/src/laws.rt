@@ -1,10 +1,16 @@
 //! Laws of the rows, for callers to cite. Each law is the contract of a function, which does
 //! nothing else.
-ghost use Rattle.der_view.specs.RowLaws.{RowsAreInput};
+ghost use Rattle.der_view.specs.RowLaws.{NextIsOne, RowsAreInput};
 
 /// The bytes of the rows, in order, and then those that have no row, are the input: none is left
 /// out, and none is drawn twice.
 #[tactic(auto, using(crate::proofs::RowLemmas::rows_are_input))]
 pub fn rows_are_input()
     ensures { RowsAreInput }
+{}
+
+/// The next row is a function of the bytes that have no row yet, of the elements that are open, and
+/// of what is known of the whole input.
+pub fn next_is_one()
+    ensures { NextIsOne }
 {}

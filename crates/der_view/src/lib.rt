@@ -4,11 +4,13 @@
 #![tactic(auto)]
 
 mod children;
+mod element;
 mod expected;
 mod field;
 mod header;
 mod key_form;
 pub mod laws;
+mod level;
 mod levels;
 mod line;
 mod mark;
@@ -19,7 +21,9 @@ mod plan;
 mod public_form;
 mod row;
 mod rows;
+mod structure;
 mod text;
+mod universal;
 mod values;
 
 pub use field::{Field, Form};
@@ -32,7 +36,8 @@ pub use plan::Plan;
 pub use row::{Kind, OpenRow, Point, Shown};
 pub use rows::Rows;
 pub use text::{Block, Encoding, Found, Note, Source, Sources, room_len};
-pub use values::{Arcs, Characters, ShortText, Value, universal_name, value_of};
+pub use universal::universal_name;
+pub use values::{Arcs, Characters, ShortText, Value, value_of};
 
 #[cfg(test)]
 mod tests;

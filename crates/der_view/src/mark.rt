@@ -3,8 +3,9 @@ ghost use Rattle.std.specs.Prelude.{◌≡◌, Some, option_map, is_none};
 ghost use Rattle.std.specs.Fmt.{WritesOnOk};
 ghost use Rattle.der_view.specs.Marks.{bytes_word, content_words, element_words, mark_kind};
 ghost use Rattle.der_view.specs.Marks.{first_mark, mark_part, mark_words, marks_with, part_name};
-ghost use Rattle.der_view.specs.Marks.{part_words, second_mark};
+ghost use Rattle.der_view.specs.Marks.{part_words, second_mark, type_word};
 
+use crate::universal::universal_name;
 use std::fmt;
 
 /// Why no element begins at some bytes.
@@ -57,8 +58,8 @@ pub enum ContentFault {
     UtcTime,
     /// A GeneralizedTime in another form (X.690 section 11.7).
     GeneralizedTime,
-    /// The bytes aren't characters of this type.
-    Characters(&'static str),
+    /// The bytes aren't characters of the type of X.680 with this tag number.
+    Characters(u32),
 }
 
 /// What a key (RFC 5915 section 3) has at some place.
@@ -236,8 +237,21 @@ fn write_content<W: fmt::Write>(f: &mut fmt::Formatter<W>, fault: ContentFault) 
         ContentFault::UnusedNotZero => "unused bits that aren't 0 (X.690 11.2.1)",
         ContentFault::UtcTime => "not YYMMDDhhmmssZ (X.690 11.8)",
         ContentFault::GeneralizedTime => "not YYYYMMDDhhmmss[.f]Z (X.690 11.7)",
-        ContentFault::Characters(name) => return write!(f, "not the characters of {name}"),
+        ContentFault::Characters(number) => {
+            let name = type_word(number);
+            return write!(f, "not the characters of {name}");
+        }
     })
+}
+
+/// Returns the name of the type of X.680 with this tag number; nothing if it has none.
+fn type_word(number: u32) -> &'static str
+    ensures { result.now ≡ type_word number }
+{
+    match universal_name(number) {
+        Some(name) => name,
+        None => "",
+    }
 }
 
 /// Writes why no element is there.

@@ -4,9 +4,10 @@ ghost use Rattle.der_view.specs.Marks.{length_mark};
 ghost use Rattle.der_view.specs.Plans.{begins_key, guarded_plan, in_row, is_guarded, is_high};
 ghost use Rattle.der_view.specs.Plans.{is_longer, leaf_plan, plan_by, plan_of, plan_of_children};
 ghost use Rattle.der_view.specs.Plans.{plan_of_root, public_plan, root_or};
-ghost use Rattle.der_view.specs.Rows.{len_within};
+ghost use Rattle.der_view.specs.Places.{len_within};
 
-use crate::children::{Children, first_tag, is_whole};
+use crate::children::{Children, first_tag};
+use crate::element::is_tree;
 use crate::field::{Field, Form};
 use crate::header::{Class, Header, Tag, length_len};
 use crate::key_form::is_other;
@@ -121,7 +122,7 @@ fn of_leaf(input: &[u8], content: &[u8], end: usize) -> Plan
     if first_tag(input) == 0x06 && is_curve(content) {
         Plan {
             form: Form::Curve,
-            complete: is_whole(input),
+            complete: is_tree(input),
             guarded: true,
             root: Some(Field::NamedCurve),
             drawn_to: end,

@@ -1,9 +1,9 @@
 //! What is seen of a row.
-ghost use Rattle.std.specs.Prelude.{◌≡◌, ◌≤◌, length};
+ghost use Rattle.std.specs.Prelude.{◌≡◌, ◌≤◌, length, take};
 ghost use Rattle.der_view.specs.Marks.{is_string, length_mark, marks_of_header, string_mark};
 ghost use Rattle.der_view.specs.Marks.{tag_mark};
-ghost use Rattle.der_view.specs.Rows.{content_bytes};
-ghost use Rattle.der_view.specs.Seen.{IsFirst, IsShown, point_by, public_len, seen_len};
+ghost use Rattle.der_view.specs.Seen.{IsFirst, IsShown, is_point, point_by, public_len, seen_len};
+ghost use Rattle.der_view.specs.Seen.{shown_bits, shown_by, shown_view, whole_or_count};
 
 use crate::field::Field;
 use crate::header::{Class, Header, Tag, length_len};
@@ -89,32 +89,6 @@ pub struct OpenRow<'a> {
     pub content: Option<&'a [u8]>,
 }
 
-impl<'a> OpenRow<'a> {
-    /// Returns the row with these bytes of its content, if there are some.
-    pub(crate) fn with(self, content: &'a [u8]) -> OpenRow<'a>
-        ensures at { result.offset ≡ self.entry.offset }
-        ensures header { result.header.now ≡ self.entry.header.now }
-        ensures own { result.own_len ≡ self.entry.own_len }
-        ensures len { result.len ≡ self.entry.len }
-        ensures kind { result.kind ≡ self.entry.kind }
-        ensures field { result.field ≡ self.entry.field }
-        ensures shown { result.shown ≡ self.entry.shown }
-        ensures depth { result.depth ≡ self.entry.depth }
-        ensures announced { result.announced ≡ self.entry.announced }
-        ensures opened { result.opened ≡ self.entry.opened }
-        ensures content { content_bytes result ≡ content.now }
-    {
-        OpenRow {
-            content: if content.is_empty() {
-                None
-            } else {
-                Some(content)
-            },
-            ..self
-        }
-    }
-}
-
 /// Returns the marks of a header with these bytes, behind others.
 pub(crate) fn header_marks(bytes: &[u8], head: &Header, marks: Marks) -> Marks
     requires { head.now.tag_len ≤ head.now.len }
@@ -185,16 +159,20 @@ fn seen_len(tag: Tag, field: Option<Field>, len: usize) -> usize
 }
 
 /// Returns the part of a content that is seen in a guarded picture.
+#[tactic(auto, using(std::proofs::lemmas::List::take_min))]
 pub(crate) fn guarded_part<'a>(tag: Tag, field: Option<Field>, content: &'a [u8]) -> &'a [u8]
-    ensures { IsFirst (seen_len tag field (length content.now)) content.now result.now }
+    ensures first { IsFirst (seen_len tag field (length content.now)) content.now result.now }
+    ensures exact { result.now ≡ take (seen_len tag field (length content.now)) content.now }
 {
     &content[..seen_len(tag, field, content.len()).min(content.len())]
 }
 
 /// Returns the part of a content that is seen in any other picture: none of an OCTET STRING, nor of
 /// a long INTEGER.
+#[tactic(auto, using(std::proofs::lemmas::List::take_min))]
 pub(crate) fn public_part<'a>(tag: Tag, content: &'a [u8]) -> &'a [u8]
-    ensures { IsFirst (public_len tag content.now) content.now result.now }
+    ensures first { IsFirst (public_len tag content.now) content.now result.now }
+    ensures exact { result.now ≡ take (public_len tag content.now) content.now }
 {
     &content[..public_len(tag, content).min(content.len())]
 }
@@ -215,20 +193,50 @@ fn public_len(tag: Tag, content: &[u8]) -> usize
 }
 
 /// Returns what is shown of a primitive element's content of this length, of which this is seen.
+#[tactic(auto, unfolding(crate::specs::Seen::shown_by))]
 pub(crate) fn shown_of<'a>(tag: Tag, field: Option<Field>, len: usize, seen: &'a [u8]) -> Shown<'a>
-    ensures { IsShown len seen.now result }
+    ensures seen { IsShown len seen.now result }
+    ensures exact { shown_view result ≡ shown_by tag field len seen.now }
 {
-    match (tag.class, tag.number, seen) {
-        (Class::Universal, 3, [0x00, ..]) if field == Some(Field::Point) => Shown::Point(point_of(
-            len, seen,
-        )),
-        (Class::Universal, 5, []) if len == 0 => Shown::Nothing,
-        (Class::Universal, 1 | 2 | 6 | 10 | 12 | 18..=28 | 30, []) if len == 0 => Shown::Value(
-            seen,
-        ),
-        _ if len > 0 && seen.len() == len => Shown::Value(seen),
-        (Class::Universal, 3, [unused, ..]) if *unused > 0 => Shown::Unused(*unused),
+    match (tag.class, tag.number) {
+        (Class::Universal, 3) => shown_bits(field, len, seen),
+        (Class::Universal, 5) if len == 0 => Shown::Nothing,
+        (Class::Universal, 1 | 2 | 6 | 10 | 12 | 18..=28 | 30) => whole_or_count(len, seen),
+        _ if len > 0 => whole_or_count(len, seen),
         _ => Shown::Count,
+    }
+}
+
+/// Returns what is shown of a BIT STRING's content of this length, of which this is seen.
+fn shown_bits<'a>(field: Option<Field>, len: usize, seen: &'a [u8]) -> Shown<'a>
+    ensures seen { IsShown len seen.now result }
+    ensures exact { shown_view result ≡ shown_bits field len seen.now }
+{
+    match seen {
+        [] => Shown::Count,
+        [0x00, ..] if is_point(field) => Shown::Point(point_of(len, seen)),
+        [_, ..] if seen.len() == len => Shown::Value(seen),
+        [0x00, ..] => Shown::Count,
+        [unused, ..] => Shown::Unused(*unused),
+    }
+}
+
+/// Returns `true` if the field is the BIT STRING of a point.
+fn is_point(field: Option<Field>) -> bool
+    ensures { result ≡ is_point field }
+{
+    matches!(field, Some(Field::Point))
+}
+
+/// Returns the content of this length, if all of it is seen, or else that its length is shown.
+fn whole_or_count<'a>(len: usize, seen: &'a [u8]) -> Shown<'a>
+    ensures seen { IsShown len seen.now result }
+    ensures exact { shown_view result ≡ whole_or_count len seen.now }
+{
+    if seen.len() == len {
+        Shown::Value(seen)
+    } else {
+        Shown::Count
     }
 }
 

@@ -1,12 +1,13 @@
 //! The rows of any bytes.
 ghost use Rattle.std.specs.Prelude.{◌≡◌, ◌≤◌, ◌-◌, [], ◌∷◌, true, false, length, IfSome};
 ghost use Rattle.std.specs.Prelude.{MatchOption};
-ghost use Rattle.der_view.specs.Levels.{levels_view};
+ghost use Rattle.der_view.specs.Levels.{input_level, levels_view};
 ghost use Rattle.der_view.specs.Plans.{plan_of, plan_with};
-ghost use Rattle.der_view.specs.Rows.{IsNext, IsOpen, Undrawn};
+ghost use Rattle.der_view.specs.Rows.{IsNext, IsOpen, Undrawn, ended_marks};
 
-use crate::levels::{Level, Levels};
-use crate::mark::{ElementFault, Mark};
+use crate::level::Level;
+use crate::levels::Levels;
+use crate::mark::{ElementFault, Mark, Marks};
 use crate::place::Place;
 use crate::plan::Plan;
 use crate::row::{Kind, OpenRow};
@@ -33,7 +34,7 @@ impl<'a> Model for Rows<'a> {
     ghost view = { λ rows. record {
       offset = rows.len - length rows.left.now;
       left = rows.left.now;
-      behind = levels_view rows.levels;
+      levels = levels_view rows.levels;
       all = rows.all;
       plan = rows.plan;
     } };
@@ -48,7 +49,7 @@ impl<'a> Rows<'a> {
     pub fn new(input: &'a [u8], all: bool) -> Rows<'a>
         ensures left { result.left ≡ input.now }
         ensures offset { result.offset ≡ 0 }
-        ensures behind { result.behind ≡ 0 ∷ [] }
+        ensures levels { result.levels ≡ input_level result.plan.root ∷ [] }
         ensures all { result.all ≡ all }
         ensures plan { result.plan ≡ plan_with all (plan_of input.now) }
     {
@@ -92,20 +93,28 @@ impl<'a> Rows<'a> {
             offset: self.len - self.left.len(),
             depth: self.levels.depth(),
             has_room: self.levels.has_room(),
-            left: self.left,
             all: self.all,
             plan: self.plan,
         };
-        let step = place.step(self.levels.innermost());
-        let mut row = step.row;
+        let step = place.step(self.left, self.levels.innermost());
+        let row = step.row;
         self.left = &self.left[row.header.len() + row.own_len..];
         self.levels.follow(step.level, step.opened);
-        let unfinished = self.levels.close_finished(self.left.len());
-        if unfinished && !matches!(&row.kind, Kind::NotDrawn) {
-            row.marks = row
-                .marks
-                .with(Some(Mark::Element(ElementFault::NoEndOfContents)));
-        }
-        Some(row)
+        let unended = self.levels.close_finished(self.left.len());
+        Some(OpenRow {
+            marks: ended_marks(unended, row.kind, row.marks),
+            ..row
+        })
+    }
+}
+
+/// Returns the marks of a row of this kind, if an end-of-contents is missing behind it or not.
+fn ended_marks(unended: bool, kind: Kind, marks: Marks) -> Marks
+    ensures { result ≡ ended_marks unended kind marks }
+{
+    match kind {
+        Kind::NotDrawn => marks,
+        _ if unended => marks.with(Some(Mark::Element(ElementFault::NoEndOfContents))),
+        _ => marks,
     }
 }

@@ -3,6 +3,7 @@
 use crate::header::{Class, Tag};
 use crate::line::Line;
 use crate::mark::ContentFault;
+use crate::universal::universal_name;
 use crate::values::{content_fault, value_of};
 use std::process::Abort;
 use std::test::Fail;
@@ -385,7 +386,7 @@ fn word_of(fault: Option<ContentFault>) -> &'static str {
         Some(ContentFault::UnusedNotZero) => "UnusedNotZero",
         Some(ContentFault::UtcTime) => "UtcTime",
         Some(ContentFault::GeneralizedTime) => "GeneralizedTime",
-        Some(ContentFault::Characters(name)) => name,
+        Some(ContentFault::Characters(number)) => universal_name(number).unwrap_or("-"),
     }
 }
 

@@ -21,7 +21,6 @@ pub use characters::Characters;
 use der_types::kind::{GeneralizedTime, Kind, UtcTime, VisibleString};
 pub(crate) use faults::content_fault;
 pub use short::ShortText;
-pub use types::universal_name;
 
 /// What is shown of the content of a primitive element.
 #[derive(Drop)]

@@ -1,26 +1,40 @@
 //! What is wrong with the content of a primitive element.
 ghost use Rattle.std.specs.Prelude.{◌≡◌};
-ghost use Rattle.der_view.specs.ContentFaults.{bits_fault, boolean_fault, integer_fault};
-ghost use Rattle.der_view.specs.ContentFaults.{unused_fault};
+ghost use Rattle.der_view.specs.ContentFaults.{bits_fault, boolean_fault, content_fault};
+ghost use Rattle.der_view.specs.ContentFaults.{fault_unless, integer_fault, unused_fault};
 
 use super::characters::are_characters;
-use super::types::universal_name;
 use crate::mark::ContentFault;
 use der_types::kind::{GeneralizedTime, Integer, Kind, ObjectIdentifier, UtcTime};
 
 /// Returns what is wrong with the content of a primitive element whose tag is that of the type of
 /// X.680 with this number; `None` if nothing is.
-pub(crate) fn content_fault(number: u32, content: &[u8]) -> Option<ContentFault> {
+pub(crate) fn content_fault(number: u32, content: &[u8]) -> Option<ContentFault>
+    ensures { result ≡ content_fault number content.now }
+{
     match number {
         1 => boolean_fault(content),
         2 | 10 => integer_fault(content),
         3 => bits_fault(content),
-        5 if !content.is_empty() => Some(ContentFault::NullContent),
-        6 if !ObjectIdentifier::test(content) => Some(ContentFault::NoIdentifier),
-        23 if !UtcTime::test(content) => Some(ContentFault::UtcTime),
-        24 if !GeneralizedTime::test(content) => Some(ContentFault::GeneralizedTime),
-        _ => string_fault(number, content),
+        5 => fault_unless(content.is_empty(), ContentFault::NullContent),
+        6 => fault_unless(ObjectIdentifier::test(content), ContentFault::NoIdentifier),
+        23 => fault_unless(UtcTime::test(content), ContentFault::UtcTime),
+        24 => fault_unless(
+            GeneralizedTime::test(content),
+            ContentFault::GeneralizedTime,
+        ),
+        _ => fault_unless(
+            are_characters(number, content),
+            ContentFault::Characters(number),
+        ),
     }
+}
+
+/// Returns the fault of a content that isn't one of its type; `None` if it is one.
+fn fault_unless(passes: bool, fault: ContentFault) -> Option<ContentFault>
+    ensures { result ≡ fault_unless passes fault }
+{
+    if passes { None } else { Some(fault) }
 }
 
 /// Returns what is wrong with the content of a BOOLEAN.
@@ -71,16 +85,5 @@ fn unused_fault(unused: u8, bytes: &[u8]) -> Option<ContentFault>
         None
     } else {
         Some(ContentFault::UnusedNotZero)
-    }
-}
-
-/// Returns what is wrong with the content of a string of characters.
-fn string_fault(number: u32, content: &[u8]) -> Option<ContentFault> {
-    if are_characters(number, content) {
-        return None;
-    }
-    match universal_name(number) {
-        Some(name) => Some(ContentFault::Characters(name)),
-        None => None,
     }
 }

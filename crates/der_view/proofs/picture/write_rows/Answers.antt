@@ -22,6 +22,7 @@ returns g c = (
     last = c.loop-row.rows;
     left = c.new-rows.ensures.left;
     offset = c.new-rows.ensures.offset;
+    levels = c.new-rows.ensures.levels;
     shows = c.new-rows.ensures.all;
     plan = c.new-rows.ensures.plan;
     drawn = c.loop-row.invariant.1;

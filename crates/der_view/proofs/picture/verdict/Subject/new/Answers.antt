@@ -26,6 +26,7 @@ returns c = record {
     last = c.loop-row.rows;
     left = c.new-rows.ensures.left;
     offset = c.new-rows.ensures.offset;
+    levels = c.new-rows.ensures.levels;
     shows = c.new-rows.ensures.all;
     plan = c.new-rows.ensures.plan;
     drawn = c.loop-row.invariant.1;
