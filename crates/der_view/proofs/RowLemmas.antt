@@ -1,14 +1,16 @@
 -- The rows of bytes, and the bytes.
 use Rattle.std.proofs.Common.{◌≡◌, ℕ, List, [], ◌∷◌, ◌++◌, take, drop, length, refl, sym, ap, ◌∙◌}
-use Rattle.std.proofs.Common.{append_assoc, Bool, true, false, ◌+◌}
+use Rattle.std.proofs.Common.{append_assoc, Bool, true, false, ◌+◌, All}
 use denote.Bor.{Bor}
 use Rattle.std.proofs.lemmas.List.{take-append-drop, drop-drop}
+use Rattle.std.proofs.lemmas.List.Elements.{All-cons, All-nil}
 use Rattle.std.specs.Prelude.{Option, None, Some, Result, Ok, Err, option_map, slice_get, unwrap_or}
 use Rattle.der_view.specs.Levels.{followed, is_unended, opened_in, still_open}
+use Rattle.der_view.specs.Pictures.{AreRowsOf}
 use Rattle.der_view.specs.Places.{IsBare, IsDrawn, IsElement, IsInside, IsNoElement, IsStep}
-use Rattle.der_view.specs.Rows.{Draws, IsOpen, Undrawn, bytes_of_rows, content_bytes, ended_marks}
+use Rattle.der_view.specs.Rows.{Draws, IsOpen, Undrawn, bytes_of_rows, content_bytes, content_of, ended_marks}
 use Rattle.der_view.specs.Rows.{own_content_of, place_of, row_len, stepped}
-use Rattle.der_view.specs.RowLaws.{IsSameRow, NextIsOne, RowsAreInput}
+use Rattle.der_view.specs.RowLaws.{ContentsAreHidden, HidesContent, IsSameRow, NextIsOne, RowsAreInput, content_at}
 use Rattle.der_view.specs.Seen.{shown_view}
 use Rattle.der_view.specs.declared.header.Header.{Header}
 use Rattle.der_view.specs.declared.level.Level.{Level}
@@ -174,3 +176,28 @@ next_is_one old a b x y p q open_a open_b =
       content = same_content old.all old.plan.guarded old.left a b open_a open_b own header;
     } in
     (row, λ i. record { offset = offset i; left = left i; levels = levels i; all = all i; plan = plan i })
+
+-- the content of a row is that of the input there
+content_here : (input left : List ℕ) (offset : ℕ) (row : OpenRow) → left ≡ drop offset input → row.offset ≡ offset
+    → content_of row left ≡ content_at input row
+content_here input left offset row at same =
+    rw (at, same, drop-drop (length row.header.now) offset input) refl
+
+hidden_rows : (input : List ℕ) (rows : List OpenRow) (old new : Undrawn) → AreRowsOf rows old new
+    → old.left ≡ drop old.offset input → old.all ≡ false → All (HidesContent old.plan.guarded input) rows
+hidden_rows input [] old new d at none = All-nil (HidesContent old.plan.guarded input)
+hidden_rows input (row ∷ rows) old new (between, is, open, more) at none =
+    let n = row_len row in
+    let rest : between.left ≡ drop between.offset input =
+    is.left ∙ rw (at, is.offset) (drop-drop n old.offset input) in
+    let here = content_here input old.left old.offset row at is.at in
+    let tail : All (HidesContent between.plan.guarded input) rows =
+    hidden_rows input rows between new more rest (is.all ∙ none) in
+    All-cons (HidesContent old.plan.guarded input) row rows
+    (record { content = open.hidden none; shown = rw here at open.shown })
+    (rw is.plan at tail)
+
+pub contents_are_hidden : ContentsAreHidden
+contents_are_hidden input rows are =
+    let at : are.first.left ≡ drop are.first.offset input = rw are.offset are.left in
+    rw are.plan at hidden_rows input rows are.first are.last are.drawn at are.shows

@@ -1,7 +1,9 @@
 -- What holds of the rows of all bytes.
-use Rattle.std.specs.Prelude.{◌≡◌, List, ℕ, ◌++◌, Bool}
-use Rattle.der_view.specs.Rows.{Draws, IsNext, IsOpen, Undrawn, bytes_of_rows, content_bytes}
-use Rattle.der_view.specs.Seen.{shown_view}
+use Rattle.std.specs.Prelude.{◌≡◌, List, ℕ, ◌+◌, ◌++◌, Bool, false, length, take, drop, None, All}
+use Rattle.der_view.specs.Pictures.{AreRows}
+use Rattle.der_view.specs.Plans.{plan_of}
+use Rattle.der_view.specs.Rows.{Draws, IsNext, IsOpen, IsSeen, Undrawn, bytes_of_rows, content_bytes}
+use Rattle.der_view.specs.Seen.{open_len, shown_view}
 use Rattle.der_view.specs.declared.level.Level.{Level}
 use Rattle.der_view.specs.declared.plan.Plan.{Plan}
 use Rattle.der_view.specs.declared.row.OpenRow.{OpenRow}
@@ -38,3 +40,21 @@ NextIsOne =
     (old : Undrawn) (a b : OpenRow) (x y : Undrawn) → IsNext old a x → IsNext old b y
     → IsOpen old.all old.plan.guarded old.left a → IsOpen old.all old.plan.guarded old.left b
     → IsSameRow a b × (x ≡ y)
+
+-- the bytes of the input that are the content of a row
+abbrev pub content_at : List ℕ → OpenRow → List ℕ
+content_at input row = take row.len (drop (row.offset + length row.header.now) input)
+
+-- The row has no content, and of the bytes that are its content it shows as many first ones as may
+-- be seen, at most: none of an OCTET STRING, as a private key is, and none of a long INTEGER.
+pub record HidesContent (guarded : Bool) (input : List ℕ) (row : OpenRow) : Type 0 where
+  pub content : row.content ≡ None
+  pub shown :
+      IsSeen row.kind row.shown (λ tag. open_len guarded tag row.field (content_at input row))
+      (content_at input row)
+
+-- Unless all contents are shown, each row hides its own.
+abbrev pub ContentsAreHidden : Type 0
+ContentsAreHidden =
+    (input : List ℕ) (rows : List OpenRow) → AreRows false input rows
+    → All (HidesContent (plan_of input).guarded input) rows

@@ -1,6 +1,6 @@
 //! Laws of the rows, for callers to cite. Each law is the contract of a function, which does
 //! nothing else.
-ghost use Rattle.der_view.specs.RowLaws.{NextIsOne, RowsAreInput};
+ghost use Rattle.der_view.specs.RowLaws.{ContentsAreHidden, NextIsOne, RowsAreInput};
 
 /// The bytes of the rows, in order, and then those that have no row, are the input: none is left
 /// out, and none is drawn twice.
@@ -13,4 +13,11 @@ pub fn rows_are_input()
 /// of what is known of the whole input.
 pub fn next_is_one()
     ensures { NextIsOne }
+{}
+
+/// Unless all contents are shown, no row has a content, and of its bytes no more is shown than may
+/// be seen.
+#[tactic(auto, using(crate::proofs::RowLemmas::contents_are_hidden))]
+pub fn contents_are_hidden()
+    ensures { ContentsAreHidden }
 {}

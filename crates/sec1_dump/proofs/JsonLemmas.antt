@@ -1,51 +1,127 @@
--- The elements of a picture as JSON: one more element at their end; and none of them is a float.
-use Rattle.std.proofs.Common.{◌≡◌, ◌++◌, ◌∷◌, [], ℕ, ◌+◌, ◌<◌, Bool, true, false, List, length, map, take}
-use Rattle.std.proofs.Common.{get_or, refl, Option, Some, None}
-use Rattle.std.proofs.lemmas.List.{take_more, map-append}
-use Rattle.der_rows.specs.Rows.{RowView, row_view}
-use Rattle.der_rows.specs.declared.rows.Row.{Row}
-use Rattle.der_faults.specs.declared.Fault.{Fault}
-use Rattle.der_faults.specs.declared.part.KeyPart.{KeyPart}
+-- The lines of JSON of rows and of sources, and of one more of them.
+use Rattle.std.proofs.Common.{◌≡◌, ℕ, Bool, true, false, ◌||◌, List, [], ◌∷◌, ◌++◌, Option, Some, None, refl, sym, ap}
+use Rattle.std.proofs.Common.{◌∙◌, append_assoc, append-nil, Result, Ok, Err, IfOk}
+use Rattle.std.proofs.KnownBytes.{Appends-trans}
+use Rattle.std.specs.Io.KnownBytes.{Appends}
 use Rattle.serde_json.specs.Data.{Data}
-use Rattle.serde_json.specs.View.{items_of}
-use Rattle.serde_json.specs.Written.{has_float, items_have_float}
-use Rattle.sec1_dump.specs.Json.{AreRowsData, IsRowData, fault_data, picture_data, row_data}
+use Rattle.der_view.specs.Contents.{IsFound, bytes_in}
+use Rattle.der_view.specs.Inputs.{reading_of}
+use Rattle.der_view.specs.Pictures.{AreRows, IsKey, IsSubject, verdict_on}
+use Rattle.der_view.specs.declared.picture.verdict.Reading.{Reading}
+use Rattle.der_view.specs.declared.picture.verdict.Subject.{Subject}
+use Rattle.der_view.specs.declared.row.OpenRow.{OpenRow}
+use Rattle.der_view.specs.declared.text.Found.{Found}
+use Rattle.der_view.specs.declared.text.Source.{Source}
+use Rattle.der_view.specs.declared.text.note.Note.{Note}
+use Rattle.sec1_dump.specs.Json.{AreJson, IsJson, IsJsonOfSource, IsJsonUnlessNone, json_line, picture_bytes, rows_lines}
+use Rattle.sec1_dump.specs.Json.{note_verdict, shown_verdict}
+use Rattle.sec1_dump.specs.Objects.{front_data, last_data, row_data}
 
-AreRowsData-snoc : (all is_key : Bool) (rows : List RowView) (row : RowView) (values : List Data) (value : Data)
-    → AreRowsData all is_key rows values → IsRowData all is_key row value
-    → AreRowsData all is_key (rows ++ row ∷ []) (values ++ value ∷ [])
-AreRowsData-snoc all is_key [] row values value none is = (value, [], is, refl, rw none refl)
-AreRowsData-snoc all is_key (first ∷ rows) row values value (one, more, is', rest, whole) is =
-    (one, more ++ value ∷ [], is', AreRowsData-snoc all is_key rows row more value rest is, rw whole refl)
+rows_lines-snoc : (rows : List OpenRow) (row : OpenRow)
+    → rows_lines (rows ++ row ∷ []) ≡ rows_lines rows ++ json_line (row_data row)
+rows_lines-snoc [] row = append-nil (json_line (row_data row))
+rows_lines-snoc (first ∷ rows) row =
+    ap (λ text. json_line (row_data first) ++ text) (rows_lines-snoc rows row)
+    ∙ sym (append_assoc (json_line (row_data first)) (rows_lines rows) (json_line (row_data row)))
 
--- the first elements, and one more
-pub values_more : (all is_key : Bool) (rows : List Row) (i : ℕ) (d : Row) (values : List Data) (value : Data)
-    → AreRowsData all is_key (map row_view (take i rows)) values → i < length rows
-    → IsRowData all is_key (row_view (get_or rows i d)) value
-    → AreRowsData all is_key (map row_view (take (i + 1) rows)) (values ++ value ∷ [])
-values_more all is_key rows i d values value are within is =
-    rw (take_more rows i d within, map-append)
-    (AreRowsData-snoc all is_key (map row_view (take i rows)) (row_view (get_or rows i d)) values value are is)
+-- rows that are written, and one more of them
+pub rows_written : (a b c : Option (List ℕ)) (rows : List OpenRow) (row : OpenRow) → Appends a b (rows_lines rows)
+    → Appends b c (json_line (row_data row)) → Appends a c (rows_lines (rows ++ row ∷ []))
+rows_written a b c rows row first next =
+    rw (rows_lines-snoc rows row) (Appends-trans a b c (rows_lines rows) (json_line (row_data row)) first next)
 
--- an element has no float
-row_has_no_float : (all : Bool) (row : RowView) (note : List ℕ) → has_float (row_data all row note) ≡ false
-row_has_no_float true row note = refl
-row_has_no_float false row note = refl
+or-false : (b : Bool) → b ≡ (b || false)
+or-false true = refl
+or-false false = refl
 
--- and so do elements
-pub rows_have_no_float : (all is_key : Bool) (rows : List RowView) (values : List Data)
-    → AreRowsData all is_key rows values → items_have_float (items_of values) ≡ false
-rows_have_no_float all is_key [] values none = rw none refl
-rows_have_no_float all is_key (row ∷ rows) values (value, more, (note, is, same), rest, whole) =
-    rw (whole, same, row_has_no_float all row note) (rows_have_no_float all is_key rows more rest)
+or-assoc : (a b c : Bool) → ((a || b) || c) ≡ (a || (b || c))
+or-assoc true b c = refl
+or-assoc false b c = refl
 
-fault_has_no_float : (fault : Option Fault) → has_float (fault_data fault) ≡ false
-fault_has_no_float None = refl
-fault_has_no_float (Some fault) = refl
+-- one more source, and its lines
+pub AreJson-snoc : (all : Bool) (file : Option (List ℕ)) (sources : List Source) (source : Source) (text more : List ℕ)
+    (has_key is_key : Bool) → AreJson all file sources text has_key → IsJsonOfSource all file source more is_key
+    → AreJson all file (sources ++ source ∷ []) (text ++ more) (has_key || is_key)
+AreJson-snoc all file [] source text more has_key is_key (none, never) is = (
+  more,
+  [],
+  is_key,
+  false,
+  is,
+  (refl, refl),
+  (ap (λ (t : List ℕ). t ++ more) none ∙ sym (append-nil more)),
+  (ap (λ (b : Bool). b || is_key) never ∙ or-false is_key),
+)
+AreJson-snoc all file (first ∷ sources) source text more has_key is_key
+    (one, rest, key, others, shown, are, whole, any) is = (
+      one,
+      rest ++ more,
+      key,
+      others || is_key,
+      shown,
+      AreJson-snoc all file sources source rest more others is_key are is,
+      (ap (λ (t : List ℕ). t ++ more) whole ∙ append_assoc one rest more),
+      (ap (λ (b : Bool). b || is_key) any ∙ or-assoc key others is_key),
+    )
 
--- and what is printed with them
-pub picture_has_no_float : (is_key : Bool) (key : Option Fault) (part : Option KeyPart) (tree : Option Fault)
-    (said : List ℕ) (values : List Data) → items_have_float (items_of values) ≡ false
-    → has_float (picture_data is_key key part tree said values) ≡ false
-picture_has_no_float is_key key part tree said values none =
-    rw (fault_has_no_float key, none, fault_has_no_float tree) refl
+-- the lines of a source, from the first one and the others
+pub source_written : (a b c : Option (List ℕ)) (all : Bool) (file : Option (List ℕ)) (source : Source) (found : Found)
+    (memory : List ℕ) (front : Data) (rest : List ℕ) (is_key : Bool) → IsFound (bytes_in source) found memory
+    → front ≡ front_data file source found (picture_bytes source) → Appends a b (json_line front) → Appends b c rest
+    → IsJsonUnlessNone all (reading_of source) (picture_bytes source) rest is_key
+    → (text : List ℕ) × Appends a c text × IsJsonOfSource all file source text is_key
+source_written a b c all file source found memory front rest is_key is_found whole first next is = (
+  json_line front ++ rest,
+  Appends-trans a b c (json_line front) rest first next,
+  record {
+    found = found;
+    memory = memory;
+    rest = rest;
+    is_found = is_found;
+    whole = ap (λ d. json_line d ++ rest) whole;
+    is_rest = is;
+  },
+)
+
+pub source_shown : {E : Type 0} (a b c : Option (List ℕ)) (all : Bool) (file : Option (List ℕ)) (source : Source)
+    (found : Found) (memory : List ℕ) (front : Data) (bytes : List ℕ) (reading : Reading) (r : Result Bool E)
+    → IsFound (bytes_in source) found memory → front ≡ front_data file source found (picture_bytes source)
+    → picture_bytes source ≡ Some bytes → reading ≡ reading_of source → Appends a b (json_line front)
+    → IfOk r (λ is_key. (text : List ℕ) × Appends b c text × IsJson all reading bytes text is_key)
+    → IfOk r (λ is_key. (text : List ℕ) × Appends a c text × IsJsonOfSource all file source text is_key)
+source_shown a b c all file source found memory front bytes reading (Ok is_key) is_found whole same read first
+    (rest, next, is) =
+    source_written a b c all file source found memory front rest is_key is_found whole first next
+    (rw (same, sym read) is)
+source_shown a b c all file source found memory front bytes reading (Err e) is_found whole same read first none = none
+
+pub source_noted : {E : Type 0} (a b c : Option (List ℕ)) (all : Bool) (file : Option (List ℕ)) (source : Source)
+    (found : Found) (memory : List ℕ) (front : Data) (r : Result Bool E) → IsFound (bytes_in source) found memory
+    → front ≡ front_data file source found (picture_bytes source) → picture_bytes source ≡ None
+    → Appends a b (json_line front)
+    → IfOk r (λ is_key. (is_key ≡ false)
+    × ((note : Note) × Appends b c (json_line (last_data false None (note_verdict note)))))
+    → IfOk r (λ is_key. (text : List ℕ) × Appends a c text × IsJsonOfSource all file source text is_key)
+source_noted a b c all file source found memory front (Ok is_key) is_found whole none first (never, note, next) =
+    source_written a b c all file source found memory front (json_line (last_data false None (note_verdict note))) is_key
+    is_found whole first next (rw none (note, refl, never))
+source_noted a b c all file source found memory front (Err e) is_found whole none first nothing = nothing
+
+-- the lines of bytes, from those of their rows and the last one
+pub bytes_written : (a b c : Option (List ℕ)) (all : Bool) (reading : Reading) (bytes : List ℕ) (is_key : Bool)
+    (rows : List OpenRow) (subject : Subject) (last : Data) → AreRows all bytes rows → IsSubject bytes reading subject
+    → IsKey bytes is_key → last ≡ last_data is_key subject.facts.marked (shown_verdict (verdict_on subject is_key))
+    → Appends a b (rows_lines rows) → Appends b c (json_line last)
+    → (text : List ℕ) × Appends a c text × IsJson all reading bytes text is_key
+bytes_written a b c all reading bytes is_key rows subject last are_rows is_subject key said first next = (
+  rows_lines rows ++ json_line last,
+  Appends-trans a b c (rows_lines rows) (json_line last) first next,
+  record {
+    rows = rows;
+    subject = subject;
+    are_rows = are_rows;
+    is_subject = is_subject;
+    key = key;
+    whole = ap (λ d. rows_lines rows ++ json_line d) said;
+  },
+)

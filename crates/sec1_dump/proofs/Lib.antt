@@ -1,5 +1,2 @@
+pub mod ObjectLemmas
 pub mod TextLemmas
-pub mod LineLemmas
-pub mod PictureLemmas
-pub mod HidingLemmas
-pub mod JsonLemmas

@@ -1,49 +1,34 @@
--- Pieces of text, and one more piece at their end.
-use Rattle.std.proofs.Common.{◌≡◌, ◌++◌, ◌∷◌, [], ℕ, ◌+◌, ◌%◌, ◌==◌, if◌then◌else◌, List, length, codes, refl}
-use Rattle.std.proofs.Common.{ap, ◌∙◌, sym}
-use Rattle.std.proofs.Common.{append_assoc, append-nil, arith, take, ◌<◌, get_or}
-use Rattle.std.proofs.lemmas.List.{replicate-append-replicate}
-use Rattle.std.proofs.lemmas.List.{take_more, length-take-le}
-use Rattle.hex.specs.Hex.{encode_upper}
-use Rattle.sec1_dump.specs.Text.{spaces, hex_words, hex_lines}
+-- Texts that are made or written piece by piece.
+use Rattle.std.proofs.Common.{◌≡◌, ℕ, ◌+◌, ◌<◌, ◌++◌, ◌∷◌, [], List, Option, length, take, get_or, refl, sym, ap, ◌∙◌}
+use Rattle.std.proofs.Common.{append_assoc, append-nil}
+use Rattle.std.proofs.KnownBytes.{Appends-trans}
+use Rattle.std.proofs.lemmas.List.{take_more}
+use Rattle.std.specs.Io.KnownBytes.{Appends}
+use Rattle.std.specs.List.{flat_map}
 
--- one more space
-pub spaces_more : (count : ℕ) → spaces count ++ codes " " ≡ spaces (count + 1)
-spaces_more count = replicate-append-replicate count 1 0x20
+-- the next piece of a text
+pub next_piece : (f : ℕ → List ℕ) (old new whole : List ℕ) (x : ℕ) (left rest : List ℕ) → new ≡ old ++ f x
+    → left ≡ x ∷ rest → old ++ flat_map f left ≡ whole → new ++ flat_map f rest ≡ whole
+next_piece f old new whole x left rest pushed next is =
+    rw (pushed, append_assoc old (f x) (flat_map f rest))
+    (ap (λ xs. old ++ flat_map f xs) (sym next) ∙ is)
 
--- one more byte
-hex_words-snoc : (bytes : List ℕ) (byte : ℕ)
-    → hex_words (bytes ++ byte ∷ []) ≡ hex_words bytes ++ (codes " " ++ encode_upper (byte ∷ []))
-hex_words-snoc [] byte = append-nil (codes " " ++ encode_upper (byte ∷ []))
-hex_words-snoc (first ∷ bytes) byte =
-    rw (hex_words-snoc bytes byte) (rw append_assoc refl)
+-- the last one
+pub last_piece : (f : ℕ → List ℕ) (text whole : List ℕ) (left : List ℕ) → left ≡ [] → text ++ flat_map f left ≡ whole
+    → text ≡ whole
+last_piece f text whole left none is =
+    sym (append-nil text) ∙ (ap (λ xs. text ++ flat_map f xs) (sym none) ∙ is)
 
--- what a byte behind as many adds to the lines
-abbrev added : List ℕ → ℕ → ℕ → List ℕ
-added start count byte = (if count % 16 == 0 then start else []) ++ (codes " " ++ encode_upper (byte ∷ []))
+-- the pieces of the first elements of a list, and of one more
+pub flat_map-snoc : (f : ℕ → List ℕ) (xs : List ℕ) (x : ℕ) → flat_map f (xs ++ x ∷ []) ≡ flat_map f xs ++ f x
+flat_map-snoc f [] x = append-nil (f x)
+flat_map-snoc f (first ∷ xs) x =
+    ap (λ text. f first ++ text) (flat_map-snoc f xs x) ∙ sym (append_assoc (f first) (flat_map f xs) (f x))
 
-hex_lines-snoc : (start : List ℕ) (count : ℕ) (bytes : List ℕ) (byte : ℕ)
-    → hex_lines start count (bytes ++ byte ∷ [])
-    ≡ hex_lines start count bytes ++ added start (count + length bytes) byte
-hex_lines-snoc start count [] byte =
-    let none : count + 0 ≡ count = omega arith in rw none (append-nil (added start count byte))
-hex_lines-snoc start count (first ∷ bytes) byte =
-    let next : count + 1 + length bytes ≡ count + length (first ∷ bytes) = omega arith in
-    ap (λ rest. added start count first ++ rest) (hex_lines-snoc start (count + 1) bytes byte)
-    ∙ (sym (append_assoc (added start count first) (hex_lines start (count + 1) bytes) _)
-    ∙ ap (λ at. hex_lines start count (first ∷ bytes) ++ added start at byte) next)
-
--- the first bytes, and one more
-pub words_more : (bytes : List ℕ) (i : ℕ) → i < length bytes
-    → hex_words (take (i + 1) bytes) ≡ hex_words (take i bytes) ++ (codes " " ++ encode_upper (get_or bytes i 0 ∷ []))
-words_more bytes i within = rw (take_more bytes i 0 within) (hex_words-snoc (take i bytes) (get_or bytes i 0))
-
-pub lines_more : (start bytes : List ℕ) (i : ℕ) → i < length bytes
-    → hex_lines start 0 (take (i + 1) bytes) ≡ hex_lines start 0 (take i bytes) ++ added start i (get_or bytes i 0)
-lines_more start bytes i within =
-    let at : 0 + length (take i bytes) ≡ i = omega (arith, length-take-le i bytes (omega arith)) in
-    rw (take_more bytes i 0 within)
-    (hex_lines-snoc start 0 (take i bytes) (get_or bytes i 0)
-    ∙ ap (λ at. hex_lines start 0 (take i bytes) ++ added start at (get_or bytes i 0)) at)
-
-pub ruleset one_byte_more = (words_more, lines_more)
+-- written
+pub next_written : (f : ℕ → List ℕ) (a b c : Option (List ℕ)) (xs : List ℕ) (i : ℕ) → i < length xs
+    → Appends a b (flat_map f (take i xs)) → Appends b c (f (get_or xs i 0))
+    → Appends a c (flat_map f (take (i + 1) xs))
+next_written f a b c xs i within first next =
+    rw (take_more xs i 0 within, flat_map-snoc f (take i xs) (get_or xs i 0))
+    (Appends-trans a b c (flat_map f (take i xs)) (f (get_or xs i 0)) first next)

@@ -1,96 +1,88 @@
--- The picture of an input as JSON.
-use Rattle.std.specs.Prelude.{◌≡◌, ◌<◌, ◌≤◌, ◌⊎◌, ℕ, Bool, false, if◌then◌else◌, List, [], ◌∷◌}
-use Rattle.std.specs.Prelude.{◌++◌, length, codes, Option, Some, None}
-use Rattle.der_faults.specs.KeyParts.{key_part}
-use Rattle.der_faults.specs.Places.{key_place, tree_place}
-use Rattle.der_faults.specs.declared.Fault.{Fault}
-use Rattle.der_faults.specs.declared.part.KeyPart.{KeyPart}
-use Rattle.der_rows.specs.Rows.{RowView}
-use Rattle.hex.specs.Hex.{encode_upper}
-use Rattle.serde_json.specs.Data.{Data, null, boolean, number, unsigned, string, array, object}
-use Rattle.serde_json.specs.Data.{no_members, put}
-use Rattle.serde_json.specs.View.{items_of}
+-- The pictures of an input as lines of JSON.
+use Rattle.std.specs.Prelude.{◌≡◌, ℕ, Bool, false, ◌||◌, List, [], ◌∷◌, ◌++◌, codes}
+use Rattle.std.specs.Prelude.{Option, Some, None, option_map}
+use Rattle.std.specs.List.{flat_map}
+use Rattle.serde_json.specs.Data.{Data}
 use Rattle.serde_json.specs.Written.{compact_text}
-use Rattle.sec1_dump.specs.Forms.{advice, form_of, pem_form}
-use Rattle.sec1_dump.specs.Names.{label}
-use Rattle.sec1_dump.specs.Notes.{IsNote}
-use Rattle.sec1_dump.specs.Picture.{AreRows, advice_of, bytes_of, is_faultless, limit, status_of}
-use Rattle.sec1_dump.specs.Reasons.{expected_text, kind_words}
-use Rattle.sec1_dump.specs.declared.forms.Form.{Form}
+use Rattle.der_view.specs.Contents.{IsFound, bytes_in}
+use Rattle.der_view.specs.Inputs.{reading_of}
+use Rattle.der_view.specs.Lines.{shown}
+use Rattle.der_view.specs.Pictures.{AreRows, IsKey, IsSubject, verdict_on}
+use Rattle.der_view.specs.Verdicts.{VerdictView}
+use Rattle.der_view.specs.declared.picture.verdict.Reading.{Reading}
+use Rattle.der_view.specs.declared.picture.verdict.Subject.{Subject}
+use Rattle.der_view.specs.declared.row.OpenRow.{OpenRow}
+use Rattle.der_view.specs.declared.text.Found.{Found}
+use Rattle.der_view.specs.declared.text.Source.{Source}
+use Rattle.der_view.specs.declared.text.Source.TheVariants as sources
+use Rattle.der_view.specs.declared.text.note.Note.{Note}
+use Rattle.sec1_dump.specs.Objects.{front_data, last_data, row_data}
+use Rattle.sec1_dump.specs.Text.{ascii_text}
 
--- the content in hexadecimal, if all is shown
-abbrev pub content_data : Bool → List ℕ → Data
-content_data all content = if all then string (encode_upper content) else null
+-- a line of JSON with this data: its text with no space between two tokens, in ASCII
+abbrev pub json_line : Data → List ℕ
+json_line json = ascii_text (compact_text json) ++ codes "\n"
 
--- an element, with this note
-abbrev pub row_data : Bool → RowView → List ℕ → Data
-row_data all row note =
-    object (put (codes "offset") (number (unsigned row.offset))
-    (put (codes "note") (string note)
-    (put (codes "length") (number (unsigned row.content_len))
-    (put (codes "label") (string (label row))
-    (put (codes "header") (string (encode_upper row.header))
-    (put (codes "depth") (number (unsigned row.depth))
-    (put (codes "content") (content_data all row.content) no_members)))))))
+-- the lines of rows
+abbrev pub rows_lines : List OpenRow → List ℕ
+rows_lines rows = flat_map (λ row. json_line (row_data row)) rows
 
-abbrev pub IsRowData : Bool → Bool → RowView → Data → Type 0
-IsRowData all is_key row json =
-    (note : List ℕ) × IsNote all is_key row note × (json ≡ row_data all row note)
+-- a verdict, as a line of a picture shows it
+abbrev pub shown_verdict : VerdictView → VerdictView
+shown_verdict verdict = record {
+  words = shown verdict.words;
+  lead = verdict.lead;
+  command = verdict.command;
+}
 
--- elements, one after the other
-abbrev pub AreRowsData : Bool → Bool → List RowView → List Data → Type 0
-AreRowsData all is_key [] values = values ≡ []
-AreRowsData all is_key (row ∷ rows) values =
-    (value : Data) × (more : List Data) × IsRowData all is_key row value
-    × AreRowsData all is_key rows more × (values ≡ value ∷ more)
+-- what is said of a source that isn't drawn
+abbrev pub note_verdict : Note → VerdictView
+note_verdict note = record {
+  words = note.words.now;
+  lead = [];
+  command = option_map (λ command. command.now) note.command;
+}
 
--- where bytes are refused and why, if they are
-abbrev pub fault_data : Option Fault → Data
-fault_data None = null
-fault_data (Some fault) =
-    object (put (codes "reason") (string (kind_words fault.kind))
-    (put (codes "offset") (number (unsigned fault.offset)) no_members))
-
--- what is printed, with these elements and what is said besides
-abbrev pub picture_data : Bool → Option Fault → Option KeyPart → Option Fault → List ℕ → List Data
-    → Data
-picture_data is_key key part tree said values =
-    object (put (codes "tree_fault") (fault_data tree)
-    (put (codes "rows") (array (items_of values))
-    (put (codes "key_fault") (fault_data key)
-    (put (codes "key") (boolean is_key)
-    (put (codes "expected") (string (expected_text part))
-    (put (codes "advice") (string said) no_members))))))
-
--- a line of JSON with this data: its text with no space between two tokens
-abbrev pub IsJsonLine : Data → List ℕ → Type 0
-IsJsonLine json line = line ≡ compact_text json ++ codes "\n"
-
--- the JSON of bytes
-pub record IsJson (all : Bool) (bytes text : List ℕ) (status : ℕ) : Type 0 where
-  pub rows : List RowView
-  pub values : List Data
-  pub are_rows : AreRows bytes rows
-  pub are_values : AreRowsData all (is_faultless (key_place bytes)) rows values
+-- the lines of bytes: of their rows, and of what is said of them
+pub record IsJson (all : Bool) (reading : Reading) (bytes text : List ℕ)
+    (is_key : Bool) : Type 0 where
+  pub rows : List OpenRow
+  pub subject : Subject
+  pub are_rows : AreRows all bytes rows
+  pub is_subject : IsSubject bytes reading subject
+  pub key : IsKey bytes is_key
   pub whole :
-      IsJsonLine (picture_data (is_faultless (key_place bytes)) (key_place bytes) (key_part bytes)
-      (tree_place bytes) (advice_of (form_of rows)) values) text
-  pub ends_with : status ≡ status_of (key_place bytes)
+      text
+      ≡ rows_lines rows
+      ++ json_line
+      (last_data is_key subject.facts.marked (shown_verdict (verdict_on subject is_key)))
 
--- what is said of an input that is no DER
-abbrev pub remark_data : List ℕ → Data
-remark_data said = picture_data false None None None said []
+-- the bytes that a picture is drawn of: those of DER, or those that were decoded
+abbrev pub picture_bytes : Source → Option (List ℕ)
+picture_bytes (sources.Der input) = Some input.now
+picture_bytes source = bytes_in source
 
-pub record IsJsonRemark (said text : List ℕ) (status : ℕ) : Type 0 where
-  pub line : IsJsonLine (remark_data said) text
-  pub refused : status ≡ 1
+-- the lines of bytes, or else the line of what is said of the source, which is no key
+abbrev pub IsJsonUnlessNone : Bool → Reading → Option (List ℕ) → List ℕ → Bool → Type 0
+IsJsonUnlessNone all reading (Some bytes) text is_key = IsJson all reading bytes text is_key
+IsJsonUnlessNone all reading None text is_key =
+    (note : Note) × (text ≡ json_line (last_data false None (note_verdict note)))
+    × (is_key ≡ false)
 
-abbrev pub IsJsonUnlessPem : Bool → Option Form → List ℕ → List ℕ → ℕ → Type 0
-IsJsonUnlessPem all (Some form) input text status = IsJsonRemark (advice form) text status
-IsJsonUnlessPem all None input text status = IsJson all (bytes_of input) text status
+-- the lines of a source of a file with this name
+pub record IsJsonOfSource (all : Bool) (file : Option (List ℕ)) (source : Source)
+    (text : List ℕ) (is_key : Bool) : Type 0 where
+  pub found : Found
+  pub memory : List ℕ
+  pub rest : List ℕ
+  pub is_found : IsFound (bytes_in source) found memory
+  pub whole : text ≡ json_line (front_data file source found (picture_bytes source)) ++ rest
+  pub is_rest : IsJsonUnlessNone all (reading_of source) (picture_bytes source) rest is_key
 
--- what is printed of an input
-abbrev pub IsJsonOfInput : Bool → List ℕ → List ℕ → ℕ → Type 0
-IsJsonOfInput all input text status =
-    ((limit < length input) × IsJsonRemark (codes "input too long\n") text status)
-    ⊎ ((length input ≤ limit) × IsJsonUnlessPem all (pem_form input) input text status)
+-- the lines of sources, of which one is a key's or none
+abbrev pub AreJson : Bool → Option (List ℕ) → List Source → List ℕ → Bool → Type 0
+AreJson all file [] text has_key = (text ≡ []) × (has_key ≡ false)
+AreJson all file (source ∷ sources) text has_key =
+    (first : List ℕ) × (more : List ℕ) × (is_key : Bool) × (others : Bool)
+    × IsJsonOfSource all file source first is_key × AreJson all file sources more others
+    × (text ≡ first ++ more) × (has_key ≡ (is_key || others))

@@ -1,10 +1,4 @@
 pub mod Text
-pub mod Names
-pub mod Notes
-pub mod Lines
-pub mod Forms
-pub mod Reasons
-pub mod Picture
+pub mod Objects
 pub mod Json
-pub mod Hiding
 pub mod Shown

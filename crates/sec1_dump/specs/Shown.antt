@@ -1,25 +1,65 @@
--- What a run of the program prints.
-use Rattle.std.specs.Prelude.{ℕ, Bool, true, false, List, Option, codes}
+-- What a run of the program shows of a file.
+use Rattle.std.specs.Prelude.{◌≡◌, ◌≤◌, ℕ, Bool, true, false, if◌then◌else◌, List, [], ◌++◌}
+use Rattle.std.specs.Prelude.{chars, codes, length, Option, Some, None, Result, Ok, Err, ⊤, ⊥}
 use Rattle.std.specs.Io.KnownBytes.{Appends}
-use Rattle.sec1_dump.specs.Json.{IsJsonOfInput}
-use Rattle.sec1_dump.specs.Picture.{IsPictureOfInput}
+use Rattle.der_view.specs.Characters.{escaped_all}
+use Rattle.der_view.specs.Inputs.{ArePictures}
+use Rattle.der_view.specs.declared.text.Source.{Source}
+use Rattle.sec1_dump.specs.Json.{AreJson}
 use Rattle.sec1_dump.specs.declared.output.Failure.{Failure}
-use Rattle.sec1_dump.specs.declared.output.Failure.TheVariants.{Input, Output, Memory}
+use Rattle.sec1_dump.specs.declared.output.Failure.TheVariants.{Input, TooLong, Memory, Output}
+use Rattle.sec1_dump.specs.declared.output.Style.{Style}
 
--- the text of a failure
-abbrev pub failure_text : Failure → List ℕ
-failure_text Input = codes "input failed"
-failure_text Output = codes "output failed"
-failure_text Memory = codes "out of memory"
+-- the greatest length of an input in bytes
+abbrev pub limit : ℕ
+limit = 16777215
 
--- what is printed of an input, as JSON or as a picture, and the status
-abbrev pub IsShown : Bool → Bool → List ℕ → List ℕ → ℕ → Type 0
-IsShown all true = IsJsonOfInput all
-IsShown all false = IsPictureOfInput all
+-- whether the failure is one of reading an input
+abbrev pub IsOfReading : Failure → Type 0
+IsOfReading (Input error) = ⊤
+IsOfReading Memory = ⊤
+IsOfReading failure = ⊥
 
--- the whole text of what is shown of the input was written, and this is its status
-pub record Shows (all json : Bool) (input : List ℕ) (old new : Option (List ℕ))
-    (status : ℕ) : Type 0 where
+-- whether the failure is one of writing what is shown
+abbrev pub IsOfWriting : Failure → Type 0
+IsOfWriting (Output error) = ⊤
+IsOfWriting Memory = ⊤
+IsOfWriting failure = ⊥
+
+-- the line with the name of a file above its pictures, if it is to be there
+abbrev pub title : Bool → Option (List ℕ) → List ℕ
+title true (Some file) = escaped_all (chars file) ++ codes ":\n"
+title named file = []
+
+-- the pictures of the parts of an input, below the name of its file
+pub record IsDrawn (style : Style) (file : Option (List ℕ)) (input text : List ℕ)
+    (has_key : Bool) : Type 0 where
+  pub sources : List Source
+  pub pictures : List ℕ
+  pub are_pictures : ArePictures style.all sources pictures has_key
+  pub whole : text ≡ title style.named file ++ pictures
+
+-- the lines of JSON of the parts of an input
+pub record IsPrinted (style : Style) (file : Option (List ℕ)) (input text : List ℕ)
+    (has_key : Bool) : Type 0 where
+  pub sources : List Source
+  pub lines : AreJson style.all file sources text has_key
+
+-- what is shown of an input
+abbrev pub IsShown : Style → Option (List ℕ) → List ℕ → List ℕ → Bool → Type 0
+IsShown style file input text has_key =
+    if style.json then IsPrinted style file input text has_key
+    else IsDrawn style file input text has_key
+
+-- the input isn't too long, and all that is shown of it was written
+pub record Shows (style : Style) (file : Option (List ℕ)) (input : List ℕ)
+    (old new : Option (List ℕ)) (has_key : Bool) : Type 0 where
+  pub short : length input ≤ limit
   pub text : List ℕ
   pub appended : Appends old new text
-  pub is_shown : IsShown all json input text status
+  pub is_shown : IsShown style file input text has_key
+
+-- the status for a file: 0 if it has a key, 1 if it has none, 2 if it couldn't be read or shown
+abbrev pub status_of : Result Bool Failure → ℕ
+status_of (Ok has_key) = if has_key then 0 else 1
+status_of (Err failure) = 2

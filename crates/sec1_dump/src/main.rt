@@ -1,23 +1,23 @@
-//! Draws the elements of DER, and names the fields of an EC private key.
+//! Draws any file that people have in place of a key, and says what it is.
 #![tactic(auto)]
 
-mod forms;
-mod input;
-mod lines;
-mod names;
-mod notes;
+mod json;
+mod objects;
 mod output;
-mod picture;
-mod reasons;
 mod text;
-mod values;
 
-use crate::output::{Failure, Style, show};
+use crate::output::{Failure, Style, show, status_of};
+use crate::text::escaped;
+use clap::error::ErrorKind;
 use clap::{Arg, ArgAction, ArgMatches, Command, Error};
-use std::alloc::Global;
+use std::alloc::{AllocError, Global};
+use std::io::BufWriter;
 use std::process::ExitCode;
 use std::rt::{Env, Files};
 use std::{env, fs, io};
+
+/// The number of bytes that are written at a time.
+const BUFFER: usize = 65_536;
 
 /// Returns the arguments that these words give.
 ///
@@ -32,65 +32,147 @@ fn parsed<'a>(alloc: Global, words: &'a [String]) -> Result<ArgMatches<'a>, Erro
     let json = Arg::new(alloc, "json")
         .long("json")
         .action(ArgAction::SetTrue)
-        .help("Prints a line of JSON");
-    let file = Arg::new(alloc, "FILE").help("DER, hexadecimal or PEM; standard input if absent");
+        .help("Prints lines of JSON");
+    let file = Arg::new(alloc, "FILE")
+        .num_args(1..)
+        .action(ArgAction::Append)
+        .help("DER, PEM, hexadecimal or base64; standard input if absent or -");
     Command::new(alloc, "sec1_dump")
         .version("0.2.0")
-        .about("Draws the elements of DER, and names the fields of an EC private key")
+        .about("Draws any file that people have in place of a key, and says what it is")
         .arg(all)?
         .arg(json)?
         .arg(file)?
         .try_get_matches_from(words)
 }
 
-/// Draws the input that the arguments name, and returns the status.
-///
-/// # Errors
-///
-/// Input, Output or Memory, whichever failed.
-fn dump<H: AllocGlobal + Files + Input + Print>(
-    rt: &H,
-    matches: &ArgMatches,
-) -> Result<u8, Failure> {
-    let style = Style {
-        all: matches.get_flag("all"),
-        json: matches.get_flag("json"),
-    };
-    let mut writer = io::writer(rt);
-    match matches.get_str("FILE") {
-        None => show(rt.alloc(), style, rt.reader(), &mut writer),
-        Some(path) => {
-            let file = fs::open(rt, path).map_err(|_| Failure::Input)?;
-            show(rt.alloc(), style, file, &mut writer)
+/// The handles of the program, and its arguments.
+#[derive(Drop)]
+struct Program<'r, H> {
+    /// The system.
+    rt: &'r H,
+    /// How files are shown.
+    style: Style,
+}
+
+impl<'r, H: AllocGlobal + Env + Eprint + Files + Input + Print> Program<'r, H> {
+    /// Shows a file, or standard input if there is none or its name is `-`. Returns whether it has
+    /// a key.
+    fn show(&self, path: Option<&str>) -> Result<bool, Failure> {
+        let alloc = self.rt.alloc();
+        let Ok(mut writer) = BufWriter::with_capacity(alloc, BUFFER, io::writer(self.rt)) else {
+            return Err(Failure::Memory);
+        };
+        match path {
+            None | Some("-") => show(alloc, self.style, path, self.rt.reader(), &mut writer),
+            Some(name) => match fs::open(self.rt, name) {
+                Ok(file) => show(alloc, self.style, path, file, &mut writer),
+                Err(error) => Err(Failure::Input(error)),
+            },
+        }
+    }
+
+    /// Says why a file isn't shown to its end. Returns whether others may be shown.
+    fn tell(&self, path: Option<&str>, failure: Failure) -> bool {
+        let alloc = self.rt.alloc();
+        let name = match path {
+            None | Some("-") => "standard input",
+            Some(path) => path,
+        };
+        let Ok(name) = escaped(alloc, name) else {
+            let _ = eprintln!(self.rt; "sec1_dump: out of memory");
+            return true;
+        };
+        let told = match &failure {
+            Failure::Input(error) => eprintln!(self.rt; "sec1_dump: {name}: {error}"),
+            Failure::TooLong => eprintln!(self.rt; "sec1_dump: {name}: more than 16,777,215 bytes"),
+            Failure::Memory => eprintln!(self.rt; "sec1_dump: {name}: out of memory"),
+            Failure::Output(error) => eprintln!(self.rt; "sec1_dump: standard output: {error}"),
+        };
+        told.is_ok() && !matches!(&failure, Failure::Output(_))
+    }
+
+    /// Shows these files, or standard input if there are none. Returns the greatest of their
+    /// statuses.
+    fn run(&self, paths: &[&str]) -> u8 {
+        if paths.is_empty() {
+            return self.status(None).1;
+        }
+        let mut status = 0;
+        for path in paths {
+            let (goes_on, ended) = self.status(Some(*path));
+            status = u8::max(status, ended);
+            if !goes_on {
+                break;
+            }
+        }
+        status
+    }
+
+    /// Shows a file. Returns whether others may be shown, and the status for this one.
+    fn status(&self, path: Option<&str>) -> (bool, u8) {
+        let shown = self.show(path);
+        let status = status_of(&shown);
+        match shown {
+            Ok(_) => (true, status),
+            Err(failure) => (self.tell(path, failure), status),
         }
     }
 }
 
-/// Runs the program, and returns the status that it ends with.
-///
-/// # Errors
-///
-/// Input, Output or Memory, whichever failed.
-fn run<H: AllocGlobal + Env + Eprint + Files + Input + Print>(rt: &H) -> Result<u8, Failure> {
+/// Says what is wrong with the arguments, or prints help or the version, and returns the status.
+fn tell_arguments<H: Eprint + Print>(rt: &H, error: Error) -> u8 {
+    match error.kind() {
+        ErrorKind::DisplayHelp | ErrorKind::DisplayVersion => match error.print(rt) {
+            Ok(()) => 0,
+            Err(error) => {
+                let _ = eprintln!(rt; "sec1_dump: standard output: {error}");
+                2
+            }
+        },
+        ErrorKind::OutOfMemory => {
+            let _ = eprintln!(rt; "sec1_dump: out of memory");
+            2
+        }
+        _ => {
+            let _ = eprintln!(rt; "sec1_dump: unknown option; see --help");
+            2
+        }
+    }
+}
+
+/// Runs the program, and returns the status that it ends with. Fails only if an allocation fails.
+fn run<H: AllocGlobal + Env + Eprint + Files + Input + Print>(rt: &H) -> Result<u8, AllocError> {
     let alloc = rt.alloc();
     let Ok(arguments) = env::args(rt) else {
-        return Err(Failure::Input);
+        let _ = eprintln!(rt; "sec1_dump: the arguments can't be read");
+        return Ok(2);
     };
     let words: Vec<String> = arguments.collect(alloc)?;
-    match parsed(alloc, words.as_slice()) {
-        Ok(matches) => dump(rt, &matches),
-        Err(error) => match error.print(rt) {
-            Ok(()) => Ok(error.exit_code() as u8),
-            Err(_) => Err(Failure::Output),
+    let matches = match parsed(alloc, words.as_slice()) {
+        Ok(matches) => matches,
+        Err(error) => return Ok(tell_arguments(rt, error)),
+    };
+    let paths = match matches.get_strs("FILE") {
+        Some(paths) => paths,
+        None => &[],
+    };
+    let program = Program {
+        rt,
+        style: Style {
+            all: matches.get_flag("all"),
+            json: matches.get_flag("json"),
+            named: paths.len() > 1,
         },
-    }
+    };
+    Ok(program.run(paths))
 }
 
 fn main(rt: HostRuntime) -> ExitCode {
     match run(&rt) {
         Ok(status) => ExitCode::from(status),
-        Err(failure) => {
-            let _ = eprintln!(&rt; "sec1_dump: {failure}");
+        Err(_) => {
+            let _ = eprintln!(&rt; "sec1_dump: out of memory");
             ExitCode::from(2)
         }
     }

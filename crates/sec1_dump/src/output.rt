@@ -1,41 +1,33 @@
-//! Reads an input, and prints what is drawn of it.
-ghost use Rattle.std.specs.Prelude.{◌≡◌, ◌+◌, ◌⊎◌, Some, IfErr, IfOk, IfSome, take};
-ghost use Rattle.std.specs.Prelude.{string_bytes};
-ghost use Rattle.sec1_dump.specs.declared.output.Failure.TheVariants.{Input, Memory};
-ghost use Rattle.sec1_dump.specs.Picture.{limit};
-ghost use Rattle.sec1_dump.specs.Shown.{IsShown, Shows, failure_text};
+//! Reads a file, and shows what is in it.
+ghost use Rattle.std.specs.Prelude.{◌≡◌, ◌*◌, ◌+◌, ◌<◌, ◌≤◌, List, ℕ, IfErr, IfOk, IfSome, OnOk};
+ghost use Rattle.std.specs.Prelude.{length, option_map, take};
+ghost use Rattle.std.specs.Io.KnownBytes.{Appends};
+ghost use Rattle.der_view.specs.Sources.{text_len};
+ghost use Rattle.sec1_dump.specs.Shown.{IsOfReading, IsOfWriting, IsShown, Shows, limit, status_of};
+ghost use Rattle.sec1_dump.specs.Shown.{title};
+ghost use Rattle.sec1_dump.specs.declared.output.Failure.TheVariants.{Memory, TooLong};
 
-use crate::input::{LIMIT, picture_of_input};
-use crate::picture::Picture;
-use crate::values::json_of_input;
+use crate::json::write_json;
+use crate::text::escaped;
+use der_view::{draw, room_len};
 use std::alloc::{AllocError, Global};
+use std::io;
 use std::io::{Read as _, Write as _};
-use std::{fmt, io};
 
-/// Why the program draws nothing.
-#[derive(Clone, Copy, Debug, PartialEq, Eq)]
-pub enum Failure {
-    /// The input isn't there, or a read failed.
-    Input,
-    /// A write failed.
-    Output,
+/// The greatest length of an input in bytes.
+const LIMIT: usize = 16_777_215;
+
+/// Why a file isn't shown to its end.
+#[derive(Drop)]
+pub(crate) enum Failure {
+    /// It couldn't be opened or read.
+    Input(io::Error),
+    /// It is longer than the limit.
+    TooLong,
     /// An allocation failed.
     Memory,
-}
-
-/// Prints the text of the failure, whatever options are set.
-impl fmt::Display for Failure {
-    ghost output = { λ failure. Some (failure_text failure) };
-
-    ghost styled_output = { λ failure _. Some (failure_text failure) };
-
-    fn fmt<W: fmt::Write>(&self, f: &mut fmt::Formatter<W>) -> fmt::Result {
-        f.write_str(match self {
-            Failure::Input => "input failed",
-            Failure::Output => "output failed",
-            Failure::Memory => "out of memory",
-        })
-    }
+    /// What is shown of it couldn't be written.
+    Output(io::Error),
 }
 
 impl From<AllocError> for Failure {
@@ -46,38 +38,58 @@ impl From<AllocError> for Failure {
     }
 }
 
-/// How an input is shown.
+/// How files are shown.
 #[derive(Clone, Copy)]
-pub struct Style {
-    /// The content of each element is shown too.
-    pub all: bool,
-    /// A line of JSON is printed, and not a picture.
-    pub json: bool,
+pub(crate) struct Style {
+    /// Whether all contents are shown.
+    pub(crate) all: bool,
+    /// Whether lines of JSON are printed, and no pictures.
+    pub(crate) json: bool,
+    /// Whether the name of each file stands above its pictures.
+    pub(crate) named: bool,
 }
 
-/// Reads an input, writes and flushes what is drawn of it, and returns the status. At most
-/// 1,048,577 bytes are read.
+/// Returns the status for a file: 0 if it has a key, 1 if it has none, 2 if it couldn't be read or
+/// shown.
+pub(crate) fn status_of(shown: &Result<bool, Failure>) -> u8
+    ensures { result ≡ status_of shown.now }
+{
+    match shown {
+        Ok(true) => 0,
+        Ok(false) => 1,
+        Err(_) => 2,
+    }
+}
+
+/// Reads a file, and writes and flushes what is shown of it. Returns whether some part of it is a
+/// key (RFC 5915 section 3). At most 16,777,216 bytes are read.
 ///
 /// # Errors
 ///
-/// Input if a read failed, Output if a write or the flush failed, Memory if an allocation failed.
-pub fn show<R: io::Read + Drop, W: io::Write>(
+/// Input if a read failed, TooLong for more than 16,777,215 bytes, Output if a write or the flush
+/// failed, Memory if an allocation failed.
+pub(crate) fn show<R: io::Read + Drop, W: io::Write>(
     alloc: Global,
     style: Style,
+    file: Option<&str>,
     reader: R,
     writer: &mut W,
-) -> Result<u8, Failure>
-    ensures { IfOk result (λ status. IfSome (R.remaining reader) (λ bytes.
-        Shows style.all style.json (take (limit + 1) bytes) (W.contents writer.old)
-        (W.contents writer.new) status)) }
+) -> Result<bool, Failure>
+    ensures shown { IfOk result (λ has_key. IfSome (R.remaining reader) (λ input.
+        Shows style (option_map (λ name. name.now) file.entry) input
+        (W.contents writer.old) (W.contents writer.new) has_key)) }
+    ensures long { IfErr result (λ failure. failure ≡ TooLong
+        → IfSome (R.remaining reader) (λ input. limit < length input)) }
 {
     let input = read_input(alloc, reader)?;
-    let picture = drawn(alloc, style, &input)?;
-    let text = picture.text.as_bytes();
-    if writer.write_all(text).is_err() || writer.flush().is_err() {
-        return Err(Failure::Output);
+    if input.len() > LIMIT {
+        return Err(Failure::TooLong);
     }
-    Ok(picture.status)
+    let has_key = write_shown(alloc, style, file, &input, writer)?;
+    match writer.flush() {
+        Ok(()) => Ok(has_key),
+        Err(error) => Err(Failure::Output(error)),
+    }
 }
 
 /// Reads an input, at most one byte more than the limit.
@@ -88,24 +100,69 @@ pub fn show<R: io::Read + Drop, W: io::Write>(
 fn read_input<R: io::Read + Drop>(alloc: Global, reader: R) -> Result<Vec<u8>, Failure>
     ensures read { IfOk result (λ input.
         IfSome (R.remaining reader) (λ bytes. input.items ≡ take (limit + 1) bytes)) }
-    ensures kinds { IfErr result (λ failure. (failure ≡ Input) ⊎ (failure ≡ Memory)) }
+    ensures kinds { IfErr result IsOfReading }
 {
     let mut input = Vec::new(alloc);
     match reader.take(LIMIT as u64 + 1).read_to_end(&mut input) {
         Ok(_) => Ok(input),
-        Err(e) if e.kind() == io::ErrorKind::OutOfMemory => Err(Failure::Memory),
-        Err(_) => Err(Failure::Input),
+        Err(error) if error.kind() == io::ErrorKind::OutOfMemory => Err(Failure::Memory),
+        Err(error) => Err(Failure::Input(error)),
     }
 }
 
-/// Returns what is drawn of an input. Fails only if an allocation fails.
-fn drawn(alloc: Global, style: Style, input: &[u8]) -> Result<Picture, AllocError>
-    ensures { IfOk result (λ picture.
-        IsShown style.all style.json input.now (string_bytes picture.text) picture.status) }
+/// Writes what is shown of an input. Returns whether some part of it is a key.
+///
+/// # Errors
+///
+/// Output if a write failed, Memory if an allocation failed.
+fn write_shown<W: io::Write>(
+    alloc: Global,
+    style: Style,
+    file: Option<&str>,
+    input: &[u8],
+    writer: &mut W,
+) -> Result<bool, Failure>
+    requires { length input.now ≤ limit }
+    ensures shown { IfOk result (λ has_key. (text : List ℕ)
+        × Appends (W.contents writer.old) (W.contents writer.new) text
+        × IsShown style (option_map (λ name. name.now) file.entry) input.now text has_key) }
+    ensures kinds { IfErr result IsOfWriting }
 {
+    let mut room = vec![in alloc; 0u8; room_len(input)]?;
+    let room = room.as_mut_slice();
     if style.json {
-        json_of_input(alloc, style.all, input)
-    } else {
-        picture_of_input(alloc, style.all, input)
+        return write_json(alloc, writer, style.all, file, input, room);
+    }
+    write_title(alloc, writer, style.named, file)?;
+    match draw(writer, input, room, style.all) {
+        Ok(has_key) => Ok(has_key),
+        Err(error) => Err(Failure::Output(error)),
+    }
+}
+
+/// Writes the line with the name of a file, if it is to be there.
+///
+/// # Errors
+///
+/// Output if a write failed, Memory if an allocation failed.
+fn write_title<W: io::Write>(
+    alloc: Global,
+    writer: &mut W,
+    named: bool,
+    file: Option<&str>,
+) -> Result<(), Failure>
+    ensures title { OnOk result (Appends (W.contents writer.old) (W.contents writer.new)
+        (title named (option_map (λ name. name.now) file.entry))) }
+    ensures kinds { IfErr result IsOfWriting }
+{
+    match file {
+        Some(file) if named => {
+            let name = escaped(alloc, file)?;
+            match write!(writer, "{name}:\n") {
+                Ok(()) => Ok(()),
+                Err(error) => Err(Failure::Output(error)),
+            }
+        }
+        _ => Ok(()),
     }
 }

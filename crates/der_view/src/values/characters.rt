@@ -30,7 +30,7 @@ pub struct Characters<'a> {
 
 impl<'a> Characters<'a> {
     /// Returns the characters that the bytes stand for in ISO 8859-1.
-    pub(super) fn latin1(bytes: &'a [u8]) -> Characters<'a>
+    pub fn latin1(bytes: &'a [u8]) -> Characters<'a>
         ensures { codes_of result ≡ bytes.now }
     {
         Characters {

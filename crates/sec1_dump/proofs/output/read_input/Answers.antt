@@ -1,6 +1,6 @@
 use Rattle.std.proofs.Common.{◌≡◌, [], ◌++◌, ◌+◌, ℕ, List, Option, Some, None, IfSome, take}
 use Rattle.std.specs.Option.{option_map}
-use Rattle.sec1_dump.specs.Picture.{limit}
+use Rattle.sec1_dump.specs.Shown.{limit}
 use Rattle.sec1_dump.proofs.output.read_input.Goals as goal
 
 -- what was read of at most n bytes is the first n of them

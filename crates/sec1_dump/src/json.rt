@@ -1,0 +1,192 @@
+//! The pictures of an input as lines of JSON.
+ghost use Rattle.std.specs.Prelude.{◌≡◌, ◌*◌, ◌+◌, ◌≤◌, ◌||◌, List, ℕ, IfOk, OnOk, false, length};
+ghost use Rattle.std.specs.Prelude.{None, option_map};
+ghost use Rattle.std.specs.Io.KnownBytes.{Appends};
+ghost use Rattle.serde_json.specs.View.{view};
+ghost use Rattle.serde_json.specs.Written.{has_float};
+ghost use Rattle.der_view.specs.Contents.{IsFound, bytes_in};
+ghost use Rattle.der_view.specs.Pictures.{AreRows};
+ghost use Rattle.der_view.specs.Sources.{source_len, text_len};
+ghost use Rattle.der_view.specs.declared.row.OpenRow.{OpenRow};
+ghost use Rattle.der_view.specs.declared.text.Source.{Source};
+ghost use Rattle.sec1_dump.specs.Json.{AreJson, IsJson, IsJsonOfSource, json_line, note_verdict};
+ghost use Rattle.sec1_dump.specs.Json.{picture_bytes, rows_lines};
+ghost use Rattle.sec1_dump.specs.Objects.{last_data, row_data};
+
+use crate::objects::{front_object, last_object, row_object};
+use crate::output::Failure;
+use crate::text::write_ascii;
+use der_view::{Found, Note, OpenRow, Reading, Rows, Source, Sources, Subject, is_key};
+use serde_json::Value;
+use std::alloc::Global;
+use std::io;
+use std::io::Write as _;
+
+/// Writes the lines of JSON of an input: of DER, or of what its text encodes. Returns whether some
+/// part of it is a key (RFC 5915 section 3). With `all` every content is shown.
+///
+/// `room` is memory for what is decoded.
+///
+/// # Errors
+///
+/// Output if a write failed, Memory if an allocation failed.
+pub(crate) fn write_json<W: io::Write>(
+    alloc: Global,
+    writer: &mut W,
+    all: bool,
+    file: Option<&str>,
+    input: &[u8],
+    room: &mut [u8],
+) -> Result<bool, Failure>
+    requires { 2 * text_len input.now + 2 ≤ length room.old }
+    ensures { IfOk result (λ has_key. (sources : List Source) × (text : List ℕ)
+        × Appends (W.contents writer.old) (W.contents writer.new) text
+        × AreJson all (option_map (λ name. name.now) file.entry) sources text has_key) }
+{
+    let (digits, decoded) = room.split_at_mut(room.len() / 2 - 1);
+    let mut sources = Sources::new(input);
+    let mut has_key = false;
+    while let Some(source) = sources.next_source() {
+        let is_key = write_source(alloc, writer, all, file, &source, digits, decoded)?;
+        has_key = either(has_key, is_key);
+    }
+    Ok(has_key)
+}
+
+/// Returns `true` if one of two is.
+fn either(first: bool, second: bool) -> bool
+    ensures { result ≡ first || second }
+{
+    first || second
+}
+
+/// Writes the lines of a source. Returns whether it is a key's.
+fn write_source<W: io::Write>(
+    alloc: Global,
+    writer: &mut W,
+    all: bool,
+    file: Option<&str>,
+    source: &Source,
+    digits: &mut [u8],
+    decoded: &mut [u8],
+) -> Result<bool, Failure>
+    requires digits { source_len source.now ≤ length digits.old }
+    requires decoded { source_len source.now + 2 ≤ length decoded.old }
+    ensures { IfOk result (λ is_key. (text : List ℕ)
+        × Appends (W.contents writer.old) (W.contents writer.new) text
+        × IsJsonOfSource all (option_map (λ name. name.now) file.entry) source.now text is_key) }
+{
+    let found = source.find(digits, decoded);
+    let bytes = picture_bytes(source, &found, decoded);
+    let front = front_object(alloc, file, source, &found, bytes)?;
+    write_object(alloc, writer, &front)?;
+    match bytes {
+        Some(bytes) => write_bytes(alloc, writer, all, bytes, source.reading()),
+        None => write_note(alloc, writer, &found),
+    }
+}
+
+/// Borrows the bytes that a picture is drawn of: those of DER, or those that were decoded; `None` if
+/// there are none.
+fn picture_bytes<'a>(source: &Source<'a>, found: &Found, decoded: &'a [u8]) -> Option<&'a [u8]>
+    requires { IsFound (bytes_in source.now) found.now decoded.now }
+    ensures { option_map (λ bytes. bytes.now) result ≡ picture_bytes source.now }
+{
+    match (source, found) {
+        (Source::Der(input), _) => Some(*input),
+        (_, Found::Decoded(_, len)) => Some(&decoded[..*len]),
+        _ => None,
+    }
+}
+
+/// Writes an object and the end of its line.
+///
+/// # Errors
+///
+/// Output if a write failed, Memory if an allocation failed.
+fn write_object<W: io::Write>(
+    alloc: Global,
+    writer: &mut W,
+    object: &Value,
+) -> Result<(), Failure>
+    requires { has_float (view object.now) ≡ false }
+    ensures { OnOk result
+        (Appends (W.contents writer.old) (W.contents writer.new) (json_line (view object.now))) }
+{
+    let text = object.to_string(alloc)?;
+    write_ascii(writer, text.as_str()).map_err(Failure::Output)?;
+    writer.write_all(b"\n").map_err(Failure::Output)
+}
+
+/// Writes the line of what is said of a source that isn't drawn. Returns `false`: it is no key's.
+fn write_note<W: io::Write>(
+    alloc: Global,
+    writer: &mut W,
+    found: &Found,
+) -> Result<bool, Failure>
+    ensures { IfOk result (λ is_key. (is_key ≡ false) × ((note : Note)
+        × Appends (W.contents writer.old) (W.contents writer.new)
+        (json_line (last_data false None (note_verdict note))))) }
+{
+    let note = match found {
+        Found::Note(note) => *note,
+        _ => Note {
+            heading: "",
+            words: "",
+            command: None,
+        },
+    };
+    let object = last_object(alloc, false, None, note.words.as_bytes(), "", note.command)?;
+    write_object(alloc, writer, &object)?;
+    Ok(false)
+}
+
+/// Writes the lines of bytes. Returns whether they are a key's.
+fn write_bytes<W: io::Write>(
+    alloc: Global,
+    writer: &mut W,
+    all: bool,
+    bytes: &[u8],
+    reading: Reading,
+) -> Result<bool, Failure>
+    ensures { IfOk result (λ is_key. (text : List ℕ)
+        × Appends (W.contents writer.old) (W.contents writer.new) text
+        × IsJson all reading bytes.now text is_key) }
+{
+    write_rows(alloc, writer, all, bytes)?;
+    let is_key = is_key(bytes);
+    let subject = Subject::new(bytes, reading);
+    let mut verdict = subject.verdict(is_key);
+    verdict.words.finish();
+    let words = verdict.words.as_bytes();
+    let marked = subject.marked();
+    let object = last_object(alloc, is_key, marked, words, verdict.lead, verdict.command)?;
+    write_object(alloc, writer, &object)?;
+    Ok(is_key)
+}
+
+/// Writes the lines of the rows of bytes.
+fn write_rows<W: io::Write>(
+    alloc: Global,
+    writer: &mut W,
+    all: bool,
+    bytes: &[u8],
+) -> Result<(), Failure>
+    ensures { OnOk result ((rows : List OpenRow) × AreRows all bytes.now rows
+        × Appends (W.contents writer.old) (W.contents writer.new) (rows_lines rows)) }
+{
+    let mut rows = Rows::new(bytes, all);
+    while let Some(row) = rows.next_row() {
+        write_row(alloc, writer, &row)?;
+    }
+    Ok(())
+}
+
+/// Writes the line of a row.
+fn write_row<W: io::Write>(alloc: Global, writer: &mut W, row: &OpenRow) -> Result<(), Failure>
+    ensures { OnOk result
+        (Appends (W.contents writer.old) (W.contents writer.new) (json_line (row_data row.now))) }
+{
+    let object = row_object(alloc, row)?;
+    write_object(alloc, writer, &object)
+}
