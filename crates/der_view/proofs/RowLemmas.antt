@@ -186,7 +186,7 @@ content_here input left offset row at same =
 hidden_rows : (input : List ℕ) (rows : List OpenRow) (old new : Undrawn) → AreRowsOf rows old new
     → old.left ≡ drop old.offset input → old.all ≡ false → All (HidesContent old.plan.guarded input) rows
 hidden_rows input [] old new d at none = All-nil (HidesContent old.plan.guarded input)
-hidden_rows input (row ∷ rows) old new (between, is, open, more) at none =
+hidden_rows input (row ∷ rows) old new (between, is, seen, more) at none =
     let n = row_len row in
     let rest : between.left ≡ drop between.offset input =
     is.left ∙ rw (at, is.offset) (drop-drop n old.offset input) in
@@ -194,7 +194,7 @@ hidden_rows input (row ∷ rows) old new (between, is, open, more) at none =
     let tail : All (HidesContent between.plan.guarded input) rows =
     hidden_rows input rows between new more rest (is.all ∙ none) in
     All-cons (HidesContent old.plan.guarded input) row rows
-    (record { content = open.hidden none; shown = rw here at open.shown })
+    (record { content = seen.hidden none; shown = rw here at seen.shown })
     (rw is.plan at tail)
 
 pub contents_are_hidden : ContentsAreHidden

@@ -1,4 +1,5 @@
 -- The lines of JSON of rows and of sources, and of one more of them.
+use denote.Bor.{Bor}
 use Rattle.std.proofs.Common.{◌≡◌, ℕ, Bool, true, false, ◌||◌, List, [], ◌∷◌, ◌++◌, Option, Some, None, refl, sym, ap}
 use Rattle.std.proofs.Common.{◌∙◌, append_assoc, append-nil, Result, Ok, Err, IfOk}
 use Rattle.std.proofs.KnownBytes.{Appends-trans}
@@ -7,14 +8,15 @@ use Rattle.serde_json.specs.Data.{Data}
 use Rattle.der_view.specs.Contents.{IsFound, bytes_in}
 use Rattle.der_view.specs.Inputs.{reading_of}
 use Rattle.der_view.specs.Pictures.{AreRows, IsKey, IsSubject, verdict_on}
+use Rattle.der_view.specs.Verdicts.{VerdictView}
 use Rattle.der_view.specs.declared.picture.verdict.Reading.{Reading}
 use Rattle.der_view.specs.declared.picture.verdict.Subject.{Subject}
 use Rattle.der_view.specs.declared.row.OpenRow.{OpenRow}
 use Rattle.der_view.specs.declared.text.Found.{Found}
 use Rattle.der_view.specs.declared.text.Source.{Source}
-use Rattle.der_view.specs.declared.text.note.Note.{Note}
+use Rattle.der_view.specs.declared.text.Source.TheVariants as sources
 use Rattle.sec1_dump.specs.Json.{AreJson, IsJson, IsJsonOfSource, IsJsonUnlessNone, json_line, picture_bytes, rows_lines}
-use Rattle.sec1_dump.specs.Json.{note_verdict, shown_verdict}
+use Rattle.sec1_dump.specs.Json.{found_verdict, shown_verdict}
 use Rattle.sec1_dump.specs.Objects.{front_data, last_data, row_data}
 
 rows_lines-snoc : (rows : List OpenRow) (row : OpenRow)
@@ -65,63 +67,69 @@ AreJson-snoc all file (first ∷ sources) source text more has_key is_key
     )
 
 -- the lines of a source, from the first one and the others
-pub source_written : (a b c : Option (List ℕ)) (all : Bool) (file : Option (List ℕ)) (source : Source) (found : Found)
-    (memory : List ℕ) (front : Data) (rest : List ℕ) (is_key : Bool) → IsFound (bytes_in source) found memory
-    → front ≡ front_data file source found (picture_bytes source) → Appends a b (json_line front) → Appends b c rest
-    → IsJsonUnlessNone all (reading_of source) (picture_bytes source) rest is_key
-    → (text : List ℕ) × Appends a c text × IsJsonOfSource all file source text is_key
-source_written a b c all file source found memory front rest is_key is_found whole first next is = (
-  json_line front ++ rest,
-  Appends-trans a b c (json_line front) rest first next,
-  record {
-    found = found;
-    memory = memory;
-    rest = rest;
-    is_found = is_found;
-    whole = ap (λ d. json_line d ++ rest) whole;
-    is_rest = is;
-  },
-)
-
 pub source_shown : {E : Type 0} (a b c : Option (List ℕ)) (all : Bool) (file : Option (List ℕ)) (source : Source)
-    (found : Found) (memory : List ℕ) (front : Data) (bytes : List ℕ) (reading : Reading) (r : Result Bool E)
-    → IsFound (bytes_in source) found memory → front ≡ front_data file source found (picture_bytes source)
-    → picture_bytes source ≡ Some bytes → reading ≡ reading_of source → Appends a b (json_line front)
-    → IfOk r (λ is_key. (text : List ℕ) × Appends b c text × IsJson all reading bytes text is_key)
+    (found : Found) (memory : List ℕ) (front : Data) (bytes : Option (List ℕ)) (reading : Reading) (r : Result Bool E)
+    → IsFound (bytes_in source) found memory → front ≡ front_data file source found → picture_bytes source ≡ bytes
+    → reading ≡ reading_of source → Appends a b (json_line front)
+    → IfOk r (λ is_key. (text : List ℕ) × Appends b c text × IsJsonUnlessNone all reading found bytes text is_key)
     → IfOk r (λ is_key. (text : List ℕ) × Appends a c text × IsJsonOfSource all file source text is_key)
 source_shown a b c all file source found memory front bytes reading (Ok is_key) is_found whole same read first
-    (rest, next, is) =
-    source_written a b c all file source found memory front rest is_key is_found whole first next
-    (rw (same, sym read) is)
+    (rest, next, is) = (
+      json_line front ++ rest,
+      Appends-trans a b c (json_line front) rest first next,
+      record {
+        found = found;
+        memory = memory;
+        rest = rest;
+        is_found = is_found;
+        whole = ap (λ d. json_line d ++ rest) whole;
+        is_rest = rw (same, sym read) is;
+      },
+    )
 source_shown a b c all file source found memory front bytes reading (Err e) is_found whole same read first none = none
 
-pub source_noted : {E : Type 0} (a b c : Option (List ℕ)) (all : Bool) (file : Option (List ℕ)) (source : Source)
-    (found : Found) (memory : List ℕ) (front : Data) (r : Result Bool E) → IsFound (bytes_in source) found memory
-    → front ≡ front_data file source found (picture_bytes source) → picture_bytes source ≡ None
-    → Appends a b (json_line front)
-    → IfOk r (λ is_key. (is_key ≡ false)
-    × ((note : Note) × Appends b c (json_line (last_data false None (note_verdict note)))))
-    → IfOk r (λ is_key. (text : List ℕ) × Appends a c text × IsJsonOfSource all file source text is_key)
-source_noted a b c all file source found memory front (Ok is_key) is_found whole none first (never, note, next) =
-    source_written a b c all file source found memory front (json_line (last_data false None (note_verdict note))) is_key
-    is_found whole first next (rw none (note, refl, never))
-source_noted a b c all file source found memory front (Err e) is_found whole none first nothing = nothing
+-- the bytes of a source that isn't DER
+pub decoded_bytes : (source : Source) → ((input : Bor (List ℕ)) → source ≡ sources.Der input → ⊥)
+    → picture_bytes source ≡ bytes_in source
+decoded_bytes (sources.Der input) other = absurd (other input refl)
+decoded_bytes (sources.Pem block is_read) other = refl
+decoded_bytes (sources.Text text) other = refl
+decoded_bytes sources.Utf16 other = refl
+
+-- the lines of bytes that were decoded, and the line of what is said of none
+pub bytes_found : {E : Type 0} (a b : Option (List ℕ)) (all : Bool) (reading read : Reading) (found : Found)
+    (some : Option (List ℕ)) (bytes : List ℕ) (r : Result Bool E) → reading ≡ read → some ≡ Some bytes
+    → IfOk r (λ is_key. (text : List ℕ) × Appends a b text × IsJson all reading bytes text is_key)
+    → IfOk r (λ is_key. (text : List ℕ) × Appends a b text × IsJsonUnlessNone all read found some text is_key)
+bytes_found a b all reading read found some bytes (Ok is_key) same is_some (text, wrote, is) =
+    (text, wrote, rw (is_some, sym same) is)
+bytes_found a b all reading read found some bytes (Err e) same is_some none = none
+
+pub none_found : {E : Type 0} (a b : Option (List ℕ)) (all : Bool) (read : Reading) (found : Found)
+    (bytes : Option (List ℕ)) (r : Result Bool E) → bytes ≡ None
+    → IfOk r (λ is_key. (is_key ≡ false) × Appends a b (json_line (last_data false None (found_verdict found))))
+    → IfOk r (λ is_key. (text : List ℕ) × Appends a b text × IsJsonUnlessNone all read found bytes text is_key)
+none_found a b all read found bytes (Ok is_key) none (never, wrote) =
+    (json_line (last_data false None (found_verdict found)), wrote, rw none (refl, never))
+none_found a b all read found bytes (Err e) none nothing = nothing
 
 -- the lines of bytes, from those of their rows and the last one
 pub bytes_written : (a b c : Option (List ℕ)) (all : Bool) (reading : Reading) (bytes : List ℕ) (is_key : Bool)
-    (rows : List OpenRow) (subject : Subject) (last : Data) → AreRows all bytes rows → IsSubject bytes reading subject
-    → IsKey bytes is_key → last ≡ last_data is_key subject.facts.marked (shown_verdict (verdict_on subject is_key))
-    → Appends a b (rows_lines rows) → Appends b c (json_line last)
+    (rows : List OpenRow) (subject : Subject) (marked : Option ℕ) (verdict : VerdictView) → AreRows all bytes rows
+    → IsSubject bytes reading subject → IsKey bytes is_key → marked ≡ subject.facts.marked
+    → verdict ≡ verdict_on subject is_key → Appends a b (rows_lines rows)
+    → Appends b c (json_line (last_data is_key marked (shown_verdict verdict)))
     → (text : List ℕ) × Appends a c text × IsJson all reading bytes text is_key
-bytes_written a b c all reading bytes is_key rows subject last are_rows is_subject key said first next = (
-  rows_lines rows ++ json_line last,
-  Appends-trans a b c (rows_lines rows) (json_line last) first next,
-  record {
-    rows = rows;
-    subject = subject;
-    are_rows = are_rows;
-    is_subject = is_subject;
-    key = key;
-    whole = ap (λ d. rows_lines rows ++ json_line d) said;
-  },
-)
+bytes_written a b c all reading bytes is_key rows subject marked verdict are_rows is_subject key at said first next =
+    let last : List ℕ = json_line (last_data is_key marked (shown_verdict verdict)) in (
+      rows_lines rows ++ last,
+      Appends-trans a b c (rows_lines rows) last first next,
+      record {
+        rows = rows;
+        subject = subject;
+        are_rows = are_rows;
+        is_subject = is_subject;
+        key = key;
+        whole = rw (at, said) refl;
+      },
+    )

@@ -1,2 +1,4 @@
+pub mod JsonLemmas
 pub mod ObjectLemmas
+pub mod ShownLemmas
 pub mod TextLemmas

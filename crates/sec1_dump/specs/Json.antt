@@ -13,9 +13,9 @@ use Rattle.der_view.specs.declared.picture.verdict.Reading.{Reading}
 use Rattle.der_view.specs.declared.picture.verdict.Subject.{Subject}
 use Rattle.der_view.specs.declared.row.OpenRow.{OpenRow}
 use Rattle.der_view.specs.declared.text.Found.{Found}
+use Rattle.der_view.specs.declared.text.Found.TheVariants as founds
 use Rattle.der_view.specs.declared.text.Source.{Source}
 use Rattle.der_view.specs.declared.text.Source.TheVariants as sources
-use Rattle.der_view.specs.declared.text.note.Note.{Note}
 use Rattle.sec1_dump.specs.Objects.{front_data, last_data, row_data}
 use Rattle.sec1_dump.specs.Text.{ascii_text}
 
@@ -35,13 +35,14 @@ shown_verdict verdict = record {
   command = verdict.command;
 }
 
--- what is said of a source that isn't drawn
-abbrev pub note_verdict : Note → VerdictView
-note_verdict note = record {
+-- what is said of a source in which no bytes were found
+abbrev pub found_verdict : Found → VerdictView
+found_verdict (founds.Note note) = record {
   words = note.words.now;
   lead = [];
   command = option_map (λ command. command.now) note.command;
 }
+found_verdict found = record { words = []; lead = []; command = None }
 
 -- the lines of bytes: of their rows, and of what is said of them
 pub record IsJson (all : Bool) (reading : Reading) (bytes text : List ℕ)
@@ -62,12 +63,12 @@ abbrev pub picture_bytes : Source → Option (List ℕ)
 picture_bytes (sources.Der input) = Some input.now
 picture_bytes source = bytes_in source
 
--- the lines of bytes, or else the line of what is said of the source, which is no key
-abbrev pub IsJsonUnlessNone : Bool → Reading → Option (List ℕ) → List ℕ → Bool → Type 0
-IsJsonUnlessNone all reading (Some bytes) text is_key = IsJson all reading bytes text is_key
-IsJsonUnlessNone all reading None text is_key =
-    (note : Note) × (text ≡ json_line (last_data false None (note_verdict note)))
-    × (is_key ≡ false)
+-- the lines of bytes, or else the line of what is said of a source in which this was found, which
+-- is no key
+abbrev pub IsJsonUnlessNone : Bool → Reading → Found → Option (List ℕ) → List ℕ → Bool → Type 0
+IsJsonUnlessNone all reading found (Some bytes) text is_key = IsJson all reading bytes text is_key
+IsJsonUnlessNone all reading found None text is_key =
+    (text ≡ json_line (last_data false None (found_verdict found))) × (is_key ≡ false)
 
 -- the lines of a source of a file with this name
 pub record IsJsonOfSource (all : Bool) (file : Option (List ℕ)) (source : Source)
@@ -76,8 +77,8 @@ pub record IsJsonOfSource (all : Bool) (file : Option (List ℕ)) (source : Sour
   pub memory : List ℕ
   pub rest : List ℕ
   pub is_found : IsFound (bytes_in source) found memory
-  pub whole : text ≡ json_line (front_data file source found (picture_bytes source)) ++ rest
-  pub is_rest : IsJsonUnlessNone all (reading_of source) (picture_bytes source) rest is_key
+  pub whole : text ≡ json_line (front_data file source found) ++ rest
+  pub is_rest : IsJsonUnlessNone all (reading_of source) found (picture_bytes source) rest is_key
 
 -- the lines of sources, of which one is a key's or none
 abbrev pub AreJson : Bool → Option (List ℕ) → List Source → List ℕ → Bool → Type 0

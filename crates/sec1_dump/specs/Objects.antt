@@ -10,7 +10,6 @@ use Rattle.der_view.specs.Lines.{kept}
 use Rattle.der_view.specs.Marks.{mark_kind, mark_part, mark_words}
 use Rattle.der_view.specs.RowLines.{point_text, row_value}
 use Rattle.der_view.specs.Values.{ValueView, type_name}
-use Rattle.der_view.specs.Values.ValueView as values
 use Rattle.der_view.specs.Verdicts.{VerdictView}
 use Rattle.der_view.specs.declared.field.Field.{Field}
 use Rattle.der_view.specs.declared.header.Class.{Class}
@@ -115,15 +114,15 @@ faults_data (Some first) (Some second) =
 
 -- X.690 section 8.19: the arcs of an identifier
 abbrev pub oid_data : Option ValueView → Option Data
-oid_data (Some (values.Identifier name arcs)) = Some (string (dotted arcs))
+oid_data (Some (ValueView.Identifier name arcs)) = Some (string (dotted arcs))
 oid_data value = None
 
 -- a value, as a picture shows it
 abbrev pub value_data : Option ValueView → Option Data
-value_data (Some (values.Text text)) = Some (string text)
-value_data (Some (values.Time time end)) = Some (string (text_of time ++ text_of end))
-value_data (Some (values.Identifier (Some name) arcs)) = Some (string name.name)
-value_data (Some (values.String characters)) = Some (string (text_of characters))
+value_data (Some (ValueView.Text text)) = Some (string text)
+value_data (Some (ValueView.Time time end)) = Some (string (text_of time ++ text_of end))
+value_data (Some (ValueView.Identifier (Some name) arcs)) = Some (string name.name)
+value_data (Some (ValueView.String characters)) = Some (string (text_of characters))
 value_data value = None
 
 -- SEC1 v2.0 section 2.3.3: the form and the size of a point, or else the value
@@ -167,15 +166,20 @@ with_block (sources.Pem block is_read) members =
     (put (codes "label") (string (text_of block.label.now)) members)
 with_block source members = members
 
+-- the number of bytes in which this was found, if there are some
+abbrev pub found_len : Source → Found → Option ℕ
+found_len (sources.Der input) found = Some (length input.now)
+found_len source (founds.Decoded encoding len) = Some len
+found_len source found = None
+
 -- the first object of a picture: the file, if it has a name, how it is encoded, and the number of
 -- the bytes that are drawn
-abbrev pub front_data : Option (List ℕ) → Source → Found → Option (List ℕ) → Data
-front_data file source found bytes =
+abbrev pub front_data : Option (List ℕ) → Source → Found → Data
+front_data file source found =
     object (with_block source
     (put (codes "form") (string (form_text source found))
     (put_if (codes "file") (option_map string file)
-    (put_if (codes "bytes") (option_map (λ bytes. count_data (length bytes)) bytes)
-    no_members))))
+    (put_if (codes "bytes") (option_map count_data (found_len source found)) no_members))))
 
 -- what is said, and behind it what the command does
 abbrev pub words_text : List ℕ → List ℕ → List ℕ

@@ -1,6 +1,6 @@
 -- What a run of the program shows of a file.
 use Rattle.std.specs.Prelude.{◌≡◌, ◌≤◌, ℕ, Bool, true, false, if◌then◌else◌, List, [], ◌++◌}
-use Rattle.std.specs.Prelude.{chars, codes, length, Option, Some, None, Result, Ok, Err, ⊤, ⊥}
+use Rattle.std.specs.Prelude.{chars, codes, length, Option, Some, None, Result, Ok, Err, ⊤}
 use Rattle.std.specs.Io.KnownBytes.{Appends}
 use Rattle.der_view.specs.Characters.{escaped_all}
 use Rattle.der_view.specs.Inputs.{ArePictures}
@@ -45,11 +45,13 @@ pub record IsPrinted (style : Style) (file : Option (List ℕ)) (input text : Li
   pub sources : List Source
   pub lines : AreJson style.all file sources text has_key
 
--- what is shown of an input
+-- what is shown of an input, as JSON or as pictures
+abbrev pub IsShownAs : Bool → Style → Option (List ℕ) → List ℕ → List ℕ → Bool → Type 0
+IsShownAs true style file input text has_key = IsPrinted style file input text has_key
+IsShownAs false style file input text has_key = IsDrawn style file input text has_key
+
 abbrev pub IsShown : Style → Option (List ℕ) → List ℕ → List ℕ → Bool → Type 0
-IsShown style file input text has_key =
-    if style.json then IsPrinted style file input text has_key
-    else IsDrawn style file input text has_key
+IsShown style file input text has_key = IsShownAs style.json style file input text has_key
 
 -- the input isn't too long, and all that is shown of it was written
 pub record Shows (style : Style) (file : Option (List ℕ)) (input : List ℕ)

@@ -5,18 +5,20 @@ ghost use Rattle.std.specs.Io.KnownBytes.{Appends};
 ghost use Rattle.serde_json.specs.View.{view};
 ghost use Rattle.serde_json.specs.Written.{has_float};
 ghost use Rattle.der_view.specs.Contents.{IsFound, bytes_in};
+ghost use Rattle.der_view.specs.Inputs.{reading_of};
 ghost use Rattle.der_view.specs.Pictures.{AreRows};
 ghost use Rattle.der_view.specs.Sources.{source_len, text_len};
+ghost use Rattle.der_view.specs.Verdicts.{verdict_view};
 ghost use Rattle.der_view.specs.declared.row.OpenRow.{OpenRow};
 ghost use Rattle.der_view.specs.declared.text.Source.{Source};
-ghost use Rattle.sec1_dump.specs.Json.{AreJson, IsJson, IsJsonOfSource, json_line, note_verdict};
-ghost use Rattle.sec1_dump.specs.Json.{picture_bytes, rows_lines};
+ghost use Rattle.sec1_dump.specs.Json.{AreJson, IsJson, IsJsonOfSource, IsJsonUnlessNone};
+ghost use Rattle.sec1_dump.specs.Json.{found_verdict, json_line, rows_lines, shown_verdict};
 ghost use Rattle.sec1_dump.specs.Objects.{last_data, row_data};
 
 use crate::objects::{front_object, last_object, row_object};
 use crate::output::Failure;
 use crate::text::write_ascii;
-use der_view::{Found, Note, OpenRow, Reading, Rows, Source, Sources, Subject, is_key};
+use der_view::{Found, OpenRow, Reading, Rows, Source, Sources, Subject, Verdict, is_key};
 use serde_json::Value;
 use std::alloc::Global;
 use std::io;
@@ -77,25 +79,36 @@ fn write_source<W: io::Write>(
         × IsJsonOfSource all (option_map (λ name. name.now) file.entry) source.now text is_key) }
 {
     let found = source.find(digits, decoded);
-    let bytes = picture_bytes(source, &found, decoded);
-    let front = front_object(alloc, file, source, &found, bytes)?;
+    let front = front_object(alloc, file, source, &found)?;
     write_object(alloc, writer, &front)?;
-    match bytes {
-        Some(bytes) => write_bytes(alloc, writer, all, bytes, source.reading()),
-        None => write_note(alloc, writer, &found),
+    if let Source::Der(input) = source {
+        return write_bytes(alloc, writer, all, *input, Reading::Der);
     }
+    write_found(alloc, writer, all, source, &found, decoded)
 }
 
-/// Borrows the bytes that a picture is drawn of: those of DER, or those that were decoded; `None` if
-/// there are none.
-fn picture_bytes<'a>(source: &Source<'a>, found: &Found, decoded: &'a [u8]) -> Option<&'a [u8]>
+/// Writes the lines of the bytes that were decoded of a text, or of what is said of a text that
+/// encodes none. Returns whether they are a key's.
+fn write_found<W: io::Write>(
+    alloc: Global,
+    writer: &mut W,
+    all: bool,
+    source: &Source,
+    found: &Found,
+    decoded: &[u8],
+) -> Result<bool, Failure>
     requires { IsFound (bytes_in source.now) found.now decoded.now }
-    ensures { option_map (λ bytes. bytes.now) result ≡ picture_bytes source.now }
+    ensures { IfOk result (λ is_key. (text : List ℕ)
+        × Appends (W.contents writer.old) (W.contents writer.new) text
+        × IsJsonUnlessNone all (reading_of source.now) found.now (bytes_in source.now) text
+        is_key) }
 {
-    match (source, found) {
-        (Source::Der(input), _) => Some(*input),
-        (_, Found::Decoded(_, len)) => Some(&decoded[..*len]),
-        _ => None,
+    match found {
+        Found::Decoded(_, len) => {
+            write_bytes(alloc, writer, all, &decoded[..*len], source.reading())
+        }
+        Found::Note(_) => write_note(alloc, writer, found),
+        Found::Der => write_note(alloc, writer, found),
     }
 }
 
@@ -118,25 +131,19 @@ fn write_object<W: io::Write>(
     writer.write_all(b"\n").map_err(Failure::Output)
 }
 
-/// Writes the line of what is said of a source that isn't drawn. Returns `false`: it is no key's.
-fn write_note<W: io::Write>(
-    alloc: Global,
-    writer: &mut W,
-    found: &Found,
-) -> Result<bool, Failure>
-    ensures { IfOk result (λ is_key. (is_key ≡ false) × ((note : Note)
+/// Writes the line of what is said of a source in which no bytes were found. Returns `false`: it is
+/// no key's.
+fn write_note<W: io::Write>(alloc: Global, writer: &mut W, found: &Found) -> Result<bool, Failure>
+    ensures { IfOk result (λ is_key. (is_key ≡ false)
         × Appends (W.contents writer.old) (W.contents writer.new)
-        (json_line (last_data false None (note_verdict note))))) }
+        (json_line (last_data false None (found_verdict found.now)))) }
 {
-    let note = match found {
-        Found::Note(note) => *note,
-        _ => Note {
-            heading: "",
-            words: "",
-            command: None,
-        },
+    let object = match found {
+        Found::Note(note) => {
+            last_object(alloc, false, None, note.words.as_bytes(), "", note.command)?
+        }
+        _ => last_object(alloc, false, None, b"", "", None)?,
     };
-    let object = last_object(alloc, false, None, note.words.as_bytes(), "", note.command)?;
     write_object(alloc, writer, &object)?;
     Ok(false)
 }
@@ -156,13 +163,30 @@ fn write_bytes<W: io::Write>(
     write_rows(alloc, writer, all, bytes)?;
     let is_key = is_key(bytes);
     let subject = Subject::new(bytes, reading);
-    let mut verdict = subject.verdict(is_key);
-    verdict.words.finish();
-    let words = verdict.words.as_bytes();
-    let marked = subject.marked();
-    let object = last_object(alloc, is_key, marked, words, verdict.lead, verdict.command)?;
-    write_object(alloc, writer, &object)?;
+    write_verdict(alloc, writer, is_key, subject.marked(), subject.verdict(is_key))?;
     Ok(is_key)
+}
+
+/// Writes the line of what is said of bytes, of which the first mark is at this offset.
+fn write_verdict<W: io::Write>(
+    alloc: Global,
+    writer: &mut W,
+    is_key: bool,
+    marked: Option<usize>,
+    verdict: Verdict,
+) -> Result<(), Failure>
+    ensures { OnOk result (Appends (W.contents writer.old) (W.contents writer.new)
+        (json_line (last_data is_key marked (shown_verdict (verdict_view verdict))))) }
+{
+    let Verdict {
+        words,
+        lead,
+        command,
+    } = verdict;
+    let mut words = words;
+    words.finish();
+    let object = last_object(alloc, is_key, marked, words.as_bytes(), lead, command)?;
+    write_object(alloc, writer, &object)
 }
 
 /// Writes the lines of the rows of bytes.

@@ -92,12 +92,8 @@ impl<'r, H: AllocGlobal + Env + Eprint + Files + Input + Print> Program<'r, H> {
         told.is_ok() && !matches!(&failure, Failure::Output(_))
     }
 
-    /// Shows these files, or standard input if there are none. Returns the greatest of their
-    /// statuses.
+    /// Shows these files. Returns the greatest of their statuses.
     fn run(&self, paths: &[&str]) -> u8 {
-        if paths.is_empty() {
-            return self.status(None).1;
-        }
         let mut status = 0;
         for path in paths {
             let (goes_on, ended) = self.status(Some(*path));
@@ -116,6 +112,24 @@ impl<'r, H: AllocGlobal + Env + Eprint + Files + Input + Print> Program<'r, H> {
         match shown {
             Ok(_) => (true, status),
             Err(failure) => (self.tell(path, failure), status),
+        }
+    }
+}
+
+/// Shows the files that the arguments name, or standard input if they name none. Returns the
+/// status.
+fn dump<H: AllocGlobal + Env + Eprint + Files + Input + Print>(rt: &H, matches: &ArgMatches) -> u8 {
+    let style = Style {
+        all: matches.get_flag("all"),
+        json: matches.get_flag("json"),
+        named: false,
+    };
+    match matches.get_strs("FILE") {
+        None => Program { rt, style }.status(None).1,
+        Some(paths) => {
+            let named = paths.len() > 1;
+            let style = Style { named, ..style };
+            Program { rt, style }.run(paths)
         }
     }
 }
@@ -149,23 +163,10 @@ fn run<H: AllocGlobal + Env + Eprint + Files + Input + Print>(rt: &H) -> Result<
         return Ok(2);
     };
     let words: Vec<String> = arguments.collect(alloc)?;
-    let matches = match parsed(alloc, words.as_slice()) {
-        Ok(matches) => matches,
-        Err(error) => return Ok(tell_arguments(rt, error)),
-    };
-    let paths = match matches.get_strs("FILE") {
-        Some(paths) => paths,
-        None => &[],
-    };
-    let program = Program {
-        rt,
-        style: Style {
-            all: matches.get_flag("all"),
-            json: matches.get_flag("json"),
-            named: paths.len() > 1,
-        },
-    };
-    Ok(program.run(paths))
+    match parsed(alloc, words.as_slice()) {
+        Ok(matches) => Ok(dump(rt, &matches)),
+        Err(error) => Ok(tell_arguments(rt, error)),
+    }
 }
 
 fn main(rt: HostRuntime) -> ExitCode {

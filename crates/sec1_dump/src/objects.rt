@@ -1,22 +1,23 @@
 //! The objects of JSON: of a row, and the first and the last one of a picture.
-ghost use Rattle.std.specs.Prelude.{◌≡◌, ◌++◌, IfOk, OnOk, length, option_map, string_bytes};
+ghost use Rattle.std.specs.Prelude.{◌≡◌, ◌++◌, IfOk, OnOk, Some, option_map, string_bytes};
 ghost use Rattle.hex.specs.Hex.{encode_upper};
 ghost use Rattle.sec1_der.specs.Identifiers.{dotted};
 ghost use Rattle.serde_json.specs.Data.{string};
 ghost use Rattle.serde_json.specs.View.{members_view, view};
 ghost use Rattle.der_view.specs.Characters.{codes_of};
+ghost use Rattle.der_view.specs.RowLines.{point_text, row_value};
 ghost use Rattle.der_view.specs.Values.{arcs_view, value_view};
 ghost use Rattle.sec1_dump.specs.Objects.{announced_data, class_text, count_data, fault_data};
-ghost use Rattle.sec1_dump.specs.Objects.{faults_data, flag_data, form_text, front_data, last_data};
-ghost use Rattle.sec1_dump.specs.Objects.{len_data, line_data, name_data, oid_data, put_if};
+ghost use Rattle.sec1_dump.specs.Objects.{faults_data, flag_data, form_text, found_len, front_data};
+ghost use Rattle.sec1_dump.specs.Objects.{last_data, len_data, line_data, name_data, oid_data, put_if};
 ghost use Rattle.sec1_dump.specs.Objects.{row_data, shown_data, text_data, type_text, value_data};
 ghost use Rattle.sec1_dump.specs.Objects.{with_block, with_content, with_field, with_place};
 ghost use Rattle.sec1_dump.specs.Objects.{with_tag, words_data};
 ghost use Rattle.sec1_dump.specs.Text.{text_of};
 
 use crate::text::push_characters;
-use der_view::{Arcs, Characters, Class, Encoding, Field, Found, Kind, Line, Mark, OpenRow, Shown};
-use der_view::{Source, Value as Content};
+use der_view::{Arcs, Characters, Class, Encoding, Field, Found, Kind, Line, Mark, OpenRow, Point};
+use der_view::{Shown, Source, Value as Content};
 use itoa::Buffer;
 use serde_json::{Map, Value, json, put};
 use std::alloc::{AllocError, Global};
@@ -205,17 +206,27 @@ fn dotted(alloc: Global, arcs: Arcs) -> Result<String, AllocError>
     Ok(text)
 }
 
-/// Returns the arcs of an identifier. Fails only if an allocation fails.
-fn oid(alloc: Global, content: Option<Content>) -> Result<Option<Value>, AllocError>
+/// Returns the arcs of an identifier, if the content is one. Fails only if an allocation fails.
+fn oid(alloc: Global, content: &Content) -> Result<Option<Value>, AllocError>
     ensures { IfOk result
-        (λ value. option_map view value ≡ oid_data (option_map value_view content.entry)) }
+        (λ value. option_map view value ≡ oid_data (Some (value_view content.now))) }
 {
     match content {
-        Some(Content::Identifier(_, arcs)) => {
-            let text = dotted(alloc, arcs)?;
+        Content::Identifier(_, arcs) => {
+            let text = dotted(alloc, *arcs)?;
             Ok(Some(Value::from(text)))
         }
         _ => Ok(None),
+    }
+}
+
+/// Returns the arcs of the identifier in a row, if there is one. Fails only if an allocation fails.
+fn oid_in(alloc: Global, row: &OpenRow) -> Result<Option<Value>, AllocError>
+    ensures { IfOk result (λ value. option_map view value ≡ oid_data (row_value row.now)) }
+{
+    match row.value() {
+        Some(content) => oid(alloc, &content),
+        None => Ok(None),
     }
 }
 
@@ -229,42 +240,50 @@ fn time(alloc: Global, time: &[u8], end: &[u8]) -> Result<Value, AllocError>
     Ok(Value::from(text))
 }
 
-/// Returns what a picture shows of a content. Fails only if an allocation fails.
-fn value(alloc: Global, content: Option<Content>) -> Result<Option<Value>, AllocError>
+/// Returns what a picture shows of a content, if it isn't a number of bytes. Fails only if an
+/// allocation fails.
+fn value(alloc: Global, content: &Content) -> Result<Option<Value>, AllocError>
     ensures { IfOk result
-        (λ value. option_map view value ≡ value_data (option_map value_view content.entry)) }
+        (λ value. option_map view value ≡ value_data (Some (value_view content.now))) }
 {
-    let Some(content) = content else {
-        return Ok(None);
-    };
     let value = match content {
         Content::Text(text) => Value::try_from_str(alloc, text.as_str())?,
-        Content::Time(digits, end) => time(alloc, &digits, end)?,
+        Content::Time(digits, end) => time(alloc, digits, *end)?,
         Content::Identifier(Some(name), _) => Value::try_from_str(alloc, name.name)?,
-        Content::String(left) => characters(alloc, left)?,
+        Content::String(left) => characters(alloc, *left)?,
         _ => return Ok(None),
     };
     Ok(Some(value))
 }
 
-/// Returns what is shown of a content: the form of a point, or else the value. Fails only if an
-/// allocation fails.
-fn shown(
-    alloc: Global,
-    shown: Shown,
-    content: Option<Content>,
-) -> Result<Option<Value>, AllocError>
-    ensures { IfOk result (λ value. option_map view value
-        ≡ shown_data shown.entry (option_map value_view content.entry)) }
+/// Returns the value that a row shows, if it does. Fails only if an allocation fails.
+fn value_in(alloc: Global, row: &OpenRow) -> Result<Option<Value>, AllocError>
+    ensures { IfOk result (λ value. option_map view value ≡ value_data (row_value row.now)) }
 {
-    match shown {
-        Shown::Point(point) => {
-            let mut line = Line::new();
-            line.push_point(point);
-            let value = characters(alloc, Characters::latin1(line.as_bytes()))?;
-            Ok(Some(value))
-        }
-        _ => value(alloc, content),
+    match row.value() {
+        Some(content) => value(alloc, &content),
+        None => Ok(None),
+    }
+}
+
+/// Returns the form and the size of a point. Fails only if an allocation fails.
+fn point(alloc: Global, point: Point) -> Result<Value, AllocError>
+    ensures { IfOk result (λ value. view value ≡ line_data (point_text point)) }
+{
+    let mut line = Line::new();
+    line.push_point(point);
+    characters(alloc, Characters::latin1(line.as_bytes()))
+}
+
+/// Returns what a row shows of its content: the form of a point, or else the value. Fails only if
+/// an allocation fails.
+fn shown(alloc: Global, row: &OpenRow) -> Result<Option<Value>, AllocError>
+    ensures { IfOk result
+        (λ value. option_map view value ≡ shown_data row.now.shown (row_value row.now)) }
+{
+    match row.shown {
+        Shown::Point(form) => Ok(Some(point(alloc, form)?)),
+        _ => value_in(alloc, row),
     }
 }
 
@@ -305,12 +324,12 @@ fn put_content(alloc: Global, members: &mut Members, row: &OpenRow) -> Result<()
     put_if(alloc, members, "content", content)?;
     let faults = faults(alloc, row.marks.first(), row.marks.second())?;
     put_if(alloc, members, "faults", faults)?;
-    let oid = oid(alloc, row.value())?;
+    let oid = oid_in(alloc, row)?;
     put_if(alloc, members, "oid", oid)?;
     let row_type = type_of(alloc, row.kind)?;
     put(members, alloc, "type", row_type)?;
-    let value = shown(alloc, row.shown, row.value())?;
-    put_if(alloc, members, "value", value)
+    let shown = shown(alloc, row)?;
+    put_if(alloc, members, "value", shown)
 }
 
 /// Returns the object of a row. Fails only if an allocation fails.
@@ -376,38 +395,38 @@ fn count(count: Option<usize>) -> Option<Value>
     }
 }
 
-/// Returns the first object of a picture, which is drawn of these bytes, or of none. Fails only if
-/// an allocation fails.
+/// Returns the number of bytes in which this was found, if there are some.
+fn found_len(source: &Source, found: &Found) -> Option<usize>
+    ensures { result ≡ found_len source.now found.now }
+{
+    match source {
+        Source::Der(input) => Some(input.len()),
+        _ => match found {
+            Found::Decoded(_, len) => Some(*len),
+            _ => None,
+        },
+    }
+}
+
+/// Returns the first object of the picture of a source in which this was found. Fails only if an
+/// allocation fails.
 pub(crate) fn front_object(
     alloc: Global,
     file: Option<&str>,
     source: &Source,
     found: &Found,
-    bytes: Option<&[u8]>,
 ) -> Result<Value, AllocError>
     ensures { IfOk result (λ value. view value
-        ≡ front_data (option_map (λ text. text.now) file.entry) source.now found.now
-        (option_map (λ bytes. bytes.now) bytes.entry)) }
+        ≡ front_data (option_map (λ text. text.now) file.entry) source.now found.now) }
 {
     let mut members = Map::new(alloc);
-    put_if(alloc, &mut members, "bytes", len_of(bytes))?;
+    put_if(alloc, &mut members, "bytes", count(found_len(source, found)))?;
     let file = text(alloc, file)?;
     put_if(alloc, &mut members, "file", file)?;
     let form = Value::try_from_str(alloc, form_text(source, found))?;
     put(&mut members, alloc, "form", form)?;
     put_block(alloc, &mut members, source)?;
     Ok(Value::from(members))
-}
-
-/// Returns the number of bytes, if there are some.
-fn len_of(bytes: Option<&[u8]>) -> Option<Value>
-    ensures { option_map view result
-        ≡ option_map (λ bytes. count_data (length bytes.now)) bytes.entry }
-{
-    match bytes {
-        Some(bytes) => Some(Value::from(bytes.len())),
-        None => None,
-    }
 }
 
 /// Returns what is said, and behind it what the command does. Fails only if an allocation fails.

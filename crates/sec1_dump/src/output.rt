@@ -75,21 +75,37 @@ pub(crate) fn show<R: io::Read + Drop, W: io::Write>(
     reader: R,
     writer: &mut W,
 ) -> Result<bool, Failure>
-    ensures shown { IfOk result (λ has_key. IfSome (R.remaining reader) (λ input.
+    ensures { IfOk result (λ has_key. IfSome (R.remaining reader) (λ input.
         Shows style (option_map (λ name. name.now) file.entry) input
         (W.contents writer.old) (W.contents writer.new) has_key)) }
-    ensures long { IfErr result (λ failure. failure ≡ TooLong
-        → IfSome (R.remaining reader) (λ input. limit < length input)) }
 {
     let input = read_input(alloc, reader)?;
-    if input.len() > LIMIT {
-        return Err(Failure::TooLong);
-    }
-    let has_key = write_shown(alloc, style, file, &input, writer)?;
+    let bytes = input.as_slice();
+    let has_key = write_shown(alloc, style, file, bytes, writer)?;
     match writer.flush() {
         Ok(()) => Ok(has_key),
         Err(error) => Err(Failure::Output(error)),
     }
+}
+
+/// Reads an input that isn't longer than the limit.
+///
+/// # Errors
+///
+/// TooLong if it is, Input if a read failed, Memory if an allocation failed.
+fn read_input<R: io::Read + Drop>(alloc: Global, reader: R) -> Result<Vec<u8>, Failure>
+    ensures short { IfOk result (λ input. length input.items ≤ limit) }
+    ensures read { IfOk result (λ input.
+        IfSome (R.remaining reader) (λ bytes. input.items ≡ bytes)) }
+    ensures long { IfErr result (λ failure. failure ≡ TooLong
+        → IfSome (R.remaining reader) (λ bytes. limit < length bytes)) }
+{
+    let input = read_most(alloc, reader)?;
+    let bytes = input.as_slice();
+    if bytes.len() > LIMIT {
+        return Err(Failure::TooLong);
+    }
+    Ok(input)
 }
 
 /// Reads an input, at most one byte more than the limit.
@@ -97,7 +113,7 @@ pub(crate) fn show<R: io::Read + Drop, W: io::Write>(
 /// # Errors
 ///
 /// Input if a read failed, Memory if an allocation failed.
-fn read_input<R: io::Read + Drop>(alloc: Global, reader: R) -> Result<Vec<u8>, Failure>
+fn read_most<R: io::Read + Drop>(alloc: Global, reader: R) -> Result<Vec<u8>, Failure>
     ensures read { IfOk result (λ input.
         IfSome (R.remaining reader) (λ bytes. input.items ≡ take (limit + 1) bytes)) }
     ensures kinds { IfErr result IsOfReading }
@@ -123,10 +139,9 @@ fn write_shown<W: io::Write>(
     writer: &mut W,
 ) -> Result<bool, Failure>
     requires { length input.now ≤ limit }
-    ensures shown { IfOk result (λ has_key. (text : List ℕ)
+    ensures { IfOk result (λ has_key. (text : List ℕ)
         × Appends (W.contents writer.old) (W.contents writer.new) text
         × IsShown style (option_map (λ name. name.now) file.entry) input.now text has_key) }
-    ensures kinds { IfErr result IsOfWriting }
 {
     let mut room = vec![in alloc; 0u8; room_len(input)]?;
     let room = room.as_mut_slice();
