@@ -117,11 +117,7 @@ fn write_found<W: io::Write>(
 /// # Errors
 ///
 /// Output if a write failed, Memory if an allocation failed.
-fn write_object<W: io::Write>(
-    alloc: Global,
-    writer: &mut W,
-    object: &Value,
-) -> Result<(), Failure>
+fn write_object<W: io::Write>(alloc: Global, writer: &mut W, object: &Value) -> Result<(), Failure>
     requires { has_float (view object.now) ≡ false }
     ensures { OnOk result
         (Appends (W.contents writer.old) (W.contents writer.new) (json_line (view object.now))) }
@@ -163,7 +159,13 @@ fn write_bytes<W: io::Write>(
     write_rows(alloc, writer, all, bytes)?;
     let is_key = is_key(bytes);
     let subject = Subject::new(bytes, reading);
-    write_verdict(alloc, writer, is_key, subject.marked(), subject.verdict(is_key))?;
+    write_verdict(
+        alloc,
+        writer,
+        is_key,
+        subject.marked(),
+        subject.verdict(is_key),
+    )?;
     Ok(is_key)
 }
 

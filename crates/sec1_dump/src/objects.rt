@@ -16,8 +16,10 @@ ghost use Rattle.sec1_dump.specs.Objects.{with_tag, words_data};
 ghost use Rattle.sec1_dump.specs.Text.{text_of};
 
 use crate::text::push_characters;
-use der_view::{Arcs, Characters, Class, Encoding, Field, Found, Kind, Line, Mark, OpenRow, Point};
-use der_view::{Shown, Source, Value as Content};
+use der_view::{
+    Arcs, Characters, Class, Encoding, Field, Found, Kind, Line, Mark, OpenRow, Point, Shown,
+    Source, Value as Content,
+};
 use itoa::Buffer;
 use serde_json::{Map, Value, json, put};
 use std::alloc::{AllocError, Global};
@@ -102,7 +104,11 @@ fn announced(announced: Option<usize>, len: usize) -> Option<Value>
     ensures { option_map view result ≡ announced_data announced len }
 {
     match announced {
-        Some(announced) => if announced == len { None } else { Some(Value::from(announced)) },
+        Some(announced) => if announced == len {
+            None
+        } else {
+            Some(Value::from(announced))
+        },
         None => None,
     }
 }
@@ -420,7 +426,12 @@ pub(crate) fn front_object(
         ≡ front_data (option_map (λ text. text.now) file.entry) source.now found.now) }
 {
     let mut members = Map::new(alloc);
-    put_if(alloc, &mut members, "bytes", count(found_len(source, found)))?;
+    put_if(
+        alloc,
+        &mut members,
+        "bytes",
+        count(found_len(source, found)),
+    )?;
     let file = text(alloc, file)?;
     put_if(alloc, &mut members, "file", file)?;
     let form = Value::try_from_str(alloc, form_text(source, found))?;

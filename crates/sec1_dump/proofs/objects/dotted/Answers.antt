@@ -10,8 +10,11 @@ use Rattle.sec1_dump.proofs.objects.dotted.Goals as goal
 begun : (text : List ℕ) (first second : ℕ) (numbers : List ℕ) → text ≡ (decimal first ++ 0x2E ∷ []) ++ decimal second
     → text ++ further_text numbers ≡ dotted (first ∷ second ∷ numbers)
 begun text first second numbers is =
-    rw (is, append_assoc (decimal first ++ 0x2E ∷ []) (decimal second) (further_text numbers),
-    append_assoc (decimal first) (0x2E ∷ []) (decimal second ++ further_text numbers))
+    rw (
+      is,
+      append_assoc (decimal first ++ 0x2E ∷ []) (decimal second) (further_text numbers),
+      append_assoc (decimal first) (0x2E ∷ []) (decimal second ++ further_text numbers),
+    )
     (sym (dotted-cons first (second ∷ numbers)))
 
 pub returns : goal.returns
@@ -20,5 +23,11 @@ returns c =
     (numbers_below 0 c.loop-arc.left.further.now) c.in_default.ensures.0 c.loop-arc.invariant
     ∙ begun (string_bytes c.push_str-3.new.self) c.args.arcs.first c.args.arcs.second
     (numbers_below 0 c.args.arcs.further.now)
-    (rw (c.in_ok-push_str-3.ensures.bytes, c.in_ok-push_str-2.ensures.bytes, c.in_ok-push_str.ensures.bytes,
-    c.new-text.ensures.bytes, c.format.ensures.text, c.format-2.ensures.text) refl)
+    (rw (
+      c.in_ok-push_str-3.ensures.bytes,
+      c.in_ok-push_str-2.ensures.bytes,
+      c.in_ok-push_str.ensures.bytes,
+      c.new-text.ensures.bytes,
+      c.format.ensures.text,
+      c.format-2.ensures.text,
+    ) refl)
