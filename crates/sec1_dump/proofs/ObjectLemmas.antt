@@ -10,7 +10,9 @@ use Rattle.serde_json.specs.Written.{has_float, members_have_float}
 use Rattle.hex.specs.Hex.{encode_upper}
 use Rattle.der_view.specs.Fields.{field_name}
 use Rattle.der_view.specs.Marks.{mark_kind, mark_part, mark_words}
+use Rattle.der_view.specs.Headings.{FoundView}
 use Rattle.der_view.specs.RowLines.{row_value}
+use Rattle.der_view.specs.Sources.{SourceView, Der, Pem, Text, Utf16}
 use Rattle.der_view.specs.Values.{ValueView}
 use Rattle.der_view.specs.Verdicts.{VerdictView}
 use Rattle.der_view.specs.declared.field.Field.{Field}
@@ -20,10 +22,8 @@ use Rattle.der_view.specs.declared.row.Kind.TheVariants as kinds
 use Rattle.der_view.specs.declared.row.OpenRow.{OpenRow}
 use Rattle.der_view.specs.declared.row.Shown.{Shown}
 use Rattle.der_view.specs.declared.row.Shown.TheVariants as shows
-use Rattle.der_view.specs.declared.text.Found.{Found}
-use Rattle.der_view.specs.declared.text.Source.{Source}
-use Rattle.der_view.specs.declared.text.Source.TheVariants as sources
-use Rattle.sec1_dump.specs.Objects.{announced_data, class_text, count_data, fault_data, faults_data, flag_data, form_text}
+use Rattle.sec1_dump.specs.Objects.{announced_data, class_text, count_data, fault_data, faults_data, flag_data}
+use Rattle.sec1_dump.specs.Objects.{form_text}
 use Rattle.sec1_dump.specs.Objects.{found_len, front_data, last_data, len_data, line_data, name_data, oid_data, put_if}
 use Rattle.sec1_dump.specs.Objects.{row_data, shown_data, type_text, value_data, with_block, with_content, with_field}
 use Rattle.sec1_dump.specs.Objects.{with_place, with_tag, words_data, words_text}
@@ -43,7 +43,8 @@ put_plain key d (member l e ms) one others =
   where
     by : (o : Ordering) → has_float d ≡ false → members_have_float (member l e ms) ≡ false → has_float e ≡ false
         → members_have_float ms ≡ false → members_have_float (put key d ms) ≡ false
-        → members_have_float (match_ordering o (member key d (member l e ms)) (member l d ms) (member l e (put key d ms)))
+        → members_have_float
+        (match_ordering o (member key d (member l e ms)) (member l d ms) (member l e (put key d ms)))
         ≡ false
     by Less one others first rest more = or_from (has_float d) (members_have_float (member l e ms)) one others
     by Equal one others first rest more = or_from (has_float d) (members_have_float ms) one rest
@@ -179,16 +180,16 @@ pub row_is_plain : (row : OpenRow) → has_float (row_data row) ≡ false
 row_is_plain row =
     let all = content_plain row _ (field_plain row _ (place_plain row no_members (record { none = refl }))) in all.none
 
-block_plain : (source : Source) (ms : Members) → ArePlain ms → ArePlain (with_block source ms)
-block_plain (sources.Der input) ms others = others
-block_plain (sources.Pem block is_read) ms others =
+block_plain : (source : SourceView) (ms : Members) → ArePlain ms → ArePlain (with_block source ms)
+block_plain (Der input) ms others = others
+block_plain (Pem block is_read) ms others =
     plain (codes "line") (count_data block.line) _ refl
-    (plain (codes "label") (string (text_of block.label.now)) ms refl others)
-block_plain (sources.Text text) ms others = others
-block_plain sources.Utf16 ms others = others
+    (plain (codes "label") (string (text_of block.label)) ms refl others)
+block_plain (Text text) ms others = others
+block_plain Utf16 ms others = others
 
 -- nor has the first one of a picture
-pub front_is_plain : (file : Option (List ℕ)) (source : Source) (found : Found)
+pub front_is_plain : (file : Option (List ℕ)) (source : SourceView) (found : FoundView)
     → has_float (front_data file source found) ≡ false
 front_is_plain file source found =
     let all = block_plain source _

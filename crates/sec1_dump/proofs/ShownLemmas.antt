@@ -5,7 +5,7 @@ use Rattle.std.proofs.KnownBytes.{Appends-kept, Appends-trans}
 use Rattle.std.proofs.lemmas.List.{length-take, take_all}
 use Rattle.std.specs.Io.KnownBytes.{Appends, Keeps}
 use Rattle.der_view.specs.Inputs.{ArePictures}
-use Rattle.der_view.specs.declared.text.Source.{Source}
+use Rattle.der_view.specs.Sources.{sources_of}
 use Rattle.sec1_dump.specs.Json.{AreJson}
 use Rattle.sec1_dump.specs.Shown.{IsShown, Shows, limit, title}
 use Rattle.sec1_dump.specs.declared.output.Style.{Style}
@@ -13,22 +13,21 @@ use Rattle.sec1_dump.specs.declared.output.Style.{Style}
 -- lines of JSON
 pub json_shown : {E : Type 0} (a b : Option (List ℕ)) (style : Style) (file : Option (List ℕ)) (input : List ℕ)
     (r : Result Bool E) → style.json ≡ true
-    → IfOk r (λ has_key. (sources : List Source) × (text : List ℕ) × Appends a b text
-    × AreJson style.all file sources text has_key)
+    → IfOk r (λ has_key. (text : List ℕ) × Appends a b text
+    × AreJson style.all file (sources_of input) text has_key)
     → IfOk r (λ has_key. (text : List ℕ) × Appends a b text × IsShown style file input text has_key)
-json_shown a b style file input (Ok has_key) json (sources, text, wrote, are) =
-    (text, wrote, rw json (record { sources = sources; lines = are }))
+json_shown a b style file input (Ok has_key) json (text, wrote, are) = (text, wrote, rw json are)
 json_shown a b style file input (Err e) json none = none
 
 -- pictures, below the name of the file
 pub pictures_shown : (a b c : Option (List ℕ)) (style : Style) (file : Option (List ℕ)) (input text : List ℕ)
-    (sources : List Source) (has_key : Bool) → style.json ≡ false → Appends a b (title style.named file)
-    → Appends b c text → ArePictures style.all sources text has_key
+    (has_key : Bool) → style.json ≡ false → Appends a b (title style.named file)
+    → Appends b c text → ArePictures style.all (sources_of input) text has_key
     → (text : List ℕ) × Appends a c text × IsShown style file input text has_key
-pictures_shown a b c style file input text sources has_key json first next are = (
+pictures_shown a b c style file input text has_key json first next are = (
   title style.named file ++ text,
   Appends-trans a b c (title style.named file) text first next,
-  rw json (record { sources = sources; pictures = text; are_pictures = are; whole = refl }),
+  rw json (text, are, refl),
 )
 
 -- what was read is all, unless it is one byte more than so many

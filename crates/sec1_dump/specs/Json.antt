@@ -1,21 +1,19 @@
 -- The pictures of an input as lines of JSON.
 use Rattle.std.specs.Prelude.{◌≡◌, ℕ, Bool, false, ◌||◌, List, [], ◌∷◌, ◌++◌, codes}
-use Rattle.std.specs.Prelude.{Option, Some, None, option_map}
+use Rattle.std.specs.Prelude.{Option, Some, None}
 use Rattle.std.specs.List.{flat_map}
 use Rattle.serde_json.specs.Data.{Data}
 use Rattle.serde_json.specs.Written.{compact_text}
-use Rattle.der_view.specs.Contents.{IsFound, bytes_in}
+use Rattle.der_view.specs.Contents.{bytes_in}
+use Rattle.der_view.specs.Headings.{FoundView, Said, found_in}
 use Rattle.der_view.specs.Inputs.{reading_of}
 use Rattle.der_view.specs.Lines.{shown}
 use Rattle.der_view.specs.Pictures.{AreRows, IsKey, IsSubject, verdict_on}
+use Rattle.der_view.specs.Sources.{SourceView, Der}
 use Rattle.der_view.specs.Verdicts.{VerdictView}
 use Rattle.der_view.specs.declared.picture.verdict.Reading.{Reading}
 use Rattle.der_view.specs.declared.picture.verdict.Subject.{Subject}
 use Rattle.der_view.specs.declared.row.OpenRow.{OpenRow}
-use Rattle.der_view.specs.declared.text.Found.{Found}
-use Rattle.der_view.specs.declared.text.Found.TheVariants as founds
-use Rattle.der_view.specs.declared.text.Source.{Source}
-use Rattle.der_view.specs.declared.text.Source.TheVariants as sources
 use Rattle.sec1_dump.specs.Objects.{front_data, last_data, row_data}
 use Rattle.sec1_dump.specs.Text.{ascii_text}
 
@@ -36,12 +34,8 @@ shown_verdict verdict = record {
 }
 
 -- what is said of a source in which no bytes were found
-abbrev pub found_verdict : Found → VerdictView
-found_verdict (founds.Note note) = record {
-  words = note.words.now;
-  lead = [];
-  command = option_map (λ command. command.now) note.command;
-}
+abbrev pub found_verdict : FoundView → VerdictView
+found_verdict (Said note) = record { words = note.words; lead = []; command = note.command }
 found_verdict found = record { words = []; lead = []; command = None }
 
 -- the lines of bytes: of their rows, and of what is said of them
@@ -58,30 +52,27 @@ pub record IsJson (all : Bool) (reading : Reading) (bytes text : List ℕ)
       ++ json_line
       (last_data is_key subject.facts.marked (shown_verdict (verdict_on subject is_key)))
 
--- the bytes that a picture is drawn of: those of DER, or those that were decoded
-abbrev pub picture_bytes : Source → Option (List ℕ)
-picture_bytes (sources.Der input) = Some input.now
+-- the bytes that a picture is drawn of: those of DER, or those that are decoded
+abbrev pub picture_bytes : SourceView → Option (List ℕ)
+picture_bytes (Der input) = Some input
 picture_bytes source = bytes_in source
 
--- the lines of bytes, or else the line of what is said of a source in which this was found, which
--- is no key
-abbrev pub IsJsonUnlessNone : Bool → Reading → Found → Option (List ℕ) → List ℕ → Bool → Type 0
-IsJsonUnlessNone all reading found (Some bytes) text is_key = IsJson all reading bytes text is_key
-IsJsonUnlessNone all reading found None text is_key =
-    (text ≡ json_line (last_data false None (found_verdict found))) × (is_key ≡ false)
+-- the lines of the bytes of a source, or else the line of what is said of it, which is no key
+abbrev pub IsJsonUnlessNone : Bool → SourceView → Option (List ℕ) → List ℕ → Bool → Type 0
+IsJsonUnlessNone all source (Some bytes) text is_key =
+    IsJson all (reading_of source) bytes text is_key
+IsJsonUnlessNone all source None text is_key =
+    (text ≡ json_line (last_data false None (found_verdict (found_in source))))
+    × (is_key ≡ false)
 
 -- the lines of a source of a file with this name
-pub record IsJsonOfSource (all : Bool) (file : Option (List ℕ)) (source : Source)
-    (text : List ℕ) (is_key : Bool) : Type 0 where
-  pub found : Found
-  pub memory : List ℕ
-  pub rest : List ℕ
-  pub is_found : IsFound (bytes_in source) found memory
-  pub whole : text ≡ json_line (front_data file source found) ++ rest
-  pub is_rest : IsJsonUnlessNone all (reading_of source) found (picture_bytes source) rest is_key
+abbrev pub IsJsonOfSource : Bool → Option (List ℕ) → SourceView → List ℕ → Bool → Type 0
+IsJsonOfSource all file source text is_key =
+    (rest : List ℕ) × IsJsonUnlessNone all source (picture_bytes source) rest is_key
+    × (text ≡ json_line (front_data file source (found_in source)) ++ rest)
 
 -- the lines of sources, of which one is a key's or none
-abbrev pub AreJson : Bool → Option (List ℕ) → List Source → List ℕ → Bool → Type 0
+abbrev pub AreJson : Bool → Option (List ℕ) → List SourceView → List ℕ → Bool → Type 0
 AreJson all file [] text has_key = (text ≡ []) × (has_key ≡ false)
 AreJson all file (source ∷ sources) text has_key =
     (first : List ℕ) × (more : List ℕ) × (is_key : Bool) × (others : Bool)

@@ -6,9 +6,11 @@ use Rattle.sec1_der.specs.Identifiers.{dotted}
 use Rattle.serde_json.specs.Data.{Data, boolean, number, unsigned, string, array, object}
 use Rattle.serde_json.specs.Data.{Members, no_members, put, item, no_items}
 use Rattle.der_view.specs.Fields.{field_name}
+use Rattle.der_view.specs.Headings.{FoundView, Decoded}
 use Rattle.der_view.specs.Lines.{kept}
 use Rattle.der_view.specs.Marks.{mark_kind, mark_part, mark_words}
 use Rattle.der_view.specs.RowLines.{point_text, row_value}
+use Rattle.der_view.specs.Sources.{SourceView, Der, Pem}
 use Rattle.der_view.specs.Values.{ValueView, type_name}
 use Rattle.der_view.specs.Verdicts.{VerdictView}
 use Rattle.der_view.specs.declared.field.Field.{Field}
@@ -22,10 +24,6 @@ use Rattle.der_view.specs.declared.row.Shown.{Shown}
 use Rattle.der_view.specs.declared.row.Shown.TheVariants as shows
 use Rattle.der_view.specs.declared.text.Encoding.{Encoding}
 use Rattle.der_view.specs.declared.text.Encoding.TheVariants as encodings
-use Rattle.der_view.specs.declared.text.Found.{Found}
-use Rattle.der_view.specs.declared.text.Found.TheVariants as founds
-use Rattle.der_view.specs.declared.text.Source.{Source}
-use Rattle.der_view.specs.declared.text.Source.TheVariants as sources
 use Rattle.sec1_dump.specs.Text.{text_of}
 
 -- the members with one more, if it has a value
@@ -152,29 +150,29 @@ abbrev pub row_data : OpenRow → Data
 row_data row = object (with_content row (with_field row (with_place row no_members)))
 
 -- how an input is encoded
-abbrev pub form_text : Source → Found → List ℕ
-form_text (sources.Der input) found = codes "der"
-form_text (sources.Pem block is_read) found = codes "pem"
-form_text source (founds.Decoded encodings.Hexadecimal len) = codes "hex"
-form_text source (founds.Decoded encoding len) = codes "base64"
+abbrev pub form_text : SourceView → FoundView → List ℕ
+form_text (Der input) found = codes "der"
+form_text (Pem block is_read) found = codes "pem"
+form_text source (Decoded encodings.Hexadecimal len) = codes "hex"
+form_text source (Decoded encoding len) = codes "base64"
 form_text source found = codes "text"
 
 -- RFC 7468: the label of a block of PEM, and the number of its first line
-abbrev pub with_block : Source → Members → Members
-with_block (sources.Pem block is_read) members =
+abbrev pub with_block : SourceView → Members → Members
+with_block (Pem block is_read) members =
     put (codes "line") (count_data block.line)
-    (put (codes "label") (string (text_of block.label.now)) members)
+    (put (codes "label") (string (text_of block.label)) members)
 with_block source members = members
 
 -- the number of bytes in which this was found, if there are some
-abbrev pub found_len : Source → Found → Option ℕ
-found_len (sources.Der input) found = Some (length input.now)
-found_len source (founds.Decoded encoding len) = Some len
+abbrev pub found_len : SourceView → FoundView → Option ℕ
+found_len (Der input) found = Some (length input)
+found_len source (Decoded encoding len) = Some len
 found_len source found = None
 
 -- the first object of a picture: the file, if it has a name, how it is encoded, and the number of
 -- the bytes that are drawn
-abbrev pub front_data : Option (List ℕ) → Source → Found → Data
+abbrev pub front_data : Option (List ℕ) → SourceView → FoundView → Data
 front_data file source found =
     object (with_block source
     (put (codes "form") (string (form_text source found))

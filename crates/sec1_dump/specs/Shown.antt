@@ -4,10 +4,10 @@ use Rattle.std.specs.Prelude.{chars, codes, length, Option, Some, None, Result, 
 use Rattle.std.specs.Io.KnownBytes.{Appends}
 use Rattle.der_view.specs.Characters.{escaped_all}
 use Rattle.der_view.specs.Inputs.{ArePictures}
-use Rattle.der_view.specs.declared.text.Source.{Source}
+use Rattle.der_view.specs.Sources.{sources_of}
 use Rattle.sec1_dump.specs.Json.{AreJson}
-use Rattle.sec1_dump.specs.declared.output.Failure.{Failure}
-use Rattle.sec1_dump.specs.declared.output.Failure.TheVariants.{Input, TooLong, Memory, Output}
+use Rattle.sec1_dump.specs.declared.failure.Failure.{Failure}
+use Rattle.sec1_dump.specs.declared.failure.Failure.TheVariants.{Input, TooLong, Memory, Output}
 use Rattle.sec1_dump.specs.declared.output.Style.{Style}
 
 -- the greatest length of an input in bytes
@@ -32,22 +32,15 @@ title true (Some file) = escaped_all (chars file) ++ codes ":\n"
 title named file = []
 
 -- the pictures of the parts of an input, below the name of its file
-pub record IsDrawn (style : Style) (file : Option (List ℕ)) (input text : List ℕ)
-    (has_key : Bool) : Type 0 where
-  pub sources : List Source
-  pub pictures : List ℕ
-  pub are_pictures : ArePictures style.all sources pictures has_key
-  pub whole : text ≡ title style.named file ++ pictures
+abbrev pub IsDrawn : Style → Option (List ℕ) → List ℕ → List ℕ → Bool → Type 0
+IsDrawn style file input text has_key =
+    (pictures : List ℕ) × ArePictures style.all (sources_of input) pictures has_key
+    × (text ≡ title style.named file ++ pictures)
 
--- the lines of JSON of the parts of an input
-pub record IsPrinted (style : Style) (file : Option (List ℕ)) (input text : List ℕ)
-    (has_key : Bool) : Type 0 where
-  pub sources : List Source
-  pub lines : AreJson style.all file sources text has_key
-
--- what is shown of an input, as JSON or as pictures
+-- what is shown of an input: lines of JSON, or pictures
 abbrev pub IsShownAs : Bool → Style → Option (List ℕ) → List ℕ → List ℕ → Bool → Type 0
-IsShownAs true style file input text has_key = IsPrinted style file input text has_key
+IsShownAs true style file input text has_key =
+    AreJson style.all file (sources_of input) text has_key
 IsShownAs false style file input text has_key = IsDrawn style file input text has_key
 
 abbrev pub IsShown : Style → Option (List ℕ) → List ℕ → List ℕ → Bool → Type 0

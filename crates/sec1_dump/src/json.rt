@@ -1,23 +1,25 @@
 //! The pictures of an input as lines of JSON.
 ghost use Rattle.std.specs.Prelude.{◌≡◌, ◌*◌, ◌+◌, ◌≤◌, ◌||◌, List, ℕ, IfOk, OnOk, false, length};
-ghost use Rattle.std.specs.Prelude.{None, option_map};
+ghost use Rattle.std.specs.Prelude.{All, None, option_map};
 ghost use Rattle.std.specs.Io.KnownBytes.{Appends};
 ghost use Rattle.serde_json.specs.View.{view};
 ghost use Rattle.serde_json.specs.Written.{has_float};
 ghost use Rattle.der_view.specs.Contents.{IsFound, bytes_in};
-ghost use Rattle.der_view.specs.Inputs.{reading_of};
+ghost use Rattle.der_view.specs.Headings.{found_in, found_view};
 ghost use Rattle.der_view.specs.Pictures.{AreRows};
-ghost use Rattle.der_view.specs.Sources.{source_len, text_len};
+ghost use Rattle.der_view.specs.Plans.{plan_of};
+ghost use Rattle.der_view.specs.RowLaws.{HidesContent};
+ghost use Rattle.der_view.specs.Sources.{source_len, source_view, sources_of, text_len};
 ghost use Rattle.der_view.specs.Verdicts.{verdict_view};
 ghost use Rattle.der_view.specs.declared.row.OpenRow.{OpenRow};
-ghost use Rattle.der_view.specs.declared.text.Source.{Source};
 ghost use Rattle.sec1_dump.specs.Json.{AreJson, IsJson, IsJsonOfSource, IsJsonUnlessNone};
 ghost use Rattle.sec1_dump.specs.Json.{found_verdict, json_line, rows_lines, shown_verdict};
 ghost use Rattle.sec1_dump.specs.Objects.{last_data, row_data};
 
+use crate::failure::Failure;
 use crate::objects::{front_object, last_object, row_object};
-use crate::output::Failure;
 use crate::text::write_ascii;
+use der_view::laws::contents_are_hidden;
 use der_view::{Found, OpenRow, Reading, Rows, Source, Sources, Subject, Verdict, is_key};
 use serde_json::Value;
 use std::alloc::Global;
@@ -41,9 +43,10 @@ pub(crate) fn write_json<W: io::Write>(
     room: &mut [u8],
 ) -> Result<bool, Failure>
     requires { 2 * text_len input.now + 2 ≤ length room.old }
-    ensures { IfOk result (λ has_key. (sources : List Source) × (text : List ℕ)
+    ensures { IfOk result (λ has_key. (text : List ℕ)
         × Appends (W.contents writer.old) (W.contents writer.new) text
-        × AreJson all (option_map (λ name. name.now) file.entry) sources text has_key) }
+        × AreJson all (option_map (λ name. name.now) file.entry) (sources_of input.now)
+        text has_key) }
 {
     let (digits, decoded) = room.split_at_mut(room.len() / 2 - 1);
     let mut sources = Sources::new(input);
@@ -72,11 +75,12 @@ fn write_source<W: io::Write>(
     digits: &mut [u8],
     decoded: &mut [u8],
 ) -> Result<bool, Failure>
-    requires digits { source_len source.now ≤ length digits.old }
-    requires decoded { source_len source.now + 2 ≤ length decoded.old }
+    requires digits { source_len (source_view source.now) ≤ length digits.old }
+    requires decoded { source_len (source_view source.now) + 2 ≤ length decoded.old }
     ensures { IfOk result (λ is_key. (text : List ℕ)
         × Appends (W.contents writer.old) (W.contents writer.new) text
-        × IsJsonOfSource all (option_map (λ name. name.now) file.entry) source.now text is_key) }
+        × IsJsonOfSource all (option_map (λ name. name.now) file.entry) (source_view source.now)
+        text is_key) }
 {
     let found = source.find(digits, decoded);
     let front = front_object(alloc, file, source, &found)?;
@@ -97,11 +101,12 @@ fn write_found<W: io::Write>(
     found: &Found,
     decoded: &[u8],
 ) -> Result<bool, Failure>
-    requires { IsFound (bytes_in source.now) found.now decoded.now }
+    requires found { found_view found.now ≡ found_in (source_view source.now) }
+    requires bytes { IsFound (bytes_in (source_view source.now)) found.now decoded.now }
     ensures { IfOk result (λ is_key. (text : List ℕ)
         × Appends (W.contents writer.old) (W.contents writer.new) text
-        × IsJsonUnlessNone all (reading_of source.now) found.now (bytes_in source.now) text
-        is_key) }
+        × IsJsonUnlessNone all (source_view source.now) (bytes_in (source_view source.now))
+        text is_key) }
 {
     match found {
         Found::Decoded(_, len) => {
@@ -132,7 +137,7 @@ fn write_object<W: io::Write>(alloc: Global, writer: &mut W, object: &Value) -> 
 fn write_note<W: io::Write>(alloc: Global, writer: &mut W, found: &Found) -> Result<bool, Failure>
     ensures { IfOk result (λ is_key. (is_key ≡ false)
         × Appends (W.contents writer.old) (W.contents writer.new)
-        (json_line (last_data false None (found_verdict found.now)))) }
+        (json_line (last_data false None (found_verdict (found_view found.now))))) }
 {
     let object = match found {
         Found::Note(note) => {
@@ -198,13 +203,18 @@ fn write_rows<W: io::Write>(
     all: bool,
     bytes: &[u8],
 ) -> Result<(), Failure>
-    ensures { OnOk result ((rows : List OpenRow) × AreRows all bytes.now rows
+    ensures rows { OnOk result ((rows : List OpenRow) × AreRows all bytes.now rows
+        × Appends (W.contents writer.old) (W.contents writer.new) (rows_lines rows)) }
+    // Unless all contents are shown, each row hides its own.
+    ensures hidden { all ≡ false → OnOk result ((rows : List OpenRow)
+        × All (HidesContent (plan_of bytes.now).guarded bytes.now) rows
         × Appends (W.contents writer.old) (W.contents writer.new) (rows_lines rows)) }
 {
     let mut rows = Rows::new(bytes, all);
     while let Some(row) = rows.next_row() {
         write_row(alloc, writer, &row)?;
     }
+    contents_are_hidden();
     Ok(())
 }
 

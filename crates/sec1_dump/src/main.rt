@@ -1,12 +1,14 @@
 //! Draws any file that people have in place of a key, and says what it is.
 #![tactic(auto)]
 
+mod failure;
 mod json;
 mod objects;
 mod output;
 mod text;
 
-use crate::output::{Failure, Style, show, status_of};
+use crate::failure::Failure;
+use crate::output::{Style, show, status_of};
 use crate::text::escaped;
 use clap::error::ErrorKind;
 use clap::{Arg, ArgAction, ArgMatches, Command, Error};

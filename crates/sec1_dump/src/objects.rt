@@ -5,11 +5,14 @@ ghost use Rattle.sec1_der.specs.Identifiers.{dotted};
 ghost use Rattle.serde_json.specs.Data.{string};
 ghost use Rattle.serde_json.specs.View.{members_view, view};
 ghost use Rattle.der_view.specs.Characters.{codes_of};
+ghost use Rattle.der_view.specs.Headings.{found_view};
+ghost use Rattle.der_view.specs.Sources.{source_view};
 ghost use Rattle.der_view.specs.RowLines.{point_text, row_value};
 ghost use Rattle.der_view.specs.Values.{arcs_view, value_view};
 ghost use Rattle.sec1_dump.specs.Objects.{announced_data, class_text, count_data, fault_data};
 ghost use Rattle.sec1_dump.specs.Objects.{faults_data, flag_data, form_text, found_len, front_data};
-ghost use Rattle.sec1_dump.specs.Objects.{last_data, len_data, line_data, name_data, oid_data, put_if};
+ghost use Rattle.sec1_dump.specs.Objects.{last_data, len_data, line_data, name_data, oid_data};
+ghost use Rattle.sec1_dump.specs.Objects.{put_if};
 ghost use Rattle.sec1_dump.specs.Objects.{row_data, shown_data, text_data, type_text, value_data};
 ghost use Rattle.sec1_dump.specs.Objects.{with_block, with_content, with_field, with_place};
 ghost use Rattle.sec1_dump.specs.Objects.{with_tag, words_data};
@@ -351,7 +354,7 @@ pub(crate) fn row_object(alloc: Global, row: &OpenRow) -> Result<Value, AllocErr
 
 /// Returns how an input is encoded.
 fn form_text(source: &Source, found: &Found) -> &'static str
-    ensures { result.now ≡ form_text source.now found.now }
+    ensures { result.now ≡ form_text (source_view source.now) (found_view found.now) }
 {
     match source {
         Source::Der(_) => "der",
@@ -368,7 +371,7 @@ fn form_text(source: &Source, found: &Found) -> &'static str
 /// fails.
 fn put_block(alloc: Global, members: &mut Members, source: &Source) -> Result<(), AllocError>
     ensures { OnOk result (members_view members.new.entries
-        ≡ with_block source.now (members_view members.old.entries)) }
+        ≡ with_block (source_view source.now) (members_view members.old.entries)) }
 {
     match source {
         Source::Pem { block, .. } => {
@@ -403,7 +406,7 @@ fn count(count: Option<usize>) -> Option<Value>
 
 /// Returns the number of bytes in which this was found, if there are some.
 fn found_len(source: &Source, found: &Found) -> Option<usize>
-    ensures { result ≡ found_len source.now found.now }
+    ensures { result ≡ found_len (source_view source.now) (found_view found.now) }
 {
     match source {
         Source::Der(input) => Some(input.len()),
@@ -423,7 +426,8 @@ pub(crate) fn front_object(
     found: &Found,
 ) -> Result<Value, AllocError>
     ensures { IfOk result (λ value. view value
-        ≡ front_data (option_map (λ text. text.now) file.entry) source.now found.now) }
+        ≡ front_data (option_map (λ text. text.now) file.entry) (source_view source.now)
+        (found_view found.now)) }
 {
     let mut members = Map::new(alloc);
     put_if(

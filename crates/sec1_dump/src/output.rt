@@ -5,38 +5,18 @@ ghost use Rattle.std.specs.Io.KnownBytes.{Appends};
 ghost use Rattle.der_view.specs.Sources.{text_len};
 ghost use Rattle.sec1_dump.specs.Shown.{IsOfReading, IsOfWriting, IsShown, Shows, limit, status_of};
 ghost use Rattle.sec1_dump.specs.Shown.{title};
-ghost use Rattle.sec1_dump.specs.declared.output.Failure.TheVariants.{Memory, TooLong};
+ghost use Rattle.sec1_dump.specs.declared.failure.Failure.TheVariants.{Memory, TooLong};
 
+use crate::failure::Failure;
 use crate::json::write_json;
 use crate::text::escaped;
 use der_view::{draw, room_len};
-use std::alloc::{AllocError, Global};
+use std::alloc::Global;
 use std::io;
 use std::io::{Read as _, Write as _};
 
 /// The greatest length of an input in bytes.
 const LIMIT: usize = 16_777_215;
-
-/// Why a file isn't shown to its end.
-#[derive(Drop)]
-pub(crate) enum Failure {
-    /// It couldn't be opened or read.
-    Input(io::Error),
-    /// It is longer than the limit.
-    TooLong,
-    /// An allocation failed.
-    Memory,
-    /// What is shown of it couldn't be written.
-    Output(io::Error),
-}
-
-impl From<AllocError> for Failure {
-    ghost from_gives = { λ _ failure. failure ≡ Memory };
-
-    fn from(_: AllocError) -> Failure {
-        Failure::Memory
-    }
-}
 
 /// How files are shown.
 #[derive(Clone, Copy)]

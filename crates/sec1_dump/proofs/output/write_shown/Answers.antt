@@ -8,5 +8,5 @@ returns-then-style g c =
 pub returns-in-Ok : goal.returns-in-Ok
 returns-in-Ok g c =
     let drawn = c.in-Ok.ensures in
-    pictures_shown _ _ _ c.args.style _ c.args.input.now drawn.1 drawn.0 c.in-Ok.has_key c.if-style.false
-    c.in_ok-write_title.ensures.title drawn.2 drawn.3
+    pictures_shown _ _ _ c.args.style _ c.args.input.now drawn.0 c.in-Ok.has_key c.if-style.false
+    c.in_ok-write_title.ensures.title drawn.1 drawn.2
