@@ -2,7 +2,6 @@ pub mod PlaceLemmas
 pub mod KindLemmas
 pub mod RowLemmas
 pub mod WithinLemmas
-pub mod PartLemmas
 pub mod SignatureLemmas
 pub mod PublicKeyLemmas
 pub mod SetLemmas

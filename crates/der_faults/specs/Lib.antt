@@ -1,5 +1,4 @@
 pub mod Places
-pub mod KeyParts
 pub mod RecordPlaces
 pub mod Containers
 pub mod ContainerPlaces

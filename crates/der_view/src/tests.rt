@@ -1,4 +1,6 @@
-//! Tests of what is printed of contents.
+//! Tests of rows, and of what is printed of contents.
+
+mod rows;
 
 use crate::header::{Class, Tag};
 use crate::line::Line;

@@ -1,11 +1,9 @@
-//! What `==`, `!=`, `<`, `cmp` and `clone` say of the values of `der_types`, `pkix`, `der_faults`
-//! and `der_rows`, as a caller meets them.
+//! What `==`, `!=`, `<`, `cmp` and `clone` say of the values of `der_types`, `pkix` and
+//! `der_faults`, as a caller meets them.
 ghost use Rattle.std.specs.Prelude.{◌≡◌, ◌≢◌, ◌↔◌, IsTrue, IsOkAnd};
-ghost use Rattle.der_rows.specs.Rows.{row_view};
 ghost use Rattle.der_types.specs.Times.{IsEarlier};
 
-use der_faults::{Fault, KeyPart};
-use der_rows::Row;
+use der_faults::Fault;
 use der_types::{Boolean, Choice, DateTime, Defaulted, Implicit, OptionalPart};
 use pkix::{Curve, LaterVersion};
 use sec1_der::{Primitive0, Required, VersionOne};
@@ -234,34 +232,6 @@ pub fn other_fault(a: &Fault, b: &Fault) -> bool
 /// The clone of a fault is the same, and never fails.
 pub fn cloned_fault(value: &Fault) -> Cloned<Fault>
     ensures { IsOkAnd result (λ cloned. cloned ≡ value.now) }
-{
-    value.clone()
-}
-
-/// Two parts of a key are equal exactly where they are the same.
-pub fn same_key_part(a: &KeyPart, b: &KeyPart) -> bool
-    ensures { IsTrue result ↔ (a.now ≡ b.now) }
-{
-    a == b
-}
-
-/// Two parts of a key are unequal exactly where they differ.
-pub fn other_key_part(a: &KeyPart, b: &KeyPart) -> bool
-    ensures { IsTrue result ↔ (a.now ≢ b.now) }
-{
-    a != b
-}
-
-/// The clone of a part of a key is the same, and never fails.
-pub fn cloned_key_part(value: &KeyPart) -> Cloned<KeyPart>
-    ensures { IsOkAnd result (λ cloned. cloned ≡ value.now) }
-{
-    value.clone()
-}
-
-/// The clone of a row has the same numbers and the same bytes, and never fails.
-pub fn cloned_row<'a>(value: &Row<'a>) -> Cloned<Row<'a>>
-    ensures { IsOkAnd result (λ cloned. row_view cloned ≡ row_view value.now) }
 {
     value.clone()
 }

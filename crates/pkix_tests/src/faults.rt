@@ -1,6 +1,6 @@
 //! Places of faults, counted by hand in bytes that OpenSSL 3.0.19 made and that were then damaged.
 use crate::{assert_equal, assert_equal_for};
-use der_faults::{Fault, KeyPart, key_fault, key_part, tree_fault};
+use der_faults::{Fault, key_fault, tree_fault};
 use sec1_der::ErrorKind;
 use std::alloc::AllocError;
 use std::test::Fail;
@@ -13,82 +13,29 @@ static KEY: [u8; 51] = [
     0x03, 0x01, 0x07,
 ];
 
-/// Which byte of the key is changed, to what, where the fault lies then, of which kind, and in
-/// which part of a key.
-static DAMAGES: [(usize, u8, usize, ErrorKind, KeyPart); 12] = [
-    (0, 0x31, 0, ErrorKind::Tag, KeyPart::Sequence),
-    (0, 0x00, 0, ErrorKind::Tag, KeyPart::Sequence),
-    (1, 0x32, 1, ErrorKind::Truncated, KeyPart::Sequence),
-    (1, 0x80, 1, ErrorKind::Length, KeyPart::Sequence),
-    (1, 0x30, 40, ErrorKind::Truncated, KeyPart::Parameters),
-    (2, 0x04, 2, ErrorKind::Tag, KeyPart::Version),
-    (4, 0x00, 4, ErrorKind::Value, KeyPart::Version),
-    (5, 0x30, 5, ErrorKind::Tag, KeyPart::PrivateKey),
-    (6, 0x2D, 6, ErrorKind::Truncated, KeyPart::PrivateKey),
-    (39, 0xA1, 41, ErrorKind::Tag, KeyPart::PublicKey),
-    (42, 0x07, 50, ErrorKind::TrailingData, KeyPart::Parameters),
-    (43, 0x80, 43, ErrorKind::Value, KeyPart::Parameters),
+/// Which byte of the key is changed, to what, where the fault lies then, and of which kind.
+static DAMAGES: [(usize, u8, usize, ErrorKind); 12] = [
+    (0, 0x31, 0, ErrorKind::Tag),
+    (0, 0x00, 0, ErrorKind::Tag),
+    (1, 0x32, 1, ErrorKind::Truncated),
+    (1, 0x80, 1, ErrorKind::Length),
+    (1, 0x30, 40, ErrorKind::Truncated),
+    (2, 0x04, 2, ErrorKind::Tag),
+    (4, 0x00, 4, ErrorKind::Value),
+    (5, 0x30, 5, ErrorKind::Tag),
+    (6, 0x2D, 6, ErrorKind::Truncated),
+    (39, 0xA1, 41, ErrorKind::Tag),
+    (42, 0x07, 50, ErrorKind::TrailingData),
+    (43, 0x80, 43, ErrorKind::Value),
 ];
 
 #[test]
 fn finds_faults_of_keys(rt: HostRuntime) {
     assert_equal(&rt, &key_fault(&KEY), &None);
-    assert_equal(&rt, &key_part(&KEY), &None);
-    for &(at, byte, offset, kind, part) in DAMAGES.iter() {
+    for &(at, byte, offset, kind) in DAMAGES.iter() {
         let mut key = KEY;
         key[at] = byte;
         assert_equal_for(&rt, &at, &key_fault(&key), &Some(Fault { offset, kind }));
-        assert_equal_for(&rt, &at, &key_part(&key), &Some(part));
-    }
-}
-
-/// Bytes, and the first part of a key that they don't have.
-static PARTS: [(&[u8], Option<KeyPart>); 12] = [
-    (&[], Some(KeyPart::Sequence)),
-    (&[0x30, 0x00], Some(KeyPart::Version)),
-    (&[0x30, 0x02, 0x02, 0x00], Some(KeyPart::Version)),
-    (&[0x30, 0x03, 0x02, 0x01, 0x01], Some(KeyPart::PrivateKey)),
-    (&[0x30, 0x05, 0x02, 0x01, 0x01, 0x04, 0x00], None),
-    (
-        &[0x30, 0x05, 0x02, 0x01, 0x01, 0x04, 0x00, 0x00],
-        Some(KeyPart::End),
-    ),
-    (
-        &[0x30, 0x07, 0x02, 0x01, 0x01, 0x04, 0x00, 0x05, 0x00],
-        Some(KeyPart::Fields),
-    ),
-    (
-        &[0x30, 0x07, 0x02, 0x01, 0x01, 0x04, 0x00, 0xA0, 0x00],
-        Some(KeyPart::Parameters),
-    ),
-    (
-        &[0x30, 0x07, 0x02, 0x01, 0x01, 0x04, 0x00, 0xA1, 0x00],
-        Some(KeyPart::PublicKey),
-    ),
-    (
-        &[0x30, 0x06, 0x02, 0x01, 0x01, 0x04, 0x00, 0xA1],
-        Some(KeyPart::PublicKey),
-    ),
-    (
-        &[
-            0x30, 0x0A, 0x02, 0x01, 0x01, 0x04, 0x00, 0xA1, 0x03, 0x03, 0x01, 0x00,
-        ],
-        None,
-    ),
-    (
-        &[
-            0x30, 0x0B, 0x02, 0x01, 0x01, 0x04, 0x00, 0xA1, 0x03, 0x03, 0x01, 0x00, 0xA0,
-        ],
-        Some(KeyPart::Fields),
-    ),
-];
-
-#[test]
-fn finds_parts_of_keys(rt: HostRuntime) {
-    for &(bytes, part) in PARTS.iter() {
-        assert_equal_for(&rt, &bytes, &key_part(bytes), &part);
-        let has_fault = key_fault(bytes).is_some();
-        assert_equal_for(&rt, &bytes, &has_fault, &part.is_some());
     }
 }
 

@@ -1,5 +1,5 @@
-//! Tests of `der_types`, `curves`, `pkix`, `der_faults`, `der_rows` and `examples` by their public
-//! calls, with values from outside.
+//! Tests of `der_types`, `curves`, `pkix`, `der_faults` and `examples` by their public calls, with
+//! values from outside.
 //!
 //! [`equality`] has what is proved of `==` and `clone`, and [`checks`] worked examples.
 //!
@@ -25,8 +25,6 @@ mod keys;
 mod printing;
 #[cfg(test)]
 mod round_trips;
-#[cfg(test)]
-mod rows;
 #[cfg(test)]
 mod sets;
 #[cfg(test)]

@@ -2,8 +2,7 @@
 //! types of these shapes.
 use crate::assert_equal;
 use curves::Curve;
-use der_faults::{Fault, KeyPart};
-use der_rows::Row;
+use der_faults::Fault;
 use der_types::{Boolean, Choice, DateTime, Defaulted, Implicit, OptionalPart};
 use pkix::LaterVersion;
 use sec1_der::{ErrorKind, Primitive0, Required, VersionOne};
@@ -134,7 +133,6 @@ fn prints_curves_and_faults(rt: HostRuntime) {
         "[Secp112r1, BrainpoolP512t1]",
         "[\n    Secp112r1,\n    BrainpoolP512t1,\n]",
     );
-    assert_prints_alike(&rt, &KeyPart::PrivateKey, "PrivateKey", "PrivateKey");
     let fault = Fault {
         offset: 34,
         kind: ErrorKind::Value,
@@ -144,23 +142,5 @@ fn prints_curves_and_faults(rt: HostRuntime) {
         &fault,
         "Fault { offset: 34, kind: Value }|Fault { offset:    34, kind: Value }|Fault { offset: 34, kind: Value }|Fault { offset: +34, kind: Value }|Fault { offset: 00034, kind: Value }",
         "Fault {\n    offset: 34,\n    kind: Value,\n}",
-    );
-}
-
-#[test]
-fn prints_no_byte_of_a_row(rt: HostRuntime) {
-    let row = Row {
-        offset: 5,
-        depth: 1,
-        tag: 4,
-        header: &[4, 2],
-        content_len: 2,
-        content: &[0xAA, 0xBB],
-    };
-    assert_prints_alike(
-        &rt,
-        &row,
-        "Row { offset: 5, depth: 1, tag: 4, content_len: 2, .. }",
-        "Row {\n    offset: 5,\n    depth: 1,\n    tag: 4,\n    content_len: 2,\n    ..\n}",
     );
 }

@@ -1,3 +1,0 @@
-pub mod LevelLemmas
-pub mod ParsedLemmas
-pub mod RowLemmas
