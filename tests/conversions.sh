@@ -1,7 +1,7 @@
 #!/usr/bin/env bash
 # Makes each kind of file of docs/REFUSED.md with OpenSSL and ssh-keygen. Each begins as that page
 # says, is refused, and by the kind that it says (of tests/keys/reader.py); after its command the
-# key is there as it was.
+# key is there as it was; and sec1_dump prints that command, or none.
 # Compares the table of curves there with OpenSSL. Its last line is 'N passed, M failed', and where
 # xxd or puttygen isn't installed, which are optional, ', K skipped'.
 set -u
@@ -9,10 +9,13 @@ top=$(cd "$(dirname "$0")/.." && pwd)
 . "$top/tests/count.sh"
 page=page
 program=$top/crates/sec1_inspect/out/sec1_inspect
+dump=$top/crates/sec1_dump/out/sec1_dump
 for tool in openssl ssh-keygen python3; do
     command -v "$tool" >/dev/null || tell "there is no $tool" no
 done
-[ -x "$program" ] || tell "the program isn't built: run rt ci first" no
+for built in "$program" "$dump"; do
+    [ -x "$built" ] || tell "$built isn't built: run rt ci first" no
+done
 [ "$failed" = 0 ] || finish
 room=$(mktemp -d)
 trap 'rm -rf "$room"' EXIT
@@ -66,9 +69,18 @@ text() { # FILE BEGINNING
     grep -qF "\`$2" "$page" && tell "the page has $2" yes || tell "the page has no $2" no
 }
 
+# Tells whether sec1_dump prints a command last for a file, or none.
+says() { # FILE [COMMAND]
+    local line
+    line=$("$dump" "$1" | tail -n 1)
+    [ "$line" = "${2:+  $2}" ] || { [ ! "${2:-}" ] && [[ $line = [!\ ]* ]]; } &&
+        tell "sec1_dump of $1: ${2:-no command}" yes || tell "sec1_dump of $1: $line" no
+}
+
 # Runs a command, and tells whether key.der then is the key as it was. The page has the command, with
-# FILE for the file.
+# FILE for the file, and so has sec1_dump if it is one of openssl.
 converted() { # FILE COMMAND
+    [[ $2 != openssl* ]] || says "$1" "$2"
     rm -f key.der
     (eval "${2//FILE/$1}") >output 2>&1 </dev/null
     cmp -s key.der whole.der && tell "$1: $2" yes || tell "$1: $2 ($(head -c 200 output))" no
@@ -178,6 +190,21 @@ der crl.der '30 .. 30 ..' Tag
 der cms.der '30 .. 06 09 2A 86 48 86 F7 0D 01 07' Tag
 der signature.der '30 .. 02 2' Value
 der curve.der '06 ..' Tag
+
+for file in cut damaged version_2 rsa_pkcs8 ed25519 x25519 rsa dsa public certificate request crl \
+    cms signature curve; do
+    says "$file.der"
+done
+for file in rsa.pem dsa.pem certificate.pem crl.pem openssh.pub jwk utf16.pem empty other_text; do
+    says "$file"
+done
+says putty 'puttygen FILE -O private-openssh -o key.pem'
+says openssh 'ssh-keygen -p -m PEM -f COPY'
+says key.p12 'openssl pkcs12 -in FILE -nodes -nocerts'
+for file in base64 digits colons numbers; do
+    [ "$("$dump" "$file" | tail -n +2)" = "$("$dump" whole.der)" ] &&
+        tell "sec1_dump draws $file" yes || tell "sec1_dump doesn't draw $file" no
+done
 
 pem='openssl ec -in FILE -outform DER -out key.der'
 der='openssl ec -inform DER -in FILE -outform DER -out key.der'

@@ -117,3 +117,8 @@ def is_tree(data, at, end):
 
 def count_of(number, word="byte"):
     return f"{number} {word}" if number == 1 else f"{number} {word}s"
+
+
+def shortened(line):
+    """Returns a line of at most 100 characters."""
+    return line if len(line) <= 100 else line[:97] + "..."

@@ -99,7 +99,7 @@ def follow_integers(kids, ended, cut):
     """INTEGERs alone, to the root's end: the name of what has as many, and their number."""
     if not kids or not ended or any(kid.tag != 2 for kid in kids):
         return None, 0
-    if cut:
+    if cut and len(kids) <= 9:
         return "integers", len(kids)
     if len(kids) == 9 and kids[0].length == 1:
         return "rsa", 9
@@ -118,7 +118,8 @@ def form_of(data, head, stop):
     inner = None
     if len(kids) > 2 and kids[2].tag == 4 and not kids[2].cut:
         inner = opened_key(data, kids[2].head.start, kids[2].stop)
-    found = [follow_integers(kids, ended, cut), ("key", follow_key(data, kids, ended)),
+    has_end = ended and (head.length is not None or data[at:at + 2] == b"\0\0")
+    found = [follow_integers(kids, ended, cut), ("key", follow_key(data, kids, has_end)),
              follow_container(data, kids, inner is not None)]
     kind, count = max(found, key=lambda pair: pair[1])
     ended = ended and count == len(kids)
@@ -141,4 +142,4 @@ def opened_key(data, at, end):
         return None
     form = form_of(data, head, end)
     form.head = head
-    return form if form.whole and form.kind in ("key", "rsa", "dsa", "signature") else None
+    return form if form.whole and form.kind in ("key", "rsa", "dsa") else None

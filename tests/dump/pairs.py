@@ -1,9 +1,23 @@
+#!/usr/bin/env python3
 """Pairs of damaged keys: two keys that differ in their private bytes alone, with the same byte
-outside these changed, or cut off at the same place. `sec1_dump` must print the same of both, unless
-the damage made another valid key of one.
-"""
-import random
+outside these changed, or cut off at the same place. `sec1_dump` must print the same of both, as
+text and as JSON, unless the damage made another valid key of one: that is then what a second reader
+reads.
 
+    tests/dump/pairs.py [PROGRAM]   draws 200,000 pairs
+
+The last line is 'N passed, M failed'.
+"""
+import base64
+import pathlib
+import random
+import subprocess
+import sys
+import tempfile
+
+TESTS = pathlib.Path(__file__).resolve().parent.parent
+# so many pairs in batches of so many, which are blocks of PEM; each 50th batch is files of DER too
+PAIRS, BATCH, FILES, SEED = 200_000, 1_000, 50, 2026
 CURVES = ("2A8648CE3D030107", "2B81040022", "2B8104000A", "2B2403030208010107")
 
 
@@ -114,3 +128,75 @@ def pairs(count, seed):
         if number % 16 == 0:
             one, other, hidden = pair(source)
         yield damaged(source, one, other, hidden)
+
+
+def is_key(data):
+    """Returns whether the bytes are a key (RFC 5915), by the reader of tests/keys."""
+    sys.path.insert(0, str(TESTS / "keys"))
+    import reader
+    try:
+        reader.key(data)
+    except reader.Refused:
+        return False
+    return True
+
+
+def run_blocks(program, asked, given):
+    """Returns what the program prints of inputs, each of which is a block of PEM."""
+    blocks = (b"-----BEGIN KEY-----\n%b\n-----END KEY-----\n" % base64.b64encode(data) for data in given)
+    ended = subprocess.run([program, *asked], input=b"".join(blocks), capture_output=True, timeout=600)
+    return ended.stdout, ended.stderr, ended.returncode
+
+
+def run_files(program, asked, given):
+    """Returns what the program prints of inputs, each of which is a file."""
+    with tempfile.TemporaryDirectory() as room:
+        names = [str(number) for number in range(len(given))]
+        for name, data in zip(names, given):
+            pathlib.Path(room, name).write_bytes(data)
+        ended = subprocess.run([program, *asked, *names], cwd=room, capture_output=True, timeout=600)
+    return ended.stdout, ended.stderr, ended.returncode
+
+
+def differ(run, program, asked, batch):
+    """Returns the pairs of which the program prints different lines, of these pairs."""
+    ones, others = zip(*batch)
+    one, other = run(program, asked, ones), run(program, asked, others)
+    # of each there are two lines or more, and nothing else is said
+    if one == other and not one[1] and one[0].count(b"\n") >= 2 * len(batch):
+        return []
+    if len(batch) == 1:
+        return batch
+    half = len(batch) // 2
+    return differ(run, program, asked, batch[:half]) + differ(run, program, asked, batch[half:])
+
+
+def main(arguments):
+    """Draws pairs, prints each that differs and is no key, and counts."""
+    program = pathlib.Path(arguments[0] if arguments else TESTS.parent / "crates/sec1_dump/out/sec1_dump")
+    if not program.is_file():
+        print(f"FAILED: {program} isn't there: run rt ci first\n0 passed, 1 failed")
+        return 1
+    program, passed, failed = program.resolve(), 0, 0
+    every = (pair for pair in pairs(2 * PAIRS, SEED) if pair[0] != pair[1])
+    shown = [next(every) for _ in range(20)]
+    if len(differ(run_blocks, program, ["--all"], shown)) < len(shown):
+        print("FAILED: no private byte is shown with --all\n0 passed, 1 failed")
+        return 1
+    while passed + failed < PAIRS:
+        batch = [next(every) for _ in range(BATCH)]
+        runs = [run_blocks, *([run_files] if passed % (BATCH * FILES) == 0 else [])]
+        found = {pair for run in runs for asked in ([], ["--json"])
+                 for pair in differ(run, program, asked, batch)}
+        wrong = [pair for pair in found if not any(map(is_key, pair))]
+        for pair in wrong:
+            print("FAILED: private bytes are shown:", *(data.hex() for data in pair), flush=True)
+        for pair in found.difference(wrong):
+            print("another key:", *(data.hex() for data in pair), flush=True)
+        passed, failed = passed + len(batch) - len(wrong), failed + len(wrong)
+    print(f"{passed} passed, {failed} failed")
+    return failed != 0
+
+
+if __name__ == "__main__":
+    sys.exit(main(sys.argv[1:]))

@@ -11,7 +11,7 @@ import sys
 
 sys.path.insert(0, str(pathlib.Path(__file__).resolve().parent))
 import text  # noqa: E402
-from ber import LEVELS, Header, NoElement, Row, count_of, is_tree  # noqa: E402
+from ber import LEVELS, Header, NoElement, Row, count_of, is_tree, shortened  # noqa: E402
 from guard import form_of  # noqa: E402
 from values import CLASSES, NAMES, STRINGS, Label, escaped, identifier, is_named  # noqa: E402
 
@@ -92,11 +92,13 @@ class Picture:
             self.name_key(self.form, 0, self.head)
         self.open_form = None
         self.draw_root()
+        self.labels = [self.label_of(row) for row in self.rows]
         if self.guarded:
             self.mark_guarded()
         else:
             self.mark_open()
-        self.labels = [self.label_of(row) for row in self.rows]
+        for row in self.rows:
+            row.marks = sorted(row.marks, key=lambda mark: ORDER.index(mark[0]))[:2]
         if self.guarded:
             self.say_guarded()
         else:
@@ -305,7 +307,7 @@ class Picture:
         inner = Header(self.data, kid.head.start, kid.stop)
         if inner.tag != 6:
             return ""
-        dotted = identifier(self.data[inner.start:kid.stop]) or ""
+        dotted = identifier(self.data[inner.start:kid.stop]) or "no identifier"
         return NAMES[dotted][1] if NAMES.get(dotted, ("",))[0] == "curve" else dotted
 
     def is_curve(self, form):
@@ -321,16 +323,15 @@ class Picture:
                 self.words[-1:] = [words, lead] if self.source == "pem" and self.is_key else (
                     [words + lead] if lead.startswith(" ") else [words, lead])
             self.command = command
+        self.words = [shortened(line) for line in self.words]
 
     def ec(self, names=""):
         return EC % ("-inform DER " if self.source == "der" else "", names)
 
     def label_of(self, row):
-        """Names a row, sorts its marks, of which two are kept, and returns its label."""
+        """Names a row, and returns its label."""
         row.name = row.name or self.names.get(row.at)
-        label = Label(self, row)
-        row.marks = sorted(row.marks, key=lambda mark: ORDER.index(mark[0]))[:2]
-        return label
+        return Label(self, row)
 
     def complete_kind(self):
         """Returns what the bytes are of, to the last one, of which no rule is broken."""
@@ -488,17 +489,24 @@ def fit(fields, rows):
     return names if at == len(rows) else None
 
 
+def own_content(picture, row):
+    """Returns the bytes of a content that have no other row."""
+    if row.kind == "end-of-contents":
+        return b""
+    stop = getattr(row, "inside", row.start) if row.opened else row.stop
+    return picture.data[row.start:stop]
+
+
 def line_of(picture, row, label):
     """Returns the lines of a row."""
     everything = picture.everything
     front = f"{row.at:>4}"
     if row.kind == "end-of-contents":
-        header, count, content = b"\0\0", "0", b""
+        header, count = b"\0\0", "0"
     else:
         header = picture.data[row.at:row.start]
         count = str(row.stop - row.at) if row.head is None else (
             "?" if row.head.length is None else str(row.head.length))
-        content = picture.data[row.start:row.stop]
     head = "".join(f" {byte:02X}" for byte in header)
     front += head + " " * max(1, 20 - len(head) - len(count)) + count + "  "
     words = "  " * min(row.depth, 16) + (f"{row.depth}: " if row.depth > 16 else "") + label.text
@@ -509,10 +517,9 @@ def line_of(picture, row, label):
         long = words + " " * max(2, 29 - len(words)) + name
         words = long if len(front + long) <= 100 else words
     line = front + words
-    lines = [line if len(line) <= 100 else line[:97] + "..."]
+    lines = [shortened(line)]
     if everything:
-        if row.opened:
-            content = picture.data[row.start:getattr(row, "inside", row.start)]
+        content = own_content(picture, row)
         for at in range(0, len(content), 16):
             lines.append(" " * 25 + "".join(f" {byte:02X}" for byte in content[at:at + 16]))
     return lines + ["     ^ " + mark[1] for mark in row.marks]
@@ -537,12 +544,13 @@ def object_of(picture, row, label):
             for mark in row.marks]
     extra = {"name": row.name, "oid": label.oid, "value": label.note or label.value}
     members |= {key: value for key, value in extra.items() if value is not None}
-    if row.name in SECRET and not row.opened:
+    if row.name in SECRET and not row.opened and not picture.everything:
         members["secret"] = True
     if row.opened and not row.head.constructed:
         members["opened"] = True
-    if picture.everything and row.kind != "end-of-contents" and not row.opened:
-        members["content"] = picture.data[row.start:row.stop].hex().upper()
+    content = own_content(picture, row).hex().upper()
+    if picture.everything and content:
+        members["content"] = content
     return members
 
 

@@ -9,6 +9,7 @@ The last line is `N passed, M failed`.
 """
 import pathlib
 import random
+import re
 import shlex
 import subprocess
 import sys
@@ -76,6 +77,32 @@ def is_told(errors, wanted):
     """Returns whether each line that was said of an error has what is wanted."""
     lines = errors.decode().splitlines()
     return len(lines) == len(wanted) and all(map(str.__contains__, lines, wanted))
+
+
+def outputs(program, options, given):
+    """What `sec1_dump` prints of each of these inputs, which are files of one run; None if it doesn't
+    print something of each."""
+    with tempfile.TemporaryDirectory() as room:
+        paths = [path_of(number) for number in range(len(given))]
+        for path, data in zip(paths, given):
+            pathlib.Path(room, path).write_bytes(data)
+        ended = subprocess.run([program, *options, *paths], cwd=room, capture_output=True)
+    if "--json" in options:
+        front = r'^(?=\{(?:"bytes":\d+,)?"file":"(\d+\.file)")'
+    else:
+        front = r"^(\d+\.file):\n"
+    first, *texts = re.split(front, ended.stdout.decode(), flags=re.M)
+    found = {}
+    # of a file with several blocks of PEM there are several objects
+    for path, text in zip(texts[::2], texts[1::2]):
+        found[path] = found.get(path, "") + text
+    is_whole = not first and not ended.stderr and list(found) == paths
+    return list(found.values()) if is_whole else [None] * len(given)
+
+
+def path_of(number):
+    """The path of the input with this number, for `outputs`."""
+    return f"{number}.file"
 
 
 def main(arguments):

@@ -4,6 +4,8 @@ import binascii
 import re
 import string
 
+from ber import shortened
+
 # the labels of the keys that OpenSSL reads from PEM, if they are the first in a file
 KEYS = ("EC PRIVATE KEY", "PRIVATE KEY", "ENCRYPTED PRIVATE KEY")
 OF_PEM = "openssl ec -in FILE -outform DER -out key.der"
@@ -97,7 +99,7 @@ def pem_part(number, label, lines, is_ended):
         part.data = data
         told = f"{len(data)} byte{'s' * (len(data) != 1)}"
     ending = "" if is_ended else ", with no line END"
-    part.heading = f"PEM at line {number}, {label}: {told}{ending}"
+    part.heading = shortened(f"PEM at line {number}, {label}: {told}{ending}")
     return part
 
 

@@ -101,7 +101,7 @@ def point(content):
         return "no point"
     tag, count = content[1], len(content) - 2
     if tag in (4, 6, 7) and count and count % 2 == 0:
-        return f"{'uncompressed' if tag == 4 else 'hybrid'}, 2 x {count // 2} bytes"
+        return f"{'uncompressed' if tag == 4 else 'hybrid'}, 2 x {count_of(count // 2)}"
     if tag in (2, 3, 5) and count:
         return f"{'compact' if tag == 5 else 'compressed'}, {count_of(count)}"
     return "the point at infinity" if tag == 0 and count == 0 else "no point"
@@ -113,7 +113,8 @@ class Label:
     def __init__(self, picture, row):
         self.picture, self.row = picture, row
         self.value, self.oid, self.note = None, None, None
-        head, self.closed = row.head, picture.closed
+        # what has no content hides none
+        head, self.closed = row.head, picture.closed and row.start < row.stop
         if head is None:
             self.type = row.kind
             count = count_of(row.stop - row.at)
@@ -131,6 +132,7 @@ class Label:
         is_bits = space == "universal" and head.number == 3
         self.text = f"{self.type}, {count_of(max(0, head.length - is_bits))}"
         if row.missing:
+            self.text = "NULL" if head.tag == 5 and not self.content else self.text
             return
         if space != "universal":
             self.describe_text()
@@ -192,13 +194,14 @@ class Label:
             self.note = point(content) if not unused else None
         if self.closed and self.row.depth == 0:
             return
+        is_seen = len(content) <= 4 if not self.closed else not bits
+        if unused and (is_seen or bits and unused < 8):
+            self.text += f", {count_of(unused, 'unused bit')}"
         if unused > 7:
             return self.mark("more than 7 unused bits (X.690 8.6.2.2)")
         if unused and not bits:
             return self.mark("unused bits in an empty BIT STRING (X.690 8.6.2.3)")
-        if unused:
-            self.text += f", {count_of(unused, 'unused bit')}"
-        short = not self.closed and 0 < len(bits) <= 3 and self.row.at not in self.picture.points
+        short = is_seen and bits and self.note is None
         if short:
             digits = "".join(f"{byte:08b}" for byte in bits)
             self.give(digits[:len(digits) - unused])

@@ -24,15 +24,6 @@ class Line:
         self.field, self.part = "", 0
 
 
-def own_content(drawn, row):
-    """Returns the bytes of a content that have no other row."""
-    if row.kind == "end-of-contents":
-        return b""
-    if row.head and row.head.constructed and row.opened:
-        return b""
-    return drawn.data[row.start:getattr(row, "inside", row.start) if row.opened else row.stop]
-
-
 def is_seen(drawn, row, content):
     """Returns whether a content is one that the picture shows as a value."""
     if not row.head or row.missing or row.head.constructed or row.opened:
@@ -75,7 +66,7 @@ def lines_of(drawn):
     """Yields the lines of the rows of a picture."""
     for row, label in zip(drawn.rows, drawn.labels):
         first, *marks = picture.line_of(drawn, row, label)
-        content = own_content(drawn, row)
+        content = picture.own_content(drawn, row)
         header = 2 if row.kind == "end-of-contents" else row.start - row.at
         hidden = bool(content) and not is_seen(drawn, row, content) and not is_public(drawn, row)
         line = Line(first, ROW, row.at, header, len(content), row.depth, hidden)

@@ -394,7 +394,7 @@ class Others(unittest.TestCase):
 
     def test_pictures_drawn_by_hand(self):
         drawn = drawn_by_hand()
-        self.assertEqual(len(drawn), 14)
+        self.assertEqual(len(drawn), 26)
         for data, asked, text, status in drawn:
             self.assertEqual(sec1.draw(data, asked), sec1.Picture(text, status == 0))
         data, _, text, _ = drawn[0]
