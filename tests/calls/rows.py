@@ -1,7 +1,7 @@
 """The lines of calls that crates/replay reads, and what it has to print for each.
 
 Written from docs/FORMATS.md and the documentation of the calls. `rows()` are the lines of the
-stored input: points, keys, streams that fail once, and single calls.
+stored input: points, keys, streams that fail once or end, and single calls.
 """
 import functools
 
@@ -153,6 +153,11 @@ def break_rows():
     for step in (1, 2, 3, 7, 100, 4095, 4096, 4097):
         for private_len in (0, 4, 66, 300, 4081, 4082, 4083, 5000, 8177, 8178, 8179):
             yield break_row("None", 0, step, private_len)
+    # contents of these lengths, in pieces of six sizes in turn
+    for length in (120, 200, 4_096, 4_097, 10_000, 12_001, 100_000, 1_000_000, 1_048_575, 1_048_576):
+        private_len = next(p for p in range(length - 16, length) if len(key(p)) == length)
+        for turn in range(6):
+            yield break_row("None", turn, 0, private_len)
 
 
 def encode_rows():
@@ -161,6 +166,7 @@ def encode_rows():
     shapes = [(0, room) for room in range(10)]
     shapes += [(count, len(element(0x30, key(count))) + more)
                for count in (122, 123) for more in (-1, 0, 1)]
+    shapes += [(114, 130)]
     for count, room in shapes:
         der = element(0x30, key(count))
         fits = len(der) <= room
@@ -177,6 +183,42 @@ PUBLIC = ("a144034200041cacffb55f2f2cefd89d89eb374b2681152452802deea09916068137d
           "c117befe83a8d08f155f2b52f9f618dd447029048e0f")
 WHOLE = f"30770201010420{PRIVATE}a00a0608{CURVE}{PUBLIC}"
 WITHOUT_CURVE = f"306b0201010420{PRIVATE}{PUBLIC}"
+
+
+def piece_row(how, after, step, data, error, taken):
+    """Bytes over streams: by which error they are no document, if they are none, and how many of
+    them are taken until then."""
+    read = f"{error or sum_of(data)} of {taken}"
+    found = document_row(data)[1].split(" ")[1]
+    writes = f"Ok {sum_of(data)}"
+    if how != "None" and after < len(data):
+        writes = f"Io {sum_of(data[:after])}"
+    written = f"{writes}, {writes}" if found.isdigit() else f"no document, {found} 0 0"
+    asked = f"pieces {how} {after} {step} {data.hex()}"
+    return asked, f"pieces, {sum_of(data)}, {read}, {read}, {written}"
+
+
+def piece_rows():
+    """Bytes over streams that move few at once, end, or fail. A header is read byte by byte, and of
+    what is behind a document one byte."""
+    whole = bytes.fromhex(WHOLE)
+    for step in (1, 7, 121, 1000):
+        yield piece_row("None", 0, step, whole, None, 121)
+    yield piece_row("None", 0, 1, whole + b"\0", "TrailingData", 122)
+    for how, after, step, error in (("Other", 121, 121, "Io"), ("Other", 10, 3, "Io"), ("Other", 7, 1000, "Io"),
+                                    ("End", 10, 3, "Truncated"), ("End", 7, 1000, "Truncated"),
+                                    ("End", 0, 1, "Truncated")):
+        yield piece_row(how, after, step, whole, error, after)
+    # more than is read, as of a stream without an end
+    for data, error, taken in ((bytes(300), "Tag", 1), (b"\x30" * 300, "TrailingData", 51),
+                               (b"\x30\x80" + bytes(300), "Length", 2), (b"\x30\x84\x10\0\0\0", "Length", 6)):
+        yield piece_row("None", 0, 1, data, error, taken)
+    # a content of 268,435,455 bytes that fails behind 12,288 of them
+    yield piece_row("Other", 12_294, 4_096, b"\x30\x84\x0F\xFF\xFF\xFF" + bytes(20_000), "Io", 12_294)
+    for data, error, taken in ((b"", "Truncated", 0), (b"\4\1\xAA", None, 3), (b"\4\2\xAA", "Truncated", 3),
+                               (b"\0\xFF", "Tag", 1), (b"\5\0\0", "TrailingData", 3), (b"\5\0", None, 2),
+                               (b"\x30\3\4\5\0", None, 5)):
+        yield piece_row("None", 0, 1000, data, error, taken)
 
 
 def document_rows():
@@ -383,6 +425,25 @@ def parts_rows():
         yield f"parts {size} {encoding.hex()}", parts_of(size, encoding)
 
 
+def text_row(size, text):
+    """A text of a point has the digits of its encoding, all letters in one case."""
+    has_one_case = text in (text.lower(), text.upper())
+    is_even = len(text) % 2 == 0 and all(digit in "0123456789abcdefABCDEF" for digit in text)
+    encoding = bytes.fromhex(text) if has_one_case and is_even else b""
+    if parts_of(size, encoding) == "PointEncoding":
+        return f"text {size} {text}", "text PointEncoding PointEncoding none"
+    return f"text {size} {text}", f"text {encoding.hex()} {encoding.hex()} {encoding.hex().upper()}"
+
+
+def text_rows():
+    for text in ("02AF", "02af", "02aF", "02A", "", "02", "02AF0000", "070103", "070102", "02G0", "00"):
+        yield text_row(1, text)
+    whole = PUBLIC[10:]
+    for text in (whole, "02" + "11" * 32, "04" + "11" * 32 + "22" * 32, whole[:66]):
+        yield text_row(32, text.upper())
+        yield text_row(32, text)
+
+
 CURVES = {
     None: None,
     CURVE: "1.2.840.10045.3.1.7",
@@ -442,8 +503,10 @@ def rows(is_refused=False):
     yield from point_rows(is_refused)
     yield from key_rows(is_refused)
     yield from break_rows()
+    yield from piece_rows()
     yield from encode_rows()
     yield from document_rows()
     yield from failed_rows()
     yield from parts_rows()
+    yield from text_rows()
     yield from show_rows()

@@ -1,8 +1,9 @@
 #!/usr/bin/env bash
 # Compares the keys that crates/replay is stored to read, and what it is to print for them, with what
 # the reader of this folder says and, for the keys made by hand, with the line that stands below
-# each; and the keys with OpenSSL where that is there. What the program prints is compared where its
-# crate is proved. `--write` stores both anew. The last line is 'N passed, M failed'.
+# each; and the keys with OpenSSL where that is there. What the program prints for them is compared
+# where its crate is proved; here it reads the changed copies of one key. `--write` stores both anew.
+# The last line is 'N passed, M failed'.
 set -u
 top=$(cd "$(dirname "$0")/../.." && pwd)
 here=$top/tests/keys
@@ -43,8 +44,23 @@ sed -n '3~3p' "$here/hand.txt" >"$room/hand"
 tail -n "$(wc -l <"$room/hand")" "$room/stdout" >"$room/said"
 same "the stored output is the line for each key made by hand" "$room/hand" "$room/said"
 lines=$(grep -vc '^#' "$room/stdin")
-[ "$lines" = 2753 ] && tell "656 keys, 2,000 damaged copies and 97 made by hand" yes ||
+[ "$lines" = 2791 ] && tell "656 keys, 2,000 damaged copies and 135 made by hand" yes ||
     tell "there are $lines keys" no
+
+# A key with all fields: its beginnings, a byte behind it, and each of its bytes made each other value.
+program=${REPLAY:-$top/crates/replay/out/replay}
+if [ ! -x "$program" ]; then
+    tell "there is no program $program: run rt ci first" no
+else
+    grep '^307702' "$here/hand.txt" | python3 "$here/changes.py" >"$room/changed"
+    python3 "$here/answers.py" <"$room/changed" >"$room/wanted"
+    "$program" <"$room/changed" >"$room/found"
+    same "30,977 changed copies of a key are read, written and refused as the reader says" \
+        "$room/wanted" "$room/found"
+    copies=$(wc -l <"$room/wanted") read=$(grep -vc '^refused' "$room/wanted")
+    [ "$copies $read" = "30977 26644" ] && tell "26,644 of them are read" yes ||
+        tell "$read of $copies changed copies are read" no
+fi
 
 # Each key that is read is OpenSSL's too: it reads it and finds the same private key.
 if command -v openssl >/dev/null; then

@@ -68,7 +68,7 @@ test('reads stored keys of OpenSSL as a second reader says, and writes them as t
   const answers = lines('data/replay_answers.txt');
   const asked = lines('data/replay.txt').map((line, index) => [...line.split(' '), answers[index]]);
   const keys = asked.filter(([name]) => name === 'ec-private-key');
-  assert.deepEqual([keys.length, asked.length], [2753, answers.length]);
+  assert.deepEqual([keys.length, asked.length], [2791, answers.length]);
   for (const [, encoded, answer] of keys) {
     const data = bytes(encoded);
     if (answer.startsWith('refused: ')) {

@@ -33,7 +33,7 @@ class Keys(unittest.TestCase):
         answers = (HERE / "data/replay_answers.txt").read_text().splitlines()
         pairs = zip(asked, answers)
         keys = [(words[1], answer) for words, answer in pairs if words[0] == "ec-private-key"]
-        self.assertEqual((len(keys), len(asked)), (2753, len(answers)))
+        self.assertEqual((len(keys), len(asked)), (2791, len(answers)))
         for digits, answer in keys:
             data = bytes.fromhex(digits)
             if answer.startswith("refused: "):

@@ -8,7 +8,7 @@ use examples::callers::points::{
     from_own_bytes, from_own_json, from_own_lower_hex, from_own_upper_hex,
 };
 use examples::callers::reading::{read_private_key, read_public_key};
-use pkix::{PrivateKeyInfo, SubjectPublicKeyInfo};
+use pkix::SubjectPublicKeyInfo;
 use sec1::der::{
     Containing, DecodeValue, EncodeValue, ErrorKind, SecretDocument, Tagged, encode_to_slice,
     from_der, to_der,
@@ -88,33 +88,6 @@ where
 fn assert_contained(rt: &impl Abort, key: &EcPrivateKey) {
     let found = (key.private_key, key.parameters.is_none(), key.public_key);
     assert_equal(rt, &found, &(&CONTAINER[36..68], true, Some(&INFO[26..])));
-}
-
-#[test]
-fn reads_and_writes_a_public_key(rt: HostRuntime) {
-    let info: SubjectPublicKeyInfo = reread(&rt, &INFO);
-    assert_equal(&rt, &info.algorithm.algorithm.as_bytes(), &&INFO[6..13]);
-    let parameters = info.algorithm.parameters.as_ref();
-    let curve = parameters.map(|parameters| parameters.element());
-    assert_equal(&rt, &curve, &Some(&INFO[13..23]));
-    assert_equal(&rt, &info.public_key.as_bytes(), &Some(&INFO[26..]));
-}
-
-#[test]
-fn refuses_a_cut_public_key(rt: HostRuntime) {
-    let error = from_der::<SubjectPublicKeyInfo>(&INFO[..90]).err();
-    assert_equal(&rt, &error, &Some(ErrorKind::Truncated.into()));
-}
-
-#[test]
-fn reads_and_writes_a_container(rt: HostRuntime) -> Result<(), Fail> {
-    let info: PrivateKeyInfo = reread(&rt, &CONTAINER);
-    let parameters = info.algorithm.parameters.as_ref();
-    let curve = parameters.map(|parameters| parameters.element());
-    assert_equal(&rt, &curve, &Some(&INFO[13..23]));
-    assert_equal(&rt, &info.private_key.bytes, &&CONTAINER[29..]);
-    assert_contained(&rt, &EcPrivateKey::try_from(info.private_key.bytes)?);
-    Ok(())
 }
 
 #[test]

@@ -5,7 +5,7 @@ use crate::keys::{Copied, der_failed, failed, pattern};
 use crate::streams::error_name;
 use crate::words::{number, word};
 use sec1::der::SecretDocument;
-use sec1::{DecodeEcPrivateKey, EcPrivateKey, EncodeEcPrivateKey};
+use sec1::{DecodeEcPrivateKey, EcPrivateKey, EncodeEcPrivateKey, Error};
 use std::alloc::{AllocError, Global};
 use std::rt::Files;
 
@@ -35,6 +35,23 @@ pub fn read<H: Files>(rt: &H, alloc: Global, rest: &[u8]) -> Result<String, Allo
     }
 }
 
+/// Returns the document of a key with a private key of this length, or, of `-`, the shortest
+/// element, which is no key.
+fn document_of(alloc: Global, private_len: &[u8]) -> sec1::Result<SecretDocument> {
+    if private_len == b"-".as_slice() {
+        return Ok(SecretDocument::from_der(alloc, b"\x05\x00")?);
+    }
+    let Ok(private_key) = pattern(alloc, number(private_len)) else {
+        return Err(Error::Memory);
+    };
+    let key = EcPrivateKey {
+        private_key: &private_key,
+        parameters: None,
+        public_key: None,
+    };
+    key.document(alloc)
+}
+
 /// Returns the line for a file into which a `document` or a `key` is written.
 pub fn write<H: Files>(rt: &H, alloc: Global, rest: &[u8]) -> Result<String, AllocError> {
     let (kind, rest) = word(rest);
@@ -42,13 +59,7 @@ pub fn write<H: Files>(rt: &H, alloc: Global, rest: &[u8]) -> Result<String, All
     let Ok(path) = str::from_utf8(path) else {
         return "not a text".to_string(alloc);
     };
-    let private_key = pattern(alloc, number(private_len))?;
-    let key = EcPrivateKey {
-        private_key: &private_key,
-        parameters: None,
-        public_key: None,
-    };
-    let Ok(document) = key.document(alloc) else {
+    let Ok(document) = document_of(alloc, private_len) else {
         return "not written".to_string(alloc);
     };
     if kind == b"key".as_slice() {
@@ -73,13 +84,7 @@ pub fn answer<H: Files>(rt: &H, alloc: Global, rest: &[u8]) -> Result<String, Al
     let Ok(path) = str::from_utf8(path) else {
         return "not a text".to_string(alloc);
     };
-    let private_key = pattern(alloc, number(private_len))?;
-    let key = EcPrivateKey {
-        private_key: &private_key,
-        parameters: None,
-        public_key: None,
-    };
-    let Ok(document) = key.document(alloc) else {
+    let Ok(document) = document_of(alloc, private_len) else {
         return "not written".to_string(alloc);
     };
     let key = Copied {

@@ -8,12 +8,15 @@
 //! `key P C Q`: each call that allocates, of the key with a private key of P bytes, the curve whose
 //! identifier has the content C and a public key of Q bytes, each `-` if absent.
 //! `break HOW AT STEP P`: the key with a private key of P bytes over a reader and a writer that
-//! fail once, after AT bytes.
+//! move at most STEP bytes at once, and fail once or end after AT bytes.
+//! `pieces HOW AT STEP DIGITS`: the same of any bytes.
 //! `show_key P C Q`, `show_point N DIGITS`: what is printed by `{:?}`.
 //! `hidden P C Q`: whether what is printed by `{:?}` with options is that of a key that has no
 //! private bytes.
-//! `encode P ROOM`, `document DIGITS`, `failed DIGITS`, `parts N DIGITS`: single calls.
-//! `write KIND P PATH`, `read KIND PATH`: one call on a file, of a `key` or a `document`.
+//! `encode P ROOM`, `document DIGITS`, `failed DIGITS`, `parts N DIGITS`, `text N TEXT`: single
+//! calls.
+//! `write KIND P PATH`, `read KIND PATH`: one call on a file, of a `key` or a `document`; of a P of
+//! `-` the shortest element is written.
 //! `file P PATH`: each call on a file. `refuse PATH`: a key type that refuses.
 //!
 //! `tests/keys`, `tests/certificates` and `tests/calls` make the lines, and say what is printed.
@@ -44,6 +47,7 @@ fn answer<H: Files>(rt: &H, alloc: Global, line: &str) -> Result<String, AllocEr
         b"point" => points::answer(alloc, rest),
         b"key" => keys::answer(alloc, rest),
         b"break" => streams::answer(alloc, rest),
+        b"pieces" => streams::pieces(alloc, rest),
         b"write" => files::write(rt, alloc, rest),
         b"read" => files::read(rt, alloc, rest),
         b"file" => files::answer(rt, alloc, rest),
@@ -51,6 +55,7 @@ fn answer<H: Files>(rt: &H, alloc: Global, line: &str) -> Result<String, AllocEr
         b"document" => results::document(alloc, rest),
         b"failed" => results::failed(alloc, rest),
         b"parts" => results::parts(alloc, rest),
+        b"text" => results::text(alloc, rest),
         b"show_key" => shown::key(alloc, rest),
         b"hidden" => shown::hidden(alloc, rest),
         b"show_point" => shown::point(alloc, rest),

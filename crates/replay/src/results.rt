@@ -1,4 +1,4 @@
-//! What single calls give: of readers, documents, slices and points.
+//! What single calls give: of readers, documents, slices, points and their texts.
 ghost use Rattle.std.specs.Prelude.{◌<◌, ◌^◌};
 ghost use Rattle.sec1.specs.Points.{Fits};
 
@@ -9,7 +9,10 @@ use sec1::der::{
     Error, Length, OctetStringRef, SecretDocument, SliceReader, StdReader, check_tree,
 };
 use sec1::{EcPrivateKey, EncodedPoint};
+use serde_json::Value;
 use std::alloc::{AllocError, Global};
+use std::fmt::Display;
+use std::str::FromStr;
 
 /// Returns the digits of the bytes.
 fn digits(alloc: Global, bytes: &[u8]) -> Result<String, AllocError> {
@@ -139,6 +142,60 @@ pub fn parts(alloc: Global, rest: &[u8]) -> Result<String, AllocError> {
         48 => parts_of::<48, 97>(alloc, &bytes),
         64 => parts_of::<64, 129>(alloc, &bytes),
         66 => parts_of::<66, 133>(alloc, &bytes),
+        _ => "no such size".to_string(alloc),
+    }
+}
+
+/// Returns the digits of the point, or the name of the error.
+fn found<const N: usize, const L: usize>(
+    alloc: Global,
+    point: sec1::Result<EncodedPoint<N, L>>,
+) -> Result<String, AllocError> {
+    match point {
+        Ok(point) => digits(alloc, point.as_bytes()),
+        Err(error) => error_name(alloc, &error),
+    }
+}
+
+/// Returns the text by `{}`, or `different` if another is printed with options.
+fn printed<T: Display>(alloc: Global, value: &T) -> Result<String, AllocError> {
+    let plain = format!(in alloc; "{value}")?;
+    let texts = format!(in alloc;
+        "{value:#}|{value:.1}|{value:.3}|{value:>9}|{value:<+09}|{value:>60}|{value:>200}"
+    )?;
+    for text in texts.split('|') {
+        if text != plain.as_str() {
+            return "different".to_string(alloc);
+        }
+    }
+    Ok(plain)
+}
+
+/// Returns what this text is as a point, and what a string of it in JSON is; then what the point
+/// prints.
+fn text_of<const N: usize, const L: usize>(alloc: Global, text: &str) -> Result<String, AllocError>
+    requires fits { Fits N L }
+    requires size { L < 2 ^ 62 }
+{
+    let read = EncodedPoint::<N, L>::from_str(text);
+    let shown = match &read {
+        Ok(point) => printed(alloc, point)?,
+        Err(_) => "none".to_string(alloc)?,
+    };
+    let json = Value::from(String::from_str(alloc, text)?);
+    let from_json = found(alloc, EncodedPoint::<N, L>::from_json(&json))?;
+    format!(in alloc; "text {} {from_json} {shown}", found(alloc, read)?)
+}
+
+/// Returns the line for a text that is read as a point.
+pub fn text(alloc: Global, rest: &[u8]) -> Result<String, AllocError> {
+    let (size, text) = word(rest);
+    let Ok(text) = str::from_utf8(text) else {
+        return "not a text".to_string(alloc);
+    };
+    match number(size) {
+        1 => text_of::<1, 3>(alloc, text),
+        32 => text_of::<32, 65>(alloc, text),
         _ => "no such size".to_string(alloc),
     }
 }

@@ -1,4 +1,5 @@
-//! Keys and documents over readers and writers that fail once and would then continue.
+//! Keys and documents over readers and writers that fail once and would then continue, that end, or
+//! that move pieces of several sizes in turn.
 
 use crate::calls::{Outcome, sum_of};
 use crate::keys::{Copied, pattern};
@@ -56,38 +57,61 @@ static KINDS: [(&[u8], io::ErrorKind); 41] = [
     (b"Other", io::ErrorKind::Other),
 ];
 
-/// Returns the kind with this name.
-fn kind_of(name: &[u8]) -> Option<io::ErrorKind> {
-    for &(text, kind) in KINDS.iter() {
-        if text == name {
-            return Some(kind);
-        }
-    }
-    None
+/// What a stream does that has moved some bytes.
+#[derive(Clone, Copy)]
+enum Then {
+    /// It goes on.
+    Continue,
+    /// It moves no more.
+    End,
+    /// It fails, once.
+    Fail(io::ErrorKind),
 }
 
-/// How a stream fails, once, and after how many bytes; at most `step` bytes are moved at once.
+/// Returns what a stream does by this name.
+fn then_of(name: &[u8]) -> Then {
+    if name == b"End".as_slice() {
+        return Then::End;
+    }
+    for &(text, kind) in KINDS.iter() {
+        if text == name {
+            return Then::Fail(kind);
+        }
+    }
+    Then::Continue
+}
+
+/// The sizes of pieces that are moved in turn.
+static SIZES: [usize; 6] = [1, 4_095, 4_096, 7, 1_000, 4_097];
+
+/// What a stream does after how many bytes; at most `step` bytes are moved at once, or, if that is
+/// 0, as many as [`SIZES`] has in turn, from the size at `at` on.
 #[derive(Clone, Copy)]
 struct Break {
-    kind: Option<io::ErrorKind>,
+    then: Then,
     at: usize,
     step: usize,
 }
 
 impl Break {
-    /// Returns `true` if the stream fails now, and how many of these bytes it moves otherwise.
+    /// Returns how many of these bytes the stream moves now, unless it fails.
     fn next(&mut self, moved: usize, wanted: usize) -> io::Result<usize> {
-        let mut count = wanted.min(self.step);
-        if let Some(kind) = self.kind {
-            if moved == self.at {
-                self.kind = None;
-                return Err(io::Error::from(kind));
-            }
-            if moved < self.at {
-                count = count.min(self.at - moved);
-            }
+        if self.step == 0 {
+            let count = wanted.min(SIZES[self.at % 6]);
+            self.at = self.at.wrapping_add(1);
+            return Ok(count);
         }
-        Ok(count)
+        let count = wanted.min(self.step);
+        let before = count.min(self.at.saturating_sub(moved));
+        match self.then {
+            Then::Fail(kind) if moved == self.at => {
+                self.then = Then::Continue;
+                Err(io::Error::from(kind))
+            }
+            Then::Fail(_) if moved < self.at => Ok(before),
+            Then::End => Ok(before),
+            _ => Ok(count),
+        }
     }
 }
 
@@ -213,28 +237,57 @@ fn key_written(alloc: Global, bytes: &[u8], breaks: Break) -> Result<String, All
     }
 }
 
-/// Returns the line for a key over a stream that fails once.
-pub fn answer(alloc: Global, rest: &[u8]) -> Result<String, AllocError> {
-    let (how, rest) = word(rest);
+/// Returns what these bytes give as a document and as a key, read and written.
+fn found(alloc: Global, bytes: &[u8], breaks: Break) -> Result<String, AllocError> {
+    let document = document_read(alloc, bytes, breaks)?;
+    let key = key_read(alloc, bytes, breaks)?;
+    let document_written = document_written(alloc, bytes, breaks)?;
+    let key_written = key_written(alloc, bytes, breaks)?;
+    format!(in alloc; "{document}, {key}, {document_written}, {key_written}")
+}
+
+/// Returns what the streams do that the line names, and the rest of the line.
+fn breaks_of(line: &[u8]) -> (Break, &[u8]) {
+    let (how, rest) = word(line);
     let (at, rest) = word(rest);
-    let (step, private_len) = word(rest);
+    let (step, rest) = word(rest);
     let breaks = Break {
-        kind: kind_of(how),
+        then: then_of(how),
         at: number(at),
         step: number(step),
     };
+    (breaks, rest)
+}
+
+/// Returns the line for a key over such streams.
+pub fn answer(alloc: Global, line: &[u8]) -> Result<String, AllocError> {
+    let (breaks, private_len) = breaks_of(line);
     let private_key = pattern(alloc, number(private_len))?;
     let key = EcPrivateKey {
         private_key: &private_key,
         parameters: None,
         public_key: None,
     };
-    let Ok(der) = key.to_der(alloc) else {
-        return "not written".to_string(alloc);
+    match key.to_der(alloc) {
+        Ok(der) => format!(in alloc; "break, {}", found(alloc, &der, breaks)?),
+        Err(_) => "not written".to_string(alloc),
+    }
+}
+
+/// Returns what these bytes are as a key from memory.
+fn copied(alloc: Global, bytes: &[u8]) -> Result<String, AllocError> {
+    match Copied::from_sec1_der(alloc, bytes) {
+        Ok(key) => moved(alloc, &key.bytes),
+        Err(error) => error_name(alloc, &error),
+    }
+}
+
+/// Returns the line for any bytes, from memory and over such streams.
+pub fn pieces(alloc: Global, line: &[u8]) -> Result<String, AllocError> {
+    let (breaks, digits) = breaks_of(line);
+    let Ok(bytes) = hex::decode(alloc, digits) else {
+        return "not hexadecimal".to_string(alloc);
     };
-    let document = document_read(alloc, &der, breaks)?;
-    let key = key_read(alloc, &der, breaks)?;
-    let document_written = document_written(alloc, &der, breaks)?;
-    let key_written = key_written(alloc, &der, breaks)?;
-    format!(in alloc; "break, {document}, {key}, {document_written}, {key_written}")
+    let copied = copied(alloc, &bytes)?;
+    format!(in alloc; "pieces, {copied}, {}", found(alloc, &bytes, breaks)?)
 }

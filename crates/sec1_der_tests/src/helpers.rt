@@ -6,9 +6,7 @@ use sec1_der::{
 };
 use std::alloc::Global;
 use std::fmt::{Debug, Display};
-use std::fs;
 use std::process::Abort;
-use std::test::Fail;
 
 /// Fails the test unless the two are equal.
 pub fn assert_equal<T: PartialEq + Debug>(rt: &impl Abort, found: &T, wanted: &T) {
@@ -101,20 +99,4 @@ where
 pub fn assert_shows<R: Abort + AllocGlobal, T: Display>(rt: &R, value: &T, text: &str) {
     let shown = value.to_string(rt.alloc()).ok();
     assert_equal(rt, &shown.as_deref(), &Some(text));
-}
-
-/// Removes the file.
-pub fn remove_file(rt: &HostRuntime, path: &str) -> std::result::Result<(), Fail> {
-    fs::remove_file(rt, path)?;
-    Ok(())
-}
-
-/// Returns a path in the folder for temporary files that no other test and no other run has.
-pub fn temporary_path(rt: &HostRuntime, name: &str) -> std::result::Result<String, Fail> {
-    let folder = std::env::temp_dir(rt)?;
-    Ok(format!(in rt.alloc();
-        "{}/sec1_der_{name}_{}",
-        folder.display(),
-        std::process::id(rt.process())
-    )?)
 }

@@ -1,6 +1,6 @@
-//! Tests of `sec1_der` by its public calls: what its contracts can't say, on streams, files and
-//! memory, and values from outside. [`checks`] has what is proved of its definitions, its constants
-//! and of `==`.
+//! Tests of `sec1_der` by its public calls: what its contracts can't say, on memory, and values from
+//! outside. `crates/replay` has streams and files, and [`checks`] what is proved of its definitions,
+//! its constants and of `==`.
 //!
 //! They are in a crate of their own, so that `sec1_der` is proved once, and all of it is under
 //! `cfg(test)`, so that [`checks`] is proved once too.
@@ -11,8 +11,6 @@ pub mod checks;
 #[cfg(test)]
 mod helpers;
 #[cfg(test)]
-mod large;
-#[cfg(test)]
 mod memory;
 #[cfg(test)]
 mod nested;
@@ -22,7 +20,5 @@ mod printing;
 mod reading;
 #[cfg(test)]
 mod records;
-#[cfg(test)]
-mod streams;
 #[cfg(test)]
 mod writing;

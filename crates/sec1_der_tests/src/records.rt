@@ -13,11 +13,21 @@ use std::marker::Model;
 use std::process::Abort;
 
 /// Four parts: a version and an identifier, and one of each that may be absent.
-#[derive(Clone, Copy, PartialEq, Eq, Debug)]
+#[derive(Clone, Copy)]
 struct Inner {
     identifier: ObjectIdentifier,
     version: Option<VersionOne>,
     other: Option<ObjectIdentifier>,
+}
+
+/// The values of an [`Inner`].
+type InnerValues = (ObjectIdentifier, Option<VersionOne>, Option<ObjectIdentifier>);
+
+impl Inner {
+    /// Returns what may be compared and printed.
+    fn values(self) -> InnerValues {
+        (self.identifier, self.version, self.other)
+    }
 }
 
 impl Record for Inner {
@@ -53,47 +63,33 @@ impl Distinct for Inner {
     ghost apart = { refl };
 }
 
-/// Four records of four parts.
-#[derive(Clone, Copy, PartialEq, Eq, Debug)]
-struct Middle {
+/// Two records of four parts. Four records of four are in [`nested`](crate::nested).
+#[derive(Clone, Copy)]
+struct Pair {
     first: Inner,
-    second: Inner,
-    third: Inner,
-    fourth: Option<Inner>,
+    second: Option<Inner>,
 }
 
-impl Record for Middle {
-    type Parts = (
-        (Required<Inner>, Required<Inner>),
-        (Required<Inner>, Optional<Inner>),
-    );
+impl Record for Pair {
+    type Parts = (Required<Inner>, Optional<Inner>);
 
-    ghost parts = { λ middle. ((middle.first, middle.second), (middle.third, middle.fourth)) };
+    ghost parts = { λ pair. (pair.first, pair.second) };
 
-    ghost of_parts = { λ row.
-        record { first = row.0.0; second = row.0.1; third = row.1.0; fourth = row.1.1 } };
+    ghost of_parts = { λ row. record { first = row.0; second = row.1 } };
 
     fn from_parts(row: Self::Parts) -> Self {
-        let ((Required(first), Required(second)), (Required(third), Optional(fourth))) = row;
-        Middle {
-            first,
-            second,
-            third,
-            fourth,
-        }
+        let (Required(first), Optional(second)) = row;
+        Pair { first, second }
     }
 
     fn to_parts(&self) -> Self::Parts {
-        (
-            (Required(self.first), Required(self.second)),
-            (Required(self.third), Optional(self.fourth)),
-        )
+        (Required(self.first), Optional(self.second))
     }
 
     ghost same = { λ _. refl };
 }
 
-impl Distinct for Middle {
+impl Distinct for Pair {
     ghost apart = { refl };
 }
 
@@ -120,9 +116,14 @@ static WHOLE: [u8; 14] = [
     0x30, 0x0C, 0x02, 0x01, 0x00, 0x06, 0x01, 0x07, 0x02, 0x01, 0x01, 0x06, 0x01, 0x08,
 ];
 
-/// Reads and writes a [`Middle`].
-fn read_middle(rt: &impl Abort, alloc: Global, bytes: &[u8]) -> sec1_der::Result<Middle> {
-    read_and_write(rt, alloc, bytes)
+/// The values of a [`Pair`].
+type Values = (InnerValues, Option<InnerValues>);
+
+/// Reads and writes a [`Pair`], and returns what it has.
+fn read_pair(rt: &impl Abort, alloc: Global, bytes: &[u8]) -> sec1_der::Result<Values> {
+    let pair: Pair = read_and_write(rt, alloc, bytes)?;
+    let (first, second) = (pair.first, pair.second);
+    Ok((first.values(), second.map(|inner| inner.values())))
 }
 
 /// Returns the identifier whose content is this byte.
@@ -130,47 +131,20 @@ pub(crate) fn identifier(rt: &impl Abort, byte: u8) -> ObjectIdentifier {
     ObjectIdentifier::from_bytes(&[byte]).expect(rt, "an identifier")
 }
 
-/// Returns the value of [`SHORT`].
-fn short(rt: &impl Abort) -> Inner {
-    Inner {
-        identifier: identifier(rt, 7),
-        version: None,
-        other: None,
-    }
-}
-
-/// Returns the value of [`WHOLE`].
-fn whole(rt: &impl Abort) -> Inner {
-    Inner {
-        identifier: identifier(rt, 7),
-        version: Some(VersionOne),
-        other: Some(identifier(rt, 8)),
-    }
-}
-
 #[test]
 fn reads_and_writes_records_in_records(rt: HostRuntime) {
-    let bytes = wrapped(&rt, &[0x30, 0x32], &[&SHORT, &WHOLE, &WHOLE, &WHOLE]);
-    let wanted = Middle {
-        first: short(&rt),
-        second: whole(&rt),
-        third: whole(&rt),
-        fourth: Some(whole(&rt)),
-    };
-    assert_equal(&rt, &read_middle(&rt, rt.alloc(), &bytes), &Ok(wanted));
-    assert_equal(&rt, &(bytes.len(), Middle::TAG.byte()), &(52, 0x30));
+    let bytes = wrapped(&rt, &[0x30, 0x16], &[&SHORT, &WHOLE]);
+    let (seven, eight) = (identifier(&rt, 7), identifier(&rt, 8));
+    let wanted = ((seven, None, None), Some((seven, Some(VersionOne), Some(eight))));
+    assert_equal(&rt, &read_pair(&rt, rt.alloc(), &bytes), &Ok(wanted));
+    assert_equal(&rt, &(bytes.len(), Pair::TAG.byte()), &(24, 0x30));
 }
 
 #[test]
 fn reads_and_writes_a_record_without_the_last(rt: HostRuntime) {
-    let bytes = wrapped(&rt, &[0x30, 0x18], &[&SHORT, &SHORT, &SHORT]);
-    let wanted = Middle {
-        first: short(&rt),
-        second: short(&rt),
-        third: short(&rt),
-        fourth: None,
-    };
-    assert_equal(&rt, &read_middle(&rt, rt.alloc(), &bytes), &Ok(wanted));
+    let bytes = wrapped(&rt, &[0x30, 0x08], &[&SHORT]);
+    let wanted = ((identifier(&rt, 7), None, None), None);
+    assert_equal(&rt, &read_pair(&rt, rt.alloc(), &bytes), &Ok(wanted));
 }
 
 /// An [`Inner`] whose parts are in another order, are cut off, have another value, or are repeated.

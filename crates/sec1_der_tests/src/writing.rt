@@ -1,8 +1,6 @@
 //! What is written, by examples with known results.
-use crate::helpers::{assert_equal, assert_equal_for, document, kind_of};
-use sec1_der::{BackWriter, ErrorKind, Header, Length, SliceWriter, Tag};
-use std::alloc::Global;
-use std::process::Abort;
+use crate::helpers::{assert_equal, assert_equal_for, kind_of};
+use sec1_der::{BackWriter, ErrorKind, Header, Length, SliceWriter, StdWriter, Tag, Write};
 
 /// Returns how many bytes were written, how many remain, and the kind of the error by which two
 /// bytes more are refused.
@@ -66,20 +64,11 @@ fn writes_headers(rt: HostRuntime) {
     }
 }
 
-/// Returns the bytes of the document that these bytes are, and its length.
-fn held(alloc: Global, bytes: &[u8]) -> sec1_der::Result<(Vec<u8>, usize)> {
-    let document = document(alloc, bytes)?;
-    Ok((Vec::from_slice(alloc, document.as_bytes())?, document.len()))
-}
-
-/// Fails the test unless the bytes are a document.
-fn assert_held(rt: &(impl Abort + AllocGlobal), bytes: &[u8]) {
-    let (found, length) = held(rt.alloc(), bytes).expect(rt, "a document");
-    assert_equal(rt, &(found.as_slice(), length), &(bytes, bytes.len()));
-}
-
 #[test]
-fn holds_documents(rt: HostRuntime) {
-    assert_held(&rt, &[0x04, 0x01, 0xAA]);
-    assert_held(&rt, &[0x30, 0x03, 0x04, 0x05, 0x00]);
+fn writes_no_bytes_without_a_fault(rt: HostRuntime) {
+    let mut writer = StdWriter::new(Vec::new(rt.alloc()));
+    assert_equal(&rt, &writer.write(&[]), &Ok(0));
+    assert_equal(&rt, &writer.has_failed(), &false);
+    assert_equal(&rt, &writer.write(&[0xAA]), &Ok(1));
+    assert_equal(&rt, &writer.into_inner().as_slice(), &[0xAA].as_slice());
 }

@@ -11,7 +11,7 @@ ghost use Rattle.sec1_tests.specs.Examples.{p_256_base, p_256_base_compressed};
 
 pub mod equality;
 
-use sec1::der::{self, EncodeValue, ErrorKind, Length, ObjectIdentifier};
+use sec1::der::{self, EncodeValue, ErrorKind, FixedTag, Length, ObjectIdentifier, Tag};
 use sec1::{ALGORITHM_OID, EcPrivateKey, laws};
 
 /// Returns the identifier of the keys' algorithm, id-ecPublicKey (RFC 5480 section 2.1.1).
@@ -19,6 +19,13 @@ pub fn algorithm_identifier() -> ObjectIdentifier
     ensures { result ≡ 1 ∷ 2 ∷ 840 ∷ 10045 ∷ 2 ∷ 1 ∷ [] }
 {
     ALGORITHM_OID
+}
+
+/// Returns the tag of a key, which is that of a SEQUENCE (RFC 5915 section 3).
+pub fn key_tag() -> Tag
+    ensures { result ≡ 0x30 }
+{
+    EcPrivateKey::TAG
 }
 
 /// A key on P-256 and its bytes (RFC 5915 section 3).

@@ -1,6 +1,6 @@
-//! Tests of `sec1` by its public calls: what its contracts can't say, on streams, files, memory and
-//! texts, and keys and points from outside. [`checks`] has what is proved of its definitions, its
-//! constants and of `==`.
+//! Tests of `sec1` by its public calls: what its contracts can't say, on memory and texts, and
+//! points from outside. `crates/replay` has keys, streams and files, and [`checks`] what is proved of
+//! its definitions, its constants and of `==`.
 //!
 //! They are in a crate of their own, so that `sec1` is proved once, and all of it is under
 //! `cfg(test)`, so that [`checks`] is proved once too.
@@ -9,17 +9,11 @@
 #[cfg(test)]
 pub mod checks;
 #[cfg(test)]
-mod files;
+mod errors;
 #[cfg(test)]
 mod memory;
 #[cfg(test)]
 mod points;
-#[cfg(test)]
-mod reading;
-#[cfg(test)]
-mod traits;
-#[cfg(test)]
-mod writing;
 
 #[cfg(test)]
 use std::alloc::AllocError;

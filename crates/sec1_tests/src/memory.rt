@@ -2,12 +2,11 @@
 //!
 //! They are refused by `tests/refuse.c`, an allocator that replaces the C library's in the built
 //! tests. A test controls it by requests of sizes that no allocator grants. Without it nothing is
-//! refused. `sec1_calls` makes the calls that allocate, with each of their requests refused once.
-use super::reading::{WHOLE_KEY, read_key};
+//! refused. `crates/replay` makes the calls that allocate, with each of their requests refused once.
 use crate::assert_equal_for;
-use sec1::Error;
 use sec1::der::check_tree;
 use sec1::point::EncodedPoint;
+use sec1::{EcPrivateKey, Error};
 use serde_json::Value;
 use std::alloc::Global;
 use std::cmp::Ordering;
@@ -16,6 +15,18 @@ use std::str::FromStr;
 use std::test::Fail;
 
 type Point1 = EncodedPoint<1, 3>;
+
+/// A key on P-256 with all its fields.
+static WHOLE_KEY: [u8; 121] = [
+    0x30, 0x77, 0x02, 0x01, 0x01, 0x04, 0x20, 0x69, 0x62, 0x41, 0x71, 0x56, 0x1A, 0x63, 0x34, 0x0D,
+    0xE0, 0xE7, 0xD8, 0x69, 0xF2, 0xA0, 0x54, 0x92, 0x55, 0x8E, 0x1A, 0x04, 0x86, 0x8B, 0x6A, 0x9F,
+    0x85, 0x4A, 0x86, 0x67, 0x88, 0x18, 0x8D, 0xA0, 0x0A, 0x06, 0x08, 0x2A, 0x86, 0x48, 0xCE, 0x3D,
+    0x03, 0x01, 0x07, 0xA1, 0x44, 0x03, 0x42, 0x00, 0x04, 0x1C, 0xAC, 0xFF, 0xB5, 0x5F, 0x2F, 0x2C,
+    0xEF, 0xD8, 0x9D, 0x89, 0xEB, 0x37, 0x4B, 0x26, 0x81, 0x15, 0x24, 0x52, 0x80, 0x2D, 0xEE, 0xA0,
+    0x99, 0x16, 0x06, 0x81, 0x37, 0xD8, 0x39, 0xCF, 0x7F, 0xC4, 0x81, 0xA4, 0x44, 0x92, 0x30, 0x4D,
+    0x7E, 0xF6, 0x6A, 0xC1, 0x17, 0xBE, 0xFE, 0x83, 0xA8, 0xD0, 0x8F, 0x15, 0x5F, 0x2B, 0x52, 0xF9,
+    0xF6, 0x18, 0xDD, 0x44, 0x70, 0x29, 0x04, 0x8E, 0x0F,
+];
 
 /// Asks for `more` bytes above what any allocator grants. Returns `true` if the allocator of the
 /// tests granted them.
@@ -51,7 +62,7 @@ fn assert_made_none<R: Print + Abort>(
 
 /// Returns `true` if the bytes are a key, which is written as they are, and seven elements.
 fn is_read_and_written(bytes: &[u8]) -> bool {
-    let Ok(key) = read_key(bytes) else {
+    let Ok(key) = EcPrivateKey::try_from(bytes) else {
         return false;
     };
     let mut room = [0u8; 121];
@@ -116,13 +127,15 @@ fn takes_no_memory_for_points(rt: HostRuntime) {
 static NO_TEXT: [&str; 5] = ["02aF", "02A", "", "02", "02AF0000"];
 
 /// Returns `true` if a point is read from its texts, and from this string in JSON, and from nothing
-/// else.
-fn is_read_from_texts(json: &Value, number: &Value) -> bool {
+/// else, such as these numbers.
+fn is_read_from_texts(json: &Value, numbers: &[Value; 2]) -> bool {
     let point = Point1::from_bytes(&[2, 0xAF]);
     Point1::from_str("02AF") == point
         && Point1::from_str("02af") == point
         && Point1::from_json(json) == point
-        && Point1::from_json(number) == Err(Error::PointEncoding)
+        && numbers
+            .iter()
+            .all(|number| Point1::from_json(number) == Err(Error::PointEncoding))
         && NO_TEXT.iter().all(|&text| Point1::from_str(text) == Err(Error::PointEncoding))
 }
 
@@ -130,9 +143,9 @@ fn is_read_from_texts(json: &Value, number: &Value) -> bool {
 fn takes_no_memory_for_texts_of_points(rt: HostRuntime) -> std::result::Result<(), Fail> {
     let alloc = rt.alloc();
     let json = Value::from(String::from_str(alloc, "02AF")?);
-    let number = Value::from(2u8);
+    let numbers = [Value::from(2u8), Value::from(0.5)];
     let is_refusing = refuse(alloc, 1);
-    let is_right = is_read_from_texts(&json, &number);
+    let is_right = is_read_from_texts(&json, &numbers);
     assert_made_none(&rt, alloc, "from_str, from_json", is_refusing, is_right);
     Ok(())
 }

@@ -2,7 +2,6 @@
 
 ghost use Rattle.std.specs.Prelude.{◌+◌, ◌*◌, ◌%◌, ◌^◌, fold};
 
-use crate::reading::bytes_of;
 use crate::{
     assert_debug_texts, assert_equal, assert_equal_for, assert_printed, assert_printed_alike,
 };
@@ -12,9 +11,7 @@ use sec1::point::Coordinates::{Compact, Compressed, Hybrid, Uncompressed};
 use sec1::point::{
     Coordinates, EncodedPoint, EncodedPoint28, EncodedPoint32, EncodedPoint48, EncodedPoint66, Tag,
 };
-use serde_json::Value;
 use std::alloc::Global;
-use std::boxed::BoxedSlice;
 use std::cmp::Ordering;
 use std::collections::HashSet;
 use std::fmt::Display;
@@ -35,25 +32,6 @@ static ORDERED: [&[u8]; 8] = [
     &[5, 0xFF],
     &[6, 0, 0],
     &[7, 0, 1],
-];
-
-static NO_TEXT: [&str; 7] = ["02aF", "02A", "", "02", "02AF0000", "070102", "02G0"];
-
-// The text of an encoding with the letters A to F, and with a to f. The first is a point of the
-// curve P-256.
-static TEXTS_32: [(&str, &str); 3] = [
-    (
-        "041CACFFB55F2F2CEFD89D89EB374B2681152452802DEEA09916068137D839CF7FC481A44492304D7EF66AC117BEFE83A8D08F155F2B52F9F618DD447029048E0F",
-        "041cacffb55f2f2cefd89d89eb374b2681152452802deea09916068137d839cf7fc481a44492304d7ef66ac117befe83a8d08f155f2b52f9f618dd447029048e0f",
-    ),
-    (
-        "021111111111111111111111111111111111111111111111111111111111111111",
-        "021111111111111111111111111111111111111111111111111111111111111111",
-    ),
-    (
-        "0411111111111111111111111111111111111111111111111111111111111111112222222222222222222222222222222222222222222222222222222222222222",
-        "0411111111111111111111111111111111111111111111111111111111111111112222222222222222222222222222222222222222222222222222222222222222",
-    ),
 ];
 
 /// The error by which bytes are refused as a point.
@@ -481,71 +459,4 @@ fn assigns_points(rt: HostRuntime) {
     assigned.ct_assign(&whole, true);
     let found = (assigned.as_bytes(), assigned.len());
     assert_equal(&rt, &found, &([4, 1, 2].as_slice(), 3));
-}
-
-/// Returns the texts of the point, and its bytes.
-fn texts<const N: usize, const L: usize>(
-    alloc: Global,
-    point: &EncodedPoint<N, L>,
-) -> sec1::Result<(String, String, BoxedSlice<u8>)> {
-    let (upper, lower) = (point.to_upper_hex(alloc)?, point.to_lower_hex(alloc)?);
-    Ok((upper, lower, point.to_bytes(alloc)?))
-}
-
-/// Fails the test unless the point has these texts, and is read from both.
-fn assert_texts<R: Abort + AllocGlobal, const N: usize, const L: usize>(
-    rt: &R,
-    point: &EncodedPoint<N, L>,
-    upper: &str,
-    lower: &str,
-) {
-    assert_equal(rt, &EncodedPoint::from_str(upper), &Ok(*point));
-    assert_equal(rt, &EncodedPoint::from_str(lower), &Ok(*point));
-    let found = texts(rt.alloc(), point).expect(rt, "no memory");
-    let found = (found.0.as_str(), found.1.as_str(), found.2.as_slice());
-    assert_equal(rt, &found, &(upper, lower, point.as_bytes()));
-    assert_displayed(rt, point, upper);
-    assert_json(rt, point, upper);
-}
-
-/// Fails the test unless the point is the string of this text in JSON, and is read from it.
-fn assert_json<R: Abort + AllocGlobal, const N: usize, const L: usize>(
-    rt: &R,
-    point: &EncodedPoint<N, L>,
-    upper: &str,
-) {
-    let json = point.to_json(rt.alloc()).expect(rt, "no memory");
-    assert_equal(rt, &json.as_str(), &Some(upper));
-    assert_read_from_json(rt, point, &json);
-}
-
-/// Fails the test unless the point is read from the JSON.
-fn assert_read_from_json<const N: usize, const L: usize>(
-    rt: &impl Abort,
-    point: &EncodedPoint<N, L>,
-    json: &Value,
-) {
-    assert_equal(rt, &EncodedPoint::from_json(json), &Ok(*point));
-}
-
-#[test]
-fn writes_texts(rt: HostRuntime) {
-    assert_texts(&rt, &point_1(&rt, &[2, 0xAF]), "02AF", "02af");
-    for &(upper, lower) in TEXTS_32.iter() {
-        let point = point_32(&rt, &bytes_of(&rt, upper));
-        assert_texts(&rt, &point, upper, lower);
-    }
-    let hybrid = point_1(&rt, &[7, 1, 3]);
-    assert_equal(&rt, &Point1::from_str("070103"), &Ok(hybrid));
-}
-
-#[test]
-fn refuses_other_texts(rt: HostRuntime) {
-    let wanted = Some(Error::PointEncoding);
-    for &text in NO_TEXT.iter() {
-        assert_equal_for(&rt, &text, &Point1::from_str(text).err(), &wanted);
-    }
-    for value in [Value::from(2u8), Value::from(0.5)] {
-        assert_equal(&rt, &Point1::from_json(&value).err(), &wanted);
-    }
 }

@@ -47,6 +47,6 @@ fn agrees_on_keys_of_openssl() {
             Err(error) => panic!("{error}: {digits}"),
         }
     }
-    assert_eq!(read + refused, 2753);
+    assert_eq!(read + refused, 2791);
     assert!(read >= 656, "{read}");
 }

@@ -1,0 +1,33 @@
+//! What is printed of errors.
+use crate::{assert_equal, assert_printed};
+use sec1::Error;
+use sec1::der::{self, ErrorKind};
+
+/// Errors, and what is printed of them.
+static TEXTS: [(Error, &str); 6] = [
+    (
+        Error::Asn1(der::Error {
+            kind: ErrorKind::Value,
+        }),
+        "SEC1 ASN.1 error: content not valid for its tag",
+    ),
+    (
+        Error::Asn1(der::Error {
+            kind: ErrorKind::Io,
+        }),
+        "SEC1 ASN.1 error: read or write failed",
+    ),
+    (Error::Crypto, "SEC1 cryptographic error"),
+    (Error::PointEncoding, "elliptic curve point encoding error"),
+    (Error::Version, "SEC1 version error"),
+    (Error::Memory, "out of memory"),
+];
+
+#[test]
+fn prints_errors(rt: HostRuntime) {
+    for (error, text) in TEXTS.iter() {
+        assert_printed(&rt, format!(in rt.alloc(); "{error}"), text);
+    }
+    let refused_growth = Error::from(der::Error::from(ErrorKind::Memory));
+    assert_equal(&rt, &refused_growth, &Error::Memory);
+}
