@@ -1,6 +1,6 @@
-//! Tests of `sec1_der` by its public calls: what its contracts can't say, on memory, and values from
-//! outside. `crates/replay` has streams and files, and [`checks`] what is proved of its definitions,
-//! its constants and of `==`.
+//! Tests of `sec1_der` by its public calls: what its contracts can't say, on memory, and values
+//! from outside. `crates/replay` has streams and files, and [`checks`] what is proved of its
+//! definitions, its constants and of `==`.
 //!
 //! They are in a crate of their own, so that `sec1_der` is proved once, and all of it is under
 //! `cfg(test)`, so that [`checks`] is proved once too.

@@ -3,7 +3,8 @@
 //!
 //! They are refused by `tests/refuse.c`, an allocator that replaces the C library's in the built
 //! tests. A test controls it by requests of sizes that no allocator grants. Without it nothing is
-//! refused. `crates/replay` makes the calls that allocate, with each of their requests refused once.
+//! refused. `crates/replay` makes the calls that allocate, with each of their requests refused
+//! once.
 use crate::helpers::{assert_equal, assert_for, document, kind_of};
 use sec1_der::{
     ErrorKind, OctetStringRef, SecretDocument, StdReader, StdWriter, check_tree, encode_to_slice,

@@ -21,7 +21,11 @@ struct Inner {
 }
 
 /// The values of an [`Inner`].
-type InnerValues = (ObjectIdentifier, Option<VersionOne>, Option<ObjectIdentifier>);
+type InnerValues = (
+    ObjectIdentifier,
+    Option<VersionOne>,
+    Option<ObjectIdentifier>,
+);
 
 impl Inner {
     /// Returns what may be compared and printed.
@@ -135,7 +139,10 @@ pub(crate) fn identifier(rt: &impl Abort, byte: u8) -> ObjectIdentifier {
 fn reads_and_writes_records_in_records(rt: HostRuntime) {
     let bytes = wrapped(&rt, &[0x30, 0x16], &[&SHORT, &WHOLE]);
     let (seven, eight) = (identifier(&rt, 7), identifier(&rt, 8));
-    let wanted = ((seven, None, None), Some((seven, Some(VersionOne), Some(eight))));
+    let wanted = (
+        (seven, None, None),
+        Some((seven, Some(VersionOne), Some(eight))),
+    );
     assert_equal(&rt, &read_pair(&rt, rt.alloc(), &bytes), &Ok(wanted));
     assert_equal(&rt, &(bytes.len(), Pair::TAG.byte()), &(24, 0x30));
 }

@@ -1,6 +1,6 @@
 //! Tests of `sec1` by its public calls: what its contracts can't say, on memory and texts, and
-//! points from outside. `crates/replay` has keys, streams and files, and [`checks`] what is proved of
-//! its definitions, its constants and of `==`.
+//! points from outside. `crates/replay` has keys, streams and files, and [`checks`] what is proved
+//! of its definitions, its constants and of `==`.
 //!
 //! They are in a crate of their own, so that `sec1` is proved once, and all of it is under
 //! `cfg(test)`, so that [`checks`] is proved once too.

@@ -2,7 +2,8 @@
 //!
 //! They are refused by `tests/refuse.c`, an allocator that replaces the C library's in the built
 //! tests. A test controls it by requests of sizes that no allocator grants. Without it nothing is
-//! refused. `crates/replay` makes the calls that allocate, with each of their requests refused once.
+//! refused. `crates/replay` makes the calls that allocate, with each of their requests refused
+//! once.
 use crate::assert_equal_for;
 use sec1::der::check_tree;
 use sec1::point::EncodedPoint;
@@ -133,9 +134,7 @@ fn is_read_from_texts(json: &Value, numbers: &[Value; 2]) -> bool {
     Point1::from_str("02AF") == point
         && Point1::from_str("02af") == point
         && Point1::from_json(json) == point
-        && numbers
-            .iter()
-            .all(|number| Point1::from_json(number) == Err(Error::PointEncoding))
+        && numbers.iter().all(|number| Point1::from_json(number) == Err(Error::PointEncoding))
         && NO_TEXT.iter().all(|&text| Point1::from_str(text) == Err(Error::PointEncoding))
 }
 
