@@ -8,7 +8,7 @@ use sec1_der::{
     ObjectIdentifier, Octets, Optional, Primitive0, Primitive1, Primitive2, Primitive3, Record,
     Required, SmallInteger, Tagged, VersionOne, WholeBits, read_der,
 };
-use std::alloc::{AllocError, Global};
+use std::alloc::Global;
 use std::marker::Model;
 use std::process::Abort;
 
@@ -97,28 +97,14 @@ impl Distinct for Pair {
     ghost apart = { refl };
 }
 
-/// Returns the header and the parts behind it. Fails the test if there is no memory.
-pub(crate) fn wrapped<R: Abort + AllocGlobal>(rt: &R, header: &[u8], parts: &[&[u8]]) -> Vec<u8> {
-    joined(rt.alloc(), header, parts).expect(rt, "no memory")
-}
-
-/// Returns the header and the parts behind it.
-fn joined(alloc: Global, header: &[u8], parts: &[&[u8]]) -> Result<Vec<u8>, AllocError> {
-    let mut bytes = Vec::new(alloc);
-    bytes.extend_from_slice(header)?;
-    for &part in parts.iter() {
-        bytes.extend_from_slice(part)?;
-    }
-    Ok(bytes)
-}
-
-/// An [`Inner`] without what may be absent.
-static SHORT: [u8; 8] = [0x30, 0x06, 0x02, 0x01, 0x00, 0x06, 0x01, 0x07];
-
-/// An [`Inner`] with all parts.
-static WHOLE: [u8; 14] = [
-    0x30, 0x0C, 0x02, 0x01, 0x00, 0x06, 0x01, 0x07, 0x02, 0x01, 0x01, 0x06, 0x01, 0x08,
+/// A [`Pair`], of which the first has no part that may be absent, and the second has all.
+static PAIR: [u8; 24] = [
+    0x30, 0x16, 0x30, 0x06, 0x02, 0x01, 0x00, 0x06, 0x01, 0x07, 0x30, 0x0C, 0x02, 0x01, 0x00, 0x06,
+    0x01, 0x07, 0x02, 0x01, 0x01, 0x06, 0x01, 0x08,
 ];
+
+/// A [`Pair`] without the second.
+static ALONE: [u8; 10] = [0x30, 0x08, 0x30, 0x06, 0x02, 0x01, 0x00, 0x06, 0x01, 0x07];
 
 /// The values of a [`Pair`].
 type Values = (InnerValues, Option<InnerValues>);
@@ -137,21 +123,19 @@ pub(crate) fn identifier(rt: &impl Abort, byte: u8) -> ObjectIdentifier {
 
 #[test]
 fn reads_and_writes_records_in_records(rt: HostRuntime) {
-    let bytes = wrapped(&rt, &[0x30, 0x16], &[&SHORT, &WHOLE]);
     let (seven, eight) = (identifier(&rt, 7), identifier(&rt, 8));
     let wanted = (
         (seven, None, None),
         Some((seven, Some(VersionOne), Some(eight))),
     );
-    assert_equal(&rt, &read_pair(&rt, rt.alloc(), &bytes), &Ok(wanted));
-    assert_equal(&rt, &(bytes.len(), Pair::TAG.byte()), &(24, 0x30));
+    assert_equal(&rt, &read_pair(&rt, rt.alloc(), &PAIR), &Ok(wanted));
+    assert_equal(&rt, &Pair::TAG.byte(), &0x30);
 }
 
 #[test]
 fn reads_and_writes_a_record_without_the_last(rt: HostRuntime) {
-    let bytes = wrapped(&rt, &[0x30, 0x08], &[&SHORT]);
     let wanted = ((identifier(&rt, 7), None, None), None);
-    assert_equal(&rt, &read_pair(&rt, rt.alloc(), &bytes), &Ok(wanted));
+    assert_equal(&rt, &read_pair(&rt, rt.alloc(), &ALONE), &Ok(wanted));
 }
 
 /// An [`Inner`] whose parts are in another order, are cut off, have another value, or are repeated.
