@@ -1,7 +1,7 @@
 //! Pictures of any input, DER or a text that encodes some: `sec1_picture_draw` and
 //! `sec1_picture_lines`.
-ghost use Rattle.std.specs.Prelude.{◌≡◌, ◌≢◌, ◌≤◌, length};
-ghost use Rattle.der_view.specs.Sources.{source_len, source_view};
+ghost use Rattle.std.specs.Prelude.{◌≡◌, ◌≢◌, ◌<◌, ◌≤◌, ◌+◌, ◌*◌, ◌-◌, ◌^◌, ◌⊎◌, length, min};
+ghost use Rattle.der_view.specs.Sources.{source_len, source_view, text_len};
 ghost use Rattle.sec1_c.specs.Pictures.{IsDrawn};
 
 mod lines;
@@ -35,6 +35,9 @@ pub extern "C" fn sec1_picture_draw(
 ) -> u32
     ensures drawn { result ≡ 0
         → IsDrawn input.now all text.old text.new len.new is_key.new }
+    ensures buffer { length room.old
+        < length text.old + min (2 * text_len input.now + 2) (2 ^ 64 - 1)
+        → (result ≡ 7) × (len.new ≡ 0) }
     ensures short { result ≢ 0
         → (result ≡ 7) × (text.new ≡ text.old) × (is_key.new ≡ 0) }
 {
@@ -72,7 +75,10 @@ pub extern "C" fn sec1_picture_lines(
     count: &mut usize,
 ) -> u32
     ensures fits { result ≡ 0 → count.new ≤ length lines.old }
-    ensures short { result ≢ 0 → result ≡ 7 }
+    ensures buffer { length room.old < min (2 * text_len input.now + 2) (2 ^ 64 - 1)
+        → (result ≡ 7) × (count.new ≡ 0) }
+    ensures short { result ≢ 0
+        → (result ≡ 7) × ((count.new ≡ 0) ⊎ (length lines.old < count.new)) }
 {
     *count = 0;
     if room.len() < room_len(input) {
@@ -83,11 +89,7 @@ pub extern "C" fn sec1_picture_lines(
     let mut lines = Lines::new(lines);
     let mut sources = Sources::new(input);
     let mut used = 0;
-    // There are fewer parts than bytes, but for the one of an empty input.
-    for _ in 0..input.len().saturating_add(1) {
-        let Some(source) = sources.next_source() else {
-            break;
-        };
+    while let Some(source) = sources.next_source() {
         let rest = &mut bytes[used..];
         let source_len = source_len(&source);
         if digits.len() < source_len || rest.len() < source_len.saturating_add(2) {
