@@ -120,7 +120,8 @@ drawn_of_sequence bytes children =
 
 unfoldable pub drawn : List ℕ → Children → ℕ
 drawn bytes children =
-    if children.second.tag == 0x02 then drawn_integers children
+    if children.second.tag == 0x02 || (children.second.tag == 0x00 && children.cut)
+    then drawn_integers children
     else (if not (is_versioned children) then 0
     else (if children.second.tag == 0x30 then drawn_of_sequence bytes children
     else (if is_other (form_of children) then min children.count 1 else children.count)))

@@ -12,29 +12,29 @@ use Rattle.der_view.specs.declared.row.Point.TheVariants as points
 use Rattle.der_view.specs.declared.row.Shown.{Shown}
 use Rattle.der_view.specs.declared.row.Shown.TheVariants as shows
 
--- the number of unused bits of a BIT STRING, and the first byte of a point behind it
-abbrev pub seen_of_bits : Option Field → ℕ
-seen_of_bits (Some fields.Point) = 2
-seen_of_bits _ = 1
+-- the number of unused bits of a BIT STRING, and if there are none, the first byte of a point
+abbrev pub seen_of_bits : Option Field → List ℕ → ℕ
+seen_of_bits (Some fields.Point) (unused ∷ bytes) = if unused == 0 then 2 else 1
+seen_of_bits _ content = 1
 
 -- a version of one byte
 abbrev pub seen_of_integer : Option Field → ℕ → ℕ
 seen_of_integer (Some fields.Version) len = if len == 1 then 1 else 0
 seen_of_integer _ len = 0
 
-abbrev pub seen_of_universal : ℕ → Option Field → ℕ → ℕ
-seen_of_universal number field len =
-    if number == 6 then len
-    else (if number == 3 then seen_of_bits field
-    else (if number == 2 then seen_of_integer field len else 0))
+abbrev pub seen_of_universal : ℕ → Option Field → List ℕ → ℕ
+seen_of_universal number field content =
+    if number == 6 then length content
+    else (if number == 3 then seen_of_bits field content
+    else (if number == 2 then seen_of_integer field (length content) else 0))
 
-abbrev pub seen_of_class : Class → ℕ → Option Field → ℕ → ℕ
-seen_of_class Universal number field len = seen_of_universal number field len
-seen_of_class _ number field len = 0
+abbrev pub seen_of_class : Class → ℕ → Option Field → List ℕ → ℕ
+seen_of_class Universal number field content = seen_of_universal number field content
+seen_of_class _ number field content = 0
 
--- the number of first bytes of a content of this length that are seen in a guarded picture
-abbrev pub seen_len : Tag → Option Field → ℕ → ℕ
-seen_len tag field len = seen_of_class tag.class tag.number field len
+-- the number of first bytes of a content that are seen in a guarded picture
+abbrev pub seen_len : Tag → Option Field → List ℕ → ℕ
+seen_len tag field content = seen_of_class tag.class tag.number field content
 
 -- the types of X.680 whose contents are seen at any length: BOOLEAN, NULL, OBJECT IDENTIFIER,
 -- UTF8String, the other strings of characters and the times
@@ -66,7 +66,7 @@ public_len tag content = public_of_class tag.class tag.number content
 -- the number of first bytes of a content that may be seen
 abbrev pub open_len : Bool → Tag → Option Field → List ℕ → ℕ
 open_len guarded tag field content =
-    if guarded then seen_len tag field (length content) else public_len tag content
+    if guarded then seen_len tag field content else public_len tag content
 
 -- the second bytes are first ones of the first bytes, so many at most
 pub record IsFirst (most : ℕ) (bytes part : List ℕ) : Type 0 where
@@ -85,9 +85,9 @@ point_of_form form len =
     else (if (form == 6 || form == 7) && (len - 1) % 2 == 0 then points.Hybrid ((len - 1) / 2)
     else points.None)))))
 
--- the form of the point in a BIT STRING of this length that begins with these two bytes
+-- the form of the point in a BIT STRING of this length that begins with these bytes
 abbrev pub point_by : ℕ → List ℕ → Point
-point_by len (unused ∷ form ∷ []) = point_of_form form (len - 1)
+point_by len (unused ∷ form ∷ bytes) = point_of_form form (len - 1)
 point_by len _ = points.None
 
 -- what is shown of a content of this length is made of these first bytes of it alone

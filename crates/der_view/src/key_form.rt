@@ -102,7 +102,7 @@ impl Children {
     pub(crate) fn drawn(self, root: &[u8]) -> usize
         ensures { result ≡ drawn root.now self }
     {
-        if self.second.tag == 0x02 {
+        if self.second.tag == 0x02 || (self.second.tag == 0x00 && self.cut) {
             self.drawn_integers()
         } else if !self.is_versioned() {
             0

@@ -143,17 +143,17 @@ fn is_string(tag: Tag) -> bool
     )
 }
 
-/// Returns the number of first bytes of a content of this tag, field and length that are seen in a
-/// guarded picture: all of an identifier, a version of one byte, the unused bits of a BIT STRING,
-/// and the first byte of a point.
-fn seen_len(tag: Tag, field: Option<Field>, len: usize) -> usize
-    ensures { result ≡ seen_len tag field len }
+/// Returns the number of first bytes of a content of this tag and field that are seen in a guarded
+/// picture: all of an identifier, a version of one byte, the unused bits of a BIT STRING, and if
+/// there are none, the first byte of a point.
+fn seen_len(tag: Tag, field: Option<Field>, content: &[u8]) -> usize
+    ensures { result ≡ seen_len tag field content.now }
 {
-    match (tag.class, tag.number, field) {
-        (Class::Universal, 6, _) => len,
-        (Class::Universal, 3, Some(Field::Point)) => 2,
-        (Class::Universal, 3, _) => 1,
-        (Class::Universal, 2, Some(Field::Version)) if len == 1 => 1,
+    match (tag.class, tag.number, field, content) {
+        (Class::Universal, 6, _, _) => content.len(),
+        (Class::Universal, 3, Some(Field::Point), [0x00, ..]) => 2,
+        (Class::Universal, 3, _, _) => 1,
+        (Class::Universal, 2, Some(Field::Version), [_]) => 1,
         _ => 0,
     }
 }
@@ -161,10 +161,10 @@ fn seen_len(tag: Tag, field: Option<Field>, len: usize) -> usize
 /// Returns the part of a content that is seen in a guarded picture.
 #[tactic(auto, using(std::proofs::lemmas::List::take_min))]
 pub(crate) fn guarded_part<'a>(tag: Tag, field: Option<Field>, content: &'a [u8]) -> &'a [u8]
-    ensures first { IsFirst (seen_len tag field (length content.now)) content.now result.now }
-    ensures exact { result.now ≡ take (seen_len tag field (length content.now)) content.now }
+    ensures first { IsFirst (seen_len tag field content.now) content.now result.now }
+    ensures exact { result.now ≡ take (seen_len tag field content.now) content.now }
 {
-    &content[..seen_len(tag, field, content.len()).min(content.len())]
+    &content[..seen_len(tag, field, content).min(content.len())]
 }
 
 /// Returns the part of a content that is seen in any other picture: none of an OCTET STRING, nor of
@@ -246,12 +246,12 @@ fn point_of(len: usize, seen: &[u8]) -> Point
 {
     let coordinates = len.saturating_sub(2);
     match seen {
-        [_, 0x00] if len == 2 => Point::Infinity,
-        [_, _] if len <= 2 => Point::None,
-        [_, 0x02 | 0x03] => Point::Compressed(coordinates),
-        [_, 0x04] if coordinates % 2 == 0 => Point::Uncompressed(coordinates / 2),
-        [_, 0x05] => Point::Compact(coordinates),
-        [_, 0x06 | 0x07] if coordinates % 2 == 0 => Point::Hybrid(coordinates / 2),
+        [_, 0x00, ..] if len == 2 => Point::Infinity,
+        [_, _, ..] if len <= 2 => Point::None,
+        [_, 0x02 | 0x03, ..] => Point::Compressed(coordinates),
+        [_, 0x04, ..] if coordinates % 2 == 0 => Point::Uncompressed(coordinates / 2),
+        [_, 0x05, ..] => Point::Compact(coordinates),
+        [_, 0x06 | 0x07, ..] if coordinates % 2 == 0 => Point::Hybrid(coordinates / 2),
         _ => Point::None,
     }
 }
