@@ -22,8 +22,8 @@ use Rattle.der_view.specs.declared.row.Kind.TheVariants as kinds
 use Rattle.der_view.specs.declared.row.OpenRow.{OpenRow}
 use Rattle.der_view.specs.declared.row.Shown.{Shown}
 use Rattle.der_view.specs.declared.row.Shown.TheVariants as shows
-use Rattle.sec1_dump.specs.Objects.{announced_data, class_text, count_data, fault_data, faults_data, flag_data}
-use Rattle.sec1_dump.specs.Objects.{form_text}
+use Rattle.sec1_dump.specs.Objects.{announced_data, class_text, content_data, count_data, fault_data, faults_data}
+use Rattle.sec1_dump.specs.Objects.{flag_data, form_text}
 use Rattle.sec1_dump.specs.Objects.{found_len, front_data, last_data, len_data, line_data, name_data, oid_data, put_if}
 use Rattle.sec1_dump.specs.Objects.{row_data, shown_data, type_text, value_data, with_block, with_content, with_field}
 use Rattle.sec1_dump.specs.Objects.{with_place, with_tag, words_data, words_text}
@@ -160,9 +160,9 @@ shown_plain shows.Count value = value_plain value
 shown_plain (shows.Unused unused) value = value_plain value
 shown_plain (shows.Value content) value = value_plain value
 
-digits_plain : (content : Option (Bor (List ℕ)))
-    → if_has_float (option_map (λ content. string (encode_upper content.now)) content) ≡ false
-digits_plain (Some content) = refl
+digits_plain : (content : Option (Bor (List ℕ))) → if_has_float (content_data content) ≡ false
+digits_plain (Some content) =
+    unless_plain (length content.now == 0) (string (encode_upper content.now)) refl
 digits_plain None = refl
 
 content_plain : (row : OpenRow) (ms : Members) → ArePlain ms → ArePlain (with_content row ms)
@@ -172,8 +172,7 @@ content_plain row ms others =
     (plain_if (codes "oid") (oid_data (row_value row)) _ (oid_plain (row_value row))
     (plain_if (codes "faults") (faults_data row.marks.first row.marks.second) _
     (faults_plain row.marks.first row.marks.second)
-    (plain_if (codes "content") (option_map (λ content. string (encode_upper content.now)) row.content) ms
-    (digits_plain row.content) others))))
+    (plain_if (codes "content") (content_data row.content) ms (digits_plain row.content) others))))
 
 -- the object of a row has none
 pub row_is_plain : (row : OpenRow) → has_float (row_data row) ≡ false

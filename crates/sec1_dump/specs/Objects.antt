@@ -1,4 +1,5 @@
 -- The objects of JSON: of a row, and the first and the last one of a picture.
+use denote.Bor.{Bor}
 use Rattle.std.specs.Prelude.{ℕ, ◌==◌, Bool, true, false, if◌then◌else◌, List, [], ◌∷◌, ◌++◌}
 use Rattle.std.specs.Prelude.{length, codes, Option, Some, None, option_map}
 use Rattle.hex.specs.Hex.{encode_upper}
@@ -135,6 +136,12 @@ type_text kinds.EndOfContents = codes "end-of-contents"
 type_text kinds.NoElement = codes "no element"
 type_text kinds.NotDrawn = codes "not drawn"
 
+-- a content in hexadecimal, or no member if it is empty
+abbrev pub content_data : Option (Bor (List ℕ)) → Option Data
+content_data (Some content) =
+    if length content.now == 0 then None else Some (string (encode_upper content.now))
+content_data None = None
+
 -- what a row shows: its type and its value, its marks, and its content if all are shown
 abbrev pub with_content : OpenRow → Members → Members
 with_content row members =
@@ -142,8 +149,7 @@ with_content row members =
     (put (codes "type") (line_data (type_text row.kind))
     (put_if (codes "oid") (oid_data (row_value row))
     (put_if (codes "faults") (faults_data row.marks.first row.marks.second)
-    (put_if (codes "content")
-    (option_map (λ content. string (encode_upper content.now)) row.content) members))))
+    (put_if (codes "content") (content_data row.content) members))))
 
 -- the object of a row
 abbrev pub row_data : OpenRow → Data

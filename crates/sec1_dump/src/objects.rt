@@ -1,6 +1,5 @@
 //! The objects of JSON: of a row, and the first and the last one of a picture.
 ghost use Rattle.std.specs.Prelude.{◌≡◌, ◌++◌, IfOk, OnOk, Some, option_map, string_bytes};
-ghost use Rattle.hex.specs.Hex.{encode_upper};
 ghost use Rattle.sec1_der.specs.Identifiers.{dotted};
 ghost use Rattle.serde_json.specs.Data.{string};
 ghost use Rattle.serde_json.specs.View.{members_view, view};
@@ -9,7 +8,8 @@ ghost use Rattle.der_view.specs.Headings.{found_view};
 ghost use Rattle.der_view.specs.Sources.{source_view};
 ghost use Rattle.der_view.specs.RowLines.{point_text, row_value};
 ghost use Rattle.der_view.specs.Values.{arcs_view, value_view};
-ghost use Rattle.sec1_dump.specs.Objects.{announced_data, class_text, count_data, fault_data};
+ghost use Rattle.sec1_dump.specs.Objects.{announced_data, class_text, content_data, count_data};
+ghost use Rattle.sec1_dump.specs.Objects.{fault_data};
 ghost use Rattle.sec1_dump.specs.Objects.{faults_data, flag_data, form_text, found_len, front_data};
 ghost use Rattle.sec1_dump.specs.Objects.{last_data, len_data, line_data, name_data, oid_data};
 ghost use Rattle.sec1_dump.specs.Objects.{put_if};
@@ -310,18 +310,18 @@ fn type_of(alloc: Global, kind: Kind) -> Result<Value, AllocError>
     characters(alloc, Characters::latin1(line.as_bytes()))
 }
 
-/// Returns a content in hexadecimal. Fails only if an allocation fails.
+/// Returns a content in hexadecimal, if it isn't empty. Fails only if an allocation fails.
 fn digits(alloc: Global, content: Option<&[u8]>) -> Result<Option<Value>, AllocError>
-    ensures { IfOk result (λ value. option_map view value
-        ≡ option_map (λ content. string (encode_upper content.now)) content.entry) }
+    ensures { IfOk result (λ value. option_map view value ≡ content_data content.entry) }
 {
-    match content {
-        Some(content) => {
-            let text = hex::encode_upper(alloc, content)?;
-            Ok(Some(Value::from(text)))
-        }
-        None => Ok(None),
+    let Some(content) = content else {
+        return Ok(None);
+    };
+    if content.is_empty() {
+        return Ok(None);
     }
+    let text = hex::encode_upper(alloc, content)?;
+    Ok(Some(Value::from(text)))
 }
 
 /// Puts what a row shows. Fails only if an allocation fails.
