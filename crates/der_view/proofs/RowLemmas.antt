@@ -200,4 +200,6 @@ hidden_rows input (row ∷ rows) old new (between, is, seen, more) at none =
 pub contents_are_hidden : ContentsAreHidden
 contents_are_hidden input rows are =
     let at : are.first.left ≡ drop are.first.offset input = rw are.offset are.left in
-    rw are.plan at hidden_rows input rows are.first are.last are.drawn at are.shows
+    let hidden : All (HidesContent are.first.plan.guarded input) rows =
+    hidden_rows input rows are.first are.last are.drawn at are.shows in
+    rw are.plan at hidden

@@ -17,7 +17,6 @@ pub fn next_is_one()
 
 /// Unless all contents are shown, no row has a content, and of its bytes no more is shown than may
 /// be seen.
-#[tactic(auto, using(crate::proofs::RowLemmas::contents_are_hidden))]
 pub fn contents_are_hidden()
     ensures { ContentsAreHidden }
 {}

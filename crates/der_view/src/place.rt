@@ -190,11 +190,7 @@ impl Place {
             secret: false,
             marks,
             shown: Shown::Nothing,
-            content: if self.all && !content.is_empty() {
-                Some(content)
-            } else {
-                None
-            },
+            content: if self.all { Some(content) } else { None },
         }
     }
 
