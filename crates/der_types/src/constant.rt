@@ -3,7 +3,6 @@ ghost use Rattle.std.specs.Prelude.{◌≡◌, [], ◌∷◌, ℕ, List, Some};
 ghost use Rattle.std.specs.Str.{bytes_eq};
 ghost use Rattle.sec1_der.specs.Contents.{value_unless};
 
-use crate::kind;
 use sec1_der::{
     BackWriter, DecodeValue, EncodeValue, ErrorKind, Length, Result, SliceReader, Tag, Tagged,
     UniqueContent, ValueContent,
@@ -79,7 +78,18 @@ impl<K: ConstantContent> UniqueContent for Constant<K> {
     fn one() {}
 }
 
-impl ConstantContent for kind::Null {
+/// The kind of a NULL (X.690 section 8.8).
+pub struct NullKind;
+
+impl Tagged for NullKind {
+    ghost tag_byte = { 0x05 };
+
+    fn fixed_tag() -> Tag {
+        Tag::NULL
+    }
+}
+
+impl ConstantContent for NullKind {
     ghost constant = { [] };
 
     fn constant() -> &'static [u8] {
@@ -87,7 +97,18 @@ impl ConstantContent for kind::Null {
     }
 }
 
-impl ConstantContent for kind::True {
+/// The kind of the BOOLEAN TRUE (X.690 sections 8.2 and 11.1).
+pub struct TrueKind;
+
+impl Tagged for TrueKind {
+    ghost tag_byte = { 0x01 };
+
+    fn fixed_tag() -> Tag {
+        Tag::BOOLEAN
+    }
+}
+
+impl ConstantContent for TrueKind {
     ghost constant = { 0xFF ∷ [] };
 
     fn constant() -> &'static [u8] {
@@ -96,8 +117,8 @@ impl ConstantContent for kind::True {
 }
 
 /// A NULL, which has no bytes of content (X.690 section 8.8).
-pub type Null = Constant<kind::Null>;
+pub type Null = Constant<NullKind>;
 
 /// The BOOLEAN TRUE (X.690 sections 8.2 and 11.1). A component that is FALSE by default is absent
 /// or this one (section 11.5).
-pub type True = Constant<kind::True>;
+pub type True = Constant<TrueKind>;

@@ -4,7 +4,7 @@ ghost use Rattle.der_types.specs.Leaves.{content_if, new_fault};
 ghost use Rattle.sec1_der.specs.Contents.{value_unless};
 ghost use Rattle.sec1_der.specs.Faults.{HasFault};
 
-use crate::kind::{self, Kind};
+use crate::Kind;
 use sec1_der::{
     BackWriter, DecodeValue, EncodeValue, ErrorKind, Length, Result, SliceReader, Tag, Tagged,
     UniqueContent, ValueContent,
@@ -130,44 +130,3 @@ impl<K: Kind> UniqueContent for Leaf<'_, K> {
             → a ≡ b }
     {}
 }
-
-/// An INTEGER, which borrows its content: a number in two's complement, in as few bytes as possible
-/// (X.690 section 8.3). [`Unsigned`](crate::Unsigned) is one whose contracts see the number.
-pub type Integer<'a> = Leaf<'a, kind::Integer>;
-
-/// An ENUMERATED, which borrows its content: a number in two's complement, in as few bytes as
-/// possible (X.690 section 8.4).
-pub type Enumerated<'a> = Leaf<'a, kind::Enumerated>;
-
-/// An OBJECT IDENTIFIER of any length, which borrows its content (X.690 section 8.19).
-pub type ObjectIdentifierRef<'a> = Leaf<'a, kind::ObjectIdentifier>;
-
-/// A UTF8String, which borrows its characters (X.680 section 41).
-pub type Utf8String<'a> = Leaf<'a, kind::Utf8String>;
-
-/// A NumericString, which borrows its characters (X.680 section 41.2).
-pub type NumericString<'a> = Leaf<'a, kind::NumericString>;
-
-/// A PrintableString, which borrows its characters (X.680 section 41.4).
-pub type PrintableString<'a> = Leaf<'a, kind::PrintableString>;
-
-/// A TeletexString, which borrows its content, any bytes (X.680 section 41).
-pub type TeletexString<'a> = Leaf<'a, kind::TeletexString>;
-
-/// An IA5String, which borrows its characters (X.680 section 41).
-pub type Ia5String<'a> = Leaf<'a, kind::Ia5String>;
-
-/// A UTCTime, which borrows its content (X.690 section 11.8).
-pub type UtcTime<'a> = Leaf<'a, kind::UtcTime>;
-
-/// A GeneralizedTime, which borrows its content (X.690 section 11.7).
-pub type GeneralizedTime<'a> = Leaf<'a, kind::GeneralizedTime>;
-
-/// A VisibleString, which borrows its characters (X.680 section 41).
-pub type VisibleString<'a> = Leaf<'a, kind::VisibleString>;
-
-/// A UniversalString, which borrows its content, any multiple of four bytes (X.690 section 8.23.7).
-pub type UniversalString<'a> = Leaf<'a, kind::UniversalString>;
-
-/// A BMPString, which borrows its content, any even number of bytes (X.690 section 8.23.8).
-pub type BmpString<'a> = Leaf<'a, kind::BmpString>;

@@ -6,8 +6,7 @@
 //! contents.
 #![tactic(auto)]
 
-// Types of values by a tag and a test of the content, and the tests.
-mod boolean;
+// Types of values by a tag and a test of the content.
 mod integer;
 pub mod kind;
 mod leaf;
@@ -18,6 +17,7 @@ mod time_kind;
 
 // Types of values of another shape.
 mod bits;
+mod boolean;
 mod constant;
 mod implicit;
 mod unsigned;
@@ -44,15 +44,17 @@ pub use codec::read_part;
 pub use constant::{Constant, ConstantContent, Null, True};
 pub use default::{Defaulted, HasDefault};
 pub use implicit::Implicit;
+pub use integer::{Enumerated, Integer};
 pub use kind::Kind;
-pub use leaf::{
-    BmpString, Enumerated, GeneralizedTime, Ia5String, Integer, Leaf, NumericString,
-    ObjectIdentifierRef, PrintableString, TeletexString, UniversalString, UtcTime, Utf8String,
-    VisibleString,
-};
+pub use leaf::Leaf;
+pub use object_identifier::ObjectIdentifierRef;
 pub use optional_part::OptionalPart;
 pub use sequence_of::{Elements, SequenceOf, check_elements};
 pub use set_of::SetOf;
+pub use string::{
+    BmpString, Ia5String, NumericString, PrintableString, TeletexString, UniversalString,
+    Utf8String, VisibleString,
+};
 pub use time::DateTime;
-pub use time_kind::TimeKind;
+pub use time_kind::{GeneralizedTime, TimeKind, UtcTime};
 pub use unsigned::Unsigned;

@@ -1,10 +1,12 @@
-//! Times whose contents encode a date and a time of day.
+//! UTCTime and GeneralizedTime, whose contents encode a date and a time of day.
 ghost use Rattle.std.specs.Prelude.{◌≡◌, ℕ, List, true, Some, None, if◌then◌else◌};
-ghost use Rattle.der_types.specs.Times.{generalized_date_time, utc_date_time};
+ghost use Rattle.der_types.specs.Times.{generalized_date_time, is_generalized_time};
+ghost use Rattle.der_types.specs.Times.{is_utc_time, utc_date_time};
 ghost use Rattle.der_types.specs.declared.time.DateTime.{DateTime};
 
-use crate::time::{generalized_date_time, utc_date_time};
-use crate::{DateTime, Kind, Leaf, kind};
+use crate::time::{generalized_date_time, is_generalized_time, is_utc_time, utc_date_time};
+use crate::{DateTime, Kind, Leaf};
+use sec1_der::{Tag, Tagged};
 
 /// A kind of times whose contents encode a date and a time of day.
 pub trait TimeKind: Kind {
@@ -17,8 +19,30 @@ pub trait TimeKind: Kind {
         ensures { result ≡ time bytes.now };
 }
 
+/// The kind of a UTCTime, YYMMDDhhmmssZ (X.690 section 11.8).
+pub struct UtcTimeKind;
+
+impl Tagged for UtcTimeKind {
+    ghost tag_byte = { 0x17 };
+
+    fn fixed_tag() -> Tag {
+        Tag::UTC_TIME
+    }
+}
+
+impl Kind for UtcTimeKind {
+    ghost passes = { is_utc_time };
+
+    fn test(bytes: &[u8]) -> bool {
+        is_utc_time(bytes)
+    }
+}
+
+/// A UTCTime, which borrows its content (X.690 section 11.8).
+pub type UtcTime<'a> = Leaf<'a, UtcTimeKind>;
+
 /// Years from 50 on are in the twentieth century (RFC 5280 section 4.1.2.5.1).
-impl TimeKind for kind::UtcTime {
+impl TimeKind for UtcTimeKind {
     ghost time = { utc_date_time };
 
     fn time(bytes: &[u8]) -> DateTime {
@@ -26,8 +50,31 @@ impl TimeKind for kind::UtcTime {
     }
 }
 
+/// The kind of a GeneralizedTime, YYYYMMDDhhmmssZ, or the same with a fraction of a second (X.690
+/// section 11.7).
+pub struct GeneralizedTimeKind;
+
+impl Tagged for GeneralizedTimeKind {
+    ghost tag_byte = { 0x18 };
+
+    fn fixed_tag() -> Tag {
+        Tag::GENERALIZED_TIME
+    }
+}
+
+impl Kind for GeneralizedTimeKind {
+    ghost passes = { is_generalized_time };
+
+    fn test(bytes: &[u8]) -> bool {
+        is_generalized_time(bytes)
+    }
+}
+
+/// A GeneralizedTime, which borrows its content (X.690 section 11.7).
+pub type GeneralizedTime<'a> = Leaf<'a, GeneralizedTimeKind>;
+
 /// The fraction of a second is left out.
-impl TimeKind for kind::GeneralizedTime {
+impl TimeKind for GeneralizedTimeKind {
     ghost time = { generalized_date_time };
 
     fn time(bytes: &[u8]) -> DateTime {
