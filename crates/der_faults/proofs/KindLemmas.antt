@@ -52,10 +52,10 @@ element_kind tag p q f g x y end [] = refl
 element_kind tag p q f g x y end (byte ∷ bytes) = by (byte == tag)
   where
     by : (b : Bool)
-        → kind_of (if b then parts_place p q end bytes (r.within (r.length_at bytes))
+        → kind_of (if b then parts_place p q end bytes (r.content_at bytes)
         else Some (before end (byte ∷ bytes) ErrorKind.Tag))
-        ≡ (if b then r.parts_fault f g (r.within (r.length_at bytes)) else Some (Some ErrorKind.Tag))
-    by true = parts_kind p q f g x y end bytes (r.within (r.length_at bytes))
+        ≡ (if b then r.parts_fault f g (r.content_at bytes) else Some (Some ErrorKind.Tag))
+    by true = parts_kind p q f g x y end bytes (r.content_at bytes)
     by false = refl
 
 pub optional_kind : (tag : ℕ) (p q : Place) (f g : r.Fault) → Places p f → Places q g
@@ -79,10 +79,10 @@ any_kind p q f g x y end [] = refl
 any_kind p q f g x y end (tag ∷ bytes) = by (is_tag tag)
   where
     by : (b : Bool)
-        → kind_of (if b then parts_place (p tag) q end bytes (r.within (r.length_at bytes))
+        → kind_of (if b then parts_place (p tag) q end bytes (r.content_at bytes)
         else Some (before end (tag ∷ bytes) ErrorKind.Tag))
-        ≡ (if b then r.parts_fault (f tag) g (r.within (r.length_at bytes)) else Some (Some ErrorKind.Tag))
-    by true = parts_kind (p tag) q (f tag) g (x tag) y end bytes (r.within (r.length_at bytes))
+        ≡ (if b then r.parts_fault (f tag) g (r.content_at bytes) else Some (Some ErrorKind.Tag))
+    by true = parts_kind (p tag) q (f tag) g (x tag) y end bytes (r.content_at bytes)
     by false = refl
 
 nested_kind : (p : Place) (f : r.Fault) → Places p f → (tag : ℕ) → Places (nested_place p tag) (nested_fault f tag)

@@ -7,7 +7,7 @@ use Rattle.std.specs.Option.{option_or}
 use Rattle.std.specs.Prelude.{IfOk, IfErr}
 use Rattle.sec1_der.specs.Elements.{length_octets, element, IsHeader, is_tag}
 use Rattle.sec1_der.proofs.FaultLaws.{within_octets}
-use Rattle.sec1_der.specs.Faults.{IsFaultOf, no_fault, any_fault, parts_fault, length_at, within}
+use Rattle.sec1_der.specs.Faults.{IsFaultOf, no_fault, any_fault, parts_fault, content_at}
 use Rattle.sec1_der.specs.declared.error.ErrorKind.{ErrorKind}
 use Rattle.der_faults.specs.Places.{Place, before, parts_place, any_place, element_place}
 
@@ -23,8 +23,8 @@ pub any_refused : (f : ℕ → Place) (g : Place) (end tag : ℕ) (bytes : List 
     → IsFaultOf (any_fault (λ _. no_fault) no_fault (tag ∷ bytes)) k
     → any_place f g end (tag ∷ bytes) ≡ Some (before end bytes k)
 any_refused f g end tag bytes k is e =
-    let none : IsFaultOf (parts_fault no_fault no_fault (within (length_at bytes))) k = rw is at e in
-    rw is (by (within (length_at bytes)) none)
+    let none : IsFaultOf (parts_fault no_fault no_fault (content_at bytes)) k = rw is at e in
+    rw is (by (content_at bytes) none)
   where
     by : (found : Result (List ℕ × List ℕ) ErrorKind) → IsFaultOf (parts_fault no_fault no_fault found) k
         → parts_place (f tag) g end bytes found ≡ Some (before end bytes k)

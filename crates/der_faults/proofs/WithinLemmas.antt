@@ -53,10 +53,10 @@ either end a b false x y = y
 pub element_within : (tag : ℕ) (p q : Place) → Bounded p → Bounded q → Bounded (element_place tag p q)
 element_within tag p q x y end [] = omega arith
 element_within tag p q x y end (byte ∷ bytes) =
-    either end (parts_place p q end bytes (r.within (r.length_at bytes)))
+    either end (parts_place p q end bytes (r.content_at bytes))
     (Some (before end (byte ∷ bytes) ErrorKind.Tag))
     (byte == tag)
-    (parts_within p q x y end bytes (r.within (r.length_at bytes)))
+    (parts_within p q x y end bytes (r.content_at bytes))
     (omega arith)
 
 pub optional_within : (tag : ℕ) (p q : Place) → Bounded p → Bounded q → Bounded (optional_place tag p q)
@@ -68,10 +68,10 @@ optional_within tag p q x y end (byte ∷ bytes) =
 pub any_within : (p : ℕ → Place) (q : Place) → ((tag : ℕ) → Bounded (p tag)) → Bounded q → Bounded (any_place p q)
 any_within p q x y end [] = omega arith
 any_within p q x y end (tag ∷ bytes) =
-    either end (parts_place (p tag) q end bytes (r.within (r.length_at bytes)))
+    either end (parts_place (p tag) q end bytes (r.content_at bytes))
     (Some (before end (tag ∷ bytes) ErrorKind.Tag))
     (is_tag tag)
-    (parts_within (p tag) q (x tag) y end bytes (r.within (r.length_at bytes)))
+    (parts_within (p tag) q (x tag) y end bytes (r.content_at bytes))
     (omega arith)
 
 nested_within : (p : Place) → Bounded p → (tag : ℕ) → Bounded (nested_place p tag)

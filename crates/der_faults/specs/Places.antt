@@ -7,7 +7,7 @@ use Rattle.std.specs.Option.{option_or}
 use Rattle.sec1_der.specs.Contents.{byte_fault, identifier_fault, bit_string_fault}
 use Rattle.sec1_der.specs.Contents.{whole_bits_fault}
 use Rattle.sec1_der.specs.Elements.{is_tag}
-use Rattle.sec1_der.specs.Faults.{no_fault, length_at, within}
+use Rattle.sec1_der.specs.Faults.{no_fault, content_at}
 use Rattle.sec1_der.specs.Faults as faults
 use Rattle.sec1_der.specs.Trees.{max_tree_depth}
 use Rattle.sec1_der.specs.declared.error.ErrorKind.{ErrorKind}
@@ -47,7 +47,7 @@ parts_place content behind end bytes (Ok x) =
 abbrev pub element_place : ℕ → Place → Place → Place
 element_place tag content behind end [] = Some (before end [] Truncated)
 element_place tag content behind end (byte ∷ bytes) =
-    if byte == tag then parts_place content behind end bytes (within (length_at bytes))
+    if byte == tag then parts_place content behind end bytes (content_at bytes)
     else Some (before end (byte ∷ bytes) Tag)
 
 -- whether this byte is next
@@ -64,7 +64,7 @@ optional_place tag content behind end bytes =
 abbrev pub any_place : (ℕ → Place) → Place → Place
 any_place content behind end [] = Some (before end [] Truncated)
 any_place content behind end (tag ∷ bytes) =
-    if is_tag tag then parts_place (content tag) behind end bytes (within (length_at bytes))
+    if is_tag tag then parts_place (content tag) behind end bytes (content_at bytes)
     else Some (before end (tag ∷ bytes) Tag)
 
 -- X.690 section 8.1.2.5: in the content of a constructed element

@@ -8,7 +8,7 @@ use Rattle.std.proofs.lemmas.Slice.Eq.{bytes_eq-Decides}
 use Rattle.sec1_der.specs.Elements.{max_length, length_octets, element, is_tag, IsHeader, IsElement}
 use Rattle.sec1_der.specs.Parts.{AreApart, is_among}
 use Rattle.sec1_der.specs.Readers.{Reader, HasRead}
-use Rattle.sec1_der.specs.Faults.{Fault, no_fault, any_fault, parts_fault, within, length_at, IsFaultOf}
+use Rattle.sec1_der.specs.Faults.{Fault, no_fault, any_fault, parts_fault, within, IsFaultOf, content_at}
 use Rattle.sec1_der.specs.declared.error.Error.{Error}
 use Rattle.sec1_der.specs.declared.error.ErrorKind.{ErrorKind}
 use Rattle.sec1_der.specs.declared.error.ErrorKind.TheVariants.{Tag}
@@ -91,7 +91,7 @@ pub any_refused : (behind : Fault) (bytes : List ℕ) (k : ErrorKind)
     → IsFaultOf (any_element_fault behind bytes) k
 unfolding any_element_fault
 any_refused behind [] k e = e
-any_refused behind (byte ∷ bytes) k e = by (is_tag byte) (within (length_at bytes)) e
+any_refused behind (byte ∷ bytes) k e = by (is_tag byte) (content_at bytes) e
   where
     by : (b : Bool) (found : Result (List ℕ × List ℕ) ErrorKind)
         → IsFaultOf (if b then parts_fault no_fault no_fault found else Some (Some Tag)) k

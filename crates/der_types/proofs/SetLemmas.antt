@@ -7,7 +7,7 @@ use Rattle.std.specs.Cmp.Lexicographic.{slice_cmp, slice_partial_cmp, lists_agre
 use Rattle.std.specs.Ordering.{is_le, is_gt, is_some_and, nat_cmp}
 use Rattle.sec1_der.specs.Elements.{element, IsHeader}
 use Rattle.sec1_der.specs.Elements.{is_tag}
-use Rattle.sec1_der.specs.Faults.{Fault, no_fault, any_fault, parts_fault, within, length_at}
+use Rattle.sec1_der.specs.Faults.{Fault, no_fault, any_fault, parts_fault, content_at}
 use Rattle.sec1_der.specs.declared.error.ErrorKind.{ErrorKind}
 use Rattle.sec1_der.specs.declared.error.ErrorKind.TheVariants.{Tag}
 use Rattle.sec1_der.proofs.FaultLaws.{within_octets}
@@ -23,7 +23,7 @@ first_found tag content bytes rest h e =
 pub first_missing : (bytes : List ℕ) (k : ErrorKind) → any_fault (λ _. no_fault) no_fault bytes ≡ Some (Some k)
     → first_element bytes ≡ None
 first_missing [] k e = refl
-first_missing (byte ∷ bytes) k e = by (is_tag byte) (within (length_at bytes)) e
+first_missing (byte ∷ bytes) k e = by (is_tag byte) (content_at bytes) e
   where
     by : (b : Bool) (found : Result (List ℕ × List ℕ) ErrorKind)
         → (if b then parts_fault no_fault no_fault found else Some (Some Tag)) ≡ Some (Some k)

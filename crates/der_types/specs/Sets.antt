@@ -7,7 +7,7 @@ use Rattle.std.specs.Ordering.{is_le, nat_cmp}
 use Rattle.sec1_der.specs.Contents.{value_unless}
 use Rattle.sec1_der.specs.Elements.{element}
 use Rattle.sec1_der.specs.Elements.{is_tag}
-use Rattle.sec1_der.specs.Faults.{Fault, length_at, within}
+use Rattle.sec1_der.specs.Faults.{Fault, content_at}
 use Rattle.sec1_der.specs.declared.error.ErrorKind.{ErrorKind}
 use Rattle.der_types.specs.Rows.{is_whole, row_fault}
 
@@ -20,7 +20,7 @@ element_behind tag (Ok x) = Some (element tag x.0, x.1)
 abbrev pub first_element : List ℕ → Option (List ℕ × List ℕ)
 first_element [] = None
 first_element (tag ∷ bytes) =
-    if is_tag tag then element_behind tag (within (length_at bytes)) else None
+    if is_tag tag then element_behind tag (content_at bytes) else None
 
 -- X.690 section 11.6: whether an encoding stands before another or is the same. They are compared
 -- as octet strings. The standard pads the shorter one with zeros. This makes no difference, as no

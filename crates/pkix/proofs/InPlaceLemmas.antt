@@ -7,7 +7,7 @@ use Rattle.sec1_der.proofs.FaultLaws.{PassesOver, alone, read_element, reads_on}
 use Rattle.sec1_der.proofs.KindLaws.{refused_more}
 use Rattle.sec1_der.specs.Elements.{element, element_of}
 use Rattle.sec1_der.specs.Readers.{HasRead, HasReadElement, Reader, reader_over}
-use Rattle.sec1_der.specs.Faults.{Fault, IsFaultOf, element_fault, length_at, no_fault, parts_fault, within}
+use Rattle.sec1_der.specs.Faults.{Fault, IsFaultOf, element_fault, no_fault, parts_fault, content_at}
 use Rattle.sec1_der.specs.declared.error.ErrorKind.{ErrorKind}
 use Rattle.sec1_der.specs.declared.error.ErrorKind.TheVariants.{Tag}
 
@@ -15,7 +15,7 @@ use Rattle.sec1_der.specs.declared.error.ErrorKind.TheVariants.{Tag}
 pub refused_element : (f g : Fault) (tag : ℕ) (bytes : List ℕ) (kind : ErrorKind)
     → IsFaultOf (element_fault tag no_fault no_fault bytes) kind → IsFaultOf (element_fault tag f g bytes) kind
 refused_element f g tag [] kind e = e
-refused_element f g tag (byte ∷ bytes) kind e = by (byte == tag) (within (length_at bytes)) e
+refused_element f g tag (byte ∷ bytes) kind e = by (byte == tag) (content_at bytes) e
   where
     by : (b : Bool) (found : Result (List ℕ × List ℕ) ErrorKind)
         → IsFaultOf (if b then parts_fault no_fault no_fault found else Some (Some Tag)) kind

@@ -13,7 +13,7 @@ use Rattle.sec1_der.proofs.ElementLaws.{element_of-some}
 use Rattle.sec1_der.proofs.FaultLaws.{alone, element_at, read_element}
 use Rattle.sec1_der.proofs.JoinLaws.{parted}
 use Rattle.sec1_der.specs.Elements.{element, element_of, length_octets}
-use Rattle.sec1_der.specs.Faults.{Fault, IsFaultOf, element_fault, length_at, no_fault, parts_fault, within}
+use Rattle.sec1_der.specs.Faults.{Fault, IsFaultOf, element_fault, no_fault, parts_fault, within, content_at}
 use Rattle.sec1_der.specs.Parts.{join}
 use Rattle.sec1_der.specs.Readers.{HasReadElement, Reader}
 use Rattle.sec1_der.specs.declared.error.ErrorKind.{ErrorKind}
@@ -47,7 +47,7 @@ found_form bytes first content behind rest number is outer inner =
 not_form : (bytes : List ℕ) (kind : ErrorKind) → IsFaultOf (element_fault 0x02 no_fault no_fault bytes) kind
     → is_whole (form_fault bytes) ≡ false
 not_form [] kind is = refl
-not_form (byte ∷ bytes) kind is = by (byte == 0x02) (within (length_at bytes)) is
+not_form (byte ∷ bytes) kind is = by (byte == 0x02) (content_at bytes) is
   where
     by : (b : Bool) (found : Result (List ℕ × List ℕ) ErrorKind)
         → IsFaultOf (if b then parts_fault no_fault no_fault found else Some (Some Tag)) kind

@@ -12,7 +12,7 @@ use Rattle.sec1_der.specs.Elements.{max_length, length_octets, header, element, 
 use Rattle.sec1_der.specs.Elements.{IsProperPrefix}
 use Rattle.sec1_der.specs.ErrorKinds.{length_fault, header_fault}
 use Rattle.sec1_der.specs.Readers.{Reader, reader_over, HasReadElement}
-use Rattle.sec1_der.specs.Faults.{Fault, no_fault, end_fault, number_at, length_at, within, parts_fault}
+use Rattle.sec1_der.specs.Faults.{Fault, no_fault, end_fault, number_at, length_at, within, parts_fault, content_at}
 use Rattle.sec1_der.specs.Faults.{element_fault, optional_fault, any_fault, document_fault}
 use Rattle.sec1_der.specs.declared.error.ErrorKind.TheVariants.{Truncated, TrailingData}
 use Rattle.sec1_der.proofs.HeaderLemmas.{LacksHeader, fronts, header_front, longer, some_length}
@@ -81,7 +81,7 @@ any_cut f g tag content input h cut = ⊎_elim
 -- the length and the content of a truncated element
 parts_cut : (f g : Fault) (tag : ℕ) (content bytes : List ℕ) → IsHeader tag (length content)
     → IsProperPrefix (tag ∷ bytes) (element tag content)
-    → parts_fault f g (within (length_at bytes)) ≡ Some (Some Truncated)
+    → parts_fault f g (content_at bytes) ≡ Some (Some Truncated)
 parts_cut f g tag content bytes h cut =
     rw h.tag_byte at (any_cut (λ _. f) g tag content (tag ∷ bytes) h cut)
 

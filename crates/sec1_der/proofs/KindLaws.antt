@@ -9,7 +9,7 @@ use Rattle.sec1_der.specs.Contents.{value_unless, are_bits, byte_fault, bit_stri
 use Rattle.sec1_der.specs.Contents.{whole_bits_field_fault, identifier_fault}
 use Rattle.sec1_der.specs.Identifiers.{are_arcs, content_of, max_identifier_length}
 use Rattle.sec1_der.specs.Elements.{is_tag}
-use Rattle.sec1_der.specs.Faults.{Fault, IsFaultOf, SaysKinds, no_fault, end_fault, length_at, within, parts_fault}
+use Rattle.sec1_der.specs.Faults.{Fault, IsFaultOf, SaysKinds, no_fault, end_fault, parts_fault, content_at}
 use Rattle.sec1_der.specs.Faults.{element_fault, optional_fault, any_fault, nested_fault, row_fault, tree_fault}
 use Rattle.sec1_der.specs.Faults.{document_fault}
 use Rattle.sec1_der.specs.Trees.{max_tree_depth}
@@ -24,7 +24,7 @@ fault_of fault kind e = rw e refl
 pub refused_more : (f g : Fault) (tag : ℕ) (bytes : List ℕ) (kind : ErrorKind)
     → IsFaultOf (element_fault tag f no_fault bytes) kind → IsFaultOf (element_fault tag f g bytes) kind
 refused_more f g tag [] kind e = e
-refused_more f g tag (byte ∷ bytes) kind e = by (byte == tag) (within (length_at bytes)) e
+refused_more f g tag (byte ∷ bytes) kind e = by (byte == tag) (content_at bytes) e
   where
     more : (fault : Option (Option ErrorKind)) → IsFaultOf (option_or fault None) kind
         → (behind : Option (Option ErrorKind)) → IsFaultOf (option_or fault behind) kind
@@ -84,7 +84,7 @@ element_says tag f g first second = record { kind = by }
     by : (bytes : List ℕ) → element_fault tag f g bytes ≢ Some None
     by [] e = cc e
     by (byte ∷ bytes) e =
-        either_says (byte == tag) _ _ (parts_says f g (within (length_at bytes)) first second) (λ same. cc same) e
+        either_says (byte == tag) _ _ (parts_says f g (content_at bytes) first second) (λ same. cc same) e
 
 pub optional_says : (tag : ℕ) (f g : Fault) → SaysKinds f → SaysKinds g → SaysKinds (optional_fault tag f g)
 optional_says tag f g first second = record { kind = by }
@@ -101,7 +101,7 @@ any_says f g first second = record { kind = by }
     by : (bytes : List ℕ) → any_fault f g bytes ≢ Some None
     by [] e = cc e
     by (tag ∷ bytes) e =
-        either_says (is_tag tag) _ _ (parts_says (f tag) g (within (length_at bytes)) (first tag) second)
+        either_says (is_tag tag) _ _ (parts_says (f tag) g (content_at bytes) (first tag) second)
         (λ same. cc same) e
 
 -- a rule that refuses as Value what doesn't pass a test

@@ -56,6 +56,11 @@ abbrev pub within : Result (ℕ × List ℕ) ErrorKind → Result (List ℕ × L
 within (Err kind) = Err kind
 within (Ok x) = if nat_le x.0 (length x.1) then Ok (take x.0 x.1, drop x.0 x.1) else Err Truncated
 
+-- X.690 section 8.1.1: the content that these bytes begin with, after its length, and the bytes
+-- after it
+abbrev pub content_at : List ℕ → Result (List ℕ × List ℕ) ErrorKind
+content_at bytes = within (length_at bytes)
+
 -- the fault of the length, of the content, or of the bytes after it, in this order
 abbrev pub parts_fault : Fault → Fault → Result (List ℕ × List ℕ) ErrorKind
     → Option (Option ErrorKind)
@@ -67,7 +72,7 @@ parts_fault content behind (Ok x) = option_or (content x.0) (behind x.1)
 abbrev pub element_fault : ℕ → Fault → Fault → Fault
 element_fault tag content behind [] = Some (Some Truncated)
 element_fault tag content behind (byte ∷ bytes) =
-    if byte == tag then parts_fault content behind (within (length_at bytes))
+    if byte == tag then parts_fault content behind (content_at bytes)
     else Some (Some Tag)
 
 -- an element with this tag, if its tag is next; and what follows it
@@ -80,7 +85,7 @@ optional_fault tag content behind (byte ∷ bytes) =
 abbrev pub any_fault : (ℕ → Fault) → Fault → Fault
 any_fault content behind [] = Some (Some Truncated)
 any_fault content behind (tag ∷ bytes) =
-    if is_tag tag then parts_fault (content tag) behind (within (length_at bytes))
+    if is_tag tag then parts_fault (content tag) behind (content_at bytes)
     else Some (Some Tag)
 
 -- one element of any tag, with any bytes as its content
