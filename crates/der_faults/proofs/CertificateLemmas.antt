@@ -3,11 +3,11 @@ use Rattle.std.proofs.Common.{◌≡◌, ◌≤◌, ◌∷◌, [], ℕ, List, Bo
 use Rattle.std.specs.Prelude.{IfSome, option_map}
 use Rattle.der_types.proofs.KindLaws.{any_element_says, other_says, set_says}
 use Rattle.der_types.specs.AnyElements.{any_element_fault}
-use Rattle.der_types.specs.Booleans.{is_boolean}
+use Rattle.der_types.specs.Contents.{is_boolean}
 use Rattle.der_types.specs.Choices.{begins_among}
 use Rattle.der_types.specs.Integers.{is_integer}
-use Rattle.der_types.specs.Rows.{row_fault}
-use Rattle.der_types.specs.Sets.{set_fault}
+use Rattle.der_types.specs.Sequences.{row_fault}
+use Rattle.der_types.specs.Sequences.{set_fault}
 use Rattle.der_types.specs.Times.{is_generalized_time, is_utc_time}
 use Rattle.pkix.specs.Records.{algorithm_fault, attribute_fault, certificate_fault, extension_fault, identifier_fault}
 use Rattle.pkix.specs.Records.{names_fault, public_key_fault, tbs_fault, time_fault, validity_fault}

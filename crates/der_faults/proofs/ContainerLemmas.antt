@@ -3,8 +3,8 @@ use Rattle.std.proofs.Common.{◌≡◌, ◌≤◌, ℕ, List, Bool, true, false
 use Rattle.std.proofs.Common.{if◌then◌else◌, Option, Some, None, ap, ◌∙◌, sym}
 use Rattle.std.specs.Prelude.{IfSome, option_map}
 use Rattle.der_types.proofs.KindLaws.{set_says}
-use Rattle.der_types.specs.Rows.{is_whole}
-use Rattle.der_types.specs.Sets.{set_fault}
+use Rattle.der_types.specs.Sequences.{is_whole}
+use Rattle.der_types.specs.Sequences.{set_fault}
 use Rattle.pkix.specs.Records.{algorithm_fault, asymmetric_key_fault, identifier_fault, key_attribute_fault}
 use Rattle.pkix.specs.Records.{private_key_fault}
 use Rattle.sec1_der.proofs.KindLaws.{bits_says, byte_says, element_says, end_says, none_says}

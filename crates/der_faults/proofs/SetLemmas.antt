@@ -2,8 +2,8 @@
 use Rattle.std.proofs.Common.{◌≡◌, ◌<◌, ◌-◌, ◌∷◌, ◌∙◌, [], ℕ, zero, suc, List, length, refl, arith, Option, Some, None}
 use Rattle.std.specs.Option.{option_or}
 use Rattle.der_types.proofs.KindLaws.{set_says}
-use Rattle.der_types.specs.Rows.{elements_fault, row_fault}
-use Rattle.der_types.specs.Sets.{is_ascending, set_fault}
+use Rattle.der_types.specs.Sequences.{elements_fault, row_fault}
+use Rattle.der_types.specs.Sequences.{is_ascending, set_fault}
 use Rattle.sec1_der.specs.Contents.{value_unless}
 use Rattle.sec1_der.specs.Faults.{SaysKinds}
 use Rattle.sec1_der.specs.Faults as r

@@ -1,6 +1,6 @@
 -- The place of the refusal of a certificate.
 use Rattle.std.specs.Prelude.{ℕ, List, [], ◌∷◌, length, Option, if◌then◌else◌}
-use Rattle.der_types.specs.Booleans.{is_boolean}
+use Rattle.der_types.specs.Contents.{is_boolean}
 use Rattle.der_types.specs.Choices.{begins_among}
 use Rattle.der_types.specs.Defaults.{other_fault}
 use Rattle.der_types.specs.Integers.{is_integer}

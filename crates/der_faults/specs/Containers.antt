@@ -1,6 +1,6 @@
 -- The kind by which bytes are refused as a container of a private key (RFC 5958 section 2).
 use Rattle.std.specs.Prelude.{Bool, ℕ, List, if◌then◌else◌}
-use Rattle.der_types.specs.Rows.{is_whole}
+use Rattle.der_types.specs.Sequences.{is_whole}
 use Rattle.pkix.specs.Records.{asymmetric_key_fault, private_key_fault}
 use Rattle.sec1_der.specs.Contents.{byte_fault}
 use Rattle.sec1_der.specs.Faults.{Fault, element_fault, no_fault}

@@ -4,7 +4,7 @@ use Rattle.std.specs.Prelude.{ℕ, zero, suc, List, [], ◌∷◌, length, Optio
 use Rattle.std.specs.Option.{option_or}
 use Rattle.der_types.specs.AnyElements.{all_tags}
 use Rattle.der_types.specs.Choices.{begins_among}
-use Rattle.der_types.specs.Sets.{set_fault}
+use Rattle.der_types.specs.Sequences.{set_fault}
 use Rattle.pkix.specs.Records.{identifier_fault, unsigned_fault}
 use Rattle.sec1_der.specs.Contents.{bit_string_fault}
 use Rattle.sec1_der.specs.Faults.{no_fault}

@@ -17,7 +17,7 @@ use Rattle.sec1_der.proofs.FaultLaws.{any_at}
 use Rattle.sec1_der.proofs.ElementLaws.{element_apart}
 use Rattle.sec1_der.specs.Values.{tag_of, value_of}
 use Rattle.sec1_der.specs.declared.any.AnyRef.{AnyRef}
-use Rattle.der_types.specs.AnyLaws.{among_all}
+use Rattle.der_types.specs.AnyElements.{among_all}
 use Rattle.der_types.specs.AnyElements.{all_tags, any_tags, first_byte, content_in, is_element, any_of}
 use Rattle.der_types.specs.AnyElements.{any_element_fault}
 

@@ -2,7 +2,7 @@
 use Rattle.std.specs.Prelude.{◌≡◌, ℕ, Bool, true, false, List, [], ◌∷◌, refl}
 use Rattle.std.proofs.Common.{arith}
 use Rattle.std.proofs.lemmas.Bool.Decides.{nat_tests}
-use Rattle.der_types.specs.Booleans.{boolean_content, is_boolean}
+use Rattle.der_types.specs.Contents.{boolean_content, is_boolean}
 
 -- the content of a value passes the test
 pub is_boolean-boolean_content : (value : Bool) → is_boolean (boolean_content value) ≡ true

@@ -5,7 +5,7 @@ use Rattle.std.proofs.Common.{arith, append-nil}
 use Rattle.std.proofs.Math.Seq.{take-append_seam}
 use Rattle.std.proofs.lemmas.Slice.Eq.{bytes_eq-Decides}
 use Rattle.std.specs.Option.{option_map}
-use Rattle.sec1_der.specs.BackWriters.{Puts, back_state}
+use Rattle.sec1_der.specs.Writers.{Puts, back_state}
 use Rattle.sec1_der.specs.Elements.{element_of}
 use Rattle.sec1_der.specs.declared.back_writer.BackWriter.{BackWriter}
 use Rattle.sec1_der.specs.Parts.{AreApart, optional_tag, optional_of}

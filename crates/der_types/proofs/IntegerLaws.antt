@@ -8,7 +8,7 @@ use Rattle.std.proofs.lemmas.Int.{ints}
 use Rattle.std.proofs.lemmas.Int.Digits.{number_digits_of, all_below_base_digits_of}
 use Rattle.std.proofs.lemmas.Int.Digits.{first_digits_of}
 use Rattle.std.specs.Int.Digits.{digits_of, number_from_digits_after, AllBelowBase}
-use Rattle.sec1_der.specs.Numbers.{number_of}
+use Rattle.sec1_der.specs.Elements.{number_of}
 use Rattle.sec1_der.proofs.DigitLaws.{digits_of-number}
 use Rattle.der_types.specs.Integers.{is_integer, is_unsigned, with_sign, unsigned_content}
 use Rattle.der_types.specs.Integers.{signed_number, signed_content}

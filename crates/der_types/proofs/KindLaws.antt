@@ -7,8 +7,8 @@ use Rattle.sec1_der.proofs.KindLaws.{any_says, both_say, either_says, element_sa
 use Rattle.der_types.specs.AnyElements.{any_element_fault}
 use Rattle.der_types.specs.Choices.{begins_among, choice_fault, optional_part_fault}
 use Rattle.der_types.specs.Defaults.{other_fault}
-use Rattle.der_types.specs.Rows.{elements_fault, row_fault}
-use Rattle.der_types.specs.Sets.{is_ascending, set_fault}
+use Rattle.der_types.specs.Sequences.{elements_fault, row_fault}
+use Rattle.der_types.specs.Sequences.{is_ascending, set_fault}
 
 next_says : (tag : ℕ) (f : Fault) (most : ℕ) → SaysKinds f → SaysKinds (elements_fault tag f most)
     → SaysKinds (elements_fault tag f (suc most))

@@ -6,10 +6,10 @@ use Rattle.std.proofs.lemmas.Bool.Decides.{nat_tests}
 use Rattle.std.proofs.lemmas.List.{append_assoc, length-append, map-append}
 use Rattle.std.proofs.lemmas.Nat.{div-mul-add, mod-mul-add}
 use Rattle.std.specs.Int.Digits.{digits_of, AllBelowBase}
-use Rattle.sec1_der.specs.Numbers.{base128}
+use Rattle.sec1_der.specs.Elements.{base128}
 use Rattle.sec1_der.proofs.DigitLaws.{marked}
 use Rattle.sec1_der.specs.Identifiers.{content_of}
-use Rattle.sec1_der.specs.ArcsOf.{numbers_after, arcs_of_numbers, arcs_of}
+use Rattle.sec1_der.specs.Identifiers.{numbers_after, arcs_of_numbers, arcs_of}
 use Rattle.sec1_der.proofs.DigitLaws.{digits_of-push}
 use Rattle.sec1_der.proofs.DigitLaws.{marked_step}
 use Rattle.der_types.specs.ObjectIdentifiers.{AreArcsOfAnySize, are_subidentifiers}

@@ -8,7 +8,7 @@ use Rattle.sec1_der.specs.Faults.{Fault, HasFault, IsFaultOf, no_fault}
 use Rattle.sec1_der.specs.Faults.{element_fault}
 use Rattle.sec1_der.specs.declared.error.Error.{Error}
 use Rattle.sec1_der.specs.declared.error.ErrorKind.{ErrorKind}
-use Rattle.der_types.specs.Rows.{joined, elements_fault, row_fault}
+use Rattle.der_types.specs.Sequences.{joined, elements_fault, row_fault}
 use Rattle.sec1_der.proofs.KindLaws.{refused_more}
 use Rattle.sec1_der.proofs.FaultLaws.{reads_on, reader_at}
 use Rattle.sec1_der.proofs.JoinLaws.{parted}

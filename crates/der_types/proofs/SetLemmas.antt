@@ -11,7 +11,7 @@ use Rattle.sec1_der.specs.Faults.{Fault, no_fault, any_fault, parts_fault, conte
 use Rattle.sec1_der.specs.declared.error.ErrorKind.{ErrorKind}
 use Rattle.sec1_der.specs.declared.error.ErrorKind.TheVariants.{Tag}
 use Rattle.sec1_der.proofs.FaultLaws.{within_octets}
-use Rattle.der_types.specs.Sets.{element_behind, first_element, is_at_most, ascends, is_ascending}
+use Rattle.der_types.specs.Sequences.{element_behind, first_element, is_at_most, ascends, is_ascending}
 
 -- the element that bytes begin with is found
 pub first_found : (tag : ℕ) (content bytes rest : List ℕ) → IsHeader tag (length content)

@@ -5,7 +5,7 @@ use Rattle.std.proofs.lemmas.Bool.Decides.{nat_tests}
 use Rattle.std.proofs.lemmas.Int.Digits.{first_digits_of}
 use Rattle.std.specs.Int.Digits.{digits_of, number_from_digits_after}
 use Rattle.sec1_der.proofs.DigitLaws.{IsBytes, IsBytes-below}
-use Rattle.sec1_der.specs.Numbers.{number_of}
+use Rattle.sec1_der.specs.Elements.{number_of}
 use Rattle.der_types.specs.Integers.{is_unsigned, unsigned_content, with_sign}
 use Rattle.der_types.proofs.IntegerLaws.{is_unsigned-unsigned_content, number_of-unsigned_content}
 use Rattle.der_types.proofs.IntegerLaws.{unsigned_content-number_of, unsigned_content-injective}

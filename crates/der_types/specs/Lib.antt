@@ -1,14 +1,9 @@
+pub mod Contents
 pub mod Integers
-pub mod Booleans
 pub mod ObjectIdentifiers
 pub mod Times
 pub mod Strings
-pub mod Leaves
-pub mod BitStrings
 pub mod Choices
-pub mod ChoiceLaws
 pub mod AnyElements
-pub mod AnyLaws
 pub mod Defaults
-pub mod Rows
-pub mod Sets
+pub mod Sequences

@@ -1,13 +1,13 @@
 //! An element of any tag.
 ghost use Rattle.std.specs.Prelude.{◌≡◌, ◌≤◌, ◌++◌, ℕ, List, length, refl, MatchResult, false};
 ghost use Rattle.sec1_der.specs.Elements.{element, IsHeader, IsElement};
-ghost use Rattle.sec1_der.specs.ErrorKinds.{IsReadingFault};
+ghost use Rattle.sec1_der.specs.Errors.{IsReadingFault};
 ghost use Rattle.sec1_der.specs.Parts.{is_among, AreApart, ReadsPart};
 ghost use Rattle.sec1_der.specs.Faults.{HasFault, end_fault};
 ghost use Rattle.sec1_der.specs.Values.{tag_of, value_of};
 ghost use Rattle.der_types.specs.AnyElements.{first_byte, all_tags, any_of, any_tags};
 ghost use Rattle.der_types.specs.AnyElements.{any_element_fault};
-ghost use Rattle.der_types.specs.AnyLaws.{any_begins};
+ghost use Rattle.der_types.specs.AnyElements.{any_begins};
 
 use crate::Alternative;
 use sec1_der::{

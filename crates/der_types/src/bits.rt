@@ -3,7 +3,7 @@ ghost use Rattle.std.specs.Prelude.{◌≡◌, ◌≢◌, ◌⊎◌, ◌<◌, �
 ghost use Rattle.std.specs.Prelude.{IsTrue, MatchOption, MatchResult};
 ghost use Rattle.sec1_der.specs.Contents.{are_bits, bit_string_fault};
 ghost use Rattle.sec1_der.specs.Elements.{max_length};
-ghost use Rattle.der_types.specs.BitStrings.{BitString, bit_string_content};
+ghost use Rattle.der_types.specs.Contents.{BitString, bit_string_content};
 
 use sec1_der::{
     BackWriter, BitStringRef, DecodeValue, EncodeValue, ErrorKind, Length, Result, SliceReader,
@@ -19,7 +19,7 @@ pub struct Bits<'a> {
 }
 
 impl<'a> Model for Bits<'a> {
-    ghost use Rattle.der_types.specs.BitStrings.{BitString};
+    ghost use Rattle.der_types.specs.Contents.{BitString};
     ghost use Rattle.sec1_der.specs.Values.{unused_bits_of, bit_bytes_of};
 
     ghost Value = { BitString };

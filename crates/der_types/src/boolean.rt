@@ -1,7 +1,7 @@
 //! BOOLEAN: the test of its contents, and the type.
 ghost use Rattle.std.specs.Prelude.{◌≡◌, [], ◌∷◌, true, false, Some, refl};
 ghost use Rattle.sec1_der.specs.Contents.{value_unless};
-ghost use Rattle.der_types.specs.Booleans.{boolean_content, is_boolean};
+ghost use Rattle.der_types.specs.Contents.{boolean_content, is_boolean};
 
 use crate::HasDefault;
 use sec1_der::{

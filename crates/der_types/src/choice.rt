@@ -2,7 +2,7 @@
 ghost use Rattle.std.specs.Prelude.{◌≡◌, not, false, refl};
 ghost use Rattle.sec1_der.specs.Parts.{is_among};
 ghost use Rattle.der_types.specs.Choices.{begins_among, choice_of, choice_tags, choice_fault};
-ghost use Rattle.der_types.specs.ChoiceLaws.{choice_begins, choice_not_empty};
+ghost use Rattle.der_types.specs.Choices.{choice_begins, choice_not_empty};
 
 use sec1_der::{
     BackWriter, DecodePart, EncodePart, Length, Part, Required, Result, SliceReader, Tagged,

@@ -1,7 +1,7 @@
 //! A part that isn't in a record.
 ghost use Rattle.std.specs.Prelude.{◌≡◌, ◌≤◌, length, true};
 ghost use Rattle.sec1_der.specs.Elements.{max_length};
-ghost use Rattle.sec1_der.specs.Encodings.{ReadsWhole};
+ghost use Rattle.sec1_der.specs.Readers.{ReadsWhole};
 ghost use Rattle.sec1_der.specs.Faults.{end_fault};
 
 use sec1_der::{DecodePart, Result, SliceReader, UniquePart};

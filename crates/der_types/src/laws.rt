@@ -3,10 +3,10 @@
 ghost use Rattle.std.specs.Prelude.{◌≡◌, ◌⊎◌, ◌<◌, ◌≤◌, ℕ, Bool, true, List, [], ℤ};
 ghost use Rattle.std.specs.Int.Digits.{AllBelowBase};
 ghost use Rattle.std.specs.Str.{is_utf8};
-ghost use Rattle.sec1_der.specs.ArcsOf.{arcs_of};
+ghost use Rattle.sec1_der.specs.Identifiers.{arcs_of};
 ghost use Rattle.sec1_der.specs.Identifiers.{content_of};
-ghost use Rattle.sec1_der.specs.Numbers.{number_of};
-ghost use Rattle.der_types.specs.Booleans.{boolean_content, is_boolean};
+ghost use Rattle.sec1_der.specs.Elements.{number_of};
+ghost use Rattle.der_types.specs.Contents.{boolean_content, is_boolean};
 ghost use Rattle.der_types.specs.Integers.{is_integer, is_unsigned, signed_content, signed_number};
 ghost use Rattle.der_types.specs.Integers.{unsigned_content};
 ghost use Rattle.der_types.specs.ObjectIdentifiers.{AreArcsOfAnySize, is_object_identifier};

@@ -1,6 +1,6 @@
 //! A value that is given by its content: a tag, and a test of contents.
 ghost use Rattle.std.specs.Prelude.{◌≡◌, ℕ, List, Some, IfOk};
-ghost use Rattle.der_types.specs.Leaves.{content_if, new_fault};
+ghost use Rattle.der_types.specs.Contents.{content_if, new_fault};
 ghost use Rattle.sec1_der.specs.Contents.{value_unless};
 ghost use Rattle.sec1_der.specs.Faults.{HasFault};
 

@@ -2,7 +2,7 @@
 ghost use Rattle.std.specs.Fmt.{debug_option, debug_variant};
 ghost use Rattle.std.specs.Prelude.{Option, codes};
 ghost use Rattle.der_types.specs.Choices.{optional_bytes, optional_tags, optional_part_fault};
-ghost use Rattle.der_types.specs.ChoiceLaws.{optional_part_begins};
+ghost use Rattle.der_types.specs.Choices.{optional_part_begins};
 
 use crate::Alternative;
 use crate::choice::is_absent;

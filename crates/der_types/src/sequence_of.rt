@@ -3,9 +3,9 @@ ghost use Rattle.std.specs.Prelude.{◌≡◌, ◌<◌, ◌++◌, ◌∷◌, ℕ
 ghost use Rattle.std.specs.Prelude.{Ok, IsOk, IsSome, IfSome, IfNone, IsSomeAnd};
 ghost use Rattle.std.specs.Prelude.{MatchResult};
 ghost use Rattle.sec1_der.specs.Elements.{element_of};
-ghost use Rattle.sec1_der.specs.ErrorKinds.{IsReadingFault};
+ghost use Rattle.sec1_der.specs.Errors.{IsReadingFault};
 ghost use Rattle.sec1_der.specs.Faults.{HasFault};
-ghost use Rattle.der_types.specs.Rows.{joined, row_fault, row_of};
+ghost use Rattle.der_types.specs.Sequences.{joined, row_fault, row_of};
 
 use sec1_der::{
     BackWriter, DecodeValue, EncodeValue, ErrorKind, Length, Result, SliceReader, Tag, Tagged,

@@ -1,9 +1,9 @@
 //! SET OF (X.690 sections 8.12 and 11.6).
 ghost use Rattle.std.specs.Prelude.{◌≡◌, ℕ, List, Some, true, Ok, MatchResult};
-ghost use Rattle.sec1_der.specs.ErrorKinds.{IsReadingFault};
+ghost use Rattle.sec1_der.specs.Errors.{IsReadingFault};
 ghost use Rattle.sec1_der.specs.Faults.{HasFault};
-ghost use Rattle.der_types.specs.Rows.{joined};
-ghost use Rattle.der_types.specs.Sets.{is_ascending, set_fault, set_of};
+ghost use Rattle.der_types.specs.Sequences.{joined};
+ghost use Rattle.der_types.specs.Sequences.{is_ascending, set_fault, set_of};
 
 use crate::{Elements, check_elements};
 use sec1_der::{

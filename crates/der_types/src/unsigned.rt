@@ -3,10 +3,10 @@ ghost use Rattle.std.specs.Prelude.{◌≡◌, ◌<◌, ◌≤◌, ◌^◌, ℕ,
 ghost use Rattle.std.specs.Prelude.{MatchOption};
 ghost use Rattle.std.specs.Int.Digits.{digits_of};
 ghost use Rattle.sec1_der.specs.Contents.{value_unless};
-ghost use Rattle.sec1_der.specs.Numbers.{number_of};
+ghost use Rattle.sec1_der.specs.Elements.{number_of};
 ghost use Rattle.sec1_der.specs.Faults.{HasFault};
 ghost use Rattle.der_types.specs.Integers.{is_unsigned, unsigned_content};
-ghost use Rattle.der_types.specs.Leaves.{new_fault};
+ghost use Rattle.der_types.specs.Contents.{new_fault};
 
 use crate::integer::is_unsigned;
 use sec1_der::{

@@ -7,7 +7,7 @@ use Rattle.std.proofs.lemmas.Bool.{and_parts, cases_lt}
 use Rattle.std.proofs.lemmas.Bool.Decides.{nat_tests}
 use Rattle.std.proofs.lemmas.List.Sums.{take_while-cons}
 use Rattle.std.specs.Prelude.{Some}
-use Rattle.sec1_der.specs.ArcsOf.{arcs_of_numbers, numbers_after}
+use Rattle.sec1_der.specs.Identifiers.{arcs_of_numbers, numbers_after}
 use Rattle.der_types.specs.ObjectIdentifiers.{are_subidentifiers, is_object_identifier}
 use Rattle.der_view.specs.Values.{arcs_by, is_u128, numbers_below}
 

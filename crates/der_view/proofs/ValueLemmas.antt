@@ -9,7 +9,7 @@ use Rattle.std.proofs.Math.Nat.{pow-suc, mul-le-mul_right}
 use Rattle.std.proofs.lemmas.Int.{ints}
 use Rattle.std.specs.Int.Digits.{number_from_digits_after, AllBelowBase}
 use Rattle.sec1_der.proofs.DigitLaws.{IsBytes, IsBytes-below}
-use Rattle.sec1_der.specs.Numbers.{number_of}
+use Rattle.sec1_der.specs.Elements.{number_of}
 use Rattle.der_types.specs.Integers.{signed_number}
 
 number_after-push : (m n : ℕ) (bytes : List ℕ)

@@ -6,7 +6,7 @@ use Rattle.std.specs.Char.Utf16.{utf16_chars}
 use Rattle.std.specs.Fmt.{digits}
 use Rattle.std.specs.List.{flat_map, list_all}
 use Rattle.std.specs.Str.{chars, is_utf8}
-use Rattle.sec1_der.specs.Numbers.{number_of}
+use Rattle.sec1_der.specs.Elements.{number_of}
 use Rattle.der_types.specs.Strings.{is_ia5, is_numeric_string, is_printable, is_visible}
 use Rattle.der_view.specs.declared.values.characters.Characters.{Characters}
 use Rattle.der_view.specs.declared.values.characters.Encoding.{Encoding}

@@ -5,7 +5,7 @@ use Rattle.std.specs.Prelude.{codes, slice_index, take, drop, Option, Some, None
 use Rattle.std.specs.Prelude.{take_while}
 use Rattle.std.specs.Fmt.{decimal, signed_decimal}
 use Rattle.std.specs.List.{list_all}
-use Rattle.sec1_der.specs.ArcsOf.{arcs_of, numbers_after}
+use Rattle.sec1_der.specs.Identifiers.{arcs_of, numbers_after}
 use Rattle.sec1_der.specs.Identifiers.{dotted}
 use Rattle.der_types.specs.Integers.{signed_number}
 use Rattle.der_types.specs.ObjectIdentifiers.{is_object_identifier}

@@ -1,6 +1,6 @@
 //! The header of an element in BER (X.690 section 8.1).
 ghost use Rattle.std.specs.Prelude.{◌≡◌, ◌<◌, ◌≤◌, ◌+◌, ◌*◌, ◌%◌, ◌∷◌, [], length, IfOk};
-ghost use Rattle.sec1_der.specs.Numbers.{number_of};
+ghost use Rattle.sec1_der.specs.Elements.{number_of};
 ghost use Rattle.der_view.specs.Marks.{length_len};
 ghost use Rattle.der_view.specs.Headers.{class_of, header_of, is_type, length_at, number_after};
 ghost use Rattle.der_view.specs.Headers.{tag_at};

@@ -9,9 +9,9 @@ use Rattle.sec1_der.proofs.FaultLaws.{element_at}
 use Rattle.sec1_der.specs.Faults.{Fault}
 use Rattle.der_types.specs.Integers.{is_unsigned, unsigned_content}
 use Rattle.der_types.proofs.IntegerLaws.{is_unsigned-unsigned_content}
-use Rattle.der_types.specs.Leaves.{content_if}
-use Rattle.der_types.specs.Rows.{elements_fault, row_of}
-use Rattle.der_types.specs.Sets.{is_ascending, set_of}
+use Rattle.der_types.specs.Contents.{content_if}
+use Rattle.der_types.specs.Sequences.{elements_fault, row_of}
+use Rattle.der_types.specs.Sequences.{is_ascending, set_of}
 use Rattle.examples.specs.Numbers.{numbers_content, ascending_content}
 
 abbrev number_fault : Fault

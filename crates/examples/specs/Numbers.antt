@@ -2,9 +2,9 @@
 use Rattle.std.specs.Prelude.{ℕ, List, Option, Some, option_and_then}
 use Rattle.sec1.specs.Der.{Fault, value_unless}
 use Rattle.der_types.specs.Integers.{is_unsigned, unsigned_content}
-use Rattle.der_types.specs.Leaves.{content_if}
-use Rattle.der_types.specs.Rows.{joined, row_fault}
-use Rattle.der_types.specs.Sets.{is_ascending, set_fault}
+use Rattle.der_types.specs.Contents.{content_if}
+use Rattle.der_types.specs.Sequences.{joined, row_fault}
+use Rattle.der_types.specs.Sequences.{is_ascending, set_fault}
 
 -- X.690 sections 8.10.2 and 8.3: the elements of the numbers, in their order
 abbrev pub numbers_content : List ℕ → Option (List ℕ)

@@ -6,12 +6,12 @@ use Rattle.sec1_der.specs.Faults.{Fault, SaysKinds, no_fault, element_fault, end
 use Rattle.sec1_der.proofs.KindLaws.{bits_says, byte_says, element_says, end_says, none_says, optional_says}
 use Rattle.sec1_der.proofs.KindLaws.{test_says}
 use Rattle.der_types.specs.AnyElements.{all_tags, any_element_fault}
-use Rattle.der_types.specs.Booleans.{is_boolean}
+use Rattle.der_types.specs.Contents.{is_boolean}
 use Rattle.der_types.specs.Defaults.{other_fault}
 use Rattle.der_types.specs.Integers.{is_integer}
 use Rattle.der_types.specs.ObjectIdentifiers.{is_object_identifier}
-use Rattle.der_types.specs.Rows.{row_fault}
-use Rattle.der_types.specs.Sets.{set_fault}
+use Rattle.der_types.specs.Sequences.{row_fault}
+use Rattle.der_types.specs.Sequences.{set_fault}
 use Rattle.der_types.specs.Times.{is_utc_time, is_generalized_time}
 use Rattle.der_types.proofs.KindLaws.{any_element_says, choice_says, optional_part_says, other_says, row_says}
 use Rattle.der_types.proofs.KindLaws.{set_says}

@@ -7,15 +7,15 @@ use Rattle.sec1_der.specs.Parts.{join, optional_of}
 use Rattle.sec1_der.specs.Faults.{Fault, no_fault, element_fault, end_fault}
 use Rattle.sec1_der.specs.Faults.{optional_fault}
 use Rattle.der_types.specs.AnyElements.{all_tags, any_of, any_element_fault}
-use Rattle.der_types.specs.BitStrings.{bit_string_content}
+use Rattle.der_types.specs.Contents.{bit_string_content}
 use Rattle.der_types.specs.Choices.{choice_of, choice_fault, optional_bytes, optional_part_fault}
-use Rattle.der_types.specs.Booleans.{boolean_content, is_boolean}
+use Rattle.der_types.specs.Contents.{boolean_content, is_boolean}
 use Rattle.der_types.specs.Defaults.{defaulted_of, other_fault}
 use Rattle.der_types.specs.Integers.{is_integer, is_unsigned, unsigned_content}
-use Rattle.der_types.specs.Leaves.{content_if}
+use Rattle.der_types.specs.Contents.{content_if}
 use Rattle.der_types.specs.ObjectIdentifiers.{is_object_identifier}
-use Rattle.der_types.specs.Rows.{row_fault, row_of}
-use Rattle.der_types.specs.Sets.{set_fault, set_of}
+use Rattle.der_types.specs.Sequences.{row_fault, row_of}
+use Rattle.der_types.specs.Sequences.{set_fault, set_of}
 use Rattle.der_types.specs.Times.{is_utc_time, is_generalized_time}
 use Rattle.sec1_der.specs.Contents.{bit_string_fault, byte_fault, value_unless}
 use Rattle.der_types.specs.declared.choice.Choice.{Choice}

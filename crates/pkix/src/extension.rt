@@ -1,7 +1,7 @@
 //! Extensions of certificates.
 ghost use Rattle.std.specs.Prelude.{refl};
 ghost use Rattle.pkix.specs.Records.{extension_content, extension_fault};
-ghost use Rattle.sec1_der.specs.Encodings.{ReadsElement};
+ghost use Rattle.sec1_der.specs.Readers.{ReadsElement};
 
 use der_types::{Boolean, Defaulted, ObjectIdentifierRef};
 use sec1_der::{Distinct, Octets, Record, Required, Result, read_der};

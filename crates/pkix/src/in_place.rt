@@ -2,7 +2,7 @@
 //! the result of one call to that of the next.
 ghost use Rattle.std.specs.Prelude.{◌≡◌, ◌≤◌, length, false, true};
 ghost use Rattle.sec1_der.specs.Elements.{element_of, max_length};
-ghost use Rattle.sec1_der.specs.Encodings.{ReadsElement};
+ghost use Rattle.sec1_der.specs.Readers.{ReadsElement};
 ghost use Rattle.sec1_der.specs.Faults.{element_fault, end_fault};
 ghost use Rattle.sec1_der.specs.Parts.{ReadsPart, one_tag};
 ghost use Rattle.sec1_der.specs.Readers.{ReadsContent};

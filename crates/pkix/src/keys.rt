@@ -8,7 +8,7 @@ ghost use Rattle.sec1.specs.Keys.{Key, IsKeyOf};
 ghost use Rattle.sec1.specs.Points.{Fits, Point};
 ghost use Rattle.sec1_der.specs.declared.error.ErrorKind.{ErrorKind};
 ghost use Rattle.sec1_der.specs.Elements.{element_of};
-ghost use Rattle.sec1_der.specs.ErrorKinds.{IsReadingFault};
+ghost use Rattle.sec1_der.specs.Errors.{IsReadingFault};
 ghost use Rattle.sec1_der.specs.Identifiers.{identifier_content};
 ghost use Rattle.curves.specs.Curves.{curve_arcs, field_len};
 ghost use Rattle.pkix.specs.EcKeys.{IsOnCurve, NamesCurve, HasPoint};

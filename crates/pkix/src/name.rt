@@ -1,7 +1,7 @@
 //! Names, which are rows of sets of attributes.
 ghost use Rattle.std.specs.Prelude.{refl};
 ghost use Rattle.pkix.specs.Records.{attribute_content, attribute_fault};
-ghost use Rattle.sec1_der.specs.Encodings.{ReadsElement};
+ghost use Rattle.sec1_der.specs.Readers.{ReadsElement};
 
 use der_types::{Any, ObjectIdentifierRef, SequenceOf, SetOf};
 use sec1_der::{Distinct, Record, Required, Result, read_der};

@@ -1,7 +1,7 @@
 //! Containers of private keys.
 ghost use Rattle.std.specs.Prelude.{refl, true};
 ghost use Rattle.pkix.specs.Records.{asymmetric_key_content, asymmetric_key_fault};
-ghost use Rattle.sec1_der.specs.Encodings.{ReadsElement};
+ghost use Rattle.sec1_der.specs.Readers.{ReadsElement};
 ghost use Rattle.pkix.specs.Records.{private_key_content, private_key_fault};
 
 use crate::AlgorithmIdentifier;

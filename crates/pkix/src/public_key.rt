@@ -5,7 +5,7 @@ ghost use Rattle.sec1_der.specs.Parts.{AreApart, one_tag};
 ghost use Rattle.sec1_der.specs.PartLaws.{element_begins};
 ghost use Rattle.sec1_der.specs.Faults.{element_fault};
 ghost use Rattle.pkix.specs.Records.{public_key_content, public_key_fault};
-ghost use Rattle.sec1_der.specs.Encodings.{ReadsElement};
+ghost use Rattle.sec1_der.specs.Readers.{ReadsElement};
 
 use crate::AlgorithmIdentifier;
 use crate::in_place::{ReadInPlace, read_record, read_whole};

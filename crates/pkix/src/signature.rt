@@ -1,7 +1,7 @@
 //! Signatures of ECDSA.
 ghost use Rattle.std.specs.Prelude.{refl};
 ghost use Rattle.pkix.specs.Records.{signature_content, signature_fault};
-ghost use Rattle.sec1_der.specs.Encodings.{ReadsElement};
+ghost use Rattle.sec1_der.specs.Readers.{ReadsElement};
 
 use der_types::Unsigned;
 use sec1_der::{Distinct, Record, Required, Result, read_der};

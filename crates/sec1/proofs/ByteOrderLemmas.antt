@@ -7,7 +7,7 @@ use Rattle.std.specs.Int.Digits.{number_from_digits_after}
 use Rattle.std.specs.Ordering.{ordering_then}
 use Rattle.std.specs.Cmp.Lexicographic.{slice_cmp}
 use Rattle.hex.specs.Hex.{IsBytes}
-use Rattle.sec1_der.specs.Numbers.{number_of}
+use Rattle.sec1_der.specs.Elements.{number_of}
 use Rattle.sec1_der.proofs.DigitLaws.{IsBytes-take}
 use Rattle.sec1.specs.Points.{Point, IsPoint, fixed_width, encoding}
 use Rattle.sec1.specs.PointOrder.{point_cmp}

@@ -11,8 +11,8 @@ use Rattle.std.proofs.lemmas.Bool.{lt-ltb}
 use Rattle.std.proofs.lemmas.Grind.{elements}
 use Rattle.std.proofs.lemmas.Slice.Eq.{bytes_eq-Decides}
 use Rattle.std.specs.Fmt.{comma_space, debug_items, decimal}
-use Rattle.sec1_der.specs.DebugTexts.{bytes_text}
-use Rattle.sec1_der.specs.Numbers.{number_of}
+use Rattle.sec1_der.specs.Errors.{bytes_text}
+use Rattle.sec1_der.specs.Elements.{number_of}
 use Rattle.sec1.specs.Coordinates.{arrays_of, coordinates_bytes}
 use Rattle.sec1.specs.Coordinates.{coordinates_point, first_bytes}
 use Rattle.sec1.specs.Points.{encoding, fixed_width, tag_byte, hybrid}

@@ -6,7 +6,7 @@ use Rattle.sec1_der.specs.declared.error.ErrorKind.{ErrorKind}
 use Rattle.sec1_der.specs.declared.error.ErrorKind.TheVariants.{Truncated, Tag, Length, TrailingData, Io, Memory as DerMemory}
 use Rattle.sec1_der.specs.Elements.{IsElement, element}
 use Rattle.sec1_der.specs.Faults.{no_fault, end_fault, document_fault}
-use Rattle.sec1_der.specs.ReadsDocument.{RefusesElement, TakenBeforeRefusal}
+use Rattle.sec1_der.specs.Streams.{RefusesElement, TakenBeforeRefusal}
 use Rattle.sec1_der.specs.Streams.{Takes}
 use Rattle.sec1_der.proofs.FaultLaws.{any_at}
 use Rattle.sec1.specs.Errors.{IsAsn1Where, error_of}

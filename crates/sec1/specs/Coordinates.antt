@@ -1,7 +1,7 @@
 -- Coordinates borrowed as arrays of bytes.
 use Rattle.std.specs.Prelude.{ℕ, zero, suc, List, [], ◌∷◌, ◌++◌, get_or}
 use Rattle.std.specs.List.{flat_map}
-use Rattle.sec1_der.specs.Numbers.{number_of}
+use Rattle.sec1_der.specs.Elements.{number_of}
 use Rattle.sec1.specs.Points.{Point, identity, compact, compressed, uncompressed, hybrid}
 use Rattle.sec1.specs.Points.{tag_byte}
 use Rattle.sec1.specs.declared.point.coordinates.Coordinates.{Coordinates}

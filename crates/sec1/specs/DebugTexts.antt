@@ -1,7 +1,7 @@
 -- What `{:?}` prints.
 use Rattle.std.specs.Prelude.{ℕ, List, [], ◌∷◌, if◌then◌else◌, Option, Some, codes, take}
 use Rattle.std.specs.Prelude.{drop}
-use Rattle.sec1_der.specs.DebugTexts.{bytes_text, struct_text}
+use Rattle.sec1_der.specs.Errors.{bytes_text, struct_text}
 use Rattle.sec1.specs.Points.{Point, identity, compact, compressed, uncompressed, hybrid}
 
 -- of the coordinates of a point of this form, which are these bytes: n of x, and then n of y

@@ -4,7 +4,7 @@ use Rattle.sec1.specs.Keys.{Key, IsKeyOf, SomeBytes}
 use Rattle.sec1.specs.declared.error.Error.{Error}
 use Rattle.sec1.specs.declared.error.Error.TheVariants.{Asn1, Crypto, PointEncoding, Version}
 use Rattle.sec1.specs.declared.error.Error.TheVariants.{Memory}
-use Rattle.sec1_der.specs.ErrorTexts.{kind_message}
+use Rattle.sec1_der.specs.Errors.{kind_message}
 use Rattle.sec1_der.specs.declared.error.Error.{Error as DerError}
 use Rattle.sec1_der.specs.declared.error.ErrorKind.{ErrorKind}
 use Rattle.sec1_der.specs.declared.error.ErrorKind.TheVariants.{Overlength, Memory as DerMemory}

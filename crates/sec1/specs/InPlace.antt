@@ -1,6 +1,6 @@
 -- What reading a value into an existing place means.
 use Rattle.std.specs.Prelude.{◌≡◌, ℕ, List, Option, Some, Result, IsOk, IfErr, OnOk}
-use Rattle.sec1_der.specs.ErrorKinds.{IsReadingFault}
+use Rattle.sec1_der.specs.Errors.{IsReadingFault}
 use Rattle.sec1_der.specs.Faults.{Fault, HasFault}
 use Rattle.sec1_der.specs.declared.error.Error.{Error}
 

@@ -6,7 +6,7 @@ use Rattle.sec1.specs.KeyFaults.{key_fault}
 use Rattle.sec1.specs.Keys.{Key, key_tree, IsKeyOf}
 use Rattle.sec1.specs.declared.error.Error.{Error}
 use Rattle.sec1_der.specs.Elements.{IsProperPrefix}
-use Rattle.sec1_der.specs.ErrorKinds.{IsReadingFault}
+use Rattle.sec1_der.specs.Errors.{IsReadingFault}
 use Rattle.sec1_der.specs.Trees.{Tree, IsTreeOf}
 use Rattle.sec1_der.specs.declared.error.ErrorKind.TheVariants.{Truncated, TrailingData}
 

@@ -1,7 +1,7 @@
 //! Reads a value into an existing place: a refusal moves no value, and a success moves one less.
 ghost use Rattle.std.specs.Prelude.{◌≡◌, ◌≤◌, ℕ, List, length, Some};
 ghost use Rattle.sec1.specs.InPlace.{ReadsInto};
-ghost use Rattle.sec1_der.specs.ErrorKinds.{Refuses};
+ghost use Rattle.sec1_der.specs.Errors.{Refuses};
 ghost use Rattle.sec1_der.specs.Elements.{max_length, element_of, IsProperPrefix};
 ghost use Rattle.sec1_der.specs.Faults.{element_fault, end_fault};
 

@@ -17,7 +17,7 @@ ghost use Rattle.std.specs.Prelude.{IfSome, ◌⊎◌};
 ghost use Rattle.std.specs.Prelude.{slice_index, take, drop, set, IsTrue, ◌==◌, ◌||◌};
 ghost use Rattle.std.specs.List.{All};
 ghost use Rattle.std.specs.Option.{option_map};
-ghost use Rattle.sec1_der.specs.Numbers.{number_of};
+ghost use Rattle.sec1_der.specs.Elements.{number_of};
 ghost use Rattle.sec1.specs.Points.{identity, uncompressed, IsEncoding, meaning, encoding, Fits};
 ghost use Rattle.sec1.specs.Points.{compressed_point, hybrid_point, tag_byte, x_of, y_of};
 ghost use Rattle.sec1.specs.Points.{fixed_width};

@@ -8,9 +8,9 @@ ghost use Rattle.sec1.specs.Errors.{IsAsn1, IsAsn1Where, error_of};
 ghost use Rattle.sec1.specs.Keys.{SomeBytes};
 ghost use Rattle.sec1.specs.declared.error.Error.{Error};
 ghost use Rattle.sec1_der.specs.Elements.{IsElement};
-ghost use Rattle.sec1_der.specs.ErrorKinds.{IsHeaderFault};
+ghost use Rattle.sec1_der.specs.Errors.{IsHeaderFault};
 ghost use Rattle.sec1_der.specs.Faults.{document_fault};
-ghost use Rattle.sec1_der.specs.ReadsDocument.{RefusesElement};
+ghost use Rattle.sec1_der.specs.Streams.{RefusesElement};
 ghost use Rattle.sec1_der.specs.declared.error.Error.{Error as DerError};
 ghost use Rattle.sec1_der.specs.Streams.{AppendsPrefix, Ends, Takes};
 

@@ -8,9 +8,9 @@ use Rattle.curves.specs.declared.curve.Curve.{Curve}
 use Rattle.curves.specs.declared.curve.Curve.TheVariants as curves
 use Rattle.der_types.proofs.AnyLemmas.{any_there}
 use Rattle.der_types.specs.AnyElements.{any_of}
-use Rattle.der_types.specs.BitStrings.{bit_string_content}
+use Rattle.der_types.specs.Contents.{bit_string_content}
 use Rattle.der_types.specs.Choices.{optional_bytes}
-use Rattle.der_types.specs.Leaves.{content_if}
+use Rattle.der_types.specs.Contents.{content_if}
 use Rattle.der_types.specs.ObjectIdentifiers.{is_object_identifier}
 use Rattle.pkix.specs.EcKeys.{IsOnCurve, ec_public_key}
 use Rattle.pkix.specs.Records.{algorithm_content, public_key_content}

@@ -8,9 +8,9 @@ use Rattle.std.specs.Option.{option_map, option_or}
 use Rattle.std.specs.Str.{bytes_eq}
 use Rattle.curves.specs.Curves.{curve_content}
 use Rattle.curves.specs.declared.curve.Curve.{Curve}
-use Rattle.der_types.specs.BitStrings.{BitString}
-use Rattle.der_types.specs.Rows.{is_whole}
-use Rattle.der_types.specs.Sets.{set_fault, set_of}
+use Rattle.der_types.specs.Contents.{BitString}
+use Rattle.der_types.specs.Sequences.{is_whole}
+use Rattle.der_types.specs.Sequences.{set_fault, set_of}
 use Rattle.pkix.specs.EcKeys.{IsOnCurve}
 use Rattle.pkix.specs.Records.{algorithm_content, algorithm_fault, asymmetric_key_fault, key_attribute_fault}
 use Rattle.pkix.specs.Records.{private_key_content, private_key_fault}

@@ -2,7 +2,7 @@
 use Rattle.std.proofs.Common.{◌≡◌, ◌≢◌, ◌∷◌, [], ℕ, List, length, arith, refl}
 use Rattle.std.specs.Int.Digits.{digits_of}
 use Rattle.sec1_der.proofs.DigitLaws.{IsBytes, IsBytes-below, digits_of-number}
-use Rattle.sec1_der.specs.Numbers.{number_of}
+use Rattle.sec1_der.specs.Elements.{number_of}
 
 -- digits without a zero in front are those of their number
 pub digits-no_zero : (bytes : List ℕ) (first : ℕ) (further : List ℕ) → IsBytes bytes → bytes ≡ first ∷ further

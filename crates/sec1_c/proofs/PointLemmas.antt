@@ -9,7 +9,7 @@ use Rattle.std.specs.Ordering.{nat_cmp}
 use Rattle.std.specs.declared.cmp.Ordering.{Ordering}
 use Rattle.std.specs.declared.cmp.Ordering.TheVariants.{Less, Equal, Greater}
 use Rattle.hex.specs.Hex.{IsBytes}
-use Rattle.sec1_der.specs.Numbers.{number_of}
+use Rattle.sec1_der.specs.Elements.{number_of}
 use Rattle.sec1.specs.PointOrder.{point_cmp, IsBelow}
 use Rattle.sec1.specs.Points.{Point, uncompressed, hybrid, IsEncoding, tag_byte, encoding}
 use Rattle.sec1.specs.Points.{fixed_width, compressed_point, hybrid_point}

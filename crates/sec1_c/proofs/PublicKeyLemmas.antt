@@ -6,9 +6,9 @@ use Rattle.curves.specs.Curves.{curve_arcs, curve_content, field_len}
 use Rattle.curves.specs.declared.curve.Curve.{Curve}
 use Rattle.curves.specs.declared.curve.Curve.TheVariants as curves
 use Rattle.der_types.specs.AnyElements.{any_of, is_element}
-use Rattle.der_types.specs.BitStrings.{BitString, bit_string_content}
+use Rattle.der_types.specs.Contents.{BitString, bit_string_content}
 use Rattle.der_types.specs.Choices.{optional_bytes}
-use Rattle.der_types.specs.Leaves.{content_if}
+use Rattle.der_types.specs.Contents.{content_if}
 use Rattle.der_types.specs.ObjectIdentifiers.{is_object_identifier}
 use Rattle.pkix.specs.EcKeys.{IsOnCurve}
 use Rattle.pkix.specs.Records.{algorithm_content, public_key_content}

@@ -1,8 +1,8 @@
 -- The place of the public key in a certificate (RFC 5280 section 4.1).
 use Rattle.std.specs.Prelude.{◌≡◌, ◌-◌, ℕ, List, length, Option, Some}
 use Rattle.std.specs.Option.{option_map}
-use Rattle.der_types.specs.BitStrings.{bit_string_content}
-use Rattle.der_types.specs.Rows.{row_of}
+use Rattle.der_types.specs.Contents.{bit_string_content}
+use Rattle.der_types.specs.Sequences.{row_of}
 use Rattle.pkix.specs.Records.{algorithm_content, certificate_content, extension_fault}
 use Rattle.pkix.specs.Records.{public_key_content}
 use Rattle.pkix.specs.declared.certificate.Certificate.{Certificate}

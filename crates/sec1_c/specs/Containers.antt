@@ -4,8 +4,8 @@ use Rattle.std.specs.Prelude.{◌≡◌, ◌⊎◌, ◌-◌, ◌∷◌, [], ℕ,
 use Rattle.std.specs.Option.{option_map}
 use Rattle.curves.specs.Curves.{curve_content}
 use Rattle.curves.specs.declared.curve.Curve.{Curve}
-use Rattle.der_types.specs.BitStrings.{bit_string_content}
-use Rattle.der_types.specs.Sets.{set_of}
+use Rattle.der_types.specs.Contents.{bit_string_content}
+use Rattle.der_types.specs.Sequences.{set_of}
 use Rattle.pkix.specs.EcKeys.{IsOnCurve}
 use Rattle.pkix.specs.Records.{algorithm_content, key_attribute_fault}
 use Rattle.pkix.specs.declared.private_key.OneAsymmetricKey.{OneAsymmetricKey}

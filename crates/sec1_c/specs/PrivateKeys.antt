@@ -4,7 +4,7 @@ use Rattle.std.specs.Prelude.{◌==◌, ◌+◌, ◌-◌, ◌∷◌, [], ℕ, Li
 use Rattle.std.specs.Prelude.{if◌then◌else◌}
 use Rattle.curves.specs.Curves.{curve_content}
 use Rattle.curves.specs.declared.curve.Curve.{Curve}
-use Rattle.der_types.specs.Rows.{is_whole}
+use Rattle.der_types.specs.Sequences.{is_whole}
 use Rattle.pkix.specs.EcKeys.{IsOnCurve, NamesCurve}
 use Rattle.pkix.specs.declared.private_key.OneAsymmetricKey.{OneAsymmetricKey}
 use Rattle.sec1.specs.Keys.{Key, IsKeyOf}

@@ -2,7 +2,7 @@
 use Rattle.std.specs.Prelude.{◌≡◌, ◌-◌, ◌∷◌, ℕ, List, length, Some}
 use Rattle.curves.specs.Curves.{curve_content, field_len}
 use Rattle.curves.specs.declared.curve.Curve.{Curve}
-use Rattle.der_types.specs.BitStrings.{bit_string_content}
+use Rattle.der_types.specs.Contents.{bit_string_content}
 use Rattle.pkix.specs.EcKeys.{HasPoint, IsOnCurve}
 use Rattle.pkix.specs.Records.{algorithm_content, public_key_content}
 use Rattle.pkix.specs.declared.public_key.SubjectPublicKeyInfo.{SubjectPublicKeyInfo}

@@ -4,7 +4,7 @@ use Rattle.der_types.specs.Integers.{unsigned_content}
 use Rattle.pkix.specs.Records.{signature_content}
 use Rattle.pkix.specs.declared.signature.EcdsaSigValue.{EcdsaSigValue}
 use Rattle.sec1_der.specs.Elements.{element_of}
-use Rattle.sec1_der.specs.Numbers.{number_of}
+use Rattle.sec1_der.specs.Elements.{number_of}
 use Rattle.sec1_c.specs.Fields.{bytes_len}
 use Rattle.sec1_c.specs.Places.{StandsAt, span_before}
 use Rattle.sec1_c.specs.declared.signature.SignatureParts.{SignatureParts}

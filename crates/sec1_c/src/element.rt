@@ -3,7 +3,7 @@
 ghost use Rattle.std.specs.Prelude.{IsTrue, ◌≡◌, ◌≢◌, ◌≤◌, ◌<◌, ◌+◌, ◌++◌, ℕ, List, length, OkIff};
 ghost use Rattle.sec1_der.specs.Elements.{IsElement, IsHeader, IsProperPrefix, is_tag};
 ghost use Rattle.sec1_der.specs.Elements.{element, header, max_length};
-ghost use Rattle.sec1_der.specs.ErrorKinds.{Refuses, header_fault};
+ghost use Rattle.sec1_der.specs.Errors.{Refuses, header_fault};
 ghost use Rattle.sec1_der.specs.Faults.{any_fault, no_fault, tree_fault};
 ghost use Rattle.sec1_der.specs.Trees.{Tree, IsTree, IsTreeOf, bytes, depth, max_tree_depth, size};
 ghost use Rattle.sec1_c.specs.Documents.{Announces, BeginsWithElement, element_len};

@@ -3,7 +3,7 @@
 ghost use Rattle.std.specs.Prelude.{◌≡◌, ◌≢◌, ◌⊎◌, ◌↔◌, ◌+◌, ◌^◌, ◌<◌, false, IsTrue, Some, length};
 ghost use Rattle.curves.specs.declared.curve.Curve.{Curve};
 ghost use Rattle.der_faults.specs.Containers.{container_fault};
-ghost use Rattle.der_types.specs.Rows.{is_whole};
+ghost use Rattle.der_types.specs.Sequences.{is_whole};
 ghost use Rattle.pkix.specs.EcKeys.{IsOnCurve, NamesCurve};
 ghost use Rattle.pkix.specs.declared.private_key.OneAsymmetricKey.{OneAsymmetricKey};
 ghost use Rattle.sec1.specs.KeyFaults.{key_fault};

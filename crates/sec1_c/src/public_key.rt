@@ -2,7 +2,7 @@
 ghost use Rattle.std.specs.Prelude.{◌≡◌, ◌≢◌, IsSome};
 ghost use Rattle.curves.specs.Curves.{field_len};
 ghost use Rattle.curves.specs.declared.curve.Curve.{Curve};
-ghost use Rattle.der_types.specs.BitStrings.{bit_string_content};
+ghost use Rattle.der_types.specs.Contents.{bit_string_content};
 ghost use Rattle.pkix.specs.EcKeys.{HasPoint, IsOnCurve};
 ghost use Rattle.pkix.specs.Records.{public_key_fault};
 ghost use Rattle.pkix.specs.declared.public_key.SubjectPublicKeyInfo.{SubjectPublicKeyInfo};

@@ -10,7 +10,7 @@ use Rattle.std.proofs.lemmas.Slice.Eq.{bytes_eq-Decides}
 use Rattle.std.specs.Option.{option_or}
 use Rattle.sec1_der.specs.Elements.{max_length, length_octets, header, element, element_of, is_tag, IsHeader, IsElement}
 use Rattle.sec1_der.specs.Elements.{IsProperPrefix}
-use Rattle.sec1_der.specs.ErrorKinds.{length_fault, header_fault}
+use Rattle.sec1_der.specs.Errors.{length_fault, header_fault}
 use Rattle.sec1_der.specs.Readers.{Reader, reader_over, HasReadElement}
 use Rattle.sec1_der.specs.Faults.{Fault, no_fault, end_fault, number_at, length_at, within, parts_fault, content_at}
 use Rattle.sec1_der.specs.Faults.{element_fault, optional_fault, any_fault, document_fault}

@@ -15,12 +15,12 @@ use Rattle.std.proofs.lemmas.Nat.{div-mul-add, mod-mul-add}
 use Rattle.std.specs.Int.Digits.{digits_of}
 use Rattle.std.specs.List.{flat_map, AllByRecursion}
 use Rattle.sec1_der.specs.Elements.{max_length, within_limit}
-use Rattle.sec1_der.specs.Numbers.{base128}
+use Rattle.sec1_der.specs.Elements.{base128}
 use Rattle.sec1_der.proofs.DigitLaws.{marked}
 use Rattle.sec1_der.specs.Stored.{IsStored}
 use Rattle.sec1_der.specs.declared.object_identifier.ObjectIdentifier.TheInside.{Inside}
-use Rattle.sec1_der.specs.ArcsOf.{numbers_after, arcs_of_numbers, arcs_of}
-use Rattle.sec1_der.specs.IdentifierTexts.{SubidentifiersFit}
+use Rattle.sec1_der.specs.Identifiers.{numbers_after, arcs_of_numbers, arcs_of}
+use Rattle.sec1_der.specs.Identifiers.{SubidentifiersFit}
 use Rattle.sec1_der.specs.Identifiers.{are_arcs, content_of, IsIdentifier, identifier_content}
 use Rattle.sec1_der.proofs.IdentifierLaws.{AreArcs, EncodesArcs, arcs_allowed, arcs_tested, encodes_of}
 use Rattle.sec1_der.proofs.IdentifierLaws.{identifier_content-valid}

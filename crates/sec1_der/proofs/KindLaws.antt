@@ -4,7 +4,7 @@ use Rattle.std.proofs.Common.{◌≡◌, ◌≢◌, ◌==◌, ◌&&◌, nat_le, 
 use Rattle.std.proofs.Common.{Option, Some, None, Result, Ok, Err, refl, sym, ap}
 use Rattle.std.specs.Option.{option_or}
 use Rattle.std.specs.Str.{bytes_eq}
-use Rattle.sec1_der.specs.ArcsOf.{arcs_of}
+use Rattle.sec1_der.specs.Identifiers.{arcs_of}
 use Rattle.sec1_der.specs.Contents.{value_unless, are_bits, byte_fault, bit_string_fault, whole_bits_fault}
 use Rattle.sec1_der.specs.Contents.{whole_bits_field_fault, identifier_fault}
 use Rattle.sec1_der.specs.Identifiers.{are_arcs, content_of, max_identifier_length}

@@ -14,9 +14,9 @@ use Rattle.sec1_der.specs.declared.error.Error.{Error}
 use Rattle.sec1_der.specs.declared.error.ErrorKind.{ErrorKind}
 use Rattle.sec1_der.specs.declared.error.ErrorKind.TheVariants.{Truncated, TrailingData, Io, Memory, Tag, Length}
 use Rattle.sec1_der.specs.Elements.{IsElement, IsHeader, header}
-use Rattle.sec1_der.specs.ErrorKinds.{header_fault, length_fault}
+use Rattle.sec1_der.specs.Errors.{header_fault, length_fault}
 use Rattle.sec1_der.specs.Elements.{is_tag}
-use Rattle.sec1_der.specs.ReadsDocument.{TakenBeforeRefusal, RefusesElement}
+use Rattle.sec1_der.specs.Streams.{TakenBeforeRefusal, RefusesElement}
 use Rattle.sec1_der.specs.Streams.{ReadsOnto, Takes, Ends}
 use Rattle.sec1_der.specs.Faults.{no_fault, end_fault, document_fault}
 use Rattle.sec1_der.proofs.HeaderLemmas.{LacksHeader, longer, header_front, header_fault_kinds}

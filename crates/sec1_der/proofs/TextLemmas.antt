@@ -9,9 +9,9 @@ use Rattle.std.specs.Int.Digits.{number_from_digits, AllBelowBase}
 use Rattle.std.specs.List.{AllByRecursion, flat_map}
 use Rattle.sec1_der.specs.Identifiers.{IsIdentifier, dotted}
 use Rattle.sec1_der.proofs.IdentifierLaws.{arcs_allowed}
-use Rattle.sec1_der.specs.Numbers.{base128}
+use Rattle.sec1_der.specs.Elements.{base128}
 use Rattle.sec1_der.proofs.IdentifierLemmas.{content_fits, read_arcs}
-use Rattle.sec1_der.specs.IdentifierTexts.{further_text, max_text_length}
+use Rattle.sec1_der.specs.Identifiers.{further_text, max_text_length}
 
 -- a dotted text is the first arc and the text of the further arcs
 pub dotted_text : (n : ℕ) (ns : List ℕ) → dotted (n ∷ ns) ≡ decimal n ++ further_text ns

@@ -1,9 +1,19 @@
--- X.690: an element is a tag byte, a length and a content.
-use Rattle.std.specs.Prelude.{◌≡◌, ◌≢◌, ℕ, ◌+◌, ◌%◌, ◌≤◌, List, [], ◌∷◌, ◌++◌, length, nat_lt}
-use Rattle.std.specs.Prelude.{nat_le, Option, Some, None, if◌then◌else◌, Bool, IsTrue}
+-- X.690: an element is a tag byte, a length and a content. The digits of numbers, the most
+-- significant first.
+use Rattle.std.specs.Prelude.{ℕ, ◌+◌, ◌/◌, ◌%◌, List, [], ◌∷◌, ◌++◌, map, ◌≡◌, ◌≢◌, ◌≤◌, length}
+use Rattle.std.specs.Prelude.{nat_lt, nat_le, Option, Some, None, if◌then◌else◌, Bool, IsTrue}
 use Rattle.std.specs.Prelude.{◌&&◌, not, ◌==◌, bit_and}
+use Rattle.std.specs.Int.Digits.{digits_of, number_from_digits}
 use Rattle.std.specs.Int.{IsBitSet}
-use Rattle.std.specs.Int.Digits.{digits_of}
+
+-- The number whose base 256 digits are the bytes; 0 if there are none.
+abbrev pub number_of : List ℕ → ℕ
+number_of bytes = number_from_digits 256 bytes
+
+-- X.690 section 8.19.2: a number in as few base 128 digits as possible, all but the last with bit
+-- 80 (hexadecimal) set, which means that another one follows.
+abbrev pub base128 : ℕ → List ℕ
+base128 n = map (λ digit. 0x80 + digit) (digits_of 128 (n / 128)) ++ n % 128 ∷ []
 
 -- the greatest length of a content in bytes: 2^28 - 1
 abbrev pub max_length : ℕ

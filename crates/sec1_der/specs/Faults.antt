@@ -5,8 +5,8 @@ use Rattle.std.specs.Prelude.{Option, Some, None, Result, Ok, Err, MatchResult, 
 use Rattle.std.specs.Option.{option_or}
 use Rattle.std.specs.Str.{bytes_eq}
 use Rattle.sec1_der.specs.Elements.{max_length, is_tag, is_constructed, length_octets}
-use Rattle.sec1_der.specs.ErrorKinds.{length_fault}
-use Rattle.sec1_der.specs.Numbers.{number_of}
+use Rattle.sec1_der.specs.Errors.{length_fault}
+use Rattle.sec1_der.specs.Elements.{number_of}
 use Rattle.sec1_der.specs.Trees.{max_tree_depth}
 use Rattle.sec1_der.specs.declared.error.Error.{Error}
 use Rattle.sec1_der.specs.declared.error.ErrorKind.{ErrorKind}

@@ -1,9 +1,10 @@
--- Object identifiers: their arcs, the content that encodes them, and their dotted text.
+-- Object identifiers: their arcs, the content that encodes them and the way back, and their text.
 use Rattle.std.specs.Prelude.{◌≡◌, ℕ, ◌+◌, ◌*◌, ◌^◌, ◌≤◌, Bool, IsTrue, false, ◌&&◌, ◌||◌, nat_lt}
-use Rattle.std.specs.Prelude.{nat_le, List, [], ◌∷◌, length, map, Option, Some, None, if◌then◌else◌}
+use Rattle.std.specs.Prelude.{nat_le, List, [], ◌∷◌, length, map, Option, Some, None}
+use Rattle.std.specs.Prelude.{if◌then◌else◌, ◌-◌, ◌%◌, ◌<◌, ⊤}
 use Rattle.std.specs.List.{list_all, flat_map, join_with_byte}
 use Rattle.std.specs.Fmt.{decimal}
-use Rattle.sec1_der.specs.Numbers.{base128}
+use Rattle.sec1_der.specs.Elements.{base128}
 
 -- X.690 section 8.19.4: two or more arcs. The first is 0, 1 or 2, the second is below 40 under 0
 -- and 1; the number that these two share and each further arc are below 2^32.
@@ -40,3 +41,39 @@ abbrev pub identifier_content : List ℕ → Option (List ℕ)
 identifier_content arcs =
     if are_arcs arcs && nat_le (length (content_of arcs)) max_identifier_length
     then Some (content_of arcs) else None
+
+-- X.690 section 8.19.2: the subidentifiers in these bytes; `high` is the number in the digits of
+-- the first one that were read before.
+abbrev pub numbers_after : ℕ → List ℕ → List ℕ
+numbers_after high [] = []
+numbers_after high (b ∷ bs) =
+    let n = high * 128 + b % 128 in if nat_lt b 128 then n ∷ numbers_after 0 bs
+    else numbers_after n bs
+
+-- X.690 section 8.19.4: the first subidentifier encodes the first two arcs, each further one is an
+-- arc.
+abbrev pub arcs_of_numbers : List ℕ → List ℕ
+arcs_of_numbers [] = []
+arcs_of_numbers (s ∷ further) =
+    if nat_lt s 40 then 0 ∷ s ∷ further
+    else (if nat_lt s 80 then 1 ∷ (s - 40) ∷ further else 2 ∷ (s - 80) ∷ further)
+
+abbrev pub arcs_of : List ℕ → List ℕ
+arcs_of content = arcs_of_numbers (numbers_after 0 content)
+
+-- the text of further arcs, a full stop in front of each
+abbrev pub further_text : List ℕ → List ℕ
+further_text arcs = flat_map (λ arc. 46 ∷ decimal arc) arcs
+
+-- the greatest length of a text in bytes: a byte of the content takes four at most, three digits
+-- and a full stop, and the first arc one more
+abbrev pub max_text_length : ℕ
+max_text_length = 4 * max_identifier_length + 1
+
+-- X.690 section 8.19.2: each subidentifier in these bytes is below 2^32, and so is the number in
+-- its digits so far; `high` is that of the digits of the first one that were read before.
+abbrev pub SubidentifiersFit : ℕ → List ℕ → Type 0
+SubidentifiersFit high [] = ⊤
+SubidentifiersFit high (b ∷ bs) =
+    let n = high * 128 + b % 128 in (n < 2 ^ 32)
+    × SubidentifiersFit (if nat_lt b 128 then 0 else n) bs

@@ -5,7 +5,7 @@ use Rattle.std.specs.Prelude.{Option, Some, None, if◌then◌else◌, ⊤, Resu
 use Rattle.std.specs.Prelude.{IsOkAnd, IsSomeAnd, MatchResult}
 use Rattle.std.specs.List.{list_all, list_any}
 use Rattle.sec1_der.specs.Elements.{element_of}
-use Rattle.sec1_der.specs.ErrorKinds.{IsReadingFault}
+use Rattle.sec1_der.specs.Errors.{IsReadingFault}
 use Rattle.sec1_der.specs.Faults.{Fault, IsFaultOf}
 use Rattle.sec1_der.specs.Readers.{Reader, reader_over, HasRead, IsSuffix}
 use Rattle.sec1_der.specs.declared.error.Error.{Error}

@@ -1,10 +1,10 @@
--- The state of a reader: the remaining input, and whether it has failed.
+-- The state of a reader, the remaining input and whether it has failed; and what calls that read
+-- return.
 use Rattle.std.specs.Prelude.{◌≡◌, ◌⊎◌, ◌≤◌, ◌-◌, Bool, false, true, List, [], ◌++◌, length, drop}
-use Rattle.std.specs.Prelude.{ℕ, Option, Some}
-use Rattle.std.specs.Prelude.{Result, IsOk, IfOk, IfErr, OnOk, OnErr}
-use Rattle.sec1_der.specs.Elements.{max_length, element}
-use Rattle.sec1_der.specs.ErrorKinds.{Refuses, IsReadingFault}
-use Rattle.sec1_der.specs.Faults.{Fault, HasFault}
+use Rattle.std.specs.Prelude.{ℕ, Option, Some, Result, IsOk, IfOk, IfErr, OnOk, OnErr, Ok}
+use Rattle.sec1_der.specs.Elements.{max_length, element, element_of}
+use Rattle.sec1_der.specs.Errors.{Refuses, IsReadingFault}
+use Rattle.sec1_der.specs.Faults.{Fault, HasFault, element_fault, end_fault}
 use Rattle.sec1_der.specs.declared.error.Error.{Error}
 use Rattle.sec1_der.specs.declared.error.ErrorKind.TheVariants.{Failed}
 
@@ -60,3 +60,23 @@ pub record ReadsContent {T : Type 0} (content : T → Option (List ℕ)) (fault 
   pub failed : old.failed ≡ true → Refuses result Failed × (new ≡ old)
   -- after an error the reader has failed, and its remaining input is what it was or the end of it
   pub refused : OnErr result ((new.failed ≡ true) × IsSuffix new.unread old.unread)
+
+-- The bytes are read as those of a value. `encoding` gives these of a value, and `fault` is the
+-- rule
+-- by which others are refused.
+pub record ReadsWhole {T : Type 0} (encoding : T → Option (List ℕ)) (fault : Fault)
+    (bytes : List ℕ) (result : Result T Error) : Type 0 where
+  -- what is read has these bytes
+  pub found : IfOk result (λ value. encoding value ≡ Some bytes)
+  -- the value with these bytes is read
+  pub only : (value : T) → encoding value ≡ Some bytes → result ≡ Ok value
+  pub kinds : IfErr result (λ e. IsReadingFault e.kind)
+  -- whether the bytes are refused, and by which kind, is a function of them
+  pub kind : HasFault result (fault bytes)
+
+-- The bytes are read as the element of a value. `content` gives that of a value, and `fault` is the
+-- rule by which contents are refused.
+abbrev pub ReadsElement : {T : Type 0} → ℕ → (T → Option (List ℕ)) → Fault → List ℕ
+    → Result T Error → Type 0
+ReadsElement tag content fault =
+    ReadsWhole (λ value. element_of tag (content value)) (element_fault tag fault end_fault)

@@ -1,7 +1,7 @@
 -- How the fields of an `ObjectIdentifier` hold its arcs.
 use Rattle.std.specs.Prelude.{◌≡◌, ℕ, ◌-◌, List, ◌++◌, length, take, replicate}
 use Rattle.std.proofs.Common.{sym, ap, ◌∙◌}
-use Rattle.sec1_der.specs.ArcsOf.{arcs_of}
+use Rattle.sec1_der.specs.Identifiers.{arcs_of}
 use Rattle.sec1_der.specs.Identifiers.{IsIdentifier, content_of, max_identifier_length}
 use Rattle.sec1_der.specs.declared.object_identifier.ObjectIdentifier.TheInside.{Inside}
 

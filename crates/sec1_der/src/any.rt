@@ -22,7 +22,7 @@ impl<'a> AnyRef<'a> {
     ghost use Rattle.std.specs.Prelude.{◌≡◌, ◌<◌, ◌++◌, ℕ, List, Some, IfOk, IsOkAnd};
     ghost use Rattle.std.specs.Prelude.{MatchResult};
     ghost use Rattle.sec1_der.specs.Elements.{element, IsHeader};
-    ghost use Rattle.sec1_der.specs.ErrorKinds.{IsHeaderFault};
+    ghost use Rattle.sec1_der.specs.Errors.{IsHeaderFault};
     ghost use Rattle.sec1_der.specs.Readers.{reader_over, HasRead, RefusesBy};
     ghost use Rattle.sec1_der.specs.Faults.{Fault, HasFault, any_fault, no_fault};
     ghost use Rattle.sec1_der.specs.Values.{tag_of, value_of};

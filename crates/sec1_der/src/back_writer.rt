@@ -20,7 +20,7 @@ pub struct BackWriter<'b> {
 
 impl<'b> BackWriter<'b> {
     ghost use Rattle.std.specs.Prelude.{◌-◌, [], Some, None, nat_le, if◌then◌else◌};
-    ghost use Rattle.sec1_der.specs.BackWriters.{back_state, Prepends, Puts};
+    ghost use Rattle.sec1_der.specs.Writers.{back_state, Prepends, Puts};
     ghost use Rattle.sec1_der.specs.Writers.{Writes};
     ghost use Rattle.sec1_der.specs.Elements.{max_length, header};
 

@@ -3,9 +3,9 @@ ghost use Rattle.std.specs.Prelude.{◌≡◌, ◌⊎◌, ◌<◌, ◌≤◌, �
 ghost use Rattle.std.specs.Prelude.{Option, Some, None, IsOk, IsOkAnd};
 ghost use Rattle.std.specs.Prelude.{IsSomeAnd, MatchOption, MatchResult, IsTrue};
 ghost use Rattle.sec1_der.specs.Elements.{max_length, element_of, is_tag};
-ghost use Rattle.sec1_der.specs.Encodings.{ReadsElement};
+ghost use Rattle.sec1_der.specs.Readers.{ReadsElement};
 ghost use Rattle.sec1_der.specs.Elements.{IsProperPrefix};
-ghost use Rattle.sec1_der.specs.ErrorKinds.{Refuses, IsReadingFault};
+ghost use Rattle.sec1_der.specs.Errors.{Refuses, IsReadingFault};
 ghost use Rattle.sec1_der.specs.Writers.{WhyNotWritten};
 ghost use Rattle.sec1_der.specs.Faults.{HasFault, IsFaultOf, element_fault, end_fault};
 

@@ -2,7 +2,7 @@
 //! that the record can hold plain slices.
 ghost use Rattle.std.specs.Prelude.{◌≡◌, ◌∷◌, [], ℕ, List, Some, codes};
 ghost use Rattle.sec1_der.specs.Contents.{byte_fault, whole_bits_fault};
-ghost use Rattle.sec1_der.specs.DebugTexts.{struct_text};
+ghost use Rattle.sec1_der.specs.Errors.{struct_text};
 ghost use Rattle.sec1_der.specs.Elements.{element_of};
 ghost use Rattle.sec1_der.specs.Faults.{element_fault, end_fault, no_fault};
 

@@ -2,7 +2,7 @@ ghost use Rattle.std.specs.Prelude.{◌≡◌, ◌⊎◌, ℕ, List, length, Som
 ghost use Rattle.std.specs.Prelude.{IsSomeAnd};
 ghost use Rattle.std.specs.Fmt.{WritesStyledOnOk};
 ghost use Rattle.sec1_der.specs.Elements.{element_of, IsElement, IsProperPrefix};
-ghost use Rattle.sec1_der.specs.ErrorKinds.{IsHeaderFault, Refuses};
+ghost use Rattle.sec1_der.specs.Errors.{IsHeaderFault, Refuses};
 ghost use Rattle.sec1_der.specs.Faults.{document_fault};
 
 pub(crate) mod stream;

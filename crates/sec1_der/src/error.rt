@@ -1,7 +1,7 @@
 ghost use Rattle.std.specs.Fmt.{WritesStyledOnOk};
 ghost use Rattle.std.specs.Prelude.{◌≡◌, [], ◌∷◌, Some, codes};
-ghost use Rattle.sec1_der.specs.DebugTexts.{kind_text, struct_text};
-ghost use Rattle.sec1_der.specs.ErrorTexts.{kind_message};
+ghost use Rattle.sec1_der.specs.Errors.{kind_text, struct_text};
+ghost use Rattle.sec1_der.specs.Errors.{kind_message};
 ghost use Rattle.sec1_der.specs.declared.error.ErrorKind.TheVariants.{Io, Memory};
 
 use crate::IoFault;

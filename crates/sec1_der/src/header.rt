@@ -3,13 +3,13 @@ ghost use Rattle.std.specs.Cmp.{and_equiv, nat_eq_equiv, on_equiv, partial_equiv
 ghost use Rattle.std.specs.Ordering.{eq_of_both, on};
 ghost use Rattle.std.specs.Prelude.{nat_eq, ◌↔◌, IsTrue, false, true, [], Some, codes};
 ghost use Rattle.std.specs.Prelude.{IfOk, IsOkAnd, IsOk, IsErr, MatchResult, OnErr};
-ghost use Rattle.sec1_der.specs.DebugTexts.{struct_text};
+ghost use Rattle.sec1_der.specs.Errors.{struct_text};
 ghost use Rattle.sec1_der.specs.Elements.{max_length, length_octets, header, element, IsHeader};
-ghost use Rattle.sec1_der.specs.ErrorKinds.{length_fault, header_fault, Refuses, IsHeaderFault};
-ghost use Rattle.sec1_der.specs.Numbers.{number_of};
+ghost use Rattle.sec1_der.specs.Errors.{length_fault, header_fault, Refuses, IsHeaderFault};
+ghost use Rattle.sec1_der.specs.Elements.{number_of};
 ghost use Rattle.sec1_der.specs.Readers.{reader_over, refused, HasRead};
 ghost use Rattle.sec1_der.specs.Faults.{Fault, any_fault};
-ghost use Rattle.sec1_der.specs.SliceWriters.{slice_state, Appends};
+ghost use Rattle.sec1_der.specs.Writers.{slice_state, Appends};
 ghost use Rattle.sec1_der.specs.Writers.{Writes};
 
 use crate::{ErrorKind, Length, Result, SliceReader, SliceWriter, Tag};

@@ -1,6 +1,6 @@
 //! OBJECT IDENTIFIER that borrows its content.
 ghost use Rattle.std.specs.Prelude.{◌≡◌, ◌≤◌, ℕ, List, Some, None, MatchResult, length};
-ghost use Rattle.sec1_der.specs.ArcsOf.{arcs_of};
+ghost use Rattle.sec1_der.specs.Identifiers.{arcs_of};
 ghost use Rattle.sec1_der.specs.Contents.{identifier_fault};
 ghost use Rattle.sec1_der.specs.Identifiers.{IsIdentifier, identifier_content};
 

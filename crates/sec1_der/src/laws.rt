@@ -4,7 +4,7 @@ ghost use Rattle.std.specs.Option.{option_or};
 ghost use Rattle.std.specs.Prelude.{◌≡◌, ◌≢◌, ◌≤◌, ◌++◌, [], ℕ, List, length, Some, None};
 ghost use Rattle.sec1_der.specs.Elements.{element, header, max_length, IsHeader};
 ghost use Rattle.sec1_der.specs.Elements.{IsProperPrefix};
-ghost use Rattle.sec1_der.specs.ErrorKinds.{header_fault};
+ghost use Rattle.sec1_der.specs.Errors.{header_fault};
 ghost use Rattle.sec1_der.specs.Faults.{Fault, any_fault, element_fault, end_fault};
 ghost use Rattle.sec1_der.specs.Faults.{document_fault, tree_fault, IsFaultOf, SaysKinds};
 ghost use Rattle.sec1_der.specs.declared.error.ErrorKind.{ErrorKind};

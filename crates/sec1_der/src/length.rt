@@ -1,6 +1,6 @@
 ghost use Rattle.std.specs.Prelude.{◌≡◌, ◌≤◌, ◌<◌, MatchResult, ℕ, [], ◌∷◌, Some, codes};
 ghost use Rattle.std.specs.Fmt.{decimal};
-ghost use Rattle.sec1_der.specs.DebugTexts.{struct_text};
+ghost use Rattle.sec1_der.specs.Errors.{struct_text};
 ghost use Rattle.sec1_der.specs.Elements.{max_length};
 
 use crate::{ErrorKind, Result};

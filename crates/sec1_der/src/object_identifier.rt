@@ -3,7 +3,7 @@ ghost use Rattle.std.specs.Prelude.{None, ◌∷◌, ◌++◌, bytes_eq, true, c
 ghost use Rattle.std.specs.Cmp.{partial_equiv_from_equiv};
 ghost use Rattle.std.specs.Fmt.{debug_variant};
 ghost use Rattle.std.specs.Cmp.Lexicographic.{nat_list_eq_equiv};
-ghost use Rattle.sec1_der.specs.ArcsOf.{arcs_of};
+ghost use Rattle.sec1_der.specs.Identifiers.{arcs_of};
 ghost use Rattle.sec1_der.specs.Contents.{identifier_fault};
 ghost use Rattle.sec1_der.specs.Identifiers.{IsIdentifier, are_arcs};
 ghost use Rattle.sec1_der.specs.Identifiers.{content_of, max_identifier_length};

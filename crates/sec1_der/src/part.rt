@@ -1,8 +1,8 @@
 //! The parts of a SEQUENCE (X.690 section 8.9), and two parts in a row.
 ghost use Rattle.std.specs.Prelude.{◌≡◌, ◌≤◌, ℕ, List, length, Option, Some, false};
-ghost use Rattle.sec1_der.specs.BackWriters.{HasRoom, Puts};
+ghost use Rattle.sec1_der.specs.Writers.{HasRoom, Puts};
 ghost use Rattle.sec1_der.specs.Elements.{max_length, within_limit};
-ghost use Rattle.sec1_der.specs.Encodings.{Measures};
+ghost use Rattle.sec1_der.specs.Writers.{Measures};
 ghost use Rattle.sec1_der.specs.Parts.{Tags, Begins, ReadsPart, AreApart, join, both_tags};
 ghost use Rattle.sec1_der.specs.PartLaws.{pair_begins};
 ghost use Rattle.sec1_der.specs.Faults.{Fault};

@@ -2,7 +2,7 @@
 //! part by itself.
 ghost use Rattle.std.specs.Prelude.{◌≡◌, ◌≤◌, length, Ok, false};
 ghost use Rattle.sec1_der.specs.Elements.{element_of, max_length, within_limit};
-ghost use Rattle.sec1_der.specs.Encodings.{Measures};
+ghost use Rattle.sec1_der.specs.Writers.{Measures};
 ghost use Rattle.sec1_der.specs.Parts.{ReadsPart, one_tag};
 ghost use Rattle.sec1_der.specs.PartLaws.{element_begins};
 ghost use Rattle.sec1_der.specs.Faults.{element_fault};

@@ -18,7 +18,7 @@ pub struct SliceWriter<'b> {
 
 impl<'b> SliceWriter<'b> {
     ghost use Rattle.std.specs.Prelude.{◌≡◌, [], ◌∷◌, Some};
-    ghost use Rattle.sec1_der.specs.SliceWriters.{slice_state, Appends};
+    ghost use Rattle.sec1_der.specs.Writers.{slice_state, Appends};
     ghost use Rattle.sec1_der.specs.Writers.{Writes};
 
     /// Creates a writer at the beginning of a slice.

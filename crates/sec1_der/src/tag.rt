@@ -2,7 +2,7 @@ ghost use Rattle.std.specs.Prelude.{◌≡◌, ◌+◌, ◌≤◌, ◌↔◌, �
 ghost use Rattle.std.specs.Prelude.{codes};
 ghost use Rattle.std.specs.Fmt.{decimal};
 ghost use Rattle.std.specs.Int.{IsBitSet};
-ghost use Rattle.sec1_der.specs.DebugTexts.{struct_text};
+ghost use Rattle.sec1_der.specs.Errors.{struct_text};
 ghost use Rattle.sec1_der.specs.Elements.{is_tag};
 
 use crate::{ErrorKind, Result};

@@ -1,12 +1,12 @@
 //! The traits of DER values: with them the generic calls read and write a type.
 ghost use Rattle.std.specs.Prelude.{◌≡◌, ◌≤◌, ℕ, List, length, Option, Some, None, IsSomeAnd};
 ghost use Rattle.std.specs.Prelude.{MatchResult, IsTrue};
-ghost use Rattle.sec1_der.specs.BackWriters.{back_state, HasRoom, Prepends, Puts};
+ghost use Rattle.sec1_der.specs.Writers.{back_state, HasRoom, Prepends, Puts};
 ghost use Rattle.sec1_der.specs.Elements.{max_length, within_limit, is_tag};
-ghost use Rattle.sec1_der.specs.Encodings.{Measures};
+ghost use Rattle.sec1_der.specs.Writers.{Measures};
 ghost use Rattle.sec1_der.specs.Readers.{ReadsContent};
 ghost use Rattle.sec1_der.specs.Faults.{Fault};
-ghost use Rattle.sec1_der.specs.SliceWriters.{slice_state, Appends};
+ghost use Rattle.sec1_der.specs.Writers.{slice_state, Appends};
 ghost use Rattle.sec1_der.specs.Writers.{Writes};
 
 use crate::length::check_room;

@@ -2,7 +2,7 @@
 ghost use Rattle.std.specs.Prelude.{◌≡◌, ◌∷◌, ◌<◌, [], Bool, ℕ, List, IfSome, MatchOption};
 ghost use Rattle.std.specs.Prelude.{length, option_map, true};
 ghost use Rattle.std.specs.List.{list_all};
-ghost use Rattle.sec1_der.specs.ArcsOf.{arcs_of_numbers, numbers_after};
+ghost use Rattle.sec1_der.specs.Identifiers.{arcs_of_numbers, numbers_after};
 ghost use Rattle.der_types.specs.ObjectIdentifiers.{are_subidentifiers};
 ghost use Rattle.der_view.specs.Values.{arcs_by, arcs_view, is_u128, numbers_below};
 

@@ -2,7 +2,7 @@
 ghost use Rattle.std.specs.Prelude.{◌≡◌, ◌<◌, ◌≤◌, ◌+◌, ◌-◌, ◌*◌, ◌/◌, ◌%◌, ◌^◌, [], ◌∷◌};
 ghost use Rattle.std.specs.Prelude.{◌++◌, length, option_map};
 ghost use Rattle.std.specs.Fmt.{decimal};
-ghost use Rattle.sec1_der.specs.Numbers.{number_of};
+ghost use Rattle.sec1_der.specs.Elements.{number_of};
 ghost use Rattle.der_view.specs.Values.{bit_string_text, bits_text, boolean_text, integer_text};
 ghost use Rattle.der_view.specs.Values.{time_text};
 

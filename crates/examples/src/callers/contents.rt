@@ -2,8 +2,8 @@
 ghost use Rattle.std.specs.Prelude.{◌≡◌, ◌≢◌, ◌<◌, ◌≤◌, ℕ, Bool, true, List, ℤ};
 ghost use Rattle.std.specs.Int.Digits.{AllBelowBase};
 ghost use Rattle.std.specs.Str.{is_utf8};
-ghost use Rattle.sec1_der.specs.ArcsOf.{arcs_of};
-ghost use Rattle.der_types.specs.Booleans.{boolean_content};
+ghost use Rattle.sec1_der.specs.Identifiers.{arcs_of};
+ghost use Rattle.der_types.specs.Contents.{boolean_content};
 ghost use Rattle.der_types.specs.Integers.{is_integer, signed_number, unsigned_content};
 ghost use Rattle.der_types.specs.ObjectIdentifiers.{is_object_identifier};
 ghost use Rattle.der_types.specs.Strings.{is_numeric_string};

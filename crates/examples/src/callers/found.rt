@@ -4,7 +4,7 @@ ghost use Rattle.std.specs.Prelude.{Some, None, false, true};
 ghost use Rattle.std.specs.Prelude.{IfErr, IfOk, IfSome, IsErr, IsSomeAnd, IsTrue, OnErr};
 ghost use Rattle.sec1_der.specs.Contents.{are_bits, bit_string_fault, byte_fault, identifier_fault};
 ghost use Rattle.sec1_der.specs.Elements.{element, max_length, IsElement, IsProperPrefix};
-ghost use Rattle.sec1_der.specs.ErrorKinds.{Refuses};
+ghost use Rattle.sec1_der.specs.Errors.{Refuses};
 ghost use Rattle.sec1_der.specs.declared.error.ErrorKind.{ErrorKind};
 ghost use Rattle.sec1_der.specs.Identifiers.{IsIdentifier, content_of, identifier_content};
 ghost use Rattle.sec1_der.specs.Readers.{reader_over, HasReadElement};

@@ -2,7 +2,7 @@
 //! which kind its content is refused, but not this.
 ghost use Rattle.std.specs.Prelude.{◌≡◌, ◌≢◌, ◌∷◌, ◌++◌, ◌≤◌, [], ℕ, List, length, false};
 ghost use Rattle.sec1_der.specs.Elements.{element, max_length, IsProperPrefix};
-ghost use Rattle.sec1_der.specs.ErrorKinds.{Refuses};
+ghost use Rattle.sec1_der.specs.Errors.{Refuses};
 ghost use Rattle.sec1_der.specs.Readers.{reader_over};
 
 use sec1_der::{

@@ -3,7 +3,7 @@
 ghost use Rattle.std.specs.Prelude.{◌≡◌, ◌∷◌, [], ℕ, List, refl, Some, IsOkAnd, MatchResult};
 ghost use Rattle.examples.specs.EvenOctets.{even_content, even_fault, is_even};
 ghost use Rattle.sec1_der.specs.Elements.{element_of};
-ghost use Rattle.sec1_der.specs.ErrorKinds.{IsReadingFault, Refuses};
+ghost use Rattle.sec1_der.specs.Errors.{IsReadingFault, Refuses};
 
 use sec1_der::{
     BackWriter, DecodeValue, Distinct, EncodeValue, ErrorKind, FixedTag, Length, Record, Required,

@@ -1,6 +1,6 @@
 //! Elements prepended one before the other, and headers over what was written since.
 ghost use Rattle.std.specs.Prelude.{◌≡◌, ◌≤◌, ◌++◌, length, OnOk};
-ghost use Rattle.sec1_der.specs.BackWriters.{back_state};
+ghost use Rattle.sec1_der.specs.Writers.{back_state};
 ghost use Rattle.sec1_der.specs.Elements.{header};
 
 use sec1_der::{BackWriter, EncodeValue, Result, Tag, Tagged};

@@ -2,7 +2,7 @@
 ghost use Rattle.std.specs.Prelude.{◌≡◌, ◌+◌, ◌-◌, ◌<◌, ◌≤◌, ◌++◌, ◌∷◌, [], length, take, drop};
 ghost use Rattle.std.specs.Prelude.{IsOk, MatchResult};
 ghost use Rattle.sec1.specs.Der.{Refuses, header};
-ghost use Rattle.sec1_der.specs.SliceWriters.{slice_state};
+ghost use Rattle.sec1_der.specs.Writers.{slice_state};
 
 use sec1::der::{BackWriter, ErrorKind, Header, Result, SliceWriter};
 

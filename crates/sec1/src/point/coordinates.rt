@@ -3,8 +3,8 @@
 ghost use Rattle.std.specs.Fmt.{WritesOnOk, comma_space, decimal};
 ghost use Rattle.std.specs.Prelude.{◌≡◌, ◌↔◌, ◌-◌, ◌++◌, length, take, bytes_eq, IsTrue};
 ghost use Rattle.std.specs.Prelude.{[], if◌then◌else◌, nat_lt};
-ghost use Rattle.sec1_der.specs.DebugTexts.{bytes_text};
-ghost use Rattle.sec1_der.specs.Numbers.{number_of};
+ghost use Rattle.sec1_der.specs.Errors.{bytes_text};
+ghost use Rattle.sec1_der.specs.Elements.{number_of};
 ghost use Rattle.sec1.specs.Points.{point_from};
 ghost use Rattle.sec1.specs.Tags.{byte_of, message_len, point_tag};
 ghost use Rattle.sec1.specs.Coordinates.{arrays_of, first_bytes, coordinates_bytes};

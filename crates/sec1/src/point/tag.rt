@@ -5,7 +5,7 @@ ghost use Rattle.std.specs.Prelude.{◌≡◌, ◌≢◌, ◌<◌, ◌^◌, ◌=
 ghost use Rattle.std.specs.Prelude.{Some, codes, ◌%◌};
 ghost use Rattle.sec1.specs.declared.error.Error.TheVariants.{PointEncoding};
 ghost use Rattle.sec1.specs.declared.point.tag.Tag.TheVariants as tags;
-ghost use Rattle.sec1_der.specs.Numbers.{number_of};
+ghost use Rattle.sec1_der.specs.Elements.{number_of};
 ghost use Rattle.sec1.specs.Tags.{byte_of, message_len};
 
 use crate::error::{Error, Result};

@@ -1,7 +1,7 @@
 //! Points from their coordinates (SEC1 v2.0 section 2.3.3): `sec1_point_from_coordinates` and
 //! `sec1_point_identity`.
 ghost use Rattle.std.specs.Prelude.{ℕ, length};
-ghost use Rattle.sec1_der.specs.Numbers.{number_of};
+ghost use Rattle.sec1_der.specs.Elements.{number_of};
 ghost use Rattle.sec1.specs.Points.{encoding, identity};
 ghost use Rattle.sec1_c.specs.Outputs.{Writes, WritesNothing};
 ghost use Rattle.sec1_c.specs.PointForms.{AreCoordinates, affine_point};

@@ -3,7 +3,7 @@ ghost use Rattle.std.specs.Prelude.{◌≡◌, ◌∷◌, ℕ, Some, if◌then�
 ghost use Rattle.std.specs.Int.Digits.{digits_of};
 ghost use Rattle.der_types.specs.Integers.{is_unsigned, unsigned_content, with_sign};
 ghost use Rattle.sec1_der.specs.Contents.{value_unless};
-ghost use Rattle.sec1_der.specs.Numbers.{number_of};
+ghost use Rattle.sec1_der.specs.Elements.{number_of};
 
 use sec1_der::{BackWriter, EncodeValue, ErrorKind, Length, Result, Tag, Tagged, ValueContent};
 use std::marker::Model;

@@ -4,7 +4,7 @@ use crate::length::check_room;
 use crate::{EncodeValue, ErrorKind, Result, Tagged, encoded_len};
 
 impl<'b> BackWriter<'b> {
-    ghost use Rattle.sec1_der.specs.BackWriters.{back_state, HasRoom, Prepends, Puts};
+    ghost use Rattle.sec1_der.specs.Writers.{back_state, HasRoom, Prepends, Puts};
     ghost use Rattle.sec1_der.specs.Writers.{Writes};
     ghost use Rattle.sec1_der.specs.Elements.{element_of};
 

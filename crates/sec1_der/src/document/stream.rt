@@ -4,8 +4,8 @@ ghost use Rattle.std.specs.Prelude.{ℕ, List, false, ◌≡◌, ◌<◌, ◌≤
 ghost use Rattle.std.specs.Prelude.{IfErr, IfSome};
 ghost use Rattle.std.specs.Io.KnownBytes.{Appends};
 ghost use Rattle.sec1_der.specs.Elements.{IsElement, IsHeader, header};
-ghost use Rattle.sec1_der.specs.ErrorKinds.{IsHeaderFault};
-ghost use Rattle.sec1_der.specs.ReadsDocument.{ReadsStream};
+ghost use Rattle.sec1_der.specs.Errors.{IsHeaderFault};
+ghost use Rattle.sec1_der.specs.Streams.{ReadsStream};
 ghost use Rattle.sec1_der.specs.Faults.{document_fault};
 ghost use Rattle.sec1_der.specs.Streams.{AppendsPrefix, Ends, ReadsOnto, Takes};
 ghost use Rattle.sec1_der.specs.declared.error.ErrorKind.TheVariants.{Io, Memory};

@@ -1,8 +1,8 @@
 //! The arcs of an identifier, as numbers.
 ghost use Rattle.std.specs.Prelude.{◌≡◌, ◌∷◌, ℕ, List, [], MatchOption};
 ghost use Rattle.std.specs.Iterator.{YieldsFirst, item_count};
-ghost use Rattle.sec1_der.specs.ArcsOf.{arcs_of, arcs_of_numbers, numbers_after};
-ghost use Rattle.sec1_der.specs.IdentifierTexts.{SubidentifiersFit};
+ghost use Rattle.sec1_der.specs.Identifiers.{arcs_of, arcs_of_numbers, numbers_after};
+ghost use Rattle.sec1_der.specs.Identifiers.{SubidentifiersFit};
 
 use std::marker::Model;
 
@@ -19,8 +19,8 @@ pub struct Arcs<'a> {
 
 impl<'a> Model for Arcs<'a> {
     ghost use Rattle.std.specs.Prelude.{◌++◌, ℕ, List, option_to_list};
-    ghost use Rattle.sec1_der.specs.ArcsOf.{numbers_after};
-    ghost use Rattle.sec1_der.specs.IdentifierTexts.{SubidentifiersFit};
+    ghost use Rattle.sec1_der.specs.Identifiers.{numbers_after};
+    ghost use Rattle.sec1_der.specs.Identifiers.{SubidentifiersFit};
 
     ghost Value = { List ℕ };
 

@@ -5,7 +5,7 @@ ghost use Rattle.std.specs.Fmt.{decimal};
 ghost use Rattle.std.specs.Int.Digits.{digits_of};
 ghost use Rattle.sec1_der.specs.Identifiers.{are_arcs, IsIdentifier, content_of};
 ghost use Rattle.sec1_der.specs.Identifiers.{max_identifier_length};
-ghost use Rattle.sec1_der.specs.Numbers.{base128};
+ghost use Rattle.sec1_der.specs.Elements.{base128};
 
 use super::MAX_IDENTIFIER;
 use crate::{ErrorKind, Result};
@@ -30,7 +30,7 @@ enum Arcs {
 
 impl Model for Builder {
     ghost use Rattle.std.specs.Prelude.{List, ℕ, [], ◌∷◌, ⊤, ◌≡◌, IsTrue};
-    ghost use Rattle.sec1_der.specs.ArcsOf.{arcs_of};
+    ghost use Rattle.sec1_der.specs.Identifiers.{arcs_of};
     ghost use Rattle.sec1_der.specs.Identifiers.{are_arcs, content_of};
     ghost use Rattle.sec1_der.specs.declared.object_identifier.builder.Arcs.TheVariants.{Empty};
     ghost use Rattle.sec1_der.specs.declared.object_identifier.builder.Arcs.TheVariants.{One};

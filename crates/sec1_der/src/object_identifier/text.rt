@@ -2,7 +2,7 @@
 ghost use Rattle.std.specs.Prelude.{◌≡◌, ◌≤◌, ◌+◌, ◌∷◌, ◌++◌, [], length};
 ghost use Rattle.std.specs.Fmt.{decimal};
 ghost use Rattle.sec1_der.specs.Identifiers.{dotted};
-ghost use Rattle.sec1_der.specs.IdentifierTexts.{max_text_length};
+ghost use Rattle.sec1_der.specs.Identifiers.{max_text_length};
 
 use super::arcs::Arcs;
 use super::{MAX_IDENTIFIER, ObjectIdentifier};

@@ -3,7 +3,7 @@ ghost use Rattle.std.specs.Prelude.{◌≡◌, ◌≢◌, ◌≤◌, ◌++◌, �
 ghost use Rattle.std.specs.Prelude.{IfOk, ◌+◌, None};
 ghost use Rattle.std.specs.Prelude.{IsOkAnd, IsSomeAnd, MatchOption, MatchResult};
 ghost use Rattle.sec1_der.specs.Elements.{max_length, element, element_of, IsProperPrefix};
-ghost use Rattle.sec1_der.specs.ErrorKinds.{Refuses};
+ghost use Rattle.sec1_der.specs.Errors.{Refuses};
 ghost use Rattle.sec1_der.specs.Readers.{reader_over, HasReadElement, ReadsContent, RefusesBy};
 ghost use Rattle.sec1_der.specs.Faults.{element_fault, end_fault, no_fault, optional_fault};
 ghost use Rattle.sec1_der.specs.Faults.{IsFaultOf};

@@ -9,7 +9,7 @@ use crate::{BackWriter, EncodeValue, ErrorKind, Result, Tagged, encoded_len};
 
 impl<'b> SliceWriter<'b> {
     ghost use Rattle.sec1_der.specs.Elements.{element_of, within_limit};
-    ghost use Rattle.sec1_der.specs.SliceWriters.{slice_state, Appends};
+    ghost use Rattle.sec1_der.specs.Writers.{slice_state, Appends};
     ghost use Rattle.sec1_der.specs.Writers.{Writes};
 
     /// Appends the element of a value.

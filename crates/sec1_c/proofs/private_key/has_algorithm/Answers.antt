@@ -1,5 +1,5 @@
 use Rattle.std.proofs.Common.{sym, ap, ◌∙◌}
-use Rattle.der_types.specs.Rows.{is_whole}
+use Rattle.der_types.specs.Sequences.{is_whole}
 use Rattle.sec1_der.specs.Readers.{Reader}
 use Rattle.sec1_c.specs.PrivateKeys.{tag_fault}
 use Rattle.sec1_c.proofs.PrivateKeyLemmas.{found_form, refused_form}

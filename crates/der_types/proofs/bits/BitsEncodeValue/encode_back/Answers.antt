@@ -1,6 +1,6 @@
 use Rattle.std.proofs.Common.{◌≡◌, ◌∷◌, Some, rules}
 use Rattle.sec1_der.specs.Elements.{within_limit}
-use Rattle.der_types.specs.BitStrings.{bit_string_content}
+use Rattle.der_types.specs.Contents.{bit_string_content}
 use Rattle.der_types.proofs.bits.BitsEncodeValue.encode_back.Goals as goal
 
 pub returns : goal.returns

@@ -1,6 +1,6 @@
 use Rattle.std.proofs.Common.{◌≡◌, length, true}
 use Rattle.std.specs.List.{list_all}
-use Rattle.sec1_der.specs.ArcsOf.{numbers_after}
+use Rattle.sec1_der.specs.Identifiers.{numbers_after}
 use Rattle.der_types.specs.ObjectIdentifiers.{are_subidentifiers}
 use Rattle.der_view.specs.Values.{is_u128}
 use Rattle.der_view.proofs.values.arcs.fit.Given as goal

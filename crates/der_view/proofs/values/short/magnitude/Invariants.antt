@@ -1,5 +1,5 @@
 use Rattle.std.proofs.Common.{◌≡◌, ◌<◌, ◌^◌, take}
-use Rattle.sec1_der.specs.Numbers.{number_of}
+use Rattle.sec1_der.specs.Elements.{number_of}
 use Rattle.der_view.proofs.values.short.magnitude.Given as goal
 
 abbrev pub invariant-loop-digit : goal.invariant-loop-digit

@@ -1,15 +1,42 @@
--- X.690 sections 8.12 and 11.6: elements of one type, whose encodings are in ascending order.
-use Rattle.std.specs.Prelude.{◌&&◌, ℕ, zero, suc, Bool, true, List, [], ◌∷◌, length, Option, Some}
-use Rattle.std.specs.Prelude.{None, Result, Ok, Err, if◌then◌else◌}
+-- X.690 sections 8.10, 8.12 and 11.6: elements of one type, one after another, or in ascending order
+-- of their encodings.
+use Rattle.std.specs.Prelude.{ℕ, zero, suc, Bool, true, false, List, [], ◌∷◌, length, Option}
+use Rattle.std.specs.Prelude.{Some, None, if◌then◌else◌, ◌&&◌, Result, Ok, Err}
+use Rattle.sec1_der.specs.Elements.{element_of, element, is_tag}
+use Rattle.sec1_der.specs.Parts.{join}
+use Rattle.sec1_der.specs.Faults.{Fault, element_fault, content_at}
+use Rattle.sec1_der.specs.declared.error.ErrorKind.{ErrorKind}
 use Rattle.std.specs.Cmp.Lexicographic.{slice_cmp}
 use Rattle.std.specs.Option.{option_or}
 use Rattle.std.specs.Ordering.{is_le, nat_cmp}
 use Rattle.sec1_der.specs.Contents.{value_unless}
-use Rattle.sec1_der.specs.Elements.{element}
-use Rattle.sec1_der.specs.Elements.{is_tag}
-use Rattle.sec1_der.specs.Faults.{Fault, content_at}
-use Rattle.sec1_der.specs.declared.error.ErrorKind.{ErrorKind}
-use Rattle.der_types.specs.Rows.{is_whole, row_fault}
+
+-- X.690 section 8.10.2: the elements of values, in their order
+abbrev pub joined : {A : Type 0} → ℕ → (A → Option (List ℕ)) → List A → Option (List ℕ)
+joined tag content [] = Some []
+joined tag content (value ∷ values) =
+    join (element_of tag (content value)) (joined tag content values)
+
+-- the fault of elements with this tag, up to a greatest number of them
+abbrev pub elements_fault : ℕ → Fault → ℕ → Fault
+elements_fault tag f zero bytes = None
+elements_fault tag f (suc most) [] = None
+elements_fault tag f (suc most) (byte ∷ bytes) =
+    element_fault tag f (elements_fault tag f most) (byte ∷ bytes)
+
+-- the fault of elements with this tag to the end of the bytes, which are at most as many as there
+-- are bytes
+abbrev pub row_fault : ℕ → Fault → Fault
+row_fault tag f bytes = elements_fault tag f (length bytes) bytes
+
+-- whether nothing is refused
+abbrev pub is_whole : Option (Option ErrorKind) → Bool
+is_whole None = true
+is_whole (Some said) = false
+
+-- X.690 section 8.10.1: the content of elements with this tag, if the bytes are elements
+abbrev pub row_of : ℕ → Fault → List ℕ → Option (List ℕ)
+row_of tag f bytes = if is_whole (row_fault tag f bytes) then Some bytes else None
 
 -- the bytes of the element with this tag, if its content was found, and what follows it
 abbrev pub element_behind : ℕ → Result (List ℕ × List ℕ) ErrorKind → Option (List ℕ × List ℕ)
