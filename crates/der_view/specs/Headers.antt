@@ -3,7 +3,7 @@ use Rattle.std.specs.Prelude.{◌==◌, ℕ, zero, suc, ◌+◌, ◌-◌, ◌*�
 use Rattle.std.specs.Prelude.{if◌then◌else◌, List, [], ◌∷◌, length, take, drop}
 use Rattle.std.specs.Prelude.{Option, Some, None, is_none, Result, Ok, Err, ◌&&◌, not, Bool}
 use Rattle.std.specs.Prelude.{false}
-use Rattle.sec1_der.specs.Numbers.{number_of}
+use Rattle.sec1_der.specs.Elements.{number_of}
 use Rattle.der_view.specs.declared.header.Class.{Class}
 use Rattle.der_view.specs.declared.header.Class.TheVariants as classes
 use Rattle.der_view.specs.declared.header.Header.{Header}

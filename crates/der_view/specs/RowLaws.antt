@@ -2,7 +2,8 @@
 use Rattle.std.specs.Prelude.{◌≡◌, List, ℕ, ◌+◌, ◌++◌, Bool, false, length, take, drop, None, All}
 use Rattle.der_view.specs.Pictures.{AreRows}
 use Rattle.der_view.specs.Plans.{plan_of}
-use Rattle.der_view.specs.Rows.{Draws, IsNext, IsOpen, IsSeen, Undrawn, bytes_of_rows, content_bytes}
+use Rattle.der_view.specs.Rows.{Draws, IsNext, IsOpen, IsSeen, Undrawn, bytes_of_rows}
+use Rattle.der_view.specs.Rows.{content_bytes}
 use Rattle.der_view.specs.Seen.{open_len, shown_view}
 use Rattle.der_view.specs.declared.level.Level.{Level}
 use Rattle.der_view.specs.declared.plan.Plan.{Plan}

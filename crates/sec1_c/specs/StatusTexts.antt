@@ -2,7 +2,7 @@
 use Rattle.std.specs.Prelude.{◌≡◌, ℕ, ◌≤◌, ◌<◌, List, codes}
 use Rattle.sec1.specs.Errors.{error_message}
 use Rattle.sec1.specs.declared.error.Error.TheVariants.{PointEncoding}
-use Rattle.sec1_der.specs.ErrorTexts.{kind_message}
+use Rattle.sec1_der.specs.Errors.{kind_message}
 use Rattle.sec1_der.specs.declared.error.ErrorKind.{ErrorKind}
 use Rattle.sec1_c.specs.Statuses.{kind_number, error_number}
 use Rattle.sec1_c.specs.Statuses.{field_length_number, curve_number, other_curve_number}

@@ -10,7 +10,7 @@ use Rattle.std.proofs.lemmas.List.{take-append-drop}
 use Rattle.std.specs.Option.{option_or}
 use Rattle.sec1_der.specs.Elements.{length_octets, element, IsHeader}
 use Rattle.sec1_der.specs.Elements.{IsConstructed}
-use Rattle.sec1_der.specs.ErrorKinds.{IsHeaderFault}
+use Rattle.sec1_der.specs.Errors.{IsHeaderFault}
 use Rattle.sec1_der.specs.Faults.{nested_fault}
 use Rattle.sec1_der.specs.Faults.{Fault, end_fault, any_fault, row_fault, tree_fault}
 use Rattle.sec1_der.specs.Trees.{Tree, leaf, branch, none, first, bytes, size, IsTree, max_tree_depth}

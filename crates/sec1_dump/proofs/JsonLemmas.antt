@@ -44,7 +44,8 @@ or-assoc false b c = refl
 
 -- one more source, and its lines
 pub AreJson-snoc : (all : Bool) (file : Option (List ℕ)) (sources : List SourceView) (source : SourceView)
-    (text more : List ℕ) (has_key is_key : Bool) → AreJson all file sources text has_key → IsJsonOfSource all file source more is_key
+    (text more : List ℕ) (has_key is_key : Bool) → AreJson all file sources text has_key
+    → IsJsonOfSource all file source more is_key
     → AreJson all file (sources ++ source ∷ []) (text ++ more) (has_key || is_key)
 AreJson-snoc all file [] source text more has_key is_key (none, never) is = (
   more,
