@@ -95,7 +95,7 @@ extension_kind =
     (optional_kind 0x01 (at_first critical_fault) value_place critical_fault
     (r.element_fault 0x04 r.no_fault r.end_fault) (first_kind critical_fault critical_says) value)
 
--- the fields behind the public key
+-- the fields after the public key
 abbrev pub extensions_place : Place
 extensions_place = element_place 0x30 (sequence_place 0x30 extension_place) end_place
 
@@ -183,7 +183,7 @@ tbs_kind =
     (element_kind 0x30 algorithm_place from_issuer_place algorithm_fault from_issuer_fault algorithm_kind
     from_issuer_kind))
 
--- the fields behind the TBSCertificate
+-- the fields after the TBSCertificate
 abbrev pub signature_place : Place
 signature_place = element_place 0x03 (at_first bit_string_fault) end_place
 

@@ -51,19 +51,19 @@ attribute_kind =
 attributes_kind : Places key_attributes_place (set_fault 0x30 key_attribute_fault)
 attributes_kind = set_kind 0x30 key_attribute_place key_attribute_fault attribute_kind attribute_says
 
--- the fields behind the version
-abbrev pub key_place_behind : Place → Place
-key_place_behind behind =
+-- the fields after the version
+abbrev pub key_place_after : Place → Place
+key_place_after rest =
     element_place 0x30 algorithm_place
-    (element_place 0x04 (at_first r.no_fault) (optional_place 0xA0 key_attributes_place behind))
+    (element_place 0x04 (at_first r.no_fault) (optional_place 0xA0 key_attributes_place rest))
 
-abbrev key_fault_behind : r.Fault → r.Fault
-key_fault_behind behind =
+abbrev key_fault_after : r.Fault → r.Fault
+key_fault_after rest =
     r.element_fault 0x30 algorithm_fault
-    (r.element_fault 0x04 r.no_fault (r.optional_fault 0xA0 (set_fault 0x30 key_attribute_fault) behind))
+    (r.element_fault 0x04 r.no_fault (r.optional_fault 0xA0 (set_fault 0x30 key_attribute_fault) rest))
 
-behind_kind : (q : Place) (g : r.Fault) → Places q g → Places (key_place_behind q) (key_fault_behind g)
-behind_kind q g y =
+after_kind : (q : Place) (g : r.Fault) → Places q g → Places (key_place_after q) (key_fault_after g)
+after_kind q g y =
     element_kind 0x30 algorithm_place
     (element_place 0x04 (at_first r.no_fault) (optional_place 0xA0 key_attributes_place q))
     algorithm_fault (r.element_fault 0x04 r.no_fault (r.optional_fault 0xA0 (set_fault 0x30 key_attribute_fault) g))
@@ -74,8 +74,8 @@ behind_kind q g y =
 
 info_kind : Places private_key_info_place private_key_fault
 info_kind =
-    element_kind 0x02 (at_first (byte_fault 0)) (key_place_behind end_place) (byte_fault 0)
-    (key_fault_behind r.end_fault) (first_kind (byte_fault 0) (byte_says 0)) (behind_kind end_place r.end_fault ends)
+    element_kind 0x02 (at_first (byte_fault 0)) (key_place_after end_place) (byte_fault 0)
+    (key_fault_after r.end_fault) (first_kind (byte_fault 0) (byte_says 0)) (after_kind end_place r.end_fault ends)
 
 abbrev pub bits_place : Place
 bits_place = optional_place 0x81 (at_first bit_string_fault) end_place
@@ -85,9 +85,9 @@ bits_fault = r.optional_fault 0x81 bit_string_fault r.end_fault
 
 asymmetric_kind : Places asymmetric_key_place asymmetric_key_fault
 asymmetric_kind =
-    element_kind 0x02 (at_first (byte_fault 1)) (key_place_behind bits_place) (byte_fault 1)
-    (key_fault_behind bits_fault) (first_kind (byte_fault 1) (byte_says 1))
-    (behind_kind bits_place bits_fault
+    element_kind 0x02 (at_first (byte_fault 1)) (key_place_after bits_place) (byte_fault 1)
+    (key_fault_after bits_fault) (first_kind (byte_fault 1) (byte_says 1))
+    (after_kind bits_place bits_fault
     (optional_kind 0x81 (at_first bit_string_fault) end_place bit_string_fault r.end_fault
     (first_kind bit_string_fault bits_says) ends))
 
@@ -118,8 +118,8 @@ attribute_within =
 attributes_within : Bounded key_attributes_place
 attributes_within = set_within 0x30 key_attribute_place key_attribute_fault attribute_within
 
-behind_within : (q : Place) → Bounded q → Bounded (key_place_behind q)
-behind_within q y =
+after_within : (q : Place) → Bounded q → Bounded (key_place_after q)
+after_within q y =
     element_within 0x30 algorithm_place
     (element_place 0x04 (at_first r.no_fault) (optional_place 0xA0 key_attributes_place q))
     algorithm_within
@@ -129,12 +129,12 @@ behind_within q y =
 components_within : Bounded components_place
 components_within end bytes =
     either end (asymmetric_key_place end bytes) (private_key_info_place end bytes) (has_version_one bytes)
-    (element_within 0x02 (at_first (byte_fault 1)) (key_place_behind bits_place) (first_within (byte_fault 1))
-    (behind_within bits_place
+    (element_within 0x02 (at_first (byte_fault 1)) (key_place_after bits_place) (first_within (byte_fault 1))
+    (after_within bits_place
     (optional_within 0x81 (at_first bit_string_fault) end_place (first_within bit_string_fault)
     (first_within r.end_fault))) end bytes)
-    (element_within 0x02 (at_first (byte_fault 0)) (key_place_behind end_place) (first_within (byte_fault 0))
-    (behind_within end_place (first_within r.end_fault)) end bytes)
+    (element_within 0x02 (at_first (byte_fault 0)) (key_place_after end_place) (first_within (byte_fault 0))
+    (after_within end_place (first_within r.end_fault)) end bytes)
 
 -- the place of a container is within its bytes
 pub container_within : (bytes : List ℕ) (o : Option Fault) → o ≡ container_place bytes

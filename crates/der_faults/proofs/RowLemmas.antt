@@ -25,14 +25,14 @@ row_deep zero level end rest some more deep = absurd (omega arith)
 row_deep (suc most) level end [] some more deep = absurd (more refl)
 row_deep (suc most) level end (byte ∷ rest) some more deep = rw (lt-ltb max_tree_depth level deep) refl
 
--- the fault of a row is that of its first element's content, or else of the row behind it
-pub row_step : (most level end : ℕ) (rest content behind : List ℕ) (tag : ℕ) (inner : Option Fault) → 0 < most
+-- the fault of a row is that of its first element's content, or else of the row after it
+pub row_step : (most level end : ℕ) (rest content after : List ℕ) (tag : ℕ) (inner : Option Fault) → 0 < most
     → (rest ≡ [] → ⊥) → level ≤ 64
     → ((f : ℕ → Place) (g : Place)
-    → any_place f g end rest ≡ option_or (f tag (end - length behind) content) (g end behind))
-    → nested_place (row_place (most - 1) (level + 1)) tag (end - length behind) content ≡ inner
-    → row_place most level end rest ≡ option_or inner (row_place (most - 1) level end behind)
-row_step most level end rest content behind tag inner some more fits found is =
+    → any_place f g end rest ≡ option_or (f tag (end - length after) content) (g end after))
+    → nested_place (row_place (most - 1) (level + 1)) tag (end - length after) content ≡ inner
+    → row_place most level end rest ≡ option_or inner (row_place (most - 1) level end after)
+row_step most level end rest content after tag inner some more fits found is =
     row_next most level end rest some more fits
     ∙ (found (nested_place (row_place (most - 1) (level + 1))) (row_place (most - 1) level) ∙ rw is refl)
 

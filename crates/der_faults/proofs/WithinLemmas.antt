@@ -1,4 +1,4 @@
--- No fault lies behind the end of the bytes.
+-- No fault lies after the end of the bytes.
 use Rattle.std.proofs.Common.{◌≡◌, ◌==◌, ◌∷◌, [], ℕ, zero, suc, ◌+◌, ◌-◌, ◌≤◌, List, Bool, true, false, length, arith}
 use Rattle.std.proofs.Common.{if◌then◌else◌, Option, Some, None, Result, Ok, Err, nat_lt, bit_and, not}
 use Rattle.std.specs.Prelude.{IfSome}
@@ -15,7 +15,7 @@ use Rattle.der_faults.specs.Places.{any_place, nested_place, row_place, tree_pla
 use Rattle.der_faults.specs.Places.{components_place, key_place}
 use Rattle.der_faults.proofs.KindLemmas.{bits_place, curve_place}
 
--- a fault, if there is one, doesn't lie behind this offset
+-- a fault, if there is one, doesn't lie after this offset
 abbrev pub IsWithin : ℕ → Option Fault → Type 0
 IsWithin end o = IfSome o (λ f. f.offset ≤ end)
 

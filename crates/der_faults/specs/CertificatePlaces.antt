@@ -34,9 +34,9 @@ abbrev pub generalized_fault : faults.Fault
 generalized_fault general = value_unless (is_generalized_time general)
 
 abbrev pub time_place : Place → Place
-time_place behind end bytes =
-    if begins_among (0x17 ∷ []) bytes then element_place 0x17 (at_first utc_fault) behind end bytes
-    else element_place 0x18 (at_first generalized_fault) behind end bytes
+time_place rest end bytes =
+    if begins_among (0x17 ∷ []) bytes then element_place 0x17 (at_first utc_fault) rest end bytes
+    else element_place 0x18 (at_first generalized_fault) rest end bytes
 
 -- RFC 5280 section 4.1: in the two times of a Validity, or after them
 abbrev pub validity_place : Place

@@ -32,22 +32,22 @@ placed end left (Some (Some kind)) = Some (before end left kind)
 abbrev pub at_first : faults.Fault → Place
 at_first fault end bytes = placed end bytes (fault bytes)
 
--- at the first byte behind the end
+-- at the first byte after the end
 abbrev pub end_place : Place
 end_place = at_first faults.end_fault
 
 -- at the length, in the content, or in the bytes after it, in this order
 abbrev pub parts_place : Place → Place → ℕ → List ℕ
     → Result (List ℕ × List ℕ) ErrorKind → Option Fault
-parts_place content behind end bytes (Err kind) = Some (before end bytes kind)
-parts_place content behind end bytes (Ok x) =
-    option_or (content (end - length x.1) x.0) (behind end x.1)
+parts_place content rest end bytes (Err kind) = Some (before end bytes kind)
+parts_place content rest end bytes (Ok x) =
+    option_or (content (end - length x.1) x.0) (rest end x.1)
 
 -- X.690 section 8.1.1: at the tag, or in the parts after it
 abbrev pub element_place : ℕ → Place → Place → Place
-element_place tag content behind end [] = Some (before end [] Truncated)
-element_place tag content behind end (byte ∷ bytes) =
-    if byte == tag then parts_place content behind end bytes (content_at bytes)
+element_place tag content rest end [] = Some (before end [] Truncated)
+element_place tag content rest end (byte ∷ bytes) =
+    if byte == tag then parts_place content rest end bytes (content_at bytes)
     else Some (before end (byte ∷ bytes) Tag)
 
 -- whether this byte is next
@@ -57,14 +57,14 @@ is_next tag (byte ∷ bytes) = byte == tag
 
 -- the same of an element that may be absent
 abbrev pub optional_place : ℕ → Place → Place → Place
-optional_place tag content behind end bytes =
-    if is_next tag bytes then element_place tag content behind end bytes else behind end bytes
+optional_place tag content rest end bytes =
+    if is_next tag bytes then element_place tag content rest end bytes else rest end bytes
 
 -- the same of an element of any tag
 abbrev pub any_place : (ℕ → Place) → Place → Place
-any_place content behind end [] = Some (before end [] Truncated)
-any_place content behind end (tag ∷ bytes) =
-    if is_tag tag then parts_place (content tag) behind end bytes (content_at bytes)
+any_place content rest end [] = Some (before end [] Truncated)
+any_place content rest end (tag ∷ bytes) =
+    if is_tag tag then parts_place (content tag) rest end bytes (content_at bytes)
     else Some (before end (tag ∷ bytes) Tag)
 
 -- X.690 section 8.1.2.5: in the content of a constructed element

@@ -24,12 +24,12 @@ signature_place bytes = element_place 0x30 numbers_place end_place (length bytes
 
 -- X.690 section 8.1.1: in an element of any tag and any content, or in the bytes after it
 abbrev pub any_element_place : Place → Place
-any_element_place behind = any_place (λ _. at_first no_fault) behind
+any_element_place rest = any_place (λ _. at_first no_fault) rest
 
 -- the same of an element that may be absent
 abbrev pub optional_any_place : Place → Place
-optional_any_place behind end bytes =
-    if begins_among all_tags bytes then any_element_place behind end bytes else behind end bytes
+optional_any_place rest end bytes =
+    if begins_among all_tags bytes then any_element_place rest end bytes else rest end bytes
 
 -- RFC 5280 section 4.1.1.2: in the components of an AlgorithmIdentifier, or after them
 abbrev pub algorithm_place : Place

@@ -48,8 +48,8 @@ fn check_certificate(bytes: &[u8]) -> Step<()>
 {
     let end = bytes.len();
     let found = tagged_element(Tag::SEQUENCE, end, bytes)?;
-    components(end - found.behind.len(), found.content)?;
-    finish(end, found.behind)
+    components(end - found.rest.len(), found.content)?;
+    finish(end, found.rest)
 }
 
 /// Checks the components of a Certificate.
@@ -85,24 +85,24 @@ impl CheckContent for TbsCertificate<'_> {
 fn version(end: usize, bytes: &[u8]) -> Step<&[u8]>
     requires { length bytes.now ≤ end }
     ensures place { MatchResult result
-        (λ rest. (behind : Place)
+        (λ rest. (after : Place)
         → optional_place 0xA0
         (element_place 0x02 later_version_place end_place)
-        behind end bytes.now ≡ behind end rest.now)
-        (λ fault. (behind : Place)
+        after end bytes.now ≡ after end rest.now)
+        (λ fault. (after : Place)
         → optional_place 0xA0
         (element_place 0x02 later_version_place end_place)
-        behind end bytes.now ≡ Some fault) }
-    ensures behind { IfOk result (λ rest. length rest.now ≤ length bytes.now) }
+        after end bytes.now ≡ Some fault) }
+    ensures rest { IfOk result (λ rest. length rest.now ≤ length bytes.now) }
 {
     if bytes.first() != Some(&0xA0) {
         return Ok(bytes);
     }
     let field = tagged_element(Tag::CONTEXT_0, end, bytes)?;
-    let inside = end - field.behind.len();
+    let inside = end - field.rest.len();
     let rest = check_element::<LaterVersion>(inside, field.content)?;
     finish(inside, rest)?;
-    Ok(field.behind)
+    Ok(field.rest)
 }
 
 impl CheckContent for LaterVersion {
@@ -167,9 +167,9 @@ impl CheckContent for Validity<'_> {
 fn time(end: usize, bytes: &[u8]) -> Step<&[u8]>
     requires { length bytes.now ≤ end }
     ensures place { MatchResult result
-        (λ rest. (behind : Place) → time_place behind end bytes.now ≡ behind end rest.now)
-        (λ fault. (behind : Place) → time_place behind end bytes.now ≡ Some fault) }
-    ensures behind { IfOk result (λ rest. length rest.now ≤ length bytes.now) }
+        (λ rest. (after : Place) → time_place after end bytes.now ≡ after end rest.now)
+        (λ fault. (after : Place) → time_place after end bytes.now ≡ Some fault) }
+    ensures rest { IfOk result (λ rest. length rest.now ≤ length bytes.now) }
 {
     if begins_utc_time(bytes) {
         value::<UtcTime>(end, bytes)
@@ -192,22 +192,22 @@ fn begins_utc_time(bytes: &[u8]) -> bool
 fn extensions(end: usize, bytes: &[u8]) -> Step<&[u8]>
     requires { length bytes.now ≤ end }
     ensures place { MatchResult result
-        (λ rest. (behind : Place)
+        (λ rest. (after : Place)
         → optional_place 0xA3 (element_place 0x30 (sequence_place 0x30 extension_place) end_place)
-        behind end bytes.now ≡ behind end rest.now)
-        (λ fault. (behind : Place)
+        after end bytes.now ≡ after end rest.now)
+        (λ fault. (after : Place)
         → optional_place 0xA3 (element_place 0x30 (sequence_place 0x30 extension_place) end_place)
-        behind end bytes.now ≡ Some fault) }
-    ensures behind { IfOk result (λ rest. length rest.now ≤ length bytes.now) }
+        after end bytes.now ≡ Some fault) }
+    ensures rest { IfOk result (λ rest. length rest.now ≤ length bytes.now) }
 {
     if bytes.first() != Some(&0xA3) {
         return Ok(bytes);
     }
     let field = tagged_element(Tag::CONTEXT_3, end, bytes)?;
-    let inside = end - field.behind.len();
+    let inside = end - field.rest.len();
     let rest = check_element::<SequenceOf<Extension>>(inside, field.content)?;
     finish(inside, rest)?;
-    Ok(field.behind)
+    Ok(field.rest)
 }
 
 impl CheckContent for Extension<'_> {
@@ -231,18 +231,18 @@ impl CheckContent for Extension<'_> {
 fn critical(end: usize, bytes: &[u8]) -> Step<&[u8]>
     requires { length bytes.now ≤ end }
     ensures place { MatchResult result
-        (λ rest. (behind : Place)
-        → optional_place 0x01 (at_first critical_fault) behind end bytes.now ≡ behind end rest.now)
-        (λ fault. (behind : Place)
-        → optional_place 0x01 (at_first critical_fault) behind end bytes.now ≡ Some fault) }
-    ensures behind { IfOk result (λ rest. length rest.now ≤ length bytes.now) }
+        (λ rest. (after : Place)
+        → optional_place 0x01 (at_first critical_fault) after end bytes.now ≡ after end rest.now)
+        (λ fault. (after : Place)
+        → optional_place 0x01 (at_first critical_fault) after end bytes.now ≡ Some fault) }
+    ensures rest { IfOk result (λ rest. length rest.now ≤ length bytes.now) }
 {
     if bytes.first() != Some(&0x01) {
         return Ok(bytes);
     }
     let field = tagged_element(Tag::BOOLEAN, end, bytes)?;
     match field.content {
-        [0xFF] => Ok(field.behind),
-        content => Err(before(end - field.behind.len(), content, ErrorKind::Value)),
+        [0xFF] => Ok(field.rest),
+        content => Err(before(end - field.rest.len(), content, ErrorKind::Value)),
     }
 }

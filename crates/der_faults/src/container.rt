@@ -40,8 +40,8 @@ fn check_container(bytes: &[u8]) -> Step<()>
 {
     let end = bytes.len();
     let found = tagged_element(Tag::SEQUENCE, end, bytes)?;
-    components(end - found.behind.len(), found.content)?;
-    finish(end, found.behind)
+    components(end - found.rest.len(), found.content)?;
+    finish(end, found.rest)
 }
 
 /// Checks the components of a container of the version that they begin with.
@@ -89,18 +89,18 @@ fn asymmetric_key(end: usize, bytes: &[u8]) -> Step<()>
 fn key_attributes(end: usize, bytes: &[u8]) -> Step<&[u8]>
     requires { length bytes.now ≤ end }
     ensures place { MatchResult result
-        (λ rest. (behind : Place)
-        → optional_place 0xA0 key_attributes_place behind end bytes.now ≡ behind end rest.now)
-        (λ fault. (behind : Place)
-        → optional_place 0xA0 key_attributes_place behind end bytes.now ≡ Some fault) }
-    ensures behind { IfOk result (λ rest. length rest.now ≤ length bytes.now) }
+        (λ rest. (after : Place)
+        → optional_place 0xA0 key_attributes_place after end bytes.now ≡ after end rest.now)
+        (λ fault. (after : Place)
+        → optional_place 0xA0 key_attributes_place after end bytes.now ≡ Some fault) }
+    ensures rest { IfOk result (λ rest. length rest.now ≤ length bytes.now) }
 {
     if bytes.first() != Some(&0xA0) {
         return Ok(bytes);
     }
     let field = tagged_element(Tag::CONTEXT_0, end, bytes)?;
-    key_attribute_set(end - field.behind.len(), field.content)?;
-    Ok(field.behind)
+    key_attribute_set(end - field.rest.len(), field.content)?;
+    Ok(field.rest)
 }
 
 /// Checks that the bytes are attributes in ascending order.
@@ -130,6 +130,6 @@ impl CheckContent for Attribute<'_> {
     {
         let rest = value::<ObjectIdentifierRef>(end, bytes)?;
         let values = tagged_element(Tag::SET, end, rest)?;
-        finish(end, values.behind)
+        finish(end, values.rest)
     }
 }

@@ -23,7 +23,7 @@ pub(crate) struct Element<'a> {
     /// The content.
     pub content: &'a [u8],
     /// The bytes after the element.
-    pub behind: &'a [u8],
+    pub rest: &'a [u8],
 }
 
 /// Returns the fault of this kind before as many bytes as are left.
@@ -45,16 +45,16 @@ pub(crate) fn before(end: usize, left: &[u8], kind: ErrorKind) -> Fault
 #[tactic(auto, using(crate::proofs::PlaceLemmas::placed))]
 pub(crate) fn any_element(end: usize, bytes: &[u8]) -> Step<Element<'_>>
     requires { length bytes.now ≤ end }
-    ensures found { IfOk result (λ x. (content : ℕ → Place) (behind : Place)
-        → any_place content behind end bytes.now
-        ≡ option_or (content x.tag (end - length x.behind.now) x.content.now)
-        (behind end x.behind.now)) }
-    ensures refused { IfErr result (λ fault. (content : ℕ → Place) (behind : Place)
-        → any_place content behind end bytes.now ≡ Some fault) }
+    ensures found { IfOk result (λ x. (content : ℕ → Place) (rest : Place)
+        → any_place content rest end bytes.now
+        ≡ option_or (content x.tag (end - length x.rest.now) x.content.now)
+        (rest end x.rest.now)) }
+    ensures refused { IfErr result (λ fault. (content : ℕ → Place) (rest : Place)
+        → any_place content rest end bytes.now ≡ Some fault) }
     ensures within { IfOk result (λ x. length x.content.now ≤ max_length) }
     ensures inside { IfOk result
-        (λ x. length x.content.now ≤ length bytes.now - length x.behind.now) }
-    ensures behind { IfOk result (λ x. length x.behind.now ≤ length bytes.now) }
+        (λ x. length x.content.now ≤ length bytes.now - length x.rest.now) }
+    ensures rest { IfOk result (λ x. length x.rest.now ≤ length bytes.now) }
 {
     let Some((first, rest)) = bytes.split_first() else {
         return Err(before(end, bytes, ErrorKind::Truncated));
@@ -67,7 +67,7 @@ pub(crate) fn any_element(end: usize, bytes: &[u8]) -> Step<Element<'_>>
         Ok(any) => Ok(Element {
             tag: any.tag().byte(),
             content: any.value(),
-            behind: reader.remaining_input(),
+            rest: reader.remaining_input(),
         }),
         Err(e) => Err(before(end, rest, e.kind)),
     }
@@ -80,16 +80,16 @@ pub(crate) fn any_element(end: usize, bytes: &[u8]) -> Step<Element<'_>>
 /// Truncated, Tag or Length if the bytes begin with no such element.
 pub(crate) fn tagged_element(tag: Tag, end: usize, bytes: &[u8]) -> Step<Element<'_>>
     requires { length bytes.now ≤ end }
-    ensures found { IfOk result (λ x. (content behind : Place)
-        → element_place tag content behind end bytes.now
-        ≡ option_or (content (end - length x.behind.now) x.content.now)
-        (behind end x.behind.now)) }
-    ensures refused { IfErr result (λ fault. (content behind : Place)
-        → element_place tag content behind end bytes.now ≡ Some fault) }
+    ensures found { IfOk result (λ x. (content rest : Place)
+        → element_place tag content rest end bytes.now
+        ≡ option_or (content (end - length x.rest.now) x.content.now)
+        (rest end x.rest.now)) }
+    ensures refused { IfErr result (λ fault. (content rest : Place)
+        → element_place tag content rest end bytes.now ≡ Some fault) }
     ensures within { IfOk result (λ x. length x.content.now ≤ max_length) }
     ensures inside { IfOk result
-        (λ x. length x.content.now ≤ length bytes.now - length x.behind.now) }
-    ensures behind { IfOk result (λ x. length x.behind.now ≤ length bytes.now) }
+        (λ x. length x.content.now ≤ length bytes.now - length x.rest.now) }
+    ensures rest { IfOk result (λ x. length x.rest.now ≤ length bytes.now) }
 {
     let Some((first, _)) = bytes.split_first() else {
         return Err(before(end, bytes, ErrorKind::Truncated));
@@ -112,16 +112,16 @@ pub(crate) fn value<'a, T: DecodeValue<'a> + Tagged + Drop>(
 ) -> Step<&'a [u8]>
     requires { SaysKinds T.fault × (length bytes.now ≤ end) }
     ensures place { MatchResult result
-        (λ rest. (behind : Place)
-        → element_place T.tag_byte (at_first T.fault) behind end bytes.now ≡ behind end rest.now)
-        (λ fault. (behind : Place)
-        → element_place T.tag_byte (at_first T.fault) behind end bytes.now ≡ Some fault) }
-    ensures behind { IfOk result (λ rest. length rest.now ≤ length bytes.now) }
+        (λ rest. (after : Place)
+        → element_place T.tag_byte (at_first T.fault) after end bytes.now ≡ after end rest.now)
+        (λ fault. (after : Place)
+        → element_place T.tag_byte (at_first T.fault) after end bytes.now ≡ Some fault) }
+    ensures rest { IfOk result (λ rest. length rest.now ≤ length bytes.now) }
 {
     let found = tagged_element(T::fixed_tag(), end, bytes)?;
     match T::decode_value(&mut SliceReader::new(found.content)) {
-        Ok(_) => Ok(found.behind),
-        Err(e) => Err(before(end - found.behind.len(), found.content, e.kind)),
+        Ok(_) => Ok(found.rest),
+        Err(e) => Err(before(end - found.rest.len(), found.content, e.kind)),
     }
 }
 
@@ -137,11 +137,11 @@ pub(crate) fn optional_value<'a, T: DecodeValue<'a> + Tagged + Drop>(
 ) -> Step<&'a [u8]>
     requires { SaysKinds T.fault × (length bytes.now ≤ end) }
     ensures place { MatchResult result
-        (λ rest. (behind : Place)
-        → optional_place T.tag_byte (at_first T.fault) behind end bytes.now ≡ behind end rest.now)
-        (λ fault. (behind : Place)
-        → optional_place T.tag_byte (at_first T.fault) behind end bytes.now ≡ Some fault) }
-    ensures behind { IfOk result (λ rest. length rest.now ≤ length bytes.now) }
+        (λ rest. (after : Place)
+        → optional_place T.tag_byte (at_first T.fault) after end bytes.now ≡ after end rest.now)
+        (λ fault. (after : Place)
+        → optional_place T.tag_byte (at_first T.fault) after end bytes.now ≡ Some fault) }
+    ensures rest { IfOk result (λ rest. length rest.now ≤ length bytes.now) }
 {
     if bytes.first() != Some(&T::fixed_tag().byte()) {
         return Ok(bytes);
@@ -171,15 +171,15 @@ pub(crate) trait CheckContent: Tagged {
 pub(crate) fn check_element<T: CheckContent>(end: usize, bytes: &[u8]) -> Step<&[u8]>
     requires { length bytes.now ≤ end }
     ensures place { MatchResult result
-        (λ rest. (behind : Place)
-        → element_place T.tag_byte T.place behind end bytes.now ≡ behind end rest.now)
-        (λ fault. (behind : Place)
-        → element_place T.tag_byte T.place behind end bytes.now ≡ Some fault) }
-    ensures behind { IfOk result (λ rest. length rest.now ≤ length bytes.now) }
+        (λ rest. (after : Place)
+        → element_place T.tag_byte T.place after end bytes.now ≡ after end rest.now)
+        (λ fault. (after : Place)
+        → element_place T.tag_byte T.place after end bytes.now ≡ Some fault) }
+    ensures rest { IfOk result (λ rest. length rest.now ≤ length bytes.now) }
 {
     let field = tagged_element(T::fixed_tag(), end, bytes)?;
-    T::check_content(end - field.behind.len(), field.content)?;
-    Ok(field.behind)
+    T::check_content(end - field.rest.len(), field.content)?;
+    Ok(field.rest)
 }
 
 /// Checks elements of T in a row up to the end of the bytes.

@@ -30,8 +30,8 @@ fn check_key(bytes: &[u8]) -> Step<()>
 {
     let end = bytes.len();
     let found = tagged_element(Tag::SEQUENCE, end, bytes)?;
-    components(end - found.behind.len(), found.content)?;
-    finish(end, found.behind)
+    components(end - found.rest.len(), found.content)?;
+    finish(end, found.rest)
 }
 
 /// Checks the components of a key.
@@ -51,40 +51,40 @@ fn components(end: usize, bytes: &[u8]) -> Step<()>
 pub(crate) fn parameters(end: usize, bytes: &[u8]) -> Step<&[u8]>
     requires { length bytes.now ≤ end }
     ensures place { MatchResult result
-        (λ rest. (behind : Place)
-        → optional_place 0xA0 (element_place 0x06 (at_first identifier_fault) end_place) behind
-        end bytes.now ≡ behind end rest.now)
-        (λ fault. (behind : Place)
-        → optional_place 0xA0 (element_place 0x06 (at_first identifier_fault) end_place) behind
+        (λ rest. (after : Place)
+        → optional_place 0xA0 (element_place 0x06 (at_first identifier_fault) end_place) after
+        end bytes.now ≡ after end rest.now)
+        (λ fault. (after : Place)
+        → optional_place 0xA0 (element_place 0x06 (at_first identifier_fault) end_place) after
         end bytes.now ≡ Some fault) }
-    ensures behind { IfOk result (λ rest. length rest.now ≤ length bytes.now) }
+    ensures rest { IfOk result (λ rest. length rest.now ≤ length bytes.now) }
 {
     if bytes.first() != Some(&0xA0) {
         return Ok(bytes);
     }
     let field = tagged_element(Tag::CONTEXT_0, end, bytes)?;
-    let inside = end - field.behind.len();
+    let inside = end - field.rest.len();
     let rest = value::<IdentifierRef>(inside, field.content)?;
     finish(inside, rest)?;
-    Ok(field.behind)
+    Ok(field.rest)
 }
 
 /// Checks the public key, if present, and returns the bytes after it.
 pub(crate) fn public_key(end: usize, bytes: &[u8]) -> Step<&[u8]>
     requires { length bytes.now ≤ end }
     ensures place { MatchResult result
-        (λ rest. (behind : Place)
-        → optional_place 0xA1 whole_bits_field_place behind end bytes.now ≡ behind end rest.now)
-        (λ fault. (behind : Place)
-        → optional_place 0xA1 whole_bits_field_place behind end bytes.now ≡ Some fault) }
-    ensures behind { IfOk result (λ rest. length rest.now ≤ length bytes.now) }
+        (λ rest. (after : Place)
+        → optional_place 0xA1 whole_bits_field_place after end bytes.now ≡ after end rest.now)
+        (λ fault. (after : Place)
+        → optional_place 0xA1 whole_bits_field_place after end bytes.now ≡ Some fault) }
+    ensures rest { IfOk result (λ rest. length rest.now ≤ length bytes.now) }
 {
     if bytes.first() != Some(&0xA1) {
         return Ok(bytes);
     }
     let field = tagged_element(Tag::CONTEXT_1, end, bytes)?;
-    whole_bits(end - field.behind.len(), field.content)?;
-    Ok(field.behind)
+    whole_bits(end - field.rest.len(), field.content)?;
+    Ok(field.rest)
 }
 
 /// Checks that the bytes are the element of a bit string without unused bits.

@@ -52,6 +52,6 @@ impl CheckContent for AttributeTypeAndValue<'_> {
     {
         let rest = value::<ObjectIdentifierRef>(end, bytes)?;
         let any = any_element(end, rest)?;
-        finish(end, any.behind)
+        finish(end, any.rest)
     }
 }

@@ -43,15 +43,15 @@ fn check_public_key(bytes: &[u8]) -> Step<()>
 pub(crate) fn info(end: usize, bytes: &[u8]) -> Step<&[u8]>
     requires { length bytes.now ≤ end }
     ensures place { MatchResult result
-        (λ rest. (behind : Place)
-        → element_place 0x30 info_place behind end bytes.now ≡ behind end rest.now)
-        (λ fault. (behind : Place)
-        → element_place 0x30 info_place behind end bytes.now ≡ Some fault) }
-    ensures behind { IfOk result (λ rest. length rest.now ≤ length bytes.now) }
+        (λ rest. (after : Place)
+        → element_place 0x30 info_place after end bytes.now ≡ after end rest.now)
+        (λ fault. (after : Place)
+        → element_place 0x30 info_place after end bytes.now ≡ Some fault) }
+    ensures rest { IfOk result (λ rest. length rest.now ≤ length bytes.now) }
 {
     let field = tagged_element(Tag::SEQUENCE, end, bytes)?;
-    info_components(end - field.behind.len(), field.content)?;
-    Ok(field.behind)
+    info_components(end - field.rest.len(), field.content)?;
+    Ok(field.rest)
 }
 
 /// Checks the components of a SubjectPublicKeyInfo.
@@ -70,15 +70,15 @@ fn info_components(end: usize, bytes: &[u8]) -> Step<()>
 pub(crate) fn algorithm(end: usize, bytes: &[u8]) -> Step<&[u8]>
     requires { length bytes.now ≤ end }
     ensures place { MatchResult result
-        (λ rest. (behind : Place)
-        → element_place 0x30 algorithm_place behind end bytes.now ≡ behind end rest.now)
-        (λ fault. (behind : Place)
-        → element_place 0x30 algorithm_place behind end bytes.now ≡ Some fault) }
-    ensures behind { IfOk result (λ rest. length rest.now ≤ length bytes.now) }
+        (λ rest. (after : Place)
+        → element_place 0x30 algorithm_place after end bytes.now ≡ after end rest.now)
+        (λ fault. (after : Place)
+        → element_place 0x30 algorithm_place after end bytes.now ≡ Some fault) }
+    ensures rest { IfOk result (λ rest. length rest.now ≤ length bytes.now) }
 {
     let field = tagged_element(Tag::SEQUENCE, end, bytes)?;
-    algorithm_components(end - field.behind.len(), field.content)?;
-    Ok(field.behind)
+    algorithm_components(end - field.rest.len(), field.content)?;
+    Ok(field.rest)
 }
 
 /// Checks the components of an AlgorithmIdentifier.
@@ -98,15 +98,15 @@ fn algorithm_components(end: usize, bytes: &[u8]) -> Step<()>
 fn optional_any(end: usize, bytes: &[u8]) -> Step<&[u8]>
     requires { length bytes.now ≤ end }
     ensures place { MatchResult result
-        (λ rest. (behind : Place) → optional_any_place behind end bytes.now ≡ behind end rest.now)
-        (λ fault. (behind : Place) → optional_any_place behind end bytes.now ≡ Some fault) }
-    ensures behind { IfOk result (λ rest. length rest.now ≤ length bytes.now) }
+        (λ rest. (after : Place) → optional_any_place after end bytes.now ≡ after end rest.now)
+        (λ fault. (after : Place) → optional_any_place after end bytes.now ≡ Some fault) }
+    ensures rest { IfOk result (λ rest. length rest.now ≤ length bytes.now) }
 {
     if !begins_any(bytes) {
         return Ok(bytes);
     }
     let found = any_element(end, bytes)?;
-    Ok(found.behind)
+    Ok(found.rest)
 }
 
 /// Returns `true` if the first byte is a tag.

@@ -31,8 +31,8 @@ fn check_signature(bytes: &[u8]) -> Step<()>
 {
     let end = bytes.len();
     let found = tagged_element(Tag::SEQUENCE, end, bytes)?;
-    numbers(end - found.behind.len(), found.content)?;
-    finish(end, found.behind)
+    numbers(end - found.rest.len(), found.content)?;
+    finish(end, found.rest)
 }
 
 /// Checks the two numbers of a signature.

@@ -29,9 +29,9 @@ fn check_tree(bytes: &[u8]) -> Step<()>
     let end = bytes.len();
     let found = any_element(end, bytes)?;
     if is_constructed(found.tag) {
-        check_row(bytes.len(), 2, end - found.behind.len(), found.content)?;
+        check_row(bytes.len(), 2, end - found.rest.len(), found.content)?;
     }
-    finish(end, found.behind)
+    finish(end, found.rest)
 }
 
 /// Checks elements in a row at this level, at most as many.
@@ -51,9 +51,9 @@ fn check_row(most: usize, level: usize, end: usize, bytes: &[u8]) -> Step<()>
         }
         let found = any_element(end, rest)?;
         if is_constructed(found.tag) {
-            check_row(most, level + 1, end - found.behind.len(), found.content)?;
+            check_row(most, level + 1, end - found.rest.len(), found.content)?;
         }
-        rest = found.behind;
+        rest = found.rest;
     }
     Ok(())
 }

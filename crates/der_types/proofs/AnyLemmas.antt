@@ -71,31 +71,31 @@ any_there bytes is = rw (element_passes bytes is) refl
 
 -- elements of any tag are apart
 pub any_apart : AreApart any_tags any_of
-any_apart a b x y r s apart e f before behind same =
+any_apart a b x y r s apart e f before rest same =
     let (is, p) = any_some a x e in
     let (at, q) = any_some b y f in
     let all = element_apart p.tag q.tag p.content q.content r s (rw (p.encoded, q.encoded) at same) in
     (is ∙ (p.encoded ∙ (rw (all.0, all.1) (sym (at ∙ q.encoded)))), all.2)
 
 -- the fault of an element that was read is that of what follows it
-pub any_passes : (bytes : List ℕ) (old new : Reader) → IsElement bytes → HasRead bytes old new → (behind : Fault)
-    → any_element_fault behind old.unread ≡ behind new.unread
+pub any_passes : (bytes : List ℕ) (old new : Reader) → IsElement bytes → HasRead bytes old new → (rest : Fault)
+    → any_element_fault rest old.unread ≡ rest new.unread
 unfolding any_element_fault
-any_passes bytes old new is read behind =
-    any_at (λ _. no_fault) behind is.tag is.content old.unread new.unread is.is_header
+any_passes bytes old new is read rest =
+    any_at (λ _. no_fault) rest is.tag is.content old.unread new.unread is.is_header
     (ap (λ (r : Reader). r.unread) read.was_whole ∙ ap (λ xs. xs ++ new.unread) is.encoded)
 
--- what is refused stays so where more is tested behind it
-pub any_refused : (behind : Fault) (bytes : List ℕ) (k : ErrorKind)
+-- what is refused stays so where more is tested after it
+pub any_refused : (rest : Fault) (bytes : List ℕ) (k : ErrorKind)
     → IsFaultOf (any_fault (λ _. no_fault) no_fault bytes) k
-    → IsFaultOf (any_element_fault behind bytes) k
+    → IsFaultOf (any_element_fault rest bytes) k
 unfolding any_element_fault
-any_refused behind [] k e = e
-any_refused behind (byte ∷ bytes) k e = by (is_tag byte) (content_at bytes) e
+any_refused rest [] k e = e
+any_refused rest (byte ∷ bytes) k e = by (is_tag byte) (content_at bytes) e
   where
     by : (b : Bool) (found : Result (List ℕ × List ℕ) ErrorKind)
         → IsFaultOf (if b then parts_fault no_fault no_fault found else Some (Some Tag)) k
-        → IsFaultOf (if b then parts_fault no_fault behind found else Some (Some Tag)) k
+        → IsFaultOf (if b then parts_fault no_fault rest found else Some (Some Tag)) k
     by false found e = e
     by true (Err kind) e = e
     by true (Ok x) e = absurd e

@@ -67,17 +67,17 @@ pub choice_apart : (p q : Tags) {P Q : Type 0} (first : P → Option (List ℕ))
     → p.may_be_empty ≡ false → q.may_be_empty ≡ false
     → BeginsWith p first → BeginsWith q second → AreApart p first → AreApart q second
     → AreApart (choice_tags p q) (choice_of first second)
-choice_apart p q first second some more begins ends one two (First a) (First b) x y r s apart e f before behind same =
+choice_apart p q first second some more begins ends one two (First a) (First b) x y r s apart e f before rest same =
     let is = one a b x y r s (apart_parts p q apart).0 e f (follows_both p q r before).0
-    (follows_both p q s behind).0 same in
+    (follows_both p q s rest).0 same in
     (ap (λ v. First v) is.0, is.1)
-choice_apart p q first second some more begins ends one two (First a) (Second b) x y r s apart e f before behind same =
+choice_apart p q first second some more begins ends one two (First a) (Second b) x y r s apart e f before rest same =
     absurd (not_both p q x y (apart_parts p q apart).2 some more r s (begins a x e) (ends b y f) same)
-choice_apart p q first second some more begins ends one two (Second a) (First b) x y r s apart e f before behind same =
+choice_apart p q first second some more begins ends one two (Second a) (First b) x y r s apart e f before rest same =
     absurd (not_both p q y x (apart_parts p q apart).2 some more s r (begins b y f) (ends a x e) (sym same))
-choice_apart p q first second some more begins ends one two (Second a) (Second b) x y r s apart e f before behind same =
+choice_apart p q first second some more begins ends one two (Second a) (Second b) x y r s apart e f before rest same =
     let is = two a b x y r s (apart_parts p q apart).1 e f (follows_both p q r before).1
-    (follows_both p q s behind).1 same in
+    (follows_both p q s rest).1 same in
     (ap (λ v. Second v) is.0, is.1)
 
 not_present : (p : Tags) (x r : List ℕ) → p.may_be_empty ≡ false → Begins p x
@@ -88,18 +88,18 @@ not_present p x r some begins none = absurd (cc (none, next_is p x r some begins
 pub optional_part_apart : (p : Tags) {P : Type 0} (bytes : P → Option (List ℕ)) → p.may_be_empty ≡ false
     → BeginsWith p bytes → AreApart p bytes
     → AreApart (optional_tags p) (optional_bytes bytes)
-optional_part_apart p bytes some begins one None None x y r s apart e f before behind same =
+optional_part_apart p bytes some begins one None None x y r s apart e f before rest same =
     let front : x ≡ [] = cc (e) in
     let back : y ≡ [] = cc (f) in
     (refl, rw (front, back) at same)
-optional_part_apart p bytes some begins one None (Some b) x y r s apart e f before behind same =
+optional_part_apart p bytes some begins one None (Some b) x y r s apart e f before rest same =
     let front : x ≡ [] = cc (e) in
     absurd (not_present p y s some (begins b y f) (rw (rw front at same) at (follows_optional p r before).0))
-optional_part_apart p bytes some begins one (Some a) None x y r s apart e f before behind same =
+optional_part_apart p bytes some begins one (Some a) None x y r s apart e f before rest same =
     let back : y ≡ [] = cc (f) in
-    absurd (not_present p x r some (begins a x e) (rw (sym (rw back at same)) at (follows_optional p s behind).0))
-optional_part_apart p bytes some begins one (Some a) (Some b) x y r s apart e f before behind same =
-    let is = one a b x y r s apart e f (follows_optional p r before).1 (follows_optional p s behind).1 same in
+    absurd (not_present p x r some (begins a x e) (rw (sym (rw back at same)) at (follows_optional p s rest).0))
+optional_part_apart p bytes some begins one (Some a) (Some b) x y r s apart e f before rest same =
+    let is = one a b x y r s apart e f (follows_optional p r before).1 (follows_optional p s rest).1 same in
     (ap (λ v. Some v) is.0, is.1)
 
 -- a part that is there, in front of what may follow it

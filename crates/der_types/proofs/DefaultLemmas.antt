@@ -60,10 +60,10 @@ pub defaulted_apart : (tag : ℕ) (d : List ℕ) {A : Type 0} (content : A → O
     → ((a b : A) (bytes : List ℕ) → content a ≡ Some bytes → content b ≡ Some bytes → a ≡ b)
     → AreApart (optional_tag tag) (λ (o : Option A). optional_of tag (option_map (λ a. other_content d (content a)) o))
     → AreApart (optional_tag tag) (λ (a : A). defaulted_of tag d (content a))
-defaulted_apart tag d content one two a b x y r s apart e f before behind same =
+defaulted_apart tag d content one two a b x y r s apart e f before rest same =
     let is = two (unless_default d content a) (unless_default d content b) x y r s apart
     (as_optional tag d content a ∙ e) (as_optional tag d content b ∙ f)
-    before behind same in
+    before rest same in
     (by (is_default d (content a)) (is_default d (content b)) refl refl is.0, is.1)
   where
     by : (p q : Bool) → is_default d (content a) ≡ p → is_default d (content b) ≡ q

@@ -12,11 +12,11 @@ use Rattle.der_types.specs.Sequences.{is_ascending, set_fault}
 
 next_says : (tag : ℕ) (f : Fault) (most : ℕ) → SaysKinds f → SaysKinds (elements_fault tag f most)
     → SaysKinds (elements_fault tag f (suc most))
-next_says tag f most says behind = record { kind = by }
+next_says tag f most says rest = record { kind = by }
   where
     by : (bytes : List ℕ) → elements_fault tag f (suc most) bytes ≢ Some None
     by [] e = cc e
-    by (byte ∷ bytes) e = (element_says tag f (elements_fault tag f most) says behind).kind (byte ∷ bytes) e
+    by (byte ∷ bytes) e = (element_says tag f (elements_fault tag f most) says rest).kind (byte ∷ bytes) e
 
 elements_say : (tag : ℕ) (f : Fault) → SaysKinds f → (most : ℕ) → SaysKinds (elements_fault tag f most)
 elements_say tag f says zero = record { kind = λ bytes e. cc e }
@@ -35,21 +35,21 @@ other_says default f says =
     both_say f (λ content. value_unless (not (bytes_eq content default))) says
     (test_says (λ content. not (bytes_eq content default)))
 
-pub choice_says : (firsts : List ℕ) (first second : Fault → Fault) (behind : Fault) → SaysKinds (first behind)
-    → SaysKinds (second behind) → SaysKinds (choice_fault firsts first second behind)
-choice_says firsts first second behind one two = record {
+pub choice_says : (firsts : List ℕ) (first second : Fault → Fault) (rest : Fault) → SaysKinds (first rest)
+    → SaysKinds (second rest) → SaysKinds (choice_fault firsts first second rest)
+choice_says firsts first second rest one two = record {
   kind = λ bytes e.
-      either_says (begins_among firsts bytes) (first behind bytes) (second behind bytes) (one.kind bytes)
+      either_says (begins_among firsts bytes) (first rest bytes) (second rest bytes) (one.kind bytes)
       (two.kind bytes) e;
 }
 
-pub optional_part_says : (firsts : List ℕ) (part : Fault → Fault) (behind : Fault) → SaysKinds (part behind)
-    → SaysKinds behind → SaysKinds (optional_part_fault firsts part behind)
-optional_part_says firsts part behind one two = record {
+pub optional_part_says : (firsts : List ℕ) (part : Fault → Fault) (rest : Fault) → SaysKinds (part rest)
+    → SaysKinds rest → SaysKinds (optional_part_fault firsts part rest)
+optional_part_says firsts part rest one two = record {
   kind = λ bytes e.
-      either_says (begins_among firsts bytes) (part behind bytes) (behind bytes) (one.kind bytes) (two.kind bytes) e;
+      either_says (begins_among firsts bytes) (part rest bytes) (rest bytes) (one.kind bytes) (two.kind bytes) e;
 }
 
-pub any_element_says : (behind : Fault) → SaysKinds behind → SaysKinds (any_element_fault behind)
+pub any_element_says : (rest : Fault) → SaysKinds rest → SaysKinds (any_element_fault rest)
 unfolding any_element_fault
-any_element_says behind says = any_says (λ _. no_fault) behind (λ _. none_says) says
+any_element_says rest says = any_says (λ _. no_fault) rest (λ _. none_says) says

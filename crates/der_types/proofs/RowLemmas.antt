@@ -32,7 +32,7 @@ row_begins tag f start now is =
       same = rw unread refl;
     }
 
--- the fault of a row that isn't empty is that of its first element and of the row behind it
+-- the fault of a row that isn't empty is that of its first element and of the row after it
 one_more : (tag : ℕ) (f : Fault) (most : ℕ) (bytes : List ℕ) → 0 < length bytes
     → elements_fault tag f (suc most) bytes ≡ element_fault tag f (elements_fault tag f most) bytes
 one_more tag f most [] some = absurd (omega arith)
@@ -52,7 +52,7 @@ shorter_read : (tag : ℕ) (f : Fault) (content : Option (List ℕ)) (old new : 
 shorter_read tag f None old new found = absurd found
 shorter_read tag f (Some inside) old new found = shorter tag inside old new found.1
 
--- the reader stands behind one more element
+-- the reader stands after one more element
 pub row_continues : (tag : ℕ) (f : Fault) (start : List ℕ) (content : Option (List ℕ))
     (old new : Reader) → IsRowRest tag f start old
     → 0 < length old.unread
@@ -141,7 +141,7 @@ pub record FirstValue {A : Type 0} (tag : ℕ) (content : A → Option (List ℕ
   pub same : content value ≡ Some inside
   pub within : length inside ≤ max_length
   pub split : bytes ≡ element tag inside ++ left
-  pub behind : HasValues tag content left
+  pub rest : HasValues tag content left
 
 pub first_value : (tag : ℕ) {A : Type 0} (content : A → Option (List ℕ)) (bytes : List ℕ) → 0 < length bytes
     → HasValues tag content bytes → FirstValue tag content bytes
@@ -156,7 +156,7 @@ first_value tag content bytes some (value ∷ values, e) =
       same = first.same;
       within = first.at.within;
       split = all.joined ∙ ap (λ xs. xs ++ all.back) first.at.encoded;
-      behind = (values, all.second_there);
+      rest = (values, all.second_there);
     }
 
 -- the reader that read the first of them stands before the others
@@ -172,7 +172,7 @@ values_read tag f content start value old new at some whole found read = record 
   only = λ all.
       let first = first_value tag content old.unread some (at.only all) in
       let next = read first.value first.inside first.left first.same first.within (reader_at old _ first.split whole) in
-      rw (ap (λ (r : Reader). r.unread) next) first.behind;
+      rw (ap (λ (r : Reader). r.unread) next) first.rest;
 }
 
 -- if values are left, the first of them is read
@@ -185,10 +185,10 @@ value_there tag content start old C at some whole all read =
     read first.value first.inside first.left first.same first.within (reader_at old _ first.split whole)
 
 -- two faults of an element are the same if they agree on fewer bytes after it
-behind_alike : (f g h : Fault) (tag byte : ℕ) (bytes : List ℕ)
-    → ((behind : List ℕ) → length behind ≤ length bytes → g behind ≡ h behind)
+rest_alike : (f g h : Fault) (tag byte : ℕ) (bytes : List ℕ)
+    → ((rest : List ℕ) → length rest ≤ length bytes → g rest ≡ h rest)
     → element_fault tag f g (byte ∷ bytes) ≡ element_fault tag f h (byte ∷ bytes)
-behind_alike f g h tag byte bytes alike = grind (arith, length-take {A = ℕ}, length-drop {A = ℕ})
+rest_alike f g h tag byte bytes alike = grind (arith, length-take {A = ℕ}, length-drop {A = ℕ})
 
 -- the fault of elements is the same by any bound on their number
 elements_bound : (tag : ℕ) (f : Fault) (m n : ℕ) (bytes : List ℕ) → length bytes ≤ m → length bytes ≤ n
@@ -200,15 +200,15 @@ elements_bound tag f (suc m) (suc n) [] l r = refl
 elements_bound tag f zero n (byte ∷ bytes) l r = absurd (omega arith)
 elements_bound tag f (suc m) zero (byte ∷ bytes) l r = absurd (omega arith)
 elements_bound tag f (suc m) (suc n) (byte ∷ bytes) l r =
-    behind_alike f _ _ tag byte bytes (λ behind few. elements_bound tag f m n behind (omega arith) (omega arith))
+    rest_alike f _ _ tag byte bytes (λ rest few. elements_bound tag f m n rest (omega arith) (omega arith))
 
 -- the fault of elements is that of the first, and then that of the others
 row_first : (tag : ℕ) (f : Fault) (bytes : List ℕ) → 0 < length bytes
     → row_fault tag f bytes ≡ element_fault tag f (row_fault tag f) bytes
 row_first tag f [] some = absurd (omega arith)
 row_first tag f (byte ∷ bytes) some =
-    behind_alike f _ _ tag byte bytes
-    (λ behind few. elements_bound tag f (length bytes) (length behind) behind few (omega arith))
+    rest_alike f _ _ tag byte bytes
+    (λ rest few. elements_bound tag f (length bytes) (length rest) rest few (omega arith))
 
 -- an element that is read from elements is there, and what is left is elements
 pub elements_left : (tag : ℕ) (f : Fault) {A : Type 0} (content : A → Option (List ℕ))

@@ -11,7 +11,7 @@ use Rattle.sec1_der.specs.Faults.{Fault, no_fault, any_fault, parts_fault, conte
 use Rattle.sec1_der.specs.declared.error.ErrorKind.{ErrorKind}
 use Rattle.sec1_der.specs.declared.error.ErrorKind.TheVariants.{Tag}
 use Rattle.sec1_der.proofs.FaultLaws.{within_octets}
-use Rattle.der_types.specs.Sequences.{element_behind, first_element, is_at_most, ascends, is_ascending}
+use Rattle.der_types.specs.Sequences.{element_and_rest, first_element, is_at_most, ascends, is_ascending}
 
 -- the element that bytes begin with is found
 pub first_found : (tag : ℕ) (content bytes rest : List ℕ) → IsHeader tag (length content)
@@ -27,7 +27,7 @@ first_missing (byte ∷ bytes) k e = by (is_tag byte) (content_at bytes) e
   where
     by : (b : Bool) (found : Result (List ℕ × List ℕ) ErrorKind)
         → (if b then parts_fault no_fault no_fault found else Some (Some Tag)) ≡ Some (Some k)
-        → (if b then element_behind byte found else None) ≡ None
+        → (if b then element_and_rest byte found else None) ≡ None
     by false found e = refl
     by true (Err kind) e = refl
     by true (Ok x) e = absurd (cc e)
@@ -102,7 +102,7 @@ set_falls start last this rest after at next below = by at.most at.room at.same
 
 -- where no element is next, all of them ascend
 pub set_stops : (start last rest : List ℕ) (k : ErrorKind) → IsSetRest start last rest
-    → ((content : ℕ → Fault) (behind : Fault) → any_fault content behind rest ≡ Some (Some k))
+    → ((content : ℕ → Fault) (after : Fault) → any_fault content after rest ≡ Some (Some k))
     → is_ascending start ≡ true
 set_stops start last rest k at refused = at.same ∙ by at.most
   where

@@ -45,7 +45,7 @@ any_of bytes = if is_element bytes then Some bytes else None
 
 -- the fault of an element with any tag and any content, and what follows it
 unfoldable pub any_element_fault : Fault → Fault
-any_element_fault behind = any_fault (λ _. no_fault) behind
+any_element_fault rest = any_fault (λ _. no_fault) rest
 
 -- one more number, which is a tag or isn't
 one_more : (tag n : ℕ) (b : Bool) → is_tag n ≡ b

@@ -33,8 +33,8 @@ begins_among tags (byte ∷ bytes) = is_among byte tags
 -- X.690 section 8.13: the fault of the first alternative if one of its tags is next, else that of
 -- the second
 abbrev pub choice_fault : List ℕ → (Fault → Fault) → (Fault → Fault) → Fault → Fault
-choice_fault firsts first second behind bytes =
-    if begins_among firsts bytes then first behind bytes else second behind bytes
+choice_fault firsts first second rest bytes =
+    if begins_among firsts bytes then first rest bytes else second rest bytes
 
 -- X.690 section 8.9.3: the bytes of the part, or none if it is absent
 abbrev pub optional_bytes : {P : Type 0} → (P → Option (List ℕ)) → Option P → Option (List ℕ)
@@ -54,8 +54,8 @@ optional_tags p = record {
 -- X.690 section 8.9.3: the fault of the part if one of its tags is next, else that of what follows
 -- it
 abbrev pub optional_part_fault : List ℕ → (Fault → Fault) → Fault → Fault
-optional_part_fault firsts part behind bytes =
-    if begins_among firsts bytes then part behind bytes else behind bytes
+optional_part_fault firsts part rest bytes =
+    if begins_among firsts bytes then part rest bytes else rest bytes
 
 -- neither is empty
 pub choice_not_empty : (p q : Tags) → p.may_be_empty ≡ false → q.may_be_empty ≡ false

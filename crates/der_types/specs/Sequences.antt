@@ -39,15 +39,15 @@ abbrev pub row_of : ℕ → Fault → List ℕ → Option (List ℕ)
 row_of tag f bytes = if is_whole (row_fault tag f bytes) then Some bytes else None
 
 -- the bytes of the element with this tag, if its content was found, and what follows it
-abbrev pub element_behind : ℕ → Result (List ℕ × List ℕ) ErrorKind → Option (List ℕ × List ℕ)
-element_behind tag (Err kind) = None
-element_behind tag (Ok x) = Some (element tag x.0, x.1)
+abbrev pub element_and_rest : ℕ → Result (List ℕ × List ℕ) ErrorKind → Option (List ℕ × List ℕ)
+element_and_rest tag (Err kind) = None
+element_and_rest tag (Ok x) = Some (element tag x.0, x.1)
 
 -- X.690 section 8.1.1: the bytes of the element that bytes begin with, and what follows it
 abbrev pub first_element : List ℕ → Option (List ℕ × List ℕ)
 first_element [] = None
 first_element (tag ∷ bytes) =
-    if is_tag tag then element_behind tag (content_at bytes) else None
+    if is_tag tag then element_and_rest tag (content_at bytes) else None
 
 -- X.690 section 11.6: whether an encoding stands before another or is the same. They are compared
 -- as octet strings. The standard pads the shorter one with zeros. This makes no difference, as no
@@ -57,8 +57,8 @@ is_at_most a b = is_le (slice_cmp nat_cmp a b)
 
 -- whether the first element isn't below the last one, and what follows it ascends from it
 abbrev pub ascends_by : (List ℕ → List ℕ → Bool) → List ℕ → Option (List ℕ × List ℕ) → Bool
-ascends_by behind last None = true
-ascends_by behind last (Some x) = is_at_most last x.0 && behind x.0 x.1
+ascends_by rest last None = true
+ascends_by rest last (Some x) = is_at_most last x.0 && rest x.0 x.1
 
 -- whether the elements, up to a greatest number of them, ascend from the last one; they end where
 -- the bytes begin with no element

@@ -51,7 +51,7 @@ pub place_or-length : {X : Type 0} (p : X → Bool) (xs : List X)
     → unwrap_or (position p xs) (length xs) ≡ position_or_len p xs
 place_or-length p xs = place_by p xs (cases_lt (position_or_len p xs) (length xs))
 
--- what is behind a line's text: its end, and the text behind that
+-- what is after a line's text: its end, and the text after that
 abbrev at_end : List ℕ → List ℕ
 at_end text = drop (position_or_len is_line_end text) text
 
@@ -77,7 +77,7 @@ end_joined (byte ∷ next ∷ text) =
 abbrev first_of : List ℕ → List ℕ
 first_of text = before_first is_line_end text ++ end_of (at_end text)
 
--- the first line, and those behind it
+-- the first line, and those after it
 cut_by : (v : Bool) (byte : ℕ) (text : List ℕ) → is_line_end byte ≡ v
     → lines_of (byte ∷ text) ≡ first_of (byte ∷ text) ∷ lines_of (after_end (at_end (byte ∷ text)))
 cut_by true byte [] h = rw h refl
@@ -262,7 +262,7 @@ label_of-none line fail =
     front_none _ line _ refl fail in
     rw none refl
 
--- the blocks behind a line that begins none, and behind one that begins a block
+-- the blocks after a line that begins none, and after one that begins a block
 pub blocks_in-none : (number : ℕ) (rest line next : List ℕ) → IsFirstLine rest line next → label_of line ≡ None
     → blocks_in number (lines_of rest) ≡ blocks_in (number + 1) (lines_of next)
 blocks_in-none number rest line next first none =

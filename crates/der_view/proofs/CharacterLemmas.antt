@@ -154,7 +154,7 @@ utf16-lost u v us least most unpaired =
     let alone : lone_unit_char u ≡ None = rw (a, b) refl in
     rw (unpaired, alone) refl
 
--- the first character in UTF-16, and that the bytes are characters if those behind it are
+-- the first character in UTF-16, and that the bytes are characters if those after it are
 pub utf16-some : (bytes rest : List ℕ) (code : ℕ)
     → utf16_chars (units_of bytes) ≡ Some code ∷ utf16_chars (units_of rest)
     → before_none (utf16_chars (units_of bytes)) ≡ code ∷ before_none (utf16_chars (units_of rest))

@@ -56,11 +56,11 @@ length-followed (Some level) (first ∷ levels) = omega arith
 
 -- the innermost level isn't over, or there is none
 pub still_open-first : (left : ℕ) (level : Level) (levels : List Level) → slice_get levels 0 ≡ Some level
-    → level.behind < left → (still_open left levels ≡ levels) × (is_unended left levels ≡ false)
+    → level.rest < left → (still_open left levels ≡ levels) × (is_unended left levels ≡ false)
 still_open-first left level [] first more = cc
 still_open-first left level (one ∷ levels) first more =
     let same : one ≡ level = cc in
-    let test : nat_lt one.behind left ≡ true = rw same (grind (arith, nat_tests)) in
+    let test : nat_lt one.rest left ≡ true = rw same (grind (arith, nat_tests)) in
     (rw test refl, rw test refl)
 
 pub still_open-none : (left : ℕ) (levels : List Level) → slice_get levels 0 ≡ None
@@ -70,13 +70,13 @@ still_open-none left (level ∷ levels) none = cc
 
 -- the innermost level is over
 pub still_open-over : (left : ℕ) (level : Level) (levels : List Level) → slice_get levels 0 ≡ Some level
-    → left ≤ level.behind
+    → left ≤ level.rest
     → (still_open left levels ≡ still_open left (followed None levels))
     × (is_unended left levels ≡ (level.indefinite || is_unended left (followed None levels)))
 still_open-over left level [] first over = cc
 still_open-over left level (one ∷ levels) first over =
     let same : one ≡ level = cc in
-    let test : nat_lt one.behind left ≡ false = rw same (grind (arith, nat_tests)) in
+    let test : nat_lt one.rest left ≡ false = rw same (grind (arith, nat_tests)) in
     (rw test refl, rw test (rw same refl))
 
 pub or_assoc : (a b c : Bool) → ((a || b) || c) ≡ (a || (b || c))

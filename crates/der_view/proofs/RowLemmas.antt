@@ -29,12 +29,12 @@ drawn_bytes input (row ∷ rows) old new (between, is, more) at =
     let n = row_len row in
     let rest : drop n old.left ≡ drop between.offset input =
     rw (at, is.offset) (drop-drop n old.offset input) in
-    let behind : between.left ≡ bytes_of_rows input rows ++ new.left =
+    let after : between.left ≡ bytes_of_rows input rows ++ new.left =
     drawn_bytes input rows between new more (is.left ∙ rest) in
     let own : take n (drop row.offset input) ≡ take n old.left = rw (is.at, at) refl in
     sym (take-append-drop n old.left)
     ∙ rw (own, append_assoc (take n old.left) (bytes_of_rows input rows) new.left)
-    (ap (λ tail. take n old.left ++ tail) (sym is.left ∙ behind))
+    (ap (λ tail. take n old.left ++ tail) (sym is.left ∙ after))
 
 pub rows_are_input : RowsAreInput
 rows_are_input input levels all plan rows new d = drawn_bytes input rows _ new d refl

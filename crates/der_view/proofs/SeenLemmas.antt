@@ -12,7 +12,7 @@ use Rattle.der_view.specs.declared.header.Tag.{Tag}
 use Rattle.der_view.specs.declared.row.Kind.TheVariants.{Element}
 use Rattle.der_view.specs.declared.row.OpenRow.{OpenRow}
 
--- a content inside an element is that behind the header in all that is left
+-- a content inside an element is that after the header in all that is left
 pub content_inside : (left inside : List ℕ) (h n : ℕ) → inside ≡ take (length inside) left → h + n ≤ length inside
     → take n (drop h inside) ≡ take n (drop h left)
 content_inside left inside h n e fits =
@@ -38,9 +38,9 @@ pub seen_shown : (guarded : Bool) (left : List ℕ) (row : OpenRow) (inside seen
     (content_of row left)
 seen_shown guarded left row inside seen tag field h n e fits kind same_field len header is first =
     let same : take n (drop h inside) ≡ take n (drop h left) = content_inside left inside h n e fits in
-    let behind : n ≤ length (drop h inside) = omega (arith, length-drop h inside) in
+    let rest : n ≤ length (drop h inside) = omega (arith, length-drop h inside) in
     let size : length (take n (drop h left)) ≡ n =
-    ap length (sym same) ∙ length-take-le n (drop h inside) behind in
+    ap length (sym same) ∙ length-take-le n (drop h inside) rest in
     let here : IsFirst (open_len guarded tag field (take n (drop h left))) (take n (drop h left)) seen =
     rw same at first in
     let shown : IsShown (length (take n (drop h left))) seen row.shown = rw size is in

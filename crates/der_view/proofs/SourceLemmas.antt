@@ -97,8 +97,8 @@ mark_within text =
 -- the sources of a text are within it
 pub sources_within : (input text : List ℕ) (sources : List SourceView) → is_text input ≡ true
     → text ≡ without_mark input → sources ≡ text_sources text → AreWithin (text_len input) sources
-sources_within input text sources is behind are =
-    rw (are, behind, is) (text_within (length input) (without_mark input) (mark_within input))
+sources_within input text sources is rest are =
+    rw (are, rest, is) (text_within (length input) (without_mark input) (mark_within input))
 
 -- a key that OpenSSL reads has a label of private keys
 ends_so : (label whole : List ℕ) → bytes_eq label whole ≡ true → ends_with nat_eq whole (codes "PRIVATE KEY") ≡ true
@@ -136,7 +136,7 @@ pub pem_sources-cons : (reads : Bool) (block : BlockView) (blocks : List BlockVi
     ≡ Pem block (reads && is_key_of_openssl block) ∷ pem_sources (reads && not (is_of_private_key block)) blocks
 pem_sources-cons reads block blocks = read_by (is_of_private_key block) reads block blocks refl
 
--- a picture behind a heading
+-- a picture after a heading
 pub text_drawn : {E : Type 0} (a b c : Option (List ℕ)) (all : Bool) (source : SourceView) (reading : Reading)
     (found : FoundView) (bytes : Option (List ℕ)) (part : List ℕ) (r : Result Bool E) → reading ≡ reading_of source
     → found ≡ found_in source → bytes ≡ Some part → Appends a b (heading_line (heading_of source found))

@@ -11,42 +11,42 @@ use Rattle.std.proofs.Math.Nat.{pow-suc}
 use Rattle.sec1_der.specs.Identifiers.{dotted}
 
 -- a number of one digit, and one of more
-onto-last : (k n : ℕ) (behind : List ℕ) → n < 16
-    → digits_onto (suc k) 16 true n behind ≡ digit_glyph true (n % 16) ∷ behind
-onto-last k n behind low = let one : (n / 16 == 0) ≡ true = grind (arith, nat_tests) in rw one refl
+onto-last : (k n : ℕ) (rest : List ℕ) → n < 16
+    → digits_onto (suc k) 16 true n rest ≡ digit_glyph true (n % 16) ∷ rest
+onto-last k n rest low = let one : (n / 16 == 0) ≡ true = grind (arith, nat_tests) in rw one refl
 
-onto-step : (k n : ℕ) (behind : List ℕ) → 16 ≤ n
-    → digits_onto (suc k) 16 true n behind ≡ digits_onto k 16 true (n / 16) (digit_glyph true (n % 16) ∷ behind)
-onto-step k n behind high = let more : (n / 16 == 0) ≡ false = grind (arith, nat_tests) in rw more refl
+onto-step : (k n : ℕ) (rest : List ℕ) → 16 ≤ n
+    → digits_onto (suc k) 16 true n rest ≡ digits_onto k 16 true (n / 16) (digit_glyph true (n % 16) ∷ rest)
+onto-step k n rest high = let more : (n / 16 == 0) ≡ false = grind (arith, nat_tests) in rw more refl
 
 -- what digits are put in front of
-onto-append : (k n : ℕ) (behind : List ℕ) → digits_onto k 16 true n behind ≡ digits_onto k 16 true n [] ++ behind
-onto-append zero n behind = refl
-onto-append (suc k) n behind =
+onto-append : (k n : ℕ) (rest : List ℕ) → digits_onto k 16 true n rest ≡ digits_onto k 16 true n [] ++ rest
+onto-append zero n rest = refl
+onto-append (suc k) n rest =
     let d : ℕ = digit_glyph true (n % 16) in
     elim (cases_lt n 16) [
-      | inl low ↦ onto-last k n behind low ∙ ap (λ digits. digits ++ behind) (sym (onto-last k n [] low))
+      | inl low ↦ onto-last k n rest low ∙ ap (λ digits. digits ++ rest) (sym (onto-last k n [] low))
       | inr high ↦
-          onto-step k n behind high
-          ∙ (onto-append k (n / 16) (d ∷ behind)
-          ∙ (sym (append_assoc (digits_onto k 16 true (n / 16) []) (d ∷ []) behind)
-          ∙ ap (λ digits. digits ++ behind) (sym (onto-step k n [] high ∙ onto-append k (n / 16) (d ∷ [])))))
+          onto-step k n rest high
+          ∙ (onto-append k (n / 16) (d ∷ rest)
+          ∙ (sym (append_assoc (digits_onto k 16 true (n / 16) []) (d ∷ []) rest)
+          ∙ ap (λ digits. digits ++ rest) (sym (onto-step k n [] high ∙ onto-append k (n / 16) (d ∷ [])))))
     ]
 
 -- more digits than there are change nothing
-onto-more : (k n : ℕ) (behind : List ℕ) → n < 16 ^ suc k
-    → digits_onto (suc (suc k)) 16 true n behind ≡ digits_onto (suc k) 16 true n behind
-onto-more zero n behind fits =
-    let low : n < 16 = fits in onto-last (suc zero) n behind low ∙ sym (onto-last zero n behind low)
-onto-more (suc k) n behind fits =
+onto-more : (k n : ℕ) (rest : List ℕ) → n < 16 ^ suc k
+    → digits_onto (suc (suc k)) 16 true n rest ≡ digits_onto (suc k) 16 true n rest
+onto-more zero n rest fits =
+    let low : n < 16 = fits in onto-last (suc zero) n rest low ∙ sym (onto-last zero n rest low)
+onto-more (suc k) n rest fits =
     let d : ℕ = digit_glyph true (n % 16) in
     elim (cases_lt n 16) [
-      | inl low ↦ onto-last (suc (suc k)) n behind low ∙ sym (onto-last (suc k) n behind low)
+      | inl low ↦ onto-last (suc (suc k)) n rest low ∙ sym (onto-last (suc k) n rest low)
       | inr high ↦
           let power : 16 ^ suc (suc k) ≡ 16 ^ suc k * 16 = pow-suc 16 (suc k) in
           let less : n / 16 < 16 ^ suc k = omega arith in
-          onto-step (suc (suc k)) n behind high
-          ∙ (onto-more k (n / 16) (d ∷ behind) less ∙ sym (onto-step (suc k) n behind high))
+          onto-step (suc (suc k)) n rest high
+          ∙ (onto-more k (n / 16) (d ∷ rest) less ∙ sym (onto-step (suc k) n rest high))
     ]
 
 -- a number in hexadecimal: the digits before its last one, and that
@@ -63,11 +63,11 @@ pub hexadecimal-last : (n : ℕ) → n < 16 → digits 16 true n ≡ digit_glyph
 unfolding digits
 hexadecimal-last n low = onto-last 63 n [] low
 
--- arcs behind a full stop each
+-- arcs after a full stop each
 abbrev pub further_text : List ℕ → List ℕ
 further_text arcs = flat_map (λ arc. 0x2E ∷ decimal arc) arcs
 
--- the first arc, and those behind it
+-- the first arc, and those after it
 pub dotted-cons : (arc : ℕ) (further : List ℕ) → dotted (arc ∷ further) ≡ decimal arc ++ further_text further
 dotted-cons arc [] = sym (append-nil (decimal arc))
 dotted-cons arc (next ∷ further) = ap (λ text. decimal arc ++ 0x2E ∷ text) (dotted-cons next further)

@@ -23,7 +23,7 @@ lines_of (byte ∷ next ∷ text) =
     else (byte ∷ []) ∷ lines_of (next ∷ text))
     else onto_first byte (lines_of (next ∷ text))
 
--- what is behind the end of a line, with which a text begins
+-- what is after the end of a line, with which a text begins
 abbrev pub after_end : List ℕ → List ℕ
 after_end [] = []
 after_end (byte ∷ []) = []
@@ -33,7 +33,7 @@ after_end (byte ∷ next ∷ text) = if byte == 0x0D && next == 0x0A then text e
 abbrev pub line_text : List ℕ → List ℕ
 line_text line = before_first is_line_end line
 
--- the first line of a text, without what ends it, and the text behind it
+-- the first line of a text, without what ends it, and the text after it
 pub record IsFirstLine (text line rest : List ℕ) : Type 0 where
   pub whole : List ℕ
   pub first : lines_of text ≡ whole ∷ lines_of rest
@@ -44,7 +44,7 @@ pub record IsFirstLine (text line rest : List ℕ) : Type 0 where
 abbrev pub trimmed : List ℕ → List ℕ
 trimmed text = take (length text - suffix_len is_ascii_whitespace text) text
 
--- what is behind a front of a text, and before an end of it; None if the text hasn't that
+-- what is after a front of a text, and before an end of it; None if the text hasn't that
 abbrev pub after_front : List ℕ → List ℕ → Option (List ℕ)
 after_front front text =
     if bytes_eq (take (length front) text) front then Some (drop (length front) text) else None
@@ -69,7 +69,7 @@ is_label text =
 abbrev pub as_label : List ℕ → Option (List ℕ)
 as_label text = if is_label text then Some text else None
 
--- what a line has between this front and five dashes at its end, white space behind them left out;
+-- what a line has between this front and five dashes at its end, white space after them left out;
 -- None if it isn't such a line (RFC 7468 section 3: preeb, posteb)
 abbrev pub between : List ℕ → List ℕ → Option (List ℕ)
 between front line =
@@ -167,7 +167,7 @@ abbrev pub with_block : Option (List ℕ) → ℕ → List (List ℕ) → List B
 with_block None line lines blocks = blocks
 with_block (Some label) line lines blocks = block_before line label lines ∷ blocks
 
--- the blocks in the lines behind so many others
+-- the blocks in the lines after so many others
 abbrev pub blocks_in : ℕ → List (List ℕ) → List BlockView
 blocks_in number [] = []
 blocks_in number (line ∷ lines) =

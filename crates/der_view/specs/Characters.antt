@@ -82,7 +82,7 @@ abbrev pub string_codes : ℕ → List ℕ → Option (List ℕ)
 string_codes number bytes =
     string_codes_by (encoding_of number) (are_characters number bytes) bytes
 
--- a character as it is shown: itself if it prints in ASCII, `"` and `\` behind a `\`, and another
+-- a character as it is shown: itself if it prints in ASCII, `"` and `\` after a `\`, and another
 -- one by its code in hexadecimal
 abbrev pub escaped : ℕ → List ℕ
 escaped code =

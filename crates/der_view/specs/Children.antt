@@ -22,7 +22,7 @@ first_tag bytes = slice_index bytes 0
 abbrev pub begins : List ℕ → List ℕ → Bool
 begins bytes first = starts_with ◌==◌ bytes first
 
--- the bytes inside the element that bytes begin with, and behind it
+-- the bytes inside the element that bytes begin with, and after it
 abbrev pub inside_by : List ℕ → Result Header ElementFault → List ℕ
 inside_by bytes (Err fault) = []
 inside_by bytes (Ok head) = drop head.len bytes
@@ -42,11 +42,11 @@ no_child = record {
   alone = false;
 }
 
--- no child, behind so many bytes
+-- no child, after so many bytes
 abbrev pub none_at : ℕ → Child
 none_at at = record no_child { at = at; start = at; end = at }
 
--- the child with a header of this length, behind so many bytes; its content, of this length, is
+-- the child with a header of this length, after so many bytes; its content, of this length, is
 -- there up to another
 abbrev pub child_of : ℕ → List ℕ → ℕ → ℕ → ℕ → Child
 child_of at bytes header_len announced len =
@@ -80,19 +80,19 @@ child_after may_be_cut at bytes (Err fault) = none_at at
 child_after may_be_cut at bytes (Ok head) =
     child_by may_be_cut at bytes head.len head.content_len
 
--- the child behind so many of the bytes
+-- the child after so many of the bytes
 unfoldable pub child_at : Bool → List ℕ → ℕ → Child
 child_at may_be_cut bytes at =
     child_after may_be_cut at (drop at bytes) (header_of (drop at bytes))
 
--- so many children, one behind the other, the first behind so many of the bytes
+-- so many children, one after the other, the first after so many of the bytes
 unfoldable pub children_at : ℕ → Bool → List ℕ → ℕ → List Child
 children_at zero may_be_cut bytes at = []
 children_at (suc most) may_be_cut bytes at =
     child_at may_be_cut bytes at
     ∷ children_at most may_be_cut bytes (child_at may_be_cut bytes at).end
 
--- the child behind so many others
+-- the child after so many others
 unfoldable pub nth : List Child → ℕ → Child
 nth children index = unwrap_or (slice_get children index) no_child
 
@@ -178,7 +178,7 @@ abbrev pub is_end : List ℕ → Bool → Bool → Bool
 is_end left indefinite is_cut =
     if indefinite then begins left (0x00 ∷ 0x00 ∷ []) else length left == 0 && not is_cut
 
--- these children, which begin one of the known structures and end behind so many bytes
+-- these children, which begin one of the known structures and end after so many bytes
 abbrev pub run_of : List ℕ → ℕ → Bool → Bool → List Child → ℕ → Children
 run_of bytes start indefinite is_cut run end =
     let left = drop end bytes in
@@ -199,7 +199,7 @@ abbrev pub run_in : List ℕ → ℕ → Bool → Bool → List Child → ℕ �
 run_in bytes start indefinite is_cut children count =
     run_of bytes start indefinite is_cut (take count children) (nth children count).at
 
--- as many children as a structure has, and the place behind them
+-- as many children as a structure has, and the place after them
 abbrev pub most_children : ℕ
 most_children = 10
 

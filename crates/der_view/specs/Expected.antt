@@ -32,42 +32,42 @@ fault_of_fields bytes children =
     then Some (children.fourth.at, parts.PublicKey) else None))
 
 -- what may follow the fields that are there
-abbrev pub fields_behind : Children → Part
-fields_behind children =
+abbrev pub fields_after : Children → Part
+fields_after children =
     if children.third.tag == 0xA1 || children.fourth.tag == 0xA1 then parts.Fields false false
     else (if children.third.tag == 0xA0 then parts.Fields false true else parts.Fields true true)
 
--- where the fields behind a version and a private key are others, or end too early
+-- where the fields after a version and a private key are others, or end too early
 abbrev pub fields_by : Children → Option (ℕ × Part) → Option (ℕ × Part)
 fields_by children (Some fault) = Some fault
 fields_by children None =
-    if children.finished then None else Some (children.end, fields_behind children)
+    if children.finished then None else Some (children.end, fields_after children)
 
--- the place behind the version
-abbrev pub behind_version : Children → ℕ
-behind_version children = if children.count == 1 then children.end else children.second.at
+-- the place after the version
+abbrev pub after_version : Children → ℕ
+after_version children = if children.count == 1 then children.end else children.second.at
 
 -- Where children, of which so many are drawn, aren't those of an ECPrivateKey, and what that has
 -- there (RFC 5915 section 3): version 1, then a private key, then the fields. It isn't said of
--- another structure, which a SEQUENCE behind the version begins.
+-- another structure, which a SEQUENCE after the version begins.
 abbrev pub expected_by : List ℕ → Children → ℕ → Option (ℕ × Part)
 expected_by bytes children drawn =
     if children.second.tag == 0x30 && nat_lt 1 drawn then None
     else (if drawn == 0 || not (bytes_eq (content_of bytes children.first) (0x01 ∷ []))
     then Some (children.start, parts.Version)
     else (if drawn == 1 || children.second.tag == 0x02
-    then Some (behind_version children, parts.PrivateKey)
+    then Some (after_version children, parts.PrivateKey)
     else fields_by children (fault_of_fields bytes children)))
 
 unfoldable pub expected_in : List ℕ → Children → Option (ℕ × Part)
 expected_in bytes children = expected_by bytes children (drawn bytes children)
 
--- whether the root has the children that are drawn and no more, and the input ends behind it
+-- whether the root has the children that are drawn and no more, and the input ends after it
 unfoldable pub ends : ℕ → List ℕ → Children → Bool
 ends len bytes children =
     children.finished && drawn bytes children == children.count && drawn_to bytes children == len
 
--- a key's bytes are a SEQUENCE, behind which the input ends
+-- a key's bytes are a SEQUENCE, after which the input ends
 abbrev pub expected_of_key : ℕ → Bool → Bool → ℕ → Option (ℕ × Part) → Option (ℕ × Part)
 expected_of_key tag is_key is_end at None =
     if not is_key then None

@@ -86,7 +86,7 @@ abbrev pub is_sequence : Kind → Bool
 is_sequence (Element tag) = is_sequence_in tag.class tag.number
 is_sequence _ = false
 
--- the fields that a SEQUENCE behind gives the parameters of a curve
+-- the fields that a SEQUENCE after gives the parameters of a curve
 abbrev pub is_before_curve : Option Field → Bool
 is_before_curve (Some fields.Parameters) = true
 is_before_curve (Some fields.Algorithm) = true
@@ -115,7 +115,7 @@ with_row facts row =
     (with_mark_if row.offset header_len row.marks.first
     (record facts { marked = first_marked facts.marked row.offset row.marks.first }))))
 
--- what is known of rows, in order, behind these facts
+-- what is known of rows, in order, after these facts
 abbrev pub with_rows : Facts → List OpenRow → Facts
 with_rows facts [] = facts
 with_rows facts (row ∷ rows) = with_rows (with_row facts row) rows

@@ -19,7 +19,7 @@ reading_of Utf16 = readings.Nothing
 abbrev pub heading_in : SourceView → List ℕ
 heading_in source = heading_line (heading_of source (found_in source))
 
--- behind its heading, the picture of the bytes that a source encodes, or what is said of a source
+-- after its heading, the picture of the bytes that a source encodes, or what is said of a source
 -- with none, which is no key
 abbrev pub IsPictureOfText : Bool → SourceView → Option (List ℕ) → List ℕ → Bool → Type 0
 IsPictureOfText all source (Some bytes) text has_key =

@@ -112,7 +112,7 @@ drawn_integers children =
     if not (is_other (form_of children)) || children.cut then children.count
     else (if is_versioned children then min children.count 1 else 0)
 
--- of PKCS #8 none behind a private key that isn't opened
+-- of PKCS #8 none after a private key that isn't opened
 abbrev pub drawn_of_sequence : List ℕ → Children → ℕ
 drawn_of_sequence bytes children =
     if children.third.tag == 0x04 && is_none (inside_of bytes children) then 3
@@ -127,11 +127,11 @@ drawn bytes children =
     else (if is_other (form_of children) then min children.count 1 else children.count)))
 
 -- the place of the first child that isn't drawn, or the end of all
-abbrev pub place_behind : Children → ℕ → ℕ
-place_behind children count =
+abbrev pub place_after : Children → ℕ → ℕ
+place_after children count =
     if count == children.count then children.end
     else (if count == 0 then children.start
     else (if count == 1 then children.second.at else children.fourth.at))
 
 unfoldable pub drawn_to : List ℕ → Children → ℕ
-drawn_to bytes children = place_behind children (drawn bytes children)
+drawn_to bytes children = place_after children (drawn bytes children)

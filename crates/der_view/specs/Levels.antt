@@ -15,7 +15,7 @@ levels_view levels = reverse (take levels.count levels.table)
 -- the input around its root, which is this field
 abbrev pub input_level : Option Field → Level
 input_level root = record {
-  behind = 0;
+  rest = 0;
   indefinite = false;
   field = None;
   next = root;
@@ -29,7 +29,7 @@ abbrev pub names_extension : Tag → List ℕ → Bool
 names_extension tag content =
     not tag.constructed && (is_type tag 6 && is_extension (row_by content))
 
--- a level after an element in it with this tag and content, behind so many of its components
+-- a level after an element in it with this tag and content, after so many of its components
 unfoldable pub level_after : Level → ℕ → Tag → List ℕ → Level
 level_after level passed tag content = record level {
   next = None;
@@ -53,11 +53,11 @@ opened_in (Some level) levels = level ∷ levels
 abbrev pub still_open : ℕ → List Level → List Level
 still_open left [] = []
 still_open left (level ∷ levels) =
-    if nat_lt level.behind left then level ∷ levels else still_open left levels
+    if nat_lt level.rest left then level ∷ levels else still_open left levels
 
 -- X.690 section 8.1.5: whether one of the others has an indefinite length, so that its
 -- end-of-contents is missing
 abbrev pub is_unended : ℕ → List Level → Bool
 is_unended left [] = false
 is_unended left (level ∷ levels) =
-    if nat_lt level.behind left then false else level.indefinite || is_unended left levels
+    if nat_lt level.rest left then false else level.indefinite || is_unended left levels

@@ -198,12 +198,12 @@ abbrev pub no_marks : Marks
 no_marks = record { first = None; second = None }
 
 -- X.690 section 8.1.4: the mark of a content of this length, or of an indefinite one, where so many
--- bytes are left, inside a level that so many bytes of the input are behind
+-- bytes are left, inside a level that so many bytes of the input are after
 abbrev pub cut_mark : ℕ → Option ℕ → ℕ → Option Mark
-cut_mark behind None left = None
-cut_mark behind (Some len) left =
+cut_mark rest None left = None
+cut_mark rest (Some len) left =
     if nat_le len left then None
-    else Some (if behind == 0 then marks.Missing (len - left) len else marks.Overlong len left)
+    else Some (if rest == 0 then marks.Missing (len - left) len else marks.Overlong len left)
 
 -- what is wrong with the content of an element of this class and number
 abbrev pub value_fault : Class → ℕ → List ℕ → Option ContentFault

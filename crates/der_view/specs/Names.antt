@@ -194,7 +194,7 @@ abbrev pub name_in : List (ℕ × List ℕ) → ℕ → Option (List ℕ)
 name_in [] arc = None
 name_in (row ∷ rows) arc = if arc == row.0 then Some row.1 else name_in rows arc
 
--- whether a family has a name for this arc, behind arcs with this content
+-- whether a family has a name for this arc, after arcs with this content
 abbrev pub has_row : List ℕ → ℕ → Family → Bool
 has_row base arc family =
     bytes_eq (content_of (family_arcs family)) base && is_some (name_in (family_names family) arc)

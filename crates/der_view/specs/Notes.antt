@@ -9,7 +9,7 @@ use Rattle.der_view.specs.Contents.{is_of_openssh}
 use Rattle.der_view.specs.Verdicts.{ec_of_pem}
 use Rattle.der_view.specs.declared.text.note.Note.{Note}
 
--- what is said behind a block's label, what the source is, and the command that helps
+-- what is said after a block's label, what the source is, and the command that helps
 pub record NoteView : Type 0 where
   pub heading : List ℕ
   pub words : List ℕ
@@ -23,20 +23,20 @@ note_view note = record {
 }
 
 -- of a block, and of another text
-abbrev pub note_behind : List ℕ → List ℕ → Option (List ℕ) → NoteView
-note_behind heading words command =
+abbrev pub note_after : List ℕ → List ℕ → Option (List ℕ) → NoteView
+note_after heading words command =
     record { heading = heading; words = words; command = command }
 
 abbrev pub note_of_text : List ℕ → Option (List ℕ) → NoteView
-note_of_text words command = note_behind [] words command
+note_of_text words command = note_after [] words command
 
 -- of a block that is encrypted (RFC 1421): of a key that OpenSSL reads, and of any other
 abbrev pub encrypted_note : Bool → NoteView
 encrypted_note is_key =
     if is_key then
-    note_behind (codes "encrypted (RFC 1421), not drawn")
+    note_after (codes "encrypted (RFC 1421), not drawn")
     (codes "This asks for the password and writes the key:") (Some ec_of_pem)
-    else note_behind (codes "encrypted (RFC 1421), not drawn") [] None
+    else note_after (codes "encrypted (RFC 1421), not drawn") [] None
 
 -- of a block whose body isn't decoded
 abbrev pub note_of_block : BlockView → Bool → NoteView
@@ -44,10 +44,10 @@ note_of_block block is_read =
     if block.is_encrypted then
     encrypted_note (is_read && bytes_eq block.label (codes "EC PRIVATE KEY"))
     else (if is_of_openssh block then
-    note_behind (codes "no DER, not drawn")
+    note_after (codes "no DER, not drawn")
     (codes "This is OpenSSH's own form. This makes PEM of a copy of it:")
     (Some (codes "ssh-keygen -p -m PEM -f COPY"))
-    else note_behind (codes "no base64, not drawn") [] None)
+    else note_after (codes "no base64, not drawn") [] None)
 
 -- whether a text begins so
 abbrev pub begins : List ℕ → List ℕ → Bool

@@ -24,7 +24,7 @@ line_front count = if count % 16 == 0 then codes "\n" ++ spaces 25 else []
 abbrev pub content_piece : ℕ → ℕ → List ℕ
 content_piece count byte = line_front count ++ (codes " " ++ encode_upper (byte ∷ []))
 
--- a content, behind so many bytes of it
+-- a content, after so many bytes of it
 abbrev pub content_text : ℕ → List ℕ → List ℕ
 content_text count [] = []
 content_text count (byte ∷ bytes) = content_piece count byte ++ content_text (count + 1) bytes

@@ -24,17 +24,17 @@ use Rattle.der_view.specs.declared.place.Step.{Step}
 use Rattle.der_view.specs.declared.row.Kind.{Kind}
 use Rattle.der_view.specs.declared.row.Kind.TheVariants as kinds
 
--- whether nothing more is drawn here: behind the part of a guarded picture that has a key's form,
--- and behind the root
+-- whether nothing more is drawn here: after the part of a guarded picture that has a key's form,
+-- and after the root
 unfoldable pub is_over : Place → Bool
 is_over place =
     not place.all
     && ((place.plan.guarded && nat_le place.plan.drawn_to place.offset)
     || (place.depth == 0 && nat_lt 0 place.offset))
 
--- whether a row is drawn here, inside a level that so many bytes are behind
+-- whether a row is drawn here, inside a level that so many bytes are after
 unfoldable pub is_drawn : Place → ℕ → ℕ → Bool
-is_drawn place left behind = not (is_over place) && nat_lt behind left
+is_drawn place left rest = not (is_over place) && nat_lt rest left
 
 abbrev pub mark_at_offset : Option (ℕ × Part) → ℕ → Option Mark
 mark_at_offset None offset = None
@@ -55,7 +55,7 @@ component_by None (Some outer) passed (tag ∷ bytes) =
     next_component passed (drop passed (structure outer)) tag
 
 -- the same of the element here, which these bytes inside a level begin with; none below the root
--- behind the part of a damaged key that has a key's form
+-- after the part of a damaged key that has a key's form
 unfoldable pub component_at : Place → Level → List ℕ → Option (Field × ℕ)
 component_at place level inside =
     if nat_lt 0 place.depth && nat_lt 0 place.plan.drawn_to
@@ -87,7 +87,7 @@ pub record IsElementAt (place : Place) (level : Level) (inside : List ℕ) (foun
   pub content :
       element.content.now
       ≡ take (len_within found.content_len (length inside - found.len)) (drop found.len inside)
-  pub cut : element.cut ≡ cut_mark level.behind found.content_len (length inside - found.len)
+  pub cut : element.cut ≡ cut_mark level.rest found.content_len (length inside - found.len)
   pub field : element.field ≡ option_map (λ c. c.0) (component_at place level inside)
   pub passed : element.passed ≡ passed_by (component_at place level inside) level.passed
   pub seen :
@@ -133,7 +133,7 @@ element_marks place header head cut depth content =
 -- where as many bytes of the input are left
 unfoldable pub level_inside : Place → ℕ → Header → Option Field → ℕ → Level
 level_inside place left head field len = record {
-  behind = left - head.len - len;
+  rest = left - head.len - len;
   indefinite = is_none head.content_len;
   field = field;
   next = field_inside place;
@@ -224,7 +224,7 @@ IsInside place left level inside (Err fault) step =
 
 -- the bytes inside a level
 abbrev pub inside_of : Level → List ℕ → List ℕ
-inside_of level left = take (length left - level.behind) left
+inside_of level left = take (length left - level.rest) left
 
 abbrev pub IsDrawn : Bool → Place → Level → List ℕ → Step → Type 0
 IsDrawn true place level left step =
@@ -237,4 +237,4 @@ IsDrawn false place level left step = IsRest place left step
 abbrev pub IsStep : Place → List ℕ → Option Level → Step → Type 0
 IsStep place left None step = IsRest place left step
 IsStep place left (Some level) step =
-    IsDrawn (is_drawn place (length left) level.behind) place level left step
+    IsDrawn (is_drawn place (length left) level.rest) place level left step

@@ -16,22 +16,22 @@ tag_by bytes (Ok head) = first_tag bytes
 unfoldable pub tag_in : List ℕ → ℕ
 tag_in bytes = tag_by bytes (header_of bytes)
 
-abbrev pub behind_len : Option ℕ → List ℕ → List ℕ
-behind_len None bytes = []
-behind_len (Some len) bytes = drop len bytes
+abbrev pub rest_len : Option ℕ → List ℕ → List ℕ
+rest_len None bytes = []
+rest_len (Some len) bytes = drop len bytes
 
-abbrev pub behind_by : List ℕ → Result Header ElementFault → List ℕ
-behind_by bytes (Err fault) = []
-behind_by bytes (Ok head) = behind_len head.content_len (drop head.len bytes)
+abbrev pub rest_by : List ℕ → Result Header ElementFault → List ℕ
+rest_by bytes (Err fault) = []
+rest_by bytes (Ok head) = rest_len head.content_len (drop head.len bytes)
 
--- the bytes behind it
-unfoldable pub behind : List ℕ → List ℕ
-behind bytes = behind_by bytes (header_of bytes)
+-- the bytes after it
+unfoldable pub rest : List ℕ → List ℕ
+rest bytes = rest_by bytes (header_of bytes)
 
 -- the tags of so many elements
 abbrev pub tags_in : ℕ → List ℕ → List ℕ
 tags_in zero bytes = []
-tags_in (suc most) bytes = tag_in bytes ∷ tags_in most (behind bytes)
+tags_in (suc most) bytes = tag_in bytes ∷ tags_in most (rest bytes)
 
 -- the tags begin with one of these
 abbrev pub begin_one : List (List ℕ) → List ℕ → Bool

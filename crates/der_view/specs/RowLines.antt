@@ -30,7 +30,7 @@ byte_word count = if count == 1 then codes " byte" else codes " bytes"
 abbrev pub bytes_text : ℕ → List ℕ
 bytes_text count = decimal count ++ byte_word count
 
--- each byte in two digits, behind a space
+-- each byte in two digits, after a space
 abbrev pub hex_words : List ℕ → List ℕ
 hex_words [] = []
 hex_words (byte ∷ bytes) = codes " " ++ (encode_upper (byte ∷ []) ++ hex_words bytes)
@@ -48,7 +48,7 @@ abbrev pub number_or_mark : Option ℕ → List ℕ
 number_or_mark (Some len) = decimal len
 number_or_mark None = codes "?"
 
--- the length, which ends 20 columns behind the offset, or one behind a longer header
+-- the length, which ends 20 columns after the offset, or one after a longer header
 abbrev pub length_text : ℕ → List ℕ → List ℕ
 length_text header_len number =
     spaces (max 1 (20 - (3 * header_len + length number))) ++ number
@@ -72,7 +72,7 @@ level_text depth = if nat_lt 16 depth then decimal depth ++ codes ": " else []
 abbrev pub indent : ℕ → List ℕ
 indent depth = spaces (min depth 16 * 2) ++ level_text depth
 
--- the bytes of a BIT STRING are those behind its first one
+-- the bytes of a BIT STRING are those after its first one
 abbrev pub len_in : Class → ℕ → ℕ → ℕ
 len_in classes.Universal number len = if number == 3 then len - 1 else len
 len_in _ number len = len
@@ -156,7 +156,7 @@ abbrev pub note_by : Shown → Option Field → Bool → List ℕ
 note_by (shows.Point point) field secret = point_text point
 note_by _ field secret = field_if field secret
 
--- a text with a note 29 columns behind this one, if there is a note and both fit into a line
+-- a text with a note 29 columns after this one, if there is a note and both fit into a line
 abbrev pub with_note : ℕ → List ℕ → List ℕ → List ℕ
 with_note start text note =
     let between = max 2 (start + 29 - length text) in

@@ -79,7 +79,7 @@ place_of state = record {
   plan = state.plan;
 }
 
--- X.690 section 8.1.5: bytes that are drawn are marked if an end-of-contents is missing behind them
+-- X.690 section 8.1.5: bytes that are drawn are marked if an end-of-contents is missing after them
 abbrev pub ended_marks : Bool → Kind → Marks → Marks
 ended_marks unended kinds.NotDrawn row_marks = row_marks
 ended_marks unended _ row_marks =

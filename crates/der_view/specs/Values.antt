@@ -244,12 +244,12 @@ value_by tag content = class_value tag.class tag.number content
 abbrev pub some_unused : ℕ → List ℕ
 some_unused unused = if unused == 0 then [] else unused_text unused
 
--- an identifier, behind its name if it has one
+-- an identifier, after its name if it has one
 abbrev pub identifier_text : Option NameView → List ℕ → List ℕ
 identifier_text None arcs = dotted arcs
 identifier_text (Some name) arcs = name.name ++ (codes " (" ++ (dotted arcs ++ codes ")"))
 
--- what is shown of a content, behind the name of its type
+-- what is shown of a content, after the name of its type
 abbrev pub value_text : ValueView → List ℕ
 value_text Nothing = []
 value_text (Count count) = count_text count

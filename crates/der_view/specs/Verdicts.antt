@@ -42,7 +42,7 @@ kept_verdict verdict = record {
 abbrev pub said : List ℕ → VerdictView
 said words = record { words = words; lead = []; command = None }
 
--- a command behind what it does, on the same line
+-- a command after what it does, on the same line
 abbrev pub beside : List ℕ → List ℕ → Option (List ℕ) → VerdictView
 beside words lead None = said words
 beside words lead (Some command) =
@@ -131,7 +131,7 @@ of_key reading facts =
     (if is_pem reading && knows_curve facts then Some ec_of_pem else None)
 
 -- whether bytes are a key all but for the form of the root's length, the parameters of its curve,
--- or bytes behind
+-- or bytes after
 abbrev pub is_form_of_key : Form → Bool
 is_form_of_key forms.EcPrivateKey = true
 is_form_of_key form = false

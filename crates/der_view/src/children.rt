@@ -9,7 +9,7 @@ ghost use Rattle.der_view.specs.Children.{optional, pfx, required, rsa_private_k
 use crate::element::is_tree;
 use crate::header::Header;
 
-/// As many children as a structure has, and the place behind them.
+/// As many children as a structure has, and the place after them.
 const MOST: usize = 10;
 
 /// Returns the tag byte at the beginning of the bytes; 00, which is no tag, if there is none.
@@ -22,14 +22,14 @@ pub(crate) fn first_tag(bytes: &[u8]) -> u8
     }
 }
 
-/// Returns the bytes behind so many; none, if there are fewer.
+/// Returns the bytes after so many; none, if there are fewer.
 pub(crate) fn after<'a>(bytes: &'a [u8], count: usize) -> &'a [u8]
     ensures { result.now ≡ drop count bytes.now }
 {
     &bytes[count.min(bytes.len())..]
 }
 
-/// Returns the bytes behind the header that these begin with.
+/// Returns the bytes after the header that these begin with.
 #[tactic(auto, unfolding(crate::specs::Children::inside))]
 pub(crate) fn inside<'a>(bytes: &'a [u8]) -> &'a [u8]
     ensures { result.now ≡ inside bytes.now }
@@ -71,7 +71,7 @@ const NO_CHILD: Child = Child {
 };
 
 impl Child {
-    /// Returns the child behind so many of these bytes, if it is whole in DER, or they end inside
+    /// Returns the child after so many of these bytes, if it is whole in DER, or they end inside
     /// it and that may be.
     #[tactic(auto, unfolding(crate::specs::Children::child_at))]
     fn new(bytes: &[u8], at: usize, may_be_cut: bool) -> Child
@@ -136,7 +136,7 @@ impl Child {
         }
     }
 
-    /// Returns no child, behind so many bytes.
+    /// Returns no child, after so many bytes.
     fn none(at: usize) -> Child
         ensures { result ≡ none_at at }
     {
@@ -283,11 +283,11 @@ fn fit(components: &[Component], children: &[Child]) -> usize
     let [component, components @ ..] = components else {
         return 0;
     };
-    let [child, behind @ ..] = children else {
+    let [child, rest @ ..] = children else {
         return 0;
     };
     if component.is(*child) {
-        1 + fit(components, behind)
+        1 + fit(components, rest)
     } else if component.optional {
         fit(components, children)
     } else {
@@ -305,7 +305,7 @@ fn followed(children: &[Child]) -> usize
     keys.max(others)
 }
 
-/// Returns the child behind so many others; no child, if there are fewer.
+/// Returns the child after so many others; no child, if there are fewer.
 #[tactic(auto, unfolding(crate::specs::Children::nth))]
 fn nth(children: &[Child], index: usize) -> Child
     ensures { result ≡ nth children.now index }
@@ -316,7 +316,7 @@ fn nth(children: &[Child], index: usize) -> Child
     }
 }
 
-/// Returns the children in these bytes of a root, the first one behind so many of them.
+/// Returns the children in these bytes of a root, the first one after so many of them.
 fn children_at(bytes: &[u8], start: usize, may_be_cut: bool) -> [Child; MOST]
     requires { start ≤ length bytes.now }
     ensures { result ≡ children_at most_children may_be_cut bytes.now start }
@@ -368,7 +368,7 @@ impl Children {
         Children::of(bytes, start, indefinite, is_cut, &children[..count], end)
     }
 
-    /// Returns these children, which end behind so many bytes of the root.
+    /// Returns these children, which end after so many bytes of the root.
     fn of(
         bytes: &[u8],
         start: usize,

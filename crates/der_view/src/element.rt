@@ -62,14 +62,14 @@ impl<'a> Element<'a> {
 }
 
 /// Borrows the bytes that are there of a content of this length, and returns what is marked if they
-/// aren't all: these bytes are left, and so many bytes of the input are behind them.
+/// aren't all: these bytes are left, and so many bytes of the input are after them.
 pub(crate) fn content_there(
-    behind: usize,
+    rest: usize,
     announced: Option<usize>,
     left: &[u8],
 ) -> (&[u8], Option<Mark>)
     ensures content { result.0.now ≡ take (len_within announced (length left.now)) left.now }
-    ensures cut { result.1 ≡ cut_mark behind announced (length left.now) }
+    ensures cut { result.1 ≡ cut_mark rest announced (length left.now) }
 {
     let there = left.len();
     match announced {
@@ -77,7 +77,7 @@ pub(crate) fn content_there(
         Some(announced) if announced <= there => (&left[..announced], None),
         Some(announced) => (
             left,
-            Some(if behind == 0 {
+            Some(if rest == 0 {
                 Mark::Missing {
                     missing: announced - there,
                     announced,

@@ -1,8 +1,8 @@
 //! What an EC private key has where bytes are others.
 ghost use Rattle.std.specs.Prelude.{◌≡◌};
-ghost use Rattle.der_view.specs.Expected.{behind_version, ends, expected_by, expected_in};
+ghost use Rattle.der_view.specs.Expected.{after_version, ends, expected_by, expected_in};
 ghost use Rattle.der_view.specs.Expected.{expected_of, expected_of_key, fault_of_fields};
-ghost use Rattle.der_view.specs.Expected.{fields_behind, fields_by, is_name, is_other_point};
+ghost use Rattle.der_view.specs.Expected.{fields_after, fields_by, is_name, is_other_point};
 ghost use Rattle.der_view.specs.KeyForms.{is_ec_key};
 
 use crate::children::{Child, Children, inside};
@@ -16,7 +16,7 @@ const VERSION: &[u8] = &[0x01];
 
 impl Children {
     /// Returns `true` if the root, of these bytes, has the children that are drawn and no more, and
-    /// so many bytes of input end behind it.
+    /// so many bytes of input end after it.
     #[tactic(auto, unfolding(crate::specs::Expected::ends))]
     pub(crate) fn ends(self, len: usize, root: &[u8]) -> bool
         ensures { result ≡ ends len root.now self }
@@ -57,15 +57,15 @@ impl Children {
         } else if drawn == 0 || !(content_of(root, self.first) == VERSION) {
             Some((self.start, Part::Version))
         } else if drawn == 1 || self.second.tag == 0x02 {
-            Some((self.behind_version(), Part::PrivateKey))
+            Some((self.after_version(), Part::PrivateKey))
         } else {
             self.fields_by(self.fault_of_fields(root))
         }
     }
 
     /// Returns the number of bytes of the root before what follows the version.
-    fn behind_version(self) -> usize
-        ensures { result ≡ behind_version self }
+    fn after_version(self) -> usize
+        ensures { result ≡ after_version self }
     {
         if self.count == 1 {
             self.end
@@ -74,7 +74,7 @@ impl Children {
         }
     }
 
-    /// Returns which field behind the private key isn't as a key has it.
+    /// Returns which field after the private key isn't as a key has it.
     fn fault_of_fields(self, root: &[u8]) -> Option<(usize, Part)>
         ensures { result ≡ fault_of_fields root.now self }
     {
@@ -98,14 +98,14 @@ impl Children {
             None => if self.finished {
                 None
             } else {
-                Some((self.end, self.fields_behind()))
+                Some((self.end, self.fields_after()))
             },
         }
     }
 
     /// Returns the fields that may follow, or the end.
-    fn fields_behind(self) -> Part
-        ensures { result ≡ fields_behind self }
+    fn fields_after(self) -> Part
+        ensures { result ≡ fields_after self }
     {
         if self.third.tag == 0xA1 || self.fourth.tag == 0xA1 {
             fields(false, false)
@@ -157,7 +157,7 @@ fn is_ec_key(form: Form) -> bool
 }
 
 /// Returns where bytes, whose root has this tag, aren't a key's: its children may be others from
-/// this place on, or be a key's; then the input ends behind them, or others follow.
+/// this place on, or be a key's; then the input ends after them, or others follow.
 fn expected_of_key(
     tag: u8,
     is_key: bool,

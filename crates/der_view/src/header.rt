@@ -84,7 +84,7 @@ fn tag_at(bytes: &[u8]) -> Result<(Tag, usize), ElementFault>
     ensures exact { result ≡ tag_at bytes.now }
     ensures bounds { IfOk result (λ x. (0 < x.1) × (x.1 ≤ length bytes.now)) }
 {
-    let [first, behind @ ..] = bytes else {
+    let [first, rest @ ..] = bytes else {
         return Err(ElementFault::TagCut);
     };
     let first = *first;
@@ -95,7 +95,7 @@ fn tag_at(bytes: &[u8]) -> Result<(Tag, usize), ElementFault>
     let (number, len) = if low < 0x1F {
         (low as u32, 0)
     } else {
-        high_number(behind)?
+        high_number(rest)?
     };
     let tag = Tag {
         class: class_of(first),
@@ -117,7 +117,7 @@ fn class_of(first: u8) -> Class
     }
 }
 
-/// Returns the number of a tag in the high form (X.690 section 8.1.2.4), which these bytes behind
+/// Returns the number of a tag in the high form (X.690 section 8.1.2.4), which these bytes after
 /// its first one begin with, and the number of its bytes.
 fn high_number(bytes: &[u8]) -> Result<(u32, usize), ElementFault>
     ensures exact { result ≡ number_after 4 0 bytes.now }

@@ -4,7 +4,7 @@ ghost use Rattle.der_view.specs.KeyForms.{at_place, content_of, drawn, drawn_int
 ghost use Rattle.der_view.specs.KeyForms.{drawn_of_sequence, drawn_to, form_of, form_of_integers};
 ghost use Rattle.der_view.specs.KeyForms.{form_of_sequence, form_of_string, inside_of};
 ghost use Rattle.der_view.specs.KeyForms.{is_container, is_other, is_versioned, key_by, key_in};
-ghost use Rattle.der_view.specs.KeyForms.{key_of_tag, place_behind};
+ghost use Rattle.der_view.specs.KeyForms.{key_of_tag, place_after};
 
 use crate::children::{Child, Children, after};
 use crate::field::{Field, Form};
@@ -144,12 +144,12 @@ impl Children {
     pub(crate) fn drawn_to(self, root: &[u8]) -> usize
         ensures { result ≡ drawn_to root.now self }
     {
-        self.place_behind(self.drawn(root))
+        self.place_after(self.drawn(root))
     }
 
     /// Returns the number of bytes of the root before what follows so many children.
-    fn place_behind(self, count: usize) -> usize
-        ensures { result ≡ place_behind self count }
+    fn place_after(self, count: usize) -> usize
+        ensures { result ≡ place_after self count }
     {
         if count == self.count {
             self.end
@@ -209,8 +209,8 @@ fn key_in(child: Child, root: &[u8]) -> Option<Field>
 pub(crate) fn content_of<'a>(root: &'a [u8], child: Child) -> &'a [u8]
     ensures { result.now ≡ content_of root.now child }
 {
-    let behind = after(root, child.start);
-    &behind[..child.len().min(behind.len())]
+    let rest = after(root, child.start);
+    &rest[..child.len().min(rest.len())]
 }
 
 /// Returns what the bytes of a whole element with this tag are, if they are a key.

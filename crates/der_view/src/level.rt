@@ -9,8 +9,8 @@ use crate::names::is_extension;
 /// An element that is open, or the input.
 #[derive(Clone, Copy)]
 pub(crate) struct Level {
-    /// The number of bytes of the input behind it.
-    pub behind: usize,
+    /// The number of bytes of the input after it.
+    pub rest: usize,
     /// Whether its length is indefinite.
     pub indefinite: bool,
     /// Its field.
@@ -31,7 +31,7 @@ impl Level {
         ensures { result ≡ input_level root }
     {
         Level {
-            behind: 0,
+            rest: 0,
             indefinite: false,
             field: None,
             next: root,
@@ -41,7 +41,7 @@ impl Level {
         }
     }
 
-    /// Returns the level after an element with this tag and content in it, behind so many of its
+    /// Returns the level after an element with this tag and content in it, after so many of its
     /// components.
     #[tactic(auto, unfolding(crate::specs::Levels::level_after))]
     pub(crate) fn after(self, passed: usize, tag: Tag, content: &[u8]) -> Level

@@ -97,7 +97,7 @@ impl Levels {
     {
         let mut indefinite = false;
         while let Some(level) = self.innermost() {
-            if left > level.behind {
+            if left > level.rest {
                 break;
             }
             indefinite = indefinite || level.indefinite;

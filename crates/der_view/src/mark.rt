@@ -96,7 +96,7 @@ pub enum Mark {
         /// The length of the content.
         announced: usize,
     },
-    /// The element ends behind the one around it.
+    /// The element ends after the one around it.
     Overlong {
         /// The length of the content.
         announced: usize,

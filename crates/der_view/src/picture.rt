@@ -197,7 +197,7 @@ fn write_marks<W: io::Write>(
     write_mark(writer, second)
 }
 
-/// Writes a content in lines of 16 bytes, each behind the end of the line before.
+/// Writes a content in lines of 16 bytes, each after the end of the line before.
 fn write_content<W: io::Write>(writer: &mut W, content: &[u8]) -> io::Result<()>
     ensures { OnOk result
         (Appends (W.contents writer.old) (W.contents writer.new) (content_text 0 content.now)) }
@@ -228,7 +228,7 @@ fn line_front(index: usize) -> &'static [u8]
     }
 }
 
-/// Returns a byte in two digits, behind a space.
+/// Returns a byte in two digits, after a space.
 #[tactic(auto, unfolding(hex::specs::Hex::encode_with))]
 fn hex_word(byte: u8) -> [u8; 3]
     ensures { result ≡ codes " " ++ encode_upper (byte ∷ []) }

@@ -59,19 +59,19 @@ impl Place {
         ensures step { IsStep self left.now level result }
     {
         match level {
-            Some(level) if self.is_drawn(left.len(), level.behind) => self.inside(left, level),
+            Some(level) if self.is_drawn(left.len(), level.rest) => self.inside(left, level),
             _ => self.rest(left),
         }
     }
 
     /// Returns `true` if a row is drawn here, where so many bytes are left, inside a level that so
-    /// many are behind.
+    /// many are after.
     #[tactic(auto, unfolding(crate::specs::Places::is_drawn))]
-    fn is_drawn(self, left: usize, behind: usize) -> bool
-        ensures exact { result ≡ is_drawn self left behind }
-        ensures some { result ≡ true → behind < left }
+    fn is_drawn(self, left: usize, rest: usize) -> bool
+        ensures exact { result ≡ is_drawn self left rest }
+        ensures some { result ≡ true → rest < left }
     {
-        !self.is_over() && left > behind
+        !self.is_over() && left > rest
     }
 
     /// Returns `true` if nothing more is drawn here.
@@ -108,7 +108,7 @@ impl Place {
 
     /// Returns the step over the next bytes inside this level.
     fn inside<'a>(self, left: &'a [u8], level: Level) -> Step<'a>
-        requires { level.behind < length left.now }
+        requires { level.rest < length left.now }
         ensures bytes { BeginsWith left.now result.row }
         ensures open { IsOpen self.all self.plan.guarded left.now result.row }
         ensures at { result.row.offset ≡ self.offset }
@@ -116,7 +116,7 @@ impl Place {
         ensures step { IsInside self (length left.now) level (inside_of level left.now)
             (header_of (inside_of level left.now)) result }
     {
-        let inside = &left[..left.len() - level.behind];
+        let inside = &left[..left.len() - level.rest];
         match Header::read(inside) {
             Ok(head) => self.element(left, level, inside, head),
             Err(fault) => self.no_element(left, level, inside, fault),
@@ -240,7 +240,7 @@ impl Place {
         ensures seen { IsFirst (open_len self.plan.guarded head.tag result.field
             result.content.now) result.content.now result.seen.now }
     {
-        let (content, cut) = content_there(level.behind, head.content_len, &inside[head.len..]);
+        let (content, cut) = content_there(level.rest, head.content_len, &inside[head.len..]);
         let component = self.component(level, inside);
         let field = match component {
             Some((field, _)) => Some(field),
@@ -375,7 +375,7 @@ impl Place {
     {
         let head = element.head;
         Level {
-            behind: left
+            rest: left
                 .saturating_sub(head.len)
                 .saturating_sub(element.content.len()),
             indefinite: head.content_len.is_none(),

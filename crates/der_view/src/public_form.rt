@@ -1,6 +1,6 @@
 //! What bytes are that have no private key.
 ghost use Rattle.std.specs.Prelude.{◌≡◌};
-ghost use Rattle.der_view.specs.PublicForms.{begin_one, behind, behind_len, certificates};
+ghost use Rattle.der_view.specs.PublicForms.{begin_one, rest, rest_len, certificates};
 ghost use Rattle.der_view.specs.PublicForms.{form_by_tags, form_of_signed, lists, public_form};
 ghost use Rattle.der_view.specs.PublicForms.{tag_in, tags_in};
 
@@ -71,9 +71,9 @@ fn is_list(tags: &[u8]) -> bool
 fn first_tags(bytes: &[u8]) -> [u8; 4]
     ensures { result ≡ tags_in 4 bytes.now }
 {
-    let second = behind(bytes);
-    let third = behind(second);
-    let fourth = behind(third);
+    let second = rest(bytes);
+    let third = rest(second);
+    let fourth = rest(third);
     [tag_in(bytes), tag_in(second), tag_in(third), tag_in(fourth)]
 }
 
@@ -88,20 +88,20 @@ fn tag_in(bytes: &[u8]) -> u8
     }
 }
 
-/// Returns the bytes behind the element that these begin with, if it is of a definite length.
-#[tactic(auto, unfolding(crate::specs::PublicForms::behind))]
-fn behind<'a>(bytes: &'a [u8]) -> &'a [u8]
-    ensures { result.now ≡ behind bytes.now }
+/// Returns the bytes after the element that these begin with, if it is of a definite length.
+#[tactic(auto, unfolding(crate::specs::PublicForms::rest))]
+fn rest<'a>(bytes: &'a [u8]) -> &'a [u8]
+    ensures { result.now ≡ rest bytes.now }
 {
     match Header::read(bytes) {
-        Ok(head) => behind_len(head.content_len, &bytes[head.len..]),
+        Ok(head) => rest_len(head.content_len, &bytes[head.len..]),
         Err(_) => &[],
     }
 }
 
-/// Returns the bytes behind a content of this length.
-fn behind_len<'a>(len: Option<usize>, bytes: &'a [u8]) -> &'a [u8]
-    ensures { result.now ≡ behind_len len bytes.now }
+/// Returns the bytes after a content of this length.
+fn rest_len<'a>(len: Option<usize>, bytes: &'a [u8]) -> &'a [u8]
+    ensures { result.now ≡ rest_len len bytes.now }
 {
     match len {
         Some(len) => after(bytes, len),

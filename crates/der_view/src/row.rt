@@ -89,7 +89,7 @@ pub struct OpenRow<'a> {
     pub content: Option<&'a [u8]>,
 }
 
-/// Returns the marks of a header with these bytes, behind others.
+/// Returns the marks of a header with these bytes, after others.
 pub(crate) fn header_marks(bytes: &[u8], head: &Header, marks: Marks) -> Marks
     requires { head.now.tag_len ≤ head.now.len }
     ensures { result ≡ marks_of_header bytes.now head.now marks }

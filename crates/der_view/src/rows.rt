@@ -108,7 +108,7 @@ impl<'a> Rows<'a> {
     }
 }
 
-/// Returns the marks of a row of this kind, if an end-of-contents is missing behind it or not.
+/// Returns the marks of a row of this kind, if an end-of-contents is missing after it or not.
 fn ended_marks(unended: bool, kind: Kind, marks: Marks) -> Marks
     ensures { result ≡ ended_marks unended kind marks }
 {

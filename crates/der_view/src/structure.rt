@@ -174,7 +174,7 @@ fn components(field: Field) -> &'static [Component]
     }
 }
 
-/// Returns the field of an element with this tag byte inside one with the first field, behind so
+/// Returns the field of an element with this tag byte inside one with the first field, after so
 /// many of its components, and the number of components up to it.
 pub(crate) fn inner_field(outer: Field, passed: usize, tag: u8) -> Option<(Field, usize)>
     ensures { result ≡ next_component passed (drop passed (structure outer)) tag }

@@ -37,13 +37,13 @@ pub opened_read : (f : Fault) (tag : ℕ) (content : Option (List ℕ)) (inside 
     → (inside ≡ reader_over inside.unread) × HasReadElement tag inside.unread old new
     → content ≡ Some inside.unread → (inside.failed ≡ false → f inside.unread ≡ None)
     → IsSomeAnd (element_of tag content) (λ whole. HasRead whole old new)
-    × ((behind : Fault) → element_fault tag f behind old.unread ≡ behind new.unread)
+    × ((rest : Fault) → element_fault tag f rest old.unread ≡ rest new.unread)
 opened_read f tag content inside old new found same meets = (
   rw (element_of-within tag content inside.unread same found.1.within) found.1.read,
   (opened_passes f tag inside old new found meets).next,
 )
 
--- the element whose content was opened and read, with nothing behind it, is all that there was
+-- the element whose content was opened and read, with nothing after it, is all that there was
 pub opened_whole : (tag : ℕ) (content : Option (List ℕ)) (inside old new : Reader)
     → (inside ≡ reader_over inside.unread) × HasReadElement tag inside.unread old new
     → content ≡ Some inside.unread → new ≡ reader_over []
@@ -53,7 +53,7 @@ opened_whole tag content inside old new (is, read) same end =
     rw same (refl, read) in
     read_whole no_fault tag content old new some end
 
--- a reader over an element has nothing behind it
+-- a reader over an element has nothing after it
 pub over_element : (tag : ℕ) (inside input : List ℕ) (r : Reader) → r ≡ reader_over input
     → input ≡ element tag inside
     → r ≡ reader_over (element tag inside ++ [])
@@ -62,7 +62,7 @@ over_element tag inside input r is e = is ∙ ap reader_over (e ∙ sym (append-
 -- the element whose content was opened is refused by the kind of its content
 pub opened_refused : (f : Fault) (tag : ℕ) (inside old new : Reader) (kind : ErrorKind)
     → HasReadElement tag inside.unread old new → IsFaultOf (f inside.unread) kind
-    → (behind : Fault) → IsFaultOf (element_fault tag f behind old.unread) kind
-opened_refused f tag inside old new kind read refused behind =
-    refused_more f behind tag old.unread kind
+    → (rest : Fault) → IsFaultOf (element_fault tag f rest old.unread) kind
+opened_refused f tag inside old new kind read refused rest =
+    refused_more f rest tag old.unread kind
     (rw (read_element f no_fault tag inside.unread old new read ∙ alone (f inside.unread)) refused)

@@ -33,12 +33,12 @@ public_key_says =
     element_says 0x30 algorithm_fault _ algorithm_says
     (element_says 0x03 bit_string_fault end_fault bits_says end_says)
 
-time_says : (behind : Fault) → SaysKinds behind → SaysKinds (time_fault behind)
-time_says behind says =
+time_says : (rest : Fault) → SaysKinds rest → SaysKinds (time_fault rest)
+time_says rest says =
     choice_says (0x17 ∷ []) (element_fault 0x17 (λ utc. value_unless (is_utc_time utc)))
-    (element_fault 0x18 (λ general. value_unless (is_generalized_time general))) behind
-    (element_says 0x17 (λ utc. value_unless (is_utc_time utc)) behind (test_says is_utc_time) says)
-    (element_says 0x18 (λ general. value_unless (is_generalized_time general)) behind
+    (element_fault 0x18 (λ general. value_unless (is_generalized_time general))) rest
+    (element_says 0x17 (λ utc. value_unless (is_utc_time utc)) rest (test_says is_utc_time) says)
+    (element_says 0x18 (λ general. value_unless (is_generalized_time general)) rest
     (test_says is_generalized_time) says)
 
 validity_says : SaysKinds validity_fault

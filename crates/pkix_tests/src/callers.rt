@@ -133,7 +133,7 @@ fn refuses_containers_without_an_elliptic_key(rt: HostRuntime) {
     assert_equal(&rt, &key_refusal(&bytes), &Some(Error::Crypto));
 }
 
-/// A container with attributes behind the key (RFC 5208 section 5), of which there are none, and
+/// A container with attributes after the key (RFC 5208 section 5), of which there are none, and
 /// one with a byte more.
 #[test]
 fn reads_a_key_before_attributes(rt: HostRuntime) -> Result<(), Fail> {
@@ -182,7 +182,7 @@ fn refuses_to_write_an_odd_number_of_octets(rt: HostRuntime) {
     assert_equal(&rt, &error, &Some(ErrorKind::Overlength.into()));
 }
 
-/// A hash value of SHA-256, behind the bytes of RFC 8017 section 9.2, note 1.
+/// A hash value of SHA-256, after the bytes of RFC 8017 section 9.2, note 1.
 #[test]
 fn reads_and_writes_a_hash_value(rt: HostRuntime) {
     let mut der = [0xAB; 51];

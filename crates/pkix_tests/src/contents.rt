@@ -191,7 +191,7 @@ fn reads_times(rt: HostRuntime) {
 }
 
 /// Times in ascending order. Of two in a row, the first field in which they differ decides, and
-/// each field behind it is the other way round.
+/// each field after it is the other way round.
 static ASCENDING_TIMES: [&[u8]; 7] = [
     b"20231231235959Z",
     b"20241130225858Z",

@@ -114,7 +114,7 @@ compress_front : {N L : ℕ} (p : EncodedPoint N L) (y tag : ℕ) → Some y ≡
     → take (N + 1) (set p.bytes 0 tag) ≡ encoding N (compressed_point (point_of p))
 compress_front {N} p y tag h e = grind (arith, begins p, compress_of N (point_of p) (drop p.len p.bytes) y tag h e)
 
--- An encoding of the greatest length has y behind x, and a shorter one has no y.
+-- An encoding of the greatest length has y after x, and a shorter one has no y.
 whole_of : (n : ℕ) (p : Point) (x y : ℕ) → 1 ≤ n → length (encoding n p) ≡ 2 * n + 1
     → point_from (byte_of (point_tag p)) x y ≡ p → Some y ≡ y_of p
 whole_of n p x y some e h = grind (arith, length-enc n p)
@@ -130,7 +130,7 @@ short_front {N} p short =
     let same = short_of N (point_of p) (omega (arith, len, short, p.room, p.sizes.1)) in
     rw same (grind (arith, p.encoded))
 
--- Of a point that fills it, the compressed form is x behind the tag of y's parity.
+-- Of a point that fills it, the compressed form is x after the tag of y's parity.
 pub whole_front : {N L : ℕ} (p : EncodedPoint N L) (y : List ℕ) (tag : ℕ) → p.len ≡ L
     → y ≡ take N (drop N (drop 1 p.bytes)) → length y ≡ N → tag ≡ cond (number_of y % 2 == 1) 3 2
     → take (N + 1) (set p.bytes 0 tag) ≡ encoding N (compressed_point (point_of p))

@@ -93,8 +93,8 @@ key_found_with key P h = found_with key P (element_of 0x30 (key_content key)) re
 
 -- An element that ends too early is refused as Truncated: the law `cut_elements` says it.
 abbrev CutElements : Type 0
-CutElements = (inside behind : Fault) (tag : ℕ) (content bytes : List ℕ) → length content ≤ max_length
-    → IsProperPrefix bytes (element tag content) → element_fault tag inside behind bytes ≡ Some (Some Truncated)
+CutElements = (inside rest : Fault) (tag : ℕ) (content bytes : List ℕ) → length content ≤ max_length
+    → IsProperPrefix bytes (element tag content) → element_fault tag inside rest bytes ≡ Some (Some Truncated)
 
 -- Bytes that a key's continue are refused as Truncated.
 pub key_cut : CutElements → (key : Key) (bytes input : List ℕ) → IsKeyOf key bytes → IsProperPrefix input bytes

@@ -106,7 +106,7 @@ Skips n tag rest =
     (suc (length rest) ≡ message_len tag n)
     × ((byte_of tag == 6 || byte_of tag == 7) ≡ true → get_or rest (length rest - 1) 0 % 2 ≡ byte_of tag % 2)
 
--- Behind the first half is the second.
+-- After the first half is the second.
 pub half : (n : ℕ) (rest : List ℕ) → length rest ≡ 2 * n → take n (drop n rest) ≡ drop n rest
 half n rest e = take_all n (drop n rest) (omega (arith, length-drop n rest))
 

@@ -39,9 +39,9 @@ fn identifier(content: &[u8]) -> Result<ObjectIdentifier> {
 pub extern "C" fn bench_headers_read(input: &[u8]) -> usize {
     let mut rest = input;
     let mut sum: usize = 0;
-    while let Ok((header, behind)) = header(rest) {
+    while let Ok((header, after)) = header(rest) {
         sum = sum.wrapping_add(header.length.get());
-        rest = behind;
+        rest = after;
     }
     sum
 }

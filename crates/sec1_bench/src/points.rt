@@ -116,11 +116,11 @@ fn points(input: &[u8]) -> [EncodedPoint32; COUNT] {
         if rest.len() < LEN {
             break;
         }
-        let (front, behind) = rest.split_at(LEN);
+        let (front, after) = rest.split_at(LEN);
         if let Ok(point) = EncodedPoint32::from_bytes(front) {
             points[i] = point;
         }
-        rest = behind;
+        rest = after;
     }
     points
 }

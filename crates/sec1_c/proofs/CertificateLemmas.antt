@@ -12,7 +12,7 @@ use Rattle.sec1_c.specs.Places.{StandsAt}
 use Rattle.sec1_c.proofs.FieldLemmas.{limited}
 use Rattle.sec1_c.proofs.PlaceLemmas.{stands_before}
 
--- A certificate is a front, the SubjectPublicKeyInfo, and what follows it in the TBSCertificate and behind that.
+-- A certificate is a front, the SubjectPublicKeyInfo, and what follows it in the TBSCertificate and after that.
 record IsSplit (certificate : Certificate) (bytes : List ℕ) : Type 0 where
   front : List ℕ
   info : List ℕ

@@ -50,13 +50,13 @@ same : (fault : Option (Option ErrorKind)) → IsChosen fault fault fault
 same fault = record { by_value = λ _. refl; by_other = λ _. refl }
 
 -- what follows refuses nothing as Value
-followed : (first second chosen behind : Option (Option ErrorKind)) → behind ≢ Some (Some Value)
+followed : (first second chosen rest : Option (Option ErrorKind)) → rest ≢ Some (Some Value)
     → IsChosen first second chosen
-    → IsChosen (option_or first behind) (option_or second behind) (option_or chosen behind)
-followed None second chosen behind other is =
+    → IsChosen (option_or first rest) (option_or second rest) (option_or chosen rest)
+followed None second chosen rest other is =
     let e : chosen ≡ None = is.by_other (λ e. absurd (cc e)) in
     record { by_value = λ e. absurd (other e); by_other = λ _. rw e refl }
-followed (Some said) second chosen behind other is = record {
+followed (Some said) second chosen rest other is = record {
   by_value = λ e. rw (is.by_value e) refl;
   by_other = λ e. rw (is.by_other e) refl;
 }
@@ -121,8 +121,8 @@ version_chosen f g (byte ∷ bytes) = by (byte == 0x02) (within (length_at bytes
         versions (bytes_eq x.0 (1 ∷ [])) (bytes_eq x.0 (0 ∷ [])) (f x.1) (g x.1) (not_both x.0)
 
 -- what follows the version in version 0
-abbrev behind_version : Fault
-behind_version =
+abbrev after_version : Fault
+after_version =
     element_fault 0x30 algorithm_fault
     (element_fault 0x04 no_fault (optional_fault 0xA0 (set_fault 0x30 key_attribute_fault) end_fault))
 
@@ -162,7 +162,7 @@ other_version container bytes is =
     let rest = parted (element_of 0x02 (Some (1 ∷ []))) _ whole.inside whole.same in
     let version : rest.front ≡ element 0x02 (1 ∷ []) = cc rest.first_there in
     let split : whole.inside ≡ element 0x02 (1 ∷ []) ++ rest.back = grind (arith, rest.joined, version) in
-    let first = element_at (byte_fault 0) behind_version 0x02 (1 ∷ []) whole.inside rest.back (lit≤ tt) split in
+    let first = element_at (byte_fault 0) after_version 0x02 (1 ∷ []) whole.inside rest.back (lit≤ tt) split in
     let outer = element_at private_key_fault end_fault 0x30 whole.inside bytes []
     whole.at.within (grind (arith, append-nil, whole.at.encoded)) in
     outer ∙ ap (λ (fault : Option (Option ErrorKind)). option_or fault None) first
@@ -247,11 +247,11 @@ no_other error container bytes only e other is =
 -- A container is a front, the content of its curve's identifier, the OCTET STRING, and what follows that.
 record IsSplit (curve : Curve) (container : OneAsymmetricKey) (bytes : List ℕ) : Type 0 where
   front : List ℕ
-  behind : List ℕ
-  behind_there : after_key container ≡ Some behind
-  split : bytes ≡ front ++ (curve_content curve ++ (element 0x04 container.private_key ++ behind))
+  rest : List ℕ
+  rest_there : after_key container ≡ Some rest
+  split : bytes ≡ front ++ (curve_content curve ++ (element 0x04 container.private_key ++ rest))
   key_there : element_of 0x04 (Some container.private_key) ≡ Some (element 0x04 container.private_key)
-  within : length (element 0x04 container.private_key) + length behind ≤ max_length
+  within : length (element 0x04 container.private_key) + length rest ≤ max_length
 
 split_version : (version : ℕ) (curve : Curve) (container : OneAsymmetricKey) (bytes : List ℕ)
     → element_of 0x30 (container_content version container) ≡ Some bytes
@@ -269,8 +269,8 @@ split_version version curve container bytes is on =
     let field : parts.back ≡ element 0x04 container.private_key = key.at.encoded ∙ ap (element 0x04) content in
     record {
       front = header 0x30 (length whole.inside) ++ (rest.front ++ algorithm.front);
-      behind = fields.back;
-      behind_there = fields.second_there;
+      rest = fields.back;
+      rest_there = fields.second_there;
       split = grind (arith, append_assoc);
       key_there = parts.second_there ∙ ap Some field;
       within = grind (arith, length-append, whole.at.within);
@@ -293,16 +293,16 @@ are_container_parts curve container bytes is on =
     let field = element 0x04 key in
     let front = parts.front ++ (content ++ header 0x04 (length key)) in
     record {
-      curve_is = rw (parts.behind_there, parts.key_there)
-          (stands_before bytes parts.front content (field ++ parts.behind) _ parts.split
+      curve_is = rw (parts.rest_there, parts.key_there)
+          (stands_before bytes parts.front content (field ++ parts.rest) _ parts.split
           (grind (arith, length-append)));
-      key = rw (parts.behind_there)
-          (stands_before bytes front key parts.behind _ (grind (arith, append_assoc)) (grind (arith, length-append)));
+      key = rw (parts.rest_there)
+          (stands_before bytes front key parts.rest _ (grind (arith, append_assoc)) (grind (arith, length-append)));
     }
 
 -- The lengths of the fields can be computed, and have room in the bytes of a container.
 pub record HaveRoom (curve : Curve) (container : OneAsymmetricKey) (bytes : List ℕ) : Type 0 where
-  pub behind : IsSome (within_limit (after_key container))
+  pub rest : IsSome (within_limit (after_key container))
   pub key : IsSome (within_limit (element_of 0x04 (Some container.private_key)))
   pub room :
       length (curve_content curve)
@@ -315,10 +315,10 @@ pub parts_fit : (curve : Curve) (container : OneAsymmetricKey) (bytes : List ℕ
 parts_fit curve container bytes is on =
     let parts = split_container curve container bytes is on in
     record {
-      behind = limited (after_key container) parts.behind parts.behind_there (omega (arith, parts.within));
+      rest = limited (after_key container) parts.rest parts.rest_there (omega (arith, parts.within));
       key = limited _ (element 0x04 container.private_key) parts.key_there (omega (arith, parts.within));
-      room = rw (parts.key_there, parts.behind_there) (grind (arith, length-append));
-      content = rw (parts.behind_there) (grind (arith, length-append));
+      room = rw (parts.key_there, parts.rest_there) (grind (arith, length-append));
+      content = rw (parts.rest_there) (grind (arith, length-append));
     }
 
 -- A container is a front, the algorithm, the OCTET STRING, and what follows that.
@@ -326,12 +326,12 @@ record IsParted (container : OneAsymmetricKey) (bytes : List ℕ) : Type 0 where
   front : List ℕ
   algorithm : List ℕ
   key : List ℕ
-  behind : List ℕ
+  rest : List ℕ
   algorithm_there : element_of 0x30 (algorithm_content container.algorithm) ≡ Some algorithm
   key_there : element_of 0x04 (Some container.private_key) ≡ Some key
-  behind_there : after_key container ≡ Some behind
-  split : bytes ≡ front ++ (algorithm ++ (key ++ behind))
-  within : length algorithm + (length key + length behind) ≤ max_length
+  rest_there : after_key container ≡ Some rest
+  split : bytes ≡ front ++ (algorithm ++ (key ++ rest))
+  within : length algorithm + (length key + length rest) ≤ max_length
 
 part_version : (version : ℕ) (container : OneAsymmetricKey) (bytes : List ℕ)
     → element_of 0x30 (container_content version container) ≡ Some bytes
@@ -346,10 +346,10 @@ part_version version container bytes is =
       front = header 0x30 (length whole.inside) ++ rest.front;
       algorithm = parts.front;
       key = parts.back;
-      behind = fields.back;
+      rest = fields.back;
       algorithm_there = parts.first_there;
       key_there = parts.second_there;
-      behind_there = fields.second_there;
+      rest_there = fields.second_there;
       split = grind (arith, append_assoc);
       within = grind (arith, length-append, whole.at.within);
     }
@@ -361,7 +361,7 @@ part_container container bytes (inr is) = part_version 1 container bytes is
 
 -- The lengths of the algorithm and of what follows it can be computed, and have room in the bytes of a container.
 pub record HaveAlgorithm (container : OneAsymmetricKey) (bytes : List ℕ) : Type 0 where
-  pub behind : IsSome (within_limit (after_key container))
+  pub rest : IsSome (within_limit (after_key container))
   pub key : IsSome (within_limit (element_of 0x04 (Some container.private_key)))
   pub algorithm : IsSome (within_limit (element_of 0x30 (algorithm_content container.algorithm)))
   pub room :
@@ -373,8 +373,8 @@ pub algorithm_fits : (container : OneAsymmetricKey) (bytes : List ℕ) → IsCon
 algorithm_fits container bytes is =
     let parts = part_container container bytes is in
     record {
-      behind = limited (after_key container) parts.behind parts.behind_there (omega (arith, parts.within));
+      rest = limited (after_key container) parts.rest parts.rest_there (omega (arith, parts.within));
       key = limited _ parts.key parts.key_there (omega (arith, parts.within));
       algorithm = limited _ parts.algorithm parts.algorithm_there (omega (arith, parts.within));
-      room = rw (parts.algorithm_there, parts.key_there, parts.behind_there) (grind (arith, length-append));
+      room = rw (parts.algorithm_there, parts.key_there, parts.rest_there) (grind (arith, length-append));
     }

@@ -42,13 +42,13 @@ written_text lower_case bytes buffer text rest fits encoded is some =
     let digits = hex_text_len lower_case bytes in
     let len = length-append (hex_text lower_case bytes) (0 ∷ []) in
     let all : length (ended (hex_text lower_case bytes)) ≡ 2 * length bytes + 1 = omega (arith, digits, len) in
-    let behind : drop (2 * length bytes + 1) buffer ≡ drop 1 rest =
+    let after : drop (2 * length bytes + 1) buffer ≡ drop 1 rest =
     rw is (sym (drop-drop 1 (2 * length bytes) buffer)) in
     record {
       len = omega (arith, all);
       fits = λ _. (
         refl,
-        rw (all, behind, encoded, byte_put rest some)
+        rw (all, after, encoded, byte_put rest some)
             (sym (append_assoc (hex_text lower_case bytes) (0 ∷ []) (drop 1 rest))),
       );
       short = λ short. absurd (omega (arith, all, short, fits));

@@ -25,7 +25,7 @@ pub are_point_parts : (n : ℕ) (p : Point) (input : List ℕ) → Encodes n p i
     → ArePointPartsOf n p input (point_places n p)
 unfolding encoding
 are_point_parts n p input e =
-    let behind = drop-append-add (tag_byte p ∷ []) (drop 1 (encoding n p)) n in
+    let rest = drop-append-add (tag_byte p ∷ []) (drop 1 (encoding n p)) n in
     grind (arith, take_at, drop_at, take_all, length-append, length-fixed_width)
 
 -- ---- encodings

@@ -34,11 +34,11 @@ abbrev pub form_fault : Fault
 form_fault = element_fault 0x02 no_fault (tag_fault 0x30)
 
 -- what a reader finds
-pub found_form : (bytes : List ℕ) (first content behind rest : Reader) (number : List ℕ) → first.unread ≡ bytes
-    → HasReadElement 0x30 content.unread first behind → HasReadElement 0x02 number content rest
+pub found_form : (bytes : List ℕ) (first content after rest : Reader) (number : List ℕ) → first.unread ≡ bytes
+    → HasReadElement 0x30 content.unread first after → HasReadElement 0x02 number content rest
     → has_algorithm bytes ≡ is_whole (tag_fault 0x30 rest.unread)
-found_form bytes first content behind rest number is outer inner =
-    let whole = read_element form_fault no_fault 0x30 content.unread first behind outer in
+found_form bytes first content after rest number is outer inner =
+    let whole = read_element form_fault no_fault 0x30 content.unread first after outer in
     let parts = read_element no_fault (tag_fault 0x30) 0x02 number content rest inner in
     ap is_whole
     (ap (element_fault 0x30 form_fault no_fault) (sym is) ∙ (whole ∙ (alone (form_fault content.unread) ∙ parts)))
@@ -56,19 +56,19 @@ not_form (byte ∷ bytes) kind is = by (byte == 0x02) (content_at bytes) is
     by true (Err k) is = refl
     by true (Ok x) is = absurd is
 
-pub refused_form : (bytes : List ℕ) (first content behind : Reader) (kind : ErrorKind) → first.unread ≡ bytes
-    → HasReadElement 0x30 content.unread first behind
+pub refused_form : (bytes : List ℕ) (first content rest : Reader) (kind : ErrorKind) → first.unread ≡ bytes
+    → HasReadElement 0x30 content.unread first rest
     → IsFaultOf (element_fault 0x02 no_fault no_fault content.unread) kind
     → has_algorithm bytes ≡ false
-refused_form bytes first content behind kind is outer refused =
-    let whole = read_element form_fault no_fault 0x30 content.unread first behind outer in
+refused_form bytes first content rest kind is outer refused =
+    let whole = read_element form_fault no_fault 0x30 content.unread first rest outer in
     ap is_whole (ap (element_fault 0x30 form_fault no_fault) (sym is) ∙ (whole ∙ alone (form_fault content.unread)))
     ∙ not_form content.unread kind refused
 
 -- a SEQUENCE that begins with an INTEGER of one byte, and what follows that begins with this tag
 record BeginsWith (tag : ℕ) (bytes : List ℕ) : Type 0 where
-  behind : List ℕ
-  split : bytes ≡ tag ∷ behind
+  rest : List ℕ
+  split : bytes ≡ tag ∷ rest
 
 form_of : (version tag : ℕ) (rest : Option (List ℕ)) (bytes : List ℕ)
     → element_of 0x30 (join (element_of 0x02 (Some (version ∷ []))) rest) ≡ Some bytes
@@ -87,25 +87,25 @@ form_of version tag rest bytes is begins =
     ap is_whole (outer ∙ (alone (form_fault whole.inside) ∙ (inner ∙ last)))
 
 -- a row of fields begins with the tag of its first one
-row_begins : (tag : ℕ) (content behind : Option (List ℕ)) (back : List ℕ)
-    → join (element_of tag content) behind ≡ Some back
+row_begins : (tag : ℕ) (content rest : Option (List ℕ)) (back : List ℕ)
+    → join (element_of tag content) rest ≡ Some back
     → BeginsWith tag back
-row_begins tag content behind back e =
-    let parts = parted (element_of tag content) behind back e in
+row_begins tag content rest back e =
+    let parts = parted (element_of tag content) rest back e in
     let first = element_of-some tag content parts.front parts.first_there in
     record {
-      behind = (length_octets (length first.inside) ++ first.inside) ++ parts.back;
+      rest = (length_octets (length first.inside) ++ first.inside) ++ parts.back;
       split = parts.joined ∙ ap (λ xs. xs ++ parts.back) first.at.encoded;
     }
 
-rows_begin : (tag : ℕ) (content second behind : Option (List ℕ)) (back : List ℕ)
-    → join (join (element_of tag content) second) behind ≡ Some back
+rows_begin : (tag : ℕ) (content second rest : Option (List ℕ)) (back : List ℕ)
+    → join (join (element_of tag content) second) rest ≡ Some back
     → BeginsWith tag back
-rows_begin tag content second behind back e =
-    let parts = parted (join (element_of tag content) second) behind back e in
+rows_begin tag content second rest back e =
+    let parts = parted (join (element_of tag content) second) rest back e in
     let first = row_begins tag content second parts.front parts.first_there in
     record {
-      behind = first.behind ++ parts.back;
+      rest = first.rest ++ parts.back;
       split = parts.joined ∙ ap (λ xs. xs ++ parts.back) first.split;
     }
 

@@ -51,10 +51,10 @@ pub record AreContainedPartsOf (curve : Curve) (key : Key) (input : List ℕ)
   pub curve_is : StandsAt input parts.curve (curve_content curve)
   pub public_key : IsPart input parts.public_key key.public_key
 
--- the places of the parts of a key, behind the start of the key in its container, and that of the
+-- the places of the parts of a key, after the start of the key in its container, and that of the
 -- curve in the container's algorithm
-abbrev pub places_behind : PrivateKeyInfoParts → KeyParts → KeyParts
-places_behind outer inner = record {
+abbrev pub places_after : PrivateKeyInfoParts → KeyParts → KeyParts
+places_after outer inner = record {
   private_key = span_shifted outer.key.offset inner.private_key;
   curve = outer.curve;
   public_key = span_shifted outer.key.offset inner.public_key;
@@ -63,7 +63,7 @@ places_behind outer inner = record {
 -- the places of the parts in the bytes of the container
 abbrev pub contained_places : Curve → OneAsymmetricKey → Key → List ℕ → KeyParts
 contained_places curve container key input =
-    places_behind (container_places curve container input)
+    places_after (container_places curve container input)
     (key_places key container.private_key)
 
 -- the index at which the key in a container begins

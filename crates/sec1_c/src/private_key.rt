@@ -12,7 +12,7 @@ ghost use Rattle.sec1_der.specs.Faults.{element_fault, end_fault};
 ghost use Rattle.sec1_c.specs.Containers.{IsContainer};
 ghost use Rattle.sec1_c.specs.KeyPlaces.{ArePartsOf, IsKey, key_places};
 ghost use Rattle.sec1_c.specs.PrivateKeys.{AreContainedPartsOf, IsContained, IsKeyIn};
-ghost use Rattle.sec1_c.specs.PrivateKeys.{contained_places, has_algorithm, places_behind};
+ghost use Rattle.sec1_c.specs.PrivateKeys.{contained_places, has_algorithm, places_after};
 ghost use Rattle.sec1_c.specs.PrivateKeys.{tag_fault};
 ghost use Rattle.sec1_c.specs.Statuses.{curve_number, fault_number, kind_number};
 ghost use Rattle.sec1_c.specs.Statuses.{other_curve_number};
@@ -153,7 +153,7 @@ fn names_curve(key: &EcPrivateKey, curve: Curve) -> bool
 fn places_in(outer: &PrivateKeyInfoParts, inside: &[u8], key: &EcPrivateKey) -> KeyParts
     requires is_key { IsKeyOf key.now inside.now }
     requires room { outer.now.key.offset + length inside.now < 2 ^ 64 }
-    ensures { result ≡ places_behind outer.now (key_places key.now inside.now) }
+    ensures { result ≡ places_after outer.now (key_places key.now inside.now) }
 {
     let inner = key::places::places(inside, key);
     KeyParts {

@@ -22,8 +22,8 @@ element_apart tag tag' b c r s e =
     let there = append_assoc (header tag' (length c)) c s in
     let heads = header_apart tag (length b) tag' (length c) (b ++ r) (c ++ s)
     (sym here ∙ e ∙ there) in
-    let (contents, behind) = split_same b c r s heads.1 heads.2 in
-    (heads.0, contents, behind)
+    let (contents, rest) = split_same b c r s heads.1 heads.2 in
+    (heads.0, contents, rest)
 
 -- the bytes are those of the element with this tag and content, and no more
 pub record IsElementOf (tag : ℕ) (content bytes : List ℕ) : Type 0 where

@@ -37,9 +37,9 @@ from_start rest front inside end start within e l =
     ∙ (ap (λ xs. xs ++ drop room rest) e ∙ append_assoc front inside (drop room rest)) in
     let count : length front
     ≡ start = omega (arith, ap length e, length-append front inside, length-take-le room rest (omega arith)) in
-    let behind = take_rest rest start
+    let after = take_rest rest start
     ∙ (ap (drop start) row ∙ drop_at front (inside ++ drop room rest) start count) in (
-      row ∙ ap (λ xs. front ++ xs) (sym behind),
+      row ∙ ap (λ xs. front ++ xs) (sym after),
       omega (arith, length-take (length rest - start) (drop start rest), length-drop start rest),
     )
 
@@ -52,7 +52,7 @@ pub opens_at : (rest inside ends : List ℕ) (tag n end m : ℕ) → IsInFront r
 opens_at rest inside ends tag n end m f is same some constructed =
     let few = inside_within rest (header tag n) inside (length rest - end) f.1 in
     let within : end ≤ length rest = omega (arith, ap length f.1, length-take (length rest - end) rest) in
-    let (row, behind) = from_start rest (header tag n) inside end (length rest - end - length inside) within f.1
+    let (row, after) = from_start rest (header tag n) inside end (length rest - end - length inside) within f.1
     (omega arith) in
     record {
       tag = tag;
@@ -107,7 +107,7 @@ passes_at rest inside ends tag n end m f is same which =
     rw (size, append_assoc (header tag n) content (drop n inside), take-append-drop n inside) refl in
     let few = inside_within rest (header tag n) inside (length rest - end) f.1 in
     let within : end ≤ length rest = omega (arith, ap length f.1, length-take (length rest - end) rest) in
-    let (row, behind) = from_start rest (element tag content) (drop n inside) end
+    let (row, after) = from_start rest (element tag content) (drop n inside) end
     (length rest - end - length inside + m) within (f.1 ∙ split)
     (omega (arith, length-drop n inside)) in
-    (t.0, t.1.tree, t.1.alone, t.1.shallow, rw (t.2) row, omega (arith, behind))
+    (t.0, t.1.tree, t.1.alone, t.1.shallow, rw (t.2) row, omega (arith, after))

@@ -1,4 +1,4 @@
--- What the bytes of an element are refused by, and a reader that continues behind one. Further crates
+-- What the bytes of an element are refused by, and a reader that continues after one. Further crates
 -- cite these laws.
 use Rattle.std.proofs.Common.{◌≡◌, ◌++◌, ℕ, List, false, refl, sym, ◌∙◌}
 use Rattle.std.proofs.Common.{ap, Option, Some, None, IsSomeAnd, Ok}
@@ -29,7 +29,7 @@ length_at_octets n rest fits =
       drop-append_seam (length_octets n) rest,
     ) refl
 
--- the content behind a length is found, and what follows it
+-- the content after a length is found, and what follows it
 pub within_octets : (content rest : List ℕ) → length content ≤ max_length
     → within (length_at ((length_octets (length content) ++ content) ++ rest)) ≡ Ok (content, rest)
 within_octets content rest fits =
@@ -90,7 +90,7 @@ read_element f g tag content old new h =
     element_at f g tag content old.unread new.unread h.within
     (ap (λ (r : Reader). r.unread) h.read.was_whole)
 
--- the end of a list is the end of that list behind another
+-- the end of a list is the end of that list after another
 joined_suffix : (front back rest : List ℕ) → IsSuffix rest back → IsSuffix rest (front ++ back)
 joined_suffix front back rest (inl none) = inl none
 joined_suffix front back rest (inr end) = inr (
@@ -100,16 +100,16 @@ joined_suffix front back rest (inr end) = inr (
     end ∙ (sym (drop-append-add front back n) ∙ ap (λ k. drop k (front ++ back)) (sym count)))
 
 -- the end of what follows bytes that were read is the end of what there was
-pub suffix_behind : (bytes : List ℕ) (old new : Reader) (rest : List ℕ) → HasRead bytes old new
+pub suffix_after : (bytes : List ℕ) (old new : Reader) (rest : List ℕ) → HasRead bytes old new
     → IsSuffix rest new.unread → IsSuffix rest old.unread
-suffix_behind bytes old new rest h end =
+suffix_after bytes old new rest h end =
     rw (ap (λ (r : Reader). r.unread) h.was_whole) (joined_suffix bytes new.unread rest end)
 
 -- the same of bytes that are there
-pub left_behind : (bytes : Option (List ℕ)) (old new : Reader) (rest : List ℕ)
+pub left_after : (bytes : Option (List ℕ)) (old new : Reader) (rest : List ℕ)
     → IsSomeAnd bytes (λ whole. HasRead whole old new) → IsSuffix rest new.unread → IsSuffix rest old.unread
-left_behind None old new rest read end = absurd read
-left_behind (Some bytes) old new rest read end = suffix_behind bytes old new rest read end
+left_after None old new rest read end = absurd read
+left_after (Some bytes) old new rest read end = suffix_after bytes old new rest read end
 
 -- all bytes are their own end
 suffix_all : (bytes : List ℕ) → IsSuffix bytes bytes
@@ -118,7 +118,7 @@ suffix_all bytes = inr (grind (arith, common_steps))
 -- what follows bytes that were read is the end of what there was
 pub read_end : (bytes : Option (List ℕ)) (old new : Reader) → IsSomeAnd bytes (λ whole. HasRead whole old new)
     → IsSuffix new.unread old.unread
-read_end bytes old new read = left_behind bytes old new new.unread read (suffix_all new.unread)
+read_end bytes old new read = left_after bytes old new new.unread read (suffix_all new.unread)
 
 -- after an element that is read, the fault of the old input is that of the new one, which is its end
 pub record PassesOver (fault : Fault → Fault) (old new : Reader) : Type 0 where
@@ -134,7 +134,7 @@ reads_on f tag None old new some = absurd some
 reads_on f tag (Some inside) old new (meets, found) = record {
   whole = ap (λ (r : Reader). r.failed) found.read.is_whole;
   next = λ g. read_element f g tag inside old new found ∙ rw meets refl;
-  left = suffix_behind (element tag inside) old new new.unread found.read (suffix_all new.unread);
+  left = suffix_after (element tag inside) old new new.unread found.read (suffix_all new.unread);
 }
 
 -- a reader that hasn't refused is known by its bytes

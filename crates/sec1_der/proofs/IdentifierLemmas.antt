@@ -224,8 +224,8 @@ narrow_pairs [] ends some = refl
 narrow_pairs (b ∷ []) ends some = grind (arith, nat_tests, ends 0 (omega arith))
 narrow_pairs (b ∷ c ∷ bs) ends some =
     let next = narrow_pairs (c ∷ bs) (λ i l. ends (suc i) (omega arith)) (λ i. some (suc i)) in
-    let behind = narrow_pairs bs (λ i l. ends (suc (suc i)) (omega arith)) (λ i. some (suc (suc i))) in
-    grind (arith, nat_tests, ends 0 (omega arith), some 0, next, behind)
+    let rest = narrow_pairs bs (λ i l. ends (suc (suc i)) (omega arith)) (λ i. some (suc (suc i))) in
+    grind (arith, nat_tests, ends 0 (omega arith), some 0, next, rest)
 
 -- one of two bits is set
 one_of : (x y : Bool) → max (cond x 1 0) (cond y 1 0) ≡ 1 → (x || y) ≡ true

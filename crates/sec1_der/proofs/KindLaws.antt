@@ -20,16 +20,16 @@ use Rattle.sec1_der.specs.declared.error.ErrorKind.TheVariants.{Tag}
 pub fault_of : (fault : Option (Option ErrorKind)) (kind : ErrorKind) → fault ≡ Some (Some kind) → IsFaultOf fault kind
 fault_of fault kind e = rw e refl
 
--- What is refused stays so where more is tested behind it.
+-- What is refused stays so where more is tested after it.
 pub refused_more : (f g : Fault) (tag : ℕ) (bytes : List ℕ) (kind : ErrorKind)
     → IsFaultOf (element_fault tag f no_fault bytes) kind → IsFaultOf (element_fault tag f g bytes) kind
 refused_more f g tag [] kind e = e
 refused_more f g tag (byte ∷ bytes) kind e = by (byte == tag) (content_at bytes) e
   where
     more : (fault : Option (Option ErrorKind)) → IsFaultOf (option_or fault None) kind
-        → (behind : Option (Option ErrorKind)) → IsFaultOf (option_or fault behind) kind
-    more None e behind = absurd e
-    more (Some said) e behind = e
+        → (rest : Option (Option ErrorKind)) → IsFaultOf (option_or fault rest) kind
+    more None e rest = absurd e
+    more (Some said) e rest = e
 
     by : (b : Bool) (found : Result (List ℕ × List ℕ) ErrorKind)
         → IsFaultOf (if b then parts_fault f no_fault found else Some (Some Tag)) kind
@@ -152,14 +152,14 @@ nested_says f says tag = record {
 
 next_says : (most level : ℕ) → SaysKinds (row_fault most (level + 1)) → SaysKinds (row_fault most level)
     → SaysKinds (row_fault (suc most) level)
-next_says most level inside behind = record { kind = by }
+next_says most level inside rest = record { kind = by }
   where
     by : (bytes : List ℕ) → row_fault (suc most) level bytes ≢ Some None
     by [] e = cc e
     by (byte ∷ bytes) e =
         either_says (nat_lt max_tree_depth level) _ _ (λ same. cc same)
         ((any_says (nested_fault (row_fault most (level + 1))) (row_fault most level)
-        (nested_says (row_fault most (level + 1)) inside) behind).kind (byte ∷ bytes)) e
+        (nested_says (row_fault most (level + 1)) inside) rest).kind (byte ∷ bytes)) e
 
 trees_say : (most level : ℕ) → SaysKinds (row_fault most level)
 trees_say zero level = record { kind = λ bytes e. cc e }

@@ -36,7 +36,7 @@ pub not_among : (tag : ℕ) (xs ys : List ℕ) → is_among tag (xs ++ ys) ≡ f
 not_among tag xs ys e =
     or_false (is_among tag xs) (is_among tag ys) (sym (list_any-append (λ other. tag == other) xs ys) ∙ e)
 
--- what may follow two parts, behind the second, may follow the first
+-- what may follow two parts, after the second, may follow the first
 pub next_first : (p q : Tags) (y rest : List ℕ) → list_all (λ x. not (is_among x q.firsts)) p.barred ≡ true
     → Begins q y
     → MayFollow (both_tags p q) rest → MayFollow p (y ++ rest)
@@ -55,16 +55,16 @@ next_second p q (byte ∷ rest) n = by q.may_be_empty n
     by false n = n
 
 -- where an optional element was read, its fault is that of the element
-next_read : (f behind : Fault) (tag : ℕ) (content : Option (List ℕ)) (old new : Reader)
+next_read : (f rest : Fault) (tag : ℕ) (content : Option (List ℕ)) (old new : Reader)
     → IsSomeAnd content (λ inside. (f inside ≡ None) × HasReadElement tag inside old new)
-    → optional_fault tag f behind old.unread ≡ element_fault tag f behind old.unread
-next_read f behind tag None old new found = absurd found
-next_read f behind tag (Some inside) old new found =
+    → optional_fault tag f rest old.unread ≡ element_fault tag f rest old.unread
+next_read f rest tag None old new found = absurd found
+next_read f rest tag (Some inside) old new found =
     rw (ap (λ (r : Reader). r.unread) found.1.read.was_whole, eq-eqb tag tag refl) refl
 
 -- the fault of an optional element that was read is that of what follows it
 pub optional_passes : (f : Fault) (tag : ℕ) (content : Option (List ℕ)) (old new : Reader)
     → IsSomeAnd content (λ inside. (f inside ≡ None) × HasReadElement tag inside old new)
-    → (behind : Fault) → optional_fault tag f behind old.unread ≡ behind new.unread
-optional_passes f tag content old new found behind =
-    next_read f behind tag content old new found ∙ (reads_on f tag content old new found).next behind
+    → (rest : Fault) → optional_fault tag f rest old.unread ≡ rest new.unread
+optional_passes f tag content old new found rest =
+    next_read f rest tag content old new found ∙ (reads_on f tag content old new found).next rest

@@ -29,9 +29,9 @@ leaf_passes f tag content plain = grind (arith, nat_tests)
 -- two faults of an element are the same if they agree on fewer bytes, inside it and after it
 nested_alike : (f g h k : Fault) (tag : ℕ) (bytes : List ℕ)
     → ((content : List ℕ) → length content ≤ length bytes → f content ≡ h content)
-    → ((behind : List ℕ) → length behind ≤ length bytes → g behind ≡ k behind)
+    → ((rest : List ℕ) → length rest ≤ length bytes → g rest ≡ k rest)
     → any_fault (nested_fault f) g (tag ∷ bytes) ≡ any_fault (nested_fault h) k (tag ∷ bytes)
-nested_alike f g h k tag bytes inside behind = grind (arith, length-take {A = ℕ}, length-drop {A = ℕ})
+nested_alike f g h k tag bytes inside rest = grind (arith, length-take {A = ℕ}, length-drop {A = ℕ})
 
 -- the fault of a row is the same by any bound on its bytes
 row_bound : (m n level : ℕ) (bytes : List ℕ) → length bytes ≤ m → length bytes ≤ n
@@ -45,7 +45,7 @@ row_bound (suc m) zero level (b ∷ bs) l r = absurd (omega arith)
 row_bound (suc m) (suc n) level (b ∷ bs) l r =
     ap (λ fault. if nat_lt max_tree_depth level then Some (Some Depth) else fault)
     (nested_alike _ _ _ _ b bs (λ content few. row_bound m n (level + 1) content (omega arith) (omega arith))
-    (λ behind few. row_bound m n level behind (omega arith) (omega arith)))
+    (λ rest few. row_bound m n level rest (omega arith) (omega arith)))
 
 -- the elements in a row at this level
 abbrev pub row_at : ℕ → Fault
@@ -59,7 +59,7 @@ row_some level (b ∷ bs) some fits =
     rw (le-ltb max_tree_depth level fits)
     (nested_alike _ _ _ _ b bs
     (λ content few. row_bound (length bs) (length content) (level + 1) content (omega arith) (omega arith))
-    (λ behind few. row_bound (length bs) (length behind) level behind (omega arith) (omega arith)))
+    (λ rest few. row_bound (length bs) (length rest) level rest (omega arith) (omega arith)))
 
 -- a row at level 65 is too deep
 pub row_deep : (level : ℕ) (bytes : List ℕ) → 0 < length bytes → level ≡ 65 → row_at level bytes ≡ Some (Some Depth)
@@ -71,7 +71,7 @@ pub tree_next : (input : List ℕ) → tree_fault input ≡ any_fault (nested_fa
 tree_next [] = refl
 tree_next (b ∷ bs) = nested_alike _ end_fault _ end_fault b bs
     (λ content few. row_bound (suc (length bs)) (length content) 2 content (omega arith) (omega arith))
-    (λ behind few. refl)
+    (λ rest few. refl)
 
 -- ---- what a walk has left
 
@@ -153,16 +153,16 @@ next_deep ends rest after end full opens =
 pub next_refused : (ends rest : List ℕ) (k : ErrorKind)
     → ((k ≡ Depth) × (length ends ≡ max_tree_depth - 1)
     × ((end : ℕ) × (after : List ℕ) × Opens ends rest end after))
-    ⊎ (IsHeaderFault k × ((content : ℕ → Fault) (behind : Fault)
-    → any_fault content behind (take (length rest - get_or ends 0 0) rest) ≡ Some (Some k)))
+    ⊎ (IsHeaderFault k × ((content : ℕ → Fault) (following : Fault)
+    → any_fault content following (take (length rest - get_or ends 0 0) rest) ≡ Some (Some k)))
     → next_fault ends rest ≡ Some (Some k)
 next_refused ends rest k kinds =
     ⊎_elim (λ deep. next_deep ends rest deep.2.1 deep.2.0 deep.1 deep.2.2 ∙ ap (λ j. Some (Some j)) (sym deep.0))
     (λ any. by ends any.1) kinds
   where
     by : (ends : List ℕ)
-        → ((content : ℕ → Fault) (behind : Fault)
-        → any_fault content behind (take (length rest - get_or ends 0 0) rest) ≡ Some (Some k))
+        → ((content : ℕ → Fault) (following : Fault)
+        → any_fault content following (take (length rest - get_or ends 0 0) rest) ≡ Some (Some k))
         → next_fault ends rest ≡ Some (Some k)
     by [] any = rw (take_all (length rest - 0) rest (omega arith)) at any (nested_fault (row_at 2)) end_fault
     by (end ∷ ends) any = rw (any (nested_fault (row_at (length ends + 2 + 1))) (row_at (length ends + 2))) refl

@@ -210,7 +210,7 @@ whole_element : (tag n : ℕ) (content : List ℕ) → IsHeader tag n → length
 whole_element tag n content is count =
     record { tag = tag; content = content; is_header = rw count is; encoded = rw count refl }
 
--- bytes behind an element are trailing data
+-- bytes after an element are trailing data
 byte_fault : (front : List ℕ) (byte : ℕ) (more : List ℕ) → IsElement front
     → document_fault (front ++ byte ∷ more) ≡ Some (Some TrailingData)
 byte_fault front byte more is =
@@ -255,23 +255,23 @@ refused_growth left taken Ended old new tag n is first =
     (cases_lt 0 n)) (λ e. absurd (cc e))
 
 -- an element after which a read failed is refused as Io
-pub refused_behind : {S : Type 0} (left taken : S → Option (List ℕ)) (Ended : Type 0) (old mid next new : S) (tag n : ℕ)
+pub refused_long : {S : Type 0} (left taken : S → Option (List ℕ)) (Ended : Type 0) (old mid next new : S) (tag n : ℕ)
     (after : List ℕ) → IsHeader tag n → Takes left taken old mid (header tag n)
     → ReadsOnto (Takes left taken mid next) (header tag n) after n → Keeps (left next) (left new)
     → Keeps (taken next) (taken new) → RefusesElement Io (Takes left taken old new) Ended
-refused_behind left taken Ended old mid next new tag n after is first r left_kept taken_kept =
+refused_long left taken Ended old mid next new tag n after is first r left_kept taken_kept =
     refused_after Io left taken Ended old mid new tag n r.bytes first
     (takes_kept left taken mid next new r.bytes r.taken left_kept taken_kept)
     (inr (whole_element tag n r.bytes is r.count)) (λ e. absurd (cc e))
 
 -- an element after which a byte was read is refused as TrailingData
-pub byte_behind : {S : Type 0} (left taken : S → Option (List ℕ)) (Ended : Type 0) (old mid next new : S) (tag n : ℕ)
+pub byte_more : {S : Type 0} (left taken : S → Option (List ℕ)) (Ended : Type 0) (old mid next new : S) (tag n : ℕ)
     (after last : List ℕ) → IsHeader tag n → Takes left taken old mid (header tag n)
     → ReadsOnto (Takes left taken mid next) (header tag n) after n → Takes left taken next new last → length last ≡ 1
     → RefusesElement TrailingData (Takes left taken old new) Ended
-byte_behind left taken Ended old mid next new tag n after [] is first r more one = absurd (omega arith)
-byte_behind left taken Ended old mid next new tag n after (byte ∷ b ∷ bs) is first r more one = absurd (omega arith)
-byte_behind left taken Ended old mid next new tag n after (byte ∷ []) is first r more one =
+byte_more left taken Ended old mid next new tag n after [] is first r more one = absurd (omega arith)
+byte_more left taken Ended old mid next new tag n after (byte ∷ b ∷ bs) is first r more one = absurd (omega arith)
+byte_more left taken Ended old mid next new tag n after (byte ∷ []) is first r more one =
     let front = header tag n ++ r.bytes in
     let whole = whole_element tag n r.bytes is r.count in
     let P : List ℕ → Type 0 = λ xs. document_fault xs ≡ Some (Some TrailingData) in
@@ -285,7 +285,7 @@ byte_behind left taken Ended old mid next new tag n after (byte ∷ []) is first
     ) (λ e. absurd (cc e))
 
 -- the ways in which an element is refused after its header
-pub ruleset element_refusals = (refused_growth, refused_content, refused_behind, byte_behind, length-take-le)
+pub ruleset element_refusals = (refused_growth, refused_content, refused_long, byte_more, length-take-le)
 
 -- ---- what a refusal says of all the bytes
 
@@ -301,13 +301,13 @@ no_header : (kind : ErrorKind) (bytes : List ℕ) → document_fault bytes ≡ S
     → (kind ≡ TrailingData → ⊥) → LacksHeader bytes
 no_header kind bytes fault first second tag n rest is e = ⊎_elim
     (λ few. first (cc (fault, any_short (λ _. no_fault) end_fault tag n bytes rest is e few)))
-    (λ room. behind (drop n rest)
+    (λ room. after (drop n rest)
     (sym (any_room (λ _. no_fault) end_fault tag n bytes rest is e room) ∙ fault))
     (cases_lt (length rest) n)
   where
-    behind : (xs : List ℕ) → end_fault xs ≡ Some (Some kind) → ⊥
-    behind [] e = cc e
-    behind (x ∷ xs) e = second (cc e)
+    after : (xs : List ℕ) → end_fault xs ≡ Some (Some kind) → ⊥
+    after [] e = cc e
+    after (x ∷ xs) e = second (cc e)
 
 -- a fault of a header stays, whatever follows it
 fault_stays : (kind : ErrorKind) (bytes more : List ℕ) → document_fault bytes ≡ Some (Some kind)

@@ -29,17 +29,17 @@ deep_or above a b = grind (arith, nat_tests)
 
 mutual
   -- a tree `above` levels down is refused by its depth, or by what follows it
-  tree_at : (t : Tree) (above : ℕ) (behind : Fault) (bs rest : List ℕ) → IsTree t → bs ≡ bytes t ++ rest
+  tree_at : (t : Tree) (above : ℕ) (after : Fault) (bs rest : List ℕ) → IsTree t → bs ≡ bytes t ++ rest
       → above < max_tree_depth
-      → any_fault (nested_fault (row_at (above + 1 + 1))) behind bs ≡ option_or (deep_fault (above + depth t))
-      (behind rest)
-  tree_at (leaf tag content) above behind bs rest is e fits =
-      any_at _ behind tag content bs rest (record { tag_byte = is.0; within = is.2 }) e
+      → any_fault (nested_fault (row_at (above + 1 + 1))) after bs ≡ option_or (deep_fault (above + depth t))
+      (after rest)
+  tree_at (leaf tag content) above after bs rest is e fits =
+      any_at _ after tag content bs rest (record { tag_byte = is.0; within = is.2 }) e
       ∙ rw (leaf_passes (row_at (above + 1 + 1)) tag content is.1, le-ltb max_tree_depth (above + 1) (omega arith)) refl
-  tree_at (branch tag f) above behind bs rest is e fits =
-      any_at _ behind tag (joined f) bs rest (record { tag_byte = is.0; within = is.2 }) e
+  tree_at (branch tag f) above after bs rest is e fits =
+      any_at _ after tag (joined f) bs rest (record { tag_byte = is.0; within = is.2 }) e
       ∙ rw (ne_eqb (bit_and tag 0x20) 0 is.1, forest_at f (above + 1) is.3 (omega arith))
-      (ap (λ n. option_or (deep_fault n) (behind rest)) (omega arith))
+      (ap (λ n. option_or (deep_fault n) (after rest)) (omega arith))
 
   -- trees in a row, below this number of levels
   forest_at : (f : Forest) (above : ℕ) → AreTrees f → above ≤ max_tree_depth

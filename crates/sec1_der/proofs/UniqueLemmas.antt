@@ -31,7 +31,7 @@ same_values tag content one a b x y r s e f same =
 -- elements of one tag are apart
 pub one_apart : (tag : ℕ) {A : Type 0} (content : A → Option (List ℕ)) → IsUnique content
     → AreApart (one_tag tag) (λ a. element_of tag (content a))
-one_apart tag content one a b x y r s apart e f before behind same = same_values tag content one a b x y r s e f same
+one_apart tag content one a b x y r s apart e f before rest same = same_values tag content one a b x y r s e f same
 
 -- two elements of one tag that have one content are the same
 pub unique_inside : (tag : ℕ) {A : Type 0} (content : A → Option (List ℕ)) → IsUnique content
@@ -54,17 +54,17 @@ not_present tag content r y s e may same = by y (element_begins tag content y e)
 -- optional elements of one tag are apart
 pub optional_apart : (tag : ℕ) {A : Type 0} (content : A → Option (List ℕ)) → IsUnique content
     → AreApart (optional_tag tag) (λ (a : Option A). optional_of tag (option_map content a))
-optional_apart tag content one None None x y r s apart e f before behind same =
+optional_apart tag content one None None x y r s apart e f before rest same =
     let front : x ≡ [] = cc (e) in
     let back : y ≡ [] = cc (f) in
     (refl, rw (front, back) at same)
-optional_apart tag content one None (Some b) x y r s apart e f before behind same =
+optional_apart tag content one None (Some b) x y r s apart e f before rest same =
     let front : x ≡ [] = cc (e) in
     absurd (not_present tag (content b) r y s f before (rw front at same))
-optional_apart tag content one (Some a) None x y r s apart e f before behind same =
+optional_apart tag content one (Some a) None x y r s apart e f before rest same =
     let back : y ≡ [] = cc (f) in
-    absurd (not_present tag (content a) s x r e behind (sym (rw back at same)))
-optional_apart tag content one (Some a) (Some b) x y r s apart e f before behind same =
+    absurd (not_present tag (content a) s x r e rest (sym (rw back at same)))
+optional_apart tag content one (Some a) (Some b) x y r s apart e f before rest same =
     let is = same_values tag content one a b x y r s e f same in
     (ap (λ v. Some v) is.0, is.1)
 
@@ -73,7 +73,7 @@ pub pair_apart : (p q : Tags) {P Q : Type 0} (first : P → Option (List ℕ)) (
     → AreApart p first → AreApart q second
     → ((b : Q) (bytes : List ℕ) → second b ≡ Some bytes → Begins q bytes)
     → AreApart (both_tags p q) (λ (ab : P × Q). join (first ab.0) (second ab.1))
-pair_apart p q first second one two begins (a, c) (b, d) x y r s apart e f before behind same =
+pair_apart p q first second one two begins (a, c) (b, d) x y r s apart e f before rest same =
     let x = parted (first a) (second c) x e in
     let y = parted (first b) (second d) y f in
     let tags = and_parts _ _ apart in
@@ -82,9 +82,9 @@ pair_apart p q first second one two begins (a, c) (b, d) x y r s apart e f befor
     sym (append_assoc x.front x.back r) ∙ (rw (x.joined, y.joined) at same ∙ append_assoc y.front y.back s) in
     let front = one a b x.front y.front (x.back ++ r) (y.back ++ s) tags.0 x.first_there y.first_there
     (next_first p q x.back r more.1 (begins c x.back x.second_there) before)
-    (next_first p q y.back s more.1 (begins d y.back y.second_there) behind) split in
+    (next_first p q y.back s more.1 (begins d y.back y.second_there) rest) split in
     let back = two c d x.back y.back r s more.0 x.second_there y.second_there (next_second p q r before)
-    (next_second p q s behind) front.1 in
+    (next_second p q s rest) front.1 in
     (ap₂ (λ a c. (a, c)) front.0 back.0, back.1)
 
 -- two values of one part that is all of their bytes are the same

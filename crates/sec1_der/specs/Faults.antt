@@ -64,28 +64,28 @@ content_at bytes = within (length_at bytes)
 -- the fault of the length, of the content, or of the bytes after it, in this order
 abbrev pub parts_fault : Fault → Fault → Result (List ℕ × List ℕ) ErrorKind
     → Option (Option ErrorKind)
-parts_fault content behind (Err kind) = Some (Some kind)
-parts_fault content behind (Ok x) = option_or (content x.0) (behind x.1)
+parts_fault content rest (Err kind) = Some (Some kind)
+parts_fault content rest (Ok x) = option_or (content x.0) (rest x.1)
 
 -- X.690 section 8.1.1: an element with this tag, and what follows it. The tag is checked before the
 -- length.
 abbrev pub element_fault : ℕ → Fault → Fault → Fault
-element_fault tag content behind [] = Some (Some Truncated)
-element_fault tag content behind (byte ∷ bytes) =
-    if byte == tag then parts_fault content behind (content_at bytes)
+element_fault tag content rest [] = Some (Some Truncated)
+element_fault tag content rest (byte ∷ bytes) =
+    if byte == tag then parts_fault content rest (content_at bytes)
     else Some (Some Tag)
 
 -- an element with this tag, if its tag is next; and what follows it
 abbrev pub optional_fault : ℕ → Fault → Fault → Fault
-optional_fault tag content behind [] = behind []
-optional_fault tag content behind (byte ∷ bytes) =
-    if byte == tag then element_fault tag content behind (byte ∷ bytes) else behind (byte ∷ bytes)
+optional_fault tag content rest [] = rest []
+optional_fault tag content rest (byte ∷ bytes) =
+    if byte == tag then element_fault tag content rest (byte ∷ bytes) else rest (byte ∷ bytes)
 
 -- an element of any tag, which decides how its content is checked, and what follows it
 abbrev pub any_fault : (ℕ → Fault) → Fault → Fault
-any_fault content behind [] = Some (Some Truncated)
-any_fault content behind (tag ∷ bytes) =
-    if is_tag tag then parts_fault (content tag) behind (content_at bytes)
+any_fault content rest [] = Some (Some Truncated)
+any_fault content rest (tag ∷ bytes) =
+    if is_tag tag then parts_fault (content tag) rest (content_at bytes)
     else Some (Some Tag)
 
 -- one element of any tag, with any bytes as its content

@@ -82,9 +82,9 @@ pub record ReadsPart {P : Type 0} (bytes : P → Option (List ℕ))
   -- what it was or the end of it.
   pub exact : MatchResult result
       (λ part. IsSomeAnd (bytes part) (λ whole. HasRead whole old new)
-      × ((behind : Fault) → fault_then behind old.unread ≡ behind new.unread))
+      × ((after : Fault) → fault_then after old.unread ≡ after new.unread))
       (λ e. (new.failed ≡ true) × IsReadingFault e.kind
-      × ((behind : Fault) → IsFaultOf (fault_then behind old.unread) e.kind)
+      × ((after : Fault) → IsFaultOf (fault_then after old.unread) e.kind)
       × IsSuffix new.unread old.unread)
   -- if the remaining input begins with a part, and what follows can't be confused with it, that
   -- part is read

@@ -63,8 +63,8 @@ impl<'a> AnyRef<'a> {
         ensures exact { MatchResult result
             (λ split. IsHeader (tag_of split.0) (length (value_of split.0))
             × (bytes.now ≡ element (tag_of split.0) (value_of split.0) ++ split.1.now))
-            (λ e. IsHeaderFault e.kind × ((content : ℕ → Fault) (behind : Fault)
-            → any_fault content behind bytes.now ≡ Some (Some e.kind))) }
+            (λ e. IsHeaderFault e.kind × ((content : ℕ → Fault) (rest : Fault)
+            → any_fault content rest bytes.now ≡ Some (Some e.kind))) }
         // If the bytes begin with an element, it is returned.
         ensures only { (tag : ℕ) (content rest : List ℕ) → IsHeader tag (length content)
             → bytes.now ≡ element tag content ++ rest

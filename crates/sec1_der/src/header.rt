@@ -137,8 +137,8 @@ pub(crate) fn element_at(input: &[u8]) -> First<'_, Header>
     ensures found { MatchResult result
         (λ x. IsHeader x.0.tag x.0.length
         × (input.now ≡ header x.0.tag x.0.length ++ x.1.now) × (x.0.length ≤ length x.1.now))
-        (λ kind. IsHeaderFault kind × ((content : ℕ → Fault) (behind : Fault)
-        → any_fault content behind input.now ≡ Some (Some kind))) }
+        (λ kind. IsHeaderFault kind × ((content : ℕ → Fault) (rest : Fault)
+        → any_fault content rest input.now ≡ Some (Some kind))) }
     ensures only { (tag : ℕ) (content rest : List ℕ) → IsHeader tag (length content)
         → input.now ≡ element tag content ++ rest
         → IsOkAnd result (λ x. (x.0 ≡ record { tag = tag; length = length content })
@@ -159,8 +159,8 @@ pub(crate) fn element_at(input: &[u8]) -> First<'_, Header>
 pub(crate) fn header_at(bytes: &[u8]) -> First<'_, Header>
     ensures found { MatchResult result
         (λ x. IsHeader x.0.tag x.0.length × (bytes.now ≡ header x.0.tag x.0.length ++ x.1.now))
-        (λ kind. (kind ≡ header_fault bytes.now) × ((content : ℕ → Fault) (behind : Fault)
-        → any_fault content behind bytes.now ≡ Some (Some kind))) }
+        (λ kind. (kind ≡ header_fault bytes.now) × ((content : ℕ → Fault) (rest : Fault)
+        → any_fault content rest bytes.now ≡ Some (Some kind))) }
     ensures only { (tag n : ℕ) (rest : List ℕ) → IsHeader tag n → bytes.now ≡ header tag n ++ rest
         → IsOkAnd result (λ x. (x.0 ≡ record { tag = tag; length = n }) × (x.1.now ≡ rest)) }
 {

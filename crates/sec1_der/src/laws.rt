@@ -38,25 +38,25 @@ pub fn trees_prefix_free()
 /// and whatever may follow it.
 #[tactic(auto, using(crate::proofs::ElementFaultLemmas::cut_elements))]
 pub fn cut_elements()
-    ensures element { (inside behind : Fault) (tag : ℕ) (content bytes : List ℕ)
+    ensures element { (inside rest : Fault) (tag : ℕ) (content bytes : List ℕ)
         → length content ≤ max_length → IsProperPrefix bytes (element tag content)
-        → element_fault tag inside behind bytes ≡ Some (Some ErrorKind.Truncated) }
-    ensures any { (inside : ℕ → Fault) (behind : Fault) (tag : ℕ) (content bytes : List ℕ)
+        → element_fault tag inside rest bytes ≡ Some (Some ErrorKind.Truncated) }
+    ensures any { (inside : ℕ → Fault) (rest : Fault) (tag : ℕ) (content bytes : List ℕ)
         → IsHeader tag (length content) → IsProperPrefix bytes (element tag content)
-        → any_fault inside behind bytes ≡ Some (Some ErrorKind.Truncated) }
+        → any_fault inside rest bytes ≡ Some (Some ErrorKind.Truncated) }
 {}
 
 /// The fault of an element with this tag, and of what follows it, is that of its content, or else
 /// of what follows it.
 pub fn whole_elements()
-    ensures element { (inside behind : Fault) (tag : ℕ) (content rest : List ℕ)
+    ensures element { (inside after : Fault) (tag : ℕ) (content rest : List ℕ)
         → length content ≤ max_length
-        → element_fault tag inside behind (element tag content ++ rest)
-        ≡ option_or (inside content) (behind rest) }
-    ensures any { (inside : ℕ → Fault) (behind : Fault) (tag : ℕ) (content rest : List ℕ)
+        → element_fault tag inside after (element tag content ++ rest)
+        ≡ option_or (inside content) (after rest) }
+    ensures any { (inside : ℕ → Fault) (after : Fault) (tag : ℕ) (content rest : List ℕ)
         → IsHeader tag (length content)
-        → any_fault inside behind (element tag content ++ rest)
-        ≡ option_or (inside tag content) (behind rest) }
+        → any_fault inside after (element tag content ++ rest)
+        ≡ option_or (inside tag content) (after rest) }
 {}
 
 /// An element whose content has no fault is refused as TrailingData if bytes follow it, where
@@ -86,8 +86,8 @@ pub fn longer_elements()
 pub fn said_kinds()
     ensures said { (rule : Fault) (bytes : List ℕ) (kind : ErrorKind) → SaysKinds rule
         → IsFaultOf (rule bytes) kind → rule bytes ≡ Some (Some kind) }
-    ensures element { (tag : ℕ) (content behind : Fault) → SaysKinds content → SaysKinds behind
-        → SaysKinds (element_fault tag content behind) }
+    ensures element { (tag : ℕ) (content rest : Fault) → SaysKinds content → SaysKinds rest
+        → SaysKinds (element_fault tag content rest) }
     ensures tree { SaysKinds tree_fault }
     ensures document { SaysKinds document_fault }
 {}
@@ -96,9 +96,9 @@ pub fn said_kinds()
 /// content has to meet and whatever may follow it.
 #[tactic(auto, using(crate::proofs::ElementFaultLemmas::any_without_header))]
 pub fn bytes_without_header()
-    ensures { (inside : ℕ → Fault) (behind : Fault) (bytes : List ℕ)
+    ensures { (inside : ℕ → Fault) (after : Fault) (bytes : List ℕ)
         → ((tag n : ℕ) (rest : List ℕ) → IsHeader tag n → bytes ≢ header tag n ++ rest)
-        → any_fault inside behind bytes ≡ Some (Some (header_fault bytes)) }
+        → any_fault inside after bytes ≡ Some (Some (header_fault bytes)) }
 {}
 
 /// Two octet strings with the same content have the same bytes.

@@ -193,7 +193,7 @@ fn is_content(content: &[u8]) -> bool
     // the width of its digits without the last is at most four.
     let mut width: u8 = 0;
     let mut rest = content;
-    while let Some((byte, behind)) = rest.split_first() {
+    while let Some((byte, after)) = rest.split_first() {
         if *byte < 0x80 {
             width = 0;
         } else if width == 0 {
@@ -206,7 +206,7 @@ fn is_content(content: &[u8]) -> bool
         } else {
             return false;
         }
-        rest = behind;
+        rest = after;
     }
     width == 0
 }

@@ -66,7 +66,7 @@ pub trait UniquePart: Part {
 impl<P: Part, Q: Part> Part for (P, Q) {
     ghost bytes = { λ parts. join (P.bytes parts.0) (Q.bytes parts.1) };
 
-    ghost fault_then = { λ behind. P.fault_then (Q.fault_then behind) };
+    ghost fault_then = { λ rest. P.fault_then (Q.fault_then rest) };
 
     ghost tags = { both_tags P.tags Q.tags };
 

@@ -166,8 +166,8 @@ impl OpenNodes {
             × (length self.old < max_tree_depth - 1)))
             (λ e. ((e.kind ≡ ErrorKind.Depth) × (length self.old ≡ max_tree_depth - 1)
             × ((end : ℕ) × (after : List ℕ) × Opens self.old rest.now end after))
-            ⊎ (IsHeaderFault e.kind × ((content : ℕ → Fault) (behind : Fault)
-            → any_fault content behind (take (length rest.now - get_or self.old 0 0) rest.now)
+            ⊎ (IsHeaderFault e.kind × ((content : ℕ → Fault) (following : Fault)
+            → any_fault content following (take (length rest.now - get_or self.old 0 0) rest.now)
             ≡ Some (Some e.kind)))) }
     {
         let end = self.end();

@@ -16,7 +16,7 @@ use sec1_der::{
 use std::marker::Model;
 use std::process::Abort;
 
-/// Four parts: two identifiers, and a version behind each that may be absent.
+/// Four parts: two identifiers, and a version after each that may be absent.
 type Row = (
     (Required<ObjectIdentifier>, Optional<VersionOne>),
     (Required<ObjectIdentifier>, Optional<VersionOne>),

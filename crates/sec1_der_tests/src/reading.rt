@@ -159,7 +159,7 @@ fn makes_bit_strings(rt: HostRuntime) {
     assert_equal(&rt, &bits_of(b"\x01"), &whole);
 }
 
-/// Returns the element of any tag that the bytes begin with, and the number of the bytes behind it.
+/// Returns the element of any tag that the bytes begin with, and the number of the bytes after it.
 fn any(bytes: &[u8]) -> Option<(AnyRef<'_>, usize)> {
     let mut reader = SliceReader::new(bytes);
     let any = AnyRef::decode(&mut reader).ok()?;

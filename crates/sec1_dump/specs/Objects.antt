@@ -185,7 +185,7 @@ front_data file source found =
     (put_if (codes "file") (option_map string file)
     (put_if (codes "bytes") (option_map count_data (found_len source found)) no_members))))
 
--- what is said, and behind it what the command does
+-- what is said, and after it what the command does
 abbrev pub words_text : List ℕ → List ℕ → List ℕ
 words_text words lead =
     text_of words ++ (if length lead == 0 then [] else codes " " ++ lead)

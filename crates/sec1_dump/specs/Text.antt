@@ -19,7 +19,7 @@ code_text code = character_text (scalar_or_none code)
 abbrev pub text_of : List ℕ → List ℕ
 text_of codes = flat_map code_text codes
 
--- RFC 8259 section 7: a unit of UTF-16 behind \u, in four digits
+-- RFC 8259 section 7: a unit of UTF-16 after \u, in four digits
 abbrev pub unit_escape : ℕ → List ℕ
 unit_escape unit = 0x5C ∷ 0x75 ∷ encode_lower (unit / 256 ∷ unit % 256 ∷ [])
 

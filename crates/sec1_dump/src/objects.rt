@@ -444,7 +444,7 @@ pub(crate) fn front_object(
     Ok(Value::from(members))
 }
 
-/// Returns what is said, and behind it what the command does. Fails only if an allocation fails.
+/// Returns what is said, and after it what the command does. Fails only if an allocation fails.
 fn words(alloc: Global, words: &[u8], lead: &str) -> Result<Option<Value>, AllocError>
     ensures { IfOk result (λ value. option_map view value ≡ words_data words.now lead.now) }
 {

@@ -147,7 +147,7 @@ pub(super) fn either(first: bool, second: bool) -> bool
     first || second
 }
 
-/// Returns `true` if a row of this kind, behind this field, is the parameters of a curve.
+/// Returns `true` if a row of this kind, after this field, is the parameters of a curve.
 fn gives_curve(kind: Kind, last: Option<Field>) -> bool
     ensures { result ≡ is_sequence kind && is_before_curve last }
 {
@@ -174,7 +174,7 @@ fn is_sequence_tag(tag: Tag) -> bool
     }
 }
 
-/// Returns `true` if a SEQUENCE behind this field is the parameters of a curve.
+/// Returns `true` if a SEQUENCE after this field is the parameters of a curve.
 fn is_before_curve(last: Option<Field>) -> bool
     ensures { result ≡ is_before_curve last }
 {

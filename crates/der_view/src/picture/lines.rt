@@ -19,7 +19,7 @@ use crate::row::{Kind, OpenRow, Point, Shown};
 use crate::values::{Value, value_of};
 use itoa::Buffer;
 
-/// The column of a field's name, behind the offset, the header and the length.
+/// The column of a field's name, after the offset, the header and the length.
 const NAME_COLUMN: usize = 29;
 
 /// The greatest number of levels that a row is indented by.
@@ -272,7 +272,7 @@ impl Line {
     }
 }
 
-/// Returns the number of spaces before a number of so many digits, behind a header of this length.
+/// Returns the number of spaces before a number of so many digits, after a header of this length.
 fn gap(header_len: usize, number_len: usize) -> usize
     ensures { result ≡ max 1 (20 - (3 * header_len + number_len)) }
 {
@@ -331,7 +331,7 @@ fn or_len(announced: Option<usize>, len: usize) -> usize
     }
 }
 
-/// Returns the number of bytes of a content; of a BIT STRING those behind its first one.
+/// Returns the number of bytes of a content; of a BIT STRING those after its first one.
 fn len_of(kind: Kind, len: usize) -> usize
     ensures { result ≡ len_of kind len }
 {
@@ -341,7 +341,7 @@ fn len_of(kind: Kind, len: usize) -> usize
     }
 }
 
-/// Returns the number of bytes of a content with this tag; of a BIT STRING those behind its first
+/// Returns the number of bytes of a content with this tag; of a BIT STRING those after its first
 /// one.
 fn len_in(tag: Tag, len: usize) -> usize
     ensures { result ≡ len_in tag.class tag.number len }

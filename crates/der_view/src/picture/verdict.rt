@@ -79,7 +79,7 @@ impl Verdict {
         }
     }
 
-    /// Returns a text with this command, if there is one, behind what it does, on the same line.
+    /// Returns a text with this command, if there is one, after what it does, on the same line.
     fn beside(words: &str, lead: &str, command: Option<&'static str>) -> Verdict
         ensures { verdict_view result ≡ kept_verdict
             (beside words.now lead.now (option_map (λ text. text.now) command.entry)) }
@@ -393,7 +393,7 @@ impl<'a> Subject<'a> {
     }
 
     /// Returns the words with the command that makes a key of bytes that are one all but for the
-    /// form of the root's length, the parameters of the curve, or bytes behind.
+    /// form of the root's length, the parameters of the curve, or bytes after.
     fn repaired(&self, words: Line) -> Verdict
         ensures { verdict_view result
             ≡ below words (repair_lead self.now.facts)

@@ -27,9 +27,9 @@ fn next_numbers(rows: &mut Rows) -> Option<((usize, usize, usize, usize, usize),
     let header_len = row.header.len();
     let numbers = (row.offset, row.depth, header_len, row.len, row.own_len);
     let rest = KEY.get(row.offset..).unwrap_or_default();
-    let behind = rest.get(header_len..).unwrap_or_default();
+    let after = rest.get(header_len..).unwrap_or_default();
     let is_there = rest.starts_with(row.header)
-        && behind.starts_with(row.content.unwrap_or_default());
+        && after.starts_with(row.content.unwrap_or_default());
     Some((numbers, is_there))
 }
 

@@ -5,7 +5,7 @@ ghost use Rattle.der_view.specs.Notes.{encrypted_note, is_json, is_ssh, note_of,
 /// What is said of a source that isn't drawn.
 #[derive(Clone, Copy)]
 pub struct Note {
-    /// Why a block isn't drawn, behind its label; empty of any other text.
+    /// Why a block isn't drawn, after its label; empty of any other text.
     pub heading: &'static str,
     /// What it is; empty if nothing more is said.
     pub words: &'static str,

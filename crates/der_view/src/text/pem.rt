@@ -77,7 +77,7 @@ fn is_line_end(byte: u8) -> bool
     byte == b'\r' || byte == b'\n'
 }
 
-/// Returns what is behind the end of a line, which these bytes begin with unless they are empty.
+/// Returns what is after the end of a line, which these bytes begin with unless they are empty.
 fn after_end(text: &[u8]) -> &[u8]
     ensures value { result.now ≡ after_end text.now }
     ensures shorter { length result.now ≤ length text.now - 1 }
@@ -137,7 +137,7 @@ impl<'a> Blocks<'a> {
         None
     }
 
-    /// Returns the block with this label, behind its first line.
+    /// Returns the block with this label, after its first line.
     fn block(&mut self, label: &'a [u8]) -> Block<'a>
         ensures value { block_view result ≡ block_before self.old.lines.number label.now
             (lines_of self.old.lines.rest.now) }

@@ -145,23 +145,23 @@ fn split_utf8(bytes: &[u8]) -> Option<(u32, &[u8])>
     ensures { MatchOption result (codes_by Encoding.Utf8 bytes.now ≡ [])
         (λ split. codes_by Encoding.Utf8 bytes.now ≡ split.0 ∷ codes_by Encoding.Utf8 split.1.now) }
 {
-    let (first, behind) = bytes.split_first()?;
+    let (first, rest) = bytes.split_first()?;
     if *first < 0x80 {
-        return Some((u32::from(*first), behind));
+        return Some((u32::from(*first), rest));
     }
-    let (second, behind) = behind.split_first()?;
+    let (second, rest) = rest.split_first()?;
     if *first < 0xE0 {
-        return Some((0x40 * bits(*first, 0xC0) + bits(*second, 0x80), behind));
+        return Some((0x40 * bits(*first, 0xC0) + bits(*second, 0x80), rest));
     }
-    let (third, behind) = behind.split_first()?;
+    let (third, rest) = rest.split_first()?;
     let high = 0x40 * bits(*second, 0x80) + bits(*third, 0x80);
     if *first < 0xF0 {
-        return Some((0x1000 * bits(*first, 0xE0) + high, behind));
+        return Some((0x1000 * bits(*first, 0xE0) + high, rest));
     }
-    let (fourth, behind) = behind.split_first()?;
+    let (fourth, rest) = rest.split_first()?;
     Some((
         0x4_0000 * bits(*first, 0xF0) + 0x40 * high + bits(*fourth, 0x80),
-        behind,
+        rest,
     ))
 }
 
@@ -196,11 +196,11 @@ fn split_utf16(bytes: &[u8]) -> Option<(u32, &[u8])>
         (λ split. is_utf16 bytes.now ≡ is_utf16 split.1.now) }
     ensures shorter { IfSome result (λ split. length split.1.now < length bytes.now) }
 {
-    let (high, behind) = split_unit(bytes)?;
+    let (high, after) = split_unit(bytes)?;
     if high < 0xD800 || high >= 0xE000 {
-        return Some((high, behind));
+        return Some((high, after));
     }
-    let (low, rest) = split_unit(behind)?;
+    let (low, rest) = split_unit(after)?;
     if are_pair(high, low) {
         Some((0x1_0000 + (high - 0xD800) * 0x400 + (low - 0xDC00), rest))
     } else {

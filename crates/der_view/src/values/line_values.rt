@@ -47,7 +47,7 @@ impl Line {
         self.push_bytes(end);
     }
 
-    /// Appends a space, and the arcs of an identifier, behind its name if it has one.
+    /// Appends a space, and the arcs of an identifier, after its name if it has one.
     fn push_identifier(&mut self, name: Option<Name>, arcs: Arcs<'_>)
         ensures { self.new ≡ kept (self.old
             ++ (codes " " ++ identifier_text (option_map name_view name) (arcs_view arcs.entry))) }
@@ -119,7 +119,7 @@ impl Line {
         }
     }
 
-    /// Appends a character: as itself if it prints in ASCII, `"` and `\` behind a `\`, and another
+    /// Appends a character: as itself if it prints in ASCII, `"` and `\` after a `\`, and another
     /// one by its code, as `\u{E4}`.
     fn push_character(&mut self, character: u32)
         ensures { self.new ≡ kept (self.old ++ escaped character) }

@@ -23,7 +23,7 @@ fn sum_of<'a>(mut elements: Elements<'a, Unsigned<'a>>) -> Option<u64>
     Some(total)
 }
 
-/// Returns the first number of a SEQUENCE OF INTEGER and the elements behind it, or `None` if it is
+/// Returns the first number of a SEQUENCE OF INTEGER and the elements after it, or `None` if it is
 /// empty.
 ///
 /// # Errors
@@ -32,7 +32,7 @@ fn sum_of<'a>(mut elements: Elements<'a, Unsigned<'a>>) -> Option<u64>
 pub fn first_of_sequence<'a>(
     bytes: &'a [u8],
 ) -> Result<Option<(Unsigned<'a>, Elements<'a, Unsigned<'a>>)>>
-    // Whatever numbers are behind it, with it they are the numbers of the sequence.
+    // Whatever numbers are after it, with it they are the numbers of the sequence.
     ensures found { IfOk result (λ found. IfSome found (λ first. (others : List ℕ)
         → numbers_content others ≡ Some first.1
         → element_of 0x30 (numbers_content (first.0 ∷ others)) ≡ Some bytes.now)) }

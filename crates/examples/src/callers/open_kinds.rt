@@ -88,7 +88,7 @@ pub fn even_bytes(input: &[u8]) -> Result<&[u8]>
     Ok(even.bytes)
 }
 
-/// A label, and the version 1 behind it.
+/// A label, and the version 1 after it.
 #[derive(Clone, Copy, Drop)]
 pub struct Labelled<'a> {
     /// The label.
@@ -131,7 +131,7 @@ pub fn label(input: &[u8]) -> Result<Labelled<'_>>
         → Refuses result ErrorKind.Value }
     ensures second_tag { input.now ≡ 0x30 ∷ 0x05 ∷ 0x04 ∷ 0x00 ∷ 0x03 ∷ 0x01 ∷ 0x01 ∷ []
         → Refuses result ErrorKind.Tag }
-    ensures behind { input.now ≡ 0x30 ∷ 0x05 ∷ 0x04 ∷ 0x00 ∷ 0x02 ∷ 0x01 ∷ 0x01 ∷ 0x00 ∷ []
+    ensures rest { input.now ≡ 0x30 ∷ 0x05 ∷ 0x04 ∷ 0x00 ∷ 0x02 ∷ 0x01 ∷ 0x01 ∷ 0x00 ∷ []
         → Refuses result ErrorKind.TrailingData }
 {
     from_der(input)

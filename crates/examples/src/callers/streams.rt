@@ -101,7 +101,7 @@ impl<R: Read> Read for Recorder<R> {
 
 /// Reads a document from a reader of unknown bytes. What was recorded is the document, or what the
 /// kind of the refusal says: one byte that is no tag; nothing after the byte that shows a bad
-/// length; one byte behind an element; or all that there was of a truncated element.
+/// length; one byte after an element; or all that there was of a truncated element.
 pub fn read_recorded<R: Read>(alloc: Global, recorder: &mut Recorder<R>) -> Result<SecretDocument>
     requires unfailed { recorder.old.is_failed ≡ false }
     requires fresh { recorder.old.given.items ≡ [] }
@@ -113,7 +113,7 @@ pub fn read_recorded<R: Read>(alloc: Global, recorder: &mut Recorder<R>) -> Resu
     ensures bad_length { IfErr result (λ error. error.kind ≡ ErrorKind.Length
         → (front : List ℕ) × (last : ℕ) × (document_fault front ≡ Some (Some ErrorKind.Truncated))
         × (recorder.new.given.items ≡ front ++ last ∷ [])) }
-    ensures behind { IfErr result (λ error. error.kind ≡ ErrorKind.TrailingData
+    ensures rest { IfErr result (λ error. error.kind ≡ ErrorKind.TrailingData
         → (front : List ℕ) × (last : ℕ) × IsElement front
         × (recorder.new.given.items ≡ front ++ last ∷ [])) }
     ensures all { IfErr result (λ error. error.kind ≡ ErrorKind.Truncated

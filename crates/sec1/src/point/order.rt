@@ -83,8 +83,8 @@ pub(super) fn words_cmp(a: &[u8], b: &[u8]) -> Ordering
 {
     let mut rest = a;
     let mut other_rest = b;
-    while let Some((word, behind)) = rest.split_first_chunk::<8>() {
-        let Some((other_word, other_behind)) = other_rest.split_first_chunk::<8>() else {
+    while let Some((word, after)) = rest.split_first_chunk::<8>() {
+        let Some((other_word, other_after)) = other_rest.split_first_chunk::<8>() else {
             break;
         };
         let number = u64::from_be_bytes(*word);
@@ -92,18 +92,18 @@ pub(super) fn words_cmp(a: &[u8], b: &[u8]) -> Ordering
         if number != other_number {
             return number.cmp(&other_number);
         }
-        rest = behind;
-        other_rest = other_behind;
+        rest = after;
+        other_rest = other_after;
     }
-    while let Some((byte, behind)) = rest.split_first() {
-        let Some((other_byte, other_behind)) = other_rest.split_first() else {
+    while let Some((byte, after)) = rest.split_first() {
+        let Some((other_byte, other_after)) = other_rest.split_first() else {
             return Ordering::Greater;
         };
         if byte != other_byte {
             return byte.cmp(other_byte);
         }
-        rest = behind;
-        other_rest = other_behind;
+        rest = after;
+        other_rest = other_after;
     }
     if other_rest.is_empty() {
         Ordering::Equal

@@ -61,7 +61,7 @@ impl<'a> Lines<'a> {
     }
 
     /// Adds the lines of a part of an input. What it encodes is decoded into `bytes`, which begin
-    /// behind `before` bytes of the memory for all parts; `digits` is memory for its digits.
+    /// after `before` bytes of the memory for all parts; `digits` is memory for its digits.
     /// Returns the number of bytes that were decoded.
     pub fn push_source(
         &mut self,

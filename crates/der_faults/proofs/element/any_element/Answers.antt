@@ -16,8 +16,8 @@ returns-in-Ok-clause-inside c =
     let e = sym (ap (λ (r : Reader). r.unread) c.new-reader.ensures) ∙ ap (λ (r : Reader). r.unread) read.was_whole in
     rw (c.remaining_input.ensures, c.value.ensures) (any_sizes _ _ c.args.bytes.now _ e).0
 
-pub returns-in-Ok-clause-behind : goal.returns-in-Ok-clause-behind
-returns-in-Ok-clause-behind c =
+pub returns-in-Ok-clause-rest : goal.returns-in-Ok-clause-rest
+returns-in-Ok-clause-rest c =
     let (is, read) = c.in-Ok.ensures.found in
     let e = sym (ap (λ (r : Reader). r.unread) c.new-reader.ensures) ∙ ap (λ (r : Reader). r.unread) read.was_whole in
     rw c.remaining_input.ensures (any_sizes _ _ c.args.bytes.now _ e).1

@@ -25,7 +25,7 @@ returns-in_err-check_row t c =
     ∙ c.in_err-check_row.ensures in
     let e = c.loop-most.invariant.0
     ∙ row_step c.loop-most.most c.args.level c.args.end c.loop-most.rest.now c.in_ok-found.found.content.now
-    c.in_ok-found.found.behind.now c.in_ok-found.found.tag _ some more fits c.in_ok-found.ensures.found inside in
+    c.in_ok-found.found.rest.now c.in_ok-found.found.tag _ some more fits c.in_ok-found.ensures.found inside in
     search rules
 
 pub loop-most-preserved : goal.loop-most-preserved
@@ -34,9 +34,9 @@ loop-most-preserved t c =
     let more : c.loop-most.rest.now ≡ [] → ⊥ = λ e. search rules in
     let fits : c.args.level ≤ 64 = search rules in
     let row = nested_place (row_place (c.loop-most.most - 1) (c.args.level + 1)) in
-    let behind = c.in_ok-found.found.behind.now in
+    let rest = c.in_ok-found.found.rest.now in
     let content = c.in_ok-found.found.content.now in
-    let inside : row c.in_ok-found.found.tag (c.args.end - length behind) content ≡ None =
+    let inside : row c.in_ok-found.found.tag (c.args.end - length rest) content ≡ None =
     elim c.if-is_constructed.branch [
       | then-is_constructed+in_ok-check_row w ↦
           nested_row (row_place (c.loop-most.most - 1) (c.args.level + 1)) c.in_ok-found.found.tag _ _
@@ -46,7 +46,7 @@ loop-most-preserved t c =
           c.is_constructed.result c.is_constructed.ensures w.if-is_constructed.false
     ] in (
       c.loop-most.invariant.0
-          ∙ row_step c.loop-most.most c.args.level c.args.end c.loop-most.rest.now content behind
+          ∙ row_step c.loop-most.most c.args.level c.args.end c.loop-most.rest.now content rest
           c.in_ok-found.found.tag None some more fits c.in_ok-found.ensures.found inside,
       search rules,
       search rules,

@@ -12,7 +12,7 @@ returns-in-Err g c = record {
   exact = (
     search rules,
     search rules,
-    λ behind. refused_element (g.T.Parts.Part.fault_then end_fault) behind 0x30 c.args.reader.now.unread
+    λ after. refused_element (g.T.Parts.Part.fault_then end_fault) after 0x30 c.args.reader.now.unread
         c.in-Err.e.kind (c.in-Err.ensures.refused.kind c.requires.0),
     search rules,
   );
@@ -40,7 +40,7 @@ returns-in-Err-read_parts g c = record {
   exact = (
     search rules,
     search rules,
-    λ behind. opened_refused _ 0x30 c.in-Ok.content _ _ _ c.in-Ok.ensures.found.1 (search rules) behind,
+    λ after. opened_refused _ 0x30 c.in-Ok.content _ _ _ c.in-Ok.ensures.found.1 (search rules) after,
     let left = read_end (Some (element 0x30 c.in-Ok.content.unread)) _ _ c.in-Ok.ensures.found.1.read in search rules,
   );
   only = λ value whole rest apart same may is.

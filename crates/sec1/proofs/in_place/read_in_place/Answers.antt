@@ -8,7 +8,7 @@ use Rattle.sec1_der.proofs.FaultLaws.{PassesOver, alone, read_element, reads_on}
 use Rattle.sec1_der.proofs.KindLaws.{refused_more}
 use Rattle.sec1.proofs.in_place.read_in_place.Goals as goal
 
--- A reader over an element has nothing behind it.
+-- A reader over an element has nothing after it.
 whole : (tag : ℕ) (inside input : List ℕ) (r : Reader) → r ≡ reader_over input → input ≡ element tag inside
     → r ≡ reader_over (element tag inside ++ [])
 whole tag inside input r is e = is ∙ ap reader_over (e ∙ sym (append-nil (element tag inside)))

@@ -6,7 +6,7 @@ use Rattle.sec1_c.proofs.container.places.Goals as goal
 pub fields_len-requires : goal.fields_len-requires
 fields_len-requires c =
     let fit = parts_fit c.args.curve c.args.container.now c.args.bytes.now c.requires.container c.requires.curve in
-    rw c.to_parts-key.ensures fit.behind
+    rw c.to_parts-key.ensures fit.rest
 
 pub overflow_sub-key_end : goal.overflow_sub-key_end
 overflow_sub-key_end c =

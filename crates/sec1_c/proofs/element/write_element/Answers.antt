@@ -4,7 +4,7 @@ use Rattle.sec1_der.specs.Elements.{header}
 use Rattle.sec1_c.specs.Outputs.{Writes}
 use Rattle.sec1_c.proofs.element.write_element.Goals as goal
 
--- two rows of bytes are written, one behind the other
+-- two rows of bytes are written, one after the other
 both_written : (front content buffer rest : List ℕ) → length front + length content ≤ length buffer
     → rest ≡ drop (length front) buffer
     → Writes (front ++ content) buffer (front ++ (content ++ drop (length content) rest)) 0

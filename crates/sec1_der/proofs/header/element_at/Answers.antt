@@ -6,4 +6,4 @@ pub returns-then-inside-get-clause-found : goal.returns-then-inside-get-clause-f
 returns-then-inside-get-clause-found c =
     let (is, read) = c.in-Ok.ensures.found in
     let few = c.if-inside-get.true in
-    (tt, λ content behind. any_short content behind _ _ c.args.input.now _ is read (omega (arith, few)))
+    (tt, λ content rest. any_short content rest _ _ c.args.input.now _ is read (omega (arith, few)))

@@ -12,7 +12,7 @@ returns-in_default-clause-only c tag n rest h e = absurd
 pub returns-in_default-clause-found : goal.returns-in_default-clause-found
 returns-in_default-clause-found c = (
   c.short_fault.ensures,
-  λ content behind. any_without_header content behind _
+  λ content after. any_without_header content after _
       (λ tag n rest h e. returns-in_default-clause-only c tag n rest h e)
       ∙ ap (λ kind. Some (Some kind)) (sym c.short_fault.ensures),
 )
@@ -25,7 +25,7 @@ returns-in-Err-clause-found c =
     let tag = c.in-Ok.ensures.0 in
     let front = two_bytes bytes c.in-len2-up.len_at_least in
     let kind = c.in-Err.ensures.found in
-    (rw (front, tag, kind) refl, λ content behind. rw (front, tag, lacks, kind) refl)
+    (rw (front, tag, kind) refl, λ content following. rw (front, tag, lacks, kind) refl)
 
 pub returns-clause-only : goal.returns-clause-only
 returns-clause-only c tag n rest h e =

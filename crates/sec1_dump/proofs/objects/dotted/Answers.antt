@@ -6,7 +6,7 @@ use Rattle.sec1_der.specs.Identifiers.{dotted}
 use Rattle.sec1_dump.proofs.TextLemmas.{last_piece}
 use Rattle.sec1_dump.proofs.objects.dotted.Goals as goal
 
--- the first two arcs, and those behind them
+-- the first two arcs, and those after them
 begun : (text : List ℕ) (first second : ℕ) (numbers : List ℕ) → text ≡ (decimal first ++ 0x2E ∷ []) ++ decimal second
     → text ++ further_text numbers ≡ dotted (first ∷ second ∷ numbers)
 begun text first second numbers is =

@@ -19,7 +19,7 @@ returns-in-Err c = record {
   exact = (
     search rules,
     search rules,
-    λ behind. any_refused behind _ _ (c.in-Err.ensures.refused.kind c.requires),
+    λ after. any_refused after _ _ (c.in-Err.ensures.refused.kind c.requires),
     search rules,
   );
   only = λ part whole rest apart same may is.

@@ -22,12 +22,12 @@ loop-level-preserved c =
           ∙ (w.if-indefinite.true ∙ sym (ap (λ b. b || level.indefinite) w.if-indefinite.true))
       | else-indefinite w ↦ w.indefinite-is ∙ sym (ap (λ b. b || level.indefinite) w.if-indefinite.false)
     ] in
-    let behind : Bool = is_unended left (reverse (take (self.count - 1) self.table)) in
+    let rest : Bool = is_unended left (reverse (take (self.count - 1) self.table)) in
     record {
       levels = ap (still_open left) closed ∙ (sym over.0 ∙ c.loop-level.invariant.levels);
       unended =
-          ap (λ b. b || behind) seen
-          ∙ (or_assoc c.loop-level.indefinite level.indefinite behind
+          ap (λ b. b || rest) seen
+          ∙ (or_assoc c.loop-level.indefinite level.indefinite rest
           ∙ (ap (λ b. c.loop-level.indefinite || b) (ap (λ b. level.indefinite || b) one ∙ sym over.1)
           ∙ c.loop-level.invariant.unended));
     }

@@ -7,7 +7,7 @@ use Rattle.der_view.specs.Values.{numbers_below}
 use Rattle.sec1_der.specs.Identifiers.{dotted}
 use Rattle.der_view.proofs.line.Line.push_arcs.Goals as goal
 
--- the first two arcs, and those behind them
+-- the first two arcs, and those after them
 begun : (old x y z : List ℕ) (first second : ℕ) (numbers : List ℕ) → x ≡ kept (old ++ decimal first)
     → y ≡ kept (x ++ 0x2E ∷ []) → z ≡ kept (y ++ decimal second)
     → kept (z ++ further_text numbers) ≡ kept (old ++ dotted (first ∷ second ∷ numbers))

@@ -16,20 +16,20 @@ returns-in_err-high-clause-valid c =
 
 -- a unit that is no surrogate
 plain : (c : goal.Joined-then-high-lt55296)
-    → utf16_chars (units_of c.args.bytes.now) ≡ Some c.in_ok-high.high ∷ utf16_chars (units_of c.in_ok-high.behind.now)
+    → utf16_chars (units_of c.args.bytes.now) ≡ Some c.in_ok-high.high ∷ utf16_chars (units_of c.in_ok-high.after.now)
 plain c =
     rw c.in_ok-high.ensures.units
-    (utf16-unit c.in_ok-high.high (units_of c.in_ok-high.behind.now) c.then-high-lt55296.either)
+    (utf16-unit c.in_ok-high.high (units_of c.in_ok-high.after.now) c.then-high-lt55296.either)
 
 pub returns-then-high-lt55296-clause-codes : goal.returns-then-high-lt55296-clause-codes
 returns-then-high-lt55296-clause-codes c =
-    utf16-some c.args.bytes.now c.in_ok-high.behind.now c.in_ok-high.high (plain c)
+    utf16-some c.args.bytes.now c.in_ok-high.after.now c.in_ok-high.high (plain c)
 
 pub returns-then-high-lt55296-clause-valid : goal.returns-then-high-lt55296-clause-valid
 returns-then-high-lt55296-clause-valid c =
-    let even : length c.args.bytes.now % 2 ≡ length c.in_ok-high.behind.now % 2 =
+    let even : length c.args.bytes.now % 2 ≡ length c.in_ok-high.after.now % 2 =
     omega (arith, c.in_ok-high.ensures.count) in
-    utf16-valid c.args.bytes.now c.in_ok-high.behind.now c.in_ok-high.high (plain c) even
+    utf16-valid c.args.bytes.now c.in_ok-high.after.now c.in_ok-high.high (plain c) even
 
 -- a surrogate at the end
 last : (c : goal.After-from_residual-in_err-low) → utf16_chars (units_of c.args.bytes.now) ≡ None ∷ []

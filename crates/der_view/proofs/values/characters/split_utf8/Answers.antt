@@ -9,21 +9,21 @@ returns-in_err-first c =
 pub returns-then-first-lt128 : goal.returns-then-first-lt128
 returns-then-first-lt128 c =
     rw (c.from.ensures, c.in_ok-first.ensures.cases.0)
-    (chars-one c.in_ok-first.first.now c.in_ok-first.behind.now c.if-first-lt128.true)
+    (chars-one c.in_ok-first.first.now c.in_ok-first.rest.now c.if-first-lt128.true)
 
 pub returns-in_err-second : goal.returns-in_err-second
 returns-in_err-second c =
     rw (
       c.from_residual-in_err-second.ensures,
       c.in_ok-first.ensures.cases.0,
-      empty c.in_ok-first.behind.now c.in_err-second.ensures.cases,
+      empty c.in_ok-first.rest.now c.in_err-second.ensures.cases,
     )
     (chars-cut_one c.in_ok-first.first.now c.if-first-lt128.false)
 
 pub returns-then-first-lt224 : goal.returns-then-first-lt224
 returns-then-first-lt224 c =
     rw (c.bits.ensures, c.bits-then-first-lt224.ensures, c.in_ok-first.ensures.cases.0, c.in_ok-second.ensures.cases.0)
-    (chars-two c.in_ok-first.first.now c.in_ok-second.second.now c.in_ok-second.behind.now c.if-first-lt128.false
+    (chars-two c.in_ok-first.first.now c.in_ok-second.second.now c.in_ok-second.rest.now c.if-first-lt128.false
     c.if-first-lt224.true)
 
 pub returns-in_err-third : goal.returns-in_err-third
@@ -32,7 +32,7 @@ returns-in_err-third c =
       c.from_residual-in_err-third.ensures,
       c.in_ok-first.ensures.cases.0,
       c.in_ok-second.ensures.cases.0,
-      empty c.in_ok-second.behind.now c.in_err-third.ensures.cases,
+      empty c.in_ok-second.rest.now c.in_err-third.ensures.cases,
     )
     (chars-cut_two c.in_ok-first.first.now c.in_ok-second.second.now c.if-first-lt224.false)
 
@@ -46,7 +46,7 @@ returns-then-first-lt240 c =
       c.in_ok-second.ensures.cases.0,
       c.in_ok-third.ensures.cases.0,
     )
-    (chars-three c.in_ok-first.first.now c.in_ok-second.second.now c.in_ok-third.third.now c.in_ok-third.behind.now
+    (chars-three c.in_ok-first.first.now c.in_ok-second.second.now c.in_ok-third.third.now c.in_ok-third.rest.now
     c.if-first-lt224.false c.if-first-lt240.true)
 
 pub returns-in_err-fourth : goal.returns-in_err-fourth
@@ -56,7 +56,7 @@ returns-in_err-fourth c =
       c.in_ok-first.ensures.cases.0,
       c.in_ok-second.ensures.cases.0,
       c.in_ok-third.ensures.cases.0,
-      empty c.in_ok-third.behind.now c.in_err-fourth.ensures.cases,
+      empty c.in_ok-third.rest.now c.in_err-fourth.ensures.cases,
     )
     (chars-cut_three c.in_ok-first.first.now c.in_ok-second.second.now c.in_ok-third.third.now c.if-first-lt240.false)
 
@@ -73,4 +73,4 @@ returns c =
       c.in_ok-fourth.ensures.cases.0,
     )
     (chars-four c.in_ok-first.first.now c.in_ok-second.second.now c.in_ok-third.third.now c.in_ok-fourth.fourth.now
-    c.in_ok-fourth.behind.now c.if-first-lt240.false)
+    c.in_ok-fourth.rest.now c.if-first-lt240.false)

@@ -20,9 +20,9 @@ next_left None total all old new (value ∷ left, is, same) shorter first = absu
 next_left (Some n) total all old new ([], is, same) shorter first =
     let none : [] ≡ old = cc (is) in absurd (omega (arith, ap length none, shorter refl))
 next_left (Some n) total all old new (value ∷ left, is, same) shorter first =
-    let (found, behind) = first value left is in
+    let (found, rest) = first value left is in
     let n_is : n ≡ value = unsigned_content-injective n value (cc) in
-    (left, behind, grind (arith, common_steps))
+    (left, rest, grind (arith, common_steps))
 
 pub returns-in_err-to_u64-clause-only : goal.returns-in_err-to_u64-clause-only
 returns-in_err-to_u64-clause-only c = λ numbers is.

@@ -5,7 +5,7 @@ use Rattle.sec1_c.proofs.container.fault.tell_curve.Goals as goal
 pub fields_len-requires : goal.fields_len-requires
 fields_len-requires c =
     let fit = algorithm_fits c.args.container.now c.args.bytes.now c.requires in
-    rw c.to_parts-algorithm.ensures fit.behind
+    rw c.to_parts-algorithm.ensures fit.rest
 
 pub overflow_sub-key_end : goal.overflow_sub-key_end
 overflow_sub-key_end c =

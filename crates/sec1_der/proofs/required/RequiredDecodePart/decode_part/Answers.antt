@@ -8,7 +8,7 @@ returns-in-Err g c = record {
   exact = (
     search rules,
     search rules,
-    λ behind. refused_more g.A.ValueContent.fault behind g.A.Tagged.tag_byte c.args.reader.now.unread _
+    λ rest. refused_more g.A.ValueContent.fault rest g.A.Tagged.tag_byte c.args.reader.now.unread _
         (c.in-Err.ensures.refused.kind c.requires.0),
     search rules,
   );
