@@ -23,22 +23,22 @@ follows_both p q (byte ∷ rest) may = not_among byte p.barred q.barred may
 
 -- what may follow an OPTIONAL part may follow the part, and doesn't begin with one of its tags
 pub follows_optional : (p : Tags) (rest : List ℕ) → MayFollow (optional_tags p) rest
-    → (begins_among p.firsts rest ≡ false) × MayFollow p rest
+    → (begins_among p.first rest ≡ false) × MayFollow p rest
 follows_optional p [] may = (refl, tt)
-follows_optional p (byte ∷ rest) may = not_among byte p.firsts p.barred may
+follows_optional p (byte ∷ rest) may = not_among byte p.first p.barred may
 
 -- one of the tags of a part that isn't empty is next
 pub next_is : (p : Tags) (whole rest : List ℕ) → p.may_be_empty ≡ false → Begins p whole
-    → begins_among p.firsts (whole ++ rest) ≡ true
+    → begins_among p.first (whole ++ rest) ≡ true
 next_is p [] rest some begins = absurd (cc (some, begins))
 next_is p (byte ∷ whole) rest some begins = begins
 
 -- no tag of another part is next
-pub next_not : (p q : Tags) (whole rest : List ℕ) → list_all (λ x. not (is_among x q.firsts)) p.firsts ≡ true
+pub next_not : (p q : Tags) (whole rest : List ℕ) → list_all (λ x. not (is_among x q.first)) p.first ≡ true
     → q.may_be_empty ≡ false → Begins q whole
-    → begins_among p.firsts (whole ++ rest) ≡ false
+    → begins_among p.first (whole ++ rest) ≡ false
 next_not p q [] rest d some begins = absurd (cc (some, begins))
-next_not p q (byte ∷ whole) rest d some begins = apart_among byte p.firsts q.firsts d begins
+next_not p q (byte ∷ whole) rest d some begins = apart_among byte p.first q.first d begins
 
 -- a part begins with one of its tags
 abbrev pub BeginsWith : {P : Type 0} → Tags → (P → Option (List ℕ)) → Type 0
@@ -46,15 +46,15 @@ BeginsWith {P} tags bytes = (part : P) (whole : List ℕ) → bytes part ≡ Som
 
 -- the alternatives of a CHOICE that are apart, and may not begin with the same tag
 pub apart_parts : (p q : Tags) → (choice_tags p q).apart ≡ true
-    → (p.apart ≡ true) × (q.apart ≡ true) × (list_all (λ x. not (is_among x q.firsts)) p.firsts ≡ true)
+    → (p.apart ≡ true) × (q.apart ≡ true) × (list_all (λ x. not (is_among x q.first)) p.first ≡ true)
 apart_parts p q apart =
-    let differ = list_all (λ x. not (is_among x q.firsts)) p.firsts in
+    let differ = list_all (λ x. not (is_among x q.first)) p.first in
     let parts = and_parts p.apart (q.apart && differ) apart in
     let more = and_parts q.apart differ parts.1 in
     (parts.0, more.0, more.1)
 
 -- two parts don't begin with the same tag
-not_both : (p q : Tags) (x y : List ℕ) → list_all (λ x. not (is_among x q.firsts)) p.firsts ≡ true
+not_both : (p q : Tags) (x y : List ℕ) → list_all (λ x. not (is_among x q.first)) p.first ≡ true
     → p.may_be_empty ≡ false → q.may_be_empty ≡ false → (r s : List ℕ) → Begins p x
     → Begins q y → x ++ r ≡ y ++ s → ⊥
 not_both p q x y d some more r s begins ends same =
@@ -81,7 +81,7 @@ choice_apart p q first second some more begins ends one two (Second a) (Second b
     (ap (λ v. Second v) is.0, is.1)
 
 not_present : (p : Tags) (x r : List ℕ) → p.may_be_empty ≡ false → Begins p x
-    → begins_among p.firsts (x ++ r) ≡ false → ⊥
+    → begins_among p.first (x ++ r) ≡ false → ⊥
 not_present p x r some begins none = absurd (cc (none, next_is p x r some begins))
 
 -- an OPTIONAL part is apart from what may follow it
@@ -111,10 +111,10 @@ pub record IsNext {P : Type 0} (tags : Tags) (bytes : P → Option (List ℕ)) (
 
 -- what a reader found to be next
 pub next_found : (tags : Tags) (old : Reader) (bytes : List ℕ) (absent found : Bool)
-    → absent ≡ not (begins_among tags.firsts old.unread) → absent ≡ found
+    → absent ≡ not (begins_among tags.first old.unread) → absent ≡ found
     → old ≡ reader_over bytes
-    → begins_among tags.firsts bytes ≡ not found
-next_found tags old bytes absent found e same is = flip (begins_among tags.firsts bytes) found (sym same ∙ rw is at e)
+    → begins_among tags.first bytes ≡ not found
+next_found tags old bytes absent found e same is = flip (begins_among tags.first bytes) found (sym same ∙ rw is at e)
   where
     flip : (b c : Bool) → c ≡ not b → b ≡ not c
     flip true c e = rw e refl
@@ -125,7 +125,7 @@ pub first_next : (p q : Tags) {P Q : Type 0} (first : P → Option (List ℕ)) (
     → q.may_be_empty ≡ false → BeginsWith q second
     → (part : Choice P Q) (whole rest : List ℕ) → (choice_tags p q).apart ≡ true
     → choice_of first second part ≡ Some whole → MayFollow (choice_tags p q) rest
-    → begins_among p.firsts (whole ++ rest) ≡ true → IsNext p first whole rest
+    → begins_among p.first (whole ++ rest) ≡ true → IsNext p first whole rest
 first_next p q first second more ends (First part) whole rest apart same may next =
     record { part = part; apart = (apart_parts p q apart).0; same = same; may = (follows_both p q rest may).0 }
 first_next p q first second more ends (Second part) whole rest apart same may next =
@@ -136,7 +136,7 @@ pub second_next : (p q : Tags) {P Q : Type 0} (first : P → Option (List ℕ)) 
     → p.may_be_empty ≡ false → BeginsWith p first
     → (part : Choice P Q) (whole rest : List ℕ) → (choice_tags p q).apart ≡ true
     → choice_of first second part ≡ Some whole → MayFollow (choice_tags p q) rest
-    → begins_among p.firsts (whole ++ rest) ≡ false → IsNext q second whole rest
+    → begins_among p.first (whole ++ rest) ≡ false → IsNext q second whole rest
 second_next p q first second some begins (First part) whole rest apart same may next =
     absurd (not_present p whole rest some (begins part whole same) next)
 second_next p q first second some begins (Second part) whole rest apart same may next =
@@ -146,10 +146,10 @@ second_next p q first second some begins (Second part) whole rest apart same may
 pub present_next : (p : Tags) {P : Type 0} (bytes : P → Option (List ℕ)) (part : Option P) (whole rest : List ℕ)
     → p.apart ≡ true
     → optional_bytes bytes part ≡ Some whole → MayFollow (optional_tags p) rest
-    → begins_among p.firsts (whole ++ rest) ≡ true → IsNext p bytes whole rest
+    → begins_among p.first (whole ++ rest) ≡ true → IsNext p bytes whole rest
 present_next p bytes None whole rest apart same may next =
     let none : whole ≡ [] = cc same in
-    let after : begins_among p.firsts rest ≡ true = rw none at next in
+    let after : begins_among p.first rest ≡ true = rw none at next in
     absurd (cc (after, (follows_optional p rest may).0))
 present_next p bytes (Some part) whole rest apart same may next =
     record { part = part; apart = apart; same = same; may = (follows_optional p rest may).1 }
@@ -157,7 +157,7 @@ present_next p bytes (Some part) whole rest apart same may next =
 -- if none is next, it is absent
 pub absent_next : (p : Tags) {P : Type 0} (bytes : P → Option (List ℕ)) → p.may_be_empty ≡ false → BeginsWith p bytes
     → (part : Option P) (whole rest : List ℕ)
-    → optional_bytes bytes part ≡ Some whole → begins_among p.firsts (whole ++ rest) ≡ false → whole ≡ []
+    → optional_bytes bytes part ≡ Some whole → begins_among p.first (whole ++ rest) ≡ false → whole ≡ []
 absent_next p bytes some begins None whole rest same next = cc (same)
 absent_next p bytes some begins (Some part) whole rest same next =
     absurd (not_present p whole rest some (begins part whole same) next)

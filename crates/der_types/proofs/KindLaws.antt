@@ -35,19 +35,19 @@ other_says default f says =
     both_say f (λ content. value_unless (not (bytes_eq content default))) says
     (test_says (λ content. not (bytes_eq content default)))
 
-pub choice_says : (firsts : List ℕ) (first second : Fault → Fault) (rest : Fault) → SaysKinds (first rest)
-    → SaysKinds (second rest) → SaysKinds (choice_fault firsts first second rest)
-choice_says firsts first second rest one two = record {
+pub choice_says : (tags : List ℕ) (first second : Fault → Fault) (rest : Fault) → SaysKinds (first rest)
+    → SaysKinds (second rest) → SaysKinds (choice_fault tags first second rest)
+choice_says tags first second rest one two = record {
   kind = λ bytes e.
-      either_says (begins_among firsts bytes) (first rest bytes) (second rest bytes) (one.kind bytes)
+      either_says (begins_among tags bytes) (first rest bytes) (second rest bytes) (one.kind bytes)
       (two.kind bytes) e;
 }
 
-pub optional_part_says : (firsts : List ℕ) (part : Fault → Fault) (rest : Fault) → SaysKinds (part rest)
-    → SaysKinds rest → SaysKinds (optional_part_fault firsts part rest)
-optional_part_says firsts part rest one two = record {
+pub optional_part_says : (tags : List ℕ) (part : Fault → Fault) (rest : Fault) → SaysKinds (part rest)
+    → SaysKinds rest → SaysKinds (optional_part_fault tags part rest)
+optional_part_says tags part rest one two = record {
   kind = λ bytes e.
-      either_says (begins_among firsts bytes) (part rest bytes) (rest bytes) (one.kind bytes) (two.kind bytes) e;
+      either_says (begins_among tags bytes) (part rest bytes) (rest bytes) (one.kind bytes) (two.kind bytes) e;
 }
 
 pub any_element_says : (rest : Fault) → SaysKinds rest → SaysKinds (any_element_fault rest)

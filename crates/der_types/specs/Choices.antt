@@ -19,10 +19,10 @@ choice_of first second (Second part) = second part
 -- X.680 section 29.3: the tags of the alternatives must differ
 abbrev pub choice_tags : Tags → Tags → Tags
 choice_tags p q = record {
-  firsts = p.firsts ++ q.firsts;
+  first = p.first ++ q.first;
   may_be_empty = p.may_be_empty || q.may_be_empty;
   barred = p.barred ++ q.barred;
-  apart = p.apart && (q.apart && list_all (λ tag. not (is_among tag q.firsts)) p.firsts);
+  apart = p.apart && (q.apart && list_all (λ tag. not (is_among tag q.first)) p.first);
 }
 
 -- whether the bytes begin with one of these tags
@@ -33,8 +33,8 @@ begins_among tags (byte ∷ bytes) = is_among byte tags
 -- X.690 section 8.13: the fault of the first alternative if one of its tags is next, else that of
 -- the second
 abbrev pub choice_fault : List ℕ → (Fault → Fault) → (Fault → Fault) → Fault → Fault
-choice_fault firsts first second rest bytes =
-    if begins_among firsts bytes then first rest bytes else second rest bytes
+choice_fault tags first second rest bytes =
+    if begins_among tags bytes then first rest bytes else second rest bytes
 
 -- X.690 section 8.9.3: the bytes of the part, or none if it is absent
 abbrev pub optional_bytes : {P : Type 0} → (P → Option (List ℕ)) → Option P → Option (List ℕ)
@@ -44,18 +44,18 @@ optional_bytes bytes (Some part) = bytes part
 -- X.680 section 25.6: what follows an OPTIONAL part mustn't begin with one of its tags
 abbrev pub optional_tags : Tags → Tags
 optional_tags p = record {
-  firsts = p.firsts;
+  first = p.first;
   may_be_empty = true;
   barred =
-      p.firsts ++ p.barred;
+      p.first ++ p.barred;
   apart = p.apart;
 }
 
 -- X.690 section 8.9.3: the fault of the part if one of its tags is next, else that of what follows
 -- it
 abbrev pub optional_part_fault : List ℕ → (Fault → Fault) → Fault → Fault
-optional_part_fault firsts part rest bytes =
-    if begins_among firsts bytes then part rest bytes else rest bytes
+optional_part_fault tags part rest bytes =
+    if begins_among tags bytes then part rest bytes else rest bytes
 
 -- neither is empty
 pub choice_not_empty : (p q : Tags) → p.may_be_empty ≡ false → q.may_be_empty ≡ false
@@ -65,14 +65,14 @@ choice_not_empty p q e f = rw (e, f) refl
 begins_first : (p q : Tags) (whole : List ℕ) → Begins p whole → Begins (choice_tags p q) whole
 begins_first p q [] e = rw e refl
 begins_first p q (byte ∷ bytes) e =
-    rw (list_any-append (λ tag. byte == tag) p.firsts q.firsts)
-    (or_left (is_among byte p.firsts) (is_among byte q.firsts) e)
+    rw (list_any-append (λ tag. byte == tag) p.first q.first)
+    (or_left (is_among byte p.first) (is_among byte q.first) e)
 
 begins_second : (p q : Tags) (whole : List ℕ) → Begins q whole → Begins (choice_tags p q) whole
 begins_second p q [] e = or_right p.may_be_empty q.may_be_empty e
 begins_second p q (byte ∷ bytes) e =
-    rw (list_any-append (λ tag. byte == tag) p.firsts q.firsts)
-    (or_right (is_among byte p.firsts) (is_among byte q.firsts) e)
+    rw (list_any-append (λ tag. byte == tag) p.first q.first)
+    (or_right (is_among byte p.first) (is_among byte q.first) e)
 
 -- a CHOICE begins with a tag of one of the alternatives
 pub choice_begins : (p q : Tags) {P Q : Type 0} (first : P → Option (List ℕ))

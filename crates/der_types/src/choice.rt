@@ -13,7 +13,7 @@ use sec1_der::{
 pub trait Alternative: Part {
     /// Returns `true` if a part may begin with this byte.
     fn may_begin(byte: u8) -> bool
-        ensures { result ≡ is_among byte Self.tags.firsts };
+        ensures { result ≡ is_among byte Self.tags.first };
 
     /// The part is never empty.
     ghost never_empty: { Self.tags.may_be_empty ≡ false };
@@ -31,7 +31,7 @@ impl<A: ValueContent + Tagged> Alternative for Required<A> {
 /// Requires that the reader hasn't failed.
 pub(crate) fn is_absent<P: Alternative>(reader: &SliceReader) -> bool
     requires { reader.now.failed ≡ false }
-    ensures { result ≡ not (begins_among P.tags.firsts reader.now.unread) }
+    ensures { result ≡ not (begins_among P.tags.first reader.now.unread) }
 {
     match reader.peek_tag_byte() {
         Some(byte) => !P::may_begin(byte),
@@ -54,7 +54,7 @@ pub enum Choice<P, Q> {
 impl<P: Part, Q: Part> Part for Choice<P, Q> {
     ghost bytes = { choice_of P.bytes Q.bytes };
 
-    ghost fault_then = { choice_fault P.tags.firsts P.fault_then Q.fault_then };
+    ghost fault_then = { choice_fault P.tags.first P.fault_then Q.fault_then };
 
     ghost tags = { choice_tags P.tags Q.tags };
 

@@ -37,12 +37,12 @@ not_among tag xs ys e =
     or_false (is_among tag xs) (is_among tag ys) (sym (list_any-append (λ other. tag == other) xs ys) ∙ e)
 
 -- what may follow two parts, after the second, may follow the first
-pub next_first : (p q : Tags) (y rest : List ℕ) → list_all (λ x. not (is_among x q.firsts)) p.barred ≡ true
+pub next_first : (p q : Tags) (y rest : List ℕ) → list_all (λ x. not (is_among x q.first)) p.barred ≡ true
     → Begins q y
     → MayFollow (both_tags p q) rest → MayFollow p (y ++ rest)
 next_first p q [] [] d e n = tt
 next_first p q [] (byte ∷ rest) d e n = (not_among byte q.barred p.barred (rw e at n)).1
-next_first p q (byte ∷ y) rest d e n = apart_among byte p.barred q.firsts d e
+next_first p q (byte ∷ y) rest d e n = apart_among byte p.barred q.first d e
 
 -- what may follow two parts may follow the second
 pub next_second : (p q : Tags) (rest : List ℕ) → MayFollow (both_tags p q) rest → MayFollow q rest

@@ -35,14 +35,14 @@ both_begin : (p q : Tags) (x y : List ℕ) → Begins p x → Begins q y
     → Begins (both_tags p q) (x ++ y)
 both_begin p q [] [] e f = rw (e, f) refl
 both_begin p q [] (byte ∷ y) e f =
-    rw (e, list_any-append (λ tag. byte == tag) p.firsts q.firsts)
-    (or_right (is_among byte p.firsts) (is_among byte q.firsts) f)
+    rw (e, list_any-append (λ tag. byte == tag) p.first q.first)
+    (or_right (is_among byte p.first) (is_among byte q.first) f)
 both_begin p q (byte ∷ x) y e f = by p.may_be_empty
   where
-    by : (b : Bool) → is_among byte (if b then p.firsts ++ q.firsts else p.firsts) ≡ true
+    by : (b : Bool) → is_among byte (if b then p.first ++ q.first else p.first) ≡ true
     by true =
-        rw (list_any-append (λ tag. byte == tag) p.firsts q.firsts)
-        (or_left (is_among byte p.firsts) (is_among byte q.firsts) e)
+        rw (list_any-append (λ tag. byte == tag) p.first q.first)
+        (or_left (is_among byte p.first) (is_among byte q.first) e)
     by false = e
 
 -- one part after another begins with a tag of the first, or with one of the second where the first
