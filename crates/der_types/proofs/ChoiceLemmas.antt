@@ -28,14 +28,14 @@ follows_optional p [] may = (refl, tt)
 follows_optional p (byte ∷ rest) may = not_among byte p.first p.barred may
 
 -- one of the tags of a part that isn't empty is next
-pub next_is : (p : Tags) (whole rest : List ℕ) → p.may_be_empty ≡ false → Begins p whole
+pub next_is : (p : Tags) (whole rest : List ℕ) → p.nullable ≡ false → Begins p whole
     → begins_among p.first (whole ++ rest) ≡ true
 next_is p [] rest some begins = absurd (cc (some, begins))
 next_is p (byte ∷ whole) rest some begins = begins
 
 -- no tag of another part is next
 pub next_not : (p q : Tags) (whole rest : List ℕ) → list_all (λ x. not (is_among x q.first)) p.first ≡ true
-    → q.may_be_empty ≡ false → Begins q whole
+    → q.nullable ≡ false → Begins q whole
     → begins_among p.first (whole ++ rest) ≡ false
 next_not p q [] rest d some begins = absurd (cc (some, begins))
 next_not p q (byte ∷ whole) rest d some begins = apart_among byte p.first q.first d begins
@@ -55,7 +55,7 @@ apart_parts p q apart =
 
 -- two parts don't begin with the same tag
 not_both : (p q : Tags) (x y : List ℕ) → list_all (λ x. not (is_among x q.first)) p.first ≡ true
-    → p.may_be_empty ≡ false → q.may_be_empty ≡ false → (r s : List ℕ) → Begins p x
+    → p.nullable ≡ false → q.nullable ≡ false → (r s : List ℕ) → Begins p x
     → Begins q y → x ++ r ≡ y ++ s → ⊥
 not_both p q x y d some more r s begins ends same =
     let is = next_is p x r some begins in
@@ -64,7 +64,7 @@ not_both p q x y d some more r s begins ends same =
 
 -- the alternatives of a CHOICE are apart
 pub choice_apart : (p q : Tags) {P Q : Type 0} (first : P → Option (List ℕ)) (second : Q → Option (List ℕ))
-    → p.may_be_empty ≡ false → q.may_be_empty ≡ false
+    → p.nullable ≡ false → q.nullable ≡ false
     → BeginsWith p first → BeginsWith q second → AreApart p first → AreApart q second
     → AreApart (choice_tags p q) (choice_of first second)
 choice_apart p q first second some more begins ends one two (First a) (First b) x y r s apart e f before rest same =
@@ -80,12 +80,12 @@ choice_apart p q first second some more begins ends one two (Second a) (Second b
     (follows_both p q s rest).1 same in
     (ap (λ v. Second v) is.0, is.1)
 
-not_present : (p : Tags) (x r : List ℕ) → p.may_be_empty ≡ false → Begins p x
+not_present : (p : Tags) (x r : List ℕ) → p.nullable ≡ false → Begins p x
     → begins_among p.first (x ++ r) ≡ false → ⊥
 not_present p x r some begins none = absurd (cc (none, next_is p x r some begins))
 
 -- an OPTIONAL part is apart from what may follow it
-pub optional_part_apart : (p : Tags) {P : Type 0} (bytes : P → Option (List ℕ)) → p.may_be_empty ≡ false
+pub optional_part_apart : (p : Tags) {P : Type 0} (bytes : P → Option (List ℕ)) → p.nullable ≡ false
     → BeginsWith p bytes → AreApart p bytes
     → AreApart (optional_tags p) (optional_bytes bytes)
 optional_part_apart p bytes some begins one None None x y r s apart e f before rest same =
@@ -122,7 +122,7 @@ next_found tags old bytes absent found e same is = flip (begins_among tags.first
 
 -- if a tag of the first alternative is next, that is the one
 pub first_next : (p q : Tags) {P Q : Type 0} (first : P → Option (List ℕ)) (second : Q → Option (List ℕ))
-    → q.may_be_empty ≡ false → BeginsWith q second
+    → q.nullable ≡ false → BeginsWith q second
     → (part : Choice P Q) (whole rest : List ℕ) → (choice_tags p q).apart ≡ true
     → choice_of first second part ≡ Some whole → MayFollow (choice_tags p q) rest
     → begins_among p.first (whole ++ rest) ≡ true → IsNext p first whole rest
@@ -133,7 +133,7 @@ first_next p q first second more ends (Second part) whole rest apart same may ne
 
 -- if none is next, it is the second
 pub second_next : (p q : Tags) {P Q : Type 0} (first : P → Option (List ℕ)) (second : Q → Option (List ℕ))
-    → p.may_be_empty ≡ false → BeginsWith p first
+    → p.nullable ≡ false → BeginsWith p first
     → (part : Choice P Q) (whole rest : List ℕ) → (choice_tags p q).apart ≡ true
     → choice_of first second part ≡ Some whole → MayFollow (choice_tags p q) rest
     → begins_among p.first (whole ++ rest) ≡ false → IsNext q second whole rest
@@ -155,7 +155,7 @@ present_next p bytes (Some part) whole rest apart same may next =
     record { part = part; apart = apart; same = same; may = (follows_optional p rest may).1 }
 
 -- if none is next, it is absent
-pub absent_next : (p : Tags) {P : Type 0} (bytes : P → Option (List ℕ)) → p.may_be_empty ≡ false → BeginsWith p bytes
+pub absent_next : (p : Tags) {P : Type 0} (bytes : P → Option (List ℕ)) → p.nullable ≡ false → BeginsWith p bytes
     → (part : Option P) (whole rest : List ℕ)
     → optional_bytes bytes part ≡ Some whole → begins_among p.first (whole ++ rest) ≡ false → whole ≡ []
 absent_next p bytes some begins None whole rest same next = cc (same)

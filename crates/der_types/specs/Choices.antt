@@ -20,7 +20,7 @@ choice_of first second (Second part) = second part
 abbrev pub choice_tags : Tags → Tags → Tags
 choice_tags p q = record {
   first = p.first ++ q.first;
-  may_be_empty = p.may_be_empty || q.may_be_empty;
+  nullable = p.nullable || q.nullable;
   barred = p.barred ++ q.barred;
   apart = p.apart && (q.apart && list_all (λ tag. not (is_among tag q.first)) p.first);
 }
@@ -45,7 +45,7 @@ optional_bytes bytes (Some part) = bytes part
 abbrev pub optional_tags : Tags → Tags
 optional_tags p = record {
   first = p.first;
-  may_be_empty = true;
+  nullable = true;
   barred =
       p.first ++ p.barred;
   apart = p.apart;
@@ -58,8 +58,8 @@ optional_part_fault tags part rest bytes =
     if begins_among tags bytes then part rest bytes else rest bytes
 
 -- neither is empty
-pub choice_not_empty : (p q : Tags) → p.may_be_empty ≡ false → q.may_be_empty ≡ false
-    → (choice_tags p q).may_be_empty ≡ false
+pub choice_not_empty : (p q : Tags) → p.nullable ≡ false → q.nullable ≡ false
+    → (choice_tags p q).nullable ≡ false
 choice_not_empty p q e f = rw (e, f) refl
 
 begins_first : (p q : Tags) (whole : List ℕ) → Begins p whole → Begins (choice_tags p q) whole
@@ -69,7 +69,7 @@ begins_first p q (byte ∷ bytes) e =
     (or_left (is_among byte p.first) (is_among byte q.first) e)
 
 begins_second : (p q : Tags) (whole : List ℕ) → Begins q whole → Begins (choice_tags p q) whole
-begins_second p q [] e = or_right p.may_be_empty q.may_be_empty e
+begins_second p q [] e = or_right p.nullable q.nullable e
 begins_second p q (byte ∷ bytes) e =
     rw (list_any-append (λ tag. byte == tag) p.first q.first)
     (or_right (is_among byte p.first) (is_among byte q.first) e)

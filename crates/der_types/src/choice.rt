@@ -16,7 +16,7 @@ pub trait Alternative: Part {
         ensures { result ≡ is_among byte Self.tags.first };
 
     /// The part is never empty.
-    ghost never_empty: { Self.tags.may_be_empty ≡ false };
+    ghost never_empty: { Self.tags.nullable ≡ false };
 }
 
 impl<A: ValueContent + Tagged> Alternative for Required<A> {

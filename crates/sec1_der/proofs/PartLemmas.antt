@@ -47,7 +47,7 @@ next_first p q (byte ∷ y) rest d e n = apart_among byte p.barred q.first d e
 -- what may follow two parts may follow the second
 pub next_second : (p q : Tags) (rest : List ℕ) → MayFollow (both_tags p q) rest → MayFollow q rest
 next_second p q [] n = tt
-next_second p q (byte ∷ rest) n = by q.may_be_empty n
+next_second p q (byte ∷ rest) n = by q.nullable n
   where
     by : (b : Bool) → is_among byte (if b then q.barred ++ p.barred else q.barred) ≡ false
         → is_among byte q.barred ≡ false

@@ -37,7 +37,7 @@ both_begin p q [] [] e f = rw (e, f) refl
 both_begin p q [] (byte ∷ y) e f =
     rw (e, list_any-append (λ tag. byte == tag) p.first q.first)
     (or_right (is_among byte p.first) (is_among byte q.first) f)
-both_begin p q (byte ∷ x) y e f = by p.may_be_empty
+both_begin p q (byte ∷ x) y e f = by p.nullable
   where
     by : (b : Bool) → is_among byte (if b then p.first ++ q.first else p.first) ≡ true
     by true =

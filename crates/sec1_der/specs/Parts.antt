@@ -22,18 +22,18 @@ join (Some first) (Some rest) = Some (first ++ rest)
 -- bytes, the tags that mustn't follow it, and whether inside it no such tag may follow.
 pub record Tags : Type 0 where
   pub first : List ℕ
-  pub may_be_empty : Bool
+  pub nullable : Bool
   pub barred : List ℕ
   pub apart : Bool
 
 -- one element with this tag
 abbrev pub one_tag : ℕ → Tags
-one_tag tag = record { first = tag ∷ []; may_be_empty = false; barred = []; apart = true }
+one_tag tag = record { first = tag ∷ []; nullable = false; barred = []; apart = true }
 
 -- one element with this tag, or nothing
 abbrev pub optional_tag : ℕ → Tags
 optional_tag tag =
-    record { first = tag ∷ []; may_be_empty = true; barred = tag ∷ []; apart = true }
+    record { first = tag ∷ []; nullable = true; barred = tag ∷ []; apart = true }
 
 -- whether a tag is one of these
 abbrev pub is_among : ℕ → List ℕ → Bool
@@ -42,15 +42,15 @@ is_among tag tags = list_any (λ other. tag == other) tags
 -- X.680 section 25.6: one part after another; what begins the second mustn't be barred by the first
 abbrev pub both_tags : Tags → Tags → Tags
 both_tags p q = record {
-  first = if p.may_be_empty then p.first ++ q.first else p.first;
-  may_be_empty = p.may_be_empty && q.may_be_empty;
-  barred = if q.may_be_empty then q.barred ++ p.barred else q.barred;
+  first = if p.nullable then p.first ++ q.first else p.first;
+  nullable = p.nullable && q.nullable;
+  barred = if q.nullable then q.barred ++ p.barred else q.barred;
   apart = p.apart && (q.apart && list_all (λ tag. not (is_among tag q.first)) p.barred);
 }
 
 -- no bytes, if that may be, or bytes that begin with one of the tags
 abbrev pub Begins : Tags → List ℕ → Type 0
-Begins tags [] = tags.may_be_empty ≡ true
+Begins tags [] = tags.nullable ≡ true
 Begins tags (byte ∷ bytes) = is_among byte tags.first ≡ true
 
 -- no bytes, or bytes that begin with no tag that is barred
