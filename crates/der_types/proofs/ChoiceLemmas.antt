@@ -19,13 +19,13 @@ among_either tag xs ys next found e is =
 -- what may follow a CHOICE may follow each of its alternatives
 pub follows_both : (p q : Tags) (rest : List ℕ) → MayFollow (choice_tags p q) rest → MayFollow p rest × MayFollow q rest
 follows_both p q [] may = (tt, tt)
-follows_both p q (byte ∷ rest) may = not_among byte p.barred q.barred may
+follows_both p q (byte ∷ rest) may = not_among byte p.follow q.follow may
 
 -- what may follow an OPTIONAL part may follow the part, and doesn't begin with one of its tags
 pub follows_optional : (p : Tags) (rest : List ℕ) → MayFollow (optional_tags p) rest
     → (begins_among p.first rest ≡ false) × MayFollow p rest
 follows_optional p [] may = (refl, tt)
-follows_optional p (byte ∷ rest) may = not_among byte p.first p.barred may
+follows_optional p (byte ∷ rest) may = not_among byte p.first p.follow may
 
 -- one of the tags of a part that isn't empty is next
 pub next_is : (p : Tags) (whole rest : List ℕ) → p.nullable ≡ false → Begins p whole

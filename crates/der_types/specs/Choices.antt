@@ -21,7 +21,7 @@ abbrev pub choice_tags : Tags → Tags → Tags
 choice_tags p q = record {
   first = p.first ++ q.first;
   nullable = p.nullable || q.nullable;
-  barred = p.barred ++ q.barred;
+  follow = p.follow ++ q.follow;
   apart = p.apart && (q.apart && list_all (λ tag. not (is_among tag q.first)) p.first);
 }
 
@@ -46,8 +46,8 @@ abbrev pub optional_tags : Tags → Tags
 optional_tags p = record {
   first = p.first;
   nullable = true;
-  barred =
-      p.first ++ p.barred;
+  follow =
+      p.first ++ p.follow;
   apart = p.apart;
 }
 

@@ -37,21 +37,21 @@ not_among tag xs ys e =
     or_false (is_among tag xs) (is_among tag ys) (sym (list_any-append (λ other. tag == other) xs ys) ∙ e)
 
 -- what may follow two parts, after the second, may follow the first
-pub next_first : (p q : Tags) (y rest : List ℕ) → list_all (λ x. not (is_among x q.first)) p.barred ≡ true
+pub next_first : (p q : Tags) (y rest : List ℕ) → list_all (λ x. not (is_among x q.first)) p.follow ≡ true
     → Begins q y
     → MayFollow (both_tags p q) rest → MayFollow p (y ++ rest)
 next_first p q [] [] d e n = tt
-next_first p q [] (byte ∷ rest) d e n = (not_among byte q.barred p.barred (rw e at n)).1
-next_first p q (byte ∷ y) rest d e n = apart_among byte p.barred q.first d e
+next_first p q [] (byte ∷ rest) d e n = (not_among byte q.follow p.follow (rw e at n)).1
+next_first p q (byte ∷ y) rest d e n = apart_among byte p.follow q.first d e
 
 -- what may follow two parts may follow the second
 pub next_second : (p q : Tags) (rest : List ℕ) → MayFollow (both_tags p q) rest → MayFollow q rest
 next_second p q [] n = tt
 next_second p q (byte ∷ rest) n = by q.nullable n
   where
-    by : (b : Bool) → is_among byte (if b then q.barred ++ p.barred else q.barred) ≡ false
-        → is_among byte q.barred ≡ false
-    by true n = (not_among byte q.barred p.barred n).0
+    by : (b : Bool) → is_among byte (if b then q.follow ++ p.follow else q.follow) ≡ false
+        → is_among byte q.follow ≡ false
+    by true n = (not_among byte q.follow p.follow n).0
     by false n = n
 
 -- where an optional element was read, its fault is that of the element

@@ -23,29 +23,29 @@ join (Some first) (Some rest) = Some (first ++ rest)
 pub record Tags : Type 0 where
   pub first : List ℕ
   pub nullable : Bool
-  pub barred : List ℕ
+  pub follow : List ℕ
   pub apart : Bool
 
 -- one element with this tag
 abbrev pub one_tag : ℕ → Tags
-one_tag tag = record { first = tag ∷ []; nullable = false; barred = []; apart = true }
+one_tag tag = record { first = tag ∷ []; nullable = false; follow = []; apart = true }
 
 -- one element with this tag, or nothing
 abbrev pub optional_tag : ℕ → Tags
 optional_tag tag =
-    record { first = tag ∷ []; nullable = true; barred = tag ∷ []; apart = true }
+    record { first = tag ∷ []; nullable = true; follow = tag ∷ []; apart = true }
 
 -- whether a tag is one of these
 abbrev pub is_among : ℕ → List ℕ → Bool
 is_among tag tags = list_any (λ other. tag == other) tags
 
--- X.680 section 25.6: one part after another; what begins the second mustn't be barred by the first
+-- X.680 section 25.6: one part after another; no tag in `follow` of the first begins the second
 abbrev pub both_tags : Tags → Tags → Tags
 both_tags p q = record {
   first = if p.nullable then p.first ++ q.first else p.first;
   nullable = p.nullable && q.nullable;
-  barred = if q.nullable then q.barred ++ p.barred else q.barred;
-  apart = p.apart && (q.apart && list_all (λ tag. not (is_among tag q.first)) p.barred);
+  follow = if q.nullable then q.follow ++ p.follow else q.follow;
+  apart = p.apart && (q.apart && list_all (λ tag. not (is_among tag q.first)) p.follow);
 }
 
 -- no bytes, if that may be, or bytes that begin with one of the tags
@@ -53,10 +53,10 @@ abbrev pub Begins : Tags → List ℕ → Type 0
 Begins tags [] = tags.nullable ≡ true
 Begins tags (byte ∷ bytes) = is_among byte tags.first ≡ true
 
--- no bytes, or bytes that begin with no tag that is barred
+-- no bytes, or bytes that begin with no tag in `follow`
 abbrev pub MayFollow : Tags → List ℕ → Type 0
 MayFollow tags [] = ⊤
-MayFollow tags (byte ∷ bytes) = is_among byte tags.barred ≡ false
+MayFollow tags (byte ∷ bytes) = is_among byte tags.follow ≡ false
 
 -- X.690 section 8.9.3: the element with this tag, or no bytes if the value is absent
 abbrev pub optional_of : ℕ → Option (Option (List ℕ)) → Option (List ℕ)
