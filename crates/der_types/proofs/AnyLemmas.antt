@@ -6,7 +6,7 @@ use Rattle.std.proofs.Math.Seq.{drop-append_seam}
 use Rattle.std.proofs.lemmas.Bool.{and_parts}
 use Rattle.std.proofs.lemmas.Slice.Eq.{bytes_eq-Decides}
 use Rattle.sec1_der.specs.Elements.{max_length, length_octets, element, is_tag, IsHeader, IsElement}
-use Rattle.sec1_der.specs.Parts.{AreApart, is_among}
+use Rattle.sec1_der.specs.Parts.{AreDistinct, is_among}
 use Rattle.sec1_der.specs.Readers.{Reader, HasRead}
 use Rattle.sec1_der.specs.Faults.{Fault, no_fault, any_fault, parts_fault, within, IsFaultOf, content_at}
 use Rattle.sec1_der.specs.declared.error.Error.{Error}
@@ -69,9 +69,9 @@ any_some bytes whole e = by (is_element bytes) refl e
 pub any_there : (bytes : List ℕ) → IsElement bytes → any_of bytes ≡ Some bytes
 any_there bytes is = rw (element_passes bytes is) refl
 
--- elements of any tag are apart
-pub any_apart : AreApart any_tags any_of
-any_apart a b x y r s apart e f before rest same =
+-- elements of any tag are distinct
+pub any_distinct : AreDistinct any_tags any_of
+any_distinct a b x y r s distinct e f before rest same =
     let (is, p) = any_some a x e in
     let (at, q) = any_some b y f in
     let all = element_apart p.tag q.tag p.content q.content r s (rw (p.encoded, q.encoded) at same) in

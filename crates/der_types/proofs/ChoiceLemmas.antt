@@ -1,12 +1,12 @@
--- Which alternative of a CHOICE is next, and parts that are apart.
+-- Which alternative of a CHOICE is next, and parts that are distinct.
 use Rattle.std.proofs.Common.{◌≡◌, ◌==◌, ◌++◌, ◌∷◌, [], ◌||◌, ◌&&◌, not, ℕ, List, Bool, true, false}
 use Rattle.std.proofs.Common.{Option, Some, None, refl, sym, ◌∙◌, ap}
 use Rattle.std.proofs.lemmas.Bool.{and_parts}
 use Rattle.std.proofs.lemmas.List.Folds.{list_any-append}
 use Rattle.std.specs.List.{list_all}
-use Rattle.sec1_der.proofs.PartLemmas.{apart_among, not_among}
+use Rattle.sec1_der.proofs.PartLemmas.{distinct_among, not_among}
 use Rattle.sec1_der.specs.Readers.{Reader, reader_over}
-use Rattle.sec1_der.specs.Parts.{Tags, is_among, Begins, MayFollow, AreApart}
+use Rattle.sec1_der.specs.Parts.{Tags, is_among, Begins, MayFollow, AreDistinct}
 use Rattle.der_types.specs.Choices.{begins_among, choice_of, choice_tags, optional_bytes, optional_tags}
 use Rattle.der_types.specs.declared.choice.Choice.{Choice}
 use Rattle.der_types.specs.declared.choice.Choice.TheVariants.{First, Second}
@@ -38,19 +38,19 @@ pub next_not : (p q : Tags) (whole rest : List ℕ) → list_all (λ x. not (is_
     → q.nullable ≡ false → Begins q whole
     → begins_among p.first (whole ++ rest) ≡ false
 next_not p q [] rest d some begins = absurd (cc (some, begins))
-next_not p q (byte ∷ whole) rest d some begins = apart_among byte p.first q.first d begins
+next_not p q (byte ∷ whole) rest d some begins = distinct_among byte p.first q.first d begins
 
 -- a part begins with one of its tags
 abbrev pub BeginsWith : {P : Type 0} → Tags → (P → Option (List ℕ)) → Type 0
 BeginsWith {P} tags bytes = (part : P) (whole : List ℕ) → bytes part ≡ Some whole → Begins tags whole
 
--- the alternatives of a CHOICE that are apart, and may not begin with the same tag
-pub apart_parts : (p q : Tags) → (choice_tags p q).apart ≡ true
-    → (p.apart ≡ true) × (q.apart ≡ true) × (list_all (λ x. not (is_among x q.first)) p.first ≡ true)
-apart_parts p q apart =
+-- the alternatives of a CHOICE that are distinct, and may not begin with the same tag
+pub distinct_parts : (p q : Tags) → (choice_tags p q).distinct ≡ true
+    → (p.distinct ≡ true) × (q.distinct ≡ true) × (list_all (λ x. not (is_among x q.first)) p.first ≡ true)
+distinct_parts p q distinct =
     let differ = list_all (λ x. not (is_among x q.first)) p.first in
-    let parts = and_parts p.apart (q.apart && differ) apart in
-    let more = and_parts q.apart differ parts.1 in
+    let parts = and_parts p.distinct (q.distinct && differ) distinct in
+    let more = and_parts q.distinct differ parts.1 in
     (parts.0, more.0, more.1)
 
 -- two parts don't begin with the same tag
@@ -62,21 +62,25 @@ not_both p q x y d some more r s begins ends same =
     let not = rw (← same) at (next_not p q y s d more ends) in
     absurd (cc (is, not))
 
--- the alternatives of a CHOICE are apart
-pub choice_apart : (p q : Tags) {P Q : Type 0} (first : P → Option (List ℕ)) (second : Q → Option (List ℕ))
+-- the alternatives of a CHOICE are distinct
+pub choice_distinct : (p q : Tags) {P Q : Type 0} (first : P → Option (List ℕ)) (second : Q → Option (List ℕ))
     → p.nullable ≡ false → q.nullable ≡ false
-    → BeginsWith p first → BeginsWith q second → AreApart p first → AreApart q second
-    → AreApart (choice_tags p q) (choice_of first second)
-choice_apart p q first second some more begins ends one two (First a) (First b) x y r s apart e f before rest same =
-    let is = one a b x y r s (apart_parts p q apart).0 e f (follows_both p q r before).0
+    → BeginsWith p first → BeginsWith q second → AreDistinct p first → AreDistinct q second
+    → AreDistinct (choice_tags p q) (choice_of first second)
+choice_distinct p q first second some more begins ends one two (First a) (First b) x y r s distinct e f before rest
+    same =
+    let is = one a b x y r s (distinct_parts p q distinct).0 e f (follows_both p q r before).0
     (follows_both p q s rest).0 same in
     (ap (λ v. First v) is.0, is.1)
-choice_apart p q first second some more begins ends one two (First a) (Second b) x y r s apart e f before rest same =
-    absurd (not_both p q x y (apart_parts p q apart).2 some more r s (begins a x e) (ends b y f) same)
-choice_apart p q first second some more begins ends one two (Second a) (First b) x y r s apart e f before rest same =
-    absurd (not_both p q y x (apart_parts p q apart).2 some more s r (begins b y f) (ends a x e) (sym same))
-choice_apart p q first second some more begins ends one two (Second a) (Second b) x y r s apart e f before rest same =
-    let is = two a b x y r s (apart_parts p q apart).1 e f (follows_both p q r before).1
+choice_distinct p q first second some more begins ends one two (First a) (Second b) x y r s distinct e f before rest
+    same =
+    absurd (not_both p q x y (distinct_parts p q distinct).2 some more r s (begins a x e) (ends b y f) same)
+choice_distinct p q first second some more begins ends one two (Second a) (First b) x y r s distinct e f before rest
+    same =
+    absurd (not_both p q y x (distinct_parts p q distinct).2 some more s r (begins b y f) (ends a x e) (sym same))
+choice_distinct p q first second some more begins ends one two (Second a) (Second b) x y r s distinct e f before rest
+    same =
+    let is = two a b x y r s (distinct_parts p q distinct).1 e f (follows_both p q r before).1
     (follows_both p q s rest).1 same in
     (ap (λ v. Second v) is.0, is.1)
 
@@ -85,27 +89,27 @@ not_present : (p : Tags) (x r : List ℕ) → p.nullable ≡ false → Begins p 
 not_present p x r some begins none = absurd (cc (none, next_is p x r some begins))
 
 -- an OPTIONAL part is apart from what may follow it
-pub optional_part_apart : (p : Tags) {P : Type 0} (bytes : P → Option (List ℕ)) → p.nullable ≡ false
-    → BeginsWith p bytes → AreApart p bytes
-    → AreApart (optional_tags p) (optional_bytes bytes)
-optional_part_apart p bytes some begins one None None x y r s apart e f before rest same =
+pub optional_part_distinct : (p : Tags) {P : Type 0} (bytes : P → Option (List ℕ)) → p.nullable ≡ false
+    → BeginsWith p bytes → AreDistinct p bytes
+    → AreDistinct (optional_tags p) (optional_bytes bytes)
+optional_part_distinct p bytes some begins one None None x y r s distinct e f before rest same =
     let front : x ≡ [] = cc (e) in
     let back : y ≡ [] = cc (f) in
     (refl, rw (front, back) at same)
-optional_part_apart p bytes some begins one None (Some b) x y r s apart e f before rest same =
+optional_part_distinct p bytes some begins one None (Some b) x y r s distinct e f before rest same =
     let front : x ≡ [] = cc (e) in
     absurd (not_present p y s some (begins b y f) (rw (rw front at same) at (follows_optional p r before).0))
-optional_part_apart p bytes some begins one (Some a) None x y r s apart e f before rest same =
+optional_part_distinct p bytes some begins one (Some a) None x y r s distinct e f before rest same =
     let back : y ≡ [] = cc (f) in
     absurd (not_present p x r some (begins a x e) (rw (sym (rw back at same)) at (follows_optional p s rest).0))
-optional_part_apart p bytes some begins one (Some a) (Some b) x y r s apart e f before rest same =
-    let is = one a b x y r s apart e f (follows_optional p r before).1 (follows_optional p s rest).1 same in
+optional_part_distinct p bytes some begins one (Some a) (Some b) x y r s distinct e f before rest same =
+    let is = one a b x y r s distinct e f (follows_optional p r before).1 (follows_optional p s rest).1 same in
     (ap (λ v. Some v) is.0, is.1)
 
 -- a part that is there, in front of what may follow it
 pub record IsNext {P : Type 0} (tags : Tags) (bytes : P → Option (List ℕ)) (whole rest : List ℕ) : Type 0 where
   pub part : P
-  pub apart : tags.apart ≡ true
+  pub distinct : tags.distinct ≡ true
   pub same : bytes part ≡ Some whole
   pub may : MayFollow tags rest
 
@@ -123,36 +127,36 @@ next_found tags old bytes absent found e same is = flip (begins_among tags.first
 -- if a tag of the first alternative is next, that is the one
 pub first_next : (p q : Tags) {P Q : Type 0} (first : P → Option (List ℕ)) (second : Q → Option (List ℕ))
     → q.nullable ≡ false → BeginsWith q second
-    → (part : Choice P Q) (whole rest : List ℕ) → (choice_tags p q).apart ≡ true
+    → (part : Choice P Q) (whole rest : List ℕ) → (choice_tags p q).distinct ≡ true
     → choice_of first second part ≡ Some whole → MayFollow (choice_tags p q) rest
     → begins_among p.first (whole ++ rest) ≡ true → IsNext p first whole rest
-first_next p q first second more ends (First part) whole rest apart same may next =
-    record { part = part; apart = (apart_parts p q apart).0; same = same; may = (follows_both p q rest may).0 }
-first_next p q first second more ends (Second part) whole rest apart same may next =
-    absurd (cc (next, next_not p q whole rest (apart_parts p q apart).2 more (ends part whole same)))
+first_next p q first second more ends (First part) whole rest distinct same may next =
+    record { part = part; distinct = (distinct_parts p q distinct).0; same = same; may = (follows_both p q rest may).0 }
+first_next p q first second more ends (Second part) whole rest distinct same may next =
+    absurd (cc (next, next_not p q whole rest (distinct_parts p q distinct).2 more (ends part whole same)))
 
 -- if none is next, it is the second
 pub second_next : (p q : Tags) {P Q : Type 0} (first : P → Option (List ℕ)) (second : Q → Option (List ℕ))
     → p.nullable ≡ false → BeginsWith p first
-    → (part : Choice P Q) (whole rest : List ℕ) → (choice_tags p q).apart ≡ true
+    → (part : Choice P Q) (whole rest : List ℕ) → (choice_tags p q).distinct ≡ true
     → choice_of first second part ≡ Some whole → MayFollow (choice_tags p q) rest
     → begins_among p.first (whole ++ rest) ≡ false → IsNext q second whole rest
-second_next p q first second some begins (First part) whole rest apart same may next =
+second_next p q first second some begins (First part) whole rest distinct same may next =
     absurd (not_present p whole rest some (begins part whole same) next)
-second_next p q first second some begins (Second part) whole rest apart same may next =
-    record { part = part; apart = (apart_parts p q apart).1; same = same; may = (follows_both p q rest may).1 }
+second_next p q first second some begins (Second part) whole rest distinct same may next =
+    record { part = part; distinct = (distinct_parts p q distinct).1; same = same; may = (follows_both p q rest may).1 }
 
 -- if a tag of an OPTIONAL part is next, it is present
 pub present_next : (p : Tags) {P : Type 0} (bytes : P → Option (List ℕ)) (part : Option P) (whole rest : List ℕ)
-    → p.apart ≡ true
+    → p.distinct ≡ true
     → optional_bytes bytes part ≡ Some whole → MayFollow (optional_tags p) rest
     → begins_among p.first (whole ++ rest) ≡ true → IsNext p bytes whole rest
-present_next p bytes None whole rest apart same may next =
+present_next p bytes None whole rest distinct same may next =
     let none : whole ≡ [] = cc same in
     let after : begins_among p.first rest ≡ true = rw none at next in
     absurd (cc (after, (follows_optional p rest may).0))
-present_next p bytes (Some part) whole rest apart same may next =
-    record { part = part; apart = apart; same = same; may = (follows_optional p rest may).1 }
+present_next p bytes (Some part) whole rest distinct same may next =
+    record { part = part; distinct = distinct; same = same; may = (follows_optional p rest may).1 }
 
 -- if none is next, it is absent
 pub absent_next : (p : Tags) {P : Type 0} (bytes : P → Option (List ℕ)) → p.nullable ≡ false → BeginsWith p bytes

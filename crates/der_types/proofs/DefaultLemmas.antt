@@ -8,7 +8,7 @@ use Rattle.std.specs.Option.{option_map}
 use Rattle.sec1_der.specs.Writers.{Puts, back_state}
 use Rattle.sec1_der.specs.Elements.{element_of}
 use Rattle.sec1_der.specs.declared.back_writer.BackWriter.{BackWriter}
-use Rattle.sec1_der.specs.Parts.{AreApart, optional_tag, optional_of}
+use Rattle.sec1_der.specs.Parts.{AreDistinct, optional_tag, optional_of}
 use Rattle.der_types.specs.Defaults.{is_default, defaulted_of, other_content}
 
 -- the default value is tested as such
@@ -55,13 +55,14 @@ from_optional tag d content whole e = by (is_default d content) e
     by true e = absurd (cc (e))
     by false e = e
 
--- components with a default are apart
-pub defaulted_apart : (tag : ℕ) (d : List ℕ) {A : Type 0} (content : A → Option (List ℕ))
+-- components with a default are distinct
+pub defaulted_distinct : (tag : ℕ) (d : List ℕ) {A : Type 0} (content : A → Option (List ℕ))
     → ((a b : A) (bytes : List ℕ) → content a ≡ Some bytes → content b ≡ Some bytes → a ≡ b)
-    → AreApart (optional_tag tag) (λ (o : Option A). optional_of tag (option_map (λ a. other_content d (content a)) o))
-    → AreApart (optional_tag tag) (λ (a : A). defaulted_of tag d (content a))
-defaulted_apart tag d content one two a b x y r s apart e f before rest same =
-    let is = two (unless_default d content a) (unless_default d content b) x y r s apart
+    → AreDistinct (optional_tag tag)
+    (λ (o : Option A). optional_of tag (option_map (λ a. other_content d (content a)) o))
+    → AreDistinct (optional_tag tag) (λ (a : A). defaulted_of tag d (content a))
+defaulted_distinct tag d content one two a b x y r s distinct e f before rest same =
+    let is = two (unless_default d content a) (unless_default d content b) x y r s distinct
     (as_optional tag d content a ∙ e) (as_optional tag d content b ∙ f)
     before rest same in
     (by (is_default d (content a)) (is_default d (content b)) refl refl is.0, is.1)

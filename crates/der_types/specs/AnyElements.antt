@@ -22,7 +22,7 @@ all_tags = tags_below 256
 
 -- X.680 section 25.6: an element of any tag
 abbrev pub any_tags : Tags
-any_tags = record { first = all_tags; nullable = false; follow = []; apart = true }
+any_tags = record { first = all_tags; nullable = false; follow = []; distinct = true }
 
 -- X.690 section 8.1.2: the tag of an element
 abbrev pub first_byte : List ℕ → ℕ

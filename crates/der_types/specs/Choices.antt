@@ -22,7 +22,7 @@ choice_tags p q = record {
   first = p.first ++ q.first;
   nullable = p.nullable || q.nullable;
   follow = p.follow ++ q.follow;
-  apart = p.apart && (q.apart && list_all (λ tag. not (is_among tag q.first)) p.first);
+  distinct = p.distinct && (q.distinct && list_all (λ tag. not (is_among tag q.first)) p.first);
 }
 
 -- whether the bytes begin with one of these tags
@@ -48,7 +48,7 @@ optional_tags p = record {
   nullable = true;
   follow =
       p.first ++ p.follow;
-  apart = p.apart;
+  distinct = p.distinct;
 }
 
 -- X.690 section 8.9.3: the fault of the part if one of its tags is next, else that of what follows

@@ -2,7 +2,7 @@
 ghost use Rattle.std.specs.Prelude.{◌≡◌, ◌≤◌, ◌++◌, ℕ, List, length, refl, MatchResult, false};
 ghost use Rattle.sec1_der.specs.Elements.{element, IsHeader, IsElement};
 ghost use Rattle.sec1_der.specs.Errors.{IsReadingFault};
-ghost use Rattle.sec1_der.specs.Parts.{is_among, AreApart, ReadsPart};
+ghost use Rattle.sec1_der.specs.Parts.{is_among, AreDistinct, ReadsPart};
 ghost use Rattle.sec1_der.specs.Faults.{HasFault, end_fault};
 ghost use Rattle.sec1_der.specs.Values.{tag_of, value_of};
 ghost use Rattle.der_types.specs.AnyElements.{first_byte, all_tags, any_of, any_tags};
@@ -136,7 +136,7 @@ impl<'a> DecodePart<'a> for Any<'a> {
 
 impl UniquePart for Any<'_> {
     fn one_part()
-        ensures { AreApart any_tags any_of }
+        ensures { AreDistinct any_tags any_of }
     {}
 }
 

@@ -1,7 +1,7 @@
 //! Algorithms by their identifiers.
 ghost use Rattle.std.specs.Prelude.{refl};
 ghost use Rattle.sec1_der.specs.Elements.{element_of};
-ghost use Rattle.sec1_der.specs.Parts.{AreApart, one_tag};
+ghost use Rattle.sec1_der.specs.Parts.{AreDistinct, one_tag};
 ghost use Rattle.sec1_der.specs.PartLaws.{element_begins};
 ghost use Rattle.sec1_der.specs.Faults.{element_fault};
 ghost use Rattle.pkix.specs.Records.{algorithm_content, algorithm_fault};
@@ -52,7 +52,7 @@ impl<'a> Record for AlgorithmIdentifier<'a> {
 }
 
 impl Distinct for AlgorithmIdentifier<'_> {
-    ghost apart = { refl };
+    ghost distinct = { refl };
 }
 
 impl Part for AlgorithmIdentifier<'_> {
@@ -93,7 +93,7 @@ impl<'a> ReadInPlace<'a> for AlgorithmIdentifier<'a> {
 
 impl UniquePart for AlgorithmIdentifier<'_> {
     fn one_part()
-        ensures { AreApart (one_tag 0x30) (λ value. element_of 0x30 (algorithm_content value)) }
+        ensures { AreDistinct (one_tag 0x30) (λ value. element_of 0x30 (algorithm_content value)) }
     {
         Required::<AlgorithmIdentifier>::one_part();
     }

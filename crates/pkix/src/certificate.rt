@@ -1,7 +1,7 @@
 //! Certificates.
 ghost use Rattle.std.specs.Prelude.{refl};
 ghost use Rattle.sec1_der.specs.Elements.{element_of};
-ghost use Rattle.sec1_der.specs.Parts.{AreApart, one_tag};
+ghost use Rattle.sec1_der.specs.Parts.{AreDistinct, one_tag};
 ghost use Rattle.sec1_der.specs.PartLaws.{element_begins};
 ghost use Rattle.sec1_der.specs.Faults.{element_fault};
 ghost use Rattle.pkix.specs.Records.{certificate_content, certificate_fault};
@@ -147,7 +147,7 @@ impl<'a> Record for TbsCertificate<'a> {
 }
 
 impl Distinct for TbsCertificate<'_> {
-    ghost apart = { refl };
+    ghost distinct = { refl };
 }
 
 impl Part for TbsCertificate<'_> {
@@ -188,7 +188,7 @@ impl<'a> ReadInPlace<'a> for TbsCertificate<'a> {
 
 impl UniquePart for TbsCertificate<'_> {
     fn one_part()
-        ensures { AreApart (one_tag 0x30) (λ value. element_of 0x30 (tbs_content value)) }
+        ensures { AreDistinct (one_tag 0x30) (λ value. element_of 0x30 (tbs_content value)) }
     {
         Required::<TbsCertificate>::one_part();
     }
@@ -242,7 +242,7 @@ impl<'a> Record for Certificate<'a> {
 }
 
 impl Distinct for Certificate<'_> {
-    ghost apart = { refl };
+    ghost distinct = { refl };
 }
 
 impl<'a> Certificate<'a> {

@@ -48,7 +48,7 @@ impl<'a> Record for Extension<'a> {
 }
 
 impl Distinct for Extension<'_> {
-    ghost apart = { refl };
+    ghost distinct = { refl };
 }
 
 impl<'a> Extension<'a> {

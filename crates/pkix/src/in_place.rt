@@ -124,7 +124,7 @@ where
 
 /// Reads the parts of a record, which are all of the remaining input, into a place.
 fn read_parts<'a, P: ReadInPlace<'a>>(place: &mut P, reader: &mut SliceReader<'a>) -> Result<()>
-    requires apart { P.tags.apart ≡ true }
+    requires distinct { P.tags.distinct ≡ true }
     requires reader { (reader.old.failed ≡ false) × (length reader.old.unread ≤ max_length) }
     ensures { ReadsContent P.bytes (P.fault_then end_fault) (placed place.new result) reader.old
         reader.new }

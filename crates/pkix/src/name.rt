@@ -37,7 +37,7 @@ impl<'a> Record for AttributeTypeAndValue<'a> {
 }
 
 impl Distinct for AttributeTypeAndValue<'_> {
-    ghost apart = { refl };
+    ghost distinct = { refl };
 }
 
 impl<'a> AttributeTypeAndValue<'a> {

@@ -68,7 +68,7 @@ impl<'a> Record for Attribute<'a> {
 }
 
 impl Distinct for Attribute<'_> {
-    ghost apart = { refl };
+    ghost distinct = { refl };
 }
 
 /// The attributes of a container.
@@ -130,7 +130,7 @@ impl<'a> Record for PrivateKeyInfo<'a> {
 }
 
 impl Distinct for PrivateKeyInfo<'_> {
-    ghost apart = { refl };
+    ghost distinct = { refl };
 }
 
 /// A OneAsymmetricKey of version 1 (RFC 5958 section 2). [`PrivateKeyInfo`] is one of version 0.
@@ -201,7 +201,7 @@ impl<'a> Record for OneAsymmetricKey<'a> {
 }
 
 impl Distinct for OneAsymmetricKey<'_> {
-    ghost apart = { refl };
+    ghost distinct = { refl };
 }
 
 impl<'a> PrivateKeyInfo<'a> {

@@ -1,7 +1,7 @@
 //! Public keys with their algorithms.
 ghost use Rattle.std.specs.Prelude.{refl};
 ghost use Rattle.sec1_der.specs.Elements.{element_of};
-ghost use Rattle.sec1_der.specs.Parts.{AreApart, one_tag};
+ghost use Rattle.sec1_der.specs.Parts.{AreDistinct, one_tag};
 ghost use Rattle.sec1_der.specs.PartLaws.{element_begins};
 ghost use Rattle.sec1_der.specs.Faults.{element_fault};
 ghost use Rattle.pkix.specs.Records.{public_key_content, public_key_fault};
@@ -49,7 +49,7 @@ impl<'a> Record for SubjectPublicKeyInfo<'a> {
 }
 
 impl Distinct for SubjectPublicKeyInfo<'_> {
-    ghost apart = { refl };
+    ghost distinct = { refl };
 }
 
 impl Part for SubjectPublicKeyInfo<'_> {
@@ -90,7 +90,7 @@ impl<'a> ReadInPlace<'a> for SubjectPublicKeyInfo<'a> {
 
 impl UniquePart for SubjectPublicKeyInfo<'_> {
     fn one_part()
-        ensures { AreApart (one_tag 0x30) (λ value. element_of 0x30 (public_key_content value)) }
+        ensures { AreDistinct (one_tag 0x30) (λ value. element_of 0x30 (public_key_content value)) }
     {
         Required::<SubjectPublicKeyInfo>::one_part();
     }

@@ -34,7 +34,7 @@ impl<'a> Record for EcdsaSigValue<'a> {
 }
 
 impl Distinct for EcdsaSigValue<'_> {
-    ghost apart = { refl };
+    ghost distinct = { refl };
 }
 
 impl<'a> EcdsaSigValue<'a> {

@@ -1,7 +1,7 @@
 //! The time in which a certificate is valid.
 ghost use Rattle.std.specs.Prelude.{◌≡◌, refl};
 ghost use Rattle.sec1_der.specs.Elements.{element_of};
-ghost use Rattle.sec1_der.specs.Parts.{AreApart, one_tag};
+ghost use Rattle.sec1_der.specs.Parts.{AreDistinct, one_tag};
 ghost use Rattle.sec1_der.specs.PartLaws.{element_begins};
 ghost use Rattle.sec1_der.specs.Faults.{element_fault};
 ghost use Rattle.pkix.specs.Records.{validity_content, validity_fault};
@@ -47,7 +47,7 @@ impl<'a> Record for Validity<'a> {
 }
 
 impl Distinct for Validity<'_> {
-    ghost apart = { refl };
+    ghost distinct = { refl };
 }
 
 impl Part for Validity<'_> {
@@ -88,7 +88,7 @@ impl<'a> ReadInPlace<'a> for Validity<'a> {
 
 impl UniquePart for Validity<'_> {
     fn one_part()
-        ensures { AreApart (one_tag 0x30) (λ value. element_of 0x30 (validity_content value)) }
+        ensures { AreDistinct (one_tag 0x30) (λ value. element_of 0x30 (validity_content value)) }
     {
         Required::<Validity>::one_part();
     }

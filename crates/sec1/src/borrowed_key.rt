@@ -92,5 +92,5 @@ impl<'a> Record for BorrowedKey<'a> {
 }
 
 impl Distinct for BorrowedKey<'_> {
-    ghost apart = { refl };
+    ghost distinct = { refl };
 }

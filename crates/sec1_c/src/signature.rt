@@ -119,5 +119,5 @@ impl<'a> Record for GivenSignature<'a> {
 }
 
 impl Distinct for GivenSignature<'_> {
-    ghost apart = { refl };
+    ghost distinct = { refl };
 }

@@ -14,12 +14,12 @@ use Rattle.sec1_der.proofs.FaultLaws.{reads_on}
 pub ruleset one_element = (element_of-some, element_of-within)
 
 -- a tag of the second list is none of the first, if no tag of the first is one of the second
-pub apart_among : (tag : ℕ) (xs ys : List ℕ) → list_all (λ x. not (is_among x ys)) xs ≡ true → is_among tag ys ≡ true
+pub distinct_among : (tag : ℕ) (xs ys : List ℕ) → list_all (λ x. not (is_among x ys)) xs ≡ true → is_among tag ys ≡ true
     → is_among tag xs ≡ false
-apart_among tag [] ys d e = refl
-apart_among tag (x ∷ xs) ys d e =
+distinct_among tag [] ys d e = refl
+distinct_among tag (x ∷ xs) ys d e =
     let parts = and_parts (not (is_among x ys)) (list_all (λ x. not (is_among x ys)) xs) d in
-    by (tag == x) refl parts.0 (apart_among tag xs ys parts.1 e)
+    by (tag == x) refl parts.0 (distinct_among tag xs ys parts.1 e)
   where
     by : (b : Bool) → (tag == x) ≡ b → not (is_among x ys) ≡ true → is_among tag xs ≡ false
         → (b || is_among tag xs) ≡ false
@@ -42,7 +42,7 @@ pub next_first : (p q : Tags) (y rest : List ℕ) → list_all (λ x. not (is_am
     → MayFollow (both_tags p q) rest → MayFollow p (y ++ rest)
 next_first p q [] [] d e n = tt
 next_first p q [] (byte ∷ rest) d e n = (not_among byte q.follow p.follow (rw e at n)).1
-next_first p q (byte ∷ y) rest d e n = apart_among byte p.follow q.first d e
+next_first p q (byte ∷ y) rest d e n = distinct_among byte p.follow q.first d e
 
 -- what may follow two parts may follow the second
 pub next_second : (p q : Tags) (rest : List ℕ) → MayFollow (both_tags p q) rest → MayFollow q rest

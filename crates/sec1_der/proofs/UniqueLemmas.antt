@@ -1,10 +1,11 @@
--- Parts that are apart, and values with one content, are the same.
+-- Parts that are distinct, and values with one content, are the same.
 use Rattle.std.proofs.Common.{◌≡◌, [], ◌∷◌, ◌++◌, ◌∙◌, ℕ, List, Option, Some, None, true, ap, refl, sym, ap₂}
 use Rattle.std.proofs.Common.{append_assoc}
 use Rattle.std.specs.Option.{option_map}
 use Rattle.std.proofs.lemmas.Bool.{and_parts}
 use Rattle.sec1_der.specs.Elements.{element_of}
-use Rattle.sec1_der.specs.Parts.{Tags, AreApart, Begins, MayFollow, join, one_tag, optional_tag, both_tags, optional_of}
+use Rattle.sec1_der.specs.Parts.{Tags, AreDistinct, Begins, MayFollow, join, one_tag, optional_tag, both_tags}
+use Rattle.sec1_der.specs.Parts.{optional_of}
 use Rattle.sec1_der.specs.PartLaws.{element_begins}
 use Rattle.sec1_der.proofs.PartLemmas.{next_first, next_second}
 use Rattle.sec1_der.proofs.IdentifierLaws.{encodes_of, identifier_content-some}
@@ -28,10 +29,11 @@ same_values tag content one a b x y r s e f same =
     let is = element_apart tag tag p.inside q.inside r s (cc (p.at.encoded, q.at.encoded, same)) in
     (one a b p.inside p.same (rw is.1 q.same), is.2)
 
--- elements of one tag are apart
-pub one_apart : (tag : ℕ) {A : Type 0} (content : A → Option (List ℕ)) → IsUnique content
-    → AreApart (one_tag tag) (λ a. element_of tag (content a))
-one_apart tag content one a b x y r s apart e f before rest same = same_values tag content one a b x y r s e f same
+-- elements of one tag are distinct
+pub one_distinct : (tag : ℕ) {A : Type 0} (content : A → Option (List ℕ)) → IsUnique content
+    → AreDistinct (one_tag tag) (λ a. element_of tag (content a))
+one_distinct tag content one a b x y r s distinct e f before rest same =
+    same_values tag content one a b x y r s e f same
 
 -- two elements of one tag that have one content are the same
 pub unique_inside : (tag : ℕ) {A : Type 0} (content : A → Option (List ℕ)) → IsUnique content
@@ -51,32 +53,32 @@ not_present tag content r y s e may same = by y (element_begins tag content y e)
     by [] begins same = absurd (cc begins)
     by (byte ∷ y) begins same = absurd (cc (begins, rw same at may))
 
--- optional elements of one tag are apart
-pub optional_apart : (tag : ℕ) {A : Type 0} (content : A → Option (List ℕ)) → IsUnique content
-    → AreApart (optional_tag tag) (λ (a : Option A). optional_of tag (option_map content a))
-optional_apart tag content one None None x y r s apart e f before rest same =
+-- optional elements of one tag are distinct
+pub optional_distinct : (tag : ℕ) {A : Type 0} (content : A → Option (List ℕ)) → IsUnique content
+    → AreDistinct (optional_tag tag) (λ (a : Option A). optional_of tag (option_map content a))
+optional_distinct tag content one None None x y r s distinct e f before rest same =
     let front : x ≡ [] = cc (e) in
     let back : y ≡ [] = cc (f) in
     (refl, rw (front, back) at same)
-optional_apart tag content one None (Some b) x y r s apart e f before rest same =
+optional_distinct tag content one None (Some b) x y r s distinct e f before rest same =
     let front : x ≡ [] = cc (e) in
     absurd (not_present tag (content b) r y s f before (rw front at same))
-optional_apart tag content one (Some a) None x y r s apart e f before rest same =
+optional_distinct tag content one (Some a) None x y r s distinct e f before rest same =
     let back : y ≡ [] = cc (f) in
     absurd (not_present tag (content a) s x r e rest (sym (rw back at same)))
-optional_apart tag content one (Some a) (Some b) x y r s apart e f before rest same =
+optional_distinct tag content one (Some a) (Some b) x y r s distinct e f before rest same =
     let is = same_values tag content one a b x y r s e f same in
     (ap (λ v. Some v) is.0, is.1)
 
--- parts that are apart are so one after the other
-pub pair_apart : (p q : Tags) {P Q : Type 0} (first : P → Option (List ℕ)) (second : Q → Option (List ℕ))
-    → AreApart p first → AreApart q second
+-- parts that are distinct are so one after the other
+pub pair_distinct : (p q : Tags) {P Q : Type 0} (first : P → Option (List ℕ)) (second : Q → Option (List ℕ))
+    → AreDistinct p first → AreDistinct q second
     → ((b : Q) (bytes : List ℕ) → second b ≡ Some bytes → Begins q bytes)
-    → AreApart (both_tags p q) (λ (ab : P × Q). join (first ab.0) (second ab.1))
-pair_apart p q first second one two begins (a, c) (b, d) x y r s apart e f before rest same =
+    → AreDistinct (both_tags p q) (λ (ab : P × Q). join (first ab.0) (second ab.1))
+pair_distinct p q first second one two begins (a, c) (b, d) x y r s distinct e f before rest same =
     let x = parted (first a) (second c) x e in
     let y = parted (first b) (second d) y f in
-    let tags = and_parts _ _ apart in
+    let tags = and_parts _ _ distinct in
     let more = and_parts _ _ tags.1 in
     let split : x.front ++ (x.back ++ r) ≡ y.front ++ (y.back ++ s) =
     sym (append_assoc x.front x.back r) ∙ (rw (x.joined, y.joined) at same ∙ append_assoc y.front y.back s) in
@@ -88,9 +90,10 @@ pair_apart p q first second one two begins (a, c) (b, d) x y r s apart e f befor
     (ap₂ (λ a c. (a, c)) front.0 back.0, back.1)
 
 -- two values of one part that is all of their bytes are the same
-pub unique_parts : (tags : Tags) {A : Type 0} (bytes : A → Option (List ℕ)) → AreApart tags bytes → tags.apart ≡ true
+pub unique_parts : (tags : Tags) {A : Type 0} (bytes : A → Option (List ℕ)) → AreDistinct tags bytes
+    → tags.distinct ≡ true
     → IsUnique bytes
-unique_parts tags bytes one apart a b whole e f = (one a b whole whole [] [] apart e f tt tt refl).0
+unique_parts tags bytes one distinct a b whole e f = (one a b whole whole [] [] distinct e f tt tt refl).0
 
 -- two lists of arcs with one content are the same
 pub unique_identifier : IsUnique identifier_content

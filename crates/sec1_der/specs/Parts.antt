@@ -24,16 +24,16 @@ pub record Tags : Type 0 where
   pub first : List ℕ
   pub nullable : Bool
   pub follow : List ℕ
-  pub apart : Bool
+  pub distinct : Bool
 
 -- one element with this tag
 abbrev pub one_tag : ℕ → Tags
-one_tag tag = record { first = tag ∷ []; nullable = false; follow = []; apart = true }
+one_tag tag = record { first = tag ∷ []; nullable = false; follow = []; distinct = true }
 
 -- one element with this tag, or nothing
 abbrev pub optional_tag : ℕ → Tags
 optional_tag tag =
-    record { first = tag ∷ []; nullable = true; follow = tag ∷ []; apart = true }
+    record { first = tag ∷ []; nullable = true; follow = tag ∷ []; distinct = true }
 
 -- whether a tag is one of these
 abbrev pub is_among : ℕ → List ℕ → Bool
@@ -45,7 +45,7 @@ both_tags p q = record {
   first = if p.nullable then p.first ++ q.first else p.first;
   nullable = p.nullable && q.nullable;
   follow = if q.nullable then q.follow ++ p.follow else q.follow;
-  apart = p.apart && (q.apart && list_all (λ tag. not (is_among tag q.first)) p.follow);
+  distinct = p.distinct && (q.distinct && list_all (λ tag. not (is_among tag q.first)) p.follow);
 }
 
 -- no bytes, if that may be, or bytes that begin with one of the tags
@@ -65,8 +65,8 @@ optional_of tag (Some content) = element_of tag content
 
 -- Where two parts, and what may follow them, have the same bytes, the parts are the same, and so is
 -- what follows them.
-abbrev pub AreApart : {A : Type 0} → Tags → (A → Option (List ℕ)) → Type 0
-AreApart {A} tags bytes = (a b : A) (x y r s : List ℕ) → tags.apart ≡ true → bytes a ≡ Some x
+abbrev pub AreDistinct : {A : Type 0} → Tags → (A → Option (List ℕ)) → Type 0
+AreDistinct {A} tags bytes = (a b : A) (x y r s : List ℕ) → tags.distinct ≡ true → bytes a ≡ Some x
     → bytes b ≡ Some y
     → MayFollow tags r → MayFollow tags s → x ++ r ≡ y ++ s → (a ≡ b) × (r ≡ s)
 
@@ -88,6 +88,6 @@ pub record ReadsPart {P : Type 0} (bytes : P → Option (List ℕ))
       × IsSuffix new.unread old.unread)
   -- if the remaining input begins with a part, and what follows can't be confused with it, that
   -- part is read
-  pub only : (part : P) (whole rest : List ℕ) → tags.apart ≡ true → bytes part ≡ Some whole
+  pub only : (part : P) (whole rest : List ℕ) → tags.distinct ≡ true → bytes part ≡ Some whole
       → MayFollow tags rest → old ≡ reader_over (whole ++ rest)
       → IsOkAnd result (λ found. bytes found ≡ Some whole) × (new ≡ reader_over rest)

@@ -3,7 +3,7 @@ ghost use Rattle.std.specs.Prelude.{◌≡◌, ◌≤◌, ℕ, List, length, Opt
 ghost use Rattle.sec1_der.specs.Writers.{HasRoom, Puts};
 ghost use Rattle.sec1_der.specs.Elements.{max_length, within_limit};
 ghost use Rattle.sec1_der.specs.Writers.{Measures};
-ghost use Rattle.sec1_der.specs.Parts.{Tags, Begins, ReadsPart, AreApart, join, both_tags};
+ghost use Rattle.sec1_der.specs.Parts.{Tags, Begins, ReadsPart, AreDistinct, join, both_tags};
 ghost use Rattle.sec1_der.specs.PartLaws.{pair_begins};
 ghost use Rattle.sec1_der.specs.Faults.{Fault};
 
@@ -60,7 +60,7 @@ pub trait UniquePart: Part {
     /// Does nothing: its contract is the law that if two parts, each with what may follow it, have
     /// the same bytes, the parts are the same, and so is what follows them.
     fn one_part()
-        ensures { AreApart Self.tags Self.bytes };
+        ensures { AreDistinct Self.tags Self.bytes };
 }
 
 impl<P: Part, Q: Part> Part for (P, Q) {

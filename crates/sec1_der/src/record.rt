@@ -50,7 +50,7 @@ where
     Self::Parts: Part,
 {
     /// No part can be confused with one after it (X.680 section 25.6).
-    ghost apart: { Self.Parts.tags.apart ≡ true };
+    ghost distinct: { Self.Parts.tags.distinct ≡ true };
 }
 
 impl<T: Record> Tagged for T {

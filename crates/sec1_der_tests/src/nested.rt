@@ -1,7 +1,7 @@
 //! Records of many parts, and records in records in records.
 ghost use Rattle.std.specs.Prelude.{◌≡◌, ℕ, List, refl};
 ghost use Rattle.sec1_der.specs.Elements.{element_of};
-ghost use Rattle.sec1_der.specs.Parts.{AreApart, one_tag};
+ghost use Rattle.sec1_der.specs.Parts.{AreDistinct, one_tag};
 ghost use Rattle.sec1_der.specs.PartLaws.{element_begins};
 ghost use Rattle.sec1_der.specs.Faults.{element_fault};
 ghost use Rattle.sec1_der_tests.specs.Nested.{Four, inner_content, inner_fault};
@@ -57,7 +57,7 @@ impl Record for Wide {
 }
 
 impl Distinct for Wide {
-    ghost apart = { refl };
+    ghost distinct = { refl };
 }
 
 /// Four identifiers.
@@ -124,7 +124,7 @@ impl Record for Inner {
 }
 
 impl Distinct for Inner {
-    ghost apart = { refl };
+    ghost distinct = { refl };
 }
 
 impl Part for Inner {
@@ -155,7 +155,7 @@ impl<'a> DecodePart<'a> for Inner {
 
 impl UniquePart for Inner {
     fn one_part()
-        ensures { AreApart (one_tag 0x30) (λ four. element_of 0x30 (inner_content four)) }
+        ensures { AreDistinct (one_tag 0x30) (λ four. element_of 0x30 (inner_content four)) }
     {
         Required::<Inner>::one_part();
     }
@@ -195,7 +195,7 @@ impl Record for Middle {
 }
 
 impl Distinct for Middle {
-    ghost apart = { refl };
+    ghost distinct = { refl };
 }
 
 impl Part for Middle {
@@ -226,7 +226,7 @@ impl<'a> DecodePart<'a> for Middle {
 
 impl UniquePart for Middle {
     fn one_part()
-        ensures { AreApart (one_tag 0x30) (λ four. element_of 0x30 (middle_content four)) }
+        ensures { AreDistinct (one_tag 0x30) (λ four. element_of 0x30 (middle_content four)) }
     {
         Required::<Middle>::one_part();
     }
@@ -266,7 +266,7 @@ impl Record for Outer {
 }
 
 impl Distinct for Outer {
-    ghost apart = { refl };
+    ghost distinct = { refl };
 }
 
 /// A [`Wide`]: four rows of the identifiers 0.7 and 0.8, the second with a version.

@@ -64,7 +64,7 @@ impl Record for Inner {
 }
 
 impl Distinct for Inner {
-    ghost apart = { refl };
+    ghost distinct = { refl };
 }
 
 /// Two records of four parts. Four records of four are in [`nested`](crate::nested).
@@ -94,7 +94,7 @@ impl Record for Pair {
 }
 
 impl Distinct for Pair {
-    ghost apart = { refl };
+    ghost distinct = { refl };
 }
 
 /// A [`Pair`], of which the first has no part that may be absent, and the second has all.
@@ -248,7 +248,7 @@ impl<'a> Record for Borrowed<'a> {
 }
 
 impl Distinct for Borrowed<'_> {
-    ghost apart = { refl };
+    ghost distinct = { refl };
 }
 
 /// A [`Borrowed`] with all parts.

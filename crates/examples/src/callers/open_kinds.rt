@@ -119,7 +119,7 @@ impl<'a> Record for Labelled<'a> {
 }
 
 impl Distinct for Labelled<'_> {
-    ghost apart = { refl };
+    ghost distinct = { refl };
 }
 
 /// Reads a label and its version.

@@ -46,7 +46,7 @@ impl<'a> Record for DigestInfo<'a> {
 }
 
 impl Distinct for DigestInfo<'_> {
-    ghost apart = { refl };
+    ghost distinct = { refl };
 }
 
 /// Reads a hash value and its algorithm from their whole DER encoding.

@@ -35,5 +35,5 @@ impl Record for AlgorithmIdentifier {
 }
 
 impl Distinct for AlgorithmIdentifier {
-    ghost apart = { refl };
+    ghost distinct = { refl };
 }

@@ -1,7 +1,7 @@
 ghost use Rattle.sec1_der.specs.Elements.{element_of};
 ghost use Rattle.sec1_der.specs.Faults.{element_fault};
 ghost use Rattle.sec1_der.specs.PartLaws.{element_begins};
-ghost use Rattle.sec1_der.specs.Parts.{AreApart, one_tag};
+ghost use Rattle.sec1_der.specs.Parts.{AreDistinct, one_tag};
 
 use super::algorithm::AlgorithmIdentifier;
 use sec1_der::{
@@ -39,7 +39,7 @@ impl<'a> DecodePart<'a> for AlgorithmIdentifier {
 
 impl UniquePart for AlgorithmIdentifier {
     fn one_part()
-        ensures { AreApart (one_tag 0x30) (λ value.
+        ensures { AreDistinct (one_tag 0x30) (λ value.
             element_of 0x30 (⟦<AlgorithmIdentifier as ValueContent>⟧.content value)) }
     {
         Required::<AlgorithmIdentifier>::one_part();

@@ -50,5 +50,5 @@ impl<'a> Record for StoredSecret<'a> {
 }
 
 impl Distinct for StoredSecret<'_> {
-    ghost apart = { refl };
+    ghost distinct = { refl };
 }

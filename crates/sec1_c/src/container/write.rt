@@ -131,7 +131,7 @@ impl<'a> Record for KeyContainer<'a> {
 }
 
 impl Distinct for KeyContainer<'_> {
-    ghost apart = { refl };
+    ghost distinct = { refl };
 }
 
 /// Returns the key again. It borrows what this one borrows.

@@ -9,7 +9,7 @@ returns-in-Err g c = record {
   found = grind (arith, common_steps);
   read = grind (arith, common_steps);
   only = λ fresh part is.
-      absurd (c.in-Err.ensures.only part _ [] c.requires.apart is tt
+      absurd (c.in-Err.ensures.only part _ [] c.requires.distinct is tt
       (rw append-nil (reader_at _ _ refl fresh))).0;
   kinds = search rules;
   kind = search rules;
@@ -24,7 +24,7 @@ returns-in-Err-finish g c = record {
   only = λ fresh part is.
       absurd (false≢true
       (c.in-Err-finish.ensures.only
-      (c.in-Ok.ensures.only part _ [] c.requires.apart is tt
+      (c.in-Ok.ensures.only part _ [] c.requires.distinct is tt
       (rw append-nil (reader_at _ _ refl fresh))).1));
   kinds = search rules;
   kind = search rules;

@@ -16,7 +16,7 @@ returns-in-Err g c = record {
         c.in-Err.e.kind (c.in-Err.ensures.refused.kind c.requires.0),
     search rules,
   );
-  only = λ value whole rest apart same may is.
+  only = λ value whole rest distinct same may is.
       let there = element_of-some 0x30 (g.T.Parts.Part.bytes (g.T.Record.parts value)) whole same in
       absurd (cc ((c.in-Err.ensures.only there.inside rest there.at.within (rw there.at.encoded at is)).0));
 }
@@ -26,7 +26,7 @@ returns-in-Ok-read_parts g c = record {
   exact = rw c.from_parts.ensures
       (opened_read _ 0x30 _ _ _ _ c.in-Ok.ensures.found c.in-Ok-read_parts.ensures.found
       c.in-Ok-read_parts.ensures.kind);
-  only = λ value whole rest apart same may is.
+  only = λ value whole rest distinct same may is.
       let there = element_of-some 0x30 (g.T.Parts.Part.bytes (g.T.Record.parts value)) whole same in
       let opened = c.in-Ok.ensures.only there.inside rest there.at.within (rw there.at.encoded at is) in
       let inside : c.in-Ok.content.unread ≡ there.inside = cc (opened.0) in
@@ -43,7 +43,7 @@ returns-in-Err-read_parts g c = record {
     λ after. opened_refused _ 0x30 c.in-Ok.content _ _ _ c.in-Ok.ensures.found.1 (search rules) after,
     let left = read_end (Some (element 0x30 c.in-Ok.content.unread)) _ _ c.in-Ok.ensures.found.1.read in search rules,
   );
-  only = λ value whole rest apart same may is.
+  only = λ value whole rest distinct same may is.
       let there = element_of-some 0x30 (g.T.Parts.Part.bytes (g.T.Record.parts value)) whole same in
       let opened = c.in-Ok.ensures.only there.inside rest there.at.within (rw there.at.encoded at is) in
       let inside : c.in-Ok.content.unread ≡ there.inside = cc (opened.0) in

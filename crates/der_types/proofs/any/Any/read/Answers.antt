@@ -22,7 +22,7 @@ returns-in-Err c = record {
     λ after. any_refused after _ _ (c.in-Err.ensures.refused.kind c.requires),
     search rules,
   );
-  only = λ part whole rest apart same may is.
+  only = λ part whole rest distinct same may is.
       let element = (any_some part whole same).1 in
       absurd (c.in-Err.ensures.only element.tag element.content rest element.is_header
       (rw element.encoded at is)).0;
@@ -34,7 +34,7 @@ returns-in-Ok c =
     let element = element_from c.in-Ok.inside _ found.0 refl in
     record {
       exact = (search (rules, any_there), any_passes _ _ _ element found.1);
-      only = λ part whole rest apart same may is.
+      only = λ part whole rest distinct same may is.
           let element = (any_some part whole same).1 in
           let read = c.in-Ok.ensures.only element.tag element.content rest element.is_header
           (rw element.encoded at is) in

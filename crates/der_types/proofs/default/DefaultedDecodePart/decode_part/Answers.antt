@@ -5,7 +5,7 @@ use Rattle.der_types.proofs.default.DefaultedDecodePart.decode_part.Goals as goa
 pub returns-in_err-part : goal.returns-in_err-part
 returns-in_err-part g c = record {
   exact = search rules;
-  only = λ part whole rest apart same may is.
+  only = λ part whole rest distinct same may is.
       let there = as_optional g.A.Tagged.tag_byte g.A.HasDefault.default_content g.A.ValueContent.content part ∙ same in
       absurd (c.in_err-part.ensures.only _ whole rest refl there may is).0;
 }
@@ -13,7 +13,7 @@ returns-in_err-part g c = record {
 pub returns-in-Some : goal.returns-in-Some
 returns-in-Some g c = record {
   exact = search rules;
-  only = λ part whole rest apart same may is.
+  only = λ part whole rest distinct same may is.
       let there = as_optional g.A.Tagged.tag_byte g.A.HasDefault.default_content g.A.ValueContent.content part ∙ same in
       let read = c.in_ok-part.ensures.only _ whole rest refl there may is in
       let found = rw (← c.part.view_is, c.in-Some.is) at read.0 in (
@@ -26,7 +26,7 @@ returns-in-Some g c = record {
 pub returns-in-None : goal.returns-in-None
 returns-in-None g c = record {
   exact = search rules;
-  only = λ part whole rest apart same may is.
+  only = λ part whole rest distinct same may is.
       let there = as_optional g.A.Tagged.tag_byte g.A.HasDefault.default_content g.A.ValueContent.content part ∙ same in
       let read = c.in_ok-part.ensures.only _ whole rest refl there may is in
       let found = rw (← c.part.view_is, c.in-None.is) at read.0 in (

@@ -10,9 +10,9 @@ use Rattle.pkix.proofs.in_place.Tuple2ReadInPlace.read_in_place.Goals as goal
 pub returns-in-Err : goal.returns-in-Err
 returns-in-Err g c = record {
   exact = search rules;
-  only = λ part whole rest apart same next is.
+  only = λ part whole rest distinct same next is.
       let all = parted _ _ whole same in
-      let tags = and_parts _ _ apart in
+      let tags = and_parts _ _ distinct in
       let more = and_parts _ _ tags.1 in
       let after = next_first g.P.Part.tags g.Q.Part.tags all.back rest more.1
       (g.Q.Part.begins part.1 all.back all.second_there) next in
@@ -24,9 +24,9 @@ pub returns-in-Err-read_in_place : goal.returns-in-Err-read_in_place
 returns-in-Err-read_in_place g c = record {
   exact =
       let left = left_after _ _ _ _ c.in-Ok.ensures.exact.0 c.in-Err-read_in_place.ensures.exact.3 in search rules;
-  only = λ part whole rest apart same next is.
+  only = λ part whole rest distinct same next is.
       let all = parted _ _ whole same in
-      let tags = and_parts _ _ apart in
+      let tags = and_parts _ _ distinct in
       let more = and_parts _ _ tags.1 in
       let after = next_first g.P.Part.tags g.Q.Part.tags all.back rest more.1
       (g.Q.Part.begins part.1 all.back all.second_there) next in
@@ -39,9 +39,9 @@ returns-in-Err-read_in_place g c = record {
 pub returns-in-Ok-read_in_place : goal.returns-in-Ok-read_in_place
 returns-in-Ok-read_in_place g c = record {
   exact = (grind (arith, common_steps, joined), search rules);
-  only = λ part whole rest apart same next is.
+  only = λ part whole rest distinct same next is.
       let all = parted _ _ whole same in
-      let tags = and_parts _ _ apart in
+      let tags = and_parts _ _ distinct in
       let more = and_parts _ _ tags.1 in
       let after = next_first g.P.Part.tags g.Q.Part.tags all.back rest more.1
       (g.Q.Part.begins part.1 all.back all.second_there) next in

@@ -10,9 +10,9 @@ use Rattle.sec1_der.proofs.part.Tuple2DecodePart.decode_part.Goals as goal
 pub returns-in_err-first : goal.returns-in_err-first
 returns-in_err-first g c = record {
   exact = search rules;
-  only = λ part whole rest apart same next is.
+  only = λ part whole rest distinct same next is.
       let all = parted _ _ whole same in
-      let tags = and_parts _ _ apart in
+      let tags = and_parts _ _ distinct in
       let more = and_parts _ _ tags.1 in
       let after = next_first g.P.Part.tags g.Q.Part.tags all.back rest more.1
       (g.Q.Part.begins part.1 all.back all.second_there) next in
@@ -24,9 +24,9 @@ pub returns-in_err-second : goal.returns-in_err-second
 returns-in_err-second g c = record {
   exact =
       let left = left_after _ _ _ _ c.in_ok-first.ensures.exact.0 c.in_err-second.ensures.exact.3 in search rules;
-  only = λ part whole rest apart same next is.
+  only = λ part whole rest distinct same next is.
       let all = parted _ _ whole same in
-      let tags = and_parts _ _ apart in
+      let tags = and_parts _ _ distinct in
       let more = and_parts _ _ tags.1 in
       let after = next_first g.P.Part.tags g.Q.Part.tags all.back rest more.1
       (g.Q.Part.begins part.1 all.back all.second_there) next in
@@ -39,9 +39,9 @@ returns-in_err-second g c = record {
 pub returns : goal.returns
 returns g c = record {
   exact = (grind (arith, common_steps, joined), search rules);
-  only = λ part whole rest apart same next is.
+  only = λ part whole rest distinct same next is.
       let all = parted _ _ whole same in
-      let tags = and_parts _ _ apart in
+      let tags = and_parts _ _ distinct in
       let more = and_parts _ _ tags.1 in
       let after = next_first g.P.Part.tags g.Q.Part.tags all.back rest more.1
       (g.Q.Part.begins part.1 all.back all.second_there) next in

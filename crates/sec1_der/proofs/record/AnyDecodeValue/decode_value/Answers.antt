@@ -9,7 +9,7 @@ returns-in_err-parts g c = record {
   found = grind (arith, common_steps);
   read = grind (arith, common_steps);
   only = λ fresh value is.
-      absurd (c.in_err-parts.ensures.only (g.T.Record.parts value) _ [] g.met.T.Distinct.apart is tt
+      absurd (c.in_err-parts.ensures.only (g.T.Record.parts value) _ [] g.met.T.Distinct.distinct is tt
       (rw append-nil (reader_at _ _ refl fresh))).0;
   kinds = search rules;
   kind = search rules;
@@ -24,7 +24,7 @@ returns-in_err-finish g c = record {
   only = λ fresh value is.
       absurd (false≢true
       (c.in_err-finish.ensures.only
-      (c.in_ok-parts.ensures.only (g.T.Record.parts value) _ [] g.met.T.Distinct.apart is tt
+      (c.in_ok-parts.ensures.only (g.T.Record.parts value) _ [] g.met.T.Distinct.distinct is tt
       (rw append-nil (reader_at _ _ refl fresh))).1));
   kinds = search rules;
   kind = search rules;
