@@ -101,7 +101,7 @@ impl<'a> Any<'a> {
 impl Part for Any<'_> {
     ghost bytes = { any_of };
 
-    ghost fault_then = { any_element_fault };
+    ghost and_then = { any_element_fault };
 
     ghost tags = { any_tags };
 

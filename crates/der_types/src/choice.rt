@@ -54,7 +54,7 @@ pub enum Choice<P, Q> {
 impl<P: Part, Q: Part> Part for Choice<P, Q> {
     ghost bytes = { choice_of P.bytes Q.bytes };
 
-    ghost fault_then = { choice_fault P.tags.first P.fault_then Q.fault_then };
+    ghost and_then = { choice_fault P.tags.first P.and_then Q.and_then };
 
     ghost tags = { choice_tags P.tags Q.tags };
 

@@ -13,7 +13,7 @@ use sec1_der::{DecodePart, Result, SliceReader, UniquePart};
 /// Those of [`DecodePart::decode_part`], then TrailingData if bytes follow the part.
 pub fn read_part<'a, P: DecodePart<'a> + UniquePart + Drop>(input: &'a [u8]) -> Result<P>
     requires { (P.tags.distinct ≡ true) × (length input.now ≤ max_length) }
-    ensures { ReadsWhole P.bytes (P.fault_then end_fault) input.now result }
+    ensures { ReadsWhole P.bytes (P.and_then end_fault) input.now result }
 {
     P::one_part();
     let mut reader = SliceReader::new(input);

@@ -51,7 +51,7 @@ impl<A> Model for Defaulted<A> {
 impl<A: HasDefault + Tagged> Part for Defaulted<A> {
     ghost bytes = { λ value. defaulted_of A.tag_byte A.default_content (A.content value) };
 
-    ghost fault_then = { optional_fault A.tag_byte (other_fault A.default_content A.fault) };
+    ghost and_then = { optional_fault A.tag_byte (other_fault A.default_content A.fault) };
 
     ghost tags = { optional_tag A.tag_byte };
 

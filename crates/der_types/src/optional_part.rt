@@ -25,7 +25,7 @@ impl<P> Model for OptionalPart<P> {
 impl<P: Alternative> Part for OptionalPart<P> {
     ghost bytes = { optional_bytes P.bytes };
 
-    ghost fault_then = { optional_part_fault P.tags.first P.fault_then };
+    ghost and_then = { optional_part_fault P.tags.first P.and_then };
 
     ghost tags = { optional_tags P.tags };
 

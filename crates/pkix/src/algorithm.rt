@@ -58,7 +58,7 @@ impl Distinct for AlgorithmIdentifier<'_> {
 impl Part for AlgorithmIdentifier<'_> {
     ghost bytes = { λ value. element_of 0x30 (algorithm_content value) };
 
-    ghost fault_then = { element_fault 0x30 algorithm_fault };
+    ghost and_then = { element_fault 0x30 algorithm_fault };
 
     ghost tags = { one_tag 0x30 };
 

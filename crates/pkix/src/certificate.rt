@@ -153,7 +153,7 @@ impl Distinct for TbsCertificate<'_> {
 impl Part for TbsCertificate<'_> {
     ghost bytes = { λ value. element_of 0x30 (tbs_content value) };
 
-    ghost fault_then = { element_fault 0x30 tbs_fault };
+    ghost and_then = { element_fault 0x30 tbs_fault };
 
     ghost tags = { one_tag 0x30 };
 

@@ -27,7 +27,7 @@ pub(crate) trait ReadInPlace<'a>: Part + Sized + Drop {
     /// Those of [`DecodePart::decode_part`]. The place then holds any value.
     fn read_in_place(&mut self, reader: &mut SliceReader<'a>) -> Result<()>
         requires { (reader.old.failed ≡ false) × (length reader.old.unread ≤ max_length) }
-        ensures { ReadsPart Self.bytes Self.fault_then Self.tags (placed self.new result)
+        ensures { ReadsPart Self.bytes Self.and_then Self.tags (placed self.new result)
             reader.old reader.new };
 }
 
@@ -126,7 +126,7 @@ where
 fn read_parts<'a, P: ReadInPlace<'a>>(place: &mut P, reader: &mut SliceReader<'a>) -> Result<()>
     requires distinct { P.tags.distinct ≡ true }
     requires reader { (reader.old.failed ≡ false) × (length reader.old.unread ≤ max_length) }
-    ensures { ReadsContent P.bytes (P.fault_then end_fault) (placed place.new result) reader.old
+    ensures { ReadsContent P.bytes (P.and_then end_fault) (placed place.new result) reader.old
         reader.new }
 {
     match place.read_in_place(reader) {
@@ -153,7 +153,7 @@ where
     T::Parts: ReadInPlace<'a>,
     requires { (reader.old.failed ≡ false) × (length reader.old.unread ≤ max_length) }
     ensures { ReadsPart (λ value. element_of 0x30 (T.Parts.bytes (T.parts value)))
-        (element_fault 0x30 (T.Parts.fault_then end_fault)) (one_tag 0x30)
+        (element_fault 0x30 (T.Parts.and_then end_fault)) (one_tag 0x30)
         (placed place.new result) reader.old reader.new }
 {
     let mut content = match reader.open(Tag::SEQUENCE) {
@@ -181,7 +181,7 @@ where
     T::Parts: ReadInPlace<'a> + UniquePart,
     ensures { (place : T) → T.parts place ≡ parts.new
         → ReadsElement 0x30 (λ value. T.Parts.bytes (T.parts value))
-        (T.Parts.fault_then end_fault) input.now (placed place result) }
+        (T.Parts.and_then end_fault) input.now (placed place result) }
 {
     T::one();
     let mut reader = SliceReader::new(input);

@@ -55,7 +55,7 @@ impl Distinct for SubjectPublicKeyInfo<'_> {
 impl Part for SubjectPublicKeyInfo<'_> {
     ghost bytes = { λ value. element_of 0x30 (public_key_content value) };
 
-    ghost fault_then = { element_fault 0x30 public_key_fault };
+    ghost and_then = { element_fault 0x30 public_key_fault };
 
     ghost tags = { one_tag 0x30 };
 

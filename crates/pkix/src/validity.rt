@@ -53,7 +53,7 @@ impl Distinct for Validity<'_> {
 impl Part for Validity<'_> {
     ghost bytes = { λ value. element_of 0x30 (validity_content value) };
 
-    ghost fault_then = { element_fault 0x30 validity_fault };
+    ghost and_then = { element_fault 0x30 validity_fault };
 
     ghost tags = { one_tag 0x30 };
 

@@ -72,19 +72,19 @@ AreDistinct {A} tags bytes = (a b : A) (x y r s : List ℕ) → tags.distinct �
 
 -- A part is read by a reader that hasn't failed, and the bytes after it are left. `bytes` gives
 -- those
--- of a part, `tags` what is known of it by its type, and `fault_then` the rule of a part and what
+-- of a part, `tags` what is known of it by its type, and `and_then` the rule of a part and what
 -- follows it.
 pub record ReadsPart {P : Type 0} (bytes : P → Option (List ℕ))
-    (fault_then : Fault → Fault) (tags : Tags) (result : Result P Error)
+    (and_then : Fault → Fault) (tags : Tags) (result : Result P Error)
     (old new : Reader) : Type 0 where
   -- Just the bytes of the part are read, and then the fault is that of what follows. Otherwise the
   -- kind is a function of the remaining input, and the reader has failed; its remaining input is
   -- what it was or the end of it.
   pub exact : MatchResult result
       (λ part. IsSomeAnd (bytes part) (λ whole. HasRead whole old new)
-      × ((after : Fault) → fault_then after old.unread ≡ after new.unread))
+      × ((after : Fault) → and_then after old.unread ≡ after new.unread))
       (λ e. (new.failed ≡ true) × IsReadingFault e.kind
-      × ((after : Fault) → IsFaultOf (fault_then after old.unread) e.kind)
+      × ((after : Fault) → IsFaultOf (and_then after old.unread) e.kind)
       × IsSuffix new.unread old.unread)
   -- if the remaining input begins with a part, and what follows can't be confused with it, that
   -- part is read

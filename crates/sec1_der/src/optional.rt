@@ -28,7 +28,7 @@ impl<A> Model for Optional<A> {
 impl<A: ValueContent + Tagged> Part for Optional<A> {
     ghost bytes = { λ value. optional_of A.tag_byte (option_map A.content value) };
 
-    ghost fault_then = { optional_fault A.tag_byte A.fault };
+    ghost and_then = { optional_fault A.tag_byte A.fault };
 
     ghost tags = { optional_tag A.tag_byte };
 

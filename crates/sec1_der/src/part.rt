@@ -16,7 +16,7 @@ pub trait Part {
 
     /// The rule of a part and what follows it, given that of what follows, as in
     /// [`ValueContent`](crate::ValueContent).
-    ghost fault_then: { Fault → Fault };
+    ghost and_then: { Fault → Fault };
 
     /// The tags that a part may begin with, and those that mustn't follow it.
     ghost tags: { Tags };
@@ -51,7 +51,7 @@ pub trait DecodePart<'a>: Part + Sized {
     /// part. On an error the reader has failed.
     fn decode_part(reader: &mut SliceReader<'a>) -> Result<Self>
         requires { (reader.old.failed ≡ false) × (length reader.old.unread ≤ max_length) }
-        ensures { ReadsPart Self.bytes Self.fault_then Self.tags result reader.old
+        ensures { ReadsPart Self.bytes Self.and_then Self.tags result reader.old
             reader.new };
 }
 
@@ -66,7 +66,7 @@ pub trait UniquePart: Part {
 impl<P: Part, Q: Part> Part for (P, Q) {
     ghost bytes = { λ parts. join (P.bytes parts.0) (Q.bytes parts.1) };
 
-    ghost fault_then = { λ rest. P.fault_then (Q.fault_then rest) };
+    ghost and_then = { λ rest. P.and_then (Q.and_then rest) };
 
     ghost tags = { both_tags P.tags Q.tags };
 

@@ -71,7 +71,7 @@ where
 {
     ghost content = { λ value. T.Parts.bytes (T.parts value) };
 
-    ghost fault = { T.Parts.fault_then end_fault };
+    ghost fault = { T.Parts.and_then end_fault };
 }
 
 impl<'a, T: Distinct> DecodeValue<'a> for T

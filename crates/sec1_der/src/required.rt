@@ -28,7 +28,7 @@ impl<A> Model for Required<A> {
 impl<A: ValueContent + Tagged> Part for Required<A> {
     ghost bytes = { λ value. element_of A.tag_byte (A.content value) };
 
-    ghost fault_then = { element_fault A.tag_byte A.fault };
+    ghost and_then = { element_fault A.tag_byte A.fault };
 
     ghost tags = { one_tag A.tag_byte };
 

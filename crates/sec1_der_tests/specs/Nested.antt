@@ -17,7 +17,7 @@ four_of bytes four =
 
 -- the kind by which bytes are refused as four parts
 abbrev pub four_fault : (Fault → Fault) → Fault
-four_fault fault_then = fault_then (fault_then (fault_then (fault_then end_fault)))
+four_fault and_then = and_then (and_then (and_then (and_then end_fault)))
 
 -- four identifiers
 abbrev pub inner_content : Four (List ℕ) → Option (List ℕ)

@@ -130,7 +130,7 @@ impl Distinct for Inner {
 impl Part for Inner {
     ghost bytes = { λ four. element_of 0x30 (inner_content four) };
 
-    ghost fault_then = { element_fault 0x30 inner_fault };
+    ghost and_then = { element_fault 0x30 inner_fault };
 
     ghost tags = { one_tag 0x30 };
 
@@ -201,7 +201,7 @@ impl Distinct for Middle {
 impl Part for Middle {
     ghost bytes = { λ four. element_of 0x30 (middle_content four) };
 
-    ghost fault_then = { element_fault 0x30 middle_fault };
+    ghost and_then = { element_fault 0x30 middle_fault };
 
     ghost tags = { one_tag 0x30 };
 

@@ -13,7 +13,7 @@ impl Part for AlgorithmIdentifier {
     ghost bytes = { λ value.
         element_of 0x30 (⟦<AlgorithmIdentifier as ValueContent>⟧.content value) };
 
-    ghost fault_then = { element_fault 0x30 ⟦<AlgorithmIdentifier as ValueContent>⟧.fault };
+    ghost and_then = { element_fault 0x30 ⟦<AlgorithmIdentifier as ValueContent>⟧.fault };
 
     ghost tags = { one_tag 0x30 };
 

@@ -12,7 +12,7 @@ returns-in-Err g c = record {
   exact = (
     search rules,
     search rules,
-    λ after. refused_element (g.T.Parts.Part.fault_then end_fault) after 0x30 c.args.reader.now.unread
+    λ after. refused_element (g.T.Parts.Part.and_then end_fault) after 0x30 c.args.reader.now.unread
         c.in-Err.e.kind (c.in-Err.ensures.refused.kind c.requires.0),
     search rules,
   );

@@ -15,7 +15,7 @@ returns-in-Err g c place is-row = record {
       (over_element 0x30 there.inside c.args.input.now _ c.new-reader.ensures there.at.encoded)).0));
   kinds = search rules;
   kind =
-      refused_element (g.T.Parts.Part.fault_then end_fault) end_fault 0x30 c.args.input.now c.in-Err.e.kind
+      refused_element (g.T.Parts.Part.and_then end_fault) end_fault 0x30 c.args.input.now c.in-Err.e.kind
       (rw c.new-reader.ensures at
       (c.in-Err.ensures.refused.kind (ap (λ (r : Reader). r.failed) c.new-reader.ensures)));
 }
@@ -34,7 +34,7 @@ returns-in-Err-read_parts g c place is-row = record {
   kind =
       let fresh : c.in-Ok.content.failed ≡ false = ap (λ (r : Reader). r.failed) c.in-Ok.ensures.found.0 in
       rw c.new-reader.ensures at
-      (opened_refused (g.T.Parts.Part.fault_then end_fault) 0x30 c.in-Ok.content _ _ c.in-Err-read_parts.e.kind
+      (opened_refused (g.T.Parts.Part.and_then end_fault) 0x30 c.in-Ok.content _ _ c.in-Err-read_parts.e.kind
       c.in-Ok.ensures.found.1 (c.in-Err-read_parts.ensures.kind fresh) end_fault);
 }
 
@@ -54,7 +54,7 @@ returns-in-Ok-finish g c place is-row = record {
       ap (λ v. Ok v) (c.one.ensures place value there.inside found there.same);
   kinds = search rules;
   kind =
-      let passes = opened_passes (g.T.Parts.Part.fault_then end_fault) 0x30 c.in-Ok.content _ _ c.in-Ok.ensures.found
+      let passes = opened_passes (g.T.Parts.Part.and_then end_fault) 0x30 c.in-Ok.content _ _ c.in-Ok.ensures.found
       c.in-Ok-read_parts.ensures.kind in
       rw c.new-reader.ensures at
       (passes.next end_fault ∙ ap (λ (r : Reader). end_fault r.unread) c.in-Ok-finish.ensures.found.0);
@@ -70,7 +70,7 @@ returns-in-Err-finish g c place is-row = record {
       absurd (false≢true (c.in-Err-finish.ensures.only opened.1));
   kinds = search rules;
   kind =
-      let passes = opened_passes (g.T.Parts.Part.fault_then end_fault) 0x30 c.in-Ok.content _ _ c.in-Ok.ensures.found
+      let passes = opened_passes (g.T.Parts.Part.and_then end_fault) 0x30 c.in-Ok.content _ _ c.in-Ok.ensures.found
       c.in-Ok-read_parts.ensures.kind in
       rw (rw c.new-reader.ensures at (passes.next end_fault)) (c.in-Err-finish.ensures.refused.kind passes.whole);
 }
