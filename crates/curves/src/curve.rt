@@ -194,7 +194,7 @@ impl Curve {
         ensures found { IfSome result (λ curve. curve_arcs curve ≡ identifier.now) }
         ensures only { (curve : Curve) → curve_arcs curve ≡ identifier.now → result ≡ Some curve }
     {
-        ObjectIdentifier::one();
+        ObjectIdentifier::content_injective();
         Curve::from_content(identifier.as_bytes())
     }
 

@@ -135,7 +135,7 @@ impl<'a> DecodePart<'a> for Any<'a> {
 }
 
 impl UniquePart for Any<'_> {
-    fn one_part()
+    fn bytes_injective()
         ensures { AreDistinct any_tags any_of }
     {}
 }

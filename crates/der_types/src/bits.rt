@@ -126,7 +126,7 @@ impl EncodeValue for Bits<'_> {
 }
 
 impl UniqueContent for Bits<'_> {
-    fn one()
+    fn content_injective()
         ensures { (a b : BitString) (bytes : List ℕ) → bit_string_content a ≡ Some bytes
             → bit_string_content b ≡ Some bytes → a ≡ b }
     {}

@@ -80,7 +80,7 @@ impl EncodeValue for Boolean {
 }
 
 impl UniqueContent for Boolean {
-    fn one() {}
+    fn content_injective() {}
 }
 
 /// FALSE, as in the components `BOOLEAN DEFAULT FALSE` of certificates (RFC 5280 section 4.1).

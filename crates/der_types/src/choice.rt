@@ -96,8 +96,8 @@ impl<'a, P: DecodePart<'a> + Alternative, Q: DecodePart<'a> + Alternative> Decod
 }
 
 impl<P: UniquePart + Alternative, Q: UniquePart + Alternative> UniquePart for Choice<P, Q> {
-    fn one_part() {
-        P::one_part();
-        Q::one_part();
+    fn bytes_injective() {
+        P::bytes_injective();
+        Q::bytes_injective();
     }
 }

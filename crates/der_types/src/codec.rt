@@ -15,7 +15,7 @@ pub fn read_part<'a, P: DecodePart<'a> + UniquePart + Drop>(input: &'a [u8]) -> 
     requires { (P.tags.distinct ≡ true) × (length input.now ≤ max_length) }
     ensures { ReadsWhole P.bytes (P.and_then end_fault) input.now result }
 {
-    P::one_part();
+    P::bytes_injective();
     let mut reader = SliceReader::new(input);
     let part = P::decode_part(&mut reader)?;
     reader.finish()?;

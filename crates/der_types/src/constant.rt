@@ -75,7 +75,7 @@ impl<K: ConstantContent> EncodeValue for Constant<K> {
 }
 
 impl<K: ConstantContent> UniqueContent for Constant<K> {
-    fn one() {}
+    fn content_injective() {}
 }
 
 /// The kind of a NULL (X.690 section 8.8).

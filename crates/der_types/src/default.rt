@@ -60,7 +60,7 @@ impl<A: HasDefault + Tagged> Part for Defaulted<A> {
 
 impl<A: HasDefault + EncodeValue + Tagged> EncodePart for Defaulted<A> {
     fn part_len(&self) -> Result<Length> {
-        A::one();
+        A::content_injective();
         if self.0.is_default() {
             return Length::new(0);
         }
@@ -68,7 +68,7 @@ impl<A: HasDefault + EncodeValue + Tagged> EncodePart for Defaulted<A> {
     }
 
     fn prepend_part(&self, writer: &mut BackWriter) {
-        A::one();
+        A::content_injective();
         if !self.0.is_default() {
             writer.prepend_element(&self.0);
         }
@@ -86,9 +86,9 @@ impl<'a, A: HasDefault + DecodeValue<'a> + Tagged + Drop> DecodePart<'a> for Def
 }
 
 impl<A: HasDefault + Tagged> UniquePart for Defaulted<A> {
-    fn one_part() {
-        A::one();
-        Optional::<NotDefault<A>>::one_part();
+    fn bytes_injective() {
+        A::content_injective();
+        Optional::<NotDefault<A>>::bytes_injective();
     }
 }
 
@@ -120,7 +120,7 @@ impl<A: HasDefault> ValueContent for NotDefault<A> {
 
 impl<'a, A: HasDefault + DecodeValue<'a> + Drop> DecodeValue<'a> for NotDefault<A> {
     fn decode_value(reader: &mut SliceReader<'a>) -> Result<Self> {
-        A::one();
+        A::content_injective();
         let value = A::decode_value(reader)?;
         if value.is_default() {
             return Err(reader.fail(ErrorKind::Value));
@@ -130,7 +130,7 @@ impl<'a, A: HasDefault + DecodeValue<'a> + Drop> DecodeValue<'a> for NotDefault<
 }
 
 impl<A: HasDefault> UniqueContent for NotDefault<A> {
-    fn one() {
-        A::one();
+    fn content_injective() {
+        A::content_injective();
     }
 }

@@ -84,7 +84,7 @@ impl<K, A: EncodeValue> EncodeValue for Implicit<K, A> {
 }
 
 impl<K, A: UniqueContent> UniqueContent for Implicit<K, A> {
-    fn one() {
-        A::one();
+    fn content_injective() {
+        A::content_injective();
     }
 }

@@ -124,7 +124,7 @@ impl<K: Kind> EncodeValue for Leaf<'_, K> {
 }
 
 impl<K: Kind> UniqueContent for Leaf<'_, K> {
-    fn one()
+    fn content_injective()
         ensures { (a b bytes : List ℕ) → content_if K.passes a ≡ Some bytes
             → content_if K.passes b ≡ Some bytes
             → a ≡ b }

@@ -57,7 +57,7 @@ impl<'a, P: DecodePart<'a> + Alternative> DecodePart<'a> for OptionalPart<P> {
 }
 
 impl<P: UniquePart + Alternative> UniquePart for OptionalPart<P> {
-    fn one_part() {
-        P::one_part();
+    fn bytes_injective() {
+        P::bytes_injective();
     }
 }

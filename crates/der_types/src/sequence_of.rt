@@ -207,7 +207,7 @@ impl<'a, T: DecodeValue<'a> + Tagged + Drop> EncodeValue for SequenceOf<'a, T> {
 }
 
 impl<T: ValueContent + Tagged> UniqueContent for SequenceOf<'_, T> {
-    fn one()
+    fn content_injective()
         ensures { (a b bytes : List ℕ) → row_of T.tag_byte T.fault a ≡ Some bytes
             → row_of T.tag_byte T.fault b ≡ Some bytes → a ≡ b }
     {}

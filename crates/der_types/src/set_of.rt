@@ -145,7 +145,7 @@ impl<'a, T: DecodeValue<'a> + Tagged + Drop> EncodeValue for SetOf<'a, T> {
 }
 
 impl<T: ValueContent + Tagged> UniqueContent for SetOf<'_, T> {
-    fn one()
+    fn content_injective()
         ensures { (a b bytes : List ℕ) → set_of T.tag_byte T.fault a ≡ Some bytes
             → set_of T.tag_byte T.fault b ≡ Some bytes → a ≡ b }
     {}

@@ -154,7 +154,7 @@ impl EncodeValue for Unsigned<'_> {
 
 impl UniqueContent for Unsigned<'_> {
     #[tactic(auto, using(crate::proofs::UnsignedLemmas::numbers))]
-    fn one()
+    fn content_injective()
         ensures { (a b : ℕ) (bytes : List ℕ) → Some (unsigned_content a) ≡ Some bytes
             → Some (unsigned_content b) ≡ Some bytes → a ≡ b }
     {}

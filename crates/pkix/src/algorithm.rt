@@ -92,9 +92,9 @@ impl<'a> ReadInPlace<'a> for AlgorithmIdentifier<'a> {
 }
 
 impl UniquePart for AlgorithmIdentifier<'_> {
-    fn one_part()
+    fn bytes_injective()
         ensures { AreDistinct (one_tag 0x30) (λ value. element_of 0x30 (algorithm_content value)) }
     {
-        Required::<AlgorithmIdentifier>::one_part();
+        Required::<AlgorithmIdentifier>::bytes_injective();
     }
 }

@@ -187,10 +187,10 @@ impl<'a> ReadInPlace<'a> for TbsCertificate<'a> {
 }
 
 impl UniquePart for TbsCertificate<'_> {
-    fn one_part()
+    fn bytes_injective()
         ensures { AreDistinct (one_tag 0x30) (λ value. element_of 0x30 (tbs_content value)) }
     {
-        Required::<TbsCertificate>::one_part();
+        Required::<TbsCertificate>::bytes_injective();
     }
 }
 

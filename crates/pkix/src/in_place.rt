@@ -183,7 +183,7 @@ where
         → ReadsElement 0x30 (λ value. T.Parts.bytes (T.parts value))
         (T.Parts.and_then end_fault) input.now (placed place result) }
 {
-    T::one();
+    T::content_injective();
     let mut reader = SliceReader::new(input);
     let mut content = match reader.open(Tag::SEQUENCE) {
         Ok(content) => content,

@@ -89,10 +89,10 @@ impl<'a> ReadInPlace<'a> for SubjectPublicKeyInfo<'a> {
 }
 
 impl UniquePart for SubjectPublicKeyInfo<'_> {
-    fn one_part()
+    fn bytes_injective()
         ensures { AreDistinct (one_tag 0x30) (λ value. element_of 0x30 (public_key_content value)) }
     {
-        Required::<SubjectPublicKeyInfo>::one_part();
+        Required::<SubjectPublicKeyInfo>::bytes_injective();
     }
 }
 

@@ -87,10 +87,10 @@ impl<'a> ReadInPlace<'a> for Validity<'a> {
 }
 
 impl UniquePart for Validity<'_> {
-    fn one_part()
+    fn bytes_injective()
         ensures { AreDistinct (one_tag 0x30) (λ value. element_of 0x30 (validity_content value)) }
     {
-        Required::<Validity>::one_part();
+        Required::<Validity>::bytes_injective();
     }
 }
 

@@ -71,5 +71,5 @@ impl EncodeValue for LaterVersion {
 }
 
 impl UniqueContent for LaterVersion {
-    fn one() {}
+    fn content_injective() {}
 }

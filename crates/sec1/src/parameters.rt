@@ -106,7 +106,7 @@ impl EncodeValue for EcParameters {
 }
 
 impl UniqueContent for EcParameters {
-    fn one() {
-        ObjectIdentifier::one();
+    fn content_injective() {
+        ObjectIdentifier::content_injective();
     }
 }

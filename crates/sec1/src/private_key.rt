@@ -107,12 +107,12 @@ impl<'a> Sequence<'a> for EcPrivateKey<'a> {
 }
 
 impl UniqueContent for EcPrivateKey<'_> {
-    fn one()
+    fn content_injective()
         ensures { (a b : Key) (bytes : List ℕ)
             → ⟦<BorrowedKey<'static> as ValueContent>⟧.content a ≡ Some bytes
             → ⟦<BorrowedKey<'static> as ValueContent>⟧.content b ≡ Some bytes → a ≡ b }
     {
-        BorrowedKey::one();
+        BorrowedKey::content_injective();
     }
 }
 
@@ -141,7 +141,7 @@ impl<'a> TryFrom<&'a [u8]> for EcPrivateKey<'a> {
     // Inlined, so that a refusal doesn't pass a whole key's place through memory.
     #[inline(always)]
     fn try_from(bytes: &'a [u8]) -> Result<EcPrivateKey<'a>> {
-        EcPrivateKey::one();
+        EcPrivateKey::content_injective();
         der::laws::trees_unique();
         der::laws::cut_elements();
         let mut key = EcPrivateKey::empty();

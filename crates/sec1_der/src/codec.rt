@@ -56,7 +56,7 @@ pub fn read_der<'a, T: DecodeValue<'a> + Tagged + UniqueContent + Drop>(
 ) -> Result<T>
     ensures { ReadsElement T.tag_byte T.content T.fault input.now result }
 {
-    T::one();
+    T::content_injective();
     from_der(input)
 }
 

@@ -55,7 +55,7 @@ impl<const N: u8> EncodeValue for SmallInteger<N> {
 }
 
 impl<const N: u8> UniqueContent for SmallInteger<N> {
-    fn one() {}
+    fn content_injective() {}
 }
 
 /// The bytes of an OCTET STRING (X.690 section 8.7). A contract sees the bytes.
@@ -109,7 +109,7 @@ impl EncodeValue for Octets<'_> {
 }
 
 impl UniqueContent for Octets<'_> {
-    fn one()
+    fn content_injective()
         ensures { (a b bytes : List ℕ) → Some a ≡ Some bytes → Some b ≡ Some bytes → a ≡ b }
     {}
 }
@@ -170,7 +170,7 @@ impl EncodeValue for WholeBits<'_> {
 }
 
 impl UniqueContent for WholeBits<'_> {
-    fn one()
+    fn content_injective()
         ensures { (a b bytes : List ℕ) → Some (0 ∷ a) ≡ Some bytes
             → Some (0 ∷ b) ≡ Some bytes → a ≡ b }
     {}

@@ -89,8 +89,8 @@ impl<K, A: EncodeValue + Tagged> EncodeValue for Explicit<K, A> {
 
 impl<K, A: UniqueContent + Tagged> UniqueContent for Explicit<K, A> {
     #[tactic(auto, using(crate::proofs::UniqueLemmas::unique_inside))]
-    fn one() {
-        A::one();
+    fn content_injective() {
+        A::content_injective();
     }
 }
 
@@ -171,7 +171,7 @@ impl EncodeValue for ExplicitBits<'_> {
 
 impl UniqueContent for ExplicitBits<'_> {
     #[tactic(auto, using(crate::proofs::UniqueLemmas::unique_bits))]
-    fn one()
+    fn content_injective()
         ensures { (a b bytes : List ℕ) → element_of 0x03 (Some (0 ∷ a)) ≡ Some bytes
             → element_of 0x03 (Some (0 ∷ b)) ≡ Some bytes → a ≡ b }
     {}

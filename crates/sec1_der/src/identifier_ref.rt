@@ -136,7 +136,7 @@ impl EncodeValue for IdentifierRef<'_> {
 
 impl UniqueContent for IdentifierRef<'_> {
     #[tactic(auto, using(crate::proofs::UniqueLemmas::unique_identifier))]
-    fn one()
+    fn content_injective()
         ensures { (a b bytes : List ℕ) → identifier_content a ≡ Some bytes
             → identifier_content b ≡ Some bytes → a ≡ b }
     {}

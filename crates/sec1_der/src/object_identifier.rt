@@ -292,5 +292,5 @@ impl EncodeValue for ObjectIdentifier {
 
 impl UniqueContent for ObjectIdentifier {
     #[tactic(auto, using(crate::proofs::UniqueLemmas::unique_identifier))]
-    fn one() {}
+    fn content_injective() {}
 }

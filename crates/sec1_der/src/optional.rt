@@ -65,7 +65,7 @@ impl<'a, A: DecodeValue<'a> + Tagged + Drop> DecodePart<'a> for Optional<A> {
 }
 
 impl<A: UniqueContent + Tagged> UniquePart for Optional<A> {
-    fn one_part() {
-        A::one();
+    fn bytes_injective() {
+        A::content_injective();
     }
 }

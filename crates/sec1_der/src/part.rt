@@ -59,7 +59,7 @@ pub trait DecodePart<'a>: Part + Sized {
 pub trait UniquePart: Part {
     /// Does nothing: its contract is the law that if two parts, each with what may follow it, have
     /// the same bytes, the parts are the same, and so is what follows them.
-    fn one_part()
+    fn bytes_injective()
         ensures { AreDistinct Self.tags Self.bytes };
 }
 
@@ -97,8 +97,8 @@ impl<'a, P: DecodePart<'a> + Drop, Q: DecodePart<'a>> DecodePart<'a> for (P, Q) 
 }
 
 impl<P: UniquePart, Q: UniquePart> UniquePart for (P, Q) {
-    fn one_part() {
-        P::one_part();
-        Q::one_part();
+    fn bytes_injective() {
+        P::bytes_injective();
+        Q::bytes_injective();
     }
 }

@@ -120,7 +120,7 @@ impl<T: Distinct> UniqueContent for T
 where
     T::Parts: UniquePart,
 {
-    fn one() {
-        T::Parts::one_part();
+    fn content_injective() {
+        T::Parts::bytes_injective();
     }
 }

@@ -56,8 +56,8 @@ impl<'a, A: DecodeValue<'a> + Tagged + Drop> DecodePart<'a> for Required<A> {
 }
 
 impl<A: UniqueContent + Tagged> UniquePart for Required<A> {
-    fn one_part() {
-        A::one();
+    fn bytes_injective() {
+        A::content_injective();
     }
 }
 

@@ -117,7 +117,7 @@ pub trait EncodeValue: ValueContent {
 /// A type for which different values have different contents.
 pub trait UniqueContent: ValueContent {
     /// Does nothing: its contract is the law that two values with the same content are the same.
-    fn one()
+    fn content_injective()
         ensures { (a b : Self) (bytes : List ℕ) → Self.content a ≡ Some bytes
             → Self.content b ≡ Some bytes → a ≡ b };
 }

@@ -53,5 +53,5 @@ impl EncodeValue for VersionOne {
 }
 
 impl UniqueContent for VersionOne {
-    fn one() {}
+    fn content_injective() {}
 }

@@ -154,10 +154,10 @@ impl<'a> DecodePart<'a> for Inner {
 }
 
 impl UniquePart for Inner {
-    fn one_part()
+    fn bytes_injective()
         ensures { AreDistinct (one_tag 0x30) (λ four. element_of 0x30 (inner_content four)) }
     {
-        Required::<Inner>::one_part();
+        Required::<Inner>::bytes_injective();
     }
 }
 
@@ -225,10 +225,10 @@ impl<'a> DecodePart<'a> for Middle {
 }
 
 impl UniquePart for Middle {
-    fn one_part()
+    fn bytes_injective()
         ensures { AreDistinct (one_tag 0x30) (λ four. element_of 0x30 (middle_content four)) }
     {
-        Required::<Middle>::one_part();
+        Required::<Middle>::bytes_injective();
     }
 }
 

@@ -66,7 +66,7 @@ pub fn other_curve()
         → ⟦<EcParameters as ValueContent>⟧.content a ≡ Some content
         → ⟦<EcParameters as ValueContent>⟧.content b ≢ Some content }
 {
-    EcParameters::one();
+    EcParameters::content_injective();
 }
 
 /// Two versions with the same content are the same.
@@ -76,7 +76,7 @@ pub fn one_version()
         → ⟦<VersionOne as ValueContent>⟧.content b ≡ Some content
         → a ≡ b }
 {
-    VersionOne::one();
+    VersionOne::content_injective();
 }
 
 /// Two identifiers with the same content have the same arcs.
@@ -86,7 +86,7 @@ pub fn one_identifier()
         → ⟦<ObjectIdentifier as ValueContent>⟧.content b ≡ Some content
         → a ≡ b }
 {
-    ObjectIdentifier::one();
+    ObjectIdentifier::content_injective();
 }
 
 /// Two keys with the same content have the same parts.
@@ -96,7 +96,7 @@ pub fn one_key()
         → ⟦<EcPrivateKey<'static> as ValueContent>⟧.content b ≡ Some content
         → a ≡ b }
 {
-    EcPrivateKey::one();
+    EcPrivateKey::content_injective();
 }
 
 /// A value either has an encoding or has none.

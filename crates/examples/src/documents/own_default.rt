@@ -50,8 +50,8 @@ impl EncodeValue for Enabled {
 }
 
 impl UniqueContent for Enabled {
-    fn one() {
-        Boolean::one();
+    fn content_injective() {
+        Boolean::content_injective();
     }
 }
 

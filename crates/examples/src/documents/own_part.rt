@@ -38,10 +38,10 @@ impl<'a> DecodePart<'a> for AlgorithmIdentifier {
 }
 
 impl UniquePart for AlgorithmIdentifier {
-    fn one_part()
+    fn bytes_injective()
         ensures { AreDistinct (one_tag 0x30) (λ value.
             element_of 0x30 (⟦<AlgorithmIdentifier as ValueContent>⟧.content value)) }
     {
-        Required::<AlgorithmIdentifier>::one_part();
+        Required::<AlgorithmIdentifier>::bytes_injective();
     }
 }

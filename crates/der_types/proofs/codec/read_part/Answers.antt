@@ -26,7 +26,7 @@ returns g c = record {
   found = search rules;
   only = λ part same.
       let read = c.in_ok-part.ensures.only part _ [] c.requires.0 same tt (rw append-nil c.new-reader.ensures) in
-      ap (λ v. Ok v) (c.one_part.ensures c.in_ok-part.part part _ _ [] [] c.requires.0 read.0 same tt tt refl).0;
+      ap (λ v. Ok v) (c.bytes_injective.ensures c.in_ok-part.part part _ _ [] [] c.requires.0 read.0 same tt tt refl).0;
   kinds = search rules;
   kind = search rules;
 }

@@ -51,7 +51,7 @@ returns-in-Ok-finish g c place is-row = record {
       let inside : c.in-Ok.content.unread ≡ there.inside = cc (opened.0) in
       let found : g.T.Parts.Part.bytes (g.T.Record.parts place) ≡ Some there.inside =
       rw (is-row, c.in-Ok-read_parts.ensures.found) (ap (λ xs. Some xs) inside) in
-      ap (λ v. Ok v) (c.one.ensures place value there.inside found there.same);
+      ap (λ v. Ok v) (c.content_injective.ensures place value there.inside found there.same);
   kinds = search rules;
   kind =
       let passes = opened_passes (g.T.Parts.Part.and_then end_fault) 0x30 c.in-Ok.content _ _ c.in-Ok.ensures.found

@@ -10,4 +10,5 @@ returns-clause-found c =
     let content = c.as_bytes.result.now in
     let own = identifier_content-valid arcs content c.as_bytes.ensures.0 in
     IfSome_then c.from_content.result c.from_content.ensures.found
-    (λ curve same. c.one.ensures (curve_arcs curve) arcs content (content-curve_arcs curve content same) own)
+    (λ curve same. c.content_injective.ensures (curve_arcs curve) arcs content (content-curve_arcs curve content same)
+    own)

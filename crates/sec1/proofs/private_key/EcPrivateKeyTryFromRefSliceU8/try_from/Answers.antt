@@ -52,7 +52,7 @@ returns c =
           let here = element_of-some 0x30 (key_content key) input read.found in
           let there = key_written other input at ∙ ap Some here.at.encoded in
           let same = element_of-inside 0x30 (key_content other) here.inside there in
-          ap Ok (c.one.ensures key other here.inside here.same same);
+          ap Ok (c.content_injective.ensures key other here.inside here.same same);
       one_tree = λ t at.
           (c.trees_unique.ensures t (key_tree key) [] [] at.tree found.tree.tree
           (ap (λ xs. xs ++ []) (sym at.whole ∙ found.tree.whole))).0;

@@ -1,5 +1,0 @@
-use Rattle.der_types.proofs.ChoiceLemmas.{optional_part_distinct}
-use Rattle.der_types.proofs.optional_part.OptionalPartUniquePart.one_part.Goals as goal
-
-pub returns : goal.returns
-returns g c = optional_part_distinct g.P.Part.tags _ g.met.P.Alternative.never_empty g.P.Part.begins c.one_part.ensures
