@@ -5,7 +5,7 @@ use Rattle.std.proofs.Common.{arith, append-nil}
 use Rattle.std.proofs.Math.Seq.{take-append_seam}
 use Rattle.std.proofs.lemmas.Slice.Eq.{bytes_eq-Decides}
 use Rattle.std.specs.Option.{option_map}
-use Rattle.sec1_der.specs.Writers.{Puts, back_state}
+use Rattle.sec1_der.specs.Writers.{HasPrepended, back_state}
 use Rattle.sec1_der.specs.Elements.{element_of}
 use Rattle.sec1_der.specs.declared.back_writer.BackWriter.{BackWriter}
 use Rattle.sec1_der.specs.Parts.{AreDistinct, optional_tag, optional_of}
@@ -75,8 +75,8 @@ defaulted_distinct tag d content one two a b x y r s distinct e f before rest sa
     by false false e f same = cc (same)
 
 -- a writer that wrote nothing
-pub puts_nothing : (writer : BackWriter) → Puts (Some []) writer writer
-puts_nothing writer = record {
+pub nothing_prepended : (writer : BackWriter) → HasPrepended (Some []) writer writer
+nothing_prepended writer = record {
   slice = refl;
   prepends = record {
     written = refl;

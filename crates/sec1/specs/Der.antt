@@ -1,5 +1,5 @@
 -- The definitions of `sec1_der` that contracts use, for a crate that depends on `sec1` alone.
-pub use Rattle.sec1_der.specs.Writers.{back_state, HasRoom, Prepends, Puts}
+pub use Rattle.sec1_der.specs.Writers.{back_state, HasRoom, Prepends, HasPrepended}
 pub use Rattle.sec1_der.specs.Writers.{Measures}
 pub use Rattle.sec1_der.specs.Parts.{join, optional_of}
 pub use Rattle.sec1_der.specs.Contents.{are_bits}

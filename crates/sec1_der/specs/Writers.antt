@@ -63,7 +63,7 @@ abbrev pub HasRoom : Option (List ℕ) → BackWriter → Type 0
 HasRoom bytes writer = IsSomeAnd bytes (λ whole. length whole ≤ length (back_state writer).room)
 
 -- the bytes were prepended
-pub record Puts (bytes : Option (List ℕ)) (old new : BackWriter) : Type 0 where
+pub record HasPrepended (bytes : Option (List ℕ)) (old new : BackWriter) : Type 0 where
   pub slice : (back_state new).slice ≡ (back_state old).slice
   pub prepends : IsSomeAnd bytes (Prepends (back_state old) (back_state new))
 

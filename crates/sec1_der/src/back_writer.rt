@@ -20,7 +20,7 @@ pub struct BackWriter<'b> {
 
 impl<'b> BackWriter<'b> {
     ghost use Rattle.std.specs.Prelude.{◌-◌, [], Some, None, nat_le, if◌then◌else◌};
-    ghost use Rattle.sec1_der.specs.Writers.{back_state, Prepends, Puts};
+    ghost use Rattle.sec1_der.specs.Writers.{back_state, Prepends, HasPrepended};
     ghost use Rattle.sec1_der.specs.Writers.{Writes};
     ghost use Rattle.sec1_der.specs.Elements.{max_length, header};
 
@@ -66,7 +66,7 @@ impl<'b> BackWriter<'b> {
     /// Prepends bytes, for which there is room.
     pub fn prepend(&mut self, bytes: &[u8])
         requires { length bytes.now ≤ length (back_state self.old).room }
-        ensures { Puts (Some bytes.now) self.old self.new }
+        ensures { HasPrepended (Some bytes.now) self.old self.new }
     {
         let start = self.start - bytes.len();
         copy(bytes, &mut self.buffer[start..self.start]);
@@ -97,7 +97,7 @@ impl<'b> BackWriter<'b> {
     pub(crate) fn prepend_header(&mut self, tag: Tag, n: usize)
         requires within { n ≤ max_length }
         requires room { length (header tag n) ≤ length (back_state self.old).room }
-        ensures { Puts (Some (header tag n)) self.old self.new }
+        ensures { HasPrepended (Some (header tag n)) self.old self.new }
     {
         if n < LONG_FORM {
             return self.prepend(&[tag.byte(), n as u8]);
@@ -110,7 +110,7 @@ impl<'b> BackWriter<'b> {
     fn prepend_long_header(&mut self, tag: Tag, n: usize)
         requires within { n ≤ max_length }
         requires room { length (header tag n) ≤ length (back_state self.old).room }
-        ensures { Puts (Some (header tag n)) self.old self.new }
+        ensures { HasPrepended (Some (header tag n)) self.old self.new }
     {
         let length = Length::of_number(n as u32);
         let (octets, count) = Header { tag, length }.octets();

@@ -1,6 +1,6 @@
 //! The parts of a SEQUENCE (X.690 section 8.9), and two parts in a row.
 ghost use Rattle.std.specs.Prelude.{◌≡◌, ◌≤◌, ℕ, List, length, Option, Some, false};
-ghost use Rattle.sec1_der.specs.Writers.{HasRoom, Puts};
+ghost use Rattle.sec1_der.specs.Writers.{HasRoom, HasPrepended};
 ghost use Rattle.sec1_der.specs.Elements.{max_length, within_limit};
 ghost use Rattle.sec1_der.specs.Writers.{Measures};
 ghost use Rattle.sec1_der.specs.Parts.{Tags, Begins, ReadsPart, AreDistinct, join, both_tags};
@@ -38,7 +38,7 @@ pub trait EncodePart: Part {
     /// Prepends the part, for which there is room, to what was written.
     fn prepend_part(&self, writer: &mut BackWriter)
         requires { HasRoom (Self.bytes self.now) writer.old }
-        ensures { Puts (Self.bytes self.now) writer.old writer.new };
+        ensures { HasPrepended (Self.bytes self.now) writer.old writer.new };
 }
 
 /// A part that is read.

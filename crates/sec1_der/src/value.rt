@@ -1,7 +1,7 @@
 //! The traits of DER values: with them the generic calls read and write a type.
 ghost use Rattle.std.specs.Prelude.{◌≡◌, ◌≤◌, ℕ, List, length, Option, Some, None, IsSomeAnd};
 ghost use Rattle.std.specs.Prelude.{MatchResult, IsTrue};
-ghost use Rattle.sec1_der.specs.Writers.{back_state, HasRoom, Prepends, Puts};
+ghost use Rattle.sec1_der.specs.Writers.{back_state, HasRoom, Prepends, HasPrepended};
 ghost use Rattle.sec1_der.specs.Elements.{max_length, within_limit, is_tag};
 ghost use Rattle.sec1_der.specs.Writers.{Measures};
 ghost use Rattle.sec1_der.specs.Readers.{ReadsContent};
@@ -107,7 +107,7 @@ pub trait EncodeValue: ValueContent {
     /// nested.
     fn prepend_value(&self, writer: &mut BackWriter)
         requires { HasRoom (within_limit (Self.content self.now)) writer.old }
-        ensures { Puts (Self.content self.now) writer.old writer.new }
+        ensures { HasPrepended (Self.content self.now) writer.old writer.new }
     {
         // It doesn't fail.
         let _ = self.encode_back(writer);

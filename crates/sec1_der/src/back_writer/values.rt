@@ -4,7 +4,7 @@ use crate::length::check_room;
 use crate::{EncodeValue, ErrorKind, Result, Tagged, encoded_len};
 
 impl<'b> BackWriter<'b> {
-    ghost use Rattle.sec1_der.specs.Writers.{back_state, HasRoom, Prepends, Puts};
+    ghost use Rattle.sec1_der.specs.Writers.{back_state, HasRoom, Prepends, HasPrepended};
     ghost use Rattle.sec1_der.specs.Writers.{Writes};
     ghost use Rattle.sec1_der.specs.Elements.{element_of};
 
@@ -25,7 +25,7 @@ impl<'b> BackWriter<'b> {
     /// Prepends the element of a value, for which there is room.
     pub fn prepend_element<T: EncodeValue + Tagged>(&mut self, value: &T)
         requires { HasRoom (element_of T.tag_byte (T.content value.now)) self.old }
-        ensures { Puts (element_of T.tag_byte (T.content value.now)) self.old self.new }
+        ensures { HasPrepended (element_of T.tag_byte (T.content value.now)) self.old self.new }
     {
         let end = self.remaining();
         value.prepend_value(self);
