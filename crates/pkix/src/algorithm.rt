@@ -28,7 +28,7 @@ impl<'a> Record for AlgorithmIdentifier<'a> {
 
     ghost parts = { λ value. (value.algorithm, value.parameters) };
 
-    ghost of_parts = { λ row. record { algorithm = row.0; parameters = row.1 } };
+    ghost of_parts = { λ pairs. record { algorithm = pairs.0; parameters = pairs.1 } };
 
     fn from_parts((algorithm, parameters): Self::Parts) -> Self {
         AlgorithmIdentifier {

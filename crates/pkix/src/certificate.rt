@@ -71,21 +71,21 @@ impl<'a> Record for TbsCertificate<'a> {
       ),
     ) };
 
-    ghost of_parts = { λ row. record {
-      version = row.0.0;
-      serial_number = row.0.1.0;
-      signature = row.0.1.1;
-      issuer = row.1.0.0;
-      validity = row.1.0.1.0;
-      subject = row.1.0.1.1;
-      public_key = row.1.1.0;
-      issuer_unique_id = row.1.1.1.0.0;
-      subject_unique_id = row.1.1.1.0.1;
-      extensions = row.1.1.1.1;
+    ghost of_parts = { λ pairs. record {
+      version = pairs.0.0;
+      serial_number = pairs.0.1.0;
+      signature = pairs.0.1.1;
+      issuer = pairs.1.0.0;
+      validity = pairs.1.0.1.0;
+      subject = pairs.1.0.1.1;
+      public_key = pairs.1.1.0;
+      issuer_unique_id = pairs.1.1.1.0.0;
+      subject_unique_id = pairs.1.1.1.0.1;
+      extensions = pairs.1.1.1.1;
     } };
 
-    fn from_parts(row: Self::Parts) -> Self {
-        let ((version, (serial_number, signature)), (names, rest)) = row;
+    fn from_parts(pairs: Self::Parts) -> Self {
+        let ((version, (serial_number, signature)), (names, rest)) = pairs;
         let (issuer, (validity, subject)) = names;
         let (public_key, ((issuer_unique_id, subject_unique_id), extensions)) = rest;
         TbsCertificate {
@@ -214,10 +214,10 @@ impl<'a> Record for Certificate<'a> {
     ghost parts = { λ value.
         (value.tbs_certificate, (value.signature_algorithm, value.signature)) };
 
-    ghost of_parts = { λ row. record {
-      tbs_certificate = row.0;
-      signature_algorithm = row.1.0;
-      signature = row.1.1;
+    ghost of_parts = { λ pairs. record {
+      tbs_certificate = pairs.0;
+      signature_algorithm = pairs.1.0;
+      signature = pairs.1.1;
     } };
 
     fn from_parts((tbs_certificate, (signature_algorithm, signature)): Self::Parts) -> Self {

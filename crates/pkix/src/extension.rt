@@ -26,7 +26,8 @@ impl<'a> Record for Extension<'a> {
 
     ghost parts = { λ value. (value.identifier, (value.critical, value.value)) };
 
-    ghost of_parts = { λ row. record { identifier = row.0; critical = row.1.0; value = row.1.1 } };
+    ghost of_parts = { λ pairs.
+        record { identifier = pairs.0; critical = pairs.1.0; value = pairs.1.1 } };
 
     fn from_parts((identifier, (critical, value)): Self::Parts) -> Self {
         Extension {

@@ -20,7 +20,7 @@ impl<'a> Record for AttributeTypeAndValue<'a> {
 
     ghost parts = { λ value. (value.kind, value.value) };
 
-    ghost of_parts = { λ row. record { kind = row.0; value = row.1 } };
+    ghost of_parts = { λ pairs. record { kind = pairs.0; value = pairs.1 } };
 
     fn from_parts((kind, value): Self::Parts) -> Self {
         AttributeTypeAndValue {

@@ -48,7 +48,7 @@ impl<'a> Record for Attribute<'a> {
 
     ghost parts = { λ value. (value.kind, value.values) };
 
-    ghost of_parts = { λ row. record { kind = row.0; values = row.1 } };
+    ghost of_parts = { λ pairs. record { kind = pairs.0; values = pairs.1 } };
 
     fn from_parts((kind, values): Self::Parts) -> Self {
         Attribute {
@@ -97,10 +97,10 @@ impl<'a> Record for PrivateKeyInfo<'a> {
     ghost parts = { λ value.
         (record {}, (value.algorithm, (value.private_key, value.attributes))) };
 
-    ghost of_parts = { λ row. record {
-      algorithm = row.1.0;
-      private_key = row.1.1.0;
-      attributes = row.1.1.1;
+    ghost of_parts = { λ pairs. record {
+      algorithm = pairs.1.0;
+      private_key = pairs.1.1.0;
+      attributes = pairs.1.1.1;
     } };
 
     fn from_parts((_, (algorithm, (private_key, attributes))): Self::Parts) -> Self {
@@ -161,15 +161,15 @@ impl<'a> Record for OneAsymmetricKey<'a> {
     ghost parts = { λ value.
         (record {}, ((value.algorithm, value.private_key), (value.attributes, value.public_key))) };
 
-    ghost of_parts = { λ row. record {
-      algorithm = row.1.0.0;
-      private_key = row.1.0.1;
-      attributes = row.1.1.0;
-      public_key = row.1.1.1;
+    ghost of_parts = { λ pairs. record {
+      algorithm = pairs.1.0.0;
+      private_key = pairs.1.0.1;
+      attributes = pairs.1.1.0;
+      public_key = pairs.1.1.1;
     } };
 
-    fn from_parts(row: Self::Parts) -> Self {
-        let (_, ((algorithm, private_key), (attributes, public_key))) = row;
+    fn from_parts(pairs: Self::Parts) -> Self {
+        let (_, ((algorithm, private_key), (attributes, public_key))) = pairs;
         OneAsymmetricKey {
             algorithm,
             private_key: private_key.0,

@@ -29,7 +29,7 @@ impl<'a> Record for SubjectPublicKeyInfo<'a> {
 
     ghost parts = { λ value. (value.algorithm, value.public_key) };
 
-    ghost of_parts = { λ row. record { algorithm = row.0; public_key = row.1 } };
+    ghost of_parts = { λ pairs. record { algorithm = pairs.0; public_key = pairs.1 } };
 
     fn from_parts((algorithm, public_key): Self::Parts) -> Self {
         SubjectPublicKeyInfo {

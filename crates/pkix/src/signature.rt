@@ -20,7 +20,7 @@ impl<'a> Record for EcdsaSigValue<'a> {
 
     ghost parts = { λ value. (value.r, value.s) };
 
-    ghost of_parts = { λ row. record { r = row.0; s = row.1 } };
+    ghost of_parts = { λ pairs. record { r = pairs.0; s = pairs.1 } };
 
     fn from_parts((r, s): Self::Parts) -> Self {
         EcdsaSigValue { r: r.0, s: s.0 }

@@ -30,7 +30,7 @@ impl<'a> Record for Validity<'a> {
 
     ghost parts = { λ value. (value.not_before, value.not_after) };
 
-    ghost of_parts = { λ row. record { not_before = row.0; not_after = row.1 } };
+    ghost of_parts = { λ pairs. record { not_before = pairs.0; not_after = pairs.1 } };
 
     fn from_parts((not_before, not_after): Self::Parts) -> Self {
         Validity {

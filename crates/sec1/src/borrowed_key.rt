@@ -48,14 +48,14 @@ impl<'a> Record for BorrowedKey<'a> {
 
     ghost parts = { λ key. (record {}, (key.private_key, (key.parameters, key.public_key))) };
 
-    ghost of_parts = { λ row. record {
-      private_key = row.1.0;
-      parameters = row.1.1.0;
-      public_key = row.1.1.1;
+    ghost of_parts = { λ pairs. record {
+      private_key = pairs.1.0;
+      parameters = pairs.1.1.0;
+      public_key = pairs.1.1.1;
     } };
 
-    fn from_parts(row: Self::Parts) -> Self {
-        let (_, (private_key, (curve, public_key))) = row;
+    fn from_parts(pairs: Self::Parts) -> Self {
+        let (_, (private_key, (curve, public_key))) = pairs;
         BorrowedKey {
             private_key: private_key.0.bytes,
             curve: match curve.0 {

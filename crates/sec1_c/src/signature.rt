@@ -105,7 +105,7 @@ impl<'a> Record for GivenSignature<'a> {
 
     ghost parts = { λ signature. (signature.r, signature.s) };
 
-    ghost of_parts = { λ row. record { r = row.0; s = row.1 } };
+    ghost of_parts = { λ pairs. record { r = pairs.0; s = pairs.1 } };
 
     fn from_parts((r, s): Self::Parts) -> Self {
         GivenSignature { r: r.0, s: s.0 }

@@ -25,8 +25,8 @@ pub trait Record: Sized {
     ghost of_parts: { Self.Parts → Self };
 
     /// Returns the record with these parts.
-    fn from_parts(row: Self::Parts) -> Self
-        ensures { parts result ≡ row };
+    fn from_parts(pairs: Self::Parts) -> Self
+        ensures { parts result ≡ pairs };
 
     /// Returns the parts of the record.
     fn to_parts(&self) -> Self::Parts

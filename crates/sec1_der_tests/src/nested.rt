@@ -36,11 +36,11 @@ impl Record for Wide {
 
     ghost parts = { λ wide. ((wide.first, wide.second), (wide.third, wide.fourth)) };
 
-    ghost of_parts = { λ row.
-        record { first = row.0.0; second = row.0.1; third = row.1.0; fourth = row.1.1 } };
+    ghost of_parts = { λ pairs.
+        record { first = pairs.0.0; second = pairs.0.1; third = pairs.1.0; fourth = pairs.1.1 } };
 
-    fn from_parts(row: Self::Parts) -> Self {
-        let ((first, second), (third, fourth)) = row;
+    fn from_parts(pairs: Self::Parts) -> Self {
+        let ((first, second), (third, fourth)) = pairs;
         Wide {
             first,
             second,
@@ -101,10 +101,10 @@ impl Record for Inner {
 
     ghost parts = { λ four. four };
 
-    ghost of_parts = { λ row. row };
+    ghost of_parts = { λ pairs. pairs };
 
-    fn from_parts(row: Self::Parts) -> Self {
-        let ((Required(first), Required(second)), (Required(third), Required(fourth))) = row;
+    fn from_parts(pairs: Self::Parts) -> Self {
+        let ((Required(first), Required(second)), (Required(third), Required(fourth))) = pairs;
         Inner {
             first,
             second,
@@ -172,10 +172,10 @@ impl Record for Middle {
 
     ghost parts = { λ four. four };
 
-    ghost of_parts = { λ row. row };
+    ghost of_parts = { λ pairs. pairs };
 
-    fn from_parts(row: Self::Parts) -> Self {
-        let ((first, second), (third, fourth)) = row;
+    fn from_parts(pairs: Self::Parts) -> Self {
+        let ((first, second), (third, fourth)) = pairs;
         Middle {
             first,
             second,
@@ -243,10 +243,10 @@ impl Record for Outer {
 
     ghost parts = { λ four. four };
 
-    ghost of_parts = { λ row. row };
+    ghost of_parts = { λ pairs. pairs };
 
-    fn from_parts(row: Self::Parts) -> Self {
-        let ((first, second), (third, fourth)) = row;
+    fn from_parts(pairs: Self::Parts) -> Self {
+        let ((first, second), (third, fourth)) = pairs;
         Outer {
             first,
             second,

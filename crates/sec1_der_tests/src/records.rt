@@ -42,10 +42,11 @@ impl Record for Inner {
 
     ghost parts = { λ inner. ((record {}, inner.identifier), (inner.version, inner.other)) };
 
-    ghost of_parts = { λ row. record { identifier = row.0.1; version = row.1.0; other = row.1.1 } };
+    ghost of_parts = { λ pairs.
+        record { identifier = pairs.0.1; version = pairs.1.0; other = pairs.1.1 } };
 
-    fn from_parts(row: Self::Parts) -> Self {
-        let ((_, Required(identifier)), (Optional(version), Optional(other))) = row;
+    fn from_parts(pairs: Self::Parts) -> Self {
+        let ((_, Required(identifier)), (Optional(version), Optional(other))) = pairs;
         Inner {
             identifier,
             version,
@@ -79,10 +80,10 @@ impl Record for Pair {
 
     ghost parts = { λ pair. (pair.first, pair.second) };
 
-    ghost of_parts = { λ row. record { first = row.0; second = row.1 } };
+    ghost of_parts = { λ pairs. record { first = pairs.0; second = pairs.1 } };
 
-    fn from_parts(row: Self::Parts) -> Self {
-        let (Required(first), Optional(second)) = row;
+    fn from_parts(pairs: Self::Parts) -> Self {
+        let (Required(first), Optional(second)) = pairs;
         Pair { first, second }
     }
 
@@ -203,10 +204,10 @@ impl<'a> Record for Borrowed<'a> {
 
     ghost parts = { λ borrowed. borrowed };
 
-    ghost of_parts = { λ row. row };
+    ghost of_parts = { λ pairs. pairs };
 
-    fn from_parts(row: Self::Parts) -> Self {
-        let (Required(octets), (Optional(bits), (Optional(public_key), Optional(field)))) = row;
+    fn from_parts(pairs: Self::Parts) -> Self {
+        let (Required(octets), (Optional(bits), (Optional(public_key), Optional(field)))) = pairs;
         Borrowed {
             octets: octets.bytes,
             bits: match bits {

@@ -102,7 +102,7 @@ impl<'a> Record for Labelled<'a> {
 
     ghost parts = { λ value. (value.label, value.version) };
 
-    ghost of_parts = { λ row. record { label = row.0; version = row.1 } };
+    ghost of_parts = { λ pairs. record { label = pairs.0; version = pairs.1 } };
 
     fn from_parts((label, version): Self::Parts) -> Self {
         Labelled {

@@ -28,7 +28,7 @@ impl<'a> Record for DigestInfo<'a> {
 
     ghost parts = { λ info. (info.algorithm, info.bytes) };
 
-    ghost of_parts = { λ row. record { algorithm = row.0; bytes = row.1 } };
+    ghost of_parts = { λ pairs. record { algorithm = pairs.0; bytes = pairs.1 } };
 
     fn from_parts((algorithm, octets): Self::Parts) -> Self {
         DigestInfo {

@@ -17,10 +17,10 @@ impl Record for AlgorithmIdentifier {
 
     ghost parts = { λ value. (value.algorithm, value.parameters) };
 
-    ghost of_parts = { λ row. record { algorithm = row.0; parameters = row.1 } };
+    ghost of_parts = { λ pairs. record { algorithm = pairs.0; parameters = pairs.1 } };
 
-    fn from_parts(row: Self::Parts) -> Self {
-        let (Required(algorithm), Required(parameters)) = row;
+    fn from_parts(pairs: Self::Parts) -> Self {
+        let (Required(algorithm), Required(parameters)) = pairs;
         AlgorithmIdentifier {
             algorithm,
             parameters,

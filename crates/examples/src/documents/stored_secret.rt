@@ -25,7 +25,7 @@ impl<'a> Record for StoredSecret<'a> {
 
     ghost parts = { λ value. (record {}, (value.secret, value.purpose)) };
 
-    ghost of_parts = { λ row. record { secret = row.1.0; purpose = row.1.1 } };
+    ghost of_parts = { λ pairs. record { secret = pairs.1.0; purpose = pairs.1.1 } };
 
     fn from_parts((_, (secret, purpose)): Self::Parts) -> Self {
         StoredSecret {

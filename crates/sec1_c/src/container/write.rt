@@ -108,7 +108,7 @@ impl<'a> Record for KeyContainer<'a> {
 
     ghost parts = { λ container. (record {}, (container.algorithm, container.key)) };
 
-    ghost of_parts = { λ row. record { algorithm = row.1.0; key = row.1.1 } };
+    ghost of_parts = { λ pairs. record { algorithm = pairs.1.0; key = pairs.1.1 } };
 
     fn from_parts((_, (algorithm, key)): Self::Parts) -> Self {
         KeyContainer {

@@ -5,11 +5,11 @@ use Rattle.pkix.proofs.private_key.OneAsymmetricKey.from_der.Goals as goal
 -- the error is that of a place with what was read
 pub returns-in_err-read_whole : goal.returns-in_err-read_whole
 returns-in_err-read_whole c =
-    let row = c.read_whole.new.parts in
+    let pairs = c.read_whole.new.parts in
     let place : OneAsymmetricKey = record {
-      algorithm = row.1.0.0;
-      private_key = row.1.0.1;
-      attributes = row.1.1.0;
-      public_key = row.1.1.1;
+      algorithm = pairs.1.0.0;
+      private_key = pairs.1.0.1;
+      attributes = pairs.1.1.0;
+      public_key = pairs.1.1.1;
     } in
     let refused = c.read_whole.ensures place refl in search rules

@@ -5,10 +5,10 @@ use Rattle.pkix.proofs.private_key.PrivateKeyInfo.from_der.Goals as goal
 -- the error is that of a place with what was read
 pub returns-in_err-read_whole : goal.returns-in_err-read_whole
 returns-in_err-read_whole c =
-    let row = c.read_whole.new.parts in
+    let pairs = c.read_whole.new.parts in
     let place : PrivateKeyInfo = record {
-      algorithm = row.1.0;
-      private_key = row.1.1.0;
-      attributes = row.1.1.1;
+      algorithm = pairs.1.0;
+      private_key = pairs.1.1.0;
+      attributes = pairs.1.1.1;
     } in
     let refused = c.read_whole.ensures place refl in search rules

@@ -5,9 +5,9 @@ use Rattle.pkix.proofs.public_key.SubjectPublicKeyInfo.from_der.Goals as goal
 -- the error is that of a place with what was read
 pub returns-in_err-read_whole : goal.returns-in_err-read_whole
 returns-in_err-read_whole c =
-    let row = c.read_whole.new.parts in
+    let pairs = c.read_whole.new.parts in
     let place : SubjectPublicKeyInfo = record {
-      algorithm = row.0;
-      public_key = row.1;
+      algorithm = pairs.0;
+      public_key = pairs.1;
     } in
     let refused = c.read_whole.ensures place refl in search rules
