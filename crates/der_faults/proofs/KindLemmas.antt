@@ -15,7 +15,7 @@ use Rattle.sec1.specs.KeyFaults.{key_fault}
 use Rattle.der_faults.specs.declared.Fault.{Fault}
 use Rattle.der_faults.specs.Places.{Place, before, placed, at_first, end_place, parts_place, element_place}
 use Rattle.der_faults.specs.Places.{optional_place}
-use Rattle.der_faults.specs.Places.{any_place, nested_place, row_place, tree_place, whole_bits_field_place}
+use Rattle.der_faults.specs.Places.{any_place, nested_place, forest_place, tree_place, whole_bits_field_place}
 use Rattle.der_faults.specs.Places.{components_place, key_place}
 
 -- the kind of a fault, if there is one
@@ -92,29 +92,30 @@ nested_kind p f x tag end bytes = by (not (bit_and tag 0x20 == 0))
     by true = x end bytes
     by false = refl
 
-row_kind : (most level : ℕ) → Places (row_place most level) (r.row_fault most level)
-row_kind zero level end bytes = refl
-row_kind (suc most) level end [] = refl
-row_kind (suc most) level end (byte ∷ bytes) =
+forest_kind : (most level : ℕ) → Places (forest_place most level) (r.forest_fault most level)
+forest_kind zero level end bytes = refl
+forest_kind (suc most) level end [] = refl
+forest_kind (suc most) level end (byte ∷ bytes) =
     by (nat_lt max_tree_depth level)
-    (any_kind _ _ _ _ (nested_kind _ _ (row_kind most (level + 1))) (row_kind most level) end (byte ∷ bytes))
+    (any_kind _ _ _ _ (nested_kind _ _ (forest_kind most (level + 1))) (forest_kind most level) end (byte ∷ bytes))
   where
     by : (b : Bool)
-        → kind_of (any_place (nested_place (row_place most (level + 1))) (row_place most level) end (byte ∷ bytes))
-        ≡ r.any_fault (nested_fault (r.row_fault most (level + 1))) (r.row_fault most level) (byte ∷ bytes)
+        → kind_of (any_place (nested_place (forest_place most (level + 1))) (forest_place most level) end
+        (byte ∷ bytes))
+        ≡ r.any_fault (nested_fault (r.forest_fault most (level + 1))) (r.forest_fault most level) (byte ∷ bytes)
         → kind_of (if b then Some (before end (byte ∷ bytes) ErrorKind.Depth)
-        else any_place (nested_place (row_place most (level + 1))) (row_place most level) end (byte ∷ bytes))
+        else any_place (nested_place (forest_place most (level + 1))) (forest_place most level) end (byte ∷ bytes))
         ≡ (if b then Some (Some ErrorKind.Depth)
-        else r.any_fault (nested_fault (r.row_fault most (level + 1))) (r.row_fault most level) (byte ∷ bytes))
+        else r.any_fault (nested_fault (r.forest_fault most (level + 1))) (r.forest_fault most level) (byte ∷ bytes))
     by true inside = refl
     by false inside = inside
 
 -- the kind at a tree's place is that of its refusal
 pub tree_kind : (bytes : List ℕ) → option_map (λ (f : Fault). Some f.kind) (tree_place bytes) ≡ r.tree_fault bytes
 tree_kind bytes =
-    any_kind (nested_place (row_place (length bytes) 2)) end_place (nested_fault (r.row_fault (length bytes) 2))
+    any_kind (nested_place (forest_place (length bytes) 2)) end_place (nested_fault (r.forest_fault (length bytes) 2))
     r.end_fault
-    (nested_kind _ _ (row_kind (length bytes) 2))
+    (nested_kind _ _ (forest_kind (length bytes) 2))
     (first_kind r.end_fault end_says)
     (length bytes)
     bytes

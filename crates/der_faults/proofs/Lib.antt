@@ -1,6 +1,6 @@
 pub mod PlaceLemmas
 pub mod KindLemmas
-pub mod RowLemmas
+pub mod ForestLemmas
 pub mod WithinLemmas
 pub mod SignatureLemmas
 pub mod PublicKeyLemmas

@@ -11,7 +11,7 @@ use Rattle.sec1_der.specs.declared.error.ErrorKind.{ErrorKind}
 use Rattle.der_faults.specs.declared.Fault.{Fault}
 use Rattle.der_faults.specs.Places.{Place, before, placed, at_first, end_place, parts_place, element_place}
 use Rattle.der_faults.specs.Places.{optional_place}
-use Rattle.der_faults.specs.Places.{any_place, nested_place, row_place, tree_place, whole_bits_field_place}
+use Rattle.der_faults.specs.Places.{any_place, nested_place, forest_place, tree_place, whole_bits_field_place}
 use Rattle.der_faults.specs.Places.{components_place, key_place}
 use Rattle.der_faults.proofs.KindLemmas.{bits_place, curve_place}
 
@@ -77,23 +77,23 @@ any_within p q x y end (tag ∷ bytes) =
 nested_within : (p : Place) → Bounded p → (tag : ℕ) → Bounded (nested_place p tag)
 nested_within p x tag end bytes = either end (p end bytes) None (not (bit_and tag 0x20 == 0)) (x end bytes) tt
 
-row_within : (most level : ℕ) → Bounded (row_place most level)
-row_within zero level end bytes = tt
-row_within (suc most) level end [] = tt
-row_within (suc most) level end (byte ∷ bytes) =
+forest_within : (most level : ℕ) → Bounded (forest_place most level)
+forest_within zero level end bytes = tt
+forest_within (suc most) level end [] = tt
+forest_within (suc most) level end (byte ∷ bytes) =
     either end (Some (before end (byte ∷ bytes) ErrorKind.Depth))
-    (any_place (nested_place (row_place most (level + 1))) (row_place most level) end (byte ∷ bytes))
+    (any_place (nested_place (forest_place most (level + 1))) (forest_place most level) end (byte ∷ bytes))
     (nat_lt max_tree_depth level)
     (omega arith)
-    (any_within (nested_place (row_place most (level + 1))) (row_place most level)
-    (nested_within (row_place most (level + 1)) (row_within most (level + 1))) (row_within most level) end
+    (any_within (nested_place (forest_place most (level + 1))) (forest_place most level)
+    (nested_within (forest_place most (level + 1)) (forest_within most (level + 1))) (forest_within most level) end
     (byte ∷ bytes))
 
 -- the place of a tree is within its bytes
 pub tree_within : (bytes : List ℕ) (o : Option Fault) → o ≡ tree_place bytes → IfSome o (λ f. f.offset ≤ length bytes)
 tree_within bytes o is = rw is
-    (any_within (nested_place (row_place (length bytes) 2)) end_place
-    (nested_within (row_place (length bytes) 2) (row_within (length bytes) 2)) (first_within r.end_fault)
+    (any_within (nested_place (forest_place (length bytes) 2)) end_place
+    (nested_within (forest_place (length bytes) 2) (forest_within (length bytes) 2)) (first_within r.end_fault)
     (length bytes) bytes)
 
 whole_within : Bounded whole_bits_field_place

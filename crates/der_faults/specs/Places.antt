@@ -72,19 +72,19 @@ abbrev pub nested_place : Place → ℕ → Place
 nested_place row tag content-end content =
     if not (bit_and tag 0x20 == 0) then row content-end content else None
 
--- elements in a row at this level, as in row_fault
-abbrev pub row_place : ℕ → ℕ → Place
-row_place zero level end bytes = None
-row_place (suc most) level end [] = None
-row_place (suc most) level end (byte ∷ bytes) =
+-- elements in a row at this level, as in forest_fault
+abbrev pub forest_place : ℕ → ℕ → Place
+forest_place zero level end bytes = None
+forest_place (suc most) level end [] = None
+forest_place (suc most) level end (byte ∷ bytes) =
     if nat_lt max_tree_depth level then Some (before end (byte ∷ bytes) Depth)
-    else any_place (nested_place (row_place most (level + 1))) (row_place most level) end
+    else any_place (nested_place (forest_place most (level + 1))) (forest_place most level) end
     (byte ∷ bytes)
 
 -- one tree that isn't too deep
 abbrev pub tree_place : List ℕ → Option Fault
 tree_place bytes =
-    any_place (nested_place (row_place (length bytes) 2)) end_place (length bytes) bytes
+    any_place (nested_place (forest_place (length bytes) 2)) end_place (length bytes) bytes
 
 -- X.690 section 8.14: in the explicit field around a bit string without unused bits
 abbrev pub whole_bits_field_place : Place

@@ -2,7 +2,7 @@
 ghost use Rattle.std.specs.Prelude.{◌≡◌, ◌≤◌, length, Some, None, IfSome, MatchResult};
 ghost use Rattle.std.specs.Prelude.{◌==◌, bit_and, not, option_map};
 ghost use Rattle.sec1_der.specs.Faults as faults;
-ghost use Rattle.der_faults.specs.Places.{row_place, tree_place};
+ghost use Rattle.der_faults.specs.Places.{forest_place, tree_place};
 
 use crate::Fault;
 use crate::element::{Step, any_element, before, finish};
@@ -29,18 +29,18 @@ fn check_tree(bytes: &[u8]) -> Step<()>
     let end = bytes.len();
     let found = any_element(end, bytes)?;
     if is_constructed(found.tag) {
-        check_row(bytes.len(), 2, end - found.rest.len(), found.content)?;
+        check_forest(bytes.len(), 2, end - found.rest.len(), found.content)?;
     }
     finish(end, found.rest)
 }
 
 /// Checks elements in a row at this level, at most as many.
-#[tactic(auto, using(crate::proofs::RowLemmas::row_deep))]
-fn check_row(most: usize, level: usize, end: usize, bytes: &[u8]) -> Step<()>
+#[tactic(auto, using(crate::proofs::ForestLemmas::forest_deep))]
+fn check_forest(most: usize, level: usize, end: usize, bytes: &[u8]) -> Step<()>
     requires within { length bytes.now ≤ end }
     requires level { level ≤ 65 }
-    ensures { MatchResult result (λ _. row_place most level end bytes.now ≡ None)
-        (λ fault. row_place most level end bytes.now ≡ Some fault) }
+    ensures { MatchResult result (λ _. forest_place most level end bytes.now ≡ None)
+        (λ fault. forest_place most level end bytes.now ≡ Some fault) }
 {
     let mut most = most;
     let mut rest = bytes;
@@ -51,7 +51,7 @@ fn check_row(most: usize, level: usize, end: usize, bytes: &[u8]) -> Step<()>
         }
         let found = any_element(end, rest)?;
         if is_constructed(found.tag) {
-            check_row(most, level + 1, end - found.rest.len(), found.content)?;
+            check_forest(most, level + 1, end - found.rest.len(), found.content)?;
         }
         rest = found.rest;
     }

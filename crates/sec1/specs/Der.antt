@@ -23,7 +23,7 @@ pub use Rattle.sec1_der.specs.Streams.{RefusesElement}
 pub use Rattle.sec1_der.specs.Streams.{TakenBeforeRefusal}
 pub use Rattle.sec1_der.specs.Writers.{slice_state, Appends}
 pub use Rattle.sec1_der.specs.Streams.{AppendsPrefix, Ends, Takes}
-pub use Rattle.sec1_der.specs.Trees.{Tree, Forest, leaf, branch, row, bytes, IsTree, IsTreeOf}
+pub use Rattle.sec1_der.specs.Trees.{Tree, Forest, leaf, branch, forest, bytes, IsTree, IsTreeOf}
 pub use Rattle.sec1_der.specs.Trees.{depth, size, max_tree_depth}
 pub use Rattle.sec1_der.specs.Values.{octets_of, unused_bits_of, bit_bytes_of, tag_of, value_of}
 pub use Rattle.sec1_der.specs.Writers.{Writer, Writes}

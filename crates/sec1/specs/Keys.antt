@@ -2,7 +2,7 @@
 use Rattle.std.specs.Prelude.{ℕ, ◌+◌, List, [], ◌∷◌, ◌++◌, Option, Some, None, IfSome}
 use Rattle.std.specs.Option.{option_map}
 use Rattle.sec1_der.specs.Identifiers.{IsIdentifier, content_of}
-use Rattle.sec1_der.specs.Trees.{Tree, leaf, branch, row, IsTreeOf}
+use Rattle.sec1_der.specs.Trees.{Tree, leaf, branch, forest, IsTreeOf}
 
 -- The parts of a key: the bytes of the private key and, if present, the arcs of the curve's
 -- identifier and the bytes of the public key.
@@ -14,13 +14,13 @@ pub record Key : Type 0 where
 -- X.690 section 8.14: the explicit field [number] around a tree, if present
 abbrev pub field : ℕ → Option Tree → List Tree
 field number None = []
-field number (Some inside) = branch (0xA0 + number) (row (inside ∷ [])) ∷ []
+field number (Some inside) = branch (0xA0 + number) (forest (inside ∷ [])) ∷ []
 
 -- the tree of a key: version 1, the private key, the curve's identifier as the parameters, and the
 -- public key as a bit string without unused bits
 abbrev pub key_tree : Key → Tree
 key_tree key =
-    branch 0x30 (row (leaf 0x02 (1 ∷ []) ∷ leaf 0x04 key.private_key
+    branch 0x30 (forest (leaf 0x02 (1 ∷ []) ∷ leaf 0x04 key.private_key
     ∷ field 0 (option_map (λ arcs. leaf 0x06 (content_of arcs)) key.parameters)
     ++ field 1 (option_map (λ bytes. leaf 0x03 (0 ∷ bytes)) key.public_key)))
 

@@ -5,7 +5,7 @@ use Rattle.std.proofs.lemmas.List.{append-nil, take_at, drop_at}
 use Rattle.std.specs.Option.{option_map}
 use Rattle.sec1_der.specs.Elements.{element, header}
 use Rattle.sec1_der.specs.Identifiers.{content_of}
-use Rattle.sec1_der.specs.Trees.{leaf, branch, row, joined}
+use Rattle.sec1_der.specs.Trees.{leaf, branch, forest, joined}
 use Rattle.sec1.specs.Keys.{Key, IsKeyOf}
 use Rattle.sec1_c.specs.Places.{StandsAt, IsPart, span_before}
 use Rattle.sec1_c.specs.KeyPlaces.{ArePartsOf, AreWithin, content_len, key_places, parameters_bytes, public_key_bytes}
@@ -19,7 +19,7 @@ stands_before input front part rest end split ends = grind (arith, take_at, drop
 
 -- the content of a field ends before the end of the field
 field_stands : (outer inner : ℕ) (unused input front part rest : List ℕ) (end : ℕ)
-    → input ≡ front ++ (joined (row (branch outer (row (leaf inner (unused ++ part) ∷ [])) ∷ [])) ++ rest)
+    → input ≡ front ++ (joined (forest (branch outer (forest (leaf inner (unused ++ part) ∷ [])) ∷ [])) ++ rest)
     → end + length rest ≡ length input
     → StandsAt input (span_before end (Some (length part))) part
 field_stands outer inner unused input front part rest end split ends =

@@ -2,7 +2,7 @@
 use Rattle.std.specs.Prelude.{ℕ, ◌-◌, List, ◌∷◌, length, Option, Some}
 use Rattle.std.specs.Option.{option_map}
 use Rattle.sec1_der.specs.Identifiers.{content_of}
-use Rattle.sec1_der.specs.Trees.{leaf, row, joined}
+use Rattle.sec1_der.specs.Trees.{leaf, forest, joined}
 use Rattle.sec1.specs.Keys.{Key, IsKeyOf, field}
 use Rattle.sec1_c.specs.GivenKeys.{IsGiven}
 use Rattle.sec1_c.specs.Places.{IsPart, IsWithin, StandsAt, bytes_at, span_before}
@@ -37,11 +37,11 @@ content_len arcs = length (content_of arcs)
 -- the bytes of the field [0], and those of the field [1]
 abbrev pub parameters_bytes : Option (List ℕ) → List ℕ
 parameters_bytes parameters =
-    joined (row (field 0 (option_map (λ arcs. leaf 0x06 (content_of arcs)) parameters)))
+    joined (forest (field 0 (option_map (λ arcs. leaf 0x06 (content_of arcs)) parameters)))
 
 abbrev pub public_key_bytes : Option (List ℕ) → List ℕ
 public_key_bytes public_key =
-    joined (row (field 1 (option_map (λ bytes. leaf 0x03 (0 ∷ bytes)) public_key)))
+    joined (forest (field 1 (option_map (λ bytes. leaf 0x03 (0 ∷ bytes)) public_key)))
 
 -- the end of the field [0], and that of the private key
 abbrev pub parameters_end : Key → List ℕ → ℕ

@@ -10,7 +10,8 @@ use Rattle.sec1_der.specs.Trees.{depth, max_tree_depth}
 use Rattle.sec1_der.specs.Walks.{Opens}
 use Rattle.sec1_der.proofs.EnterLemmas.{Skips}
 use Rattle.sec1_der.proofs.TreeLemmas.{some_bytes, total_size, max_depth}
-use Rattle.sec1_der.proofs.RowFaultLemmas.{row_some, tree_next, open_fault, next_fault, element_passed, node_opened}
+use Rattle.sec1_der.proofs.ForestFaultLemmas.{forest_some, tree_next, open_fault, next_fault, element_passed}
+use Rattle.sec1_der.proofs.ForestFaultLemmas.{node_opened}
 
 -- ---- what is left makes the input a tree
 
@@ -59,8 +60,8 @@ pub record IsNext (input ends rest : List ℕ) (count : ℕ) : Type 0 where
 pub root_next : (input old : List ℕ) → old ≡ [] → IsNext input old input 0
 root_next input old empty = rw empty (record {
   at = record { room = omega arith; counted = omega arith; inside = omega arith; nested = tt };
-  completes = λ t tail is shallow row nothing.
-      (t, record { tree = is; whole = row ∙ rw nothing (append-nil (bytes t)) }, omega arith, omega arith);
+  completes = λ t tail is shallow split nothing.
+      (t, record { tree = is; whole = split ∙ rw nothing (append-nil (bytes t)) }, omega arith, omega arith);
   fault_is = tree_next input;
 })
 
@@ -73,11 +74,12 @@ child_next {input = input} {ends = end ∷ ends} {rest = rest} w some apart =
     let lengths = length-take-le (length rest - end) rest (omega arith) in
     record {
       at = at;
-      completes = λ t tail is shallow row f tail' are shallow' row' e. subst (Completes input ends tail') (omega arith)
+      completes = λ t tail is shallow split f tail' are shallow' split' e. subst (Completes input ends tail')
+          (omega arith)
           (w.completes (first t f) tail' (is, are) (omega arith)
-          (row ∙ rw row' (sym (append_assoc (bytes t) (joined f) tail'))) e);
+          (split ∙ rw split' (sym (append_assoc (bytes t) (joined f) tail'))) e);
       fault_is = w.fault_is
-          ∙ rw (row_some (length ends + 2) (take (length rest - end) rest) (omega arith) (omega arith)) refl;
+          ∙ rw (forest_some (length ends + 2) (take (length rest - end) rest) (omega arith) (omega arith)) refl;
     }
 
 -- the walk continues after an element without children
@@ -109,17 +111,17 @@ opened input ends rest after end count next o room =
     record {
       at = record {
         room = room;
-        counted = omega (arith, ap length o.row);
+        counted = omega (arith, ap length o.split);
         inside =
             omega (arith, o.inside);
         nested = (o.fits, at.nested);
       };
-      completes = λ f tail are shallow row e.
-          let n : length (joined f) ≡ o.n = omega (arith, o.inside, ap length row, length-append (joined f) tail) in
+      completes = λ f tail are shallow split e.
+          let n : length (joined f) ≡ o.n = omega (arith, o.inside, ap length split, length-append (joined f) tail) in
           let is : IsTree (branch o.tag f) =
           (o.tag_byte, o.constructed, omega (arith, o.within), are) in
-          let whole = o.row
-          ∙ rw (← n, row) (sym (append_assoc (header o.tag (length (joined f))) (joined f) tail)) in
+          let whole = o.split
+          ∙ rw (← n, split) (sym (append_assoc (header o.tag (length (joined f))) (joined f) tail)) in
           subst (Completes input ends tail) (omega arith) (next.completes (branch o.tag f) tail is (omega arith) whole);
       fault_is = next.fault_is ∙ node_opened ends rest after end o;
     }

@@ -32,14 +32,14 @@ from_start : (rest front inside : List ℕ) (end start : ℕ) → end ≤ length
     × (length (take (length rest - start) (drop start rest)) ≡ length inside + end)
 from_start rest front inside end start within e l =
     let room = length rest - end in
-    let row : rest ≡ front ++ (inside ++ drop room rest) =
+    let split : rest ≡ front ++ (inside ++ drop room rest) =
     sym (take-append-drop room rest)
     ∙ (ap (λ xs. xs ++ drop room rest) e ∙ append_assoc front inside (drop room rest)) in
     let count : length front
     ≡ start = omega (arith, ap length e, length-append front inside, length-take-le room rest (omega arith)) in
     let after = take_rest rest start
-    ∙ (ap (drop start) row ∙ drop_at front (inside ++ drop room rest) start count) in (
-      row ∙ ap (λ xs. front ++ xs) (sym after),
+    ∙ (ap (drop start) split ∙ drop_at front (inside ++ drop room rest) start count) in (
+      split ∙ ap (λ xs. front ++ xs) (sym after),
       omega (arith, length-take (length rest - start) (drop start rest), length-drop start rest),
     )
 
@@ -52,7 +52,7 @@ pub opens_at : (rest inside ends : List ℕ) (tag n end m : ℕ) → IsInFront r
 opens_at rest inside ends tag n end m f is same some constructed =
     let few = inside_within rest (header tag n) inside (length rest - end) f.1 in
     let within : end ≤ length rest = omega (arith, ap length f.1, length-take (length rest - end) rest) in
-    let (row, after) = from_start rest (header tag n) inside end (length rest - end - length inside) within f.1
+    let (split, after) = from_start rest (header tag n) inside end (length rest - end - length inside) within f.1
     (omega arith) in
     record {
       tag = tag;
@@ -61,7 +61,7 @@ opens_at rest inside ends tag n end m f is same some constructed =
       constructed = constructed;
       some = some;
       within = f.0.within;
-      row = row;
+      split = split;
       inside = omega arith;
       fits = omega arith;
     }
@@ -107,7 +107,7 @@ passes_at rest inside ends tag n end m f is same which =
     rw (size, append_assoc (header tag n) content (drop n inside), take-append-drop n inside) refl in
     let few = inside_within rest (header tag n) inside (length rest - end) f.1 in
     let within : end ≤ length rest = omega (arith, ap length f.1, length-take (length rest - end) rest) in
-    let (row, after) = from_start rest (element tag content) (drop n inside) end
+    let (split, after) = from_start rest (element tag content) (drop n inside) end
     (length rest - end - length inside + m) within (f.1 ∙ split)
     (omega (arith, length-drop n inside)) in
-    (t.0, t.1.tree, t.1.alone, t.1.shallow, rw (t.2) row, omega (arith, after))
+    (t.0, t.1.tree, t.1.alone, t.1.shallow, rw (t.2) split, omega (arith, after))

@@ -59,7 +59,7 @@ small_push (m ∷ ns) n s h = (s.0, small_push ns n s.1 h)
 
 -- after the digits so far the bytes encode these numbers
 record IsEncoded (high : ℕ) (bs ns : List ℕ) : Type 0 where
-  pub row : marked (digits_of 128 high) ++ bs ≡ flat_map base128 ns
+  pub split : marked (digits_of 128 high) ++ bs ≡ flat_map base128 ns
   pub small : AreSmall ns
 
 -- bytes that pass the test encode the numbers that are read of them
@@ -134,7 +134,7 @@ continues_from_arcs (a ∷ b ∷ cs) content s =
 -- numbers that are encoded are those of arcs
 encodes_arcs : (content ns : List ℕ) → 0 < length content → IsEncoded 0 content ns
     → EncodesArcs (arcs_of_numbers ns) content
-encodes_arcs content [] some s = absurd (omega (arith, ap length s.row))
+encodes_arcs content [] some s = absurd (omega (arith, ap length s.split))
 encodes_arcs content (n ∷ ns) some s = grind (arith, nat_tests)
 
 -- the test by widths decides whether bytes encode arcs

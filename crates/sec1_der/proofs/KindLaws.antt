@@ -10,7 +10,7 @@ use Rattle.sec1_der.specs.Contents.{whole_bits_field_fault, identifier_fault}
 use Rattle.sec1_der.specs.Identifiers.{are_arcs, content_of, max_identifier_length}
 use Rattle.sec1_der.specs.Elements.{is_tag}
 use Rattle.sec1_der.specs.Faults.{Fault, IsFaultOf, SaysKinds, no_fault, end_fault, parts_fault, content_at}
-use Rattle.sec1_der.specs.Faults.{element_fault, optional_fault, any_fault, nested_fault, row_fault, tree_fault}
+use Rattle.sec1_der.specs.Faults.{element_fault, optional_fault, any_fault, nested_fault, forest_fault, tree_fault}
 use Rattle.sec1_der.specs.Faults.{document_fault}
 use Rattle.sec1_der.specs.Trees.{max_tree_depth}
 use Rattle.sec1_der.specs.declared.error.ErrorKind.{ErrorKind}
@@ -150,26 +150,26 @@ nested_says f says tag = record {
   kind = λ bytes e. either_says (not (bit_and tag 0x20 == 0)) (f bytes) None (says.kind bytes) (λ same. cc same) e;
 }
 
-next_says : (most level : ℕ) → SaysKinds (row_fault most (level + 1)) → SaysKinds (row_fault most level)
-    → SaysKinds (row_fault (suc most) level)
+next_says : (most level : ℕ) → SaysKinds (forest_fault most (level + 1)) → SaysKinds (forest_fault most level)
+    → SaysKinds (forest_fault (suc most) level)
 next_says most level inside rest = record { kind = by }
   where
-    by : (bytes : List ℕ) → row_fault (suc most) level bytes ≢ Some None
+    by : (bytes : List ℕ) → forest_fault (suc most) level bytes ≢ Some None
     by [] e = cc e
     by (byte ∷ bytes) e =
         either_says (nat_lt max_tree_depth level) _ _ (λ same. cc same)
-        ((any_says (nested_fault (row_fault most (level + 1))) (row_fault most level)
-        (nested_says (row_fault most (level + 1)) inside) rest).kind (byte ∷ bytes)) e
+        ((any_says (nested_fault (forest_fault most (level + 1))) (forest_fault most level)
+        (nested_says (forest_fault most (level + 1)) inside) rest).kind (byte ∷ bytes)) e
 
-trees_say : (most level : ℕ) → SaysKinds (row_fault most level)
+trees_say : (most level : ℕ) → SaysKinds (forest_fault most level)
 trees_say zero level = record { kind = λ bytes e. cc e }
 trees_say (suc most) level = next_says most level (trees_say most (level + 1)) (trees_say most level)
 
 pub tree_says : SaysKinds tree_fault
 tree_says = record {
   kind = λ bytes e.
-      (any_says (nested_fault (row_fault (length bytes) 2)) end_fault
-      (nested_says (row_fault (length bytes) 2) (trees_say (length bytes) 2)) end_says).kind bytes e;
+      (any_says (nested_fault (forest_fault (length bytes) 2)) end_fault
+      (nested_says (forest_fault (length bytes) 2) (trees_say (length bytes) 2)) end_says).kind bytes e;
 }
 
 pub document_says : SaysKinds document_fault

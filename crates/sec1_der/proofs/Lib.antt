@@ -18,7 +18,7 @@ pub mod TreeLemmas
 pub mod EnterLemmas
 pub mod WalkLemmas
 pub mod CheckLemmas
-pub mod RowFaultLemmas
+pub mod ForestFaultLemmas
 pub mod TreeFaultLemmas
 pub mod IdentifierLemmas
 pub mod ArcLemmas

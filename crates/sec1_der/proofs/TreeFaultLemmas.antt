@@ -17,7 +17,7 @@ use Rattle.sec1_der.proofs.CheckLemmas.{IsCounted}
 use Rattle.sec1_der.proofs.ElementFaultLemmas.{any_cut}
 use Rattle.sec1_der.proofs.FaultLaws.{any_at}
 use Rattle.sec1_der.proofs.TreeLemmas.{max_depth, some_bytes, tree_apart}
-use Rattle.sec1_der.proofs.RowFaultLemmas.{leaf_passes, row_at, row_some, row_deep, tree_next}
+use Rattle.sec1_der.proofs.ForestFaultLemmas.{leaf_passes, forest_at, forest_some, forest_deep, tree_next}
 
 -- the fault of trees with this number of levels
 abbrev deep_fault : ℕ → Option (Option ErrorKind)
@@ -31,30 +31,33 @@ mutual
   -- a tree `above` levels down is refused by its depth, or by what follows it
   tree_at : (t : Tree) (above : ℕ) (after : Fault) (bs rest : List ℕ) → IsTree t → bs ≡ bytes t ++ rest
       → above < max_tree_depth
-      → any_fault (nested_fault (row_at (above + 1 + 1))) after bs ≡ option_or (deep_fault (above + depth t))
+      → any_fault (nested_fault (forest_at (above + 1 + 1))) after bs ≡ option_or (deep_fault (above + depth t))
       (after rest)
   tree_at (leaf tag content) above after bs rest is e fits =
       any_at _ after tag content bs rest (record { tag_byte = is.0; within = is.2 }) e
-      ∙ rw (leaf_passes (row_at (above + 1 + 1)) tag content is.1, le-ltb max_tree_depth (above + 1) (omega arith)) refl
+      ∙ rw (
+        leaf_passes (forest_at (above + 1 + 1)) tag content is.1,
+        le-ltb max_tree_depth (above + 1) (omega arith),
+      ) refl
   tree_at (branch tag f) above after bs rest is e fits =
       any_at _ after tag (joined f) bs rest (record { tag_byte = is.0; within = is.2 }) e
-      ∙ rw (ne_eqb (bit_and tag 0x20) 0 is.1, forest_at f (above + 1) is.3 (omega arith))
+      ∙ rw (ne_eqb (bit_and tag 0x20) 0 is.1, trees_at f (above + 1) is.3 (omega arith))
       (ap (λ n. option_or (deep_fault n) (after rest)) (omega arith))
 
   -- trees in a row, below this number of levels
-  forest_at : (f : Forest) (above : ℕ) → AreTrees f → above ≤ max_tree_depth
-      → row_at (above + 1) (joined f) ≡ deep_fault (above + max_depth f)
-  forest_at none above are fits = rw (le-ltb max_tree_depth (above + 0) (omega arith)) refl
-  forest_at (first t f) above are fits =
-      let row = bytes t ++ joined f in
+  trees_at : (f : Forest) (above : ℕ) → AreTrees f → above ≤ max_tree_depth
+      → forest_at (above + 1) (joined f) ≡ deep_fault (above + max_depth f)
+  trees_at none above are fits = rw (le-ltb max_tree_depth (above + 0) (omega arith)) refl
+  trees_at (first t f) above are fits =
+      let all = bytes t ++ joined f in
       let some = some_bytes t in
       let lengths = length-append (bytes t) (joined f) in
       ⊎_elim
-      (λ l. row_some (above + 1) row (omega arith) (omega arith)
-      ∙ (tree_at t above (row_at (above + 1)) row (joined f) are.0 refl l
-      ∙ rw (forest_at f above are.1 fits)
+      (λ l. forest_some (above + 1) all (omega arith) (omega arith)
+      ∙ (tree_at t above (forest_at (above + 1)) all (joined f) are.0 refl l
+      ∙ rw (trees_at f above are.1 fits)
       (deep_or above (depth t) (max_depth f) ∙ ap deep_fault (omega arith))))
-      (λ l. row_deep (above + 1) row (omega arith) (omega arith)
+      (λ l. forest_deep (above + 1) all (omega arith) (omega arith)
       ∙ rw (lt-ltb max_tree_depth (above + max_depth (first t f)) (omega arith)) refl)
       (cases_lt above max_tree_depth)
 

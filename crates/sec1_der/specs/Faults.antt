@@ -94,17 +94,18 @@ document_fault = any_fault (λ _. no_fault) end_fault
 
 -- X.690 section 8.1.2.5: the content of a constructed element is elements again
 abbrev pub nested_fault : Fault → ℕ → Fault
-nested_fault row tag content = if is_constructed tag then row content else None
+nested_fault inside tag content = if is_constructed tag then inside content else None
 
 -- A sequence of elements at this level. There are no more of them, and they are nested no deeper,
 -- than there are bytes.
-abbrev pub row_fault : ℕ → ℕ → Fault
-row_fault zero level bytes = None
-row_fault (suc most) level [] = None
-row_fault (suc most) level (byte ∷ bytes) =
+abbrev pub forest_fault : ℕ → ℕ → Fault
+forest_fault zero level bytes = None
+forest_fault (suc most) level [] = None
+forest_fault (suc most) level (byte ∷ bytes) =
     if nat_lt max_tree_depth level then Some (Some Depth)
-    else any_fault (nested_fault (row_fault most (level + 1))) (row_fault most level) (byte ∷ bytes)
+    else any_fault (nested_fault (forest_fault most (level + 1))) (forest_fault most level)
+    (byte ∷ bytes)
 
 -- one tree that isn't too deep
 abbrev pub tree_fault : Fault
-tree_fault bytes = any_fault (nested_fault (row_fault (length bytes) 2)) end_fault bytes
+tree_fault bytes = any_fault (nested_fault (forest_fault (length bytes) 2)) end_fault bytes

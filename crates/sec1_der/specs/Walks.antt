@@ -13,7 +13,7 @@ pub record Opens (ends rest : List ℕ) (end : ℕ) (after : List ℕ) : Type 0 
   pub constructed : IsConstructed tag
   pub some : 0 < n
   pub within : n ≤ max_length
-  pub row : rest ≡ header tag n ++ after
+  pub split : rest ≡ header tag n ++ after
   pub inside : end + n ≡ length after
 
 -- the ends of the open elements up to this level, the innermost first; the table has the outermost

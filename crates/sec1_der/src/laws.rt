@@ -24,7 +24,7 @@ pub fn trees_unique()
 
 /// A sequence of trees is determined by its bytes.
 #[tactic(auto, using(crate::proofs::TreeLemmas::forest_apart))]
-pub fn rows_unique()
+pub fn forests_unique()
     ensures { (f g : Forest) → AreTrees f → AreTrees g → joined f ≡ joined g → f ≡ g }
 {}
 

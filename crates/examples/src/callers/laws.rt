@@ -26,11 +26,11 @@ pub fn no_longer_tree()
 }
 
 /// Bytes are those of one row of trees at most.
-pub fn one_row()
+pub fn one_forest()
     ensures { (input : List ℕ) (f g : Forest) → AreTrees f → AreTrees g → joined f ≡ input
         → joined g ≡ input → f ≡ g }
 {
-    laws::rows_unique();
+    laws::forests_unique();
 }
 
 /// Where the content of an element has no fault, the fault is that of the bytes after it.

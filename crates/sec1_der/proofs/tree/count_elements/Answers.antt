@@ -1,7 +1,7 @@
 use Rattle.std.proofs.Common.{◌∙◌, sym, refl, arith}
 use Rattle.std.proofs.lemmas.Bool.{iff_false}
 use Rattle.sec1_der.proofs.CheckLemmas.{root_next, child_next, entered, closed}
-use Rattle.sec1_der.proofs.RowFaultLemmas.{next_refused}
+use Rattle.sec1_der.proofs.ForestFaultLemmas.{next_refused}
 use Rattle.sec1_der.proofs.tree.count_elements.Goals as goal
 
 pub loop-nodes-init : goal.loop-nodes-init
