@@ -6,7 +6,7 @@ use Rattle.der_types.specs.AnyElements.{any_element_fault}
 use Rattle.der_types.specs.Contents.{is_boolean}
 use Rattle.der_types.specs.Choices.{begins_among}
 use Rattle.der_types.specs.Integers.{is_integer}
-use Rattle.der_types.specs.Sequences.{forest_fault}
+use Rattle.der_types.specs.Sequences.{sequence_fault}
 use Rattle.der_types.specs.Sequences.{set_fault}
 use Rattle.der_types.specs.Times.{is_generalized_time, is_utc_time}
 use Rattle.pkix.specs.Records.{algorithm_fault, attribute_fault, certificate_fault, extension_fault, identifier_fault}
@@ -104,13 +104,13 @@ extensions_field_place = optional_place 0xA3 extensions_place end_place
 
 abbrev extensions_fault : r.Fault
 extensions_fault =
-    r.optional_fault 0xA3 (r.element_fault 0x30 (forest_fault 0x30 extension_fault) r.end_fault) r.end_fault
+    r.optional_fault 0xA3 (r.element_fault 0x30 (sequence_fault 0x30 extension_fault) r.end_fault) r.end_fault
 
 extensions_kind : Places extensions_field_place extensions_fault
 extensions_kind =
     optional_kind 0xA3 extensions_place end_place
-    (r.element_fault 0x30 (forest_fault 0x30 extension_fault) r.end_fault) r.end_fault
-    (element_kind 0x30 (sequence_place 0x30 extension_place) end_place (forest_fault 0x30 extension_fault) r.end_fault
+    (r.element_fault 0x30 (sequence_fault 0x30 extension_fault) r.end_fault) r.end_fault
+    (element_kind 0x30 (sequence_place 0x30 extension_place) end_place (sequence_fault 0x30 extension_fault) r.end_fault
     (sequence_kind 0x30 extension_place extension_fault extension_kind) ends) ends
 
 abbrev pub subject_id_place : Place

@@ -2,7 +2,7 @@
 use Rattle.std.proofs.Common.{◌≡◌, ◌<◌, ◌-◌, ◌∷◌, ◌∙◌, [], ℕ, zero, suc, List, length, refl, arith, Option, Some, None}
 use Rattle.std.specs.Option.{option_or}
 use Rattle.der_types.proofs.KindLaws.{set_says}
-use Rattle.der_types.specs.Sequences.{elements_fault, forest_fault}
+use Rattle.der_types.specs.Sequences.{elements_fault, sequence_fault}
 use Rattle.der_types.specs.Sequences.{is_ascending, set_fault}
 use Rattle.sec1_der.specs.Contents.{value_unless}
 use Rattle.sec1_der.specs.Faults.{SaysKinds}
@@ -30,7 +30,7 @@ elements_kind tag p f x (suc most) end (byte ∷ bytes) =
     (byte ∷ bytes)
 
 pub sequence_kind : (tag : ℕ) (p : Place) (f : r.Fault) → Places p f
-    → Places (sequence_place tag p) (forest_fault tag f)
+    → Places (sequence_place tag p) (sequence_fault tag f)
 sequence_kind tag p f x end bytes = elements_kind tag p f x (length bytes) end bytes
 
 -- what is tested twice is tested once
@@ -41,10 +41,10 @@ twice (Some said) b = refl
 pub set_kind : (tag : ℕ) (p : Place) (f : r.Fault) → Places p f → SaysKinds f
     → Places (set_place tag p f) (set_fault tag f)
 set_kind tag p f x says end bytes =
-    or_kind (sequence_place tag p end bytes) (at_first (set_fault tag f) end bytes) (forest_fault tag f bytes)
+    or_kind (sequence_place tag p end bytes) (at_first (set_fault tag f) end bytes) (sequence_fault tag f bytes)
     (set_fault tag f bytes) (sequence_kind tag p f x end bytes)
     (first_kind (set_fault tag f) (set_says tag f says) end bytes)
-    ∙ twice (forest_fault tag f bytes) (value_unless (is_ascending bytes))
+    ∙ twice (sequence_fault tag f bytes) (value_unless (is_ascending bytes))
 
 elements_within : (tag : ℕ) (p : Place) → Bounded p → (most : ℕ) → Bounded (elements_place tag p most)
 elements_within tag p x zero end bytes = tt

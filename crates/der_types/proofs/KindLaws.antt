@@ -7,7 +7,7 @@ use Rattle.sec1_der.proofs.KindLaws.{any_says, both_say, either_says, element_sa
 use Rattle.der_types.specs.AnyElements.{any_element_fault}
 use Rattle.der_types.specs.Choices.{begins_among, choice_fault, optional_part_fault}
 use Rattle.der_types.specs.Defaults.{other_fault}
-use Rattle.der_types.specs.Sequences.{elements_fault, row_fault}
+use Rattle.der_types.specs.Sequences.{elements_fault, sequence_fault}
 use Rattle.der_types.specs.Sequences.{is_ascending, set_fault}
 
 next_says : (tag : ℕ) (f : Fault) (most : ℕ) → SaysKinds f → SaysKinds (elements_fault tag f most)
@@ -22,12 +22,12 @@ elements_say : (tag : ℕ) (f : Fault) → SaysKinds f → (most : ℕ) → Says
 elements_say tag f says zero = record { kind = λ bytes e. cc e }
 elements_say tag f says (suc most) = next_says tag f most says (elements_say tag f says most)
 
-pub row_says : (tag : ℕ) (f : Fault) → SaysKinds f → SaysKinds (row_fault tag f)
-row_says tag f says = record { kind = λ bytes e. (elements_say tag f says (length bytes)).kind bytes e }
+pub sequence_says : (tag : ℕ) (f : Fault) → SaysKinds f → SaysKinds (sequence_fault tag f)
+sequence_says tag f says = record { kind = λ bytes e. (elements_say tag f says (length bytes)).kind bytes e }
 
 pub set_says : (tag : ℕ) (f : Fault) → SaysKinds f → SaysKinds (set_fault tag f)
 set_says tag f says =
-    both_say (row_fault tag f) (λ bytes. value_unless (is_ascending bytes)) (row_says tag f says)
+    both_say (sequence_fault tag f) (λ bytes. value_unless (is_ascending bytes)) (sequence_says tag f says)
     (test_says is_ascending)
 
 pub other_says : (default : List ℕ) (f : Fault) → SaysKinds f → SaysKinds (other_fault default f)

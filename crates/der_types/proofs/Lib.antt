@@ -8,6 +8,6 @@ pub mod UnsignedLemmas
 pub mod ChoiceLemmas
 pub mod AnyLemmas
 pub mod DefaultLemmas
-pub mod RowLemmas
+pub mod SequenceLemmas
 pub mod SetLemmas
 pub mod KindLaws

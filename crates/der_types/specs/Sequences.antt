@@ -26,8 +26,8 @@ elements_fault tag f (suc most) (byte ∷ bytes) =
 
 -- the fault of elements with this tag to the end of the bytes, which are at most as many as there
 -- are bytes
-abbrev pub row_fault : ℕ → Fault → Fault
-row_fault tag f bytes = elements_fault tag f (length bytes) bytes
+abbrev pub sequence_fault : ℕ → Fault → Fault
+sequence_fault tag f bytes = elements_fault tag f (length bytes) bytes
 
 -- whether nothing is refused
 abbrev pub is_whole : Option (Option ErrorKind) → Bool
@@ -35,8 +35,8 @@ is_whole None = true
 is_whole (Some said) = false
 
 -- X.690 section 8.10.1: the content of elements with this tag, if the bytes are elements
-abbrev pub row_of : ℕ → Fault → List ℕ → Option (List ℕ)
-row_of tag f bytes = if is_whole (row_fault tag f bytes) then Some bytes else None
+abbrev pub sequence_of : ℕ → Fault → List ℕ → Option (List ℕ)
+sequence_of tag f bytes = if is_whole (sequence_fault tag f bytes) then Some bytes else None
 
 -- the bytes of the element with this tag, if its content was found, and what follows it
 abbrev pub element_and_rest : ℕ → Result (List ℕ × List ℕ) ErrorKind → Option (List ℕ × List ℕ)
@@ -75,7 +75,7 @@ is_ascending bytes = ascends (length bytes) [] bytes
 -- X.690 section 11.6: the fault of elements with this tag to the end of the bytes; their order is
 -- tested after they were read
 abbrev pub set_fault : ℕ → Fault → Fault
-set_fault tag f bytes = option_or (row_fault tag f bytes) (value_unless (is_ascending bytes))
+set_fault tag f bytes = option_or (sequence_fault tag f bytes) (value_unless (is_ascending bytes))
 
 -- X.690 section 8.12.1: the content of elements with this tag, if the bytes are elements in
 -- ascending order

@@ -5,7 +5,7 @@ ghost use Rattle.std.specs.Prelude.{MatchResult};
 ghost use Rattle.sec1_der.specs.Elements.{element_of};
 ghost use Rattle.sec1_der.specs.Errors.{IsReadingFault};
 ghost use Rattle.sec1_der.specs.Faults.{HasFault};
-ghost use Rattle.der_types.specs.Sequences.{joined, row_fault, row_of};
+ghost use Rattle.der_types.specs.Sequences.{joined, sequence_fault, sequence_of};
 
 use sec1_der::{
     BackWriter, DecodeValue, EncodeValue, ErrorKind, Length, Result, SliceReader, Tag, Tagged,
@@ -25,7 +25,7 @@ pub fn check_elements<'a, T: DecodeValue<'a> + Tagged + Drop>(bytes: &'a [u8]) -
         (λ e. IsReadingFault e.kind) }
     ensures only { (values : List T) → joined T.tag_byte T.content values ≡ Some bytes.now
         → IsOk result }
-    ensures kind { HasFault result (row_fault T.tag_byte T.fault bytes.now) }
+    ensures kind { HasFault result (sequence_fault T.tag_byte T.fault bytes.now) }
 {
     let mut elements = SliceReader::new(bytes);
     while elements.remaining_len() > 0 {
@@ -63,7 +63,7 @@ impl<'a, T> SequenceOf<'a, T> {
             (λ e. IsReadingFault e.kind) }
         ensures only { (values : List T) → joined T.tag_byte T.content values ≡ Some bytes.now
             → result ≡ Ok bytes.now }
-        ensures kind { HasFault result (row_fault T.tag_byte T.fault bytes.now) }
+        ensures kind { HasFault result (sequence_fault T.tag_byte T.fault bytes.now) }
     {
         check_elements::<T>(bytes)?;
         Ok(SequenceOf {
@@ -138,12 +138,12 @@ impl<'a, T> Elements<'a, T> {
     pub fn next(&mut self) -> Option<T>
     where
         T: DecodeValue<'a> + Tagged,
-        requires { row_fault T.tag_byte T.fault self.old ≡ None }
+        requires { sequence_fault T.tag_byte T.fault self.old ≡ None }
         ensures found { IfSome result
             (λ value. IsSomeAnd (element_of T.tag_byte (T.content value)) (λ bytes.
             self.old ≡ bytes ++ self.new)) }
         ensures end { IfNone result ((self.old ≡ []) × (self.new ≡ [])) }
-        ensures checked { row_fault T.tag_byte T.fault self.new ≡ None }
+        ensures checked { sequence_fault T.tag_byte T.fault self.new ≡ None }
         ensures shorter { IsSome result → length self.new < length self.old }
         // The same for a list of values: what is returned comes before those that are left, and is
         // the first of the list.
@@ -173,9 +173,9 @@ impl<T> Tagged for SequenceOf<'_, T> {
 }
 
 impl<T: ValueContent + Tagged> ValueContent for SequenceOf<'_, T> {
-    ghost content = { row_of T.tag_byte T.fault };
+    ghost content = { sequence_of T.tag_byte T.fault };
 
-    ghost fault = { row_fault T.tag_byte T.fault };
+    ghost fault = { sequence_fault T.tag_byte T.fault };
 }
 
 impl<'a, T: DecodeValue<'a> + Tagged + Drop> DecodeValue<'a> for SequenceOf<'a, T> {
@@ -208,7 +208,7 @@ impl<'a, T: DecodeValue<'a> + Tagged + Drop> EncodeValue for SequenceOf<'a, T> {
 
 impl<T: ValueContent + Tagged> UniqueContent for SequenceOf<'_, T> {
     fn content_injective()
-        ensures { (a b bytes : List ℕ) → row_of T.tag_byte T.fault a ≡ Some bytes
-            → row_of T.tag_byte T.fault b ≡ Some bytes → a ≡ b }
+        ensures { (a b bytes : List ℕ) → sequence_of T.tag_byte T.fault a ≡ Some bytes
+            → sequence_of T.tag_byte T.fault b ≡ Some bytes → a ≡ b }
     {}
 }

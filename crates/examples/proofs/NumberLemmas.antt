@@ -10,7 +10,7 @@ use Rattle.sec1_der.specs.Faults.{Fault}
 use Rattle.der_types.specs.Integers.{is_unsigned, unsigned_content}
 use Rattle.der_types.proofs.IntegerLaws.{is_unsigned-unsigned_content}
 use Rattle.der_types.specs.Contents.{content_if}
-use Rattle.der_types.specs.Sequences.{elements_fault, row_of}
+use Rattle.der_types.specs.Sequences.{elements_fault, sequence_of}
 use Rattle.der_types.specs.Sequences.{is_ascending, set_of}
 use Rattle.examples.specs.Numbers.{numbers_content, ascending_content}
 
@@ -34,7 +34,7 @@ elements_fault-numbers (suc most) (n ∷ numbers) bytes is =
 -- the elements of numbers are what a SEQUENCE OF reads
 pub reads_sequence : (numbers bytes : List ℕ) → element_of 0x30 (numbers_content numbers) ≡ Some bytes
     → (content : List ℕ) × (numbers_content numbers ≡ Some content)
-    × (element_of 0x30 (row_of 0x02 number_fault content) ≡ Some bytes)
+    × (element_of 0x30 (sequence_of 0x02 number_fault content) ≡ Some bytes)
 reads_sequence numbers bytes is =
     let found = element_of-some 0x30 (numbers_content numbers) bytes is in
     let whole = elements_fault-numbers (length found.inside) numbers found.inside found.same in

@@ -3,7 +3,7 @@ use Rattle.std.specs.Prelude.{ℕ, List, Option, Some, option_and_then}
 use Rattle.sec1.specs.Der.{Fault, value_unless}
 use Rattle.der_types.specs.Integers.{is_unsigned, unsigned_content}
 use Rattle.der_types.specs.Contents.{content_if}
-use Rattle.der_types.specs.Sequences.{joined, row_fault}
+use Rattle.der_types.specs.Sequences.{joined, sequence_fault}
 use Rattle.der_types.specs.Sequences.{is_ascending, set_fault}
 
 -- X.690 sections 8.10.2 and 8.3: the elements of the numbers, in their order
@@ -12,7 +12,7 @@ numbers_content numbers = joined 0x02 (λ n. Some (unsigned_content n)) numbers
 
 -- the fault of bytes that should be elements of numbers
 abbrev pub numbers_fault : Fault
-numbers_fault bytes = row_fault 0x02 (λ content. value_unless (is_unsigned content)) bytes
+numbers_fault bytes = sequence_fault 0x02 (λ content. value_unless (is_unsigned content)) bytes
 
 -- X.690 section 11.6: the elements of the numbers, if these are in the order of a SET OF
 abbrev pub ascending_content : List ℕ → Option (List ℕ)

@@ -10,10 +10,10 @@ use Rattle.der_types.specs.Contents.{is_boolean}
 use Rattle.der_types.specs.Defaults.{other_fault}
 use Rattle.der_types.specs.Integers.{is_integer}
 use Rattle.der_types.specs.ObjectIdentifiers.{is_object_identifier}
-use Rattle.der_types.specs.Sequences.{row_fault}
+use Rattle.der_types.specs.Sequences.{sequence_fault}
 use Rattle.der_types.specs.Sequences.{set_fault}
 use Rattle.der_types.specs.Times.{is_utc_time, is_generalized_time}
-use Rattle.der_types.proofs.KindLaws.{any_element_says, choice_says, optional_part_says, other_says, row_says}
+use Rattle.der_types.proofs.KindLaws.{any_element_says, choice_says, optional_part_says, other_says, sequence_says}
 use Rattle.der_types.proofs.KindLaws.{set_says}
 use Rattle.pkix.specs.Records.{identifier_fault, algorithm_fault, public_key_fault, time_fault, validity_fault}
 use Rattle.pkix.specs.Records.{attribute_fault, names_fault, extension_fault, tbs_fault, certificate_fault}
@@ -48,7 +48,7 @@ attribute_says : SaysKinds attribute_fault
 attribute_says = element_says 0x06 identifier_fault _ identifier_says (any_element_says end_fault end_says)
 
 names_say : SaysKinds names_fault
-names_say = row_says 0x31 (set_fault 0x30 attribute_fault) (set_says 0x30 attribute_fault attribute_says)
+names_say = sequence_says 0x31 (set_fault 0x30 attribute_fault) (set_says 0x30 attribute_fault attribute_says)
 
 extension_says : SaysKinds extension_fault
 extension_says =
@@ -70,9 +70,9 @@ tbs_says =
     (element_says 0x30 public_key_fault _ public_key_says
     (optional_says 0x81 bit_string_fault _ bits_says
     (optional_says 0x82 bit_string_fault _ bits_says
-    (optional_says 0xA3 (element_fault 0x30 (row_fault 0x30 extension_fault) end_fault) end_fault
-    (element_says 0x30 (row_fault 0x30 extension_fault) end_fault
-    (row_says 0x30 extension_fault extension_says) end_says)
+    (optional_says 0xA3 (element_fault 0x30 (sequence_fault 0x30 extension_fault) end_fault) end_fault
+    (element_says 0x30 (sequence_fault 0x30 extension_fault) end_fault
+    (sequence_says 0x30 extension_fault extension_says) end_says)
     end_says)))))))))
 
 pub certificate_says : SaysKinds certificate_fault

@@ -14,7 +14,7 @@ use Rattle.der_types.specs.Defaults.{defaulted_of, other_fault}
 use Rattle.der_types.specs.Integers.{is_integer, is_unsigned, unsigned_content}
 use Rattle.der_types.specs.Contents.{content_if}
 use Rattle.der_types.specs.ObjectIdentifiers.{is_object_identifier}
-use Rattle.der_types.specs.Sequences.{row_fault, row_of}
+use Rattle.der_types.specs.Sequences.{sequence_fault, sequence_of}
 use Rattle.der_types.specs.Sequences.{set_fault, set_of}
 use Rattle.der_types.specs.Times.{is_utc_time, is_generalized_time}
 use Rattle.sec1_der.specs.Contents.{bit_string_fault, byte_fault, value_unless}
@@ -83,10 +83,10 @@ attribute_fault = element_fault 0x06 identifier_fault (any_element_fault end_fau
 
 -- RFC 5280 section 4.1.2.4: Name ::= SEQUENCE OF SET OF AttributeTypeAndValue
 abbrev pub names_fault : Fault
-names_fault = row_fault 0x31 (set_fault 0x30 attribute_fault)
+names_fault = sequence_fault 0x31 (set_fault 0x30 attribute_fault)
 
 abbrev pub name_content : List ℕ → Option (List ℕ)
-name_content = row_of 0x31 (set_fault 0x30 attribute_fault)
+name_content = sequence_of 0x31 (set_fault 0x30 attribute_fault)
 
 -- RFC 5280 section 4.1: Extension ::= SEQUENCE {
 --   extnID OBJECT IDENTIFIER, critical BOOLEAN DEFAULT FALSE, extnValue OCTET STRING }
@@ -126,7 +126,8 @@ tbs_content value =
     (join (optional_of 0x81 (option_map bit_string_content value.issuer_unique_id))
     (optional_of 0x82 (option_map bit_string_content value.subject_unique_id)))
     (optional_of 0xA3
-    (option_map (λ row. element_of 0x30 (row_of 0x30 extension_fault row)) value.extensions)))))
+    (option_map (λ bytes. element_of 0x30 (sequence_of 0x30 extension_fault bytes))
+    value.extensions)))))
 
 abbrev pub tbs_fault : Fault
 tbs_fault =
@@ -140,7 +141,7 @@ tbs_fault =
     (element_fault 0x30 public_key_fault
     (optional_fault 0x81 bit_string_fault
     (optional_fault 0x82 bit_string_fault
-    (optional_fault 0xA3 (element_fault 0x30 (row_fault 0x30 extension_fault) end_fault)
+    (optional_fault 0xA3 (element_fault 0x30 (sequence_fault 0x30 extension_fault) end_fault)
     end_fault)))))))))
 
 -- RFC 5280 section 4.1: Certificate ::= SEQUENCE {

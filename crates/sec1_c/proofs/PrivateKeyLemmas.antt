@@ -87,10 +87,10 @@ form_of version tag rest bytes is begins =
     ap is_whole (outer ∙ (alone (form_fault whole.inside) ∙ (inner ∙ last)))
 
 -- a row of fields begins with the tag of its first one
-row_begins : (tag : ℕ) (content rest : Option (List ℕ)) (back : List ℕ)
+fields_begin : (tag : ℕ) (content rest : Option (List ℕ)) (back : List ℕ)
     → join (element_of tag content) rest ≡ Some back
     → BeginsWith tag back
-row_begins tag content rest back e =
+fields_begin tag content rest back e =
     let parts = parted (element_of tag content) rest back e in
     let first = element_of-some tag content parts.front parts.first_there in
     record {
@@ -98,12 +98,12 @@ row_begins tag content rest back e =
       split = parts.joined ∙ ap (λ xs. xs ++ parts.back) first.at.encoded;
     }
 
-rows_begin : (tag : ℕ) (content second rest : Option (List ℕ)) (back : List ℕ)
+more_fields_begin : (tag : ℕ) (content second rest : Option (List ℕ)) (back : List ℕ)
     → join (join (element_of tag content) second) rest ≡ Some back
     → BeginsWith tag back
-rows_begin tag content second rest back e =
+more_fields_begin tag content second rest back e =
     let parts = parted (join (element_of tag content) second) rest back e in
-    let first = row_begins tag content second parts.front parts.first_there in
+    let first = fields_begin tag content second parts.front parts.first_there in
     record {
       rest = first.rest ++ parts.back;
       split = parts.joined ∙ ap (λ xs. xs ++ parts.back) first.split;
@@ -112,14 +112,14 @@ rows_begin tag content second rest back e =
 -- a key by itself isn't read as a container
 pub key_form : (key : Key) (bytes : List ℕ) → IsKeyOf key bytes → has_algorithm bytes ≡ false
 key_form key bytes is =
-    form_of 1 0x04 _ bytes (key_written key bytes is) (row_begins 0x04 (Some key.private_key) _)
+    form_of 1 0x04 _ bytes (key_written key bytes is) (fields_begin 0x04 (Some key.private_key) _)
 
 version_form : (version : ℕ) (container : OneAsymmetricKey) (bytes : List ℕ)
     → element_of 0x30 (container_content version container) ≡ Some bytes
     → has_algorithm bytes ≡ true
 version_form version container bytes is =
     form_of version 0x30 _ bytes is
-    (rows_begin 0x30 (algorithm_content container.algorithm) (element_of 0x04 (Some container.private_key))
+    (more_fields_begin 0x30 (algorithm_content container.algorithm) (element_of 0x04 (Some container.private_key))
     (after_key container))
 
 -- a container is

@@ -2,7 +2,7 @@
 use Rattle.std.specs.Prelude.{◌≡◌, ◌-◌, ℕ, List, length, Option, Some}
 use Rattle.std.specs.Option.{option_map}
 use Rattle.der_types.specs.Contents.{bit_string_content}
-use Rattle.der_types.specs.Sequences.{row_of}
+use Rattle.der_types.specs.Sequences.{sequence_of}
 use Rattle.pkix.specs.Records.{algorithm_content, certificate_content, extension_fault}
 use Rattle.pkix.specs.Records.{public_key_content}
 use Rattle.pkix.specs.declared.certificate.Certificate.{Certificate}
@@ -29,7 +29,7 @@ after_info certificate =
     (join (optional_of 0x81 (option_map bit_string_content tbs.issuer_unique_id))
     (optional_of 0x82 (option_map bit_string_content tbs.subject_unique_id)))
     (optional_of 0xA3
-    (option_map (λ row. element_of 0x30 (row_of 0x30 extension_fault row)) tbs.extensions))
+    (option_map (λ bytes. element_of 0x30 (sequence_of 0x30 extension_fault bytes)) tbs.extensions))
 
 -- RFC 5280 section 4.1: what follows the TBSCertificate, the algorithm of the signature and the
 -- signature

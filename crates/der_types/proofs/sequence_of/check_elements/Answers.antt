@@ -1,11 +1,12 @@
 use Rattle.std.proofs.Common.{arith}
-use Rattle.der_types.proofs.RowLemmas.{row_continues, row_refused, row_ends, values_read, value_there, values_end}
+use Rattle.der_types.proofs.SequenceLemmas.{sequence_continues, sequence_refused, sequence_ends, values_read}
+use Rattle.der_types.proofs.SequenceLemmas.{value_there, values_end}
 use Rattle.der_types.proofs.sequence_of.check_elements.Goals as goal
 
 pub returns-in_err-_value-clause-kind : goal.returns-in_err-_value-clause-kind
 returns-in_err-_value-clause-kind g c =
     let at = c.loop-elements.invariant.rest in
-    let fault = row_refused _ _ _ _ _ at (omega (arith, c.loop-elements-test.true, c.remaining_len.ensures))
+    let fault = sequence_refused _ _ _ _ _ at (omega (arith, c.loop-elements-test.true, c.remaining_len.ensures))
     (c.in_err-_value.ensures.refused.kind at.whole) in
     grind arith
 
@@ -13,7 +14,7 @@ pub loop-elements-preserved : goal.loop-elements-preserved
 loop-elements-preserved g c =
     let at = c.loop-elements.invariant.rest in
     record {
-      rest = row_continues _ _ _ _ _ _ at (omega (arith, c.loop-elements-test.true, c.remaining_len.ensures))
+      rest = sequence_continues _ _ _ _ _ _ at (omega (arith, c.loop-elements-test.true, c.remaining_len.ensures))
           c.in_ok-_value.ensures.found;
       values = values_read _ _ _ _ _ _ _ c.loop-elements.invariant.values
           (omega (arith, c.loop-elements-test.true, c.remaining_len.ensures)) at.whole
@@ -24,7 +25,8 @@ loop-elements-preserved g c =
 
 pub returns-clause-kind : goal.returns-clause-kind
 returns-clause-kind g c =
-    row_ends _ _ _ _ c.loop-elements.invariant.rest (omega (arith, c.loop-elements-test.false, c.remaining_len.ensures))
+    sequence_ends _ _ _ _ c.loop-elements.invariant.rest
+    (omega (arith, c.loop-elements-test.false, c.remaining_len.ensures))
 
 pub returns-clause-found : goal.returns-clause-found
 returns-clause-found g c =

@@ -7,7 +7,7 @@ use Rattle.pkix.proofs.InPlaceLemmas.{opened_passes, opened_refused, opened_whol
 use Rattle.pkix.proofs.in_place.read_whole.Goals as goal
 
 pub returns-in-Err : goal.returns-in-Err
-returns-in-Err g c place is-row = record {
+returns-in-Err g c place is-parts = record {
   found = search rules;
   only = λ value is.
       let there = element_of-some 0x30 (g.T.Parts.Part.bytes (g.T.Record.parts value)) c.args.input.now is in
@@ -21,7 +21,7 @@ returns-in-Err g c place is-row = record {
 }
 
 pub returns-in-Err-read_parts : goal.returns-in-Err-read_parts
-returns-in-Err-read_parts g c place is-row = record {
+returns-in-Err-read_parts g c place is-parts = record {
   found = search rules;
   only = λ value is.
       let there = element_of-some 0x30 (g.T.Parts.Part.bytes (g.T.Record.parts value)) c.args.input.now is in
@@ -39,8 +39,8 @@ returns-in-Err-read_parts g c place is-row = record {
 }
 
 pub returns-in-Ok-finish : goal.returns-in-Ok-finish
-returns-in-Ok-finish g c place is-row = record {
-  found = rw is-row
+returns-in-Ok-finish g c place is-parts = record {
+  found = rw is-parts
       (rw c.new-reader.ensures at
       (opened_whole 0x30 (g.T.Parts.Part.bytes c.read_parts.new.place) c.in-Ok.content _ _ c.in-Ok.ensures.found
       c.in-Ok-read_parts.ensures.found c.in-Ok-finish.ensures.found.0));
@@ -50,7 +50,7 @@ returns-in-Ok-finish g c place is-row = record {
       (over_element 0x30 there.inside c.args.input.now _ c.new-reader.ensures there.at.encoded) in
       let inside : c.in-Ok.content.unread ≡ there.inside = cc (opened.0) in
       let found : g.T.Parts.Part.bytes (g.T.Record.parts place) ≡ Some there.inside =
-      rw (is-row, c.in-Ok-read_parts.ensures.found) (ap (λ xs. Some xs) inside) in
+      rw (is-parts, c.in-Ok-read_parts.ensures.found) (ap (λ xs. Some xs) inside) in
       ap (λ v. Ok v) (c.content_injective.ensures place value there.inside found there.same);
   kinds = search rules;
   kind =
@@ -61,7 +61,7 @@ returns-in-Ok-finish g c place is-row = record {
 }
 
 pub returns-in-Err-finish : goal.returns-in-Err-finish
-returns-in-Err-finish g c place is-row = record {
+returns-in-Err-finish g c place is-parts = record {
   found = search rules;
   only = λ value is.
       let there = element_of-some 0x30 (g.T.Parts.Part.bytes (g.T.Record.parts value)) c.args.input.now is in

@@ -4,7 +4,7 @@ use Rattle.sec1_der.specs.Readers.{Reader}
 use Rattle.sec1_der.proofs.ElementLaws.{element_of-some}
 use Rattle.sec1_der.proofs.FaultLaws.{reader_at}
 use Rattle.sec1_der.proofs.JoinLaws.{parted}
-use Rattle.der_types.proofs.RowLemmas.{elements_left}
+use Rattle.der_types.proofs.SequenceLemmas.{elements_left}
 use Rattle.der_types.proofs.sequence_of.Elements.next.Goals as goal
 
 pub invariant_of-self-inside : goal.invariant_of-self-inside

@@ -8,22 +8,22 @@ use Rattle.sec1_der.specs.Faults.{Fault, HasFault, IsFaultOf, no_fault}
 use Rattle.sec1_der.specs.Faults.{element_fault}
 use Rattle.sec1_der.specs.declared.error.Error.{Error}
 use Rattle.sec1_der.specs.declared.error.ErrorKind.{ErrorKind}
-use Rattle.der_types.specs.Sequences.{joined, elements_fault, row_fault}
+use Rattle.der_types.specs.Sequences.{joined, elements_fault, sequence_fault}
 use Rattle.sec1_der.proofs.KindLaws.{refused_more}
 use Rattle.sec1_der.proofs.FaultLaws.{reads_on, reader_at}
 use Rattle.sec1_der.proofs.JoinLaws.{parted}
 use Rattle.sec1_der.proofs.ElementLaws.{element_of-some, element_of-within}
 
 -- the reader stands before some of the elements: the fault of all of them is that of these
-pub record IsRowRest (tag : ℕ) (f : Fault) (start : List ℕ) (now : Reader) : Type 0 where
+pub record IsSequenceRest (tag : ℕ) (f : Fault) (start : List ℕ) (now : Reader) : Type 0 where
   pub most : ℕ
   pub room : length now.unread ≤ most
   pub whole : now.failed ≡ false
-  pub same : row_fault tag f start ≡ elements_fault tag f most now.unread
+  pub same : sequence_fault tag f start ≡ elements_fault tag f most now.unread
 
-pub row_begins : (tag : ℕ) (f : Fault) (start : List ℕ) (now : Reader) → now ≡ reader_over start
-    → IsRowRest tag f start now
-row_begins tag f start now is =
+pub sequence_begins : (tag : ℕ) (f : Fault) (start : List ℕ) (now : Reader) → now ≡ reader_over start
+    → IsSequenceRest tag f start now
+sequence_begins tag f start now is =
     let unread : now.unread ≡ start = ap (λ (r : Reader). r.unread) is in
     record {
       most = length start;
@@ -53,15 +53,15 @@ shorter_read tag f None old new found = absurd found
 shorter_read tag f (Some inside) old new found = shorter tag inside old new found.1
 
 -- the reader stands after one more element
-pub row_continues : (tag : ℕ) (f : Fault) (start : List ℕ) (content : Option (List ℕ))
-    (old new : Reader) → IsRowRest tag f start old
+pub sequence_continues : (tag : ℕ) (f : Fault) (start : List ℕ) (content : Option (List ℕ))
+    (old new : Reader) → IsSequenceRest tag f start old
     → 0 < length old.unread
     → IsSomeAnd content (λ inside. (f inside ≡ None) × HasReadElement tag inside old new)
-    → IsRowRest tag f start new
-row_continues tag f start content old new at some found = by at.most at.room at.same
+    → IsSequenceRest tag f start new
+sequence_continues tag f start content old new at some found = by at.most at.room at.same
   where
-    by : (most : ℕ) → length old.unread ≤ most → row_fault tag f start ≡ elements_fault tag f most old.unread
-        → IsRowRest tag f start new
+    by : (most : ℕ) → length old.unread ≤ most → sequence_fault tag f start ≡ elements_fault tag f most old.unread
+        → IsSequenceRest tag f start new
     by zero room same = absurd (omega arith)
     by (suc most) room same =
         let on = reads_on f tag content old new found in
@@ -72,21 +72,22 @@ row_continues tag f start content old new at some found = by at.most at.room at.
           same = same ∙ (one_more tag f most old.unread some ∙ on.next (elements_fault tag f most));
         }
 
-pub row_refused : (tag : ℕ) (f : Fault) (start : List ℕ) (old : Reader) (k : ErrorKind)
-    → IsRowRest tag f start old → 0 < length old.unread
-    → IsFaultOf (element_fault tag f no_fault old.unread) k → IsFaultOf (row_fault tag f start) k
-row_refused tag f start old k at some e = by at.most at.room at.same
+pub sequence_refused : (tag : ℕ) (f : Fault) (start : List ℕ) (old : Reader) (k : ErrorKind)
+    → IsSequenceRest tag f start old → 0 < length old.unread
+    → IsFaultOf (element_fault tag f no_fault old.unread) k → IsFaultOf (sequence_fault tag f start) k
+sequence_refused tag f start old k at some e = by at.most at.room at.same
   where
-    by : (most : ℕ) → length old.unread ≤ most → row_fault tag f start ≡ elements_fault tag f most old.unread
-        → IsFaultOf (row_fault tag f start) k
+    by : (most : ℕ) → length old.unread ≤ most → sequence_fault tag f start ≡ elements_fault tag f most old.unread
+        → IsFaultOf (sequence_fault tag f start) k
     by zero room same = absurd (omega arith)
     by (suc most) room same =
         rw (same, one_more tag f most old.unread some)
         (refused_more f (elements_fault tag f most) tag old.unread k e)
 
-pub row_ends : (tag : ℕ) (f : Fault) (start : List ℕ) (old : Reader) → IsRowRest tag f start old → length old.unread ≤ 0
-    → row_fault tag f start ≡ None
-row_ends tag f start old at none = at.same ∙ by at.most old.unread none
+pub sequence_ends : (tag : ℕ) (f : Fault) (start : List ℕ) (old : Reader) → IsSequenceRest tag f start old
+    → length old.unread ≤ 0
+    → sequence_fault tag f start ≡ None
+sequence_ends tag f start old at none = at.same ∙ by at.most old.unread none
   where
     by : (most : ℕ) (bytes : List ℕ) → length bytes ≤ 0 → elements_fault tag f most bytes ≡ None
     by zero bytes none = refl
@@ -203,25 +204,25 @@ elements_bound tag f (suc m) (suc n) (byte ∷ bytes) l r =
     rest_alike f _ _ tag byte bytes (λ rest few. elements_bound tag f m n rest (omega arith) (omega arith))
 
 -- the fault of elements is that of the first, and then that of the others
-row_first : (tag : ℕ) (f : Fault) (bytes : List ℕ) → 0 < length bytes
-    → row_fault tag f bytes ≡ element_fault tag f (row_fault tag f) bytes
-row_first tag f [] some = absurd (omega arith)
-row_first tag f (byte ∷ bytes) some =
+sequence_first : (tag : ℕ) (f : Fault) (bytes : List ℕ) → 0 < length bytes
+    → sequence_fault tag f bytes ≡ element_fault tag f (sequence_fault tag f) bytes
+sequence_first tag f [] some = absurd (omega arith)
+sequence_first tag f (byte ∷ bytes) some =
     rest_alike f _ _ tag byte bytes
     (λ rest few. elements_bound tag f (length bytes) (length rest) rest few (omega arith))
 
 -- an element that is read from elements is there, and what is left is elements
 pub elements_left : (tag : ℕ) (f : Fault) {A : Type 0} (content : A → Option (List ℕ))
     (result : Result A Error) (old new : Reader)
-    → row_fault tag f old.unread ≡ None → 0 < length old.unread
+    → sequence_fault tag f old.unread ≡ None → 0 < length old.unread
     → IfOk result
     (λ value. IsSomeAnd (content value) (λ inside. (f inside ≡ None) × HasReadElement tag inside old new))
     → HasFault result (element_fault tag f no_fault old.unread)
-    → (new.failed ≡ false) × (row_fault tag f new.unread ≡ None)
+    → (new.failed ≡ false) × (sequence_fault tag f new.unread ≡ None)
 elements_left tag f content (Ok value) old new whole some found kind =
     let on = reads_on f tag (content value) old new found in
-    (on.whole, sym (on.next (row_fault tag f)) ∙ (sym (row_first tag f old.unread some) ∙ whole))
+    (on.whole, sym (on.next (sequence_fault tag f)) ∙ (sym (sequence_first tag f old.unread some) ∙ whole))
 elements_left tag f content (Err e) old new whole some found kind =
-    let refused = refused_more f (row_fault tag f) tag old.unread e.kind kind in
-    let none = sym (row_first tag f old.unread some) ∙ whole in
+    let refused = refused_more f (sequence_fault tag f) tag old.unread e.kind kind in
+    let none = sym (sequence_first tag f old.unread some) ∙ whole in
     absurd (rw none at refused)
