@@ -6,7 +6,7 @@ use Rattle.std.proofs.lemmas.List.{length-append}
 use Rattle.std.specs.Option.{option_or}
 use Rattle.std.specs.Prelude.{IfOk, IfErr}
 use Rattle.sec1_der.specs.Elements.{length_octets, element, IsHeader, is_tag}
-use Rattle.sec1_der.proofs.FaultLaws.{within_octets}
+use Rattle.sec1_der.proofs.FaultLaws.{split_octets}
 use Rattle.sec1_der.specs.Faults.{IsFaultOf, no_fault, any_fault, parts_fault, content_at}
 use Rattle.sec1_der.specs.declared.error.ErrorKind.{ErrorKind}
 use Rattle.der_faults.specs.Places.{Place, before, parts_place, any_place, element_place}
@@ -16,7 +16,7 @@ pub any_found : (f : ℕ → Place) (g : Place) (end tag : ℕ) (content bytes r
     → IsHeader tag (length content) → bytes ≡ element tag content ++ rest
     → any_place f g end bytes ≡ option_or (f tag (end - length rest) content) (g end rest)
 any_found f g end tag content bytes rest h e =
-    rw (e, h.tag_byte, within_octets content rest h.within) refl
+    rw (e, h.tag_byte, split_octets content rest h.within) refl
 
 -- the place of an element whose length or content isn't there is at its length
 pub any_refused : (f : ℕ → Place) (g : Place) (end tag : ℕ) (bytes : List ℕ) (k : ErrorKind) → is_tag tag ≡ true

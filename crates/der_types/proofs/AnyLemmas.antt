@@ -8,7 +8,7 @@ use Rattle.std.proofs.lemmas.Slice.Eq.{bytes_eq-Decides}
 use Rattle.sec1_der.specs.Elements.{max_length, length_octets, element, is_tag, IsHeader, IsElement}
 use Rattle.sec1_der.specs.Parts.{AreDistinct, is_among}
 use Rattle.sec1_der.specs.Readers.{Reader, HasRead}
-use Rattle.sec1_der.specs.Faults.{Fault, no_fault, any_fault, parts_fault, within, IsFaultOf, content_at}
+use Rattle.sec1_der.specs.Faults.{Fault, no_fault, any_fault, parts_fault, split_content, IsFaultOf, content_at}
 use Rattle.sec1_der.specs.declared.error.Error.{Error}
 use Rattle.sec1_der.specs.declared.error.ErrorKind.{ErrorKind}
 use Rattle.sec1_der.specs.declared.error.ErrorKind.TheVariants.{Tag}

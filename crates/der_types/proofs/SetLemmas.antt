@@ -10,14 +10,14 @@ use Rattle.sec1_der.specs.Elements.{is_tag}
 use Rattle.sec1_der.specs.Faults.{Fault, no_fault, any_fault, parts_fault, content_at}
 use Rattle.sec1_der.specs.declared.error.ErrorKind.{ErrorKind}
 use Rattle.sec1_der.specs.declared.error.ErrorKind.TheVariants.{Tag}
-use Rattle.sec1_der.proofs.FaultLaws.{within_octets}
+use Rattle.sec1_der.proofs.FaultLaws.{split_octets}
 use Rattle.der_types.specs.Sequences.{element_and_rest, first_element, is_at_most, ascends, is_ascending}
 
 -- the element that bytes begin with is found
 pub first_found : (tag : ℕ) (content bytes rest : List ℕ) → IsHeader tag (length content)
     → bytes ≡ element tag content ++ rest → first_element bytes ≡ Some (element tag content, rest)
 first_found tag content bytes rest h e =
-    rw (e, h.tag_byte, within_octets content rest h.within) refl
+    rw (e, h.tag_byte, split_octets content rest h.within) refl
 
 -- where an element is refused, none is found
 pub first_missing : (bytes : List ℕ) (k : ErrorKind) → any_fault (λ _. no_fault) no_fault bytes ≡ Some (Some k)

@@ -26,7 +26,7 @@ use Rattle.sec1_der.proofs.FaultLaws.{element_at}
 use Rattle.sec1_der.proofs.KindLaws.{element_says, end_says, said_kind}
 use Rattle.pkix.proofs.KindLaws.{private_key_says}
 use Rattle.sec1_der.specs.Faults.{Fault, IsFaultOf, element_fault, end_fault, length_at, no_fault, optional_fault}
-use Rattle.sec1_der.specs.Faults.{parts_fault, within}
+use Rattle.sec1_der.specs.Faults.{parts_fault, split_content}
 use Rattle.sec1_der.specs.declared.error.Error.{Error}
 use Rattle.sec1_der.specs.declared.error.ErrorKind.{ErrorKind}
 use Rattle.sec1_der.specs.declared.error.ErrorKind.TheVariants.{Tag, Value}
@@ -71,7 +71,7 @@ whole_chosen : (f g h : Fault) (tag : ℕ) (bytes : List ℕ)
     → IsChosen (element_fault tag f end_fault bytes) (element_fault tag g end_fault bytes)
     (element_fault tag h end_fault bytes)
 whole_chosen f g h tag [] content = same _
-whole_chosen f g h tag (byte ∷ bytes) content = by (byte == tag) (within (length_at bytes))
+whole_chosen f g h tag (byte ∷ bytes) content = by (byte == tag) (split_content (length_at bytes))
   where
     by : (b : Bool) (found : Result (List ℕ × List ℕ) ErrorKind)
         → IsChosen (if b then parts_fault f end_fault found else Some (Some Tag))
@@ -98,7 +98,7 @@ version_chosen : (f g : Fault) (content : List ℕ)
     (if has_version_one content then element_fault 0x02 (byte_fault 1) g content
     else element_fault 0x02 (byte_fault 0) f content)
 version_chosen f g [] = record { by_value = λ e. absurd (cc e); by_other = λ _. refl }
-version_chosen f g (byte ∷ bytes) = by (byte == 0x02) (within (length_at bytes))
+version_chosen f g (byte ∷ bytes) = by (byte == 0x02) (split_content (length_at bytes))
   where
     versions : (one zero : Bool) (p q : Option (Option ErrorKind)) → (one ≡ true → zero ≡ false)
         → IsChosen (option_or (value_unless zero) p) (option_or (value_unless one) q)

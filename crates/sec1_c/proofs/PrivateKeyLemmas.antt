@@ -13,7 +13,7 @@ use Rattle.sec1_der.proofs.ElementLaws.{element_of-some}
 use Rattle.sec1_der.proofs.FaultLaws.{alone, element_at, read_element}
 use Rattle.sec1_der.proofs.JoinLaws.{parted}
 use Rattle.sec1_der.specs.Elements.{element, element_of, length_octets}
-use Rattle.sec1_der.specs.Faults.{Fault, IsFaultOf, element_fault, no_fault, parts_fault, within, content_at}
+use Rattle.sec1_der.specs.Faults.{Fault, IsFaultOf, element_fault, no_fault, parts_fault, split_content, content_at}
 use Rattle.sec1_der.specs.Parts.{join}
 use Rattle.sec1_der.specs.Readers.{HasReadElement, Reader}
 use Rattle.sec1_der.specs.declared.error.ErrorKind.{ErrorKind}

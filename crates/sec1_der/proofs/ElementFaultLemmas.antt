@@ -12,7 +12,8 @@ use Rattle.sec1_der.specs.Elements.{max_length, length_octets, header, element, 
 use Rattle.sec1_der.specs.Elements.{IsProperPrefix}
 use Rattle.sec1_der.specs.Errors.{length_fault, header_fault}
 use Rattle.sec1_der.specs.Readers.{Reader, reader_over, HasReadElement}
-use Rattle.sec1_der.specs.Faults.{Fault, no_fault, end_fault, number_at, length_at, within, parts_fault, content_at}
+use Rattle.sec1_der.specs.Faults.{Fault, no_fault, end_fault, number_at, length_at, split_content, parts_fault}
+use Rattle.sec1_der.specs.Faults.{content_at}
 use Rattle.sec1_der.specs.Faults.{element_fault, optional_fault, any_fault, document_fault}
 use Rattle.sec1_der.specs.declared.error.ErrorKind.TheVariants.{Truncated, TrailingData}
 use Rattle.sec1_der.proofs.HeaderLemmas.{LacksHeader, fronts, header_front, longer, some_length}

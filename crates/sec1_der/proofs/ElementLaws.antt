@@ -6,7 +6,7 @@ use Rattle.std.proofs.lemmas.Bool.{le-leb, lt-leb, cases_lt}
 use Rattle.sec1_der.specs.Elements.{max_length, header, element, element_of}
 use Rattle.sec1_der.proofs.LengthLaws.{len_apart, split_same}
 use Rattle.sec1_der.specs.Trees.{bytes}
-use Rattle.sec1_der.specs.Faults.{within}
+use Rattle.sec1_der.specs.Faults.{split_content}
 
 -- two headers that begin one list
 pub header_apart : (tag n tag' n' : ℕ) (r s : List ℕ) → header tag n ++ r ≡ header tag' n' ++ s

@@ -6,7 +6,7 @@ use Rattle.std.proofs.Common.{eq-eqb, ◌≤◌, length, take, drop, arith, le-l
 use Rattle.std.proofs.Common.{append_assoc, length-drop, ◌+◌, ◌-◌, inl, inr}
 use Rattle.std.specs.Option.{option_or}
 use Rattle.sec1_der.specs.Readers.{Reader, HasRead, HasReadElement, IsSuffix, reader_over}
-use Rattle.sec1_der.specs.Faults.{Fault, length_at, within, parts_fault, element_fault}
+use Rattle.sec1_der.specs.Faults.{Fault, length_at, split_content, parts_fault, element_fault}
 use Rattle.sec1_der.specs.Faults.{any_fault}
 use Rattle.sec1_der.specs.declared.error.ErrorKind.{ErrorKind}
 use Rattle.std.proofs.lemmas.Grind.{common_steps}
@@ -30,9 +30,9 @@ length_at_octets n rest fits =
     ) refl
 
 -- the content after a length is found, and what follows it
-pub within_octets : (content rest : List ℕ) → length content ≤ max_length
-    → within (length_at ((length_octets (length content) ++ content) ++ rest)) ≡ Ok (content, rest)
-within_octets content rest fits =
+pub split_octets : (content rest : List ℕ) → length content ≤ max_length
+    → split_content (length_at ((length_octets (length content) ++ content) ++ rest)) ≡ Ok (content, rest)
+split_octets content rest fits =
     let n = length content in
     let room = le-leb n (length (content ++ rest)) (omega (arith, length-append content rest)) in
     rw (
@@ -45,9 +45,9 @@ within_octets content rest fits =
 -- the fault after the first byte of an element is that of its content, or else of the bytes after
 -- it
 pub parts_at : (f g : Fault) (content rest : List ℕ) → length content ≤ max_length
-    → parts_fault f g (within (length_at ((length_octets (length content) ++ content) ++ rest)))
+    → parts_fault f g (split_content (length_at ((length_octets (length content) ++ content) ++ rest)))
     ≡ option_or (f content) (g rest)
-parts_at f g content rest fits = rw (within_octets content rest fits) refl
+parts_at f g content rest fits = rw (split_octets content rest fits) refl
 
 -- where a header has room for its content, the fault is that of the content, or else of the bytes
 -- after it

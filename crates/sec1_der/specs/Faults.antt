@@ -52,14 +52,15 @@ length_at bytes =
     then Ok (n, drop (length encoded) bytes) else Err (length_fault bytes)
 
 -- X.690 section 8.1.4: as many bytes as the length says, and the bytes after them
-abbrev pub within : Result (ℕ × List ℕ) ErrorKind → Result (List ℕ × List ℕ) ErrorKind
-within (Err kind) = Err kind
-within (Ok x) = if nat_le x.0 (length x.1) then Ok (take x.0 x.1, drop x.0 x.1) else Err Truncated
+abbrev pub split_content : Result (ℕ × List ℕ) ErrorKind → Result (List ℕ × List ℕ) ErrorKind
+split_content (Err kind) = Err kind
+split_content (Ok x) =
+    if nat_le x.0 (length x.1) then Ok (take x.0 x.1, drop x.0 x.1) else Err Truncated
 
 -- X.690 section 8.1.1: the content that these bytes begin with, after its length, and the bytes
 -- after it
 abbrev pub content_at : List ℕ → Result (List ℕ × List ℕ) ErrorKind
-content_at bytes = within (length_at bytes)
+content_at bytes = split_content (length_at bytes)
 
 -- the fault of the length, of the content, or of the bytes after it, in this order
 abbrev pub parts_fault : Fault → Fault → Result (List ℕ × List ℕ) ErrorKind
