@@ -16,7 +16,7 @@ pub any_found : (f : ℕ → Place) (g : Place) (end tag : ℕ) (content bytes r
     → IsHeader tag (length content) → bytes ≡ element tag content ++ rest
     → any_place f g end bytes ≡ option_or (f tag (end - length rest) content) (g end rest)
 any_found f g end tag content bytes rest h e =
-    rw (e, h.tag_byte, split_octets content rest h.within) refl
+    rw (e, h.tag_byte, split_octets content rest h.bounded) refl
 
 -- the place of an element whose length or content isn't there is at its length
 pub any_refused : (f : ℕ → Place) (g : Place) (end tag : ℕ) (bytes : List ℕ) (k : ErrorKind) → is_tag tag ≡ true

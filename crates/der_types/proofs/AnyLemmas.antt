@@ -33,7 +33,7 @@ element_tested bytes e =
     record {
       tag = first_byte bytes;
       content = content_in bytes;
-      is_header = record { tag_byte = parts.0; within = leb-true _ _ more.0 };
+      is_header = record { tag_byte = parts.0; bounded = leb-true _ _ more.0 };
       encoded = sym ((bytes_eq-Decides (element (first_byte bytes) (content_in bytes)) bytes).0 more.1);
     }
 
@@ -50,7 +50,7 @@ passes_at tag content is =
     let same = (bytes_eq-Decides (element tag content) (element tag content)).1 refl in
     let found = content_found tag content in
     and_both _ _ is.tag_byte
-    (and_both _ _ (rw found (le-leb (length content) max_length is.within))
+    (and_both _ _ (rw found (le-leb (length content) max_length is.bounded))
     (ap (λ c. bytes_eq (element tag c) (element tag content)) found ∙ same))
 
 pub element_passes : (bytes : List ℕ) → IsElement bytes → is_element bytes ≡ true

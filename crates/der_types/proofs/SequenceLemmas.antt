@@ -131,7 +131,7 @@ value_read tag f content value old new found left = (value ∷ left.0, by (conte
         → joined tag content (value ∷ left.0) ≡ Some old.unread
     by None e found = absurd found
     by (Some inside) e (meets, found) =
-        let element = element_of-within tag (content value) inside e found.within in
+        let element = element_of-within tag (content value) inside e found.bounded in
         rw (element, left.1, ap (λ (r : Reader). r.unread) found.read.was_whole) refl
 
 -- the first of the values that are left
@@ -140,7 +140,7 @@ pub record FirstValue {A : Type 0} (tag : ℕ) (content : A → Option (List ℕ
   pub inside : List ℕ
   pub left : List ℕ
   pub same : content value ≡ Some inside
-  pub within : length inside ≤ max_length
+  pub bounded : length inside ≤ max_length
   pub split : bytes ≡ element tag inside ++ left
   pub rest : HasValues tag content left
 
@@ -155,7 +155,7 @@ first_value tag content bytes some (value ∷ values, e) =
       inside = first.inside;
       left = all.back;
       same = first.same;
-      within = first.at.within;
+      bounded = first.at.bounded;
       split = all.joined ∙ ap (λ xs. xs ++ all.back) first.at.encoded;
       rest = (values, all.second_there);
     }
@@ -172,7 +172,8 @@ values_read tag f content start value old new at some whole found read = record 
   found = λ left. at.found (value_read tag f content value old new found left);
   only = λ all.
       let first = first_value tag content old.unread some (at.only all) in
-      let next = read first.value first.inside first.left first.same first.within (reader_at old _ first.split whole) in
+      let next = read first.value first.inside first.left first.same first.bounded
+      (reader_at old _ first.split whole) in
       rw (ap (λ (r : Reader). r.unread) next) first.rest;
 }
 
@@ -183,7 +184,7 @@ pub value_there : (tag : ℕ) {A : Type 0} (content : A → Option (List ℕ)) (
     → old ≡ reader_over (element tag inside ++ left) → C) → C
 value_there tag content start old C at some whole all read =
     let first = first_value tag content old.unread some (at.only all) in
-    read first.value first.inside first.left first.same first.within (reader_at old _ first.split whole)
+    read first.value first.inside first.left first.same first.bounded (reader_at old _ first.split whole)
 
 -- two faults of an element are the same if they agree on fewer bytes after it
 rest_alike : (f g h : Fault) (tag byte : ℕ) (bytes : List ℕ)

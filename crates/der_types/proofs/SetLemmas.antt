@@ -17,7 +17,7 @@ use Rattle.der_types.specs.Sequences.{element_and_rest, first_element, is_at_mos
 pub first_found : (tag : ℕ) (content bytes rest : List ℕ) → IsHeader tag (length content)
     → bytes ≡ element tag content ++ rest → first_element bytes ≡ Some (element tag content, rest)
 first_found tag content bytes rest h e =
-    rw (e, h.tag_byte, split_octets content rest h.within) refl
+    rw (e, h.tag_byte, split_octets content rest h.bounded) refl
 
 -- where an element is refused, none is found
 pub first_missing : (bytes : List ℕ) (k : ErrorKind) → any_fault (λ _. no_fault) no_fault bytes ≡ Some (Some k)

@@ -27,7 +27,7 @@ elements_fault-numbers (suc most) (n ∷ numbers) bytes is =
     let first = element_of-some 0x02 (Some (unsigned_content n)) all.front all.first_there in
     let content : unsigned_content n ≡ first.inside = cc (first.same) in
     let at = element_at number_fault (elements_fault 0x02 number_fault most) 0x02 first.inside
-    (element 0x02 first.inside ++ all.back) all.back first.at.within refl in
+    (element 0x02 first.inside ++ all.back) all.back first.at.bounded refl in
     rw (all.joined, first.at.encoded) (at ∙ rw (← content, is_unsigned-unsigned_content n)
     (elements_fault-numbers most numbers all.back all.second_there))
 

@@ -13,7 +13,7 @@ pub named_by : (curve : Curve) (content bytes : List ℕ) → curve_content curv
     → element_of 0x06 (identifier_content (curve_arcs curve)) ≡ Some bytes
 named_by curve content bytes same header encoded =
     let e = element_of-within 0x06 (identifier_content (curve_arcs curve)) content
-    (content-curve_arcs curve content same) header.within in
+    (content-curve_arcs curve content same) header.bounded in
     rw encoded e
 
 -- an element that names a curve has the tag of an identifier, and the content of the curve's

@@ -39,7 +39,7 @@ pub opened_read : (f : Fault) (tag : ℕ) (content : Option (List ℕ)) (inside 
     → IsSomeAnd (element_of tag content) (λ whole. HasRead whole old new)
     × ((rest : Fault) → element_fault tag f rest old.unread ≡ rest new.unread)
 opened_read f tag content inside old new found same meets = (
-  rw (element_of-within tag content inside.unread same found.1.within) found.1.read,
+  rw (element_of-within tag content inside.unread same found.1.bounded) found.1.read,
   (opened_passes f tag inside old new found meets).next,
 )
 

@@ -66,7 +66,7 @@ is_element : (curve : Curve) → IsElement (element 0x06 (curve_content curve))
 is_element curve = record {
   tag = 0x06;
   content = curve_content curve;
-  is_header = record { tag_byte = refl; within = omega (arith, content_short curve) };
+  is_header = record { tag_byte = refl; bounded = omega (arith, content_short curve) };
   encoded = refl;
 }
 

@@ -22,7 +22,7 @@ record IsSplit (certificate : Certificate) (bytes : List ℕ) : Type 0 where
   fields_there : after_info certificate ≡ Some fields
   signature_there : after_tbs certificate ≡ Some signature
   split : bytes ≡ front ++ (info ++ (fields ++ signature))
-  within : length info + (length fields + length signature) ≤ max_length
+  bounded : length info + (length fields + length signature) ≤ max_length
 
 split_certificate : (certificate : Certificate) (bytes : List ℕ) → IsCertificate certificate bytes
     → IsSplit certificate bytes
@@ -45,7 +45,7 @@ split_certificate certificate bytes is =
       fields_there = key.second_there;
       signature_there = outer.second_there;
       split = grind (arith, append_assoc);
-      within = grind (arith, length-append, whole.at.within);
+      bounded = grind (arith, length-append, whole.at.bounded);
     }
 
 -- the SubjectPublicKeyInfo is at its place
@@ -71,8 +71,8 @@ pub fields_fit : (certificate : Certificate) (bytes : List ℕ) → IsCertificat
 fields_fit certificate bytes is =
     let parts = split_certificate certificate bytes is in
     record {
-      info = limited (info_of certificate) parts.info parts.info_there (omega (arith, parts.within));
-      fields = limited (after_info certificate) parts.fields parts.fields_there (omega (arith, parts.within));
-      signature = limited (after_tbs certificate) parts.signature parts.signature_there (omega (arith, parts.within));
+      info = limited (info_of certificate) parts.info parts.info_there (omega (arith, parts.bounded));
+      fields = limited (after_info certificate) parts.fields parts.fields_there (omega (arith, parts.bounded));
+      signature = limited (after_tbs certificate) parts.signature parts.signature_there (omega (arith, parts.bounded));
       room = rw (parts.info_there, parts.fields_there, parts.signature_there) (grind (arith, length-append));
     }

@@ -164,7 +164,7 @@ other_version container bytes is =
     let split : whole.inside ≡ element 0x02 (1 ∷ []) ++ rest.back = grind (arith, rest.joined, version) in
     let first = element_at (byte_fault 0) after_version 0x02 (1 ∷ []) whole.inside rest.back (lit≤ tt) split in
     let outer = element_at private_key_fault end_fault 0x30 whole.inside bytes []
-    whole.at.within (grind (arith, append-nil, whole.at.encoded)) in
+    whole.at.bounded (grind (arith, append-nil, whole.at.encoded)) in
     outer ∙ ap (λ (fault : Option (Option ErrorKind)). option_or fault None) first
 
 join_assoc : (a b c : Option (List ℕ)) → join (join a b) c ≡ join a (join b c)
@@ -251,7 +251,7 @@ record IsSplit (curve : Curve) (container : OneAsymmetricKey) (bytes : List ℕ)
   rest_there : after_key container ≡ Some rest
   split : bytes ≡ front ++ (curve_content curve ++ (element 0x04 container.private_key ++ rest))
   key_there : element_of 0x04 (Some container.private_key) ≡ Some (element 0x04 container.private_key)
-  within : length (element 0x04 container.private_key) + length rest ≤ max_length
+  bounded : length (element 0x04 container.private_key) + length rest ≤ max_length
 
 split_version : (version : ℕ) (curve : Curve) (container : OneAsymmetricKey) (bytes : List ℕ)
     → element_of 0x30 (container_content version container) ≡ Some bytes
@@ -273,7 +273,7 @@ split_version version curve container bytes is on =
       rest_there = fields.second_there;
       split = grind (arith, append_assoc);
       key_there = parts.second_there ∙ ap Some field;
-      within = grind (arith, length-append, whole.at.within);
+      bounded = grind (arith, length-append, whole.at.bounded);
     }
 
 split_container : (curve : Curve) (container : OneAsymmetricKey) (bytes : List ℕ) → IsContainer container bytes
@@ -315,8 +315,8 @@ pub parts_fit : (curve : Curve) (container : OneAsymmetricKey) (bytes : List ℕ
 parts_fit curve container bytes is on =
     let parts = split_container curve container bytes is on in
     record {
-      rest = limited (after_key container) parts.rest parts.rest_there (omega (arith, parts.within));
-      key = limited _ (element 0x04 container.private_key) parts.key_there (omega (arith, parts.within));
+      rest = limited (after_key container) parts.rest parts.rest_there (omega (arith, parts.bounded));
+      key = limited _ (element 0x04 container.private_key) parts.key_there (omega (arith, parts.bounded));
       room = rw (parts.key_there, parts.rest_there) (grind (arith, length-append));
       content = rw (parts.rest_there) (grind (arith, length-append));
     }
@@ -331,7 +331,7 @@ record IsParted (container : OneAsymmetricKey) (bytes : List ℕ) : Type 0 where
   key_there : element_of 0x04 (Some container.private_key) ≡ Some key
   rest_there : after_key container ≡ Some rest
   split : bytes ≡ front ++ (algorithm ++ (key ++ rest))
-  within : length algorithm + (length key + length rest) ≤ max_length
+  bounded : length algorithm + (length key + length rest) ≤ max_length
 
 part_version : (version : ℕ) (container : OneAsymmetricKey) (bytes : List ℕ)
     → element_of 0x30 (container_content version container) ≡ Some bytes
@@ -351,7 +351,7 @@ part_version version container bytes is =
       key_there = parts.second_there;
       rest_there = fields.second_there;
       split = grind (arith, append_assoc);
-      within = grind (arith, length-append, whole.at.within);
+      bounded = grind (arith, length-append, whole.at.bounded);
     }
 
 part_container : (container : OneAsymmetricKey) (bytes : List ℕ) → IsContainer container bytes
@@ -373,8 +373,8 @@ pub algorithm_fits : (container : OneAsymmetricKey) (bytes : List ℕ) → IsCon
 algorithm_fits container bytes is =
     let parts = part_container container bytes is in
     record {
-      rest = limited (after_key container) parts.rest parts.rest_there (omega (arith, parts.within));
-      key = limited _ parts.key parts.key_there (omega (arith, parts.within));
-      algorithm = limited _ parts.algorithm parts.algorithm_there (omega (arith, parts.within));
+      rest = limited (after_key container) parts.rest parts.rest_there (omega (arith, parts.bounded));
+      key = limited _ parts.key parts.key_there (omega (arith, parts.bounded));
+      algorithm = limited _ parts.algorithm parts.algorithm_there (omega (arith, parts.bounded));
       room = rw (parts.algorithm_there, parts.key_there, parts.rest_there) (grind (arith, length-append));
     }

@@ -81,7 +81,7 @@ form_of version tag rest bytes is begins =
     let next = begins parts.back parts.second_there in
     let split : whole.inside ≡ element 0x02 (version ∷ []) ++ parts.back = grind (arith, parts.joined, number) in
     let inner = element_at no_fault (tag_fault 0x30) 0x02 (version ∷ []) whole.inside parts.back (lit≤ tt) split in
-    let outer = element_at form_fault no_fault 0x30 whole.inside bytes [] whole.at.within
+    let outer = element_at form_fault no_fault 0x30 whole.inside bytes [] whole.at.bounded
     (grind (arith, append-nil, whole.at.encoded)) in
     let last : tag_fault 0x30 parts.back ≡ tag_fault 0x30 (tag ∷ []) = rw next.split refl in
     ap is_whole (outer ∙ (alone (form_fault whole.inside) ∙ (inner ∙ last)))

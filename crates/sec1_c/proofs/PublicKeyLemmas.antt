@@ -156,8 +156,8 @@ elements_fit info bytes is =
     let whole = element_of-some 0x30 (public_key_content info) bytes is in
     let parts = parted algorithm key whole.inside whole.same in
     record {
-      algorithm = limited algorithm parts.front parts.first_there (grind (arith, length-append, whole.at.within));
-      key = limited key parts.back parts.second_there (grind (arith, length-append, whole.at.within));
+      algorithm = limited algorithm parts.front parts.first_there (grind (arith, length-append, whole.at.bounded));
+      key = limited key parts.back parts.second_there (grind (arith, length-append, whole.at.bounded));
       room = lengths_of algorithm key parts.front parts.back (length bytes) parts.first_there parts.second_there
           (grind (arith, length-append));
     }

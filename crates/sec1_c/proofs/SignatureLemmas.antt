@@ -21,7 +21,7 @@ record IsSplit (value : EcdsaSigValue) (bytes : List ℕ) : Type 0 where
   last_there : element_of 0x02 (Some (unsigned_content value.s)) ≡ Some last
   last_is : last ≡ head ++ unsigned_content value.s
   split : bytes ≡ front ++ (unsigned_content value.r ++ last)
-  within : length last ≤ max_length
+  bounded : length last ≤ max_length
 
 split_signature : (value : EcdsaSigValue) (bytes : List ℕ) → IsSignature value bytes → IsSplit value bytes
 split_signature value bytes is =
@@ -38,7 +38,7 @@ split_signature value bytes is =
       last_there = both.second_there;
       last_is = grind (arith, append_assoc);
       split = grind (arith, append_assoc);
-      within = grind (arith, length-append, whole.at.within);
+      bounded = grind (arith, length-append, whole.at.bounded);
     }
 
 -- the numbers are at their places
@@ -66,7 +66,7 @@ pub numbers_fit : (value : EcdsaSigValue) (bytes : List ℕ) → IsSignature val
 numbers_fit value bytes is =
     let parts = split_signature value bytes is in
     record {
-      last = limited (element_of 0x02 (Some (unsigned_content value.s))) parts.last parts.last_there parts.within;
+      last = limited (element_of 0x02 (Some (unsigned_content value.s))) parts.last parts.last_there parts.bounded;
       room = rw parts.last_there (grind (arith, length-append));
       number = grind (arith, length-append);
     }

@@ -119,7 +119,7 @@ opened input ends rest after end count next o room =
       completes = λ f tail are shallow split e.
           let n : length (joined f) ≡ o.n = omega (arith, o.inside, ap length split, length-append (joined f) tail) in
           let is : IsTree (branch o.tag f) =
-          (o.tag_byte, o.constructed, omega (arith, o.within), are) in
+          (o.tag_byte, o.constructed, omega (arith, o.bounded), are) in
           let whole = o.split
           ∙ rw (← n, split) (sym (append_assoc (header o.tag (length (joined f))) (joined f) tail)) in
           subst (Completes input ends tail) (omega arith) (next.completes (branch o.tag f) tail is (omega arith) whole);

@@ -52,7 +52,7 @@ pub whole_inside : (inside bytes : List ℕ) → element_of 0x03 (Some (0 ∷ in
 whole_inside inside bytes e =
     let is = element_of-some 0x03 (Some (0 ∷ inside)) bytes e in
     let same : 0 ∷ inside ≡ is.inside = cc (is.same) in
-    (omega (arith, ap length same, is.at.within), is.at.encoded ∙ ap (λ content. element 0x03 content) (sym same))
+    (omega (arith, ap length same, is.at.bounded), is.at.encoded ∙ ap (λ content. element 0x03 content) (sym same))
 
 -- the element of a bit string without unused bits isn't refused
 pub whole_taken : (inside bytes : List ℕ) → element_of 0x03 (Some (0 ∷ inside)) ≡ Some bytes
@@ -70,6 +70,6 @@ pub bits_inside : (content bytes : List ℕ) → element_of 0x03 (Some content) 
 bits_inside content bytes is none =
     let there = element_of-some 0x03 (Some content) bytes is in
     let same : content ≡ there.inside = cc (there.same) in
-    let second = element_at whole_bits_fault no_fault 0x03 there.inside bytes [] there.at.within
+    let second = element_at whole_bits_fault no_fault 0x03 there.inside bytes [] there.at.bounded
     (there.at.encoded ∙ sym (append-nil (element 0x03 there.inside))) in
     rw (none, same) (second ∙ alone (whole_bits_fault there.inside))

@@ -43,7 +43,7 @@ pub any_short : (f : ℕ → Fault) (g : Fault) (tag n : ℕ) (bytes inside : Li
     → bytes ≡ header tag n ++ inside → length inside < n
     → any_fault f g bytes ≡ Some (Some Truncated)
 any_short f g tag n bytes inside h e few =
-    rw (e, h.tag_byte, length_at_octets n inside h.within, lt-leb n (length inside) few) refl
+    rw (e, h.tag_byte, length_at_octets n inside h.bounded, lt-leb n (length inside) few) refl
 
 -- bytes that begin with no header are refused by the fault of their header
 pub any_without_header : (f : ℕ → Fault) (g : Fault) (bytes : List ℕ) → LacksHeader bytes
@@ -52,7 +52,7 @@ any_without_header f g [] lacks = refl
 any_without_header f g (byte ∷ bytes) lacks = ⊎_elim
     (λ e. let is : is_tag byte ≡ true = e in
     let none = length_at_lacks bytes
-    (λ n rest fits same. lacks byte n rest (record { tag_byte = is; within = fits }) (ap (λ xs. byte ∷ xs) same)) in
+    (λ n rest fits same. lacks byte n rest (record { tag_byte = is; bounded = fits }) (ap (λ xs. byte ∷ xs) same)) in
     rw (e, none)
     refl)
     (λ e. rw e refl)
@@ -97,7 +97,7 @@ element_cut f g tag content [] fits cut = refl
 element_cut f g tag content (byte ∷ bytes) fits cut =
     let same : tag ≡ byte = cc cut.split in
     let rest : length_octets (length content) ++ content ≡ bytes ++ cut.more = cc cut.split in
-    let inside = parts_cut f g 0x30 content bytes (record { tag_byte = sequence_tag; within = fits })
+    let inside = parts_cut f g 0x30 content bytes (record { tag_byte = sequence_tag; bounded = fits })
     (record { more = cut.more; some = cut.some; split = ap (λ xs. 0x30 ∷ xs) rest }) in
     rw (← same, eq-eqb tag tag refl, inside) refl
 
@@ -120,7 +120,7 @@ read_whole f tag (Some inside) old new (meets, is) end =
     let none : new.unread ≡ [] = ap (λ (r : Reader). r.unread) end in
     let all : old.unread ≡ element tag inside =
     ap (λ (r : Reader). r.unread) is.read.was_whole ∙ rw none (append-nil (element tag inside)) in
-    element_of-within tag (Some inside) inside refl is.within ∙ ap Some (sym all)
+    element_of-within tag (Some inside) inside refl is.bounded ∙ ap Some (sym all)
 
 -- where the content of an element was opened, the fault of the element is that of the content
 pub opened_element : (f : Fault) (tag opened : ℕ) (old new content : Reader)
@@ -168,7 +168,7 @@ read_field : (number : ℕ) (f g : Fault) (content : List ℕ) (old new : Reader
     → optional_fault (0xA0 + number) f g old.unread ≡ option_or (f content) (g new.unread)
 read_field number f g content old new h =
     let tag = 0xA0 + number in
-    rw (ap (λ (r : Reader). r.unread) h.read.was_whole, eq-eqb tag tag refl) (parts_at f g content new.unread h.within)
+    rw (ap (λ (r : Reader). r.unread) h.read.was_whole, eq-eqb tag tag refl) (parts_at f g content new.unread h.bounded)
 
 -- where the content of a field was opened, the fault of the field is that of the one element in it
 pub opened_field : (number tag : ℕ) (f : Fault) (opened : ℕ) (old new content : Reader)

@@ -27,7 +27,7 @@ element_apart tag tag' b c r s e =
 
 -- the bytes are those of the element with this tag and content, and no more
 pub record IsElementOf (tag : ℕ) (content bytes : List ℕ) : Type 0 where
-  pub within : length content ≤ max_length
+  pub bounded : length content ≤ max_length
   pub encoded : bytes ≡ element tag content
 
 -- a content, and the element around it
@@ -47,7 +47,7 @@ element_of-some tag (Some inside) bytes e = ⊎_elim
       inside = inside;
       same = refl;
       at =
-          record { within = fits; encoded = cc (rw (le-leb (length inside) max_length fits) at e) };
+          record { bounded = fits; encoded = cc (rw (le-leb (length inside) max_length fits) at e) };
     })
     (cases_lt max_length (length inside))
 

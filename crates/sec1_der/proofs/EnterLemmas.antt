@@ -60,7 +60,7 @@ opens_at rest inside ends tag n end m f is same some constructed =
       tag_byte = f.0.tag_byte;
       constructed = constructed;
       some = some;
-      within = f.0.within;
+      bounded = f.0.bounded;
       split = split;
       inside = omega arith;
       fits = omega arith;
@@ -79,7 +79,7 @@ single_tree tag content h which = ⊎_elim
     (λ (plain : bit_and tag 32 ≡ 0). (
       leaf tag content,
       record {
-        tree = (h.tag_byte, λ set. set plain, h.within);
+        tree = (h.tag_byte, λ set. set plain, h.bounded);
         alone = refl;
         shallow =
             refl;

@@ -58,7 +58,7 @@ any_room f g tag n bytes inside h e fits =
     rw (
       e,
       h.tag_byte,
-      length_at_octets n inside h.within,
+      length_at_octets n inside h.bounded,
       le-leb n (length inside) fits,
     ) refl
 
@@ -68,7 +68,7 @@ pub any_at : (f : ℕ → Fault) (g : Fault) (tag : ℕ) (content bytes rest : L
     → bytes ≡ element tag content ++ rest
     → any_fault f g bytes ≡ option_or (f tag content) (g rest)
 any_at f g tag content bytes rest h e =
-    rw (e, h.tag_byte) (parts_at (f tag) g content rest h.within)
+    rw (e, h.tag_byte) (parts_at (f tag) g content rest h.bounded)
 
 -- the same of an element with this tag
 pub element_at : (f g : Fault) (tag : ℕ) (content bytes rest : List ℕ) → length content ≤ max_length
@@ -87,7 +87,7 @@ pub read_element : (f g : Fault) (tag : ℕ) (content : List ℕ) (old new : Rea
     → HasReadElement tag content old new
     → element_fault tag f g old.unread ≡ option_or (f content) (g new.unread)
 read_element f g tag content old new h =
-    element_at f g tag content old.unread new.unread h.within
+    element_at f g tag content old.unread new.unread h.bounded
     (ap (λ (r : Reader). r.unread) h.read.was_whole)
 
 -- the end of a list is the end of that list after another

@@ -118,10 +118,10 @@ element_passed ends rest after p = by p.0 p.1 p.2 p.4
   where
     by : (t : Tree) → IsTree t → size t ≡ 1 → rest ≡ bytes t ++ after → next_fault ends rest ≡ open_fault ends after
     by (leaf tag content) tree alone is =
-        next_element ends rest after tag content (record { tag_byte = tree.0; within = tree.2 }) is p.5
+        next_element ends rest after tag content (record { tag_byte = tree.0; bounded = tree.2 }) is p.5
         ∙ rw (leaf_passes (forest_at (length ends + 2)) tag content tree.1) refl
     by (branch tag none) tree alone is =
-        next_element ends rest after tag [] (record { tag_byte = tree.0; within = tree.2 }) is p.5
+        next_element ends rest after tag [] (record { tag_byte = tree.0; bounded = tree.2 }) is p.5
         ∙ rw (ne_eqb (bit_and tag 0x20) 0 tree.1) refl
     by (branch tag (first (leaf tag' content) children)) tree alone is = absurd (omega (arith, alone))
     by (branch tag (first (branch tag' inside) children)) tree alone is = absurd (omega (arith, alone))
@@ -134,7 +134,7 @@ node_opened ends rest after end o =
     let content = take n after in
     let count : length content ≡ o.n = omega (arith, length-take-le n after (omega arith), o.inside) in
     let is : IsHeader o.tag
-    (length content) = record { tag_byte = o.tag_byte; within = omega (arith, count, o.within) } in
+    (length content) = record { tag_byte = o.tag_byte; bounded = omega (arith, count, o.bounded) } in
     let whole : rest ≡ element o.tag content ++ drop n after =
     rw (append_assoc (length_octets (length content)) content (drop n after), take-append-drop n after, count)
     o.split in

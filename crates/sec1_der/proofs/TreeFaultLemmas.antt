@@ -34,13 +34,13 @@ mutual
       → any_fault (nested_fault (forest_at (above + 1 + 1))) after bs ≡ option_or (deep_fault (above + depth t))
       (after rest)
   tree_at (leaf tag content) above after bs rest is e fits =
-      any_at _ after tag content bs rest (record { tag_byte = is.0; within = is.2 }) e
+      any_at _ after tag content bs rest (record { tag_byte = is.0; bounded = is.2 }) e
       ∙ rw (
         leaf_passes (forest_at (above + 1 + 1)) tag content is.1,
         le-ltb max_tree_depth (above + 1) (omega arith),
       ) refl
   tree_at (branch tag f) above after bs rest is e fits =
-      any_at _ after tag (joined f) bs rest (record { tag_byte = is.0; within = is.2 }) e
+      any_at _ after tag (joined f) bs rest (record { tag_byte = is.0; bounded = is.2 }) e
       ∙ rw (ne_eqb (bit_and tag 0x20) 0 is.1, trees_at f (above + 1) is.3 (omega arith))
       (ap (λ n. option_or (deep_fault n) (after rest)) (omega arith))
 
@@ -85,9 +85,9 @@ shallow_tree t input rest is shallow e =
 pub cut_tree : (t : Tree) (input : List ℕ) → IsTree t → IsProperPrefix input (bytes t)
     → tree_fault input ≡ Some (Some Truncated)
 cut_tree (leaf tag content) input is cut =
-    any_cut _ end_fault tag content input (record { tag_byte = is.0; within = is.2 }) cut
+    any_cut _ end_fault tag content input (record { tag_byte = is.0; bounded = is.2 }) cut
 cut_tree (branch tag f) input is cut =
-    any_cut _ end_fault tag (joined f) input (record { tag_byte = is.0; within = is.2 }) cut
+    any_cut _ end_fault tag (joined f) input (record { tag_byte = is.0; bounded = is.2 }) cut
 
 -- a count of a tree's elements
 pub counted : (result : Result ℕ Error) (input : List ℕ) (t : Tree)

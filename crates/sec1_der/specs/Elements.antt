@@ -46,7 +46,7 @@ header tag n = tag ∷ length_octets n
 -- a tag byte, and a length that isn't above the limit
 pub record IsHeader (tag n : ℕ) : Type 0 where
   pub tag_byte : IsTrue (is_tag tag)
-  pub within : n ≤ max_length
+  pub bounded : n ≤ max_length
 
 -- a tag byte, the length of the content, and the content
 abbrev pub element : ℕ → List ℕ → List ℕ

@@ -31,7 +31,7 @@ pub record HasRead (bytes : List ℕ) (old new : Reader) : Type 0 where
 
 -- a reader that hadn't failed read exactly the element with this tag and content
 pub record HasReadElement (tag : ℕ) (content : List ℕ) (old new : Reader) : Type 0 where
-  pub within : length content ≤ max_length
+  pub bounded : length content ≤ max_length
   pub read : HasRead (element tag content) old new
 
 -- whether a call of a reader refuses, by which kind, and what the error leaves

@@ -12,7 +12,7 @@ pub record Opens (ends rest : List ℕ) (end : ℕ) (after : List ℕ) : Type 0 
   pub tag_byte : IsTrue (is_tag tag)
   pub constructed : IsConstructed tag
   pub some : 0 < n
-  pub within : n ≤ max_length
+  pub bounded : n ≤ max_length
   pub split : rest ≡ header tag n ++ after
   pub inside : end + n ≡ length after
 

@@ -15,7 +15,7 @@ pub struct AnyRef<'a> {
     tag: u8,
     value: &'a [u8],
     ghost tagged: { IsTrue (is_tag tag) },
-    ghost within: { length value.now ≤ max_length },
+    ghost bounded: { length value.now ≤ max_length },
 }
 
 impl<'a> AnyRef<'a> {

@@ -15,7 +15,7 @@ pub struct BitStringRef<'a> {
     unused: u8,
     bytes: &'a [u8],
     ghost zeros: { IsTrue (are_bits unused bytes.now) },
-    ghost within: { length bytes.now < max_length },
+    ghost bounded: { length bytes.now < max_length },
 }
 
 impl<'a> BitStringRef<'a> {

@@ -10,7 +10,7 @@ use crate::{
 #[derive(Clone, Copy, Debug, PartialEq, Eq)]
 pub struct OctetStringRef<'a> {
     bytes: &'a [u8],
-    ghost within: { length bytes.now ≤ max_length },
+    ghost bounded: { length bytes.now ≤ max_length },
 }
 
 impl<'a> OctetStringRef<'a> {

@@ -18,7 +18,7 @@ returns-in-Err g c = record {
   );
   only = λ value whole rest distinct same may is.
       let there = element_of-some 0x30 (g.T.Parts.Part.bytes (g.T.Record.parts value)) whole same in
-      absurd (cc ((c.in-Err.ensures.only there.inside rest there.at.within (rw there.at.encoded at is)).0));
+      absurd (cc ((c.in-Err.ensures.only there.inside rest there.at.bounded (rw there.at.encoded at is)).0));
 }
 
 pub returns-in-Ok-read_parts : goal.returns-in-Ok-read_parts
@@ -28,7 +28,7 @@ returns-in-Ok-read_parts g c = record {
       c.in-Ok-read_parts.ensures.kind);
   only = λ value whole rest distinct same may is.
       let there = element_of-some 0x30 (g.T.Parts.Part.bytes (g.T.Record.parts value)) whole same in
-      let opened = c.in-Ok.ensures.only there.inside rest there.at.within (rw there.at.encoded at is) in
+      let opened = c.in-Ok.ensures.only there.inside rest there.at.bounded (rw there.at.encoded at is) in
       let inside : c.in-Ok.content.unread ≡ there.inside = cc (opened.0) in
       let read : element_of 0x30 (g.T.Parts.Part.bytes (g.T.Record.parts c.from_parts.result)) ≡ Some whole =
       rw (c.from_parts.ensures, c.in-Ok-read_parts.ensures.found, inside) (rw there.same at same) in
@@ -45,7 +45,7 @@ returns-in-Err-read_parts g c = record {
   );
   only = λ value whole rest distinct same may is.
       let there = element_of-some 0x30 (g.T.Parts.Part.bytes (g.T.Record.parts value)) whole same in
-      let opened = c.in-Ok.ensures.only there.inside rest there.at.within (rw there.at.encoded at is) in
+      let opened = c.in-Ok.ensures.only there.inside rest there.at.bounded (rw there.at.encoded at is) in
       let inside : c.in-Ok.content.unread ≡ there.inside = cc (opened.0) in
       let fresh : c.in-Ok.content.failed ≡ false = cc (opened.0) in
       absurd (false≢true (c.in-Err-read_parts.ensures.only fresh (g.T.Record.parts value) (rw inside there.same)));

@@ -11,7 +11,7 @@ returns-in-Err g c place is-parts = record {
   found = search rules;
   only = λ value is.
       let there = element_of-some 0x30 (g.T.Parts.Part.bytes (g.T.Record.parts value)) c.args.input.now is in
-      absurd (cc ((c.in-Err.ensures.only there.inside [] there.at.within
+      absurd (cc ((c.in-Err.ensures.only there.inside [] there.at.bounded
       (over_element 0x30 there.inside c.args.input.now _ c.new-reader.ensures there.at.encoded)).0));
   kinds = search rules;
   kind =
@@ -25,7 +25,7 @@ returns-in-Err-read_parts g c place is-parts = record {
   found = search rules;
   only = λ value is.
       let there = element_of-some 0x30 (g.T.Parts.Part.bytes (g.T.Record.parts value)) c.args.input.now is in
-      let opened = c.in-Ok.ensures.only there.inside [] there.at.within
+      let opened = c.in-Ok.ensures.only there.inside [] there.at.bounded
       (over_element 0x30 there.inside c.args.input.now _ c.new-reader.ensures there.at.encoded) in
       let inside : c.in-Ok.content.unread ≡ there.inside = cc (opened.0) in
       let fresh : c.in-Ok.content.failed ≡ false = cc (opened.0) in
@@ -46,7 +46,7 @@ returns-in-Ok-finish g c place is-parts = record {
       c.in-Ok-read_parts.ensures.found c.in-Ok-finish.ensures.found.0));
   only = λ value is.
       let there = element_of-some 0x30 (g.T.Parts.Part.bytes (g.T.Record.parts value)) c.args.input.now is in
-      let opened = c.in-Ok.ensures.only there.inside [] there.at.within
+      let opened = c.in-Ok.ensures.only there.inside [] there.at.bounded
       (over_element 0x30 there.inside c.args.input.now _ c.new-reader.ensures there.at.encoded) in
       let inside : c.in-Ok.content.unread ≡ there.inside = cc (opened.0) in
       let found : g.T.Parts.Part.bytes (g.T.Record.parts place) ≡ Some there.inside =
@@ -65,7 +65,7 @@ returns-in-Err-finish g c place is-parts = record {
   found = search rules;
   only = λ value is.
       let there = element_of-some 0x30 (g.T.Parts.Part.bytes (g.T.Record.parts value)) c.args.input.now is in
-      let opened = c.in-Ok.ensures.only there.inside [] there.at.within
+      let opened = c.in-Ok.ensures.only there.inside [] there.at.bounded
       (over_element 0x30 there.inside c.args.input.now _ c.new-reader.ensures there.at.encoded) in
       absurd (false≢true (c.in-Err-finish.ensures.only opened.1));
   kinds = search rules;

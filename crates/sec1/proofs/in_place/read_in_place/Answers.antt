@@ -32,7 +32,7 @@ returns-in-Err-clause-read g c = record {
   found = search rules;
   only = λ value is.
       let there = element_of-some g.T.Tagged.tag_byte (g.T.ValueContent.content value) c.args.input.now is in
-      absurd (cc ((c.in-Err.ensures.only there.inside [] there.at.within
+      absurd (cc ((c.in-Err.ensures.only there.inside [] there.at.bounded
       (rw c.fixed_tag.ensures
       (whole g.T.Tagged.tag_byte there.inside c.args.input.now _ c.new-reader.ensures there.at.encoded))).0));
   kinds = search rules;
@@ -44,7 +44,7 @@ returns-in-Ok-read_content-clause-read g c = record {
   found = search rules;
   only = λ value is.
       let there = element_of-some g.T.Tagged.tag_byte (g.T.ValueContent.content value) c.args.input.now is in
-      let opened = c.in-Ok.ensures.only there.inside [] there.at.within
+      let opened = c.in-Ok.ensures.only there.inside [] there.at.bounded
       (rw c.fixed_tag.ensures
       (whole g.T.Tagged.tag_byte there.inside c.args.input.now _ c.new-reader.ensures there.at.encoded)) in
       c.finish.ensures.only opened.1;
@@ -60,7 +60,7 @@ returns-in-Err-read_content-clause-read g c = record {
   found = search rules;
   only = λ value is.
       let there = element_of-some g.T.Tagged.tag_byte (g.T.ValueContent.content value) c.args.input.now is in
-      let opened = c.in-Ok.ensures.only there.inside [] there.at.within
+      let opened = c.in-Ok.ensures.only there.inside [] there.at.bounded
       (rw c.fixed_tag.ensures
       (whole g.T.Tagged.tag_byte there.inside c.args.input.now _ c.new-reader.ensures there.at.encoded)) in
       let same : c.remaining_input-content.result.now ≡ there.inside =

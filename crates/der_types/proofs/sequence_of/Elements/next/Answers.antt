@@ -33,7 +33,7 @@ returns-clause-first g c value values same =
     let all = parted _ _ _ same in
     let first = element_of-some _ _ all.front all.first_there in
     let here = c.self.view_is ∙ (all.joined ∙ ap (λ xs. xs ++ all.back) first.at.encoded) in
-    let read = c.decode.ensures.only value first.inside all.back first.same first.at.within
+    let read = c.decode.ensures.only value first.inside all.back first.same first.at.bounded
     (reader_at c.self.inside.reader _ here c.self.inside.working) in (
       rw (c.ok.ensures.value, first.same) (there _ c.decode.result read.0),
       rw (ap (λ (r : Reader). r.unread) read.1) all.second_there,

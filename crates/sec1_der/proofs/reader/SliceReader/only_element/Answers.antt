@@ -15,7 +15,7 @@ returns-in_err-value-clause-reads g c = record {
   read = grind (arith, common_steps);
   only = λ fresh value is.
       let there = element_of-some g.T.Tagged.tag_byte (g.T.ValueContent.content value) c.args.self.now.unread is in
-      absurd (c.in_err-value.ensures.only value there.inside [] there.same there.at.within
+      absurd (c.in_err-value.ensures.only value there.inside [] there.same there.at.bounded
       (rw append-nil (reader_at _ _ there.at.encoded fresh))).0;
   kinds = search rules;
   kind = search rules;
@@ -34,7 +34,7 @@ returns-in_err-finish-clause-reads g c = record {
   only = λ fresh value is.
       let there = element_of-some g.T.Tagged.tag_byte (g.T.ValueContent.content value) c.args.self.now.unread is in
       absurd (false≢true
-      (c.in_err-finish.ensures.only (c.in_ok-value.ensures.only value there.inside [] there.same there.at.within
+      (c.in_err-finish.ensures.only (c.in_ok-value.ensures.only value there.inside [] there.same there.at.bounded
       (rw append-nil (reader_at _ _ there.at.encoded fresh))).1));
   kinds = search rules;
   kind = λ fresh.

@@ -11,7 +11,7 @@ use Rattle.sec1_der.proofs.reader.SliceReader.open.Goals as goal
 pub returns-in-Ok-clause-only : goal.returns-in-Ok-clause-only
 returns-in-Ok-clause-only c content rest within is =
     let tag = rw c.byte.ensures.0 at c.byte.ensures.1 in
-    let same = c.in-Ok.ensures.only c.args.tag content rest (record { tag_byte = tag; within = within })
+    let same = c.in-Ok.ensures.only c.args.tag content rest (record { tag_byte = tag; bounded = within })
     (c.remaining_input-2.ensures ∙ ap (λ (r : Reader). r.unread) is) in
     let front = take-append_seam content rest in
     let back = drop-append_seam content rest in
