@@ -83,7 +83,7 @@ pub any_passes : (bytes : List ℕ) (old new : Reader) → IsElement bytes → H
 unfolding any_element_fault
 any_passes bytes old new is read rest =
     any_at (λ _. no_fault) rest is.tag is.content old.unread new.unread is.is_header
-    (ap (λ (r : Reader). r.unread) read.was_whole ∙ ap (λ xs. xs ++ new.unread) is.encoded)
+    (ap (λ (r : Reader). r.unread) read.was_unfailed ∙ ap (λ xs. xs ++ new.unread) is.encoded)
 
 -- what is refused stays so where more is tested after it
 pub any_refused : (rest : Fault) (bytes : List ℕ) (k : ErrorKind)

@@ -42,7 +42,7 @@ one_more tag f most (byte ∷ bytes) some = refl
 shorter : (tag : ℕ) (inside : List ℕ) (old new : Reader) → HasReadElement tag inside old new
     → length new.unread < length old.unread
 shorter tag inside old new h =
-    let whole = ap (λ (r : Reader). length r.unread) h.read.was_whole in
+    let whole = ap (λ (r : Reader). length r.unread) h.read.was_unfailed in
     omega (arith, whole, length-append (element tag inside) new.unread)
 
 -- the content of an element that was read
@@ -132,7 +132,7 @@ value_read tag f content value old new found left = (value ∷ left.0, by (conte
     by None e found = absurd found
     by (Some inside) e (meets, found) =
         let element = element_of-within tag (content value) inside e found.bounded in
-        rw (element, left.1, ap (λ (r : Reader). r.unread) found.read.was_whole) refl
+        rw (element, left.1, ap (λ (r : Reader). r.unread) found.read.was_unfailed) refl
 
 -- the first of the values that are left
 pub record FirstValue {A : Type 0} (tag : ℕ) (content : A → Option (List ℕ)) (bytes : List ℕ) : Type 0 where

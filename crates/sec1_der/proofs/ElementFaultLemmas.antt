@@ -119,7 +119,7 @@ read_whole f tag None old new is end = absurd is
 read_whole f tag (Some inside) old new (meets, is) end =
     let none : new.unread ≡ [] = ap (λ (r : Reader). r.unread) end in
     let all : old.unread ≡ element tag inside =
-    ap (λ (r : Reader). r.unread) is.read.was_whole ∙ rw none (append-nil (element tag inside)) in
+    ap (λ (r : Reader). r.unread) is.read.was_unfailed ∙ rw none (append-nil (element tag inside)) in
     element_of-within tag (Some inside) inside refl is.bounded ∙ ap Some (sym all)
 
 -- where the content of an element was opened, the fault of the element is that of the content
@@ -168,7 +168,8 @@ read_field : (number : ℕ) (f g : Fault) (content : List ℕ) (old new : Reader
     → optional_fault (0xA0 + number) f g old.unread ≡ option_or (f content) (g new.unread)
 read_field number f g content old new h =
     let tag = 0xA0 + number in
-    rw (ap (λ (r : Reader). r.unread) h.read.was_whole, eq-eqb tag tag refl) (parts_at f g content new.unread h.bounded)
+    rw (ap (λ (r : Reader). r.unread) h.read.was_unfailed, eq-eqb tag tag refl)
+    (parts_at f g content new.unread h.bounded)
 
 -- where the content of a field was opened, the fault of the field is that of the one element in it
 pub opened_field : (number tag : ℕ) (f : Fault) (opened : ℕ) (old new content : Reader)

@@ -88,7 +88,7 @@ pub read_element : (f g : Fault) (tag : ℕ) (content : List ℕ) (old new : Rea
     → element_fault tag f g old.unread ≡ option_or (f content) (g new.unread)
 read_element f g tag content old new h =
     element_at f g tag content old.unread new.unread h.bounded
-    (ap (λ (r : Reader). r.unread) h.read.was_whole)
+    (ap (λ (r : Reader). r.unread) h.read.was_unfailed)
 
 -- the end of a list is the end of that list after another
 joined_suffix : (front back rest : List ℕ) → IsSuffix rest back → IsSuffix rest (front ++ back)
@@ -103,7 +103,7 @@ joined_suffix front back rest (inr end) = inr (
 pub suffix_after : (bytes : List ℕ) (old new : Reader) (rest : List ℕ) → HasRead bytes old new
     → IsSuffix rest new.unread → IsSuffix rest old.unread
 suffix_after bytes old new rest h end =
-    rw (ap (λ (r : Reader). r.unread) h.was_whole) (joined_suffix bytes new.unread rest end)
+    rw (ap (λ (r : Reader). r.unread) h.was_unfailed) (joined_suffix bytes new.unread rest end)
 
 -- the same of bytes that are there
 pub left_after : (bytes : Option (List ℕ)) (old new : Reader) (rest : List ℕ)
@@ -132,7 +132,7 @@ pub reads_on : (f : Fault) (tag : ℕ) (content : Option (List ℕ)) (old new : 
     → PassesOver (element_fault tag f) old new
 reads_on f tag None old new some = absurd some
 reads_on f tag (Some inside) old new (meets, found) = record {
-  whole = ap (λ (r : Reader). r.failed) found.read.is_whole;
+  whole = ap (λ (r : Reader). r.failed) found.read.unfailed;
   next = λ g. read_element f g tag inside old new found ∙ rw meets refl;
   left = suffix_after (element tag inside) old new new.unread found.read (suffix_all new.unread);
 }

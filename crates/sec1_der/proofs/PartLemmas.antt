@@ -60,7 +60,7 @@ next_read : (f rest : Fault) (tag : ℕ) (content : Option (List ℕ)) (old new 
     → optional_fault tag f rest old.unread ≡ element_fault tag f rest old.unread
 next_read f rest tag None old new found = absurd found
 next_read f rest tag (Some inside) old new found =
-    rw (ap (λ (r : Reader). r.unread) found.1.read.was_whole, eq-eqb tag tag refl) refl
+    rw (ap (λ (r : Reader). r.unread) found.1.read.was_unfailed, eq-eqb tag tag refl) refl
 
 -- the fault of an optional element that was read is that of what follows it
 pub optional_passes : (f : Fault) (tag : ℕ) (content : Option (List ℕ)) (old new : Reader)

@@ -26,8 +26,8 @@ IsSuffix bytes whole = (bytes ≡ []) ⊎ (bytes ≡ drop (length whole - length
 
 -- a reader that hadn't failed read exactly these bytes
 pub record HasRead (bytes : List ℕ) (old new : Reader) : Type 0 where
-  pub was_whole : old ≡ reader_over (bytes ++ new.unread)
-  pub is_whole : new ≡ reader_over new.unread
+  pub was_unfailed : old ≡ reader_over (bytes ++ new.unread)
+  pub unfailed : new ≡ reader_over new.unread
 
 -- a reader that hadn't failed read exactly the element with this tag and content
 pub record HasReadElement (tag : ℕ) (content : List ℕ) (old new : Reader) : Type 0 where

@@ -9,7 +9,7 @@ invariant_of-result c =
       found.0,
       (
         c.read_since.ensures _
-            (c.remaining_input-input.ensures ∙ ap (λ (r : Reader). r.unread) found.1.was_whole),
+            (c.remaining_input-input.ensures ∙ ap (λ (r : Reader). r.unread) found.1.was_unfailed),
         tt,
       ),
     )
