@@ -3,7 +3,7 @@ use Rattle.std.proofs.Common.{◌≡◌, ◌≤◌, ℕ, List, Bool, true, false
 use Rattle.std.proofs.Common.{if◌then◌else◌, Option, Some, None, ap, ◌∙◌, sym}
 use Rattle.std.specs.Prelude.{IfSome, option_map}
 use Rattle.der_types.proofs.KindLaws.{set_says}
-use Rattle.der_types.specs.Sequences.{is_whole}
+use Rattle.std.specs.Prelude.{is_none}
 use Rattle.der_types.specs.Sequences.{set_fault}
 use Rattle.pkix.specs.Records.{algorithm_fault, asymmetric_key_fault, identifier_fault, key_attribute_fault}
 use Rattle.pkix.specs.Records.{private_key_fault}
@@ -34,11 +34,11 @@ attributes_say = set_says 0x30 key_attribute_fault attribute_says
 -- a content that begins with version 1 isn't refused there
 pub version_one : (end : ℕ) (bytes : List ℕ) (o : Option Fault)
     → element_place 0x02 (at_first (byte_fault 1)) (at_first r.no_fault) end bytes ≡ o
-    → has_version_one bytes ≡ is_whole (kind_of o)
+    → has_version_one bytes ≡ is_none (kind_of o)
 version_one end bytes o is =
     let kind = element_kind 0x02 (at_first (byte_fault 1)) (at_first r.no_fault) (byte_fault 1) r.no_fault
     (first_kind (byte_fault 1) (byte_says 1)) (first_kind r.no_fault none_says) end bytes in
-    ap is_whole (sym kind ∙ ap (λ (x : Option Fault). kind_of x) is)
+    ap is_none (sym kind ∙ ap (λ (x : Option Fault). kind_of x) is)
 
 -- ---- kinds
 

@@ -1,6 +1,7 @@
 -- X.690 sections 8.10, 8.12 and 11.6: elements of one type, one after another, or in ascending
 -- order of their encodings.
 use Rattle.std.specs.Prelude.{ℕ, zero, suc, Bool, true, false, List, [], ◌∷◌, length, Option}
+use Rattle.std.specs.Prelude.{is_none}
 use Rattle.std.specs.Prelude.{Some, None, if◌then◌else◌, ◌&&◌, Result, Ok, Err}
 use Rattle.sec1_der.specs.Elements.{element_of, element, is_tag}
 use Rattle.sec1_der.specs.Parts.{join}
@@ -29,14 +30,9 @@ elements_fault tag f (suc most) (byte ∷ bytes) =
 abbrev pub sequence_fault : ℕ → Fault → Fault
 sequence_fault tag f bytes = elements_fault tag f (length bytes) bytes
 
--- whether nothing is refused
-abbrev pub is_whole : Option (Option ErrorKind) → Bool
-is_whole None = true
-is_whole (Some said) = false
-
 -- X.690 section 8.10.1: the content of elements with this tag, if the bytes are elements
 abbrev pub sequence_of : ℕ → Fault → List ℕ → Option (List ℕ)
-sequence_of tag f bytes = if is_whole (sequence_fault tag f bytes) then Some bytes else None
+sequence_of tag f bytes = if is_none (sequence_fault tag f bytes) then Some bytes else None
 
 -- the bytes of the element with this tag, if its content was found, and what follows it
 abbrev pub element_and_rest : ℕ → Result (List ℕ × List ℕ) ErrorKind → Option (List ℕ × List ℕ)
@@ -80,4 +76,4 @@ set_fault tag f bytes = option_or (sequence_fault tag f bytes) (value_unless (is
 -- X.690 section 8.12.1: the content of elements with this tag, if the bytes are elements in
 -- ascending order
 abbrev pub set_of : ℕ → Fault → List ℕ → Option (List ℕ)
-set_of tag f bytes = if is_whole (set_fault tag f bytes) then Some bytes else None
+set_of tag f bytes = if is_none (set_fault tag f bytes) then Some bytes else None

@@ -9,7 +9,7 @@ use Rattle.std.specs.Str.{bytes_eq}
 use Rattle.curves.specs.Curves.{curve_content}
 use Rattle.curves.specs.declared.curve.Curve.{Curve}
 use Rattle.der_types.specs.Contents.{BitString}
-use Rattle.der_types.specs.Sequences.{is_whole}
+use Rattle.std.specs.Prelude.{is_none}
 use Rattle.der_types.specs.Sequences.{set_fault, set_of}
 use Rattle.pkix.specs.EcKeys.{IsOnCurve}
 use Rattle.pkix.specs.Records.{algorithm_content, algorithm_fault, asymmetric_key_fault, key_attribute_fault}
@@ -102,7 +102,7 @@ version_chosen f g (byte ∷ bytes) = by (byte == 0x02) (split_content (length_a
   where
     versions : (one zero : Bool) (p q : Option (Option ErrorKind)) → (one ≡ true → zero ≡ false)
         → IsChosen (option_or (value_unless zero) p) (option_or (value_unless one) q)
-        (if is_whole (option_or (value_unless one) None) then option_or (value_unless one) q
+        (if is_none (option_or (value_unless one) None) then option_or (value_unless one) q
         else option_or (value_unless zero) p)
     versions true true p q differ = absurd (cc (differ refl))
     versions true false p q differ = record { by_value = λ _. refl; by_other = λ e. absurd (e refl) }
@@ -112,7 +112,7 @@ version_chosen f g (byte ∷ bytes) = by (byte == 0x02) (split_content (length_a
     by : (b : Bool) (found : Result (List ℕ × List ℕ) ErrorKind)
         → IsChosen (if b then parts_fault (byte_fault 0) f found else Some (Some Tag))
         (if b then parts_fault (byte_fault 1) g found else Some (Some Tag))
-        (if is_whole (if b then parts_fault (byte_fault 1) no_fault found else Some (Some Tag))
+        (if is_none (if b then parts_fault (byte_fault 1) no_fault found else Some (Some Tag))
         then (if b then parts_fault (byte_fault 1) g found else Some (Some Tag))
         else (if b then parts_fault (byte_fault 0) f found else Some (Some Tag)))
     by false found = same (Some (Some Tag))

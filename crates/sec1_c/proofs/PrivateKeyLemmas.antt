@@ -4,7 +4,7 @@ use Rattle.std.proofs.Common.{Bool, true, false, if◌then◌else◌, Option, So
 use Rattle.std.proofs.Common.{lit≤, arith}
 use Rattle.std.proofs.lemmas.List.{append-nil, drop-drop, drop-take, length-take, take-take}
 use Rattle.curves.specs.declared.curve.Curve.{Curve}
-use Rattle.der_types.specs.Sequences.{is_whole}
+use Rattle.std.specs.Prelude.{is_none}
 use Rattle.pkix.specs.Records.{algorithm_content}
 use Rattle.pkix.specs.declared.private_key.OneAsymmetricKey.{OneAsymmetricKey}
 use Rattle.sec1.proofs.KeyLemmas.{key_written}
@@ -36,22 +36,22 @@ form_fault = element_fault 0x02 no_fault (tag_fault 0x30)
 -- what a reader finds
 pub found_form : (bytes : List ℕ) (first content after rest : Reader) (number : List ℕ) → first.unread ≡ bytes
     → HasReadElement 0x30 content.unread first after → HasReadElement 0x02 number content rest
-    → has_algorithm bytes ≡ is_whole (tag_fault 0x30 rest.unread)
+    → has_algorithm bytes ≡ is_none (tag_fault 0x30 rest.unread)
 found_form bytes first content after rest number is outer inner =
     let whole = read_element form_fault no_fault 0x30 content.unread first after outer in
     let parts = read_element no_fault (tag_fault 0x30) 0x02 number content rest inner in
-    ap is_whole
+    ap is_none
     (ap (element_fault 0x30 form_fault no_fault) (sym is) ∙ (whole ∙ (alone (form_fault content.unread) ∙ parts)))
 
 -- what is refused as an INTEGER isn't one
 not_form : (bytes : List ℕ) (kind : ErrorKind) → IsFaultOf (element_fault 0x02 no_fault no_fault bytes) kind
-    → is_whole (form_fault bytes) ≡ false
+    → is_none (form_fault bytes) ≡ false
 not_form [] kind is = refl
 not_form (byte ∷ bytes) kind is = by (byte == 0x02) (content_at bytes) is
   where
     by : (b : Bool) (found : Result (List ℕ × List ℕ) ErrorKind)
         → IsFaultOf (if b then parts_fault no_fault no_fault found else Some (Some Tag)) kind
-        → is_whole (if b then parts_fault no_fault (tag_fault 0x30) found else Some (Some Tag)) ≡ false
+        → is_none (if b then parts_fault no_fault (tag_fault 0x30) found else Some (Some Tag)) ≡ false
     by false found is = refl
     by true (Err k) is = refl
     by true (Ok x) is = absurd is
@@ -62,7 +62,7 @@ pub refused_form : (bytes : List ℕ) (first content rest : Reader) (kind : Erro
     → has_algorithm bytes ≡ false
 refused_form bytes first content rest kind is outer refused =
     let whole = read_element form_fault no_fault 0x30 content.unread first rest outer in
-    ap is_whole (ap (element_fault 0x30 form_fault no_fault) (sym is) ∙ (whole ∙ alone (form_fault content.unread)))
+    ap is_none (ap (element_fault 0x30 form_fault no_fault) (sym is) ∙ (whole ∙ alone (form_fault content.unread)))
     ∙ not_form content.unread kind refused
 
 -- a SEQUENCE that begins with an INTEGER of one byte, and what follows that begins with this tag
@@ -73,7 +73,7 @@ record BeginsWith (tag : ℕ) (bytes : List ℕ) : Type 0 where
 form_of : (version tag : ℕ) (rest : Option (List ℕ)) (bytes : List ℕ)
     → element_of 0x30 (join (element_of 0x02 (Some (version ∷ []))) rest) ≡ Some bytes
     → ((back : List ℕ) → rest ≡ Some back → BeginsWith tag back)
-    → has_algorithm bytes ≡ is_whole (tag_fault 0x30 (tag ∷ []))
+    → has_algorithm bytes ≡ is_none (tag_fault 0x30 (tag ∷ []))
 form_of version tag rest bytes is begins =
     let whole = element_of-some 0x30 (join (element_of 0x02 (Some (version ∷ []))) rest) bytes is in
     let parts = parted (element_of 0x02 (Some (version ∷ []))) rest whole.inside whole.same in
@@ -84,7 +84,7 @@ form_of version tag rest bytes is begins =
     let outer = element_at form_fault no_fault 0x30 whole.inside bytes [] whole.at.bounded
     (grind (arith, append-nil, whole.at.encoded)) in
     let last : tag_fault 0x30 parts.back ≡ tag_fault 0x30 (tag ∷ []) = rw next.split refl in
-    ap is_whole (outer ∙ (alone (form_fault whole.inside) ∙ (inner ∙ last)))
+    ap is_none (outer ∙ (alone (form_fault whole.inside) ∙ (inner ∙ last)))
 
 -- a row of fields begins with the tag of its first one
 fields_begin : (tag : ℕ) (content rest : Option (List ℕ)) (back : List ℕ)

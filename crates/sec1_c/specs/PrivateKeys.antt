@@ -4,7 +4,7 @@ use Rattle.std.specs.Prelude.{◌==◌, ◌+◌, ◌-◌, ◌∷◌, [], ℕ, Li
 use Rattle.std.specs.Prelude.{if◌then◌else◌}
 use Rattle.curves.specs.Curves.{curve_content}
 use Rattle.curves.specs.declared.curve.Curve.{Curve}
-use Rattle.der_types.specs.Sequences.{is_whole}
+use Rattle.std.specs.Prelude.{is_none}
 use Rattle.pkix.specs.EcKeys.{IsOnCurve, NamesCurve}
 use Rattle.pkix.specs.declared.private_key.OneAsymmetricKey.{OneAsymmetricKey}
 use Rattle.sec1.specs.Keys.{Key, IsKeyOf}
@@ -26,7 +26,7 @@ tag_fault tag (byte ∷ bytes) = if byte == tag then None else Some (Some Tag)
 -- key by itself that of the OCTET STRING privateKey (RFC 5915 section 3).
 abbrev pub has_algorithm : List ℕ → Bool
 has_algorithm bytes =
-    is_whole (element_fault 0x30 (element_fault 0x02 no_fault (tag_fault 0x30)) no_fault bytes)
+    is_none (element_fault 0x30 (element_fault 0x02 no_fault (tag_fault 0x30)) no_fault bytes)
 
 -- the container is one of a private key on this curve, and this is the key in it
 pub record IsKeyIn (container : OneAsymmetricKey) (curve : Curve) (key : Key)

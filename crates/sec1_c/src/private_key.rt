@@ -3,7 +3,7 @@
 ghost use Rattle.std.specs.Prelude.{◌≡◌, ◌≢◌, ◌⊎◌, ◌↔◌, ◌+◌, ◌^◌, ◌<◌, false, IsTrue, Some, length};
 ghost use Rattle.curves.specs.declared.curve.Curve.{Curve};
 ghost use Rattle.der_faults.specs.Containers.{container_fault};
-ghost use Rattle.der_types.specs.Sequences.{is_whole};
+ghost use Rattle.std.specs.Prelude.{is_none};
 ghost use Rattle.pkix.specs.EcKeys.{IsOnCurve, NamesCurve};
 ghost use Rattle.pkix.specs.declared.private_key.OneAsymmetricKey.{OneAsymmetricKey};
 ghost use Rattle.sec1.specs.KeyFaults.{key_fault};
@@ -89,7 +89,7 @@ fn has_algorithm(bytes: &[u8]) -> bool
 
 /// Returns `true` if the first byte is the tag of a SEQUENCE.
 fn begins_with_sequence(bytes: &[u8]) -> bool
-    ensures { result ≡ is_whole (tag_fault 0x30 bytes.now) }
+    ensures { result ≡ is_none (tag_fault 0x30 bytes.now) }
 {
     match bytes.first() {
         Some(first) => *first == 0x30,

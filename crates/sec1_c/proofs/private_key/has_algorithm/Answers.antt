@@ -1,5 +1,5 @@
 use Rattle.std.proofs.Common.{sym, ap, ◌∙◌}
-use Rattle.der_types.specs.Sequences.{is_whole}
+use Rattle.std.specs.Prelude.{is_none}
 use Rattle.sec1_der.specs.Readers.{Reader}
 use Rattle.sec1_c.specs.PrivateKeys.{tag_fault}
 use Rattle.sec1_c.proofs.PrivateKeyLemmas.{found_form, refused_form}
@@ -11,7 +11,7 @@ returns-in-Ok-open c =
     let form = found_form c.args.bytes.now _ c.in-Ok.content _ _ _ is c.in-Ok.ensures.found.1
     c.in-Ok-open.ensures.found.1 in
     c.begins_with_sequence.ensures
-    ∙ (ap (λ xs. is_whole (tag_fault 0x30 xs)) c.remaining_input.ensures ∙ sym form)
+    ∙ (ap (λ xs. is_none (tag_fault 0x30 xs)) c.remaining_input.ensures ∙ sym form)
 
 pub returns-in-Err : goal.returns-in-Err
 returns-in-Err c =
