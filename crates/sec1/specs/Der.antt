@@ -14,7 +14,7 @@ pub use Rattle.sec1_der.specs.Errors.{header_fault}
 pub use Rattle.sec1_der.specs.Identifiers.{IsIdentifier, are_arcs, content_of}
 pub use Rattle.sec1_der.specs.Identifiers.{identifier_content, dotted}
 pub use Rattle.sec1_der.specs.Elements.{number_of}
-pub use Rattle.sec1_der.specs.Readers.{Reader, reader_over, refused, HasRead, HasReadElement}
+pub use Rattle.sec1_der.specs.Readers.{Reader, reader_over, failed_reader, HasRead, HasReadElement}
 pub use Rattle.sec1_der.specs.Faults.{Fault, HasFault, IsFaultOf, SaysKinds, no_fault, end_fault}
 pub use Rattle.sec1_der.specs.Faults.{element_fault}
 pub use Rattle.sec1_der.specs.Faults.{optional_fault, any_fault, document_fault}

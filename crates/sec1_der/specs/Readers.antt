@@ -17,8 +17,8 @@ abbrev pub reader_over : List ℕ → Reader
 reader_over bytes = record { unread = bytes; failed = false }
 
 -- the reader, after it has failed
-abbrev pub refused : Reader → Reader
-refused r = record { unread = r.unread; failed = true }
+abbrev pub failed_reader : Reader → Reader
+failed_reader r = record { unread = r.unread; failed = true }
 
 -- the bytes are none, or the end of the others
 abbrev pub IsSuffix : List ℕ → List ℕ → Type 0
@@ -43,7 +43,7 @@ pub record RefusesBy {T : Type 0} (fault : Fault) (result : Result T Error)
   -- a reader that had failed refuses every call, and stays as it was
   pub failed : old.failed ≡ true → Refuses result Failed × (new ≡ old)
   -- the reader is as it was, but it has failed
-  pub left : OnErr result (new ≡ refused old)
+  pub left : OnErr result (new ≡ failed_reader old)
 
 -- The remaining input is read as the content of a value. `content` gives that of a value, and
 -- `fault` is the rule by which bytes are refused.

@@ -7,7 +7,7 @@ ghost use Rattle.sec1_der.specs.Errors.{struct_text};
 ghost use Rattle.sec1_der.specs.Elements.{max_length, length_octets, header, element, IsHeader};
 ghost use Rattle.sec1_der.specs.Errors.{length_fault, header_fault, Refuses, IsHeaderFault};
 ghost use Rattle.sec1_der.specs.Elements.{number_of};
-ghost use Rattle.sec1_der.specs.Readers.{reader_over, refused, HasRead};
+ghost use Rattle.sec1_der.specs.Readers.{reader_over, failed_reader, HasRead};
 ghost use Rattle.sec1_der.specs.Faults.{Fault, any_fault};
 ghost use Rattle.sec1_der.specs.Writers.{slice_state, Appends};
 ghost use Rattle.sec1_der.specs.Writers.{Writes};
@@ -49,7 +49,7 @@ impl Header {
         ensures kind { reader.old.failed ≡ false → IsErr result
             → Refuses result (header_fault reader.old.unread) }
         ensures failed { reader.old.failed ≡ true → Refuses result ErrorKind.Failed }
-        ensures refused { OnErr result (reader.new ≡ refused reader.old) }
+        ensures refused { OnErr result (reader.new ≡ failed_reader reader.old) }
     {
         // One way out, so that the result is moved once.
         let found = match reader.check() {

@@ -2,7 +2,7 @@ ghost use Rattle.std.specs.Prelude.{◌≡◌, ◌++◌, [], ℕ, List, length, 
 ghost use Rattle.sec1_der.specs.declared.error.ErrorKind.TheVariants.{Truncated};
 ghost use Rattle.std.specs.Prelude.{slice_get, true, false, if◌then◌else◌, IsOk, IfOk};
 ghost use Rattle.std.specs.Prelude.{IsOkAnd, MatchResult, OnOk};
-ghost use Rattle.sec1_der.specs.Readers.{reader_over, refused, HasRead, Reader, RefusesBy};
+ghost use Rattle.sec1_der.specs.Readers.{reader_over, failed_reader, HasRead, Reader, RefusesBy};
 ghost use Rattle.sec1_der.specs.Faults.{end_fault, no_fault};
 
 mod values;
@@ -132,7 +132,7 @@ impl<'a> SliceReader<'a> {
 
     /// Marks the reader as failed, and returns an error of this kind.
     pub fn fail(&mut self, kind: ErrorKind) -> Error
-        ensures { (result.kind ≡ kind) × (self.new ≡ refused self.old) }
+        ensures { (result.kind ≡ kind) × (self.new ≡ failed_reader self.old) }
     {
         self.failed = true;
         kind.into()
