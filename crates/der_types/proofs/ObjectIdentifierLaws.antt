@@ -7,7 +7,7 @@ use Rattle.std.proofs.lemmas.List.{append_assoc, length-append, map-append}
 use Rattle.std.proofs.lemmas.Nat.{div-mul-add, mod-mul-add}
 use Rattle.std.specs.Int.Digits.{digits_of, AllBelowBase}
 use Rattle.sec1_der.specs.Elements.{base128}
-use Rattle.sec1_der.proofs.DigitLaws.{marked}
+use Rattle.sec1_der.proofs.DigitLaws.{continuing}
 use Rattle.sec1_der.specs.Identifiers.{content_of}
 use Rattle.sec1_der.specs.Identifiers.{numbers_after, arcs_of_numbers, arcs_of}
 use Rattle.sec1_der.proofs.DigitLaws.{digits_of-push}
@@ -20,7 +20,7 @@ use Rattle.der_types.specs.ObjectIdentifiers.{is_object_identifier}
 -- after the digits of a number, bytes that pass the test encode the numbers that are read of them
 encoded_after : (high : ℕ) (bytes : List ℕ) → AllBelowBase 256 bytes
     → are_subidentifiers (high == 0) bytes ≡ true
-    → marked (digits_of 128 high) ++ bytes ≡ flat_map base128 (numbers_after high bytes)
+    → continuing (digits_of 128 high) ++ bytes ≡ flat_map base128 (numbers_after high bytes)
 encoded_after high [] below passes = grind (arith, nat_tests)
 encoded_after high (b ∷ bytes) below passes =
     let n = high * 128 + b % 128 in
@@ -42,14 +42,14 @@ encoded_after high (b ∷ bytes) below passes =
 -- ---- what is encoded passes the test
 
 -- all digits but the last are read
-read_marked : (most n : ℕ) (rest : List ℕ) → n ≤ most
-    → let bytes = marked (digits_of 128 n) ++ rest in
+read_continuing : (most n : ℕ) (rest : List ℕ) → n ≤ most
+    → let bytes = continuing (digits_of 128 n) ++ rest in
     (numbers_after 0 bytes ≡ numbers_after n rest)
     × (are_subidentifiers true bytes ≡ are_subidentifiers (n == 0) rest)
-read_marked most zero rest l = (refl, refl)
-read_marked zero (suc n) rest l = absurd (omega arith)
-read_marked (suc most) (suc n) rest l =
-    let before = read_marked most (suc n / 128) ((128 + suc n % 128) ∷ rest) in
+read_continuing most zero rest l = (refl, refl)
+read_continuing zero (suc n) rest l = absurd (omega arith)
+read_continuing (suc most) (suc n) rest l =
+    let before = read_continuing most (suc n / 128) ((128 + suc n % 128) ∷ rest) in
     rw (marked_step (suc n) (omega arith), append_assoc) (grind (arith, nat_tests, before))
 
 -- the numbers that are encoded are read
@@ -59,7 +59,7 @@ read_all [] = (refl, refl)
 read_all (n ∷ ns) =
     let rest = flat_map base128 ns in
     rw append_assoc (grind
-    (arith, nat_tests, read_marked (n / 128) (n / 128) (n % 128 ∷ rest), read_all ns))
+    (arith, nat_tests, read_continuing (n / 128) (n / 128) (n % 128 ∷ rest), read_all ns))
 
 -- ---- arcs
 

@@ -9,8 +9,8 @@ use Rattle.std.specs.Int.Digits.{digits_of, number_from_digits, number_from_digi
 use Rattle.std.specs.Int.Digits.{AllBelowBase}
 
 -- digits with bit 80 (hexadecimal) set, which means that another one follows
-abbrev pub marked : List ℕ → List ℕ
-marked digits = map (λ digit. 0x80 + digit) digits
+abbrev pub continuing : List ℕ → List ℕ
+continuing digits = map (λ digit. 0x80 + digit) digits
 
 -- one digit more
 pub digits_of-push : (b n d : ℕ) → 2 ≤ b → d < b → 0 < n * b + d
@@ -53,5 +53,5 @@ IsBytes-take k xs h =
 
 -- the digits of a number, without the last
 pub marked_step : (n : ℕ) → 0 < n
-    → marked (digits_of 128 n) ≡ marked (digits_of 128 (n / 128)) ++ (128 + n % 128) ∷ []
+    → continuing (digits_of 128 n) ≡ continuing (digits_of 128 (n / 128)) ++ (128 + n % 128) ∷ []
 marked_step n some = grind (arith, digits_of_step 128 n, map-append)

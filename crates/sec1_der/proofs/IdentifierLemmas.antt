@@ -16,7 +16,7 @@ use Rattle.std.specs.Int.Digits.{digits_of}
 use Rattle.std.specs.List.{flat_map, AllByRecursion}
 use Rattle.sec1_der.specs.Elements.{max_length, within_limit}
 use Rattle.sec1_der.specs.Elements.{base128}
-use Rattle.sec1_der.proofs.DigitLaws.{marked}
+use Rattle.sec1_der.proofs.DigitLaws.{continuing}
 use Rattle.sec1_der.specs.Stored.{IsStored}
 use Rattle.sec1_der.specs.declared.object_identifier.ObjectIdentifier.TheInside.{Inside}
 use Rattle.sec1_der.specs.Identifiers.{numbers_after, arcs_of_numbers, arcs_of}
@@ -59,7 +59,7 @@ small_push (m ∷ ns) n s h = (s.0, small_push ns n s.1 h)
 
 -- after the digits so far the bytes encode these numbers
 record IsEncoded (high : ℕ) (bs ns : List ℕ) : Type 0 where
-  pub split : marked (digits_of 128 high) ++ bs ≡ flat_map base128 ns
+  pub split : continuing (digits_of 128 high) ++ bs ≡ flat_map base128 ns
   pub small : AreSmall ns
 
 -- bytes that pass the test encode the numbers that are read of them
@@ -105,13 +105,14 @@ continues-width high (b ∷ bs) h l =
 pub ruleset marked_steps = (marked_step, append_assoc, length-append)
 
 -- all digits but the last are read
-read_marked : (most n : ℕ) (rest : List ℕ) → n ≤ most → n < 2 ^ 32 → let bytes = marked (digits_of 128 n) ++ rest in
+read_continuing : (most n : ℕ) (rest : List ℕ) → n ≤ most → n < 2 ^ 32
+    → let bytes = continuing (digits_of 128 n) ++ rest in
     (numbers_after 0 bytes ≡ numbers_after n rest) × (continues 0 bytes ≡ continues n rest)
-read_marked most zero rest l small = (refl, refl)
-read_marked zero (suc n) rest l small = absurd (omega arith)
-read_marked (suc most) (suc n) rest l small =
+read_continuing most zero rest l small = (refl, refl)
+read_continuing zero (suc n) rest l small = absurd (omega arith)
+read_continuing (suc most) (suc n) rest l small =
     rw (marked_step (suc n) (omega arith), append_assoc)
-    (grind (arith, nat_tests, read_marked most (suc n / 128) ((128 + suc n % 128) ∷ rest)))
+    (grind (arith, nat_tests, read_continuing most (suc n / 128) ((128 + suc n % 128) ∷ rest)))
 
 -- the numbers that are encoded are read
 read_all : (ns : List ℕ) → AreSmall ns → (numbers_after 0 (flat_map base128 ns) ≡ ns)
@@ -119,7 +120,8 @@ read_all : (ns : List ℕ) → AreSmall ns → (numbers_after 0 (flat_map base12
 read_all [] small = (refl, refl)
 read_all (n ∷ ns) small =
     let rest = flat_map base128 ns in
-    rw append_assoc (grind (arith, nat_tests, read_marked (n / 128) (n / 128) (n % 128 ∷ rest), read_all ns small.1))
+    rw append_assoc
+    (grind (arith, nat_tests, read_continuing (n / 128) (n / 128) (n % 128 ∷ rest), read_all ns small.1))
 
 -- ---- contents
 

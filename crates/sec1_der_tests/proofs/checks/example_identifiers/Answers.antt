@@ -1,6 +1,6 @@
 use Rattle.std.proofs.Common.{◌≡◌, ℕ, List, [], ◌∷◌, ◌++◌, ap, lit<, lit≤}
 use Rattle.std.specs.Int.Digits.{digits_of}
-use Rattle.sec1_der.proofs.DigitLaws.{marked}
+use Rattle.sec1_der.proofs.DigitLaws.{continuing}
 use Rattle.sec1_der.proofs.DigitLaws.{digits_of-number}
 use Rattle.sec1_der_tests.proofs.checks.example_identifiers.Goals as goal
 
@@ -10,4 +10,4 @@ returns-clause-greatest c =
     let digits : digits_of 128 33554431 ≡ 0x0F ∷ 0x7F ∷ 0x7F ∷ 0x7F ∷ [] =
     digits_of-number 128 0x0F (0x7F ∷ 0x7F ∷ 0x7F ∷ []) (lit≤ tt) (lit< tt, (lit< tt, (lit< tt, (lit< tt, tt))))
     (lit< tt) in
-    ap (λ (ds : List ℕ). (marked ds ++ 0x7F ∷ []) ++ []) digits
+    ap (λ (ds : List ℕ). (continuing ds ++ 0x7F ∷ []) ++ []) digits
