@@ -81,8 +81,8 @@ key_found key bytes e =
           (rw (curve_content key.parameters curve) at e);
     }
 
-found_with : (key : Key) (P : List ℕ → Type 0) (piece : Option (List ℕ)) → element_of 0x30 (key_content key) ≡ piece
-    → IsSomeAnd piece P → SomeBytes (IsKeyOf key) P
+found_with : (key : Key) (P : List ℕ → Type 0) (encoded : Option (List ℕ)) → element_of 0x30 (key_content key) ≡ encoded
+    → IsSomeAnd encoded P → SomeBytes (IsKeyOf key) P
 found_with key P None e h = absurd h
 found_with key P (Some bytes) e h = record { bytes = bytes; are_such = key_found key bytes e; holds = h }
 

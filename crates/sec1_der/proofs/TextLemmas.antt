@@ -18,8 +18,8 @@ pub dotted_text : (n : ℕ) (ns : List ℕ) → dotted (n ∷ ns) ≡ decimal n 
 dotted_text n [] = sym (append-nil (decimal n))
 dotted_text n (m ∷ ms) = ap (λ text. decimal n ++ (46 ∷ text)) (dotted_text m ms)
 
--- a dotted text in pieces, and the length of pieces
-pub ruleset text_pieces = (dotted_text, length-append, append_assoc, append-nil)
+-- a dotted text in substrings, and the length of substrings
+pub ruleset text_substrings = (dotted_text, length-append, append_assoc, append-nil)
 
 -- ---- the room that a text takes
 

@@ -94,8 +94,8 @@ impl ObjectIdentifier {
             → result ≡ Ok arcs }
     {
         let mut builder = Builder::new();
-        for piece in text.split('.') {
-            let Some(n) = arc(piece) else {
+        for substring in text.split('.') {
+            let Some(n) = arc(substring) else {
                 return Err(ErrorKind::Value.into());
             };
             builder = builder.add(n)?;

@@ -35,7 +35,7 @@ impl ObjectIdentifier {
 
 /// Appends these arcs in decimal digits, joined by full stops, to an empty text.
 #[inline(always)]
-#[tactic(auto, using(crate::proofs::TextLemmas::text_pieces))]
+#[tactic(auto, using(crate::proofs::TextLemmas::text_substrings))]
 fn push_arcs(text: &mut IdentifierText, mut arcs: Arcs)
     requires empty { text.old.bytes ≡ [] }
     requires room { length (dotted arcs) ≤ max_text_length }
