@@ -139,7 +139,7 @@ pub key_without_room : (key : Key) (P : List ℕ → Type 0) (cause : DerError)
     → HasNoEncodingOr (IsAsn1 Buffer) key P (error_of cause)
 key_without_room key P cause is = ⊎_elim
     (λ none. inl (overlength_is cause none.0, key_none key none.1))
-    (λ held. inr (buffer_is cause held.0, key_found_with key P held.1))
+    (λ there. inr (buffer_is cause there.0, key_found_with key P there.1))
     is
 
 -- A key whose element isn't there, and one for which there is no memory, are refused as such.
@@ -149,7 +149,7 @@ pub key_without_memory : (key : Key) (P : List ℕ → Type 0) (cause : DerError
     → HasNoEncodingOr (λ e. e ≡ Memory) key P (error_of cause)
 key_without_memory key P cause is = ⊎_elim
     (λ none. inl (overlength_is cause none.0, key_none key none.1))
-    (λ held. inr (memory_is cause held.0, key_found_with key P held.1))
+    (λ there. inr (memory_is cause there.0, key_found_with key P there.1))
     is
 
 -- A call that fails with the error for a cause fails as that one does.

@@ -26,6 +26,7 @@ stored_again o h =
       bytes = front ++ replicate (max_identifier_length - n) 0;
       len = n;
     } in
-    let held : ℕ → Inside = λ n. hold (take o.len o.bytes) n in
+    let of_length : ℕ → Inside = λ n. hold (take o.len o.bytes) n in
     let with_bytes : List ℕ → Inside = λ b. record { bytes = b; len = o.len } in
-    ap (λ xs. hold xs (length xs)) content ∙ (ap held h.length_kept ∙ ap with_bytes (sym h.zeros))
+    ap (λ xs. hold xs (length xs)) content
+    ∙ (ap of_length h.length_kept ∙ ap with_bytes (sym h.zeros))

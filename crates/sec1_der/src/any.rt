@@ -8,7 +8,7 @@ use crate::{
 };
 
 /// An element of any tag, which borrows its content without looking into it.
-// The tag is held as its byte: a value that holds both a reference and a type with a `Model` can't
+// The tag is its byte: a value that holds both a reference and a type with a `Model` can't
 // be passed by `?`.
 #[derive(Clone, Copy, Debug)]
 pub struct AnyRef<'a> {

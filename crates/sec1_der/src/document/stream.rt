@@ -171,11 +171,11 @@ pub(crate) fn read_content<R: Read>(
 {
     let mut missing = announced;
     while missing > 0 {
-        let held = bytes.len();
+        let old_len = bytes.len();
         let step = missing.min(STEP);
         bytes.reserve_exact(step)?;
-        bytes.resize(held + step, 0)?;
-        if fill(reader, &mut bytes[held..])? < step {
+        bytes.resize(old_len + step, 0)?;
+        if fill(reader, &mut bytes[old_len..])? < step {
             return Err(ErrorKind::Truncated.into());
         }
         missing -= step;

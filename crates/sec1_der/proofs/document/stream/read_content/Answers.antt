@@ -28,7 +28,7 @@ returns-then-branch-step g c =
 pub loop-missing-preserved : goal.loop-missing-preserved
 loop-missing-preserved g c =
     let size : length c.fill.new.buf ≡ c.min-step.result = grind (arith, common_steps) in
-    let front : take c.len-held.result c.deref_mut.result.now ≡ c.loop-missing.bytes.items = grind
+    let front : take c.len-old_len.result c.deref_mut.result.now ≡ c.loop-missing.bytes.items = grind
     (arith, common_steps) in
     let all = take_all c.in_ok-fill.field-0 c.fill.new.buf (omega arith) in
     record {
