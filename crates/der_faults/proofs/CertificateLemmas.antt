@@ -22,7 +22,7 @@ use Rattle.der_faults.specs.CertificatePlaces.{name_place, relative_name_place, 
 use Rattle.der_faults.specs.CertificatePlaces.{time_place, utc_fault, validity_place}
 use Rattle.der_faults.specs.Places.{Place, at_first, element_place, end_place, optional_place}
 use Rattle.der_faults.specs.RecordPlaces.{algorithm_place, any_element_place, info_place, sequence_place}
-use Rattle.der_faults.specs.declared.Fault.{Fault}
+use Rattle.der_faults.specs.declared.Position.{Position}
 use Rattle.der_faults.proofs.KindLemmas.{Places, element_kind, ends, first_kind, kind_of, optional_kind}
 use Rattle.der_faults.proofs.PublicKeyLemmas.{algorithm_kind, algorithm_within, any_element_kind, any_element_within}
 use Rattle.der_faults.proofs.PublicKeyLemmas.{identifier_says, info_kind, info_within}
@@ -203,7 +203,7 @@ signed_kind =
 
 -- the kind at a certificate's place is that of its refusal
 pub certificate_kind : (bytes : List ℕ)
-    → option_map (λ (f : Fault). Some f.kind) (certificate_place bytes)
+    → option_map (λ (f : Position). Some f.kind) (certificate_place bytes)
     ≡ r.element_fault 0x30 certificate_fault r.end_fault bytes
 certificate_kind bytes =
     element_kind 0x30 signed_place end_place certificate_fault r.end_fault signed_kind ends (length bytes) bytes
@@ -266,7 +266,7 @@ signed_within =
     (first_within r.end_fault)))
 
 -- the place of a certificate is within its bytes
-pub certificate_within : (bytes : List ℕ) (o : Option Fault) → o ≡ certificate_place bytes
+pub certificate_within : (bytes : List ℕ) (o : Option Position) → o ≡ certificate_place bytes
     → IfSome o (λ f. f.offset ≤ length bytes)
 certificate_within bytes o is =
     rw is (element_within 0x30 signed_place end_place signed_within (first_within r.end_fault) (length bytes) bytes)

@@ -17,7 +17,7 @@ use Rattle.der_faults.specs.ContainerPlaces.{key_attribute_place, key_attributes
 use Rattle.der_faults.specs.ContainerPlaces.{private_key_info_place}
 use Rattle.der_faults.specs.Places.{Place, at_first, element_place, end_place, optional_place}
 use Rattle.der_faults.specs.RecordPlaces.{algorithm_place}
-use Rattle.der_faults.specs.declared.Fault.{Fault}
+use Rattle.der_faults.specs.declared.Position.{Position}
 use Rattle.der_faults.proofs.KindLemmas.{Places, element_kind, ends, first_kind, kind_of, optional_kind}
 use Rattle.der_faults.proofs.PublicKeyLemmas.{algorithm_kind, algorithm_within, identifier_says}
 use Rattle.der_faults.proofs.WithinLemmas.{Bounded, either, element_within, first_within, optional_within}
@@ -32,13 +32,13 @@ pub attributes_say : SaysKinds (set_fault 0x30 key_attribute_fault)
 attributes_say = set_says 0x30 key_attribute_fault attribute_says
 
 -- a content that begins with version 1 isn't refused there
-pub version_one : (end : ℕ) (bytes : List ℕ) (o : Option Fault)
+pub version_one : (end : ℕ) (bytes : List ℕ) (o : Option Position)
     → element_place 0x02 (at_first (byte_fault 1)) (at_first r.no_fault) end bytes ≡ o
     → has_version_one bytes ≡ is_none (kind_of o)
 version_one end bytes o is =
     let kind = element_kind 0x02 (at_first (byte_fault 1)) (at_first r.no_fault) (byte_fault 1) r.no_fault
     (first_kind (byte_fault 1) (byte_says 1)) (first_kind r.no_fault none_says) end bytes in
-    ap is_none (sym kind ∙ ap (λ (x : Option Fault). kind_of x) is)
+    ap is_none (sym kind ∙ ap (λ (x : Option Position). kind_of x) is)
 
 -- ---- kinds
 
@@ -102,7 +102,7 @@ components_kind end bytes = by (has_version_one bytes)
 
 -- the kind at a container's place is that of its refusal
 pub container_kind : (bytes : List ℕ)
-    → option_map (λ (f : Fault). Some f.kind) (container_place bytes)
+    → option_map (λ (f : Position). Some f.kind) (container_place bytes)
     ≡ r.element_fault 0x30 container_fault r.end_fault bytes
 container_kind bytes =
     element_kind 0x30 components_place end_place container_fault r.end_fault components_kind ends (length bytes) bytes
@@ -137,7 +137,7 @@ components_within end bytes =
     (after_within end_place (first_within r.end_fault)) end bytes)
 
 -- the place of a container is within its bytes
-pub container_within : (bytes : List ℕ) (o : Option Fault) → o ≡ container_place bytes
+pub container_within : (bytes : List ℕ) (o : Option Position) → o ≡ container_place bytes
     → IfSome o (λ f. f.offset ≤ length bytes)
 container_within bytes o is =
     rw is

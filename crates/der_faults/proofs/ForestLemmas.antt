@@ -5,7 +5,7 @@ use Rattle.std.proofs.Common.{Option, None, Some, arith, bit_and, not}
 use Rattle.std.proofs.lemmas.Bool.{le-ltb, lt-ltb}
 use Rattle.std.specs.Option.{option_or}
 use Rattle.sec1_der.specs.Trees.{max_tree_depth}
-use Rattle.der_faults.specs.declared.Fault.{Fault}
+use Rattle.der_faults.specs.declared.Position.{Position}
 use Rattle.sec1_der.specs.declared.error.ErrorKind.TheVariants.{Depth}
 use Rattle.der_faults.specs.Places.{Place, any_place, before, nested_place, forest_place}
 
@@ -26,7 +26,7 @@ forest_deep (suc most) level end [] some more deep = absurd (more refl)
 forest_deep (suc most) level end (byte ∷ rest) some more deep = rw (lt-ltb max_tree_depth level deep) refl
 
 -- the fault of a row is that of its first element's content, or else of the row after it
-pub forest_step : (most level end : ℕ) (rest content after : List ℕ) (tag : ℕ) (inner : Option Fault) → 0 < most
+pub forest_step : (most level end : ℕ) (rest content after : List ℕ) (tag : ℕ) (inner : Option Position) → 0 < most
     → (rest ≡ [] → ⊥) → level ≤ 64
     → ((f : ℕ → Place) (g : Place)
     → any_place f g end rest ≡ option_or (f tag (end - length after) content) (g end after))

@@ -12,21 +12,21 @@ use Rattle.sec1_der.specs.Faults as r
 use Rattle.sec1_der.specs.Trees.{max_tree_depth}
 use Rattle.sec1_der.specs.declared.error.ErrorKind.{ErrorKind}
 use Rattle.sec1.specs.KeyFaults.{key_fault}
-use Rattle.der_faults.specs.declared.Fault.{Fault}
+use Rattle.der_faults.specs.declared.Position.{Position}
 use Rattle.der_faults.specs.Places.{Place, before, placed, at_first, end_place, parts_place, element_place}
 use Rattle.der_faults.specs.Places.{optional_place}
 use Rattle.der_faults.specs.Places.{any_place, nested_place, forest_place, tree_place, whole_bits_field_place}
 use Rattle.der_faults.specs.Places.{components_place, key_place}
 
 -- the kind of a fault, if there is one
-abbrev pub kind_of : Option Fault → Option (Option ErrorKind)
-kind_of o = option_map (λ (f : Fault). Some f.kind) o
+abbrev pub kind_of : Option Position → Option (Option ErrorKind)
+kind_of o = option_map (λ (f : Position). Some f.kind) o
 
 -- bytes are refused at a place exactly if they are refused, and by the same kind
 abbrev pub Places : Place → r.Fault → Type 0
 Places place fault = (end : ℕ) (bytes : List ℕ) → kind_of (place end bytes) ≡ fault bytes
 
-pub or_kind : (a b : Option Fault) (j k : Option (Option ErrorKind)) → kind_of a ≡ j → kind_of b ≡ k
+pub or_kind : (a b : Option Position) (j k : Option (Option ErrorKind)) → kind_of a ≡ j → kind_of b ≡ k
     → kind_of (option_or a b) ≡ option_or j k
 or_kind None b j k x y = rw (← x) y
 or_kind (Some f) b j k x y = rw (← x) refl
@@ -111,7 +111,7 @@ forest_kind (suc most) level end (byte ∷ bytes) =
     by false inside = inside
 
 -- the kind at a tree's place is that of its refusal
-pub tree_kind : (bytes : List ℕ) → option_map (λ (f : Fault). Some f.kind) (tree_place bytes) ≡ r.tree_fault bytes
+pub tree_kind : (bytes : List ℕ) → option_map (λ (f : Position). Some f.kind) (tree_place bytes) ≡ r.tree_fault bytes
 tree_kind bytes =
     any_kind (nested_place (forest_place (length bytes) 2)) end_place (nested_fault (r.forest_fault (length bytes) 2))
     r.end_fault
@@ -168,7 +168,7 @@ components_kind =
     (first_kind r.no_fault none_says) curve_kind)
 
 -- the kind at a key's place is that of its refusal
-pub key_kind : (bytes : List ℕ) → option_map (λ (f : Fault). Some f.kind) (key_place bytes) ≡ key_fault bytes
+pub key_kind : (bytes : List ℕ) → option_map (λ (f : Position). Some f.kind) (key_place bytes) ≡ key_fault bytes
 unfolding key_fault
 key_kind bytes =
     element_kind 0x30 components_place end_place components_fault r.end_fault components_kind ends (length bytes) bytes

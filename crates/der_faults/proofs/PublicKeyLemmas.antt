@@ -12,7 +12,7 @@ use Rattle.sec1_der.specs.Faults as r
 use Rattle.der_faults.specs.Places.{Place, at_first, element_place, end_place}
 use Rattle.der_faults.specs.RecordPlaces.{algorithm_place, any_element_place, info_place, optional_any_place}
 use Rattle.der_faults.specs.RecordPlaces.{public_key_place}
-use Rattle.der_faults.specs.declared.Fault.{Fault}
+use Rattle.der_faults.specs.declared.Position.{Position}
 use Rattle.der_faults.proofs.KindLemmas.{Places, any_kind, element_kind, ends, first_kind, kind_of}
 use Rattle.der_faults.proofs.WithinLemmas.{Bounded, any_within, either, element_within, first_within}
 
@@ -54,7 +54,7 @@ info_kind =
 
 -- the kind at a public key's place is that of its refusal
 pub public_key_kind : (bytes : List ℕ)
-    → option_map (λ (f : Fault). Some f.kind) (public_key_place bytes)
+    → option_map (λ (f : Position). Some f.kind) (public_key_place bytes)
     ≡ r.element_fault 0x30 public_key_fault r.end_fault bytes
 public_key_kind bytes =
     element_kind 0x30 info_place end_place public_key_fault r.end_fault info_kind ends (length bytes) bytes
@@ -81,7 +81,7 @@ info_within =
     (first_within r.end_fault))
 
 -- the place of a public key is within its bytes
-pub public_key_within : (bytes : List ℕ) (o : Option Fault) → o ≡ public_key_place bytes
+pub public_key_within : (bytes : List ℕ) (o : Option Position) → o ≡ public_key_place bytes
     → IfSome o (λ f. f.offset ≤ length bytes)
 public_key_within bytes o is =
     rw is (element_within 0x30 info_place end_place info_within (first_within r.end_fault) (length bytes) bytes)

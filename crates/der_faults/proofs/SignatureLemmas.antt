@@ -8,19 +8,19 @@ use Rattle.sec1_der.specs.Faults.{SaysKinds}
 use Rattle.sec1_der.specs.Faults as r
 use Rattle.der_faults.specs.Places.{at_first, element_place, end_place}
 use Rattle.der_faults.specs.RecordPlaces.{numbers_place, signature_place}
-use Rattle.der_faults.specs.declared.Fault.{Fault}
+use Rattle.der_faults.specs.declared.Position.{Position}
 use Rattle.der_faults.proofs.KindLemmas.{element_kind, ends, first_kind}
 use Rattle.der_faults.proofs.WithinLemmas.{element_within, first_within}
 
 pub unsigned_says : SaysKinds unsigned_fault
 unsigned_says = test_says is_unsigned
 
-abbrev pub last_place : ℕ → List ℕ → Option Fault
+abbrev pub last_place : ℕ → List ℕ → Option Position
 last_place = element_place 0x02 (at_first unsigned_fault) end_place
 
 -- the kind at a signature's place is that of its refusal
 pub signature_kind : (bytes : List ℕ)
-    → option_map (λ (f : Fault). Some f.kind) (signature_place bytes)
+    → option_map (λ (f : Position). Some f.kind) (signature_place bytes)
     ≡ r.element_fault 0x30 signature_fault r.end_fault bytes
 signature_kind bytes =
     let number = first_kind unsigned_fault unsigned_says in
@@ -31,7 +31,7 @@ signature_kind bytes =
     ends (length bytes) bytes
 
 -- the place of a signature is within its bytes
-pub signature_within : (bytes : List ℕ) (o : Option Fault) → o ≡ signature_place bytes
+pub signature_within : (bytes : List ℕ) (o : Option Position) → o ≡ signature_place bytes
     → IfSome o (λ f. f.offset ≤ length bytes)
 signature_within bytes o is =
     let number = first_within unsigned_fault in

@@ -8,7 +8,7 @@ use Rattle.sec1_der.specs.Elements.{is_tag}
 use Rattle.sec1_der.specs.Faults as r
 use Rattle.sec1_der.specs.Trees.{max_tree_depth}
 use Rattle.sec1_der.specs.declared.error.ErrorKind.{ErrorKind}
-use Rattle.der_faults.specs.declared.Fault.{Fault}
+use Rattle.der_faults.specs.declared.Position.{Position}
 use Rattle.der_faults.specs.Places.{Place, before, placed, at_first, end_place, parts_place, element_place}
 use Rattle.der_faults.specs.Places.{optional_place}
 use Rattle.der_faults.specs.Places.{any_place, nested_place, forest_place, tree_place, whole_bits_field_place}
@@ -16,13 +16,13 @@ use Rattle.der_faults.specs.Places.{components_place, key_place}
 use Rattle.der_faults.proofs.KindLemmas.{bits_place, curve_place}
 
 -- a fault, if there is one, doesn't lie after this offset
-abbrev pub IsWithin : ℕ → Option Fault → Type 0
+abbrev pub IsWithin : ℕ → Option Position → Type 0
 IsWithin end o = IfSome o (λ f. f.offset ≤ end)
 
 abbrev pub Bounded : Place → Type 0
 Bounded place = (end : ℕ) (bytes : List ℕ) → IsWithin end (place end bytes)
 
-pub or_within : (end inner : ℕ) (a b : Option Fault) → inner ≤ end → IsWithin inner a → IsWithin end b
+pub or_within : (end inner : ℕ) (a b : Option Position) → inner ≤ end → IsWithin inner a → IsWithin end b
     → IsWithin end (option_or a b)
 or_within end inner None b fits x y = y
 or_within end inner (Some f) b fits x y = omega (arith, fits, x)
@@ -45,7 +45,7 @@ parts_within p q x y end bytes (Ok parts) =
     (y end parts.1)
 
 -- of two places that are within the bytes, the one that is chosen is
-pub either : (end : ℕ) (a b : Option Fault) (c : Bool) → IsWithin end a → IsWithin end b
+pub either : (end : ℕ) (a b : Option Position) (c : Bool) → IsWithin end a → IsWithin end b
     → IsWithin end (if c then a else b)
 either end a b true x y = x
 either end a b false x y = y
@@ -90,7 +90,8 @@ forest_within (suc most) level end (byte ∷ bytes) =
     (byte ∷ bytes))
 
 -- the place of a tree is within its bytes
-pub tree_within : (bytes : List ℕ) (o : Option Fault) → o ≡ tree_place bytes → IfSome o (λ f. f.offset ≤ length bytes)
+pub tree_within : (bytes : List ℕ) (o : Option Position) → o ≡ tree_place bytes
+    → IfSome o (λ f. f.offset ≤ length bytes)
 tree_within bytes o is = rw is
     (any_within (nested_place (forest_place (length bytes) 2)) end_place
     (nested_within (forest_place (length bytes) 2) (forest_within (length bytes) 2)) (first_within r.end_fault)
@@ -116,6 +117,6 @@ components_within =
     (element_within 0x04 (at_first r.no_fault) curve_place (first_within r.no_fault) rest)
 
 -- the place of a key is within its bytes
-pub key_within : (bytes : List ℕ) (o : Option Fault) → o ≡ key_place bytes → IfSome o (λ f. f.offset ≤ length bytes)
+pub key_within : (bytes : List ℕ) (o : Option Position) → o ≡ key_place bytes → IfSome o (λ f. f.offset ≤ length bytes)
 key_within bytes o is = rw is
     (element_within 0x30 components_place end_place components_within (first_within r.end_fault) (length bytes) bytes)

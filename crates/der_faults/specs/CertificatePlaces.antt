@@ -13,7 +13,7 @@ use Rattle.sec1_der.specs.Faults as faults
 use Rattle.der_faults.specs.Places.{Place, at_first, element_place, end_place, optional_place}
 use Rattle.der_faults.specs.RecordPlaces.{algorithm_place, any_element_place, info_place}
 use Rattle.der_faults.specs.RecordPlaces.{sequence_place, set_place}
-use Rattle.der_faults.specs.declared.Fault.{Fault}
+use Rattle.der_faults.specs.declared.Position.{Position}
 
 -- RFC 5280 section 4.1.2.4: in the components of an AttributeTypeAndValue, or after them
 abbrev pub attribute_place : Place
@@ -90,5 +90,5 @@ signed_place =
     (element_place 0x30 algorithm_place (element_place 0x03 (at_first bit_string_fault) end_place))
 
 -- RFC 5280 section 4.1: in the SEQUENCE of these components, or after it
-abbrev pub certificate_place : List ℕ → Option Fault
+abbrev pub certificate_place : List ℕ → Option Position
 certificate_place bytes = element_place 0x30 signed_place end_place (length bytes) bytes

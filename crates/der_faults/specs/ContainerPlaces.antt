@@ -6,7 +6,7 @@ use Rattle.sec1_der.specs.Faults.{no_fault}
 use Rattle.der_faults.specs.Containers.{has_version_one}
 use Rattle.der_faults.specs.Places.{Place, at_first, element_place, end_place, optional_place}
 use Rattle.der_faults.specs.RecordPlaces.{algorithm_place, set_place}
-use Rattle.der_faults.specs.declared.Fault.{Fault}
+use Rattle.der_faults.specs.declared.Position.{Position}
 
 -- RFC 5958 section 2: in the components of an Attribute, or after them
 abbrev pub key_attribute_place : Place
@@ -41,5 +41,5 @@ components_place end bytes =
     else private_key_info_place end bytes
 
 -- RFC 5958 section 2: in the SEQUENCE of these components, or after it
-abbrev pub container_place : List ℕ → Option Fault
+abbrev pub container_place : List ℕ → Option Position
 container_place bytes = element_place 0x30 components_place end_place (length bytes) bytes

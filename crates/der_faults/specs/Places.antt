@@ -12,18 +12,18 @@ use Rattle.sec1_der.specs.Faults as faults
 use Rattle.sec1_der.specs.Trees.{max_tree_depth}
 use Rattle.sec1_der.specs.declared.error.ErrorKind.{ErrorKind}
 use Rattle.sec1_der.specs.declared.error.ErrorKind.TheVariants.{Truncated, Tag, Depth}
-use Rattle.der_faults.specs.declared.Fault.{Fault}
+use Rattle.der_faults.specs.declared.Position.{Position}
 
 -- The place at which bytes are refused, or None if they aren't, from the offset of their end.
 abbrev pub Place : Type 0
-Place = ℕ → List ℕ → Option Fault
+Place = ℕ → List ℕ → Option Position
 
 -- a fault of this kind before as many bytes as are left
-abbrev pub before : ℕ → List ℕ → ErrorKind → Fault
+abbrev pub before : ℕ → List ℕ → ErrorKind → Position
 before end left kind = record { offset = end - length left; kind = kind }
 
 -- a fault before as many bytes as are left, if there is one that says its kind
-abbrev pub placed : ℕ → List ℕ → Option (Option ErrorKind) → Option Fault
+abbrev pub placed : ℕ → List ℕ → Option (Option ErrorKind) → Option Position
 placed end left None = None
 placed end left (Some None) = None
 placed end left (Some (Some kind)) = Some (before end left kind)
@@ -38,7 +38,7 @@ end_place = at_first faults.end_fault
 
 -- at the length, in the content, or in the bytes after it, in this order
 abbrev pub parts_place : Place → Place → ℕ → List ℕ
-    → Result (List ℕ × List ℕ) ErrorKind → Option Fault
+    → Result (List ℕ × List ℕ) ErrorKind → Option Position
 parts_place content rest end bytes (Err kind) = Some (before end bytes kind)
 parts_place content rest end bytes (Ok x) =
     option_or (content (end - length x.1) x.0) (rest end x.1)
@@ -82,7 +82,7 @@ forest_place (suc most) level end (byte ∷ bytes) =
     (byte ∷ bytes)
 
 -- one tree that isn't too deep
-abbrev pub tree_place : List ℕ → Option Fault
+abbrev pub tree_place : List ℕ → Option Position
 tree_place bytes =
     any_place (nested_place (forest_place (length bytes) 2)) end_place (length bytes) bytes
 
@@ -101,5 +101,5 @@ components_place =
     (optional_place 0xA1 whole_bits_field_place end_place)))
 
 -- SEC1 v2.0 Appendix C.4: in the SEQUENCE of these components, or after it
-abbrev pub key_place : List ℕ → Option Fault
+abbrev pub key_place : List ℕ → Option Position
 key_place bytes = element_place 0x30 components_place end_place (length bytes) bytes

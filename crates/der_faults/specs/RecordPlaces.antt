@@ -10,7 +10,7 @@ use Rattle.sec1_der.specs.Contents.{bit_string_fault}
 use Rattle.sec1_der.specs.Faults.{no_fault}
 use Rattle.sec1_der.specs.Faults as faults
 use Rattle.der_faults.specs.Places.{Place, any_place, at_first, element_place, end_place}
-use Rattle.der_faults.specs.declared.Fault.{Fault}
+use Rattle.der_faults.specs.declared.Position.{Position}
 
 -- RFC 3279 section 2.2.3: in the two numbers of an Ecdsa-Sig-Value, or after them
 abbrev pub numbers_place : Place
@@ -19,7 +19,7 @@ numbers_place =
     (element_place 0x02 (at_first unsigned_fault) end_place)
 
 -- RFC 3279 section 2.2.3: in the SEQUENCE of these numbers, or after it
-abbrev pub signature_place : List ℕ → Option Fault
+abbrev pub signature_place : List ℕ → Option Position
 signature_place bytes = element_place 0x30 numbers_place end_place (length bytes) bytes
 
 -- X.690 section 8.1.1: in an element of any tag and any content, or in the bytes after it
@@ -41,7 +41,7 @@ info_place =
     element_place 0x30 algorithm_place (element_place 0x03 (at_first bit_string_fault) end_place)
 
 -- RFC 5280 section 4.1: in the SEQUENCE of these components, or after it
-abbrev pub public_key_place : List ℕ → Option Fault
+abbrev pub public_key_place : List ℕ → Option Position
 public_key_place bytes = element_place 0x30 info_place end_place (length bytes) bytes
 
 -- X.690 section 8.10: in elements with this tag, up to a greatest number of them

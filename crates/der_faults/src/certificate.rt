@@ -14,7 +14,7 @@ ghost use Rattle.pkix.specs.Records as records;
 ghost use Rattle.sec1_der.specs.Elements.{max_length};
 ghost use Rattle.sec1_der.specs.Faults.{element_fault, end_fault};
 
-use crate::Fault;
+use crate::Position;
 use crate::element::{
     CheckContent, Step, before, check_element, finish, optional_value, tagged_element, value,
 };
@@ -30,7 +30,7 @@ use sec1_der::{
 /// Returns the first fault of the bytes as a certificate's, from left to right; `None` if they are
 /// a certificate's.
 #[tactic(auto, using(crate::proofs::CertificateLemmas::certificate_placed))]
-pub fn certificate_fault(bytes: &[u8]) -> Option<Fault>
+pub fn certificate_fault(bytes: &[u8]) -> Option<Position>
     // Where the fault lies is a function of the bytes.
     ensures place { result ≡ certificate_place bytes.now }
     // There is one exactly when the bytes are refused as a certificate's, and it has the same kind.

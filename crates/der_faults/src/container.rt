@@ -10,7 +10,7 @@ ghost use Rattle.der_faults.specs.Places.{Place, optional_place};
 ghost use Rattle.sec1_der.specs.Elements.{max_length};
 ghost use Rattle.sec1_der.specs.Faults.{element_fault, end_fault};
 
-use crate::Fault;
+use crate::Position;
 use crate::element::{
     CheckContent, Step, before, check_elements, finish, optional_value, tagged_element, value,
 };
@@ -22,7 +22,7 @@ use sec1_der::{DecodeValue, Octets, Primitive1, SliceReader, SmallInteger, Tag};
 /// Returns the first fault of the bytes as those of a container of version 0 or 1, from left to
 /// right; `None` if they are one's. Whether the algorithm is one of EC keys isn't tested.
 #[tactic(auto, using(crate::proofs::ContainerLemmas::container_placed))]
-pub fn container_fault(bytes: &[u8]) -> Option<Fault>
+pub fn container_fault(bytes: &[u8]) -> Option<Position>
     // Where the fault lies is a function of the bytes.
     ensures place { result ≡ container_place bytes.now }
     // There is one exactly when the bytes are refused as a container's, and it has the same kind.

@@ -8,11 +8,11 @@ ghost use Rattle.der_faults.specs.Places.{Place, any_place, at_first, before, el
 ghost use Rattle.der_faults.specs.Places.{end_place, optional_place};
 ghost use Rattle.sec1_der.specs.Faults.{SaysKinds};
 
-use crate::Fault;
+use crate::Position;
 use sec1_der::{AnyRef, DecodeValue, ErrorKind, SliceReader, Tag, Tagged};
 
 /// The result of a step, or the place at which the bytes are refused.
-pub(crate) type Step<T> = std::result::Result<T, Fault>;
+pub(crate) type Step<T> = std::result::Result<T, Position>;
 
 /// An element, and the bytes after it.
 #[derive(Drop)]
@@ -27,11 +27,11 @@ pub(crate) struct Element<'a> {
 }
 
 /// Returns the fault of this kind before as many bytes as are left.
-pub(crate) fn before(end: usize, left: &[u8], kind: ErrorKind) -> Fault
+pub(crate) fn before(end: usize, left: &[u8], kind: ErrorKind) -> Position
     requires { length left.now ≤ end }
     ensures { result ≡ before end left.now kind }
 {
-    Fault {
+    Position {
         offset: end - left.len(),
         kind,
     }

@@ -7,13 +7,13 @@ ghost use Rattle.der_faults.specs.Places.{at_first, key_place, optional_place};
 ghost use Rattle.der_faults.specs.Places.{whole_bits_field_place};
 ghost use Rattle.sec1_der.specs.Contents.{identifier_fault};
 
-use crate::Fault;
+use crate::Position;
 use crate::element::{Step, finish, tagged_element, value};
 use sec1_der::{BitStringRef, IdentifierRef, Octets, SmallInteger, Tag, WholeBits};
 
 /// Returns the first fault of the bytes as a key's, from left to right; `None` if they are a key's.
 #[tactic(auto, using(crate::proofs::KindLemmas::key_kind))]
-pub fn key_fault(bytes: &[u8]) -> Option<Fault>
+pub fn key_fault(bytes: &[u8]) -> Option<Position>
     // Where the fault lies is a function of the bytes.
     ensures place { result ≡ key_place bytes.now }
     // There is one exactly when the bytes are refused as a key's, and it has the same kind.

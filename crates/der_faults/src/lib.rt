@@ -21,7 +21,7 @@ pub use tree::tree_fault;
 
 /// Why bytes are refused, and where.
 #[derive(Clone, Copy, Debug, PartialEq, Eq)]
-pub struct Fault {
+pub struct Position {
     /// The number of bytes before it.
     pub offset: usize,
     /// The kind of the error by which the bytes are refused.

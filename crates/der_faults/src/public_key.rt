@@ -9,7 +9,7 @@ ghost use Rattle.der_types.specs.Choices.{begins_among};
 ghost use Rattle.pkix.specs.Records as records;
 ghost use Rattle.sec1_der.specs.Faults.{element_fault, end_fault};
 
-use crate::Fault;
+use crate::Position;
 use crate::element::{Step, any_element, finish, tagged_element, value};
 use der_types::{Alternative, Any, Bits, ObjectIdentifierRef};
 use sec1_der::Tag;
@@ -17,7 +17,7 @@ use sec1_der::Tag;
 /// Returns the first fault of the bytes as a SubjectPublicKeyInfo's, from left to right; `None` if
 /// they are one's. Whether the algorithm is one of EC keys, and the key a point, isn't tested.
 #[tactic(auto, using(crate::proofs::PublicKeyLemmas::public_key_placed))]
-pub fn public_key_fault(bytes: &[u8]) -> Option<Fault>
+pub fn public_key_fault(bytes: &[u8]) -> Option<Position>
     // Where the fault lies is a function of the bytes.
     ensures place { result ≡ public_key_place bytes.now }
     // There is one exactly when the bytes are refused as a SubjectPublicKeyInfo's, and it has the

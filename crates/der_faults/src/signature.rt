@@ -5,7 +5,7 @@ ghost use Rattle.der_faults.specs.RecordPlaces.{numbers_place, signature_place};
 ghost use Rattle.pkix.specs.Records as records;
 ghost use Rattle.sec1_der.specs.Faults.{element_fault, end_fault};
 
-use crate::Fault;
+use crate::Position;
 use crate::element::{Step, finish, tagged_element, value};
 use der_types::Unsigned;
 use sec1_der::Tag;
@@ -13,7 +13,7 @@ use sec1_der::Tag;
 /// Returns the first fault of the bytes as an ECDSA signature's, from left to right; `None` if they
 /// are a signature's.
 #[tactic(auto, using(crate::proofs::SignatureLemmas::signature_placed))]
-pub fn signature_fault(bytes: &[u8]) -> Option<Fault>
+pub fn signature_fault(bytes: &[u8]) -> Option<Position>
     // Where the fault lies is a function of the bytes.
     ensures place { result ≡ signature_place bytes.now }
     // There is one exactly when the bytes are refused as a signature's, and it has the same kind.

@@ -4,14 +4,14 @@ ghost use Rattle.std.specs.Prelude.{◌==◌, bit_and, not, option_map};
 ghost use Rattle.sec1_der.specs.Faults as faults;
 ghost use Rattle.der_faults.specs.Places.{forest_place, tree_place};
 
-use crate::Fault;
+use crate::Position;
 use crate::element::{Step, any_element, before, finish};
 use sec1_der::{ErrorKind, MAX_DEPTH};
 
 /// Returns the first fault of the bytes as those of one tree with at most 64 levels, from left to
 /// right; `None` if they are.
 #[tactic(auto, using(crate::proofs::KindLemmas::tree_kind))]
-pub fn tree_fault(bytes: &[u8]) -> Option<Fault>
+pub fn tree_fault(bytes: &[u8]) -> Option<Position>
     // Where the fault lies is a function of the bytes.
     ensures place { result ≡ tree_place bytes.now }
     // There is one exactly when `check_tree` refuses the bytes, and it has the same kind.

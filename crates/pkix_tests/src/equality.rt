@@ -3,7 +3,7 @@
 ghost use Rattle.std.specs.Prelude.{◌≡◌, ◌≢◌, ◌↔◌, IsTrue, IsOkAnd};
 ghost use Rattle.der_types.specs.Times.{IsEarlier};
 
-use der_faults::Fault;
+use der_faults::Position;
 use der_types::{Boolean, Choice, DateTime, Defaulted, Implicit, OptionalPart};
 use pkix::{Curve, LaterVersion};
 use sec1_der::{Primitive0, Required, VersionOne};
@@ -216,21 +216,21 @@ pub fn cloned_curve(value: &Curve) -> Cloned<Curve>
 }
 
 /// Two faults are equal exactly where they are the same.
-pub fn same_fault(a: &Fault, b: &Fault) -> bool
+pub fn same_position(a: &Position, b: &Position) -> bool
     ensures { IsTrue result ↔ (a.now ≡ b.now) }
 {
     a == b
 }
 
 /// Two faults are unequal exactly where they differ.
-pub fn other_fault(a: &Fault, b: &Fault) -> bool
+pub fn other_position(a: &Position, b: &Position) -> bool
     ensures { IsTrue result ↔ (a.now ≢ b.now) }
 {
     a != b
 }
 
 /// The clone of a fault is the same, and never fails.
-pub fn cloned_fault(value: &Fault) -> Cloned<Fault>
+pub fn cloned_position(value: &Position) -> Cloned<Position>
     ensures { IsOkAnd result (λ cloned. cloned ≡ value.now) }
 {
     value.clone()

@@ -1,6 +1,6 @@
 //! Places of faults, counted by hand in bytes that OpenSSL 3.0.19 made and that were then damaged.
 use crate::{assert_equal, assert_equal_for};
-use der_faults::{Fault, key_fault, tree_fault};
+use der_faults::{Position, key_fault, tree_fault};
 use sec1_der::ErrorKind;
 use std::alloc::AllocError;
 use std::test::Fail;
@@ -35,7 +35,7 @@ fn finds_faults_of_keys(rt: HostRuntime) {
     for &(at, byte, offset, kind) in DAMAGES.iter() {
         let mut key = KEY;
         key[at] = byte;
-        assert_equal_for(&rt, &at, &key_fault(&key), &Some(Fault { offset, kind }));
+        assert_equal_for(&rt, &at, &key_fault(&key), &Some(Position { offset, kind }));
     }
 }
 
@@ -100,10 +100,10 @@ fn short_key(at: u8, byte: u8) -> [u8; 25] {
 }
 
 /// Returns the fault at this offset, of the kind of this number.
-fn fault(offset: u8, number: u8) -> Option<Fault> {
+fn fault(offset: u8, number: u8) -> Option<Position> {
     let kind = (*KINDS.get(usize::from(number))?)?;
     let offset = usize::from(offset);
-    Some(Fault { offset, kind })
+    Some(Position { offset, kind })
 }
 
 #[test]
@@ -123,7 +123,7 @@ fn finds_ends_of_keys(rt: HostRuntime) {
     for end in 0..KEY.len() {
         let offset = end.min(1);
         let found = key_fault(KEY.get(..end).unwrap_or_default());
-        assert_equal_for(&rt, &end, &found, &Some(Fault { offset, kind }));
+        assert_equal_for(&rt, &end, &found, &Some(Position { offset, kind }));
     }
 }
 
@@ -138,7 +138,7 @@ fn finds_faults_of_trees(rt: HostRuntime) {
         ([0x30, 0x03, 0x04, 0x81, 0x00], 3, ErrorKind::Length),
         ([0x30, 0x03, 0xA0, 0x01, 0x00], 4, ErrorKind::Tag),
     ] {
-        assert_equal(&rt, &tree_fault(&bytes), &Some(Fault { offset, kind }));
+        assert_equal(&rt, &tree_fault(&bytes), &Some(Position { offset, kind }));
     }
 }
 
@@ -162,7 +162,7 @@ fn finds_depths(rt: HostRuntime) -> Result<(), Fail> {
         let below = levels.saturating_sub(64).saturating_mul(2);
         let offset = bytes.len().saturating_sub(below);
         let kind = ErrorKind::Depth;
-        let fault = (below > 0).then_some(Fault { offset, kind });
+        let fault = (below > 0).then_some(Position { offset, kind });
         assert_equal_for(&rt, &levels, &tree_fault(&bytes), &fault);
     }
     Ok(())

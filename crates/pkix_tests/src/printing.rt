@@ -2,7 +2,7 @@
 //! types of these shapes.
 use crate::assert_equal;
 use curves::Curve;
-use der_faults::Fault;
+use der_faults::Position;
 use der_types::{Boolean, Choice, DateTime, Defaulted, Implicit, OptionalPart};
 use pkix::LaterVersion;
 use sec1_der::{ErrorKind, Primitive0, Required, VersionOne};
@@ -133,14 +133,14 @@ fn prints_curves_and_faults(rt: HostRuntime) {
         "[Secp112r1, BrainpoolP512t1]",
         "[\n    Secp112r1,\n    BrainpoolP512t1,\n]",
     );
-    let fault = Fault {
+    let fault = Position {
         offset: 34,
         kind: ErrorKind::Value,
     };
     assert_prints(
         &rt,
         &fault,
-        "Fault { offset: 34, kind: Value }|Fault { offset:    34, kind: Value }|Fault { offset: 34, kind: Value }|Fault { offset: +34, kind: Value }|Fault { offset: 00034, kind: Value }",
-        "Fault {\n    offset: 34,\n    kind: Value,\n}",
+        "Position { offset: 34, kind: Value }|Position { offset:    34, kind: Value }|Position { offset: 34, kind: Value }|Position { offset: +34, kind: Value }|Position { offset: 00034, kind: Value }",
+        "Position {\n    offset: 34,\n    kind: Value,\n}",
     );
 }

@@ -8,7 +8,7 @@ use Rattle.der_faults.specs.ContainerPlaces.{container_place}
 use Rattle.der_faults.specs.Containers.{container_fault}
 use Rattle.der_faults.specs.Places.{key_place}
 use Rattle.der_faults.specs.RecordPlaces.{public_key_place}
-use Rattle.der_faults.specs.declared.Fault.{Fault}
+use Rattle.der_faults.specs.declared.Position.{Position}
 use Rattle.sec1.specs.KeyFaults.{key_fault}
 use Rattle.pkix.specs.Records.{public_key_fault}
 use Rattle.sec1_c.specs.Statuses.{fault_number, kind_number}
@@ -35,7 +35,7 @@ has_number Memory e = cc e
 pub no_key_place : (bytes : List ℕ) → fault_number (key_fault bytes) ≡ 0 → key_place bytes ≡ None
 no_key_place bytes none = by (key_place bytes) (rw (key_kind bytes) none)
   where
-    by : (o : Option Fault) → fault_number (option_map (λ (f : Fault). Some f.kind) o) ≡ 0 → o ≡ None
+    by : (o : Option Position) → fault_number (option_map (λ (f : Position). Some f.kind) o) ≡ 0 → o ≡ None
     by None e = refl
     by (Some fault) e = absurd (has_number fault.kind e)
 
@@ -43,7 +43,7 @@ no_key_place bytes none = by (key_place bytes) (rw (key_kind bytes) none)
 pub read_key_has_no_place : (bytes : List ℕ) → key_fault bytes ≡ None → key_place bytes ≡ None
 read_key_has_no_place bytes none = by (key_place bytes) (rw (key_kind bytes) none)
   where
-    by : (o : Option Fault) → option_map (λ (f : Fault). Some f.kind) o ≡ None → o ≡ None
+    by : (o : Option Position) → option_map (λ (f : Position). Some f.kind) o ≡ None → o ≡ None
     by None e = refl
     by (Some fault) e = absurd (cc e)
 
@@ -51,7 +51,7 @@ pub no_public_key_place : (bytes : List ℕ) → element_fault 0x30 public_key_f
     → public_key_place bytes ≡ None
 no_public_key_place bytes none = by (public_key_place bytes) (rw (public_key_kind bytes) none)
   where
-    by : (o : Option Fault) → option_map (λ (f : Fault). Some f.kind) o ≡ None → o ≡ None
+    by : (o : Option Position) → option_map (λ (f : Position). Some f.kind) o ≡ None → o ≡ None
     by None e = refl
     by (Some fault) e = absurd (cc e)
 
@@ -59,6 +59,6 @@ pub no_container_place : (bytes : List ℕ) → element_fault 0x30 container_fau
     → container_place bytes ≡ None
 no_container_place bytes none = by (container_place bytes) (rw (container_kind bytes) none)
   where
-    by : (o : Option Fault) → option_map (λ (f : Fault). Some f.kind) o ≡ None → o ≡ None
+    by : (o : Option Position) → option_map (λ (f : Position). Some f.kind) o ≡ None → o ≡ None
     by None e = refl
     by (Some fault) e = absurd (cc e)

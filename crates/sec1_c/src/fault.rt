@@ -16,7 +16,7 @@ ghost use Rattle.sec1_c.specs.Statuses.{fault_number};
 
 use crate::key::{KeyParts, sec1_key_read};
 use crate::status::{OK, kind_number};
-use der_faults::Fault;
+use der_faults::Position;
 
 /// Reads a private key as `sec1_key_read` does, and stores the places of its parts; or stores, as
 /// `sec1_key_fault_at` does, the offset of the first fault.
@@ -114,7 +114,7 @@ pub extern "C" fn sec1_certificate_fault_at(bytes: &[u8], offset: &mut usize) ->
 }
 
 /// Returns the number of a fault's kind and stores its offset; returns 0 if there is none.
-pub fn tell(fault: Option<Fault>, offset: &mut usize) -> u32
+pub fn tell(fault: Option<Position>, offset: &mut usize) -> u32
     ensures { StoresFault fault result offset.old offset.new }
 {
     match fault {

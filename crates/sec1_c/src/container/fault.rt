@@ -3,7 +3,7 @@
 ghost use Rattle.std.specs.Prelude.{◌≡◌, ◌≢◌, ◌≤◌, length, Some};
 ghost use Rattle.curves.specs.declared.curve.Curve.{Curve};
 ghost use Rattle.der_faults.specs.ContainerPlaces.{container_place};
-ghost use Rattle.der_faults.specs.declared.Fault.{Fault};
+ghost use Rattle.der_faults.specs.declared.Position.{Position};
 ghost use Rattle.pkix.specs.EcKeys.{IsOnCurve};
 ghost use Rattle.pkix.specs.declared.private_key.OneAsymmetricKey.{OneAsymmetricKey};
 ghost use Rattle.sec1_c.specs.Containers.{IsContainer, IsEcContainer, container_algorithm_start};
@@ -29,7 +29,7 @@ use sec1_der::Record;
 #[tactic(auto, using(crate::proofs::FaultLemmas::no_container_place))]
 pub extern "C" fn sec1_private_key_info_fault_at(bytes: &[u8], offset: &mut usize) -> u32
     ensures container { IsEcContainer bytes.now → (result ≡ 0) × (offset.new ≡ offset.old) }
-    ensures no_container { (fault : Fault) → container_place bytes.now ≡ Some fault
+    ensures no_container { (fault : Position) → container_place bytes.now ≡ Some fault
         → StoresFault (Some fault) result offset.old offset.new }
     ensures other_curve { (container : OneAsymmetricKey) → IsContainer container bytes.now
         → ((curve : Curve) → ¬ IsOnCurve curve container.algorithm)

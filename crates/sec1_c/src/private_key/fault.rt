@@ -4,7 +4,7 @@ ghost use Rattle.std.specs.Prelude.{◌≡◌, ◌≢◌, ◌≤◌, ◌+◌, fa
 ghost use Rattle.curves.specs.declared.curve.Curve.{Curve};
 ghost use Rattle.der_faults.specs.ContainerPlaces.{container_place};
 ghost use Rattle.der_faults.specs.Places.{key_place};
-ghost use Rattle.der_faults.specs.declared.Fault.{Fault};
+ghost use Rattle.der_faults.specs.declared.Position.{Position};
 ghost use Rattle.pkix.specs.EcKeys.{IsOnCurve, NamesCurve};
 ghost use Rattle.pkix.specs.declared.private_key.OneAsymmetricKey.{OneAsymmetricKey};
 ghost use Rattle.sec1.specs.Keys.{Key, IsKeyOf};
@@ -42,13 +42,13 @@ pub extern "C" fn sec1_private_key_fault_at(bytes: &[u8], offset: &mut usize) ->
         → (result ≡ 0) × (offset.new ≡ offset.old) }
     ensures no_key { has_algorithm bytes.now ≡ false
         → StoresFault (key_place bytes.now) result offset.old offset.new }
-    ensures no_container { (fault : Fault) → IsTrue (has_algorithm bytes.now)
+    ensures no_container { (fault : Position) → IsTrue (has_algorithm bytes.now)
         → container_place bytes.now ≡ Some fault
         → StoresFault (Some fault) result offset.old offset.new }
     ensures no_curve { (container : OneAsymmetricKey) → IsContainer container bytes.now
         → ((curve : Curve) → ¬ IsOnCurve curve container.algorithm)
         → (result ≡ curve_number) × (offset.new ≡ container_algorithm_start container bytes.now) }
-    ensures no_key_inside { (container : OneAsymmetricKey) (curve : Curve) (fault : Fault)
+    ensures no_key_inside { (container : OneAsymmetricKey) (curve : Curve) (fault : Position)
         → IsContainer container bytes.now → IsOnCurve curve container.algorithm
         → key_place container.private_key ≡ Some fault
         → (result ≡ kind_number fault.kind)
@@ -73,12 +73,12 @@ fn tell_contained(bytes: &[u8], offset: &mut usize) -> u32
     ensures contained { (container : OneAsymmetricKey) (curve : Curve) (key : Key)
         → IsKeyIn container curve key bytes.now → NamesCurve curve key
         → (result ≡ 0) × (offset.new ≡ offset.old) }
-    ensures no_container { (fault : Fault) → container_place bytes.now ≡ Some fault
+    ensures no_container { (fault : Position) → container_place bytes.now ≡ Some fault
         → StoresFault (Some fault) result offset.old offset.new }
     ensures no_curve { (container : OneAsymmetricKey) → IsContainer container bytes.now
         → ((curve : Curve) → ¬ IsOnCurve curve container.algorithm)
         → (result ≡ curve_number) × (offset.new ≡ container_algorithm_start container bytes.now) }
-    ensures no_key_inside { (container : OneAsymmetricKey) (curve : Curve) (fault : Fault)
+    ensures no_key_inside { (container : OneAsymmetricKey) (curve : Curve) (fault : Position)
         → IsContainer container bytes.now → IsOnCurve curve container.algorithm
         → key_place container.private_key ≡ Some fault
         → (result ≡ kind_number fault.kind)
@@ -106,7 +106,7 @@ fn tell_key(bytes: &[u8], container: &OneAsymmetricKey, curve: Curve, offset: &m
     requires curve { IsOnCurve curve container.now.algorithm }
     ensures key { (key : Key) → IsKeyOf key container.now.private_key → NamesCurve curve key
         → (result ≡ 0) × (offset.new ≡ offset.old) }
-    ensures no_key { (fault : Fault) → key_place container.now.private_key ≡ Some fault
+    ensures no_key { (fault : Position) → key_place container.now.private_key ≡ Some fault
         → (result ≡ kind_number fault.kind)
         × (offset.new ≡ inside_start container.now bytes.now + fault.offset) }
     ensures other_curve { (key : Key) → IsKeyOf key container.now.private_key

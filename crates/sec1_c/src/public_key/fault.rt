@@ -4,7 +4,7 @@ ghost use Rattle.std.specs.Prelude.{◌≡◌, ◌≢◌, ◌≤◌, length, Som
 ghost use Rattle.curves.specs.Curves.{field_len};
 ghost use Rattle.curves.specs.declared.curve.Curve.{Curve};
 ghost use Rattle.der_faults.specs.RecordPlaces.{public_key_place};
-ghost use Rattle.der_faults.specs.declared.Fault.{Fault};
+ghost use Rattle.der_faults.specs.declared.Position.{Position};
 ghost use Rattle.pkix.specs.EcKeys.{HasPoint, IsOnCurve};
 ghost use Rattle.pkix.specs.declared.public_key.SubjectPublicKeyInfo.{SubjectPublicKeyInfo};
 ghost use Rattle.sec1.specs.Points.{Point};
@@ -32,7 +32,7 @@ use sec1_der::Record;
 #[tactic(auto, using(crate::proofs::FaultLemmas::no_public_key_place))]
 pub extern "C" fn sec1_public_key_fault_at(bytes: &[u8], offset: &mut usize) -> u32
     ensures key { IsEcKeyInfo bytes.now → (result ≡ 0) × (offset.new ≡ offset.old) }
-    ensures no_info { (fault : Fault) → public_key_place bytes.now ≡ Some fault
+    ensures no_info { (fault : Position) → public_key_place bytes.now ≡ Some fault
         → StoresFault (Some fault) result offset.old offset.new }
     ensures other_curve { (info : SubjectPublicKeyInfo) → IsInfo info bytes.now
         → ((curve : Curve) → ¬ IsOnCurve curve info.algorithm)
