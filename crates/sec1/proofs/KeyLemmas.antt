@@ -18,7 +18,7 @@ use Rattle.sec1_der.specs.Contents.{byte_fault, identifier_fault, whole_bits_fie
 use Rattle.sec1_der.specs.Faults.{Fault, SaysKinds, no_fault, end_fault, element_fault}
 use Rattle.sec1_der.proofs.KindLaws.{element_says, optional_says, none_says, end_says, byte_says, identifier_says}
 use Rattle.sec1_der.proofs.KindLaws.{field_says}
-use Rattle.sec1.specs.Keys.{Key, key_tree, IsKeyOf, SomeBytes}
+use Rattle.sec1.specs.Keys.{Key, key_tree, IsKeyOf, Exists}
 
 -- the content of a key with this element of the identifier of its curve
 abbrev content_with : Option (Option (List ℕ)) → Key → Option (List ℕ)
@@ -82,13 +82,13 @@ key_found key bytes e =
     }
 
 found_with : (key : Key) (P : List ℕ → Type 0) (encoded : Option (List ℕ)) → element_of 0x30 (key_content key) ≡ encoded
-    → IsSomeAnd encoded P → SomeBytes (IsKeyOf key) P
+    → IsSomeAnd encoded P → Exists (IsKeyOf key) P
 found_with key P None e h = absurd h
-found_with key P (Some bytes) e h = record { bytes = bytes; are_such = key_found key bytes e; holds = h }
+found_with key P (Some bytes) e h = record { bytes = bytes; such = key_found key bytes e; holds = h }
 
 -- What holds of the element of a key holds of its bytes.
 pub key_found_with : (key : Key) (P : List ℕ → Type 0) → IsSomeAnd (element_of 0x30 (key_content key)) P
-    → SomeBytes (IsKeyOf key) P
+    → Exists (IsKeyOf key) P
 key_found_with key P h = found_with key P (element_of 0x30 (key_content key)) refl h
 
 -- An element that ends too early is refused as Truncated: the law `cut_elements` says it.

@@ -10,7 +10,7 @@ use Rattle.sec1_der.specs.Streams.{RefusesElement, TakenBeforeRefusal}
 use Rattle.sec1_der.specs.Streams.{Takes}
 use Rattle.sec1_der.proofs.FaultLaws.{any_at}
 use Rattle.sec1.specs.Errors.{IsAsn1Where, error_of}
-use Rattle.sec1.specs.Keys.{SomeBytes}
+use Rattle.sec1.specs.Keys.{Exists}
 use Rattle.sec1.specs.declared.error.Error.{Error}
 use Rattle.sec1.specs.declared.error.Error.TheVariants.{Memory}
 
@@ -70,12 +70,12 @@ pub stream_refused : {T : Type 0} {S : Type 0} (left taken : S → Option (List 
     → RefusesElement cause.kind (Takes left taken old new) Ended
     → ((cause.kind ≡ Io) ⊎ (cause.kind ≡ DerMemory))
     ⊎ IfSome (left old) (λ all. document_fault all ≡ Some (Some cause.kind))
-    → IfSome (left old) (IsTold result) × SomeBytes (Takes left taken old new) (IsTold result)
+    → IfSome (left old) (IsTold result) × Exists (Takes left taken old new) (IsTold result)
 stream_refused left taken Ended old new cause result same refused is = (
   left_told cause (left old) result same is,
   record {
     bytes = refused.bytes;
-    are_such = refused.taken;
+    such = refused.taken;
     holds =
         inr (told_by cause (document_fault refused.bytes) result same
         (taken_kind cause.kind refused.bytes refused.by_kind));
@@ -92,8 +92,8 @@ left_read (Some all) result is = inl is
 pub stream_read : {T : Type 0} {S : Type 0} (left taken : S → Option (List ℕ)) (old new : S) (bytes : List ℕ)
     (result : Result T Error) → IsElement bytes → Takes left taken old new bytes
     → IfSome (left old) (λ all. document_fault all ≡ None)
-    → IfSome (left old) (IsTold result) × SomeBytes (Takes left taken old new) (IsTold result)
+    → IfSome (left old) (IsTold result) × Exists (Takes left taken old new) (IsTold result)
 stream_read left taken old new bytes result is takes none = (
   left_read (left old) result none,
-  record { bytes = bytes; are_such = takes; holds = inl (element_whole bytes is) },
+  record { bytes = bytes; such = takes; holds = inl (element_whole bytes is) },
 )

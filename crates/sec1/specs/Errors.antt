@@ -1,6 +1,6 @@
 -- The errors of this crate.
 use Rattle.std.specs.Prelude.{◌≡◌, ◌⊎◌, ◌++◌, codes, List, ℕ}
-use Rattle.sec1.specs.Keys.{Key, IsKeyOf, SomeBytes}
+use Rattle.sec1.specs.Keys.{Key, IsKeyOf, Exists}
 use Rattle.sec1.specs.declared.error.Error.{Error}
 use Rattle.sec1.specs.declared.error.Error.TheVariants.{Asn1, Crypto, PointEncoding, Version}
 use Rattle.sec1.specs.declared.error.Error.TheVariants.{Memory}
@@ -34,7 +34,7 @@ IsAsn1 kind = IsAsn1Where (λ of. of ≡ kind)
 abbrev pub HasNoEncodingOr : (Error → Type 0) → Key → (List ℕ → Type 0) → Error → Type 0
 HasNoEncodingOr IsSuch key P e =
     (IsAsn1 Overlength e × ((bytes : List ℕ) → ¬ IsKeyOf key bytes))
-    ⊎ (IsSuch e × SomeBytes (IsKeyOf key) P)
+    ⊎ (IsSuch e × Exists (IsKeyOf key) P)
 
 -- what `{}` prints of an error
 abbrev pub error_message : Error → List ℕ

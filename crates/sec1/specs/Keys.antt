@@ -31,7 +31,7 @@ pub record IsKeyOf (key : Key) (input : List ℕ) : Type 0 where
   pub tree : IsTreeOf (key_tree key) input
 
 -- there are bytes that are such, as those of a key, and this holds of them
-pub record SomeBytes (AreSuch P : List ℕ → Type 0) : Type 0 where
+pub record Exists (Such P : List ℕ → Type 0) : Type 0 where
   pub bytes : List ℕ
-  pub are_such : AreSuch bytes
+  pub such : Such bytes
   pub holds : P bytes

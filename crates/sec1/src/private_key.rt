@@ -3,7 +3,7 @@ ghost use Rattle.std.specs.Prelude.{MatchResult};
 ghost use Rattle.std.specs.Prelude.{Some, None, ⊤, refl, codes};
 ghost use Rattle.std.specs.Fmt.{◌++?◌, debug_list, debug_option, decimal};
 ghost use Rattle.std.specs.Option.{option_map};
-ghost use Rattle.sec1.specs.Keys.{Key, IsKeyOf, SomeBytes};
+ghost use Rattle.sec1.specs.Keys.{Key, IsKeyOf, Exists};
 ghost use Rattle.sec1.specs.Parameters.{curve_of};
 ghost use Rattle.sec1.specs.declared.parameters.EcParameters.TheVariants.{NamedCurve};
 ghost use Rattle.sec1.specs.ReadsKey.{ReadsKey};
@@ -160,7 +160,7 @@ impl<'a> EcPrivateKey<'a> {
     #[tactic(auto, using(crate::proofs::KeyLemmas::key_none))]
     pub fn encoded_len(&self) -> Result<usize>
         ensures exact { MatchResult result
-            (λ n. SomeBytes (IsKeyOf self.now) (λ bytes. n ≡ length bytes))
+            (λ n. Exists (IsKeyOf self.now) (λ bytes. n ≡ length bytes))
             (λ e. IsAsn1 ErrorKind.Overlength e
             × ((bytes : List ℕ) → ¬ IsKeyOf self.now bytes)) }
     {
@@ -188,7 +188,7 @@ impl<'a> EcPrivateKey<'a> {
     /// ```
     pub fn encode_to_slice(&self, buffer: &mut [u8]) -> Result<usize>
         ensures exact { MatchResult result
-            (λ n. (n ≤ length buffer.new) × SomeBytes (IsKeyOf self.now) (λ bytes.
+            (λ n. (n ≤ length buffer.new) × Exists (IsKeyOf self.now) (λ bytes.
             (n ≡ length bytes) × (buffer.new ≡ bytes ++ drop n buffer.old)))
             (λ e. (buffer.new ≡ buffer.old) × HasNoEncodingOr (IsAsn1 ErrorKind.Buffer) self.now
             (λ bytes. length buffer.old < length bytes) e) }

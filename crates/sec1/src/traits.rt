@@ -5,7 +5,7 @@ ghost use Rattle.std.specs.Prelude.{ℕ, List, false, ◌≡◌, ◌⊎◌, ◌�
 ghost use Rattle.std.specs.Prelude.{MatchResult, IsErrAnd, Some, None};
 ghost use Rattle.std.specs.Io.KnownBytes.{Appends};
 ghost use Rattle.sec1.specs.Errors.{IsAsn1, IsAsn1Where, error_of};
-ghost use Rattle.sec1.specs.Keys.{SomeBytes};
+ghost use Rattle.sec1.specs.Keys.{Exists};
 ghost use Rattle.sec1.specs.declared.error.Error.{Error};
 ghost use Rattle.sec1_der.specs.Elements.{IsElement};
 ghost use Rattle.sec1_der.specs.Errors.{IsHeaderFault};
@@ -48,13 +48,13 @@ pub trait DecodeEcPrivateKey: Sized {
             let ended = Ends R.left R.ended reader.new in
             let whole : List ℕ → Type 0 = λ bytes. IsElement bytes × taken bytes × ended in
             MatchResult result
-            (λ key. (R.failed reader.new ≡ false) × SomeBytes whole (λ bytes. reads bytes key))
+            (λ key. (R.failed reader.new ≡ false) × Exists whole (λ bytes. reads bytes key))
             (λ error. ((cause : DerError) × (error ≡ error_of cause)
             × RefusesElement cause.kind taken ended
             × (((cause.kind ≡ ErrorKind.Io) ⊎ (cause.kind ≡ ErrorKind.Memory))
             ⊎ IfSome (R.left reader.old) (λ all. ¬ (IsElement all)))
             × (IsAsn1 ErrorKind.Io error ↔ IsTrue (R.failed reader.new)))
-            ⊎ ((R.failed reader.new ≡ false) × SomeBytes whole
+            ⊎ ((R.failed reader.new ≡ false) × Exists whole
             (λ bytes. (error ≡ Error.Memory) ⊎ refuses bytes error))) }
         // Where the bytes aren't one element, that they are refused, and by which kind, is a
         // function of those that the reader had left, and of those that were taken.
@@ -62,7 +62,7 @@ pub trait DecodeEcPrivateKey: Sized {
             ⊎ IsErrAnd result (λ error. (error ≡ Error.Memory) ⊎ IsAsn1Where
             (λ kind. (kind ≡ ErrorKind.Io) ⊎ (document_fault bytes ≡ Some (Some kind))) error) in
             IfSome (R.left reader.old) told
-            × SomeBytes (Takes R.left R.taken reader.old reader.new) told }
+            × Exists (Takes R.left R.taken reader.old reader.new) told }
     {
         let document = SecretDocument::read_der_from(alloc, reader)?;
         Self::from_sec1_der(alloc, document.as_bytes())
@@ -75,12 +75,12 @@ pub trait DecodeEcPrivateKey: Sized {
     /// Those of [`SecretDocument::read_der_file`], then those of
     /// [`from_sec1_der`](DecodeEcPrivateKey::from_sec1_der).
     fn read_sec1_der_file<F: Files>(rt: &F, alloc: Global, path: &str) -> Result<Self>
-        ensures { MatchResult result (λ key. SomeBytes IsElement (λ bytes. reads bytes key))
+        ensures { MatchResult result (λ key. Exists IsElement (λ bytes. reads bytes key))
             (λ error. ((cause : DerError) × (error ≡ error_of cause)
             × (IsHeaderFault cause.kind ⊎ (cause.kind ≡ ErrorKind.TrailingData)
             ⊎ (cause.kind ≡ ErrorKind.Io)
             ⊎ (cause.kind ≡ ErrorKind.Memory)))
-            ⊎ SomeBytes IsElement (λ bytes. (error ≡ Error.Memory) ⊎ refuses bytes error)) }
+            ⊎ Exists IsElement (λ bytes. (error ≡ Error.Memory) ⊎ refuses bytes error)) }
     {
         let document = SecretDocument::read_der_file(rt, alloc, path)?;
         Self::from_sec1_der(alloc, document.as_bytes())
@@ -115,9 +115,9 @@ pub trait EncodeEcPrivateKey {
         ensures { let old = W.written writer.old in
             let new = W.written writer.new in
             MatchResult result
-            (λ _. (W.failed writer.new ≡ false) × SomeBytes (writes self.now) (Appends old new))
+            (λ _. (W.failed writer.new ≡ false) × Exists (writes self.now) (Appends old new))
             (λ error. MatchBool (W.failed writer.new)
-            (IsAsn1 ErrorKind.Io error × SomeBytes (writes self.now) (AppendsPrefix old new))
+            (IsAsn1 ErrorKind.Io error × Exists (writes self.now) (AppendsPrefix old new))
             (((error ≡ Error.Memory) ⊎ refuses self.now error) × (new ≡ old))) }
     {
         let document = self.to_sec1_der(alloc)?;
@@ -132,7 +132,7 @@ pub trait EncodeEcPrivateKey {
     /// Those of [`to_sec1_der`](EncodeEcPrivateKey::to_sec1_der), before the file is opened, then
     /// those of [`SecretDocument::write_der_file`].
     fn write_sec1_der_file<F: Files>(&self, rt: &F, alloc: Global, path: &str) -> Result<()>
-        ensures { MatchResult result (λ _. SomeBytes IsElement (writes self.now))
+        ensures { MatchResult result (λ _. Exists IsElement (writes self.now))
             (λ error. IsAsn1 ErrorKind.Io error ⊎ (error ≡ Error.Memory) ⊎ refuses self.now error) }
     {
         let document = self.to_sec1_der(alloc)?;

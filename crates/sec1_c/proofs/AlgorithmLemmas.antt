@@ -18,7 +18,7 @@ use Rattle.pkix.specs.declared.algorithm.AlgorithmIdentifier.{AlgorithmIdentifie
 use Rattle.pkix.specs.declared.private_key.OneAsymmetricKey.{OneAsymmetricKey}
 use Rattle.pkix.specs.declared.public_key.SubjectPublicKeyInfo.{SubjectPublicKeyInfo}
 use Rattle.sec1.proofs.PointLemmas.{length-enc-le}
-use Rattle.sec1.specs.Keys.{Key, IsKeyOf, SomeBytes}
+use Rattle.sec1.specs.Keys.{Key, IsKeyOf, Exists}
 use Rattle.sec1.specs.Points.{IsEncoding}
 use Rattle.sec1_der.proofs.ComponentLemmas.{alone}
 use Rattle.sec1_der.proofs.ElementLaws.{element_of-some, element_of-within}
@@ -134,12 +134,12 @@ info_there curve info key on is few =
 pub info_written : (curve : Curve) (info : SubjectPublicKeyInfo) (key old new : List ℕ) (result len_old len_new : ℕ)
     → IsOnCurve curve info.algorithm → info.public_key ≡ record { unused = 0; bytes = key } → length key ≤ 133
     → WritesIfAny (element_of 0x30 (public_key_content info)) old new result len_old len_new
-    → SomeBytes (IsInfoOf curve key) (λ bytes. Writes bytes old new result len_new)
+    → Exists (IsInfoOf curve key) (λ bytes. Writes bytes old new result len_new)
 info_written curve info key old new result len_old len_new on is few writes =
     let there = info_there curve info key on is few in
     record {
       bytes = element 0x30 (algorithm_bytes curve ++ element 0x03 (0 ∷ key));
-      are_such = record { info = info; on_curve = on; key_is = is; is_info = there };
+      such = record { info = info; on_curve = on; key_is = is; is_info = there };
       holds = rw there at writes;
     }
 

@@ -2,7 +2,7 @@
 ghost use Rattle.std.specs.Prelude.{◌≡◌, ◌≤◌, Some, length};
 ghost use Rattle.curves.specs.Curves.{curve_arcs, curve_content, field_len};
 ghost use Rattle.curves.specs.declared.curve.Curve.{Curve};
-ghost use Rattle.sec1.specs.Keys.{SomeBytes};
+ghost use Rattle.sec1.specs.Keys.{Exists};
 ghost use Rattle.sec1.specs.Points.{Point};
 ghost use Rattle.sec1_der.specs.Elements.{element_of};
 ghost use Rattle.sec1_der.specs.Identifiers.{identifier_content};
@@ -39,7 +39,7 @@ pub extern "C" fn sec1_public_key_write(
 ) -> u32
     ensures info { (named : Curve) (point : Point) → curve_content named ≡ curve.now
         → Encodes (field_len named) point public_key.now
-        → SomeBytes (IsInfoOf named public_key.now)
+        → Exists (IsInfoOf named public_key.now)
         (λ bytes. Writes bytes out.old out.new result len.new) }
     ensures no_curve { IsOfNoCurve curve.now
         → WritesNothing curve_number out.old out.new result len.old len.new }
@@ -72,7 +72,7 @@ fn write_info(
 ) -> u32
     requires element { element_of 0x06 (identifier_content (curve_arcs curve)) ≡ Some element.now }
     requires few { length public_key.now ≤ 133 }
-    ensures { SomeBytes (IsInfoOf curve public_key.now)
+    ensures { Exists (IsInfoOf curve public_key.now)
         (λ bytes. Writes bytes out.old out.new result len.new) }
 {
     let info = SubjectPublicKeyInfo {
