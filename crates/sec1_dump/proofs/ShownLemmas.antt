@@ -1,6 +1,6 @@
 -- What is shown of an input, from what is written.
 use Rattle.std.proofs.Common.{◌≡◌, ℕ, ◌+◌, ◌<◌, ◌≤◌, Bool, true, false, List, ◌++◌, length, take, Option, Some, None}
-use Rattle.std.proofs.Common.{IfSome, Result, Ok, Err, IfOk, ap, arith, refl, sym, ◌∙◌}
+use Rattle.std.proofs.Common.{IfSome, Result, Ok, Err, IfOk, ap, arith, refl, ◌∙◌}
 use Rattle.std.proofs.KnownBytes.{Appends-kept, Appends-trans}
 use Rattle.std.proofs.lemmas.List.{length-take, take_all}
 use Rattle.std.specs.Io.KnownBytes.{Appends, Keeps}

@@ -1,6 +1,6 @@
 -- The objects of JSON: of a row, and the first and the last one of a picture.
 use denote.Bor.{Bor}
-use Rattle.std.specs.Prelude.{ℕ, ◌==◌, Bool, true, false, if◌then◌else◌, List, [], ◌∷◌, ◌++◌}
+use Rattle.std.specs.Prelude.{ℕ, ◌==◌, Bool, true, false, if◌then◌else◌, List, [], ◌++◌}
 use Rattle.std.specs.Prelude.{length, codes, Option, Some, None, option_map}
 use Rattle.hex.specs.Hex.{encode_upper}
 use Rattle.sec1_der.specs.Identifiers.{dotted}
@@ -23,7 +23,6 @@ use Rattle.der_view.specs.declared.row.Kind.TheVariants as kinds
 use Rattle.der_view.specs.declared.row.OpenRow.{OpenRow}
 use Rattle.der_view.specs.declared.row.Shown.{Shown}
 use Rattle.der_view.specs.declared.row.Shown.TheVariants as shows
-use Rattle.der_view.specs.declared.text.Encoding.{Encoding}
 use Rattle.der_view.specs.declared.text.Encoding.TheVariants as encodings
 use Rattle.sec1_dump.specs.Text.{text_of}
 

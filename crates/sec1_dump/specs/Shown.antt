@@ -1,13 +1,13 @@
 -- What a run of the program shows of a file.
 use Rattle.std.specs.Prelude.{◌≡◌, ◌≤◌, ℕ, Bool, true, false, if◌then◌else◌, List, [], ◌++◌}
-use Rattle.std.specs.Prelude.{chars, codes, length, Option, Some, None, Result, Ok, Err, ⊤}
+use Rattle.std.specs.Prelude.{chars, codes, length, Option, Some, Result, Ok, Err, ⊤}
 use Rattle.std.specs.Io.KnownBytes.{Appends}
 use Rattle.der_view.specs.Characters.{escaped_all}
 use Rattle.der_view.specs.Inputs.{ArePictures}
 use Rattle.der_view.specs.Sources.{sources_of}
 use Rattle.sec1_dump.specs.Json.{AreJson}
 use Rattle.sec1_dump.specs.declared.failure.Failure.{Failure}
-use Rattle.sec1_dump.specs.declared.failure.Failure.TheVariants.{Input, TooLong, Memory, Output}
+use Rattle.sec1_dump.specs.declared.failure.Failure.TheVariants.{Input, Memory, Output}
 use Rattle.sec1_dump.specs.declared.output.Style.{Style}
 
 -- the greatest length of an input in bytes

@@ -1,5 +1,5 @@
-use Rattle.std.proofs.Common.{◌++◌, [], refl, ap, chars}
-use Rattle.std.proofs.KnownBytes.{Appends-nil, Appends-trans}
+use Rattle.std.proofs.Common.{◌++◌, refl}
+use Rattle.std.proofs.KnownBytes.{Appends-trans}
 use Rattle.std.proofs.lemmas.Str.{IsUtf8-past_char, chars_past_char}
 use Rattle.std.proofs.StrCases.{chars_of_empty}
 use Rattle.sec1_dump.proofs.TextLemmas.{last_piece, next_piece}
