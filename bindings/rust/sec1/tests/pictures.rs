@@ -28,7 +28,7 @@ fn drawn_by_hand() {
         assert_eq!(draw(&input, option == " --all"), picture);
         count += 1;
     }
-    assert_eq!(count, 14);
+    assert_eq!(count, 26);
 }
 
 #[test]
