@@ -2,7 +2,7 @@
 use Rattle.std.specs.Prelude.{ℕ, zero, suc, ◌+◌, ◌-◌, ◌==◌, ◌&&◌, ◌||◌, not, nat_lt, max, Bool}
 use Rattle.std.specs.Prelude.{true, false, if◌then◌else◌, List, [], ◌∷◌, length, take, drop}
 use Rattle.std.specs.Prelude.{slice_get, slice_index, unwrap_or, Option, Some, None}
-use Rattle.std.specs.Prelude.{Result, Ok, Err}
+use Rattle.std.specs.Prelude.{Result, Ok, Err, ◌/◌, ◌%◌}
 use Rattle.std.specs.List.{starts_with}
 use Rattle.der_view.specs.Headers.{header_of}
 use Rattle.der_view.specs.Openings.{is_tree}
@@ -46,6 +46,10 @@ no_child = record {
 abbrev pub none_at : ℕ → Child
 none_at at = record no_child { at = at; start = at; end = at }
 
+-- X.690 section 8.1.2.5: whether a content is elements, by the tag
+abbrev pub nests : ℕ → Bool
+nests tag = tag / 0x20 % 2 == 1
+
 -- the child with a header of this length, after so many bytes; its content, of this length, is
 -- there up to another
 abbrev pub child_of : ℕ → List ℕ → ℕ → ℕ → ℕ → Child
@@ -57,8 +61,8 @@ child_of at bytes header_len announced len =
       start = at + header_len;
       end = at + header_len + len;
       announced = announced;
-      inner = first_tag content;
-      alone = is_tree content;
+      inner = if nests (first_tag bytes) then first_tag content else 0;
+      alone = nests (first_tag bytes) && is_tree content;
     }
 
 -- X.690 section 10.1: the child is whole in DER, or the bytes end inside it, if that may be

@@ -3,8 +3,9 @@ use Rattle.std.specs.Prelude.{ℕ, ◌-◌, ◌==◌, ◌&&◌, ◌||◌, not, n
 use Rattle.std.specs.Prelude.{false, if◌then◌else◌, List, take, drop, Option, Some, None, is_none}
 use Rattle.std.specs.Prelude.{Result, Ok, Err}
 use Rattle.std.specs.Int.{abs_diff}
-use Rattle.der_view.specs.Children.{children_of, len_of}
+use Rattle.der_view.specs.Children.{children_of, first_tag, len_of}
 use Rattle.der_view.specs.Headers.{header_of}
+use Rattle.der_view.specs.Openings.{is_tree}
 use Rattle.der_view.specs.declared.children.Child.{Child}
 use Rattle.der_view.specs.declared.children.Children.{Children}
 use Rattle.der_view.specs.declared.field.Field.{Field}
@@ -92,7 +93,8 @@ key_of_tag tag bytes =
 
 unfoldable pub key_in : Child → List ℕ → Option Field
 key_in child bytes =
-    if child.alone then key_of_tag child.inner (content_of bytes child) else None
+    let content = content_of bytes child in
+    if is_tree content then key_of_tag (first_tag content) content else None
 
 abbrev pub at_place : ℕ → Option Field → Option (ℕ × Field)
 at_place at None = None

@@ -53,9 +53,9 @@ pub(crate) struct Child {
     pub end: usize,
     /// The length of the content, as the header says.
     pub announced: usize,
-    /// The tag byte of the first element in the content.
+    /// The tag byte of the first element in a content of elements.
     pub inner: u8,
-    /// Whether the content is one element in DER.
+    /// Whether such a content is one element in DER.
     pub alone: bool,
 }
 
@@ -125,14 +125,17 @@ impl Child {
         ensures { result ≡ child_of at bytes.now header_len announced len }
     {
         let content = &bytes[header_len..][..len];
+        let tag = first_tag(bytes);
+        // What may be private isn't looked at.
+        let nests = tag / 0x20 % 2 == 1;
         Child {
-            tag: first_tag(bytes),
+            tag,
             at,
             start: at + header_len,
             end: at + header_len + len,
             announced,
-            inner: first_tag(content),
-            alone: is_tree(content),
+            inner: if nests { first_tag(content) } else { 0x00 },
+            alone: nests && is_tree(content),
         }
     }
 

@@ -6,7 +6,8 @@ ghost use Rattle.der_view.specs.KeyForms.{form_of_sequence, form_of_string, insi
 ghost use Rattle.der_view.specs.KeyForms.{is_container, is_other, is_versioned, key_by, key_in};
 ghost use Rattle.der_view.specs.KeyForms.{key_of_tag, place_after};
 
-use crate::children::{Child, Children, after};
+use crate::children::{Child, Children, after, first_tag};
+use crate::element::is_tree;
 use crate::field::{Field, Form};
 use crate::header::Header;
 
@@ -198,8 +199,9 @@ fn at_place(at: usize, field: Option<Field>) -> Option<(usize, Field)>
 fn key_in(child: Child, root: &[u8]) -> Option<Field>
     ensures { result ≡ key_in child root.now }
 {
-    if child.alone {
-        key_of_tag(child.inner, content_of(root, child))
+    let content = content_of(root, child);
+    if is_tree(content) {
+        key_of_tag(first_tag(content), content)
     } else {
         None
     }
