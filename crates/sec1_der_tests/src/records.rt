@@ -294,7 +294,7 @@ fn reads_and_writes_borrowed_parts(rt: HostRuntime) {
     assert_equal(&rt, &short, &(b"".as_slice(), None, None, None));
 }
 
-/// Unused bits in `[1]` are refused after the bytes after the BIT STRING.
+/// Unused bits in `[1]` are refused after the bytes that follow the BIT STRING.
 static UNUSED_BITS: [(&[u8], ErrorKind); 4] = [
     (b"\x30\x06\x04\x00\x03\x02\x04\xF0", ErrorKind::Value),
     (
