@@ -102,6 +102,8 @@ converted() { # FILE COMMAND
     { cat whole.der && printf '\0'; } >followed.der
     head -c 60 whole.der >cut.der
     { head -c 5 whole.der && printf '\x06' && tail -c +7 whole.der; } >damaged.der
+    { head -c 6 whole.der && printf '\x21' && tail -c +8 whole.der; } >damaged_length.der
+    printf '\x05\0' >null.der
     { head -c 4 whole.der && printf '\x02' && tail -c +6 whole.der; } >version_2.der
     sed 's/$/\r/' ec.pem >crlf.pem
     echo 'no key' >other_text
@@ -165,12 +167,13 @@ text digits '3077'
 text colons '30:77'
 text numbers '0x30, 0x77'
 text jwk '{'
-for file in empty_line.pem mark.pem utf16.pem empty other_text; do
+for file in empty_line.pem mark.pem utf16.pem empty other_text null.der; do
     refused "$file"
 done
 der cut.der '30 .. 02 01 01 04 ..' Truncated
 der followed.der '30 .. 02 01 01 04 ..' TrailingData
 der damaged.der '30 .. 02 01 01 06' Tag
+der damaged_length.der '30 .. 02 01 01 04 ..' TrailingData
 der version_2.der '30 .. 02 01 02' Value
 der indefinite.der '30 80' Length
 der long_length.der '30 81 77' Length
@@ -191,8 +194,8 @@ der cms.der '30 .. 06 09 2A 86 48 86 F7 0D 01 07' Tag
 der signature.der '30 .. 02 2' Value
 der curve.der '06 ..' Tag
 
-for file in cut damaged version_2 rsa_pkcs8 ed25519 x25519 rsa dsa public certificate request crl \
-    cms signature curve; do
+for file in cut damaged damaged_length version_2 rsa_pkcs8 ed25519 x25519 rsa dsa public \
+    certificate request crl cms signature curve null; do
     says "$file.der"
 done
 for file in rsa.pem dsa.pem certificate.pem crl.pem openssh.pub jwk utf16.pem empty other_text; do
