@@ -1,3 +1,4 @@
+pub mod ContentInfos
 pub mod Digests
 pub mod EvenOctets
 pub mod KeyReading

@@ -11,6 +11,7 @@ pub mod points;
 pub mod reading;
 
 // Elements, types and records of DER.
+pub mod content_info;
 pub mod elements;
 pub mod found;
 pub mod numbers;
