@@ -252,7 +252,7 @@ if command -v puttygen >/dev/null; then
     eval "${putty//FILE/putty}" >output 2>&1
     converted key.pem "$pem"
 else
-    skipped=$((skipped + 2))
+    skipped=$((skipped + 3))
 fi
 "$program" <digits >output && tell 'hexadecimal is read' yes || tell 'hexadecimal is read' no
 
