@@ -14,8 +14,8 @@ calls=(
     'sec1_inspect run_der'
 )
 without=(
-    'sec1_der SecretDocument::write_der_to'
-    'sec1_der from_der, encoded_len, encode_to_slice, check_tree'
+    'sec1 SecretDocument::write_der_to'
+    'sec1 from_der, encoded_len, encode_to_slice'
     'sec1 try_from, encoded_len, encode_to_slice, check_tree'
     'sec1 from_bytes, cmp, compress'
     'sec1 from_str, from_json'
@@ -26,7 +26,7 @@ if ! cc -O1 -shared -fPIC -o "$room/refuse.so" "$top/tests/refuse.c" -ldl 2>"$ro
     finish
 fi
 
-for tested in sec1_der_tests sec1_tests sec1_inspect; do
+for tested in sec1_tests sec1_inspect; do
     crate=${tested%_tests}
     tests=$top/crates/$tested/out/${tested}_tests
     if [ ! -x "$tests" ]; then
@@ -50,7 +50,7 @@ for call in "${calls[@]}"; do
         tell "$call: its requests weren't refused" no
     fi
 done
-grew='sec1_der SecretDocument::read_der_from grows by 4,096 bytes'
+grew='sec1 SecretDocument::read_der_from grows by 4,096 bytes'
 grep -qxF "$grew" "$room/lines" && tell "$grew" yes || tell "it isn't known that $grew" no
 for call in "${without[@]}"; do
     if grep -qxF "$call: no request" "$room/lines"; then

@@ -1,1 +1,3 @@
+-- Keys and points of the tests, and the contents of their records.
 pub mod Examples
+pub mod Nested

@@ -1,5 +1,5 @@
 //! What is printed of errors.
-use crate::{assert_equal, assert_printed};
+use crate::helpers::{assert_equal, assert_printed};
 use sec1::Error;
 use sec1::der::{self, ErrorKind};
 

@@ -1,24 +1,29 @@
-//! What calls without an allocator return while each request for memory is refused.
+//! What calls without an allocator return while each request for memory is refused, and how a
+//! document grows.
 //!
 //! They are refused by `tests/refuse.c`, an allocator that replaces the C library's in the built
 //! tests. A test controls it by requests of sizes that no allocator grants. Without it nothing is
 //! refused. `crates/replay` makes the calls that allocate, with each of their requests refused
 //! once.
-use crate::assert_equal_for;
-use sec1::der::check_tree;
+use crate::helpers::{assert_equal, assert_equal_for, document, kind_of};
 use sec1::point::EncodedPoint;
 use sec1::{EcPrivateKey, Error};
+use sec1_der::{
+    ErrorKind, OctetStringRef, SecretDocument, StdReader, StdWriter, check_tree, encode_to_slice,
+    encoded_len, from_der,
+};
 use serde_json::Value;
 use std::alloc::Global;
 use std::cmp::Ordering;
+use std::io;
 use std::process::Abort;
 use std::str::FromStr;
 use std::test::Fail;
 
 type Point1 = EncodedPoint<1, 3>;
 
-/// A key on P-256 with all its fields.
-static WHOLE_KEY: [u8; 121] = [
+/// A key on P-256 with all its fields, 121 bytes.
+const KEY: &[u8] = &[
     0x30, 0x77, 0x02, 0x01, 0x01, 0x04, 0x20, 0x69, 0x62, 0x41, 0x71, 0x56, 0x1A, 0x63, 0x34, 0x0D,
     0xE0, 0xE7, 0xD8, 0x69, 0xF2, 0xA0, 0x54, 0x92, 0x55, 0x8E, 0x1A, 0x04, 0x86, 0x8B, 0x6A, 0x9F,
     0x85, 0x4A, 0x86, 0x67, 0x88, 0x18, 0x8D, 0xA0, 0x0A, 0x06, 0x08, 0x2A, 0x86, 0x48, 0xCE, 0x3D,
@@ -45,6 +50,12 @@ fn refuse(alloc: Global, number: u16) -> bool {
 fn were_made(alloc: Global, count: u16) -> bool {
     signal(alloc, 0x1_0000 + u32::from(count))
 }
+
+/// Returns `true` if none of them was for more than `bytes` bytes.
+fn were_at_most(alloc: Global, bytes: u16) -> bool {
+    signal(alloc, 0x2_0000 + u32::from(bytes))
+}
+
 
 /// Fails the test unless the calls made since [`refuse`] were right, and made no request.
 fn assert_made_none<R: Print + Abort>(
@@ -77,7 +88,7 @@ fn is_read_and_written(bytes: &[u8]) -> bool {
 fn takes_no_memory_for_keys(rt: HostRuntime) {
     let alloc = rt.alloc();
     let is_refusing = refuse(alloc, 1);
-    let is_right = is_read_and_written(&WHOLE_KEY);
+    let is_right = is_read_and_written(KEY);
     let calls = "try_from, encoded_len, encode_to_slice, check_tree";
     assert_made_none(&rt, alloc, calls, is_refusing, is_right);
 }
@@ -139,12 +150,93 @@ fn is_read_from_texts(json: &Value, numbers: &[Value; 2]) -> bool {
 }
 
 #[test]
-fn takes_no_memory_for_texts_of_points(rt: HostRuntime) -> std::result::Result<(), Fail> {
+fn takes_no_memory_for_texts_of_points(rt: HostRuntime) -> Result<(), Fail> {
     let alloc = rt.alloc();
     let json = Value::from(String::from_str(alloc, "02AF")?);
     let numbers = [Value::from(2u8), Value::from(0.5)];
     let is_refusing = refuse(alloc, 1);
     let is_right = is_read_from_texts(&json, &numbers);
     assert_made_none(&rt, alloc, "from_str, from_json", is_refusing, is_right);
+    Ok(())
+}
+
+/// A reader of a header that announces the greatest length, which gives three requests of content
+/// and then fails.
+#[derive(Drop)]
+struct Endless {
+    header: &'static [u8],
+    times: u32,
+}
+
+impl io::Read for Endless {
+    fn read(&mut self, buf: &mut [u8]) -> io::Result<usize> {
+        if let Some((byte, rest)) = self.header.split_first() {
+            self.header = rest;
+            let count = buf.len().min(1);
+            buf[..count].fill(*byte);
+            return Ok(count);
+        }
+        if self.times == 0 {
+            return Err(io::Error::from(io::ErrorKind::Other));
+        }
+        self.times -= 1;
+        Ok(buf.len())
+    }
+}
+
+/// Reads a document of a header that announces the greatest length, over a reader that fails after
+/// three requests of content. Returns the kind of the error.
+fn endless_refusal(alloc: Global) -> Option<ErrorKind> {
+    let mut reader = StdReader::new(Endless {
+        header: b"\x30\x84\x0F\xFF\xFF\xFF",
+        times: 3,
+    });
+    kind_of(SecretDocument::read_der_from(alloc, &mut reader))
+}
+
+#[test]
+fn grows_documents_by_4096_bytes(rt: HostRuntime) {
+    let alloc = rt.alloc();
+    let is_refusing = refuse(alloc, u16::MAX);
+    let refused = endless_refusal(alloc);
+    if is_refusing {
+        // six bytes of the header, and four requests of 4,096
+        assert!(rt; were_at_most(alloc, 16_390) && !were_at_most(alloc, 16_389));
+        let _ = println!(&rt; "SecretDocument::read_der_from grows by 4,096 bytes");
+    }
+    assert_equal(&rt, &refused, &Some(ErrorKind::Io));
+}
+
+/// Returns `true` if the document is written to a writer, and is [`KEY`].
+fn is_written(document: &SecretDocument) -> bool {
+    let mut room = [0u8; 121];
+    let written = document.write_der_to(&mut StdWriter::new(room.as_mut_slice()));
+    written.is_ok() && room.as_slice() == KEY
+}
+
+/// Returns `true` if an octet string is read, measured and written.
+fn are_octets_read_and_written() -> bool {
+    let Ok(octets) = from_der::<OctetStringRef>(b"\x04\x01\xAA") else {
+        return false;
+    };
+    let mut room = [0u8; 3];
+    octets.as_bytes() == [0xAA].as_slice()
+        && encoded_len(&octets) == Ok(3)
+        && encode_to_slice(&octets, &mut room) == Ok(3)
+        && room == [0x04, 0x01, 0xAA]
+}
+
+#[test]
+fn takes_no_memory_without_an_allocator(rt: HostRuntime) -> Result<(), Fail> {
+    let alloc = rt.alloc();
+    let document = document(alloc, KEY)?;
+    let is_refusing = refuse(alloc, 1);
+    let is_right = is_written(&document);
+    let calls = "SecretDocument::write_der_to";
+    assert_made_none(&rt, alloc, calls, is_refusing, is_right);
+    let is_refusing = refuse(alloc, 1);
+    let is_right = are_octets_read_and_written();
+    let calls = "from_der, encoded_len, encode_to_slice";
+    assert_made_none(&rt, alloc, calls, is_refusing, is_right);
     Ok(())
 }

@@ -2,8 +2,8 @@
 
 ghost use Rattle.std.specs.Prelude.{◌+◌, ◌*◌, ◌%◌, ◌^◌, fold};
 
-use crate::{
-    assert_debug_texts, assert_equal, assert_equal_for, assert_printed, assert_printed_alike,
+use crate::helpers::{
+    assert_debug_texts, assert_displayed, assert_equal, assert_equal_for, assert_printed_alike,
 };
 use sec1::Error;
 use sec1::der::{self, ErrorKind};
@@ -190,14 +190,6 @@ static X_LINES: &str =
 fn prints_each_byte_of_a_coordinate(rt: HostRuntime) {
     let printed = format!(in rt.alloc(); "{:#?}", Compact { x: &X });
     assert_printed(&rt, printed, X_LINES);
-}
-
-/// Fails the test unless the value is printed as this text, whatever is asked for.
-fn assert_displayed<R: Abort + AllocGlobal>(rt: &R, value: &impl Display, text: &str) {
-    let texts = format!(in rt.alloc();
-        "{value}|{value:#}|{value:.1}|{value:.3}|{value:>9}|{value:<+09}|{value:>60}|{value:>200}"
-    );
-    assert_printed_alike(rt, texts, text);
 }
 
 #[test]

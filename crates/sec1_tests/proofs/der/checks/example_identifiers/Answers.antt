@@ -2,7 +2,7 @@ use Rattle.std.proofs.Common.{◌≡◌, ℕ, List, [], ◌∷◌, ◌++◌, ap,
 use Rattle.std.specs.Int.Digits.{digits_of}
 use Rattle.sec1_der.proofs.DigitLaws.{continuing}
 use Rattle.sec1_der.proofs.DigitLaws.{digits_of-number}
-use Rattle.sec1_der_tests.proofs.checks.example_identifiers.Goals as goal
+use Rattle.sec1_tests.proofs.der.checks.example_identifiers.Goals as goal
 
 pub returns-clause-greatest : goal.returns-clause-greatest
 returns-clause-greatest c =

@@ -1,12 +1,15 @@
 //! What many tests call. None of these has a contract, so a test doesn't carry those of the calls
-//! inside, which takes the prover a fraction of the time.
+//! inside, or of a macro in line, which takes the prover a fraction of the time.
 use sec1_der::{
     DecodeValue, EncodeValue, ErrorKind, Result, SecretDocument, Tagged, UniqueContent,
     encode_to_slice, encoded_len, from_der, read_der, to_der,
 };
-use std::alloc::Global;
+use std::alloc::{AllocError, Global};
 use std::fmt::{Debug, Display};
 use std::process::Abort;
+
+/// What a call that prints returns.
+type Printed = std::result::Result<String, AllocError>;
 
 /// Fails the test unless the two are equal.
 pub fn assert_equal<T: PartialEq + Debug>(rt: &impl Abort, found: &T, wanted: &T) {
@@ -99,4 +102,36 @@ where
 pub fn assert_shows<R: Abort + AllocGlobal, T: Display>(rt: &R, value: &T, text: &str) {
     let shown = value.to_string(rt.alloc()).ok();
     assert_equal(rt, &shown.as_deref(), &Some(text));
+}
+
+/// Fails the test unless what was printed is this text.
+pub fn assert_printed(rt: &impl Abort, printed: Printed, text: &str) {
+    assert_equal(rt, &printed.expect(rt, "no memory").as_str(), &text);
+}
+
+/// Fails the test unless each text between two `|` of what was printed is this one.
+pub fn assert_printed_alike(rt: &impl Abort, printed: Printed, text: &str) {
+    let printed = printed.expect(rt, "no memory");
+    for found in printed.split('|') {
+        assert_equal(rt, &found, &text);
+    }
+}
+
+/// Fails the test unless the value is printed as the text by `{:?}`, and as the lines by `{:#?}`.
+pub fn assert_debug_texts<R: Abort + AllocGlobal>(
+    rt: &R,
+    value: &impl Debug,
+    text: &str,
+    lines: &str,
+) {
+    assert_printed(rt, format!(in rt.alloc(); "{value:?}"), text);
+    assert_printed(rt, format!(in rt.alloc(); "{value:#?}"), lines);
+}
+
+/// Fails the test unless this is the text by `{}`, whatever options are set.
+pub fn assert_displayed<R: Abort + AllocGlobal>(rt: &R, value: &impl Display, text: &str) {
+    let texts = format!(in rt.alloc();
+        "{value}|{value:#}|{value:.1}|{value:.3}|{value:>9}|{value:<+020}|{value:*^40}|{value:>200}"
+    );
+    assert_printed_alike(rt, texts, text);
 }

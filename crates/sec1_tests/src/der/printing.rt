@@ -1,36 +1,22 @@
 //! What is printed of values by `{:?}`, and by `{:#?}` as a derived `Debug` prints it; and by `{}`,
 //! whatever options are set.
-use crate::helpers::assert_equal;
+use crate::helpers::{assert_displayed, assert_printed, assert_printed_alike};
 use sec1_der::{
     AnyRef, BitStringRef, Context0, Error, ErrorKind, Explicit, Header, IoFault, Length,
     ObjectIdentifier, OctetStringRef, Optional, Required, SmallInteger, Tag, VersionOne,
 };
-use std::alloc::AllocError;
-use std::fmt::{Debug, Display};
+use std::fmt::Debug;
 use std::process::Abort;
 use std::test::Fail;
 
 /// Fails the test unless these are the texts by `{:?}`, with a width, a precision, a sign and
 /// zeros, one after the other, and the lines by `{:#?}`: those that rustc prints of a derived
 /// `Debug` of the same fields.
-fn assert_printed<R: Abort + AllocGlobal, T: Debug>(rt: &R, value: &T, texts: &str, lines: &str) {
+fn assert_debug_options<R: Abort + AllocGlobal, T: Debug>(rt: &R, value: &T, texts: &str, lines: &str) {
     let alloc = rt.alloc();
     let printed = format!(in alloc; "{value:?}|{value:5?}|{value:.1?}|{value:+?}|{value:05?}");
-    assert_text(rt, printed, texts);
-    assert_text(rt, format!(in alloc; "{value:#?}"), lines);
-}
-
-/// Fails the test unless what was printed is this text.
-fn assert_text(rt: &impl Abort, printed: Result<String, AllocError>, text: &str) {
-    assert_equal(rt, &printed.expect(rt, "no memory").as_str(), &text);
-}
-
-/// Fails the test unless each text between two `|` of what was printed is this one.
-fn assert_texts(rt: &impl Abort, printed: Result<String, AllocError>, text: &str) {
-    let printed = printed.expect(rt, "no memory");
-    for found in printed.split('|') {
-        assert_equal(rt, &found, &text);
-    }
+    assert_printed(rt, printed, texts);
+    assert_printed(rt, format!(in alloc; "{value:#?}"), lines);
 }
 
 /// Returns the length.
@@ -40,25 +26,25 @@ fn length(rt: &impl Abort, bytes: usize) -> Length {
 
 #[test]
 fn prints_structs_with_one_field(rt: HostRuntime) -> Result<(), Fail> {
-    assert_printed(
+    assert_debug_options(
         &rt,
         &Tag::OBJECT_IDENTIFIER,
         "Tag { byte: 6 }|Tag { byte:     6 }|Tag { byte: 6 }|Tag { byte: +6 }|Tag { byte: 00006 }",
         "Tag {\n    byte: 6,\n}",
     );
-    assert_printed(
+    assert_debug_options(
         &rt,
         &length(&rt, 128),
         "Length { bytes: 128 }|Length { bytes:   128 }|Length { bytes: 128 }|Length { bytes: +128 }|Length { bytes: 00128 }",
         "Length {\n    bytes: 128,\n}",
     );
-    assert_printed(
+    assert_debug_options(
         &rt,
         &Error::from(ErrorKind::Truncated),
         "Error { kind: Truncated }|Error { kind: Truncated }|Error { kind: Truncated }|Error { kind: Truncated }|Error { kind: Truncated }",
         "Error {\n    kind: Truncated,\n}",
     );
-    assert_printed(
+    assert_debug_options(
         &rt,
         &OctetStringRef::new(&[1, 255])?,
         "OctetStringRef { bytes: [1, 255] }|OctetStringRef { bytes: [    1,   255] }|OctetStringRef { bytes: [1, 255] }|OctetStringRef { bytes: [+1, +255] }|OctetStringRef { bytes: [00001, 00255] }",
@@ -73,19 +59,19 @@ fn prints_structs_with_two_fields(rt: HostRuntime) -> Result<(), Fail> {
         tag: Tag::SEQUENCE,
         length: length(&rt, 3),
     };
-    assert_printed(
+    assert_debug_options(
         &rt,
         &header,
         "Header { tag: Tag { byte: 48 }, length: Length { bytes: 3 } }|Header { tag: Tag { byte:    48 }, length: Length { bytes:     3 } }|Header { tag: Tag { byte: 48 }, length: Length { bytes: 3 } }|Header { tag: Tag { byte: +48 }, length: Length { bytes: +3 } }|Header { tag: Tag { byte: 00048 }, length: Length { bytes: 00003 } }",
         "Header {\n    tag: Tag {\n        byte: 48,\n    },\n    length: Length {\n        bytes: 3,\n    },\n}",
     );
-    assert_printed(
+    assert_debug_options(
         &rt,
         &AnyRef::new(Tag::SEQUENCE, &[5, 0])?,
         "AnyRef { tag: 48, value: [5, 0] }|AnyRef { tag:    48, value: [    5,     0] }|AnyRef { tag: 48, value: [5, 0] }|AnyRef { tag: +48, value: [+5, +0] }|AnyRef { tag: 00048, value: [00005, 00000] }",
         "AnyRef {\n    tag: 48,\n    value: [\n        5,\n        0,\n    ],\n}",
     );
-    assert_printed(
+    assert_debug_options(
         &rt,
         &BitStringRef::new(4, &[240])?,
         "BitStringRef { unused: 4, bytes: [240] }|BitStringRef { unused:     4, bytes: [  240] }|BitStringRef { unused: 4, bytes: [240] }|BitStringRef { unused: +4, bytes: [+240] }|BitStringRef { unused: 00004, bytes: [00240] }",
@@ -97,27 +83,27 @@ fn prints_structs_with_two_fields(rt: HostRuntime) -> Result<(), Fail> {
 #[test]
 fn prints_parts(rt: HostRuntime) {
     let length = length(&rt, 128);
-    assert_printed(
+    assert_debug_options(
         &rt,
         &Required(length),
         "Required(Length { bytes: 128 })|Required(Length { bytes:   128 })|Required(Length { bytes: 128 })|Required(Length { bytes: +128 })|Required(Length { bytes: 00128 })",
         "Required(\n    Length {\n        bytes: 128,\n    },\n)",
     );
-    assert_printed(
+    assert_debug_options(
         &rt,
         &Optional(Some(length)),
         "Optional(Some(Length { bytes: 128 }))|Optional(Some(Length { bytes:   128 }))|Optional(Some(Length { bytes: 128 }))|Optional(Some(Length { bytes: +128 }))|Optional(Some(Length { bytes: 00128 }))",
         "Optional(\n    Some(\n        Length {\n            bytes: 128,\n        },\n    ),\n)",
     );
     let absent: Optional<VersionOne> = Optional(None);
-    assert_printed(
+    assert_debug_options(
         &rt,
         &absent,
         "Optional(None)|Optional(None)|Optional(None)|Optional(None)|Optional(None)",
         "Optional(\n    None,\n)",
     );
     let field: Explicit<Context0, Length> = Explicit::new(length);
-    assert_printed(
+    assert_debug_options(
         &rt,
         &field,
         "Explicit { value: Length { bytes: 128 }, .. }|Explicit { value: Length { bytes:   128 }, .. }|Explicit { value: Length { bytes: 128 }, .. }|Explicit { value: Length { bytes: +128 }, .. }|Explicit { value: Length { bytes: 00128 }, .. }",
@@ -127,7 +113,7 @@ fn prints_parts(rt: HostRuntime) {
 
 /// Fails the test unless the value is printed as this name by `{:?}`, whatever options are set.
 fn assert_name<R: Abort + AllocGlobal, T: Debug>(rt: &R, value: &T, name: &str) {
-    assert_text(rt, format!(in rt.alloc(); "{value:#?}"), name);
+    assert_printed(rt, format!(in rt.alloc(); "{value:#?}"), name);
     assert_debugged(rt, value, name);
 }
 
@@ -139,20 +125,12 @@ fn prints_names(rt: HostRuntime) {
     assert_name(&rt, &ErrorKind::TrailingData, "TrailingData");
 }
 
-/// Fails the test unless this is the text by `{}`, whatever options are set.
-fn assert_displayed<R: Abort + AllocGlobal, T: Display>(rt: &R, value: &T, text: &str) {
-    let printed = format!(in rt.alloc();
-        "{value:>20}|{value:.3}|{value:<+020}|{value:*^40}|{value:#}"
-    );
-    assert_texts(rt, printed, text);
-}
-
 /// Fails the test unless this is the text by `{:?}`, whatever options are set.
 fn assert_debugged<R: Abort + AllocGlobal, T: Debug>(rt: &R, value: &T, text: &str) {
     let printed = format!(in rt.alloc();
         "{value:?}|{value:>20?}|{value:.3?}|{value:*^20?}|{value:+?}|{value:05?}|{value:>99?}"
     );
-    assert_texts(rt, printed, text);
+    assert_printed_alike(rt, printed, text);
 }
 
 #[test]

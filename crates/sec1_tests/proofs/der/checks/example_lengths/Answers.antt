@@ -1,7 +1,7 @@
 use Rattle.std.proofs.Common.{◌∷◌, [], lit<, lit≤}
 use Rattle.sec1_der.proofs.DigitLaws.{digits_of-number}
 use Rattle.sec1_der.proofs.LengthLaws.{len_long}
-use Rattle.sec1_der_tests.proofs.checks.example_lengths.Goals as goal
+use Rattle.sec1_tests.proofs.der.checks.example_lengths.Goals as goal
 
 pub returns-clause-greatest : goal.returns-clause-greatest
 returns-clause-greatest c =

@@ -4,11 +4,11 @@ ghost use Rattle.sec1_der.specs.Elements.{element_of};
 ghost use Rattle.sec1_der.specs.Parts.{AreDistinct, one_tag};
 ghost use Rattle.sec1_der.specs.PartLaws.{element_begins};
 ghost use Rattle.sec1_der.specs.Faults.{element_fault};
-ghost use Rattle.sec1_der_tests.specs.Nested.{Four, inner_content, inner_fault};
-ghost use Rattle.sec1_der_tests.specs.Nested.{middle_content, middle_fault};
+ghost use Rattle.sec1_tests.specs.Nested.{Four, inner_content, inner_fault};
+ghost use Rattle.sec1_tests.specs.Nested.{middle_content, middle_fault};
 
+use crate::der::records::identifier;
 use crate::helpers::{assert_equal, read_and_write};
-use crate::records::identifier;
 use sec1_der::{
     BackWriter, DecodePart, Distinct, EncodePart, Length, ObjectIdentifier, Optional, Part, Record,
     Required, Result, SliceReader, UniquePart, VersionOne, component_len, decode_component,

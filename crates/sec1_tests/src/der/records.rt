@@ -68,7 +68,7 @@ impl Distinct for Inner {
     ghost distinct = { refl };
 }
 
-/// Two records of four parts. Four records of four are in [`nested`](crate::nested).
+/// Two records of four parts. Four records of four are in [`nested`](crate::der::nested).
 #[derive(Clone, Copy)]
 struct Pair {
     first: Inner,

@@ -1,2 +1,0 @@
--- The contents of the records of the tests.
-pub mod Nested
