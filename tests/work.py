@@ -391,9 +391,29 @@ def count(passed, failed):
 # ---- proofs
 
 
+# About how many seconds of one processor the proofs of some crates took. Only the order in which
+# crates begin depends on it.
+TOOK = {
+    "sec1_der": 400,
+    "der_types": 190,
+    "sec1": 240,
+    "pkix": 360,
+    "der_faults": 140,
+    "der_view": 800,
+    "sec1_inspect": 210,
+    "sec1_dump": 170,
+    "sec1_c": 410,
+    "examples": 380,
+    "sec1_tests": 450,
+    "pkix_tests": 300,
+    "replay": 580,
+}
+
+
 def weight_of(crate):
     """Returns about how many seconds of one processor the proof of a crate takes."""
-    return 20 + sum(it.count("\n") for it in crate.sources()) / 7
+    guess = 20 + sum(it.count("\n") for it in crate.sources()) / 7
+    return TOOK.get(crate.name, guess)
 
 
 def last_lines(ran, number=15):

@@ -56,7 +56,6 @@ fn were_at_most(alloc: Global, bytes: u16) -> bool {
     signal(alloc, 0x2_0000 + u32::from(bytes))
 }
 
-
 /// Fails the test unless the calls made since [`refuse`] were right, and made no request.
 fn assert_made_none<R: Print + Abort>(
     rt: &R,

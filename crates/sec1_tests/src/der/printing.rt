@@ -12,7 +12,12 @@ use std::test::Fail;
 /// Fails the test unless these are the texts by `{:?}`, with a width, a precision, a sign and
 /// zeros, one after the other, and the lines by `{:#?}`: those that rustc prints of a derived
 /// `Debug` of the same fields.
-fn assert_debug_options<R: Abort + AllocGlobal, T: Debug>(rt: &R, value: &T, texts: &str, lines: &str) {
+fn assert_debug_options<R: Abort + AllocGlobal, T: Debug>(
+    rt: &R,
+    value: &T,
+    texts: &str,
+    lines: &str,
+) {
     let alloc = rt.alloc();
     let printed = format!(in alloc; "{value:?}|{value:5?}|{value:.1?}|{value:+?}|{value:05?}");
     assert_printed(rt, printed, texts);
