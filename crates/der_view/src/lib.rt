@@ -1,11 +1,12 @@
 //! What is seen of any input: DER, or a text that encodes some. There is a row for each header of
 //! BER (X.690 section 8.1), in order, with what may be shown of the contents; a last line says what
-//! the bytes are. No call allocates.
+//! the bytes are. [`faults`] says where bytes are refused. No call allocates.
 #![tactic(auto)]
 
 mod children;
 mod element;
 mod expected;
+pub mod faults;
 mod field;
 mod header;
 mod key_form;

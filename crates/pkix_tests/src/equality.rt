@@ -1,9 +1,9 @@
 //! What `==`, `!=`, `<`, `cmp` and `clone` say of the values of `der_types`, `pkix` and
-//! `der_faults`, as a caller meets them.
+//! `der_view::faults`, as a caller meets them.
 ghost use Rattle.std.specs.Prelude.{◌≡◌, ◌≢◌, ◌↔◌, IsTrue, IsOkAnd};
 ghost use Rattle.der_types.specs.Times.{IsEarlier};
 
-use der_faults::Position;
+use der_view::faults::Position;
 use der_types::{Boolean, Choice, DateTime, Defaulted, Implicit, OptionalPart};
 use pkix::{Curve, LaterVersion};
 use sec1_der::{Primitive0, Required, VersionOne};

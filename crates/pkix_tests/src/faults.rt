@@ -1,6 +1,6 @@
 //! Places of faults, counted by hand in bytes that OpenSSL 3.0.19 made and that were then damaged.
 use crate::{assert_equal, assert_equal_for};
-use der_faults::{Position, key_fault, tree_fault};
+use der_view::faults::{Position, key_fault, tree_fault};
 use sec1_der::ErrorKind;
 use std::alloc::AllocError;
 use std::test::Fail;

@@ -1,5 +1,5 @@
-//! Tests of `der_types`, `curves`, `pkix`, `der_faults` and `examples` by their public calls, with
-//! values from outside.
+//! Tests of `der_types`, `curves`, `pkix`, `der_view::faults` and `examples` by their public calls,
+//! with values from outside.
 //!
 //! [`equality`] has what is proved of `==` and `clone`, and [`checks`] worked examples.
 //!

@@ -2,7 +2,7 @@
 //! types of these shapes.
 use crate::assert_equal;
 use curves::Curve;
-use der_faults::Position;
+use der_view::faults::Position;
 use der_types::{Boolean, Choice, DateTime, Defaulted, Implicit, OptionalPart};
 use pkix::LaterVersion;
 use sec1_der::{ErrorKind, Primitive0, Required, VersionOne};

@@ -31,7 +31,7 @@ use Rattle.sec1_der.specs.declared.error.Error.{Error}
 use Rattle.sec1_der.specs.declared.error.ErrorKind.{ErrorKind}
 use Rattle.sec1_der.specs.declared.error.ErrorKind.TheVariants.{Tag, Value}
 use Rattle.sec1_c.specs.Containers.{AreContainerPartsOf, IsContainer, IsVersionZero, after_key}
-use Rattle.der_faults.specs.Containers.{container_fault, has_version_one}
+use Rattle.der_view.specs.Containers.{container_fault, has_version_one}
 use Rattle.sec1_c.specs.Containers.{container_content, container_places}
 use Rattle.sec1_c.specs.Containers.{of_version_zero}
 use Rattle.sec1_c.specs.Fields.{bytes_len}

@@ -1,14 +1,14 @@
 -- Where bytes aren't refused, there is no place of a refusal.
 use Rattle.std.proofs.Common.{◌≡◌, ◌≢◌, List, ℕ, Option, Some, None, refl}
 use Rattle.std.specs.Prelude.{option_map}
-use Rattle.der_faults.proofs.ContainerLemmas.{container_kind}
-use Rattle.der_faults.proofs.KindLemmas.{key_kind}
-use Rattle.der_faults.proofs.PublicKeyLemmas.{public_key_kind}
-use Rattle.der_faults.specs.ContainerPlaces.{container_place}
-use Rattle.der_faults.specs.Containers.{container_fault}
-use Rattle.der_faults.specs.Places.{key_place}
-use Rattle.der_faults.specs.RecordPlaces.{public_key_place}
-use Rattle.der_faults.specs.declared.Position.{Position}
+use Rattle.der_view.proofs.ContainerLemmas.{container_kind}
+use Rattle.der_view.proofs.KindLemmas.{key_kind}
+use Rattle.der_view.proofs.PublicKeyLemmas.{public_key_kind}
+use Rattle.der_view.specs.ContainerPlaces.{container_place}
+use Rattle.der_view.specs.Containers.{container_fault}
+use Rattle.der_view.specs.FaultPlaces.{key_place}
+use Rattle.der_view.specs.RecordPlaces.{public_key_place}
+use Rattle.der_view.specs.declared.faults.Position.{Position}
 use Rattle.sec1.specs.KeyFaults.{key_fault}
 use Rattle.pkix.specs.Records.{public_key_fault}
 use Rattle.sec1_c.specs.Statuses.{fault_number, kind_number}

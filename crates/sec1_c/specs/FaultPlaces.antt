@@ -1,6 +1,6 @@
 -- The kind and the offset of the first fault of some bytes, as they are stored.
 use Rattle.std.specs.Prelude.{◌≡◌, ℕ, Option, Some, None}
-use Rattle.der_faults.specs.declared.Position.{Position}
+use Rattle.der_view.specs.declared.faults.Position.{Position}
 use Rattle.sec1_c.specs.Statuses.{kind_number}
 
 -- The number of its kind is returned, and its offset stored. If there is none, 0 is returned and

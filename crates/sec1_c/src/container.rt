@@ -1,7 +1,7 @@
 //! EC private keys in their containers, PKCS #8 (RFC 5958 section 2): `sec1_private_key_info_read`.
 ghost use Rattle.std.specs.Prelude.{◌≡◌, ◌≢◌, Ok, Some, IfOk};
 ghost use Rattle.curves.specs.declared.curve.Curve.{Curve};
-ghost use Rattle.der_faults.specs.Containers.{container_fault};
+ghost use Rattle.der_view.specs.Containers.{container_fault};
 ghost use Rattle.pkix.specs.EcKeys.{IsOnCurve};
 ghost use Rattle.pkix.specs.declared.private_key.OneAsymmetricKey.{OneAsymmetricKey};
 ghost use Rattle.sec1_der.specs.Faults.{HasFault, element_fault, end_fault};

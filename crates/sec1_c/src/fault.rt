@@ -2,9 +2,9 @@
 //! `sec1_key_read_at`, `sec1_key_fault_at`, `sec1_tree_fault_at`, `sec1_signature_fault_at` and
 //! `sec1_certificate_fault_at`.
 ghost use Rattle.std.specs.Prelude.{◌≡◌, ◌≢◌, ◌≤◌, length};
-ghost use Rattle.der_faults.specs.CertificatePlaces.{certificate_place};
-ghost use Rattle.der_faults.specs.Places.{key_place, tree_place};
-ghost use Rattle.der_faults.specs.RecordPlaces.{signature_place};
+ghost use Rattle.der_view.specs.CertificatePlaces.{certificate_place};
+ghost use Rattle.der_view.specs.FaultPlaces.{key_place, tree_place};
+ghost use Rattle.der_view.specs.RecordPlaces.{signature_place};
 ghost use Rattle.pkix.specs.Records.{certificate_fault, signature_fault};
 ghost use Rattle.sec1.specs.KeyFaults.{key_fault};
 ghost use Rattle.sec1.specs.Keys.{Key, IsKeyOf};
@@ -16,7 +16,7 @@ ghost use Rattle.sec1_c.specs.Statuses.{fault_number};
 
 use crate::key::{KeyParts, sec1_key_read};
 use crate::status::{OK, kind_number};
-use der_faults::Position;
+use der_view::faults::{self, Position};
 
 /// Reads a private key as `sec1_key_read` does, and stores the places of its parts; or stores, as
 /// `sec1_key_fault_at` does, the offset of the first fault.
@@ -60,7 +60,7 @@ pub extern "C" fn sec1_key_fault_at(bytes: &[u8], offset: &mut usize) -> u32
     ensures kind { result ≡ fault_number (key_fault bytes.now) }
     ensures within { result ≢ 0 → offset.new ≤ length bytes.now }
 {
-    tell(der_faults::key_fault(bytes), offset)
+    tell(faults::key_fault(bytes), offset)
 }
 
 /// Returns what `sec1_tree_check` returns, and stores the offset of the first fault from left to
@@ -76,7 +76,7 @@ pub extern "C" fn sec1_tree_fault_at(bytes: &[u8], offset: &mut usize) -> u32
     ensures kind { result ≡ fault_number (tree_fault bytes.now) }
     ensures within { result ≢ 0 → offset.new ≤ length bytes.now }
 {
-    tell(der_faults::tree_fault(bytes), offset)
+    tell(faults::tree_fault(bytes), offset)
 }
 
 /// Returns what `sec1_signature_read` returns, and stores the offset of the first fault from left
@@ -92,7 +92,7 @@ pub extern "C" fn sec1_signature_fault_at(bytes: &[u8], offset: &mut usize) -> u
     ensures kind { result ≡ fault_number (element_fault 0x30 signature_fault end_fault bytes.now) }
     ensures within { result ≢ 0 → offset.new ≤ length bytes.now }
 {
-    tell(der_faults::signature_fault(bytes), offset)
+    tell(faults::signature_fault(bytes), offset)
 }
 
 /// Returns what `sec1_certificate_read_public_key` returns, and stores the offset of the first
@@ -110,7 +110,7 @@ pub extern "C" fn sec1_certificate_fault_at(bytes: &[u8], offset: &mut usize) ->
         ≡ fault_number (element_fault 0x30 certificate_fault end_fault bytes.now) }
     ensures within { result ≢ 0 → offset.new ≤ length bytes.now }
 {
-    tell(der_faults::certificate_fault(bytes), offset)
+    tell(faults::certificate_fault(bytes), offset)
 }
 
 /// Returns the number of a fault's kind and stores its offset; returns 0 if there is none.

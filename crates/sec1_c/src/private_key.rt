@@ -2,7 +2,7 @@
 //! section 2): `sec1_private_key_read`.
 ghost use Rattle.std.specs.Prelude.{◌≡◌, ◌≢◌, ◌⊎◌, ◌↔◌, ◌+◌, ◌^◌, ◌<◌, false, IsTrue, Some, length};
 ghost use Rattle.curves.specs.declared.curve.Curve.{Curve};
-ghost use Rattle.der_faults.specs.Containers.{container_fault};
+ghost use Rattle.der_view.specs.Containers.{container_fault};
 ghost use Rattle.std.specs.Prelude.{is_none};
 ghost use Rattle.pkix.specs.EcKeys.{IsOnCurve, NamesCurve};
 ghost use Rattle.pkix.specs.declared.private_key.OneAsymmetricKey.{OneAsymmetricKey};

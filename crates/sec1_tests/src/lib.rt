@@ -1,7 +1,7 @@
 //! Tests of `sec1` and `sec1_der` by their public calls: what their contracts can't say, on memory
 //! and texts, and values from outside. [`der`] has those of `sec1_der`. `crates/replay` has keys,
-//! streams and files, and [`checks`] and [`der::checks`] what is proved of definitions, of constants
-//! and of `==`.
+//! streams and files; [`checks`] and [`der::checks`] have what is proved of definitions, of
+//! constants and of `==`.
 //!
 //! They are in a crate of their own, so that each library is proved once, and all of it is under
 //! `cfg(test)`, so that what is proved here is proved once too.

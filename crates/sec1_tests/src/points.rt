@@ -3,7 +3,8 @@
 ghost use Rattle.std.specs.Prelude.{◌+◌, ◌*◌, ◌%◌, ◌^◌, fold};
 
 use crate::helpers::{
-    assert_debug_texts, assert_displayed, assert_equal, assert_equal_for, assert_printed_alike,
+    assert_debug_texts, assert_displayed, assert_equal, assert_equal_for, assert_printed,
+    assert_printed_alike,
 };
 use sec1::Error;
 use sec1::der::{self, ErrorKind};

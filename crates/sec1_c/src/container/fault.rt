@@ -2,8 +2,8 @@
 //! `sec1_private_key_info_fault_at`.
 ghost use Rattle.std.specs.Prelude.{◌≡◌, ◌≢◌, ◌≤◌, length, Some};
 ghost use Rattle.curves.specs.declared.curve.Curve.{Curve};
-ghost use Rattle.der_faults.specs.ContainerPlaces.{container_place};
-ghost use Rattle.der_faults.specs.declared.Position.{Position};
+ghost use Rattle.der_view.specs.ContainerPlaces.{container_place};
+ghost use Rattle.der_view.specs.declared.faults.Position.{Position};
 ghost use Rattle.pkix.specs.EcKeys.{IsOnCurve};
 ghost use Rattle.pkix.specs.declared.private_key.OneAsymmetricKey.{OneAsymmetricKey};
 ghost use Rattle.sec1_c.specs.Containers.{IsContainer, IsEcContainer, container_algorithm_start};
@@ -14,6 +14,7 @@ use super::read_container;
 use crate::fault::tell;
 use crate::fields::fields_len;
 use crate::status::{OK, curve_number};
+use der_view::faults;
 use pkix::OneAsymmetricKey;
 use sec1_der::Record;
 
@@ -38,7 +39,7 @@ pub extern "C" fn sec1_private_key_info_fault_at(bytes: &[u8], offset: &mut usiz
 {
     match read_container(bytes) {
         Ok(container) => tell_curve(bytes, &container, offset),
-        Err(_) => tell(der_faults::container_fault(bytes), offset),
+        Err(_) => tell(faults::container_fault(bytes), offset),
     }
 }
 

@@ -2,9 +2,9 @@
 //! `sec1_private_key_fault_at`.
 ghost use Rattle.std.specs.Prelude.{◌≡◌, ◌≢◌, ◌≤◌, ◌+◌, false, IsTrue, length, Some};
 ghost use Rattle.curves.specs.declared.curve.Curve.{Curve};
-ghost use Rattle.der_faults.specs.ContainerPlaces.{container_place};
-ghost use Rattle.der_faults.specs.Places.{key_place};
-ghost use Rattle.der_faults.specs.declared.Position.{Position};
+ghost use Rattle.der_view.specs.ContainerPlaces.{container_place};
+ghost use Rattle.der_view.specs.FaultPlaces.{key_place};
+ghost use Rattle.der_view.specs.declared.faults.Position.{Position};
 ghost use Rattle.pkix.specs.EcKeys.{IsOnCurve, NamesCurve};
 ghost use Rattle.pkix.specs.declared.private_key.OneAsymmetricKey.{OneAsymmetricKey};
 ghost use Rattle.sec1.specs.Keys.{Key, IsKeyOf};
@@ -21,6 +21,7 @@ use crate::fault::{sec1_key_fault_at, tell};
 use crate::key;
 use crate::status::{OK, kind_number, other_curve_number};
 use curves::Curve;
+use der_view::faults;
 use pkix::OneAsymmetricKey;
 use sec1::EcPrivateKey;
 
@@ -90,7 +91,7 @@ fn tell_contained(bytes: &[u8], offset: &mut usize) -> u32
     ensures within { result ≢ 0 → offset.new ≤ length bytes.now }
 {
     let Ok(container) = read_container(bytes) else {
-        return tell(der_faults::container_fault(bytes), offset);
+        return tell(faults::container_fault(bytes), offset);
     };
     match container.algorithm.curve() {
         Some(curve) => tell_key(bytes, &container, curve, offset),
@@ -124,7 +125,7 @@ fn tell_key(bytes: &[u8], container: &OneAsymmetricKey, curve: Curve, offset: &m
         *offset = start + key::places::places(inside, &key).curve.offset;
         return other_curve_number();
     }
-    match der_faults::key_fault(inside) {
+    match faults::key_fault(inside) {
         Some(fault) => {
             *offset = start + fault.offset;
             kind_number(fault.kind)

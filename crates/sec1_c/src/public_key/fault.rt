@@ -3,8 +3,8 @@
 ghost use Rattle.std.specs.Prelude.{◌≡◌, ◌≢◌, ◌≤◌, length, Some};
 ghost use Rattle.curves.specs.Curves.{field_len};
 ghost use Rattle.curves.specs.declared.curve.Curve.{Curve};
-ghost use Rattle.der_faults.specs.RecordPlaces.{public_key_place};
-ghost use Rattle.der_faults.specs.declared.Position.{Position};
+ghost use Rattle.der_view.specs.RecordPlaces.{public_key_place};
+ghost use Rattle.der_view.specs.declared.faults.Position.{Position};
 ghost use Rattle.pkix.specs.EcKeys.{HasPoint, IsOnCurve};
 ghost use Rattle.pkix.specs.declared.public_key.SubjectPublicKeyInfo.{SubjectPublicKeyInfo};
 ghost use Rattle.sec1.specs.Points.{Point};
@@ -16,6 +16,7 @@ use crate::fault::tell;
 use crate::fields::fields_len;
 use crate::point::encoded::status_of;
 use crate::status::{OK, curve_number, error_number};
+use der_view::faults;
 use pkix::SubjectPublicKeyInfo;
 use sec1::Error;
 use sec1_der::Record;
@@ -46,7 +47,7 @@ pub extern "C" fn sec1_public_key_fault_at(bytes: &[u8], offset: &mut usize) -> 
 {
     match SubjectPublicKeyInfo::from_der(bytes) {
         Ok(info) => tell_key(bytes, &info, offset),
-        Err(_) => tell(der_faults::public_key_fault(bytes), offset),
+        Err(_) => tell(faults::public_key_fault(bytes), offset),
     }
 }
 

@@ -1,9 +1,0 @@
-pub mod PlaceLemmas
-pub mod KindLemmas
-pub mod ForestLemmas
-pub mod WithinLemmas
-pub mod SignatureLemmas
-pub mod PublicKeyLemmas
-pub mod SetLemmas
-pub mod ContainerLemmas
-pub mod CertificateLemmas

@@ -1,5 +1,0 @@
-pub mod Places
-pub mod RecordPlaces
-pub mod Containers
-pub mod ContainerPlaces
-pub mod CertificatePlaces

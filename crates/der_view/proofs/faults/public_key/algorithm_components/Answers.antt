@@ -1,0 +1,18 @@
+use Rattle.std.proofs.Common.{rules, ◌∙◌}
+use Rattle.der_view.specs.FaultPlaces.{end_place}
+use Rattle.der_view.specs.RecordPlaces.{optional_any_place}
+use Rattle.der_view.proofs.faults.public_key.algorithm_components.Goals as goal
+
+pub returns-in_err-rest : goal.returns-in_err-rest
+returns-in_err-rest c = let e = c.in_err-rest.ensures.place (optional_any_place end_place) in search rules
+
+pub returns-in_err-rest-2 : goal.returns-in_err-rest-2
+returns-in_err-rest-2 c =
+    let e = c.in_ok-rest.ensures.place (optional_any_place end_place) ∙ c.in_err-rest-2.ensures.place end_place in
+    search rules
+
+pub returns : goal.returns
+returns c =
+    let same =
+    c.in_ok-rest.ensures.place (optional_any_place end_place) ∙ c.in_ok-rest-2.ensures.place end_place in
+    rw same c.finish.ensures
