@@ -30,3 +30,5 @@ pub mod writers;
 // What follows from the laws.
 pub mod contents;
 pub mod laws;
+#[cfg(test)]
+mod tests;

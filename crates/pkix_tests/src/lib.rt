@@ -1,5 +1,5 @@
-//! Tests of `der_types`, `curves`, `pkix`, `der_view::faults` and `examples` by their public calls,
-//! with values from outside.
+//! Tests of `der_types`, `curves`, `pkix` and `der_view::faults` by their public calls, with values
+//! from outside.
 //!
 //! [`equality`] has what is proved of `==` and `clone`, and [`checks`] worked examples.
 //!
@@ -7,8 +7,6 @@
 //! `cfg(test)`, so that both are proved once too.
 #![tactic(auto)]
 
-#[cfg(test)]
-mod callers;
 #[cfg(test)]
 pub mod checks;
 #[cfg(test)]

@@ -1,13 +1,10 @@
-//! The callers of `examples`: keys in containers that were made by OpenSSL, a hash value, and a
-//! point that is read again.
-use crate::{assert_equal, assert_equal_for};
-use examples::callers::key_store::{KeyStore, find, find_by_public_key, keep};
-use examples::callers::open_kinds::{Even, even_bytes};
-use examples::callers::own_record::{DigestInfo, read_digest};
-use examples::callers::points::{
-    from_own_bytes, from_own_json, from_own_lower_hex, from_own_upper_hex,
-};
-use examples::callers::reading::{read_private_key, read_public_key};
+//! Tests of the callers: keys in containers that were made by OpenSSL, a hash value, and a point
+//! that is read again.
+use super::key_store::{KeyStore, find, find_by_public_key, keep};
+use super::open_kinds::{Even, even_bytes};
+use super::own_record::{DigestInfo, read_digest};
+use super::points::{from_own_bytes, from_own_json, from_own_lower_hex, from_own_upper_hex};
+use super::reading::{read_private_key, read_public_key};
 use pkix::SubjectPublicKeyInfo;
 use sec1::der::{
     Containing, DecodeValue, EncodeValue, ErrorKind, SecretDocument, Tagged, encode_to_slice,
@@ -17,8 +14,15 @@ use sec1::point::Coordinates::Compressed;
 use sec1::point::EncodedPoint32;
 use sec1::{EcPrivateKey, EncodedPoint, Error};
 use std::alloc::Global;
+use std::fmt::Debug;
 use std::process::Abort;
 use std::test::Fail;
+
+/// Fails the test unless the two are equal.
+// A call of this takes the prover a fraction of the time that `assert_eq!` takes in line.
+fn assert_equal<T: PartialEq + Debug>(rt: &impl Abort, found: &T, wanted: &T) {
+    assert_eq!(rt; *found, *wanted);
+}
 
 /// A public key on the curve P-256: `openssl ec -pubout -outform DER`.
 static INFO: [u8; 91] = [
@@ -171,7 +175,7 @@ fn reads_and_writes_an_even_number_of_octets(rt: HostRuntime) {
     let der = to_der(rt.alloc(), &Even { bytes }).ok();
     assert_equal(&rt, &der.as_deref(), &Some(EVEN.as_slice()));
     for &odd in NOT_EVEN.iter() {
-        assert_equal_for(&rt, &odd, &even_bytes(odd).is_err(), &true);
+        assert_equal(&rt, &(odd, even_bytes(odd).is_err()), &(odd, true));
     }
 }
 
