@@ -160,6 +160,9 @@ def every():
         f"-----BEGIN {'A' * 40}-----\nProc-Type: 4,ENCRYPTED\n\nMA\n").encode()
     yield "another key with a long name", element(
         0x30, element(2, b"\0") + element(0x30, long) + element(4, element(4, b"\7")))
+    # No tag is looked for in the string, though an INTEGER before it ends there.
+    yield "a string that begins as tbsCertificate ends", bytes.fromhex(
+        "3011 3002 0204 3008 0406 300030003000 030100")
 
 
 # Headers, and what is after them.

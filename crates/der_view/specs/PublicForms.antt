@@ -1,7 +1,7 @@
 -- What bytes are that have no private key, by the tags of their elements.
 use Rattle.std.specs.Prelude.{ℕ, zero, suc, ◌&&◌, ◌||◌, Bool, false, if◌then◌else◌, List, [], ◌∷◌}
-use Rattle.std.specs.Prelude.{drop, Option, Some, None, Result, Ok, Err}
-use Rattle.der_view.specs.Children.{begins, first_tag, inside}
+use Rattle.std.specs.Prelude.{drop, take, Option, Some, None, Result, Ok, Err}
+use Rattle.der_view.specs.Children.{begins, first_tag}
 use Rattle.der_view.specs.Headers.{header_of}
 use Rattle.der_view.specs.declared.field.Form.{Form}
 use Rattle.der_view.specs.declared.field.Form.TheVariants as forms
@@ -27,6 +27,18 @@ rest_by bytes (Ok head) = rest_len head.content_len (drop head.len bytes)
 -- the bytes after it
 unfoldable pub rest : List ℕ → List ℕ
 rest bytes = rest_by bytes (header_of bytes)
+
+abbrev pub content_of : Option ℕ → List ℕ → List ℕ
+content_of None bytes = bytes
+content_of (Some len) bytes = take len bytes
+
+abbrev pub content_by : List ℕ → Result Header ElementFault → List ℕ
+content_by bytes (Err fault) = []
+content_by bytes (Ok head) = content_of head.content_len (drop head.len bytes)
+
+-- its content, as far as it is there
+unfoldable pub content_in : List ℕ → List ℕ
+content_in bytes = content_by bytes (header_of bytes)
 
 -- the tags of so many elements
 abbrev pub tags_in : ℕ → List ℕ → List ℕ
@@ -77,4 +89,4 @@ form_by_tags tags inner =
     else (if begins tags (0x06 ∷ 0xA0 ∷ 0x00 ∷ []) then forms.Cms else forms.Other)))
 
 unfoldable pub public_form : List ℕ → Form
-public_form content = form_by_tags (tags_in 4 content) (tags_in 4 (inside content))
+public_form content = form_by_tags (tags_in 4 content) (tags_in 4 (content_in content))

@@ -1,10 +1,10 @@
 //! What bytes are that have no private key.
 ghost use Rattle.std.specs.Prelude.{◌≡◌};
-ghost use Rattle.der_view.specs.PublicForms.{begin_one, rest, rest_len, certificates};
+ghost use Rattle.der_view.specs.PublicForms.{begin_one, certificates, content_in, content_of};
 ghost use Rattle.der_view.specs.PublicForms.{form_by_tags, form_of_signed, lists, public_form};
-ghost use Rattle.der_view.specs.PublicForms.{tag_in, tags_in};
+ghost use Rattle.der_view.specs.PublicForms.{rest, rest_len, tag_in, tags_in};
 
-use crate::children::{after, first_tag, inside};
+use crate::children::{after, first_tag};
 use crate::field::Form;
 use crate::header::Header;
 
@@ -14,7 +14,7 @@ use crate::header::Header;
 pub(crate) fn public_form(content: &[u8]) -> Form
     ensures { result ≡ public_form content.now }
 {
-    form_by_tags(&first_tags(content), &first_tags(inside(content)))
+    form_by_tags(&first_tags(content), &first_tags(content_in(content)))
 }
 
 /// Returns what a SEQUENCE is, by the tags of its first four elements and of those in the first
@@ -96,6 +96,28 @@ fn rest<'a>(bytes: &'a [u8]) -> &'a [u8]
     match Header::read(bytes) {
         Ok(head) => rest_len(head.content_len, &bytes[head.len..]),
         Err(_) => &[],
+    }
+}
+
+/// Returns the content of the element that the bytes begin with, as far as it is there: what follows
+/// it may be in a string, of which no byte is looked at.
+#[tactic(auto, unfolding(crate::specs::PublicForms::content_in))]
+fn content_in<'a>(bytes: &'a [u8]) -> &'a [u8]
+    ensures { result.now ≡ content_in bytes.now }
+{
+    match Header::read(bytes) {
+        Ok(head) => content_of(head.content_len, &bytes[head.len..]),
+        Err(_) => &[],
+    }
+}
+
+/// Returns the content of this length that the bytes begin with.
+fn content_of<'a>(len: Option<usize>, bytes: &'a [u8]) -> &'a [u8]
+    ensures { result.now ≡ content_of len bytes.now }
+{
+    match len {
+        Some(len) => &bytes[..len.min(bytes.len())],
+        None => bytes,
     }
 }
 
