@@ -22,16 +22,8 @@ not_made() {
         esac
     done
 }
-# The branch of the calls that draw, which README.md names.
-cat >"$work/known" <<'END'
-{
-    Place::opening, inlined
-    Memcheck:Cond
-    fun:der_view*rows*Rows*next_row*
-}
-END
 finds_nothing() {
-    valgrind -q --error-exitcode=9 --leak-check=no --suppressions="$work/known" "$1"
+    valgrind -q --error-exitcode=9 --leak-check=no "$1"
 }
 built() { # COMPILER LEVEL ARCHIVE
     "$1" -std=c99 -Wall -Wextra "$2" -gdwarf-4 -I. -o "$work/secrets" tests/secrets.c "$3"

@@ -510,8 +510,12 @@ fn ends_contents(bytes: &[u8]) -> bool
 fn opens_bits(guarded: bool, content: &[u8]) -> bool
     ensures { result ≡ opens_bits guarded content.now }
 {
+    // asked first, so that of a guarded content no byte is looked at
+    if guarded {
+        return false;
+    }
     match content {
-        [0x00, tree @ ..] => !guarded && is_sequence_tree(tree),
+        [0x00, tree @ ..] => is_sequence_tree(tree),
         _ => false,
     }
 }

@@ -99,8 +99,8 @@ fn rest<'a>(bytes: &'a [u8]) -> &'a [u8]
     }
 }
 
-/// Returns the content of the element that the bytes begin with, as far as it is there: what follows
-/// it may be in a string, of which no byte is looked at.
+/// Returns the content of the element that the bytes begin with, as far as it is there. What
+/// follows it may be in a string, of which no byte is looked at.
 #[tactic(auto, unfolding(crate::specs::PublicForms::content_in))]
 fn content_in<'a>(bytes: &'a [u8]) -> &'a [u8]
     ensures { result.now ≡ content_in bytes.now }
