@@ -1,28 +1,23 @@
 -- Elements of any tag.
-use Rattle.std.proofs.Common.{◌≡◌, ◌++◌, ◌∷◌, [], ◌&&◌, ℕ, nat_le, List, length, Bool, true, false, Some}
-use Rattle.std.proofs.Common.{None, Result, Ok, Err, if◌then◌else◌}
-use Rattle.std.proofs.Common.{IfOk, IsSomeAnd, refl, sym, ◌∙◌, ap, le-leb, leb-true, bytes_eq}
+use Rattle.std.proofs.Common.{◌≡◌, ◌++◌, ◌∷◌, [], ℕ, nat_le, List, length, Bool, true, false, Some, refl, sym, ◌∙◌, ap}
+use Rattle.std.proofs.Common.{le-leb, leb-true}
 use Rattle.std.proofs.Math.Seq.{drop-append_seam}
 use Rattle.std.proofs.lemmas.Bool.{and_parts}
 use Rattle.std.proofs.lemmas.Slice.Eq.{bytes_eq-Decides}
 use Rattle.sec1_der.specs.Elements.{max_length, length_octets, element, is_tag, IsHeader, IsElement}
 use Rattle.sec1_der.specs.Parts.{AreDistinct, is_among}
+use Rattle.sec1_der.specs.PartLaws.{chosen}
 use Rattle.sec1_der.specs.Readers.{Reader, HasRead}
-use Rattle.sec1_der.specs.Faults.{Fault, no_fault, any_fault, parts_fault, split_content, IsFaultOf, content_at}
-use Rattle.sec1_der.specs.declared.error.Error.{Error}
-use Rattle.sec1_der.specs.declared.error.ErrorKind.{ErrorKind}
-use Rattle.sec1_der.specs.declared.error.ErrorKind.TheVariants.{Tag}
-use Rattle.sec1_der.proofs.LengthLaws.{number_at_octets}
-use Rattle.sec1_der.proofs.FaultLaws.{any_at}
-use Rattle.sec1_der.proofs.ElementLaws.{element_apart}
+use Rattle.sec1_der.specs.Faults.{Fault, no_fault, any_fault, IsFaultOf, content_at}
 use Rattle.sec1_der.specs.Values.{tag_of, value_of}
 use Rattle.sec1_der.specs.declared.any.AnyRef.{AnyRef}
-use Rattle.der_types.specs.AnyElements.{among_all}
-use Rattle.der_types.specs.AnyElements.{all_tags, any_tags, first_byte, content_in, is_element, any_of}
+use Rattle.sec1_der.specs.declared.error.ErrorKind.{ErrorKind}
+use Rattle.sec1_der.proofs.LengthLaws.{number_at_octets}
+use Rattle.sec1_der.proofs.FaultLaws.{any_at}
+use Rattle.sec1_der.proofs.KindLaws.{parts_refused}
+use Rattle.sec1_der.proofs.ElementLaws.{element_apart}
+use Rattle.der_types.specs.AnyElements.{among_all, all_tags, any_tags, first_byte, content_in, is_element, any_of}
 use Rattle.der_types.specs.AnyElements.{any_element_fault}
-
-and_both : (b c : Bool) → b ≡ true → c ≡ true → (b && c) ≡ true
-and_both b c e f = rw (e, f) refl
 
 -- bytes that pass the test are those of an element
 pub element_tested : (bytes : List ℕ) → is_element bytes ≡ true → IsElement bytes
@@ -47,23 +42,17 @@ content_found tag content =
 passes_at : (tag : ℕ) (content : List ℕ) → IsHeader tag (length content) → is_element (element tag content) ≡ true
 unfolding is_element
 passes_at tag content is =
-    let same = (bytes_eq-Decides (element tag content) (element tag content)).1 refl in
-    let found = content_found tag content in
-    and_both _ _ is.tag_byte
-    (and_both _ _ (rw found (le-leb (length content) max_length is.bounded))
-    (ap (λ c. bytes_eq (element tag c) (element tag content)) found ∙ same))
+    rw (content_found tag content, is.tag_byte, le-leb (length content) max_length is.bounded)
+    ((bytes_eq-Decides (element tag content) (element tag content)).1 refl)
 
 pub element_passes : (bytes : List ℕ) → IsElement bytes → is_element bytes ≡ true
 element_passes bytes is = rw is.encoded (passes_at is.tag is.content is.is_header)
 
 -- what has bytes is an element
 pub any_some : (bytes whole : List ℕ) → any_of bytes ≡ Some whole → (bytes ≡ whole) × IsElement whole
-any_some bytes whole e = by (is_element bytes) refl e
-  where
-    by : (b : Bool) → is_element bytes ≡ b → (if b then Some bytes else None) ≡ Some whole
-        → (bytes ≡ whole) × IsElement whole
-    by false is e = absurd (cc (e))
-    by true is e = let same : bytes ≡ whole = cc (e) in (same, rw same at (element_tested bytes is))
+any_some bytes whole e =
+    let (is, same) = chosen (is_element bytes) bytes whole e in
+    (same, rw same at (element_tested bytes is))
 
 -- an element has bytes
 pub any_there : (bytes : List ℕ) → IsElement bytes → any_of bytes ≡ Some bytes
@@ -91,14 +80,7 @@ pub any_refused : (rest : Fault) (bytes : List ℕ) (k : ErrorKind)
     → IsFaultOf (any_element_fault rest bytes) k
 unfolding any_element_fault
 any_refused rest [] k e = e
-any_refused rest (byte ∷ bytes) k e = by (is_tag byte) (content_at bytes) e
-  where
-    by : (b : Bool) (found : Result (List ℕ × List ℕ) ErrorKind)
-        → IsFaultOf (if b then parts_fault no_fault no_fault found else Some (Some Tag)) k
-        → IsFaultOf (if b then parts_fault no_fault rest found else Some (Some Tag)) k
-    by false found e = e
-    by true (Err kind) e = e
-    by true (Ok x) e = absurd e
+any_refused rest (byte ∷ bytes) k e = parts_refused (is_tag byte) no_fault rest (content_at bytes) k e
 
 -- the bytes of an element that was read
 pub element_from : (any : AnyRef) (bytes : List ℕ) → IsHeader (tag_of any) (length (value_of any))
@@ -116,9 +98,3 @@ begins_any byte b f g = by b (is_tag byte) refl f g ∙ sym (among_all byte)
     by false true e f g = g e
     by true false e f g = absurd (cc (e, f refl))
     by false false e f g = refl
-
--- what was read as an element is the part
-pub any_found : (result : Result (List ℕ) Error) (P : List ℕ → Type 0) → IfOk result (λ any. IsElement any × P any)
-    → IfOk result (λ any. IsSomeAnd (any_of any) P)
-any_found (Err e) P found = tt
-any_found (Ok any) P found = rw (any_there any found.0) found.1

@@ -1,10 +1,10 @@
 -- Which alternative of a CHOICE is next, and parts that are distinct.
-use Rattle.std.proofs.Common.{◌≡◌, ◌==◌, ◌++◌, ◌∷◌, [], ◌||◌, ◌&&◌, not, ℕ, List, Bool, true, false}
-use Rattle.std.proofs.Common.{Option, Some, None, refl, sym, ◌∙◌, ap}
-use Rattle.std.proofs.lemmas.Bool.{and_parts}
+use Rattle.std.proofs.Common.{◌≡◌, ◌==◌, ◌++◌, ◌∷◌, [], ◌||◌, not, ℕ, List, Bool, true, false, Option, Some, None, refl}
+use Rattle.std.proofs.Common.{sym, ◌∙◌, ap}
 use Rattle.std.proofs.lemmas.List.Folds.{list_any-append}
 use Rattle.std.specs.List.{list_all}
-use Rattle.sec1_der.proofs.PartLemmas.{distinct_among, not_among}
+use Rattle.sec1_der.proofs.PartLemmas.{all_three, distinct_among, not_among}
+use Rattle.sec1_der.proofs.UniqueLemmas.{BeginsWith, follows_optional, next_is, not_present}
 use Rattle.sec1_der.specs.Readers.{Reader, reader_over}
 use Rattle.sec1_der.specs.Parts.{Tags, is_among, Begins, MayFollow, AreDistinct}
 use Rattle.der_types.specs.Choices.{begins_among, choice_of, choice_tags, optional_bytes, optional_tags}
@@ -21,18 +21,6 @@ pub follows_both : (p q : Tags) (rest : List ℕ) → MayFollow (choice_tags p q
 follows_both p q [] may = (tt, tt)
 follows_both p q (byte ∷ rest) may = not_among byte p.follow q.follow may
 
--- what may follow an OPTIONAL part may follow the part, and doesn't begin with one of its tags
-pub follows_optional : (p : Tags) (rest : List ℕ) → MayFollow (optional_tags p) rest
-    → (begins_among p.first rest ≡ false) × MayFollow p rest
-follows_optional p [] may = (refl, tt)
-follows_optional p (byte ∷ rest) may = not_among byte p.first p.follow may
-
--- one of the tags of a part that isn't empty is next
-pub next_is : (p : Tags) (whole rest : List ℕ) → p.nullable ≡ false → Begins p whole
-    → begins_among p.first (whole ++ rest) ≡ true
-next_is p [] rest some begins = absurd (cc (some, begins))
-next_is p (byte ∷ whole) rest some begins = begins
-
 -- no tag of another part is next
 pub next_not : (p q : Tags) (whole rest : List ℕ) → list_all (λ x. not (is_among x q.first)) p.first ≡ true
     → q.nullable ≡ false → Begins q whole
@@ -40,18 +28,10 @@ pub next_not : (p q : Tags) (whole rest : List ℕ) → list_all (λ x. not (is_
 next_not p q [] rest d some begins = absurd (cc (some, begins))
 next_not p q (byte ∷ whole) rest d some begins = distinct_among byte p.first q.first d begins
 
--- a part begins with one of its tags
-abbrev pub BeginsWith : {P : Type 0} → Tags → (P → Option (List ℕ)) → Type 0
-BeginsWith {P} tags bytes = (part : P) (whole : List ℕ) → bytes part ≡ Some whole → Begins tags whole
-
 -- the alternatives of a CHOICE that are distinct, and may not begin with the same tag
 pub distinct_parts : (p q : Tags) → (choice_tags p q).distinct ≡ true
     → (p.distinct ≡ true) × (q.distinct ≡ true) × (list_all (λ x. not (is_among x q.first)) p.first ≡ true)
-distinct_parts p q distinct =
-    let differ = list_all (λ x. not (is_among x q.first)) p.first in
-    let parts = and_parts p.distinct (q.distinct && differ) distinct in
-    let more = and_parts q.distinct differ parts.1 in
-    (parts.0, more.0, more.1)
+distinct_parts p q distinct = all_three p.distinct q.distinct _ distinct
 
 -- two parts don't begin with the same tag
 not_both : (p q : Tags) (x y : List ℕ) → list_all (λ x. not (is_among x q.first)) p.first ≡ true
@@ -83,28 +63,6 @@ choice_distinct p q first second some more begins ends one two (Second a) (Secon
     let is = two a b x y r s (distinct_parts p q distinct).1 e f (follows_both p q r before).1
     (follows_both p q s rest).1 same in
     (ap (λ v. Second v) is.0, is.1)
-
-not_present : (p : Tags) (x r : List ℕ) → p.nullable ≡ false → Begins p x
-    → begins_among p.first (x ++ r) ≡ false → ⊥
-not_present p x r some begins none = absurd (cc (none, next_is p x r some begins))
-
--- an OPTIONAL part is apart from what may follow it
-pub optional_part_distinct : (p : Tags) {P : Type 0} (bytes : P → Option (List ℕ)) → p.nullable ≡ false
-    → BeginsWith p bytes → AreDistinct p bytes
-    → AreDistinct (optional_tags p) (optional_bytes bytes)
-optional_part_distinct p bytes some begins one None None x y r s distinct e f before rest same =
-    let front : x ≡ [] = cc (e) in
-    let back : y ≡ [] = cc (f) in
-    (refl, rw (front, back) at same)
-optional_part_distinct p bytes some begins one None (Some b) x y r s distinct e f before rest same =
-    let front : x ≡ [] = cc (e) in
-    absurd (not_present p y s some (begins b y f) (rw (rw front at same) at (follows_optional p r before).0))
-optional_part_distinct p bytes some begins one (Some a) None x y r s distinct e f before rest same =
-    let back : y ≡ [] = cc (f) in
-    absurd (not_present p x r some (begins a x e) (rw (sym (rw back at same)) at (follows_optional p s rest).0))
-optional_part_distinct p bytes some begins one (Some a) (Some b) x y r s distinct e f before rest same =
-    let is = one a b x y r s distinct e f (follows_optional p r before).1 (follows_optional p s rest).1 same in
-    (ap (λ v. Some v) is.0, is.1)
 
 -- a part that is there, in front of what may follow it
 pub record IsNext {P : Type 0} (tags : Tags) (bytes : P → Option (List ℕ)) (whole rest : List ℕ) : Type 0 where

@@ -1,17 +1,16 @@
 -- The contents of an INTEGER and the numbers that they encode determine each other.
-use Rattle.std.specs.Prelude.{◌≡◌, ℕ, zero, suc, ◌+◌, ◌-◌, ◌*◌, ◌/◌, ◌%◌, ◌^◌, ◌<◌, ◌≤◌, true}
-use Rattle.std.specs.Prelude.{List, [], ◌∷◌, length, map, slice_index, ℤ, pos, negsuc, refl}
+use Rattle.std.specs.Prelude.{◌≡◌, ℕ, zero, suc, ◌+◌, ◌-◌, ◌*◌, ◌/◌, ◌%◌, ◌^◌, ◌<◌, ◌≤◌, true, List, [], ◌∷◌, length}
+use Rattle.std.specs.Prelude.{map, slice_index, ℤ, pos, negsuc, refl}
 use Rattle.std.proofs.Common.{arith, ap, sym, ◌∙◌}
 use Rattle.std.proofs.Math.Nat.{pow-suc}
 use Rattle.std.proofs.lemmas.Bool.Decides.{nat_tests}
 use Rattle.std.proofs.lemmas.Int.{ints}
-use Rattle.std.proofs.lemmas.Int.Digits.{number_digits_of, all_below_base_digits_of}
-use Rattle.std.proofs.lemmas.Int.Digits.{first_digits_of}
+use Rattle.std.proofs.lemmas.Int.Digits.{number_digits_of, all_below_base_digits_of, first_digits_of}
 use Rattle.std.specs.Int.Digits.{digits_of, number_from_digits_after, AllBelowBase}
 use Rattle.sec1_der.specs.Elements.{number_of}
 use Rattle.sec1_der.proofs.DigitLaws.{digits_of-number}
-use Rattle.der_types.specs.Integers.{is_integer, is_unsigned, with_sign, unsigned_content}
-use Rattle.der_types.specs.Integers.{signed_number, signed_content}
+use Rattle.der_types.specs.Integers.{is_integer, is_unsigned, with_sign, unsigned_content, signed_number}
+use Rattle.der_types.specs.Integers.{signed_content}
 
 -- ---- numbers that aren't negative
 

@@ -1,29 +1,22 @@
 -- Rules that say a kind for all that they refuse. Further crates cite these laws.
-use Rattle.std.proofs.Common.{◌≢◌, ℕ, zero, suc, List, [], ◌∷◌, length, not, Some, None}
+use Rattle.std.proofs.Common.{ℕ, zero, suc, List, ◌∷◌, length, not}
 use Rattle.std.specs.Str.{bytes_eq}
 use Rattle.sec1_der.specs.Contents.{value_unless}
 use Rattle.sec1_der.specs.Faults.{Fault, SaysKinds, no_fault}
-use Rattle.sec1_der.proofs.KindLaws.{any_says, both_say, either_says, element_says, none_says, test_says}
+use Rattle.sec1_der.proofs.KindLaws.{any_says, both_say, either_says, element_says, none_says, split_says, test_says}
 use Rattle.der_types.specs.AnyElements.{any_element_fault}
 use Rattle.der_types.specs.Choices.{begins_among, choice_fault, optional_part_fault}
 use Rattle.der_types.specs.Defaults.{other_fault}
-use Rattle.der_types.specs.Sequences.{elements_fault, sequence_fault}
-use Rattle.der_types.specs.Sequences.{is_ascending, set_fault}
-
-next_says : (tag : ℕ) (f : Fault) (most : ℕ) → SaysKinds f → SaysKinds (elements_fault tag f most)
-    → SaysKinds (elements_fault tag f (suc most))
-next_says tag f most says rest = record { kind = by }
-  where
-    by : (bytes : List ℕ) → elements_fault tag f (suc most) bytes ≢ Some None
-    by [] e = cc e
-    by (byte ∷ bytes) e = (element_says tag f (elements_fault tag f most) says rest).kind (byte ∷ bytes) e
+use Rattle.der_types.specs.Sequences.{elements_fault, sequence_fault, is_ascending, set_fault}
 
 elements_say : (tag : ℕ) (f : Fault) → SaysKinds f → (most : ℕ) → SaysKinds (elements_fault tag f most)
 elements_say tag f says zero = record { kind = λ bytes e. cc e }
-elements_say tag f says (suc most) = next_says tag f most says (elements_say tag f says most)
+elements_say tag f says (suc most) =
+    let row = element_says tag f (elements_fault tag f most) says (elements_say tag f says most) in
+    split_says (elements_fault tag f (suc most)) (λ e. cc e) (λ byte bytes. row.kind (byte ∷ bytes))
 
 pub sequence_says : (tag : ℕ) (f : Fault) → SaysKinds f → SaysKinds (sequence_fault tag f)
-sequence_says tag f says = record { kind = λ bytes e. (elements_say tag f says (length bytes)).kind bytes e }
+sequence_says tag f says = record { kind = λ bytes. (elements_say tag f says (length bytes)).kind bytes }
 
 pub set_says : (tag : ℕ) (f : Fault) → SaysKinds f → SaysKinds (set_fault tag f)
 set_says tag f says =
@@ -38,16 +31,13 @@ other_says default f says =
 pub choice_says : (tags : List ℕ) (first second : Fault → Fault) (rest : Fault) → SaysKinds (first rest)
     → SaysKinds (second rest) → SaysKinds (choice_fault tags first second rest)
 choice_says tags first second rest one two = record {
-  kind = λ bytes e.
-      either_says (begins_among tags bytes) (first rest bytes) (second rest bytes) (one.kind bytes)
-      (two.kind bytes) e;
+  kind = λ bytes. either_says (begins_among tags bytes) _ _ (one.kind bytes) (two.kind bytes);
 }
 
 pub optional_part_says : (tags : List ℕ) (part : Fault → Fault) (rest : Fault) → SaysKinds (part rest)
     → SaysKinds rest → SaysKinds (optional_part_fault tags part rest)
 optional_part_says tags part rest one two = record {
-  kind = λ bytes e.
-      either_says (begins_among tags bytes) (part rest bytes) (rest bytes) (one.kind bytes) (two.kind bytes) e;
+  kind = λ bytes. either_says (begins_among tags bytes) _ _ (one.kind bytes) (two.kind bytes);
 }
 
 pub any_element_says : (rest : Fault) → SaysKinds rest → SaysKinds (any_element_fault rest)

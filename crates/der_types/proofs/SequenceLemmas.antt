@@ -1,11 +1,10 @@
 -- Elements that are read one after another.
 use Rattle.std.proofs.Common.{◌≡◌, Result, Ok, Err, ℕ, zero, suc, ◌<◌, ◌≤◌, false, List, [], ◌∷◌, ◌++◌, length, Option}
-use Rattle.std.proofs.Common.{Some, None, IsSomeAnd, IfOk, refl, ap, sym, ◌∙◌, arith, length-append, length-drop}
-use Rattle.std.proofs.lemmas.List.{length-take}
+use Rattle.std.proofs.Common.{Some, None, IsSomeAnd, IfOk, refl, ap, sym, ◌∙◌, arith, length-drop}
+use Rattle.std.proofs.lemmas.List.{length-take, nil_from_length}
 use Rattle.sec1_der.specs.Elements.{max_length, element, element_of}
 use Rattle.sec1_der.specs.Readers.{Reader, reader_over, HasReadElement}
-use Rattle.sec1_der.specs.Faults.{Fault, HasFault, IsFaultOf, no_fault}
-use Rattle.sec1_der.specs.Faults.{element_fault}
+use Rattle.sec1_der.specs.Faults.{Fault, HasFault, IsFaultOf, no_fault, element_fault}
 use Rattle.sec1_der.specs.declared.error.Error.{Error}
 use Rattle.sec1_der.specs.declared.error.ErrorKind.{ErrorKind}
 use Rattle.der_types.specs.Sequences.{joined, elements_fault, sequence_fault}
@@ -14,43 +13,38 @@ use Rattle.sec1_der.proofs.FaultLaws.{reads_on, reader_at}
 use Rattle.sec1_der.proofs.JoinLaws.{parted}
 use Rattle.sec1_der.proofs.ElementLaws.{element_of-some, element_of-within}
 
+-- ---- the fault of elements
+
+-- two faults of an element are the same if they agree on fewer bytes after it
+rest_alike : (f g h : Fault) (tag byte : ℕ) (bytes : List ℕ)
+    → ((rest : List ℕ) → length rest ≤ length bytes → g rest ≡ h rest)
+    → element_fault tag f g (byte ∷ bytes) ≡ element_fault tag f h (byte ∷ bytes)
+rest_alike f g h tag byte bytes alike = grind (arith, length-take {A = ℕ}, length-drop {A = ℕ})
+
+-- the fault of elements is the same by any bound on their number
+elements_bound : (tag : ℕ) (f : Fault) (m n : ℕ) (bytes : List ℕ) → length bytes ≤ m → length bytes ≤ n
+    → elements_fault tag f m bytes ≡ elements_fault tag f n bytes
+elements_bound tag f zero zero [] l r = refl
+elements_bound tag f zero (suc n) [] l r = refl
+elements_bound tag f (suc m) zero [] l r = refl
+elements_bound tag f (suc m) (suc n) [] l r = refl
+elements_bound tag f zero n (byte ∷ bytes) l r = absurd (omega arith)
+elements_bound tag f (suc m) zero (byte ∷ bytes) l r = absurd (omega arith)
+elements_bound tag f (suc m) (suc n) (byte ∷ bytes) l r =
+    rest_alike f _ _ tag byte bytes (λ rest few. elements_bound tag f m n rest (omega arith) (omega arith))
+
+-- the fault of elements is that of the first, and then that of the others
+sequence_first : (tag : ℕ) (f : Fault) (bytes : List ℕ) → 0 < length bytes
+    → sequence_fault tag f bytes ≡ element_fault tag f (sequence_fault tag f) bytes
+sequence_first tag f [] some = absurd (omega arith)
+sequence_first tag f (byte ∷ bytes) some =
+    rest_alike f _ _ tag byte bytes
+    (λ rest few. elements_bound tag f (length bytes) (length rest) rest few (omega arith))
+
 -- the reader stands before some of the elements: the fault of all of them is that of these
 pub record IsSequenceRest (tag : ℕ) (f : Fault) (start : List ℕ) (now : Reader) : Type 0 where
-  pub most : ℕ
-  pub room : length now.unread ≤ most
   pub whole : now.failed ≡ false
-  pub same : sequence_fault tag f start ≡ elements_fault tag f most now.unread
-
-pub sequence_begins : (tag : ℕ) (f : Fault) (start : List ℕ) (now : Reader) → now ≡ reader_over start
-    → IsSequenceRest tag f start now
-sequence_begins tag f start now is =
-    let unread : now.unread ≡ start = ap (λ (r : Reader). r.unread) is in
-    record {
-      most = length start;
-      room = omega (arith, ap length unread);
-      whole = ap (λ (r : Reader). r.failed) is;
-      same = rw unread refl;
-    }
-
--- the fault of a row that isn't empty is that of its first element and of the row after it
-one_more : (tag : ℕ) (f : Fault) (most : ℕ) (bytes : List ℕ) → 0 < length bytes
-    → elements_fault tag f (suc most) bytes ≡ element_fault tag f (elements_fault tag f most) bytes
-one_more tag f most [] some = absurd (omega arith)
-one_more tag f most (byte ∷ bytes) some = refl
-
--- an element that was read has some bytes
-shorter : (tag : ℕ) (inside : List ℕ) (old new : Reader) → HasReadElement tag inside old new
-    → length new.unread < length old.unread
-shorter tag inside old new h =
-    let whole = ap (λ (r : Reader). length r.unread) h.read.was_unfailed in
-    omega (arith, whole, length-append (element tag inside) new.unread)
-
--- the content of an element that was read
-shorter_read : (tag : ℕ) (f : Fault) (content : Option (List ℕ)) (old new : Reader)
-    → IsSomeAnd content (λ inside. (f inside ≡ None) × HasReadElement tag inside old new)
-    → length new.unread < length old.unread
-shorter_read tag f None old new found = absurd found
-shorter_read tag f (Some inside) old new found = shorter tag inside old new found.1
+  pub same : sequence_fault tag f start ≡ sequence_fault tag f now.unread
 
 -- the reader stands after one more element
 pub sequence_continues : (tag : ℕ) (f : Fault) (start : List ℕ) (content : Option (List ℕ))
@@ -58,41 +52,23 @@ pub sequence_continues : (tag : ℕ) (f : Fault) (start : List ℕ) (content : O
     → 0 < length old.unread
     → IsSomeAnd content (λ inside. (f inside ≡ None) × HasReadElement tag inside old new)
     → IsSequenceRest tag f start new
-sequence_continues tag f start content old new at some found = by at.most at.room at.same
-  where
-    by : (most : ℕ) → length old.unread ≤ most → sequence_fault tag f start ≡ elements_fault tag f most old.unread
-        → IsSequenceRest tag f start new
-    by zero room same = absurd (omega arith)
-    by (suc most) room same =
-        let on = reads_on f tag content old new found in
-        record {
-          most = most;
-          room = omega (arith, shorter_read tag f content old new found);
-          whole = on.whole;
-          same = same ∙ (one_more tag f most old.unread some ∙ on.next (elements_fault tag f most));
-        }
+sequence_continues tag f start content old new at some found =
+    let on = reads_on f tag content old new found in
+    record {
+      whole = on.whole;
+      same = at.same ∙ (sequence_first tag f old.unread some ∙ on.next (sequence_fault tag f));
+    }
 
 pub sequence_refused : (tag : ℕ) (f : Fault) (start : List ℕ) (old : Reader) (k : ErrorKind)
     → IsSequenceRest tag f start old → 0 < length old.unread
     → IsFaultOf (element_fault tag f no_fault old.unread) k → IsFaultOf (sequence_fault tag f start) k
-sequence_refused tag f start old k at some e = by at.most at.room at.same
-  where
-    by : (most : ℕ) → length old.unread ≤ most → sequence_fault tag f start ≡ elements_fault tag f most old.unread
-        → IsFaultOf (sequence_fault tag f start) k
-    by zero room same = absurd (omega arith)
-    by (suc most) room same =
-        rw (same, one_more tag f most old.unread some)
-        (refused_more f (elements_fault tag f most) tag old.unread k e)
+sequence_refused tag f start old k at some e =
+    rw (at.same, sequence_first tag f old.unread some) (refused_more f (sequence_fault tag f) tag old.unread k e)
 
 pub sequence_ends : (tag : ℕ) (f : Fault) (start : List ℕ) (old : Reader) → IsSequenceRest tag f start old
     → length old.unread ≤ 0
     → sequence_fault tag f start ≡ None
-sequence_ends tag f start old at none = at.same ∙ by at.most old.unread none
-  where
-    by : (most : ℕ) (bytes : List ℕ) → length bytes ≤ 0 → elements_fault tag f most bytes ≡ None
-    by zero bytes none = refl
-    by (suc most) [] none = refl
-    by (suc most) (byte ∷ bytes) none = absurd (omega arith)
+sequence_ends tag f start old at none = at.same ∙ rw (nil_from_length old.unread (omega arith)) refl
 
 -- ---- lists of values
 
@@ -104,14 +80,6 @@ HasValues {A} tag content bytes = (values : List A) × (joined tag content value
 pub record AreValues {A : Type 0} (tag : ℕ) (content : A → Option (List ℕ)) (start left : List ℕ) : Type 0 where
   pub found : HasValues tag content left → HasValues tag content start
   pub only : HasValues tag content start → HasValues tag content left
-
--- at first all of them are left
-pub values_begin : (tag : ℕ) {A : Type 0} (content : A → Option (List ℕ)) (start : List ℕ) (now : Reader)
-    → now ≡ reader_over start
-    → AreValues tag content start now.unread
-values_begin tag content start now is =
-    let unread : now.unread ≡ start = ap (λ (r : Reader). r.unread) is in
-    record { found = λ left. rw (← unread) left; only = λ whole. rw unread whole }
 
 -- where none are left, they are those of values
 pub values_end : (tag : ℕ) {A : Type 0} (content : A → Option (List ℕ)) (start left : List ℕ)
@@ -185,32 +153,6 @@ pub value_there : (tag : ℕ) {A : Type 0} (content : A → Option (List ℕ)) (
 value_there tag content start old C at some whole all read =
     let first = first_value tag content old.unread some (at.only all) in
     read first.value first.inside first.left first.same first.bounded (reader_at old _ first.split whole)
-
--- two faults of an element are the same if they agree on fewer bytes after it
-rest_alike : (f g h : Fault) (tag byte : ℕ) (bytes : List ℕ)
-    → ((rest : List ℕ) → length rest ≤ length bytes → g rest ≡ h rest)
-    → element_fault tag f g (byte ∷ bytes) ≡ element_fault tag f h (byte ∷ bytes)
-rest_alike f g h tag byte bytes alike = grind (arith, length-take {A = ℕ}, length-drop {A = ℕ})
-
--- the fault of elements is the same by any bound on their number
-elements_bound : (tag : ℕ) (f : Fault) (m n : ℕ) (bytes : List ℕ) → length bytes ≤ m → length bytes ≤ n
-    → elements_fault tag f m bytes ≡ elements_fault tag f n bytes
-elements_bound tag f zero zero [] l r = refl
-elements_bound tag f zero (suc n) [] l r = refl
-elements_bound tag f (suc m) zero [] l r = refl
-elements_bound tag f (suc m) (suc n) [] l r = refl
-elements_bound tag f zero n (byte ∷ bytes) l r = absurd (omega arith)
-elements_bound tag f (suc m) zero (byte ∷ bytes) l r = absurd (omega arith)
-elements_bound tag f (suc m) (suc n) (byte ∷ bytes) l r =
-    rest_alike f _ _ tag byte bytes (λ rest few. elements_bound tag f m n rest (omega arith) (omega arith))
-
--- the fault of elements is that of the first, and then that of the others
-sequence_first : (tag : ℕ) (f : Fault) (bytes : List ℕ) → 0 < length bytes
-    → sequence_fault tag f bytes ≡ element_fault tag f (sequence_fault tag f) bytes
-sequence_first tag f [] some = absurd (omega arith)
-sequence_first tag f (byte ∷ bytes) some =
-    rest_alike f _ _ tag byte bytes
-    (λ rest few. elements_bound tag f (length bytes) (length rest) rest few (omega arith))
 
 -- an element that is read from elements is there, and what is left is elements
 pub elements_left : (tag : ℕ) (f : Fault) {A : Type 0} (content : A → Option (List ℕ))

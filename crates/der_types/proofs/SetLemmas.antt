@@ -1,12 +1,11 @@
 -- Elements in ascending order.
 use Rattle.std.proofs.Common.{◌≡◌, ◌&&◌, Result, Ok, Err, ℕ, zero, suc, ◌≤◌, Bool, true, false, not, List, [], ◌∷◌}
-use Rattle.std.proofs.Common.{◌++◌, length, Some, None, if◌then◌else◌, Ordering, Less, Equal, Greater}
-use Rattle.std.proofs.Common.{◌-◌, take, refl, ap, sym, ◌∙◌, arith, length-append}
+use Rattle.std.proofs.Common.{◌++◌, length, Some, None, if◌then◌else◌, Ordering, Less, Equal, Greater, ◌-◌, take, refl}
+use Rattle.std.proofs.Common.{ap, sym, ◌∙◌, arith, length-append}
 use Rattle.std.proofs.Math.Seq.{take-append_seam}
 use Rattle.std.specs.Cmp.Lexicographic.{slice_cmp, slice_partial_cmp, lists_agrees}
 use Rattle.std.specs.Ordering.{is_le, is_gt, is_some_and, nat_cmp}
-use Rattle.sec1_der.specs.Elements.{element, IsHeader}
-use Rattle.sec1_der.specs.Elements.{is_tag}
+use Rattle.sec1_der.specs.Elements.{element, IsHeader, is_tag}
 use Rattle.sec1_der.specs.Faults.{Fault, no_fault, any_fault, parts_fault, content_at}
 use Rattle.sec1_der.specs.declared.error.ErrorKind.{ErrorKind}
 use Rattle.sec1_der.specs.declared.error.ErrorKind.TheVariants.{Tag}

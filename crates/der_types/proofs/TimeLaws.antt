@@ -1,16 +1,15 @@
 -- The contents of a UTCTime and of a GeneralizedTime and the times determine each other.
-use Rattle.std.specs.Prelude.{◌≡◌, ◌==◌, ℕ, suc, ◌+◌, ◌-◌, ◌*◌, ◌/◌, ◌%◌, ◌<◌, ◌≤◌, nat_lt, Bool}
-use Rattle.std.specs.Prelude.{true, false, ◌&&◌, ◌||◌, List, [], ◌∷◌, ◌++◌, length, take, drop}
-use Rattle.std.specs.Prelude.{slice_index, ◌⊎◌, codes, refl}
-use Rattle.std.proofs.Common.{get_or, eqb-true, eq-eqb, inl, inr, ap, ◌∙◌, arith}
+use Rattle.std.proofs.Common.{◌≡◌, ◌==◌, ℕ, suc, ◌+◌, ◌-◌, ◌*◌, ◌/◌, ◌%◌, ◌<◌, ◌≤◌, nat_lt, Bool, true, false, ◌&&◌}
+use Rattle.std.proofs.Common.{◌||◌, List, [], ◌∷◌, ◌++◌, length, take, drop, slice_index, ◌⊎◌, codes, refl, get_or, sym}
+use Rattle.std.proofs.Common.{eq-eqb, inl, inr, ap, ◌∙◌, arith}
+use Rattle.std.proofs.lemmas.Bool.{eqb-true}
 use Rattle.std.proofs.lemmas.Bool.Decides.{nat_tests}
-use Rattle.std.proofs.lemmas.List.{length-take, length-append, take_at, get_or_at}
+use Rattle.std.proofs.lemmas.List.{length-take, length-append, take_all, take_at, take_more, get_or_at}
 use Rattle.std.proofs.lemmas.List.Sums.{AllPass-from_list_all}
 use Rattle.std.specs.Char.{is_ascii_digit}
-use Rattle.std.specs.List.{AllPass, list_all}
-use Rattle.der_types.specs.Times.{is_date_time, utc_year, ends_time, utc_date_time}
-use Rattle.der_types.specs.Times.{generalized_date_time, is_utc_time, is_generalized_time}
-use Rattle.der_types.specs.Times.{utc_content, inner, is_fraction, fraction_text}
+use Rattle.std.specs.List.{AllPass}
+use Rattle.der_types.specs.Times.{is_date_time, utc_year, ends_time, utc_date_time, generalized_date_time, is_utc_time}
+use Rattle.der_types.specs.Times.{is_generalized_time, utc_content, inner, is_fraction, fraction_text}
 use Rattle.der_types.specs.Times.{generalized_content, fraction_of}
 use Rattle.der_types.specs.declared.time.DateTime.{DateTime}
 
@@ -20,50 +19,26 @@ all_four : (w x y z : Bool) → (w && (x && (y && z))) ≡ true → (w ≡ true)
     × (z ≡ true)
 all_four w x y z all = grind arith
 
-record IsUtcTime (bytes : List ℕ) : Type 0 where
-  long : length bytes ≡ 13
-  digits : AllPass is_ascii_digit (take 12 bytes)
-  ends : slice_index bytes 12 ≡ 0x5A
-  date : is_date_time (utc_date_time bytes) ≡ true
-
-utc_parts : (bytes : List ℕ) → is_utc_time bytes ≡ true → IsUtcTime bytes
+utc_parts : (bytes : List ℕ) → is_utc_time bytes ≡ true
+    → (length bytes ≡ 13) × AllPass is_ascii_digit (take 12 bytes) × (slice_index bytes 12 ≡ 0x5A)
+    × (is_date_time (utc_date_time bytes) ≡ true)
 utc_parts bytes passes =
-    let parts =
-    all_four (length bytes == 13) (list_all is_ascii_digit (take 12 bytes))
-    (slice_index bytes 12 == 0x5A)
-    (is_date_time (utc_date_time bytes)) passes in
-    record {
-      long = eqb-true (length bytes) 13 parts.0;
-      digits = AllPass-from_list_all is_ascii_digit (take 12 bytes) parts.1;
-      ends = eqb-true (slice_index bytes 12) 0x5A parts.2;
-      date = parts.3;
-    }
+    let (long, digits, ends, date) = all_four (length bytes == 13) _ (slice_index bytes 12 == 0x5A) _ passes in
+    (eqb-true (length bytes) 13 long, AllPass-from_list_all _ _ digits, eqb-true _ 0x5A ends, date)
 
-record IsGeneralizedTime (bytes : List ℕ) : Type 0 where
-  long : 14 < length bytes
-  digits : AllPass is_ascii_digit (take 14 bytes)
-  ends : ends_time (drop 14 bytes) ≡ true
-  date : is_date_time (generalized_date_time bytes) ≡ true
-
-generalized_parts : (bytes : List ℕ) → is_generalized_time bytes ≡ true → IsGeneralizedTime bytes
+generalized_parts : (bytes : List ℕ) → is_generalized_time bytes ≡ true
+    → (14 < length bytes) × AllPass is_ascii_digit (take 14 bytes) × (ends_time (drop 14 bytes) ≡ true)
+    × (is_date_time (generalized_date_time bytes) ≡ true)
 generalized_parts bytes passes =
-    let parts =
-    all_four (nat_lt 14 (length bytes)) (list_all is_ascii_digit (take 14 bytes))
-    (ends_time (drop 14 bytes))
-    (is_date_time (generalized_date_time bytes)) passes in
-    record {
-      long = grind (arith, nat_tests);
-      digits = AllPass-from_list_all is_ascii_digit (take 14 bytes) parts.1;
-      ends = parts.2;
-      date = parts.3;
-    }
+    let (long, digits, ends, date) = all_four (nat_lt 14 (length bytes)) _ (ends_time (drop 14 bytes)) _ passes in
+    (grind (arith, nat_tests), AllPass-from_list_all _ _ digits, ends, date)
 
 -- a UTCTime begins with twelve digits
 pub utc_digits : (bytes : List ℕ) → is_utc_time bytes ≡ true → (length (take 12 bytes) ≡ 12)
     × AllPass is_ascii_digit (take 12 bytes)
 utc_digits bytes passes =
     let parts = utc_parts bytes passes in
-    (omega (arith, length-take {A = ℕ}), parts.digits)
+    (omega (arith, length-take {A = ℕ}), parts.1)
 
 -- a GeneralizedTime begins with fourteen digits
 pub generalized_digits : (bytes : List ℕ) → is_generalized_time bytes ≡ true
@@ -71,7 +46,7 @@ pub generalized_digits : (bytes : List ℕ) → is_generalized_time bytes ≡ tr
     × AllPass is_ascii_digit (take 14 bytes)
 generalized_digits bytes passes =
     let parts = generalized_parts bytes passes in
-    (omega (arith, length-take {A = ℕ}), parts.digits)
+    (omega (arith, length-take {A = ℕ}), parts.1)
 
 -- ---- two digits and their number
 
@@ -112,10 +87,13 @@ fields_small time is = grind (arith, nat_tests)
 
 -- ---- UTCTime
 
-utc_encoded : (bytes : List ℕ) → IsUtcTime bytes → utc_content (utc_date_time bytes) ≡ bytes
-utc_encoded (y ∷ z ∷ a ∷ b ∷ c ∷ d ∷ e ∷ f ∷ g ∷ h ∷ i ∷ j ∷ end ∷ []) parts =
-    let is = λ (k : ℕ) (l : k < 12). parts.digits k 0 l in
-    let ends : end ≡ 0x5A = parts.ends in
+-- what a UTCTime encodes has this content
+pub utc_content-utc_date_time : (bytes : List ℕ) → is_utc_time bytes ≡ true
+    → utc_content (utc_date_time bytes) ≡ bytes
+utc_content-utc_date_time (y ∷ z ∷ a ∷ b ∷ c ∷ d ∷ e ∷ f ∷ g ∷ h ∷ i ∷ j ∷ end ∷ []) passes =
+    let parts = utc_parts (y ∷ z ∷ a ∷ b ∷ c ∷ d ∷ e ∷ f ∷ g ∷ h ∷ i ∷ j ∷ end ∷ []) passes in
+    let is = λ (k : ℕ) (l : k < 12). parts.1 k 0 l in
+    let ends : end ≡ 0x5A = parts.2 in
     let small = two_digits_small y z (is 0 (omega arith)) (is 1 (omega arith)) in
     let year = utc_year-two_digits (10 * (y - 0x30) + (z - 0x30)) small in
     let p = pair y z (is 0 (omega arith)) (is 1 (omega arith)) in
@@ -125,12 +103,7 @@ utc_encoded (y ∷ z ∷ a ∷ b ∷ c ∷ d ∷ e ∷ f ∷ g ∷ h ∷ i ∷ j
     let t = pair g h (is 8 (omega arith)) (is 9 (omega arith)) in
     let u = pair i j (is 10 (omega arith)) (is 11 (omega arith)) in
     cc
-utc_encoded bytes parts = absurd (omega (arith, parts.long))
-
--- what a UTCTime encodes has this content
-pub utc_content-utc_date_time : (bytes : List ℕ) → is_utc_time bytes ≡ true
-    → utc_content (utc_date_time bytes) ≡ bytes
-utc_content-utc_date_time bytes passes = utc_encoded bytes (utc_parts bytes passes)
+utc_content-utc_date_time bytes passes = absurd (omega (arith, (utc_parts bytes passes).0))
 
 -- a UTCTime encodes a time in the years 1950 to 2049
 pub utc_date_time-is : (bytes : List ℕ) → is_utc_time bytes ≡ true
@@ -142,51 +115,24 @@ utc_date_time-is bytes passes =
     let is = λ (k : ℕ) (l : k < 12). digits.1 k 0 (omega arith) in
     let small = two_digits_small (digit 0) (digit 1) (is 0 (omega arith)) (is 1 (omega arith)) in
     let within = utc_year_within _ small in
-    ((utc_parts bytes passes).date, within.0, within.1)
+    ((utc_parts bytes passes).3, within.0, within.1)
 
 -- the content of a time in the years 1950 to 2049 encodes it
 pub utc_date_time-utc_content : (time : DateTime) → 1950 ≤ time.year → time.year < 2050
     → utc_date_time (utc_content time) ≡ time
-utc_date_time-utc_content time low high =
-    rw (
-      number_back (time.year % 100),
-      utc_year-back time.year low high,
-      number_back time.month,
-      number_back time.day,
-      number_back time.hour,
-      number_back time.minute,
-      number_back time.second,
-    ) refl
+utc_date_time-utc_content time low high = simp (number_back, utc_year-back)
 
 -- the content of a time in the years 1950 to 2049 is a UTCTime
 pub is_utc_time-utc_content : (time : DateTime) → is_date_time time ≡ true → 1950 ≤ time.year
     → time.year < 2050
     → is_utc_time (utc_content time) ≡ true
 is_utc_time-utc_content time is low high =
-    let below = fields_small time is in
+    let (month, day, hour, minute, second) = fields_small time is in
+    let year : time.year % 100 < 100 = omega arith in
     let encoded = ap is_date_time (utc_date_time-utc_content time low high) ∙ is in
-    rw (
-      encoded,
-      tens_digit (time.year % 100) (omega arith),
-      ones_digit (time.year % 100),
-      tens_digit time.month below.0,
-      ones_digit time.month,
-      tens_digit time.day below.1,
-      ones_digit time.day,
-      tens_digit time.hour below.2,
-      ones_digit time.hour,
-      tens_digit time.minute below.3,
-      ones_digit time.minute,
-      tens_digit time.second below.4,
-      ones_digit time.second,
-    ) refl
+    simp (encoded, tens_digit, ones_digit)
 
 -- ---- GeneralizedTime
-
-all_but_last : (x : ℕ) (xs : List ℕ)
-    → take (length xs) (x ∷ xs) ++ get_or (x ∷ xs) (length xs) 0 ∷ [] ≡ x ∷ xs
-all_but_last x [] = refl
-all_but_last x (y ∷ xs) = ap (λ rest. x ∷ rest) (all_but_last y xs)
 
 -- the parts of an end with a fraction
 end_parts : (bytes : List ℕ) → 1 < length bytes → ends_time bytes ≡ true
@@ -211,15 +157,18 @@ end_encoded (x ∷ y ∷ rest) passes =
     let place : length (x ∷ y ∷ rest) - 1 ≡ suc (length rest) = omega arith in
     let count : length (x ∷ y ∷ rest) - 1 - 1 ≡ length rest = omega arith in
     let last : get_or (y ∷ rest) (length rest) 0 ≡ 0x5A = rw place at parts.1 in
-    let whole = rw last at (all_but_last y rest) in
+    let all = take_all (length rest + 1) (y ∷ rest) (omega arith) in
+    let whole = rw last at (sym (take_more (y ∷ rest) (length rest) 0 (omega arith)) ∙ all) in
     let first : x ≡ 0x2E = parts.0 in
     rw (fraction_text-some (inner (x ∷ y ∷ rest)) parts.2, count, whole, first) refl
 
-generalized_encoded : (bytes : List ℕ) → IsGeneralizedTime bytes
+-- what a GeneralizedTime and its fraction encode have this content
+pub generalized_content-generalized_date_time : (bytes : List ℕ) → is_generalized_time bytes ≡ true
     → generalized_content (generalized_date_time bytes) (fraction_of bytes) ≡ bytes
-generalized_encoded (w ∷ x ∷ y ∷ z ∷ a ∷ b ∷ c ∷ d ∷ e ∷ f ∷ g ∷ h ∷ i ∷ j ∷ end) parts =
-    let is = λ (k : ℕ) (l : k < 14). parts.digits k 0 l in
-    let ends = end_encoded end parts.ends in
+generalized_content-generalized_date_time (w ∷ x ∷ y ∷ z ∷ a ∷ b ∷ c ∷ d ∷ e ∷ f ∷ g ∷ h ∷ i ∷ j ∷ end) passes =
+    let parts = generalized_parts (w ∷ x ∷ y ∷ z ∷ a ∷ b ∷ c ∷ d ∷ e ∷ f ∷ g ∷ h ∷ i ∷ j ∷ end) passes in
+    let is = λ (k : ℕ) (l : k < 14). parts.1 k 0 l in
+    let ends = end_encoded end parts.2 in
     let small = two_digits_small y z (is 2 (omega arith)) (is 3 (omega arith)) in
     let year = four_digits (10 * (w - 0x30) + (x - 0x30)) (10 * (y - 0x30) + (z - 0x30)) small in
     let o = pair w x (is 0 (omega arith)) (is 1 (omega arith)) in
@@ -230,13 +179,8 @@ generalized_encoded (w ∷ x ∷ y ∷ z ∷ a ∷ b ∷ c ∷ d ∷ e ∷ f ∷
     let t = pair g h (is 10 (omega arith)) (is 11 (omega arith)) in
     let u = pair i j (is 12 (omega arith)) (is 13 (omega arith)) in
     cc
-generalized_encoded bytes parts = absurd (omega (arith, parts.long))
-
--- what a GeneralizedTime and its fraction encode have this content
-pub generalized_content-generalized_date_time : (bytes : List ℕ) → is_generalized_time bytes ≡ true
-    → generalized_content (generalized_date_time bytes) (fraction_of bytes) ≡ bytes
 generalized_content-generalized_date_time bytes passes =
-    generalized_encoded bytes (generalized_parts bytes passes)
+    absurd (omega (arith, (generalized_parts bytes passes).0))
 
 -- a GeneralizedTime encodes a time in the years 0 to 9999
 pub generalized_date_time-is : (bytes : List ℕ) → is_generalized_time bytes ≡ true
@@ -248,23 +192,14 @@ generalized_date_time-is bytes passes =
     let is = λ (k : ℕ) (l : k < 14). digits.1 k 0 (omega arith) in
     let high = two_digits_small (digit 0) (digit 1) (is 0 (omega arith)) (is 1 (omega arith)) in
     let low = two_digits_small (digit 2) (digit 3) (is 2 (omega arith)) (is 3 (omega arith)) in
-    ((generalized_parts bytes passes).date, omega arith)
+    ((generalized_parts bytes passes).3, omega arith)
 
 -- the content of a time in the years 0 to 9999 encodes it
 pub generalized_date_time-generalized_content : (time : DateTime) (fraction : List ℕ)
     → generalized_date_time (generalized_content time fraction) ≡ time
 generalized_date_time-generalized_content time fraction =
     let year : 100 * (time.year / 100) + time.year % 100 ≡ time.year = omega arith in
-    rw (
-      number_back (time.year / 100),
-      number_back (time.year % 100),
-      year,
-      number_back time.month,
-      number_back time.day,
-      number_back time.hour,
-      number_back time.minute,
-      number_back time.second,
-    ) refl
+    simp (number_back, year)
 
 inner-fraction : (fraction : List ℕ) → inner (0x2E ∷ fraction ++ 0x5A ∷ []) ≡ fraction
 inner-fraction fraction =
@@ -308,38 +243,18 @@ pub is_generalized_time-generalized_content : (time : DateTime) (fraction : List
     → (fraction ≡ []) ⊎ (is_fraction fraction ≡ true)
     → is_generalized_time (generalized_content time fraction) ≡ true
 is_generalized_time-generalized_content time fraction is small ends =
-    let below = fields_small time is in
+    let (month, day, hour, minute, second) = fields_small time is in
+    let high : time.year / 100 < 100 = omega arith in
+    let low : time.year % 100 < 100 = omega arith in
     let encoded = ap is_date_time (generalized_date_time-generalized_content time fraction) ∙ is in
     let end = fraction_text fraction ++ codes "Z" in
     let long = more_than_fourteen (length end) (omega (arith, length-append {A = ℕ})) in
-    rw (
-      long,
-      encoded,
-      end_is fraction ends,
-      tens_digit (time.year / 100) (omega arith),
-      ones_digit (time.year / 100),
-      tens_digit (time.year % 100) (omega arith),
-      ones_digit (time.year % 100),
-      tens_digit time.month below.0,
-      ones_digit time.month,
-      tens_digit time.day below.1,
-      ones_digit time.day,
-      tens_digit time.hour below.2,
-      ones_digit time.hour,
-      tens_digit time.minute below.3,
-      ones_digit time.minute,
-      tens_digit time.second below.4,
-      ones_digit time.second,
-    ) refl
+    simp (long, encoded, end_is fraction ends, tens_digit, ones_digit)
 
 -- ---- what the laws of the crate cite
 
-pub ruleset utc_laws = (
-  utc_content-utc_date_time,
-  utc_date_time-is,
-  utc_date_time-utc_content,
-  is_utc_time-utc_content,
-)
+pub ruleset utc_laws =
+    (utc_content-utc_date_time, utc_date_time-is, utc_date_time-utc_content, is_utc_time-utc_content)
 
 pub ruleset generalized_laws = (
   generalized_content-generalized_date_time,

@@ -1,9 +1,10 @@
 -- Numbers that aren't negative: their contents and their digits.
-use Rattle.std.proofs.Common.{◌≡◌, ◌==◌, ℕ, zero, suc, ◌+◌, ◌*◌, ◌<◌, ◌≤◌, true, if◌then◌else◌, refl, arith, add-one}
-use Rattle.std.proofs.Common.{List, [], ◌∷◌, length, take, drop, get_or, slice_index}
+use Rattle.std.proofs.Common.{◌≡◌, ◌==◌, ℕ, ◌+◌, ◌*◌, ◌<◌, ◌≤◌, true, if◌then◌else◌, refl, ap, ◌∙◌, arith, List, []}
+use Rattle.std.proofs.Common.{◌∷◌, length, take, drop, get_or, slice_index}
 use Rattle.std.proofs.lemmas.Bool.Decides.{nat_tests}
-use Rattle.std.proofs.lemmas.Int.Digits.{first_digits_of}
-use Rattle.std.specs.Int.Digits.{digits_of, number_from_digits_after}
+use Rattle.std.proofs.lemmas.Int.Digits.{first_digits_of, number_push, number_after_append, number_after_ge}
+use Rattle.std.proofs.lemmas.List.{take_more, take-append-drop}
+use Rattle.std.specs.Int.Digits.{digits_of}
 use Rattle.sec1_der.proofs.DigitLaws.{IsBytes, IsBytes-below}
 use Rattle.sec1_der.specs.Elements.{number_of}
 use Rattle.der_types.specs.Integers.{is_unsigned, unsigned_content, with_sign}
@@ -19,29 +20,17 @@ pub ruleset numbers =
     (content-number, is_unsigned-unsigned_content, number_of-unsigned_content, unsigned_content-injective)
 
 -- one digit more
-number_after-take : (m i : ℕ) (ds : List ℕ) → i < length ds → number_from_digits_after 256 m (take (suc i) ds)
-    ≡ number_from_digits_after 256 m (take i ds) * 256 + get_or ds i 0
-number_after-take m i [] below = absurd (omega arith)
-number_after-take m zero (d ∷ ds) below = refl
-number_after-take m (suc i) (d ∷ ds) below = number_after-take (m * 256 + d) i ds (omega arith)
-
 pub number_of-take : (i : ℕ) (ds : List ℕ) → i < length ds
     → number_of (take (i + 1) ds) ≡ number_of (take i ds) * 256 + get_or ds i 0
-number_of-take i ds below = rw add-one (number_after-take 0 i ds below)
+number_of-take i ds below = ap number_of (take_more ds i 0 below) ∙ number_push 256 (take i ds) (get_or ds i 0)
 
 -- further digits make no number smaller
-number_after-grows : (m : ℕ) (ds : List ℕ) → m ≤ number_from_digits_after 256 m ds
-number_after-grows m [] = omega arith
-number_after-grows m (d ∷ ds) = omega (arith, number_after-grows (m * 256 + d) ds)
-
-number_after-le : (m i : ℕ) (ds : List ℕ) → i < length ds
-    → number_from_digits_after 256 m (take i ds) * 256 + get_or ds i 0 ≤ number_from_digits_after 256 m ds
-number_after-le m i [] below = absurd (omega arith)
-number_after-le m zero (d ∷ ds) below = number_after-grows (m * 256 + d) ds
-number_after-le m (suc i) (d ∷ ds) below = number_after-le (m * 256 + d) i ds (omega arith)
-
 pub number_of-le : (i : ℕ) (ds : List ℕ) → i < length ds → number_of (take i ds) * 256 + get_or ds i 0 ≤ number_of ds
-number_of-le i ds below = number_after-le 0 i ds below
+number_of-le i ds below =
+    let whole = ap number_of (take-append-drop (i + 1) ds) in
+    let split = number_after_append 256 0 (take (i + 1) ds) (drop (i + 1) ds) in
+    let grows = number_after_ge 256 (number_of (take (i + 1) ds)) (drop (i + 1) ds) (omega arith) in
+    omega (arith, number_of-take i ds below)
 
 pub ruleset digit_steps = (number_of-take, number_of-le)
 

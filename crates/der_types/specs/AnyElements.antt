@@ -6,10 +6,9 @@ use Rattle.std.specs.Str.{bytes_eq}
 use Rattle.sec1_der.specs.Elements.{max_length, is_tag, length_octets, element}
 use Rattle.sec1_der.specs.Parts.{Tags, is_among, Begins}
 use Rattle.sec1_der.specs.Faults.{Fault, no_fault, any_fault, number_at}
-use Rattle.std.proofs.Common.{◌≡◌, ◌<◌, ◌⊎◌, inl, inr, nat_lt}
-use Rattle.std.proofs.Common.{refl, arith, ⊎_elim}
-use Rattle.std.proofs.Common.{eq-eqb, ◌∙◌}
-use Rattle.std.proofs.lemmas.Bool.{lt-ltb, le-ltb, ne_eqb, cases_lt, and_parts}
+use Rattle.sec1_der.specs.PartLaws.{chosen}
+use Rattle.std.proofs.Common.{◌≡◌, ◌==◌, nat_lt, refl, arith, ⊎_elim, eq-eqb, ◌∙◌}
+use Rattle.std.proofs.lemmas.Bool.{lt-ltb, le-ltb, eqb-true, eqb-false, cases_lt, and_parts}
 
 -- the tags below a number
 abbrev pub tags_below : ℕ → List ℕ
@@ -47,44 +46,28 @@ any_of bytes = if is_element bytes then Some bytes else None
 unfoldable pub any_element_fault : Fault → Fault
 any_element_fault rest = any_fault (λ _. no_fault) rest
 
--- one more number, which is a tag or isn't
-one_more : (tag n : ℕ) (b : Bool) → is_tag n ≡ b
-    → is_among tag (tags_below n) ≡ (nat_lt tag n && is_tag tag)
-    → (tag < n) ⊎ ((tag ≡ n) ⊎ (n < tag))
-    → is_among tag (if b then n ∷ tags_below n else tags_below n)
-    ≡ (nat_lt tag (suc n) && is_tag tag)
-one_more tag n true e rest (inl less) =
-    rw (
-      ne_eqb tag n (λ same. omega arith),
-      rest,
-      lt-ltb tag n less,
-      lt-ltb tag (suc n) (omega arith),
-    ) refl
-one_more tag n true e rest (inr (inl same)) =
-    rw (same, eq-eqb n n refl, lt-ltb n (suc n) (omega arith), e) refl
-one_more tag n true e rest (inr (inr more)) =
-    rw (
-      ne_eqb tag n (λ same. omega arith),
-      rest,
-      le-ltb tag n (omega arith),
-      le-ltb tag (suc n) (omega arith),
-    ) refl
-one_more tag n false e rest (inl less) =
-    rw (rest, lt-ltb tag n less, lt-ltb tag (suc n) (omega arith)) refl
-one_more tag n false e rest (inr (inl same)) =
-    rw (rest, same, lt-ltb n (suc n) (omega arith), le-ltb n n (omega arith), e) refl
-one_more tag n false e rest (inr (inr more)) =
-    rw (rest, le-ltb tag n (omega arith), le-ltb tag (suc n) (omega arith)) refl
+-- the numbers below another and itself
+below_next : (tag n : ℕ) → (tag == n) ≡ false → nat_lt tag (suc n) ≡ nat_lt tag n
+below_next tag n e = ⊎_elim (λ less. rw (lt-ltb tag n less, lt-ltb tag (suc n) (omega arith)) refl)
+    (λ more. let other = eqb-false tag n e in
+    rw (le-ltb tag n more, le-ltb tag (suc n) (omega arith)) refl) (cases_lt tag n)
 
-nat_cases : (m n : ℕ) → (m < n) ⊎ ((m ≡ n) ⊎ (n < m))
-nat_cases m n = ⊎_elim (λ less. inl less)
-    (λ more. ⊎_elim (λ greater. inr (inr greater)) (λ least. inr (inl (omega arith)))
-    (cases_lt n m)) (cases_lt m n)
+-- one more number, which is a tag or isn't
+one_more : (tag n : ℕ) (same tagged : Bool) → (tag == n) ≡ same → is_tag n ≡ tagged
+    → is_among tag (tags_below n) ≡ (nat_lt tag n && is_tag tag)
+    → is_among tag (if tagged then n ∷ tags_below n else tags_below n)
+    ≡ (nat_lt tag (suc n) && is_tag tag)
+one_more tag n true true e is rest =
+    rw (eqb-true tag n e, eq-eqb n n refl, lt-ltb n (suc n) (omega arith), is) refl
+one_more tag n true false e is rest =
+    rw (rest, eqb-true tag n e, le-ltb n n (omega arith), lt-ltb n (suc n) (omega arith), is) refl
+one_more tag n false true e is rest = rw (e, rest, below_next tag n e) refl
+one_more tag n false false e is rest = rw (rest, below_next tag n e) refl
 
 -- the tags below a number are the tags that are below it
 among_below : (tag n : ℕ) → is_among tag (tags_below n) ≡ (nat_lt tag n && is_tag tag)
 among_below tag zero = rw (le-ltb tag 0 (omega arith)) refl
-among_below tag (suc n) = one_more tag n (is_tag n) refl (among_below tag n) (nat_cases tag n)
+among_below tag (suc n) = one_more tag n (tag == n) (is_tag n) refl refl (among_below tag n)
 
 -- a tag is below 256
 tag_below : (a b c : Bool) → (a && ((a && b) && c)) ≡ ((a && b) && c)
@@ -103,9 +86,6 @@ begins_tag (byte ∷ bytes) is = among_all byte ∙ (and_parts _ _ is).0
 
 -- an element begins with a tag
 pub any_begins : (bytes whole : List ℕ) → any_of bytes ≡ Some whole → Begins any_tags whole
-any_begins bytes whole e = by (is_element bytes) refl e
-  where
-    by : (b : Bool) → is_element bytes ≡ b → (if b then Some bytes else None) ≡ Some whole
-        → Begins any_tags whole
-    by false is e = absurd (cc (e))
-    by true is e = let same : bytes ≡ whole = cc (e) in rw (← same) (begins_tag bytes is)
+any_begins bytes whole e =
+    let (is, same) = chosen (is_element bytes) bytes whole e in
+    rw (← same) (begins_tag bytes is)

@@ -1,8 +1,10 @@
 -- X.680 section 29 and X.690 section 8.13: a CHOICE has the bytes of the alternative that was
 -- chosen; and what it and an OPTIONAL part begin with. Ghost members of traits cite the laws.
-use Rattle.std.specs.Prelude.{◌++◌, ◌∷◌, [], ◌||◌, ◌&&◌, not, ℕ, List, Bool, true, false, Option}
-use Rattle.std.specs.Prelude.{Some, None, if◌then◌else◌, ◌≡◌, ◌==◌, refl}
+use Rattle.std.specs.Prelude.{◌++◌, ◌∷◌, [], ◌||◌, ◌&&◌, not, ℕ, List, false, Option, Some, None}
+use Rattle.std.specs.Prelude.{if◌then◌else◌, ◌≡◌, ◌==◌, refl}
 use Rattle.std.specs.List.{list_all}
+pub use Rattle.sec1_der.specs.Parts.{begins_among, optional_bytes, optional_tags}
+use Rattle.sec1_der.specs.PartLaws.{or_nothing}
 use Rattle.sec1_der.specs.Parts.{Tags, is_among, Begins}
 use Rattle.sec1_der.specs.Faults.{Fault}
 use Rattle.der_types.specs.declared.choice.Choice.{Choice}
@@ -25,31 +27,11 @@ choice_tags p q = record {
   distinct = p.distinct && (q.distinct && list_all (λ tag. not (is_among tag q.first)) p.first);
 }
 
--- whether the bytes begin with one of these tags
-abbrev pub begins_among : List ℕ → List ℕ → Bool
-begins_among tags [] = false
-begins_among tags (byte ∷ bytes) = is_among byte tags
-
 -- X.690 section 8.13: the fault of the first alternative if one of its tags is next, else that of
 -- the second
 abbrev pub choice_fault : List ℕ → (Fault → Fault) → (Fault → Fault) → Fault → Fault
 choice_fault tags first second rest bytes =
     if begins_among tags bytes then first rest bytes else second rest bytes
-
--- X.690 section 8.9.3: the bytes of the part, or none if it is absent
-abbrev pub optional_bytes : {P : Type 0} → (P → Option (List ℕ)) → Option P → Option (List ℕ)
-optional_bytes bytes None = Some []
-optional_bytes bytes (Some part) = bytes part
-
--- X.680 section 25.6: what follows an OPTIONAL part mustn't begin with one of its tags
-abbrev pub optional_tags : Tags → Tags
-optional_tags p = record {
-  first = p.first;
-  nullable = true;
-  follow =
-      p.first ++ p.follow;
-  distinct = p.distinct;
-}
 
 -- X.690 section 8.9.3: the fault of the part if one of its tags is next, else that of what follows
 -- it
@@ -85,10 +67,6 @@ choice_begins p q first second one two (First part) whole e =
     begins_first p q whole (one part whole e)
 choice_begins p q first second one two (Second part) whole e =
     begins_second p q whole (two part whole e)
-
-or_nothing : (p : Tags) (whole : List ℕ) → Begins p whole → Begins (optional_tags p) whole
-or_nothing p [] e = refl
-or_nothing p (byte ∷ bytes) e = e
 
 -- an OPTIONAL part is empty, or begins with one of its tags
 pub optional_part_begins : (p : Tags) {P : Type 0} (bytes : P → Option (List ℕ))

@@ -1,14 +1,6 @@
 -- The contents of an OBJECT IDENTIFIER, of any length.
-use Rattle.std.specs.Prelude.{◌==◌, ℕ, ◌<◌, ◌≤◌, nat_lt, Bool, true, not, ◌&&◌, List, [], ◌∷◌}
-use Rattle.std.specs.Prelude.{length}
-
--- X.690 section 8.19.2: bit 8 of the last byte of a subidentifier is zero, and bit 8 of each byte
--- before it is one; its first byte isn't 80. These bytes begin with a subidentifier, or
--- continue one that began before them.
-abbrev pub are_subidentifiers : Bool → List ℕ → Bool
-are_subidentifiers begins [] = begins
-are_subidentifiers begins (byte ∷ bytes) =
-    not (begins && byte == 0x80) && are_subidentifiers (nat_lt byte 0x80) bytes
+use Rattle.std.specs.Prelude.{ℕ, ◌<◌, ◌≤◌, nat_lt, Bool, true, ◌&&◌, List, [], ◌∷◌, length}
+pub use Rattle.sec1_der.specs.Identifiers.{are_subidentifiers}
 
 -- X.690 section 8.19.2: one or more subidentifiers, one after the other.
 abbrev pub is_object_identifier : List ℕ → Bool

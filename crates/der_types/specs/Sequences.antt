@@ -1,7 +1,6 @@
 -- X.690 sections 8.10, 8.12 and 11.6: elements of one type, one after another, or in ascending
 -- order of their encodings.
-use Rattle.std.specs.Prelude.{ℕ, zero, suc, Bool, true, false, List, [], ◌∷◌, length, Option}
-use Rattle.std.specs.Prelude.{is_none}
+use Rattle.std.specs.Prelude.{ℕ, zero, suc, Bool, true, List, [], ◌∷◌, length, Option, is_none}
 use Rattle.std.specs.Prelude.{Some, None, if◌then◌else◌, ◌&&◌, Result, Ok, Err}
 use Rattle.sec1_der.specs.Elements.{element_of, element, is_tag}
 use Rattle.sec1_der.specs.Parts.{join}

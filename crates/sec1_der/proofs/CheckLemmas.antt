@@ -1,7 +1,6 @@
 -- The states of the walk over a tree's bytes, and its steps.
 use Rattle.std.proofs.Common.{◌≡◌, ◌≢◌, ℕ, suc, ◌+◌, ◌-◌, ◌<◌, ◌≤◌, List, [], ◌∷◌, ◌++◌, length, take, drop, refl, ap}
-use Rattle.std.proofs.Common.{get_or, ◌⊎◌}
-use Rattle.std.proofs.Common.{sym, ◌∙◌, subst, arith, ⊎_elim}
+use Rattle.std.proofs.Common.{get_or, ◌⊎◌, sym, ◌∙◌, subst, arith, ⊎_elim}
 use Rattle.std.proofs.lemmas.List.{append_assoc, append-nil, length-append, length-take-le}
 use Rattle.sec1_der.specs.Elements.{header}
 use Rattle.sec1_der.specs.Faults.{tree_fault}
@@ -91,8 +90,7 @@ passed input ends rest after count next p =
     record {
       at = record {
         room = at.room;
-        counted =
-            omega (arith, ap length p.4, length-append (bytes p.0) after);
+        counted = omega (arith, ap length p.4, length-append (bytes p.0) after);
         inside = p.5;
         nested = at.nested;
       };
@@ -112,8 +110,7 @@ opened input ends rest after end count next o room =
       at = record {
         room = room;
         counted = omega (arith, ap length o.split);
-        inside =
-            omega (arith, o.inside);
+        inside = omega (arith, o.inside);
         nested = (o.fits, at.nested);
       };
       completes = λ f tail are shallow split e.
@@ -152,8 +149,7 @@ closed {input = input} {ends = end ∷ ends} {rest = rest} {count = count} w som
         room = omega arith;
         counted = at.counted;
         inside = omega (arith, at.nested.0);
-        nested =
-            at.nested.1;
+        nested = at.nested.1;
       };
       completes = subst (Completes input ends rest) (omega arith) (w.completes none rest tt (omega arith) refl e);
       fault_is = w.fault_is ∙ rw all refl;

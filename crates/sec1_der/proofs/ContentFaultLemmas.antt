@@ -1,28 +1,24 @@
 -- What the contents of identifiers and of bit strings are refused by.
-use Rattle.std.proofs.Common.{◌≡◌, ℕ, ◌%◌, ◌≤◌, true, ◌&&◌, List, [], ◌∷◌, length, slice_index, append-nil}
-use Rattle.std.proofs.Common.{Some, None, refl, sym, ap, ◌∙◌}
-use Rattle.std.proofs.Common.{arith, ⊎_elim, bytes_eq}
+use Rattle.std.proofs.Common.{◌≡◌, ℕ, ◌%◌, ◌≤◌, true, ◌&&◌, List, [], ◌∷◌, length, slice_index, append-nil, Some, None}
+use Rattle.std.proofs.Common.{refl, sym, ap, ◌∙◌, arith, ⊎_elim, bytes_eq}
 use Rattle.std.proofs.lemmas.Bool.{and_parts, cases_Bool}
 use Rattle.std.proofs.lemmas.Slice.Eq.{bytes_eq-Decides}
-use Rattle.sec1_der.specs.Identifiers.{arcs_of}
+use Rattle.sec1_der.specs.Identifiers.{arcs_of, IsIdentifier, content_of}
 use Rattle.sec1_der.specs.Elements.{max_length, element, element_of}
 use Rattle.sec1_der.proofs.ElementLaws.{element_of-some}
 use Rattle.sec1_der.specs.Faults.{no_fault, end_fault, element_fault}
 use Rattle.sec1_der.specs.Contents.{are_bits, bit_string_fault, whole_bits_fault, whole_bits_field_fault}
 use Rattle.sec1_der.specs.Contents.{identifier_fault}
-use Rattle.sec1_der.specs.Identifiers.{IsIdentifier, content_of}
-use Rattle.sec1_der.proofs.IdentifierLaws.{is_identifier}
-use Rattle.sec1_der.proofs.IdentifierLaws.{encodes_of, is_identifier-true, is_identifier-valid}
+use Rattle.sec1_der.proofs.IdentifierLaws.{is_identifier, is_identifier-true, is_identifier-valid}
 use Rattle.sec1_der.specs.declared.error.ErrorKind.TheVariants.{Value}
 use Rattle.sec1_der.proofs.FaultLaws.{alone, element_at}
-use Rattle.sec1_der.proofs.IdentifierLemmas.{continues_from_arcs}
+use Rattle.sec1_der.proofs.IdentifierLemmas.{read_arcs}
 
 -- the content of an identifier isn't refused
 pub identifier_taken : (arcs content : List ℕ) → IsIdentifier arcs content → identifier_fault content ≡ None
 identifier_taken arcs content h =
     let encoded = (bytes_eq-Decides (content_of arcs) content).1 (sym h.encoded) in
-    let arcs_are = (continues_from_arcs arcs content (encodes_of arcs content h)).1 in
-    rw (arcs_are, is_identifier-valid arcs content h, encoded) refl
+    rw (read_arcs arcs content h, is_identifier-valid arcs content h, encoded) refl
 
 -- a content of no identifier is refused as Value
 pub identifier_refused : (content : List ℕ) → ((arcs : List ℕ) → IsIdentifier arcs content → ⊥)

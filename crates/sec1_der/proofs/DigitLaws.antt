@@ -1,12 +1,10 @@
 -- Digits of a number, and the number that digits encode. Further crates cite these laws.
-use Rattle.std.proofs.Common.{◌≡◌, ℕ, suc, ◌+◌, ◌*◌, ◌/◌, ◌%◌, ◌<◌, ◌≤◌, List, [], ◌∷◌, ◌++◌}
-use Rattle.std.proofs.Common.{get_or, arith, map, take, sym}
-use Rattle.std.proofs.lemmas.List.{append_assoc, append-nil, map-append, get_or-take, get_or_past}
-use Rattle.std.proofs.lemmas.List.{length-take}
+use Rattle.std.proofs.Common.{◌≡◌, ℕ, suc, ◌+◌, ◌*◌, ◌/◌, ◌%◌, ◌<◌, ◌≤◌, List, [], ◌∷◌, ◌++◌, get_or, arith, map, take}
+use Rattle.std.proofs.Common.{sym}
+use Rattle.std.proofs.lemmas.List.{append_assoc, append-nil, map-append, get_or-take, get_or_past, length-take}
 use Rattle.std.proofs.lemmas.Nat.{div-mul-add, mod-mul-add, mul-le}
 use Rattle.std.proofs.lemmas.Int.Digits.{digits_of_step}
-use Rattle.std.specs.Int.Digits.{digits_of, number_from_digits, number_from_digits_after}
-use Rattle.std.specs.Int.Digits.{AllBelowBase}
+use Rattle.std.specs.Int.Digits.{digits_of, number_from_digits, number_from_digits_after, AllBelowBase}
 
 -- digits with bit 80 (hexadecimal) set, which means that another one follows
 abbrev pub continuing : List ℕ → List ℕ

@@ -1,24 +1,20 @@
 -- What the bytes of an element, and bytes that begin with none, are refused by.
-use Rattle.std.proofs.Common.{true}
-use Rattle.std.proofs.Common.{◌≡◌, ℕ, ◌+◌, ◌<◌, ◌≤◌, false, ◌&&◌, nat_le, List, [], ◌∷◌, ◌++◌, length, take}
+use Rattle.std.proofs.Common.{◌≡◌, ℕ, ◌+◌, ◌<◌, ◌≤◌, true, false, ◌&&◌, nat_le, List, [], ◌∷◌, ◌++◌, length, take}
 use Rattle.std.proofs.Common.{slice_get, Option, Some, None, IsSomeAnd, Err, ⊎_elim, refl, ap, sym, ◌∙◌, arith}
-use Rattle.std.proofs.Common.{leb-true, eq-eqb, append-nil, append_assoc, length-append}
-use Rattle.std.proofs.Common.{take-append-drop, bytes_eq}
+use Rattle.std.proofs.Common.{leb-true, eq-eqb, append-nil, append_assoc, length-append, take-append-drop, bytes_eq}
 use Rattle.std.proofs.lemmas.Bool.{lt-leb, and_parts, cases_Bool, cases_lt}
 use Rattle.std.proofs.lemmas.List.{nil_from_length}
 use Rattle.std.proofs.lemmas.Slice.Eq.{bytes_eq-Decides}
-use Rattle.std.specs.Option.{option_or}
 use Rattle.sec1_der.specs.Elements.{max_length, length_octets, header, element, element_of, is_tag, IsHeader, IsElement}
 use Rattle.sec1_der.specs.Elements.{IsProperPrefix}
 use Rattle.sec1_der.specs.Errors.{length_fault, header_fault}
 use Rattle.sec1_der.specs.Readers.{Reader, reader_over, HasReadElement}
-use Rattle.sec1_der.specs.Faults.{Fault, no_fault, end_fault, number_at, length_at, split_content, parts_fault}
-use Rattle.sec1_der.specs.Faults.{content_at}
+use Rattle.sec1_der.specs.Faults.{Fault, no_fault, end_fault, number_at, length_at, parts_fault, content_at}
 use Rattle.sec1_der.specs.Faults.{element_fault, optional_fault, any_fault, document_fault}
 use Rattle.sec1_der.specs.declared.error.ErrorKind.TheVariants.{Truncated, TrailingData}
 use Rattle.sec1_der.proofs.HeaderLemmas.{LacksHeader, fronts, header_front, longer, some_length}
 use Rattle.sec1_der.proofs.ElementLaws.{header_apart, element_of-within}
-use Rattle.sec1_der.proofs.FaultLaws.{length_at_octets, parts_at, any_at, alone, read_element}
+use Rattle.sec1_der.proofs.FaultLaws.{length_at_octets, any_at, alone, read_element, present}
 
 -- ---- lengths
 
@@ -79,17 +75,6 @@ any_cut f g tag content input h cut = ⊎_elim
         let same = header_apart tag' n tag (length content) (rest ++ cut.more) content joined in
         omega (arith, ap length e, length-append (header tag' n) rest, ap (λ m. length (header tag' m)) same.1)
 
--- the length and the content of a truncated element
-parts_cut : (f g : Fault) (tag : ℕ) (content bytes : List ℕ) → IsHeader tag (length content)
-    → IsProperPrefix (tag ∷ bytes) (element tag content)
-    → parts_fault f g (content_at bytes) ≡ Some (Some Truncated)
-parts_cut f g tag content bytes h cut =
-    rw h.tag_byte at (any_cut (λ _. f) g tag content (tag ∷ bytes) h cut)
-
--- the tag of a SEQUENCE is a tag
-sequence_tag : is_tag 0x30 ≡ true
-sequence_tag = refl
-
 -- a truncated element with this tag, whatever its tag
 pub element_cut : (f g : Fault) (tag : ℕ) (content input : List ℕ) → length content ≤ max_length
     → IsProperPrefix input (element tag content) → element_fault tag f g input ≡ Some (Some Truncated)
@@ -97,7 +82,9 @@ element_cut f g tag content [] fits cut = refl
 element_cut f g tag content (byte ∷ bytes) fits cut =
     let same : tag ≡ byte = cc cut.split in
     let rest : length_octets (length content) ++ content ≡ bytes ++ cut.more = cc cut.split in
-    let inside = parts_cut f g 0x30 content bytes (record { tag_byte = sequence_tag; bounded = fits })
+    -- that of a SEQUENCE is a tag
+    let inside : parts_fault f g (content_at bytes) ≡ Some (Some Truncated) =
+    any_cut (λ _. f) g 0x30 content (0x30 ∷ bytes) (record { tag_byte = refl; bounded = fits })
     (record { more = cut.more; some = cut.some; split = ap (λ xs. 0x30 ∷ xs) rest }) in
     rw (← same, eq-eqb tag tag refl, inside) refl
 
@@ -162,15 +149,6 @@ document_long tag content bytes rest h e more =
 
 -- ---- explicit fields
 
--- the fault of a field that was read is that of its content, or else of the bytes after it
-read_field : (number : ℕ) (f g : Fault) (content : List ℕ) (old new : Reader)
-    → HasReadElement (0xA0 + number) content old new
-    → optional_fault (0xA0 + number) f g old.unread ≡ option_or (f content) (g new.unread)
-read_field number f g content old new h =
-    let tag = 0xA0 + number in
-    rw (ap (λ (r : Reader). r.unread) h.read.was_unfailed, eq-eqb tag tag refl)
-    (parts_at f g content new.unread h.bounded)
-
 -- where the content of a field was opened, the fault of the field is that of the one element in it
 pub opened_field : (number tag : ℕ) (f : Fault) (opened : ℕ) (old new content : Reader)
     → (content ≡ reader_over content.unread) × HasReadElement opened content.unread old new → opened ≡ 0xA0 + number
@@ -179,7 +157,10 @@ pub opened_field : (number tag : ℕ) (f : Fault) (opened : ℕ) (old new conten
     ≡ element_fault tag f end_fault content.unread)
 opened_field number tag f opened old new content is same = (
   ap (λ (r : Reader). r.failed) is.0,
-  read_field number (element_fault tag f end_fault) no_fault content.unread old new (rw same at is.1) ∙ alone _,
+  let inside = element_fault tag f end_fault in
+      let read : HasReadElement (0xA0 + number) content.unread old new = rw same at is.1 in
+      present inside no_fault (0xA0 + number) content.unread old new read
+      ∙ (read_element inside no_fault (0xA0 + number) content.unread old new read ∙ alone _),
 )
 
 -- by these, a document is refused by the kind that its bytes have, and only then

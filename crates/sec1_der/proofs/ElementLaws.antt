@@ -1,12 +1,11 @@
 -- An element is determined by its bytes, and has a content that it can hold. Further crates cite
 -- these laws.
-use Rattle.std.proofs.Common.{◌≡◌, ℕ, ◌≤◌, List, length, Option, Some, None, refl, ⊎_elim}
-use Rattle.std.proofs.Common.{append_assoc, ◌++◌, [], sym, ap, ◌∙◌}
-use Rattle.std.proofs.lemmas.Bool.{le-leb, lt-leb, cases_lt}
+use Rattle.std.proofs.Common.{◌≡◌, ℕ, ◌≤◌, nat_le, List, length, Option, Some, None, refl, append_assoc, ◌++◌, []}
+use Rattle.std.proofs.Common.{sym, ap, ◌∙◌}
+use Rattle.std.proofs.lemmas.Bool.{le-leb, leb-true}
 use Rattle.sec1_der.specs.Elements.{max_length, header, element, element_of}
+use Rattle.sec1_der.specs.PartLaws.{chosen}
 use Rattle.sec1_der.proofs.LengthLaws.{len_apart, split_same}
-use Rattle.sec1_der.specs.Trees.{bytes}
-use Rattle.sec1_der.specs.Faults.{split_content}
 
 -- two headers that begin one list
 pub header_apart : (tag n tag' n' : ℕ) (r s : List ℕ) → header tag n ++ r ≡ header tag' n' ++ s
@@ -41,15 +40,13 @@ pub element_of-some : (tag : ℕ) (content : Option (List ℕ)) (bytes : List �
     → element_of tag content ≡ Some bytes
     → FoundContent tag content bytes
 element_of-some tag None bytes e = absurd (cc e)
-element_of-some tag (Some inside) bytes e = ⊎_elim
-    (λ over. absurd (cc (rw (lt-leb (length inside) max_length over) at e)))
-    (λ fits. record {
+element_of-some tag (Some inside) bytes e =
+    let (fits, same) = chosen (nat_le (length inside) max_length) (element tag inside) bytes e in
+    record {
       inside = inside;
       same = refl;
-      at =
-          record { bounded = fits; encoded = cc (rw (le-leb (length inside) max_length fits) at e) };
-    })
-    (cases_lt max_length (length inside))
+      at = record { bounded = leb-true (length inside) max_length fits; encoded = sym same };
+    }
 
 -- a content that an element can hold has its element
 pub element_of-within : (tag : ℕ) (content : Option (List ℕ)) (inside : List ℕ)

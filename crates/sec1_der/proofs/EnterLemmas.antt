@@ -1,12 +1,10 @@
 -- The next element in a slice whose last bytes belong to outer nodes.
 use Rattle.std.proofs.Common.{◌≡◌, ℕ, ◌+◌, ◌-◌, ◌<◌, ◌≤◌, List, ◌++◌, length, take, drop, bit_and, ◌⊎◌, refl, ap, sym}
-use Rattle.std.proofs.Common.{get_or}
-use Rattle.std.proofs.Common.{◌∙◌, arith, ⊎_elim}
+use Rattle.std.proofs.Common.{get_or, ◌∙◌, arith, ⊎_elim}
 use Rattle.std.proofs.lemmas.Bool.{cases_eq}
 use Rattle.std.proofs.lemmas.List.{append_assoc, length-append, length-drop, length-take, length-take-le}
 use Rattle.std.proofs.lemmas.List.{take-append-drop, take_rest, drop_at, nil_from_length}
-use Rattle.sec1_der.specs.Elements.{IsHeader, header, element}
-use Rattle.sec1_der.specs.Elements.{IsConstructed}
+use Rattle.sec1_der.specs.Elements.{IsHeader, header, element, IsConstructed}
 use Rattle.sec1_der.specs.Trees.{Tree, leaf, branch, none, bytes, IsTree, size, depth}
 use Rattle.sec1_der.specs.Walks.{Opens}
 
@@ -81,8 +79,7 @@ single_tree tag content h which = ⊎_elim
       record {
         tree = (h.tag_byte, λ set. set plain, h.bounded);
         alone = refl;
-        shallow =
-            refl;
+        shallow = refl;
       },
       refl,
     ))

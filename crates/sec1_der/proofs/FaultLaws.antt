@@ -1,12 +1,11 @@
 -- What the bytes of an element are refused by, and a reader that continues after one. Further crates
 -- cite these laws.
-use Rattle.std.proofs.Common.{◌≡◌, ◌++◌, ℕ, List, false, refl, sym, ◌∙◌}
-use Rattle.std.proofs.Common.{ap, Option, Some, None, IsSomeAnd, Ok}
-use Rattle.std.proofs.Common.{eq-eqb, ◌≤◌, length, take, drop, arith, le-leb, length-append}
-use Rattle.std.proofs.Common.{append_assoc, length-drop, ◌+◌, ◌-◌, inl, inr}
+use Rattle.std.proofs.Common.{◌≡◌, ◌++◌, ℕ, List, false, refl, sym, ◌∙◌, ap, Option, Some, None, IsSomeAnd, Ok, eq-eqb}
+use Rattle.std.proofs.Common.{◌≤◌, length, take, drop, arith, le-leb, length-append, append_assoc, length-drop, ◌+◌}
+use Rattle.std.proofs.Common.{◌-◌, inl, inr}
 use Rattle.std.specs.Option.{option_or}
 use Rattle.sec1_der.specs.Readers.{Reader, HasRead, HasReadElement, IsSuffix, reader_over}
-use Rattle.sec1_der.specs.Faults.{Fault, length_at, split_content, parts_fault, element_fault}
+use Rattle.sec1_der.specs.Faults.{Fault, length_at, split_content, parts_fault, element_fault, optional_fault}
 use Rattle.sec1_der.specs.Faults.{any_fault}
 use Rattle.sec1_der.specs.declared.error.ErrorKind.{ErrorKind}
 use Rattle.std.proofs.lemmas.Grind.{common_steps}
@@ -89,6 +88,12 @@ pub read_element : (f g : Fault) (tag : ℕ) (content : List ℕ) (old new : Rea
 read_element f g tag content old new h =
     element_at f g tag content old.unread new.unread h.bounded
     (ap (λ (r : Reader). r.unread) h.read.was_unfailed)
+
+-- where an optional element was read, its fault is that of the element
+pub present : (f rest : Fault) (tag : ℕ) (content : List ℕ) (old new : Reader) → HasReadElement tag content old new
+    → optional_fault tag f rest old.unread ≡ element_fault tag f rest old.unread
+present f rest tag content old new h =
+    rw (ap (λ (r : Reader). r.unread) h.read.was_unfailed, eq-eqb tag tag refl) refl
 
 -- the end of a list is the end of that list after another
 joined_suffix : (front back rest : List ℕ) → IsSuffix rest back → IsSuffix rest (front ++ back)

@@ -1,18 +1,16 @@
 -- What rows of elements are refused by, and what a walk over a tree has left.
 use Rattle.std.proofs.Common.{◌≡◌, ℕ, zero, suc, ◌+◌, ◌-◌, ◌<◌, ◌≤◌, if◌then◌else◌, nat_lt, bit_and, List, [], ◌∷◌}
-use Rattle.std.proofs.Common.{get_or}
-use Rattle.std.proofs.Common.{◌++◌, length, take, drop, Option, Some, None, ◌⊎◌, ⊎_elim, refl, ap, sym, ◌∙◌, arith}
+use Rattle.std.proofs.Common.{get_or, ◌++◌, length, take, drop, Option, Some, None, ◌⊎◌, ⊎_elim, refl, ap, sym, ◌∙◌}
+use Rattle.std.proofs.Common.{arith}
 use Rattle.std.proofs.Math.Seq.{take-append-add, drop-append-add}
 use Rattle.std.proofs.lemmas.Bool.{lt-ltb, le-ltb, ne_eqb}
 use Rattle.std.proofs.lemmas.Bool.Decides.{nat_tests}
 use Rattle.std.proofs.lemmas.List.{take_all, length-append, length-take, length-take-le, length-drop, append_assoc}
 use Rattle.std.proofs.lemmas.List.{take-append-drop}
 use Rattle.std.specs.Option.{option_or}
-use Rattle.sec1_der.specs.Elements.{length_octets, element, IsHeader}
-use Rattle.sec1_der.specs.Elements.{IsConstructed}
+use Rattle.sec1_der.specs.Elements.{length_octets, element, IsHeader, IsConstructed}
 use Rattle.sec1_der.specs.Errors.{IsHeaderFault}
-use Rattle.sec1_der.specs.Faults.{nested_fault}
-use Rattle.sec1_der.specs.Faults.{Fault, end_fault, any_fault, forest_fault, tree_fault}
+use Rattle.sec1_der.specs.Faults.{nested_fault, Fault, end_fault, any_fault, forest_fault, tree_fault}
 use Rattle.sec1_der.specs.Trees.{Tree, leaf, branch, none, first, bytes, size, IsTree, max_tree_depth}
 use Rattle.sec1_der.specs.Walks.{Opens}
 use Rattle.sec1_der.proofs.EnterLemmas.{Skips}

@@ -1,14 +1,13 @@
 -- The test for the arcs of an identifier is exact: an identifier has its content, and any other
 -- list of numbers has none.
-use Rattle.std.specs.Prelude.{◌≡◌, ℕ, ◌+◌, ◌*◌, ◌^◌, ◌<◌, ◌≤◌, Bool, true, false, ◌&&◌, ◌||◌}
-use Rattle.std.specs.Prelude.{nat_lt, nat_le, IsTrue}
-use Rattle.std.specs.Prelude.{List, [], ◌∷◌, length, Some, None, if◌then◌else◌, refl}
-use Rattle.std.proofs.Common.{arith}
+use Rattle.std.proofs.Common.{◌≡◌, ℕ, ◌+◌, ◌*◌, ◌^◌, ◌<◌, ◌≤◌, Bool, true, ◌&&◌, ◌||◌, nat_lt, nat_le, IsTrue, List, []}
+use Rattle.std.proofs.Common.{◌∷◌, length, Some, refl, arith, le-leb, leb-true}
+use Rattle.std.proofs.lemmas.Bool.{and_parts}
 use Rattle.std.proofs.lemmas.Bool.Decides.{nat_tests}
 use Rattle.std.specs.Bool.{Decides}
 use Rattle.std.specs.List.{AllByRecursion, list_all}
-use Rattle.sec1_der.specs.Identifiers.{content_of, IsIdentifier, are_arcs}
-use Rattle.sec1_der.specs.Identifiers.{identifier_content, max_identifier_length}
+use Rattle.sec1_der.specs.Identifiers.{content_of, IsIdentifier, are_arcs, identifier_content, max_identifier_length}
+use Rattle.sec1_der.specs.PartLaws.{chosen}
 
 -- two or more arcs of an identifier, whose content may be of any length
 abbrev pub AreArcs : List ℕ → Type 0
@@ -17,11 +16,6 @@ AreArcs (a ∷ []) = ⊥
 AreArcs (a ∷ b ∷ further) =
     (a ≤ 2) × (a < 2 → b < 40) × (40 * a + b < 2 ^ 32)
     × AllByRecursion (λ arc. arc < 2 ^ 32) further
-
--- the bytes are the encoding of these arcs, of any length
-pub record EncodesArcs (arcs content : List ℕ) : Type 0 where
-  pub allowed : AreArcs arcs
-  pub encoded : content ≡ content_of arcs
 
 one_below : (n : ℕ) (rest : Bool) (P : Type 0) → Decides rest P
     → Decides (nat_lt n (2 ^ 32) && rest) ((n < 2 ^ 32) × P)
@@ -50,40 +44,22 @@ arcs_allowed arcs e = (are_arcs-decides arcs).0 e
 pub arcs_tested : (arcs : List ℕ) → AreArcs arcs → IsTrue (are_arcs arcs)
 arcs_tested arcs h = (are_arcs-decides arcs).1 h
 
--- the content of an identifier encodes its arcs
-pub encodes_of : (arcs content : List ℕ) → IsIdentifier arcs content → EncodesArcs arcs content
-encodes_of arcs content is = record { allowed = arcs_allowed arcs is.allowed; encoded = is.encoded }
-
 -- whether a list is the arcs of an identifier, whose content isn't too long
 abbrev pub is_identifier : List ℕ → Bool
 is_identifier arcs = are_arcs arcs && nat_le (length (content_of arcs)) max_identifier_length
-
-short_too : (b : Bool) (n : ℕ) (P : Type 0) → Decides b P
-    → Decides (b && nat_le n max_identifier_length) (P × (n ≤ max_identifier_length))
-short_too b n P d = grind (arith, nat_tests)
-
-is_identifier-decides : (arcs : List ℕ)
-    → Decides (is_identifier arcs)
-    (AreArcs arcs × (length (content_of arcs) ≤ max_identifier_length))
-is_identifier-decides arcs =
-    short_too (are_arcs arcs) (length (content_of arcs)) _ (are_arcs-decides arcs)
 
 -- if the test succeeds, the arcs are an identifier's
 pub is_identifier-true : (arcs : List ℕ) → is_identifier arcs ≡ true
     → IsIdentifier arcs (content_of arcs)
 is_identifier-true arcs e =
-    let h = (is_identifier-decides arcs).0 e in
-    record { allowed = arcs_tested arcs h.0; encoded = refl; short = h.1 }
+    let (allowed, short) = and_parts (are_arcs arcs) _ e in
+    record { allowed = allowed; encoded = refl; short = leb-true _ _ short }
 
 -- the test succeeds for the arcs of an identifier
 pub is_identifier-valid : (arcs content : List ℕ) → IsIdentifier arcs content
     → is_identifier arcs ≡ true
 is_identifier-valid arcs content h =
-    (is_identifier-decides arcs).1 (arcs_allowed arcs h.allowed, rw (← h.encoded) h.short)
-
-chosen : (b : Bool) (v c : List ℕ) → (if b then Some v else None) ≡ Some c → (b ≡ true) × (v ≡ c)
-chosen true v c e = (refl, cc)
-chosen false v c e = absurd (cc e)
+    rw (h.allowed, le-leb (length (content_of arcs)) max_identifier_length (rw (← h.encoded) h.short)) refl
 
 -- arcs that have a content are an identifier's
 pub identifier_content-some : (arcs content : List ℕ) → identifier_content arcs ≡ Some content

@@ -1,31 +1,24 @@
 -- Which contents are identifiers', and what their arcs are.
 use Rattle.std.proofs.Common.{◌≡◌, ℕ, zero, suc, ◌+◌, ◌*◌, ◌/◌, ◌%◌, ◌^◌, ◌<◌, ◌≤◌, Bool, true, false, cond, ◌&&◌, eqb}
-use Rattle.std.proofs.Common.{◌-◌, replicate, take}
-use Rattle.std.proofs.Common.{ltb, List, [], ◌∷◌, ◌++◌, Some, length, get_or, drop, ◌↔◌, refl, sym, ap, arith}
+use Rattle.std.proofs.Common.{◌-◌, replicate, take, ltb, List, [], ◌∷◌, ◌++◌, Some, length, get_or, ◌↔◌, refl, sym, ap}
+use Rattle.std.proofs.Common.{arith, ◌==◌, ◌||◌, map, max, bit_or, ◌∙◌, IsTrue}
 use Rattle.std.proofs.lemmas.Bool.{le-leb}
 use Rattle.std.proofs.lemmas.Bool.Decides.{nat_tests}
-use Rattle.std.proofs.lemmas.List.{append_assoc, append-nil, flat_map_more, map-append, length-append, drop_more}
-use Rattle.std.proofs.lemmas.List.{take_at}
-use Rattle.std.proofs.Common.{◌||◌, map, max, bit_or, ◌∙◌, IsTrue}
+use Rattle.std.proofs.lemmas.List.{append_assoc, append-nil, flat_map_more, map-append, length-append, take_at}
 use Rattle.std.specs.Int.{bit_at}
 use Rattle.std.specs.Simd.Lanes.{mask_l}
 use Rattle.std.proofs.lemmas.Simd.{bit_mask_l}
 use Rattle.std.proofs.lemmas.Nat.Bits.{bit_at-suc, bit_at-zero, bit_at_or, bit_at_ones}
 use Rattle.std.proofs.lemmas.Nat.{div-mul-add, mod-mul-add}
-use Rattle.std.specs.Int.Digits.{digits_of}
+use Rattle.std.specs.Int.Digits.{digits_of, AllBelowBase}
 use Rattle.std.specs.List.{flat_map, AllByRecursion}
-use Rattle.sec1_der.specs.Elements.{max_length, within_limit}
-use Rattle.sec1_der.specs.Elements.{base128}
-use Rattle.sec1_der.proofs.DigitLaws.{continuing}
+use Rattle.sec1_der.specs.Elements.{max_length, within_limit, base128}
 use Rattle.sec1_der.specs.Stored.{IsStored}
 use Rattle.sec1_der.specs.declared.object_identifier.ObjectIdentifier.TheInside.{Inside}
-use Rattle.sec1_der.specs.Identifiers.{numbers_after, arcs_of_numbers, arcs_of}
-use Rattle.sec1_der.specs.Identifiers.{SubidentifiersFit}
-use Rattle.sec1_der.specs.Identifiers.{are_arcs, content_of, IsIdentifier, identifier_content}
-use Rattle.sec1_der.proofs.IdentifierLaws.{AreArcs, EncodesArcs, arcs_allowed, arcs_tested, encodes_of}
-use Rattle.sec1_der.proofs.IdentifierLaws.{identifier_content-valid}
-use Rattle.sec1_der.specs.Identifiers.{max_identifier_length}
-use Rattle.sec1_der.proofs.DigitLaws.{IsBytes, digits_of-push, marked_step}
+use Rattle.sec1_der.specs.Identifiers.{are_subidentifiers, numbers_after, arcs_of_numbers, arcs_of, SubidentifiersFit}
+use Rattle.sec1_der.specs.Identifiers.{are_arcs, content_of, IsIdentifier, identifier_content, max_identifier_length}
+use Rattle.sec1_der.proofs.IdentifierLaws.{AreArcs, arcs_allowed, arcs_tested, identifier_content-valid}
+use Rattle.sec1_der.proofs.DigitLaws.{IsBytes, IsBytes-below, continuing, digits_of-push, marked_step}
 
 -- the bytes continue an encoding whose digits so far are those of high, and end one
 abbrev pub continues : ℕ → List ℕ → Bool
@@ -55,103 +48,101 @@ pub small_push : (ns : List ℕ) (n : ℕ) → AreSmall ns → n < 2 ^ 32 → Ar
 small_push [] n s h = (h, tt)
 small_push (m ∷ ns) n s h = (s.0, small_push ns n s.1 h)
 
--- ---- what continues is encoded so
+-- ---- what is a row of subidentifiers is encoded so
 
--- after the digits so far the bytes encode these numbers
-record IsEncoded (high : ℕ) (bs ns : List ℕ) : Type 0 where
-  pub split : continuing (digits_of 128 high) ++ bs ≡ flat_map base128 ns
-  pub small : AreSmall ns
-
--- bytes that pass the test encode the numbers that are read of them
-encoded_after : (high : ℕ) (bs : List ℕ) → IsBytes bs → continues high bs ≡ true
-    → IsEncoded high bs (numbers_after high bs)
-encoded_after high [] h e = grind (arith, nat_tests)
-encoded_after high (b ∷ bs) h e =
+-- bytes that pass the test are subidentifiers of small numbers
+continues-parts : (high : ℕ) (bytes : List ℕ) → AllBelowBase 256 bytes → continues high bytes ≡ true
+    → (are_subidentifiers (high == 0) bytes ≡ true) × AreSmall (numbers_after high bytes)
+continues-parts high [] below goes = grind (arith, nat_tests)
+continues-parts high (b ∷ bytes) below goes =
     let n = high * 128 + b % 128 in
-    let tail = λ (i : ℕ). h (suc i) in
+    grind (arith, nat_tests, below.0, continues-parts 0 bytes below.1, continues-parts n bytes below.1)
+
+-- after the digits of a number, subidentifiers encode the numbers that are read of them
+pub encoded_after : (high : ℕ) (bytes : List ℕ) → AllBelowBase 256 bytes → are_subidentifiers (high == 0) bytes ≡ true
+    → continuing (digits_of 128 high) ++ bytes ≡ flat_map base128 (numbers_after high bytes)
+encoded_after high [] below passes = grind (arith, nat_tests)
+encoded_after high (b ∷ bytes) below passes =
+    let n = high * 128 + b % 128 in
     let digits = digits_of-push 128 high (b % 128) in
-    grind (
-      arith,
-      nat_tests,
-      h 0,
-      encoded_after 0 bs tail,
-      encoded_after n bs tail,
-      digits,
-      div-mul-add,
-      mod-mul-add,
-      map-append,
-      append_assoc,
-    )
+    let ends = encoded_after 0 bytes below.1 in
+    let goes_on = encoded_after n bytes below.1 in
+    grind (arith, nat_tests, ends, goes_on, digits, div-mul-add, mod-mul-add, map-append, append_assoc)
 
 -- ---- widths
 
 -- no bytes continue a number of too many digits
-too_long : (high : ℕ) (bs : List ℕ) → 2 ^ 25 ≤ high → continues high bs ≡ false
+too_long : (high : ℕ) (bytes : List ℕ) → 2 ^ 25 ≤ high → continues high bytes ≡ false
 too_long high [] l = grind (arith, nat_tests)
-too_long high (b ∷ bs) l = grind (arith, nat_tests)
+too_long high (b ∷ bytes) l = grind (arith, nat_tests)
 
 -- the width of the digits says as much as their number
-continues-width : (high : ℕ) (bs : List ℕ) → IsBytes bs → high < 2 ^ 25
-    → continues high bs ≡ is_narrow (width_of high) bs
-continues-width high [] h l = grind (arith, nat_tests)
-continues-width high (b ∷ bs) h l =
+continues-width : (high : ℕ) (bytes : List ℕ) → AllBelowBase 256 bytes → high < 2 ^ 25
+    → continues high bytes ≡ is_narrow (width_of high) bytes
+continues-width high [] below l = grind (arith, nat_tests)
+continues-width high (b ∷ bytes) below l =
     let n = high * 128 + b % 128 in
-    let tail = λ (i : ℕ). h (suc i) in
-    grind (arith, nat_tests, h 0, continues-width 0 bs tail, continues-width n bs tail, too_long n bs)
+    grind (arith, nat_tests, continues-width 0 bytes below.1, continues-width n bytes below.1, too_long n bytes)
 
--- ---- what is encoded continues
+-- ---- what is encoded is a row of subidentifiers
 
 -- what the function that writes the digits takes
 pub ruleset marked_steps = (marked_step, append_assoc, length-append)
 
 -- all digits but the last are read
-read_continuing : (most n : ℕ) (rest : List ℕ) → n ≤ most → n < 2 ^ 32
-    → let bytes = continuing (digits_of 128 n) ++ rest in
-    (numbers_after 0 bytes ≡ numbers_after n rest) × (continues 0 bytes ≡ continues n rest)
-read_continuing most zero rest l small = (refl, refl)
-read_continuing zero (suc n) rest l small = absurd (omega arith)
-read_continuing (suc most) (suc n) rest l small =
-    rw (marked_step (suc n) (omega arith), append_assoc)
-    (grind (arith, nat_tests, read_continuing most (suc n / 128) ((128 + suc n % 128) ∷ rest)))
+read_continuing : (most n : ℕ) (rest : List ℕ) → n ≤ most → let bytes = continuing (digits_of 128 n) ++ rest in
+    (numbers_after 0 bytes ≡ numbers_after n rest)
+    × (are_subidentifiers true bytes ≡ are_subidentifiers (n == 0) rest)
+    × (n < 2 ^ 32 → continues 0 bytes ≡ continues n rest)
+read_continuing most zero rest l = (refl, refl, λ small. refl)
+read_continuing zero (suc n) rest l = absurd (omega arith)
+read_continuing (suc most) (suc n) rest l =
+    let before = read_continuing most (suc n / 128) ((128 + suc n % 128) ∷ rest) in
+    rw (marked_step (suc n) (omega arith), append_assoc) (grind (arith, nat_tests, before))
 
 -- the numbers that are encoded are read
-read_all : (ns : List ℕ) → AreSmall ns → (numbers_after 0 (flat_map base128 ns) ≡ ns)
-    × (continues 0 (flat_map base128 ns) ≡ true)
-read_all [] small = (refl, refl)
-read_all (n ∷ ns) small =
+pub read_all : (ns : List ℕ) → (numbers_after 0 (flat_map base128 ns) ≡ ns)
+    × (are_subidentifiers true (flat_map base128 ns) ≡ true)
+    × (AreSmall ns → continues 0 (flat_map base128 ns) ≡ true)
+read_all [] = (refl, refl, λ small. refl)
+read_all (n ∷ ns) =
     let rest = flat_map base128 ns in
-    rw append_assoc
-    (grind (arith, nat_tests, read_continuing (n / 128) (n / 128) (n % 128 ∷ rest), read_all ns small.1))
+    rw append_assoc (grind (arith, nat_tests, read_continuing (n / 128) (n / 128) (n % 128 ∷ rest), read_all ns))
 
 -- ---- contents
 
 -- a content of arcs continues to its end, and the arcs are its own
-pub continues_from_arcs : (arcs content : List ℕ) → EncodesArcs arcs content
+pub continues_from_arcs : (arcs content : List ℕ) → IsTrue (are_arcs arcs) → content ≡ content_of arcs
     → (continues 0 content ≡ true) × (arcs_of content ≡ arcs)
-continues_from_arcs [] content s = absurd s.allowed
-continues_from_arcs (a ∷ []) content s = absurd s.allowed
-continues_from_arcs (a ∷ b ∷ cs) content s =
-    rw s.encoded (grind (arith, nat_tests, read_all ((40 * a + b) ∷ cs) (s.allowed.2, s.allowed.3)))
+continues_from_arcs [] content are encoded = absurd (cc are)
+continues_from_arcs (a ∷ []) content are encoded = absurd (cc are)
+continues_from_arcs (a ∷ b ∷ cs) content are encoded =
+    let allowed = arcs_allowed (a ∷ b ∷ cs) are in
+    let read = read_all ((40 * a + b) ∷ cs) in
+    let goes = read.2 (allowed.2, allowed.3) in
+    rw encoded (grind (arith, nat_tests, read.0, goes))
 
 -- numbers that are encoded are those of arcs
-encodes_arcs : (content ns : List ℕ) → 0 < length content → IsEncoded 0 content ns
-    → EncodesArcs (arcs_of_numbers ns) content
-encodes_arcs content [] some s = absurd (omega (arith, ap length s.split))
-encodes_arcs content (n ∷ ns) some s = grind (arith, nat_tests)
+encodes_arcs : (content ns : List ℕ) → 0 < length content → content ≡ flat_map base128 ns → AreSmall ns
+    → AreArcs (arcs_of_numbers ns) × (content ≡ content_of (arcs_of_numbers ns))
+encodes_arcs content [] some encoded small = absurd (omega (arith, ap length encoded))
+encodes_arcs content (n ∷ ns) some encoded small = grind (arith, nat_tests)
 
 -- the test by widths decides whether bytes encode arcs
 pub is_narrow-decides : (content : List ℕ) → IsBytes content → 0 < length content
     → (is_narrow 0 content ≡ true) ↔ ((arcs : List ℕ) × IsTrue (are_arcs arcs) × (content ≡ content_of arcs))
 is_narrow-decides content h some =
-    rw (sym (continues-width 0 content h (omega arith))) (
-      λ e. let is = encodes_arcs content (numbers_after 0 content) some (encoded_after 0 content h e) in
-          (arcs_of content, arcs_tested _ is.allowed, is.encoded),
-      λ s. (continues_from_arcs s.0 content (record { allowed = arcs_allowed s.0 s.1; encoded = s.2 })).0,
+    let below = IsBytes-below content h in
+    rw (sym (continues-width 0 content below (omega arith))) (
+      λ e. let parts = continues-parts 0 content below e in
+          let is = encodes_arcs content (numbers_after 0 content) some (encoded_after 0 content below parts.0) parts.1 in
+          (arcs_of content, arcs_tested _ is.0, is.1),
+      λ s. (continues_from_arcs s.0 content s.1 s.2).0,
     )
 
 -- the arcs that are read of an identifier's content are the identifier's
 pub read_arcs : (arcs content : List ℕ) → IsIdentifier arcs content → arcs_of content ≡ arcs
-read_arcs arcs content is = (continues_from_arcs arcs content (encodes_of arcs content is)).1
+read_arcs arcs content is = (continues_from_arcs arcs content is.allowed is.encoded).1
 
 -- an identifier's content is that of the arcs that are read of it
 pub own_arcs : (content : List ℕ) → (arcs : List ℕ) × IsIdentifier arcs content → IsIdentifier (arcs_of content) content
@@ -167,7 +158,7 @@ continues-fit high (b ∷ bs) goes = grind (arith, nat_tests, continues-fit 0 bs
 
 -- the subidentifiers in the content of an identifier fit
 pub content_fits : (arcs content : List ℕ) → IsIdentifier arcs content → SubidentifiersFit 0 content
-content_fits arcs content is = continues-fit 0 content (continues_from_arcs arcs content (encodes_of arcs content is)).0
+content_fits arcs content is = continues-fit 0 content (continues_from_arcs arcs content is.allowed is.encoded).0
 
 -- there are no more subidentifiers than bytes
 numbers_few : (high : ℕ) (bytes : List ℕ) → length (numbers_after high bytes) ≤ length bytes
@@ -179,29 +170,21 @@ first_two_arcs : (numbers : List ℕ) → length (arcs_of_numbers numbers) ≤ 1
 first_two_arcs [] = omega arith
 first_two_arcs (n ∷ ns) = grind (arith, nat_tests)
 
-arcs_some : (arcs : List ℕ) → IsTrue (are_arcs arcs) → 2 ≤ length arcs
-arcs_some [] e = absurd (cc e)
-arcs_some (a ∷ []) e = absurd (cc e)
-arcs_some (a ∷ b ∷ further) e = omega arith
+-- there are two arcs or more, each small
+pub arcs_small : (arcs : List ℕ) → AreArcs arcs → AreSmall arcs × (1 < length arcs)
+arcs_small [] h = absurd h
+arcs_small (a ∷ []) h = absurd h
+arcs_small (a ∷ b ∷ cs) h = grind (arith, h.3)
 
 -- an identifier has 2 to 40 arcs
 pub arcs_count : (arcs content : List ℕ) → IsIdentifier arcs content → (2 ≤ length arcs) × (length arcs ≤ 40)
 arcs_count arcs content is =
     let read = ap length (read_arcs arcs content is) in
     let few = first_two_arcs (numbers_after 0 content) in
-    (arcs_some arcs is.allowed, omega (arith, is.short, numbers_few 0 content, few, read))
+    ((arcs_small arcs (arcs_allowed arcs is.allowed)).1, omega (arith, is.short, numbers_few 0 content, few, read))
 
 -- the arcs that are read of a content
 pub ruleset arcs_of_content = (content_fits, read_arcs, arcs_count)
-
--- the state of the walk after one byte
-pub read_byte : (high i : ℕ) (content : List ℕ) → i < length content
-    → (continues high (drop i content) ≡ continues high (get_or content i 0 ∷ drop (i + 1) content))
-    × (numbers_after high (drop i content) ≡ numbers_after high (get_or content i 0 ∷ drop (i + 1) content))
-read_byte high i content l = rw (drop_more content i 0 l) (refl, refl)
-
--- what the loops over a content take
-pub ruleset content_steps = (nat_tests, read_byte)
 
 -- where no bytes are left, a subidentifier begins or the content was cut
 pub narrow_end : (width : ℕ) (bs : List ℕ) → length bs ≡ 0 → is_narrow width bs ≡ eqb width 0
@@ -260,7 +243,7 @@ pub content_is_stored : (arcs content : List ℕ) → IsIdentifier arcs content 
     record { bytes = content ++ replicate (max_identifier_length - length content) 0; len = length content } in
     IsStored o × (arcs_of (take o.len o.bytes) ≡ arcs)
 content_is_stored arcs content is =
-    grind (arith, continues_from_arcs arcs content (encodes_of arcs content is), take_at)
+    grind (arith, read_arcs arcs content is, take_at)
 
 -- ---- writing
 
@@ -275,37 +258,19 @@ identifier_fits arcs content is = (
 -- ---- building
 
 -- the digits of 40 a + b in base 128 are the content of the arcs a and b, and are decoded to them
-first_encoded : (a b n : ℕ) (content : List ℕ) → AreArcs (a ∷ b ∷ []) → n ≡ 40 * a + b → content ≡ base128 n
-    → EncodesArcs (arcs_of content) content × (arcs_of content ≡ a ∷ b ∷ [])
-first_encoded a b n content allowed shared is = grind (arith, continues_from_arcs (a ∷ b ∷ []) content, append-nil)
-
 pub first_two : (a b n : ℕ) (content : List ℕ) → IsTrue (are_arcs (a ∷ b ∷ [])) → n ≡ 40 * a + b → content ≡ base128 n
     → IsTrue (are_arcs (arcs_of content)) × (content ≡ content_of (arcs_of content)) × (arcs_of content ≡ a ∷ b ∷ [])
-first_two a b n content allowed shared is =
-    let all = first_encoded a b n content (arcs_allowed (a ∷ b ∷ []) allowed) shared is in
-    (arcs_tested _ all.0.allowed, all.0.encoded, all.1)
+first_two a b n content are shared is =
+    grind (arith, continues_from_arcs (a ∷ b ∷ []) content are, append-nil)
 
 -- the same of a content with one more arc after it
-one_more_encoded : (arcs content : List ℕ) (n : ℕ) (more : List ℕ) → EncodesArcs arcs content → n < 2 ^ 32
-    → more ≡ content ++ base128 n
-    → EncodesArcs (arcs_of more) more × (arcs_of more ≡ arcs ++ n ∷ [])
-one_more_encoded [] content n more s small is = absurd s.allowed
-one_more_encoded (a ∷ []) content n more s small is = absurd s.allowed
-one_more_encoded (a ∷ b ∷ cs) content n more s small is =
-    grind (
-      arith,
-      continues_from_arcs (a ∷ b ∷ (cs ++ n ∷ [])) more,
-      small_push cs n s.allowed.3 small,
-      flat_map_more base128 (base128 (40 * a + b)) cs n,
-    )
-
 pub one_more_arc : (arcs content : List ℕ) (n : ℕ) (more : List ℕ) → IsTrue (are_arcs arcs)
     → content ≡ content_of arcs → n < 2 ^ 32 → more ≡ content ++ base128 n
     → IsTrue (are_arcs (arcs_of more)) × (more ≡ content_of (arcs_of more)) × (arcs_of more ≡ arcs ++ n ∷ [])
-one_more_arc arcs content n more allowed encoded small is =
-    let whole : EncodesArcs arcs content = record { allowed = arcs_allowed arcs allowed; encoded = encoded } in
-    let all = one_more_encoded arcs content n more whole small is in
-    (arcs_tested _ all.0.allowed, all.0.encoded, all.1)
-
--- by these, the test of contents is exact
-pub ruleset content_tests = (content_steps, continues_from_arcs)
+one_more_arc [] content n more are encoded small is = absurd (cc are)
+one_more_arc (a ∷ []) content n more are encoded small is = absurd (cc are)
+one_more_arc (a ∷ b ∷ cs) content n more are encoded small is =
+    let allowed = arcs_allowed (a ∷ b ∷ cs) are in
+    let all = arcs_tested (a ∷ b ∷ (cs ++ n ∷ [])) (allowed.0, allowed.1, allowed.2, small_push cs n allowed.3 small) in
+    let further = flat_map_more base128 (base128 (40 * a + b)) cs n in
+    grind (arith, continues_from_arcs (a ∷ b ∷ (cs ++ n ∷ [])) more all, further)

@@ -1,6 +1,5 @@
 -- The bytes of one part after another. Further crates cite this law.
-use Rattle.std.proofs.Common.{◌≡◌, ℕ, ◌+◌, List, length, ◌++◌, Option, Some, None, refl, ap, ◌∙◌}
-use Rattle.std.proofs.Common.{length-append}
+use Rattle.std.proofs.Common.{◌≡◌, ℕ, ◌+◌, List, length, ◌++◌, Option, Some, None, refl, ap, ◌∙◌, length-append}
 use Rattle.sec1_der.specs.Parts.{join}
 
 -- the bytes of both, one after the other
@@ -25,6 +24,5 @@ parted (Some xs) (Some ys) bytes e =
       first_there = refl;
       second_there = refl;
       joined = joined;
-      total =
-          ap length joined ∙ length-append xs ys;
+      total = ap length joined ∙ length-append xs ys;
     }

@@ -1,6 +1,6 @@
 -- A length is read back from its encoding, so that no encoding of a length is a prefix of another.
-use Rattle.std.proofs.Common.{⊎_elim, ◌≡◌, ℕ, ◌+◌, ◌<◌, ◌≤◌, List, [], ◌∷◌, ◌++◌, length, take, ◌-◌}
-use Rattle.std.proofs.Common.{refl, ap, sym, ◌∙◌, arith, le-ltb, lt-ltb, take_at}
+use Rattle.std.proofs.Common.{⊎_elim, ◌≡◌, ℕ, ◌+◌, ◌<◌, ◌≤◌, List, [], ◌∷◌, ◌++◌, length, take, ◌-◌, refl, ap, sym, ◌∙◌}
+use Rattle.std.proofs.Common.{arith, le-ltb, lt-ltb, take_at}
 use Rattle.std.proofs.lemmas.Int.Digits.{number_digits_of}
 use Rattle.std.proofs.lemmas.Bool.{cases_lt}
 use Rattle.std.proofs.lemmas.List.{append_cancel_left}

@@ -1,9 +1,8 @@
 -- Reading one element from a stream: what was taken, step by step, and what a refusal says of all the bytes that were
 -- left.
 use Rattle.std.proofs.Common.{◌≡◌, ℕ, ◌+◌, ◌<◌, ◌≤◌, List, [], ◌∷◌, ◌++◌, length, take, drop, get_or, Option, ◌⊎◌, inl}
-use Rattle.std.proofs.Common.{inr, ⊎_elim, arith, refl, subst, sym, ap, ◌∙◌}
-use Rattle.std.proofs.Common.{append-nil, append_assoc, length-append, tests, length-take-le, Some, None, IfSome}
-use Rattle.std.proofs.Common.{Result, Ok, Err, IfOk, IfErr, MatchResult}
+use Rattle.std.proofs.Common.{inr, ⊎_elim, arith, refl, subst, sym, ap, ◌∙◌, append-nil, append_assoc, length-append}
+use Rattle.std.proofs.Common.{tests, length-take-le, Some, None, IfSome, Result, Ok, Err, IfOk, IfErr, MatchResult}
 use Rattle.std.proofs.Math.Seq.{take-append-add}
 use Rattle.std.proofs.lemmas.Grind.{common_steps}
 use Rattle.std.proofs.lemmas.Bool.{cases_Bool, cases_lt}
@@ -13,11 +12,9 @@ use borrow.Rule.Slice.PartMut.{put_mid}
 use Rattle.sec1_der.specs.declared.error.Error.{Error}
 use Rattle.sec1_der.specs.declared.error.ErrorKind.{ErrorKind}
 use Rattle.sec1_der.specs.declared.error.ErrorKind.TheVariants.{Truncated, TrailingData, Io, Memory, Tag, Length}
-use Rattle.sec1_der.specs.Elements.{IsElement, IsHeader, header}
+use Rattle.sec1_der.specs.Elements.{IsElement, IsHeader, header, is_tag}
 use Rattle.sec1_der.specs.Errors.{header_fault, length_fault}
-use Rattle.sec1_der.specs.Elements.{is_tag}
-use Rattle.sec1_der.specs.Streams.{TakenBeforeRefusal, RefusesElement}
-use Rattle.sec1_der.specs.Streams.{ReadsOnto, Takes, Ends}
+use Rattle.sec1_der.specs.Streams.{TakenBeforeRefusal, RefusesElement, ReadsOnto, Takes, Ends}
 use Rattle.sec1_der.specs.Faults.{no_fault, end_fault, document_fault}
 use Rattle.sec1_der.proofs.HeaderLemmas.{LacksHeader, longer, header_front, header_fault_kinds}
 use Rattle.sec1_der.proofs.ElementFaultLemmas.{document_element, any_without_header, any_short}
@@ -40,10 +37,6 @@ reads_part left taken old mid new start k slice part n inside few first next =
     rw (take_part start k slice part n inside few)
     (takes_more left taken old mid new (take start slice) (take n part) first next)
 
--- what was read into a buffer of one byte is this byte
-pub take_byte : (buf : List ℕ) (n : ℕ) → length buf ≡ 1 → n ≤ length buf → 0 < n → take n buf ≡ get_or buf 0 0 ∷ []
-take_byte buf n one most some = grind (arith, common_steps, take_more)
-
 -- what was read onto bytes, and then more, was read onto them together
 pub reads_more : {S : Type 0} (left taken : S → Option (List ℕ)) (old mid new : S) (start middle end : List ℕ)
     (n m sum : ℕ) → ReadsOnto (Takes left taken old mid) start middle n → n + m ≡ sum
@@ -53,8 +46,7 @@ reads_more left taken old mid new start middle end n m sum read is more =
     record {
       bytes = _;
       taken = takes_more left taken old mid new read.bytes more.bytes read.taken more.taken;
-      appended =
-          rw (more.appended, read.appended) (append_assoc start _ _);
+      appended = rw (more.appended, read.appended) (append_assoc start _ _);
       count = omega arith;
     }
 
@@ -65,10 +57,11 @@ pub record IsCutHeader (bytes : List ℕ) : Type 0 where
   pub fault_is : header_fault bytes ≡ Truncated
   pub none : LacksHeader bytes
 
--- such bytes are truncated
-cut_fault : (bytes : List ℕ) → IsCutHeader bytes → document_fault bytes ≡ Some (Some Truncated)
-cut_fault bytes cut =
-    any_without_header (λ _. no_fault) end_fault bytes cut.none ∙ ap (λ kind. Some (Some kind)) cut.fault_is
+-- bytes that begin with no header are refused by its fault
+pub header_refused : (kind : ErrorKind) (bytes : List ℕ) → LacksHeader bytes → header_fault bytes ≡ kind
+    → document_fault bytes ≡ Some (Some kind)
+header_refused kind bytes none is =
+    any_without_header (λ _. no_fault) end_fault bytes none ∙ ap (λ k. Some (Some k)) is
 
 -- bytes that have one more than an incomplete header
 pub record IsLonger (bytes : List ℕ) : Type 0 where
@@ -86,8 +79,8 @@ pub one_more : (start k : ℕ) (slice part : List ℕ) → start ≤ length slic
     → LacksHeader (take start slice)
     → length part ≡ 1 → IsReachable (take (start + 1) (put_mid start k slice part))
 one_more start k slice part inside short none size =
-    let byte = ap (λ xs. take start slice ++ xs) (take_byte part 1 size (omega arith) (omega arith)) in
-    let joined = take_part start k slice part 1 inside (omega arith) ∙ byte in
+    let joined : take (start + 1) (put_mid start k slice part) ≡ take start slice ++ get_or part 0 0 ∷ [] =
+    grind (arith, common_steps, take_part start k slice part 1 inside, take_more) in
     inr (record { before = _; last = _; joined = joined; cut = record { fault_is = short; none = none } })
 
 -- a header that came with its last byte is all that was read
@@ -113,60 +106,17 @@ tag_alone (byte ∷ []) last cut bad = grind (arith, tests)
 tag_alone (byte ∷ first ∷ digits) last cut bad = grind (arith, tests)
 
 -- a byte that begins no header, or continues none, is refused as soon as it was taken
-taken_here : (kind : ErrorKind) (bytes : List ℕ) → IsReachable bytes → LacksHeader bytes → header_fault bytes ≡ kind
+pub taken_here : (kind : ErrorKind) (bytes : List ℕ) → IsReachable bytes → LacksHeader bytes → header_fault bytes ≡ kind
     → (kind ≡ Truncated → ⊥) → TakenBeforeRefusal kind bytes
 taken_here kind bytes (inl empty) none is other = absurd (other (sym is ∙ ap header_fault empty))
 taken_here Truncated bytes (inr one) none is other = absurd (other refl)
-taken_here Tag bytes (inr one) none is other = (
-  one.before,
-  one.last,
-  one.joined,
-  tag_alone one.before one.last one.cut.fault_is (rw one.joined at is),
-  any_without_header (λ _. no_fault) end_fault bytes none ∙ ap (λ k. Some (Some k)) is,
-)
-taken_here Length bytes (inr one) none is other = (
-  one.before,
-  one.last,
-  one.joined,
-  cut_fault one.before one.cut,
-  any_without_header (λ _. no_fault) end_fault bytes none ∙ ap (λ k. Some (Some k)) is,
-)
+taken_here Tag bytes (inr one) none is other =
+    let alone = tag_alone one.before one.last one.cut.fault_is (rw one.joined at is) in
+    (one.before, one.last, one.joined, alone, header_refused Tag bytes none is)
+taken_here Length bytes (inr one) none is other =
+    let cut = header_refused Truncated one.before one.cut.none one.cut.fault_is in
+    (one.before, one.last, one.joined, cut, header_refused Length bytes none is)
 taken_here kind bytes (inr one) none is other = absurd (rw is at (header_fault_kinds bytes))
-
--- so is the element
-pub refused_here : (kind : ErrorKind) (Taken : List ℕ → Type 0) (Ended : Type 0) (bytes : List ℕ)
-    → IsReachable bytes → LacksHeader bytes → header_fault bytes ≡ kind → (kind ≡ Truncated → ⊥) → Taken bytes
-    → RefusesElement kind Taken Ended
-refused_here kind Taken Ended bytes reached none is other taken = record {
-  bytes = bytes;
-  taken = taken;
-  by_kind = taken_here kind bytes reached none is other;
-  at_end = λ e. absurd (other e);
-}
-
--- a read that failed after an incomplete header refuses the element as Io
-pub refused_read : {S : Type 0} (left taken : S → Option (List ℕ)) (Ended : Type 0) (old mid new : S) (bytes : List ℕ)
-    → IsCutHeader bytes → Takes left taken old mid bytes → Keeps (left mid) (left new) → Keeps (taken mid) (taken new)
-    → RefusesElement Io (Takes left taken old new) Ended
-refused_read left taken Ended old mid new bytes cut first left_kept taken_kept = record {
-  bytes = bytes;
-  taken = takes_kept left taken old mid new bytes first left_kept taken_kept;
-  by_kind = inl (cut_fault bytes cut);
-  at_end = λ e. absurd (cc e);
-}
-
--- where the input ends in a header, an element is refused as Truncated
-pub refused_header : {S : Type 0} (left taken : S → Option (List ℕ)) (Ended : Type 0) (old mid new : S)
-    (bytes buf : List ℕ) (n : ℕ) → IsCutHeader bytes → Takes left taken old mid bytes
-    → Takes left taken mid new (take n buf) → n ≡ 0 → Ended → RefusesElement Truncated (Takes left taken old new) Ended
-refused_header left taken Ended old mid new bytes buf n cut first next none end =
-    let both = takes_more left taken old mid new bytes (take n buf) first next in
-    record {
-      bytes = bytes;
-      taken = rw (none, append-nil bytes) at both;
-      by_kind = cut_fault bytes cut;
-      at_end = λ _. end;
-    }
 
 -- an incomplete header has at most five bytes
 digits_are_few : (first : ℕ) (digits : List ℕ) → length_fault (first ∷ digits) ≡ Truncated → length digits ≤ 3
@@ -193,16 +143,6 @@ fewer_in_all left taken old mid new start middle n missing announced read sum fe
     (_, both, few)
 
 -- ---- the element
-
--- a header and a part of the content that it announces are a cut content
-cut_content : (tag n : ℕ) (content : List ℕ) → IsHeader tag n → length content < n
-    → (t : ℕ) × (m : ℕ) × (xs : List ℕ) × IsHeader t m × (length xs < m) × (header tag n ++ content ≡ header t m ++ xs)
-cut_content tag n content is few = (tag, n, content, is, few, refl)
-
--- such bytes are truncated
-content_fault : (tag n : ℕ) (content : List ℕ) → IsHeader tag n → length content < n
-    → document_fault (header tag n ++ content) ≡ Some (Some Truncated)
-content_fault tag n content is few = any_short (λ _. no_fault) end_fault tag n _ content is refl few
 
 -- a header and the content that it announces are an element
 whole_element : (tag n : ℕ) (content : List ℕ) → IsHeader tag n → length content ≡ n
@@ -235,22 +175,24 @@ pub refused_content : (kind : ErrorKind) {S : Type 0} (left taken : S → Option
     (old mid new : S) (tag n : ℕ) → IsHeader tag n → Takes left taken old mid (header tag n)
     → TakesFewer (Takes left taken mid new) n → ((kind ≡ Io) ⊎ (kind ≡ Memory)) ⊎ ((kind ≡ Truncated) × Ended)
     → RefusesElement kind (Takes left taken old new) Ended
-refused_content kind left taken Ended old mid new tag n is first fewer (inl (inl io)) =
-    refused_after kind left taken Ended old mid new tag n fewer.0 first fewer.1
-    (rw io (inl (content_fault tag n fewer.0 is fewer.2))) (λ e. absurd (cc (io, e)))
-refused_content kind left taken Ended old mid new tag n is first fewer (inl (inr memory)) =
-    refused_after kind left taken Ended old mid new tag n fewer.0 first fewer.1
-    (rw memory (inl (cut_content tag n fewer.0 is fewer.2))) (λ e. absurd (cc (memory, e)))
-refused_content kind left taken Ended old mid new tag n is first fewer (inr cut) =
-    refused_after kind left taken Ended old mid new tag n fewer.0 first fewer.1
-    (rw cut.0 (content_fault tag n fewer.0 is fewer.2)) (λ _. cut.1)
+refused_content kind left taken Ended old mid new tag n is first (content, more, few) why =
+    refused_after kind left taken Ended old mid new tag n content first more (by why).0 (by why).1
+  where
+    cut : document_fault (header tag n ++ content) ≡ Some (Some Truncated)
+    cut = any_short (λ _. no_fault) end_fault tag n _ content is refl few
+
+    by : ((kind ≡ Io) ⊎ (kind ≡ Memory)) ⊎ ((kind ≡ Truncated) × Ended)
+        → TakenBeforeRefusal kind (header tag n ++ content) × (kind ≡ Truncated → Ended)
+    by (inl (inl io)) = (rw io (inl cut), λ e. absurd (cc (io, e)))
+    by (inl (inr memory)) = (rw memory (inl (tag, n, content, is, few, refl)), λ e. absurd (cc (memory, e)))
+    by (inr (short, ended)) = (rw short cut, λ _. ended)
 
 -- where the memory for a content is refused, so is the element
 pub refused_growth : {S : Type 0} (left taken : S → Option (List ℕ)) (Ended : Type 0) (old new : S) (tag n : ℕ)
     → IsHeader tag n → Takes left taken old new (header tag n) → RefusesElement Memory (Takes left taken old new) Ended
 refused_growth left taken Ended old new tag n is first =
     refused_after Memory left taken Ended old new new tag n [] first (takes_nothing left taken new)
-    (⊎_elim (λ some. inl (cut_content tag n [] is some))
+    (⊎_elim (λ some. inl (tag, n, [], is, some, refl))
     (λ (none : n ≤ 0). inr (whole_element tag n [] is (omega arith)))
     (cases_lt 0 n)) (λ e. absurd (cc e))
 
@@ -314,12 +256,12 @@ fault_stays : (kind : ErrorKind) (bytes more : List ℕ) → document_fault byte
     → (kind ≡ Truncated → ⊥) → (kind ≡ TrailingData → ⊥) → document_fault (bytes ++ more) ≡ Some (Some kind)
 fault_stays kind bytes more fault first second =
     let none = no_header kind bytes fault first second in
-    let is : header_fault bytes ≡ kind = cc (fault, any_without_header (λ _. no_fault) end_fault bytes none) in
-    any_without_header (λ _. no_fault) end_fault (bytes ++ more) (λ tag n rest h e. ⊎_elim
+    let is : header_fault bytes ≡ kind = cc (fault, header_refused (header_fault bytes) bytes none refl) in
+    header_refused kind (bytes ++ more) (λ tag n rest h e. ⊎_elim
     (λ longer. none tag n longer.after h longer.front)
     (λ cut. first (sym is ∙ cut))
     (header_front tag n bytes more rest h e))
-    ∙ ap (λ k. Some (Some k)) (header_stays kind bytes more is first)
+    (header_stays kind bytes more is first)
 
 -- the kind by which all the bytes are refused is a function of what was read
 taken_fault : (kind : ErrorKind) (bytes more : List ℕ) → (kind ≡ Truncated → more ≡ []) → TakenBeforeRefusal kind bytes
@@ -336,46 +278,20 @@ taken_fault TrailingData bytes more end longer = inr (
 taken_fault kind bytes more end taken = absurd taken
 
 -- an element that was all that was left isn't refused
-read_known : (old new : Option (List ℕ)) (bytes : List ℕ) → IsElement bytes → Consumes old new bytes → IsAtEnd new
+read_fault : (old new : Option (List ℕ)) (bytes : List ℕ) → IsElement bytes → Consumes old new bytes → IsAtEnd new
     → IfSome old (λ all. document_fault all ≡ None)
-read_known None new bytes is consumed end = tt
-read_known (Some all) None bytes is consumed end = absurd consumed
-read_known (Some all) (Some left) bytes is consumed end =
+read_fault None new bytes is consumed end = tt
+read_fault (Some all) None bytes is consumed end = absurd consumed
+read_fault (Some all) (Some left) bytes is consumed end =
     rw (consumed, end, append-nil bytes) (document_element bytes is)
 
--- a kind that says something of the bytes is the fault of them all, and then P holds of them
-refused_fault : (kind : ErrorKind) (P : List ℕ → Type 0) (old new : Option (List ℕ)) (bytes : List ℕ)
-    → Consumes old new bytes → TakenBeforeRefusal kind bytes → (kind ≡ Truncated → IsAtEnd new)
-    → ((all : List ℕ) → document_fault all ≡ Some (Some kind) → P all)
-    → ((kind ≡ Io) ⊎ (kind ≡ Memory)) ⊎ IfSome old P
-refused_fault kind P None new bytes consumed by_kind end from = inr tt
-refused_fault kind P (Some all) None bytes consumed by_kind end from = absurd consumed
-refused_fault kind P (Some all) (Some left) bytes consumed by_kind end from =
-    rw consumed (⊎_elim (λ other. inl other) (λ fault. inr (from (bytes ++ left) fault))
-    (taken_fault kind bytes left end by_kind))
-
--- what is read isn't refused
-pub read_fault : {S : Type 0} (left taken : S → Option (List ℕ)) (ended : S → Type 0) (old new : S) (bytes : List ℕ)
-    → IsElement bytes × Takes left taken old new bytes × Ends left ended new
-    → IfSome (left old) (λ all. document_fault all ≡ None)
-read_fault left taken ended old new bytes r =
-    read_known (left old) (left new) bytes r.0 r.1.consumed r.2.none_left
-
 -- a kind that says something of the bytes is the fault of them all
-pub refused_kind : (kind : ErrorKind) {S : Type 0} (left taken : S → Option (List ℕ)) (ended : S → Type 0) (old new : S)
-    → RefusesElement kind (Takes left taken old new) (Ends left ended new)
-    → ((kind ≡ Io) ⊎ (kind ≡ Memory)) ⊎ IfSome (left old) (λ all. document_fault all ≡ Some (Some kind))
-refused_kind kind left taken ended old new r =
-    refused_fault kind _ (left old) (left new) r.bytes r.taken.consumed r.by_kind (λ e. (r.at_end e).none_left)
-    (λ all fault. fault)
-
--- bytes that are refused by such a kind are no element
-pub refused_none : (kind : ErrorKind) {S : Type 0} (left taken : S → Option (List ℕ)) (ended : S → Type 0) (old new : S)
-    → RefusesElement kind (Takes left taken old new) (Ends left ended new)
-    → ((kind ≡ Io) ⊎ (kind ≡ Memory)) ⊎ IfSome (left old) (λ all. ¬ (IsElement all))
-refused_none kind left taken ended old new r =
-    refused_fault kind _ (left old) (left new) r.bytes r.taken.consumed r.by_kind (λ e. (r.at_end e).none_left)
-    (λ all fault is. cc (document_element all is, fault))
+refused_fault : (kind : ErrorKind) (old new : Option (List ℕ)) (bytes : List ℕ)
+    → Consumes old new bytes → TakenBeforeRefusal kind bytes → (kind ≡ Truncated → IsAtEnd new)
+    → ((kind ≡ Io) ⊎ (kind ≡ Memory)) ⊎ IfSome old (λ all. document_fault all ≡ Some (Some kind))
+refused_fault kind None new bytes consumed by_kind end = inr tt
+refused_fault kind (Some all) None bytes consumed by_kind end = absurd consumed
+refused_fault kind (Some all) (Some left) bytes consumed by_kind end = rw consumed (taken_fault kind bytes left end by_kind)
 
 -- the kind of a refusal is a function of all that was left
 pub document_kind : {S : Type 0} (left taken : S → Option (List ℕ)) (ended : S → Type 0) (old new : S)
@@ -385,9 +301,18 @@ pub document_kind : {S : Type 0} (left taken : S → Option (List ℕ)) (ended :
     → MatchResult result (λ _. IfSome (left old) (λ all. document_fault all ≡ None))
     (λ error. ((error.kind ≡ Io) ⊎ (error.kind ≡ Memory))
     ⊎ IfSome (left old) (λ all. document_fault all ≡ Some (Some error.kind)))
-document_kind left taken ended old new (Ok bytes) found refused = read_fault left taken ended old new bytes found
-document_kind left taken ended old new (Err error) found refused =
-    refused_kind error.kind left taken ended old new refused
+document_kind left taken ended old new (Ok bytes) found refused =
+    read_fault (left old) (left new) bytes found.0 found.1.consumed found.2.none_left
+document_kind left taken ended old new (Err error) found r =
+    refused_fault error.kind (left old) (left new) r.bytes r.taken.consumed r.by_kind (λ e. (r.at_end e).none_left)
 
--- by these, an element from a stream is refused by the kind that its bytes have
-pub ruleset element_faults = (document_kind, refused_none)
+-- bytes that are refused by such a kind are no element
+pub document_none : (left : Option (List ℕ)) (result : Result (List ℕ) Error)
+    → MatchResult result (λ _. IfSome left (λ all. document_fault all ≡ None))
+    (λ error. ((error.kind ≡ Io) ⊎ (error.kind ≡ Memory))
+    ⊎ IfSome left (λ all. document_fault all ≡ Some (Some error.kind)))
+    → IfErr result (λ error. ((error.kind ≡ Io) ⊎ (error.kind ≡ Memory)) ⊎ IfSome left (λ all. ¬ (IsElement all)))
+document_none left (Ok bytes) kind = tt
+document_none left (Err error) (inl other) = inl other
+document_none None (Err error) (inr fault) = inr tt
+document_none (Some all) (Err error) (inr fault) = inr (λ is. cc (document_element all is, fault))

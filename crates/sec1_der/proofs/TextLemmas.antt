@@ -1,5 +1,5 @@
 -- The dotted text of an identifier.
-use Rattle.std.proofs.Common.{◌≡◌, ℕ, ◌+◌, ◌*◌, ◌/◌, ◌%◌, ◌^◌, ◌<◌, ◌≤◌, List, [], ◌∷◌, ◌++◌, length, ap, sym, arith}
+use Rattle.std.proofs.Common.{◌≡◌, ℕ, ◌+◌, ◌*◌, ◌/◌, ◌^◌, ◌<◌, ◌≤◌, List, [], ◌∷◌, ◌++◌, length, ap, sym, arith}
 use Rattle.std.proofs.Common.{length-append, append_assoc}
 use Rattle.std.proofs.lemmas.Fmt.{length-decimal-le}
 use Rattle.std.proofs.lemmas.Int.Digits.{number_digits_of, all_below_base_digits_of}
@@ -7,11 +7,10 @@ use Rattle.std.proofs.lemmas.List.{append-nil, length-map}
 use Rattle.std.specs.Fmt.{decimal}
 use Rattle.std.specs.Int.Digits.{number_from_digits, AllBelowBase}
 use Rattle.std.specs.List.{AllByRecursion, flat_map}
-use Rattle.sec1_der.specs.Identifiers.{IsIdentifier, dotted}
+use Rattle.sec1_der.specs.Identifiers.{IsIdentifier, dotted, further_text, max_text_length}
 use Rattle.sec1_der.proofs.IdentifierLaws.{arcs_allowed}
 use Rattle.sec1_der.specs.Elements.{base128}
 use Rattle.sec1_der.proofs.IdentifierLemmas.{content_fits, read_arcs}
-use Rattle.sec1_der.specs.Identifiers.{further_text, max_text_length}
 
 -- a dotted text is the first arc and the text of the further arcs
 pub dotted_text : (n : ℕ) (ns : List ℕ) → dotted (n ∷ ns) ≡ decimal n ++ further_text ns

@@ -1,20 +1,19 @@
 -- What the bytes of trees are refused by.
-use Rattle.std.proofs.Common.{◌≡◌, ℕ, ◌+◌, ◌<◌, ◌≤◌, max, nat_lt, if◌then◌else◌, List, [], ◌++◌, Option, Some}
-use Rattle.std.proofs.Common.{None, Result, Ok, Err, MatchResult, bit_and, refl, ap, sym, ◌∙◌, arith, ⊎_elim}
+use Rattle.std.proofs.Common.{◌≡◌, ℕ, ◌+◌, ◌<◌, ◌≤◌, max, nat_lt, if◌then◌else◌, List, [], ◌++◌, Option, Some, None}
+use Rattle.std.proofs.Common.{Result, Ok, Err, MatchResult, bit_and, refl, ap, sym, ◌∙◌, arith, ⊎_elim}
 use Rattle.std.proofs.lemmas.Bool.{lt-ltb, le-ltb, ne_eqb, cases_lt}
 use Rattle.std.proofs.lemmas.Bool.Decides.{nat_tests}
 use Rattle.std.proofs.lemmas.List.{append-nil, length-append}
 use Rattle.std.specs.Option.{option_or}
 use Rattle.sec1_der.specs.Elements.{IsProperPrefix}
-use Rattle.sec1_der.specs.Faults.{nested_fault}
-use Rattle.sec1_der.specs.Faults.{Fault, HasFault, end_fault, any_fault, tree_fault}
+use Rattle.sec1_der.specs.Faults.{Fault, HasFault, nested_fault, end_fault, any_fault, tree_fault}
 use Rattle.sec1_der.specs.Trees.{Tree, leaf, branch, Forest, none, first, bytes, joined, IsTree, AreTrees, IsTreeOf}
 use Rattle.sec1_der.specs.Trees.{size, depth, max_tree_depth}
 use Rattle.sec1_der.specs.declared.error.Error.{Error}
 use Rattle.sec1_der.specs.declared.error.ErrorKind.{ErrorKind}
 use Rattle.sec1_der.specs.declared.error.ErrorKind.TheVariants.{Truncated, Depth}
 use Rattle.sec1_der.proofs.CheckLemmas.{IsCounted}
-use Rattle.sec1_der.proofs.ElementFaultLemmas.{any_cut}
+use Rattle.sec1_der.proofs.ElementFaultLemmas.{any_cut, trailing_fault}
 use Rattle.sec1_der.proofs.FaultLaws.{any_at}
 use Rattle.sec1_der.proofs.TreeLemmas.{max_depth, some_bytes, tree_apart}
 use Rattle.sec1_der.proofs.ForestFaultLemmas.{leaf_passes, forest_at, forest_some, forest_deep, tree_next}
@@ -98,3 +97,6 @@ counted (Ok n) input t P found h is shallow =
     cc (found.3, same.0)
 counted (Err error) input t P found h is shallow =
     absurd (rw (shallow_tree t input [] is.tree shallow (is.whole ∙ sym (append-nil (bytes t)))) at h)
+
+-- the ways in which a tree is refused
+pub ruleset tree_refusals = (deep_tree, shallow_tree, cut_tree, trailing_fault)

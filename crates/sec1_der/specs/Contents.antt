@@ -1,9 +1,8 @@
 -- The contents of the primitive types.
-use Rattle.std.specs.Prelude.{◌==◌, ℕ, ◌^◌, ◌%◌, nat_le, Bool, ◌&&◌}
-use Rattle.std.specs.Prelude.{if◌then◌else◌, List, [], ◌∷◌, length, slice_index, Option, Some, None}
+use Rattle.std.specs.Prelude.{◌==◌, ℕ, ◌^◌, ◌%◌, nat_le, Bool, ◌&&◌, if◌then◌else◌, List, [], ◌∷◌}
+use Rattle.std.specs.Prelude.{length, slice_index, Option, Some, None}
 use Rattle.std.specs.Str.{bytes_eq}
-use Rattle.sec1_der.specs.Identifiers.{arcs_of}
-use Rattle.sec1_der.specs.Identifiers.{are_arcs, content_of, max_identifier_length}
+use Rattle.sec1_der.specs.Identifiers.{arcs_of, are_arcs, content_of, max_identifier_length}
 use Rattle.std.specs.Option.{option_or}
 use Rattle.sec1_der.specs.Faults.{Fault, no_fault, end_fault, element_fault}
 use Rattle.sec1_der.specs.declared.error.ErrorKind.{ErrorKind}

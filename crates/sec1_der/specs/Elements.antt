@@ -1,8 +1,8 @@
 -- X.690: an element is a tag byte, a length and a content. The digits of numbers, the most
 -- significant first.
 use Rattle.std.specs.Prelude.{ℕ, ◌+◌, ◌/◌, ◌%◌, List, [], ◌∷◌, ◌++◌, map, ◌≡◌, ◌≢◌, ◌≤◌, length}
-use Rattle.std.specs.Prelude.{nat_lt, nat_le, Option, Some, None, if◌then◌else◌, Bool, IsTrue}
-use Rattle.std.specs.Prelude.{◌&&◌, not, ◌==◌, bit_and}
+use Rattle.std.specs.Prelude.{nat_lt, nat_le, Option, Some, None, if◌then◌else◌, Bool, IsTrue, ◌&&◌}
+use Rattle.std.specs.Prelude.{not, ◌==◌, bit_and}
 use Rattle.std.specs.Int.Digits.{digits_of, number_from_digits}
 use Rattle.std.specs.Int.{IsBitSet}
 

@@ -27,12 +27,7 @@ IsReadingFault Tag = Unit {0}
 IsReadingFault Length = Unit {0}
 IsReadingFault TrailingData = Unit {0}
 IsReadingFault Value = Unit {0}
-IsReadingFault Overlength = ⊥
-IsReadingFault Buffer = ⊥
-IsReadingFault Failed = ⊥
-IsReadingFault Io = ⊥
-IsReadingFault Depth = ⊥
-IsReadingFault Memory = ⊥
+IsReadingFault _ = ⊥
 
 -- The kind, if the bytes don't begin with a length: they end inside one, where the first byte
 -- announces one to four digits and there are fewer, or encode none.

@@ -1,7 +1,7 @@
 -- Object identifiers: their arcs, the content that encodes them and the way back, and their text.
 use Rattle.std.specs.Prelude.{◌≡◌, ℕ, ◌+◌, ◌*◌, ◌^◌, ◌≤◌, Bool, IsTrue, false, ◌&&◌, ◌||◌, nat_lt}
-use Rattle.std.specs.Prelude.{nat_le, List, [], ◌∷◌, length, map, Option, Some, None}
-use Rattle.std.specs.Prelude.{if◌then◌else◌, ◌-◌, ◌%◌, ◌<◌, ⊤}
+use Rattle.std.specs.Prelude.{nat_le, List, [], ◌∷◌, length, map, Option, Some, None, if◌then◌else◌}
+use Rattle.std.specs.Prelude.{◌-◌, ◌%◌, ◌<◌, ⊤, not, ◌==◌}
 use Rattle.std.specs.List.{list_all, flat_map, join_with_byte}
 use Rattle.std.specs.Fmt.{decimal}
 use Rattle.sec1_der.specs.Elements.{base128}
@@ -41,6 +41,14 @@ abbrev pub identifier_content : List ℕ → Option (List ℕ)
 identifier_content arcs =
     if are_arcs arcs && nat_le (length (content_of arcs)) max_identifier_length
     then Some (content_of arcs) else None
+
+-- X.690 section 8.19.2: bit 8 of the last byte of a subidentifier is zero, and bit 8 of each byte
+-- before it is one; its first byte isn't 80. These bytes begin with a subidentifier, or
+-- continue one that began before them.
+abbrev pub are_subidentifiers : Bool → List ℕ → Bool
+are_subidentifiers begins [] = begins
+are_subidentifiers begins (byte ∷ bytes) =
+    not (begins && byte == 0x80) && are_subidentifiers (nat_lt byte 0x80) bytes
 
 -- X.690 section 8.19.2: the subidentifiers in these bytes; `high` is the number in the digits of
 -- the first one that were read before.

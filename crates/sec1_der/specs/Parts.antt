@@ -1,8 +1,8 @@
 -- X.690 section 8.9: the parts of a SEQUENCE, the tags that they begin with, and those that mustn't
 -- follow them.
 use Rattle.std.specs.Prelude.{◌≡◌, ◌++◌, ◌∷◌, [], ◌&&◌, ◌==◌, not, ℕ, List, Bool, true, false}
-use Rattle.std.specs.Prelude.{Option, Some, None, if◌then◌else◌, ⊤, Result}
-use Rattle.std.specs.Prelude.{IsOkAnd, IsSomeAnd, MatchResult}
+use Rattle.std.specs.Prelude.{Option, Some, None, if◌then◌else◌, ⊤, Result, IsOkAnd, IsSomeAnd}
+use Rattle.std.specs.Prelude.{MatchResult}
 use Rattle.std.specs.List.{list_all, list_any}
 use Rattle.sec1_der.specs.Elements.{element_of}
 use Rattle.sec1_der.specs.Errors.{IsReadingFault}
@@ -30,10 +30,14 @@ pub record Tags : Type 0 where
 abbrev pub one_tag : ℕ → Tags
 one_tag tag = record { first = tag ∷ []; nullable = false; follow = []; distinct = true }
 
+-- X.680 section 25.6: what follows an OPTIONAL part mustn't begin with one of its tags
+abbrev pub optional_tags : Tags → Tags
+optional_tags p =
+    record { first = p.first; nullable = true; follow = p.first ++ p.follow; distinct = p.distinct }
+
 -- one element with this tag, or nothing
 abbrev pub optional_tag : ℕ → Tags
-optional_tag tag =
-    record { first = tag ∷ []; nullable = true; follow = tag ∷ []; distinct = true }
+optional_tag tag = optional_tags (one_tag tag)
 
 -- whether a tag is one of these
 abbrev pub is_among : ℕ → List ℕ → Bool
@@ -48,6 +52,11 @@ both_tags p q = record {
   distinct = p.distinct && (q.distinct && list_all (λ tag. not (is_among tag q.first)) p.follow);
 }
 
+-- whether the bytes begin with one of these tags
+abbrev pub begins_among : List ℕ → List ℕ → Bool
+begins_among tags [] = false
+begins_among tags (byte ∷ bytes) = is_among byte tags
+
 -- no bytes, if that may be, or bytes that begin with one of the tags
 abbrev pub Begins : Tags → List ℕ → Type 0
 Begins tags [] = tags.nullable ≡ true
@@ -58,10 +67,14 @@ abbrev pub MayFollow : Tags → List ℕ → Type 0
 MayFollow tags [] = ⊤
 MayFollow tags (byte ∷ bytes) = is_among byte tags.follow ≡ false
 
+-- X.690 section 8.9.3: the bytes of the part, or none if it is absent
+abbrev pub optional_bytes : {P : Type 0} → (P → Option (List ℕ)) → Option P → Option (List ℕ)
+optional_bytes bytes None = Some []
+optional_bytes bytes (Some part) = bytes part
+
 -- X.690 section 8.9.3: the element with this tag, or no bytes if the value is absent
 abbrev pub optional_of : ℕ → Option (Option (List ℕ)) → Option (List ℕ)
-optional_of tag None = Some []
-optional_of tag (Some content) = element_of tag content
+optional_of tag content = optional_bytes (element_of tag) content
 
 -- Where two parts, and what may follow them, have the same bytes, the parts are the same, and so is
 -- what follows them.

@@ -1,7 +1,7 @@
 -- One step of a walk over the bytes of a tree. The open nodes are known by how many bytes are left
 -- where each ends, the innermost first; 0 are left at the end of the input.
-use Rattle.std.specs.Prelude.{IsTrue, ◌≡◌, ℕ, zero, suc, ◌+◌, ◌<◌, ◌≤◌, List, [], ◌∷◌, ◌++◌}
-use Rattle.std.specs.Prelude.{length, get_or}
+use Rattle.std.specs.Prelude.{IsTrue, ◌≡◌, ℕ, zero, suc, ◌+◌, ◌<◌, ◌≤◌, List, [], ◌∷◌, ◌++◌, length}
+use Rattle.std.specs.Prelude.{get_or}
 use Rattle.sec1_der.specs.Elements.{header, is_tag, IsConstructed, max_length}
 
 -- the next element is a node that isn't empty, and has this end, within the innermost node

@@ -1,7 +1,7 @@
 -- The state of a writer over a slice, which is filled from its beginning or from its end, and what
 -- calls that write or measure bytes do.
-use Rattle.std.specs.Prelude.{◌≡◌, ◌⊎◌, ℕ, ◌<◌, ◌≤◌, List, length, Option, None, Result}
-use Rattle.std.specs.Prelude.{IsSomeAnd, MatchResult, ◌+◌, ◌++◌, take, drop}
+use Rattle.std.specs.Prelude.{◌≡◌, ◌⊎◌, ℕ, ◌<◌, ◌≤◌, List, length, Option, None, Result, IsSomeAnd}
+use Rattle.std.specs.Prelude.{MatchResult, ◌+◌, ◌++◌, take, drop}
 use Rattle.sec1_der.specs.declared.error.Error.{Error}
 use Rattle.sec1_der.specs.declared.error.ErrorKind.{ErrorKind}
 use Rattle.sec1_der.specs.declared.error.ErrorKind.TheVariants.{Overlength, Buffer}

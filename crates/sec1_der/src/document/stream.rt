@@ -32,7 +32,6 @@ impl SecretDocument {
     /// be in a length of DER (X.690 sections 8.1.3 and 10.1); Truncated if the input ends inside
     /// the element; TrailingData if any byte follows it; Io if a read failed; Memory if an
     /// allocation failed.
-    #[tactic(auto, using(crate::proofs::StreamLemmas::element_faults))]
     pub fn read_der_from<R: Read>(alloc: Global, reader: &mut R) -> Result<SecretDocument>
         requires { R.failed reader.old ≡ false }
         // The document is all that was taken, and the input has ended. The kind of a refusal says

@@ -1,4 +1,4 @@
-use Rattle.der_types.proofs.ChoiceLemmas.{optional_part_distinct}
+use Rattle.sec1_der.proofs.UniqueLemmas.{optional_part_distinct}
 use Rattle.der_types.proofs.optional_part.OptionalPartUniquePart.bytes_injective.Goals as goal
 
 pub returns : goal.returns

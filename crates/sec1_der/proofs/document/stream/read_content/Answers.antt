@@ -36,8 +36,7 @@ loop-missing-preserved g c =
           (record {
             bytes = _;
             taken = rw all at c.in_ok-fill.ensures.2;
-            appended =
-                grind (arith, common_steps);
+            appended = grind (arith, common_steps);
             count = size;
           });
       few = omega arith;

@@ -1,10 +1,10 @@
-use Rattle.std.proofs.Common.{◌≡◌, ◌≤◌, ◌+◌, ◌-◌, ◌<◌, ◌∙◌, length, take, arith, rules, sym}
+use Rattle.std.proofs.Common.{◌≡◌, ◌≤◌, ◌+◌, ◌-◌, ◌<◌, ◌∙◌, length, take, arith, rules, sym, append-nil, inl}
 use Rattle.std.proofs.lemmas.Grind.{common_steps}
 use Rattle.std.proofs.lemmas.Result.{err_from_is_err_and}
 use Rattle.sec1_der.specs.Streams.{Takes}
 use Rattle.sec1_der.specs.declared.error.ErrorKind.TheVariants.{Truncated}
-use Rattle.sec1_der.proofs.StreamLemmas.{cut_is_short, one_more, read_alone, reads_part, refused_header}
-use Rattle.sec1_der.proofs.StreamLemmas.{refused_here, refused_read}
+use Rattle.sec1_der.proofs.StreamLaws.{takes_kept, takes_more}
+use Rattle.sec1_der.proofs.StreamLemmas.{cut_is_short, header_refused, one_more, read_alone, reads_part, taken_here}
 use Rattle.sec1_der.proofs.document.stream.read_header.Goals as goal
 
 pub returns-in-Ok : goal.returns-in-Ok
@@ -33,13 +33,7 @@ loop-header-preserved g c =
     let taken = reads_part g.R.Read.left g.R.Read.taken _ _ _ count (count + 1 - count) octets c.read.new.buf _
     (omega arith) read.bound c.loop-header.invariant.taken
     (record { consumed = read.bytes.0; appended = read.taken }) in
-    record {
-      taken = rw one at taken;
-      reached = reached;
-      few = omega arith;
-      unfailed =
-          search rules;
-    }
+    record { taken = rw one at taken; reached = reached; few = omega arith; unfailed = search rules }
 
 pub returns-then-branch-eq0 : goal.returns-then-branch-eq0
 returns-then-branch-eq0 g c =
@@ -48,14 +42,18 @@ returns-then-branch-eq0 g c =
     let read = c.in_ok-read.ensures in
     let none = c.if-branch-eq0.true in
     let size : 0 < length c.read.new.buf = grind (arith, common_steps) in
+    let both = takes_more g.R.Read.left g.R.Read.taken _ _ _ _ (take _ c.read.new.buf) c.loop-header.invariant.taken
+    (record { consumed = read.bytes.0; appended = read.taken }) in
     record {
       io = search rules;
       found = tt;
       refused =
-          rw c.into-then-branch-eq0.ensures (refused_header g.R.Read.left g.R.Read.taken _ _ _ _ _ c.read.new.buf _
-          (record { fault_is = short; none = λ tag n rest is e. fault.only tag n rest is e })
-          c.loop-header.invariant.taken (record { consumed = read.bytes.0; appended = read.taken }) none
-          (record { none_left = read.bytes.1 none size; known = read.end none size }));
+          rw c.into-then-branch-eq0.ensures (record {
+            bytes = _;
+            taken = rw (none, append-nil) at both;
+            by_kind = header_refused Truncated _ (λ tag n rest is e. fault.only tag n rest is e) short;
+            at_end = λ _. record { none_left = read.bytes.1 none size; known = read.end none size };
+          });
     }
 
 pub returns-in_err-read : goal.returns-in_err-read
@@ -67,21 +65,28 @@ returns-in_err-read g c =
       io = search rules;
       found = search rules;
       refused =
-          rw (p.1, p.2) (refused_read g.R.Read.left g.R.Read.taken _ _ _ _ _
-          (record { fault_is = short; none = λ tag n rest is e. fault.only tag n rest is e })
-          c.loop-header.invariant.taken c.in_err-read.ensures.bytes c.in_err-read.ensures.taken);
+          rw (p.1, p.2) (record {
+            bytes = _;
+            taken = takes_kept _ _ _ _ _ _ c.loop-header.invariant.taken c.in_err-read.ensures.bytes
+                c.in_err-read.ensures.taken;
+            by_kind = inl (header_refused Truncated _ (λ tag n rest is e. fault.only tag n rest is e) short);
+            at_end = λ e. absurd (cc e);
+          });
     }
 
 pub returns-in-Err : goal.returns-in-Err
 returns-in-Err g c =
     let fault = c.in-Err.ensures in
     let other : c.in-Err.kind ≡ Truncated → ⊥ = search rules in
-    let Taken = Takes g.R.Read.left g.R.Read.taken c.args.reader.now c.loop-header.reader in
     record {
       io = search rules;
       found = tt;
       refused =
-          rw c.into.ensures (refused_here _ Taken _ _
-          c.loop-header.invariant.reached (λ tag n rest is e. fault.only tag n rest is e) (sym fault.found.0)
-          other c.loop-header.invariant.taken);
+          rw c.into.ensures (record {
+            bytes = _;
+            taken = c.loop-header.invariant.taken;
+            by_kind = taken_here _ _ c.loop-header.invariant.reached (λ tag n rest is e. fault.only tag n rest is e)
+                (sym fault.found.0) other;
+            at_end = λ e. absurd (other e);
+          });
     }

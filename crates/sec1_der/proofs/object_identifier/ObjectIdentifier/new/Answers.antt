@@ -3,8 +3,8 @@ use Rattle.std.proofs.lemmas.List.{length_push}
 use Rattle.std.proofs.lemmas.Iterator.Splits.{YieldsList-from_str_split}
 use Rattle.std.proofs.lemmas.Iterator.Consumers.{YieldsList-turn, YieldsList-end}
 use Rattle.sec1_der.proofs.DottedLemmas.{next_substring, no_substring, read_arc, substring_is_arc, identifier_continues}
-use Rattle.sec1_der.proofs.DottedLemmas.{all_read}
-use Rattle.sec1_der.proofs.DottedLemmas.{text_is_dotted, arcs_small}
+use Rattle.sec1_der.proofs.DottedLemmas.{all_read, text_is_dotted}
+use Rattle.sec1_der.proofs.IdentifierLemmas.{arcs_small}
 use Rattle.sec1_der.proofs.IdentifierLaws.{arcs_allowed}
 use Rattle.sec1_der.proofs.object_identifier.ObjectIdentifier.new.Goals as goal
 

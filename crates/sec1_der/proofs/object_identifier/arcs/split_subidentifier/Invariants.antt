@@ -1,6 +1,5 @@
 use Rattle.std.proofs.Common.{◌≡◌, length}
-use Rattle.sec1_der.specs.Identifiers.{numbers_after}
-use Rattle.sec1_der.specs.Identifiers.{SubidentifiersFit}
+use Rattle.sec1_der.specs.Identifiers.{numbers_after, SubidentifiersFit}
 use Rattle.sec1_der.proofs.object_identifier.arcs.split_subidentifier.Given as goal
 
 abbrev pub invariant-loop-byte : goal.invariant-loop-byte

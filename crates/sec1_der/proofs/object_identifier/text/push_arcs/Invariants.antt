@@ -1,6 +1,5 @@
 use Rattle.std.proofs.Common.{◌≡◌, ◌+◌, ◌≤◌, ◌++◌, length}
-use Rattle.sec1_der.specs.Identifiers.{dotted}
-use Rattle.sec1_der.specs.Identifiers.{further_text, max_text_length}
+use Rattle.sec1_der.specs.Identifiers.{dotted, further_text, max_text_length}
 use Rattle.sec1_der.proofs.object_identifier.text.push_arcs.Given as goal
 
 abbrev pub invariant-loop-arc : goal.invariant-loop-arc

@@ -1,5 +1,4 @@
-use Rattle.std.proofs.Common.{true}
-use Rattle.std.proofs.Common.{◌≡◌, ap, rules, sym, ◌∙◌, slice_get, Some}
+use Rattle.std.proofs.Common.{true, ◌≡◌, ap, rules, sym, ◌∙◌, slice_get, Some}
 use Rattle.std.proofs.Math.Seq.{take-append_seam, drop-append_seam}
 use Rattle.sec1_der.specs.Elements.{is_tag}
 use Rattle.sec1_der.specs.Readers.{Reader}
