@@ -1,7 +1,7 @@
 -- An element is determined by its bytes, and has a content that it can hold. Further crates cite
 -- these laws.
-use Rattle.std.proofs.Common.{◌≡◌, ℕ, ◌≤◌, nat_le, List, length, Option, Some, None, refl, append_assoc, ◌++◌, []}
-use Rattle.std.proofs.Common.{sym, ap, ◌∙◌}
+use Rattle.std.proofs.Common.{◌≡◌, ℕ, ◌≤◌, nat_le, List, length, Option, Some, None, refl, append_assoc, ◌++◌, [], sym}
+use Rattle.std.proofs.Common.{ap, ◌∙◌}
 use Rattle.std.proofs.lemmas.Bool.{le-leb, leb-true}
 use Rattle.sec1_der.specs.Elements.{max_length, header, element, element_of}
 use Rattle.sec1_der.specs.PartLaws.{chosen}

@@ -21,6 +21,7 @@ use std::alloc::Global;
 /// # Errors
 ///
 /// Those of [`SliceReader::decode`], then TrailingData if bytes follow the element.
+#[tactic(auto, using(crate::proofs::PartLemmas::one_element))]
 pub fn from_der<'a, T: DecodeValue<'a> + Tagged + Drop>(input: &'a [u8]) -> Result<T>
     // What is read has these bytes and a content that meets the rule of the type, and the bytes of
     // a value are read as one with its content.

@@ -65,6 +65,7 @@ impl<'a, A: DecodeValue<'a> + Tagged + Drop> DecodePart<'a> for Optional<A> {
 }
 
 impl<A: UniqueContent + Tagged> UniquePart for Optional<A> {
+    #[tactic(auto, using(crate::proofs::UniqueLemmas::optional_distinct))]
     fn bytes_injective() {
         A::content_injective();
     }

@@ -56,6 +56,7 @@ impl<'a, A: DecodeValue<'a> + Tagged + Drop> DecodePart<'a> for Required<A> {
 }
 
 impl<A: UniqueContent + Tagged> UniquePart for Required<A> {
+    #[tactic(auto, using(crate::proofs::UniqueLemmas::one_distinct))]
     fn bytes_injective() {
         A::content_injective();
     }

@@ -1,4 +1,4 @@
-use Rattle.std.proofs.Common.{◌≡◌, ◌++◌, ◌∙◌, ℕ, List, Some, ap, length, rules, inl, inr}
+use Rattle.std.proofs.Common.{◌≡◌, ◌++◌, ◌∙◌, ℕ, List, Some, ap, length, rules, inr}
 use Rattle.std.proofs.lemmas.Result.{err_from_is_err_and}
 use Rattle.sec1_der.specs.Elements.{IsElement, IsProperPrefix}
 use Rattle.sec1_der.specs.Faults.{document_fault, no_fault, end_fault}
@@ -7,13 +7,6 @@ use Rattle.sec1_der.specs.declared.error.Error.{Error}
 use Rattle.sec1_der.proofs.ElementFaultLemmas.{document_element, trailing_fault, whole_element}
 use Rattle.sec1_der.proofs.FaultLaws.{any_at}
 use Rattle.sec1_der.proofs.document.SecretDocument.from_der.Goals as goal
-
-pub returns-in_err-rest-clause-exact : goal.returns-in_err-rest-clause-exact
-returns-in_err-rest-clause-exact c =
-    let refusal = err_from_is_err_and c.from_residual.result c.from_residual.ensures.1 in
-    let fault = c.in_err-rest.ensures.exact.1 (λ _. no_fault) end_fault in
-    rw (refusal.1, refusal.2)
-    (inl (λ is. absurd (cc (fault, document_element c.args.bytes.now is)), fault, inl c.in_err-rest.ensures.exact.0))
 
 pub returns-in_err-bytes-clause-exact : goal.returns-in_err-bytes-clause-exact
 returns-in_err-bytes-clause-exact c =
@@ -39,23 +32,6 @@ longer_fault bytes whole is more =
     (more.split ∙ ap (λ xs. xs ++ more.more) is.encoded)
     ∙ trailing_fault more.more more.some
 
-pub returns-in_err-rest-clause-long : goal.returns-in_err-rest-clause-long
-returns-in_err-rest-clause-long c whole is more =
-    let refusal = err_from_is_err_and c.from_residual.result c.from_residual.ensures.1 in
-    let fault = c.in_err-rest.ensures.exact.1 (λ _. no_fault) end_fault in
-    let long = longer_fault c.args.bytes.now whole is more in
-    rw (refusal.1, refusal.2) (cc (fault, long))
-
-pub returns-in_err-bytes-clause-long : goal.returns-in_err-bytes-clause-long
-returns-in_err-bytes-clause-long c whole is more =
-    let (header, split) = c.in_ok-rest.ensures.exact in
-    let none : length c.in_ok-rest.rest.now ≡ 0 = search rules in
-    let here = whole_element _ _ _ _ header split none in
-    absurd (cc (document_element c.args.bytes.now here, longer_fault c.args.bytes.now whole is more))
-
 pub returns-clause-long : goal.returns-clause-long
 returns-clause-long c whole is more =
-    let (header, split) = c.in_ok-rest.ensures.exact in
-    let none : length c.in_ok-rest.rest.now ≡ 0 = search rules in
-    let here = whole_element _ _ _ _ header split none in
-    absurd (cc (document_element c.args.bytes.now here, longer_fault c.args.bytes.now whole is more))
+    absurd (cc ((returns-clause-exact c).2, longer_fault c.args.bytes.now whole is more))

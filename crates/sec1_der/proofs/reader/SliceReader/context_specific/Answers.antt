@@ -1,11 +1,6 @@
-use Rattle.std.proofs.Common.{rules, arith, ◌∙◌}
-use Rattle.std.proofs.lemmas.Grind.{common_steps}
-use Rattle.sec1_der.proofs.ElementLaws.{element_of-inside}
+use Rattle.std.proofs.Common.{rules, ◌∙◌}
 use Rattle.sec1_der.proofs.ElementFaultLemmas.{opened_field}
 use Rattle.sec1_der.proofs.reader.SliceReader.context_specific.Goals as goal
-
-pub returns-in-Ok-clause-only : goal.returns-in-Ok-clause-only
-returns-in-Ok-clause-only g c = grind (arith, common_steps, element_of-inside)
 
 pub returns-in-Ok-clause-refused : goal.returns-in-Ok-clause-refused
 returns-in-Ok-clause-refused g c = record {
