@@ -1,12 +1,11 @@
 -- Elements that are read one after another.
 use Rattle.std.proofs.Common.{◌≡◌, Result, Ok, Err, ℕ, zero, suc, ◌<◌, ◌≤◌, false, List, [], ◌∷◌, ◌++◌, length, Option}
 use Rattle.std.proofs.Common.{Some, None, IsSomeAnd, IfOk, refl, ap, sym, ◌∙◌, arith, length-drop}
-use Rattle.std.proofs.lemmas.List.{length-take, nil_from_length}
+use Rattle.std.proofs.lemmas.List.{length-take}
 use Rattle.sec1_der.specs.Elements.{max_length, element, element_of}
 use Rattle.sec1_der.specs.Readers.{Reader, reader_over, HasReadElement}
-use Rattle.sec1_der.specs.Faults.{Fault, HasFault, IsFaultOf, no_fault, element_fault}
+use Rattle.sec1_der.specs.Faults.{Fault, HasFault, no_fault, element_fault}
 use Rattle.sec1_der.specs.declared.error.Error.{Error}
-use Rattle.sec1_der.specs.declared.error.ErrorKind.{ErrorKind}
 use Rattle.der_types.specs.Sequences.{joined, elements_fault, sequence_fault}
 use Rattle.sec1_der.proofs.KindLaws.{refused_more}
 use Rattle.sec1_der.proofs.FaultLaws.{reads_on, reader_at}
@@ -59,17 +58,6 @@ sequence_continues tag f start content old new at some found =
       same = at.same ∙ (sequence_first tag f old.unread some ∙ on.next (sequence_fault tag f));
     }
 
-pub sequence_refused : (tag : ℕ) (f : Fault) (start : List ℕ) (old : Reader) (k : ErrorKind)
-    → IsSequenceRest tag f start old → 0 < length old.unread
-    → IsFaultOf (element_fault tag f no_fault old.unread) k → IsFaultOf (sequence_fault tag f start) k
-sequence_refused tag f start old k at some e =
-    rw (at.same, sequence_first tag f old.unread some) (refused_more f (sequence_fault tag f) tag old.unread k e)
-
-pub sequence_ends : (tag : ℕ) (f : Fault) (start : List ℕ) (old : Reader) → IsSequenceRest tag f start old
-    → length old.unread ≤ 0
-    → sequence_fault tag f start ≡ None
-sequence_ends tag f start old at none = at.same ∙ rw (nil_from_length old.unread (omega arith)) refl
-
 -- ---- lists of values
 
 -- some values have these bytes
@@ -80,13 +68,6 @@ HasValues {A} tag content bytes = (values : List A) × (joined tag content value
 pub record AreValues {A : Type 0} (tag : ℕ) (content : A → Option (List ℕ)) (start left : List ℕ) : Type 0 where
   pub found : HasValues tag content left → HasValues tag content start
   pub only : HasValues tag content start → HasValues tag content left
-
--- where none are left, they are those of values
-pub values_end : (tag : ℕ) {A : Type 0} (content : A → Option (List ℕ)) (start left : List ℕ)
-    → AreValues tag content start left → length left ≤ 0
-    → HasValues tag content start
-values_end tag content start [] at none = at.found ([], refl)
-values_end tag content start (byte ∷ left) at none = absurd (omega arith)
 
 -- the value that was read, in front of those that are left
 value_read : (tag : ℕ) (f : Fault) {A : Type 0} (content : A → Option (List ℕ)) (value : A) (old new : Reader)

@@ -119,6 +119,7 @@ impl Alternative for Any<'_> {
 }
 
 impl EncodePart for Any<'_> {
+    #[tactic(auto, using(crate::proofs::AnyLemmas::any_there))]
     fn part_len(&self) -> Result<Length> {
         Length::new(self.bytes.len())
     }
@@ -135,6 +136,7 @@ impl<'a> DecodePart<'a> for Any<'a> {
 }
 
 impl UniquePart for Any<'_> {
+    #[tactic(auto, using(crate::proofs::AnyLemmas::any_distinct))]
     fn bytes_injective()
         ensures { AreDistinct any_tags any_of }
     {}

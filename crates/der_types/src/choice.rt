@@ -62,6 +62,7 @@ impl<P: Part, Q: Part> Part for Choice<P, Q> {
 }
 
 impl<P: Alternative, Q: Alternative> Alternative for Choice<P, Q> {
+    #[tactic(auto, using(crate::proofs::ChoiceLemmas::among_either))]
     fn may_begin(byte: u8) -> bool {
         P::may_begin(byte) || Q::may_begin(byte)
     }

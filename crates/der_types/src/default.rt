@@ -86,6 +86,7 @@ impl<'a, A: HasDefault + DecodeValue<'a> + Tagged + Drop> DecodePart<'a> for Def
 }
 
 impl<A: HasDefault + Tagged> UniquePart for Defaulted<A> {
+    #[tactic(auto, using(crate::proofs::DefaultLemmas::defaulted_distinct))]
     fn bytes_injective() {
         A::content_injective();
         Optional::<NotDefault<A>>::bytes_injective();

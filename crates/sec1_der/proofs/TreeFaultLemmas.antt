@@ -13,7 +13,7 @@ use Rattle.sec1_der.specs.declared.error.Error.{Error}
 use Rattle.sec1_der.specs.declared.error.ErrorKind.{ErrorKind}
 use Rattle.sec1_der.specs.declared.error.ErrorKind.TheVariants.{Truncated, Depth}
 use Rattle.sec1_der.proofs.CheckLemmas.{IsCounted}
-use Rattle.sec1_der.proofs.ElementFaultLemmas.{any_cut, trailing_fault}
+use Rattle.sec1_der.proofs.ElementFaultLemmas.{any_cut}
 use Rattle.sec1_der.proofs.FaultLaws.{any_at}
 use Rattle.sec1_der.proofs.TreeLemmas.{max_depth, some_bytes, tree_apart}
 use Rattle.sec1_der.proofs.ForestFaultLemmas.{leaf_passes, forest_at, forest_some, forest_deep, tree_next}
@@ -97,6 +97,3 @@ counted (Ok n) input t P found h is shallow =
     cc (found.3, same.0)
 counted (Err error) input t P found h is shallow =
     absurd (rw (shallow_tree t input [] is.tree shallow (is.whole ∙ sym (append-nil (bytes t)))) at h)
-
--- the ways in which a tree is refused
-pub ruleset tree_refusals = (deep_tree, shallow_tree, cut_tree, trailing_fault)

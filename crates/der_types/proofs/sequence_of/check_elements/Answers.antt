@@ -1,14 +1,6 @@
 use Rattle.std.proofs.Common.{arith}
-use Rattle.der_types.proofs.SequenceLemmas.{sequence_continues, sequence_refused, sequence_ends, values_read}
-use Rattle.der_types.proofs.SequenceLemmas.{value_there, values_end}
+use Rattle.der_types.proofs.SequenceLemmas.{sequence_continues, values_read, value_there}
 use Rattle.der_types.proofs.sequence_of.check_elements.Goals as goal
-
-pub returns-in_err-_value-clause-kind : goal.returns-in_err-_value-clause-kind
-returns-in_err-_value-clause-kind g c =
-    let at = c.loop-elements.invariant.rest in
-    let fault = sequence_refused _ _ _ _ _ at (omega (arith, c.loop-elements-test.true, c.remaining_len.ensures))
-    (c.in_err-_value.ensures.refused.kind at.whole) in
-    grind arith
 
 pub loop-elements-preserved : goal.loop-elements-preserved
 loop-elements-preserved g c =
@@ -22,16 +14,6 @@ loop-elements-preserved g c =
           (λ a inside left same within is.
           (c.in_ok-_value.ensures.only a inside left same within is).1);
     }
-
-pub returns-clause-kind : goal.returns-clause-kind
-returns-clause-kind g c =
-    sequence_ends _ _ _ _ c.loop-elements.invariant.rest
-    (omega (arith, c.loop-elements-test.false, c.remaining_len.ensures))
-
-pub returns-clause-found : goal.returns-clause-found
-returns-clause-found g c =
-    values_end _ _ _ _ c.loop-elements.invariant.values
-    (omega (arith, c.loop-elements-test.false, c.remaining_len.ensures))
 
 pub returns-in_err-_value-clause-only : goal.returns-in_err-_value-clause-only
 returns-in_err-_value-clause-only g c values same =
