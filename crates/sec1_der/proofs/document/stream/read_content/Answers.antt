@@ -8,12 +8,9 @@ pub returns-in_err-fill : goal.returns-in_err-fill
 returns-in_err-fill g c =
     let fewer = c.in_err-fill.ensures.1 in
     let p = err_from_is_err_and c.from_residual-in_err-fill.result c.from_residual-in_err-fill.ensures.1 in
-    rw (p.1, p.2) (
-      (λ _. c.in_err-fill.ensures.0, λ _. refl),
-      fewer_in_all _ _ _ _ _ _ _ _ c.loop-missing.missing _ c.loop-missing.invariant.read (omega arith)
-          (fewer.0, fewer.1, grind (arith, common_steps, fewer.2)),
-      inl (inl refl),
-    )
+    let all = fewer_in_all _ _ _ _ _ _ _ _ c.loop-missing.missing _ c.loop-missing.invariant.read (omega arith)
+    (fewer.0, fewer.1, grind (arith, common_steps, fewer.2)) in
+    rw (p.1, p.2) ((λ _. c.in_err-fill.ensures.0, λ _. refl), all, inl (inl refl))
 
 pub returns-then-branch-step : goal.returns-then-branch-step
 returns-then-branch-step g c =

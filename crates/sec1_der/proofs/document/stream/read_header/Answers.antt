@@ -44,49 +44,24 @@ returns-then-branch-eq0 g c =
     let size : 0 < length c.read.new.buf = grind (arith, common_steps) in
     let both = takes_more g.R.Read.left g.R.Read.taken _ _ _ _ (take _ c.read.new.buf) c.loop-header.invariant.taken
     (record { consumed = read.bytes.0; appended = read.taken }) in
-    record {
-      io = search rules;
-      found = tt;
-      refused =
-          rw c.into-then-branch-eq0.ensures (record {
-            bytes = _;
-            taken = rw (none, append-nil) at both;
-            by_kind = header_refused Truncated _ (λ tag n rest is e. fault.only tag n rest is e) short;
-            at_end = λ _. record { none_left = read.bytes.1 none size; known = read.end none size };
-          });
-    }
+    let taken = rw (none, append-nil) at both in
+    let cut = header_refused Truncated _ (λ tag n rest is e. fault.only tag n rest is e) short in
+    search (rules, c.into-then-branch-eq0.ensures, read.bytes.1 none size, read.end none size)
 
 pub returns-in_err-read : goal.returns-in_err-read
 returns-in_err-read g c =
     let fault = c.in-Err-Truncated.ensures in
     let short = sym (sym c.in-Err-Truncated.field-0-is ∙ fault.found.0) in
     let p = err_from_is_err_and c.from_residual.result c.from_residual.ensures.1 in
-    record {
-      io = search rules;
-      found = search rules;
-      refused =
-          rw (p.1, p.2) (record {
-            bytes = _;
-            taken = takes_kept _ _ _ _ _ _ c.loop-header.invariant.taken c.in_err-read.ensures.bytes
-                c.in_err-read.ensures.taken;
-            by_kind = inl (header_refused Truncated _ (λ tag n rest is e. fault.only tag n rest is e) short);
-            at_end = λ e. absurd (cc e);
-          });
-    }
+    let taken = takes_kept _ _ _ _ _ _ c.loop-header.invariant.taken c.in_err-read.ensures.bytes
+    c.in_err-read.ensures.taken in
+    let cut = header_refused Truncated _ (λ tag n rest is e. fault.only tag n rest is e) short in
+    rw (p.1, p.2) (search (rules, inl))
 
 pub returns-in-Err : goal.returns-in-Err
 returns-in-Err g c =
     let fault = c.in-Err.ensures in
     let other : c.in-Err.kind ≡ Truncated → ⊥ = search rules in
-    record {
-      io = search rules;
-      found = tt;
-      refused =
-          rw c.into.ensures (record {
-            bytes = _;
-            taken = c.loop-header.invariant.taken;
-            by_kind = taken_here _ _ c.loop-header.invariant.reached (λ tag n rest is e. fault.only tag n rest is e)
-                (sym fault.found.0) other;
-            at_end = λ e. absurd (other e);
-          });
-    }
+    let here = taken_here _ _ c.loop-header.invariant.reached (λ tag n rest is e. fault.only tag n rest is e)
+    (sym fault.found.0) other in
+    search (rules, c.into.ensures, here, other)

@@ -3,10 +3,5 @@ use Rattle.sec1_der.proofs.PartLemmas.{optional_passes}
 use Rattle.sec1_der.proofs.optional.OptionalDecodePart.decode_part.Goals as goal
 
 pub returns-in-Ok : goal.returns-in-Ok
-returns-in-Ok g c = record {
-  exact = (
-    search rules,
-    optional_passes g.A.ValueContent.fault _ _ _ _ c.in-Ok.ensures.found,
-  );
-  only = search rules;
-}
+returns-in-Ok g c =
+    let next = optional_passes g.A.ValueContent.fault _ _ _ _ c.in-Ok.ensures.found in search rules

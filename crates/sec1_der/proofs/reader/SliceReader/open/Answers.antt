@@ -23,7 +23,7 @@ returns-in-Ok-clause-refused c =
     let none = any_room (λ _. no_fault) no_fault _ _ _ _ is (sym c.remaining_input-2.ensures ∙ read) room in
     let first : slice_get c.args.self.now.unread 0 ≡ Some c.args.tag = search rules in
     let next = element_next no_fault no_fault c.args.tag c.args.self.now.unread tag first in
-    record { kind = λ fresh. next ∙ none; kinds = search rules; failed = λ f. search rules; left = tt }
+    search (rules, next ∙ none)
 
 pub returns-in-Err-clause-refused : goal.returns-in-Err-clause-refused
 returns-in-Err-clause-refused c =
@@ -31,9 +31,4 @@ returns-in-Err-clause-refused c =
     let first : slice_get c.args.self.now.unread 0 ≡ Some c.args.tag = search rules in
     let next = element_next no_fault no_fault c.args.tag c.args.self.now.unread tag first in
     let kind = rw c.remaining_input-2.ensures at (c.in-Err.ensures.found.1 (λ _. no_fault) no_fault) in
-    record {
-      kind = λ fresh. rw (next, kind) c.fail-in-Err.ensures.0;
-      kinds = search rules;
-      failed = λ f. search rules;
-      left = c.fail-in-Err.ensures.1;
-    }
+    search (rules, next ∙ kind, c.fail-in-Err.ensures.0)
