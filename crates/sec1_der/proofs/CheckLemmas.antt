@@ -1,6 +1,6 @@
 -- The states of the walk over a tree's bytes, and its steps.
 use Rattle.std.proofs.Common.{◌≡◌, ◌≢◌, ℕ, suc, ◌+◌, ◌-◌, ◌<◌, ◌≤◌, List, [], ◌∷◌, ◌++◌, length, take, drop, refl, ap}
-use Rattle.std.proofs.Common.{get_or, ◌⊎◌, sym, ◌∙◌, subst, arith, ⊎_elim}
+use Rattle.std.proofs.Common.{get_or, ◌⊎◌, sym, ◌∙◌, subst, arith, rules, ⊎_elim}
 use Rattle.std.proofs.lemmas.List.{append_assoc, append-nil, length-append, length-take-le}
 use Rattle.sec1_der.specs.Elements.{header}
 use Rattle.sec1_der.specs.Faults.{tree_fault}
@@ -87,13 +87,9 @@ passed : (input ends rest after : List ℕ) (count : ℕ) → IsNext input ends 
 passed input ends rest after count next p =
     let at = next.at in
     let some = some_bytes p.0 in
+    let lengths = ap length p.4 ∙ length-append (bytes p.0) after in
     record {
-      at = record {
-        room = at.room;
-        counted = omega (arith, ap length p.4, length-append (bytes p.0) after);
-        inside = p.5;
-        nested = at.nested;
-      };
+      at = search (rules, arith);
       completes = subst (Completes input ends after) (omega arith)
           (next.completes p.0 after p.1 (omega (arith, p.3)) p.4);
       fault_is = next.fault_is ∙ element_passed ends rest after p;
@@ -105,14 +101,9 @@ opened : (input ends rest after : List ℕ) (end count : ℕ) → IsNext input e
     → Walks input (end ∷ ends) after (count + 1)
 opened input ends rest after end count next o room =
     let at = next.at in
-    let lengths = length-append (header o.tag o.n) after in
+    let lengths = ap length o.split ∙ length-append (header o.tag o.n) after in
     record {
-      at = record {
-        room = room;
-        counted = omega (arith, ap length o.split);
-        inside = omega (arith, o.inside);
-        nested = (o.fits, at.nested);
-      };
+      at = search (rules, arith);
       completes = λ f tail are shallow split e.
           let n : length (joined f) ≡ o.n = omega (arith, o.inside, ap length split, length-append (joined f) tail) in
           let is : IsTree (branch o.tag f) =
@@ -145,12 +136,7 @@ closed {input = input} {ends = end ∷ ends} {rest = rest} {count = count} w som
     let at = w.at in
     let all : length rest - end ≡ 0 = omega arith in
     rw is (record {
-      at = record {
-        room = omega arith;
-        counted = at.counted;
-        inside = omega (arith, at.nested.0);
-        nested = at.nested.1;
-      };
+      at = search (rules, arith);
       completes = subst (Completes input ends rest) (omega arith) (w.completes none rest tt (omega arith) refl e);
       fault_is = w.fault_is ∙ rw all refl;
     })

@@ -1,6 +1,6 @@
 -- The next element in a slice whose last bytes belong to outer nodes.
 use Rattle.std.proofs.Common.{◌≡◌, ℕ, ◌+◌, ◌-◌, ◌<◌, ◌≤◌, List, ◌++◌, length, take, drop, bit_and, ◌⊎◌, refl, ap, sym}
-use Rattle.std.proofs.Common.{get_or, ◌∙◌, arith, ⊎_elim}
+use Rattle.std.proofs.Common.{get_or, ◌∙◌, arith, rules, ⊎_elim}
 use Rattle.std.proofs.lemmas.Bool.{cases_eq}
 use Rattle.std.proofs.lemmas.List.{append_assoc, length-append, length-drop, length-take, length-take-le}
 use Rattle.std.proofs.lemmas.List.{take-append-drop, take_rest, drop_at, nil_from_length}
@@ -52,17 +52,7 @@ opens_at rest inside ends tag n end m f is same some constructed =
     let within : end ≤ length rest = omega (arith, ap length f.1, length-take (length rest - end) rest) in
     let (split, after) = from_start rest (header tag n) inside end (length rest - end - length inside) within f.1
     (omega arith) in
-    record {
-      tag = tag;
-      n = n;
-      tag_byte = f.0.tag_byte;
-      constructed = constructed;
-      some = some;
-      bounded = f.0.bounded;
-      split = split;
-      inside = omega arith;
-      fits = omega arith;
-    }
+    search (rules, arith)
 
 -- a leaf or an empty node
 record IsSingle (t : Tree) : Type 0 where

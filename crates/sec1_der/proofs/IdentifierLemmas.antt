@@ -214,14 +214,11 @@ narrow_pairs (b ∷ c ∷ bs) ends some =
 
 -- one of two bits is set
 one_of : (x y : Bool) → max (cond x 1 0) (cond y 1 0) ≡ 1 → (x || y) ≡ true
-one_of true y e = refl
-one_of false true e = refl
-one_of false false e = absurd (omega arith)
+one_of x y e = grind arith
 
 -- a bit isn't set
 none_of : (x : Bool) → cond {A = ℕ} x 1 0 ≡ 0 → x ≡ false
-none_of true e = absurd (omega arith)
-none_of false e = refl
+none_of x e = grind arith
 
 -- a mask that covers all places together with itself, shifted by one
 pub mask_of_pairs : (ms : List Bool) → bit_or (mask_l ms) (mask_l ms / 2) ≡ 255 → (i : ℕ) → i < 8

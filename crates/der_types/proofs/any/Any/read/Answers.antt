@@ -32,11 +32,12 @@ pub returns-in-Ok : goal.returns-in-Ok
 returns-in-Ok c =
     let found = c.in-Ok.ensures.found in
     let element = element_from c.in-Ok.inside _ found.0 refl in
+    let passes = any_passes _ _ _ element found.1 in
     record {
-      exact = (search (rules, any_there), any_passes _ _ _ element found.1);
+      exact = search (rules, any_there);
       only = λ part whole rest distinct same may is.
           let element = (any_some part whole same).1 in
           let read = c.in-Ok.ensures.only element.tag element.content rest element.is_header
           (rw element.encoded at is) in
-          search (rules, any_there, element, read);
+          search (rules, any_there);
     }
