@@ -1,6 +1,6 @@
 -- Components with a default value.
 use Rattle.std.proofs.Common.{◌≡◌, [], ℕ, List, Bool, true, false, Option, Some, None, if◌then◌else◌, refl, sym, ◌∙◌}
-use Rattle.std.proofs.Common.{arith, append-nil}
+use Rattle.std.proofs.Common.{arith, append-nil, rules}
 use Rattle.std.proofs.Math.Seq.{take-append_seam}
 use Rattle.std.proofs.lemmas.Slice.Eq.{bytes_eq-Decides}
 use Rattle.std.specs.Option.{option_map}
@@ -75,11 +75,5 @@ defaulted_distinct tag d content one two a b x y r s distinct e f before rest sa
 
 -- a writer that wrote nothing
 pub nothing_prepended : (writer : BackWriter) → HasPrepended (Some []) writer writer
-nothing_prepended writer = record {
-  slice = refl;
-  prepends = record {
-    written = refl;
-    room = omega arith;
-    unchanged = sym (rw append-nil at (take-append_seam (back_state writer).room []));
-  };
-}
+nothing_prepended writer =
+    let unchanged = sym (rw append-nil at (take-append_seam (back_state writer).room [])) in search (rules, arith)

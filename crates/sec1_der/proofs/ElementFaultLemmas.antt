@@ -139,6 +139,14 @@ whole_element tag content bytes rest h e none = record {
   encoded = e ∙ rw (nil_from_length rest none) (append-nil (element tag content));
 }
 
+-- bytes that begin with an element, and are more, are refused as trailing data
+pub longer_fault : (bytes whole : List ℕ) → IsElement whole → IsProperPrefix whole bytes
+    → document_fault bytes ≡ Some (Some TrailingData)
+longer_fault bytes whole is more =
+    any_at (λ _. no_fault) end_fault is.tag is.content bytes more.more is.is_header
+    (more.split ∙ ap (λ xs. xs ++ more.more) is.encoded)
+    ∙ trailing_fault more.more more.some
+
 -- an element and more bytes are refused as trailing data
 pub document_long : (tag : ℕ) (content bytes rest : List ℕ) → IsHeader tag (length content)
     → bytes ≡ element tag content ++ rest → 0 < length rest

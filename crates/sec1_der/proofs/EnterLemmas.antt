@@ -54,30 +54,14 @@ opens_at rest inside ends tag n end m f is same some constructed =
     (omega arith) in
     search (rules, arith)
 
--- a leaf or an empty node
-record IsSingle (t : Tree) : Type 0 where
-  tree : IsTree t
-  alone : size t ≡ 1
-  shallow : depth t ≡ 1
-
--- one with these bytes
+-- a leaf or an empty node with these bytes
 single_tree : (tag : ℕ) (content : List ℕ) → IsHeader tag (length content) → ¬ IsConstructed tag ⊎ (length content ≡ 0)
-    → (t : Tree) × IsSingle t × (bytes t ≡ element tag content)
+    → (t : Tree) × IsTree t × (size t ≡ 1) × (depth t ≡ 1) × (bytes t ≡ element tag content)
 single_tree tag content h which = ⊎_elim
-    (λ (plain : bit_and tag 32 ≡ 0). (
-      leaf tag content,
-      record {
-        tree = (h.tag_byte, λ set. set plain, h.bounded);
-        alone = refl;
-        shallow = refl;
-      },
-      refl,
-    ))
-    (λ set. let empty = nil_from_length content (⊎_elim (λ plain. absurd (plain set)) (λ none. none) which) in (
-      branch tag none,
-      record { tree = (h.tag_byte, set, omega arith, tt); alone = refl; shallow = refl },
-      rw empty refl,
-    ))
+    (λ (plain : bit_and tag 32 ≡ 0).
+    (leaf tag content, (h.tag_byte, λ set. set plain, h.bounded), refl, refl, refl))
+    (λ set. let empty = nil_from_length content (⊎_elim (λ plain. absurd (plain set)) (λ none. none) which) in
+    (branch tag none, (h.tag_byte, set, omega arith, tt), refl, refl, rw empty refl))
     (cases_eq (bit_and tag 32) 0)
 
 -- an element without children
@@ -97,4 +81,4 @@ passes_at rest inside ends tag n end m f is same which =
     let (split, after) = from_start rest (element tag content) (drop n inside) end
     (length rest - end - length inside + m) within (f.1 ∙ split)
     (omega (arith, length-drop n inside)) in
-    (t.0, t.1.tree, t.1.alone, t.1.shallow, rw (t.2) split, omega (arith, after))
+    (t.0, t.1, t.2, t.3, rw (t.4) split, omega (arith, after))

@@ -18,11 +18,5 @@ parted None second bytes e = absurd (cc e)
 parted (Some xs) None bytes e = absurd (cc e)
 parted (Some xs) (Some ys) bytes e =
     let joined : bytes ≡ xs ++ ys = cc in
-    record {
-      front = xs;
-      back = ys;
-      first_there = refl;
-      second_there = refl;
-      joined = joined;
-      total = ap length joined ∙ length-append xs ys;
-    }
+    let total = ap length joined ∙ length-append xs ys in
+    record { front = xs; back = ys; first_there = refl; second_there = refl; joined = joined; total = total }

@@ -1,12 +1,12 @@
 -- The kinds of errors, which a rule may leave open. Further crates cite these laws.
-use Rattle.std.proofs.Common.{◌≡◌, ◌≢◌, ◌==◌, ◌&&◌, ◌+◌, nat_le, nat_lt, bit_and, not, length, if◌then◌else◌, zero, suc}
-use Rattle.std.proofs.Common.{ℕ, List, [], ◌∷◌, Bool, true, false, Option, Some, None, Result, Ok, Err, refl, sym, ap}
+use Rattle.std.proofs.Common.{◌≡◌, ◌≢◌, ◌==◌, ◌&&◌, ◌+◌, nat_le, nat_lt, length, if◌then◌else◌, zero, suc, ℕ, List, []}
+use Rattle.std.proofs.Common.{◌∷◌, Bool, true, false, Option, Some, None, Result, Ok, Err, refl, sym, ap}
 use Rattle.std.specs.Option.{option_or}
 use Rattle.std.specs.Str.{bytes_eq}
 use Rattle.sec1_der.specs.Identifiers.{arcs_of, are_arcs, content_of, max_identifier_length}
 use Rattle.sec1_der.specs.Contents.{value_unless, are_bits, byte_fault, bit_string_fault, whole_bits_fault}
 use Rattle.sec1_der.specs.Contents.{whole_bits_field_fault, identifier_fault}
-use Rattle.sec1_der.specs.Elements.{is_tag}
+use Rattle.sec1_der.specs.Elements.{is_tag, is_constructed}
 use Rattle.sec1_der.specs.Faults.{Fault, IsFaultOf, SaysKinds, no_fault, end_fault, parts_fault, content_at}
 use Rattle.sec1_der.specs.Faults.{element_fault, optional_fault, any_fault, nested_fault, forest_fault, tree_fault}
 use Rattle.sec1_der.specs.Faults.{document_fault}
@@ -113,9 +113,7 @@ whole_says = split_says whole_bits_fault (λ e. cc e) (λ unused bytes. unless_s
 
 -- one rule, and then another
 pub both_say : (f g : Fault) → SaysKinds f → SaysKinds g → SaysKinds (λ bytes. option_or (f bytes) (g bytes))
-both_say f g first second = record {
-  kind = λ bytes e. or_says (f bytes) (g bytes) (first.kind bytes) (second.kind bytes) e;
-}
+both_say f g first second = record { kind = λ bytes. or_says _ _ (first.kind bytes) (second.kind bytes) }
 
 pub field_says : SaysKinds whole_bits_field_fault
 field_says =
@@ -132,9 +130,7 @@ identifier_says =
 -- ---- trees
 
 nested_says : (f : Fault) → SaysKinds f → (tag : ℕ) → SaysKinds (nested_fault f tag)
-nested_says f says tag = record {
-  kind = λ bytes e. either_says (not (bit_and tag 0x20 == 0)) (f bytes) None (says.kind bytes) (λ same. cc same) e;
-}
+nested_says f says tag = record { kind = λ bytes. either_says (is_constructed tag) _ _ (says.kind bytes) (λ e. cc e) }
 
 trees_say : (most level : ℕ) → SaysKinds (forest_fault most level)
 trees_say zero level = record { kind = λ bytes e. cc e }

@@ -17,8 +17,8 @@ use Rattle.sec1_der.specs.Errors.{header_fault, length_fault}
 use Rattle.sec1_der.specs.Streams.{TakenBeforeRefusal, RefusesElement, ReadsOnto, Takes, Ends}
 use Rattle.sec1_der.specs.Faults.{no_fault, end_fault, document_fault}
 use Rattle.sec1_der.proofs.HeaderLemmas.{LacksHeader, longer, header_front, header_fault_kinds}
-use Rattle.sec1_der.proofs.ElementFaultLemmas.{document_element, any_without_header, any_short}
-use Rattle.sec1_der.proofs.FaultLaws.{any_at, any_room}
+use Rattle.sec1_der.proofs.ElementFaultLemmas.{document_element, any_without_header, any_short, longer_fault}
+use Rattle.sec1_der.proofs.FaultLaws.{any_room}
 use Rattle.sec1_der.proofs.StreamLaws.{takes_more, takes_nothing, takes_kept, TakesFewer}
 
 -- ---- bytes that were taken
@@ -42,12 +42,12 @@ pub reads_more : {S : Type 0} (left taken : S → Option (List ℕ)) (old mid ne
     (n m sum : ℕ) → ReadsOnto (Takes left taken old mid) start middle n → n + m ≡ sum
     → ReadsOnto (Takes left taken mid new) middle end m → ReadsOnto (Takes left taken old new) start end sum
 reads_more left taken old mid new start middle end n m sum read is more =
-    let lengths = length-append read.bytes more.bytes in
+    let both = takes_more left taken old mid new read.bytes more.bytes read.taken more.taken in
     record {
       bytes = _;
-      taken = takes_more left taken old mid new read.bytes more.bytes read.taken more.taken;
+      taken = both;
       appended = rw (more.appended, read.appended) (append_assoc start _ _);
-      count = omega arith;
+      count = omega (arith, length-append read.bytes more.bytes);
     }
 
 -- ---- the header
@@ -153,9 +153,7 @@ whole_element tag n content is count =
 -- bytes after an element are trailing data
 byte_fault : (front : List ℕ) (byte : ℕ) (more : List ℕ) → IsElement front
     → document_fault (front ++ byte ∷ more) ≡ Some (Some TrailingData)
-byte_fault front byte more is =
-    any_at (λ _. no_fault) end_fault is.tag is.content (front ++ byte ∷ more) (byte ∷ more) is.is_header
-    (rw is.encoded refl)
+byte_fault front byte more is = longer_fault _ front is (record { more = byte ∷ more; some = λ e. cc e; split = refl })
 
 -- an element is refused by what was taken after its header
 refused_after : (kind : ErrorKind) {S : Type 0} (left taken : S → Option (List ℕ)) (Ended : Type 0) (old mid new : S)
@@ -163,12 +161,7 @@ refused_after : (kind : ErrorKind) {S : Type 0} (left taken : S → Option (List
     → TakenBeforeRefusal kind (header tag n ++ bytes) → (kind ≡ Truncated → Ended)
     → RefusesElement kind (Takes left taken old new) Ended
 refused_after kind left taken Ended old mid new tag n bytes first more by_kind at_end =
-    record {
-      bytes = _;
-      taken = takes_more left taken old mid new (header tag n) bytes first more;
-      by_kind = by_kind;
-      at_end = at_end;
-    }
+    let all = takes_more left taken old mid new (header tag n) bytes first more in search
 
 -- where a content is refused, so is the element
 pub refused_content : (kind : ErrorKind) {S : Type 0} (left taken : S → Option (List ℕ)) (Ended : Type 0)

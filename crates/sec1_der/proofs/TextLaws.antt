@@ -9,10 +9,7 @@ pub plain_of_styled : {W : Type 0} (took : W → List ℕ → W → Type 0) (f :
     (bs : List ℕ) (g : Formatter W)
     → IsPlainFormatter f → HasWrittenStyled took f bs g → HasWritten took f bs g
 plain_of_styled took f bs g plain w =
-    record {
-      wrote = w.wrote;
-      plain = record { bare = (let e = w.spec in rw e plain.bare); flush = w.flush };
-    }
+    let e = w.spec in record { wrote = w.wrote; plain = record { bare = rw e plain.bare; flush = w.flush } }
 
 pub flush_of_plain : {W : Type 0} (f : Formatter W) → IsPlainFormatter f → IsFlush f
 flush_of_plain f plain = plain.flush

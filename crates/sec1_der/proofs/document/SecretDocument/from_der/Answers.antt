@@ -1,11 +1,7 @@
-use Rattle.std.proofs.Common.{◌≡◌, ◌++◌, ◌∙◌, ℕ, List, Some, ap, length, rules, inr}
+use Rattle.std.proofs.Common.{◌≡◌, ap, length, rules, inr}
 use Rattle.std.proofs.lemmas.Result.{err_from_is_err_and}
-use Rattle.sec1_der.specs.Elements.{IsElement, IsProperPrefix}
-use Rattle.sec1_der.specs.Faults.{document_fault, no_fault, end_fault}
-use Rattle.sec1_der.specs.declared.error.ErrorKind.TheVariants.{TrailingData}
 use Rattle.sec1_der.specs.declared.error.Error.{Error}
-use Rattle.sec1_der.proofs.ElementFaultLemmas.{document_element, trailing_fault, whole_element}
-use Rattle.sec1_der.proofs.FaultLaws.{any_at}
+use Rattle.sec1_der.proofs.ElementFaultLemmas.{document_element, longer_fault, whole_element}
 use Rattle.sec1_der.proofs.document.SecretDocument.from_der.Goals as goal
 
 pub returns-in_err-bytes-clause-exact : goal.returns-in_err-bytes-clause-exact
@@ -23,14 +19,6 @@ returns-clause-exact c =
     let none : length c.in_ok-rest.rest.now ≡ 0 = search rules in
     let is = whole_element _ _ _ _ header split none in
     (search rules, is, document_element c.args.bytes.now is)
-
--- Bytes after an element aren't those of one, and are refused as TrailingData.
-longer_fault : (bytes whole : List ℕ) → IsElement whole → IsProperPrefix whole bytes
-    → document_fault bytes ≡ Some (Some TrailingData)
-longer_fault bytes whole is more =
-    any_at (λ _. no_fault) end_fault is.tag is.content bytes more.more is.is_header
-    (more.split ∙ ap (λ xs. xs ++ more.more) is.encoded)
-    ∙ trailing_fault more.more more.some
 
 pub returns-clause-long : goal.returns-clause-long
 returns-clause-long c whole is more =
