@@ -18,10 +18,7 @@ boolean_content-of (first ∷ second ∷ bytes) passes = absurd (cc passes)
 
 -- values with one content are the same
 pub boolean_content-injective : (x y : Bool) → boolean_content x ≡ boolean_content y → x ≡ y
-boolean_content-injective true true same = refl
-boolean_content-injective true false same = absurd (cc same)
-boolean_content-injective false true same = absurd (cc same)
-boolean_content-injective false false same = refl
+boolean_content-injective x y same = grind arith
 
 -- what the laws of the crate cite
 pub ruleset boolean_laws =

@@ -57,7 +57,6 @@ impl<'a, P: DecodePart<'a> + Alternative> DecodePart<'a> for OptionalPart<P> {
 }
 
 impl<P: UniquePart + Alternative> UniquePart for OptionalPart<P> {
-    #[tactic(auto, using(sec1_der::proofs::UniqueLemmas::optional_part_distinct))]
     fn bytes_injective() {
         P::bytes_injective();
     }

@@ -128,6 +128,7 @@ impl ValueContent for Unsigned<'_> {
 }
 
 impl<'a> DecodeValue<'a> for Unsigned<'a> {
+    #[tactic(auto, using(crate::proofs::UnsignedLemmas::numbers))]
     fn decode_value(reader: &mut SliceReader<'a>) -> Result<Self> {
         let bytes = reader.read_rest()?;
         match Unsigned::from_content(bytes) {

@@ -247,10 +247,9 @@ content_is_stored arcs content is =
 -- an identifier has this content, and an element can hold it
 pub identifier_fits : (arcs content : List ℕ) → IsIdentifier arcs content
     → (within_limit (identifier_content arcs) ≡ Some content) × (length content ≤ max_identifier_length)
-identifier_fits arcs content is = (
-  rw (identifier_content-valid arcs content is, le-leb (length content) max_length (omega (arith, is.short))) refl,
-  is.short,
-)
+identifier_fits arcs content is =
+    let fits = le-leb (length content) max_length (omega (arith, is.short)) in
+    (rw (identifier_content-valid arcs content is, fits) refl, is.short)
 
 -- ---- building
 

@@ -84,9 +84,8 @@ AreDistinct {A} tags bytes = (a b : A) (x y r s : List ℕ) → tags.distinct �
     → MayFollow tags r → MayFollow tags s → x ++ r ≡ y ++ s → (a ≡ b) × (r ≡ s)
 
 -- A part is read by a reader that hasn't failed, and the bytes after it are left. `bytes` gives
--- those
--- of a part, `tags` what is known of it by its type, and `and_then` the rule of a part and what
--- follows it.
+-- those of a part, `tags` what is known of it by its type, and `and_then` the rule of a part and
+-- what follows it.
 pub record ReadsPart {P : Type 0} (bytes : P → Option (List ℕ))
     (and_then : Fault → Fault) (tags : Tags) (result : Result P Error)
     (old new : Reader) : Type 0 where

@@ -62,8 +62,7 @@ pub record ReadsContent {T : Type 0} (content : T → Option (List ℕ)) (fault 
   pub refused : OnErr result ((new.failed ≡ true) × IsSuffix new.unread old.unread)
 
 -- The bytes are read as those of a value. `encoding` gives these of a value, and `fault` is the
--- rule
--- by which others are refused.
+-- rule by which others are refused.
 pub record ReadsWhole {T : Type 0} (encoding : T → Option (List ℕ)) (fault : Fault)
     (bytes : List ℕ) (result : Result T Error) : Type 0 where
   -- what is read has these bytes

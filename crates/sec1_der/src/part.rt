@@ -97,7 +97,6 @@ impl<'a, P: DecodePart<'a> + Drop, Q: DecodePart<'a>> DecodePart<'a> for (P, Q) 
 }
 
 impl<P: UniquePart, Q: UniquePart> UniquePart for (P, Q) {
-    #[tactic(auto, using(crate::proofs::UniqueLemmas::pair_distinct))]
     fn bytes_injective() {
         P::bytes_injective();
         Q::bytes_injective();
