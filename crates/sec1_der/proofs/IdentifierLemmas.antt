@@ -135,7 +135,8 @@ is_narrow-decides content h some =
     let below = IsBytes-below content h in
     rw (sym (continues-width 0 content below (omega arith))) (
       λ e. let parts = continues-parts 0 content below e in
-          let is = encodes_arcs content (numbers_after 0 content) some (encoded_after 0 content below parts.0) parts.1 in
+          let split = encoded_after 0 content below parts.0 in
+          let is = encodes_arcs content (numbers_after 0 content) some split parts.1 in
           (arcs_of content, arcs_tested _ is.0, is.1),
       λ s. (continues_from_arcs s.0 content s.1 s.2).0,
     )

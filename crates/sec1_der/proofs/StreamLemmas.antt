@@ -284,7 +284,8 @@ refused_fault : (kind : ErrorKind) (old new : Option (List ℕ)) (bytes : List �
     → ((kind ≡ Io) ⊎ (kind ≡ Memory)) ⊎ IfSome old (λ all. document_fault all ≡ Some (Some kind))
 refused_fault kind None new bytes consumed by_kind end = inr tt
 refused_fault kind (Some all) None bytes consumed by_kind end = absurd consumed
-refused_fault kind (Some all) (Some left) bytes consumed by_kind end = rw consumed (taken_fault kind bytes left end by_kind)
+refused_fault kind (Some all) (Some left) bytes consumed by_kind end =
+    rw consumed (taken_fault kind bytes left end by_kind)
 
 -- the kind of a refusal is a function of all that was left
 pub document_kind : {S : Type 0} (left taken : S → Option (List ℕ)) (ended : S → Type 0) (old new : S)

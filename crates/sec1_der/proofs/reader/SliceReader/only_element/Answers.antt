@@ -1,6 +1,5 @@
-use Rattle.std.proofs.Common.{[], ap, ◌∙◌, append-nil, rules, arith}
+use Rattle.std.proofs.Common.{[], ap, ◌∙◌, append-nil, rules}
 use Rattle.std.proofs.lemmas.Bool.{false≢true}
-use Rattle.std.proofs.lemmas.Grind.{common_steps}
 use Rattle.std.proofs.lemmas.Result.{err_from_is_err_and}
 use Rattle.sec1_der.specs.Readers.{Reader}
 use Rattle.sec1_der.specs.Faults.{end_fault}
@@ -11,8 +10,8 @@ use Rattle.sec1_der.proofs.reader.SliceReader.only_element.Goals as goal
 
 pub returns-in_err-value-clause-reads : goal.returns-in_err-value-clause-reads
 returns-in_err-value-clause-reads g c = record {
-  found = grind (arith, common_steps);
-  read = grind (arith, common_steps);
+  found = search rules;
+  read = search rules;
   only = λ fresh value is.
       let there = element_of-some g.T.Tagged.tag_byte (g.T.ValueContent.content value) c.args.self.now.unread is in
       absurd (c.in_err-value.ensures.only value there.inside [] there.same there.at.bounded
@@ -41,7 +40,8 @@ returns-in_err-finish-clause-reads g c =
           (c.in_err-finish.ensures.only (c.in_ok-value.ensures.only value there.inside [] there.same there.at.bounded
           (rw append-nil (reader_at _ _ there.at.encoded fresh))).1));
       kinds = search rules;
-      kind = λ fresh. rw (refusal.1, refusal.2, first.next end_fault) (c.in_err-finish.ensures.refused.kind first.whole);
+      kind = λ fresh.
+          rw (refusal.1, refusal.2, first.next end_fault) (c.in_err-finish.ensures.refused.kind first.whole);
       failed = search rules;
       refused = search rules;
     }

@@ -1,13 +1,12 @@
-use Rattle.std.proofs.Common.{[], refl, append-nil, rules, arith}
+use Rattle.std.proofs.Common.{[], refl, append-nil, rules}
 use Rattle.std.proofs.lemmas.Bool.{false≢true}
-use Rattle.std.proofs.lemmas.Grind.{common_steps}
 use Rattle.sec1_der.proofs.FaultLaws.{read_end, reader_at}
 use Rattle.sec1_der.proofs.record.AnyDecodeValue.decode_value.Goals as goal
 
 pub returns-in_err-parts : goal.returns-in_err-parts
 returns-in_err-parts g c = record {
-  found = grind (arith, common_steps);
-  read = grind (arith, common_steps);
+  found = search rules;
+  read = search rules;
   only = λ fresh value is.
       absurd (c.in_err-parts.ensures.only (g.T.Record.parts value) _ [] g.met.T.Distinct.distinct is tt
       (rw append-nil (reader_at _ _ refl fresh))).0;
@@ -19,8 +18,8 @@ returns-in_err-parts g c = record {
 
 pub returns-in_err-finish : goal.returns-in_err-finish
 returns-in_err-finish g c = record {
-  found = grind (arith, common_steps);
-  read = grind (arith, common_steps);
+  found = search rules;
+  read = search rules;
   only = λ fresh value is.
       absurd (false≢true
       (c.in_err-finish.ensures.only
