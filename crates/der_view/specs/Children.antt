@@ -1,4 +1,4 @@
--- The known structures that may have a private key, and the children of a root that begin one.
+-- The children of a root that begin a structure which may have a private key.
 use Rattle.std.specs.Prelude.{ℕ, zero, suc, ◌+◌, ◌-◌, ◌==◌, ◌&&◌, ◌||◌, not, nat_lt, max, Bool}
 use Rattle.std.specs.Prelude.{true, false, if◌then◌else◌, List, [], ◌∷◌, length, take, drop}
 use Rattle.std.specs.Prelude.{slice_get, slice_index, unwrap_or, Option, Some, None}
@@ -6,11 +6,11 @@ use Rattle.std.specs.Prelude.{Result, Ok, Err, ◌/◌, ◌%◌}
 use Rattle.std.specs.List.{starts_with}
 use Rattle.der_view.specs.Headers.{header_of}
 use Rattle.der_view.specs.Openings.{is_tree}
+use Rattle.der_view.specs.Structures.{Component, structure}
 use Rattle.der_view.specs.declared.children.Child.{Child}
 use Rattle.der_view.specs.declared.children.Children.{Children}
-use Rattle.der_view.specs.declared.children.Component.{Component}
-use Rattle.der_view.specs.declared.children.Content.{Content}
-use Rattle.der_view.specs.declared.children.Content.TheVariants as contents
+use Rattle.der_view.specs.declared.field.Field.{Field}
+use Rattle.der_view.specs.declared.field.Field.TheVariants as fields
 use Rattle.der_view.specs.declared.header.Header.{Header}
 use Rattle.der_view.specs.declared.mark.ElementFault.{ElementFault}
 
@@ -107,75 +107,39 @@ len_of child = child.end - child.start
 abbrev pub is_cut : Child → Bool
 is_cut child = nat_lt (len_of child) child.announced
 
--- a component of a SEQUENCE with this tag
-abbrev pub required : ℕ → Content → Component
-required tag content = record { tag = tag; content = content; optional = false }
+-- Whether inside the child is what is inside this field. RFC 5915 section 3: the parameters are one
+-- ECParameters, which names a curve or gives it by a SEQUENCE, and the public key is one BIT STRING,
+-- each with an explicit tag. RFC 5958 section 2 and RFC 7292 section 4: AlgorithmIdentifier and
+-- ContentInfo begin with an identifier.
+abbrev pub has_content : Field → Child → Bool
+has_content fields.Parameters child =
+    child.alone && (child.inner == 0x06 || child.inner == 0x30)
+has_content fields.PublicKey child =
+    not (child.tag == 0xA1) || (child.alone && child.inner == 0x03)
+has_content fields.PrivateKeyAlgorithm child = child.inner == 0x06
+has_content fields.AuthSafe child = child.inner == 0x06
+has_content field child = true
 
--- one that is OPTIONAL
-abbrev pub optional : ℕ → Content → Component
-optional tag content = record { tag = tag; content = content; optional = true }
-
-abbrev pub version : Component
-version = required 0x02 contents.Any
-
--- RFC 5915 section 3: ECPrivateKey has a version, privateKey, parameters and publicKey, of which
--- the parameters name a curve or give it by a SEQUENCE
-abbrev pub ec_private_key : List Component
-ec_private_key =
-    version
-    ∷ required 0x04 contents.Any
-    ∷ optional 0xA0 (contents.Is 0x06 0x30)
-    ∷ optional 0xA1 (contents.Is 0x03 0x03)
-    ∷ []
-
--- RFC 5958 section 2: OneAsymmetricKey has a version, privateKeyAlgorithm, privateKey, attributes
--- and publicKey
-abbrev pub one_asymmetric_key : List Component
-one_asymmetric_key =
-    version
-    ∷ required 0x30 (contents.Begins 0x06)
-    ∷ required 0x04 contents.Any
-    ∷ optional 0xA0 contents.Any
-    ∷ optional 0x81 contents.Any
-    ∷ []
-
--- RFC 7292 section 4: PFX has a version, authSafe, which is a ContentInfo, and macData
-abbrev pub pfx : List Component
-pfx =
-    version
-    ∷ required 0x30 (contents.Begins 0x06)
-    ∷ optional 0x30 contents.Any
-    ∷ []
-
--- RFC 8017 appendix A.1.2: RSAPrivateKey has a version and eight numbers more
-abbrev pub rsa_private_key : List Component
-rsa_private_key =
-    version ∷ version ∷ version ∷ version ∷ version ∷ version ∷ version ∷ version ∷ version ∷ []
-
--- what is inside the component, as far as it is there: elements of which the first has this tag, or
--- one element with one of these tags
-abbrev pub has_content : Content → Child → Bool
-has_content contents.Any child = true
-has_content (contents.Begins first) child = is_cut child || child.inner == first
-has_content (contents.Is one other) child =
-    is_cut child || (child.alone && (child.inner == one || child.inner == other))
-
-abbrev pub is_in : Component → Child → Bool
-is_in component child = component.tag == child.tag && has_content component.content child
+-- whether the child may be the component with this tag and this field, as far as it is there
+abbrev pub is_component : ℕ → Field → Child → Bool
+is_component tag field child = child.tag == tag && (is_cut child || has_content field child)
 
 -- how many of the children, from the first one on, are the next components of a structure
 unfoldable pub fit : List Component → List Child → ℕ
 fit [] children = 0
 fit (component ∷ components) [] = 0
-fit (component ∷ components) (child ∷ children) =
-    if is_in component child then 1 + fit components children
-    else (if component.optional then fit components (child ∷ children) else 0)
+fit ((tag, is_optional, field) ∷ components) (child ∷ children) =
+    if is_component tag field child then 1 + fit components children
+    else (if is_optional then fit components (child ∷ children) else 0)
 
--- how many of the children begin one of the known structures
+-- how many of the children begin one of the structures that may have a private key
 abbrev pub followed : List Child → ℕ
 followed children =
-    max (max (fit ec_private_key children) (fit one_asymmetric_key children))
-    (max (fit pfx children) (fit rsa_private_key children))
+    max
+    (max (fit (structure fields.EcPrivateKey) children)
+    (fit (structure fields.PrivateKeyInfo) children))
+    (max (fit (structure fields.Pfx) children)
+    (fit (structure fields.RsaPrivateKey) children))
 
 -- X.690 sections 8.1.3.6 and 8.1.5: whether a root ends before these bytes
 abbrev pub is_end : List ℕ → Bool → Bool → Bool

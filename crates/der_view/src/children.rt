@@ -1,13 +1,14 @@
 //! The children of a root that begin a structure which may have a private key.
 ghost use Rattle.std.specs.Prelude.{◌≡◌, ◌<◌, ◌≤◌, ◌+◌, drop, length, true};
 ghost use Rattle.der_view.specs.Children.{child_at, child_if, child_of, children_at, children_of};
-ghost use Rattle.der_view.specs.Children.{ec_private_key, first_tag, fit, followed, has_content};
-ghost use Rattle.der_view.specs.Children.{inside, is_cut, is_end, is_in, len_of};
-ghost use Rattle.der_view.specs.Children.{most_children, none_at, nth, one_asymmetric_key};
-ghost use Rattle.der_view.specs.Children.{optional, pfx, required, rsa_private_key, run_of};
+ghost use Rattle.der_view.specs.Children.{first_tag, fit, followed, has_content, inside};
+ghost use Rattle.der_view.specs.Children.{is_component, is_cut, is_end, len_of, most_children};
+ghost use Rattle.der_view.specs.Children.{none_at, nth, run_of};
 
 use crate::element::is_tree;
+use crate::field::Field;
 use crate::header::Header;
+use crate::structure::{Component, components};
 
 /// As many children as a structure has, and the place after them.
 const MOST: usize = 10;
@@ -164,117 +165,26 @@ impl Child {
     {
         self.len() < self.announced
     }
-}
 
-/// What is inside a component of a structure.
-#[derive(Clone, Copy)]
-enum Content {
-    /// Anything.
-    Any,
-    /// Elements, of which the first one has this tag byte.
-    Begins(u8),
-    /// One element, which has one of these two tag bytes.
-    Is(u8, u8),
-}
-
-impl Content {
-    /// Returns `true` if this is inside the child, as far as it is there.
-    fn is_of(self, child: Child) -> bool
-        ensures { result ≡ has_content self child }
+    /// Returns `true` if inside the child is what is inside this field.
+    fn has_content(self, field: Field) -> bool
+        ensures { result ≡ has_content field self }
     {
-        match self {
-            Content::Any => true,
-            Content::Begins(first) => child.is_cut() || child.inner == first,
-            Content::Is(one, other) => {
-                child.is_cut() || (child.alone && (child.inner == one || child.inner == other))
-            }
+        match field {
+            Field::Parameters => self.alone && (self.inner == 0x06 || self.inner == 0x30),
+            Field::PublicKey => self.tag != 0xA1 || (self.alone && self.inner == 0x03),
+            Field::PrivateKeyAlgorithm | Field::AuthSafe => self.inner == 0x06,
+            _ => true,
         }
     }
-}
 
-/// A component of a structure.
-#[derive(Clone, Copy)]
-struct Component {
-    /// The tag byte.
-    tag: u8,
-    /// What is inside it.
-    content: Content,
-    /// Whether it may be absent.
-    optional: bool,
-}
-
-impl Component {
-    /// Returns `true` if this is the child.
-    fn is(self, child: Child) -> bool
-        ensures { result ≡ is_in self child }
+    /// Returns `true` if the child may be the component with this tag byte and this field: its
+    /// content is, as far as it is there.
+    fn is_component(self, tag: u8, field: Field) -> bool
+        ensures { result ≡ is_component tag field self }
     {
-        self.tag == child.tag && self.content.is_of(child)
+        self.tag == tag && (self.is_cut() || self.has_content(field))
     }
-}
-
-/// Returns a component that is there.
-fn required(tag: u8, content: Content) -> Component
-    ensures { result ≡ required tag content }
-{
-    Component {
-        tag,
-        content,
-        optional: false,
-    }
-}
-
-/// Returns a component that may be absent.
-fn optional(tag: u8, content: Content) -> Component
-    ensures { result ≡ optional tag content }
-{
-    Component {
-        tag,
-        content,
-        optional: true,
-    }
-}
-
-/// Returns the components of ECPrivateKey (RFC 5915 section 3).
-fn ec_private_key() -> [Component; 4]
-    ensures { result ≡ ec_private_key }
-{
-    [
-        required(0x02, Content::Any),
-        required(0x04, Content::Any),
-        optional(0xA0, Content::Is(0x06, 0x30)),
-        optional(0xA1, Content::Is(0x03, 0x03)),
-    ]
-}
-
-/// Returns the components of OneAsymmetricKey (RFC 5958 section 2).
-fn one_asymmetric_key() -> [Component; 5]
-    ensures { result ≡ one_asymmetric_key }
-{
-    [
-        required(0x02, Content::Any),
-        required(0x30, Content::Begins(0x06)),
-        required(0x04, Content::Any),
-        optional(0xA0, Content::Any),
-        optional(0x81, Content::Any),
-    ]
-}
-
-/// Returns the components of PFX (RFC 7292 section 4).
-fn pfx() -> [Component; 3]
-    ensures { result ≡ pfx }
-{
-    [
-        required(0x02, Content::Any),
-        required(0x30, Content::Begins(0x06)),
-        optional(0x30, Content::Any),
-    ]
-}
-
-/// Returns the components of RSAPrivateKey (RFC 8017 appendix A.1.2).
-fn rsa_private_key() -> [Component; 9]
-    ensures { result ≡ rsa_private_key }
-{
-    [required(0x02, Content::Any); 9]
 }
 
 /// Returns how many of the children, from the first one on, are the next components.
@@ -289,9 +199,10 @@ fn fit(components: &[Component], children: &[Child]) -> usize
     let [child, rest @ ..] = children else {
         return 0;
     };
-    if component.is(*child) {
+    let (tag, is_optional, field) = *component;
+    if child.is_component(tag, field) {
         1 + fit(components, rest)
-    } else if component.optional {
+    } else if is_optional {
         fit(components, children)
     } else {
         0
@@ -299,13 +210,16 @@ fn fit(components: &[Component], children: &[Child]) -> usize
 }
 
 /// Returns how many of the children begin a known structure.
+#[tactic(auto, unfolding(crate::specs::Structures::structure))]
 fn followed(children: &[Child]) -> usize
     ensures exact { result ≡ followed children.now }
     ensures few { result ≤ 9 }
 {
-    let keys = fit(&ec_private_key(), children).max(fit(&one_asymmetric_key(), children));
-    let others = fit(&pfx(), children).max(fit(&rsa_private_key(), children));
-    keys.max(others)
+    let ec_key = fit(components(Field::EcPrivateKey), children);
+    let container = fit(components(Field::PrivateKeyInfo), children);
+    let pfx = fit(components(Field::Pfx), children);
+    let rsa_key = fit(components(Field::RsaPrivateKey), children);
+    ec_key.max(container).max(pfx.max(rsa_key))
 }
 
 /// Returns the child after so many others; no child, if there are fewer.

@@ -5,7 +5,7 @@ ghost use Rattle.der_view.specs.Structures.{has_tag, next_component, structure};
 use crate::field::Field;
 
 /// A component of a SEQUENCE: the first byte of its tag, whether it is OPTIONAL, and its field.
-type Component = (u8, bool, Field);
+pub(crate) type Component = (u8, bool, Field);
 
 /// ECPrivateKey (RFC 5915 section 3).
 const EC_PRIVATE_KEY: [Component; 4] = [
@@ -146,7 +146,7 @@ const ENCRYPTED_PRIVATE_KEY_INFO: [Component; 2] = [
 
 /// Borrows the components of the structure that the field is; none if their names aren't known.
 #[tactic(auto, unfolding(crate::specs::Structures::structure))]
-fn components(field: Field) -> &'static [Component]
+pub(crate) fn components(field: Field) -> &'static [Component]
     ensures { result.now ≡ structure field }
 {
     match field {
