@@ -1,6 +1,6 @@
 -- The rows of bytes, and the bytes.
 use Rattle.std.proofs.Common.{◌≡◌, ℕ, List, [], ◌∷◌, ◌++◌, take, drop, length, refl, sym, ap, ◌∙◌}
-use Rattle.std.proofs.Common.{append_assoc, Bool, true, false, ◌+◌, All}
+use Rattle.std.proofs.Common.{append-nil, append_assoc, Bool, true, false, ◌+◌, All}
 use denote.Bor.{Bor}
 use Rattle.std.proofs.lemmas.List.{take-append-drop, drop-drop}
 use Rattle.std.proofs.lemmas.List.Elements.{All-cons, All-nil}
@@ -8,7 +8,7 @@ use Rattle.std.specs.Prelude.{Option, None, Some, Result, Ok, Err, option_map, s
 use Rattle.der_view.specs.Levels.{followed, is_unended, opened_in, still_open}
 use Rattle.der_view.specs.Pictures.{AreRowsOf}
 use Rattle.der_view.specs.Places.{IsBare, IsDrawn, IsElement, IsInside, IsNoElement, IsStep}
-use Rattle.der_view.specs.Rows.{Draws, IsOpen, Undrawn, bytes_of_rows, content_bytes, content_of, ended_marks}
+use Rattle.der_view.specs.Rows.{IsOpen, Undrawn, bytes_of_rows, content_bytes, content_of, ended_marks}
 use Rattle.der_view.specs.Rows.{own_content_of, place_of, row_len, stepped}
 use Rattle.der_view.specs.RowLaws.{ContentsAreHidden, HidesContent, IsSameRow, NextIsOne, RowsAreInput, content_at}
 use Rattle.der_view.specs.Seen.{shown_view}
@@ -22,10 +22,10 @@ use Rattle.der_view.specs.declared.row.Kind.{Kind}
 use Rattle.der_view.specs.declared.row.OpenRow.{OpenRow}
 
 -- what is left before rows is their bytes, and what is left after them
-drawn_bytes : (input : List ℕ) (rows : List OpenRow) (old new : Undrawn) → Draws rows old new
+drawn_bytes : (input : List ℕ) (rows : List OpenRow) (old new : Undrawn) → AreRowsOf rows old new
     → old.left ≡ drop old.offset input → old.left ≡ bytes_of_rows input rows ++ new.left
 drawn_bytes input [] old new d at = ap (λ (u : Undrawn). u.left) d
-drawn_bytes input (row ∷ rows) old new (between, is, more) at =
+drawn_bytes input (row ∷ rows) old new (between, is, seen, more) at =
     let n = row_len row in
     let rest : drop n old.left ≡ drop between.offset input =
     rw (at, is.offset) (drop-drop n old.offset input) in
@@ -37,7 +37,11 @@ drawn_bytes input (row ∷ rows) old new (between, is, more) at =
     (ap (λ tail. take n old.left ++ tail) (sym is.left ∙ after))
 
 pub rows_are_input : RowsAreInput
-rows_are_input input levels all plan rows new d = drawn_bytes input rows _ new d refl
+rows_are_input all input rows are =
+    let at : are.first.left ≡ drop are.first.offset input = rw are.offset are.left in
+    let bytes : are.first.left ≡ bytes_of_rows input rows ++ are.last.left =
+    drawn_bytes input rows are.first are.last are.drawn at in
+    sym are.left ∙ (bytes ∙ rw are.ended (append-nil (bytes_of_rows input rows)))
 
 -- the same steps, but for where the bytes of the rows are
 record SameStep (s t : Step) : Type 0 where

@@ -1,23 +1,16 @@
 -- What holds of the rows of all bytes.
-use Rattle.std.specs.Prelude.{◌≡◌, List, ℕ, ◌+◌, ◌++◌, Bool, false, length, take, drop, None, All}
+use Rattle.std.specs.Prelude.{◌≡◌, List, ℕ, ◌+◌, Bool, false, length, take, drop, None, All}
 use Rattle.der_view.specs.Pictures.{AreRows}
 use Rattle.der_view.specs.Plans.{plan_of}
-use Rattle.der_view.specs.Rows.{Draws, IsNext, IsOpen, IsSeen, Undrawn, bytes_of_rows}
-use Rattle.der_view.specs.Rows.{content_bytes}
+use Rattle.der_view.specs.Rows.{IsNext, IsOpen, IsSeen, Undrawn, bytes_of_rows, content_bytes}
 use Rattle.der_view.specs.Seen.{open_len, shown_view}
-use Rattle.der_view.specs.declared.level.Level.{Level}
-use Rattle.der_view.specs.declared.plan.Plan.{Plan}
 use Rattle.der_view.specs.declared.row.OpenRow.{OpenRow}
 
--- The bytes of the rows, and then those that have no row yet, are the input.
+-- The bytes of all rows, in order, are the input.
 abbrev pub RowsAreInput : Type 0
 RowsAreInput =
-    (input : List ℕ) (levels : List Level) (all : Bool) (plan : Plan) (rows : List OpenRow)
-    (new : Undrawn)
-    → Draws rows
-    (record { offset = 0; left = input; levels = levels; all = all; plan = plan })
-    new
-    → input ≡ bytes_of_rows input rows ++ new.left
+    (all : Bool) (input : List ℕ) (rows : List OpenRow) → AreRows all input rows
+    → input ≡ bytes_of_rows input rows
 
 -- the rows have the same members, and the same bytes at whatever places
 pub record IsSameRow (a b : OpenRow) : Type 0 where

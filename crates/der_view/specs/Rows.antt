@@ -109,11 +109,6 @@ pub record IsNext (old : Undrawn) (row : OpenRow) (new : Undrawn) : Type 0 where
   pub all : new.all ≡ old.all
   pub plan : new.plan ≡ old.plan
 
--- these are the next rows, one after the other, and what has no row yet after them
-abbrev pub Draws : List OpenRow → Undrawn → Undrawn → Type 0
-Draws [] old new = old ≡ new
-Draws (row ∷ rows) old new = (between : Undrawn) × IsNext old row between × Draws rows between new
-
 -- the bytes of the input that the rows are of, in their order
 abbrev pub bytes_of_rows : List ℕ → List OpenRow → List ℕ
 bytes_of_rows input [] = []

@@ -2,9 +2,7 @@
 //! nothing else.
 ghost use Rattle.der_view.specs.RowLaws.{ContentsAreHidden, NextIsOne, RowsAreInput};
 
-/// The bytes of the rows, in order, and then those that have no row, are the input: none is left
-/// out, and none is drawn twice.
-#[tactic(auto, using(crate::proofs::RowLemmas::rows_are_input))]
+/// The bytes of all rows, in order, are the input: none is left out, and none is drawn twice.
 pub fn rows_are_input()
     ensures { RowsAreInput }
 {}
