@@ -132,11 +132,7 @@ fn fields(parameters: bool, public_key: bool) -> Part
 fn is_name(bytes: &[u8]) -> bool
     ensures { result ≡ is_name bytes.now }
 {
-    let name: sec1_der::Result<ObjectIdentifier> = from_der(bytes);
-    match name {
-        Ok(_) => true,
-        Err(_) => false,
-    }
+    from_der::<ObjectIdentifier>(bytes).is_ok()
 }
 
 /// Returns `true` if this child of a root is a public key that isn't of whole bytes.
@@ -150,10 +146,7 @@ fn is_other_point(root: &[u8], child: Child) -> bool
 fn is_ec_key(form: Form) -> bool
     ensures { result ≡ is_ec_key form }
 {
-    match form {
-        Form::EcPrivateKey => true,
-        _ => false,
-    }
+    matches!(form, Form::EcPrivateKey)
 }
 
 /// Returns where bytes, whose root has this tag, aren't a key's: its children may be others from

@@ -168,20 +168,14 @@ impl Children {
 fn is_container(form: Form) -> bool
     ensures { result ≡ is_container form }
 {
-    match form {
-        Form::PrivateKeyInfo => true,
-        _ => false,
-    }
+    matches!(form, Form::PrivateKeyInfo)
 }
 
 /// Returns `true` if this is no form.
 pub(crate) fn is_other(form: Form) -> bool
     ensures { result ≡ is_other form }
 {
-    match form {
-        Form::Other => true,
-        _ => false,
-    }
+    matches!(form, Form::Other)
 }
 
 /// Returns a field with its place, if there is one.

@@ -30,7 +30,6 @@ use crate::row::OpenRow;
 use crate::rows::Rows;
 use crate::text::{Block, Encoding, Found, Note, Source, Sources, text_len};
 pub use facts::Facts;
-use facts::either;
 use lines::row_line;
 use sec1::EcPrivateKey;
 use std::io;
@@ -64,7 +63,7 @@ pub fn draw<W: io::Write>(
     let mut has_key = false;
     while let Some(source) = sources.next_source() {
         let is_key = draw_source(writer, &source, digits, bytes, all)?;
-        has_key = either(has_key, is_key);
+        has_key |= is_key;
     }
     Ok(has_key)
 }

@@ -118,10 +118,7 @@ fn is_text(input: &[u8]) -> bool
 fn is_utf16(input: &[u8]) -> bool
     ensures { result ≡ is_utf16 input.now }
 {
-    match input {
-        [0xFF, 0xFE, ..] | [0xFE, 0xFF, ..] => true,
-        _ => false,
-    }
+    matches!(input, [0xFF, 0xFE, ..] | [0xFE, 0xFF, ..])
 }
 
 /// Returns the text without the byte order mark in front of it.
@@ -202,18 +199,11 @@ fn next_block<'a>(blocks: &mut Blocks<'a>, reads: &mut bool) -> Option<Source<'a
     match blocks.next_block() {
         None => None,
         Some(block) => {
-            let is_read = both(*reads, block.is_key_of_openssl());
-            *reads = both(*reads, !block.is_of_private_key());
+            let is_read = *reads & block.is_key_of_openssl();
+            *reads &= !block.is_of_private_key();
             Some(Source::Pem { block, is_read })
         }
     }
-}
-
-/// Returns `true` if both are.
-fn both(first: bool, second: bool) -> bool
-    ensures { result ≡ (first && second) }
-{
-    first && second
 }
 
 /// Returns the source, or else the text.
@@ -303,18 +293,12 @@ fn find_in_base64(text: &[u8], digits: &mut [u8], bytes: &mut [u8]) -> Found
 fn is_sequence(bytes: &[u8]) -> bool
     ensures { sequence_in (Some bytes.now) ≡ (if result then Some bytes.now else None) }
 {
-    match bytes {
-        [0x30, ..] => true,
-        _ => false,
-    }
+    matches!(bytes, [0x30, ..])
 }
 
 /// Returns `true` if the text begins as the output of xxd and its like does.
 fn is_dump(text: &[u8]) -> bool
     ensures { result ≡ is_dump text.now }
 {
-    match text {
-        [b'0', b'0', b'0', b'0', b'0', b'0', b'0', ..] => true,
-        _ => false,
-    }
+    matches!(text, [b'0', b'0', b'0', b'0', b'0', b'0', b'0', ..])
 }

@@ -53,16 +53,9 @@ pub(crate) fn write_json<W: io::Write>(
     let mut has_key = false;
     while let Some(source) = sources.next_source() {
         let is_key = write_source(alloc, writer, all, file, &source, digits, decoded)?;
-        has_key = either(has_key, is_key);
+        has_key |= is_key;
     }
     Ok(has_key)
-}
-
-/// Returns `true` if one of two is.
-fn either(first: bool, second: bool) -> bool
-    ensures { result ≡ first || second }
-{
-    first || second
 }
 
 /// Writes the lines of a source. Returns whether it is a key's.

@@ -112,7 +112,7 @@ impl<'a> Facts<'a> {
     fn see_sequence(&mut self, row: &OpenRow<'a>)
         ensures { self.new ≡ with_sequence row.now.kind row.now.field self.old }
     {
-        self.explicit = either(self.explicit, gives_curve(row.kind, self.last));
+        self.explicit |= gives_curve(row.kind, self.last);
         self.last = row.field;
     }
 
@@ -138,13 +138,6 @@ fn first_marked(marked: Option<usize>, offset: usize, mark: Option<Mark>) -> Opt
             None => None,
         },
     }
-}
-
-/// Returns `true` if one of two is.
-pub(super) fn either(first: bool, second: bool) -> bool
-    ensures { result ≡ first || second }
-{
-    first || second
 }
 
 /// Returns `true` if a row of this kind, after this field, is the parameters of a curve.
@@ -178,8 +171,5 @@ fn is_sequence_tag(tag: Tag) -> bool
 fn is_before_curve(last: Option<Field>) -> bool
     ensures { result ≡ is_before_curve last }
 {
-    match last {
-        Some(Field::Parameters | Field::Algorithm) => true,
-        _ => false,
-    }
+    matches!(last, Some(Field::Parameters | Field::Algorithm))
 }

@@ -63,9 +63,7 @@ impl Verdict {
     fn said(words: &str) -> Verdict
         ensures { verdict_view result ≡ kept_verdict (said words.now) }
     {
-        let mut line = Line::new();
-        line.push_str(words);
-        Verdict::of(line)
+        Verdict::of(line_of(words))
     }
 
     /// Returns a line with no command.

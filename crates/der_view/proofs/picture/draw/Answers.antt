@@ -31,8 +31,7 @@ loop-source-preserved g c =
         old.0 ++ source_view c.in-Some.source ∷ [],
         old.1 ++ new.0,
         Appends-trans _ _ _ old.1 new.0 old.2 new.1,
-        rw c.either-has_key.ensures
-            (ArePictures-snoc c.args.all old.0 (source_view c.in-Some.source) old.1 new.0 _ _ old.3 new.2),
+        (ArePictures-snoc c.args.all old.0 (source_view c.in-Some.source) old.1 new.0 _ _ old.3 new.2),
         old.4
             ∙ (ap (λ (rest : List SourceView). old.0 ++ rest) c.in-Some.ensures
             ∙ sym (append_assoc old.0 (source_view c.in-Some.source ∷ []) _)),

@@ -6,9 +6,7 @@ pub returns-in-Some-clause-next : goal.returns-in-Some-clause-next
 returns-in-Some-clause-next c =
     rw (
       c.in-Some.ensures,
-      c.both-is_read.ensures,
       c.is_key_of_openssl.ensures,
-      c.both.ensures,
       c.is_of_private_key.ensures,
     )
     (pem_sources-cons c.args.reads.now (block_view c.in-Some.block)
