@@ -6,11 +6,12 @@ use Rattle.std.proofs.lemmas.List.{take-append-drop, drop-drop}
 use Rattle.std.proofs.lemmas.List.Elements.{All-cons, All-nil}
 use Rattle.std.specs.Prelude.{Option, None, Some, Result, Ok, Err, option_map, slice_get, unwrap_or}
 use Rattle.der_view.specs.Levels.{followed, is_unended, opened_in, still_open}
-use Rattle.der_view.specs.Pictures.{AreRowsOf}
+use Rattle.der_view.specs.Pictures.{AreRows, AreRowsOf}
+use Rattle.der_view.specs.Plans.{plan_of}
 use Rattle.der_view.specs.Places.{IsBare, IsDrawn, IsElement, IsInside, IsNoElement, IsStep}
-use Rattle.der_view.specs.Rows.{IsOpen, Undrawn, bytes_of_rows, content_bytes, content_of, ended_marks}
+use Rattle.der_view.specs.Rows.{IsNext, IsOpen, Undrawn, bytes_of_rows, content_bytes, content_of, ended_marks}
 use Rattle.der_view.specs.Rows.{own_content_of, place_of, row_len, stepped}
-use Rattle.der_view.specs.RowLaws.{ContentsAreHidden, HidesContent, IsSameRow, NextIsOne, RowsAreInput, content_at}
+use Rattle.der_view.specs.RowLaws.{HidesContent, IsSameRow, content_at}
 use Rattle.der_view.specs.Seen.{shown_view}
 use Rattle.der_view.specs.declared.header.Header.{Header}
 use Rattle.der_view.specs.declared.level.Level.{Level}
@@ -36,7 +37,8 @@ drawn_bytes input (row ∷ rows) old new (between, is, seen, more) at =
     ∙ rw (own, append_assoc (take n old.left) (bytes_of_rows input rows) new.left)
     (ap (λ tail. take n old.left ++ tail) (sym is.left ∙ after))
 
-pub rows_are_input : RowsAreInput
+pub rows_are_input : (all : Bool) (input : List ℕ) (rows : List OpenRow) → AreRows all input rows
+    → input ≡ bytes_of_rows input rows
 rows_are_input all input rows are =
     let at : are.first.left ≡ drop are.first.offset input = rw are.offset are.left in
     let bytes : are.first.left ≡ bytes_of_rows input rows ++ are.last.left =
@@ -138,7 +140,9 @@ same_content false guarded left a b x y own header =
     ap (λ (content : Option (Bor (List ℕ))). unwrap_or (option_map (λ (c : Bor (List ℕ)). c.now) content) [])
     (x.hidden refl ∙ sym (y.hidden refl))
 
-pub next_is_one : NextIsOne
+pub next_is_one : (old : Undrawn) (a b : OpenRow) (x y : Undrawn) → IsNext old a x → IsNext old b y
+    → IsOpen old.all old.plan.guarded old.left a → IsOpen old.all old.plan.guarded old.left b
+    → IsSameRow a b × (x ≡ y)
 next_is_one old a b x y p q open_a open_b =
     let s = same_steps (place_of old) old.left (slice_get old.levels 0) p.step q.step p.is_step q.is_step in
     let header : a.header.now ≡ b.header.now =
@@ -201,7 +205,8 @@ hidden_rows input (row ∷ rows) old new (between, is, seen, more) at none =
     (record { content = seen.hidden none; shown = rw here at seen.shown })
     (rw is.plan at tail)
 
-pub contents_are_hidden : ContentsAreHidden
+pub contents_are_hidden : (input : List ℕ) (rows : List OpenRow) → AreRows false input rows
+    → All (HidesContent (plan_of input).guarded input) rows
 contents_are_hidden input rows are =
     let at : are.first.left ≡ drop are.first.offset input = rw are.offset are.left in
     let hidden : All (HidesContent are.first.plan.guarded input) rows =

@@ -1,16 +1,8 @@
--- What holds of the rows of all bytes.
-use Rattle.std.specs.Prelude.{◌≡◌, List, ℕ, ◌+◌, Bool, false, length, take, drop, None, All}
-use Rattle.der_view.specs.Pictures.{AreRows}
-use Rattle.der_view.specs.Plans.{plan_of}
-use Rattle.der_view.specs.Rows.{IsNext, IsOpen, IsSeen, Undrawn, bytes_of_rows, content_bytes}
+-- What the laws of rows say of a row.
+use Rattle.std.specs.Prelude.{◌≡◌, List, ℕ, ◌+◌, Bool, length, take, drop, None}
+use Rattle.der_view.specs.Rows.{IsSeen, content_bytes}
 use Rattle.der_view.specs.Seen.{open_len, shown_view}
 use Rattle.der_view.specs.declared.row.OpenRow.{OpenRow}
-
--- The bytes of all rows, in order, are the input.
-abbrev pub RowsAreInput : Type 0
-RowsAreInput =
-    (all : Bool) (input : List ℕ) (rows : List OpenRow) → AreRows all input rows
-    → input ≡ bytes_of_rows input rows
 
 -- the rows have the same members, and the same bytes at whatever places
 pub record IsSameRow (a b : OpenRow) : Type 0 where
@@ -28,13 +20,6 @@ pub record IsSameRow (a b : OpenRow) : Type 0 where
   pub shown : shown_view a.shown ≡ shown_view b.shown
   pub content : content_bytes a ≡ content_bytes b
 
--- The next row, and what is left after it, follow from what is left before it.
-abbrev pub NextIsOne : Type 0
-NextIsOne =
-    (old : Undrawn) (a b : OpenRow) (x y : Undrawn) → IsNext old a x → IsNext old b y
-    → IsOpen old.all old.plan.guarded old.left a → IsOpen old.all old.plan.guarded old.left b
-    → IsSameRow a b × (x ≡ y)
-
 -- the bytes of the input that are the content of a row
 abbrev pub content_at : List ℕ → OpenRow → List ℕ
 content_at input row = take row.len (drop (row.offset + length row.header.now) input)
@@ -46,9 +31,3 @@ pub record HidesContent (guarded : Bool) (input : List ℕ) (row : OpenRow) : Ty
   pub shown :
       IsSeen row.kind row.shown (λ tag. open_len guarded tag row.field (content_at input row))
       (content_at input row)
-
--- Unless all contents are shown, each row hides its own.
-abbrev pub ContentsAreHidden : Type 0
-ContentsAreHidden =
-    (input : List ℕ) (rows : List OpenRow) → AreRows false input rows
-    → All (HidesContent (plan_of input).guarded input) rows

@@ -1,20 +1,29 @@
 //! Laws of the rows, for callers to cite. Each law is the contract of a function, which does
 //! nothing else.
-ghost use Rattle.der_view.specs.RowLaws.{ContentsAreHidden, NextIsOne, RowsAreInput};
+ghost use Rattle.std.specs.Prelude.{◌≡◌, All, Bool, List, ℕ, false};
+ghost use Rattle.der_view.specs.Pictures.{AreRows};
+ghost use Rattle.der_view.specs.Plans.{plan_of};
+ghost use Rattle.der_view.specs.RowLaws.{HidesContent, IsSameRow};
+ghost use Rattle.der_view.specs.Rows.{IsNext, IsOpen, Undrawn, bytes_of_rows};
+ghost use Rattle.der_view.specs.declared.row.OpenRow.{OpenRow};
 
 /// The bytes of all rows, in order, are the input: none is left out, and none is drawn twice.
 pub fn rows_are_input()
-    ensures { RowsAreInput }
+    ensures { (all : Bool) (input : List ℕ) (rows : List OpenRow) → AreRows all input rows
+        → input ≡ bytes_of_rows input rows }
 {}
 
-/// The next row is a function of the bytes that have no row yet, of the elements that are open, and
-/// of what is known of the whole input.
+/// The next row, and what is left after it, are functions of the bytes that have no row yet, of the
+/// elements that are open, and of what is known of the whole input.
 pub fn next_is_one()
-    ensures { NextIsOne }
+    ensures { (old : Undrawn) (a b : OpenRow) (x y : Undrawn) → IsNext old a x → IsNext old b y
+        → IsOpen old.all old.plan.guarded old.left a → IsOpen old.all old.plan.guarded old.left b
+        → IsSameRow a b × (x ≡ y) }
 {}
 
 /// Unless all contents are shown, no row has a content, and of its bytes no more is shown than may
-/// be seen.
+/// be seen: none of an OCTET STRING, as a private key is, and none of a long INTEGER.
 pub fn contents_are_hidden()
-    ensures { ContentsAreHidden }
+    ensures { (input : List ℕ) (rows : List OpenRow) → AreRows false input rows
+        → All (HidesContent (plan_of input).guarded input) rows }
 {}
