@@ -18,6 +18,9 @@ pub mod numbers;
 pub mod open_kinds;
 pub mod own_record;
 
+// What any input is.
+pub mod pictures;
+
 // By which kind bytes are refused, and what a refusal leaves.
 pub mod failed_readers;
 pub mod header_kinds;

@@ -1,0 +1,70 @@
+//! Pictures of any input, by `der_view`: its sources, its rows, and what no row has.
+ghost use Rattle.std.specs.Prelude.{◌≡◌, ◌≤◌, ◌∷◌, [], List, ℕ, Bool, false, length, take};
+ghost use Rattle.std.specs.Prelude.{All, IfSome, IsSomeAnd, MatchOption, None};
+ghost use Rattle.der_view.specs.Pictures.{AreRows};
+ghost use Rattle.der_view.specs.Plans.{plan_of};
+ghost use Rattle.der_view.specs.RowLaws.{HidesContent, IsSameRow};
+ghost use Rattle.der_view.specs.Rows.{bytes_of_rows};
+ghost use Rattle.der_view.specs.Sources.{Der, is_text, is_utf16, source_view};
+ghost use Rattle.der_view.specs.declared.row.OpenRow.{OpenRow};
+
+use der_view::{OpenRow, Rows, Source, Sources, laws};
+
+/// Returns the first source of an input. What is no text is its own source.
+pub fn first_source(input: &[u8]) -> Option<Source<'_>>
+    ensures { is_text input.now ≡ false → is_utf16 input.now ≡ false
+        → IsSomeAnd result (λ source. source_view source ≡ Der input.now) }
+{
+    Sources::new(input).next_source()
+}
+
+/// Returns the first row of a picture without the contents. Its header is the first bytes, and no
+/// content is in it.
+pub fn first_row(input: &[u8]) -> Option<OpenRow<'_>>
+    ensures none { result ≡ None → input.now ≡ [] }
+    ensures header { IfSome result
+        (λ row. row.header.now ≡ take (length row.header.now) input.now) }
+    ensures hidden { IfSome result (λ row. row.content ≡ None) }
+{
+    Rows::new(input, false).next_row()
+}
+
+/// Returns the number of bytes before the third row, which is at most that of all bytes.
+pub fn first_two(input: &[u8]) -> Option<usize>
+    ensures { IfSome result (λ end. end ≤ length input.now) }
+{
+    let mut rows = Rows::new(input, false);
+    let _first = rows.next_row()?;
+    let second = rows.next_row()?;
+    Some(second.offset + second.header.len() + second.own_len)
+}
+
+/// Returns the first rows of two inputs. Those of equal bytes have the same members.
+pub fn first_rows<'a>(one: &'a [u8], other: &'a [u8]) -> (Option<OpenRow<'a>>, Option<OpenRow<'a>>)
+    ensures { one.now ≡ other.now → MatchOption result.0 (result.1 ≡ None)
+        (λ row. IsSomeAnd result.1 (IsSameRow row)) }
+{
+    laws::next_is_one();
+    (
+        Rows::new(one, false).next_row(),
+        Rows::new(other, false).next_row(),
+    )
+}
+
+/// The bytes of all rows, in order, are the input.
+pub fn whole_picture()
+    ensures { (all : Bool) (input : List ℕ) (rows : List OpenRow) → AreRows all input rows
+        → input ≡ bytes_of_rows input rows }
+{
+    laws::rows_are_input();
+}
+
+/// Without all contents, each row hides its own, and has none.
+pub fn hidden_contents()
+    ensures each { (input : List ℕ) (rows : List OpenRow) → AreRows false input rows
+        → All (HidesContent (plan_of input).guarded input) rows }
+    ensures first { (input : List ℕ) (row : OpenRow) (rows : List OpenRow)
+        → AreRows false input (row ∷ rows) → row.content ≡ None }
+{
+    laws::contents_are_hidden();
+}
