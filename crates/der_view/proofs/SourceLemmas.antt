@@ -2,12 +2,11 @@
 use Rattle.std.proofs.Common.{◌≡◌, ℕ, zero, suc, ◌+◌, ◌≤◌, Bool, true, false, cond, not, List, [], ◌∷◌, ◌++◌, length}
 use Rattle.std.proofs.Common.{take, drop, Option, Some, None, refl, sym, ap, ◌∙◌, arith, append_assoc, length-append}
 use Rattle.std.proofs.Common.{length-drop, codes, nat_eq, append-nil, Result, Ok, Err, IfOk, ◌||◌, ◌&&◌, subst}
-use Rattle.std.proofs.KnownBytes.{Appends-trans}
+use Rattle.std.proofs.Math.Bool.{or-false, or_assoc}
 use Rattle.std.proofs.lemmas.Bool.{false≢true}
 use Rattle.std.proofs.lemmas.List.{length-take-le}
 use Rattle.std.proofs.lemmas.Option.{same_Some}
 use Rattle.std.proofs.lemmas.Slice.Eq.{bytes_eq-Decides}
-use Rattle.std.specs.Io.KnownBytes.{Appends}
 use Rattle.std.specs.List.{after_first, before_first, concat, ends_with, position_or_len}
 use Rattle.std.specs.Option.{option_map}
 use Rattle.std.specs.Str.{bytes_eq}
@@ -17,7 +16,7 @@ use Rattle.der_view.specs.Blocks.{BlockView, begins_with_headers, block_before, 
 use Rattle.der_view.specs.Blocks.{is_empty_line, is_key_of_openssl, is_label_of_openssl, is_of_private_key, label_of}
 use Rattle.der_view.specs.Blocks.{line_text, lines_of, with_block}
 use Rattle.der_view.specs.Headings.{Decoded, decoded_or, FoundView, found_in, heading_line, heading_of, said_text}
-use Rattle.der_view.specs.Inputs.{ArePictures, IsPictureOfSource, IsPictureOfText, reading_of}
+use Rattle.der_view.specs.Inputs.{AreTexts, IsPictureOfText, reading_of}
 use Rattle.der_view.specs.Lines.{kept, shown}
 use Rattle.der_view.specs.Pictures.{IsPicture}
 use Rattle.der_view.specs.Sources.{AreWithin, Pem, SourceView, is_text, or_text, pem_sources}
@@ -136,34 +135,11 @@ pub pem_sources-cons : (reads : Bool) (block : BlockView) (blocks : List BlockVi
     ≡ Pem block (reads && is_key_of_openssl block) ∷ pem_sources (reads && not (is_of_private_key block)) blocks
 pem_sources-cons reads block blocks = read_by (is_of_private_key block) reads block blocks refl
 
--- a picture after a heading
-pub text_drawn : {E : Type 0} (a b c : Option (List ℕ)) (all : Bool) (source : SourceView) (reading : Reading)
-    (found : FoundView) (bytes : Option (List ℕ)) (part : List ℕ) (r : Result Bool E) → reading ≡ reading_of source
-    → found ≡ found_in source → bytes ≡ Some part → Appends a b (heading_line (heading_of source found))
-    → IfOk r (λ is_key. (text : List ℕ) × Appends b c text × IsPicture all reading part text is_key)
-    → IfOk r (λ has_key. (text : List ℕ) × Appends a c text × IsPictureOfText all source bytes text has_key)
-text_drawn a b c all source reading found bytes part (Ok key) same is encoded first (text, wrote, drawn) =
-    let heading : List ℕ = heading_line (heading_of source found) in (
-      heading ++ text,
-      Appends-trans a b c heading text first wrote,
-      rw (encoded, sym same, sym is) (text, drawn, refl),
-    )
-text_drawn a b c all source reading found bytes part (Err e) same is encoded first drawn = drawn
-
-or-false : (b : Bool) → b ≡ (b || false)
-or-false true = refl
-or-false false = refl
-
-or-assoc : (a b c : Bool) → ((a || b) || c) ≡ (a || (b || c))
-or-assoc true b c = refl
-or-assoc false b c = refl
-
--- one more picture
-pub ArePictures-snoc : (all : Bool) (sources : List SourceView) (source : SourceView) (text more : List ℕ)
-    (has_key is_key : Bool)
-    → ArePictures all sources text has_key → IsPictureOfSource all source more is_key
-    → ArePictures all (sources ++ source ∷ []) (text ++ more) (has_key || is_key)
-ArePictures-snoc all [] source text more has_key is_key (none, never) is = (
+-- one more source, and its text
+pub AreTexts-snoc : (IsText : SourceView → List ℕ → Bool → Type 0) (sources : List SourceView) (source : SourceView)
+    (text more : List ℕ) (has_key is_key : Bool) → AreTexts IsText sources text has_key → IsText source more is_key
+    → AreTexts IsText (sources ++ source ∷ []) (text ++ more) (has_key || is_key)
+AreTexts-snoc IsText [] source text more has_key is_key (none, never) is = (
   more,
   [],
   is_key,
@@ -171,30 +147,18 @@ ArePictures-snoc all [] source text more has_key is_key (none, never) is = (
   is,
   (refl, refl),
   (ap (λ (t : List ℕ). t ++ more) none ∙ sym (append-nil more)),
-  (ap (λ (b : Bool). b || is_key) never ∙ or-false is_key),
+  (ap (λ (b : Bool). b || is_key) never ∙ sym (or-false is_key)),
 )
-ArePictures-snoc all (first ∷ sources) source text more has_key is_key
+AreTexts-snoc IsText (first ∷ sources) source text more has_key is_key
     (one, rest, key, others, drawn, are, whole, any) is = (
       one,
       rest ++ more,
       key,
       others || is_key,
       drawn,
-      ArePictures-snoc all sources source rest more others is_key are is,
+      AreTexts-snoc IsText sources source rest more others is_key are is,
       (ap (λ (t : List ℕ). t ++ more) whole ∙ append_assoc one rest more),
-      (ap (λ (b : Bool). b || is_key) any ∙ or-assoc key others is_key),
-    )
-
--- a text that encodes nothing
-pub text_none : (a b c : Option (List ℕ)) (all : Bool) (source : SourceView) (found : FoundView)
-    (bytes : Option (List ℕ)) → found ≡ found_in source → bytes ≡ None
-    → Appends a b (heading_line (heading_of source found)) → Appends b c (said_text found)
-    → (text : List ℕ) × Appends a c text × IsPictureOfText all source bytes text false
-text_none a b c all source found bytes is none first next =
-    let heading : List ℕ = heading_line (heading_of source found) in (
-      heading ++ said_text found,
-      Appends-trans a b c heading (said_text found) first next,
-      rw (none, sym is) (refl, refl),
+      (ap (λ (b : Bool). b || is_key) any ∙ or_assoc key others is_key),
     )
 
 -- so many bytes were decoded
@@ -211,3 +175,33 @@ heading_is None line is = cc
 heading_is (Some heading) line is =
     ap (λ (t : List ℕ). t ++ codes "\n")
     (sym (ap (λ (t : List ℕ). shown t) (same_Some line (kept heading) is) ∙ shown-kept heading))
+
+-- what is written of a text
+module _ {W : Type 0} (Writes : W → W → List ℕ → Type 0)
+    (joined : (a b c : W) (first second : List ℕ) → Writes a b first → Writes b c second → Writes a c (first ++ second))
+  where
+    -- a picture after a heading
+    pub text_drawn : {E : Type 0} (a b c : W) (all : Bool) (source : SourceView) (reading : Reading)
+        (found : FoundView) (bytes : Option (List ℕ)) (part : List ℕ) (r : Result Bool E) → reading ≡ reading_of source
+        → found ≡ found_in source → bytes ≡ Some part → Writes a b (heading_line (heading_of source found))
+        → IfOk r (λ is_key. (text : List ℕ) × Writes b c text × IsPicture all reading part text is_key)
+        → IfOk r (λ has_key. (text : List ℕ) × Writes a c text × IsPictureOfText all source bytes text has_key)
+    text_drawn a b c all source reading found bytes part (Ok key) same is encoded first (text, wrote, drawn) =
+        let heading : List ℕ = heading_line (heading_of source found) in (
+          heading ++ text,
+          joined a b c heading text first wrote,
+          rw (encoded, sym same, sym is) (text, drawn, refl),
+        )
+    text_drawn a b c all source reading found bytes part (Err e) same is encoded first drawn = drawn
+
+    -- a text that encodes nothing
+    pub text_none : (a b c : W) (all : Bool) (source : SourceView) (found : FoundView)
+        (bytes : Option (List ℕ)) → found ≡ found_in source → bytes ≡ None
+        → Writes a b (heading_line (heading_of source found)) → Writes b c (said_text found)
+        → (text : List ℕ) × Writes a c text × IsPictureOfText all source bytes text false
+    text_none a b c all source found bytes is none first next =
+        let heading : List ℕ = heading_line (heading_of source found) in (
+          heading ++ said_text found,
+          joined a b c heading (said_text found) first next,
+          rw (none, sym is) (refl, refl),
+        )

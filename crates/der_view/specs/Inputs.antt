@@ -34,10 +34,15 @@ IsPictureOfSource all (Der input) text has_key = IsPicture all readings.Der inpu
 IsPictureOfSource all source text has_key =
     IsPictureOfText all source (bytes_in source) text has_key
 
--- the pictures of sources, of which one is a key's or none
-abbrev pub ArePictures : Bool → List SourceView → List ℕ → Bool → Type 0
-ArePictures all [] text has_key = (text ≡ []) × (has_key ≡ false)
-ArePictures all (source ∷ sources) text has_key =
+-- the texts of sources, one after the other, of which one is a key's or none
+abbrev pub AreTexts : (SourceView → List ℕ → Bool → Type 0) → List SourceView → List ℕ → Bool
+    → Type 0
+AreTexts IsText [] text has_key = (text ≡ []) × (has_key ≡ false)
+AreTexts IsText (source ∷ sources) text has_key =
     (first : List ℕ) × (more : List ℕ) × (is_key : Bool) × (others : Bool)
-    × IsPictureOfSource all source first is_key × ArePictures all sources more others
+    × IsText source first is_key × AreTexts IsText sources more others
     × (text ≡ first ++ more) × (has_key ≡ (is_key || others))
+
+-- the pictures of sources
+abbrev pub ArePictures : Bool → List SourceView → List ℕ → Bool → Type 0
+ArePictures all sources text has_key = AreTexts (IsPictureOfSource all) sources text has_key

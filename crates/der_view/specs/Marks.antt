@@ -1,10 +1,12 @@
 -- The words of marks, and their kinds.
-use Rattle.std.specs.Prelude.{ℕ, ◌==◌, ◌/◌, ◌%◌, true, false, if◌then◌else◌, List, [], ◌∷◌, ◌++◌}
+use Rattle.std.specs.Prelude.{ℕ, ◌==◌, ◌%◌, true, false, if◌then◌else◌, List, [], ◌∷◌, ◌++◌}
 use Rattle.std.specs.Prelude.{Bool, ◌-◌, ◌||◌, ◌&&◌, nat_le, nat_lt, slice_index, codes, Option}
 use Rattle.std.specs.Prelude.{Some, None, unwrap_or}
-use Rattle.std.specs.Fmt.{decimal, digit_glyph}
+use Rattle.std.specs.Fmt.{decimal}
+use Rattle.hex.specs.Hex.{encode_upper}
 use Rattle.der_view.specs.ContentFaults.{content_fault}
 use Rattle.der_view.specs.Headers.{is_type}
+use Rattle.der_view.specs.RowLines.{bytes_text}
 use Rattle.der_view.specs.Seen.{ShownView, Bytes, Count, Unused}
 use Rattle.der_view.specs.Values.{universal_type}
 use Rattle.der_view.specs.declared.header.Class.{Class}
@@ -21,24 +23,16 @@ use Rattle.der_view.specs.declared.mark.Marks.{Marks}
 use Rattle.der_view.specs.declared.mark.Part.{Part}
 use Rattle.der_view.specs.declared.mark.Part.TheVariants as parts
 
--- the word for as many bytes
-abbrev pub bytes_word : ℕ → List ℕ
-bytes_word count = if count == 1 then codes "byte" else codes "bytes"
-
--- a byte in two hexadecimal digits
-abbrev pub hex_text : ℕ → List ℕ
-hex_text byte = digit_glyph true (byte / 16) ∷ digit_glyph true (byte % 16) ∷ []
-
 -- why no element is there
 abbrev pub element_words : ElementFault → List ℕ
 element_words (elements.ReservedTag tag) =
-    codes "tag " ++ (hex_text tag ++ codes " (X.690 8.1.5)")
+    codes "tag " ++ (encode_upper (tag ∷ []) ++ codes " (X.690 8.1.5)")
 element_words elements.TagCut = codes "the tag is cut off"
 element_words elements.TagTooLarge = codes "a tag number above 268,435,455"
 element_words elements.LengthCut = codes "the length is cut off"
 element_words elements.ReservedLength = codes "length byte FF (X.690 8.1.3.5)"
 element_words (elements.LongLength first) =
-    codes "length byte " ++ (hex_text first ++ codes ": more than 4 bytes of length")
+    codes "length byte " ++ (encode_upper (first ∷ []) ++ codes ": more than 4 bytes of length")
 element_words elements.LengthTooLarge = codes "a length above 16,777,215"
 element_words elements.IndefinitePrimitive =
     codes "indefinite length of a primitive element (X.690 8.1.3.2)"
@@ -82,14 +76,10 @@ part_words parts.End = codes "the end of the input"
 -- the words of a mark
 abbrev pub mark_words : Mark → List ℕ
 mark_words (marks.Missing missing announced) =
-    decimal missing
-    ++ (codes " of "
-    ++ (decimal announced ++ (codes " " ++ (bytes_word announced ++ codes " missing"))))
+    decimal missing ++ (codes " of " ++ (bytes_text announced ++ codes " missing"))
 mark_words (marks.Overlong announced left) =
-    decimal announced
-    ++ (codes " "
-    ++ (bytes_word announced
-    ++ (codes ", but the element around it has " ++ (decimal left ++ codes " left"))))
+    bytes_text announced
+    ++ (codes ", but the element around it has " ++ (decimal left ++ codes " left"))
 mark_words marks.Depth = codes "more than 64 levels: not opened"
 mark_words marks.LowTag = codes "tag number below 31 in the high form (X.690 8.1.2.2)"
 mark_words marks.PaddedTag = codes "tag number with a needless byte 80 (X.690 8.1.2.4.2)"

@@ -1,12 +1,12 @@
 //! What is marked below a row: a rule of X.690 that is broken there, or what a key has there.
-ghost use Rattle.std.specs.Prelude.{◌≡◌, Some, option_map, is_none};
-ghost use Rattle.std.specs.Fmt.{WritesOnOk};
-ghost use Rattle.der_view.specs.Marks.{bytes_word, content_words, element_words, mark_kind};
+ghost use Rattle.std.specs.Prelude.{◌≡◌, ◌≢◌, ◌++◌, ℕ, option_map, is_none};
+ghost use Rattle.der_view.specs.Lines.{kept};
+ghost use Rattle.der_view.specs.Marks.{content_words, element_words, mark_kind};
 ghost use Rattle.der_view.specs.Marks.{first_mark, mark_part, mark_words, marks_with, part_name};
 ghost use Rattle.der_view.specs.Marks.{part_words, second_mark, type_word};
 
+use crate::line::Line;
 use crate::universal::universal_name;
-use std::fmt;
 
 /// Why no element begins at some bytes.
 #[derive(Clone, Copy)]
@@ -174,57 +174,89 @@ fn part_name(part: Part) -> &'static str
     }
 }
 
-/// Prints the words of the mark.
-impl fmt::Display for Mark {
-    ghost output = { λ mark. Some (mark_words mark) };
-
-    fn fmt<W: fmt::Write>(&self, f: &mut fmt::Formatter<W>) -> fmt::Result {
-        match *self {
+impl Line {
+    /// Appends the words of a mark.
+    pub fn push_mark(&mut self, mark: Mark)
+        ensures { self.new ≡ kept (self.old ++ mark_words mark) }
+    {
+        match mark {
             Mark::Missing { missing, announced } => {
-                let bytes = bytes_word(announced);
-                write!(f, "{missing} of {announced} {bytes} missing")
+                self.push_decimal(missing);
+                self.push_str(" of ");
+                self.push_bytes_of(announced);
+                self.push_str(" missing");
             }
             Mark::Overlong { announced, left } => {
-                let bytes = bytes_word(announced);
-                write!(
-                    f,
-                    "{announced} {bytes}, but the element around it has {left} left"
-                )
+                self.push_bytes_of(announced);
+                self.push_str(", but the element around it has ");
+                self.push_decimal(left);
+                self.push_str(" left");
             }
-            Mark::Depth => f.write_str("more than 64 levels: not opened"),
-            Mark::LowTag => f.write_str("tag number below 31 in the high form (X.690 8.1.2.2)"),
-            Mark::PaddedTag => f.write_str("tag number with a needless byte 80 (X.690 8.1.2.4.2)"),
-            Mark::Length => f.write_str("length in more bytes than needed (X.690 10.1)"),
-            Mark::Indefinite => f.write_str(
-                "indefinite length (X.690 8.1.3.6); DER has definite ones (10.1)",
-            ),
-            Mark::ConstructedString => f.write_str(
-                "constructed string; DER has primitive ones (X.690 10.2)",
-            ),
-            Mark::Content(fault) => write_content(f, fault),
-            Mark::Element(fault) => write_element(f, fault),
-            Mark::Expected(part) => write!(f, "expected {}", part_words(part)),
-            Mark::Rest { damaged } => f.write_str(if damaged {
+            Mark::Depth => self.push_str("more than 64 levels: not opened"),
+            Mark::LowTag => self.push_str("tag number below 31 in the high form (X.690 8.1.2.2)"),
+            Mark::PaddedTag => {
+                self.push_str("tag number with a needless byte 80 (X.690 8.1.2.4.2)");
+            }
+            Mark::Length => self.push_str("length in more bytes than needed (X.690 10.1)"),
+            Mark::Indefinite => {
+                self.push_str("indefinite length (X.690 8.1.3.6); DER has definite ones (10.1)");
+            }
+            Mark::ConstructedString => {
+                self.push_str("constructed string; DER has primitive ones (X.690 10.2)");
+            }
+            Mark::Content(fault) => self.push_content_fault(fault),
+            Mark::Element(fault) => self.push_element_fault(fault),
+            Mark::Expected(part) => {
+                self.push_str("expected ");
+                self.push_str(part_words(part));
+            }
+            Mark::Rest { damaged } => self.push_str(if damaged {
                 "may be bytes of a damaged private key: --all draws them"
             } else {
                 "after the end of the root: --all draws them"
             }),
         }
     }
+
+    /// Appends what is wrong with a content.
+    fn push_content_fault(&mut self, fault: ContentFault)
+        ensures { self.new ≡ kept (self.old ++ content_words fault) }
+    {
+        match fault {
+            ContentFault::Characters(number) => {
+                self.push_str("not the characters of ");
+                self.push_str(type_word(number));
+            }
+            _ => self.push_str(content_words(fault)),
+        }
+    }
+
+    /// Appends why no element is there.
+    fn push_element_fault(&mut self, fault: ElementFault)
+        ensures { self.new ≡ kept (self.old ++ element_words fault) }
+    {
+        match fault {
+            ElementFault::ReservedTag(tag) => {
+                self.push_str("tag ");
+                self.push_hex(tag);
+                self.push_str(" (X.690 8.1.5)");
+            }
+            ElementFault::LongLength(first) => {
+                self.push_str("length byte ");
+                self.push_hex(first);
+                self.push_str(": more than 4 bytes of length");
+            }
+            _ => self.push_str(element_words(fault)),
+        }
+    }
 }
 
-/// Returns the word for as many bytes.
-fn bytes_word(count: usize) -> &'static str
-    ensures { result.now ≡ bytes_word count }
+/// Returns what is wrong with a content, in words without a name.
+fn content_words(fault: ContentFault) -> &'static str
+    requires { (number : ℕ) → fault ≢ ContentFault.Characters number }
+    ensures { result.now ≡ content_words fault }
 {
-    if count == 1 { "byte" } else { "bytes" }
-}
-
-/// Writes what is wrong with a content.
-fn write_content<W: fmt::Write>(f: &mut fmt::Formatter<W>, fault: ContentFault) -> fmt::Result
-    ensures { WritesOnOk W.write_str_gives f.old result (content_words fault) f.new }
-{
-    f.write_str(match fault {
+    match fault {
         ContentFault::TrueIsFf => "TRUE is FF (X.690 11.1)",
         ContentFault::BooleanLength => "BOOLEAN has 1 byte (X.690 8.2.1)",
         ContentFault::NeedlessFirstByte => "needless first byte (X.690 8.3.2)",
@@ -237,11 +269,27 @@ fn write_content<W: fmt::Write>(f: &mut fmt::Formatter<W>, fault: ContentFault) 
         ContentFault::UnusedNotZero => "unused bits that aren't 0 (X.690 11.2.1)",
         ContentFault::UtcTime => "not YYMMDDhhmmssZ (X.690 11.8)",
         ContentFault::GeneralizedTime => "not YYYYMMDDhhmmss[.f]Z (X.690 11.7)",
-        ContentFault::Characters(number) => {
-            let name = type_word(number);
-            return write!(f, "not the characters of {name}");
-        }
-    })
+        ContentFault::Characters(_) => unreachable!(),
+    }
+}
+
+/// Returns why no element is there, in words without a byte.
+fn element_words(fault: ElementFault) -> &'static str
+    requires tag { (tag : ℕ) → fault ≢ ElementFault.ReservedTag tag }
+    requires length { (first : ℕ) → fault ≢ ElementFault.LongLength first }
+    ensures { result.now ≡ element_words fault }
+{
+    match fault {
+        ElementFault::TagCut => "the tag is cut off",
+        ElementFault::TagTooLarge => "a tag number above 268,435,455",
+        ElementFault::LengthCut => "the length is cut off",
+        ElementFault::ReservedLength => "length byte FF (X.690 8.1.3.5)",
+        ElementFault::LengthTooLarge => "a length above 16,777,215",
+        ElementFault::IndefinitePrimitive =>
+            "indefinite length of a primitive element (X.690 8.1.3.2)",
+        ElementFault::NoEndOfContents => "end-of-contents is missing (X.690 8.1.5)",
+        ElementFault::ReservedTag(_) | ElementFault::LongLength(_) => unreachable!(),
+    }
 }
 
 /// Returns the name of the type of X.680 with this tag number; nothing if it has none.
@@ -252,27 +300,6 @@ fn type_word(number: u32) -> &'static str
         Some(name) => name,
         None => "",
     }
-}
-
-/// Writes why no element is there.
-fn write_element<W: fmt::Write>(f: &mut fmt::Formatter<W>, fault: ElementFault) -> fmt::Result
-    ensures { WritesOnOk W.write_str_gives f.old result (element_words fault) f.new }
-{
-    f.write_str(match fault {
-        ElementFault::ReservedTag(tag) => return write!(f, "tag {tag:02X} (X.690 8.1.5)"),
-        ElementFault::TagCut => "the tag is cut off",
-        ElementFault::TagTooLarge => "a tag number above 268,435,455",
-        ElementFault::LengthCut => "the length is cut off",
-        ElementFault::ReservedLength => "length byte FF (X.690 8.1.3.5)",
-        ElementFault::LongLength(first) => return write!(
-            f,
-            "length byte {first:02X}: more than 4 bytes of length"
-        ),
-        ElementFault::LengthTooLarge => "a length above 16,777,215",
-        ElementFault::IndefinitePrimitive =>
-            "indefinite length of a primitive element (X.690 8.1.3.2)",
-        ElementFault::NoEndOfContents => "end-of-contents is missing (X.690 8.1.5)",
-    })
 }
 
 /// Returns what a key has, in the words of RFC 5915 section 3.

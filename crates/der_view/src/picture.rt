@@ -2,9 +2,9 @@
 ghost use Rattle.hex.specs.Hex.{encode_upper};
 ghost use Rattle.std.specs.Prelude.{◌≡◌, ◌++◌, ◌∷◌, ◌≤◌, ◌+◌, ◌*◌, [], ℕ, List, length, IfOk, OnOk};
 ghost use Rattle.std.specs.Prelude.{codes, option_map};
-ghost use Rattle.std.specs.Io.KnownBytes.{Appends};
 ghost use Rattle.der_view.specs.Blocks.{block_view};
 ghost use Rattle.der_view.specs.Lines.{kept, shown};
+ghost use Rattle.der_view.specs.Marks.{mark_words};
 ghost use Rattle.der_view.specs.Pictures.{AreRows, IsKey, IsPicture, command_text};
 ghost use Rattle.der_view.specs.Pictures.{content_piece, content_text, lead_text, line_front};
 ghost use Rattle.der_view.specs.Pictures.{mark_text, row_text, rows_text, verdict_text};
@@ -26,14 +26,13 @@ mod verdict;
 
 use crate::line::Line;
 use crate::mark::Mark;
+use crate::output::Output;
 use crate::row::OpenRow;
 use crate::rows::Rows;
 use crate::text::{Block, Encoding, Found, Note, Source, Sources, text_len};
 pub use facts::Facts;
 use lines::row_line;
 use sec1::EcPrivateKey;
-use std::io;
-use std::io::Write as _;
 pub use verdict::{Reading, Subject, Verdict};
 
 /// The hexadecimal digits.
@@ -47,15 +46,15 @@ const DIGITS: &[u8; 16] = b"0123456789ABCDEF";
 /// # Errors
 ///
 /// An error of the writer.
-pub fn draw<W: io::Write>(
+pub fn draw<W: Output>(
     writer: &mut W,
     input: &[u8],
     room: &mut [u8],
     all: bool,
-) -> io::Result<bool>
+) -> Result<bool, W::Error>
     requires { 2 * text_len input.now + 2 ≤ length room.old }
     ensures { IfOk result (λ has_key. (text : List ℕ)
-        × Appends (W.contents writer.old) (W.contents writer.new) text
+        × W.appends writer.old writer.new text
         × ArePictures all (sources_of input.now) text has_key) }
 {
     let (digits, bytes) = room.split_at_mut(text_len(input));
@@ -69,17 +68,17 @@ pub fn draw<W: io::Write>(
 }
 
 /// Writes the picture of a source. Returns whether it is a key's.
-fn draw_source<W: io::Write>(
+fn draw_source<W: Output>(
     writer: &mut W,
     source: &Source,
     digits: &mut [u8],
     bytes: &mut [u8],
     all: bool,
-) -> io::Result<bool>
+) -> Result<bool, W::Error>
     requires digits { source_len (source_view source.now) ≤ length digits.old }
     requires bytes { source_len (source_view source.now) + 2 ≤ length bytes.old }
     ensures { IfOk result (λ has_key. (text : List ℕ)
-        × Appends (W.contents writer.old) (W.contents writer.new) text
+        × W.appends writer.old writer.new text
         × IsPictureOfSource all (source_view source.now) text has_key) }
 {
     match source {
@@ -89,17 +88,17 @@ fn draw_source<W: io::Write>(
 }
 
 /// Writes the picture of a source that is text. Returns whether it is a key's.
-fn draw_text<W: io::Write>(
+fn draw_text<W: Output>(
     writer: &mut W,
     source: &Source,
     digits: &mut [u8],
     bytes: &mut [u8],
     all: bool,
-) -> io::Result<bool>
+) -> Result<bool, W::Error>
     requires digits { source_len (source_view source.now) ≤ length digits.old }
     requires bytes { source_len (source_view source.now) + 2 ≤ length bytes.old }
     ensures { IfOk result (λ has_key. (text : List ℕ)
-        × Appends (W.contents writer.old) (W.contents writer.new) text
+        × W.appends writer.old writer.new text
         × IsPictureOfText all (source_view source.now) (bytes_in (source_view source.now))
         text has_key) }
 {
@@ -116,8 +115,8 @@ fn draw_text<W: io::Write>(
 }
 
 /// Writes the line above the picture of a source, if it has one.
-fn write_heading<W: io::Write>(writer: &mut W, source: &Source, found: &Found) -> io::Result<()>
-    ensures { OnOk result (Appends (W.contents writer.old) (W.contents writer.new)
+fn write_heading<W: Output>(writer: &mut W, source: &Source, found: &Found) -> Result<(), W::Error>
+    ensures { OnOk result (W.appends writer.old writer.new
         (heading_line (heading_of (source_view source.now) (found_view found.now)))) }
 {
     match source.heading(found) {
@@ -127,14 +126,14 @@ fn write_heading<W: io::Write>(writer: &mut W, source: &Source, found: &Found) -
 }
 
 /// Writes the picture of bytes. Returns whether they are a key's.
-fn draw_bytes<W: io::Write>(
+fn draw_bytes<W: Output>(
     writer: &mut W,
     bytes: &[u8],
     reading: Reading,
     all: bool,
-) -> io::Result<bool>
+) -> Result<bool, W::Error>
     ensures { IfOk result (λ is_key. (text : List ℕ)
-        × Appends (W.contents writer.old) (W.contents writer.new) text
+        × W.appends writer.old writer.new text
         × IsPicture all reading bytes.now text is_key) }
 {
     write_rows(writer, bytes, all)?;
@@ -151,9 +150,9 @@ pub fn is_key(bytes: &[u8]) -> bool
 }
 
 /// Writes the rows of bytes.
-fn write_rows<W: io::Write>(writer: &mut W, bytes: &[u8], all: bool) -> io::Result<()>
+fn write_rows<W: Output>(writer: &mut W, bytes: &[u8], all: bool) -> Result<(), W::Error>
     ensures { OnOk result ((rows : List OpenRow) × AreRows all bytes.now rows
-        × Appends (W.contents writer.old) (W.contents writer.new) (rows_text rows)) }
+        × W.appends writer.old writer.new (rows_text rows)) }
 {
     let mut rows = Rows::new(bytes, all);
     while let Some(row) = rows.next_row() {
@@ -163,13 +162,13 @@ fn write_rows<W: io::Write>(writer: &mut W, bytes: &[u8], all: bool) -> io::Resu
 }
 
 /// Writes the lines of a row: its own, those of its content if all is shown, and its marks.
-fn write_row<W: io::Write>(writer: &mut W, row: &OpenRow) -> io::Result<()>
+fn write_row<W: Output>(writer: &mut W, row: &OpenRow) -> Result<(), W::Error>
     ensures { OnOk result
-        (Appends (W.contents writer.old) (W.contents writer.new) (row_text row.now)) }
+        (W.appends writer.old writer.new (row_text row.now)) }
 {
-    writer.write_all(row_line(row).as_bytes())?;
+    writer.push(row_line(row).as_bytes())?;
     write_content(writer, content_bytes(row))?;
-    writer.write_all(b"\n")?;
+    writer.push(b"\n")?;
     write_marks(writer, row.marks.first(), row.marks.second())
 }
 
@@ -184,12 +183,12 @@ fn content_bytes<'a>(row: &OpenRow<'a>) -> &'a [u8]
 }
 
 /// Writes the lines of two marks, or of as many as there are.
-fn write_marks<W: io::Write>(
+fn write_marks<W: Output>(
     writer: &mut W,
     first: Option<Mark>,
     second: Option<Mark>,
-) -> io::Result<()>
-    ensures { OnOk result (Appends (W.contents writer.old) (W.contents writer.new)
+) -> Result<(), W::Error>
+    ensures { OnOk result (W.appends writer.old writer.new
         (mark_text first ++ mark_text second)) }
 {
     write_mark(writer, first)?;
@@ -197,9 +196,9 @@ fn write_marks<W: io::Write>(
 }
 
 /// Writes a content in lines of 16 bytes, each after the end of the line before.
-fn write_content<W: io::Write>(writer: &mut W, content: &[u8]) -> io::Result<()>
+fn write_content<W: Output>(writer: &mut W, content: &[u8]) -> Result<(), W::Error>
     ensures { OnOk result
-        (Appends (W.contents writer.old) (W.contents writer.new) (content_text 0 content.now)) }
+        (W.appends writer.old writer.new (content_text 0 content.now)) }
 {
     for (index, byte) in content.iter().enumerate() {
         write_byte(writer, index, *byte)?;
@@ -208,12 +207,12 @@ fn write_content<W: io::Write>(writer: &mut W, content: &[u8]) -> io::Result<()>
 }
 
 /// Writes a byte of a content that so many bytes are before: each 16th begins a line.
-fn write_byte<W: io::Write>(writer: &mut W, index: usize, byte: u8) -> io::Result<()>
+fn write_byte<W: Output>(writer: &mut W, index: usize, byte: u8) -> Result<(), W::Error>
     ensures { OnOk result
-        (Appends (W.contents writer.old) (W.contents writer.new) (content_piece index byte)) }
+        (W.appends writer.old writer.new (content_piece index byte)) }
 {
-    writer.write_all(line_front(index))?;
-    writer.write_all(&hex_word(byte))
+    writer.push(line_front(index))?;
+    writer.push(&hex_word(byte))
 }
 
 /// Returns what stands before a byte of a content that so many bytes are before.
@@ -238,30 +237,40 @@ fn hex_word(byte: u8) -> [u8; 3]
 }
 
 /// Writes the line of a mark, if there is one.
-fn write_mark<W: io::Write>(writer: &mut W, mark: Option<Mark>) -> io::Result<()>
+fn write_mark<W: Output>(writer: &mut W, mark: Option<Mark>) -> Result<(), W::Error>
     ensures { OnOk result
-        (Appends (W.contents writer.old) (W.contents writer.new) (mark_text mark)) }
+        (W.appends writer.old writer.new (mark_text mark)) }
 {
     match mark {
-        Some(mark) => write!(writer, "     ^ {mark}\n"),
+        Some(mark) => write_line(writer, mark_line(mark)),
         None => Ok(()),
     }
 }
 
+/// Returns the line of a mark.
+fn mark_line(mark: Mark) -> Line
+    ensures { result ≡ kept (codes "     ^ " ++ mark_words mark) }
+{
+    let mut line = Line::new();
+    line.push_str("     ^ ");
+    line.push_mark(mark);
+    line
+}
+
 /// Writes a line, shortened to 100 characters, and its end.
-fn write_line<W: io::Write>(writer: &mut W, line: Line) -> io::Result<()>
+fn write_line<W: Output>(writer: &mut W, line: Line) -> Result<(), W::Error>
     ensures { OnOk result
-        (Appends (W.contents writer.old) (W.contents writer.new) (shown line ++ codes "\n")) }
+        (W.appends writer.old writer.new (shown line ++ codes "\n")) }
 {
     let mut line = line;
     line.finish();
-    writer.write_all(line.as_bytes())?;
-    writer.write_all(b"\n")
+    writer.push(line.as_bytes())?;
+    writer.push(b"\n")
 }
 
 /// Writes what is said of bytes.
-fn write_verdict<W: io::Write>(writer: &mut W, verdict: Verdict) -> io::Result<()>
-    ensures { OnOk result (Appends (W.contents writer.old) (W.contents writer.new)
+fn write_verdict<W: Output>(writer: &mut W, verdict: Verdict) -> Result<(), W::Error>
+    ensures { OnOk result (W.appends writer.old writer.new
         (verdict_text (verdict_view verdict))) }
 {
     let Verdict {
@@ -275,31 +284,36 @@ fn write_verdict<W: io::Write>(writer: &mut W, verdict: Verdict) -> io::Result<(
 }
 
 /// Writes the line of a lead, if there is one.
-fn write_lead<W: io::Write>(writer: &mut W, lead: &str) -> io::Result<()>
+fn write_lead<W: Output>(writer: &mut W, lead: &str) -> Result<(), W::Error>
     ensures { OnOk result
-        (Appends (W.contents writer.old) (W.contents writer.new) (lead_text lead.now)) }
+        (W.appends writer.old writer.new (lead_text lead.now)) }
 {
     if lead.len() == 0 {
         Ok(())
     } else {
-        write!(writer, "{lead}\n")
+        writer.push(lead.as_bytes())?;
+        writer.push(b"\n")
     }
 }
 
 /// Writes the line of a command, if there is one.
-fn write_command<W: io::Write>(writer: &mut W, command: Option<&str>) -> io::Result<()>
-    ensures { OnOk result (Appends (W.contents writer.old) (W.contents writer.new)
+fn write_command<W: Output>(writer: &mut W, command: Option<&str>) -> Result<(), W::Error>
+    ensures { OnOk result (W.appends writer.old writer.new
         (command_text (option_map (λ text. text.now) command.entry))) }
 {
     match command {
-        Some(command) => write!(writer, "  {command}\n"),
+        Some(command) => {
+            writer.push(b"  ")?;
+            writer.push(command.as_bytes())?;
+            writer.push(b"\n")
+        }
         None => Ok(()),
     }
 }
 
 /// Writes what is said of a source that isn't drawn.
-fn write_note<W: io::Write>(writer: &mut W, note: Note) -> io::Result<()>
-    ensures { OnOk result (Appends (W.contents writer.old) (W.contents writer.new)
+fn write_note<W: Output>(writer: &mut W, note: Note) -> Result<(), W::Error>
+    ensures { OnOk result (W.appends writer.old writer.new
         (said_text (Said (note_view note)))) }
 {
     write_lead(writer, note.words)?;

@@ -21,54 +21,6 @@ use Rattle.sec1_dump.specs.Json.{picture_bytes}
 use Rattle.sec1_dump.specs.Json.{found_verdict, shown_verdict}
 use Rattle.sec1_dump.specs.Objects.{front_data, last_data, row_data}
 
-rows_lines-snoc : (rows : List OpenRow) (row : OpenRow)
-    → rows_lines (rows ++ row ∷ []) ≡ rows_lines rows ++ json_line (row_data row)
-rows_lines-snoc [] row = append-nil (json_line (row_data row))
-rows_lines-snoc (first ∷ rows) row =
-    ap (λ text. json_line (row_data first) ++ text) (rows_lines-snoc rows row)
-    ∙ sym (append_assoc (json_line (row_data first)) (rows_lines rows) (json_line (row_data row)))
-
--- rows that are written, and one more of them
-pub rows_written : (a b c : Option (List ℕ)) (rows : List OpenRow) (row : OpenRow) → Appends a b (rows_lines rows)
-    → Appends b c (json_line (row_data row)) → Appends a c (rows_lines (rows ++ row ∷ []))
-rows_written a b c rows row first next =
-    rw (rows_lines-snoc rows row) (Appends-trans a b c (rows_lines rows) (json_line (row_data row)) first next)
-
-or-false : (b : Bool) → b ≡ (b || false)
-or-false true = refl
-or-false false = refl
-
-or-assoc : (a b c : Bool) → ((a || b) || c) ≡ (a || (b || c))
-or-assoc true b c = refl
-or-assoc false b c = refl
-
--- one more source, and its lines
-pub AreJson-snoc : (all : Bool) (file : Option (List ℕ)) (sources : List SourceView) (source : SourceView)
-    (text more : List ℕ) (has_key is_key : Bool) → AreJson all file sources text has_key
-    → IsJsonOfSource all file source more is_key
-    → AreJson all file (sources ++ source ∷ []) (text ++ more) (has_key || is_key)
-AreJson-snoc all file [] source text more has_key is_key (none, never) is = (
-  more,
-  [],
-  is_key,
-  false,
-  is,
-  (refl, refl),
-  (ap (λ (t : List ℕ). t ++ more) none ∙ sym (append-nil more)),
-  (ap (λ (b : Bool). b || is_key) never ∙ or-false is_key),
-)
-AreJson-snoc all file (first ∷ sources) source text more has_key is_key
-    (one, rest, key, others, shown, are, whole, any) is = (
-      one,
-      rest ++ more,
-      key,
-      others || is_key,
-      shown,
-      AreJson-snoc all file sources source rest more others is_key are is,
-      (ap (λ (t : List ℕ). t ++ more) whole ∙ append_assoc one rest more),
-      (ap (λ (b : Bool). b || is_key) any ∙ or-assoc key others is_key),
-    )
-
 -- the lines of a source, from the first one and the others
 pub source_shown : {E : Type 0} (a b c : Option (List ℕ)) (all : Bool) (file : Option (List ℕ)) (source : SourceView)
     (found : FoundView) (front : Data) (bytes : Option (List ℕ)) (r : Result Bool E) → found ≡ found_in source

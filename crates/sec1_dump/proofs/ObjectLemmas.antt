@@ -120,7 +120,7 @@ field_plain row ms others =
 
 fault_plain : (mark : Mark) → has_float (fault_data mark) ≡ false
 fault_plain mark =
-    let all = plain (codes "words") (string (mark_words mark)) _ refl
+    let all = plain (codes "words") (line_data (mark_words mark)) _ refl
     (plain_if (codes "part") (option_map string (mark_part mark)) _ (text_plain (mark_part mark))
     (plain (codes "kind") (string (mark_kind mark)) no_members refl (record { none = refl }))) in
     all.none

@@ -1,12 +1,12 @@
 -- The pictures of an input as lines of JSON.
-use Rattle.std.specs.Prelude.{◌≡◌, ℕ, Bool, false, ◌||◌, List, [], ◌∷◌, ◌++◌, codes}
+use Rattle.std.specs.Prelude.{◌≡◌, ℕ, Bool, false, List, [], ◌++◌, codes}
 use Rattle.std.specs.Prelude.{Option, Some, None}
 use Rattle.std.specs.List.{flat_map}
 use Rattle.serde_json.specs.Data.{Data}
 use Rattle.serde_json.specs.Written.{compact_text}
 use Rattle.der_view.specs.Contents.{bytes_in}
 use Rattle.der_view.specs.Headings.{FoundView, Said, found_in}
-use Rattle.der_view.specs.Inputs.{reading_of}
+use Rattle.der_view.specs.Inputs.{AreTexts, reading_of}
 use Rattle.der_view.specs.Lines.{shown}
 use Rattle.der_view.specs.Pictures.{AreRows, IsKey, IsSubject, verdict_on}
 use Rattle.der_view.specs.Sources.{SourceView, Der}
@@ -71,10 +71,6 @@ IsJsonOfSource all file source text is_key =
     (rest : List ℕ) × IsJsonUnlessNone all source (picture_bytes source) rest is_key
     × (text ≡ json_line (front_data file source (found_in source)) ++ rest)
 
--- the lines of sources, of which one is a key's or none
+-- the lines of sources of a file with this name
 abbrev pub AreJson : Bool → Option (List ℕ) → List SourceView → List ℕ → Bool → Type 0
-AreJson all file [] text has_key = (text ≡ []) × (has_key ≡ false)
-AreJson all file (source ∷ sources) text has_key =
-    (first : List ℕ) × (more : List ℕ) × (is_key : Bool) × (others : Bool)
-    × IsJsonOfSource all file source first is_key × AreJson all file sources more others
-    × (text ≡ first ++ more) × (has_key ≡ (is_key || others))
+AreJson all file sources text has_key = AreTexts (IsJsonOfSource all file) sources text has_key

@@ -99,7 +99,7 @@ with_field row members =
 -- a mark; of one that expects a part of a key, also the name of the part
 abbrev pub fault_data : Mark → Data
 fault_data mark =
-    object (put (codes "words") (string (mark_words mark))
+    object (put (codes "words") (line_data (mark_words mark))
     (put_if (codes "part") (option_map string (mark_part mark))
     (put (codes "kind") (string (mark_kind mark)) no_members)))
 

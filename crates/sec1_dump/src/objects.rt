@@ -172,8 +172,10 @@ fn fault(alloc: Global, mark: Mark) -> Result<Value, AllocError>
     put(&mut members, alloc, "kind", kind)?;
     let part = text(alloc, mark.part())?;
     put_if(alloc, &mut members, "part", part)?;
-    let words = format!(in alloc; "{mark}")?;
-    put(&mut members, alloc, "words", Value::from(words))?;
+    let mut words = Line::new();
+    words.push_mark(mark);
+    let words = characters(alloc, Characters::latin1(words.as_bytes()))?;
+    put(&mut members, alloc, "words", words)?;
     Ok(Value::from(members))
 }
 

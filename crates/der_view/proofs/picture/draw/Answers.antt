@@ -1,13 +1,13 @@
 use Rattle.std.proofs.Common.{[], ◌∷◌, ◌++◌, ◌≡◌, List, ap, append-nil, append_assoc, refl, sym, ◌∙◌, arith}
-use Rattle.std.proofs.KnownBytes.{Appends-nil, Appends-trans}
 use Rattle.der_view.specs.Sources.{SourceView, source_view, sources_of}
-use Rattle.der_view.proofs.SourceLemmas.{ArePictures-snoc}
+use Rattle.der_view.proofs.SourceLemmas.{AreTexts-snoc}
+use Rattle.der_view.specs.Inputs.{IsPictureOfSource}
 use Rattle.der_view.proofs.picture.draw.Goals as goal
 
 pub loop-source-init : goal.loop-source-init
 loop-source-init g c = record {
   within = c.new-sources.ensures.within;
-  drawn = ([], [], Appends-nil _, (refl, refl), sym c.new-sources.ensures.sources);
+  drawn = ([], [], g.met.W.Output.nothing _, (refl, refl), sym c.new-sources.ensures.sources);
 }
 
 pub draw_source-requires-clause-digits : goal.draw_source-requires-clause-digits
@@ -30,8 +30,8 @@ loop-source-preserved g c =
       drawn = (
         old.0 ++ source_view c.in-Some.source ∷ [],
         old.1 ++ new.0,
-        Appends-trans _ _ _ old.1 new.0 old.2 new.1,
-        (ArePictures-snoc c.args.all old.0 (source_view c.in-Some.source) old.1 new.0 _ _ old.3 new.2),
+        g.met.W.Output.joined _ _ _ old.1 new.0 old.2 new.1,
+        (AreTexts-snoc (IsPictureOfSource c.args.all) old.0 (source_view c.in-Some.source) old.1 new.0 _ _ old.3 new.2),
         old.4
             ∙ (ap (λ (rest : List SourceView). old.0 ++ rest) c.in-Some.ensures
             ∙ sym (append_assoc old.0 (source_view c.in-Some.source ∷ []) _)),

@@ -1,5 +1,4 @@
 use Rattle.std.proofs.Common.{◌≡◌, ℕ, List, ◌++◌, length}
-use Rattle.std.specs.Io.KnownBytes.{Appends}
 use Rattle.der_view.specs.Inputs.{ArePictures}
 use Rattle.der_view.specs.Sources.{AreWithin, SourceView, sources_of, text_len}
 use Rattle.der_view.proofs.picture.draw.Given as goal
@@ -9,7 +8,7 @@ invariant-loop-source g l = record {
   within : AreWithin (text_len l.input) l.sources;
   drawn :
       (done : List SourceView) × (text : List ℕ)
-      × Appends (g.W.Write.contents l.initial.writer) (g.W.Write.contents l.writer) text
+      × g.W.Output.appends l.initial.writer l.writer text
       × ArePictures l.all done text l.has_key × (sources_of l.input ≡ done ++ l.sources);
 }
 

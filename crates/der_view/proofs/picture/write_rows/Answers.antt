@@ -1,17 +1,17 @@
 use Rattle.std.proofs.Common.{[], ◌∷◌, ◌++◌, refl}
-use Rattle.std.proofs.KnownBytes.{Appends-nil}
 use Rattle.der_view.proofs.PictureLemmas.{AreRowsOf-snoc, rows_written}
+use Rattle.der_view.specs.Pictures.{row_text}
 use Rattle.der_view.proofs.picture.write_rows.Goals as goal
 
 pub loop-row-init : goal.loop-row-init
-loop-row-init g c = ([], refl, Appends-nil _)
+loop-row-init g c = ([], refl, g.met.W.Output.nothing _)
 
 pub loop-row-preserved : goal.loop-row-preserved
 loop-row-preserved g c =
     let rows = c.loop-row.invariant.0 in (
       rows ++ c.in-Some.row ∷ [],
       AreRowsOf-snoc rows c.in-Some.row _ _ _ c.loop-row.invariant.1 c.in-Some.ensures.next c.in-Some.ensures.open,
-      rows_written _ _ _ rows c.in-Some.row c.loop-row.invariant.2 c.in_ok-write_row.ensures,
+      rows_written g.W.Output.appends g.met.W.Output.joined row_text _ _ _ rows c.in-Some.row c.loop-row.invariant.2 c.in_ok-write_row.ensures,
     )
 
 pub returns : goal.returns

@@ -1,7 +1,8 @@
 use Rattle.std.proofs.Common.{[], ◌∷◌, ◌++◌, ◌≡◌, List, ap, append-nil, append_assoc, option_map, refl, sym, ◌∙◌, arith}
 use Rattle.std.proofs.KnownBytes.{Appends-nil, Appends-trans}
 use Rattle.der_view.specs.Sources.{SourceView, source_view, sources_of}
-use Rattle.sec1_dump.proofs.JsonLemmas.{AreJson-snoc}
+use Rattle.der_view.proofs.SourceLemmas.{AreTexts-snoc}
+use Rattle.sec1_dump.specs.Json.{IsJsonOfSource}
 use Rattle.sec1_dump.proofs.json.write_json.Goals as goal
 
 pub loop-source-init : goal.loop-source-init
@@ -31,8 +32,8 @@ loop-source-preserved g c =
         old.0 ++ source_view c.in-Some.source ∷ [],
         old.1 ++ new.0,
         Appends-trans _ _ _ old.1 new.0 old.2 new.1,
-        (AreJson-snoc c.args.all (option_map (λ name. name.now) c.args.file) old.0 (source_view c.in-Some.source)
-            old.1 new.0 _ _ old.3 new.2),
+        (AreTexts-snoc (IsJsonOfSource c.args.all (option_map (λ name. name.now) c.args.file)) old.0
+            (source_view c.in-Some.source) old.1 new.0 _ _ old.3 new.2),
         old.4
             ∙ (ap (λ (rest : List SourceView). old.0 ++ rest) c.in-Some.ensures
             ∙ sym (append_assoc old.0 (source_view c.in-Some.source ∷ []) _)),
