@@ -108,9 +108,9 @@ abbrev pub is_cut : Child → Bool
 is_cut child = nat_lt (len_of child) child.announced
 
 -- Whether inside the child is what is inside this field. RFC 5915 section 3: the parameters are one
--- ECParameters, which names a curve or gives it by a SEQUENCE, and the public key is one BIT STRING,
--- each with an explicit tag. RFC 5958 section 2 and RFC 7292 section 4: AlgorithmIdentifier and
--- ContentInfo begin with an identifier.
+-- ECParameters, which names a curve or gives it by a SEQUENCE, and the public key is one BIT
+-- STRING, each with an explicit tag. RFC 5958 section 2 and RFC 7292 section 4: an
+-- AlgorithmIdentifier and a ContentInfo begin with an identifier.
 abbrev pub has_content : Field → Child → Bool
 has_content fields.Parameters child =
     child.alone && (child.inner == 0x06 || child.inner == 0x30)

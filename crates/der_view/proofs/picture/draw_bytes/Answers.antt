@@ -8,8 +8,8 @@ returns g c =
     let rows = c.in_ok-write_rows.ensures.0 in (
       rows_text rows ++ verdict_text (verdict_on c.new.result c.is_key-is_key.result),
       g.met.W.Output.joined _ _ _ _ _ c.in_ok-write_rows.ensures.2
-          (verdict_as g.W.Output.appends g.met.W.Output.joined _ _ _ (verdict_on c.new.result c.is_key-is_key.result) c.verdict.ensures
-          c.in_ok-write_verdict.ensures),
+          (verdict_as g.W.Output.appends g.met.W.Output.joined _ _ _ (verdict_on c.new.result c.is_key-is_key.result)
+          c.verdict.ensures c.in_ok-write_verdict.ensures),
       record {
         rows = rows;
         subject = c.new.result;

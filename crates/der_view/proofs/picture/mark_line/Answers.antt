@@ -6,4 +6,5 @@ use Rattle.der_view.proofs.picture.mark_line.Goals as goal
 pub returns : goal.returns
 returns c =
     rw c.new-line.ensures
-    at (kept-next c.new-line.result (codes "     ^ ") (mark_words c.args.mark) _ _ c.push_str.ensures c.push_mark.ensures)
+    at (kept-next c.new-line.result (codes "     ^ ") (mark_words c.args.mark) _ _ c.push_str.ensures
+    c.push_mark.ensures)

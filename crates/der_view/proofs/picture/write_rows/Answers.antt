@@ -11,7 +11,8 @@ loop-row-preserved g c =
     let rows = c.loop-row.invariant.0 in (
       rows ++ c.in-Some.row ∷ [],
       AreRowsOf-snoc rows c.in-Some.row _ _ _ c.loop-row.invariant.1 c.in-Some.ensures.next c.in-Some.ensures.open,
-      rows_written g.W.Output.appends g.met.W.Output.joined row_text _ _ _ rows c.in-Some.row c.loop-row.invariant.2 c.in_ok-write_row.ensures,
+      rows_written g.W.Output.appends g.met.W.Output.joined row_text _ _ _ rows c.in-Some.row
+          c.loop-row.invariant.2 c.in_ok-write_row.ensures,
     )
 
 pub returns : goal.returns
