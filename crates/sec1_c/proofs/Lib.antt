@@ -6,6 +6,7 @@ pub mod FieldLemmas
 pub mod HexTextLemmas
 pub mod NameLemmas
 pub mod NumberLemmas
+pub mod PictureLemmas
 pub mod PlaceLemmas
 pub mod PointLemmas
 pub mod PrivateKeyLemmas

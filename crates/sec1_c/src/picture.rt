@@ -13,7 +13,7 @@ use der_view::{Source, Sources, draw, room_len};
 use lines::Lines;
 pub use lines::PictureLine;
 use sec1::der::ErrorKind;
-use text::{Counter, Text};
+use text::Text;
 
 /// Writes the picture of an input at the beginning of `text`, and stores its length and whether
 /// some part of the input is a key (RFC 5915 section 3), as 1 or 0. With `all` other than 0 every
@@ -33,13 +33,12 @@ pub extern "C" fn sec1_picture_draw(
     len: &mut usize,
     is_key: &mut usize,
 ) -> u32
-    ensures drawn { result ≡ 0
-        → IsDrawn input.now all text.old text.new len.new is_key.new }
+    ensures exact { length text.old + min (2 * text_len input.now + 2) (2 ^ 64 - 1)
+        ≤ length room.old
+        → IsDrawn input.now all text.old text.new result len.new is_key.new }
     ensures buffer { length room.old
         < length text.old + min (2 * text_len input.now + 2) (2 ^ 64 - 1)
-        → (result ≡ 7) × (len.new ≡ 0) }
-    ensures short { result ≢ 0
-        → (result ≡ 7) × (text.new ≡ text.old) × (is_key.new ≡ 0) }
+        → (result ≡ 7) × (len.new ≡ 0) × (text.new ≡ text.old) × (is_key.new ≡ 0) }
 {
     *len = 0;
     *is_key = 0;
@@ -48,16 +47,16 @@ pub extern "C" fn sec1_picture_draw(
     }
     let (copy, room) = room.split_at_mut(text.len());
     let mut writer = Text::new(copy);
-    if let Ok(has_key) = draw(&mut writer, input, room, all != 0)
-        && write_bytes(writer.as_bytes(), text, len) == OK
-    {
-        *is_key = if has_key { 1 } else { 0 };
-        return OK;
+    let has_key = match draw(&mut writer, input, room, all != 0) {
+        Ok(has_key) => has_key,
+        Err(never) => match never {},
+    };
+    if text.len() < writer.len() {
+        *len = writer.len();
+        return kind_number(ErrorKind::Buffer);
     }
-    let mut counter = Counter::new();
-    let _ = draw(&mut counter, input, room, all != 0);
-    *len = counter.len();
-    kind_number(ErrorKind::Buffer)
+    *is_key = usize::from(has_key);
+    write_bytes(writer.as_bytes(), text, len)
 }
 
 /// Stores what each line of the picture of an input is of, and their number. What is decoded is
