@@ -1,4 +1,5 @@
 pub mod ArcLemmas
+pub mod BareLemmas
 pub mod BlockLemmas
 pub mod CertificateLemmas
 pub mod CharacterLemmas
@@ -6,15 +7,19 @@ pub mod ChildLemmas
 pub mod ContainerLemmas
 pub mod EncodedLemmas
 pub mod ForestLemmas
+pub mod HeaderLemmas
+pub mod KeyPlanLemmas
 pub mod KindLemmas
 pub mod LevelLemmas
 pub mod LineLemmas
 pub mod NameLemmas
+pub mod OpenLemmas
 pub mod PictureLemmas
 pub mod PlaceLemmas
 pub mod PublicKeyLemmas
 pub mod RowLemmas
 pub mod RowLineLemmas
+pub mod SameLemmas
 pub mod SeenLemmas
 pub mod SetLemmas
 pub mod SignatureLemmas

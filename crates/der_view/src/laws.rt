@@ -6,6 +6,7 @@ ghost use Rattle.der_view.specs.Plans.{plan_of};
 ghost use Rattle.der_view.specs.RowLaws.{HidesContent, IsSameRow};
 ghost use Rattle.der_view.specs.Rows.{IsNext, IsOpen, Undrawn, bytes_of_rows};
 ghost use Rattle.der_view.specs.declared.row.OpenRow.{OpenRow};
+ghost use Rattle.der_view.specs.OpenLaws.{OpenBytesDecide};
 
 /// The bytes of all rows, in order, are the input: none is left out, and none is drawn twice.
 pub fn rows_are_input()
@@ -26,4 +27,9 @@ pub fn next_is_one()
 pub fn contents_are_hidden()
     ensures { (input : List ℕ) (rows : List OpenRow) → AreRows false input rows
         → All (HidesContent (plan_of input).guarded input) rows }
+{}
+
+/// Inputs that differ only in bytes which aren't shown have the same picture.
+pub fn open_bytes_decide()
+    ensures { OpenBytesDecide }
 {}

@@ -1,0 +1,613 @@
+-- What bytes are that begin as a private key does doesn't follow from the key.
+use Rattle.std.proofs.Common.{◌≡◌, ℕ, zero, suc, ◌+◌, ◌-◌, ◌/◌, ◌==◌, ◌<◌, ◌≤◌, ◌≢◌, ◌⊎◌, inl, inr, ⊎_elim, Bool, true, false}
+use Rattle.std.proofs.Common.{List, [], ◌∷◌, ◌++◌, length, take, drop, if◌then◌else◌, refl, sym, ap, ap₂, ◌∙◌, subst, arith}
+use Rattle.std.proofs.Common.{All, min, Option, Some, None, Result, Ok, Err, is_none, not, ◌&&◌, ◌||◌, le-ltb, lt-ltb, ne_eqb, append-nil}
+use Rattle.std.proofs.lemmas.Bool.{cases_lt}
+use Rattle.std.proofs.lemmas.Bool.Decides.{nat_tests}
+use Rattle.std.proofs.lemmas.Int.Digits.{length-digits_of_step, length-digits_of-le, number_digits_of}
+use Rattle.std.proofs.lemmas.List.{drop-drop, drop_all, length-append, length-drop, length-take, length-take-le, take_at, drop-take}
+use Rattle.std.proofs.lemmas.List.{take-append-le}
+use Rattle.std.proofs.lemmas.List.Elements.{All-cons, All-nil, All-head, All-tail, All-take, All-weaker}
+use Rattle.std.proofs.Math.Seq.{drop-append-add, drop-append_seam, take-append-add}
+use Rattle.std.specs.Int.Digits.{digits_of}
+use Rattle.std.specs.Prelude.{nat_lt, slice_get, unwrap_or}
+use Rattle.sec1_der.proofs.FaultLaws.{any_at}
+use Rattle.sec1_der.proofs.LengthLaws.{len_1, len_long}
+use Rattle.sec1_der.specs.Elements.{IsHeader, element, header, is_constructed, is_tag, length_octets, max_length, number_of}
+use Rattle.sec1_der.specs.Faults.{end_fault, forest_fault, nested_fault, tree_fault}
+use Rattle.der_view.proofs.HeaderLemmas.{header_front, header_within}
+use Rattle.der_view.specs.Children.{begins, child_after, child_at, child_by, child_if, child_of, children_at, children_of}
+use Rattle.der_view.specs.Children.{first_tag, followed, len_of, no_child, none_at, nth, run_in, run_of}
+use Rattle.der_view.specs.Headers.{header_of, length_at, long_length, max_content_len, tag_of}
+use Rattle.der_view.specs.Expected.{ends, expected_in, expected_of}
+use Rattle.der_view.specs.KeyForms.{at_place, content_of, drawn, drawn_to, form_of, inside_of, is_container, key_in, key_of_tag}
+use Rattle.der_view.specs.KeyForms.{place_after}
+use Rattle.der_view.specs.Openings.{is_tree}
+use Rattle.der_view.specs.Places.{len_within}
+use Rattle.der_view.specs.Plans.{guarded_plan, is_guarded, is_high, plan_of, plan_of_children, plan_of_root}
+use Rattle.der_view.specs.declared.children.Child.{Child}
+use Rattle.der_view.specs.declared.children.Children.{Children}
+use Rattle.der_view.specs.declared.header.Header.{Header}
+use Rattle.der_view.specs.declared.mark.ElementFault.{ElementFault}
+
+-- a leaf in DER is a tree
+leaf_tree : (tag : ℕ) (content bytes : List ℕ) → IsHeader tag (length content) → is_constructed tag ≡ false
+    → bytes ≡ element tag content → is_tree bytes ≡ true
+unfolding is_tree
+leaf_tree tag content bytes h leaf e =
+    rw (
+      any_at (nested_fault (forest_fault (length bytes) 2)) end_fault tag content bytes [] h
+          (e ∙ sym (append-nil (element tag content))),
+      leaf,
+    ) refl
+
+version_tree : (version : ℕ) → is_tree (0x02 ∷ 0x01 ∷ version ∷ []) ≡ true
+version_tree version =
+    leaf_tree 0x02 (version ∷ []) (0x02 ∷ 0x01 ∷ version ∷ []) (record { tag_byte = refl; bounded = omega arith }) refl
+    (rw (len_1 1 (omega arith)) refl)
+
+-- the length of a content in DER, and its header
+length_in_der : (n : ℕ) (rest : List ℕ) → n ≤ max_content_len
+    → length_at (length_octets n ++ rest) ≡ Ok (Some n, length (length_octets n))
+length_in_der n rest few = ⊎_elim
+    (λ small. rw (len_1 n small, lt-ltb n 128 small) refl)
+    (λ large.
+    let d : ℕ = length (digits_of 256 n) in
+    let more : d ≡ length (digits_of 256 (n / 256)) + 1 = length-digits_of_step 256 n (omega arith) (omega arith) in
+    let most : d ≤ 3 = length-digits_of-le 256 3 n (omega arith) (omega arith) in
+    let count : 128 + d - 0x80 ≡ d = omega arith in
+    let long : nat_lt (128 + d) 0x80 ≡ false = grind (arith, nat_tests) in
+    let some : (128 + d == 0x80) ≡ false = ne_eqb (128 + d) 0x80 (λ e. omega arith) in
+    let other : (128 + d == 0xFF) ≡ false = ne_eqb (128 + d) 0xFF (λ e. omega arith) in
+    let short : nat_lt 0x84 (128 + d) ≡ false = grind (arith, nat_tests) in
+    let fits : nat_lt (length (digits_of 256 n ++ rest)) d ≡ false =
+    let size : length (digits_of 256 n ++ rest) ≡ d + length rest = length-append (digits_of 256 n) rest in
+    grind (arith, nat_tests) in
+    let front : take d (digits_of 256 n ++ rest) ≡ digits_of 256 n = take_at (digits_of 256 n) rest d refl in
+    let number : number_of (digits_of 256 n) ≡ n = number_digits_of 256 n (omega arith) in
+    let within : nat_lt max_content_len n ≡ false = grind (arith, nat_tests) in
+    let size : d + 1 ≡ suc d = omega arith in
+    rw (len_long n (digits_of 256 n) large refl, long, some, other, short, count, fits, front, number, within, size) refl)
+    (cases_lt n 128)
+
+-- the header of an OCTET STRING
+abbrev string_header : ℕ → Header
+string_header n = record {
+  tag = tag_of 0x04 0x04;
+  tag_len = 1;
+  len = 1 + length (length_octets n);
+  content_len = Some n;
+}
+
+header_in_der : (n : ℕ) (rest : List ℕ) → n ≤ max_content_len
+    → header_of (header 0x04 n ++ rest) ≡ Ok (string_header n)
+header_in_der n rest few = rw (length_in_der n rest few) refl
+
+-- the first child, a version of one byte, whatever follows
+abbrev version_child : ℕ → Child
+version_child at = record {
+  tag = 0x02;
+  at = at;
+  start = at + 2;
+  end = at + 2 + 1;
+  announced = 1;
+  inner = 0;
+  alone = false;
+}
+
+first_child : (may : Bool) (at version : ℕ) (rest : List ℕ)
+    → child_after may at (0x02 ∷ 0x01 ∷ version ∷ rest) (header_of (0x02 ∷ 0x01 ∷ version ∷ rest)) ≡ version_child at
+first_child may at version rest =
+    let whole : nat_lt (length (0x02 ∷ 0x01 ∷ version ∷ rest) - 2) 1 ≡ false = grind (arith, nat_tests) in
+    rw (whole, version_tree version) refl
+
+-- the second one, the private key
+abbrev key_child : ℕ → ℕ → ℕ → Child
+key_child at n len = record {
+  tag = 0x04;
+  at = at;
+  start = at + (1 + length (length_octets n));
+  end = at + (1 + length (length_octets n)) + len;
+  announced = n;
+  inner = 0;
+  alone = false;
+}
+
+key_tree : (n : ℕ) (rest : List ℕ) → n ≤ max_content_len → n ≤ length rest
+    → is_tree (take (1 + length (length_octets n) + n) (header 0x04 n ++ rest)) ≡ true
+key_tree n rest few fits =
+    let size : length (take n rest) ≡ n = length-take-le n rest fits in
+    let front : take (1 + length (length_octets n) + n) (header 0x04 n ++ rest) ≡ header 0x04 n ++ take n rest =
+    let sum : 1 + length (length_octets n) + n ≡ length (header 0x04 n) + n = omega arith in
+    rw sum (take-append-add (header 0x04 n) rest n) in
+    let bounded : IsHeader 0x04 (length (take n rest)) = record { tag_byte = refl; bounded = omega arith } in
+    leaf_tree 0x04 (take n rest) _ bounded refl (rw (front, size) refl)
+
+-- as a function of the number of bytes that are left alone
+abbrev key_child_if : Bool → ℕ → ℕ → ℕ → Child
+key_child_if may at n left =
+    if nat_lt left n then (if may then key_child at n left else none_at at) else key_child at n n
+
+second_child : (may : Bool) (at n : ℕ) (rest : List ℕ) → n ≤ max_content_len
+    → child_after may at (header 0x04 n ++ rest) (header_of (header 0x04 n ++ rest))
+    ≡ key_child_if may at n (length rest)
+second_child may at n rest few =
+    let left : length (header 0x04 n ++ rest) - (1 + length (length_octets n)) ≡ length rest =
+    omega (arith, length-append (header 0x04 n) rest) in
+    rw (header_in_der n rest few, left) (⊎_elim
+    (λ cut. rw (lt-ltb (length rest) n cut) refl)
+    (λ whole. rw (le-ltb (length rest) n whole, key_tree n rest few whole) refl)
+    (cases_lt (length rest) n))
+
+-- where a child is
+child_bounds_if : (test both may : Bool) (at h announced left : ℕ) (bytes : List ℕ) (child : Child)
+    → child
+    ≡ (if test then (if may then child_of at bytes h announced left else none_at at)
+    else (if both then child_of at bytes h announced announced else none_at at))
+    → (child.at ≡ at) × (at ≤ child.start) × (at ≤ child.end)
+child_bounds_if true both true at h announced left bytes child e =
+    rw e (refl, omega arith, omega arith)
+child_bounds_if true both false at h announced left bytes child e = rw e (refl, omega arith, omega arith)
+child_bounds_if false true may at h announced left bytes child e = rw e (refl, omega arith, omega arith)
+child_bounds_if false false may at h announced left bytes child e = rw e (refl, omega arith, omega arith)
+
+child_bounds_by : (may : Bool) (at : ℕ) (bytes : List ℕ) (h : ℕ) (announced : Option ℕ)
+    → ((child_by may at bytes h announced).at ≡ at) × (at ≤ (child_by may at bytes h announced).start)
+    × (at ≤ (child_by may at bytes h announced).end)
+child_bounds_by may at bytes h None = (refl, omega arith, omega arith)
+child_bounds_by may at bytes h (Some announced) =
+    child_bounds_if (nat_lt (length bytes - h) announced) (is_tree (take (h + announced) bytes)) may at h announced
+    (length bytes - h) bytes _ refl
+
+child_bounds : (may : Bool) (at : ℕ) (bytes : List ℕ) (r : Result Header ElementFault)
+    → ((child_after may at bytes r).at ≡ at) × (at ≤ (child_after may at bytes r).start)
+    × (at ≤ (child_after may at bytes r).end)
+child_bounds may at bytes (Err e) = (refl, omega arith, omega arith)
+child_bounds may at bytes (Ok head) = child_bounds_by may at bytes head.len head.content_len
+
+-- a child has the same content in both, and an end-of-contents comes before it in both or in none
+record SameChild (a b : List ℕ) (child : Child) : Type 0 where
+  content : content_of a child ≡ content_of b child
+  ends : begins (drop child.at a) (0x00 ∷ 0x00 ∷ []) ≡ begins (drop child.at b) (0x00 ∷ 0x00 ∷ [])
+
+-- the same bytes follow, or there is no child
+abbrev Rest : Bool → List ℕ → List ℕ → ℕ → Type 0
+Rest may a b at =
+    (drop at a ≡ drop at b)
+    ⊎ ((child_at may a at ≡ none_at at) × (child_at may b at ≡ none_at at)
+    × (begins (drop at a) (0x00 ∷ 0x00 ∷ []) ≡ begins (drop at b) (0x00 ∷ 0x00 ∷ [])))
+
+drop_more_same : (a b : List ℕ) (at to : ℕ) → at ≤ to → drop at a ≡ drop at b → drop to a ≡ drop to b
+drop_more_same a b at to after same =
+    let sum : to ≡ at + (to - at) = omega arith in
+    ap (λ (n : ℕ). drop n a) sum
+    ∙ (sym (drop-drop (to - at) at a)
+    ∙ (ap (λ (bytes : List ℕ). drop (to - at) bytes) same
+    ∙ (drop-drop (to - at) at b ∙ ap (λ (n : ℕ). drop n b) (sym sum))))
+
+no_content : (a b : List ℕ) (at : ℕ) → content_of a (none_at at) ≡ content_of b (none_at at)
+no_content a b at =
+    let none : at - at ≡ 0 = omega arith in
+    rw none refl
+
+rest_children : (most : ℕ) (may : Bool) (a b : List ℕ) (at : ℕ) → Rest may a b at
+    → (children_at most may a at ≡ children_at most may b at) × All (SameChild a b) (children_at most may a at)
+unfolding children_at child_at
+rest_children zero may a b at rest = (refl, All-nil (SameChild a b))
+rest_children (suc most) may a b at (inl same) =
+    let child : child_at may a at ≡ child_at may b at =
+    ap (λ (bytes : List ℕ). child_after may at bytes (header_of bytes)) same in
+    let bounds = child_bounds may at (drop at a) (header_of (drop at a)) in
+    let end : ℕ = (child_at may a at).end in
+    let more = rest_children most may a b end (inl (drop_more_same a b at end bounds.2 same)) in
+    let here : SameChild a b (child_at may a at) = record {
+      content =
+          ap (λ (bytes : List ℕ). take (len_of (child_at may a at)) bytes)
+          (drop_more_same a b at (child_at may a at).start bounds.1 same);
+      ends =
+          ap (λ (bytes : List ℕ). begins bytes (0x00 ∷ 0x00 ∷ []))
+          (drop_more_same a b at (child_at may a at).at (omega (arith, bounds.0)) same);
+    } in (
+      ap₂ (λ (c : Child) (cs : List Child). c ∷ cs) child
+          (more.0 ∙ ap (λ (c : Child). children_at most may b c.end) child),
+      All-cons (SameChild a b) (child_at may a at) (children_at most may a end) here more.1,
+    )
+rest_children (suc most) may a b at (inr (none_a, none_b, no_end)) =
+    let more = rest_children most may a b at (inr (none_a, none_b, no_end)) in
+    let here : SameChild a b (none_at at) = record { content = no_content a b at; ends = no_end } in
+    let list : children_at (suc most) may a at ≡ none_at at ∷ children_at most may a at =
+    ap (λ (c : Child). c ∷ children_at most may a c.end) none_a in
+    let other : children_at (suc most) may b at ≡ none_at at ∷ children_at most may b at =
+    ap (λ (c : Child). c ∷ children_at most may b c.end) none_b in (
+      list ∙ (ap (λ (cs : List Child). none_at at ∷ cs) more.0 ∙ sym other),
+      subst (λ (cs : List Child). All (SameChild a b) cs) (sym list)
+          (All-cons (SameChild a b) (none_at at) (children_at most may a at) here more.1),
+    )
+
+-- a root with this header, a version, the header of a string of so many bytes, and what follows
+abbrev pub with_tail : List ℕ → ℕ → ℕ → List ℕ → List ℕ
+with_tail head version n tail = head ++ (0x02 ∷ 0x01 ∷ version ∷ (header 0x04 n ++ tail))
+
+-- as many bytes follow, and the same ones after the string
+pub record SameAfter (n : ℕ) (s t : List ℕ) : Type 0 where
+  pub size : length s ≡ length t
+  pub after : drop n s ≡ drop n t
+
+at_version : (head tail : List ℕ) (version n : ℕ)
+    → drop (length head) (with_tail head version n tail) ≡ 0x02 ∷ 0x01 ∷ version ∷ (header 0x04 n ++ tail)
+at_version head tail version n = drop-append_seam head (0x02 ∷ 0x01 ∷ version ∷ (header 0x04 n ++ tail))
+
+at_key : (head tail : List ℕ) (version n : ℕ)
+    → drop (length head + 2 + 1) (with_tail head version n tail) ≡ header 0x04 n ++ tail
+at_key head tail version n =
+    let sum : length head + 2 + 1 ≡ length head + 3 = omega arith in
+    rw sum (drop-append-add head (0x02 ∷ 0x01 ∷ version ∷ (header 0x04 n ++ tail)) 3)
+
+at_tail : (head tail : List ℕ) (version n k : ℕ)
+    → drop (length head + 2 + 1 + (1 + length (length_octets n)) + k) (with_tail head version n tail) ≡ drop k tail
+at_tail head tail version n k =
+    let at : ℕ = length head + 2 + 1 in
+    let sum : at + (1 + length (length_octets n)) + k ≡ at + (length (header 0x04 n) + k) = omega arith in
+    ap (λ (m : ℕ). drop m (with_tail head version n tail)) sum
+    ∙ (sym (drop-drop (length (header 0x04 n) + k) at (with_tail head version n tail))
+    ∙ (ap (λ (bytes : List ℕ). drop (length (header 0x04 n) + k) bytes) (at_key head tail version n)
+    ∙ drop-append-add (header 0x04 n) tail k))
+
+child_version : (may : Bool) (head tail : List ℕ) (version n : ℕ)
+    → child_at may (with_tail head version n tail) (length head) ≡ version_child (length head)
+unfolding child_at
+child_version may head tail version n =
+    ap (λ (bytes : List ℕ). child_after may (length head) bytes (header_of bytes)) (at_version head tail version n)
+    ∙ first_child may (length head) version (header 0x04 n ++ tail)
+
+child_key : (may : Bool) (head tail : List ℕ) (version n : ℕ) → n ≤ max_content_len
+    → child_at may (with_tail head version n tail) (length head + 2 + 1)
+    ≡ key_child_if may (length head + 2 + 1) n (length tail)
+unfolding child_at
+child_key may head tail version n few =
+    ap (λ (bytes : List ℕ). child_after may (length head + 2 + 1) bytes (header_of bytes)) (at_key head tail version n)
+    ∙ second_child may (length head + 2 + 1) n tail few
+
+-- what follows the private key is the same in both
+key_rest_cut : (may : Bool) (head s t : List ℕ) (version n : ℕ) → n ≤ max_content_len → SameAfter n s t
+    → nat_lt (length s) n ≡ true
+    → Rest may (with_tail head version n s) (with_tail head version n t)
+    (if may then key_child (length head + 2 + 1) n (length s) else none_at (length head + 2 + 1)).end
+key_rest_cut true head s t version n few same cut =
+    let all : length t ≤ length s = omega (arith, same.size) in
+    inl
+    (at_tail head s version n (length s)
+    ∙ (drop_all (length s) s (omega arith)
+    ∙ (sym (drop_all (length s) t all) ∙ sym (at_tail head t version n (length s)))))
+key_rest_cut false head s t version n few same cut =
+    let other : nat_lt (length t) n ≡ true = rw (sym same.size) cut in
+    inr (
+      rw cut at (child_key false head s version n few),
+      rw other at (child_key false head t version n few),
+      rw (at_key head s version n, at_key head t version n) refl,
+    )
+
+key_rest : (may : Bool) (head s t : List ℕ) (version n : ℕ) → n ≤ max_content_len → SameAfter n s t
+    → Rest may (with_tail head version n s) (with_tail head version n t)
+    (key_child_if may (length head + 2 + 1) n (length s)).end
+key_rest may head s t version n few same =
+    let at : ℕ = length head + 2 + 1 in
+    let a : List ℕ = with_tail head version n s in
+    let b : List ℕ = with_tail head version n t in
+    ⊎_elim
+    (λ cut.
+    let test : nat_lt (length s) n ≡ true = lt-ltb (length s) n cut in
+    rw test (key_rest_cut may head s t version n few same test))
+    (λ whole.
+    let test : nat_lt (length s) n ≡ false = le-ltb (length s) n whole in
+    rw test (inl (at_tail head s version n n ∙ (same.after ∙ sym (at_tail head t version n n)))))
+    (cases_lt (length s) n)
+
+-- the first of some children, and those after the second one
+nth_all : (P : Child → Type 0) (children : List Child) (i : ℕ) → P no_child → All P children → P (nth children i)
+unfolding nth
+nth_all P [] i none all = none
+nth_all P (child ∷ children) zero none all = All-head P child children all
+nth_all P (child ∷ children) (suc i) none all = nth_all P children i none (All-tail P child children all)
+
+nth_later : (P : Child → Type 0) (first second : Child) (children : List Child) (count i : ℕ) → P no_child
+    → All P children → P (nth (take count (first ∷ second ∷ children)) (suc (suc i)))
+unfolding nth
+nth_later P first second children zero i none all = none
+nth_later P first second children (suc zero) i none all = none
+nth_later P first second children (suc (suc count)) i none all =
+    nth_all P (take count children) i none (All-take P count children all)
+
+nth_first : (P : Child → Type 0) (first : Child) (children : List Child) (count : ℕ) → P no_child → P first
+    → P (nth (take count (first ∷ children)) 0)
+unfolding nth
+nth_first P first children zero none is = none
+nth_first P first children (suc count) none is = is
+
+nth_each : (P : Child → Type 0) (first second : Child) (children : List Child) (i : ℕ) → P no_child → P first → P second
+    → All P children → P (nth (first ∷ second ∷ children) i)
+unfolding nth
+nth_each P first second children zero none one two all = one
+nth_each P first second children (suc zero) none one two all = two
+nth_each P first second children (suc (suc i)) none one two all = nth_all P children i none all
+
+-- a root ends or doesn't, by whether an end-of-contents follows, and how many bytes do
+abbrev run_by : Bool → ℕ → ℕ → Bool → Bool → List Child → ℕ → Children
+run_by ends left start indefinite is_cut run end =
+    let finished = if indefinite then ends else left == 0 && not is_cut in
+    record {
+      start = start;
+      first = nth run 0;
+      second = nth run 1;
+      third = nth run 2;
+      fourth = nth run 3;
+      count = length run;
+      end = if indefinite && finished then end + 2 else end;
+      finished = finished;
+      cut = left == 0 && is_cut;
+    }
+
+run_same : (a b : List ℕ) (start : ℕ) (indefinite is_cut : Bool) (run : List Child) (end : ℕ) → length a ≡ length b
+    → begins (drop end a) (0x00 ∷ 0x00 ∷ []) ≡ begins (drop end b) (0x00 ∷ 0x00 ∷ [])
+    → run_of a start indefinite is_cut run end ≡ run_of b start indefinite is_cut run end
+run_same a b start indefinite is_cut run end size ends =
+    let left : length (drop end a) ≡ length (drop end b) =
+    length-drop end a ∙ (ap (λ (n : ℕ). n - end) size ∙ sym (length-drop end b)) in
+    ap₂ (λ (e : Bool) (n : ℕ). run_by e n start indefinite is_cut run end) ends left
+
+-- the same children, of which the first, the third and the fourth have the same contents in both
+pub record SameChildren (a b : List ℕ) (x y : Children) : Type 0 where
+  pub same : x ≡ y
+  pub first : content_of a x.first ≡ content_of b x.first
+  pub third : content_of a x.third ≡ content_of b x.third
+  pub fourth : content_of a x.fourth ≡ content_of b x.fourth
+
+head_ends : (head a b : List ℕ) → 2 ≤ length head
+    → begins (head ++ a) (0x00 ∷ 0x00 ∷ []) ≡ begins (head ++ b) (0x00 ∷ 0x00 ∷ [])
+head_ends [] a b some = absurd (omega arith)
+head_ends (x ∷ []) a b some = absurd (omega arith)
+head_ends (x ∷ y ∷ head) a b some = refl
+
+version_content : (head tail : List ℕ) (version n : ℕ)
+    → content_of (with_tail head version n tail) (version_child (length head)) ≡ version ∷ []
+version_content head tail version n =
+    let one : length head + 2 + 1 - (length head + 2) ≡ 1 = omega arith in
+    rw (one, drop-append-add head (0x02 ∷ 0x01 ∷ version ∷ (header 0x04 n ++ tail)) 2) refl
+
+key_at_if : (test may : Bool) (at n left : ℕ)
+    → (if test then (if may then key_child at n left else none_at at) else key_child at n n).at ≡ at
+key_at_if true true at n left = refl
+key_at_if true false at n left = refl
+key_at_if false may at n left = refl
+
+key_at : (may : Bool) (at n left : ℕ) → (key_child_if may at n left).at ≡ at
+key_at may at n left = key_at_if (nat_lt left n) may at n left
+
+pub children_same : (head s t : List ℕ) (version n : ℕ) (indefinite is_cut : Bool) → 2 ≤ length head
+    → n ≤ max_content_len → SameAfter n s t
+    → SameChildren (with_tail head version n s) (with_tail head version n t)
+    (children_of (with_tail head version n s) (length head) indefinite is_cut)
+    (children_of (with_tail head version n t) (length head) indefinite is_cut)
+unfolding children_of children_at
+children_same head s t version n indefinite is_cut some few same =
+    let a : List ℕ = with_tail head version n s in
+    let b : List ℕ = with_tail head version n t in
+    let p : ℕ = length head in
+    let v : Child = version_child p in
+    let k : Child = key_child_if is_cut (p + 2 + 1) n (length s) in
+    let rest : (children_at 8 is_cut a k.end ≡ children_at 8 is_cut b k.end)
+    × All (SameChild a b) (children_at 8 is_cut a k.end) =
+    rest_children 8 is_cut a b k.end (key_rest is_cut head s t version n few same) in
+    let r : List Child = children_at 8 is_cut a k.end in
+    let list : children_at 10 is_cut a p ≡ v ∷ k ∷ r =
+    rw (child_version is_cut head s version n, child_key is_cut head s version n few) refl in
+    let other : children_at 10 is_cut b p ≡ v ∷ k ∷ r =
+    rw (child_version is_cut head t version n, child_key is_cut head t version n few, sym same.size, rest.0) refl in
+    let size : length a ≡ length b =
+    omega (
+      arith,
+      same.size,
+      length-append head (0x02 ∷ 0x01 ∷ version ∷ (header 0x04 n ++ s)),
+      length-append head (0x02 ∷ 0x01 ∷ version ∷ (header 0x04 n ++ t)),
+      length-append (header 0x04 n) s,
+      length-append (header 0x04 n) t,
+    ) in
+    let ends_v : begins (drop p a) (0x00 ∷ 0x00 ∷ []) ≡ begins (drop p b) (0x00 ∷ 0x00 ∷ []) =
+    rw (at_version head s version n, at_version head t version n) refl in
+    let ends_k : begins (drop k.at a) (0x00 ∷ 0x00 ∷ []) ≡ begins (drop k.at b) (0x00 ∷ 0x00 ∷ []) =
+    rw (key_at is_cut (p + 2 + 1) n (length s), at_key head s version n, at_key head t version n) refl in
+    let ends_rest = All-weaker (SameChild a b)
+    (λ (c : Child). begins (drop c.at a) (0x00 ∷ 0x00 ∷ []) ≡ begins (drop c.at b) (0x00 ∷ 0x00 ∷ []))
+    (λ c known. known.ends) r rest.1 in
+    let contents = All-weaker (SameChild a b) (λ (c : Child). content_of a c ≡ content_of b c)
+    (λ c known. known.content) r rest.1 in
+    let count : ℕ = followed (v ∷ k ∷ r) in
+    let ends : begins (drop (nth (v ∷ k ∷ r) count).at a) (0x00 ∷ 0x00 ∷ [])
+    ≡ begins (drop (nth (v ∷ k ∷ r) count).at b) (0x00 ∷ 0x00 ∷ []) =
+    nth_each (λ (c : Child). begins (drop c.at a) (0x00 ∷ 0x00 ∷ []) ≡ begins (drop c.at b) (0x00 ∷ 0x00 ∷ []))
+    v k r count (head_ends head _ _ some) ends_v ends_k ends_rest in
+    let run : run_in a p indefinite is_cut (v ∷ k ∷ r) count ≡ run_in b p indefinite is_cut (v ∷ k ∷ r) count =
+    run_same a b p indefinite is_cut (take count (v ∷ k ∷ r)) (nth (v ∷ k ∷ r) count).at size ends in
+    let first_same : content_of a v ≡ content_of b v =
+    version_content head s version n ∙ sym (version_content head t version n) in
+    rw (list, other) (record {
+      same = run;
+      first = nth_first (λ (c : Child). content_of a c ≡ content_of b c) v (k ∷ r) count refl first_same;
+      third = nth_later (λ (c : Child). content_of a c ≡ content_of b c) v k r count 0 refl contents;
+      fourth = nth_later (λ (c : Child). content_of a c ≡ content_of b c) v k r count 1 refl contents;
+    })
+
+-- what is said of a root follows from its children and these contents of theirs
+inside_same : (a b : List ℕ) (x : Children) → content_of a x.third ≡ content_of b x.third → inside_of a x ≡ inside_of b x
+unfolding inside_of key_in
+inside_same a b x third =
+    ap (λ (content : List ℕ). if is_container (form_of x)
+    then at_place x.third.at (if is_tree content then key_of_tag (first_tag content) content else None) else None) third
+
+drawn_same : (a b : List ℕ) (x : Children) → content_of a x.third ≡ content_of b x.third → drawn a x ≡ drawn b x
+unfolding drawn
+drawn_same a b x third = rw (inside_same a b x third) refl
+
+drawn_to_same : (a b : List ℕ) (x : Children) → content_of a x.third ≡ content_of b x.third → drawn_to a x ≡ drawn_to b x
+unfolding drawn_to
+drawn_to_same a b x third = ap (λ (count : ℕ). place_after x count) (drawn_same a b x third)
+
+ends_same : (len : ℕ) (a b : List ℕ) (x : Children) → content_of a x.third ≡ content_of b x.third
+    → ends len a x ≡ ends len b x
+unfolding ends
+ends_same len a b x third = rw (drawn_same a b x third, drawn_to_same a b x third) refl
+
+expected_in_same : (a b : List ℕ) (x : Children) → content_of a x.first ≡ content_of b x.first
+    → content_of a x.third ≡ content_of b x.third → content_of a x.fourth ≡ content_of b x.fourth
+    → expected_in a x ≡ expected_in b x
+unfolding expected_in
+expected_in_same a b x first third fourth = rw (drawn_same a b x third, first, third, fourth) refl
+
+expected_of_same : (tag len : ℕ) (a b : List ℕ) (x : Children) → content_of a x.first ≡ content_of b x.first
+    → content_of a x.third ≡ content_of b x.third → content_of a x.fourth ≡ content_of b x.fourth
+    → expected_of tag len a x ≡ expected_of tag len b x
+unfolding expected_of
+expected_of_same tag len a b x first third fourth =
+    rw (ends_same len a b x third, drawn_to_same a b x third, expected_in_same a b x first third fourth) refl
+
+plan_of_children_same : (tag len : ℕ) (a b : List ℕ) (x y : Children) (marked : Bool) → SameChildren a b x y
+    → plan_of_children tag len a x marked ≡ plan_of_children tag len b y marked
+unfolding plan_of_children
+plan_of_children_same tag len a b x y marked s =
+    rw (
+      sym s.same,
+      ends_same len a b x s.third,
+      expected_of_same tag len a b x s.first s.third s.fourth,
+      drawn_same a b x s.third,
+      drawn_to_same a b x s.third,
+      inside_same a b x s.third,
+    ) refl
+
+-- of the same root, if the rest is as long
+same_root : (a b root : List ℕ) (head : Header) → head.tag.constructed ≡ true → first_tag a ≡ first_tag b
+    → length a ≡ length b → plan_of_root a head root ≡ plan_of_root b head root
+unfolding guarded_plan
+same_root a b root head node tag size = rw (node, tag, size) refl
+
+or_true : (test : Bool) → (test || true) ≡ true
+or_true true = refl
+or_true false = refl
+
+guarded_key : (tag version : ℕ) (rest : List ℕ) → is_guarded tag (0x02 ∷ 0x01 ∷ version ∷ rest) ≡ true
+unfolding is_guarded
+guarded_key tag version rest = or_true (is_high tag)
+
+key_root : (a b front s t : List ℕ) (version n : ℕ) (head : Header) → head.tag.constructed ≡ true
+    → head.len ≡ length front → 2 ≤ length front → n ≤ max_content_len → SameAfter n s t
+    → first_tag a ≡ first_tag b → length a ≡ length b
+    → plan_of_root a head (with_tail front version n s) ≡ plan_of_root b head (with_tail front version n t)
+unfolding guarded_plan
+key_root a b front s t version n head node len some few same tag size =
+    let old : drop head.len (with_tail front version n s) ≡ 0x02 ∷ 0x01 ∷ version ∷ (header 0x04 n ++ s) =
+    rw len (at_version front s version n) in
+    let new : drop head.len (with_tail front version n t) ≡ 0x02 ∷ 0x01 ∷ version ∷ (header 0x04 n ++ t) =
+    rw len (at_version front t version n) in
+    rw (
+      node,
+      old,
+      new,
+      guarded_key (first_tag a) version (header 0x04 n ++ s),
+      guarded_key (first_tag b) version (header 0x04 n ++ t),
+      tag,
+      size,
+      len,
+    )
+    (plan_of_children_same _ _ _ _ _ _ _ (children_same front s t version n _ _ some few same))
+
+-- the root is cut before the private key, or later in both
+record Cuts (w version n : ℕ) (s t : List ℕ) : Type 0 where
+  old : List ℕ
+  new : List ℕ
+  same : SameAfter n old new
+  is_old : take w (0x02 ∷ 0x01 ∷ version ∷ (header 0x04 n ++ s)) ≡ 0x02 ∷ 0x01 ∷ version ∷ (header 0x04 n ++ old)
+  is_new : take w (0x02 ∷ 0x01 ∷ version ∷ (header 0x04 n ++ t)) ≡ 0x02 ∷ 0x01 ∷ version ∷ (header 0x04 n ++ new)
+
+cut_after : (n j : ℕ) (s t : List ℕ) → SameAfter n s t → drop n (take j s) ≡ drop n (take j t)
+cut_after n j s t same = ⊎_elim
+    (λ short.
+    let old : length (take j s) ≤ n = omega (arith, length-take j s) in
+    let new : length (take j t) ≤ n = omega (arith, length-take j t) in
+    drop_all n (take j s) old ∙ sym (drop_all n (take j t) new))
+    (λ long.
+    let sum : j ≡ n + (j - n) = omega arith in
+    rw sum
+    (drop-take n (j - n) s
+    ∙ (ap (λ (bytes : List ℕ). take (j - n) bytes) same.after ∙ sym (drop-take n (j - n) t))))
+    (cases_lt j n)
+
+cuts : (w version n : ℕ) (s t : List ℕ) → SameAfter n s t
+    → (take w (0x02 ∷ 0x01 ∷ version ∷ (header 0x04 n ++ s)) ≡ take w (0x02 ∷ 0x01 ∷ version ∷ (header 0x04 n ++ t)))
+    ⊎ Cuts w version n s t
+cuts zero version n s t same = inl refl
+cuts (suc zero) version n s t same = inl refl
+cuts (suc (suc zero)) version n s t same = inl refl
+cuts (suc (suc (suc m))) version n s t same = ⊎_elim
+    (λ short.
+    let few : m ≤ length (header 0x04 n) = omega arith in
+    inl (ap (λ (bytes : List ℕ). 0x02 ∷ 0x01 ∷ version ∷ bytes)
+    (take-append-le m (header 0x04 n) s few ∙ sym (take-append-le m (header 0x04 n) t few))))
+    (λ long.
+    let j : ℕ = m - length (header 0x04 n) in
+    let sum : m ≡ length (header 0x04 n) + j = omega arith in
+    inr (record {
+      old = take j s;
+      new = take j t;
+      same = record {
+        size = length-take j s ∙ (ap (λ (k : ℕ). min j k) same.size ∙ sym (length-take j t));
+        after = cut_after n j s t same;
+      };
+      is_old =
+          ap (λ (bytes : List ℕ). 0x02 ∷ 0x01 ∷ version ∷ bytes)
+          (ap (λ (k : ℕ). take k (header 0x04 n ++ s)) sum ∙ take-append-add (header 0x04 n) s j);
+      is_new =
+          ap (λ (bytes : List ℕ). 0x02 ∷ 0x01 ∷ version ∷ bytes)
+          (ap (λ (k : ℕ). take k (header 0x04 n ++ t)) sum ∙ take-append-add (header 0x04 n) t j);
+    }))
+    (cases_lt m (length (header 0x04 n)))
+
+first_of : (front a b : List ℕ) → 2 ≤ length front → first_tag (front ++ a) ≡ first_tag (front ++ b)
+first_of [] a b some = absurd (omega arith)
+first_of (x ∷ front) a b some = refl
+
+-- the plan
+pub key_plan : (front s t : List ℕ) (version n : ℕ) (head : Header)
+    → header_of (with_tail front version n s) ≡ Ok head → head.len ≡ length front → head.tag.constructed ≡ true
+    → n ≤ max_content_len → SameAfter n s t
+    → plan_of (with_tail front version n s) ≡ plan_of (with_tail front version n t)
+unfolding plan_of
+key_plan front s t version n head is len node few same =
+    let u : List ℕ = 0x02 ∷ 0x01 ∷ version ∷ (header 0x04 n ++ s) in
+    let v : List ℕ = 0x02 ∷ 0x01 ∷ version ∷ (header 0x04 n ++ t) in
+    let a : List ℕ = with_tail front version n s in
+    let b : List ℕ = with_tail front version n t in
+    let other : header_of b ≡ Ok head = header_front front u v head is (omega arith) in
+    let some : 2 ≤ length front = omega (arith, (header_within a head is).0) in
+    let size : length a ≡ length b =
+    omega (
+      arith,
+      same.size,
+      length-append front u,
+      length-append front v,
+      length-append (header 0x04 n) s,
+      length-append (header 0x04 n) t,
+    ) in
+    let tag : first_tag a ≡ first_tag b = first_of front u v some in
+    let w : ℕ = len_within head.content_len (length a - head.len) in
+    let old : take (head.len + w) a ≡ front ++ take w u =
+    ap (λ (k : ℕ). take (k + w) a) len ∙ take-append-add front u w in
+    let within : len_within head.content_len (length b - head.len) ≡ w =
+    ap (λ (k : ℕ). len_within head.content_len (k - head.len)) (sym size) in
+    let new : take (head.len + len_within head.content_len (length b - head.len)) b ≡ front ++ take w v =
+    ap₂ (λ (k j : ℕ). take (k + j) b) len within ∙ take-append-add front v w in
+    let roots : plan_of_root a head (front ++ take w u) ≡ plan_of_root b head (front ++ take w v) =
+    ⊎_elim
+    (λ cut. rw cut (same_root a b (front ++ take w v) head node tag size))
+    (λ (c : Cuts w version n s t). rw (c.is_old, c.is_new)
+    (key_root a b front c.old c.new version n head node len some few c.same tag size))
+    (cuts w version n s t same) in
+    rw (is, other, old, new) roots

@@ -1,0 +1,56 @@
+-- What holds of two inputs that differ in bytes which aren't shown.
+use Rattle.std.specs.Prelude.{◌≡◌, ℕ, ◌&&◌, Bool, true, false, if◌then◌else◌, List, length, take}
+use Rattle.std.specs.Prelude.{drop, All}
+use Rattle.der_view.specs.Headers.{is_type}
+use Rattle.der_view.specs.Openings.{is_tree, opens_bits}
+use Rattle.der_view.specs.Pictures.{AreRows, IsPicture}
+use Rattle.der_view.specs.Plans.{plan_of}
+use Rattle.der_view.specs.RowLaws.{content_at}
+use Rattle.der_view.specs.Seen.{open_len}
+use Rattle.der_view.specs.declared.field.Field.{Field}
+use Rattle.der_view.specs.declared.header.Tag.{Tag}
+use Rattle.der_view.specs.declared.picture.verdict.Reading.{Reading}
+use Rattle.der_view.specs.declared.row.Kind.{Kind}
+use Rattle.der_view.specs.declared.row.Kind.TheVariants as kinds
+use Rattle.der_view.specs.declared.row.OpenRow.{OpenRow}
+use Rattle.std.specs.Prelude.{Option}
+
+-- whether a string with this content may be opened for it, in a picture that isn't guarded
+abbrev pub may_open : Tag → List ℕ → Bool
+may_open tag content =
+    if is_type tag 3 then opens_bits false content else is_type tag 4 && is_tree content
+
+-- Two contents of a primitive element look the same: the first bytes that may be seen of them are
+-- the same, and if the picture isn't guarded, both may be opened or none.
+pub record LookSame (guarded : Bool) (tag : Tag) (field : Option Field)
+    (x y : List ℕ) : Type 0 where
+  pub seen : take (open_len guarded tag field x) x ≡ take (open_len guarded tag field y) y
+  pub opening : guarded ≡ false → may_open tag x ≡ may_open tag y
+
+-- Contents of rows look the same. Of one of elements its own rows are shown, of bytes that begin no
+-- element the reason, and of bytes that aren't drawn nothing but their number.
+abbrev pub ContentsLookSame : Bool → Option Field → Kind → List ℕ → List ℕ → Type 0
+ContentsLookSame guarded field (kinds.Element tag) x y =
+    tag.constructed ≡ false → LookSame guarded tag field x y
+ContentsLookSame guarded field kinds.NoElement x y = x ≡ y
+ContentsLookSame guarded field _ x y = Unit {0}
+
+-- a row of the first input looks the same in the second one
+pub record LooksSame (guarded : Bool) (a b : List ℕ) (row : OpenRow) : Type 0 where
+  pub header : take (length row.header.now) (drop row.offset b) ≡ row.header.now
+  pub content :
+      ContentsLookSame guarded row.field row.kind (content_at a row) (content_at b row)
+
+-- inputs that differ only in bytes which aren't shown
+pub record DifferUnseen (a b : List ℕ) : Type 0 where
+  pub len : length a ≡ length b
+  pub plan : plan_of a ≡ plan_of b
+  pub rows :
+      (rows : List OpenRow) → AreRows false a rows
+      → All (LooksSame (plan_of a).guarded a b) rows
+
+-- Inputs that differ only in bytes which aren't shown have the same picture.
+abbrev pub OpenBytesDecide : Type 0
+OpenBytesDecide =
+    (a b x y : List ℕ) (reading : Reading) (is_key : Bool) → DifferUnseen a b
+    → IsPicture false reading a x is_key → IsPicture false reading b y is_key → x ≡ y
