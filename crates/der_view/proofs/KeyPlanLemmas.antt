@@ -10,7 +10,7 @@ use Rattle.std.proofs.lemmas.List.{take-append-le}
 use Rattle.std.proofs.lemmas.List.Elements.{All-cons, All-nil, All-head, All-tail, All-take, All-weaker}
 use Rattle.std.proofs.Math.Seq.{drop-append-add, drop-append_seam, take-append-add}
 use Rattle.std.specs.Int.Digits.{digits_of}
-use Rattle.std.specs.Prelude.{nat_lt, slice_get, unwrap_or}
+use Rattle.std.specs.Prelude.{nat_le, nat_lt, slice_get, unwrap_or}
 use Rattle.sec1_der.proofs.FaultLaws.{any_at}
 use Rattle.sec1_der.proofs.LengthLaws.{len_1, len_long}
 use Rattle.sec1_der.specs.Elements.{IsHeader, element, header, is_constructed, is_tag, length_octets, max_length, number_of}
@@ -20,8 +20,12 @@ use Rattle.der_view.specs.Children.{begins, child_after, child_at, child_by, chi
 use Rattle.der_view.specs.Children.{first_tag, followed, len_of, no_child, none_at, nth, run_in, run_of}
 use Rattle.der_view.specs.Headers.{header_of, length_at, long_length, max_content_len, tag_of}
 use Rattle.der_view.specs.Expected.{ends, expected_in, expected_of}
-use Rattle.der_view.specs.KeyForms.{at_place, content_of, drawn, drawn_to, form_of, inside_of, is_container, key_in, key_of_tag}
-use Rattle.der_view.specs.KeyForms.{place_after}
+use Rattle.std.specs.Int.{abs_diff}
+use Rattle.der_view.specs.KeyForms.{at_place, content_of, drawn, drawn_to, form_of, form_of_integers, form_of_string, inside_of}
+use Rattle.der_view.specs.KeyForms.{is_container, is_versioned, key_in, key_of_tag, place_after}
+use Rattle.der_view.specs.declared.field.Form.{Form}
+use Rattle.der_view.specs.declared.field.Form.TheVariants as forms
+use Rattle.der_view.specs.declared.plan.Plan.{Plan}
 use Rattle.der_view.specs.Openings.{is_tree}
 use Rattle.der_view.specs.Places.{len_within}
 use Rattle.der_view.specs.Plans.{guarded_plan, is_guarded, is_high, plan_of, plan_of_children, plan_of_root}
@@ -71,7 +75,7 @@ length_in_der n rest few = ⊎_elim
     (cases_lt n 128)
 
 -- the header of an OCTET STRING
-abbrev string_header : ℕ → Header
+abbrev pub string_header : ℕ → Header
 string_header n = record {
   tag = tag_of 0x04 0x04;
   tag_len = 1;
@@ -79,7 +83,7 @@ string_header n = record {
   content_len = Some n;
 }
 
-header_in_der : (n : ℕ) (rest : List ℕ) → n ≤ max_content_len
+pub header_in_der : (n : ℕ) (rest : List ℕ) → n ≤ max_content_len
     → header_of (header 0x04 n ++ rest) ≡ Ok (string_header n)
 header_in_der n rest few = rw (length_in_der n rest few) refl
 
@@ -233,17 +237,17 @@ pub record SameAfter (n : ℕ) (s t : List ℕ) : Type 0 where
   pub size : length s ≡ length t
   pub after : drop n s ≡ drop n t
 
-at_version : (head tail : List ℕ) (version n : ℕ)
+pub at_version : (head tail : List ℕ) (version n : ℕ)
     → drop (length head) (with_tail head version n tail) ≡ 0x02 ∷ 0x01 ∷ version ∷ (header 0x04 n ++ tail)
 at_version head tail version n = drop-append_seam head (0x02 ∷ 0x01 ∷ version ∷ (header 0x04 n ++ tail))
 
-at_key : (head tail : List ℕ) (version n : ℕ)
+pub at_key : (head tail : List ℕ) (version n : ℕ)
     → drop (length head + 2 + 1) (with_tail head version n tail) ≡ header 0x04 n ++ tail
 at_key head tail version n =
     let sum : length head + 2 + 1 ≡ length head + 3 = omega arith in
     rw sum (drop-append-add head (0x02 ∷ 0x01 ∷ version ∷ (header 0x04 n ++ tail)) 3)
 
-at_tail : (head tail : List ℕ) (version n k : ℕ)
+pub at_tail : (head tail : List ℕ) (version n k : ℕ)
     → drop (length head + 2 + 1 + (1 + length (length_octets n)) + k) (with_tail head version n tail) ≡ drop k tail
 at_tail head tail version n k =
     let at : ℕ = length head + 2 + 1 in
@@ -611,3 +615,155 @@ key_plan front s t version n head is len node few same =
     (key_root a b front c.old c.new version n head node len some few c.same tag size))
     (cuts w version n s t same) in
     rw (is, other, old, new) roots
+
+-- the tag after a version isn't that of a SEQUENCE
+child_tag_if : (test both may : Bool) (at h announced left : ℕ) (bytes : List ℕ) → (first_tag bytes == 0x30) ≡ false
+    → ((if test then (if may then child_of at bytes h announced left else none_at at)
+    else (if both then child_of at bytes h announced announced else none_at at)).tag == 0x30) ≡ false
+child_tag_if true both true at h announced left bytes other = other
+child_tag_if true both false at h announced left bytes other = refl
+child_tag_if false true may at h announced left bytes other = other
+child_tag_if false false may at h announced left bytes other = refl
+
+child_tag_by : (may : Bool) (at : ℕ) (bytes : List ℕ) (h : ℕ) (announced : Option ℕ)
+    → (first_tag bytes == 0x30) ≡ false → ((child_by may at bytes h announced).tag == 0x30) ≡ false
+child_tag_by may at bytes h None other = refl
+child_tag_by may at bytes h (Some announced) other =
+    child_tag_if (nat_lt (length bytes - h) announced) (is_tree (take (h + announced) bytes)) may at h announced
+    (length bytes - h) bytes other
+
+child_tag : (may : Bool) (at : ℕ) (bytes : List ℕ) (r : Result Header ElementFault)
+    → (first_tag bytes == 0x30) ≡ false → ((child_after may at bytes r).tag == 0x30) ≡ false
+child_tag may at bytes (Err e) other = refl
+child_tag may at bytes (Ok head) other = child_tag_by may at bytes head.len head.content_len other
+
+-- bytes that a version begins, cut off
+abbrev version_first : List ℕ → ℕ → ℕ → ℕ → List ℕ
+version_first tail version n w = take w (0x02 ∷ 0x01 ∷ version ∷ (header 0x04 n ++ tail))
+
+key_first : (m n : ℕ) (tail : List ℕ) → (first_tag (take m (header 0x04 n ++ tail)) == 0x30) ≡ false
+key_first zero n tail = refl
+key_first (suc m) n tail = refl
+
+second_tag : (may : Bool) (front tail : List ℕ) (version n w : ℕ)
+    → (first_tag
+    (drop
+    (child_after may (length front) (version_first tail version n w) (header_of (version_first tail version n w))).end
+    (front ++ version_first tail version n w))
+    == 0x30)
+    ≡ false
+second_tag may front tail version n zero = rw (drop-append_seam front (version_first tail version n 0)) refl
+second_tag may front tail version n (suc zero) =
+    rw (drop-append_seam front (version_first tail version n 1)) refl
+second_tag true front tail version n (suc (suc zero)) =
+    let sum : length front + 2 + 0 ≡ length front + 2 = omega arith in
+    rw (sum, drop-append-add front (0x02 ∷ 0x01 ∷ []) 2) refl
+second_tag false front tail version n (suc (suc zero)) =
+    rw (drop-append_seam front (0x02 ∷ 0x01 ∷ [])) refl
+second_tag may front tail version n (suc (suc (suc m))) =
+    let z : List ℕ = take m (header 0x04 n ++ tail) in
+    let sum : length front + 2 + 1 ≡ length front + 3 = omega arith in
+    rw (first_child may (length front) version z, sum, drop-append-add front (0x02 ∷ 0x01 ∷ version ∷ z) 3)
+    (key_first m n tail)
+
+nth_second : (P : Child → Type 0) (first second : Child) (children : List Child) (count : ℕ) → P no_child → P second
+    → P (nth (take count (first ∷ second ∷ children)) 1)
+unfolding nth
+nth_second P first second children zero none is = none
+nth_second P first second children (suc zero) none is = none
+nth_second P first second children (suc (suc count)) none is = is
+
+no_second : (front tail : List ℕ) (version n w : ℕ) (indefinite is_cut : Bool)
+    → ((children_of (front ++ version_first tail version n w) (length front) indefinite is_cut).second.tag == 0x30)
+    ≡ false
+unfolding children_of children_at child_at
+no_second front tail version n w indefinite is_cut =
+    let root : List ℕ = front ++ version_first tail version n w in
+    let bytes : List ℕ = version_first tail version n w in
+    let at : drop (length front) root ≡ bytes = drop-append_seam front bytes in
+    let first : Child = child_after is_cut (length front) (drop (length front) root)
+    (header_of (drop (length front) root)) in
+    let other : (first_tag (drop first.end root) == 0x30) ≡ false =
+    rw at (second_tag is_cut front tail version n w) in
+    nth_second (λ (c : Child). (c.tag == 0x30) ≡ false) first _ _ _ refl
+    (child_tag is_cut first.end (drop first.end root) (header_of (drop first.end root)) other)
+
+-- such bytes are no container of a key
+integers_if : (finished two near versioned six nine : Bool)
+    → is_container
+    (if not finished then forms.Other
+    else (if two then (if near then forms.Signature else forms.Other)
+    else (if not versioned then forms.Other
+    else (if six then forms.DsaPrivateKey else (if nine then forms.RsaPrivateKey else forms.Other)))))
+    ≡ false
+integers_if false two near versioned six nine = refl
+integers_if true true true versioned six nine = refl
+integers_if true true false versioned six nine = refl
+integers_if true false near false six nine = refl
+integers_if true false near true true nine = refl
+integers_if true false near true false true = refl
+integers_if true false near true false false = refl
+
+string_if : (test : Bool) → is_container (if test then forms.EcPrivateKey else forms.Other) ≡ false
+string_if true = refl
+string_if false = refl
+
+container_if : (integers versioned string : Bool) (x y : Form) → is_container x ≡ false → is_container y ≡ false
+    → is_container
+    (if integers then x
+    else (if not versioned then forms.Other else (if string then y else forms.Other)))
+    ≡ false
+container_if true versioned string x y no_x no_y = no_x
+container_if false false string x y no_x no_y = refl
+container_if false true true x y no_x no_y = no_y
+container_if false true false x y no_x no_y = refl
+
+no_integers : (x : Children) → is_container (form_of_integers x) ≡ false
+no_integers x =
+    integers_if x.finished (x.count == 2) (nat_le (abs_diff (len_of x.first) (len_of x.second)) 3) (is_versioned x)
+    (x.count == 6) (x.count == 9)
+
+no_string : (x : Children) → is_container (form_of_string x) ≡ false
+no_string x = string_if (x.finished || nat_le (x.second.start - x.second.at) 2)
+
+no_container : (x : Children) → (x.second.tag == 0x30) ≡ false → is_container (form_of x) ≡ false
+unfolding form_of
+no_container x other =
+    rw other
+    (container_if (x.second.tag == 0x02) (is_versioned x) (x.second.tag == 0x04) (form_of_integers x) (form_of_string x)
+    (no_integers x) (no_string x))
+
+guarded_first : (tag version n w : ℕ) (tail : List ℕ) → is_guarded tag (version_first tail version n w) ≡ true
+unfolding is_guarded
+guarded_first tag version n zero tail = or_true (is_high tag)
+guarded_first tag version n (suc zero) tail = or_true (is_high tag)
+guarded_first tag version n (suc (suc w)) tail = or_true (is_high tag)
+
+-- they are guarded, and none of them is opened
+pub record IsClosed (plan : Plan) : Type 0 where
+  pub guarded : plan.guarded ≡ true
+  pub inside : plan.inside ≡ None
+
+closed_root : (a front tail : List ℕ) (version n w : ℕ) (head : Header) → head.tag.constructed ≡ true
+    → head.len ≡ length front → IsClosed (plan_of_root a head (front ++ version_first tail version n w))
+unfolding guarded_plan plan_of_children inside_of
+closed_root a front tail version n w head node len =
+    let bytes : List ℕ = version_first tail version n w in
+    let at : drop head.len (front ++ bytes) ≡ bytes = rw len (drop-append_seam front bytes) in
+    rw (node, at, guarded_first (first_tag a) version n w tail, len)
+    (record {
+      guarded = refl;
+      inside = rw (no_container _ (no_second front tail version n w _ _)) refl;
+    })
+
+pub key_closed : (front tail : List ℕ) (version n : ℕ) (head : Header)
+    → header_of (with_tail front version n tail) ≡ Ok head → head.len ≡ length front → head.tag.constructed ≡ true
+    → IsClosed (plan_of (with_tail front version n tail))
+unfolding plan_of
+key_closed front tail version n head is len node =
+    let a : List ℕ = with_tail front version n tail in
+    let w : ℕ = len_within head.content_len (length a - head.len) in
+    let root : take (head.len + w) a ≡ front ++ version_first tail version n w =
+    ap (λ (k : ℕ). take (k + w) a) len
+    ∙ take-append-add front (0x02 ∷ 0x01 ∷ version ∷ (header 0x04 n ++ tail)) w in
+    rw (is, root) (closed_root a front tail version n w head node len)

@@ -9,6 +9,7 @@ pub mod EncodedLemmas
 pub mod ForestLemmas
 pub mod HeaderLemmas
 pub mod KeyPlanLemmas
+pub mod KeyRowLemmas
 pub mod KindLemmas
 pub mod LevelLemmas
 pub mod LineLemmas

@@ -109,7 +109,7 @@ next_same x y r s u v e hidden looks p q open_r open_s =
     )
 
 -- a row has a byte
-row_some : (x : Undrawn) (r : OpenRow) (u : Undrawn) → IsNext x r u → 0 < length x.left
+pub row_some : (x : Undrawn) (r : OpenRow) (u : Undrawn) → IsNext x r u → 0 < length x.left
 row_some x r u p =
     let some : 0 < length r.header.now + r.own_len = p.bytes.some in
     let own : r.own_len ≤ r.len = p.bytes.own in
