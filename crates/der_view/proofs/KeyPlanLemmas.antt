@@ -21,6 +21,7 @@ use Rattle.der_view.specs.Children.{first_tag, followed, len_of, no_child, none_
 use Rattle.der_view.specs.Headers.{header_of, length_at, long_length, max_content_len, tag_of}
 use Rattle.der_view.specs.Expected.{ends, expected_in, expected_of}
 use Rattle.std.specs.Int.{abs_diff}
+use Rattle.der_view.specs.OpenLaws.{key_bytes}
 use Rattle.der_view.specs.KeyForms.{at_place, content_of, drawn, drawn_to, form_of, form_of_integers, form_of_string, inside_of}
 use Rattle.der_view.specs.KeyForms.{is_container, is_versioned, key_in, key_of_tag, place_after}
 use Rattle.der_view.specs.declared.field.Form.{Form}
@@ -228,44 +229,40 @@ rest_children (suc most) may a b at (inr (none_a, none_b, no_end)) =
           (All-cons (SameChild a b) (none_at at) (children_at most may a at) here more.1),
     )
 
--- a root with this header, a version, the header of a string of so many bytes, and what follows
-abbrev pub with_tail : List ℕ → ℕ → ℕ → List ℕ → List ℕ
-with_tail head version n tail = head ++ (0x02 ∷ 0x01 ∷ version ∷ (header 0x04 n ++ tail))
-
 -- as many bytes follow, and the same ones after the string
 pub record SameAfter (n : ℕ) (s t : List ℕ) : Type 0 where
   pub size : length s ≡ length t
   pub after : drop n s ≡ drop n t
 
 pub at_version : (head tail : List ℕ) (version n : ℕ)
-    → drop (length head) (with_tail head version n tail) ≡ 0x02 ∷ 0x01 ∷ version ∷ (header 0x04 n ++ tail)
+    → drop (length head) (key_bytes head version n tail) ≡ 0x02 ∷ 0x01 ∷ version ∷ (header 0x04 n ++ tail)
 at_version head tail version n = drop-append_seam head (0x02 ∷ 0x01 ∷ version ∷ (header 0x04 n ++ tail))
 
 pub at_key : (head tail : List ℕ) (version n : ℕ)
-    → drop (length head + 2 + 1) (with_tail head version n tail) ≡ header 0x04 n ++ tail
+    → drop (length head + 2 + 1) (key_bytes head version n tail) ≡ header 0x04 n ++ tail
 at_key head tail version n =
     let sum : length head + 2 + 1 ≡ length head + 3 = omega arith in
     rw sum (drop-append-add head (0x02 ∷ 0x01 ∷ version ∷ (header 0x04 n ++ tail)) 3)
 
 pub at_tail : (head tail : List ℕ) (version n k : ℕ)
-    → drop (length head + 2 + 1 + (1 + length (length_octets n)) + k) (with_tail head version n tail) ≡ drop k tail
+    → drop (length head + 2 + 1 + (1 + length (length_octets n)) + k) (key_bytes head version n tail) ≡ drop k tail
 at_tail head tail version n k =
     let at : ℕ = length head + 2 + 1 in
     let sum : at + (1 + length (length_octets n)) + k ≡ at + (length (header 0x04 n) + k) = omega arith in
-    ap (λ (m : ℕ). drop m (with_tail head version n tail)) sum
-    ∙ (sym (drop-drop (length (header 0x04 n) + k) at (with_tail head version n tail))
+    ap (λ (m : ℕ). drop m (key_bytes head version n tail)) sum
+    ∙ (sym (drop-drop (length (header 0x04 n) + k) at (key_bytes head version n tail))
     ∙ (ap (λ (bytes : List ℕ). drop (length (header 0x04 n) + k) bytes) (at_key head tail version n)
     ∙ drop-append-add (header 0x04 n) tail k))
 
 child_version : (may : Bool) (head tail : List ℕ) (version n : ℕ)
-    → child_at may (with_tail head version n tail) (length head) ≡ version_child (length head)
+    → child_at may (key_bytes head version n tail) (length head) ≡ version_child (length head)
 unfolding child_at
 child_version may head tail version n =
     ap (λ (bytes : List ℕ). child_after may (length head) bytes (header_of bytes)) (at_version head tail version n)
     ∙ first_child may (length head) version (header 0x04 n ++ tail)
 
 child_key : (may : Bool) (head tail : List ℕ) (version n : ℕ) → n ≤ max_content_len
-    → child_at may (with_tail head version n tail) (length head + 2 + 1)
+    → child_at may (key_bytes head version n tail) (length head + 2 + 1)
     ≡ key_child_if may (length head + 2 + 1) n (length tail)
 unfolding child_at
 child_key may head tail version n few =
@@ -275,7 +272,7 @@ child_key may head tail version n few =
 -- what follows the private key is the same in both
 key_rest_cut : (may : Bool) (head s t : List ℕ) (version n : ℕ) → n ≤ max_content_len → SameAfter n s t
     → nat_lt (length s) n ≡ true
-    → Rest may (with_tail head version n s) (with_tail head version n t)
+    → Rest may (key_bytes head version n s) (key_bytes head version n t)
     (if may then key_child (length head + 2 + 1) n (length s) else none_at (length head + 2 + 1)).end
 key_rest_cut true head s t version n few same cut =
     let all : length t ≤ length s = omega (arith, same.size) in
@@ -292,12 +289,12 @@ key_rest_cut false head s t version n few same cut =
     )
 
 key_rest : (may : Bool) (head s t : List ℕ) (version n : ℕ) → n ≤ max_content_len → SameAfter n s t
-    → Rest may (with_tail head version n s) (with_tail head version n t)
+    → Rest may (key_bytes head version n s) (key_bytes head version n t)
     (key_child_if may (length head + 2 + 1) n (length s)).end
 key_rest may head s t version n few same =
     let at : ℕ = length head + 2 + 1 in
-    let a : List ℕ = with_tail head version n s in
-    let b : List ℕ = with_tail head version n t in
+    let a : List ℕ = key_bytes head version n s in
+    let b : List ℕ = key_bytes head version n t in
     ⊎_elim
     (λ cut.
     let test : nat_lt (length s) n ≡ true = lt-ltb (length s) n cut in
@@ -373,7 +370,7 @@ head_ends (x ∷ []) a b some = absurd (omega arith)
 head_ends (x ∷ y ∷ head) a b some = refl
 
 version_content : (head tail : List ℕ) (version n : ℕ)
-    → content_of (with_tail head version n tail) (version_child (length head)) ≡ version ∷ []
+    → content_of (key_bytes head version n tail) (version_child (length head)) ≡ version ∷ []
 version_content head tail version n =
     let one : length head + 2 + 1 - (length head + 2) ≡ 1 = omega arith in
     rw (one, drop-append-add head (0x02 ∷ 0x01 ∷ version ∷ (header 0x04 n ++ tail)) 2) refl
@@ -389,13 +386,13 @@ key_at may at n left = key_at_if (nat_lt left n) may at n left
 
 pub children_same : (head s t : List ℕ) (version n : ℕ) (indefinite is_cut : Bool) → 2 ≤ length head
     → n ≤ max_content_len → SameAfter n s t
-    → SameChildren (with_tail head version n s) (with_tail head version n t)
-    (children_of (with_tail head version n s) (length head) indefinite is_cut)
-    (children_of (with_tail head version n t) (length head) indefinite is_cut)
+    → SameChildren (key_bytes head version n s) (key_bytes head version n t)
+    (children_of (key_bytes head version n s) (length head) indefinite is_cut)
+    (children_of (key_bytes head version n t) (length head) indefinite is_cut)
 unfolding children_of children_at
 children_same head s t version n indefinite is_cut some few same =
-    let a : List ℕ = with_tail head version n s in
-    let b : List ℕ = with_tail head version n t in
+    let a : List ℕ = key_bytes head version n s in
+    let b : List ℕ = key_bytes head version n t in
     let p : ℕ = length head in
     let v : Child = version_child p in
     let k : Child = key_child_if is_cut (p + 2 + 1) n (length s) in
@@ -504,12 +501,12 @@ guarded_key tag version rest = or_true (is_high tag)
 key_root : (a b front s t : List ℕ) (version n : ℕ) (head : Header) → head.tag.constructed ≡ true
     → head.len ≡ length front → 2 ≤ length front → n ≤ max_content_len → SameAfter n s t
     → first_tag a ≡ first_tag b → length a ≡ length b
-    → plan_of_root a head (with_tail front version n s) ≡ plan_of_root b head (with_tail front version n t)
+    → plan_of_root a head (key_bytes front version n s) ≡ plan_of_root b head (key_bytes front version n t)
 unfolding guarded_plan
 key_root a b front s t version n head node len some few same tag size =
-    let old : drop head.len (with_tail front version n s) ≡ 0x02 ∷ 0x01 ∷ version ∷ (header 0x04 n ++ s) =
+    let old : drop head.len (key_bytes front version n s) ≡ 0x02 ∷ 0x01 ∷ version ∷ (header 0x04 n ++ s) =
     rw len (at_version front s version n) in
-    let new : drop head.len (with_tail front version n t) ≡ 0x02 ∷ 0x01 ∷ version ∷ (header 0x04 n ++ t) =
+    let new : drop head.len (key_bytes front version n t) ≡ 0x02 ∷ 0x01 ∷ version ∷ (header 0x04 n ++ t) =
     rw len (at_version front t version n) in
     rw (
       node,
@@ -580,15 +577,15 @@ first_of (x ∷ front) a b some = refl
 
 -- the plan
 pub key_plan : (front s t : List ℕ) (version n : ℕ) (head : Header)
-    → header_of (with_tail front version n s) ≡ Ok head → head.len ≡ length front → head.tag.constructed ≡ true
+    → header_of (key_bytes front version n s) ≡ Ok head → head.len ≡ length front → head.tag.constructed ≡ true
     → n ≤ max_content_len → SameAfter n s t
-    → plan_of (with_tail front version n s) ≡ plan_of (with_tail front version n t)
+    → plan_of (key_bytes front version n s) ≡ plan_of (key_bytes front version n t)
 unfolding plan_of
 key_plan front s t version n head is len node few same =
     let u : List ℕ = 0x02 ∷ 0x01 ∷ version ∷ (header 0x04 n ++ s) in
     let v : List ℕ = 0x02 ∷ 0x01 ∷ version ∷ (header 0x04 n ++ t) in
-    let a : List ℕ = with_tail front version n s in
-    let b : List ℕ = with_tail front version n t in
+    let a : List ℕ = key_bytes front version n s in
+    let b : List ℕ = key_bytes front version n t in
     let other : header_of b ≡ Ok head = header_front front u v head is (omega arith) in
     let some : 2 ≤ length front = omega (arith, (header_within a head is).0) in
     let size : length a ≡ length b =
@@ -757,11 +754,11 @@ closed_root a front tail version n w head node len =
     })
 
 pub key_closed : (front tail : List ℕ) (version n : ℕ) (head : Header)
-    → header_of (with_tail front version n tail) ≡ Ok head → head.len ≡ length front → head.tag.constructed ≡ true
-    → IsClosed (plan_of (with_tail front version n tail))
+    → header_of (key_bytes front version n tail) ≡ Ok head → head.len ≡ length front → head.tag.constructed ≡ true
+    → IsClosed (plan_of (key_bytes front version n tail))
 unfolding plan_of
 key_closed front tail version n head is len node =
-    let a : List ℕ = with_tail front version n tail in
+    let a : List ℕ = key_bytes front version n tail in
     let w : ℕ = len_within head.content_len (length a - head.len) in
     let root : take (head.len + w) a ≡ front ++ version_first tail version n w =
     ap (λ (k : ℕ). take (k + w) a) len

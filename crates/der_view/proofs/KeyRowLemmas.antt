@@ -6,23 +6,24 @@ use Rattle.std.proofs.Common.{append-nil, eqb-true}
 use Rattle.std.proofs.lemmas.Bool.{cases_lt}
 use Rattle.std.proofs.lemmas.Bool.Decides.{nat_tests}
 use Rattle.std.proofs.lemmas.List.{drop-drop, drop_all, drop_at, length-append, length-drop, length-take, length-take-le}
-use Rattle.std.proofs.lemmas.List.{take-append-drop, take-append-le, take_at, take_min}
+use Rattle.std.proofs.lemmas.List.{take-append-drop, take-append-le, take_all, take_at}
 use Rattle.std.proofs.lemmas.List.Elements.{All-cons, All-nil}
 use Rattle.std.proofs.Math.Seq.{drop-append-add, drop-append_seam, take-append-add}
 use Rattle.std.specs.Prelude.{nat_le, nat_lt, option_map, slice_get}
 use Rattle.sec1_der.specs.Elements.{header, length_octets}
 use Rattle.der_view.proofs.HeaderLemmas.{header_front, header_within}
 use Rattle.der_view.proofs.KeyPlanLemmas.{IsClosed, SameAfter, at_key, at_tail, at_version, header_in_der, string_header}
-use Rattle.der_view.proofs.KeyPlanLemmas.{with_tail}
+use Rattle.der_view.proofs.KeyPlanLemmas.{key_closed, key_plan}
 use Rattle.der_view.proofs.OpenLemmas.{row_some}
 use Rattle.der_view.proofs.SeenLemmas.{content_inside, len_within-le}
 use Rattle.der_view.specs.Headers.{header_of, is_type, max_content_len, tag_of}
 use Rattle.der_view.specs.Levels.{followed, input_level, level_after, opened_in, still_open}
-use Rattle.der_view.specs.OpenLaws.{ContentsLookSame, LookSame, LooksSame}
+use Rattle.der_view.specs.OpenLaws.{ContentsLookSame, DifferUnseen, IsRootOf, KeyIsUnseen, LookSame, LooksSame, key_bytes}
 use Rattle.der_view.specs.Openings.{field_inside, opened_by, opening_by, opens_octets, own_len_by, string_opening}
 use Rattle.der_view.specs.Pictures.{AreRows, AreRowsOf}
 use Rattle.der_view.specs.Places.{IsBare, IsDrawn, IsElement, IsInside, IsNoElement, IsRest, IsStep, ends_contents}
 use Rattle.der_view.specs.Places.{inside_of, is_drawn, is_over, len_within, level_inside}
+use Rattle.der_view.specs.Plans.{plan_of}
 use Rattle.der_view.specs.Rows.{BeginsWith, IsNext, Undrawn, content_of, place_of, row_len, stepped}
 use Rattle.der_view.specs.RowLaws.{content_at}
 use Rattle.der_view.specs.declared.field.Field.{Field}
@@ -449,13 +450,13 @@ key_looks guarded n k field s t is =
 key_rows : (front s t : List ℕ) (version n : ℕ) (rows : List OpenRow) (x u : Undrawn) (level outer : Level)
     → n ≤ max_content_len → SameAfter n s t → AreRowsOf rows x u → x.levels ≡ level ∷ outer ∷ [] → x.all ≡ false
     → IsClosed x.plan → x.offset ≡ length front + 2 + 1
-    → x.left ≡ drop x.offset (with_tail front version n s)
-    → All (LooksSame true (with_tail front version n s) (with_tail front version n t)) rows
+    → x.left ≡ drop x.offset (key_bytes front version n s)
+    → All (LooksSame true (key_bytes front version n s) (key_bytes front version n t)) rows
 key_rows front s t version n [] x u level outer few same rows levels hidden closed offset at =
-    All-nil (LooksSame true (with_tail front version n s) (with_tail front version n t))
+    All-nil (LooksSame true (key_bytes front version n s) (key_bytes front version n t))
 key_rows front s t version n (r ∷ rows) x u level outer few same (y, is, seen, more) levels hidden closed offset at =
-    let a : List ℕ = with_tail front version n s in
-    let b : List ℕ = with_tail front version n t in
+    let a : List ℕ = key_bytes front version n s in
+    let b : List ℕ = key_bytes front version n t in
     let in_a : drop x.offset a ≡ header 0x04 n ++ s =
     ap (λ (k : ℕ). drop k a) offset ∙ at_key front s version n in
     let in_b : drop x.offset b ≡ header 0x04 n ++ t =
@@ -509,13 +510,13 @@ take_one (suc (suc k)) x s t few = absurd (omega arith)
 version_rows : (front s t : List ℕ) (version n : ℕ) (rows : List OpenRow) (x u : Undrawn) (level outer : Level)
     → n ≤ max_content_len → SameAfter n s t → AreRowsOf rows x u → x.levels ≡ level ∷ outer ∷ [] → x.all ≡ false
     → IsClosed x.plan → 0 < length front → x.offset ≡ length front
-    → x.left ≡ drop x.offset (with_tail front version n s)
-    → All (LooksSame true (with_tail front version n s) (with_tail front version n t)) rows
+    → x.left ≡ drop x.offset (key_bytes front version n s)
+    → All (LooksSame true (key_bytes front version n s) (key_bytes front version n t)) rows
 version_rows front s t version n [] x u level outer few same rows levels hidden closed some offset at =
-    All-nil (LooksSame true (with_tail front version n s) (with_tail front version n t))
+    All-nil (LooksSame true (key_bytes front version n s) (key_bytes front version n t))
 version_rows front s t version n (r ∷ rows) x u level outer few same (y, is, seen, more) levels hidden closed some offset at =
-    let a : List ℕ = with_tail front version n s in
-    let b : List ℕ = with_tail front version n t in
+    let a : List ℕ = key_bytes front version n s in
+    let b : List ℕ = key_bytes front version n t in
     let l : List ℕ = version ∷ (header 0x04 n ++ s) in
     let m : List ℕ = version ∷ (header 0x04 n ++ t) in
     let first : List ℕ = 0x02 ∷ 0x01 ∷ [] in
@@ -623,3 +624,87 @@ root_step a b front u x y r level head is levels offset left at other len node w
       is.offset ∙ (ap₂ (λ (p q : ℕ). p + q) offset taken ∙ omega arith),
       root_levels (length y.left) next is.step.opened y.levels ended,
     )
+
+-- the first row: the root, or all that is left
+abbrev FirstRow : List ℕ → List ℕ → ℕ → OpenRow → Undrawn → Type 0
+FirstRow a b n r y =
+    LooksSame true a b r
+    × ((length y.left ≡ 0)
+    ⊎ ((y.offset ≡ n)
+    × (((inner : Level) × (outer : Level) × (y.levels ≡ inner ∷ outer ∷ [])) ⊎ (length y.levels ≤ 1))))
+
+first_drawn : (drawn : Bool) (a b front u : List ℕ) (x y : Undrawn) (r : OpenRow) (level : Level) (head : Header)
+    (is : IsNext x r y) → x.levels ≡ level ∷ [] → level.rest ≡ 0 → x.offset ≡ 0 → x.left ≡ a → a ≡ front ++ u
+    → take (length front) b ≡ front → header_of a ≡ Ok head → head.len ≡ length front
+    → head.tag.constructed ≡ true → IsDrawn drawn (place_of x) level a is.step → FirstRow a b (length front) r y
+first_drawn false a b front u x y r level head is levels last offset left at other known len node e =
+    let rest = rest_row true a b x y r is (subst (λ (bytes : List ℕ). IsRest (place_of x) bytes is.step) (sym left) e) in
+    (rest.0, inl rest.1)
+first_drawn true a b front u x y r level head is levels last offset left at other known len node e =
+    let inside : inside_of level a ≡ a = take_all (length a - level.rest) a (omega arith) in
+    let here : IsInside (place_of x) (length a) level a (header_of a) is.step =
+    subst (λ (bytes : List ℕ). IsInside (place_of x) (length a) level bytes (header_of bytes) is.step) inside e in
+    let element : IsElement (place_of x) (length a) level a head is.step =
+    subst (λ (f : Result Header ElementFault). IsInside (place_of x) (length a) level a f is.step) known here in
+    let within : head.len ≤ length a = (header_within a head known).1 in
+    let row = root_step a b front u x y r level head is levels offset left at other len node within element in
+    (row.0, inr (row.1, row.2))
+
+first_row : (a b front u : List ℕ) (x y : Undrawn) (r : OpenRow) (level : Level) (head : Header) → IsNext x r y
+    → x.levels ≡ level ∷ [] → level.rest ≡ 0 → x.offset ≡ 0 → x.left ≡ a → a ≡ front ++ u
+    → take (length front) b ≡ front → header_of a ≡ Ok head → head.len ≡ length front
+    → head.tag.constructed ≡ true → FirstRow a b (length front) r y
+first_row a b front u x y r level head is levels last offset left at other known len node =
+    let first : slice_get x.levels 0 ≡ Some level = ap (λ (ls : List Level). slice_get ls 0) levels in
+    let here : IsStep (place_of x) a (Some level) is.step =
+    subst₂ (λ (bytes : List ℕ) (innermost : Option Level). IsStep (place_of x) bytes innermost is.step) left first
+    is.is_step in
+    first_drawn (is_drawn (place_of x) (length a) level.rest) a b front u x y r level head is levels last offset left at
+    other known len node here
+
+first_rows : (front s t : List ℕ) (version n : ℕ) (rows : List OpenRow) (x u : Undrawn) (head : Header)
+    → n ≤ max_content_len → SameAfter n s t → AreRowsOf rows x u → x.levels ≡ input_level x.plan.root ∷ []
+    → x.all ≡ false → IsClosed x.plan → x.offset ≡ 0 → x.left ≡ key_bytes front version n s
+    → header_of (key_bytes front version n s) ≡ Ok head → head.len ≡ length front → head.tag.constructed ≡ true
+    → All (LooksSame true (key_bytes front version n s) (key_bytes front version n t)) rows
+first_rows front s t version n [] x u head few same rows levels hidden closed offset left known len node =
+    All-nil (LooksSame true (key_bytes front version n s) (key_bytes front version n t))
+first_rows front s t version n (r ∷ rows) x u head few same (y, is, _, more) levels hidden closed offset left e len node =
+    let a : List ℕ = key_bytes front version n s in
+    let b : List ℕ = key_bytes front version n t in
+    let some : 0 < length front = omega (arith, (header_within a head e).0) in
+    let row : FirstRow a b (length front) r y =
+    first_row a b front _ x y r (input_level x.plan.root) head is levels refl offset left refl
+    (take_at front _ (length front) refl) e len node in
+    let at : x.left ≡ drop x.offset a = rw offset left in
+    let next : y.left ≡ drop y.offset a = is.left ∙ rw (at, is.offset) (drop-drop (row_len r) x.offset a) in
+    let closed_next : IsClosed y.plan = rw is.plan closed in
+    let rest : All (LooksSame true a b) rows = ⊎_elim
+    (λ (done : length y.left ≡ 0). no_rows (LooksSame true a b) rows y u more done)
+    (λ (on : (y.offset ≡ length front)
+    × (((inner : Level) × (outer : Level) × (y.levels ≡ inner ∷ outer ∷ [])) ⊎ (length y.levels ≤ 1))).
+    ⊎_elim
+    (λ (two : (inner : Level) × (outer : Level) × (y.levels ≡ inner ∷ outer ∷ [])).
+    version_rows front s t version n rows y u two.0 two.1 few same more two.2 (is.all ∙ hidden) closed_next some on.0
+    next)
+    (λ (none : length y.levels ≤ 1).
+    over_rows true a b rows y u more none (omega (arith, on.0)) (is.all ∙ hidden))
+    on.1)
+    row.1 in
+    All-cons (LooksSame true a b) r rows row.0 rest
+
+pub key_is_unseen : KeyIsUnseen
+key_is_unseen front s t version n root few size after =
+    let a : List ℕ = key_bytes front version n s in
+    let b : List ℕ = key_bytes front version n t in
+    let same : SameAfter n s t = record { size = size; after = after } in
+    let closed : IsClosed (plan_of a) = key_closed front s version n root.head root.is_header root.len root.node in
+    record {
+      len = omega (arith, length-append front (0x02 ∷ 0x01 ∷ version ∷ (header 0x04 n ++ s)),
+      length-append front (0x02 ∷ 0x01 ∷ version ∷ (header 0x04 n ++ t)), length-append (header 0x04 n) s,
+      length-append (header 0x04 n) t);
+      plan = key_plan front s t version n root.head root.is_header root.len root.node few same;
+      rows = λ rows p. rw closed.guarded
+      (first_rows front s t version n rows p.first p.last root.head few same p.drawn p.levels p.shows
+      (rw p.plan closed) p.offset p.left root.is_header root.len root.node);
+    }

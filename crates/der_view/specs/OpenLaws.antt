@@ -1,19 +1,20 @@
 -- What holds of two inputs that differ in bytes which aren't shown.
-use Rattle.std.specs.Prelude.{◌≡◌, ℕ, ◌&&◌, Bool, true, false, if◌then◌else◌, List, length, take}
-use Rattle.std.specs.Prelude.{drop, All}
-use Rattle.der_view.specs.Headers.{is_type}
+use Rattle.std.specs.Prelude.{◌≡◌, ℕ, ◌≤◌, ◌&&◌, Bool, true, false, if◌then◌else◌, List, ◌∷◌}
+use Rattle.std.specs.Prelude.{◌++◌, length, take, drop, All, Option, Ok}
+use Rattle.sec1_der.specs.Elements.{header}
+use Rattle.der_view.specs.Headers.{header_of, is_type, max_content_len}
 use Rattle.der_view.specs.Openings.{is_tree, opens_bits}
 use Rattle.der_view.specs.Pictures.{AreRows, IsPicture}
 use Rattle.der_view.specs.Plans.{plan_of}
 use Rattle.der_view.specs.RowLaws.{content_at}
 use Rattle.der_view.specs.Seen.{open_len}
 use Rattle.der_view.specs.declared.field.Field.{Field}
+use Rattle.der_view.specs.declared.header.Header.{Header}
 use Rattle.der_view.specs.declared.header.Tag.{Tag}
 use Rattle.der_view.specs.declared.picture.verdict.Reading.{Reading}
 use Rattle.der_view.specs.declared.row.Kind.{Kind}
 use Rattle.der_view.specs.declared.row.Kind.TheVariants as kinds
 use Rattle.der_view.specs.declared.row.OpenRow.{OpenRow}
-use Rattle.std.specs.Prelude.{Option}
 
 -- whether a string with this content may be opened for it, in a picture that isn't guarded
 abbrev pub may_open : Tag → List ℕ → Bool
@@ -49,8 +50,29 @@ pub record DifferUnseen (a b : List ℕ) : Type 0 where
       (rows : List OpenRow) → AreRows false a rows
       → All (LooksSame (plan_of a).guarded a b) rows
 
--- Inputs that differ only in bytes which aren't shown have the same picture.
+-- Inputs that differ only in bytes which aren't shown have the same picture, if both are a key's or
+-- none.
 abbrev pub OpenBytesDecide : Type 0
 OpenBytesDecide =
     (a b x y : List ℕ) (reading : Reading) (is_key : Bool) → DifferUnseen a b
     → IsPicture false reading a x is_key → IsPicture false reading b y is_key → x ≡ y
+
+-- RFC 5915 section 3: the header of a root, a version of one byte, the header of a private key of
+-- so many bytes in DER, and what follows
+abbrev pub key_bytes : List ℕ → ℕ → ℕ → List ℕ → List ℕ
+key_bytes root version n rest = root ++ (0x02 ∷ 0x01 ∷ version ∷ (header 0x04 n ++ rest))
+
+-- these are the bytes of the header of an element that others begin with, whose content is elements
+pub record IsRootOf (bytes root : List ℕ) : Type 0 where
+  pub head : Header
+  pub is_header : header_of bytes ≡ Ok head
+  pub len : head.len ≡ length root
+  pub node : head.tag.constructed ≡ true
+
+-- Of bytes that begin as a private key does, the key isn't seen, however they go on and wherever
+-- they end.
+abbrev pub KeyIsUnseen : Type 0
+KeyIsUnseen =
+    (root x y : List ℕ) (version n : ℕ) → IsRootOf (key_bytes root version n x) root
+    → n ≤ max_content_len → length x ≡ length y → drop n x ≡ drop n y
+    → DifferUnseen (key_bytes root version n x) (key_bytes root version n y)

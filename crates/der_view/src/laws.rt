@@ -6,7 +6,7 @@ ghost use Rattle.der_view.specs.Plans.{plan_of};
 ghost use Rattle.der_view.specs.RowLaws.{HidesContent, IsSameRow};
 ghost use Rattle.der_view.specs.Rows.{IsNext, IsOpen, Undrawn, bytes_of_rows};
 ghost use Rattle.der_view.specs.declared.row.OpenRow.{OpenRow};
-ghost use Rattle.der_view.specs.OpenLaws.{OpenBytesDecide};
+ghost use Rattle.der_view.specs.OpenLaws.{KeyIsUnseen, OpenBytesDecide};
 
 /// The bytes of all rows, in order, are the input: none is left out, and none is drawn twice.
 pub fn rows_are_input()
@@ -32,4 +32,9 @@ pub fn contents_are_hidden()
 /// Inputs that differ only in bytes which aren't shown have the same picture.
 pub fn open_bytes_decide()
     ensures { OpenBytesDecide }
+{}
+
+/// Of bytes that begin as a private key does, the key isn't seen, however they go on.
+pub fn key_is_unseen()
+    ensures { KeyIsUnseen }
 {}
