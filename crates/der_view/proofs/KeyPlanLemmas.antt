@@ -18,7 +18,7 @@ use Rattle.sec1_der.specs.Faults.{end_fault, forest_fault, nested_fault, tree_fa
 use Rattle.der_view.proofs.HeaderLemmas.{header_front, header_within}
 use Rattle.der_view.specs.Children.{begins, child_after, child_at, child_by, child_if, child_of, children_at, children_of}
 use Rattle.der_view.specs.Children.{first_tag, followed, len_of, no_child, none_at, nth, run_in, run_of}
-use Rattle.der_view.specs.Headers.{header_of, length_at, long_length, max_content_len, tag_of}
+use Rattle.der_view.specs.Headers.{header_of, header_with, length_at, long_length, max_content_len, tag_of}
 use Rattle.der_view.specs.Expected.{ends, expected_in, expected_of}
 use Rattle.std.specs.Int.{abs_diff}
 use Rattle.der_view.specs.OpenLaws.{key_bytes}
@@ -34,6 +34,7 @@ use Rattle.der_view.specs.declared.children.Child.{Child}
 use Rattle.der_view.specs.declared.children.Children.{Children}
 use Rattle.der_view.specs.declared.header.Header.{Header}
 use Rattle.der_view.specs.declared.mark.ElementFault.{ElementFault}
+use Rattle.der_view.specs.declared.mark.ElementFault.TheVariants as faults
 
 -- a leaf in DER is a tree
 leaf_tree : (tag : ℕ) (content bytes : List ℕ) → IsHeader tag (length content) → is_constructed tag ≡ false
@@ -51,15 +52,18 @@ version_tree version =
     leaf_tree 0x02 (version ∷ []) (0x02 ∷ 0x01 ∷ version ∷ []) (record { tag_byte = refl; bounded = omega arith }) refl
     (rw (len_1 1 (omega arith)) refl)
 
--- the length of a content in DER, and its header
-length_in_der : (n : ℕ) (rest : List ℕ) → n ≤ max_content_len
-    → length_at (length_octets n ++ rest) ≡ Ok (Some n, length (length_octets n))
-length_in_der n rest few = ⊎_elim
-    (λ small. rw (len_1 n small, lt-ltb n 128 small) refl)
+-- the length of a content in DER, which is refused above a limit, and its header
+length_if : (n : ℕ) (rest : List ℕ) → n ≤ max_length
+    → length_at (length_octets n ++ rest)
+    ≡ (if nat_lt max_content_len n then Err faults.LengthTooLarge else Ok (Some n, length (length_octets n)))
+length_if n rest few = ⊎_elim
+    (λ small.
+    let within : nat_lt max_content_len n ≡ false = grind (arith, nat_tests) in
+    rw (within, len_1 n small, lt-ltb n 128 small) refl)
     (λ large.
     let d : ℕ = length (digits_of 256 n) in
     let more : d ≡ length (digits_of 256 (n / 256)) + 1 = length-digits_of_step 256 n (omega arith) (omega arith) in
-    let most : d ≤ 3 = length-digits_of-le 256 3 n (omega arith) (omega arith) in
+    let most : d ≤ 4 = length-digits_of-le 256 4 n (omega arith) (omega arith) in
     let count : 128 + d - 0x80 ≡ d = omega arith in
     let long : nat_lt (128 + d) 0x80 ≡ false = grind (arith, nat_tests) in
     let some : (128 + d == 0x80) ≡ false = ne_eqb (128 + d) 0x80 (λ e. omega arith) in
@@ -70,10 +74,15 @@ length_in_der n rest few = ⊎_elim
     grind (arith, nat_tests) in
     let front : take d (digits_of 256 n ++ rest) ≡ digits_of 256 n = take_at (digits_of 256 n) rest d refl in
     let number : number_of (digits_of 256 n) ≡ n = number_digits_of 256 n (omega arith) in
-    let within : nat_lt max_content_len n ≡ false = grind (arith, nat_tests) in
     let size : d + 1 ≡ suc d = omega arith in
-    rw (len_long n (digits_of 256 n) large refl, long, some, other, short, count, fits, front, number, within, size) refl)
+    rw (len_long n (digits_of 256 n) large refl, long, some, other, short, count, fits, front, number, size) refl)
     (cases_lt n 128)
+
+length_in_der : (n : ℕ) (rest : List ℕ) → n ≤ max_content_len
+    → length_at (length_octets n ++ rest) ≡ Ok (Some n, length (length_octets n))
+length_in_der n rest few =
+    let within : nat_lt max_content_len n ≡ false = grind (arith, nat_tests) in
+    rw within at (length_if n rest (omega arith))
 
 -- the header of an OCTET STRING
 abbrev pub string_header : ℕ → Header
@@ -87,6 +96,21 @@ string_header n = record {
 pub header_in_der : (n : ℕ) (rest : List ℕ) → n ≤ max_content_len
     → header_of (header 0x04 n ++ rest) ≡ Ok (string_header n)
 header_in_der n rest few = rw (length_in_der n rest few) refl
+
+-- a header of a SEQUENCE in DER is all of these bytes
+sequence_if : (large : Bool) (n k : ℕ) (head : Header)
+    → header_with (tag_of 0x30 0x10) 1 (if large then Err faults.LengthTooLarge else Ok (Some n, k)) ≡ Ok head
+    → head.len ≡ 1 + k
+sequence_if true n k head is = cc
+sequence_if false n k head is =
+    let same : record { tag = tag_of 0x30 0x10; tag_len = 1; len = 1 + k; content_len = Some n } ≡ head = cc in
+    ap (λ (h : Header). h.len) (sym same)
+
+pub sequence_header : (n : ℕ) (rest : List ℕ) (head : Header) → n ≤ max_length
+    → header_of (header 0x30 n ++ rest) ≡ Ok head → head.len ≡ 1 + length (length_octets n)
+sequence_header n rest head few is =
+    sequence_if (nat_lt max_content_len n) n (length (length_octets n)) head
+    (sym (ap (λ (l : Result (Option ℕ × ℕ) ElementFault). header_with (tag_of 0x30 0x10) 1 l) (length_if n rest few)) ∙ is)
 
 -- the first child, a version of one byte, whatever follows
 abbrev version_child : ℕ → Child

@@ -12,6 +12,7 @@ use Rattle.std.proofs.Math.Seq.{drop-append-add, drop-append_seam, take-append-a
 use Rattle.std.specs.Prelude.{nat_le, nat_lt, option_map, slice_get}
 use Rattle.sec1_der.specs.Elements.{header, length_octets}
 use Rattle.der_view.proofs.HeaderLemmas.{header_front, header_within}
+use Rattle.der_view.proofs.KeyLemmas.{key_moves}
 use Rattle.der_view.proofs.KeyPlanLemmas.{IsClosed, SameAfter, at_key, at_tail, at_version, header_in_der, string_header}
 use Rattle.der_view.proofs.KeyPlanLemmas.{key_closed, key_plan}
 use Rattle.der_view.proofs.OpenLemmas.{row_some}
@@ -242,7 +243,7 @@ leaf_found place level n h front l m found size step leaf alike inside open_leve
         x.outer,
         level_rest level x.element.passed found.tag x.element.seen.now,
         ⊎_elim (λ (all : w ≡ size). inl (taken ∙ ap (λ (j : ℕ). length front + j) all))
-        (λ (cut : w ≡ length xs - k). inr (omega (arith, bounds.1), open_level)) cases.0,
+            (λ (cut : w ≡ length xs - k). inr (omega (arith, bounds.1), open_level)) cases.0,
       );
     }
 
@@ -428,8 +429,7 @@ leaf_row a b front l m found size x u r level outer is levels guarded at in_a in
     let step : LeafStep x.plan.guarded front (front ++ l) (front ++ m) level (length front + size) is.step =
     leaf_step x u r is front l m level outer found size levels left leaf alike in
     let looks : LooksSame x.plan.guarded a b r =
-    leaf_looks x.plan.guarded a b front l m level (length front + size) x u r is left in_a in_b step in
-    (
+    leaf_looks x.plan.guarded a b front l m level (length front + size) x u r is left in_a in_b step in (
       rw guarded at looks,
       leaf_after x.plan.guarded front (front ++ m) level outer (length front + size) x u r is levels (rw left step),
     )
@@ -533,7 +533,7 @@ version_rows front s t version n (r ∷ rows) x u level outer few same (y, is, s
     let alike : AreAlike (place_of x) level version_header 1 l m = record {
       same = sizes;
       look = λ field k within. rw (take_one k version (header 0x04 n ++ s) (header 0x04 n ++ t) within)
-      (record { seen = refl; opening = λ e. refl });
+          (record { seen = refl; opening = λ e. refl });
       closed = λ cut k. closed_version (place_of x) level cut (take k l);
     } in
     let row = leaf_row a b first l m version_header 1 x y r level outer is levels closed.guarded at in_a in_b leaf alike in
@@ -618,8 +618,7 @@ root_step a b front u x y r level head is levels offset left at other len node w
     let next : Level = level_after level e.element.passed head.tag e.element.seen.now in
     let ended : y.levels ≡ still_open (length y.left) (opened_in is.step.opened (next ∷ [])) =
     is.levels
-    ∙ (λ i. still_open (length y.left) (opened_in is.step.opened (followed (e.outer i) (levels i)))) in
-    (
+    ∙ (λ i. still_open (length y.left) (opened_in is.step.opened (followed (e.outer i) (levels i)))) in (
       looks,
       is.offset ∙ (ap₂ (λ (p q : ℕ). p + q) offset taken ∙ omega arith),
       root_levels (length y.left) next is.step.opened y.levels ended,
@@ -699,12 +698,26 @@ key_is_unseen front s t version n root few size after =
     let b : List ℕ = key_bytes front version n t in
     let same : SameAfter n s t = record { size = size; after = after } in
     let closed : IsClosed (plan_of a) = key_closed front s version n root.head root.is_header root.len root.node in
+    let other : IsRootOf b front = record {
+      head = root.head;
+      is_header = header_front front _ _ root.head root.is_header (omega (arith, root.len));
+      len = root.len;
+      node = root.node;
+    } in
     record {
-      len = omega (arith, length-append front (0x02 ∷ 0x01 ∷ version ∷ (header 0x04 n ++ s)),
-      length-append front (0x02 ∷ 0x01 ∷ version ∷ (header 0x04 n ++ t)), length-append (header 0x04 n) s,
-      length-append (header 0x04 n) t);
+      len = omega (
+        arith,
+        length-append front (0x02 ∷ 0x01 ∷ version ∷ (header 0x04 n ++ s)),
+        length-append front (0x02 ∷ 0x01 ∷ version ∷ (header 0x04 n ++ t)),
+        length-append (header 0x04 n) s,
+        length-append (header 0x04 n) t,
+      );
       plan = key_plan front s t version n root.head root.is_header root.len root.node few same;
+      key = λ is_key answer. (
+        λ yes. key_moves front s t version n root size after (answer.0 yes),
+        λ key. answer.1 (key_moves front t s version n other (sym size) (sym after) key),
+      );
       rows = λ rows p. rw closed.guarded
-      (first_rows front s t version n rows p.first p.last root.head few same p.drawn p.levels p.shows
-      (rw p.plan closed) p.offset p.left root.is_header root.len root.node);
+          (first_rows front s t version n rows p.first p.last root.head few same p.drawn p.levels p.shows
+          (rw p.plan closed) p.offset p.left root.is_header root.len root.node);
     }

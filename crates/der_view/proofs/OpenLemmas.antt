@@ -7,6 +7,7 @@ use Rattle.std.specs.List.{AllZip}
 use Rattle.std.specs.Prelude.{Option, None, Some, nat_lt, option_map, slice_get, unwrap_or}
 use denote.Bor.{Bor}
 use Rattle.der_view.proofs.BareLemmas.{texts_same, verdicts_same}
+use Rattle.der_view.proofs.KeyLemmas.{one_answer}
 use Rattle.der_view.proofs.SameLemmas.{Looks, SameStep, step_same}
 use Rattle.der_view.specs.Levels.{followed, input_level, is_unended, opened_in, still_open}
 use Rattle.der_view.specs.OpenLaws.{ContentsLookSame, LooksSame, OpenBytesDecide}
@@ -185,7 +186,8 @@ all_rows_same a b rows others size plan looks p q =
 
 -- the pictures are the same
 pub open_bytes_decide : OpenBytesDecide
-open_bytes_decide a b x y reading is_key d p q =
+open_bytes_decide a b x y reading is_key is_other d p q =
+    let answer : is_key ≡ is_other = one_answer _ is_key is_other (d.key is_key p.key) q.key in
     let rows : AllZip IsSameRow p.rows q.rows =
     all_rows_same a b p.rows q.rows d.len d.plan (d.rows p.rows p.are_rows) p.are_rows q.are_rows in
     let s = p.is_subject in
@@ -193,10 +195,12 @@ open_bytes_decide a b x y reading is_key d p q =
     let told : AllZip IsSameRow s.rows t.rows =
     all_rows_same a b s.rows t.rows d.len d.plan (d.rows s.rows s.are_rows) s.are_rows t.are_rows in
     let said : verdict_of p.subject.reading p.subject.len is_key p.subject.plan p.subject.facts
-    ≡ verdict_of q.subject.reading q.subject.len is_key q.subject.plan q.subject.facts =
-    rw (s.read, s.len, s.plan, s.facts, t.read, t.len, t.plan, t.facts, sym d.len, sym d.plan)
-    (verdicts_same s.rows t.rows reading (length a) is_key (plan_of a) told) in
-    p.whole
-    ∙ (ap₂ (λ (lines : List ℕ) (verdict : VerdictView). lines ++ verdict_text (kept_verdict verdict))
-    (texts_same p.rows q.rows rows) said
-    ∙ sym q.whole)
+    ≡ verdict_of q.subject.reading q.subject.len is_other q.subject.plan q.subject.facts =
+    rw (s.read, s.len, s.plan, s.facts, t.read, t.len, t.plan, t.facts, sym d.len, sym d.plan, sym answer)
+    (verdicts_same s.rows t.rows reading (length a) is_key (plan_of a) told) in (
+      p.whole
+          ∙ (ap₂ (λ (lines : List ℕ) (verdict : VerdictView). lines ++ verdict_text (kept_verdict verdict))
+          (texts_same p.rows q.rows rows) said
+          ∙ sym q.whole),
+      answer,
+    )

@@ -4,7 +4,7 @@ use Rattle.std.specs.Prelude.{◌++◌, length, take, drop, All, Option, Ok}
 use Rattle.sec1_der.specs.Elements.{header}
 use Rattle.der_view.specs.Headers.{header_of, is_type, max_content_len}
 use Rattle.der_view.specs.Openings.{is_tree, opens_bits}
-use Rattle.der_view.specs.Pictures.{AreRows, IsPicture}
+use Rattle.der_view.specs.Pictures.{AreRows, IsKey, IsPicture}
 use Rattle.der_view.specs.Plans.{plan_of}
 use Rattle.der_view.specs.RowLaws.{content_at}
 use Rattle.der_view.specs.Seen.{open_len}
@@ -42,20 +42,22 @@ pub record LooksSame (guarded : Bool) (a b : List ℕ) (row : OpenRow) : Type 0 
   pub content :
       ContentsLookSame guarded row.field row.kind (content_at a row) (content_at b row)
 
--- inputs that differ only in bytes which aren't shown
+-- Inputs that differ only in bytes which aren't shown: what is known of the whole of them is the
+-- same, as is whether they are a key's, and each row of the first looks the same in the second.
 pub record DifferUnseen (a b : List ℕ) : Type 0 where
   pub len : length a ≡ length b
   pub plan : plan_of a ≡ plan_of b
+  pub key : (is_key : Bool) → IsKey a is_key → IsKey b is_key
   pub rows :
       (rows : List OpenRow) → AreRows false a rows
       → All (LooksSame (plan_of a).guarded a b) rows
 
--- Inputs that differ only in bytes which aren't shown have the same picture, if both are a key's or
--- none.
+-- Inputs that differ only in bytes which aren't shown have the same picture.
 abbrev pub OpenBytesDecide : Type 0
 OpenBytesDecide =
-    (a b x y : List ℕ) (reading : Reading) (is_key : Bool) → DifferUnseen a b
-    → IsPicture false reading a x is_key → IsPicture false reading b y is_key → x ≡ y
+    (a b x y : List ℕ) (reading : Reading) (is_key is_other : Bool) → DifferUnseen a b
+    → IsPicture false reading a x is_key → IsPicture false reading b y is_other
+    → (x ≡ y) × (is_key ≡ is_other)
 
 -- RFC 5915 section 3: the header of a root, a version of one byte, the header of a private key of
 -- so many bytes in DER, and what follows
