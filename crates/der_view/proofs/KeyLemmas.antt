@@ -3,12 +3,12 @@ use Rattle.std.proofs.Common.{◌≡◌, ◌↔◌, ℕ, ◌+◌, ◌≤◌, Boo
 use Rattle.std.proofs.Common.{refl, sym, ap, ap₂, ◌∙◌, arith, slice_index}
 use Rattle.std.proofs.lemmas.List.{append_assoc, drop_at, length-append, length-take-le, take-append-drop}
 use Rattle.std.specs.Option.{option_map}
-use Rattle.sec1.specs.Keys.{IsKeyOf, Key, field, key_tree}
+use Rattle.sec1.specs.Keys.{IsKeyOf, Key, field}
 use Rattle.sec1_der.proofs.ElementLaws.{header_apart}
 use Rattle.sec1_der.proofs.LengthLaws.{len_1, split_same}
 use Rattle.sec1_der.specs.Elements.{element, header, length_octets, max_length}
 use Rattle.sec1_der.specs.Identifiers.{content_of}
-use Rattle.sec1_der.specs.Trees.{IsTree, Tree, forest, joined, leaf}
+use Rattle.sec1_der.specs.Trees.{Tree, forest, joined, leaf}
 use Rattle.der_view.proofs.KeyPlanLemmas.{sequence_header}
 use Rattle.der_view.specs.OpenLaws.{IsRootOf, key_bytes}
 

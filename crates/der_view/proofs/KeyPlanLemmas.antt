@@ -1,7 +1,7 @@
 -- What bytes are that begin as a private key does doesn't follow from the key.
-use Rattle.std.proofs.Common.{◌≡◌, ℕ, zero, suc, ◌+◌, ◌-◌, ◌/◌, ◌==◌, ◌<◌, ◌≤◌, ◌≢◌, ◌⊎◌, inl, inr, ⊎_elim, Bool, true, false}
+use Rattle.std.proofs.Common.{◌≡◌, ℕ, zero, suc, ◌+◌, ◌-◌, ◌/◌, ◌==◌, ◌≤◌, ◌⊎◌, inl, inr, ⊎_elim, Bool, true, false}
 use Rattle.std.proofs.Common.{List, [], ◌∷◌, ◌++◌, length, take, drop, if◌then◌else◌, refl, sym, ap, ap₂, ◌∙◌, subst, arith}
-use Rattle.std.proofs.Common.{All, min, Option, Some, None, Result, Ok, Err, is_none, not, ◌&&◌, ◌||◌, le-ltb, lt-ltb, ne_eqb, append-nil}
+use Rattle.std.proofs.Common.{All, min, Option, Some, None, Result, Ok, Err, not, ◌&&◌, ◌||◌, le-ltb, lt-ltb, ne_eqb, append-nil}
 use Rattle.std.proofs.lemmas.Bool.{cases_lt}
 use Rattle.std.proofs.lemmas.Bool.Decides.{nat_tests}
 use Rattle.std.proofs.lemmas.Int.Digits.{length-digits_of_step, length-digits_of-le, number_digits_of}
@@ -10,15 +10,15 @@ use Rattle.std.proofs.lemmas.List.{take-append-le}
 use Rattle.std.proofs.lemmas.List.Elements.{All-cons, All-nil, All-head, All-tail, All-take, All-weaker}
 use Rattle.std.proofs.Math.Seq.{drop-append-add, drop-append_seam, take-append-add}
 use Rattle.std.specs.Int.Digits.{digits_of}
-use Rattle.std.specs.Prelude.{nat_le, nat_lt, slice_get, unwrap_or}
+use Rattle.std.specs.Prelude.{nat_le, nat_lt}
 use Rattle.sec1_der.proofs.FaultLaws.{any_at}
 use Rattle.sec1_der.proofs.LengthLaws.{len_1, len_long}
-use Rattle.sec1_der.specs.Elements.{IsHeader, element, header, is_constructed, is_tag, length_octets, max_length, number_of}
-use Rattle.sec1_der.specs.Faults.{end_fault, forest_fault, nested_fault, tree_fault}
+use Rattle.sec1_der.specs.Elements.{IsHeader, element, header, is_constructed, length_octets, max_length, number_of}
+use Rattle.sec1_der.specs.Faults.{end_fault, forest_fault, nested_fault}
 use Rattle.der_view.proofs.HeaderLemmas.{header_front, header_within}
-use Rattle.der_view.specs.Children.{begins, child_after, child_at, child_by, child_if, child_of, children_at, children_of}
+use Rattle.der_view.specs.Children.{begins, child_after, child_at, child_by, child_of, children_at, children_of}
 use Rattle.der_view.specs.Children.{first_tag, followed, len_of, no_child, none_at, nth, run_in, run_of}
-use Rattle.der_view.specs.Headers.{header_of, header_with, length_at, long_length, max_content_len, tag_of}
+use Rattle.der_view.specs.Headers.{header_of, header_with, length_at, max_content_len, tag_of}
 use Rattle.der_view.specs.Expected.{ends, expected_in, expected_of}
 use Rattle.std.specs.Int.{abs_diff}
 use Rattle.der_view.specs.OpenLaws.{key_bytes}

@@ -1,14 +1,14 @@
 -- The rows of bytes that begin as a private key does show no byte of the key.
-use Rattle.std.proofs.Common.{◌≡◌, ℕ, zero, suc, ◌+◌, ◌-◌, ◌==◌, ◌<◌, ◌≤◌, ◌≢◌, ◌⊎◌, inl, inr, ⊎_elim, Bool, true, false}
+use Rattle.std.proofs.Common.{◌≡◌, ℕ, zero, suc, ◌+◌, ◌-◌, ◌==◌, ◌<◌, ◌≤◌, ◌⊎◌, inl, inr, ⊎_elim, Bool, true, false}
 use Rattle.std.proofs.Common.{List, [], ◌∷◌, ◌++◌, length, take, drop, if◌then◌else◌, refl, sym, ap, ap₂, ◌∙◌, subst, subst₂, arith}
-use Rattle.std.proofs.Common.{All, min, Option, Some, None, Result, Ok, Err, is_none, is_some, not, ◌&&◌, ◌||◌, le-ltb, lt-ltb}
+use Rattle.std.proofs.Common.{All, Option, Some, None, Result, Ok, Err, is_none, is_some, not, ◌&&◌, ◌||◌}
 use Rattle.std.proofs.Common.{append-nil, eqb-true}
 use Rattle.std.proofs.lemmas.Bool.{cases_lt}
 use Rattle.std.proofs.lemmas.Bool.Decides.{nat_tests}
-use Rattle.std.proofs.lemmas.List.{drop-drop, drop_all, drop_at, length-append, length-drop, length-take, length-take-le}
+use Rattle.std.proofs.lemmas.List.{drop-drop, drop_at, length-append, length-drop, length-take-le}
 use Rattle.std.proofs.lemmas.List.{take-append-drop, take-append-le, take_all, take_at}
 use Rattle.std.proofs.lemmas.List.Elements.{All-cons, All-nil}
-use Rattle.std.proofs.Math.Seq.{drop-append-add, drop-append_seam, take-append-add}
+use Rattle.std.proofs.Math.Seq.{drop-append_seam, take-append-add}
 use Rattle.std.specs.Prelude.{nat_le, nat_lt, option_map, slice_get}
 use Rattle.sec1_der.specs.Elements.{header, length_octets}
 use Rattle.der_view.proofs.HeaderLemmas.{header_front, header_within}
@@ -17,15 +17,15 @@ use Rattle.der_view.proofs.KeyPlanLemmas.{IsClosed, SameAfter, at_key, at_tail, 
 use Rattle.der_view.proofs.KeyPlanLemmas.{key_closed, key_plan}
 use Rattle.der_view.proofs.OpenLemmas.{row_some}
 use Rattle.der_view.proofs.SeenLemmas.{content_inside, len_within-le}
-use Rattle.der_view.specs.Headers.{header_of, is_type, max_content_len, tag_of}
+use Rattle.der_view.specs.Headers.{header_of, max_content_len, tag_of}
 use Rattle.der_view.specs.Levels.{followed, input_level, level_after, opened_in, still_open}
-use Rattle.der_view.specs.OpenLaws.{ContentsLookSame, DifferUnseen, IsRootOf, KeyIsUnseen, LookSame, LooksSame, key_bytes}
+use Rattle.der_view.specs.OpenLaws.{ContentsLookSame, IsRootOf, KeyIsUnseen, LookSame, LooksSame, key_bytes}
 use Rattle.der_view.specs.Openings.{field_inside, opened_by, opening_by, opens_octets, own_len_by, string_opening}
-use Rattle.der_view.specs.Pictures.{AreRows, AreRowsOf}
-use Rattle.der_view.specs.Places.{IsBare, IsDrawn, IsElement, IsInside, IsNoElement, IsRest, IsStep, ends_contents}
+use Rattle.der_view.specs.Pictures.{AreRowsOf}
+use Rattle.der_view.specs.Places.{IsDrawn, IsElement, IsInside, IsNoElement, IsRest, IsStep}
 use Rattle.der_view.specs.Places.{inside_of, is_drawn, is_over, len_within, level_inside}
 use Rattle.der_view.specs.Plans.{plan_of}
-use Rattle.der_view.specs.Rows.{BeginsWith, IsNext, Undrawn, content_of, place_of, row_len, stepped}
+use Rattle.der_view.specs.Rows.{IsNext, Undrawn, content_of, place_of, row_len}
 use Rattle.der_view.specs.RowLaws.{content_at}
 use Rattle.der_view.specs.declared.field.Field.{Field}
 use Rattle.der_view.specs.declared.header.Header.{Header}

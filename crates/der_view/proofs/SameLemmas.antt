@@ -1,17 +1,16 @@
--- The next rows of two inputs that look the same there.
+-- The next rows of two inputs, where their contents give the same rows.
 use Rattle.std.proofs.Common.{◌≡◌, ℕ, zero, suc, ◌+◌, ◌-◌, ◌<◌, ◌≤◌, ◌==◌, List, [], ◌∷◌, ◌++◌, take, drop, length}
-use Rattle.std.proofs.Common.{refl, sym, ap, ◌∙◌, subst, arith, min, Bool, true, false, ◌&&◌, ◌||◌, not, if◌then◌else◌}
+use Rattle.std.proofs.Common.{refl, sym, ap, ◌∙◌, subst, subst₂, arith, min, Bool, true, false, ◌&&◌, ◌||◌, not}
+use Rattle.std.proofs.Common.{if◌then◌else◌}
 use Rattle.std.proofs.lemmas.List.{length-drop, length-take, length-take-le, take-append-drop, take-take, take_min}
-use Rattle.std.specs.Prelude.{nat_lt, Option, None, Some, Result, Ok, Err, is_none, is_some, slice_get, option_map}
+use Rattle.std.specs.Prelude.{nat_lt, Option, None, Some, Result, Ok, Err, is_none, is_some, slice_get}
 use Rattle.der_view.proofs.HeaderLemmas.{header_front, header_within}
 use Rattle.der_view.proofs.SeenLemmas.{content_inside, len_within-le}
-use Rattle.der_view.specs.Headers.{header_of, is_type}
+use Rattle.der_view.specs.Headers.{header_of}
 use Rattle.der_view.specs.Levels.{followed, is_unended, level_after, names_extension, opened_in, still_open}
-use Rattle.der_view.specs.OpenLaws.{ContentsLookSame, LookSame, may_open}
-use Rattle.der_view.specs.Openings.{field_inside, is_sequence_tree, is_tree, opening_by, opens_bits, opens_node}
-use Rattle.der_view.specs.Openings.{opens_octets, string_opening}
+use Rattle.der_view.specs.Openings.{opening_by, string_opening}
 use Rattle.der_view.specs.Places.{IsBare, IsDrawn, IsElement, IsInside, IsNoElement, IsStep, component_at, component_by}
-use Rattle.der_view.specs.Places.{element_shown, ends_contents, inside_of, is_drawn, len_within, seen_at}
+use Rattle.der_view.specs.Places.{element_shown, ends_contents, is_drawn, len_within, seen_at}
 use Rattle.der_view.specs.Rows.{IsNext, Undrawn, content_bytes, content_of, ended_marks, place_of, row_len, stepped}
 use Rattle.der_view.specs.RowLaws.{IsSameRow}
 use Rattle.der_view.specs.Seen.{ShownView, Nothing, open_len, shown_by, shown_view}
@@ -24,7 +23,6 @@ use Rattle.der_view.specs.declared.mark.ElementFault.TheVariants as faults
 use Rattle.der_view.specs.declared.mark.Marks.{Marks}
 use Rattle.der_view.specs.declared.place.Place.{Place}
 use Rattle.der_view.specs.declared.place.Step.{Step}
-use Rattle.der_view.specs.declared.plan.Plan.{Plan}
 use Rattle.der_view.specs.declared.row.Kind.{Kind}
 use Rattle.der_view.specs.declared.row.Kind.TheVariants as kinds
 use Rattle.der_view.specs.declared.row.OpenRow.{OpenRow}
@@ -45,10 +43,19 @@ pub record SameStep (s t : Step) : Type 0 where
   pub level : s.level ≡ t.level
   pub inner : s.opened ≡ t.opened
 
--- the row of some bytes looks the same at the front of others
-pub record Looks (guarded : Bool) (l m : List ℕ) (row : OpenRow) : Type 0 where
+-- Contents of rows give the same rows: of a primitive element the same first bytes are seen, and
+-- both are opened or none.
+abbrev pub ContentsAlike : Place → Level → Option Field → Kind → List ℕ → List ℕ → Type 0
+ContentsAlike place level field (kinds.Element tag) x y = tag.constructed ≡ false
+    → (take (open_len place.plan.guarded tag field x) x ≡ take (open_len place.plan.guarded tag field y) y)
+    × (string_opening place level tag x ≡ string_opening place level tag y)
+ContentsAlike place level field kinds.NoElement x y = x ≡ y
+ContentsAlike place level field _ x y = Unit {0}
+
+-- the row of some bytes is that at the front of others too
+pub record Looks (place : Place) (level : Level) (l m : List ℕ) (row : OpenRow) : Type 0 where
   pub header : take (length row.header.now) m ≡ row.header.now
-  pub content : ContentsLookSame guarded row.field row.kind (content_of row l) (content_of row m)
+  pub content : ContentsAlike place level row.field row.kind (content_of row l) (content_of row m)
 
 bare_same : (kind : Kind) (depth : ℕ) (header x y : List ℕ) (marks : Marks) (level : Option Level) (s t : Step)
     → length x ≡ length y → IsBare kind depth header x marks level s → IsBare kind depth header y marks level t
@@ -123,61 +130,23 @@ level_same level passed tag x y same =
     and_if tag.constructed _ _ (λ leaf. rw (same leaf) refl) in
     rw named refl
 
--- a string is opened alike
-bits_closed : (x : List ℕ) → opens_bits true x ≡ false
-bits_closed [] = refl
-bits_closed (unused ∷ bytes) = refl
-
-abbrev one_if : Bool → Option ℕ
-one_if test = if test then Some 1 else None
-
-abbrev none_if : Bool → Option ℕ
-none_if test = if test then Some 0 else None
-
-string_if : (bits octets guarded inside extension : Bool) (x y : List ℕ)
-    → (guarded ≡ false
-    → (if bits then opens_bits false x else octets && is_tree x)
-    ≡ (if bits then opens_bits false y else octets && is_tree y))
-    → (if bits then one_if (opens_bits guarded x)
-    else none_if
-    (octets && (inside || (not guarded && extension && is_tree x) || (false && is_sequence_tree x))))
-    ≡ (if bits then one_if (opens_bits guarded y)
-    else none_if
-    (octets && (inside || (not guarded && extension && is_tree y) || (false && is_sequence_tree y))))
-string_if true octets true inside extension x y same = rw (bits_closed x, bits_closed y) refl
-string_if true octets false inside extension x y same = rw (same refl) refl
-string_if false false guarded inside extension x y same = refl
-string_if false true true true extension x y same = refl
-string_if false true true false extension x y same = refl
-string_if false true false true extension x y same = refl
-string_if false true false false true x y same = rw (same refl) refl
-string_if false true false false false x y same = refl
-
-string_same : (place : Place) (level : Level) (tag : Tag) (x y : List ℕ) → place.all ≡ false
-    → (place.plan.guarded ≡ false → may_open tag x ≡ may_open tag y)
-    → string_opening place level tag x ≡ string_opening place level tag y
-unfolding string_opening opens_octets field_inside
-string_same place level tag x y hidden same =
-    rw hidden
-    (string_if (is_type tag 3) (is_type tag 4) place.plan.guarded (is_some (field_inside place)) level.extension x y
-    same)
-
+-- a content is opened alike
 opening_if : (constructed cut : Bool) (a b c d : Option ℕ) → a ≡ b → (constructed ≡ false → c ≡ d)
     → (if constructed then a else (if cut then None else c)) ≡ (if constructed then b else (if cut then None else d))
 opening_if true cut a b c d node leaf = node
 opening_if false true a b c d node leaf = refl
 opening_if false false a b c d node leaf = leaf refl
 
-opening_same : (place : Place) (level : Level) (head : Header) (cut : Bool) (x y : List ℕ) → place.all ≡ false
-    → length x ≡ length y
-    → (head.tag.constructed ≡ false → place.plan.guarded ≡ false → may_open head.tag x ≡ may_open head.tag y)
+opening_same : (place : Place) (level : Level) (head : Header) (cut : Bool) (x y : List ℕ) → length x ≡ length y
+    → (head.tag.constructed ≡ false
+    → string_opening place level head.tag x ≡ string_opening place level head.tag y)
     → opening_by place level head cut x ≡ opening_by place level head cut y
 unfolding opening_by
-opening_same place level head cut x y hidden size same =
+opening_same place level head cut x y size same =
     opening_if head.tag.constructed cut _ _ _ _
     (ap (λ (n : ℕ). if is_none head.content_len
     || not (n == 0 || (cut && place.plan.guarded && nat_lt 0 place.depth)) then Some 0 else None) size)
-    (λ leaf. string_same place level head.tag x y hidden (same leaf))
+    same
 
 -- the content of an element inside a level
 abbrev element_content : Header → List ℕ → List ℕ
@@ -185,12 +154,11 @@ element_content head inside =
     take (len_within head.content_len (length inside - head.len)) (drop head.len inside)
 
 element_same : (place : Place) (left : ℕ) (level : Level) (xs ys : List ℕ) (head : Header) (s t : Step)
-    → place.all ≡ false → length xs ≡ length ys → 0 < head.len → take head.len xs ≡ take head.len ys
+    → length xs ≡ length ys → 0 < head.len → take head.len xs ≡ take head.len ys
     → length (element_content head xs) ≡ length (element_content head ys)
-    → (head.tag.constructed ≡ false
-    → LookSame place.plan.guarded head.tag s.row.field (element_content head xs) (element_content head ys))
+    → ContentsAlike place level s.row.field (kinds.Element head.tag) (element_content head xs) (element_content head ys)
     → IsElement place left level xs head s → IsElement place left level ys head t → SameStep s t
-element_same place left level xs ys head s t hidden size some front sized looks x y =
+element_same place left level xs ys head s t size some front sized looks x y =
     let header : x.element.header.now ≡ y.element.header.now =
     x.is_element.header ∙ (front ∙ sym y.is_element.header) in
     let cut : x.element.cut ≡ y.element.cut = x.is_element.cut ∙ (rw size refl ∙ sym y.is_element.cut) in
@@ -202,16 +170,16 @@ element_same place left level xs ys head s t hidden size some front sized looks 
     x.is_element.passed ∙ (rw component refl ∙ sym y.is_element.passed) in
     let len : length x.element.content.now ≡ length y.element.content.now =
     ap length x.is_element.content ∙ (sized ∙ sym (ap length y.is_element.content)) in
-    let like : head.tag.constructed ≡ false
-    → LookSame place.plan.guarded head.tag x.element.field x.element.content.now y.element.content.now =
+    let like : ContentsAlike place level x.element.field (kinds.Element head.tag) x.element.content.now
+    y.element.content.now =
     λ leaf. rw (x.is_element.content, y.is_element.content, sym x.field) (looks leaf) in
     let seen : head.tag.constructed ≡ false → x.element.seen.now ≡ y.element.seen.now =
     λ leaf. x.is_element.seen
-    ∙ (seen_same place head.tag x.element.field (is_some x.element.cut) _ _ (like leaf).seen
+    ∙ (seen_same place head.tag x.element.field (is_some x.element.cut) _ _ (like leaf).0
     ∙ (rw (field, cut) refl ∙ sym y.is_element.seen)) in
     let opening : x.opening ≡ y.opening =
     x.is_opening
-    ∙ (opening_same place level head (is_some x.element.cut) _ _ hidden len (λ leaf. (like leaf).opening)
+    ∙ (opening_same place level head (is_some x.element.cut) _ _ len (λ leaf. (like leaf).1)
     ∙ (rw cut refl ∙ sym y.is_opening)) in
     let shown : shown_view s.row.shown ≡ shown_view t.row.shown =
     x.shown
@@ -274,7 +242,7 @@ and_true false b both = cc
 else_same : (ends : Bool) (place : Place) (n h : ℕ) (level : Level) (l m : List ℕ) (fault : ElementFault)
     (q : Result Header ElementFault) (s t : Step) → length l ≡ length m
     → (level.indefinite && ends_contents (take n l)) ≡ ends → header_of (take n l) ≡ Err fault
-    → header_of (take n m) ≡ q → Looks place.plan.guarded l m s.row
+    → header_of (take n m) ≡ q → Looks place level l m s.row
     → IsNoElement ends place level (take n l) fault s → IsInside place h level (take n m) q t → SameStep s t
 else_same true place n h level l m fault q s t size ends is other looks x y =
     let both = and_true level.indefinite (ends_contents (take n l)) ends in
@@ -301,12 +269,12 @@ else_same false place n h level l m fault q s t size ends is other looks x y =
     bare_same _ _ _ _ _ _ _ s t refl x none_here
 
 inside_same : (place : Place) (n h : ℕ) (level : Level) (l m : List ℕ) (r q : Result Header ElementFault) (s t : Step)
-    → place.all ≡ false → length l ≡ length m → header_of (take n l) ≡ r → header_of (take n m) ≡ q
-    → Looks place.plan.guarded l m s.row
+    → length l ≡ length m → header_of (take n l) ≡ r → header_of (take n m) ≡ q
+    → Looks place level l m s.row
     → IsInside place h level (take n l) r s → IsInside place h level (take n m) q t → SameStep s t
-inside_same place n h level l m (Err fault) q s t hidden size is other looks x y =
+inside_same place n h level l m (Err fault) q s t size is other looks x y =
     else_same (level.indefinite && ends_contents (take n l)) place n h level l m fault q s t size refl is other looks x y
-inside_same place n h level l m (Ok head) q s t hidden size is other looks x y =
+inside_same place n h level l m (Ok head) q s t size is other looks x y =
     let k : ℕ = head.len in
     let xs : List ℕ = take n l in
     let ys : List ℕ = take n m in
@@ -331,26 +299,102 @@ inside_same place n h level l m (Ok head) q s t hidden size is other looks x y =
     rw (row_len, header_len) (sym (content_inside l xs k w x_inside (omega arith))) in
     let new : content_of s.row m ≡ element_content head ys =
     rw (row_len, header_len, w_same) (sym (content_inside m ys k w y_inside (omega arith))) in
-    let like : head.tag.constructed ≡ false
-    → LookSame place.plan.guarded head.tag s.row.field (element_content head xs) (element_content head ys) =
+    let like : ContentsAlike place level s.row.field (kinds.Element head.tag) (element_content head xs)
+    (element_content head ys) =
     rw (x.kind, old, new) at looks.content in
     let here : IsElement place h level ys head t =
     rw (sym other ∙ found.0) at y in
-    element_same place h level xs ys head s t hidden sizes (omega (arith, bounds.0)) found.1 (x_len ∙ sym (rw w_same y_len)) like x here
+    element_same place h level xs ys head s t sizes (omega (arith, bounds.0)) found.1 (x_len ∙ sym (rw w_same y_len)) like x here
 
-drawn_same : (drawn : Bool) (place : Place) (level : Level) (l m : List ℕ) (s t : Step) → place.all ≡ false
-    → length l ≡ length m → Looks place.plan.guarded l m s.row
-    → IsDrawn drawn place level l s → IsDrawn drawn place level m t → SameStep s t
-drawn_same false place level l m s t hidden size looks x y = bare_same _ _ _ _ _ _ _ s t size x y
-drawn_same true place level l m s t hidden size looks x y =
+drawn_same : (drawn : Bool) (place : Place) (level : Level) (l m : List ℕ) (s t : Step) → length l ≡ length m
+    → Looks place level l m s.row → IsDrawn drawn place level l s → IsDrawn drawn place level m t → SameStep s t
+drawn_same false place level l m s t size looks x y = bare_same _ _ _ _ _ _ _ s t size x y
+drawn_same true place level l m s t size looks x y =
     let here = rw (sym size) at y in
     inside_same place (length l - level.rest) (length l) level l m (header_of (take (length l - level.rest) l))
-    (header_of (take (length l - level.rest) m)) s t hidden size refl refl looks x here
+    (header_of (take (length l - level.rest) m)) s t size refl refl looks x here
 
-pub step_same : (place : Place) (level : Option Level) (l m : List ℕ) (s t : Step) → place.all ≡ false
-    → length l ≡ length m → Looks place.plan.guarded l m s.row
-    → IsStep place l level s → IsStep place m level t → SameStep s t
-step_same place None l m s t hidden size looks x y = bare_same _ _ _ _ _ _ _ s t size x y
-step_same place (Some level) l m s t hidden size looks x y =
+step_same : (place : Place) (level : Option Level) (l m : List ℕ) (s t : Step) → length l ≡ length m
+    → ((innermost : Level) → Looks place innermost l m s.row) → IsStep place l level s → IsStep place m level t
+    → SameStep s t
+step_same place None l m s t size looks x y = bare_same _ _ _ _ _ _ _ s t size x y
+step_same place (Some level) l m s t size looks x y =
     let here = rw (sym size) at y in
-    drawn_same (is_drawn place (length l) level.rest) place level l m s t hidden size looks x here
+    drawn_same (is_drawn place (length l) level.rest) place level l m s t size (looks level) x here
+
+-- the same is known before the next rows, of which there are as many bytes
+pub record SameState (x y : Undrawn) : Type 0 where
+  pub offset : x.offset ≡ y.offset
+  pub levels : x.levels ≡ y.levels
+  pub all : x.all ≡ y.all
+  pub plan : x.plan ≡ y.plan
+  pub left : length x.left ≡ length y.left
+
+-- the next rows are the same
+pub next_same : (x y : Undrawn) (r s : OpenRow) (u v : Undrawn) → SameState x y
+    → ((level : Level) → Looks (place_of x) level x.left y.left r) → IsNext x r u → IsNext y s v
+    → (r.own_len ≡ s.own_len → r.header.now ≡ s.header.now → content_bytes r ≡ content_bytes s)
+    → IsSameRow r s × SameState u v
+next_same x y r s u v e looks p q contents =
+    let place : place_of y ≡ place_of x =
+    sym (λ i. record {
+      offset = e.offset i;
+      depth = length (e.levels i) - 1;
+      has_room = nat_lt (length (e.levels i)) 64;
+      all = e.all i;
+      plan = e.plan i;
+    }) in
+    let first : slice_get y.levels 0 ≡ slice_get x.levels 0 = sym (ap (λ (l : List Level). slice_get l 0) e.levels) in
+    let other : IsStep (place_of x) y.left (slice_get x.levels 0) q.step =
+    subst₂ (λ (at : Place) (level : Option Level). IsStep at y.left level q.step) place first q.is_step in
+    let look : (level : Level) → Looks (place_of x) level x.left y.left p.step.row =
+    λ level.
+    let marked = rw p.is_row at (looks level) in
+    record { header = marked.header; content = marked.content } in
+    let t : SameStep p.step q.step =
+    step_same (place_of x) (slice_get x.levels 0) x.left y.left p.step q.step e.left look p.is_step other in
+    let header : r.header.now ≡ s.header.now =
+    ap (λ (w : OpenRow). w.header.now) p.is_row ∙ (t.header ∙ sym (ap (λ (w : OpenRow). w.header.now) q.is_row)) in
+    let own : r.own_len ≡ s.own_len =
+    ap (λ (w : OpenRow). w.own_len) p.is_row ∙ (t.own_len ∙ sym (ap (λ (w : OpenRow). w.own_len) q.is_row)) in
+    let n : row_len r ≡ row_len s = λ i. length (header i) + own i in
+    let left : length u.left ≡ length v.left =
+    ap length p.left
+    ∙ (length-drop (row_len r) x.left
+    ∙ ((λ i. e.left i - n i) ∙ sym (ap length q.left ∙ length-drop (row_len s) y.left))) in
+    let steps : stepped p.step x.levels ≡ stepped q.step y.levels =
+    λ i. opened_in (t.inner i) (followed (t.level i) (e.levels i)) in
+    let remaining : still_open (length u.left) (stepped p.step x.levels)
+    ≡ still_open (length v.left) (stepped q.step y.levels) =
+    λ i. still_open (left i) (steps i) in
+    let ended : ended_marks (is_unended (length u.left) (stepped p.step x.levels)) p.step.row.kind p.step.row.marks
+    ≡ ended_marks (is_unended (length v.left) (stepped q.step y.levels)) q.step.row.kind q.step.row.marks =
+    λ i. ended_marks (is_unended (left i) (steps i)) (t.kind i) (t.marks i) in
+    let row : IsSameRow r s = record {
+      offset = p.at ∙ (e.offset ∙ sym q.at);
+      depth = ap (λ (w : OpenRow). w.depth) p.is_row ∙ (t.depth ∙ sym (ap (λ (w : OpenRow). w.depth) q.is_row));
+      kind = ap (λ (w : OpenRow). w.kind) p.is_row ∙ (t.kind ∙ sym (ap (λ (w : OpenRow). w.kind) q.is_row));
+      header = header;
+      len = ap (λ (w : OpenRow). w.len) p.is_row ∙ (t.len ∙ sym (ap (λ (w : OpenRow). w.len) q.is_row));
+      announced =
+          ap (λ (w : OpenRow). w.announced) p.is_row
+          ∙ (t.announced ∙ sym (ap (λ (w : OpenRow). w.announced) q.is_row));
+      own_len = own;
+      opened = ap (λ (w : OpenRow). w.opened) p.is_row ∙ (t.opened ∙ sym (ap (λ (w : OpenRow). w.opened) q.is_row));
+      field = ap (λ (w : OpenRow). w.field) p.is_row ∙ (t.field ∙ sym (ap (λ (w : OpenRow). w.field) q.is_row));
+      secret = ap (λ (w : OpenRow). w.secret) p.is_row ∙ (t.secret ∙ sym (ap (λ (w : OpenRow). w.secret) q.is_row));
+      marks = ap (λ (w : OpenRow). w.marks) p.is_row ∙ (ended ∙ sym (ap (λ (w : OpenRow). w.marks) q.is_row));
+      shown =
+          ap (λ (w : OpenRow). shown_view w.shown) p.is_row
+          ∙ (t.shown ∙ sym (ap (λ (w : OpenRow). shown_view w.shown) q.is_row));
+      content = contents own header;
+    } in (
+      row,
+      record {
+        offset = p.offset ∙ ((λ i. e.offset i + n i) ∙ sym q.offset);
+        levels = p.levels ∙ (remaining ∙ sym q.levels);
+        all = p.all ∙ (e.all ∙ sym q.all);
+        plan = p.plan ∙ (e.plan ∙ sym q.plan);
+        left = left;
+      },
+    )
