@@ -1,14 +1,17 @@
 -- What is written of rows doesn't tell where their bytes are.
-use Rattle.std.proofs.Common.{◌≡◌, ℕ, ◌==◌, List, [], ◌∷◌, ◌++◌, length, map, refl, sym, ap, ap₂, ◌∙◌, Bool, true, false}
+use Rattle.std.proofs.Common.{◌≡◌, ℕ, ◌==◌, List, [], ◌∷◌, ◌++◌, length, map, refl, sym, ap, ap₂, ◌∙◌, Bool, true}
+use Rattle.std.proofs.Common.{false}
 use Rattle.std.proofs.Common.{codes, if◌then◌else◌, not, ◌&&◌, ◌||◌}
 use Rattle.std.specs.List.{AllZip}
 use Rattle.std.specs.Prelude.{Option, None, Some, nat_lt, option_map}
 use denote.Bor.{Bor}
-use Rattle.der_view.specs.Facts.{no_facts, value_in, with_expected, with_field, with_mark, with_mark_if, with_row, with_sequence}
+use Rattle.der_view.specs.Facts.{no_facts, value_in, with_expected, with_field, with_mark, with_mark_if, with_row}
+use Rattle.der_view.specs.Facts.{with_sequence}
 use Rattle.der_view.specs.Facts.{first_marked, with_rows}
 use Rattle.der_view.specs.Pictures.{content_text, mark_text, row_text, rows_text}
 use Rattle.der_view.specs.RowLaws.{IsSameRow}
-use Rattle.der_view.specs.RowLines.{columns, count_of, indent, label, label_by, note_by, row_line, shown_text, with_note}
+use Rattle.der_view.specs.RowLines.{columns, count_of, indent, label, label_by, note_by, row_line, shown_text}
+use Rattle.der_view.specs.RowLines.{with_note}
 use Rattle.der_view.specs.RowLines.{value_in as shown_value}
 use Rattle.der_view.specs.Lines.{kept, shown}
 use Rattle.der_view.specs.Values.{ValueView}
@@ -17,9 +20,11 @@ use Rattle.der_view.specs.declared.row.Kind.TheVariants as kinds
 use Rattle.der_view.specs.Rows.{content_bytes}
 use Rattle.der_view.specs.Seen.{ShownView, Nothing, Count, Unused, Form, Bytes, shown_view}
 use Rattle.der_view.specs.Curves.{is_known}
-use Rattle.der_view.specs.Verdicts.{VerdictView, below, beside, ec_command, ec_of_pem, ec_public_key, is_near, is_pem, key_front}
+use Rattle.der_view.specs.Verdicts.{VerdictView, below, beside, ec_command, ec_of_pem, ec_public_key, is_near, is_pem}
+use Rattle.der_view.specs.Verdicts.{key_front}
 use Rattle.der_view.specs.Verdicts.{key_words, knows_curve, named, named_command, no_key, of_container, of_damaged}
-use Rattle.der_view.specs.Verdicts.{of_ec_container, of_form, of_guarded, of_key, of_whole, repair_command, repair_lead, said}
+use Rattle.der_view.specs.Verdicts.{of_ec_container, of_form, of_guarded, of_key, of_whole, repair_command}
+use Rattle.der_view.specs.Verdicts.{repair_lead, said}
 use Rattle.der_view.specs.Verdicts.{said_or, verdict_of, words_or}
 use Rattle.std.specs.Str.{bytes_eq}
 use Rattle.der_view.specs.declared.field.Form.{Form as Shape}
@@ -205,7 +210,8 @@ row_bare facts row =
     ≡ with_field row.field row.depth (value_in (shown_of (shown_view row.shown)))
     (with_mark_if row.offset len row.marks.second (with_mark_if row.offset len row.marks.first (bare_facts f))) =
     field_bare row.field row.depth (value_in row.shown) h
-    ∙ ap₂ (λ (v : Option (Bor (List ℕ))) (x : Facts). with_field row.field row.depth v x) (value_bare row.shown) second in
+    ∙ ap₂ (λ (v : Option (Bor (List ℕ))) (x : Facts). with_field row.field row.depth v x) (value_bare row.shown)
+    second in
     ap (λ (x : Facts). with_sequence row.kind row.field x) field
 
 rows_bare : (facts : Facts) (rows : List OpenRow)

@@ -5,7 +5,8 @@ use Rattle.std.proofs.lemmas.List.{length-append, length-drop, take-append-le, d
 use Rattle.std.proofs.lemmas.Bool.Decides.{nat_tests}
 use Rattle.std.specs.Prelude.{nat_lt, ◌||◌, ◌&&◌, not, Option, Some, None, is_none, Result, Ok, Err}
 use Rattle.sec1_der.specs.Elements.{number_of}
-use Rattle.der_view.specs.Headers.{header_after, header_of, header_with, high_tag, length_at, long_length, max_content_len}
+use Rattle.der_view.specs.Headers.{header_after, header_of, header_with, high_tag, length_at, long_length}
+use Rattle.der_view.specs.Headers.{max_content_len}
 use Rattle.der_view.specs.Headers.{number_after, one_byte_more, tag_at, tag_of}
 use Rattle.der_view.specs.declared.header.Header.{Header}
 use Rattle.der_view.specs.declared.header.Tag.{Tag}
@@ -112,7 +113,8 @@ long_len false false x count e f p is =
 long_within : (count : ℕ) (bytes : List ℕ) (p : Option ℕ × ℕ) → long_length count bytes ≡ Ok p
     → (0 < p.1) × (p.1 ≤ suc (length bytes))
 long_within count bytes p is =
-    let parts = long_len (nat_lt (length bytes) count) (nat_lt max_content_len (number_of (take count bytes))) _ count _ _
+    let parts = long_len (nat_lt (length bytes) count)
+    (nat_lt max_content_len (number_of (take count bytes))) _ count _ _
     p is in
     let test : nat_lt (length bytes) count ≡ false = parts.0 in
     let len : p.1 ≡ count + 1 = parts.1 in

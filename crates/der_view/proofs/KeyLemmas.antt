@@ -40,6 +40,7 @@ record HasKey (root x : List ℕ) (version n : ℕ) (key : Key) : Type 0 where
 
 has_key : (root x : List ℕ) (version n : ℕ) (key : Key) → IsRootOf (key_bytes root version n x) root
     → IsKeyOf key (key_bytes root version n x) → HasKey root x version n key
+unfolding key_bytes
 has_key root x version n key at is =
     let content : List ℕ = content_with key.private_key (after_key key) in
     let tail : List ℕ = 0x02 ∷ 0x01 ∷ version ∷ (header 0x04 n ++ x) in
@@ -49,7 +50,8 @@ has_key root x version n key at is =
     sequence_header (length content) content at.head bounded (rw whole at at.is_header) in
     let size : length root ≡ length (header 0x30 (length content)) = omega (arith, at.len) in
     let parts = split_same root (header 0x30 (length content)) tail content size whole in
-    let inside : tail ≡ 0x02 ∷ 0x01 ∷ 0x01 ∷ (header 0x04 (length key.private_key) ++ (key.private_key ++ after_key key)) =
+    let inside : tail
+    ≡ 0x02 ∷ 0x01 ∷ 0x01 ∷ (header 0x04 (length key.private_key) ++ (key.private_key ++ after_key key)) =
     parts.1 ∙ content_is key.private_key (after_key key) in
     let apart = header_apart 0x04 n 0x04 (length key.private_key) x (key.private_key ++ after_key key)
     (ap (λ (bytes : List ℕ). drop 3 bytes) inside) in
@@ -79,6 +81,7 @@ content_len old new rest size =
 other_key : (root x y : List ℕ) (version n : ℕ) (key : Key) → IsRootOf (key_bytes root version n x) root
     → length x ≡ length y → drop n x ≡ drop n y → IsKeyOf key (key_bytes root version n x)
     → IsKeyOf (record key { private_key = take n y }) (key_bytes root version n y)
+unfolding key_bytes
 other_key root x y version n key at size after is =
     let parts : HasKey root x version n key = has_key root x version n key at is in
     let rest : List ℕ = after_key key in
@@ -118,6 +121,7 @@ other_key root x y version n key at size after is =
 pub key_moves : (root x y : List ℕ) (version n : ℕ) → IsRootOf (key_bytes root version n x) root
     → length x ≡ length y → drop n x ≡ drop n y → (key : Key) × IsKeyOf key (key_bytes root version n x)
     → (key : Key) × IsKeyOf key (key_bytes root version n y)
+unfolding key_bytes
 key_moves root x y version n at size after (key, is) =
     (record key { private_key = take n y }, other_key root x y version n key at size after is)
 

@@ -1,11 +1,14 @@
 -- What bytes are that begin as a private key does doesn't follow from the key.
 use Rattle.std.proofs.Common.{◌≡◌, ℕ, zero, suc, ◌+◌, ◌-◌, ◌/◌, ◌==◌, ◌≤◌, ◌⊎◌, inl, inr, ⊎_elim, Bool, true, false}
-use Rattle.std.proofs.Common.{List, [], ◌∷◌, ◌++◌, length, take, drop, if◌then◌else◌, refl, sym, ap, ap₂, ◌∙◌, subst, arith}
-use Rattle.std.proofs.Common.{All, min, Option, Some, None, Result, Ok, Err, not, ◌&&◌, ◌||◌, le-ltb, lt-ltb, ne_eqb, append-nil}
+use Rattle.std.proofs.Common.{List, [], ◌∷◌, ◌++◌, length, take, drop, if◌then◌else◌, refl, sym, ap, ap₂, ◌∙◌, subst}
+use Rattle.std.proofs.Common.{arith}
+use Rattle.std.proofs.Common.{All, min, Option, Some, None, Result, Ok, Err, not, ◌&&◌, ◌||◌, le-ltb, lt-ltb, ne_eqb}
+use Rattle.std.proofs.Common.{append-nil}
 use Rattle.std.proofs.lemmas.Bool.{cases_lt}
 use Rattle.std.proofs.lemmas.Bool.Decides.{nat_tests}
 use Rattle.std.proofs.lemmas.Int.Digits.{length-digits_of_step, length-digits_of-le, number_digits_of}
-use Rattle.std.proofs.lemmas.List.{drop-drop, drop_all, length-append, length-drop, length-take, length-take-le, take_at, drop-take}
+use Rattle.std.proofs.lemmas.List.{drop-drop, drop_all, length-append, length-drop, length-take, length-take-le}
+use Rattle.std.proofs.lemmas.List.{take_at, drop-take}
 use Rattle.std.proofs.lemmas.List.{take-append-le}
 use Rattle.std.proofs.lemmas.List.Elements.{All-cons, All-nil, All-head, All-tail, All-take, All-weaker}
 use Rattle.std.proofs.Math.Seq.{drop-append-add, drop-append_seam, take-append-add}
@@ -22,7 +25,8 @@ use Rattle.der_view.specs.Headers.{header_of, header_with, length_at, max_conten
 use Rattle.der_view.specs.Expected.{ends, expected_in, expected_of}
 use Rattle.std.specs.Int.{abs_diff}
 use Rattle.der_view.specs.OpenLaws.{key_bytes}
-use Rattle.der_view.specs.KeyForms.{at_place, content_of, drawn, drawn_to, form_of, form_of_integers, form_of_string, inside_of}
+use Rattle.der_view.specs.KeyForms.{at_place, content_of, drawn, drawn_to, form_of, form_of_integers, form_of_string}
+use Rattle.der_view.specs.KeyForms.{inside_of}
 use Rattle.der_view.specs.KeyForms.{is_container, is_versioned, key_in, key_of_tag, place_after}
 use Rattle.der_view.specs.declared.field.Form.{Form}
 use Rattle.der_view.specs.declared.field.Form.TheVariants as forms
@@ -110,7 +114,8 @@ pub sequence_header : (n : ℕ) (rest : List ℕ) (head : Header) → n ≤ max_
     → header_of (header 0x30 n ++ rest) ≡ Ok head → head.len ≡ 1 + length (length_octets n)
 sequence_header n rest head few is =
     sequence_if (nat_lt max_content_len n) n (length (length_octets n)) head
-    (sym (ap (λ (l : Result (Option ℕ × ℕ) ElementFault). header_with (tag_of 0x30 0x10) 1 l) (length_if n rest few)) ∙ is)
+    (sym
+    (ap (λ (l : Result (Option ℕ × ℕ) ElementFault). header_with (tag_of 0x30 0x10) 1 l) (length_if n rest few)) ∙ is)
 
 -- the first child, a version of one byte, whatever follows
 abbrev version_child : ℕ → Child
@@ -260,16 +265,19 @@ pub record SameAfter (n : ℕ) (s t : List ℕ) : Type 0 where
 
 pub at_version : (head tail : List ℕ) (version n : ℕ)
     → drop (length head) (key_bytes head version n tail) ≡ 0x02 ∷ 0x01 ∷ version ∷ (header 0x04 n ++ tail)
+unfolding key_bytes
 at_version head tail version n = drop-append_seam head (0x02 ∷ 0x01 ∷ version ∷ (header 0x04 n ++ tail))
 
 pub at_key : (head tail : List ℕ) (version n : ℕ)
     → drop (length head + 2 + 1) (key_bytes head version n tail) ≡ header 0x04 n ++ tail
+unfolding key_bytes
 at_key head tail version n =
     let sum : length head + 2 + 1 ≡ length head + 3 = omega arith in
     rw sum (drop-append-add head (0x02 ∷ 0x01 ∷ version ∷ (header 0x04 n ++ tail)) 3)
 
 pub at_tail : (head tail : List ℕ) (version n k : ℕ)
     → drop (length head + 2 + 1 + (1 + length (length_octets n)) + k) (key_bytes head version n tail) ≡ drop k tail
+unfolding key_bytes
 at_tail head tail version n k =
     let at : ℕ = length head + 2 + 1 in
     let sum : at + (1 + length (length_octets n)) + k ≡ at + (length (header 0x04 n) + k) = omega arith in
@@ -280,7 +288,7 @@ at_tail head tail version n k =
 
 child_version : (may : Bool) (head tail : List ℕ) (version n : ℕ)
     → child_at may (key_bytes head version n tail) (length head) ≡ version_child (length head)
-unfolding child_at
+unfolding child_at key_bytes
 child_version may head tail version n =
     ap (λ (bytes : List ℕ). child_after may (length head) bytes (header_of bytes)) (at_version head tail version n)
     ∙ first_child may (length head) version (header 0x04 n ++ tail)
@@ -288,7 +296,7 @@ child_version may head tail version n =
 child_key : (may : Bool) (head tail : List ℕ) (version n : ℕ) → n ≤ max_content_len
     → child_at may (key_bytes head version n tail) (length head + 2 + 1)
     ≡ key_child_if may (length head + 2 + 1) n (length tail)
-unfolding child_at
+unfolding child_at key_bytes
 child_key may head tail version n few =
     ap (λ (bytes : List ℕ). child_after may (length head + 2 + 1) bytes (header_of bytes)) (at_key head tail version n)
     ∙ second_child may (length head + 2 + 1) n tail few
@@ -298,6 +306,7 @@ key_rest_cut : (may : Bool) (head s t : List ℕ) (version n : ℕ) → n ≤ ma
     → nat_lt (length s) n ≡ true
     → Rest may (key_bytes head version n s) (key_bytes head version n t)
     (if may then key_child (length head + 2 + 1) n (length s) else none_at (length head + 2 + 1)).end
+unfolding key_bytes
 key_rest_cut true head s t version n few same cut =
     let all : length t ≤ length s = omega (arith, same.size) in
     inl
@@ -315,6 +324,7 @@ key_rest_cut false head s t version n few same cut =
 key_rest : (may : Bool) (head s t : List ℕ) (version n : ℕ) → n ≤ max_content_len → SameAfter n s t
     → Rest may (key_bytes head version n s) (key_bytes head version n t)
     (key_child_if may (length head + 2 + 1) n (length s)).end
+unfolding key_bytes
 key_rest may head s t version n few same =
     let at : ℕ = length head + 2 + 1 in
     let a : List ℕ = key_bytes head version n s in
@@ -395,6 +405,7 @@ head_ends (x ∷ y ∷ head) a b some = refl
 
 version_content : (head tail : List ℕ) (version n : ℕ)
     → content_of (key_bytes head version n tail) (version_child (length head)) ≡ version ∷ []
+unfolding key_bytes
 version_content head tail version n =
     let one : length head + 2 + 1 - (length head + 2) ≡ 1 = omega arith in
     rw (one, drop-append-add head (0x02 ∷ 0x01 ∷ version ∷ (header 0x04 n ++ tail)) 2) refl
@@ -413,7 +424,7 @@ pub children_same : (head s t : List ℕ) (version n : ℕ) (indefinite is_cut :
     → SameChildren (key_bytes head version n s) (key_bytes head version n t)
     (children_of (key_bytes head version n s) (length head) indefinite is_cut)
     (children_of (key_bytes head version n t) (length head) indefinite is_cut)
-unfolding children_of children_at
+unfolding children_of children_at key_bytes
 children_same head s t version n indefinite is_cut some few same =
     let a : List ℕ = key_bytes head version n s in
     let b : List ℕ = key_bytes head version n t in
@@ -463,7 +474,8 @@ children_same head s t version n indefinite is_cut some few same =
     })
 
 -- what is said of a root follows from its children and these contents of theirs
-inside_same : (a b : List ℕ) (x : Children) → content_of a x.third ≡ content_of b x.third → inside_of a x ≡ inside_of b x
+inside_same : (a b : List ℕ) (x : Children) → content_of a x.third ≡ content_of b x.third
+    → inside_of a x ≡ inside_of b x
 unfolding inside_of key_in
 inside_same a b x third =
     ap (λ (content : List ℕ). if is_container (form_of x)
@@ -473,7 +485,8 @@ drawn_same : (a b : List ℕ) (x : Children) → content_of a x.third ≡ conten
 unfolding drawn
 drawn_same a b x third = rw (inside_same a b x third) refl
 
-drawn_to_same : (a b : List ℕ) (x : Children) → content_of a x.third ≡ content_of b x.third → drawn_to a x ≡ drawn_to b x
+drawn_to_same : (a b : List ℕ) (x : Children) → content_of a x.third ≡ content_of b x.third
+    → drawn_to a x ≡ drawn_to b x
 unfolding drawn_to
 drawn_to_same a b x third = ap (λ (count : ℕ). place_after x count) (drawn_same a b x third)
 
@@ -526,7 +539,7 @@ key_root : (a b front s t : List ℕ) (version n : ℕ) (head : Header) → head
     → head.len ≡ length front → 2 ≤ length front → n ≤ max_content_len → SameAfter n s t
     → first_tag a ≡ first_tag b → length a ≡ length b
     → plan_of_root a head (key_bytes front version n s) ≡ plan_of_root b head (key_bytes front version n t)
-unfolding guarded_plan
+unfolding guarded_plan key_bytes
 key_root a b front s t version n head node len some few same tag size =
     let old : drop head.len (key_bytes front version n s) ≡ 0x02 ∷ 0x01 ∷ version ∷ (header 0x04 n ++ s) =
     rw len (at_version front s version n) in
@@ -604,7 +617,7 @@ pub key_plan : (front s t : List ℕ) (version n : ℕ) (head : Header)
     → header_of (key_bytes front version n s) ≡ Ok head → head.len ≡ length front → head.tag.constructed ≡ true
     → n ≤ max_content_len → SameAfter n s t
     → plan_of (key_bytes front version n s) ≡ plan_of (key_bytes front version n t)
-unfolding plan_of
+unfolding plan_of key_bytes
 key_plan front s t version n head is len node few same =
     let u : List ℕ = 0x02 ∷ 0x01 ∷ version ∷ (header 0x04 n ++ s) in
     let v : List ℕ = 0x02 ∷ 0x01 ∷ version ∷ (header 0x04 n ++ t) in
@@ -780,7 +793,7 @@ closed_root a front tail version n w head node len =
 pub key_closed : (front tail : List ℕ) (version n : ℕ) (head : Header)
     → header_of (key_bytes front version n tail) ≡ Ok head → head.len ≡ length front → head.tag.constructed ≡ true
     → IsClosed (plan_of (key_bytes front version n tail))
-unfolding plan_of
+unfolding plan_of key_bytes
 key_closed front tail version n head is len node =
     let a : List ℕ = key_bytes front version n tail in
     let w : ℕ = len_within head.content_len (length a - head.len) in

@@ -1,6 +1,7 @@
 -- The rows of bytes that begin as a private key does show no byte of the key.
 use Rattle.std.proofs.Common.{◌≡◌, ℕ, zero, suc, ◌+◌, ◌-◌, ◌==◌, ◌<◌, ◌≤◌, ◌⊎◌, inl, inr, ⊎_elim, Bool, true, false}
-use Rattle.std.proofs.Common.{List, [], ◌∷◌, ◌++◌, length, take, drop, if◌then◌else◌, refl, sym, ap, ap₂, ◌∙◌, subst, subst₂, arith}
+use Rattle.std.proofs.Common.{List, [], ◌∷◌, ◌++◌, length, take, drop, if◌then◌else◌, refl, sym, ap, ap₂, ◌∙◌, subst}
+use Rattle.std.proofs.Common.{subst₂, arith}
 use Rattle.std.proofs.Common.{All, Option, Some, None, Result, Ok, Err, is_none, is_some, not, ◌&&◌, ◌||◌}
 use Rattle.std.proofs.Common.{append-nil, eqb-true}
 use Rattle.std.proofs.lemmas.Bool.{cases_lt}
@@ -13,13 +14,15 @@ use Rattle.std.specs.Prelude.{nat_le, nat_lt, option_map, slice_get}
 use Rattle.sec1_der.specs.Elements.{header, length_octets}
 use Rattle.der_view.proofs.HeaderLemmas.{header_front, header_within}
 use Rattle.der_view.proofs.KeyLemmas.{key_moves}
-use Rattle.der_view.proofs.KeyPlanLemmas.{IsClosed, SameAfter, at_key, at_tail, at_version, header_in_der, string_header}
+use Rattle.der_view.proofs.KeyPlanLemmas.{IsClosed, SameAfter, at_key, at_tail, at_version, header_in_der}
+use Rattle.der_view.proofs.KeyPlanLemmas.{string_header}
 use Rattle.der_view.proofs.KeyPlanLemmas.{key_closed, key_plan}
-use Rattle.der_view.proofs.OpenLemmas.{row_some}
+use Rattle.der_view.proofs.OpenLemmas.{open_bytes_decide, row_some}
 use Rattle.der_view.proofs.SeenLemmas.{content_inside, len_within-le}
 use Rattle.der_view.specs.Headers.{header_of, max_content_len, tag_of}
 use Rattle.der_view.specs.Levels.{followed, input_level, level_after, opened_in, still_open}
-use Rattle.der_view.specs.OpenLaws.{ContentsLookSame, IsRootOf, KeyIsUnseen, LookSame, LooksSame, key_bytes}
+use Rattle.der_view.specs.OpenLaws.{ContentsLookSame, DifferUnseen, IsRootOf, KeyIsUnseen, LookSame, LooksSame}
+use Rattle.der_view.specs.OpenLaws.{key_bytes}
 use Rattle.der_view.specs.Openings.{field_inside, opened_by, opening_by, opens_octets, own_len_by, string_opening}
 use Rattle.der_view.specs.Pictures.{AreRowsOf}
 use Rattle.der_view.specs.Places.{IsDrawn, IsElement, IsInside, IsNoElement, IsRest, IsStep}
@@ -184,7 +187,8 @@ leaf_short n front l found size fault leaf is = ⊎_elim (λ short. short)
     (cases_lt n (length front))
 
 len_within_some : (size left : ℕ)
-    → ((len_within (Some size) left ≡ size) ⊎ (len_within (Some size) left ≡ left)) × (len_within (Some size) left ≤ size)
+    → ((len_within (Some size) left ≡ size) ⊎ (len_within (Some size) left ≡ left))
+    × (len_within (Some size) left ≤ size)
 len_within_some size left = len_within_if (nat_le size left) size left refl
 
 leaf_found : (place : Place) (level : Level) (n h : ℕ) (front l m : List ℕ) (found : Header) (size : ℕ) (step : Step)
@@ -224,7 +228,8 @@ leaf_found place level n h front l m found size step leaf alike inside open_leve
     ap (λ (o : Option ℕ). opened_by place o) opening ∙ no_opening place in
     let own : step.row.own_len ≡ w =
     x.own_len
-    ∙ (ap (λ (o : Option ℕ). own_len_by o (length x.element.content.now)) closed ∙ (own_len_none _ ∙ (ap length content ∙ w_len))) in
+    ∙ (ap (λ (o : Option ℕ). own_len_by o (length x.element.content.now)) closed
+    ∙ (own_len_none _ ∙ (ap length content ∙ w_len))) in
     let taken : row_len step.row ≡ length front + w = ap₂ (λ (p q : ℕ). p + q) header_len own in
     let old : content_of step.row whole ≡ take w l =
     ap₂ (λ (p q : ℕ). take p (drop q whole)) len header_len
@@ -354,7 +359,8 @@ leaf_after guarded front other level outer size x u r is levels leaf =
     (λ (none : is.step.level ≡ None).
     inr (rw (stays None none) (still_few (length u.left) (outer ∷ []))))
     (λ (some : (next : Level) × (is.step.level ≡ Some next) × (next.rest ≡ level.rest)
-    × ((row_len is.step.row ≡ size) ⊎ ((row_len is.step.row ≡ length x.left - level.rest) × (level.rest < length x.left)))).
+    × ((row_len is.step.row ≡ size)
+    ⊎ ((row_len is.step.row ≡ length x.left - level.rest) × (level.rest < length x.left)))).
     let next : Level = some.0 in
     let here : u.levels ≡ still_open (length u.left) (next ∷ outer ∷ []) = stays (Some next) some.1 in
     ⊎_elim
@@ -452,6 +458,7 @@ key_rows : (front s t : List ℕ) (version n : ℕ) (rows : List OpenRow) (x u :
     → IsClosed x.plan → x.offset ≡ length front + 2 + 1
     → x.left ≡ drop x.offset (key_bytes front version n s)
     → All (LooksSame true (key_bytes front version n s) (key_bytes front version n t)) rows
+unfolding key_bytes
 key_rows front s t version n [] x u level outer few same rows levels hidden closed offset at =
     All-nil (LooksSame true (key_bytes front version n s) (key_bytes front version n t))
 key_rows front s t version n (r ∷ rows) x u level outer few same (y, is, seen, more) levels hidden closed offset at =
@@ -472,7 +479,8 @@ key_rows front s t version n (r ∷ rows) x u level outer few same (y, is, seen,
       look = λ field k within. key_looks x.plan.guarded n k field s t closed.guarded;
       closed = λ cut k. closed_key (place_of x) level n cut (take k s) hidden closed.guarded closed.inside;
     } in
-    let row = leaf_row a b (header 0x04 n) s t (string_header n) n x y r level outer is levels closed.guarded at in_a in_b
+    let row = leaf_row a b (header 0x04 n) s t (string_header n) n x y r level outer is levels closed.guarded at in_a
+    in_b
     leaf alike in
     let next : y.left ≡ drop y.offset a = is.left ∙ rw (at, is.offset) (drop-drop (row_len r) x.offset a) in
     let rest : All (LooksSame true a b) rows = ⊎_elim
@@ -512,9 +520,11 @@ version_rows : (front s t : List ℕ) (version n : ℕ) (rows : List OpenRow) (x
     → IsClosed x.plan → 0 < length front → x.offset ≡ length front
     → x.left ≡ drop x.offset (key_bytes front version n s)
     → All (LooksSame true (key_bytes front version n s) (key_bytes front version n t)) rows
+unfolding key_bytes
 version_rows front s t version n [] x u level outer few same rows levels hidden closed some offset at =
     All-nil (LooksSame true (key_bytes front version n s) (key_bytes front version n t))
-version_rows front s t version n (r ∷ rows) x u level outer few same (y, is, seen, more) levels hidden closed some offset at =
+version_rows front s t version n (r ∷ rows) x u level outer few same (y, is, _, more) levels hidden closed some offset
+    at =
     let a : List ℕ = key_bytes front version n s in
     let b : List ℕ = key_bytes front version n t in
     let l : List ℕ = version ∷ (header 0x04 n ++ s) in
@@ -536,7 +546,8 @@ version_rows front s t version n (r ∷ rows) x u level outer few same (y, is, s
           (record { seen = refl; opening = λ e. refl });
       closed = λ cut k. closed_version (place_of x) level cut (take k l);
     } in
-    let row = leaf_row a b first l m version_header 1 x y r level outer is levels closed.guarded at in_a in_b leaf alike in
+    let row = leaf_row a b first l m version_header 1 x y r level outer is levels closed.guarded at in_a in_b leaf
+    alike in
     let next : y.left ≡ drop y.offset a = is.left ∙ rw (at, is.offset) (drop-drop (row_len r) x.offset a) in
     let closed_next : IsClosed y.plan = rw is.plan closed in
     let rest : All (LooksSame true a b) rows = ⊎_elim
@@ -637,7 +648,8 @@ first_drawn : (drawn : Bool) (a b front u : List ℕ) (x y : Undrawn) (r : OpenR
     → take (length front) b ≡ front → header_of a ≡ Ok head → head.len ≡ length front
     → head.tag.constructed ≡ true → IsDrawn drawn (place_of x) level a is.step → FirstRow a b (length front) r y
 first_drawn false a b front u x y r level head is levels last offset left at other known len node e =
-    let rest = rest_row true a b x y r is (subst (λ (bytes : List ℕ). IsRest (place_of x) bytes is.step) (sym left) e) in
+    let rest = rest_row true a b x y r is
+    (subst (λ (bytes : List ℕ). IsRest (place_of x) bytes is.step) (sym left) e) in
     (rest.0, inl rest.1)
 first_drawn true a b front u x y r level head is levels last offset left at other known len node e =
     let inside : inside_of level a ≡ a = take_all (length a - level.rest) a (omega arith) in
@@ -666,9 +678,11 @@ first_rows : (front s t : List ℕ) (version n : ℕ) (rows : List OpenRow) (x u
     → x.all ≡ false → IsClosed x.plan → x.offset ≡ 0 → x.left ≡ key_bytes front version n s
     → header_of (key_bytes front version n s) ≡ Ok head → head.len ≡ length front → head.tag.constructed ≡ true
     → All (LooksSame true (key_bytes front version n s) (key_bytes front version n t)) rows
+unfolding key_bytes
 first_rows front s t version n [] x u head few same rows levels hidden closed offset left known len node =
     All-nil (LooksSame true (key_bytes front version n s) (key_bytes front version n t))
-first_rows front s t version n (r ∷ rows) x u head few same (y, is, _, more) levels hidden closed offset left e len node =
+first_rows front s t version n (r ∷ rows) x u head few same (y, is, _, more) levels hidden closed offset left e len
+    node =
     let a : List ℕ = key_bytes front version n s in
     let b : List ℕ = key_bytes front version n t in
     let some : 0 < length front = omega (arith, (header_within a head e).0) in
@@ -692,8 +706,12 @@ first_rows front s t version n (r ∷ rows) x u head few same (y, is, _, more) l
     row.1 in
     All-cons (LooksSame true a b) r rows row.0 rest
 
-pub key_is_unseen : KeyIsUnseen
-key_is_unseen front s t version n root few size after =
+-- such bytes differ only in bytes that aren't shown
+key_differs : (front s t : List ℕ) (version n : ℕ) → IsRootOf (key_bytes front version n s) front
+    → n ≤ max_content_len → length s ≡ length t → drop n s ≡ drop n t
+    → DifferUnseen (key_bytes front version n s) (key_bytes front version n t)
+unfolding key_bytes
+key_differs front s t version n root few size after =
     let a : List ℕ = key_bytes front version n s in
     let b : List ℕ = key_bytes front version n t in
     let same : SameAfter n s t = record { size = size; after = after } in
@@ -721,3 +739,7 @@ key_is_unseen front s t version n root few size after =
           (first_rows front s t version n rows p.first p.last root.head few same p.drawn p.levels p.shows
           (rw p.plan closed) p.offset p.left root.is_header root.len root.node);
     }
+
+pub key_is_unseen : KeyIsUnseen
+key_is_unseen front s t version n root few size after =
+    open_bytes_decide _ _ (key_differs front s t version n root few size after)

@@ -11,9 +11,9 @@ use Rattle.der_view.proofs.KeyLemmas.{one_answer}
 use Rattle.der_view.proofs.SameLemmas.{ContentsAlike, Looks, SameState, next_same}
 use Rattle.der_view.specs.Headers.{is_type}
 use Rattle.der_view.specs.Levels.{input_level}
-use Rattle.der_view.specs.OpenLaws.{ContentsLookSame, LooksSame, OpenBytesDecide, may_open}
+use Rattle.der_view.specs.OpenLaws.{ContentsLookSame, DifferUnseen, LooksSame, OpenBytesDecide, may_open}
 use Rattle.der_view.specs.Openings.{field_inside, is_sequence_tree, is_tree, opens_bits, opens_octets, string_opening}
-use Rattle.der_view.specs.Pictures.{AreRows, AreRowsOf, verdict_text}
+use Rattle.der_view.specs.Pictures.{AreRows, AreRowsOf, IsPicture, verdict_text}
 use Rattle.der_view.specs.Plans.{plan_of}
 use Rattle.der_view.specs.Rows.{IsNext, IsOpen, Undrawn, content_bytes, content_of, place_of, row_len}
 use Rattle.der_view.specs.RowLaws.{IsSameRow, content_at}
@@ -22,6 +22,7 @@ use Rattle.der_view.specs.declared.field.Field.{Field}
 use Rattle.der_view.specs.declared.header.Tag.{Tag}
 use Rattle.der_view.specs.declared.level.Level.{Level}
 use Rattle.der_view.specs.declared.place.Place.{Place}
+use Rattle.der_view.specs.declared.picture.verdict.Reading.{Reading}
 use Rattle.der_view.specs.declared.plan.Plan.{Plan}
 use Rattle.der_view.specs.declared.row.Kind.{Kind}
 use Rattle.der_view.specs.declared.row.Kind.TheVariants as kinds
@@ -125,7 +126,8 @@ rows_same a b (r ∷ rows) [] x y u v (next, is, seen, more) q e hidden in_a in_
     let some : 0 < length x.left = row_some x r next is in
     let same : length x.left ≡ length y.left = e.left in
     absurd (omega arith)
-rows_same a b (r ∷ rows) (s ∷ others) x y u v (x', is, seen, more) (y', is', seen', more') e hidden in_a in_b p q looks =
+rows_same a b (r ∷ rows) (s ∷ others) x y u v (x', is, seen, more) (y', is', seen', more') e hidden in_a in_b p q
+    looks =
     let here : LooksSame x.plan.guarded a b r = All-head (LooksSame x.plan.guarded a b) r rows looks in
     let look : (level : Level) → Looks (place_of x) level x.left y.left r =
     λ level. looks_here a b x y r level hidden in_a in_b e.offset is.at here in
@@ -162,8 +164,9 @@ all_rows_same a b rows others size plan looks p q =
     rows_same a b rows others p.first q.first p.last q.last p.drawn q.drawn state p.shows in_a in_b p.ended q.ended look
 
 -- the pictures are the same
-pub open_bytes_decide : OpenBytesDecide
-open_bytes_decide a b x y reading is_key is_other d p q =
+pictures_same : (a b : List ℕ) → DifferUnseen a b → (x y : List ℕ) (reading : Reading) (is_key is_other : Bool)
+    → IsPicture false reading a x is_key → IsPicture false reading b y is_other → (x ≡ y) × (is_key ≡ is_other)
+pictures_same a b d x y reading is_key is_other p q =
     let answer : is_key ≡ is_other = one_answer _ is_key is_other (d.key is_key p.key) q.key in
     let rows : AllZip IsSameRow p.rows q.rows =
     all_rows_same a b p.rows q.rows d.len d.plan (d.rows p.rows p.are_rows) p.are_rows q.are_rows in
@@ -181,3 +184,6 @@ open_bytes_decide a b x y reading is_key is_other d p q =
           ∙ sym q.whole),
       answer,
     )
+
+pub open_bytes_decide : OpenBytesDecide
+open_bytes_decide a b d = record { same = pictures_same a b d }

@@ -118,7 +118,8 @@ shown_same tag field len x y opened same =
     shown_if tag.constructed opened (shown_by tag field len x) (shown_by tag field len y)
     (λ leaf. ap (λ (seen : List ℕ). shown_by tag field len seen) (same leaf))
 
-and_if : (constructed : Bool) (a b : Bool) → (constructed ≡ false → a ≡ b) → (not constructed && a) ≡ (not constructed && b)
+and_if : (constructed a b : Bool) → (constructed ≡ false → a ≡ b)
+    → (not constructed && a) ≡ (not constructed && b)
 and_if true a b same = refl
 and_if false a b same = same refl
 
@@ -253,7 +254,8 @@ else_same true place n h level l m fault q s t size ends is other looks x y =
     let here : IsInside place h level (0x00 ∷ 0x00 ∷ found.0) (header_of (0x00 ∷ 0x00 ∷ found.0)) t =
     rw (none, inside) at y in
     let ended = subst
-    (λ (e : Bool). IsNoElement (e && true) place level (0x00 ∷ 0x00 ∷ found.0) (faults.ReservedTag 0x00) t) both.0 here in
+    (λ (e : Bool). IsNoElement (e && true) place level (0x00 ∷ 0x00 ∷ found.0) (faults.ReservedTag 0x00) t) both.0
+    here in
     bare_same _ _ _ _ _ _ _ s t refl x ended
 else_same false place n h level l m fault q s t size ends is other looks x y =
     let contents : content_of s.row l ≡ content_of s.row m = rw x.is_kind at looks.content in
@@ -261,7 +263,8 @@ else_same false place n h level l m fault q s t size ends is other looks x y =
     let old : content_of s.row l ≡ take n l =
     rw (x.len, x.is_header) (ap (λ (k : ℕ). take k l) (length-take n l) ∙ take_min n l) in
     let new : content_of s.row m ≡ take n m =
-    rw (x.len, x.is_header) (ap (λ (k : ℕ). take k m) (length-take n l ∙ ap (λ (k : ℕ). min n k) size) ∙ take_min n m) in
+    rw (x.len, x.is_header)
+    (ap (λ (k : ℕ). take k m) (length-take n l ∙ ap (λ (k : ℕ). min n k) size) ∙ take_min n m) in
     let same : take n m ≡ take n l = sym new ∙ (sym contents ∙ old) in
     let none : q ≡ Err fault = sym other ∙ (ap (λ (b : List ℕ). header_of b) same ∙ is) in
     let here : IsInside place h level (take n l) (Err fault) t = rw (none, same) at y in
@@ -273,7 +276,8 @@ inside_same : (place : Place) (n h : ℕ) (level : Level) (l m : List ℕ) (r q 
     → Looks place level l m s.row
     → IsInside place h level (take n l) r s → IsInside place h level (take n m) q t → SameStep s t
 inside_same place n h level l m (Err fault) q s t size is other looks x y =
-    else_same (level.indefinite && ends_contents (take n l)) place n h level l m fault q s t size refl is other looks x y
+    else_same (level.indefinite && ends_contents (take n l)) place n h level l m fault q s t size refl is other looks x
+    y
 inside_same place n h level l m (Ok head) q s t size is other looks x y =
     let k : ℕ = head.len in
     let xs : List ℕ = take n l in
@@ -304,7 +308,8 @@ inside_same place n h level l m (Ok head) q s t size is other looks x y =
     rw (x.kind, old, new) at looks.content in
     let here : IsElement place h level ys head t =
     rw (sym other ∙ found.0) at y in
-    element_same place h level xs ys head s t sizes (omega (arith, bounds.0)) found.1 (x_len ∙ sym (rw w_same y_len)) like x here
+    element_same place h level xs ys head s t sizes (omega (arith, bounds.0)) found.1 (x_len ∙ sym (rw w_same y_len))
+    like x here
 
 drawn_same : (drawn : Bool) (place : Place) (level : Level) (l m : List ℕ) (s t : Step) → length l ≡ length m
     → Looks place level l m s.row → IsDrawn drawn place level l s → IsDrawn drawn place level m t → SameStep s t

@@ -52,16 +52,20 @@ pub record DifferUnseen (a b : List ℕ) : Type 0 where
       (rows : List OpenRow) → AreRows false a rows
       → All (LooksSame (plan_of a).guarded a b) rows
 
+-- inputs have the same picture, and the same status
+pub record SamePictures (a b : List ℕ) : Type 0 where
+  pub same :
+      (x y : List ℕ) (reading : Reading) (is_key is_other : Bool)
+      → IsPicture false reading a x is_key → IsPicture false reading b y is_other
+      → (x ≡ y) × (is_key ≡ is_other)
+
 -- Inputs that differ only in bytes which aren't shown have the same picture.
 abbrev pub OpenBytesDecide : Type 0
-OpenBytesDecide =
-    (a b x y : List ℕ) (reading : Reading) (is_key is_other : Bool) → DifferUnseen a b
-    → IsPicture false reading a x is_key → IsPicture false reading b y is_other
-    → (x ≡ y) × (is_key ≡ is_other)
+OpenBytesDecide = (a b : List ℕ) → DifferUnseen a b → SamePictures a b
 
 -- RFC 5915 section 3: the header of a root, a version of one byte, the header of a private key of
 -- so many bytes in DER, and what follows
-abbrev pub key_bytes : List ℕ → ℕ → ℕ → List ℕ → List ℕ
+unfoldable pub key_bytes : List ℕ → ℕ → ℕ → List ℕ → List ℕ
 key_bytes root version n rest = root ++ (0x02 ∷ 0x01 ∷ version ∷ (header 0x04 n ++ rest))
 
 -- these are the bytes of the header of an element that others begin with, whose content is elements
@@ -71,10 +75,10 @@ pub record IsRootOf (bytes root : List ℕ) : Type 0 where
   pub len : head.len ≡ length root
   pub node : head.tag.constructed ≡ true
 
--- Of bytes that begin as a private key does, the key isn't seen, however they go on and wherever
--- they end.
+-- Bytes that begin as a private key does have the same picture, whatever the key, however they go
+-- on and wherever they end.
 abbrev pub KeyIsUnseen : Type 0
 KeyIsUnseen =
     (root x y : List ℕ) (version n : ℕ) → IsRootOf (key_bytes root version n x) root
     → n ≤ max_content_len → length x ≡ length y → drop n x ≡ drop n y
-    → DifferUnseen (key_bytes root version n x) (key_bytes root version n y)
+    → SamePictures (key_bytes root version n x) (key_bytes root version n y)

@@ -29,12 +29,13 @@ pub fn contents_are_hidden()
         → All (HidesContent (plan_of input).guarded input) rows }
 {}
 
-/// Inputs that differ only in bytes which aren't shown have the same picture.
+/// Inputs that differ only in bytes which aren't shown have the same picture, and the same status.
 pub fn open_bytes_decide()
     ensures { OpenBytesDecide }
 {}
 
-/// Of bytes that begin as a private key does, the key isn't seen, however they go on.
+/// Bytes that begin as an ECPrivateKey does (RFC 5915 section 3) have the same picture, and the
+/// same status, whatever the private key: also if they are damaged or cut off after its header.
 pub fn key_is_unseen()
     ensures { KeyIsUnseen }
 {}
