@@ -1,6 +1,7 @@
 //! Pictures of any input, by `der_view`: its sources, its rows, and what no row has.
-ghost use Rattle.std.specs.Prelude.{◌≡◌, ◌≤◌, ◌∷◌, [], List, ℕ, Bool, false, length, take};
+ghost use Rattle.std.specs.Prelude.{◌≡◌, ◌≤◌, ◌∷◌, [], List, ℕ, Bool, false, length, drop, take};
 ghost use Rattle.std.specs.Prelude.{All, IfSome, IsSomeAnd, MatchOption, None};
+ghost use Rattle.der_view.specs.OpenLaws.{DifferUnseen, IsRootOf, SamePictures, key_bytes};
 ghost use Rattle.der_view.specs.Pictures.{AreRows};
 ghost use Rattle.der_view.specs.Plans.{plan_of};
 ghost use Rattle.der_view.specs.RowLaws.{HidesContent, IsSameRow};
@@ -67,4 +68,19 @@ pub fn hidden_contents()
         → AreRows false input (row ∷ rows) → row.content ≡ None }
 {
     laws::contents_are_hidden();
+}
+
+/// Two private keys of 32 bytes, as those on P-256, have the same picture.
+pub fn pictures_of_keys()
+    ensures { (root x y : List ℕ) → IsRootOf (key_bytes root 1 32 x) root → length x ≡ length y
+        → drop 32 x ≡ drop 32 y → SamePictures (key_bytes root 1 32 x) (key_bytes root 1 32 y) }
+{
+    laws::key_is_unseen();
+}
+
+/// Inputs of which one is drawn otherwise differ in a byte that is shown.
+pub fn pictures_of_shown_bytes()
+    ensures { (a b : List ℕ) → ¬ SamePictures a b → ¬ DifferUnseen a b }
+{
+    laws::open_bytes_decide();
 }
