@@ -1,8 +1,9 @@
 -- What bytes are that have no private key, by the tags of their elements.
 use Rattle.std.specs.Prelude.{ℕ, zero, suc, ◌&&◌, ◌||◌, Bool, false, if◌then◌else◌, List, [], ◌∷◌}
-use Rattle.std.specs.Prelude.{drop, take, Option, Some, None, Result, Ok, Err}
+use Rattle.std.specs.Prelude.{length, take, drop, Option, Some, None, Result, Ok, Err}
 use Rattle.der_view.specs.Children.{begins, first_tag}
 use Rattle.der_view.specs.Headers.{header_of}
+use Rattle.der_view.specs.Places.{len_within}
 use Rattle.der_view.specs.declared.field.Form.{Form}
 use Rattle.der_view.specs.declared.field.Form.TheVariants as forms
 use Rattle.der_view.specs.declared.header.Header.{Header}
@@ -28,13 +29,10 @@ rest_by bytes (Ok head) = rest_len head.content_len (drop head.len bytes)
 unfoldable pub rest : List ℕ → List ℕ
 rest bytes = rest_by bytes (header_of bytes)
 
-abbrev pub content_of : Option ℕ → List ℕ → List ℕ
-content_of None bytes = bytes
-content_of (Some len) bytes = take len bytes
-
 abbrev pub content_by : List ℕ → Result Header ElementFault → List ℕ
 content_by bytes (Err fault) = []
-content_by bytes (Ok head) = content_of head.content_len (drop head.len bytes)
+content_by bytes (Ok head) =
+    let after = drop head.len bytes in take (len_within head.content_len (length after)) after
 
 -- its content, as far as it is there
 unfoldable pub content_in : List ℕ → List ℕ

@@ -1,10 +1,11 @@
 //! What bytes are that have no private key.
 ghost use Rattle.std.specs.Prelude.{◌≡◌};
-ghost use Rattle.der_view.specs.PublicForms.{begin_one, certificates, content_in, content_of};
-ghost use Rattle.der_view.specs.PublicForms.{form_by_tags, form_of_signed, lists, public_form};
-ghost use Rattle.der_view.specs.PublicForms.{rest, rest_len, tag_in, tags_in};
+ghost use Rattle.der_view.specs.PublicForms.{begin_one, certificates, content_in, form_by_tags};
+ghost use Rattle.der_view.specs.PublicForms.{form_of_signed, lists, public_form, rest, rest_len};
+ghost use Rattle.der_view.specs.PublicForms.{tag_in, tags_in};
 
 use crate::children::{after, first_tag};
+use crate::element::content_there;
 use crate::field::Form;
 use crate::header::Header;
 
@@ -88,6 +89,18 @@ fn tag_in(bytes: &[u8]) -> u8
     }
 }
 
+/// Returns the content of the element that the bytes begin with, as far as it is there.
+#[tactic(auto, unfolding(crate::specs::PublicForms::content_in))]
+fn content_in<'a>(bytes: &'a [u8]) -> &'a [u8]
+    ensures { result.now ≡ content_in bytes.now }
+{
+    match Header::read(bytes) {
+        // What follows the element isn't looked at: it may be inside a content.
+        Ok(head) => content_there(0, head.content_len, &bytes[head.len..]).0,
+        Err(_) => &[],
+    }
+}
+
 /// Returns the bytes after the element that these begin with, if it is of a definite length.
 #[tactic(auto, unfolding(crate::specs::PublicForms::rest))]
 fn rest<'a>(bytes: &'a [u8]) -> &'a [u8]
@@ -96,28 +109,6 @@ fn rest<'a>(bytes: &'a [u8]) -> &'a [u8]
     match Header::read(bytes) {
         Ok(head) => rest_len(head.content_len, &bytes[head.len..]),
         Err(_) => &[],
-    }
-}
-
-/// Returns the content of the element that the bytes begin with, as far as it is there. What
-/// follows it may be in a string, of which no byte is looked at.
-#[tactic(auto, unfolding(crate::specs::PublicForms::content_in))]
-fn content_in<'a>(bytes: &'a [u8]) -> &'a [u8]
-    ensures { result.now ≡ content_in bytes.now }
-{
-    match Header::read(bytes) {
-        Ok(head) => content_of(head.content_len, &bytes[head.len..]),
-        Err(_) => &[],
-    }
-}
-
-/// Returns the content of this length that the bytes begin with.
-fn content_of<'a>(len: Option<usize>, bytes: &'a [u8]) -> &'a [u8]
-    ensures { result.now ≡ content_of len bytes.now }
-{
-    match len {
-        Some(len) => &bytes[..len.min(bytes.len())],
-        None => bytes,
     }
 }
 
