@@ -21,7 +21,7 @@ use Rattle.der_view.proofs.OpenLemmas.{open_bytes_decide, row_some}
 use Rattle.der_view.proofs.SeenLemmas.{content_inside, len_within-le}
 use Rattle.der_view.specs.Headers.{header_of, max_content_len, tag_of}
 use Rattle.der_view.specs.Levels.{followed, input_level, level_after, opened_in, still_open}
-use Rattle.der_view.specs.OpenLaws.{ContentsLookSame, DifferUnseen, IsRootOf, KeyIsUnseen, LookSame, LooksSame}
+use Rattle.der_view.specs.OpenLaws.{ContentsLookSame, DifferUnseen, IsRootOf, KeyIsUnseen, LeavesLookSame, LooksSame}
 use Rattle.der_view.specs.OpenLaws.{key_bytes}
 use Rattle.der_view.specs.Openings.{field_inside, opened_by, opening_by, opens_octets, own_len_by, string_opening}
 use Rattle.der_view.specs.Pictures.{AreRowsOf}
@@ -141,7 +141,8 @@ record IsLeaf (front : List ℕ) (found : Header) (size : ℕ) : Type 0 where
 -- the bytes after it look the same, and aren't opened
 record AreAlike (place : Place) (level : Level) (found : Header) (size : ℕ) (l m : List ℕ) : Type 0 where
   same : length l ≡ length m
-  look : (field : Option Field) (k : ℕ) → k ≤ size → LookSame place.plan.guarded found.tag field (take k l) (take k m)
+  look : (field : Option Field) (k : ℕ) → k ≤ size
+      → LeavesLookSame place.plan.guarded found.tag field (take k l) (take k m)
   closed : (cut : Bool) (k : ℕ) → opening_by place level found cut (take k l) ≡ None
 
 same_if : (test : Bool) (o : Option ℕ) → (if test then o else o) ≡ o
@@ -449,7 +450,7 @@ closed_key place level n true content hidden guarded inside = refl
 closed_key place level n false content hidden guarded inside = rw (hidden, guarded, inside) refl
 
 key_looks : (guarded : Bool) (n k : ℕ) (field : Option Field) (s t : List ℕ) → guarded ≡ true
-    → LookSame guarded (string_header n).tag field (take k s) (take k t)
+    → LeavesLookSame guarded (string_header n).tag field (take k s) (take k t)
 key_looks guarded n k field s t is =
     rw is (record { seen = refl; opening = λ e. cc })
 

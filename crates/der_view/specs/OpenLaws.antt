@@ -21,9 +21,9 @@ abbrev pub may_open : Tag → List ℕ → Bool
 may_open tag content =
     if is_type tag 3 then opens_bits false content else is_type tag 4 && is_tree content
 
--- Two contents of a primitive element look the same: the first bytes that may be seen of them are
--- the same, and if the picture isn't guarded, both may be opened or none.
-pub record LookSame (guarded : Bool) (tag : Tag) (field : Option Field)
+-- Two contents of a leaf, a primitive element, look the same: the first bytes that may be seen of
+-- them are the same, and if the picture isn't guarded, both may be opened or none.
+pub record LeavesLookSame (guarded : Bool) (tag : Tag) (field : Option Field)
     (x y : List ℕ) : Type 0 where
   pub seen : take (open_len guarded tag field x) x ≡ take (open_len guarded tag field y) y
   pub opening : guarded ≡ false → may_open tag x ≡ may_open tag y
@@ -32,7 +32,7 @@ pub record LookSame (guarded : Bool) (tag : Tag) (field : Option Field)
 -- element the reason, and of bytes that aren't drawn nothing but their number.
 abbrev pub ContentsLookSame : Bool → Option Field → Kind → List ℕ → List ℕ → Type 0
 ContentsLookSame guarded field (kinds.Element tag) x y =
-    tag.constructed ≡ false → LookSame guarded tag field x y
+    tag.constructed ≡ false → LeavesLookSame guarded tag field x y
 ContentsLookSame guarded field kinds.NoElement x y = x ≡ y
 ContentsLookSame guarded field _ x y = Unit {0}
 
