@@ -9,7 +9,7 @@ use Rattle.sec1_der.proofs.LengthLaws.{len_1, split_same}
 use Rattle.sec1_der.specs.Elements.{element, header, length_octets, max_length}
 use Rattle.sec1_der.specs.Identifiers.{content_of}
 use Rattle.sec1_der.specs.Trees.{Tree, forest, joined, leaf}
-use Rattle.der_view.proofs.KeyPlanLemmas.{sequence_header}
+use Rattle.der_view.proofs.KeyChildLemmas.{sequence_header}
 use Rattle.der_view.specs.OpenLaws.{IsRootOf, key_bytes}
 
 -- the trees after the private key, and their bytes

@@ -14,8 +14,9 @@ use Rattle.std.specs.Prelude.{nat_le, nat_lt, option_map, slice_get}
 use Rattle.sec1_der.specs.Elements.{header, length_octets}
 use Rattle.der_view.proofs.HeaderLemmas.{header_front, header_within}
 use Rattle.der_view.proofs.KeyLemmas.{key_moves}
-use Rattle.der_view.proofs.KeyPlanLemmas.{IsClosed, SameAfter, at_key, at_tail, at_version, header_in_der}
-use Rattle.der_view.proofs.KeyPlanLemmas.{string_header}
+use Rattle.der_view.proofs.KeyChildLemmas.{SameAfter, at_key, at_tail, at_version, header_in_der}
+use Rattle.der_view.proofs.KeyPlanLemmas.{IsClosed}
+use Rattle.der_view.proofs.KeyChildLemmas.{string_header}
 use Rattle.der_view.proofs.KeyPlanLemmas.{key_closed, key_plan}
 use Rattle.der_view.proofs.OpenLemmas.{open_bytes_decide, row_some}
 use Rattle.der_view.proofs.SeenLemmas.{content_inside, len_within-le}

@@ -8,6 +8,7 @@ pub mod ContainerLemmas
 pub mod EncodedLemmas
 pub mod ForestLemmas
 pub mod HeaderLemmas
+pub mod KeyChildLemmas
 pub mod KeyLemmas
 pub mod KeyPlanLemmas
 pub mod KeyRowLemmas
