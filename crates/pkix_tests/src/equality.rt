@@ -3,8 +3,8 @@
 ghost use Rattle.std.specs.Prelude.{◌≡◌, ◌≢◌, ◌↔◌, IsTrue, IsOkAnd};
 ghost use Rattle.der_types.specs.Times.{IsEarlier};
 
-use der_view::faults::Position;
 use der_types::{Boolean, Choice, DateTime, Defaulted, Implicit, OptionalPart};
+use der_view::faults::Position;
 use pkix::{Curve, LaterVersion};
 use sec1_der::{Primitive0, Required, VersionOne};
 use std::alloc::AllocError;

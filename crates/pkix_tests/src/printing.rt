@@ -2,8 +2,8 @@
 //! types of these shapes.
 use crate::assert_equal;
 use curves::Curve;
-use der_view::faults::Position;
 use der_types::{Boolean, Choice, DateTime, Defaulted, Implicit, OptionalPart};
+use der_view::faults::Position;
 use pkix::LaterVersion;
 use sec1_der::{ErrorKind, Primitive0, Required, VersionOne};
 use std::alloc::AllocError;
