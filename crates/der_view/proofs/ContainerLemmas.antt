@@ -1,6 +1,6 @@
 -- The kind at the place of a container's fault, which is within the bytes.
 use Rattle.std.proofs.Common.{◌≡◌, ◌≤◌, ℕ, List, Bool, true, false, length}
-use Rattle.std.proofs.Common.{if◌then◌else◌, Option, Some, None, ap, ◌∙◌, sym}
+use Rattle.std.proofs.Common.{if◌then◌else◌, Option, Some, ap, ◌∙◌, sym}
 use Rattle.std.specs.Prelude.{IfSome, option_map}
 use Rattle.der_types.proofs.KindLaws.{set_says}
 use Rattle.std.specs.Prelude.{is_none}

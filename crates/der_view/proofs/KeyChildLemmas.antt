@@ -23,7 +23,6 @@ use Rattle.der_view.specs.Headers.{header_of, header_with, length_at, max_conten
 use Rattle.der_view.specs.Expected.{ends}
 use Rattle.der_view.specs.OpenLaws.{key_bytes}
 use Rattle.der_view.specs.KeyForms.{content_of}
-use Rattle.der_view.specs.declared.field.Form.TheVariants as forms
 use Rattle.der_view.specs.Openings.{is_tree}
 use Rattle.der_view.specs.declared.children.Child.{Child}
 use Rattle.der_view.specs.declared.children.Children.{Children}

@@ -12,7 +12,7 @@ use Rattle.std.specs.Prelude.{nat_le, nat_lt}
 use Rattle.sec1_der.specs.Elements.{header}
 use Rattle.der_view.proofs.KeyChildLemmas.{first_child, SameAfter, at_version, SameChildren, children_same}
 use Rattle.der_view.proofs.HeaderLemmas.{header_front, header_within}
-use Rattle.der_view.specs.Children.{begins, child_after, child_at, child_by, child_of, children_at, children_of}
+use Rattle.der_view.specs.Children.{child_after, child_at, child_by, child_of, children_at, children_of}
 use Rattle.der_view.specs.Children.{first_tag, len_of, no_child, none_at, nth}
 use Rattle.der_view.specs.Headers.{header_of, max_content_len}
 use Rattle.der_view.specs.Expected.{ends, expected_in, expected_of}
@@ -31,7 +31,6 @@ use Rattle.der_view.specs.declared.children.Child.{Child}
 use Rattle.der_view.specs.declared.children.Children.{Children}
 use Rattle.der_view.specs.declared.header.Header.{Header}
 use Rattle.der_view.specs.declared.mark.ElementFault.{ElementFault}
-use Rattle.der_view.specs.declared.mark.ElementFault.TheVariants as faults
 
 -- what is said of a root follows from its children and these contents of theirs
 inside_same : (a b : List ℕ) (x : Children) → content_of a x.third ≡ content_of b x.third
