@@ -183,13 +183,13 @@ length_front (first ∷ front) a b p is fits =
     (λ e. long_front (first - 0x80) front a b p e fits)
 
 -- a header, and the tag and the length in it
-record HasParts (bytes : List ℕ) (head : Header) : Type 0 where
-  tag : Tag × ℕ
-  len : Option ℕ × ℕ
-  is_tag : tag_at bytes ≡ Ok tag
-  is_len : length_at (drop tag.1 bytes) ≡ Ok len
-  whole : head.len ≡ tag.1 + len.1
-  is_header : header_with tag.0 tag.1 (Ok len) ≡ Ok head
+pub record HasParts (bytes : List ℕ) (head : Header) : Type 0 where
+  pub tag : Tag × ℕ
+  pub len : Option ℕ × ℕ
+  pub is_tag : tag_at bytes ≡ Ok tag
+  pub is_len : length_at (drop tag.1 bytes) ≡ Ok len
+  pub whole : head.len ≡ tag.1 + len.1
+  pub is_header : header_with tag.0 tag.1 (Ok len) ≡ Ok head
 
 whole_by : (none : Bool) (e : ElementFault) (made head : Header) → (if none then Err e else Ok made) ≡ Ok head
     → head.len ≡ made.len
@@ -211,7 +211,7 @@ parts_with bytes tag (Ok len) head is_tag is_len is = record {
   is_header = is;
 }
 
-parts_of : (bytes : List ℕ) (found : Result (Tag × ℕ) ElementFault) (head : Header) → tag_at bytes ≡ found
+pub parts_of : (bytes : List ℕ) (found : Result (Tag × ℕ) ElementFault) (head : Header) → tag_at bytes ≡ found
     → header_after bytes found ≡ Ok head → HasParts bytes head
 parts_of bytes (Err e) head is_tag is = cc
 parts_of bytes (Ok tag) head is_tag is = parts_with bytes tag (length_at (drop tag.1 bytes)) head is_tag refl is

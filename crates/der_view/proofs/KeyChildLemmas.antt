@@ -72,7 +72,7 @@ length_if n rest few = ⊎_elim
     rw (len_long n (digits_of 256 n) large refl, long, some, other, short, count, fits, front, number, size) refl)
     (cases_lt n 128)
 
-length_in_der : (n : ℕ) (rest : List ℕ) → n ≤ max_content_len
+pub length_in_der : (n : ℕ) (rest : List ℕ) → n ≤ max_content_len
     → length_at (length_octets n ++ rest) ≡ Ok (Some n, length (length_octets n))
 length_in_der n rest few =
     let within : nat_lt max_content_len n ≡ false = grind (arith, nat_tests) in

@@ -5,6 +5,7 @@ pub mod CertificateLemmas
 pub mod CharacterLemmas
 pub mod ChildLemmas
 pub mod ContainerLemmas
+pub mod DerHeaderLemmas
 pub mod EncodedLemmas
 pub mod ForestLemmas
 pub mod HeaderLemmas
@@ -15,8 +16,10 @@ pub mod KeyRowLemmas
 pub mod KindLemmas
 pub mod LevelLemmas
 pub mod LineLemmas
+pub mod MarkLemmas
 pub mod NameLemmas
 pub mod OpenLemmas
+pub mod PassLemmas
 pub mod PictureLemmas
 pub mod PlaceLemmas
 pub mod PublicKeyLemmas
@@ -27,7 +30,10 @@ pub mod SeenLemmas
 pub mod SetLemmas
 pub mod SignatureLemmas
 pub mod SourceLemmas
+pub mod StateLemmas
 pub mod TextLemmas
+pub mod TreeLemmas
 pub mod ValueLemmas
 pub mod VerdictLemmas
+pub mod WholeLemmas
 pub mod WithinLemmas

@@ -1,12 +1,15 @@
 //! Laws of the rows, for callers to cite. Each law is the contract of a function, which does
 //! nothing else.
-ghost use Rattle.std.specs.Prelude.{◌≡◌, All, Bool, List, ℕ, false};
+ghost use Rattle.std.specs.Prelude.{◌≡◌, ◌≤◌, All, Bool, List, None, ℕ, false, length};
+ghost use Rattle.sec1_der.specs.Faults.{tree_fault};
+ghost use Rattle.der_view.specs.Headers.{max_content_len};
 ghost use Rattle.der_view.specs.Pictures.{AreRows};
 ghost use Rattle.der_view.specs.Plans.{plan_of};
 ghost use Rattle.der_view.specs.RowLaws.{HidesContent, IsSameRow};
 ghost use Rattle.der_view.specs.Rows.{IsNext, IsOpen, Undrawn, bytes_of_rows};
 ghost use Rattle.der_view.specs.declared.row.OpenRow.{OpenRow};
 ghost use Rattle.der_view.specs.OpenLaws.{KeyIsUnseen, OpenBytesDecide};
+ghost use Rattle.der_view.specs.TreeLaws.{AreWhole, IsBytes, MayBeWhole, outer_rows};
 
 /// The bytes of all rows, in order, are the input: none is left out, and none is drawn twice.
 pub fn rows_are_input()
@@ -38,4 +41,15 @@ pub fn open_bytes_decide()
 /// same status, whatever the private key: also if they are damaged or cut off after its header.
 pub fn key_is_unseen()
     ensures { KeyIsUnseen }
+{}
+
+/// `check_tree` accepts what is drawn whole: one root, where no row outside opened strings has a
+/// mark of an element's structure or a tag number above 30. What it accepts is drawn whole, if all
+/// of it is drawn, no tag is 20, and it has at most 16,777,215 bytes.
+pub fn trees_are_whole()
+    ensures tree { (all : Bool) (input : List ℕ) (rows : List OpenRow) → IsBytes input
+        → AreRows all input rows → AreWhole rows → tree_fault input ≡ None }
+    ensures whole { (all : Bool) (input : List ℕ) (rows : List OpenRow) → IsBytes input
+        → length input ≤ max_content_len → AreRows all input rows
+        → All MayBeWhole (outer_rows 0 rows) → tree_fault input ≡ None → AreWhole rows }
 {}
