@@ -1,12 +1,15 @@
 //! Pictures of any input, by `der_view`: its sources, its rows, and what no row has.
 ghost use Rattle.std.specs.Prelude.{◌≡◌, ◌≤◌, ◌∷◌, [], List, ℕ, Bool, false, length, drop, take};
 ghost use Rattle.std.specs.Prelude.{All, IfSome, IsSomeAnd, MatchOption, None};
+ghost use Rattle.sec1_der.specs.Faults.{tree_fault};
+ghost use Rattle.der_view.specs.Headers.{max_content_len};
 ghost use Rattle.der_view.specs.OpenLaws.{DifferUnseen, IsRootOf, SamePictures, key_bytes};
 ghost use Rattle.der_view.specs.Pictures.{AreRows};
 ghost use Rattle.der_view.specs.Plans.{plan_of};
 ghost use Rattle.der_view.specs.RowLaws.{HidesContent, IsSameRow};
 ghost use Rattle.der_view.specs.Rows.{bytes_of_rows};
 ghost use Rattle.der_view.specs.Sources.{Der, is_text, is_utf16, source_view};
+ghost use Rattle.der_view.specs.TreeLaws.{AreWhole, IsBytes, MayBeWhole, outer_rows};
 ghost use Rattle.der_view.specs.declared.row.OpenRow.{OpenRow};
 
 use der_view::{OpenRow, Rows, Source, Sources, laws};
@@ -83,4 +86,16 @@ pub fn pictures_of_shown_bytes()
     ensures { (a b : List ℕ) → ¬ SamePictures a b → ¬ DifferUnseen a b }
 {
     laws::open_bytes_decide();
+}
+
+/// What is drawn whole is a tree, which `check_tree` accepts, and a tree is drawn whole if each of
+/// its rows may be.
+pub fn whole_trees()
+    ensures tree { (all : Bool) (input : List ℕ) (rows : List OpenRow) → IsBytes input
+        → AreRows all input rows → AreWhole rows → tree_fault input ≡ None }
+    ensures whole { (all : Bool) (input : List ℕ) (rows : List OpenRow) → IsBytes input
+        → length input ≤ max_content_len → AreRows all input rows
+        → All MayBeWhole (outer_rows 0 rows) → tree_fault input ≡ None → AreWhole rows }
+{
+    laws::trees_are_whole();
 }
