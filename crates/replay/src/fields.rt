@@ -152,30 +152,53 @@ fn version(value: &TbsCertificate) -> u8 {
     }
 }
 
-/// Returns the fields from the version to the subject.
-fn names(alloc: Global, value: &TbsCertificate) -> Result<String, AllocError> {
+/// Returns the fields from the version to the algorithm of the signature.
+fn front(alloc: Global, value: &TbsCertificate) -> Result<String, AllocError> {
     let version = version(value);
     let serial = digits(alloc, value.serial_number.as_bytes())?;
     let signature = algorithm(alloc, &value.signature)?;
-    let issuer = digits(alloc, value.issuer.as_bytes())?;
+    format!(in alloc; "{version} {serial} {signature}")
+}
+
+/// Returns the times in which a certificate is valid.
+fn validity(alloc: Global, value: &TbsCertificate) -> Result<String, AllocError> {
     let not_before = time(alloc, &value.validity.not_before)?;
     let not_after = time(alloc, &value.validity.not_after)?;
+    format!(in alloc; "{not_before} {not_after}")
+}
+
+/// Returns the fields from the version to the subject.
+fn names(alloc: Global, value: &TbsCertificate) -> Result<String, AllocError> {
+    let front = front(alloc, value)?;
+    let issuer = digits(alloc, value.issuer.as_bytes())?;
+    let validity = validity(alloc, value)?;
     let subject = digits(alloc, value.subject.as_bytes())?;
-    format!(in alloc; "{version} {serial} {signature} {issuer} {not_before} {not_after} {subject}")
+    format!(in alloc; "{front} {issuer} {validity} {subject}")
+}
+
+/// Returns the unique identifiers and the extensions.
+fn additions(alloc: Global, value: &TbsCertificate) -> Result<String, AllocError> {
+    let issuer = bits_or_none(alloc, &value.issuer_unique_id)?;
+    let subject = bits_or_none(alloc, &value.subject_unique_id)?;
+    let extensions = match &value.extensions {
+        Some(extensions) => digits(alloc, extensions.value.as_bytes())?,
+        None => "-".to_string(alloc)?,
+    };
+    format!(in alloc; "{issuer} {subject} {extensions}")
+}
+
+/// Returns the algorithm and the value of the signature of a certificate.
+fn signed(alloc: Global, value: &Certificate) -> Result<String, AllocError> {
+    let algorithm = algorithm(alloc, &value.signature_algorithm)?;
+    let signature = bits(alloc, &value.signature)?;
+    format!(in alloc; "{algorithm} {signature}")
 }
 
 /// Returns the fields of a certificate.
 pub(crate) fn certificate(alloc: Global, value: &Certificate) -> Result<String, AllocError> {
-    let tbs = &value.tbs_certificate;
-    let names = names(alloc, tbs)?;
-    let key = public_key_info(alloc, &tbs.public_key)?;
-    let issuer = bits_or_none(alloc, &tbs.issuer_unique_id)?;
-    let subject = bits_or_none(alloc, &tbs.subject_unique_id)?;
-    let extensions = match &tbs.extensions {
-        Some(extensions) => digits(alloc, extensions.value.as_bytes())?,
-        None => "-".to_string(alloc)?,
-    };
-    let outer = algorithm(alloc, &value.signature_algorithm)?;
-    let signature = bits(alloc, &value.signature)?;
-    format!(in alloc; "{names} {key} {issuer} {subject} {extensions} {outer} {signature}")
+    let names = names(alloc, &value.tbs_certificate)?;
+    let key = public_key_info(alloc, &value.tbs_certificate.public_key)?;
+    let additions = additions(alloc, &value.tbs_certificate)?;
+    let signed = signed(alloc, value)?;
+    format!(in alloc; "{names} {key} {additions} {signed}")
 }

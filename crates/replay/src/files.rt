@@ -1,7 +1,7 @@
 //! Keys and documents in files.
 
 use crate::calls::{Outcome, sum_of, tried};
-use crate::keys::{Copied, der_failed, failed, pattern};
+use crate::keys::{Copied, of_der, of_der_written, of_key, of_written, pattern};
 use crate::streams::error_name;
 use crate::words::{number, word};
 use sec1::der::SecretDocument;
@@ -90,29 +90,25 @@ pub fn answer<H: Files>(rt: &H, alloc: Global, rest: &[u8]) -> Result<String, Al
     let key = Copied {
         bytes: Vec::from_slice(alloc, document.as_bytes())?,
     };
-    let wrote = tried(alloc, "write_sec1_der_file", || {
-        match key.write_sec1_der_file(rt, alloc, path) {
-            Ok(()) => Outcome::Bytes(0, 0),
-            Err(error) => failed(error),
-        }
-    })?;
-    let read = tried(alloc, "read_sec1_der_file", || {
-        match Copied::read_sec1_der_file(rt, alloc, path) {
-            Ok(key) => sum_of(&key.bytes),
-            Err(error) => failed(error),
-        }
-    })?;
-    let put = tried(alloc, "write_der_file", || {
-        match document.write_der_file(rt, path) {
-            Ok(()) => Outcome::Bytes(0, 0),
-            Err(error) => der_failed(error),
-        }
-    })?;
-    let got = tried(alloc, "read_der_file", || {
-        match SecretDocument::read_der_file(rt, alloc, path) {
-            Ok(document) => sum_of(document.as_bytes()),
-            Err(error) => der_failed(error),
-        }
-    })?;
+    let wrote = tried(
+        alloc,
+        "write_sec1_der_file",
+        || of_written(key.write_sec1_der_file(rt, alloc, path)),
+    )?;
+    let read = tried(
+        alloc,
+        "read_sec1_der_file",
+        || of_key(Copied::read_sec1_der_file(rt, alloc, path)),
+    )?;
+    let put = tried(
+        alloc,
+        "write_der_file",
+        || of_der_written(document.write_der_file(rt, path)),
+    )?;
+    let got = tried(
+        alloc,
+        "read_der_file",
+        || of_der(SecretDocument::read_der_file(rt, alloc, path)),
+    )?;
     format!(in alloc; "file{wrote}{read}{put}{got}")
 }

@@ -37,7 +37,7 @@ impl EncodeEcPrivateKey for Copied {
 }
 
 /// Returns what a call gave that has an error.
-pub fn failed(error: Error) -> Outcome {
+fn failed(error: Error) -> Outcome {
     match error {
         Error::Memory => Outcome::Memory,
         _ => Outcome::Other,
@@ -45,10 +45,58 @@ pub fn failed(error: Error) -> Outcome {
 }
 
 /// Returns what a call on DER gave that has an error.
-pub fn der_failed(error: sec1::der::Error) -> Outcome {
+fn der_failed(error: sec1::der::Error) -> Outcome {
     match error.kind {
         ErrorKind::Memory => Outcome::Memory,
         _ => Outcome::Other,
+    }
+}
+
+/// Returns what a call gave that makes bytes.
+pub fn of_bytes(res: sec1::Result<Vec<u8>>) -> Outcome {
+    match res {
+        Ok(bytes) => sum_of(&bytes),
+        Err(error) => failed(error),
+    }
+}
+
+/// Returns what a call gave that makes a document.
+pub fn of_document(res: sec1::Result<SecretDocument>) -> Outcome {
+    match res {
+        Ok(document) => sum_of(document.as_bytes()),
+        Err(error) => failed(error),
+    }
+}
+
+/// Returns what a call on DER gave that makes a document.
+pub fn of_der(res: sec1::der::Result<SecretDocument>) -> Outcome {
+    match res {
+        Ok(document) => sum_of(document.as_bytes()),
+        Err(error) => der_failed(error),
+    }
+}
+
+/// Returns what a call gave that reads a key.
+pub fn of_key(res: sec1::Result<Copied>) -> Outcome {
+    match res {
+        Ok(key) => sum_of(&key.bytes),
+        Err(error) => failed(error),
+    }
+}
+
+/// Returns what a call gave that writes a key.
+pub fn of_written(res: sec1::Result<()>) -> Outcome {
+    match res {
+        Ok(()) => Outcome::Bytes(0, 0),
+        Err(error) => failed(error),
+    }
+}
+
+/// Returns what a call on DER gave that writes a document.
+pub fn of_der_written(res: sec1::der::Result<()>) -> Outcome {
+    match res {
+        Ok(()) => Outcome::Bytes(0, 0),
+        Err(error) => der_failed(error),
     }
 }
 
@@ -63,33 +111,25 @@ pub fn pattern(alloc: Global, len: usize) -> Result<Vec<u8>, AllocError> {
 
 /// Returns the document of the key's clone.
 fn cloned_document(alloc: Global, key: &EcPrivateKey) -> Outcome {
-    let Ok(clone) = key.clone() else {
-        return Outcome::Memory;
-    };
-    match clone.document(alloc) {
-        Ok(document) => sum_of(document.as_bytes()),
-        Err(error) => failed(error),
+    match key.clone() {
+        Ok(clone) => of_document(clone.document(alloc)),
+        Err(_) => Outcome::Memory,
     }
 }
 
 /// Returns the ends of the calls of the key alone.
 fn ends(alloc: Global, key: &EcPrivateKey) -> Result<String, AllocError> {
-    let der = tried(alloc, "to_der", || match key.to_der(alloc) {
-        Ok(der) => sum_of(&der),
-        Err(error) => failed(error),
-    })?;
-    let borrowed = tried(alloc, "document_ref", || match key.document_ref(alloc) {
-        Ok(document) => sum_of(document.as_bytes()),
-        Err(error) => failed(error),
-    })?;
+    let der = tried(alloc, "to_der", || of_bytes(key.to_der(alloc)))?;
+    let borrowed = tried(
+        alloc,
+        "document_ref",
+        || of_document(key.document_ref(alloc)),
+    )?;
     let cloned = tried(alloc, "document", || cloned_document(alloc, key))?;
     let encoded = tried(
         alloc,
         "encode_msg",
-        || match SecretDocument::encode_msg(alloc, key) {
-            Ok(document) => sum_of(document.as_bytes()),
-            Err(error) => der_failed(error),
-        },
+        || of_der(SecretDocument::encode_msg(alloc, key)),
     )?;
     format!(in alloc; "{der}{borrowed}{cloned}{encoded}")
 }
@@ -97,10 +137,13 @@ fn ends(alloc: Global, key: &EcPrivateKey) -> Result<String, AllocError> {
 /// Returns what is read from this reader, and what is left in it.
 fn read_document(alloc: Global, bytes: &[u8]) -> Outcome {
     let mut reader = StdReader::new(bytes);
-    match SecretDocument::read_der_from(alloc, &mut reader) {
-        Ok(document) => sum_of(document.as_bytes()),
-        Err(error) => der_failed(error),
-    }
+    of_der(SecretDocument::read_der_from(alloc, &mut reader))
+}
+
+/// Returns what is read as a key from these bytes by a reader.
+fn read_key(alloc: Global, bytes: &[u8]) -> Outcome {
+    let mut reader = StdReader::new(bytes);
+    of_key(Copied::read_sec1_der_from(alloc, &mut reader))
 }
 
 /// Returns the ends of the calls that read these bytes.
@@ -108,26 +151,15 @@ fn read_ends(alloc: Global, bytes: &[u8]) -> Result<String, AllocError> {
     let taken = tried(
         alloc,
         "from_der",
-        || match SecretDocument::from_der(alloc, bytes) {
-            Ok(document) => sum_of(document.as_bytes()),
-            Err(error) => der_failed(error),
-        },
+        || of_der(SecretDocument::from_der(alloc, bytes)),
     )?;
     let read = tried(alloc, "read_der_from", || read_document(alloc, bytes))?;
     let copied = tried(
         alloc,
         "from_sec1_der",
-        || match Copied::from_sec1_der(alloc, bytes) {
-            Ok(key) => sum_of(&key.bytes),
-            Err(error) => failed(error),
-        },
+        || of_key(Copied::from_sec1_der(alloc, bytes)),
     )?;
-    let streamed = tried(alloc, "read_sec1_der_from", || {
-        match Copied::read_sec1_der_from(alloc, &mut StdReader::new(bytes)) {
-            Ok(key) => sum_of(&key.bytes),
-            Err(error) => failed(error),
-        }
-    })?;
+    let streamed = tried(alloc, "read_sec1_der_from", || read_key(alloc, bytes))?;
     format!(in alloc; "{taken}{read}{copied}{streamed}")
 }
 
@@ -148,10 +180,7 @@ fn write_ends(alloc: Global, bytes: &[u8]) -> Result<String, AllocError> {
     let key = Copied {
         bytes: Vec::from_slice(alloc, bytes)?,
     };
-    let document = tried(alloc, "to_sec1_der", || match key.to_sec1_der(alloc) {
-        Ok(document) => sum_of(document.as_bytes()),
-        Err(error) => failed(error),
-    })?;
+    let document = tried(alloc, "to_sec1_der", || of_document(key.to_sec1_der(alloc)))?;
     let mut room = Vec::from_slice(alloc, bytes)?;
     let streamed = tried(
         alloc,
@@ -161,34 +190,57 @@ fn write_ends(alloc: Global, bytes: &[u8]) -> Result<String, AllocError> {
     format!(in alloc; "{document}{streamed}")
 }
 
-/// Returns the curve whose identifier has this content.
-pub fn curve_of(content: &[u8]) -> Option<EcParameters> {
-    match ObjectIdentifier::from_bytes(content) {
-        Ok(curve) => Some(EcParameters::NamedCurve(curve)),
-        Err(_) => None,
+/// The parts of a key that a line describes.
+#[derive(Drop)]
+pub struct Described {
+    private_key: Vec<u8>,
+    parameters: Option<EcParameters>,
+    public_key: Option<Vec<u8>>,
+}
+
+impl Described {
+    /// Returns what a line describes: by the length of the private key, the content of the curve's
+    /// identifier and the length of the public key, the last two `-` if absent.
+    pub fn read(alloc: Global, line: &[u8]) -> Result<Described, AllocError> {
+        let (private_len, rest) = word(line);
+        let (curve, rest) = word(rest);
+        let (public_len, _) = word(rest);
+        Ok(Described {
+            private_key: pattern(alloc, number(private_len))?,
+            parameters: curve_of(alloc, curve),
+            public_key: public_key_of(alloc, public_len)?,
+        })
     }
+
+    /// Returns the key.
+    pub fn key(&self) -> EcPrivateKey<'_> {
+        EcPrivateKey {
+            private_key: &self.private_key,
+            parameters: self.parameters,
+            public_key: self.public_key.as_deref(),
+        }
+    }
+}
+
+/// Returns the curve whose identifier has this content, in hexadecimal.
+fn curve_of(alloc: Global, digits: &[u8]) -> Option<EcParameters> {
+    let content = hex::decode(alloc, digits).ok()?;
+    let curve = ObjectIdentifier::from_bytes(&content).ok()?;
+    Some(EcParameters::NamedCurve(curve))
+}
+
+/// Returns a public key of this length, or `None` of `-`.
+fn public_key_of(alloc: Global, len: &[u8]) -> Result<Option<Vec<u8>>, AllocError> {
+    if len == b"-".as_slice() {
+        return Ok(None);
+    }
+    Ok(Some(pattern(alloc, number(len))?))
 }
 
 /// Returns the line for a key.
 pub fn answer(alloc: Global, rest: &[u8]) -> Result<String, AllocError> {
-    let (private_len, rest) = word(rest);
-    let (curve, rest) = word(rest);
-    let (public_len, _) = word(rest);
-    let private_key = pattern(alloc, number(private_len))?;
-    let public_key = pattern(alloc, number(public_len))?;
-    let parameters = match hex::decode(alloc, curve) {
-        Ok(content) => curve_of(&content),
-        Err(_) => None,
-    };
-    let key = EcPrivateKey {
-        private_key: &private_key,
-        parameters,
-        public_key: if public_len == b"-".as_slice() {
-            None
-        } else {
-            Some(&public_key)
-        },
-    };
+    let described = Described::read(alloc, rest)?;
+    let key = described.key();
     let ends = ends(alloc, &key)?;
     let Ok(der) = key.to_der(alloc) else {
         return "not written".to_string(alloc);

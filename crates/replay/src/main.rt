@@ -64,12 +64,17 @@ fn answer<H: Files>(rt: &H, alloc: Global, line: &str) -> Result<String, AllocEr
     }
 }
 
+/// Prints the line for this one, unless it begins with `#`.
+fn print(rt: &HostRuntime, line: &str) -> io::Result<()> {
+    if line.starts_with('#') {
+        return Ok(());
+    }
+    println!(rt; "{}", answer(rt, rt.alloc(), line)?)
+}
+
 fn main(rt: HostRuntime) -> io::Result<()> {
     for line in BufReader::new(rt.alloc(), rt.reader())?.lines(rt.alloc()) {
-        let line = line?;
-        if !line.starts_with('#') {
-            println!(&rt; "{}", answer(&rt, rt.alloc(), &line)?)?;
-        }
+        print(&rt, &line?)?;
     }
     Ok(())
 }

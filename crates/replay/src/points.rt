@@ -16,6 +16,23 @@ fn failed(error: Error) -> Outcome {
     }
 }
 
+/// Returns what a call gave that makes a text.
+fn of_text(res: sec1::Result<String>) -> Outcome {
+    match res {
+        Ok(text) => sum_of(text.as_bytes()),
+        Err(error) => failed(error),
+    }
+}
+
+/// Returns what a call gave that makes a value of JSON.
+fn of_json(res: sec1::Result<Value>) -> Outcome {
+    match res {
+        Ok(Value::String(text)) => sum_of(text.as_bytes()),
+        Ok(_) => Outcome::Other,
+        Err(error) => failed(error),
+    }
+}
+
 /// Returns the ends of the calls of this point.
 fn ends<const N: usize, const L: usize>(
     alloc: Global,
@@ -28,19 +45,9 @@ fn ends<const N: usize, const L: usize>(
         Ok(bytes) => sum_of(bytes.as_slice()),
         Err(error) => failed(error),
     })?;
-    let lower = tried(alloc, "to_lower_hex", || match point.to_lower_hex(alloc) {
-        Ok(text) => sum_of(text.as_bytes()),
-        Err(error) => failed(error),
-    })?;
-    let upper = tried(alloc, "to_upper_hex", || match point.to_upper_hex(alloc) {
-        Ok(text) => sum_of(text.as_bytes()),
-        Err(error) => failed(error),
-    })?;
-    let json = tried(alloc, "to_json", || match point.to_json(alloc) {
-        Ok(Value::String(text)) => sum_of(text.as_bytes()),
-        Ok(_) => Outcome::Other,
-        Err(error) => failed(error),
-    })?;
+    let lower = tried(alloc, "to_lower_hex", || of_text(point.to_lower_hex(alloc)))?;
+    let upper = tried(alloc, "to_upper_hex", || of_text(point.to_upper_hex(alloc)))?;
+    let json = tried(alloc, "to_json", || of_json(point.to_json(alloc)))?;
     let shown = tried(alloc, "Display", || match format!(in alloc; "{point}") {
         Ok(text) => sum_of(text.as_bytes()),
         Err(_) => Outcome::Memory,

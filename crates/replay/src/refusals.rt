@@ -39,22 +39,33 @@ fn end<T: Drop>(alloc: Global, res: sec1::Result<T>) -> Result<String, AllocErro
     }
 }
 
-/// Returns the line for this key type over memory, a stream and the file at this path.
-pub fn answer<H: Files>(rt: &H, alloc: Global, rest: &[u8]) -> Result<String, AllocError> {
-    let Ok(path) = str::from_utf8(rest) else {
-        return "not a text".to_string(alloc);
-    };
+/// Returns how it is read from memory and from streams.
+fn read(alloc: Global) -> Result<String, AllocError> {
     let from = end(alloc, Refused::from_sec1_der(alloc, b"\x04\x01\xAA"))?;
     let mut reader = StdReader::new(b"\x04\x01\xAA".as_slice());
     let read = end(alloc, Refused::read_sec1_der_from(alloc, &mut reader))?;
     let left = reader.into_inner().len();
     let mut reader = StdReader::new(b"\x04\x02\xAA".as_slice());
     let short = end(alloc, Refused::read_sec1_der_from(alloc, &mut reader))?;
-    let file = end(alloc, Refused::read_sec1_der_file(rt, alloc, path))?;
+    format!(in alloc; "{from} {read} {left} {short}")
+}
+
+/// Returns how it is written into memory and into a stream.
+fn written(alloc: Global) -> Result<String, AllocError> {
     let to = end(alloc, Refused.to_sec1_der(alloc))?;
     let mut writer = StdWriter::new(Vec::new(alloc));
     let written = end(alloc, Refused.write_sec1_der_to(alloc, &mut writer))?;
-    let taken = writer.into_inner().len();
+    format!(in alloc; "{to} {written} {}", writer.into_inner().len())
+}
+
+/// Returns the line for this key type over memory, a stream and the file at this path.
+pub fn answer<H: Files>(rt: &H, alloc: Global, rest: &[u8]) -> Result<String, AllocError> {
+    let Ok(path) = str::from_utf8(rest) else {
+        return "not a text".to_string(alloc);
+    };
+    let read = read(alloc)?;
+    let file = end(alloc, Refused::read_sec1_der_file(rt, alloc, path))?;
+    let written = written(alloc)?;
     let filed = end(alloc, Refused.write_sec1_der_file(rt, alloc, path))?;
-    format!(in alloc; "refuse {from} {read} {left} {short} {file} {to} {written} {taken} {filed}")
+    format!(in alloc; "refuse {read} {file} {written} {filed}")
 }

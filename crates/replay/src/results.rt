@@ -67,6 +67,16 @@ pub fn document(alloc: Global, rest: &[u8]) -> Result<String, AllocError> {
     }
 }
 
+/// Returns how each call of a reader ends.
+fn ends(alloc: Global, reader: &mut SliceReader, one: Length) -> Result<String, AllocError> {
+    let string = end(alloc, reader.decode::<OctetStringRef>())?;
+    let field = end(alloc, reader.context_specific::<OctetStringRef>(0))?;
+    let slice = end(alloc, reader.read_slice(one))?;
+    let nested = end(alloc, reader.read_nested(one))?;
+    let finished = end(alloc, reader.finish())?;
+    format!(in alloc; "{string} {field} {slice} {nested} {finished}")
+}
+
 /// Returns the line for a reader over these bytes that reads an octet string, and of which each
 /// other call is made then.
 pub fn failed(alloc: Global, rest: &[u8]) -> Result<String, AllocError> {
@@ -81,15 +91,9 @@ pub fn failed(alloc: Global, rest: &[u8]) -> Result<String, AllocError> {
     let is_failed = reader.is_failed();
     let left = reader.remaining_len();
     let peeked = reader.peek_tag_byte();
-    let again = end(alloc, reader.decode::<OctetStringRef>())?;
-    let field = end(alloc, reader.context_specific::<OctetStringRef>(0))?;
-    let slice = end(alloc, reader.read_slice(one))?;
-    let nested = end(alloc, reader.read_nested(one))?;
-    let finished = end(alloc, reader.finish())?;
+    let ends = ends(alloc, &mut reader, one)?;
     let same = reader.remaining_len() == left;
-    format!(in alloc;
-        "failed {first} {is_failed} {peeked:?} {again} {field} {slice} {nested} {finished} {same}"
-    )
+    format!(in alloc; "failed {first} {is_failed} {peeked:?} {ends} {same}")
 }
 
 /// Returns the digits of a coordinate, or `none`.

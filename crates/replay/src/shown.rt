@@ -2,30 +2,15 @@
 ghost use Rattle.std.specs.Prelude.{◌<◌, ◌^◌};
 ghost use Rattle.sec1.specs.Points.{Fits};
 
-use crate::keys::{curve_of, pattern};
+use crate::keys::Described;
 use crate::words::{number, word};
 use sec1::{EcPrivateKey, EncodedPoint};
 use std::alloc::{AllocError, Global};
 
 /// Returns the line for the texts of a key and of its document, in hexadecimal.
 pub fn key(alloc: Global, rest: &[u8]) -> Result<String, AllocError> {
-    let (private_len, rest) = word(rest);
-    let (curve, public_len) = word(rest);
-    let private_key = pattern(alloc, number(private_len))?;
-    let public_key = pattern(alloc, number(public_len))?;
-    let parameters = match hex::decode(alloc, curve) {
-        Ok(content) => curve_of(&content),
-        Err(_) => None,
-    };
-    let key = EcPrivateKey {
-        private_key: &private_key,
-        parameters,
-        public_key: if public_len == b"-".as_slice() {
-            None
-        } else {
-            Some(&public_key)
-        },
-    };
+    let described = Described::read(alloc, rest)?;
+    let key = described.key();
     let Ok(document) = key.document_ref(alloc) else {
         return "not written".to_string(alloc);
     };
@@ -43,28 +28,12 @@ fn styled(alloc: Global, key: &EcPrivateKey) -> Result<String, AllocError> {
 /// Returns the line for the texts of a key by options: whether they are those of a key that has no
 /// private bytes, and is the same otherwise.
 pub fn hidden(alloc: Global, rest: &[u8]) -> Result<String, AllocError> {
-    let (private_len, rest) = word(rest);
-    let (curve, public_len) = word(rest);
-    let private_key = pattern(alloc, number(private_len))?;
-    let public_key = pattern(alloc, number(public_len))?;
-    let parameters = match hex::decode(alloc, curve) {
-        Ok(content) => curve_of(&content),
-        Err(_) => None,
-    };
-    let public_key = if public_len == b"-".as_slice() {
-        None
-    } else {
-        Some(public_key.as_slice())
-    };
-    let key = EcPrivateKey {
-        private_key: &private_key,
-        parameters,
-        public_key,
-    };
+    let described = Described::read(alloc, rest)?;
+    let key = described.key();
     let other = EcPrivateKey {
         private_key: b"",
-        parameters,
-        public_key,
+        parameters: key.parameters,
+        public_key: key.public_key,
     };
     let is_same = styled(alloc, &key)? == styled(alloc, &other)?;
     format!(in alloc; "hidden {is_same}")

@@ -36,6 +36,16 @@ fn written_key(alloc: Global, key: &EcPrivateKey, bytes: &[u8]) -> &'static str 
     }
 }
 
+/// Returns the line for a structure with these fields.
+fn line<T: EncodeValue + Tagged>(
+    alloc: Global,
+    fields: Result<String, AllocError>,
+    value: &T,
+    bytes: &[u8],
+) -> Result<String, AllocError> {
+    format!(in alloc; "{} {}", fields?, written(alloc, value, bytes))
+}
+
 /// Returns the line for a structure that is refused.
 fn refused(alloc: Global, kind: ErrorKind) -> Result<String, AllocError> {
     format!(in alloc; "refused: {kind:?}")
@@ -56,11 +66,7 @@ fn ec_private_key_line(alloc: Global, bytes: &[u8]) -> Result<String, AllocError
 /// Returns the line for a certificate.
 fn certificate_line(alloc: Global, bytes: &[u8]) -> Result<String, AllocError> {
     match Certificate::from_der(bytes) {
-        Ok(value) => {
-            let fields = certificate(alloc, &value)?;
-            let written = written(alloc, &value, bytes);
-            format!(in alloc; "{fields} {written}")
-        }
+        Ok(value) => line(alloc, certificate(alloc, &value), &value, bytes),
         Err(e) => refused(alloc, e.kind),
     }
 }
@@ -68,11 +74,7 @@ fn certificate_line(alloc: Global, bytes: &[u8]) -> Result<String, AllocError> {
 /// Returns the line for a public key.
 fn public_key_line(alloc: Global, bytes: &[u8]) -> Result<String, AllocError> {
     match SubjectPublicKeyInfo::from_der(bytes) {
-        Ok(value) => {
-            let fields = public_key_info(alloc, &value)?;
-            let written = written(alloc, &value, bytes);
-            format!(in alloc; "{fields} {written}")
-        }
+        Ok(value) => line(alloc, public_key_info(alloc, &value), &value, bytes),
         Err(e) => refused(alloc, e.kind),
     }
 }
@@ -80,11 +82,7 @@ fn public_key_line(alloc: Global, bytes: &[u8]) -> Result<String, AllocError> {
 /// Returns the line for a container of a private key, of version 0 or 1.
 fn private_key_line(alloc: Global, bytes: &[u8]) -> Result<String, AllocError> {
     match PrivateKeyInfo::from_der(bytes) {
-        Ok(value) => {
-            let fields = private_key_info(alloc, &value)?;
-            let written = written(alloc, &value, bytes);
-            format!(in alloc; "{fields} {written}")
-        }
+        Ok(value) => line(alloc, private_key_info(alloc, &value), &value, bytes),
         // The version is the first value, and one of another version is refused as Value.
         Err(e) if e.kind == ErrorKind::Value => one_asymmetric_key_line(alloc, bytes),
         Err(e) => refused(alloc, e.kind),
@@ -94,11 +92,7 @@ fn private_key_line(alloc: Global, bytes: &[u8]) -> Result<String, AllocError> {
 /// Returns the line for a container of version 1.
 fn one_asymmetric_key_line(alloc: Global, bytes: &[u8]) -> Result<String, AllocError> {
     match OneAsymmetricKey::from_der(bytes) {
-        Ok(value) => {
-            let fields = one_asymmetric_key(alloc, &value)?;
-            let written = written(alloc, &value, bytes);
-            format!(in alloc; "{fields} {written}")
-        }
+        Ok(value) => line(alloc, one_asymmetric_key(alloc, &value), &value, bytes),
         Err(e) => refused(alloc, e.kind),
     }
 }
@@ -106,11 +100,7 @@ fn one_asymmetric_key_line(alloc: Global, bytes: &[u8]) -> Result<String, AllocE
 /// Returns the line for a signature.
 fn signature_line(alloc: Global, bytes: &[u8]) -> Result<String, AllocError> {
     match EcdsaSigValue::from_der(bytes) {
-        Ok(value) => {
-            let fields = signature(alloc, &value)?;
-            let written = written(alloc, &value, bytes);
-            format!(in alloc; "{fields} {written}")
-        }
+        Ok(value) => line(alloc, signature(alloc, &value), &value, bytes),
         Err(e) => refused(alloc, e.kind),
     }
 }
