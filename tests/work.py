@@ -41,14 +41,20 @@ SECONDS = 15
 START = time.monotonic()
 
 
+PROCESSORS = len(os.sched_getaffinity(0))
+
+
 def jobs():
     """Returns how many processors to use."""
-    found = len(os.sched_getaffinity(0))
+    return int(os.environ.get("JOBS") or max(1, min(PROCESSORS, memory_for())))
+
+
+def memory_for():
+    """Returns for how many checks there is memory; if that isn't known, for one a processor."""
     with contextlib.suppress(OSError, TypeError):
         free = int(re.search(r"MemAvailable:\s+(\d+)", Path("/proc/meminfo").read_text())[1])
-        each = 2 * MEMORY if os.environ.get("BESIDE") else MEMORY
-        found = max(1, min(found, free // each))
-    return int(os.environ.get("JOBS") or found)
+        return free // (2 * MEMORY if os.environ.get("BESIDE") else MEMORY)
+    return PROCESSORS
 
 
 def say(text):
@@ -164,8 +170,8 @@ def files_of(folder):
 
 
 def tell_done(name):
-    """Tells ./test that a crate is done with, proved or not."""
-    if os.environ.get("DONE"):
+    """Tells ./test that a crate is done with, proved or not; nothing where all was ended."""
+    if os.environ.get("DONE") and not stopped.is_set():
         (Path(os.environ["DONE"]) / name).touch()
 
 
@@ -246,6 +252,8 @@ def outs(crate):
 # ---- commands
 
 running, stopped = set(), threading.Event()
+# Where a task gives way to others, what its commands begin with.
+way = threading.local()
 
 
 def run_in(folder, command, given=None, env=None, see=None, seconds=None):
@@ -254,8 +262,9 @@ def run_in(folder, command, given=None, env=None, see=None, seconds=None):
     seconds is killed, and TimeoutExpired is raised."""
     how = {"stdin": subprocess.DEVNULL if given is None else subprocess.PIPE}
     how.update(stdout=subprocess.PIPE, cwd=folder, env=env)
+    whole = [*getattr(way, "given", ()), *command]
     with tempfile.TemporaryFile() as errors:
-        with subprocess.Popen(command, stderr=errors, **how) as process:
+        with subprocess.Popen(whole, stderr=errors, **how) as process:
             running.add(process)
             if stopped.is_set():
                 process.terminate()
@@ -323,10 +332,18 @@ def share(free, others, is_longest):
     return 2 if is_longest and free > 1 else 1
 
 
+def call(task, ended, given, is_first):
+    """Runs a task, which gives way to another unless it is the first."""
+    way.given = () if is_first else ("nice", "-n", "5")
+    return task.call(ended, given)
+
+
 def run_all(tasks, number):
     """Runs tasks over a number of processors, those of the longest chain first, and returns what
-    each returned, by key."""
-    chains, left, ended, now = chains_of(tasks), dict(tasks), {}, {}
+    each returned, by key. One of the longest chain takes all processors that it can use, where there
+    is memory for it beside the others, which take what it leaves."""
+    chains, left, ended, now, first = chains_of(tasks), dict(tasks), {}, {}, None
+    most = min(number, memory_for() - number)
     with ThreadPoolExecutor(number) as pool:
         while left or now:
             ready = [key for key, it in left.items() if all(use in ended for use in it.waits)]
@@ -336,12 +353,17 @@ def run_all(tasks, number):
                 if free < 1 or stopped.is_set():
                     break
                 work = sum(it.weight for it in left.values()) / number
-                given = share(free, len(ready) - place - 1, chains[key] > work)
-                now[pool.submit(left.pop(key).call, ended, given)] = key, given
+                is_longest = chains[key] > work
+                given = used = share(free, len(ready) - place - 1, is_longest)
+                if is_longest and first is None:
+                    first, used = key, max(given, most)
+                now[pool.submit(call, left.pop(key), ended, used, key == first)] = key, given
             if stopped.is_set() and not now:
                 break
             for it in wait(now, return_when=FIRST_COMPLETED).done:
-                ended[now.pop(it)[0]] = it.result()
+                key, _ = now.pop(it)
+                ended[key] = it.result()
+                first = None if key == first else first
     return ended
 
 
