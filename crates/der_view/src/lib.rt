@@ -40,7 +40,4 @@ pub use row::{Kind, OpenRow, Point, Shown};
 pub use rows::Rows;
 pub use text::{Block, Encoding, Found, Note, Source, Sources, room_len};
 pub use universal::universal_name;
-pub use values::{Arcs, Characters, ShortText, Value, value_of};
-
-#[cfg(test)]
-mod tests;
+pub use values::{Arcs, Characters, ShortText, Value, content_fault, value_of};

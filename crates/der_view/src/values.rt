@@ -19,7 +19,7 @@ use crate::names::{Name, name_of};
 pub use arcs::Arcs;
 pub use characters::Characters;
 use der_types::kind::{GeneralizedTime, Kind, UtcTime, VisibleString};
-pub(crate) use faults::content_fault;
+pub use faults::content_fault;
 pub use short::ShortText;
 
 /// What is shown of the content of a primitive element.

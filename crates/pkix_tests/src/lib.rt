@@ -1,5 +1,5 @@
-//! Tests of `der_types`, `curves`, `pkix` and `der_view::faults` by their public calls, with values
-//! from outside.
+//! Tests of `der_types`, `curves`, `pkix` and `der_view` by their public calls, with values from
+//! outside.
 //!
 //! [`equality`] has what is proved of `==` and `clone`, and [`checks`] worked examples.
 //!
@@ -24,7 +24,11 @@ mod printing;
 #[cfg(test)]
 mod round_trips;
 #[cfg(test)]
+mod rows;
+#[cfg(test)]
 mod sets;
+#[cfg(test)]
+mod values;
 #[cfg(test)]
 mod writing;
 

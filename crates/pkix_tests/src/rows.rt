@@ -1,6 +1,7 @@
 //! Rows counted by hand in bytes that OpenSSL 3.0.19 made, and in short ones.
 
-use crate::rows::Rows;
+use super::{assert_equal, assert_equal_for};
+use der_view::Rows;
 
 /// A key on P-256 of 32 bytes, with its curve and no public key.
 static KEY: [u8; 51] = [
@@ -37,9 +38,9 @@ fn next_numbers(rows: &mut Rows) -> Option<((usize, usize, usize, usize, usize),
 fn draws_a_key(rt: HostRuntime) {
     let mut rows = Rows::new(&KEY, true);
     for &wanted in KEY_ROWS.iter() {
-        assert_eq!(rt; next_numbers(&mut rows), Some((wanted, true)));
+        assert_equal(&rt, &next_numbers(&mut rows), &Some((wanted, true)));
     }
-    assert_eq!(rt; next_numbers(&mut rows), None);
+    assert_equal(&rt, &next_numbers(&mut rows), &None);
 }
 
 /// Returns the number of rows of these bytes.
@@ -72,6 +73,6 @@ static COUNTS: [(&[u8], usize); 9] = [
 #[test]
 fn draws_what_is_no_element(rt: HostRuntime) {
     for &(bytes, count) in COUNTS.iter() {
-        assert_eq!(rt; count_rows(bytes), count, "of {bytes:?}");
+        assert_equal_for(&rt, &bytes, &count_rows(bytes), &count);
     }
 }

@@ -1,12 +1,6 @@
-//! Tests of rows, and of what is printed of contents.
-
-mod rows;
-
-use crate::header::{Class, Tag};
-use crate::line::Line;
-use crate::mark::ContentFault;
-use crate::universal::universal_name;
-use crate::values::{content_fault, value_of};
+//! Tests of what a picture prints of contents, and of what is wrong with them.
+use super::{assert_equal, assert_equal_for};
+use der_view::{Class, ContentFault, Line, Tag, content_fault, universal_name, value_of};
 use std::process::Abort;
 use std::test::Fail;
 
@@ -221,7 +215,8 @@ fn assert_shown(rt: &impl Abort, tag: Tag, content: &[u8], expected: &str) {
     line.push_type(tag);
     line.push_value(&value_of(tag, content));
     line.finish();
-    assert_eq!(rt; str::from_utf8(line.as_bytes()).unwrap_or(""), expected);
+    let shown = str::from_utf8(line.as_bytes()).unwrap_or("");
+    assert_equal(rt, &shown, &expected);
 }
 
 #[test]
@@ -240,7 +235,7 @@ fn prints_values(rt: HostRuntime) -> Result<(), Fail> {
         assert_shown(&rt, tag, &content, expected);
         count = count.saturating_add(1);
     }
-    assert_eq!(rt; count, 184);
+    assert_equal(&rt, &count, &184);
     Ok(())
 }
 
@@ -257,8 +252,7 @@ fn assert_cut(rt: &impl Abort, count: usize, expected: usize, end: &str) {
     line.push_value(&value_of(tag, &content[..count.min(300)]));
     line.finish();
     let shown = str::from_utf8(line.as_bytes()).unwrap_or("");
-    assert_eq!(rt; shown.len(), expected);
-    assert!(rt; shown.ends_with(end));
+    assert_equal(rt, &(shown.len(), shown.ends_with(end)), &(expected, true));
 }
 
 #[test]
@@ -400,9 +394,9 @@ fn finds_faults_of_contents(rt: HostRuntime) -> Result<(), Fail> {
         let (content, expected) = rest.split_once(' ').ok_or("content")?;
         let content = hex::decode(rt.alloc(), content)?;
         let fault = content_fault(number.parse::<u32>()?, &content);
-        assert_eq!(rt; word_of(fault), expected, "{row}");
+        assert_equal_for(&rt, &row, &word_of(fault), &expected);
         count = count.saturating_add(1);
     }
-    assert_eq!(rt; count, 97);
+    assert_equal(&rt, &count, &97);
     Ok(())
 }

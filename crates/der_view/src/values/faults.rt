@@ -9,7 +9,7 @@ use der_types::kind::{GeneralizedTime, Integer, Kind, ObjectIdentifier, UtcTime}
 
 /// Returns what is wrong with the content of a primitive element whose tag is that of the type of
 /// X.680 with this number; `None` if nothing is.
-pub(crate) fn content_fault(number: u32, content: &[u8]) -> Option<ContentFault>
+pub fn content_fault(number: u32, content: &[u8]) -> Option<ContentFault>
     ensures { result ≡ content_fault number content.now }
 {
     match number {
