@@ -37,3 +37,4 @@ pub mod ValueLemmas
 pub mod VerdictLemmas
 pub mod WholeLemmas
 pub mod WithinLemmas
+pub mod WordLemmas

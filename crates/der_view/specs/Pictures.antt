@@ -32,7 +32,7 @@ content_text count (byte ∷ bytes) = content_piece count byte ++ content_text (
 -- the line of a mark, if there is one
 abbrev pub mark_text : Option Mark → List ℕ
 mark_text None = []
-mark_text (Some mark) = shown (codes "     ^ " ++ mark_words mark) ++ codes "\n"
+mark_text (Some mark) = codes "     ^ " ++ (mark_words mark ++ codes "\n")
 
 -- the lines of a row: its own, those of its content if that is shown, and its marks
 abbrev pub row_text : OpenRow → List ℕ

@@ -1,5 +1,6 @@
 //! What is marked below a row: a rule of X.690 that is broken there, or what a key has there.
-ghost use Rattle.std.specs.Prelude.{◌≡◌, ◌≢◌, ◌++◌, ℕ, option_map, is_none};
+ghost use Rattle.std.specs.Prelude.{◌≡◌, ◌≢◌, ◌≤◌, ◌++◌, ℕ, length, option_map, is_none};
+ghost use Rattle.std.specs.Str.{IsAscii};
 ghost use Rattle.der_view.specs.Lines.{kept};
 ghost use Rattle.der_view.specs.Marks.{content_words, element_words, mark_kind};
 ghost use Rattle.der_view.specs.Marks.{first_mark, mark_part, mark_words, marks_with, part_name};
@@ -177,7 +178,9 @@ fn part_name(part: Part) -> &'static str
 impl Line {
     /// Appends the words of a mark.
     pub fn push_mark(&mut self, mark: Mark)
-        ensures { self.new ≡ kept (self.old ++ mark_words mark) }
+        ensures text { self.new ≡ kept (self.old ++ mark_words mark) }
+        ensures short { length (mark_words mark) ≤ 93 }
+        ensures ascii { IsAscii (mark_words mark) }
     {
         match mark {
             Mark::Missing { missing, announced } => {

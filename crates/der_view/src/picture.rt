@@ -249,7 +249,8 @@ fn write_mark<W: Output>(writer: &mut W, mark: Option<Mark>) -> Result<(), W::Er
 
 /// Returns the line of a mark.
 fn mark_line(mark: Mark) -> Line
-    ensures { result ≡ kept (codes "     ^ " ++ mark_words mark) }
+    ensures text { result ≡ codes "     ^ " ++ mark_words mark }
+    ensures short { length result ≤ 100 }
 {
     let mut line = Line::new();
     line.push_str("     ^ ");

@@ -1,6 +1,7 @@
 //! The line of a row.
 ghost use Rattle.std.specs.Prelude.{◌≡◌, ◌≤◌, ◌+◌, ◌-◌, ◌*◌, ◌++◌, length, max, option_map};
 ghost use Rattle.std.specs.Fmt.{decimal};
+ghost use Rattle.std.specs.Str.{IsAscii};
 ghost use Rattle.der_view.specs.Lines.{kept};
 ghost use Rattle.der_view.specs.RowLines.{bit_count, byte_word, bytes_text, columns, count_of};
 ghost use Rattle.der_view.specs.RowLines.{field_if, field_note, hex_words, indent, label_by};
@@ -251,7 +252,9 @@ impl Line {
 
     /// Appends the form and the size of a point.
     pub fn push_point(&mut self, point: Point)
-        ensures { self.new ≡ kept (self.old ++ point_text point) }
+        ensures text { self.new ≡ kept (self.old ++ point_text point) }
+        ensures short { length (point_text point) ≤ 44 }
+        ensures ascii { IsAscii (point_text point) }
     {
         match point {
             Point::Infinity => self.push_str("the point at infinity"),

@@ -1,5 +1,6 @@
 //! The names of types.
-ghost use Rattle.std.specs.Prelude.{◌≡◌, ◌++◌, option_map};
+ghost use Rattle.std.specs.Prelude.{◌≡◌, ◌≤◌, ◌++◌, length, option_map};
+ghost use Rattle.std.specs.Str.{IsAscii};
 ghost use Rattle.der_view.specs.Lines.{kept};
 ghost use Rattle.der_view.specs.Values.{class_name, in_brackets, type_by, type_name};
 
@@ -23,7 +24,9 @@ impl Line {
     /// Appends the name of the type with this tag: that of X.680, or else the class and the number
     /// in brackets.
     pub fn push_type(&mut self, tag: Tag)
-        ensures { self.new ≡ kept (self.old ++ type_name tag) }
+        ensures text { self.new ≡ kept (self.old ++ type_name tag) }
+        ensures short { length (type_name tag) ≤ 24 }
+        ensures ascii { IsAscii (type_name tag) }
     {
         match name_of_type(tag) {
             Some(name) => self.push_str(name),

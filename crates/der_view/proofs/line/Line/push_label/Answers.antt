@@ -3,7 +3,7 @@ use Rattle.der_view.proofs.line.Line.push_label.Goals as goal
 
 pub returns-in-Element : goal.returns-in-Element
 returns-in-Element c =
-    label_element c.args.self.now _ _ _ _ _ _ c.in-Element.is c.push_type.ensures
+    label_element c.args.self.now _ _ _ _ _ _ c.in-Element.is c.push_type.ensures.text
     c.push_shown.ensures
 
 pub returns-in-EndOfContents : goal.returns-in-EndOfContents
