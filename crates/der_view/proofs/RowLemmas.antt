@@ -19,7 +19,7 @@ use Rattle.der_view.specs.declared.row.Kind.TheVariants as kinds
 use Rattle.der_view.specs.declared.row.OpenRow.{OpenRow}
 
 -- what is left before rows is their bytes, and what is left after them
-drawn_bytes : (input : List ℕ) (rows : List OpenRow) (old new : Undrawn) → AreRowsOf rows old new
+pub drawn_bytes : (input : List ℕ) (rows : List OpenRow) (old new : Undrawn) → AreRowsOf rows old new
     → old.left ≡ drop old.offset input → old.left ≡ bytes_of_rows input rows ++ new.left
 drawn_bytes input [] old new d at = ap (λ (u : Undrawn). u.left) d
 drawn_bytes input (row ∷ rows) old new (between, is, seen, more) at =

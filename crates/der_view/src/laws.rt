@@ -1,9 +1,9 @@
 //! Laws of the rows, for callers to cite. Each law is the contract of a function, which does
 //! nothing else.
-ghost use Rattle.std.specs.Prelude.{◌≡◌, ◌≤◌, All, Bool, List, None, ℕ, false, length};
+ghost use Rattle.std.specs.Prelude.{◌≡◌, ◌≤◌, ◌++◌, All, Bool, List, None, ℕ, drop, false, length};
 ghost use Rattle.sec1_der.specs.Faults.{tree_fault};
 ghost use Rattle.der_view.specs.Headers.{max_content_len};
-ghost use Rattle.der_view.specs.Pictures.{AreRows};
+ghost use Rattle.der_view.specs.Pictures.{AreRows, AreRowsOf};
 ghost use Rattle.der_view.specs.Plans.{plan_of};
 ghost use Rattle.der_view.specs.RowLaws.{HidesContent, IsSameRow};
 ghost use Rattle.der_view.specs.Rows.{IsNext, IsOpen, Undrawn, bytes_of_rows};
@@ -11,10 +11,14 @@ ghost use Rattle.der_view.specs.declared.row.OpenRow.{OpenRow};
 ghost use Rattle.der_view.specs.OpenLaws.{KeyIsUnseen, OpenBytesDecide};
 ghost use Rattle.der_view.specs.TreeLaws.{AreWhole, IsBytes, MayBeWhole, outer_rows};
 
-/// The bytes of all rows, in order, are the input: none is left out, and none is drawn twice.
+/// The bytes of all rows, in order, are the input, and those of some rows and then those that have
+/// no row yet are what had none before: none is left out, and none is drawn twice.
 pub fn rows_are_input()
-    ensures { (all : Bool) (input : List ℕ) (rows : List OpenRow) → AreRows all input rows
+    ensures all { (all : Bool) (input : List ℕ) (rows : List OpenRow) → AreRows all input rows
         → input ≡ bytes_of_rows input rows }
+    ensures some { (input : List ℕ) (rows : List OpenRow) (old new : Undrawn)
+        → AreRowsOf rows old new → old.left ≡ drop old.offset input
+        → old.left ≡ bytes_of_rows input rows ++ new.left }
 {}
 
 /// The next row, and what is left after it, are functions of the bytes that have no row yet, of the
