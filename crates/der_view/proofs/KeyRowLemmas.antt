@@ -22,7 +22,7 @@ use Rattle.der_view.proofs.OpenLemmas.{open_bytes_decide, row_some}
 use Rattle.der_view.proofs.SeenLemmas.{content_inside, len_within-le}
 use Rattle.der_view.specs.Headers.{header_of, max_content_len, tag_of}
 use Rattle.der_view.specs.Levels.{followed, input_level, level_after, opened_in, still_open}
-use Rattle.der_view.specs.OpenLaws.{ContentsLookSame, DifferUnseen, IsRootOf, KeyIsUnseen, LeavesLookSame, LooksSame}
+use Rattle.der_view.specs.OpenLaws.{ContentsLookSame, DifferInKey, DifferUnseen, IsRootOf, KeyIsUnseen, LeavesLookSame, LooksSame}
 use Rattle.der_view.specs.OpenLaws.{key_bytes}
 use Rattle.der_view.specs.Openings.{field_inside, opened_by, opening_by, opens_octets, own_len_by, string_opening}
 use Rattle.der_view.specs.Pictures.{AreRowsOf}
@@ -745,3 +745,10 @@ key_differs front s t version n root few size after =
 pub key_is_unseen : KeyIsUnseen
 key_is_unseen front s t version n root few size after =
     open_bytes_decide _ _ (key_differs front s t version n root few size after)
+
+pub keys_unseen : (a b : List ℕ) → DifferInKey a b → DifferUnseen a b
+keys_unseen a b d =
+    let root : IsRootOf (key_bytes d.root d.version d.n d.x) d.root =
+    subst (λ (bytes : List ℕ). IsRootOf bytes d.root) d.first d.is_root in
+    subst₂ (λ (x y : List ℕ). DifferUnseen x y) (sym d.first) (sym d.second)
+    (key_differs d.root d.x d.y d.version d.n root d.within d.len d.after)

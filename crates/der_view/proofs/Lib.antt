@@ -6,6 +6,7 @@ pub mod CharacterLemmas
 pub mod ChildLemmas
 pub mod ContainerLemmas
 pub mod DerHeaderLemmas
+pub mod DrawnLemmas
 pub mod EncodedLemmas
 pub mod ForestLemmas
 pub mod HeaderLemmas

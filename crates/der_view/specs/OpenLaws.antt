@@ -75,6 +75,20 @@ pub record IsRootOf (bytes root : List ℕ) : Type 0 where
   pub len : head.len ≡ length root
   pub node : head.tag.constructed ≡ true
 
+-- Two inputs are such bytes, which differ in the key alone: in the first n bytes after its header.
+pub record DifferInKey (a b : List ℕ) : Type 0 where
+  pub root : List ℕ
+  pub version : ℕ
+  pub n : ℕ
+  pub x : List ℕ
+  pub y : List ℕ
+  pub first : a ≡ key_bytes root version n x
+  pub second : b ≡ key_bytes root version n y
+  pub is_root : IsRootOf a root
+  pub within : n ≤ max_content_len
+  pub len : length x ≡ length y
+  pub after : drop n x ≡ drop n y
+
 -- Bytes that begin as a private key does have the same picture, whatever the key, however they go
 -- on and wherever they end.
 abbrev pub KeyIsUnseen : Type 0

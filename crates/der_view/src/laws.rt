@@ -3,12 +3,14 @@
 ghost use Rattle.std.specs.Prelude.{◌≡◌, ◌≤◌, ◌++◌, All, Bool, List, None, ℕ, drop, false, length};
 ghost use Rattle.sec1_der.specs.Faults.{tree_fault};
 ghost use Rattle.der_view.specs.Headers.{max_content_len};
+ghost use Rattle.der_view.specs.Inputs.{ArePictures};
+ghost use Rattle.der_view.specs.OpenLaws.{DifferInKey, DifferUnseen, KeyIsUnseen, OpenBytesDecide};
 ghost use Rattle.der_view.specs.Pictures.{AreRows, AreRowsOf};
 ghost use Rattle.der_view.specs.Plans.{plan_of};
 ghost use Rattle.der_view.specs.RowLaws.{HidesContent, IsSameRow};
 ghost use Rattle.der_view.specs.Rows.{IsNext, IsOpen, Undrawn, bytes_of_rows};
+ghost use Rattle.der_view.specs.Sources.{is_text, is_utf16, sources_of};
 ghost use Rattle.der_view.specs.declared.row.OpenRow.{OpenRow};
-ghost use Rattle.der_view.specs.OpenLaws.{KeyIsUnseen, OpenBytesDecide};
 ghost use Rattle.der_view.specs.TreeLaws.{AreWhole, IsBytes, MayBeWhole, outer_rows};
 
 /// The bytes of all rows, in order, are the input, and those of some rows and then those that have
@@ -36,15 +38,26 @@ pub fn contents_are_hidden()
         → All (HidesContent (plan_of input).guarded input) rows }
 {}
 
-/// Inputs that differ only in bytes which aren't shown have the same picture, and the same status.
+/// Inputs that differ only in bytes which aren't shown have the same picture, and the same status:
+/// so `draw` writes the same text of two of them that are no text, and returns the same.
 pub fn open_bytes_decide()
-    ensures { OpenBytesDecide }
+    ensures pictures { OpenBytesDecide }
+    ensures text { (a b x y : List ℕ) (is_key is_other : Bool) → DifferUnseen a b
+        → is_text a ≡ false → is_utf16 a ≡ false → is_text b ≡ false → is_utf16 b ≡ false
+        → ArePictures false (sources_of a) x is_key → ArePictures false (sources_of b) y is_other
+        → x ≡ y }
+    ensures status { (a b x y : List ℕ) (is_key is_other : Bool) → DifferUnseen a b
+        → is_text a ≡ false → is_utf16 a ≡ false → is_text b ≡ false → is_utf16 b ≡ false
+        → ArePictures false (sources_of a) x is_key → ArePictures false (sources_of b) y is_other
+        → is_key ≡ is_other }
 {}
 
 /// Bytes that begin as an ECPrivateKey does (RFC 5915 section 3) have the same picture, and the
-/// same status, whatever the private key: also if they are damaged or cut off after its header.
+/// same status, whatever the private key: also if they are damaged or cut off after its header. For
+/// its bytes aren't shown.
 pub fn key_is_unseen()
-    ensures { KeyIsUnseen }
+    ensures pictures { KeyIsUnseen }
+    ensures unseen { (a b : List ℕ) → DifferInKey a b → DifferUnseen a b }
 {}
 
 /// `check_tree` accepts what is drawn whole: one root, where no row outside opened strings has a
