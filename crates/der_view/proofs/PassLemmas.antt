@@ -12,7 +12,7 @@ use Rattle.std.proofs.lemmas.List.{take-append-drop}
 use Rattle.std.specs.Prelude.{nat_lt, nat_le, slice_index}
 use Rattle.sec1_der.proofs.ForestFaultLemmas.{element_passed, next_fault, node_opened, open_fault}
 use Rattle.sec1_der.specs.declared.error.ErrorKind.{ErrorKind}
-use Rattle.sec1_der.proofs.DigitLaws.{IsBytes-take}
+use Rattle.sec1_der.proofs.DigitLaws.{IsBytes, IsBytes-take}
 use Rattle.sec1_der.specs.Elements.{IsConstructed, IsHeader, element, header, is_constructed}
 use Rattle.sec1_der.specs.Trees as trees
 use Rattle.sec1_der.specs.Walks.{Opens}
@@ -30,7 +30,7 @@ use Rattle.der_view.specs.Places.{ends_contents, expected_at, inside_of, len_wit
 use Rattle.der_view.specs.Places.{whole_mark}
 use Rattle.der_view.specs.Rows.{Undrawn, ended_marks}
 use Rattle.der_view.specs.Seen.{shown_view}
-use Rattle.der_view.specs.TreeLaws.{HasLowTag, IsBytes, IsPassed, is_node}
+use Rattle.der_view.specs.TreeLaws.{HasLowTag, IsPassed, is_node}
 use Rattle.der_view.specs.declared.field.Field.{Field}
 use Rattle.der_view.specs.declared.header.Header.{Header}
 use Rattle.der_view.specs.declared.header.Tag.{Tag}

@@ -10,6 +10,7 @@ use Rattle.std.proofs.lemmas.Bool.Decides.{nat_tests}
 use Rattle.std.proofs.lemmas.List.{drop-drop, length-drop, length-take-le}
 use Rattle.std.proofs.lemmas.List.Elements.{All-head, All-tail}
 use Rattle.std.specs.Prelude.{nat_lt, nat_le, slice_get, option_map}
+use Rattle.sec1_der.proofs.DigitLaws.{IsBytes}
 use Rattle.sec1_der.proofs.ForestFaultLemmas.{forest_some, next_fault, open_fault}
 use Rattle.sec1_der.proofs.ForestFaultLemmas.{tree_next}
 use Rattle.sec1_der.specs.declared.error.ErrorKind.{ErrorKind}
@@ -25,7 +26,7 @@ use Rattle.der_view.specs.Pictures.{AreRows, AreRowsOf}
 use Rattle.der_view.specs.Places.{IsDrawn, IsElement, IsInside, IsNoElement, IsRest, IsStep}
 use Rattle.der_view.specs.Places.{ends_contents, inside_of, is_drawn, len_within, level_inside}
 use Rattle.der_view.specs.Rows.{IsNext, Undrawn, ended_marks, place_of, row_len, stepped}
-use Rattle.der_view.specs.TreeLaws.{AreWhole, HasLowTag, IsBytes, IsPassed, IsWhole, IsWholeInside}
+use Rattle.der_view.specs.TreeLaws.{AreWhole, HasLowTag, IsPassed, IsWhole, IsWholeInside}
 use Rattle.der_view.specs.TreeLaws.{outer_rows}
 use Rattle.der_view.specs.declared.header.Header.{Header}
 use Rattle.der_view.specs.declared.header.Tag.{Tag}

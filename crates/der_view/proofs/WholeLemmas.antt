@@ -11,6 +11,7 @@ use Rattle.std.proofs.lemmas.List.Elements.{All-cons, All-head, All-nil, All-tai
 use Rattle.std.proofs.lemmas.Slice.Eq.{bytes_eq-Decides}
 use Rattle.std.specs.Option.{option_or}
 use Rattle.std.specs.Prelude.{nat_le, nat_lt, option_map, slice_get, slice_index}
+use Rattle.sec1_der.proofs.DigitLaws.{IsBytes}
 use Rattle.sec1_der.proofs.ForestFaultLemmas.{forest_at, next_fault, next_refused, open_fault, tree_next}
 use Rattle.sec1_der.proofs.LengthLaws.{len_1}
 use Rattle.sec1_der.proofs.LengthLemmas.{len_2, len_3, len_4}
@@ -42,7 +43,7 @@ use Rattle.der_view.specs.Places.{ends_contents, expected_at, inside_of, is_draw
 use Rattle.der_view.specs.Places.{mark_at_offset, whole_mark}
 use Rattle.der_view.specs.Rows.{IsNext, Undrawn, ended_marks, place_of, row_len, stepped}
 use Rattle.der_view.specs.Seen.{ShownView, shown_view}
-use Rattle.der_view.specs.TreeLaws.{AreWhole, HasLowTag, IsBytes, IsPassed, IsWhole, IsWholeInside, is_node}
+use Rattle.der_view.specs.TreeLaws.{AreWhole, HasLowTag, IsPassed, IsWhole, IsWholeInside, is_node}
 use Rattle.der_view.specs.TreeLaws.{MayBeWhole, outer_rows}
 use Rattle.der_view.specs.declared.header.Header.{Header}
 use Rattle.der_view.specs.declared.header.Tag.{Tag}
