@@ -1,7 +1,7 @@
 -- The children of a root that begins as a private key does don't follow from the key.
 use Rattle.std.proofs.Common.{◌≡◌, ℕ, zero, suc, ◌+◌, ◌-◌, ◌/◌, ◌==◌, ◌≤◌, ◌⊎◌, inl, inr, ⊎_elim, Bool, true, false}
 use Rattle.std.proofs.Common.{List, [], ◌∷◌, ◌++◌, length, take, drop, if◌then◌else◌, refl, sym, ap, ap₂, ◌∙◌, subst}
-use Rattle.std.proofs.Common.{arith}
+use Rattle.std.proofs.Common.{arith, subst₂}
 use Rattle.std.proofs.Common.{All, Option, Some, None, Result, Ok, Err, not, ◌&&◌, le-ltb, lt-ltb, ne_eqb}
 use Rattle.std.proofs.Common.{append-nil}
 use Rattle.std.proofs.lemmas.Bool.{cases_lt}
@@ -9,7 +9,7 @@ use Rattle.std.proofs.lemmas.Bool.Decides.{nat_tests}
 use Rattle.std.proofs.lemmas.Int.Digits.{length-digits_of_step, length-digits_of-le, number_digits_of}
 use Rattle.std.proofs.lemmas.List.{drop-drop, drop_all, length-append, length-drop, length-take-le}
 use Rattle.std.proofs.lemmas.List.{take_at}
-use Rattle.std.proofs.lemmas.List.Elements.{All-cons, All-nil, All-head, All-tail, All-take, All-weaker}
+use Rattle.std.proofs.lemmas.List.Elements.{All-cons, All-nil, All-head, All-tail, All-take}
 use Rattle.std.proofs.Math.Seq.{drop-append-add, drop-append_seam, take-append-add}
 use Rattle.std.specs.Int.Digits.{digits_of}
 use Rattle.std.specs.Prelude.{nat_lt}
@@ -17,11 +17,11 @@ use Rattle.sec1_der.proofs.FaultLaws.{any_at}
 use Rattle.sec1_der.proofs.LengthLaws.{len_1, len_long}
 use Rattle.sec1_der.specs.Elements.{IsHeader, element, header, is_constructed, length_octets, max_length, number_of}
 use Rattle.sec1_der.specs.Faults.{end_fault, forest_fault, nested_fault}
+use Rattle.der_view.proofs.KeyLeafLemmas.{AreAlike, alike_len, leaf_header, leaf_tag}
 use Rattle.der_view.specs.Children.{begins, child_after, child_at, child_by, child_of, children_at, children_of}
 use Rattle.der_view.specs.Children.{followed, len_of, no_child, none_at, nth, run_in, run_of}
 use Rattle.der_view.specs.Headers.{header_of, header_with, length_at, max_content_len, tag_of}
 use Rattle.der_view.specs.Expected.{ends}
-use Rattle.der_view.specs.OpenLaws.{key_bytes}
 use Rattle.der_view.specs.KeyForms.{content_of}
 use Rattle.der_view.specs.Openings.{is_tree}
 use Rattle.der_view.specs.declared.children.Child.{Child}
@@ -78,18 +78,11 @@ length_in_der n rest few =
     let within : nat_lt max_content_len n ≡ false = grind (arith, nat_tests) in
     rw within at (length_if n rest (omega arith))
 
--- the header of an OCTET STRING
-abbrev pub string_header : ℕ → Header
-string_header n = record {
-  tag = tag_of 0x04 0x04;
-  tag_len = 1;
-  len = 1 + length (length_octets n);
-  content_len = Some n;
-}
-
-pub header_in_der : (n : ℕ) (rest : List ℕ) → n ≤ max_content_len
-    → header_of (header 0x04 n ++ rest) ≡ Ok (string_header n)
-header_in_der n rest few = rw (length_in_der n rest few) refl
+-- the header of a leaf
+pub header_in_der : (string : Bool) (n : ℕ) (rest : List ℕ) → n ≤ max_content_len
+    → header_of (header (leaf_tag string) n ++ rest) ≡ Ok (leaf_header string n)
+header_in_der true n rest few = rw (length_in_der n rest few) refl
+header_in_der false n rest few = rw (length_in_der n rest few) refl
 
 -- a header of a SEQUENCE in DER is all of these bytes
 sequence_if : (large : Bool) (n k : ℕ) (head : Header)
@@ -125,10 +118,10 @@ first_child may at version rest =
     let whole : nat_lt (length (0x02 ∷ 0x01 ∷ version ∷ rest) - 2) 1 ≡ false = grind (arith, nat_tests) in
     rw (whole, version_tree version) refl
 
--- the second one, the private key
-abbrev key_child : ℕ → ℕ → ℕ → Child
-key_child at n len = record {
-  tag = 0x04;
+-- a child that is a leaf, of which so many bytes are there
+abbrev leaf_child : Bool → ℕ → ℕ → ℕ → Child
+leaf_child string at n len = record {
+  tag = leaf_tag string;
   at = at;
   start = at + (1 + length (length_octets n));
   end = at + (1 + length (length_octets n)) + len;
@@ -137,30 +130,48 @@ key_child at n len = record {
   alone = false;
 }
 
-key_tree : (n : ℕ) (rest : List ℕ) → n ≤ max_content_len → n ≤ length rest
-    → is_tree (take (1 + length (length_octets n) + n) (header 0x04 n ++ rest)) ≡ true
-key_tree n rest few fits =
+leaf_front : (string : Bool) (n : ℕ) (rest : List ℕ) → n ≤ length rest
+    → take (1 + length (length_octets n) + n) (header (leaf_tag string) n ++ rest)
+    ≡ element (leaf_tag string) (take n rest)
+leaf_front string n rest fits =
     let size : length (take n rest) ≡ n = length-take-le n rest fits in
-    let front : take (1 + length (length_octets n) + n) (header 0x04 n ++ rest) ≡ header 0x04 n ++ take n rest =
-    let sum : 1 + length (length_octets n) + n ≡ length (header 0x04 n) + n = omega arith in
-    rw sum (take-append-add (header 0x04 n) rest n) in
-    let bounded : IsHeader 0x04 (length (take n rest)) = record { tag_byte = refl; bounded = omega arith } in
-    leaf_tree 0x04 (take n rest) _ bounded refl (rw (front, size) refl)
+    let sum : 1 + length (length_octets n) + n ≡ length (header (leaf_tag string) n) + n = omega arith in
+    rw (sum, size) (take-append-add (header (leaf_tag string) n) rest n)
+
+is_leaf_tree : (string : Bool) (n : ℕ) (rest : List ℕ) → n ≤ max_content_len → n ≤ length rest
+    → is_tree (take (1 + length (length_octets n) + n) (header (leaf_tag string) n ++ rest)) ≡ true
+is_leaf_tree true n rest few fits =
+    let size : length (take n rest) ≡ n = length-take-le n rest fits in
+    leaf_tree 0x04 (take n rest) _ (record { tag_byte = refl; bounded = omega arith }) refl
+    (leaf_front true n rest fits)
+is_leaf_tree false n rest few fits =
+    let size : length (take n rest) ≡ n = length-take-le n rest fits in
+    leaf_tree 0x02 (take n rest) _ (record { tag_byte = refl; bounded = omega arith }) refl
+    (leaf_front false n rest fits)
 
 -- as a function of the number of bytes that are left alone
-abbrev key_child_if : Bool → ℕ → ℕ → ℕ → Child
-key_child_if may at n left =
-    if nat_lt left n then (if may then key_child at n left else none_at at) else key_child at n n
+abbrev leaf_child_if : Bool → Bool → ℕ → ℕ → ℕ → Child
+leaf_child_if may string at n left =
+    if nat_lt left n then (if may then leaf_child string at n left else none_at at) else leaf_child string at n n
 
-second_child : (may : Bool) (at n : ℕ) (rest : List ℕ) → n ≤ max_content_len
-    → child_after may at (header 0x04 n ++ rest) (header_of (header 0x04 n ++ rest))
-    ≡ key_child_if may at n (length rest)
-second_child may at n rest few =
-    let left : length (header 0x04 n ++ rest) - (1 + length (length_octets n)) ≡ length rest =
-    omega (arith, length-append (header 0x04 n) rest) in
-    rw (header_in_der n rest few, left) (⊎_elim
-    (λ cut. rw (lt-ltb (length rest) n cut) refl)
-    (λ whole. rw (le-ltb (length rest) n whole, key_tree n rest few whole) refl)
+child_of_leaf : (string : Bool) (at n len : ℕ) (rest : List ℕ)
+    → child_of at (header (leaf_tag string) n ++ rest) (1 + length (length_octets n)) n len ≡ leaf_child string at n len
+child_of_leaf true at n len rest = refl
+child_of_leaf false at n len rest = refl
+
+is_leaf_child : (may string : Bool) (at n : ℕ) (rest : List ℕ) → n ≤ max_content_len
+    → child_after may at (header (leaf_tag string) n ++ rest) (header_of (header (leaf_tag string) n ++ rest))
+    ≡ leaf_child_if may string at n (length rest)
+is_leaf_child may string at n rest few =
+    let left : length (header (leaf_tag string) n ++ rest) - (1 + length (length_octets n)) ≡ length rest =
+    omega (arith, length-append (header (leaf_tag string) n) rest) in
+    rw (header_in_der string n rest few, left) (⊎_elim
+    (λ cut. rw (lt-ltb (length rest) n cut, child_of_leaf string at n (length rest) rest) refl)
+    (λ whole. rw (
+      le-ltb (length rest) n whole,
+      is_leaf_tree string n rest few whole,
+      child_of_leaf string at n n rest,
+    ) refl)
     (cases_lt (length rest) n))
 
 -- where a child is
@@ -189,9 +200,18 @@ child_bounds : (may : Bool) (at : ℕ) (bytes : List ℕ) (r : Result Header Ele
 child_bounds may at bytes (Err e) = (refl, omega arith, omega arith)
 child_bounds may at bytes (Ok head) = child_bounds_by may at bytes head.len head.content_len
 
--- a child has the same content in both, and an end-of-contents comes before it in both or in none
+-- neither the parameters nor the public key of an ECPrivateKey
+pub record IsNoField (child : Child) : Type 0 where
+  pub parameters : (child.tag == 0xA0) ≡ false
+  pub public_key : (child.tag == 0xA1) ≡ false
+
+-- a child has the same content in both, unless that isn't read
+abbrev pub IsRead : List ℕ → List ℕ → Child → Type 0
+IsRead a b child = (content_of a child ≡ content_of b child) ⊎ IsNoField child
+
+-- and an end-of-contents comes before it in both or in none
 record SameChild (a b : List ℕ) (child : Child) : Type 0 where
-  content : content_of a child ≡ content_of b child
+  content : IsRead a b child
   ends : begins (drop child.at a) (0x00 ∷ 0x00 ∷ []) ≡ begins (drop child.at b) (0x00 ∷ 0x00 ∷ [])
 
 -- the same bytes follow, or there is no child
@@ -226,8 +246,8 @@ rest_children (suc most) may a b at (inl same) =
     let more = rest_children most may a b end (inl (drop_more_same a b at end bounds.2 same)) in
     let here : SameChild a b (child_at may a at) = record {
       content =
-          ap (λ (bytes : List ℕ). take (len_of (child_at may a at)) bytes)
-          (drop_more_same a b at (child_at may a at).start bounds.1 same);
+          inl (ap (λ (bytes : List ℕ). take (len_of (child_at may a at)) bytes)
+          (drop_more_same a b at (child_at may a at).start bounds.1 same));
       ends =
           ap (λ (bytes : List ℕ). begins bytes (0x00 ∷ 0x00 ∷ []))
           (drop_more_same a b at (child_at may a at).at (omega (arith, bounds.0)) same);
@@ -238,7 +258,7 @@ rest_children (suc most) may a b at (inl same) =
     )
 rest_children (suc most) may a b at (inr (none_a, none_b, no_end)) =
     let more = rest_children most may a b at (inr (none_a, none_b, no_end)) in
-    let here : SameChild a b (none_at at) = record { content = no_content a b at; ends = no_end } in
+    let here : SameChild a b (none_at at) = record { content = inl (no_content a b at); ends = no_end } in
     let list : children_at (suc most) may a at ≡ none_at at ∷ children_at most may a at =
     ap (λ (c : Child). c ∷ children_at most may a c.end) none_a in
     let other : children_at (suc most) may b at ≡ none_at at ∷ children_at most may b at =
@@ -248,85 +268,117 @@ rest_children (suc most) may a b at (inr (none_a, none_b, no_end)) =
           (All-cons (SameChild a b) (none_at at) (children_at most may a at) here more.1),
     )
 
--- as many bytes follow, and the same ones after the string
-pub record SameAfter (n : ℕ) (s t : List ℕ) : Type 0 where
-  pub size : length s ≡ length t
-  pub after : drop n s ≡ drop n t
+-- leaves, and the same bytes after them
+no_field : (string : Bool) (at n len : ℕ) → IsNoField (leaf_child string at n len)
+no_field true at n len = record { parameters = refl; public_key = refl }
+no_field false at n len = record { parameters = refl; public_key = refl }
 
-pub at_version : (head tail : List ℕ) (version n : ℕ)
-    → drop (length head) (key_bytes head version n tail) ≡ 0x02 ∷ 0x01 ∷ version ∷ (header 0x04 n ++ tail)
-unfolding key_bytes
-at_version head tail version n = drop-append_seam head (0x02 ∷ 0x01 ∷ version ∷ (header 0x04 n ++ tail))
+leaf_begins : (string : Bool) (n : ℕ) (l m : List ℕ)
+    → begins (header (leaf_tag string) n ++ l) (0x00 ∷ 0x00 ∷ [])
+    ≡ begins (header (leaf_tag string) n ++ m) (0x00 ∷ 0x00 ∷ [])
+leaf_begins true n l m = refl
+leaf_begins false n l m = refl
 
-pub at_key : (head tail : List ℕ) (version n : ℕ)
-    → drop (length head + 2 + 1) (key_bytes head version n tail) ≡ header 0x04 n ++ tail
-unfolding key_bytes
-at_key head tail version n =
-    let sum : length head + 2 + 1 ≡ length head + 3 = omega arith in
-    rw sum (drop-append-add head (0x02 ∷ 0x01 ∷ version ∷ (header 0x04 n ++ tail)) 3)
+-- so many bytes after the header
+after_header : (string : Bool) (n k at : ℕ) (a l : List ℕ) → drop at a ≡ header (leaf_tag string) n ++ l
+    → drop (at + (1 + length (length_octets n)) + k) a ≡ drop k l
+after_header string n k at a l here =
+    let sum : at + (1 + length (length_octets n)) + k ≡ at + (length (header (leaf_tag string) n) + k) = omega arith in
+    ap (λ (i : ℕ). drop i a) sum
+    ∙ (sym (drop-drop (length (header (leaf_tag string) n) + k) at a)
+    ∙ (ap (λ (bytes : List ℕ). drop (length (header (leaf_tag string) n) + k) bytes) here
+    ∙ drop-append-add (header (leaf_tag string) n) l k))
 
-pub at_tail : (head tail : List ℕ) (version n k : ℕ)
-    → drop (length head + 2 + 1 + (1 + length (length_octets n)) + k) (key_bytes head version n tail) ≡ drop k tail
-unfolding key_bytes
-at_tail head tail version n k =
-    let at : ℕ = length head + 2 + 1 in
-    let sum : at + (1 + length (length_octets n)) + k ≡ at + (length (header 0x04 n) + k) = omega arith in
-    ap (λ (m : ℕ). drop m (key_bytes head version n tail)) sum
-    ∙ (sym (drop-drop (length (header 0x04 n) + k) at (key_bytes head version n tail))
-    ∙ (ap (λ (bytes : List ℕ). drop (length (header 0x04 n) + k) bytes) (at_key head tail version n)
-    ∙ drop-append-add (header 0x04 n) tail k))
-
-child_version : (may : Bool) (head tail : List ℕ) (version n : ℕ)
-    → child_at may (key_bytes head version n tail) (length head) ≡ version_child (length head)
-unfolding child_at key_bytes
-child_version may head tail version n =
-    ap (λ (bytes : List ℕ). child_after may (length head) bytes (header_of bytes)) (at_version head tail version n)
-    ∙ first_child may (length head) version (header 0x04 n ++ tail)
-
-child_key : (may : Bool) (head tail : List ℕ) (version n : ℕ) → n ≤ max_content_len
-    → child_at may (key_bytes head version n tail) (length head + 2 + 1)
-    ≡ key_child_if may (length head + 2 + 1) n (length tail)
-unfolding child_at key_bytes
-child_key may head tail version n few =
-    ap (λ (bytes : List ℕ). child_after may (length head + 2 + 1) bytes (header_of bytes)) (at_key head tail version n)
-    ∙ second_child may (length head + 2 + 1) n tail few
-
--- what follows the private key is the same in both
-key_rest_cut : (may : Bool) (head s t : List ℕ) (version n : ℕ) → n ≤ max_content_len → SameAfter n s t
-    → nat_lt (length s) n ≡ true
-    → Rest may (key_bytes head version n s) (key_bytes head version n t)
-    (if may then key_child (length head + 2 + 1) n (length s) else none_at (length head + 2 + 1)).end
-unfolding key_bytes
-key_rest_cut true head s t version n few same cut =
-    let all : length t ≤ length s = omega (arith, same.size) in
-    inl
-    (at_tail head s version n (length s)
-    ∙ (drop_all (length s) s (omega arith)
-    ∙ (sym (drop_all (length s) t all) ∙ sym (at_tail head t version n (length s)))))
-key_rest_cut false head s t version n few same cut =
-    let other : nat_lt (length t) n ≡ true = rw (sym same.size) cut in
-    inr (
-      rw cut at (child_key false head s version n few),
-      rw other at (child_key false head t version n few),
-      rw (at_key head s version n, at_key head t version n) refl,
+-- the next child, and those after it
+next_children : (most : ℕ) (may string : Bool) (a b : List ℕ) (at n len : ℕ) (l m : List ℕ)
+    → drop at a ≡ header (leaf_tag string) n ++ l → drop at b ≡ header (leaf_tag string) n ++ m
+    → child_at may a at ≡ leaf_child string at n len → child_at may b at ≡ leaf_child string at n len
+    → (children_at most may a (at + (1 + length (length_octets n)) + len)
+    ≡ children_at most may b (at + (1 + length (length_octets n)) + len))
+    × All (SameChild a b) (children_at most may a (at + (1 + length (length_octets n)) + len))
+    → (children_at (suc most) may a at ≡ children_at (suc most) may b at)
+    × All (SameChild a b) (children_at (suc most) may a at)
+unfolding children_at
+next_children most may string a b at n len l m in_a in_b old new more =
+    let child : Child = leaf_child string at n len in
+    let here : SameChild a b child = record {
+      content = inr (no_field string at n len);
+      ends = rw (in_a, in_b) (leaf_begins string n l m);
+    } in
+    let list : children_at (suc most) may a at ≡ child ∷ children_at most may a child.end =
+    ap (λ (c : Child). c ∷ children_at most may a c.end) old in
+    let other : children_at (suc most) may b at ≡ child ∷ children_at most may b child.end =
+    ap (λ (c : Child). c ∷ children_at most may b c.end) new in (
+      list ∙ (ap (λ (cs : List Child). child ∷ cs) more.0 ∙ sym other),
+      subst (λ (cs : List Child). All (SameChild a b) cs) (sym list)
+          (All-cons (SameChild a b) child (children_at most may a child.end) here more.1),
     )
 
-key_rest : (may : Bool) (head s t : List ℕ) (version n : ℕ) → n ≤ max_content_len → SameAfter n s t
-    → Rest may (key_bytes head version n s) (key_bytes head version n t)
-    (key_child_if may (length head + 2 + 1) n (length s)).end
-unfolding key_bytes
-key_rest may head s t version n few same =
-    let at : ℕ = length head + 2 + 1 in
-    let a : List ℕ = key_bytes head version n s in
-    let b : List ℕ = key_bytes head version n t in
+cut_children : (most : ℕ) (may string : Bool) (a b : List ℕ) (at n : ℕ) (l m : List ℕ)
+    → drop at a ≡ header (leaf_tag string) n ++ l → drop at b ≡ header (leaf_tag string) n ++ m → length l ≡ length m
+    → child_at may a at ≡ (if may then leaf_child string at n (length l) else none_at at)
+    → child_at may b at ≡ (if may then leaf_child string at n (length l) else none_at at)
+    → (children_at (suc most) may a at ≡ children_at (suc most) may b at)
+    × All (SameChild a b) (children_at (suc most) may a at)
+cut_children most true string a b at n l m in_a in_b size old new =
+    let end : ℕ = at + (1 + length (length_octets n)) + length l in
+    let none : drop end a ≡ drop end b =
+    after_header string n (length l) at a l in_a
+    ∙ (drop_all (length l) l (omega arith)
+    ∙ (sym (drop_all (length l) m (omega (arith, size))) ∙ sym (after_header string n (length l) at b m in_b))) in
+    next_children most true string a b at n (length l) l m in_a in_b old new
+    (rest_children most true a b end (inl none))
+cut_children most false string a b at n l m in_a in_b size old new =
+    rest_children (suc most) false a b at (inr (old, new, rw (in_a, in_b) (leaf_begins string n l m)))
+
+leaf_children : (leaves : List (Bool × ℕ)) (most : ℕ) (may : Bool) (a b : List ℕ) (at : ℕ)
+    → AreAlike leaves (drop at a) (drop at b)
+    → (children_at most may a at ≡ children_at most may b at) × All (SameChild a b) (children_at most may a at)
+unfolding children_at child_at
+leaf_children [] most may a b at same = rest_children most may a b at (inl same)
+leaf_children (leaf ∷ leaves) zero may a b at alike = (refl, All-nil (SameChild a b))
+leaf_children ((string, n) ∷ leaves) (suc most) may a b at (l, m, is, more) =
+    let old : child_at may a at ≡ leaf_child_if may string at n (length l) =
+    ap (λ (bytes : List ℕ). child_after may at bytes (header_of bytes)) is.old
+    ∙ is_leaf_child may string at n l is.few in
+    let new : child_at may b at ≡ leaf_child_if may string at n (length l) =
+    ap (λ (bytes : List ℕ). child_after may at bytes (header_of bytes)) is.new
+    ∙ (is_leaf_child may string at n m is.few
+    ∙ ap (λ (left : ℕ). leaf_child_if may string at n left) (sym is.size)) in
     ⊎_elim
     (λ cut.
-    let test : nat_lt (length s) n ≡ true = lt-ltb (length s) n cut in
-    rw test (key_rest_cut may head s t version n few same test))
+    let test : nat_lt (length l) n ≡ true = lt-ltb (length l) n cut in
+    cut_children most may string a b at n l m is.old is.new is.size (rw test at old) (rw test at new))
     (λ whole.
-    let test : nat_lt (length s) n ≡ false = le-ltb (length s) n whole in
-    rw test (inl (at_tail head s version n n ∙ (same.after ∙ sym (at_tail head t version n n)))))
-    (cases_lt (length s) n)
+    let test : nat_lt (length l) n ≡ false = le-ltb (length l) n whole in
+    let end : ℕ = at + (1 + length (length_octets n)) + n in
+    let after : AreAlike leaves (drop end a) (drop end b) =
+    subst₂ (λ (u v : List ℕ). AreAlike leaves u v) (sym (after_header string n n at a l is.old))
+    (sym (after_header string n n at b m is.new)) more in
+    next_children most may string a b at n n l m is.old is.new (rw test at old) (rw test at new)
+    (leaf_children leaves most may a b end after))
+    (cases_lt (length l) n)
+
+-- bytes that begin with a version of one byte
+abbrev pub versioned : List ℕ → ℕ → List ℕ → List ℕ
+versioned front version rest = front ++ (0x02 ∷ 0x01 ∷ version ∷ rest)
+
+pub at_version : (front rest : List ℕ) (version : ℕ)
+    → drop (length front) (versioned front version rest) ≡ 0x02 ∷ 0x01 ∷ version ∷ rest
+at_version front rest version = drop-append_seam front (0x02 ∷ 0x01 ∷ version ∷ rest)
+
+pub after_version : (front rest : List ℕ) (version : ℕ)
+    → drop (length front + 2 + 1) (versioned front version rest) ≡ rest
+after_version front rest version =
+    let sum : length front + 2 + 1 ≡ length front + 3 = omega arith in
+    rw sum (drop-append-add front (0x02 ∷ 0x01 ∷ version ∷ rest) 3)
+
+child_version : (may : Bool) (front rest : List ℕ) (version : ℕ)
+    → child_at may (versioned front version rest) (length front) ≡ version_child (length front)
+unfolding child_at
+child_version may front rest version =
+    ap (λ (bytes : List ℕ). child_after may (length front) bytes (header_of bytes)) (at_version front rest version)
+    ∙ first_child may (length front) version rest
 
 -- the first of some children, and those after the second one
 nth_all : (P : Child → Type 0) (children : List Child) (i : ℕ) → P no_child → All P children → P (nth children i)
@@ -335,26 +387,9 @@ nth_all P [] i none all = none
 nth_all P (child ∷ children) zero none all = All-head P child children all
 nth_all P (child ∷ children) (suc i) none all = nth_all P children i none (All-tail P child children all)
 
-nth_later : (P : Child → Type 0) (first second : Child) (children : List Child) (count i : ℕ) → P no_child
-    → All P children → P (nth (take count (first ∷ second ∷ children)) (suc (suc i)))
-unfolding nth
-nth_later P first second children zero i none all = none
-nth_later P first second children (suc zero) i none all = none
-nth_later P first second children (suc (suc count)) i none all =
-    nth_all P (take count children) i none (All-take P count children all)
-
-nth_first : (P : Child → Type 0) (first : Child) (children : List Child) (count : ℕ) → P no_child → P first
-    → P (nth (take count (first ∷ children)) 0)
-unfolding nth
-nth_first P first children zero none is = none
-nth_first P first children (suc count) none is = is
-
-nth_each : (P : Child → Type 0) (first second : Child) (children : List Child) (i : ℕ) → P no_child → P first → P second
-    → All P children → P (nth (first ∷ second ∷ children) i)
-unfolding nth
-nth_each P first second children zero none one two all = one
-nth_each P first second children (suc zero) none one two all = two
-nth_each P first second children (suc (suc i)) none one two all = nth_all P children i none all
+nth_few : (P : Child → Type 0) (children : List Child) (count i : ℕ) → P no_child → All P children
+    → P (nth (take count children) i)
+nth_few P children count i none all = nth_all P (take count children) i none (All-take P count children all)
 
 -- a root ends or doesn't, by whether an end-of-contents follows, and how many bytes do
 abbrev run_by : Bool → ℕ → ℕ → Bool → Bool → List Child → ℕ → Children
@@ -380,12 +415,12 @@ run_same a b start indefinite is_cut run end size ends =
     length-drop end a ∙ (ap (λ (n : ℕ). n - end) size ∙ sym (length-drop end b)) in
     ap₂ (λ (e : Bool) (n : ℕ). run_by e n start indefinite is_cut run end) ends left
 
--- the same children, of which the first, the third and the fourth have the same contents in both
+-- the same children, whose contents are the same where they are read
 pub record SameChildren (a b : List ℕ) (x y : Children) : Type 0 where
   pub same : x ≡ y
   pub first : content_of a x.first ≡ content_of b x.first
-  pub third : content_of a x.third ≡ content_of b x.third
-  pub fourth : content_of a x.fourth ≡ content_of b x.fourth
+  pub third : IsRead a b x.third
+  pub fourth : IsRead a b x.fourth
 
 head_ends : (head a b : List ℕ) → 2 ≤ length head
     → begins (head ++ a) (0x00 ∷ 0x00 ∷ []) ≡ begins (head ++ b) (0x00 ∷ 0x00 ∷ [])
@@ -393,72 +428,62 @@ head_ends [] a b some = absurd (omega arith)
 head_ends (x ∷ []) a b some = absurd (omega arith)
 head_ends (x ∷ y ∷ head) a b some = refl
 
-version_content : (head tail : List ℕ) (version n : ℕ)
-    → content_of (key_bytes head version n tail) (version_child (length head)) ≡ version ∷ []
-unfolding key_bytes
-version_content head tail version n =
-    let one : length head + 2 + 1 - (length head + 2) ≡ 1 = omega arith in
-    rw (one, drop-append-add head (0x02 ∷ 0x01 ∷ version ∷ (header 0x04 n ++ tail)) 2) refl
+version_content : (front rest : List ℕ) (version : ℕ)
+    → content_of (versioned front version rest) (version_child (length front)) ≡ version ∷ []
+version_content front rest version =
+    let one : length front + 2 + 1 - (length front + 2) ≡ 1 = omega arith in
+    rw (one, drop-append-add front (0x02 ∷ 0x01 ∷ version ∷ rest) 2) refl
 
-key_at_if : (test may : Bool) (at n left : ℕ)
-    → (if test then (if may then key_child at n left else none_at at) else key_child at n n).at ≡ at
-key_at_if true true at n left = refl
-key_at_if true false at n left = refl
-key_at_if false may at n left = refl
+nth_first : (P : Child → Type 0) (first : Child) (children : List Child) (count : ℕ) → P no_child → P first
+    → P (nth (take count (first ∷ children)) 0)
+unfolding nth
+nth_first P first children zero none is = none
+nth_first P first children (suc count) none is = is
 
-key_at : (may : Bool) (at n left : ℕ) → (key_child_if may at n left).at ≡ at
-key_at may at n left = key_at_if (nat_lt left n) may at n left
-
-pub children_same : (head s t : List ℕ) (version n : ℕ) (indefinite is_cut : Bool) → 2 ≤ length head
-    → n ≤ max_content_len → SameAfter n s t
-    → SameChildren (key_bytes head version n s) (key_bytes head version n t)
-    (children_of (key_bytes head version n s) (length head) indefinite is_cut)
-    (children_of (key_bytes head version n t) (length head) indefinite is_cut)
-unfolding children_of children_at key_bytes
-children_same head s t version n indefinite is_cut some few same =
-    let a : List ℕ = key_bytes head version n s in
-    let b : List ℕ = key_bytes head version n t in
-    let p : ℕ = length head in
-    let v : Child = version_child p in
-    let k : Child = key_child_if is_cut (p + 2 + 1) n (length s) in
-    let rest : (children_at 8 is_cut a k.end ≡ children_at 8 is_cut b k.end)
-    × All (SameChild a b) (children_at 8 is_cut a k.end) =
-    rest_children 8 is_cut a b k.end (key_rest is_cut head s t version n few same) in
-    let r : List Child = children_at 8 is_cut a k.end in
-    let list : children_at 10 is_cut a p ≡ v ∷ k ∷ r =
-    rw (child_version is_cut head s version n, child_key is_cut head s version n few) refl in
-    let other : children_at 10 is_cut b p ≡ v ∷ k ∷ r =
-    rw (child_version is_cut head t version n, child_key is_cut head t version n few, sym same.size, rest.0) refl in
+pub children_same : (front u v : List ℕ) (version : ℕ) (leaves : List (Bool × ℕ)) (indefinite is_cut : Bool)
+    → 2 ≤ length front → AreAlike leaves u v
+    → SameChildren (versioned front version u) (versioned front version v)
+    (children_of (versioned front version u) (length front) indefinite is_cut)
+    (children_of (versioned front version v) (length front) indefinite is_cut)
+unfolding children_of children_at
+children_same front u v version leaves indefinite is_cut some alike =
+    let a : List ℕ = versioned front version u in
+    let b : List ℕ = versioned front version v in
+    let p : ℕ = length front in
+    let one : Child = version_child p in
+    let after : AreAlike leaves (drop (p + 2 + 1) a) (drop (p + 2 + 1) b) =
+    subst₂ (λ (s t : List ℕ). AreAlike leaves s t) (sym (after_version front u version))
+    (sym (after_version front v version)) alike in
+    let rest : (children_at 9 is_cut a (p + 2 + 1) ≡ children_at 9 is_cut b (p + 2 + 1))
+    × All (SameChild a b) (children_at 9 is_cut a (p + 2 + 1)) =
+    leaf_children leaves 9 is_cut a b (p + 2 + 1) after in
+    let children : List Child = one ∷ children_at 9 is_cut a (p + 2 + 1) in
+    let list : children_at 10 is_cut a p ≡ children =
+    ap (λ (c : Child). c ∷ children_at 9 is_cut a c.end) (child_version is_cut front u version) in
+    let other : children_at 10 is_cut b p ≡ children =
+    ap (λ (c : Child). c ∷ children_at 9 is_cut b c.end) (child_version is_cut front v version)
+    ∙ ap (λ (cs : List Child). one ∷ cs) (sym rest.0) in
     let size : length a ≡ length b =
-    omega (
-      arith,
-      same.size,
-      length-append head (0x02 ∷ 0x01 ∷ version ∷ (header 0x04 n ++ s)),
-      length-append head (0x02 ∷ 0x01 ∷ version ∷ (header 0x04 n ++ t)),
-      length-append (header 0x04 n) s,
-      length-append (header 0x04 n) t,
-    ) in
-    let ends_v : begins (drop p a) (0x00 ∷ 0x00 ∷ []) ≡ begins (drop p b) (0x00 ∷ 0x00 ∷ []) =
-    rw (at_version head s version n, at_version head t version n) refl in
-    let ends_k : begins (drop k.at a) (0x00 ∷ 0x00 ∷ []) ≡ begins (drop k.at b) (0x00 ∷ 0x00 ∷ []) =
-    rw (key_at is_cut (p + 2 + 1) n (length s), at_key head s version n, at_key head t version n) refl in
-    let ends_rest = All-weaker (SameChild a b)
-    (λ (c : Child). begins (drop c.at a) (0x00 ∷ 0x00 ∷ []) ≡ begins (drop c.at b) (0x00 ∷ 0x00 ∷ []))
-    (λ c known. known.ends) r rest.1 in
-    let contents = All-weaker (SameChild a b) (λ (c : Child). content_of a c ≡ content_of b c)
-    (λ c known. known.content) r rest.1 in
-    let count : ℕ = followed (v ∷ k ∷ r) in
-    let ends : begins (drop (nth (v ∷ k ∷ r) count).at a) (0x00 ∷ 0x00 ∷ [])
-    ≡ begins (drop (nth (v ∷ k ∷ r) count).at b) (0x00 ∷ 0x00 ∷ []) =
-    nth_each (λ (c : Child). begins (drop c.at a) (0x00 ∷ 0x00 ∷ []) ≡ begins (drop c.at b) (0x00 ∷ 0x00 ∷ []))
-    v k r count (head_ends head _ _ some) ends_v ends_k ends_rest in
-    let run : run_in a p indefinite is_cut (v ∷ k ∷ r) count ≡ run_in b p indefinite is_cut (v ∷ k ∷ r) count =
-    run_same a b p indefinite is_cut (take count (v ∷ k ∷ r)) (nth (v ∷ k ∷ r) count).at size ends in
-    let first_same : content_of a v ≡ content_of b v =
-    version_content head s version n ∙ sym (version_content head t version n) in
+    length-append front (0x02 ∷ 0x01 ∷ version ∷ u)
+    ∙ (omega (arith, alike_len leaves u v alike) ∙ sym (length-append front (0x02 ∷ 0x01 ∷ version ∷ v))) in
+    let first : SameChild a b one = record {
+      content = inl (version_content front u version ∙ sym (version_content front v version));
+      ends = rw (at_version front u version, at_version front v version) refl;
+    } in
+    let all : All (SameChild a b) children =
+    All-cons (SameChild a b) one (children_at 9 is_cut a (p + 2 + 1)) first rest.1 in
+    let none : SameChild a b no_child = record { content = inl refl; ends = head_ends front _ _ some } in
+    let count : ℕ = followed children in
+    let run : run_in a p indefinite is_cut children count ≡ run_in b p indefinite is_cut children count =
+    run_same a b p indefinite is_cut (take count children) (nth children count).at size
+    (nth_all (SameChild a b) children count none all).ends in
+    let first_same : content_of a one ≡ content_of b one =
+    version_content front u version ∙ sym (version_content front v version) in
     rw (list, other) (record {
       same = run;
-      first = nth_first (λ (c : Child). content_of a c ≡ content_of b c) v (k ∷ r) count refl first_same;
-      third = nth_later (λ (c : Child). content_of a c ≡ content_of b c) v k r count 0 refl contents;
-      fourth = nth_later (λ (c : Child). content_of a c ≡ content_of b c) v k r count 1 refl contents;
+      first =
+          nth_first (λ (c : Child). content_of a c ≡ content_of b c) one (children_at 9 is_cut a (p + 2 + 1)) count refl
+          first_same;
+      third = (nth_few (SameChild a b) children count 2 none all).content;
+      fourth = (nth_few (SameChild a b) children count 3 none all).content;
     })

@@ -10,6 +10,7 @@ use Rattle.sec1_der.specs.Elements.{element, header, length_octets, max_length}
 use Rattle.sec1_der.specs.Identifiers.{content_of}
 use Rattle.sec1_der.specs.Trees.{Tree, forest, joined, leaf}
 use Rattle.der_view.proofs.KeyChildLemmas.{sequence_header}
+use Rattle.der_view.specs.Children.{first_tag}
 use Rattle.der_view.specs.OpenLaws.{IsRootOf, key_bytes}
 
 -- the trees after the private key, and their bytes
@@ -31,6 +32,35 @@ content_is : (private_key rest : List ℕ)
 content_is private_key rest =
     rw (len_1 1 (omega arith), append_assoc (header 0x04 (length private_key)) private_key rest) refl
 
+-- a key's bytes after those of the root's header
+record HasContent (root tail : List ℕ) (key : Key) : Type 0 where
+  root_is : root ≡ header 0x30 (length (content_with key.private_key (after_key key)))
+  inside : tail
+      ≡ 0x02 ∷ 0x01 ∷ 0x01 ∷ (header 0x04 (length key.private_key) ++ (key.private_key ++ after_key key))
+
+has_content : (root tail : List ℕ) (key : Key) → IsRootOf (root ++ tail) root → IsKeyOf key (root ++ tail)
+    → HasContent root tail key
+has_content root tail key at is =
+    let content : List ℕ = content_with key.private_key (after_key key) in
+    let bounded : length content ≤ max_length = is.tree.tree.2 in
+    let whole : root ++ tail ≡ header 0x30 (length content) ++ content = is.tree.whole in
+    let len : at.head.len ≡ 1 + length (length_octets (length content)) =
+    sequence_header (length content) content at.head bounded (rw whole at at.is_header) in
+    let size : length root ≡ length (header 0x30 (length content)) = omega (arith, at.len) in
+    let parts = split_same root (header 0x30 (length content)) tail content size whole in
+    record {
+      root_is = parts.0;
+      inside = parts.1 ∙ content_is key.private_key (after_key key);
+    }
+
+-- after the version no key has an INTEGER
+pub no_number : (root rest : List ℕ) (version : ℕ) → IsRootOf (root ++ (0x02 ∷ 0x01 ∷ version ∷ rest)) root
+    → first_tag rest ≡ 0x02 → (key : Key) × IsKeyOf key (root ++ (0x02 ∷ 0x01 ∷ version ∷ rest)) → ⊥
+no_number root rest version at number (key, is) =
+    let content = has_content root (0x02 ∷ 0x01 ∷ version ∷ rest) key at is in
+    let string : first_tag rest ≡ 0x04 = ap (λ (bytes : List ℕ). first_tag (drop 3 bytes)) content.inside in
+    absurd (omega arith)
+
 -- the parts of such a key
 record HasKey (root x : List ℕ) (version n : ℕ) (key : Key) : Type 0 where
   root_is : root ≡ header 0x30 (length (content_with key.private_key (after_key key)))
@@ -42,22 +72,12 @@ has_key : (root x : List ℕ) (version n : ℕ) (key : Key) → IsRootOf (key_by
     → IsKeyOf key (key_bytes root version n x) → HasKey root x version n key
 unfolding key_bytes
 has_key root x version n key at is =
-    let content : List ℕ = content_with key.private_key (after_key key) in
-    let tail : List ℕ = 0x02 ∷ 0x01 ∷ version ∷ (header 0x04 n ++ x) in
-    let bounded : length content ≤ max_length = is.tree.tree.2 in
-    let whole : root ++ tail ≡ header 0x30 (length content) ++ content = is.tree.whole in
-    let len : at.head.len ≡ 1 + length (length_octets (length content)) =
-    sequence_header (length content) content at.head bounded (rw whole at at.is_header) in
-    let size : length root ≡ length (header 0x30 (length content)) = omega (arith, at.len) in
-    let parts = split_same root (header 0x30 (length content)) tail content size whole in
-    let inside : tail
-    ≡ 0x02 ∷ 0x01 ∷ 0x01 ∷ (header 0x04 (length key.private_key) ++ (key.private_key ++ after_key key)) =
-    parts.1 ∙ content_is key.private_key (after_key key) in
+    let content = has_content root (0x02 ∷ 0x01 ∷ version ∷ (header 0x04 n ++ x)) key at is in
     let apart = header_apart 0x04 n 0x04 (length key.private_key) x (key.private_key ++ after_key key)
-    (ap (λ (bytes : List ℕ). drop 3 bytes) inside) in
+    (ap (λ (bytes : List ℕ). drop 3 bytes) content.inside) in
     record {
-      root_is = parts.0;
-      version_is = ap (λ (bytes : List ℕ). slice_index bytes 2) inside;
+      root_is = content.root_is;
+      version_is = ap (λ (bytes : List ℕ). slice_index bytes 2) content.inside;
       len = apart.1;
       bytes = apart.2;
     }

@@ -11,6 +11,7 @@ pub mod EncodedLemmas
 pub mod ForestLemmas
 pub mod HeaderLemmas
 pub mod KeyChildLemmas
+pub mod KeyLeafLemmas
 pub mod KeyLemmas
 pub mod KeyPlanLemmas
 pub mod KeyRowLemmas
@@ -19,6 +20,7 @@ pub mod LevelLemmas
 pub mod LineLemmas
 pub mod MarkLemmas
 pub mod NameLemmas
+pub mod NumberLemmas
 pub mod OpenLemmas
 pub mod PassLemmas
 pub mod PictureLemmas

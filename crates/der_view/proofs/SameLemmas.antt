@@ -89,7 +89,7 @@ component_same None (Some outer) passed (suc n) (x ∷ xs) (y ∷ ys) some same 
     let first : x ≡ y = cc in
     rw first refl
 
-component_at_same : (place : Place) (level : Level) (n : ℕ) (xs ys : List ℕ) → 0 < n → take n xs ≡ take n ys
+pub component_at_same : (place : Place) (level : Level) (n : ℕ) (xs ys : List ℕ) → 0 < n → take n xs ≡ take n ys
     → component_at place level xs ≡ component_at place level ys
 unfolding component_at
 component_at_same place level n xs ys some same =

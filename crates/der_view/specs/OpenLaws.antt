@@ -1,7 +1,7 @@
 -- What holds of two inputs that differ in bytes which aren't shown.
 use Rattle.std.specs.Prelude.{◌≡◌, ℕ, ◌≤◌, ◌&&◌, Bool, true, false, if◌then◌else◌, List, ◌∷◌}
-use Rattle.std.specs.Prelude.{◌++◌, length, take, drop, All, Option, Ok}
-use Rattle.sec1_der.specs.Elements.{header}
+use Rattle.std.specs.Prelude.{◌++◌, [], length, take, drop, map, All, Option, Ok}
+use Rattle.sec1_der.specs.Elements.{element, header}
 use Rattle.der_view.specs.Headers.{header_of, is_type, max_content_len}
 use Rattle.der_view.specs.Openings.{is_tree, opens_bits}
 use Rattle.der_view.specs.Pictures.{AreRows, IsKey, IsPicture}
@@ -96,3 +96,35 @@ KeyIsUnseen =
     (root x y : List ℕ) (version n : ℕ) → IsRootOf (key_bytes root version n x) root
     → n ≤ max_content_len → length x ≡ length y → drop n x ≡ drop n y
     → SamePictures (key_bytes root version n x) (key_bytes root version n y)
+
+-- X.690 section 8.3: INTEGERs with these contents in DER, one after the other
+unfoldable pub integers : List (List ℕ) → List ℕ
+integers [] = []
+integers (content ∷ contents) = element 0x02 content ++ integers contents
+
+-- RFC 8017 appendix A.1.2, and a DSA key: the header of a root, a version of one byte, INTEGERs
+-- with these contents, and what follows
+unfoldable pub number_bytes : List ℕ → ℕ → List (List ℕ) → List ℕ → List ℕ
+number_bytes root version contents rest =
+    root ++ (integers ((version ∷ []) ∷ contents) ++ rest)
+
+-- contents are as long as others, one by one, and none is longer than is read
+pub record AreAsLong (x y : List (List ℕ)) : Type 0 where
+  pub lengths : map length x ≡ map length y
+  pub few : All (λ content. length content ≤ max_content_len) x
+
+-- Bytes that begin as a key of numbers does have the same picture, whatever the numbers after its
+-- version, and however the bytes go on.
+abbrev pub NumbersAreUnseen : Type 0
+NumbersAreUnseen =
+    (root rest : List ℕ) (x y : List (List ℕ)) (version : ℕ)
+    → IsRootOf (number_bytes root version x rest) root → AreAsLong x y
+    → SamePictures (number_bytes root version x rest) (number_bytes root version y rest)
+
+-- So have such bytes that are cut off, wherever they end.
+abbrev pub CutNumbersAreUnseen : Type 0
+CutNumbersAreUnseen =
+    (root rest : List ℕ) (x y : List (List ℕ)) (version n : ℕ)
+    → IsRootOf (take n (number_bytes root version x rest)) root → AreAsLong x y
+    → SamePictures (take n (number_bytes root version x rest))
+    (take n (number_bytes root version y rest))

@@ -12,6 +12,7 @@ ghost use Rattle.der_view.specs.Rows.{IsNext, IsOpen, Undrawn, bytes_of_rows};
 ghost use Rattle.der_view.specs.Sources.{is_text, is_utf16, sources_of};
 ghost use Rattle.der_view.specs.TreeLaws.{AreWhole, MayBeWhole, outer_rows};
 ghost use Rattle.der_view.specs.declared.row.OpenRow.{OpenRow};
+ghost use Rattle.der_view.specs.OpenLaws.{CutNumbersAreUnseen, NumbersAreUnseen};
 
 /// The bytes of all rows, in order, are the input, and those of some rows and then those that have
 /// no row yet are what had none before: none is left out, and none is drawn twice.
@@ -82,4 +83,12 @@ pub fn accepted_is_whole(input: &[u8])
 pub fn refused_is_not_whole(input: &[u8])
     requires { tree_fault input.now ≢ None }
     ensures { (all : Bool) (rows : List OpenRow) → AreRows all input.now rows → ¬ AreWhole rows }
+{}
+
+/// Bytes that begin as an RSA key does (RFC 8017 appendix A.1.2), or as a DSA key, have the same
+/// picture, and the same status, whatever the numbers after the version, if these are as long: also
+/// if the bytes are damaged after them, or cut off anywhere.
+pub fn numbers_are_unseen()
+    ensures whole { NumbersAreUnseen }
+    ensures cut { CutNumbersAreUnseen }
 {}
