@@ -31,7 +31,7 @@ use Rattle.der_view.specs.declared.mark.ElementFault.{ElementFault}
 use Rattle.der_view.specs.declared.mark.ElementFault.TheVariants as faults
 
 -- a leaf in DER is a tree
-leaf_tree : (tag : ℕ) (content bytes : List ℕ) → IsHeader tag (length content) → is_constructed tag ≡ false
+pub leaf_tree : (tag : ℕ) (content bytes : List ℕ) → IsHeader tag (length content) → is_constructed tag ≡ false
     → bytes ≡ element tag content → is_tree bytes ≡ true
 unfolding is_tree
 leaf_tree tag content bytes h leaf e =
@@ -101,7 +101,7 @@ sequence_header n rest head few is =
     (ap (λ (l : Result (Option ℕ × ℕ) ElementFault). header_with (tag_of 0x30 0x10) 1 l) (length_if n rest few)) ∙ is)
 
 -- the first child, a version of one byte, whatever follows
-abbrev version_child : ℕ → Child
+abbrev pub version_child : ℕ → Child
 version_child at = record {
   tag = 0x02;
   at = at;
@@ -119,7 +119,7 @@ first_child may at version rest =
     rw (whole, version_tree version) refl
 
 -- a child that is a leaf, of which so many bytes are there
-abbrev leaf_child : Bool → ℕ → ℕ → ℕ → Child
+abbrev pub leaf_child : Bool → ℕ → ℕ → ℕ → Child
 leaf_child string at n len = record {
   tag = leaf_tag string;
   at = at;
@@ -150,7 +150,7 @@ is_leaf_tree false n rest few fits =
     (leaf_front false n rest fits)
 
 -- as a function of the number of bytes that are left alone
-abbrev leaf_child_if : Bool → Bool → ℕ → ℕ → ℕ → Child
+abbrev pub leaf_child_if : Bool → Bool → ℕ → ℕ → ℕ → Child
 leaf_child_if may string at n left =
     if nat_lt left n then (if may then leaf_child string at n left else none_at at) else leaf_child string at n n
 
@@ -159,7 +159,7 @@ child_of_leaf : (string : Bool) (at n len : ℕ) (rest : List ℕ)
 child_of_leaf true at n len rest = refl
 child_of_leaf false at n len rest = refl
 
-is_leaf_child : (may string : Bool) (at n : ℕ) (rest : List ℕ) → n ≤ max_content_len
+pub is_leaf_child : (may string : Bool) (at n : ℕ) (rest : List ℕ) → n ≤ max_content_len
     → child_after may at (header (leaf_tag string) n ++ rest) (header_of (header (leaf_tag string) n ++ rest))
     ≡ leaf_child_if may string at n (length rest)
 is_leaf_child may string at n rest few =
@@ -194,7 +194,7 @@ child_bounds_by may at bytes h (Some announced) =
     child_bounds_if (nat_lt (length bytes - h) announced) (is_tree (take (h + announced) bytes)) may at h announced
     (length bytes - h) bytes _ refl
 
-child_bounds : (may : Bool) (at : ℕ) (bytes : List ℕ) (r : Result Header ElementFault)
+pub child_bounds : (may : Bool) (at : ℕ) (bytes : List ℕ) (r : Result Header ElementFault)
     → ((child_after may at bytes r).at ≡ at) × (at ≤ (child_after may at bytes r).start)
     × (at ≤ (child_after may at bytes r).end)
 child_bounds may at bytes (Err e) = (refl, omega arith, omega arith)
@@ -210,18 +210,18 @@ abbrev pub IsRead : List ℕ → List ℕ → Child → Type 0
 IsRead a b child = (content_of a child ≡ content_of b child) ⊎ IsNoField child
 
 -- and an end-of-contents comes before it in both or in none
-record SameChild (a b : List ℕ) (child : Child) : Type 0 where
-  content : IsRead a b child
-  ends : begins (drop child.at a) (0x00 ∷ 0x00 ∷ []) ≡ begins (drop child.at b) (0x00 ∷ 0x00 ∷ [])
+pub record SameChild (a b : List ℕ) (child : Child) : Type 0 where
+  pub content : IsRead a b child
+  pub ends : begins (drop child.at a) (0x00 ∷ 0x00 ∷ []) ≡ begins (drop child.at b) (0x00 ∷ 0x00 ∷ [])
 
 -- the same bytes follow, or there is no child
-abbrev Rest : Bool → List ℕ → List ℕ → ℕ → Type 0
+abbrev pub Rest : Bool → List ℕ → List ℕ → ℕ → Type 0
 Rest may a b at =
     (drop at a ≡ drop at b)
     ⊎ ((child_at may a at ≡ none_at at) × (child_at may b at ≡ none_at at)
     × (begins (drop at a) (0x00 ∷ 0x00 ∷ []) ≡ begins (drop at b) (0x00 ∷ 0x00 ∷ [])))
 
-drop_more_same : (a b : List ℕ) (at to : ℕ) → at ≤ to → drop at a ≡ drop at b → drop to a ≡ drop to b
+pub drop_more_same : (a b : List ℕ) (at to : ℕ) → at ≤ to → drop at a ≡ drop at b → drop to a ≡ drop to b
 drop_more_same a b at to after same =
     let sum : to ≡ at + (to - at) = omega arith in
     ap (λ (n : ℕ). drop n a) sum
@@ -229,12 +229,12 @@ drop_more_same a b at to after same =
     ∙ (ap (λ (bytes : List ℕ). drop (to - at) bytes) same
     ∙ (drop-drop (to - at) at b ∙ ap (λ (n : ℕ). drop n b) (sym sum))))
 
-no_content : (a b : List ℕ) (at : ℕ) → content_of a (none_at at) ≡ content_of b (none_at at)
+pub no_content : (a b : List ℕ) (at : ℕ) → content_of a (none_at at) ≡ content_of b (none_at at)
 no_content a b at =
     let none : at - at ≡ 0 = omega arith in
     rw none refl
 
-rest_children : (most : ℕ) (may : Bool) (a b : List ℕ) (at : ℕ) → Rest may a b at
+pub rest_children : (most : ℕ) (may : Bool) (a b : List ℕ) (at : ℕ) → Rest may a b at
     → (children_at most may a at ≡ children_at most may b at) × All (SameChild a b) (children_at most may a at)
 unfolding children_at child_at
 rest_children zero may a b at rest = (refl, All-nil (SameChild a b))
@@ -273,14 +273,14 @@ no_field : (string : Bool) (at n len : ℕ) → IsNoField (leaf_child string at 
 no_field true at n len = record { parameters = refl; public_key = refl }
 no_field false at n len = record { parameters = refl; public_key = refl }
 
-leaf_begins : (string : Bool) (n : ℕ) (l m : List ℕ)
+pub leaf_begins : (string : Bool) (n : ℕ) (l m : List ℕ)
     → begins (header (leaf_tag string) n ++ l) (0x00 ∷ 0x00 ∷ [])
     ≡ begins (header (leaf_tag string) n ++ m) (0x00 ∷ 0x00 ∷ [])
 leaf_begins true n l m = refl
 leaf_begins false n l m = refl
 
 -- so many bytes after the header
-after_header : (string : Bool) (n k at : ℕ) (a l : List ℕ) → drop at a ≡ header (leaf_tag string) n ++ l
+pub after_header : (string : Bool) (n k at : ℕ) (a l : List ℕ) → drop at a ≡ header (leaf_tag string) n ++ l
     → drop (at + (1 + length (length_octets n)) + k) a ≡ drop k l
 after_header string n k at a l here =
     let sum : at + (1 + length (length_octets n)) + k ≡ at + (length (header (leaf_tag string) n) + k) = omega arith in
@@ -331,7 +331,7 @@ cut_children most true string a b at n l m in_a in_b size old new =
 cut_children most false string a b at n l m in_a in_b size old new =
     rest_children (suc most) false a b at (inr (old, new, rw (in_a, in_b) (leaf_begins string n l m)))
 
-leaf_children : (leaves : List (Bool × ℕ)) (most : ℕ) (may : Bool) (a b : List ℕ) (at : ℕ)
+pub leaf_children : (leaves : List (Bool × ℕ)) (most : ℕ) (may : Bool) (a b : List ℕ) (at : ℕ)
     → AreAlike leaves (drop at a) (drop at b)
     → (children_at most may a at ≡ children_at most may b at) × All (SameChild a b) (children_at most may a at)
 unfolding children_at child_at
@@ -373,7 +373,7 @@ after_version front rest version =
     let sum : length front + 2 + 1 ≡ length front + 3 = omega arith in
     rw sum (drop-append-add front (0x02 ∷ 0x01 ∷ version ∷ rest) 3)
 
-child_version : (may : Bool) (front rest : List ℕ) (version : ℕ)
+pub child_version : (may : Bool) (front rest : List ℕ) (version : ℕ)
     → child_at may (versioned front version rest) (length front) ≡ version_child (length front)
 unfolding child_at
 child_version may front rest version =
@@ -381,13 +381,13 @@ child_version may front rest version =
     ∙ first_child may (length front) version rest
 
 -- the first of some children, and those after the second one
-nth_all : (P : Child → Type 0) (children : List Child) (i : ℕ) → P no_child → All P children → P (nth children i)
+pub nth_all : (P : Child → Type 0) (children : List Child) (i : ℕ) → P no_child → All P children → P (nth children i)
 unfolding nth
 nth_all P [] i none all = none
 nth_all P (child ∷ children) zero none all = All-head P child children all
 nth_all P (child ∷ children) (suc i) none all = nth_all P children i none (All-tail P child children all)
 
-nth_few : (P : Child → Type 0) (children : List Child) (count i : ℕ) → P no_child → All P children
+pub nth_few : (P : Child → Type 0) (children : List Child) (count i : ℕ) → P no_child → All P children
     → P (nth (take count children) i)
 nth_few P children count i none all = nth_all P (take count children) i none (All-take P count children all)
 
@@ -407,7 +407,7 @@ run_by ends left start indefinite is_cut run end =
       cut = left == 0 && is_cut;
     }
 
-run_same : (a b : List ℕ) (start : ℕ) (indefinite is_cut : Bool) (run : List Child) (end : ℕ) → length a ≡ length b
+pub run_same : (a b : List ℕ) (start : ℕ) (indefinite is_cut : Bool) (run : List Child) (end : ℕ) → length a ≡ length b
     → begins (drop end a) (0x00 ∷ 0x00 ∷ []) ≡ begins (drop end b) (0x00 ∷ 0x00 ∷ [])
     → run_of a start indefinite is_cut run end ≡ run_of b start indefinite is_cut run end
 run_same a b start indefinite is_cut run end size ends =
@@ -440,23 +440,22 @@ unfolding nth
 nth_first P first children zero none is = none
 nth_first P first children (suc count) none is = is
 
-pub children_same : (front u v : List ℕ) (version : ℕ) (leaves : List (Bool × ℕ)) (indefinite is_cut : Bool)
-    → 2 ≤ length front → AreAlike leaves u v
+-- the children of a root, where those after the version are the same
+pub children_same_from : (front u v : List ℕ) (version : ℕ) (indefinite is_cut : Bool) → 2 ≤ length front
+    → length u ≡ length v
+    → (children_at 9 is_cut (versioned front version u) (length front + 2 + 1)
+    ≡ children_at 9 is_cut (versioned front version v) (length front + 2 + 1))
+    × All (SameChild (versioned front version u) (versioned front version v))
+    (children_at 9 is_cut (versioned front version u) (length front + 2 + 1))
     → SameChildren (versioned front version u) (versioned front version v)
     (children_of (versioned front version u) (length front) indefinite is_cut)
     (children_of (versioned front version v) (length front) indefinite is_cut)
 unfolding children_of children_at
-children_same front u v version leaves indefinite is_cut some alike =
+children_same_from front u v version indefinite is_cut some same rest =
     let a : List ℕ = versioned front version u in
     let b : List ℕ = versioned front version v in
     let p : ℕ = length front in
     let one : Child = version_child p in
-    let after : AreAlike leaves (drop (p + 2 + 1) a) (drop (p + 2 + 1) b) =
-    subst₂ (λ (s t : List ℕ). AreAlike leaves s t) (sym (after_version front u version))
-    (sym (after_version front v version)) alike in
-    let rest : (children_at 9 is_cut a (p + 2 + 1) ≡ children_at 9 is_cut b (p + 2 + 1))
-    × All (SameChild a b) (children_at 9 is_cut a (p + 2 + 1)) =
-    leaf_children leaves 9 is_cut a b (p + 2 + 1) after in
     let children : List Child = one ∷ children_at 9 is_cut a (p + 2 + 1) in
     let list : children_at 10 is_cut a p ≡ children =
     ap (λ (c : Child). c ∷ children_at 9 is_cut a c.end) (child_version is_cut front u version) in
@@ -465,7 +464,7 @@ children_same front u v version leaves indefinite is_cut some alike =
     ∙ ap (λ (cs : List Child). one ∷ cs) (sym rest.0) in
     let size : length a ≡ length b =
     length-append front (0x02 ∷ 0x01 ∷ version ∷ u)
-    ∙ (omega (arith, alike_len leaves u v alike) ∙ sym (length-append front (0x02 ∷ 0x01 ∷ version ∷ v))) in
+    ∙ (omega (arith, same) ∙ sym (length-append front (0x02 ∷ 0x01 ∷ version ∷ v))) in
     let first : SameChild a b one = record {
       content = inl (version_content front u version ∙ sym (version_content front v version));
       ends = rw (at_version front u version, at_version front v version) refl;
@@ -487,3 +486,14 @@ children_same front u v version leaves indefinite is_cut some alike =
       third = (nth_few (SameChild a b) children count 2 none all).content;
       fourth = (nth_few (SameChild a b) children count 3 none all).content;
     })
+
+pub children_same : (front u v : List ℕ) (version : ℕ) (leaves : List (Bool × ℕ)) (indefinite is_cut : Bool)
+    → 2 ≤ length front → AreAlike leaves u v
+    → SameChildren (versioned front version u) (versioned front version v)
+    (children_of (versioned front version u) (length front) indefinite is_cut)
+    (children_of (versioned front version v) (length front) indefinite is_cut)
+children_same front u v version leaves indefinite is_cut some alike =
+    children_same_from front u v version indefinite is_cut some (alike_len leaves u v alike)
+    (leaf_children leaves 9 is_cut (versioned front version u) (versioned front version v) (length front + 2 + 1)
+    (subst₂ (λ (s t : List ℕ). AreAlike leaves s t) (sym (after_version front u version))
+    (sym (after_version front v version)) alike))

@@ -48,7 +48,7 @@ pub alike_len : (leaves : List (Bool × ℕ)) (u v : List ℕ) → AreAlike leav
 alike_len [] u v same = ap length same
 alike_len ((string, n) ∷ leaves) u v (l, m, is, more) = leaves_len string n u v l m is
 
-drop_take : (n j : ℕ) (s : List ℕ) → drop n (take j s) ≡ take (j - n) (drop n s)
+pub drop_take : (n j : ℕ) (s : List ℕ) → drop n (take j s) ≡ take (j - n) (drop n s)
 drop_take n j s = ⊎_elim
     (λ short.
     let none : j - n ≡ 0 = omega arith in

@@ -1,5 +1,6 @@
 -- Bytes that begin as a private key does are a key's or aren't, whatever the private key.
-use Rattle.std.proofs.Common.{◌≡◌, ◌↔◌, ℕ, ◌+◌, ◌≤◌, Bool, true, false, IsTrue, List, [], ◌∷◌, ◌++◌, length, take, drop}
+use Rattle.std.proofs.Common.{◌≡◌, ◌≢◌, ◌↔◌, ℕ, ◌+◌, ◌≤◌, Bool, true, false, IsTrue, List, [], ◌∷◌, ◌++◌, length, take}
+use Rattle.std.proofs.Common.{drop}
 use Rattle.std.proofs.Common.{refl, sym, ap, ap₂, ◌∙◌, arith, slice_index}
 use Rattle.std.proofs.lemmas.List.{append_assoc, drop_at, length-append, length-take-le, take-append-drop}
 use Rattle.std.specs.Option.{option_map}
@@ -53,13 +54,12 @@ has_content root tail key at is =
       inside = parts.1 ∙ content_is key.private_key (after_key key);
     }
 
--- after the version no key has an INTEGER
-pub no_number : (root rest : List ℕ) (version : ℕ) → IsRootOf (root ++ (0x02 ∷ 0x01 ∷ version ∷ rest)) root
-    → first_tag rest ≡ 0x02 → (key : Key) × IsKeyOf key (root ++ (0x02 ∷ 0x01 ∷ version ∷ rest)) → ⊥
-no_number root rest version at number (key, is) =
+-- after the version a key has an OCTET STRING
+pub no_string : (root rest : List ℕ) (version : ℕ) → IsRootOf (root ++ (0x02 ∷ 0x01 ∷ version ∷ rest)) root
+    → first_tag rest ≢ 0x04 → (key : Key) × IsKeyOf key (root ++ (0x02 ∷ 0x01 ∷ version ∷ rest)) → ⊥
+no_string root rest version at other (key, is) =
     let content = has_content root (0x02 ∷ 0x01 ∷ version ∷ rest) key at is in
-    let string : first_tag rest ≡ 0x04 = ap (λ (bytes : List ℕ). first_tag (drop 3 bytes)) content.inside in
-    absurd (omega arith)
+    other (ap (λ (bytes : List ℕ). first_tag (drop 3 bytes)) content.inside)
 
 -- the parts of such a key
 record HasKey (root x : List ℕ) (version n : ℕ) (key : Key) : Type 0 where

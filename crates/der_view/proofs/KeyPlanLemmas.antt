@@ -73,7 +73,7 @@ expected_of_same tag len a b x first inside third fourth =
       expected_in_same a b x first inside third fourth,
     ) refl
 
-plan_of_children_same : (tag len : ℕ) (a b : List ℕ) (x y : Children) (marked : Bool) → SameChildren a b x y
+pub plan_of_children_same : (tag len : ℕ) (a b : List ℕ) (x y : Children) (marked : Bool) → SameChildren a b x y
     → inside_of a x ≡ inside_of b x → plan_of_children tag len a x marked ≡ plan_of_children tag len b y marked
 unfolding plan_of_children
 plan_of_children_same tag len a b x y marked s inside =
@@ -87,12 +87,12 @@ plan_of_children_same tag len a b x y marked s inside =
     ) refl
 
 -- of the same root, if the rest is as long
-same_root : (a b root : List ℕ) (head : Header) → head.tag.constructed ≡ true → first_tag a ≡ first_tag b
+pub same_root : (a b root : List ℕ) (head : Header) → head.tag.constructed ≡ true → first_tag a ≡ first_tag b
     → length a ≡ length b → plan_of_root a head root ≡ plan_of_root b head root
 unfolding guarded_plan
 same_root a b root head node tag size = rw (node, tag, size) refl
 
-or_true : (test : Bool) → (test || true) ≡ true
+pub or_true : (test : Bool) → (test || true) ≡ true
 or_true true = refl
 or_true false = refl
 
@@ -100,7 +100,7 @@ or_true false = refl
 abbrev pub version_first : List ℕ → ℕ → ℕ → List ℕ
 version_first rest version w = take w (0x02 ∷ 0x01 ∷ version ∷ rest)
 
-guarded_first : (tag version w : ℕ) (rest : List ℕ) → is_guarded tag (version_first rest version w) ≡ true
+pub guarded_first : (tag version w : ℕ) (rest : List ℕ) → is_guarded tag (version_first rest version w) ≡ true
 unfolding is_guarded
 guarded_first tag version zero rest = or_true (is_high tag)
 guarded_first tag version (suc zero) rest = or_true (is_high tag)
@@ -175,7 +175,7 @@ no_second front rest version w indefinite is_cut other =
     (child_tag is_cut first.end (drop first.end root) (header_of (drop first.end root)) next)
 
 -- such bytes are no container of a key
-integers_if : (finished two near versioned six nine : Bool)
+pub integers_if : (finished two near versioned six nine : Bool)
     → is_container
     (if not finished then forms.Other
     else (if two then (if near then forms.Signature else forms.Other)
@@ -194,7 +194,7 @@ string_if : (test : Bool) → is_container (if test then forms.EcPrivateKey else
 string_if true = refl
 string_if false = refl
 
-container_if : (integers versioned string : Bool) (x y : Form) → is_container x ≡ false → is_container y ≡ false
+pub container_if : (integers versioned string : Bool) (x y : Form) → is_container x ≡ false → is_container y ≡ false
     → is_container
     (if integers then x
     else (if not versioned then forms.Other else (if string then y else forms.Other)))
@@ -204,12 +204,12 @@ container_if false false string x y no_x no_y = refl
 container_if false true true x y no_x no_y = no_y
 container_if false true false x y no_x no_y = refl
 
-no_integers : (x : Children) → is_container (form_of_integers x) ≡ false
+pub no_integers : (x : Children) → is_container (form_of_integers x) ≡ false
 no_integers x =
     integers_if x.finished (x.count == 2) (nat_le (abs_diff (len_of x.first) (len_of x.second)) 3) (is_versioned x)
     (x.count == 6) (x.count == 9)
 
-no_string : (x : Children) → is_container (form_of_string x) ≡ false
+pub no_string : (x : Children) → is_container (form_of_string x) ≡ false
 no_string x = string_if (x.finished || nat_le (x.second.start - x.second.at) 2)
 
 no_container : (x : Children) → (x.second.tag == 0x30) ≡ false → is_container (form_of x) ≡ false
@@ -219,7 +219,7 @@ no_container x other =
     (container_if (x.second.tag == 0x02) (is_versioned x) (x.second.tag == 0x04) (form_of_integers x) (form_of_string x)
     (no_integers x) (no_string x))
 
-no_inside : (bytes : List ℕ) (x : Children) → (x.second.tag == 0x30) ≡ false → inside_of bytes x ≡ None
+pub no_inside : (bytes : List ℕ) (x : Children) → (x.second.tag == 0x30) ≡ false → inside_of bytes x ≡ None
 unfolding inside_of
 no_inside bytes x other = rw (no_container x other) refl
 
@@ -261,7 +261,7 @@ whole_second front rest version indefinite is_cut other =
     (take_all (length rest) rest (omega arith))
     (no_second front rest version (suc (suc (suc (length rest)))) indefinite is_cut other)
 
-guarded_version : (tag version : ℕ) (rest : List ℕ) → is_guarded tag (0x02 ∷ 0x01 ∷ version ∷ rest) ≡ true
+pub guarded_version : (tag version : ℕ) (rest : List ℕ) → is_guarded tag (0x02 ∷ 0x01 ∷ version ∷ rest) ≡ true
 unfolding is_guarded
 guarded_version tag version rest = or_true (is_high tag)
 
@@ -307,7 +307,7 @@ cuts (suc zero) version u v = inl refl
 cuts (suc (suc zero)) version u v = inl refl
 cuts (suc (suc (suc k))) version u v = inr (record { k = k; is_old = refl; is_new = refl })
 
-first_of : (front a b : List ℕ) → 2 ≤ length front → first_tag (front ++ a) ≡ first_tag (front ++ b)
+pub first_of : (front a b : List ℕ) → 2 ≤ length front → first_tag (front ++ a) ≡ first_tag (front ++ b)
 first_of [] a b some = absurd (omega arith)
 first_of (x ∷ front) a b some = refl
 

@@ -9,7 +9,7 @@ use Rattle.sec1_der.proofs.LengthLaws.{len_1}
 use Rattle.sec1_der.specs.Elements.{header}
 use Rattle.der_view.proofs.HeaderLemmas.{header_within}
 use Rattle.der_view.proofs.KeyChildLemmas.{versioned}
-use Rattle.der_view.proofs.KeyLemmas.{no_number}
+use Rattle.der_view.proofs.KeyLemmas.{no_string}
 use Rattle.der_view.proofs.KeyLeafLemmas.{AreAlike, AreLeaves, alike_first, alike_len, alike_take}
 use Rattle.der_view.proofs.KeyPlanLemmas.{Cuts, cuts, version_first}
 use Rattle.der_view.proofs.KeyRowLemmas.{equal_pictures, leaves_unseen, root_moves}
@@ -77,8 +77,8 @@ numbers_by root version n leaves u v number alike at =
     let other : IsRootOf (versioned root version v) root =
     root_moves root (0x02 ∷ 0x01 ∷ version ∷ u) (0x02 ∷ 0x01 ∷ version ∷ v) at in
     leaves_unseen root u v version ((false, n) ∷ leaves) at alike (rw number refl)
-    (λ key. absurd (no_number root u version at number key))
-    (λ key. absurd (no_number root v version other firsts.1 key))
+    (λ key. absurd (no_string root u version at (λ string. omega arith) key))
+    (λ key. absurd (no_string root v version other (λ string. omega (arith, firsts.1)) key))
 
 -- the first leaf that isn't cut off is a number
 numbers_if : (root : List ℕ) (version : ℕ) (leaves : List (Bool × ℕ)) (u v : List ℕ) → first_tag u ≡ 0x02

@@ -128,3 +128,30 @@ CutNumbersAreUnseen =
     → IsRootOf (take n (number_bytes root version x rest)) root → AreAsLong x y
     → SamePictures (take n (number_bytes root version x rest))
     (take n (number_bytes root version y rest))
+
+-- RFC 5958 section 2: the header of a root, a version of one byte, the algorithm, a privateKey, and
+-- what follows
+unfoldable pub container_bytes : List ℕ → ℕ → List ℕ → List ℕ → List ℕ → List ℕ
+container_bytes root version algorithm private_key rest =
+    root
+    ++ (0x02 ∷ 0x01 ∷ version ∷ (element 0x30 algorithm ++ (element 0x04 private_key ++ rest)))
+
+-- Bytes that begin as a container of a private key does have the same picture with either of two
+-- keys in it, which are as long, however the bytes go on.
+abbrev pub AreUnseenInside : List ℕ → List ℕ → Type 0
+AreUnseenInside x y =
+    (root algorithm rest : List ℕ) (version : ℕ)
+    → IsRootOf (container_bytes root version algorithm x rest) root
+    → length algorithm ≤ max_content_len → length x ≤ max_content_len
+    → SamePictures (container_bytes root version algorithm x rest)
+    (container_bytes root version algorithm y rest)
+
+-- RFC 8410 section 7: CurvePrivateKey, an OCTET STRING, as of Ed25519 and X25519
+abbrev pub CurveKeysAreUnseen : Type 0
+CurveKeysAreUnseen =
+    (x y : List ℕ) → length x ≡ length y → AreUnseenInside (element 0x04 x) (element 0x04 y)
+
+-- the same of an INTEGER, as of DSA
+abbrev pub NumberIsUnseen : Type 0
+NumberIsUnseen =
+    (x y : List ℕ) → length x ≡ length y → AreUnseenInside (element 0x02 x) (element 0x02 y)

@@ -13,6 +13,7 @@ ghost use Rattle.der_view.specs.Sources.{is_text, is_utf16, sources_of};
 ghost use Rattle.der_view.specs.TreeLaws.{AreWhole, MayBeWhole, outer_rows};
 ghost use Rattle.der_view.specs.declared.row.OpenRow.{OpenRow};
 ghost use Rattle.der_view.specs.OpenLaws.{CutNumbersAreUnseen, NumbersAreUnseen};
+ghost use Rattle.der_view.specs.OpenLaws.{CurveKeysAreUnseen, NumberIsUnseen};
 
 /// The bytes of all rows, in order, are the input, and those of some rows and then those that have
 /// no row yet are what had none before: none is left out, and none is drawn twice.
@@ -91,4 +92,11 @@ pub fn refused_is_not_whole(input: &[u8])
 pub fn numbers_are_unseen()
     ensures whole { NumbersAreUnseen }
     ensures cut { CutNumbersAreUnseen }
+{}
+
+/// Bytes that begin as a container of a private key does (RFC 5958 section 2) have the same
+/// picture, and the same status, whatever the key inside its privateKey, if it is as long.
+pub fn contained_keys_are_unseen()
+    ensures curve_key { CurveKeysAreUnseen }
+    ensures number { NumberIsUnseen }
 {}
