@@ -24,7 +24,7 @@ use Rattle.der_view.specs.declared.row.Shown.{Shown}
 use Rattle.der_view.specs.declared.row.Shown.TheVariants as shows
 use Rattle.sec1_dump.specs.Objects.{announced_data, class_text, content_data, count_data, fault_data, faults_data}
 use Rattle.sec1_dump.specs.Objects.{flag_data, form_text}
-use Rattle.sec1_dump.specs.Objects.{found_len, front_data, last_data, len_data, line_data, name_data, oid_data, put_if}
+use Rattle.sec1_dump.specs.Objects.{found_len, front_data, last_data, len_data, name_data, oid_data, put_if}
 use Rattle.sec1_dump.specs.Objects.{row_data, shown_data, type_text, value_data, with_block, with_content, with_field}
 use Rattle.sec1_dump.specs.Objects.{with_place, with_tag, words_data, words_text}
 use Rattle.sec1_dump.specs.Text.{text_of}
@@ -120,7 +120,7 @@ field_plain row ms others =
 
 fault_plain : (mark : Mark) → has_float (fault_data mark) ≡ false
 fault_plain mark =
-    let all = plain (codes "words") (line_data (mark_words mark)) _ refl
+    let all = plain (codes "words") (string (mark_words mark)) _ refl
     (plain_if (codes "part") (option_map string (mark_part mark)) _ (text_plain (mark_part mark))
     (plain (codes "kind") (string (mark_kind mark)) no_members refl (record { none = refl }))) in
     all.none
@@ -168,7 +168,7 @@ digits_plain None = refl
 content_plain : (row : OpenRow) (ms : Members) → ArePlain ms → ArePlain (with_content row ms)
 content_plain row ms others =
     plain_if (codes "value") (shown_data row.shown (row_value row)) _ (shown_plain row.shown (row_value row))
-    (plain (codes "type") (line_data (type_text row.kind)) _ refl
+    (plain (codes "type") (string (type_text row.kind)) _ refl
     (plain_if (codes "oid") (oid_data (row_value row)) _ (oid_plain (row_value row))
     (plain_if (codes "faults") (faults_data row.marks.first row.marks.second) _
     (faults_plain row.marks.first row.marks.second)

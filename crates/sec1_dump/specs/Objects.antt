@@ -8,7 +8,6 @@ use Rattle.serde_json.specs.Data.{Data, boolean, number, unsigned, string, array
 use Rattle.serde_json.specs.Data.{Members, no_members, put, item, no_items}
 use Rattle.der_view.specs.Fields.{field_name}
 use Rattle.der_view.specs.Headings.{FoundView, Decoded}
-use Rattle.der_view.specs.Lines.{kept}
 use Rattle.der_view.specs.Marks.{mark_kind, mark_part, mark_words}
 use Rattle.der_view.specs.RowLines.{point_text, row_value}
 use Rattle.der_view.specs.Sources.{SourceView, Der, Pem}
@@ -34,10 +33,6 @@ put_if key None members = members
 -- a number of bytes, of levels or of lines
 abbrev pub count_data : ℕ → Data
 count_data count = number (unsigned count)
-
--- as much of a text as a line of a picture keeps
-abbrev pub line_data : List ℕ → Data
-line_data text = string (text_of (kept text))
 
 -- `true`, or no member
 abbrev pub flag_data : Bool → Option Data
@@ -99,7 +94,7 @@ with_field row members =
 -- a mark; of one that expects a part of a key, also the name of the part
 abbrev pub fault_data : Mark → Data
 fault_data mark =
-    object (put (codes "words") (line_data (mark_words mark))
+    object (put (codes "words") (string (mark_words mark))
     (put_if (codes "part") (option_map string (mark_part mark))
     (put (codes "kind") (string (mark_kind mark)) no_members)))
 
@@ -125,7 +120,7 @@ value_data value = None
 
 -- SEC1 v2.0 section 2.3.3: the form and the size of a point, or else the value
 abbrev pub shown_data : Shown → Option ValueView → Option Data
-shown_data (shows.Point point) value = Some (line_data (point_text point))
+shown_data (shows.Point point) value = Some (string (point_text point))
 shown_data shown value = value_data value
 
 -- the type of a row
@@ -145,7 +140,7 @@ content_data None = None
 abbrev pub with_content : OpenRow → Members → Members
 with_content row members =
     put_if (codes "value") (shown_data row.shown (row_value row))
-    (put (codes "type") (line_data (type_text row.kind))
+    (put (codes "type") (string (type_text row.kind))
     (put_if (codes "oid") (oid_data (row_value row))
     (put_if (codes "faults") (faults_data row.marks.first row.marks.second)
     (put_if (codes "content") (content_data row.content) members))))

@@ -11,7 +11,7 @@ ghost use Rattle.der_view.specs.Values.{arcs_view, value_view};
 ghost use Rattle.sec1_dump.specs.Objects.{announced_data, class_text, content_data, count_data};
 ghost use Rattle.sec1_dump.specs.Objects.{fault_data};
 ghost use Rattle.sec1_dump.specs.Objects.{faults_data, flag_data, form_text, found_len, front_data};
-ghost use Rattle.sec1_dump.specs.Objects.{last_data, len_data, line_data, name_data, oid_data};
+ghost use Rattle.sec1_dump.specs.Objects.{last_data, len_data, name_data, oid_data};
 ghost use Rattle.sec1_dump.specs.Objects.{put_if};
 ghost use Rattle.sec1_dump.specs.Objects.{row_data, shown_data, text_data, type_text, value_data};
 ghost use Rattle.sec1_dump.specs.Objects.{with_block, with_content, with_field, with_place};
@@ -279,7 +279,7 @@ fn value_in(alloc: Global, row: &OpenRow) -> Result<Option<Value>, AllocError>
 
 /// Returns the form and the size of a point. Fails only if an allocation fails.
 fn point(alloc: Global, point: Point) -> Result<Value, AllocError>
-    ensures { IfOk result (λ value. view value ≡ line_data (point_text point)) }
+    ensures { IfOk result (λ value. view value ≡ string (point_text point)) }
 {
     let mut line = Line::new();
     line.push_point(point);
@@ -300,7 +300,7 @@ fn shown(alloc: Global, row: &OpenRow) -> Result<Option<Value>, AllocError>
 
 /// Returns the type of a row. Fails only if an allocation fails.
 fn type_of(alloc: Global, kind: Kind) -> Result<Value, AllocError>
-    ensures { IfOk result (λ value. view value ≡ line_data (type_text kind)) }
+    ensures { IfOk result (λ value. view value ≡ string (type_text kind)) }
 {
     let mut line = Line::new();
     match kind {
