@@ -1,7 +1,7 @@
 -- The lines of JSON of rows and of sources, and of one more of them.
 use denote.Bor.{Bor}
-use Rattle.std.proofs.Common.{◌≡◌, ℕ, Bool, true, false, ◌||◌, List, [], ◌∷◌, ◌++◌, Option, Some, None, refl, sym, ap}
-use Rattle.std.proofs.Common.{◌∙◌, append_assoc, append-nil, Result, Ok, Err, IfOk}
+use Rattle.std.proofs.Common.{◌≡◌, ℕ, Bool, false, List, ◌++◌, Option, Some, None, refl, sym, ap}
+use Rattle.std.proofs.Common.{◌∙◌, Result, Ok, Err, IfOk}
 use Rattle.std.proofs.KnownBytes.{Appends-trans}
 use Rattle.std.specs.Io.KnownBytes.{Appends}
 use Rattle.serde_json.specs.Data.{Data}
@@ -16,10 +16,10 @@ use Rattle.der_view.specs.declared.picture.verdict.Subject.{Subject}
 use Rattle.der_view.specs.declared.row.OpenRow.{OpenRow}
 use Rattle.der_view.specs.declared.text.Source.{Source}
 use Rattle.der_view.specs.declared.text.Source.TheVariants as sources
-use Rattle.sec1_dump.specs.Json.{AreJson, IsJson, IsJsonOfSource, IsJsonUnlessNone, json_line, rows_lines}
+use Rattle.sec1_dump.specs.Json.{IsJson, IsJsonOfSource, IsJsonUnlessNone, json_line, rows_lines}
 use Rattle.sec1_dump.specs.Json.{picture_bytes}
 use Rattle.sec1_dump.specs.Json.{found_verdict, shown_verdict}
-use Rattle.sec1_dump.specs.Objects.{front_data, last_data, row_data}
+use Rattle.sec1_dump.specs.Objects.{front_data, last_data}
 
 -- the lines of a source, from the first one and the others
 pub source_shown : {E : Type 0} (a b c : Option (List ℕ)) (all : Bool) (file : Option (List ℕ)) (source : SourceView)
