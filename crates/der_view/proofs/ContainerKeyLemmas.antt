@@ -1,19 +1,22 @@
 -- Containers of private keys (RFC 5958) that differ in the keys inside them.
 use Rattle.std.proofs.Common.{◌≡◌, ℕ, ◌+◌, ◌≤◌, Bool, true, false, List, [], ◌∷◌, ◌++◌, length, take, drop, refl}
-use Rattle.std.proofs.Common.{sym, ap, ap₂, ◌∙◌, arith}
-use Rattle.std.proofs.lemmas.List.{append_assoc, drop_at, length-append}
+use Rattle.std.proofs.Common.{sym, ap, ap₂, ◌∙◌, arith, subst₂, map, All}
+use Rattle.std.proofs.lemmas.List.{append_assoc, append-nil, drop_at, length-append, take-append-le}
+use Rattle.std.proofs.lemmas.List.Elements.{All-cons, All-nil}
+use Rattle.sec1_der.proofs.LengthLaws.{len_1}
 use Rattle.sec1_der.specs.Elements.{element, header}
 use Rattle.der_view.proofs.ContainerPlanLemmas.{AreKeys, container_known, container_plan, container_rest}
-use Rattle.der_view.proofs.ContainerRowLemmas.{InnerRows, IsContainer, container_rows, leaf_inner}
+use Rattle.der_view.proofs.ContainerRowLemmas.{InnerRows, IsContainer, container_rows, leaf_inner, sequence_inner}
 use Rattle.der_view.proofs.KeyChildLemmas.{versioned}
-use Rattle.der_view.proofs.KeyInsideLemmas.{leaf_key}
-use Rattle.der_view.proofs.KeyLeafLemmas.{AreAlike, AreLeaves, alike_take, leaf_tag}
+use Rattle.der_view.proofs.KeyInsideLemmas.{key_of, leaf_key, sequence_key}
+use Rattle.der_view.proofs.KeyLeafLemmas.{AreAlike, AreLeaves, alike_len, alike_take, leaf_tag}
 use Rattle.der_view.proofs.KeyLemmas.{no_string}
-use Rattle.der_view.proofs.KeyRowLemmas.{root_moves}
+use Rattle.der_view.proofs.KeyRowLemmas.{root_moves, span}
+use Rattle.der_view.proofs.NumberLemmas.{leaves_of, numbers_alike}
 use Rattle.der_view.proofs.OpenLemmas.{open_bytes_decide}
 use Rattle.der_view.specs.Headers.{max_content_len}
 use Rattle.der_view.specs.OpenLaws.{AreUnseenInside, CurveKeysAreUnseen, DifferUnseen, IsRootOf, NumberIsUnseen}
-use Rattle.der_view.specs.OpenLaws.{SamePictures, container_bytes}
+use Rattle.der_view.specs.OpenLaws.{ContainedNumbersAreUnseen, EcKeysAreUnseen, SamePictures, container_bytes, integers}
 use Rattle.der_view.specs.Plans.{plan_of}
 use Rattle.der_view.specs.Rows.{Undrawn}
 
@@ -141,3 +144,159 @@ curve_keys_are_unseen x y size =
 pub number_is_unseen : NumberIsUnseen
 number_is_unseen x y size =
     inside_unseen (element 0x02 x) (element 0x02 y) (element_len 0x02 x y size) (leaf_hidden false x y size)
+
+-- a key that is a SEQUENCE of a version and leaves
+record AreContents (s t : List ℕ) (leaves : List (Bool × ℕ)) : Type 0 where
+  size : length s ≡ length t
+  alike : (rest : List ℕ) → AreAlike leaves (s ++ rest) (t ++ rest)
+  span : span leaves ≤ length s
+
+sequence_hidden : (s t : List ℕ) (version : ℕ) (leaves : List (Bool × ℕ)) → AreContents s t leaves
+    → (root q rest : List ℕ) (outer : ℕ) → length (element 0x30 (0x02 ∷ 0x01 ∷ version ∷ s)) ≤ max_content_len
+    → AreHidden root q (element 0x30 (0x02 ∷ 0x01 ∷ version ∷ s) ++ rest)
+    (element 0x30 (0x02 ∷ 0x01 ∷ version ∷ t) ++ rest) outer (length (element 0x30 (0x02 ∷ 0x01 ∷ version ∷ s)))
+sequence_hidden s t version leaves c root q rest outer few =
+    let x : List ℕ = 0x02 ∷ 0x01 ∷ version ∷ s in
+    let y : List ℕ = 0x02 ∷ 0x01 ∷ version ∷ t in
+    let k : ℕ = length x in
+    let front : List ℕ = header 0x30 k in
+    let old : List ℕ = element 0x30 x in
+    let new : List ℕ = element 0x30 y in
+    let size : length y ≡ k = omega (arith, c.size) in
+    let new_is : new ≡ front ++ y = ap (λ (n : ℕ). header 0x30 n ++ y) size in
+    let x_len : length old ≡ length front + k = length-append front x in
+    let y_len : length new ≡ length front + k = ap length new_is ∙ (length-append front y ∙ omega (arith, size)) in
+    let alike : AreAlike leaves s t =
+    subst₂ (λ (v w : List ℕ). AreAlike leaves v w) (append-nil s) (append-nil t) (c.alike []) in
+    let old_is : front ++ (0x02 ∷ 0x01 ∷ version ∷ (s ++ rest)) ≡ old ++ rest = sym (append_assoc front x rest) in
+    let other_is : front ++ (0x02 ∷ 0x01 ∷ version ∷ (t ++ rest)) ≡ new ++ rest =
+    sym (append_assoc front y rest) ∙ ap (λ (bytes : List ℕ). bytes ++ rest) (sym new_is) in
+    let within : 3 + span leaves ≤ k = omega (arith, c.span) in
+    record {
+      keys = record {
+        size = length-append old rest ∙ (omega arith ∙ sym (length-append new rest));
+        after = drop_at old rest (length old) refl ∙ sym (drop_at new rest (length old) (omega arith));
+        few = few;
+        key = λ j fits.
+            ap (λ (bytes : List ℕ). key_of bytes) (take-append-le j old rest fits)
+            ∙ (sequence_key k version j s t leaves (omega arith) alike refl (omega arith)
+            ∙ sym (ap (λ (bytes : List ℕ). key_of bytes)
+            (take-append-le j new rest (omega arith) ∙ ap (λ (bytes : List ℕ). take j bytes) new_is)));
+      };
+      rows = λ u.
+          let a : List ℕ = versioned root outer (container_rest q (length old) (old ++ rest)) in
+          let b : List ℕ = versioned root outer (container_rest q (length old) (new ++ rest)) in
+          subst₂ (λ (v w : List ℕ). InnerRows a b (length old) v w u) old_is other_is
+          (sequence_inner a b (s ++ rest) (t ++ rest) version k (length old) leaves u (omega arith) (c.alike rest)
+          within
+          (omega (arith, length-append s rest)) x_len);
+    }
+
+sequence_unseen : (s t : List ℕ) (version : ℕ) (leaves : List (Bool × ℕ)) → AreContents s t leaves
+    → AreUnseenInside (element 0x30 (0x02 ∷ 0x01 ∷ version ∷ s)) (element 0x30 (0x02 ∷ 0x01 ∷ version ∷ t))
+sequence_unseen s t version leaves c =
+    inside_unseen (element 0x30 (0x02 ∷ 0x01 ∷ version ∷ s)) (element 0x30 (0x02 ∷ 0x01 ∷ version ∷ t))
+    (element_len 0x30 (0x02 ∷ 0x01 ∷ version ∷ s) (0x02 ∷ 0x01 ∷ version ∷ t) (omega (arith, c.size)))
+    (λ root q rest outer few. sequence_hidden s t version leaves c root q rest outer few)
+
+-- an ECPrivateKey
+ec_contents : (x y fields : List ℕ) → length x ≡ length y → length x ≤ max_content_len
+    → AreContents (element 0x04 x ++ fields) (element 0x04 y ++ fields) ((true, length x) ∷ [])
+ec_contents x y fields size few =
+    let front : List ℕ = header 0x04 (length x) in
+    let new : element 0x04 y ≡ front ++ y = ap (λ (n : ℕ). header 0x04 n ++ y) (sym size) in
+    let x_len : length (element 0x04 x) ≡ length front + length x = length-append front x in
+    let y_len : length (element 0x04 y) ≡ length front + length y = ap length new ∙ length-append front y in
+    record {
+      size =
+          length-append (element 0x04 x) fields
+          ∙ (omega arith ∙ sym (length-append (element 0x04 y) fields));
+      alike = λ rest.
+          let l : List ℕ = x ++ (fields ++ rest) in
+          let m : List ℕ = y ++ (fields ++ rest) in
+          let two : AreLeaves true (length x) ((element 0x04 x ++ fields) ++ rest) ((element 0x04 y ++ fields) ++ rest)
+          l
+          m = record {
+            old = append_assoc (element 0x04 x) fields rest ∙ append_assoc front x (fields ++ rest);
+            new =
+                append_assoc (element 0x04 y) fields rest
+                ∙ (ap (λ (bytes : List ℕ). bytes ++ (fields ++ rest)) new ∙ append_assoc front y (fields ++ rest));
+            size = omega (arith, length-append x (fields ++ rest), length-append y (fields ++ rest));
+            few = few;
+          } in
+          let after : drop (length x) l ≡ drop (length x) m =
+          drop_at x (fields ++ rest) (length x) refl ∙ sym (drop_at y (fields ++ rest) (length x) (sym size)) in
+          (l, m, two, after);
+      span = omega (arith, length-append (element 0x04 x) fields);
+    }
+
+pub ec_keys_are_unseen : EcKeysAreUnseen
+ec_keys_are_unseen x y fields version size root q rest outer at short few =
+    let whole : List ℕ = 0x02 ∷ 0x01 ∷ version ∷ (element 0x04 x ++ fields) in
+    let small : length x ≤ max_content_len =
+    omega (
+      arith,
+      length-append (header 0x30 (length whole)) whole,
+      length-append (element 0x04 x) fields,
+      length-append (header 0x04 (length x)) x,
+    ) in
+    sequence_unseen (element 0x04 x ++ fields) (element 0x04 y ++ fields) version ((true, length x) ∷ [])
+    (ec_contents x y fields size small) root q rest outer at short few
+
+-- numbers
+numbers_span : (x : List (List ℕ)) → span (leaves_of x) ≡ length (integers x)
+unfolding integers
+numbers_span [] = refl
+numbers_span (c ∷ x) =
+    let more : span (leaves_of x) ≡ length (integers x) = numbers_span x in
+    omega (
+      arith,
+      length-append (element 0x02 c) (integers x),
+      length-append (header 0x02 (length c)) c,
+    )
+
+numbers_few : (most : ℕ) (x : List (List ℕ)) → length (integers x) ≤ most → All (λ content. length content ≤ most) x
+unfolding integers
+numbers_few most [] few = All-nil (λ content. length content ≤ most)
+numbers_few most (c ∷ x) few =
+    let here : length c ≤ most =
+    omega (
+      arith,
+      length-append (element 0x02 c) (integers x),
+      length-append (header 0x02 (length c)) c,
+    ) in
+    All-cons (λ content. length content ≤ most) c x here
+    (numbers_few most x (omega (arith, length-append (element 0x02 c) (integers x))))
+
+numbers_contents : (x y : List (List ℕ)) → map length x ≡ map length y → length (integers x) ≤ max_content_len
+    → AreContents (integers x) (integers y) (leaves_of x)
+numbers_contents x y same few =
+    let alike : (rest : List ℕ) → AreAlike (leaves_of x) (integers x ++ rest) (integers y ++ rest) =
+    λ rest. numbers_alike rest x y same (numbers_few max_content_len x few) in
+    let sizes : length (integers x ++ []) ≡ length (integers y ++ []) =
+    alike_len (leaves_of x) (integers x ++ []) (integers y ++ []) (alike []) in
+    record {
+      size = omega (arith, length-append (integers x) [], length-append (integers y) []);
+      alike = alike;
+      span = omega (arith, numbers_span x);
+    }
+
+version_is : (version : ℕ) (x : List (List ℕ)) → integers ((version ∷ []) ∷ x) ≡ 0x02 ∷ 0x01 ∷ version ∷ integers x
+unfolding integers
+version_is version x =
+    ap (λ (octets : List ℕ). ((0x02 ∷ octets) ++ (version ∷ [])) ++ integers x) (len_1 1 (omega arith))
+
+pub contained_numbers_are_unseen : ContainedNumbersAreUnseen
+contained_numbers_are_unseen x y version same =
+    subst₂ (λ (v w : List ℕ). AreUnseenInside (element 0x30 v) (element 0x30 w)) (sym (version_is version x))
+    (sym (version_is version y)) (numbers_inside x y version same)
+  where
+    numbers_inside : (x y : List (List ℕ)) (version : ℕ) → map length x ≡ map length y
+        → AreUnseenInside (element 0x30 (0x02 ∷ 0x01 ∷ version ∷ integers x))
+        (element 0x30 (0x02 ∷ 0x01 ∷ version ∷ integers y))
+    numbers_inside x y version same root q rest outer at short few =
+        let whole : List ℕ = 0x02 ∷ 0x01 ∷ version ∷ integers x in
+        let small : length (integers x) ≤ max_content_len =
+        omega (arith, length-append (header 0x30 (length whole)) whole) in
+        sequence_unseen (integers x) (integers y) version (leaves_of x) (numbers_contents x y same small) root q rest
+        outer at short few

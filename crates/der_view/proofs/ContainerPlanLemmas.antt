@@ -11,7 +11,8 @@ use Rattle.std.proofs.lemmas.List.Elements.{All-cons}
 use Rattle.std.proofs.Math.Seq.{drop-append_seam, take-append-add}
 use Rattle.std.specs.Prelude.{nat_lt}
 use Rattle.sec1_der.specs.Elements.{element, header, length_octets}
-use Rattle.der_view.proofs.ContainerRowLemmas.{IsContainer, sequence_head, sequence_header}
+use Rattle.der_view.proofs.ContainerRowLemmas.{IsContainer}
+use Rattle.der_view.proofs.OpenedRowLemmas.{sequence_head, sequence_header}
 use Rattle.der_view.proofs.HeaderLemmas.{header_front, header_within}
 use Rattle.der_view.proofs.KeyChildLemmas.{SameChild, SameChildren, after_header, after_version}
 use Rattle.der_view.proofs.KeyChildLemmas.{at_version, child_bounds, child_version, children_same_from, is_leaf_child}

@@ -9,17 +9,16 @@ use Rattle.std.proofs.lemmas.List.{take-append-drop}
 use Rattle.std.proofs.lemmas.List.Elements.{All-cons, All-nil}
 use Rattle.std.proofs.Math.Seq.{drop-append_seam}
 use Rattle.std.specs.Prelude.{nat_le, nat_lt, option_map}
-use Rattle.sec1_der.specs.Elements.{element, header, length_octets}
-use Rattle.der_view.proofs.KeyChildLemmas.{length_in_der}
-use Rattle.der_view.proofs.KeyLeafLemmas.{AreLeaves, leaf_header, leaf_tag}
+use Rattle.sec1_der.specs.Elements.{element, header}
+use Rattle.der_view.proofs.KeyLeafLemmas.{AreAlike, AreLeaves, leaf_header, leaf_tag}
 use Rattle.der_view.proofs.KeyRowLemmas.{NoneInside, after_leaf, after_three, ended_rows, left_after, none_inside}
-use Rattle.der_view.proofs.KeyRowLemmas.{root_rows, version_row}
+use Rattle.der_view.proofs.KeyRowLemmas.{root_rows, span, version_row, version_rows}
 use Rattle.der_view.proofs.LeafRowLemmas.{IsAfter, LookAlike, is_leaf, is_version, late_rows, leaf_closed, leaf_row}
 use Rattle.der_view.proofs.LeafRowLemmas.{component, integer_seen, next_found, no_rows, over_rows, still_few}
 use Rattle.der_view.proofs.LeafRowLemmas.{string_seen}
-use Rattle.der_view.proofs.OpenedRowLemmas.{AreOpened, IsHead, IsOpened, opened_row}
+use Rattle.der_view.proofs.OpenedRowLemmas.{AreOpened, IsHead, IsOpened, opened_row, sequence_head, sequence_header}
 use Rattle.der_view.proofs.RegionLemmas.{AreAbove, region_rows}
-use Rattle.der_view.specs.Headers.{header_of, max_content_len, tag_of}
+use Rattle.der_view.specs.Headers.{header_of, max_content_len}
 use Rattle.der_view.specs.Levels.{input_level, still_open}
 use Rattle.der_view.specs.Marks.{cut_mark}
 use Rattle.der_view.specs.OpenLaws.{LeavesLookSame, LooksSame}
@@ -178,23 +177,6 @@ string_rows a b l m n (r ∷ rows) x u level outer (y, is, seen, more) levels hi
     string_by (field_inside (place_of x)) a b l m n rows x y u r level outer is more levels hidden known some few same
     at
     in_a in_b refl inner
-
--- the header of a SEQUENCE
-abbrev pub sequence_header : ℕ → Header
-sequence_header n = record {
-  tag = tag_of 0x30 0x10;
-  tag_len = 1;
-  len = 1 + length (length_octets n);
-  content_len = Some n;
-}
-
-pub sequence_head : (n : ℕ) → n ≤ max_content_len → IsHead (header 0x30 n) (sequence_header n) n
-sequence_head n few = record {
-  is = λ rest. rw (length_in_der n rest few) refl;
-  len = omega arith;
-  some = omega arith;
-  content = refl;
-}
 
 abbrev opened_if : Bool → Option ℕ
 opened_if opens = if opens then Some 0 else None
@@ -436,5 +418,54 @@ leaf_inner a b l m s t string k n u two size same = record { look = inner_rows a
         (λ over. ended_rows [] a b rows x y u level outer (length front + k) more (omega (arith, is.offset))
         (is.all ∙ hidden) left after (inr (omega arith)) (λ end. left_after x y r (length front + k) is end) over.0
         over.1 (omega arith))
+        row.1 in
+        All-cons (LooksSame true a b) r rows row.0 rest
+
+-- the rows of a key that is a SEQUENCE of a version and leaves
+pub sequence_inner : (a b s t : List ℕ) (version k n : ℕ) (leaves : List (Bool × ℕ)) (u : Undrawn)
+    → k ≤ max_content_len → AreAlike leaves s t → 3 + span leaves ≤ k → k ≤ 3 + length s
+    → n ≡ length (header 0x30 k) + k
+    → InnerRows a b n (header 0x30 k ++ (0x02 ∷ 0x01 ∷ version ∷ s)) (header 0x30 k ++ (0x02 ∷ 0x01 ∷ version ∷ t)) u
+sequence_inner a b s t version k n leaves u few alike inside there size =
+    record { look = inner_rows a b s t version k n leaves u few alike inside there size }
+  where
+    inner_rows : (a b s t : List ℕ) (version k n : ℕ) (leaves : List (Bool × ℕ)) (u : Undrawn) → k ≤ max_content_len
+        → AreAlike leaves s t → 3 + span leaves ≤ k → k ≤ 3 + length s → n ≡ length (header 0x30 k) + k
+        → (rows : List OpenRow) (x : Undrawn) (level : Level) (outer : List Level) (field : Field) → AreRowsOf rows x u
+        → x.levels ≡ level ∷ outer → length outer ≤ 2 → x.all ≡ false → x.plan.guarded ≡ true
+        → NoneInside x.plan x.offset → level.next ≡ Some field → is_version field ≡ false
+        → n + level.rest ≡ length x.left → 0 < n → 0 < x.offset → x.left ≡ drop x.offset a
+        → drop x.offset a ≡ header 0x30 k ++ (0x02 ∷ 0x01 ∷ version ∷ s)
+        → drop x.offset b ≡ header 0x30 k ++ (0x02 ∷ 0x01 ∷ version ∷ t) → All (LooksSame true a b) rows
+    inner_rows a b s t version k n leaves u few alike inside there size [] x level outer field rows levels shallow
+        hidden guarded none next other fits bytes some at in_a in_b =
+        All-nil (LooksSame true a b)
+    inner_rows a b s t version k n leaves u few alike inside there size (r ∷ rows) x level outer field
+        (y, is, seen, more) levels shallow hidden guarded none next other fits bytes some at in_a in_b =
+        let front : List ℕ = header 0x30 k in
+        let l : List ℕ = 0x02 ∷ 0x01 ∷ version ∷ s in
+        let m : List ℕ = 0x02 ∷ 0x01 ∷ version ∷ t in
+        let row = opened_row a b front l m (sequence_header k) k x y r level outer is levels hidden guarded at in_a in_b
+        (sequence_head k few) (sequence_opens (place_of x) level k l m (omega arith)) (omega arith) (omega arith) in
+        let left : y.left ≡ drop y.offset a = is.left ∙ rw (at, is.offset) (drop-drop (row_len r) x.offset a) in
+        let rest : All (LooksSame true a b) rows = ⊎_elim
+        (λ (none_left : length y.left ≡ 0). no_rows (LooksSame true a b) rows y u more none_left)
+        (λ (o : IsOpened x y front level outer k).
+        let after : length y.left ≡ length x.left - length front = left_after x y r (length front) is o.offset in
+        let start : y.offset ≡ x.offset + (length front + 0) = omega (arith, o.offset) in
+        ⊎_elim
+        (λ (on : (inner : Level) × (y.levels ≡ still_open (length y.left) (inner ∷ o.next ∷ outer))
+        × (inner.rest ≡ length x.left - length front - k) × (inner.indefinite ≡ false)
+        × (inner.next ≡ field_inside (place_of x))).
+        let test : nat_lt on.0.rest (length y.left) ≡ true =
+        let less : on.0.rest < length y.left = omega (arith, on.2) in
+        grind (arith, nat_tests) in
+        version_rows a b s t version leaves rows y u on.0 (o.next ∷ outer) alike more (rw test at on.1) (is.all
+        ∙ hidden)
+        (rw is.plan guarded) (rw is.plan (λ offset past. none offset (omega (arith, is.offset))))
+        (on.4 ∙ none_inside x x.offset none (omega arith)) (omega (arith, is.offset)) (inr (omega (arith, on.2))) left
+        (after_leaf front 0 x.offset y.offset a l in_a start) (after_leaf front 0 x.offset y.offset b m in_b start))
+        (λ empty. absurd (omega (arith, empty.0)))
+        o.levels)
         row.1 in
         All-cons (LooksSame true a b) r rows row.0 rest

@@ -1,22 +1,30 @@
 -- What is inside the private key of a container (RFC 5958 section 2) doesn't follow from its secret bytes.
-use Rattle.std.proofs.Common.{◌≡◌, ℕ, zero, suc, ◌+◌, ◌<◌, ◌≤◌, ⊎_elim, Bool, true, false}
-use Rattle.std.proofs.Common.{List, [], ◌∷◌, ◌++◌, length, take, drop, if◌then◌else◌, refl, sym, ap, ◌∙◌, subst₂, arith}
+use Rattle.std.proofs.Common.{◌≡◌, ℕ, zero, suc, ◌+◌, ◌-◌, ◌<◌, ◌≤◌, ⊎_elim, Bool, true, false}
+use Rattle.std.proofs.Common.{List, [], ◌∷◌, ◌++◌, length, take, drop, if◌then◌else◌, refl, sym, ap, ap₂, ◌∙◌, subst₂}
+use Rattle.std.proofs.Common.{arith}
 use Rattle.std.proofs.Common.{Option, Some, None, is_none}
 use Rattle.std.proofs.lemmas.Bool.{cases_lt}
+use Rattle.std.proofs.lemmas.List.{length-append, length-drop, length-take, take-append-le, take_all}
+use Rattle.std.proofs.Math.Seq.{take-append-add}
 use Rattle.std.specs.Option.{option_or}
 use Rattle.std.specs.Prelude.{nat_lt}
 use Rattle.sec1_der.proofs.ElementFaultLemmas.{any_short}
 use Rattle.sec1_der.proofs.FaultLaws.{any_room}
-use Rattle.sec1_der.specs.Elements.{IsHeader, header}
+use Rattle.sec1_der.proofs.LengthLaws.{len_1}
+use Rattle.sec1_der.specs.Elements.{IsHeader, header, length_octets}
 use Rattle.sec1_der.specs.Faults.{Fault, any_fault, end_fault, forest_fault, nested_fault}
 use Rattle.sec1_der.specs.Trees.{max_tree_depth}
 use Rattle.sec1_der.specs.declared.error.ErrorKind.{ErrorKind}
 use Rattle.sec1_der.specs.declared.error.ErrorKind.TheVariants.{Depth}
-use Rattle.der_view.proofs.KeyLeafLemmas.{AreAlike, AreLeaves, alike_len, leaf_tag, leaves_len}
+use Rattle.der_view.proofs.KeyLeafLemmas.{AreAlike, AreLeaves, alike_len, alike_take, leaf_tag, leaves_len}
+use Rattle.der_view.proofs.HeaderLemmas.{header_within}
+use Rattle.der_view.proofs.KeyChildLemmas.{children_same}
+use Rattle.der_view.proofs.OpenedRowLemmas.{sequence_head, sequence_header}
 use Rattle.der_view.specs.Children.{first_tag}
-use Rattle.der_view.specs.Headers.{max_content_len}
-use Rattle.der_view.specs.KeyForms.{key_of_tag}
+use Rattle.der_view.specs.Headers.{header_of, max_content_len}
+use Rattle.der_view.specs.KeyForms.{key_after, key_by, key_of_tag}
 use Rattle.der_view.specs.Openings.{is_tree}
+use Rattle.der_view.specs.declared.children.Children.{Children}
 use Rattle.der_view.specs.declared.field.Field.{Field}
 use Rattle.der_view.specs.declared.field.Field.TheVariants as fields
 
@@ -96,3 +104,135 @@ leaf_key ((string, n) ∷ leaves) u v (l, m, is, more) =
     key_of_leaf string (is_tree u) u (ap (λ (bytes : List ℕ). first_tag bytes) is.old)
     ∙ (ap (λ (test : Bool). if test then Some fields.TheKey else None) tree
     ∙ sym (key_of_leaf string (is_tree v) v (ap (λ (bytes : List ℕ). first_tag bytes) is.new)))
+
+-- ---- a key that is a SEQUENCE of a version and leaves
+
+version_alike : (version : ℕ) (leaves : List (Bool × ℕ)) (s t : List ℕ) → AreAlike leaves s t
+    → AreAlike ((false, 1) ∷ leaves) (0x02 ∷ 0x01 ∷ version ∷ s) (0x02 ∷ 0x01 ∷ version ∷ t)
+version_alike version leaves s t alike = (
+  version ∷ s,
+  version ∷ t,
+  record {
+    old = ap (λ (octets : List ℕ). 0x02 ∷ (octets ++ (version ∷ s))) (sym (len_1 1 (omega arith)));
+    new = ap (λ (octets : List ℕ). 0x02 ∷ (octets ++ (version ∷ t))) (sym (len_1 1 (omega arith)));
+    size = omega (arith, alike_len leaves s t alike);
+    few = omega arith;
+  },
+  alike,
+)
+
+-- its fault
+sequence_is : (n : ℕ) → n ≤ max_content_len → IsHeader 0x30 n
+sequence_is n few = record { tag_byte = refl; bounded = omega arith }
+
+sequence_fault : (n : ℕ) (x y : List ℕ) (leaves : List (Bool × ℕ)) (f : Fault) → n ≤ max_content_len
+    → ((s t : List ℕ) (some : List (Bool × ℕ)) → AreAlike some s t → f s ≡ f t) → AreAlike leaves x y
+    → any_fault (nested_fault f) end_fault (header 0x30 n ++ x)
+    ≡ any_fault (nested_fault f) end_fault (header 0x30 n ++ y)
+sequence_fault n x y leaves f few same alike =
+    let size : length x ≡ length y = alike_len leaves x y alike in
+    let h : IsHeader 0x30 n = sequence_is n few in
+    ⊎_elim
+    (λ (short : length x < n).
+    any_short (nested_fault f) end_fault 0x30 n _ x h refl short
+    ∙ sym (any_short (nested_fault f) end_fault 0x30 n _ y h refl (omega arith)))
+    (λ (fits : n ≤ length x).
+    let part = alike_take n leaves x y alike in
+    let after : length (drop n x) ≡ length (drop n y) = omega (arith, length-drop n x, length-drop n y) in
+    any_room (nested_fault f) end_fault 0x30 n _ x h refl fits
+    ∙ (ap₂ (λ (p q : Option (Option ErrorKind)). option_or p q) (same (take n x) (take n y) part.0 part.1)
+    (end_same (drop n x) (drop n y) after)
+    ∙ sym (any_room (nested_fault f) end_fault 0x30 n _ y h refl (omega arith))))
+    (cases_lt (length x) n)
+
+sequence_tree : (n : ℕ) (x y : List ℕ) (leaves : List (Bool × ℕ)) → n ≤ max_content_len → AreAlike leaves x y
+    → is_tree (header 0x30 n ++ x) ≡ is_tree (header 0x30 n ++ y)
+unfolding is_tree
+sequence_tree n x y leaves few alike =
+    let size : length (header 0x30 n ++ x) ≡ length (header 0x30 n ++ y) =
+    length-append (header 0x30 n) x
+    ∙ (ap (λ (k : ℕ). length (header 0x30 n) + k) (alike_len leaves x y alike)
+    ∙ sym (length-append (header 0x30 n) y)) in
+    ap (λ (fault : Option (Option ErrorKind)). is_none fault)
+    (sequence_fault n x y leaves (forest_fault (length (header 0x30 n ++ x)) 2) few
+    (λ s t some e. forest_same some (length (header 0x30 n ++ x)) 2 s t e) alike
+    ∙ ap (λ (k : ℕ). any_fault (nested_fault (forest_fault k 2)) end_fault (header 0x30 n ++ y)) size)
+
+-- fewer bytes than announced are no tree
+short_tree : (n : ℕ) (x : List ℕ) → n ≤ max_content_len → length x < n → is_tree (header 0x30 n ++ x) ≡ false
+unfolding is_tree
+short_tree n x few short =
+    ap (λ (fault : Option (Option ErrorKind)). is_none fault)
+    (any_short (nested_fault (forest_fault (length (header 0x30 n ++ x)) 2)) end_fault 0x30 n _ x (sequence_is n few)
+    refl
+    short)
+
+-- which key it is
+two_bytes : (n : ℕ) → n ≤ max_content_len → 2 ≤ length (header 0x30 n)
+two_bytes n few =
+    let octets : 1 < 1 + length (length_octets n) =
+    (header_within (header 0x30 n ++ []) (sequence_header n) ((sequence_head n few).is [])).0 in
+    omega arith
+
+sequence_form : (n version : ℕ) (s t : List ℕ) (leaves : List (Bool × ℕ)) → n ≤ max_content_len → AreAlike leaves s t
+    → key_after (header 0x30 n ++ (0x02 ∷ 0x01 ∷ version ∷ s)) (header_of (header 0x30 n ++ (0x02 ∷ 0x01 ∷ version ∷
+    s)))
+    ≡ key_after (header 0x30 n ++ (0x02 ∷ 0x01 ∷ version ∷ t)) (header_of (header 0x30 n ++ (0x02 ∷ 0x01 ∷ version ∷
+    t)))
+sequence_form n version s t leaves few alike =
+    let x : List ℕ = 0x02 ∷ 0x01 ∷ version ∷ s in
+    let y : List ℕ = 0x02 ∷ 0x01 ∷ version ∷ t in
+    let head = sequence_head n few in
+    let sum : 1 + length (length_octets n) ≡ length (header 0x30 n) = omega arith in
+    let same = children_same (header 0x30 n) s t version leaves false false (two_bytes n few) alike in
+    rw (head.is x, head.is y, sum) (ap (λ (c : Children). key_by c) same.same)
+
+sequence_whole : (n version : ℕ) (s t : List ℕ) (leaves : List (Bool × ℕ)) → n ≤ max_content_len → AreAlike leaves s t
+    → key_of (header 0x30 n ++ (0x02 ∷ 0x01 ∷ version ∷ s)) ≡ key_of (header 0x30 n ++ (0x02 ∷ 0x01 ∷ version ∷ t))
+sequence_whole n version s t leaves few alike =
+    ap₂ (λ (test : Bool) (o : Option Field). if test then o else None)
+    (sequence_tree n (0x02 ∷ 0x01 ∷ version ∷ s) (0x02 ∷ 0x01 ∷ version ∷ t) ((false, 1) ∷ leaves) few
+    (version_alike version leaves s t alike))
+    (sequence_form n version s t leaves few alike)
+
+-- a part of it
+sequence_part : (n version j : ℕ) (s t : List ℕ) (leaves : List (Bool × ℕ)) → n ≤ max_content_len → AreAlike leaves s t
+    → n ≡ length (0x02 ∷ 0x01 ∷ version ∷ s) → j ≤ n
+    → key_of (header 0x30 n ++ take j (0x02 ∷ 0x01 ∷ version ∷ s))
+    ≡ key_of (header 0x30 n ++ take j (0x02 ∷ 0x01 ∷ version ∷ t))
+sequence_part n version j s t leaves few alike size within =
+    let x : List ℕ = 0x02 ∷ 0x01 ∷ version ∷ s in
+    let y : List ℕ = 0x02 ∷ 0x01 ∷ version ∷ t in
+    let sizes : length x ≡ length y = omega (arith, alike_len leaves s t alike) in
+    ⊎_elim
+    (λ (short : j < n).
+    let old : is_tree (header 0x30 n ++ take j x) ≡ false =
+    short_tree n (take j x) few (omega (arith, length-take j x)) in
+    let new : is_tree (header 0x30 n ++ take j y) ≡ false =
+    short_tree n (take j y) few (omega (arith, length-take j y)) in
+    rw (old, new) refl)
+    (λ (all : n ≤ j).
+    rw (take_all j x (omega arith), take_all j y (omega arith)) (sequence_whole n version s t leaves few alike))
+    (cases_lt j n)
+
+pub sequence_key : (n version k : ℕ) (s t : List ℕ) (leaves : List (Bool × ℕ)) → n ≤ max_content_len
+    → AreAlike leaves s t → n ≡ length (0x02 ∷ 0x01 ∷ version ∷ s) → k ≤ length (header 0x30 n) + n
+    → key_of (take k (header 0x30 n ++ (0x02 ∷ 0x01 ∷ version ∷ s)))
+    ≡ key_of (take k (header 0x30 n ++ (0x02 ∷ 0x01 ∷ version ∷ t)))
+sequence_key n version k s t leaves few alike size within =
+    let x : List ℕ = 0x02 ∷ 0x01 ∷ version ∷ s in
+    let y : List ℕ = 0x02 ∷ 0x01 ∷ version ∷ t in
+    let front : List ℕ = header 0x30 n in
+    ⊎_elim
+    (λ (short : k < length front).
+    ap (λ (bytes : List ℕ). key_of bytes)
+    (take-append-le k front x (omega arith) ∙ sym (take-append-le k front y (omega arith))))
+    (λ (long : length front ≤ k).
+    let j : ℕ = k - length front in
+    let sum : k ≡ length front + j = omega arith in
+    let part : (bytes : List ℕ) → take k (front ++ bytes) ≡ front ++ take j bytes =
+    λ bytes. ap (λ (i : ℕ). take i (front ++ bytes)) sum ∙ take-append-add front bytes j in
+    ap (λ (bytes : List ℕ). key_of bytes) (part x)
+    ∙ (sequence_part n version j s t leaves few alike size (omega arith)
+    ∙ sym (ap (λ (bytes : List ℕ). key_of bytes) (part y))))
+    (cases_lt k (length front))

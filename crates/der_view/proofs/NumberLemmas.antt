@@ -19,7 +19,7 @@ use Rattle.der_view.specs.OpenLaws.{CutNumbersAreUnseen, IsRootOf, NumbersAreUns
 use Rattle.der_view.specs.OpenLaws.{integers, number_bytes}
 
 -- they are leaves
-abbrev leaves_of : List (List ℕ) → List (Bool × ℕ)
+abbrev pub leaves_of : List (List ℕ) → List (Bool × ℕ)
 leaves_of contents = map (λ content. (false, length content)) contents
 
 number_is : (content : List ℕ) (contents : List (List ℕ)) (rest : List ℕ)
@@ -30,7 +30,7 @@ number_is content contents rest =
     append_assoc (header 0x02 (length content) ++ content) (integers contents) rest
     ∙ append_assoc (header 0x02 (length content)) content (integers contents ++ rest)
 
-numbers_alike : (rest : List ℕ) (x y : List (List ℕ)) → map length x ≡ map length y
+pub numbers_alike : (rest : List ℕ) (x y : List (List ℕ)) → map length x ≡ map length y
     → All (λ content. length content ≤ max_content_len) x
     → AreAlike (leaves_of x) (integers x ++ rest) (integers y ++ rest)
 unfolding integers

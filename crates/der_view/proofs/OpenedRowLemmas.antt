@@ -10,7 +10,9 @@ use Rattle.std.specs.Prelude.{nat_le, nat_lt, option_map, slice_get}
 use Rattle.der_view.proofs.LeafRowLemmas.{IsAfter, IsWithin, component, drawn_within, is_after, rest_row, row_looks}
 use Rattle.der_view.proofs.SameLemmas.{component_at_same}
 use Rattle.der_view.proofs.SeenLemmas.{content_inside}
-use Rattle.der_view.specs.Headers.{header_of}
+use Rattle.sec1_der.specs.Elements.{header, length_octets}
+use Rattle.der_view.proofs.KeyChildLemmas.{length_in_der}
+use Rattle.der_view.specs.Headers.{header_of, max_content_len, tag_of}
 use Rattle.der_view.specs.Levels.{followed, level_after, opened_in, still_open}
 use Rattle.der_view.specs.Marks.{cut_mark}
 use Rattle.der_view.specs.OpenLaws.{ContentsLookSame, LooksSame}
@@ -35,6 +37,23 @@ pub record IsHead (front : List ℕ) (found : Header) (size : ℕ) : Type 0 wher
   pub len : found.len ≡ length front
   pub some : 0 < length front
   pub content : found.content_len ≡ Some size
+
+-- the header of a SEQUENCE
+abbrev pub sequence_header : ℕ → Header
+sequence_header n = record {
+  tag = tag_of 0x30 0x10;
+  tag_len = 1;
+  len = 1 + length (length_octets n);
+  content_len = Some n;
+}
+
+pub sequence_head : (n : ℕ) → n ≤ max_content_len → IsHead (header 0x30 n) (sequence_header n) n
+sequence_head n few = record {
+  is = λ rest. rw (length_in_der n rest few) refl;
+  len = omega arith;
+  some = omega arith;
+  content = refl;
+}
 
 -- it is opened, unless it has no content, and its content isn't seen
 pub record AreOpened (place : Place) (level : Level) (front : List ℕ) (found : Header) (size : ℕ) (l m : List ℕ)

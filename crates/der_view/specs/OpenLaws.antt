@@ -155,3 +155,17 @@ CurveKeysAreUnseen =
 abbrev pub NumberIsUnseen : Type 0
 NumberIsUnseen =
     (x y : List ℕ) → length x ≡ length y → AreUnseenInside (element 0x02 x) (element 0x02 y)
+
+-- the same of an ECPrivateKey (RFC 5915 section 3) with a version of one byte, of its private key
+abbrev pub EcKeysAreUnseen : Type 0
+EcKeysAreUnseen =
+    (x y fields : List ℕ) (version : ℕ) → length x ≡ length y
+    → AreUnseenInside (element 0x30 (0x02 ∷ 0x01 ∷ version ∷ (element 0x04 x ++ fields)))
+    (element 0x30 (0x02 ∷ 0x01 ∷ version ∷ (element 0x04 y ++ fields)))
+
+-- the same of an RSAPrivateKey (RFC 8017 appendix A.1.2), of the numbers after its version
+abbrev pub ContainedNumbersAreUnseen : Type 0
+ContainedNumbersAreUnseen =
+    (x y : List (List ℕ)) (version : ℕ) → map length x ≡ map length y
+    → AreUnseenInside (element 0x30 (integers ((version ∷ []) ∷ x)))
+    (element 0x30 (integers ((version ∷ []) ∷ y)))

@@ -13,7 +13,8 @@ ghost use Rattle.der_view.specs.Sources.{is_text, is_utf16, sources_of};
 ghost use Rattle.der_view.specs.TreeLaws.{AreWhole, MayBeWhole, outer_rows};
 ghost use Rattle.der_view.specs.declared.row.OpenRow.{OpenRow};
 ghost use Rattle.der_view.specs.OpenLaws.{CutNumbersAreUnseen, NumbersAreUnseen};
-ghost use Rattle.der_view.specs.OpenLaws.{CurveKeysAreUnseen, NumberIsUnseen};
+ghost use Rattle.der_view.specs.OpenLaws.{ContainedNumbersAreUnseen, CurveKeysAreUnseen};
+ghost use Rattle.der_view.specs.OpenLaws.{EcKeysAreUnseen, NumberIsUnseen};
 
 /// The bytes of all rows, in order, are the input, and those of some rows and then those that have
 /// no row yet are what had none before: none is left out, and none is drawn twice.
@@ -98,5 +99,7 @@ pub fn numbers_are_unseen()
 /// picture, and the same status, whatever the key inside its privateKey, if it is as long.
 pub fn contained_keys_are_unseen()
     ensures curve_key { CurveKeysAreUnseen }
+    ensures ec_key { EcKeysAreUnseen }
     ensures number { NumberIsUnseen }
+    ensures numbers { ContainedNumbersAreUnseen }
 {}
