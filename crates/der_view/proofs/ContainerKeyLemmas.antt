@@ -1,22 +1,29 @@
 -- Containers of private keys (RFC 5958) that differ in the keys inside them.
-use Rattle.std.proofs.Common.{◌≡◌, ℕ, ◌+◌, ◌≤◌, Bool, true, false, List, [], ◌∷◌, ◌++◌, length, take, drop, refl}
+use Rattle.std.proofs.Common.{◌≡◌, ℕ, ◌+◌, ◌-◌, ◌<◌, ◌≤◌, ⊎_elim, Bool, true, false, List, [], ◌∷◌, ◌++◌, length, take}
+use Rattle.std.proofs.Common.{drop, refl}
 use Rattle.std.proofs.Common.{sym, ap, ap₂, ◌∙◌, arith, subst₂, map, All}
-use Rattle.std.proofs.lemmas.List.{append_assoc, append-nil, drop_at, length-append, take-append-le}
+use Rattle.std.proofs.lemmas.List.{append_assoc, append-nil, drop_at, length-append, length-take, take-append-le}
+use Rattle.std.proofs.Math.Seq.{take-append-add}
+use Rattle.std.proofs.lemmas.Bool.{cases_lt}
 use Rattle.std.proofs.lemmas.List.Elements.{All-cons, All-nil}
 use Rattle.sec1_der.proofs.LengthLaws.{len_1}
 use Rattle.sec1_der.specs.Elements.{element, header}
-use Rattle.der_view.proofs.ContainerPlanLemmas.{AreKeys, container_known, container_plan, container_rest}
+use Rattle.der_view.proofs.ContainerPlanLemmas.{AreKeys, CutBefore, Splits, container_known, container_plan}
+use Rattle.der_view.proofs.ContainerPlanLemmas.{container_rest, keys_take, rest_take}
+use Rattle.der_view.proofs.HeaderLemmas.{header_within}
+use Rattle.der_view.proofs.KeyPlanLemmas.{Cuts, cuts, version_first}
 use Rattle.der_view.proofs.ContainerRowLemmas.{InnerRows, IsContainer, container_rows, leaf_inner, sequence_inner}
 use Rattle.der_view.proofs.KeyChildLemmas.{versioned}
 use Rattle.der_view.proofs.KeyInsideLemmas.{key_of, leaf_key, sequence_key}
-use Rattle.der_view.proofs.KeyLeafLemmas.{AreAlike, AreLeaves, alike_len, alike_take, leaf_tag}
+use Rattle.der_view.proofs.KeyLeafLemmas.{AreAlike, AreLeaves, alike_take, leaf_tag}
 use Rattle.der_view.proofs.KeyLemmas.{no_string}
-use Rattle.der_view.proofs.KeyRowLemmas.{root_moves, span}
+use Rattle.der_view.proofs.KeyRowLemmas.{equal_pictures, root_moves, span}
 use Rattle.der_view.proofs.NumberLemmas.{leaves_of, numbers_alike}
 use Rattle.der_view.proofs.OpenLemmas.{open_bytes_decide}
 use Rattle.der_view.specs.Headers.{max_content_len}
-use Rattle.der_view.specs.OpenLaws.{AreUnseenInside, CurveKeysAreUnseen, DifferUnseen, IsRootOf, NumberIsUnseen}
-use Rattle.der_view.specs.OpenLaws.{ContainedNumbersAreUnseen, EcKeysAreUnseen, SamePictures, container_bytes, integers}
+use Rattle.der_view.specs.OpenLaws.{AreUnseenCut, AreUnseenInside, DifferUnseen, IsRootOf, OfCurveKeys, OfEcKeys}
+use Rattle.der_view.specs.OpenLaws.{OfNumber}
+use Rattle.der_view.specs.OpenLaws.{OfNumberKeys, SamePictures, container_bytes, integers}
 use Rattle.der_view.specs.Plans.{plan_of}
 use Rattle.der_view.specs.Rows.{Undrawn}
 
@@ -78,15 +85,93 @@ bytes_are root q key rest version =
     ap (λ (bytes : List ℕ). versioned root version (element 0x30 q ++ bytes))
     (append_assoc (header 0x04 (length key)) key rest)
 
-inside_unseen : (x y : List ℕ) → length x ≡ length y
-    → ((root q rest : List ℕ) (version : ℕ) → length x ≤ max_content_len
-    → AreHidden root q (x ++ rest) (y ++ rest) version (length x))
-    → AreUnseenInside x y
-inside_unseen x y size hidden root q rest version at short few =
+-- two keys, whatever is around them
+record AreHiddenKeys (x y : List ℕ) : Type 0 where
+  size : length x ≡ length y
+  hidden : (root q rest : List ℕ) (version : ℕ) → length x ≤ max_content_len
+      → AreHidden root q (x ++ rest) (y ++ rest) version (length x)
+
+unseen_inside : (x y : List ℕ) → AreHiddenKeys x y → AreUnseenInside x y
+unseen_inside x y two root q rest version at short few =
     let known : IsRootOf (versioned root version (container_rest q (length x) (x ++ rest))) root =
     rw (bytes_are root q x rest version) at at in
-    rw (bytes_are root q x rest version, bytes_are root q y rest version, sym size)
-    (container_unseen root q (x ++ rest) (y ++ rest) version (length x) known short (hidden root q rest version few))
+    rw (bytes_are root q x rest version, bytes_are root q y rest version, sym two.size)
+    (container_unseen root q (x ++ rest) (y ++ rest) version (length x) known short (two.hidden root q rest version
+    few))
+
+-- a private key that is cut isn't opened
+cut_hidden : (root q l m : List ℕ) (version n j : ℕ) → AreKeys n l m → j < n
+    → AreHidden root q (take j l) (take j m) version n
+cut_hidden root q l m version n j keys short = record {
+  keys = keys_take n j l m keys;
+  rows = λ u. record {
+    look = λ rows x level outer field are levels shallow hidden guarded none next other fits bytes some at in_a in_b.
+        absurd (omega (arith, ap length (at ∙ in_a), length-take j l));
+  };
+}
+
+-- so many bytes of the private key, and of what follows it
+part_unseen : (x y : List ℕ) → AreHiddenKeys x y → (root q rest : List ℕ) (version j : ℕ) → length x ≤ max_content_len
+    → AreHidden root q (take j (x ++ rest)) (take j (y ++ rest)) version (length x)
+part_unseen x y two root q rest version j few =
+    let size : length x ≡ length y = two.size in
+    ⊎_elim
+    (λ (short : j < length x).
+    cut_hidden root q (x ++ rest) (y ++ rest) version (length x) j (two.hidden root q rest version few).keys short)
+    (λ (long : length x ≤ j).
+    let k : ℕ = j - length x in
+    let old : x ++ take k rest ≡ take j (x ++ rest) =
+    let sum : length x + k ≡ j = omega arith in
+    sym (take-append-add x rest k) ∙ ap (λ (i : ℕ). take i (x ++ rest)) sum in
+    let new : y ++ take k rest ≡ take j (y ++ rest) =
+    let sum : length y + k ≡ j = omega arith in
+    sym (take-append-add y rest k) ∙ ap (λ (i : ℕ). take i (y ++ rest)) sum in
+    subst₂ (λ (l m : List ℕ). AreHidden root q l m version (length x)) old new
+    (two.hidden root q (take k rest) version few))
+    (cases_lt j (length x))
+
+-- a part of such bytes that is longer than the root's header
+cut_is : (root q key rest : List ℕ) (version n : ℕ) → length root ≤ n
+    → take n (container_bytes root version q key rest)
+    ≡ root ++ version_first (container_rest q (length key) (key ++ rest)) version (n - length root)
+cut_is root q key rest version n few =
+    let sum : n ≡ length root + (n - length root) = omega arith in
+    ap₂ (λ (k : ℕ) (bytes : List ℕ). take k bytes) sum (bytes_are root q key rest version)
+    ∙ take-append-add root (0x02 ∷ 0x01 ∷ version ∷ container_rest q (length key) (key ++ rest)) (n - length root)
+
+cut_after : (x y root q rest : List ℕ) (version k : ℕ) → AreHiddenKeys x y → length q ≤ max_content_len
+    → length x ≤ max_content_len
+    → IsRootOf (versioned root version (take k (container_rest q (length x) (x ++ rest)))) root
+    → SamePictures (versioned root version (take k (container_rest q (length x) (x ++ rest))))
+    (versioned root version (take k (container_rest q (length x) (y ++ rest))))
+cut_after x y root q rest version k two short few at = ⊎_elim
+    (λ (before : CutBefore k (length x) q (x ++ rest) (y ++ rest)).
+    equal_pictures _ _ (ap (λ (bytes : List ℕ). versioned root version bytes) before.0))
+    (λ (parts : Splits k (length x) q (x ++ rest) (y ++ rest)).
+    let known : IsRootOf (versioned root version (container_rest q (length x) (take parts.j (x ++ rest)))) root =
+    rw parts.old at at in
+    rw (parts.old, parts.new)
+    (container_unseen root q (take parts.j (x ++ rest)) (take parts.j (y ++ rest)) version (length x) known short
+    (part_unseen x y two root q rest version parts.j few)))
+    (rest_take k (length x) q (x ++ rest) (y ++ rest))
+
+unseen_cut : (x y : List ℕ) → AreHiddenKeys x y → AreUnseenCut x y
+unseen_cut x y two root q rest version n at short few =
+    let bytes : List ℕ = container_bytes root version q x rest in
+    let u : List ℕ = container_rest q (length x) (x ++ rest) in
+    let v : List ℕ = container_rest q (length x) (y ++ rest) in
+    let within : at.head.len ≤ length (take n bytes) = (header_within (take n bytes) at.head at.is_header).1 in
+    let enough : length root ≤ n = omega (arith, at.len, length-take n bytes) in
+    let w : ℕ = n - length root in
+    let known : IsRootOf (root ++ version_first u version w) root = rw (cut_is root q x rest version n enough) at at in
+    rw (cut_is root q x rest version n enough, cut_is root q y rest version n enough, sym two.size)
+    (⊎_elim
+    (λ (same : version_first u version w ≡ version_first v version w).
+    equal_pictures _ _ (ap (λ (s : List ℕ). root ++ s) same))
+    (λ (c : Cuts w version u v).
+    let here : IsRootOf (versioned root version (take c.k u)) root = rw c.is_old at known in
+    rw (c.is_old, c.is_new) (cut_after x y root q rest version c.k two short few here))
+    (cuts w version u v))
 
 -- a key that is one leaf
 leaf_hidden : (string : Bool) (x y : List ℕ) → length x ≡ length y → (root q rest : List ℕ) (version : ℕ)
@@ -137,13 +222,12 @@ element_len tag x y size =
     length-append (header tag (length x)) x
     ∙ (ap₂ (λ (i j : ℕ). length (header tag i) + j) size size ∙ sym (length-append (header tag (length y)) y))
 
-pub curve_keys_are_unseen : CurveKeysAreUnseen
-curve_keys_are_unseen x y size =
-    inside_unseen (element 0x04 x) (element 0x04 y) (element_len 0x04 x y size) (leaf_hidden true x y size)
-
-pub number_is_unseen : NumberIsUnseen
-number_is_unseen x y size =
-    inside_unseen (element 0x02 x) (element 0x02 y) (element_len 0x02 x y size) (leaf_hidden false x y size)
+leaf_keys : (string : Bool) (x y : List ℕ) → length x ≡ length y
+    → AreHiddenKeys (element (leaf_tag string) x) (element (leaf_tag string) y)
+leaf_keys string x y size = record {
+  size = element_len (leaf_tag string) x y size;
+  hidden = leaf_hidden string x y size;
+}
 
 -- a key that is a SEQUENCE of a version and leaves
 record AreContents (s t : List ℕ) (leaves : List (Bool × ℕ)) : Type 0 where
@@ -192,17 +276,23 @@ sequence_hidden s t version leaves c root q rest outer few =
           (omega (arith, length-append s rest)) x_len);
     }
 
-sequence_unseen : (s t : List ℕ) (version : ℕ) (leaves : List (Bool × ℕ)) → AreContents s t leaves
-    → AreUnseenInside (element 0x30 (0x02 ∷ 0x01 ∷ version ∷ s)) (element 0x30 (0x02 ∷ 0x01 ∷ version ∷ t))
-sequence_unseen s t version leaves c =
-    inside_unseen (element 0x30 (0x02 ∷ 0x01 ∷ version ∷ s)) (element 0x30 (0x02 ∷ 0x01 ∷ version ∷ t))
-    (element_len 0x30 (0x02 ∷ 0x01 ∷ version ∷ s) (0x02 ∷ 0x01 ∷ version ∷ t) (omega (arith, c.size)))
-    (λ root q rest outer few. sequence_hidden s t version leaves c root q rest outer few)
+sequence_keys : (s t : List ℕ) (version : ℕ) (leaves : List (Bool × ℕ)) → length s ≡ length t
+    → (length s ≤ max_content_len → AreContents s t leaves)
+    → AreHiddenKeys (element 0x30 (0x02 ∷ 0x01 ∷ version ∷ s)) (element 0x30 (0x02 ∷ 0x01 ∷ version ∷ t))
+sequence_keys s t version leaves size contents =
+    let x : List ℕ = 0x02 ∷ 0x01 ∷ version ∷ s in
+    let y : List ℕ = 0x02 ∷ 0x01 ∷ version ∷ t in
+    record {
+      size = element_len 0x30 x y (omega (arith, size));
+      hidden = λ root q rest outer few.
+          sequence_hidden s t version leaves (contents (omega (arith, length-append (header 0x30 (length x)) x))) root q
+          rest outer few;
+    }
 
 -- an ECPrivateKey
-ec_contents : (x y fields : List ℕ) → length x ≡ length y → length x ≤ max_content_len
+ec_contents : (x y fields : List ℕ) → length x ≡ length y → length (element 0x04 x ++ fields) ≤ max_content_len
     → AreContents (element 0x04 x ++ fields) (element 0x04 y ++ fields) ((true, length x) ∷ [])
-ec_contents x y fields size few =
+ec_contents x y fields size small =
     let front : List ℕ = header 0x04 (length x) in
     let new : element 0x04 y ≡ front ++ y = ap (λ (n : ℕ). header 0x04 n ++ y) (sym size) in
     let x_len : length (element 0x04 x) ≡ length front + length x = length-append front x in
@@ -222,7 +312,7 @@ ec_contents x y fields size few =
                 append_assoc (element 0x04 y) fields rest
                 ∙ (ap (λ (bytes : List ℕ). bytes ++ (fields ++ rest)) new ∙ append_assoc front y (fields ++ rest));
             size = omega (arith, length-append x (fields ++ rest), length-append y (fields ++ rest));
-            few = few;
+            few = omega (arith, length-append (element 0x04 x) fields);
           } in
           let after : drop (length x) l ≡ drop (length x) m =
           drop_at x (fields ++ rest) (length x) refl ∙ sym (drop_at y (fields ++ rest) (length x) (sym size)) in
@@ -230,18 +320,15 @@ ec_contents x y fields size few =
       span = omega (arith, length-append (element 0x04 x) fields);
     }
 
-pub ec_keys_are_unseen : EcKeysAreUnseen
-ec_keys_are_unseen x y fields version size root q rest outer at short few =
-    let whole : List ℕ = 0x02 ∷ 0x01 ∷ version ∷ (element 0x04 x ++ fields) in
-    let small : length x ≤ max_content_len =
-    omega (
-      arith,
-      length-append (header 0x30 (length whole)) whole,
-      length-append (element 0x04 x) fields,
-      length-append (header 0x04 (length x)) x,
-    ) in
-    sequence_unseen (element 0x04 x ++ fields) (element 0x04 y ++ fields) version ((true, length x) ∷ [])
-    (ec_contents x y fields size small) root q rest outer at short few
+ec_keys : (x y fields : List ℕ) (version : ℕ) → length x ≡ length y
+    → AreHiddenKeys (element 0x30 (0x02 ∷ 0x01 ∷ version ∷ (element 0x04 x ++ fields)))
+    (element 0x30 (0x02 ∷ 0x01 ∷ version ∷ (element 0x04 y ++ fields)))
+ec_keys x y fields version size =
+    let sizes : length (element 0x04 x ++ fields) ≡ length (element 0x04 y ++ fields) =
+    length-append (element 0x04 x) fields
+    ∙ (ap (λ (k : ℕ). k + length fields) (element_len 0x04 x y size) ∙ sym (length-append (element 0x04 y) fields)) in
+    sequence_keys (element 0x04 x ++ fields) (element 0x04 y ++ fields) version ((true, length x) ∷ []) sizes
+    (λ few. ec_contents x y fields size few)
 
 -- numbers
 numbers_span : (x : List (List ℕ)) → span (leaves_of x) ≡ length (integers x)
@@ -268,35 +355,60 @@ numbers_few most (c ∷ x) few =
     All-cons (λ content. length content ≤ most) c x here
     (numbers_few most x (omega (arith, length-append (element 0x02 c) (integers x))))
 
+numbers_len : (x y : List (List ℕ)) → map length x ≡ map length y → length (integers x) ≡ length (integers y)
+unfolding integers
+numbers_len [] [] same = refl
+numbers_len [] (d ∷ y) same = absurd (cc same)
+numbers_len (c ∷ x) [] same = absurd (cc same)
+numbers_len (c ∷ x) (d ∷ y) same =
+    let size : length c ≡ length d = cc in
+    let sizes : map length x ≡ map length y = cc in
+    length-append (element 0x02 c) (integers x)
+    ∙ (ap₂ (λ (i j : ℕ). i + j) (element_len 0x02 c d size) (numbers_len x y sizes)
+    ∙ sym (length-append (element 0x02 d) (integers y)))
+
 numbers_contents : (x y : List (List ℕ)) → map length x ≡ map length y → length (integers x) ≤ max_content_len
     → AreContents (integers x) (integers y) (leaves_of x)
-numbers_contents x y same few =
-    let alike : (rest : List ℕ) → AreAlike (leaves_of x) (integers x ++ rest) (integers y ++ rest) =
-    λ rest. numbers_alike rest x y same (numbers_few max_content_len x few) in
-    let sizes : length (integers x ++ []) ≡ length (integers y ++ []) =
-    alike_len (leaves_of x) (integers x ++ []) (integers y ++ []) (alike []) in
-    record {
-      size = omega (arith, length-append (integers x) [], length-append (integers y) []);
-      alike = alike;
-      span = omega (arith, numbers_span x);
-    }
+numbers_contents x y same few = record {
+  size = numbers_len x y same;
+  alike = λ rest. numbers_alike rest x y same (numbers_few max_content_len x few);
+  span = omega (arith, numbers_span x);
+}
 
 version_is : (version : ℕ) (x : List (List ℕ)) → integers ((version ∷ []) ∷ x) ≡ 0x02 ∷ 0x01 ∷ version ∷ integers x
 unfolding integers
 version_is version x =
     ap (λ (octets : List ℕ). ((0x02 ∷ octets) ++ (version ∷ [])) ++ integers x) (len_1 1 (omega arith))
 
-pub contained_numbers_are_unseen : ContainedNumbersAreUnseen
-contained_numbers_are_unseen x y version same =
-    subst₂ (λ (v w : List ℕ). AreUnseenInside (element 0x30 v) (element 0x30 w)) (sym (version_is version x))
-    (sym (version_is version y)) (numbers_inside x y version same)
-  where
-    numbers_inside : (x y : List (List ℕ)) (version : ℕ) → map length x ≡ map length y
-        → AreUnseenInside (element 0x30 (0x02 ∷ 0x01 ∷ version ∷ integers x))
-        (element 0x30 (0x02 ∷ 0x01 ∷ version ∷ integers y))
-    numbers_inside x y version same root q rest outer at short few =
-        let whole : List ℕ = 0x02 ∷ 0x01 ∷ version ∷ integers x in
-        let small : length (integers x) ≤ max_content_len =
-        omega (arith, length-append (header 0x30 (length whole)) whole) in
-        sequence_unseen (integers x) (integers y) version (leaves_of x) (numbers_contents x y same small) root q rest
-        outer at short few
+number_keys : (x y : List (List ℕ)) (version : ℕ) → map length x ≡ map length y
+    → AreHiddenKeys (element 0x30 (integers ((version ∷ []) ∷ x))) (element 0x30 (integers ((version ∷ []) ∷ y)))
+number_keys x y version same =
+    subst₂ (λ (v w : List ℕ). AreHiddenKeys (element 0x30 v) (element 0x30 w)) (sym (version_is version x))
+    (sym (version_is version y))
+    (sequence_keys (integers x) (integers y) version (leaves_of x) (numbers_len x y same)
+    (λ few. numbers_contents x y same few))
+
+-- the laws
+pub contained_curve_keys : OfCurveKeys AreUnseenInside
+contained_curve_keys x y size = unseen_inside (element 0x04 x) (element 0x04 y) (leaf_keys true x y size)
+
+pub contained_number : OfNumber AreUnseenInside
+contained_number x y size = unseen_inside (element 0x02 x) (element 0x02 y) (leaf_keys false x y size)
+
+pub contained_ec_keys : OfEcKeys AreUnseenInside
+contained_ec_keys x y fields version size = unseen_inside _ _ (ec_keys x y fields version size)
+
+pub contained_number_keys : OfNumberKeys AreUnseenInside
+contained_number_keys x y version same = unseen_inside _ _ (number_keys x y version same)
+
+pub cut_curve_keys : OfCurveKeys AreUnseenCut
+cut_curve_keys x y size = unseen_cut (element 0x04 x) (element 0x04 y) (leaf_keys true x y size)
+
+pub cut_number : OfNumber AreUnseenCut
+cut_number x y size = unseen_cut (element 0x02 x) (element 0x02 y) (leaf_keys false x y size)
+
+pub cut_ec_keys : OfEcKeys AreUnseenCut
+cut_ec_keys x y fields version size = unseen_cut _ _ (ec_keys x y fields version size)
+
+pub cut_number_keys : OfNumberKeys AreUnseenCut
+cut_number_keys x y version same = unseen_cut _ _ (number_keys x y version same)

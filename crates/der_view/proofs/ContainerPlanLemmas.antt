@@ -391,17 +391,17 @@ third_there bytes start indefinite is_cut =
 -- ---- the plan
 
 -- the bytes after a version that are cut off: those of the key are, or the same bytes are left, which end before them
-record Splits (k n : ℕ) (q l m : List ℕ) : Type 0 where
-  j : ℕ
-  old : take k (container_rest q n l) ≡ container_rest q n (take j l)
-  new : take k (container_rest q n m) ≡ container_rest q n (take j m)
+pub record Splits (k n : ℕ) (q l m : List ℕ) : Type 0 where
+  pub j : ℕ
+  pub old : take k (container_rest q n l) ≡ container_rest q n (take j l)
+  pub new : take k (container_rest q n m) ≡ container_rest q n (take j m)
 
-abbrev CutBefore : ℕ → ℕ → List ℕ → List ℕ → List ℕ → Type 0
+abbrev pub CutBefore : ℕ → ℕ → List ℕ → List ℕ → List ℕ → Type 0
 CutBefore k n q l m =
     (take k (container_rest q n l) ≡ take k (container_rest q n m))
     × (length (take k (container_rest q n l)) ≤ length (element 0x30 q) + length (header 0x04 n))
 
-rest_take : (k n : ℕ) (q l m : List ℕ) → CutBefore k n q l m ⊎ Splits k n q l m
+pub rest_take : (k n : ℕ) (q l m : List ℕ) → CutBefore k n q l m ⊎ Splits k n q l m
 rest_take k n q l m =
     let front : List ℕ = element 0x30 q ++ header 0x04 n in
     let size : length front ≡ length (element 0x30 q) + length (header 0x04 n) =
@@ -426,7 +426,7 @@ rest_take k n q l m =
     (cases_lt k (length front))
 
 -- keys that are cut off
-keys_take : (n j : ℕ) (l m : List ℕ) → AreKeys n l m → AreKeys n (take j l) (take j m)
+pub keys_take : (n j : ℕ) (l m : List ℕ) → AreKeys n l m → AreKeys n (take j l) (take j m)
 keys_take n j l m keys = record {
   size = length-take j l ∙ (ap (λ (k : ℕ). min j k) keys.size ∙ sym (length-take j m));
   after = drop_take n j l ∙ (ap (λ (bytes : List ℕ). take (j - n) bytes) keys.after ∙ sym (drop_take n j m));

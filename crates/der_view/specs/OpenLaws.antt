@@ -146,26 +146,37 @@ AreUnseenInside x y =
     → SamePictures (container_bytes root version algorithm x rest)
     (container_bytes root version algorithm y rest)
 
--- RFC 8410 section 7: CurvePrivateKey, an OCTET STRING, as of Ed25519 and X25519
-abbrev pub CurveKeysAreUnseen : Type 0
-CurveKeysAreUnseen =
-    (x y : List ℕ) → length x ≡ length y → AreUnseenInside (element 0x04 x) (element 0x04 y)
+-- So have such bytes that are cut off, wherever they end.
+abbrev pub AreUnseenCut : List ℕ → List ℕ → Type 0
+AreUnseenCut x y =
+    (root algorithm rest : List ℕ) (version n : ℕ)
+    → IsRootOf (take n (container_bytes root version algorithm x rest)) root
+    → length algorithm ≤ max_content_len → length x ≤ max_content_len
+    → SamePictures (take n (container_bytes root version algorithm x rest))
+    (take n (container_bytes root version algorithm y rest))
 
--- the same of an INTEGER, as of DSA
-abbrev pub NumberIsUnseen : Type 0
-NumberIsUnseen =
-    (x y : List ℕ) → length x ≡ length y → AreUnseenInside (element 0x02 x) (element 0x02 y)
+-- It holds of two keys of RFC 8410 section 7, as of Ed25519 or X25519, each an OCTET STRING.
+abbrev pub OfCurveKeys : (List ℕ → List ℕ → Type 0) → Type 0
+OfCurveKeys Holds =
+    (x y : List ℕ) → length x ≡ length y → Holds (element 0x04 x) (element 0x04 y)
 
--- the same of an ECPrivateKey (RFC 5915 section 3) with a version of one byte, of its private key
-abbrev pub EcKeysAreUnseen : Type 0
-EcKeysAreUnseen =
+-- It holds of two numbers, as DSA keys are.
+abbrev pub OfNumber : (List ℕ → List ℕ → Type 0) → Type 0
+OfNumber Holds =
+    (x y : List ℕ) → length x ≡ length y → Holds (element 0x02 x) (element 0x02 y)
+
+-- It holds of two ECPrivateKeys (RFC 5915 section 3), with a version of one byte, that differ in
+-- the private key.
+abbrev pub OfEcKeys : (List ℕ → List ℕ → Type 0) → Type 0
+OfEcKeys Holds =
     (x y fields : List ℕ) (version : ℕ) → length x ≡ length y
-    → AreUnseenInside (element 0x30 (0x02 ∷ 0x01 ∷ version ∷ (element 0x04 x ++ fields)))
+    → Holds (element 0x30 (0x02 ∷ 0x01 ∷ version ∷ (element 0x04 x ++ fields)))
     (element 0x30 (0x02 ∷ 0x01 ∷ version ∷ (element 0x04 y ++ fields)))
 
--- the same of an RSAPrivateKey (RFC 8017 appendix A.1.2), of the numbers after its version
-abbrev pub ContainedNumbersAreUnseen : Type 0
-ContainedNumbersAreUnseen =
+-- It holds of two keys as RSAPrivateKey (RFC 8017 appendix A.1.2), which differ in the numbers
+-- after the version.
+abbrev pub OfNumberKeys : (List ℕ → List ℕ → Type 0) → Type 0
+OfNumberKeys Holds =
     (x y : List (List ℕ)) (version : ℕ) → map length x ≡ map length y
-    → AreUnseenInside (element 0x30 (integers ((version ∷ []) ∷ x)))
+    → Holds (element 0x30 (integers ((version ∷ []) ∷ x)))
     (element 0x30 (integers ((version ∷ []) ∷ y)))

@@ -1,10 +1,14 @@
 //! Laws of the rows, for callers to cite. Each law is the contract of a function, which does
 //! nothing else.
-ghost use Rattle.std.specs.Prelude.{◌≡◌, ◌≢◌, ◌≤◌, ◌++◌, All, Bool, List, None, ℕ, drop, false, length};
+ghost use Rattle.std.specs.Prelude.{◌≡◌, ◌≢◌, ◌≤◌, ◌++◌, All, Bool, List, None, ℕ, drop, false};
+ghost use Rattle.std.specs.Prelude.{length};
 ghost use Rattle.sec1_der.specs.Faults.{tree_fault};
 ghost use Rattle.der_view.specs.Headers.{max_content_len};
 ghost use Rattle.der_view.specs.Inputs.{ArePictures};
-ghost use Rattle.der_view.specs.OpenLaws.{DifferInKey, DifferUnseen, KeyIsUnseen, OpenBytesDecide};
+ghost use Rattle.der_view.specs.OpenLaws.{AreUnseenCut, AreUnseenInside, CutNumbersAreUnseen};
+ghost use Rattle.der_view.specs.OpenLaws.{DifferInKey, DifferUnseen, KeyIsUnseen, NumbersAreUnseen};
+ghost use Rattle.der_view.specs.OpenLaws.{OfCurveKeys, OfEcKeys, OfNumber, OfNumberKeys};
+ghost use Rattle.der_view.specs.OpenLaws.{OpenBytesDecide};
 ghost use Rattle.der_view.specs.Pictures.{AreRows, AreRowsOf};
 ghost use Rattle.der_view.specs.Plans.{plan_of};
 ghost use Rattle.der_view.specs.RowLaws.{HidesContent, IsSameRow};
@@ -12,9 +16,6 @@ ghost use Rattle.der_view.specs.Rows.{IsNext, IsOpen, Undrawn, bytes_of_rows};
 ghost use Rattle.der_view.specs.Sources.{is_text, is_utf16, sources_of};
 ghost use Rattle.der_view.specs.TreeLaws.{AreWhole, MayBeWhole, outer_rows};
 ghost use Rattle.der_view.specs.declared.row.OpenRow.{OpenRow};
-ghost use Rattle.der_view.specs.OpenLaws.{CutNumbersAreUnseen, NumbersAreUnseen};
-ghost use Rattle.der_view.specs.OpenLaws.{ContainedNumbersAreUnseen, CurveKeysAreUnseen};
-ghost use Rattle.der_view.specs.OpenLaws.{EcKeysAreUnseen, NumberIsUnseen};
 
 /// The bytes of all rows, in order, are the input, and those of some rows and then those that have
 /// no row yet are what had none before: none is left out, and none is drawn twice.
@@ -96,10 +97,19 @@ pub fn numbers_are_unseen()
 {}
 
 /// Bytes that begin as a container of a private key does (RFC 5958 section 2) have the same
-/// picture, and the same status, whatever the key inside its privateKey, if it is as long.
+/// picture, and the same status, whatever the key inside its privateKey, if it is as long: with any
+/// bytes inside the algorithm, and any after the privateKey.
 pub fn contained_keys_are_unseen()
-    ensures curve_key { CurveKeysAreUnseen }
-    ensures ec_key { EcKeysAreUnseen }
-    ensures number { NumberIsUnseen }
-    ensures numbers { ContainedNumbersAreUnseen }
+    ensures curve_key { OfCurveKeys AreUnseenInside }
+    ensures ec_key { OfEcKeys AreUnseenInside }
+    ensures number { OfNumber AreUnseenInside }
+    ensures numbers { OfNumberKeys AreUnseenInside }
+{}
+
+/// Such bytes that are cut off anywhere have the same picture, and the same status.
+pub fn cut_containers_are_unseen()
+    ensures curve_key { OfCurveKeys AreUnseenCut }
+    ensures ec_key { OfEcKeys AreUnseenCut }
+    ensures number { OfNumber AreUnseenCut }
+    ensures numbers { OfNumberKeys AreUnseenCut }
 {}
