@@ -1,18 +1,17 @@
 //! Pictures of any input, by `der_view`: its sources, its rows, and what no row has.
-ghost use Rattle.std.specs.Prelude.{◌≡◌, ◌≤◌, ◌∷◌, [], List, ℕ, Bool, false, length, drop, take};
-ghost use Rattle.std.specs.Prelude.{All, IfSome, IsSomeAnd, MatchOption, None};
-ghost use Rattle.sec1_der.specs.Faults.{tree_fault};
+ghost use Rattle.std.specs.Prelude.{◌≡◌, ◌≤◌, ◌∷◌, ◌++◌, [], List, ℕ, Bool, false, length, drop};
+ghost use Rattle.std.specs.Prelude.{All, IfErr, IfOk, IfSome, IsSomeAnd, MatchOption, None, take};
 ghost use Rattle.der_view.specs.Headers.{max_content_len};
 ghost use Rattle.der_view.specs.OpenLaws.{DifferUnseen, IsRootOf, SamePictures, key_bytes};
-ghost use Rattle.der_view.specs.Pictures.{AreRows};
-ghost use Rattle.der_view.specs.Plans.{plan_of};
-ghost use Rattle.der_view.specs.RowLaws.{HidesContent, IsSameRow};
-ghost use Rattle.der_view.specs.Rows.{bytes_of_rows};
+ghost use Rattle.der_view.specs.Pictures.{AreRows, AreRowsOf};
+ghost use Rattle.der_view.specs.RowLaws.{IsSameRow};
+ghost use Rattle.der_view.specs.Rows.{Undrawn, bytes_of_rows};
 ghost use Rattle.der_view.specs.Sources.{Der, is_text, is_utf16, source_view};
-ghost use Rattle.der_view.specs.TreeLaws.{AreWhole, IsBytes, MayBeWhole, outer_rows};
+ghost use Rattle.der_view.specs.TreeLaws.{AreWhole, MayBeWhole, outer_rows};
 ghost use Rattle.der_view.specs.declared.row.OpenRow.{OpenRow};
 
 use der_view::{OpenRow, Rows, Source, Sources, laws};
+use sec1_der::{Result, check_tree};
 
 /// Returns the first source of an input. What is no text is its own source.
 pub fn first_source(input: &[u8]) -> Option<Source<'_>>
@@ -55,6 +54,40 @@ pub fn first_rows<'a>(one: &'a [u8], other: &'a [u8]) -> (Option<OpenRow<'a>>, O
     )
 }
 
+/// Returns the next two rows. Their bytes, and then those that have no row yet, are the bytes that
+/// had none before.
+pub fn next_two<'a>(rows: &mut Rows<'a>) -> Option<(OpenRow<'a>, OpenRow<'a>)>
+    ensures { (input : List ℕ) → rows.old.left ≡ drop rows.old.offset input
+        → IfSome result (λ found. rows.old.left
+        ≡ bytes_of_rows input (found.0 ∷ (found.1 ∷ [])) ++ rows.new.left) }
+{
+    laws::rows_are_input();
+    let first = rows.next_row()?;
+    let second = rows.next_row()?;
+    Some((first, second))
+}
+
+/// Returns the first two rows of an input, and those that are still to come.
+pub fn first_two_rows(input: &[u8]) -> Option<(OpenRow<'_>, OpenRow<'_>, Rows<'_>)>
+    ensures { IfSome result (λ found. input.now
+        ≡ bytes_of_rows input.now (found.0 ∷ (found.1 ∷ [])) ++ found.2.left) }
+{
+    let mut rows = Rows::new(input, false);
+    let (first, second) = next_two(&mut rows)?;
+    Some((first, second, rows))
+}
+
+/// Returns the next row. The bytes of those drawn before it, and then those that had no row, are
+/// the bytes that were there before the first of them.
+pub fn next_after<'a>(rows: &mut Rows<'a>) -> Option<OpenRow<'a>>
+    ensures { (input : List ℕ) (drawn : List OpenRow) (first : Undrawn)
+        → AreRowsOf drawn first rows.old → first.left ≡ drop first.offset input
+        → first.left ≡ bytes_of_rows input drawn ++ rows.old.left }
+{
+    laws::rows_are_input();
+    rows.next_row()
+}
+
 /// The bytes of all rows, in order, are the input.
 pub fn whole_picture()
     ensures { (all : Bool) (input : List ℕ) (rows : List OpenRow) → AreRows all input rows
@@ -63,14 +96,22 @@ pub fn whole_picture()
     laws::rows_are_input();
 }
 
-/// Without all contents, each row hides its own, and has none.
-pub fn hidden_contents()
-    ensures each { (input : List ℕ) (rows : List OpenRow) → AreRows false input rows
-        → All (HidesContent (plan_of input).guarded input) rows }
-    ensures first { (input : List ℕ) (row : OpenRow) (rows : List OpenRow)
-        → AreRows false input (row ∷ rows) → row.content ≡ None }
+/// Returns the second row of a picture without the contents, which has none.
+pub fn second_row(input: &[u8]) -> Option<OpenRow<'_>>
+    ensures { IfSome result (λ row. row.content ≡ None) }
+{
+    let mut rows = Rows::new(input, false);
+    let _first = rows.next_row()?;
+    rows.next_row()
+}
+
+/// Returns the content that a row has. That at the top of a picture without the contents has none.
+pub fn content_of<'a>(row: &OpenRow<'a>) -> Option<&'a [u8]>
+    ensures { (input : List ℕ) (rows : List OpenRow) → AreRows false input (row.now ∷ rows)
+        → result ≡ None }
 {
     laws::contents_are_hidden();
+    row.content
 }
 
 /// Two private keys of 32 bytes, as those on P-256, have the same picture.
@@ -88,14 +129,23 @@ pub fn pictures_of_shown_bytes()
     laws::open_bytes_decide();
 }
 
-/// What is drawn whole is a tree, which `check_tree` accepts, and a tree is drawn whole if each of
-/// its rows may be.
-pub fn whole_trees()
-    ensures tree { (all : Bool) (input : List ℕ) (rows : List OpenRow) → IsBytes input
-        → AreRows all input rows → AreWhole rows → tree_fault input ≡ None }
-    ensures whole { (all : Bool) (input : List ℕ) (rows : List OpenRow) → IsBytes input
-        → length input ≤ max_content_len → AreRows all input rows
-        → All MayBeWhole (outer_rows 0 rows) → tree_fault input ≡ None → AreWhole rows }
+/// Returns the number of the elements of a tree. What is refused isn't drawn whole, and what isn't
+/// refused is, if each of its rows may be.
+pub fn count_whole(input: &[u8]) -> Result<usize>
+    ensures refused { IfErr result (λ _. (all : Bool) (rows : List OpenRow)
+        → AreRows all input.now rows → ¬ AreWhole rows) }
+    ensures whole { IfOk result (λ _. (all : Bool) (rows : List OpenRow)
+        → length input.now ≤ max_content_len → AreRows all input.now rows
+        → All MayBeWhole (outer_rows 0 rows) → AreWhole rows) }
 {
-    laws::trees_are_whole();
+    match check_tree(input) {
+        Ok(count) => {
+            laws::accepted_is_whole(input);
+            Ok(count)
+        }
+        Err(error) => {
+            laws::refused_is_not_whole(input);
+            Err(error)
+        }
+    }
 }
