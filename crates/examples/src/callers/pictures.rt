@@ -1,12 +1,16 @@
 //! Pictures of any input, by `der_view`: its sources, its rows, and what no row has.
 ghost use Rattle.std.specs.Prelude.{◌≡◌, ◌≤◌, ◌∷◌, ◌++◌, [], List, ℕ, Bool, false, length, drop};
 ghost use Rattle.std.specs.Prelude.{All, IfErr, IfOk, IfSome, IsSomeAnd, MatchOption, None, take};
+ghost use Rattle.sec1_der.specs.Faults.{tree_fault};
 ghost use Rattle.der_view.specs.Headers.{max_content_len};
-ghost use Rattle.der_view.specs.OpenLaws.{DifferUnseen, IsRootOf, SamePictures, key_bytes};
+ghost use Rattle.der_view.specs.Inputs.{ArePictures};
+ghost use Rattle.der_view.specs.OpenLaws.{DifferInKey, DifferUnseen, IsRootOf, SamePictures};
+ghost use Rattle.der_view.specs.OpenLaws.{key_bytes};
 ghost use Rattle.der_view.specs.Pictures.{AreRows, AreRowsOf};
-ghost use Rattle.der_view.specs.RowLaws.{IsSameRow};
+ghost use Rattle.der_view.specs.Plans.{plan_of};
+ghost use Rattle.der_view.specs.RowLaws.{HidesContent, IsSameRow};
 ghost use Rattle.der_view.specs.Rows.{Undrawn, bytes_of_rows};
-ghost use Rattle.der_view.specs.Sources.{Der, is_text, is_utf16, source_view};
+ghost use Rattle.der_view.specs.Sources.{Der, is_text, is_utf16, source_view, sources_of};
 ghost use Rattle.der_view.specs.TreeLaws.{AreWhole, MayBeWhole, outer_rows};
 ghost use Rattle.der_view.specs.declared.row.OpenRow.{OpenRow};
 
@@ -114,12 +118,37 @@ pub fn content_of<'a>(row: &OpenRow<'a>) -> Option<&'a [u8]>
     row.content
 }
 
+/// Without all contents, each row hides its own.
+pub fn hidden_contents()
+    ensures { (input : List ℕ) (rows : List OpenRow) → AreRows false input rows
+        → All (HidesContent (plan_of input).guarded input) rows }
+{
+    laws::contents_are_hidden();
+}
+
 /// Two private keys of 32 bytes, as those on P-256, have the same picture.
 pub fn pictures_of_keys()
     ensures { (root x y : List ℕ) → IsRootOf (key_bytes root 1 32 x) root → length x ≡ length y
         → drop 32 x ≡ drop 32 y → SamePictures (key_bytes root 1 32 x) (key_bytes root 1 32 y) }
 {
     laws::key_is_unseen();
+}
+
+/// Two private keys that differ in the key alone differ in bytes which aren't shown, and what
+/// `draw` writes of two such inputs, which are no text, is the same, as is what it returns.
+pub fn texts_of_keys()
+    ensures keys { (a b : List ℕ) → DifferInKey a b → DifferUnseen a b }
+    ensures texts { (a b x y : List ℕ) (is_key is_other : Bool) → DifferUnseen a b
+        → is_text a ≡ false → is_utf16 a ≡ false → is_text b ≡ false → is_utf16 b ≡ false
+        → ArePictures false (sources_of a) x is_key → ArePictures false (sources_of b) y is_other
+        → x ≡ y }
+    ensures status { (a b x y : List ℕ) (is_key is_other : Bool) → DifferUnseen a b
+        → is_text a ≡ false → is_utf16 a ≡ false → is_text b ≡ false → is_utf16 b ≡ false
+        → ArePictures false (sources_of a) x is_key → ArePictures false (sources_of b) y is_other
+        → is_key ≡ is_other }
+{
+    laws::key_is_unseen();
+    laws::open_bytes_decide();
 }
 
 /// Inputs of which one is drawn otherwise differ in a byte that is shown.
@@ -148,4 +177,12 @@ pub fn count_whole(input: &[u8]) -> Result<usize>
             Err(error)
         }
     }
+}
+
+/// What is drawn whole is a tree.
+pub fn whole_trees(input: &[u8])
+    ensures { (all : Bool) (rows : List OpenRow) → AreRows all input.now rows → AreWhole rows
+        → tree_fault input.now ≡ None }
+{
+    laws::trees_are_whole(input);
 }
