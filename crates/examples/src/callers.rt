@@ -20,6 +20,7 @@ pub mod own_record;
 
 // What any input is.
 pub mod pictures;
+pub mod unseen_keys;
 
 // By which kind bytes are refused, and what a refusal leaves.
 pub mod failed_readers;

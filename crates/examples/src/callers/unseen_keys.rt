@@ -1,0 +1,74 @@
+//! Pictures of private keys, by `der_view`, that don't follow from the keys.
+ghost use Rattle.std.specs.Prelude.{◌≡◌, ◌≤◌, ◌∷◌, ◌++◌, [], List, ℕ, length, map, take};
+ghost use Rattle.sec1_der.specs.Elements.{element};
+ghost use Rattle.der_view.specs.Headers.{max_content_len};
+ghost use Rattle.der_view.specs.OpenLaws.{AreAsLong, IsRootOf, SamePictures};
+ghost use Rattle.der_view.specs.OpenLaws.{container_bytes, integers, number_bytes};
+
+use der_view::laws;
+
+/// Two RSA keys of two primes with the same public numbers have the same picture.
+pub fn pictures_of_rsa_keys()
+    ensures { (root : List ℕ) (public x y : List (List ℕ))
+        → IsRootOf (number_bytes root 0 (public ++ x) []) root
+        → AreAsLong (public ++ x) (public ++ y)
+        → SamePictures (number_bytes root 0 (public ++ x) [])
+        (number_bytes root 0 (public ++ y) []) }
+{
+    laws::numbers_are_unseen();
+}
+
+/// So have such keys after each number of their bytes.
+pub fn pictures_of_cut_rsa_keys()
+    ensures { (root : List ℕ) (n : ℕ) (x y : List (List ℕ))
+        → IsRootOf (take n (number_bytes root 0 x [])) root → AreAsLong x y
+        → SamePictures (take n (number_bytes root 0 x []))
+        (take n (number_bytes root 0 y [])) }
+{
+    laws::numbers_are_unseen();
+}
+
+/// Two private keys of Ed25519 in PKCS #8 have the same picture.
+pub fn pictures_of_curve_keys()
+    ensures { (root algorithm x y : List ℕ)
+        → IsRootOf (container_bytes root 0 algorithm (element 0x04 x) []) root
+        → length algorithm ≤ max_content_len → length (element 0x04 x) ≤ max_content_len
+        → length x ≡ 32 → length y ≡ 32
+        → SamePictures (container_bytes root 0 algorithm (element 0x04 x) [])
+        (container_bytes root 0 algorithm (element 0x04 y) []) }
+{
+    laws::contained_keys_are_unseen();
+}
+
+/// Two RSA keys in PKCS #8 have the same picture, also if attributes follow.
+pub fn pictures_of_contained_rsa_keys()
+    ensures { (root algorithm attributes : List ℕ) (x y : List (List ℕ))
+        → IsRootOf (container_bytes root 0 algorithm
+        (element 0x30 (integers ((0 ∷ []) ∷ x))) attributes) root
+        → length algorithm ≤ max_content_len
+        → length (element 0x30 (integers ((0 ∷ []) ∷ x))) ≤ max_content_len
+        → map length x ≡ map length y
+        → SamePictures
+        (container_bytes root 0 algorithm (element 0x30 (integers ((0 ∷ []) ∷ x))) attributes)
+        (container_bytes root 0 algorithm (element 0x30 (integers ((0 ∷ []) ∷ y))) attributes) }
+{
+    laws::contained_keys_are_unseen();
+}
+
+/// So have two EC keys, after each number of their bytes.
+pub fn pictures_of_cut_ec_keys()
+    ensures { (root algorithm fields x y : List ℕ) (n : ℕ)
+        → IsRootOf (take n (container_bytes root 0 algorithm
+        (element 0x30 (0x02 ∷ 0x01 ∷ 0x01 ∷ (element 0x04 x ++ fields))) [])) root
+        → length algorithm ≤ max_content_len
+        → length (element 0x30 (0x02 ∷ 0x01 ∷ 0x01 ∷ (element 0x04 x ++ fields)))
+        ≤ max_content_len
+        → length x ≡ length y
+        → SamePictures
+        (take n (container_bytes root 0 algorithm
+        (element 0x30 (0x02 ∷ 0x01 ∷ 0x01 ∷ (element 0x04 x ++ fields))) []))
+        (take n (container_bytes root 0 algorithm
+        (element 0x30 (0x02 ∷ 0x01 ∷ 0x01 ∷ (element 0x04 y ++ fields))) [])) }
+{
+    laws::cut_containers_are_unseen();
+}
