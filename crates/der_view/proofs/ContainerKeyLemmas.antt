@@ -69,7 +69,7 @@ container_differs root q l m version n at short two =
           (two.rows p.last));
     }
 
-pub container_unseen : (root q l m : List ℕ) (version n : ℕ)
+container_unseen : (root q l m : List ℕ) (version n : ℕ)
     → IsRootOf (versioned root version (container_rest q n l)) root → length q ≤ max_content_len
     → AreHidden root q l m version n
     → SamePictures (versioned root version (container_rest q n l)) (versioned root version (container_rest q n m))

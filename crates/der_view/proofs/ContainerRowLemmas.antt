@@ -165,7 +165,7 @@ string_by (Some field) a b l m n rows x y u r level outer is more levels hidden 
     (cases_lt (length x.left) (length (header 0x04 n) + n + level.rest))
 
 -- the rows of the string, and those after it
-pub string_rows : (a b l m : List ℕ) (n : ℕ) (rows : List OpenRow) (x u : Undrawn) (level outer : Level)
+string_rows : (a b l m : List ℕ) (n : ℕ) (rows : List OpenRow) (x u : Undrawn) (level outer : Level)
     → AreRowsOf rows x u → x.levels ≡ level ∷ outer ∷ [] → x.all ≡ false
     → IsContainer x.plan (x.offset + length (header 0x04 n)) → 0 < x.offset
     → n ≤ max_content_len → drop n l ≡ drop n m → x.left ≡ drop x.offset a → drop x.offset a ≡ header 0x04 n ++ l
@@ -186,7 +186,7 @@ sequence_if : (empty : Bool) (size : ℕ) → (empty ≡ true → size ≡ 0)
 sequence_if true size none = inr (refl, none refl)
 sequence_if false size none = inl refl
 
-pub sequence_opens : (place : Place) (level : Level) (n : ℕ) (l m : List ℕ) → n ≤ length l
+sequence_opens : (place : Place) (level : Level) (n : ℕ) (l m : List ℕ) → n ≤ length l
     → AreOpened place level (header 0x30 n) (sequence_header n) n l m
 unfolding opening_by
 sequence_opens place level n l m fits =

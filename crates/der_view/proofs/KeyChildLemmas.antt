@@ -31,7 +31,7 @@ use Rattle.der_view.specs.declared.mark.ElementFault.{ElementFault}
 use Rattle.der_view.specs.declared.mark.ElementFault.TheVariants as faults
 
 -- a leaf in DER is a tree
-pub leaf_tree : (tag : ℕ) (content bytes : List ℕ) → IsHeader tag (length content) → is_constructed tag ≡ false
+leaf_tree : (tag : ℕ) (content bytes : List ℕ) → IsHeader tag (length content) → is_constructed tag ≡ false
     → bytes ≡ element tag content → is_tree bytes ≡ true
 unfolding is_tree
 leaf_tree tag content bytes h leaf e =
@@ -101,7 +101,7 @@ sequence_header n rest head few is =
     (ap (λ (l : Result (Option ℕ × ℕ) ElementFault). header_with (tag_of 0x30 0x10) 1 l) (length_if n rest few)) ∙ is)
 
 -- the first child, a version of one byte, whatever follows
-abbrev pub version_child : ℕ → Child
+abbrev version_child : ℕ → Child
 version_child at = record {
   tag = 0x02;
   at = at;
@@ -215,13 +215,13 @@ pub record SameChild (a b : List ℕ) (child : Child) : Type 0 where
   pub ends : begins (drop child.at a) (0x00 ∷ 0x00 ∷ []) ≡ begins (drop child.at b) (0x00 ∷ 0x00 ∷ [])
 
 -- the same bytes follow, or there is no child
-abbrev pub Rest : Bool → List ℕ → List ℕ → ℕ → Type 0
+abbrev Rest : Bool → List ℕ → List ℕ → ℕ → Type 0
 Rest may a b at =
     (drop at a ≡ drop at b)
     ⊎ ((child_at may a at ≡ none_at at) × (child_at may b at ≡ none_at at)
     × (begins (drop at a) (0x00 ∷ 0x00 ∷ []) ≡ begins (drop at b) (0x00 ∷ 0x00 ∷ [])))
 
-pub drop_more_same : (a b : List ℕ) (at to : ℕ) → at ≤ to → drop at a ≡ drop at b → drop to a ≡ drop to b
+drop_more_same : (a b : List ℕ) (at to : ℕ) → at ≤ to → drop at a ≡ drop at b → drop to a ≡ drop to b
 drop_more_same a b at to after same =
     let sum : to ≡ at + (to - at) = omega arith in
     ap (λ (n : ℕ). drop n a) sum
@@ -229,7 +229,7 @@ drop_more_same a b at to after same =
     ∙ (ap (λ (bytes : List ℕ). drop (to - at) bytes) same
     ∙ (drop-drop (to - at) at b ∙ ap (λ (n : ℕ). drop n b) (sym sum))))
 
-pub no_content : (a b : List ℕ) (at : ℕ) → content_of a (none_at at) ≡ content_of b (none_at at)
+no_content : (a b : List ℕ) (at : ℕ) → content_of a (none_at at) ≡ content_of b (none_at at)
 no_content a b at =
     let none : at - at ≡ 0 = omega arith in
     rw none refl
@@ -273,7 +273,7 @@ no_field : (string : Bool) (at n len : ℕ) → IsNoField (leaf_child string at 
 no_field true at n len = record { parameters = refl; public_key = refl }
 no_field false at n len = record { parameters = refl; public_key = refl }
 
-pub leaf_begins : (string : Bool) (n : ℕ) (l m : List ℕ)
+leaf_begins : (string : Bool) (n : ℕ) (l m : List ℕ)
     → begins (header (leaf_tag string) n ++ l) (0x00 ∷ 0x00 ∷ [])
     ≡ begins (header (leaf_tag string) n ++ m) (0x00 ∷ 0x00 ∷ [])
 leaf_begins true n l m = refl
@@ -381,13 +381,13 @@ child_version may front rest version =
     ∙ first_child may (length front) version rest
 
 -- the first of some children, and those after the second one
-pub nth_all : (P : Child → Type 0) (children : List Child) (i : ℕ) → P no_child → All P children → P (nth children i)
+nth_all : (P : Child → Type 0) (children : List Child) (i : ℕ) → P no_child → All P children → P (nth children i)
 unfolding nth
 nth_all P [] i none all = none
 nth_all P (child ∷ children) zero none all = All-head P child children all
 nth_all P (child ∷ children) (suc i) none all = nth_all P children i none (All-tail P child children all)
 
-pub nth_few : (P : Child → Type 0) (children : List Child) (count i : ℕ) → P no_child → All P children
+nth_few : (P : Child → Type 0) (children : List Child) (count i : ℕ) → P no_child → All P children
     → P (nth (take count children) i)
 nth_few P children count i none all = nth_all P (take count children) i none (All-take P count children all)
 
@@ -407,7 +407,7 @@ run_by ends left start indefinite is_cut run end =
       cut = left == 0 && is_cut;
     }
 
-pub run_same : (a b : List ℕ) (start : ℕ) (indefinite is_cut : Bool) (run : List Child) (end : ℕ) → length a ≡ length b
+run_same : (a b : List ℕ) (start : ℕ) (indefinite is_cut : Bool) (run : List Child) (end : ℕ) → length a ≡ length b
     → begins (drop end a) (0x00 ∷ 0x00 ∷ []) ≡ begins (drop end b) (0x00 ∷ 0x00 ∷ [])
     → run_of a start indefinite is_cut run end ≡ run_of b start indefinite is_cut run end
 run_same a b start indefinite is_cut run end size ends =

@@ -95,12 +95,3 @@ pub alike_first : (string : Bool) (n : ℕ) (leaves : List (Bool × ℕ)) (u v :
     → AreAlike ((string, n) ∷ leaves) u v → (first_tag u ≡ leaf_tag string) × (first_tag v ≡ leaf_tag string)
 alike_first string n leaves u v (l, m, is, more) =
     (ap (λ (bytes : List ℕ). first_tag bytes) is.old, ap (λ (bytes : List ℕ). first_tag bytes) is.new)
-
-pub alike_flip : (leaves : List (Bool × ℕ)) (u v : List ℕ) → AreAlike leaves u v → AreAlike leaves v u
-alike_flip [] u v same = sym same
-alike_flip ((string, n) ∷ leaves) u v (l, m, is, more) = (
-  m,
-  l,
-  record { old = is.new; new = is.old; size = sym is.size; few = is.few },
-  alike_flip leaves (drop n l) (drop n m) more,
-)

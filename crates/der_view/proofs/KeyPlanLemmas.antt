@@ -92,7 +92,7 @@ pub same_root : (a b root : List ℕ) (head : Header) → head.tag.constructed �
 unfolding guarded_plan
 same_root a b root head node tag size = rw (node, tag, size) refl
 
-pub or_true : (test : Bool) → (test || true) ≡ true
+or_true : (test : Bool) → (test || true) ≡ true
 or_true true = refl
 or_true false = refl
 
@@ -175,7 +175,7 @@ no_second front rest version w indefinite is_cut other =
     (child_tag is_cut first.end (drop first.end root) (header_of (drop first.end root)) next)
 
 -- such bytes are no container of a key
-pub integers_if : (finished two near versioned six nine : Bool)
+integers_if : (finished two near versioned six nine : Bool)
     → is_container
     (if not finished then forms.Other
     else (if two then (if near then forms.Signature else forms.Other)
@@ -194,7 +194,7 @@ string_if : (test : Bool) → is_container (if test then forms.EcPrivateKey else
 string_if true = refl
 string_if false = refl
 
-pub container_if : (integers versioned string : Bool) (x y : Form) → is_container x ≡ false → is_container y ≡ false
+container_if : (integers versioned string : Bool) (x y : Form) → is_container x ≡ false → is_container y ≡ false
     → is_container
     (if integers then x
     else (if not versioned then forms.Other else (if string then y else forms.Other)))
@@ -219,7 +219,7 @@ no_container x other =
     (container_if (x.second.tag == 0x02) (is_versioned x) (x.second.tag == 0x04) (form_of_integers x) (form_of_string x)
     (no_integers x) (no_string x))
 
-pub no_inside : (bytes : List ℕ) (x : Children) → (x.second.tag == 0x30) ≡ false → inside_of bytes x ≡ None
+no_inside : (bytes : List ℕ) (x : Children) → (x.second.tag == 0x30) ≡ false → inside_of bytes x ≡ None
 unfolding inside_of
 no_inside bytes x other = rw (no_container x other) refl
 

@@ -49,7 +49,7 @@ pub none_inside : (x : Undrawn) (from : ℕ) → NoneInside x.plan from → from
 unfolding field_inside
 none_inside x from none past = none x.offset past
 
-pub closed_inside : (plan : Plan) → plan.inside ≡ None → NoneInside plan 0
+closed_inside : (plan : Plan) → plan.inside ≡ None → NoneInside plan 0
 closed_inside plan none = λ offset past. rw none refl
 
 -- how many bytes leaves are of
@@ -58,7 +58,7 @@ span [] = 0
 span ((string, n) ∷ leaves) = length (header (leaf_tag string) n) + n + span leaves
 
 -- they are within the level, or nothing is drawn after it
-abbrev pub AreWithin : List (Bool × ℕ) → Level → List Level → ℕ → Type 0
+abbrev AreWithin : List (Bool × ℕ) → Level → List Level → ℕ → Type 0
 AreWithin leaves level outer left = (length outer ≤ 1) ⊎ (span leaves + level.rest ≤ left)
 
 -- so many bytes after a place
@@ -100,7 +100,7 @@ left_after x y r size is end =
     ap length is.left ∙ (length-drop (row_len r) x.left ∙ ap (λ (n : ℕ). length x.left - n) taken)
 
 -- the rows of leaves, and those after them
-pub leaf_rows : (leaves : List (Bool × ℕ)) (a b : List ℕ) (rows : List OpenRow) (x u : Undrawn) (level : Level)
+leaf_rows : (leaves : List (Bool × ℕ)) (a b : List ℕ) (rows : List OpenRow) (x u : Undrawn) (level : Level)
     (outer : List Level) → AreRowsOf rows x u → x.levels ≡ level ∷ outer → x.all ≡ false → x.plan.guarded ≡ true
     → NoneInside x.plan x.offset → IsPast level → 0 < x.offset → AreWithin leaves level outer (length x.left)
     → x.left ≡ drop x.offset a → AreAlike leaves (drop x.offset a) (drop x.offset b) → All (LooksSame true a b) rows

@@ -194,7 +194,7 @@ len_within_if false size left fits =
     let more : left < size = grind (arith, nat_tests) in
     (inr (refl, more), omega arith)
 
-pub one_header : (x y : Header) (r : Result Header ElementFault) → r ≡ Ok x → r ≡ Ok y → x ≡ y
+one_header : (x y : Header) (r : Result Header ElementFault) → r ≡ Ok x → r ≡ Ok y → x ≡ y
 one_header x y r p q = cc
 
 no_both : (x : Header) (fault : ElementFault) (r : Result Header ElementFault) → r ≡ Err fault → r ≡ Ok x → ⊥
@@ -213,7 +213,7 @@ leaf_short n front l found size fault leaf is = ⊎_elim (λ short. short)
     absurd (no_both found fault _ is known))
     (cases_lt n (length front))
 
-pub len_within_some : (size left : ℕ)
+len_within_some : (size left : ℕ)
     → ((len_within (Some size) left ≡ size) ⊎ ((len_within (Some size) left ≡ left) × (left < size)))
     × (len_within (Some size) left ≤ size)
 len_within_some size left = len_within_if (nat_le size left) size left refl
@@ -620,7 +620,7 @@ unfolding is_found
 past_none None passed bytes none = refl
 past_none (Some outer) passed bytes none = rw none refl
 
-pub past_found : (level : Level) (bytes : List ℕ) → IsPast level → is_found (component level (0x02 ∷ bytes)) ≡ false
+past_found : (level : Level) (bytes : List ℕ) → IsPast level → is_found (component level (0x02 ∷ bytes)) ≡ false
 unfolding is_found
 past_found level bytes is =
     rw is.next (⊎_elim
@@ -672,7 +672,7 @@ past_first bytes level next fresh after =
     no_bytes (Some outer) passed bytes none = none
 
 -- of such leaves nothing is seen
-pub unseen_field : (field : Field) (len : ℕ) → is_version field ≡ false → seen_of_integer (Some field) len ≡ 0
+unseen_field : (field : Field) (len : ℕ) → is_version field ≡ false → seen_of_integer (Some field) len ≡ 0
 unfolding is_version
 unseen_field fields.Version len none = cc
 unseen_field field len none = refl
@@ -696,9 +696,6 @@ unfolding opening_by string_opening opens_octets
 leaf_closed true place level n true content hidden guarded inside = refl
 leaf_closed true place level n false content hidden guarded inside = rw (inside, hidden, guarded) refl
 leaf_closed false place level n cut content hidden guarded inside = integer_closed place level n cut content
-
-no_true : (guarded : Bool) → guarded ≡ true → guarded ≡ false → ⊥
-no_true guarded is other = cc
 
 pub string_seen : (guarded : Bool) (n k : ℕ) (field : Option Field) (l m : List ℕ) → guarded ≡ true
     → LeavesLookSame guarded (leaf_header true n).tag field (take k l) (take k m)
