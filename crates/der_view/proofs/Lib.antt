@@ -33,6 +33,7 @@ pub mod PictureLemmas
 pub mod PlaceLemmas
 pub mod PublicKeyLemmas
 pub mod RegionLemmas
+pub mod RootLemmas
 pub mod RowLemmas
 pub mod RowLineLemmas
 pub mod SameLemmas

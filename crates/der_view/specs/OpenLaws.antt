@@ -180,3 +180,14 @@ OfNumberKeys Holds =
     (x y : List (List ℕ)) (version : ℕ) → map length x ≡ map length y
     → Holds (element 0x30 (integers ((version ∷ []) ∷ x)))
     (element 0x30 (integers ((version ∷ []) ∷ y)))
+
+-- The header of a SEQUENCE in DER is a root's, before these bytes.
+abbrev pub IsRootBefore : (List ℕ → List ℕ) → Type 0
+IsRootBefore bytes =
+    (n : ℕ) → n ≤ max_content_len → IsRootOf (bytes (header 0x30 n)) (header 0x30 n)
+
+-- So it is where the bytes are cut off after it.
+abbrev pub IsRootOfCut : (List ℕ → List ℕ) → Type 0
+IsRootOfCut bytes =
+    (n k : ℕ) → n ≤ max_content_len → length (header 0x30 n) ≤ k
+    → IsRootOf (take k (bytes (header 0x30 n))) (header 0x30 n)

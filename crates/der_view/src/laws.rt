@@ -6,9 +6,10 @@ ghost use Rattle.sec1_der.specs.Faults.{tree_fault};
 ghost use Rattle.der_view.specs.Headers.{max_content_len};
 ghost use Rattle.der_view.specs.Inputs.{ArePictures};
 ghost use Rattle.der_view.specs.OpenLaws.{AreUnseenCut, AreUnseenInside, CutNumbersAreUnseen};
-ghost use Rattle.der_view.specs.OpenLaws.{DifferInKey, DifferUnseen, KeyIsUnseen, NumbersAreUnseen};
-ghost use Rattle.der_view.specs.OpenLaws.{OfCurveKeys, OfEcKeys, OfNumber, OfNumberKeys};
-ghost use Rattle.der_view.specs.OpenLaws.{OpenBytesDecide};
+ghost use Rattle.der_view.specs.OpenLaws.{DifferInKey, DifferUnseen, IsRootBefore, IsRootOfCut};
+ghost use Rattle.der_view.specs.OpenLaws.{KeyIsUnseen, NumbersAreUnseen, OfCurveKeys, OfEcKeys};
+ghost use Rattle.der_view.specs.OpenLaws.{OfNumber, OfNumberKeys, OpenBytesDecide};
+ghost use Rattle.der_view.specs.OpenLaws.{container_bytes, key_bytes, number_bytes};
 ghost use Rattle.der_view.specs.Pictures.{AreRows, AreRowsOf};
 ghost use Rattle.der_view.specs.Plans.{plan_of};
 ghost use Rattle.der_view.specs.RowLaws.{HidesContent, IsSameRow};
@@ -112,4 +113,19 @@ pub fn cut_containers_are_unseen()
     ensures ec_key { OfEcKeys AreUnseenCut }
     ensures number { OfNumber AreUnseenCut }
     ensures numbers { OfNumberKeys AreUnseenCut }
+{}
+
+/// The header of a SEQUENCE in DER is the root's header in each of these laws, whatever length it
+/// says, up to 16,777,215.
+pub fn headers_are_roots()
+    ensures key { (version n : ℕ) (rest : List ℕ)
+        → IsRootBefore (λ root. key_bytes root version n rest) }
+    ensures numbers { (version : ℕ) (contents : List (List ℕ)) (rest : List ℕ)
+        → IsRootBefore (λ root. number_bytes root version contents rest) }
+    ensures cut_numbers { (version : ℕ) (contents : List (List ℕ)) (rest : List ℕ)
+        → IsRootOfCut (λ root. number_bytes root version contents rest) }
+    ensures container { (version : ℕ) (algorithm private_key rest : List ℕ)
+        → IsRootBefore (λ root. container_bytes root version algorithm private_key rest) }
+    ensures cut_container { (version : ℕ) (algorithm private_key rest : List ℕ)
+        → IsRootOfCut (λ root. container_bytes root version algorithm private_key rest) }
 {}
