@@ -8,6 +8,7 @@ pub mod ContainerKeyLemmas
 pub mod ContainerLemmas
 pub mod ContainerPlanLemmas
 pub mod ContainerRowLemmas
+pub mod DecodedLemmas
 pub mod DerHeaderLemmas
 pub mod DrawnLemmas
 pub mod EncodedLemmas
