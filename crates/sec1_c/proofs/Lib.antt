@@ -7,10 +7,12 @@ pub mod HexTextLemmas
 pub mod NameLemmas
 pub mod NumberLemmas
 pub mod PictureLemmas
+pub mod PictureLineLemmas
 pub mod PlaceLemmas
 pub mod PointLemmas
 pub mod PrivateKeyLemmas
 pub mod PublicKeyLemmas
 pub mod SignatureLemmas
+pub mod SourceLemmas
 pub mod StatusLemmas
 pub mod TextLemmas

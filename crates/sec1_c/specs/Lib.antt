@@ -21,3 +21,4 @@ pub mod Containers
 pub mod WrittenKeys
 pub mod PrivateKeys
 pub mod Pictures
+pub mod PictureLines

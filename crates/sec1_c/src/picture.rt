@@ -1,7 +1,8 @@
 //! Pictures of any input, DER or a text that encodes some: `sec1_picture_draw` and
 //! `sec1_picture_lines`.
-ghost use Rattle.std.specs.Prelude.{◌≡◌, ◌≢◌, ◌<◌, ◌≤◌, ◌+◌, ◌*◌, ◌-◌, ◌^◌, ◌⊎◌, length, min};
+ghost use Rattle.std.specs.Prelude.{◌≡◌, ◌<◌, ◌≤◌, ◌+◌, ◌*◌, ◌-◌, ◌/◌, ◌^◌, length, min};
 ghost use Rattle.der_view.specs.Sources.{source_len, source_view, text_len};
+ghost use Rattle.sec1_c.specs.PictureLines.{IsDecodedAt, IsListed};
 ghost use Rattle.sec1_c.specs.Pictures.{IsDrawn};
 
 mod lines;
@@ -73,11 +74,12 @@ pub extern "C" fn sec1_picture_lines(
     lines: &mut [PictureLine],
     count: &mut usize,
 ) -> u32
-    ensures fits { result ≡ 0 → count.new ≤ length lines.old }
+    ensures exact { min (2 * text_len input.now + 2) (2 ^ 64 - 1) ≤ length room.old
+        → IsListed (length room.old / 2 - 1) input.now lines.old lines.new result count.new }
+    ensures decoded { min (2 * text_len input.now + 2) (2 ^ 64 - 1) ≤ length room.old
+        → IsDecodedAt (length room.old / 2 - 1) input.now room.new }
     ensures buffer { length room.old < min (2 * text_len input.now + 2) (2 ^ 64 - 1)
-        → (result ≡ 7) × (count.new ≡ 0) }
-    ensures short { result ≢ 0
-        → (result ≡ 7) × ((count.new ≡ 0) ⊎ (length lines.old < count.new)) }
+        → (result ≡ 7) × (count.new ≡ 0) × (lines.new ≡ lines.old) }
 {
     *count = 0;
     if room.len() < room_len(input) {

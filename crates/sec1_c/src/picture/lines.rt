@@ -1,6 +1,11 @@
 //! What the lines of a picture are of.
-ghost use Rattle.std.specs.Prelude.{◌≡◌, ◌≤◌, ◌+◌, length};
+ghost use Rattle.std.specs.Prelude.{◌≡◌, ◌≤◌, ◌+◌, [], ◌∷◌, List, length, take};
+ghost use Rattle.der_view.specs.Inputs.{reading_of};
 ghost use Rattle.der_view.specs.Sources.{source_len, source_view};
+ghost use Rattle.sec1_c.specs.PictureLines.{Adds, AreLinesOfBytes, AreLinesOfSource, AreStored};
+ghost use Rattle.sec1_c.specs.PictureLines.{decoded_of, is_hidden, is_keyless, is_public};
+ghost use Rattle.sec1_c.specs.PictureLines.{line_of, row_lines, said_lines};
+ghost use Rattle.sec1_c.specs.declared.picture.lines.PictureLine.{PictureLine};
 
 use der_view::{Field, Form, Found, OpenRow, Plan, Rows, Shown, Source, Subject, is_key};
 
@@ -49,7 +54,10 @@ pub(super) struct Lines<'a> {
 
 impl<'a> Lines<'a> {
     /// Returns no lines.
-    pub fn new(lines: &'a mut [PictureLine]) -> Lines<'a> {
+    pub fn new(lines: &'a mut [PictureLine]) -> Lines<'a>
+        ensures same_reference { result.lines.ghost_name ≡ lines.entry.ghost_name }
+        ensures stored { AreStored lines.old result.lines.now result.count [] }
+    {
         Lines { lines, count: 0 }
     }
 
@@ -72,7 +80,12 @@ impl<'a> Lines<'a> {
     ) -> usize
         requires digits { source_len (source_view source.now) ≤ length digits.old }
         requires bytes { source_len (source_view source.now) + 2 ≤ length bytes.old }
-        ensures { result ≤ length bytes.old }
+        ensures same_reference { self.new.lines.ghost_name ≡ self.old.lines.ghost_name }
+        ensures added { (lines : List PictureLine)
+            × AreLinesOfSource before (source_view source.now) lines
+            × Adds self.old.lines.now self.old.count self.new.lines.now self.new.count lines }
+        ensures decoded { take result bytes.new ≡ decoded_of (source_view source.now) }
+        ensures within { result ≤ length bytes.old }
     {
         let found = source.find(digits, bytes);
         let decoded = match found {
@@ -98,7 +111,12 @@ impl<'a> Lines<'a> {
     }
 
     /// Adds the lines of bytes: of their rows, and of what is said of them.
-    fn push_bytes(&mut self, source: &Source, bytes: &[u8]) {
+    fn push_bytes(&mut self, source: &Source, bytes: &[u8])
+        ensures same_reference { self.new.lines.ghost_name ≡ self.old.lines.ghost_name }
+        ensures added { (lines : List PictureLine)
+            × AreLinesOfBytes (reading_of (source_view source.now)) bytes.now lines
+            × Adds self.old.lines.now self.old.count self.new.lines.now self.new.count lines }
+    {
         let mut rows = Rows::new(bytes, false);
         let plan = rows.plan();
         let mut is_whole = plan.complete;
@@ -112,7 +130,11 @@ impl<'a> Lines<'a> {
     }
 
     /// Adds the line of a row, and those of its marks.
-    fn push_row(&mut self, plan: &Plan, is_whole: bool, row: &OpenRow) {
+    fn push_row(&mut self, plan: &Plan, is_whole: bool, row: &OpenRow)
+        ensures same_reference { self.new.lines.ghost_name ≡ self.old.lines.ghost_name }
+        ensures added { Adds self.old.lines.now self.old.count self.new.lines.now self.new.count
+            (row_lines plan.now is_whole row.now) }
+    {
         self.push(PictureLine {
             kind: ROW,
             offset: row.offset,
@@ -130,7 +152,11 @@ impl<'a> Lines<'a> {
     }
 
     /// Adds a line of words and one of a command, if they are there.
-    fn push_said(&mut self, has_words: bool, has_command: bool) {
+    fn push_said(&mut self, has_words: bool, has_command: bool)
+        ensures same_reference { self.new.lines.ghost_name ≡ self.old.lines.ghost_name }
+        ensures added { Adds self.old.lines.now self.old.count self.new.lines.now self.new.count
+            (said_lines has_words has_command) }
+    {
         if has_words {
             self.push(of_kind(WORDS));
         }
@@ -140,16 +166,23 @@ impl<'a> Lines<'a> {
     }
 
     /// Adds a line.
-    fn push(&mut self, line: PictureLine) {
-        if let Some(place) = self.lines.get_mut(self.count) {
-            *place = line;
+    fn push(&mut self, line: PictureLine)
+        ensures same_reference { self.new.lines.ghost_name ≡ self.old.lines.ghost_name }
+        ensures added { Adds self.old.lines.now self.old.count self.new.lines.now self.new.count
+            (line ∷ []) }
+    {
+        let lines = &mut *self.lines;
+        if self.count < lines.len() {
+            lines[self.count] = line;
         }
         self.count = self.count.saturating_add(1);
     }
 }
 
 /// Returns a line of this kind that has no numbers.
-fn of_kind(kind: usize) -> PictureLine {
+fn of_kind(kind: usize) -> PictureLine
+    ensures { result ≡ line_of kind }
+{
     PictureLine {
         kind,
         offset: 0,
@@ -162,14 +195,18 @@ fn of_kind(kind: usize) -> PictureLine {
 
 /// Returns `true` if the picture doesn't show the content of a row, and the content isn't known to
 /// be public.
-fn is_hidden(plan: &Plan, is_whole: bool, row: &OpenRow) -> bool {
+fn is_hidden(plan: &Plan, is_whole: bool, row: &OpenRow) -> bool
+    ensures { result ≡ is_hidden plan.now is_whole row.now }
+{
     let is_shown = matches!(&row.shown, Shown::Value(_));
     let is_public = is_keyless(plan.form) || (is_whole && is_public(row.field));
     row.own_len > 0 && !is_shown && !is_public
 }
 
 /// Returns `true` if no private key is in what has this form.
-fn is_keyless(form: Form) -> bool {
+fn is_keyless(form: Form) -> bool
+    ensures { result ≡ is_keyless form }
+{
     matches!(
         form,
         Form::Certificate | Form::CertificationRequest | Form::CertificateList | Form::PublicKey
@@ -177,7 +214,9 @@ fn is_keyless(form: Form) -> bool {
 }
 
 /// Returns `true` if a field of a whole key, or of a signature, is public.
-fn is_public(field: Option<Field>) -> bool {
+fn is_public(field: Option<Field>) -> bool
+    ensures { result ≡ is_public field }
+{
     matches!(
         field,
         Some(

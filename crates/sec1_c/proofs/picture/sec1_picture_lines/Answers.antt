@@ -1,0 +1,76 @@
+use Rattle.std.proofs.Common.{◌≡◌, ◌≤◌, ◌+◌, ◌-◌, ◌/◌, [], ◌∷◌, ◌++◌, List, length, refl, sym, ap, ◌∙◌, arith}
+use Rattle.std.proofs.Common.{append_assoc}
+use Rattle.std.proofs.Common.{subst}
+use Rattle.std.proofs.lemmas.List.{length-take-le}
+use Rattle.std.specs.List.{flat_map}
+use Rattle.der_view.specs.Sources.{SourceView, source_view}
+use Rattle.der_view.proofs.DecodedLemmas.{decoded_within}
+use Rattle.sec1_c.proofs.PictureLineLemmas.{AreLines-snoc, decoded-snoc, decoded_all, part_written}
+use Rattle.sec1_c.proofs.SourceLemmas.{sources_total, total_len}
+use Rattle.sec1_c.specs.PictureLines.{AreLines, AreLinesOfSource, IsDecodedAt, decoded_of}
+use Rattle.sec1_c.proofs.picture.sec1_picture_lines.Goals as goal
+use Rattle.sec1_c.proofs.picture.sec1_picture_lines.Goals.{In_default}
+
+pub loop-source-init : goal.loop-source-init
+loop-source-init c = record {
+  room =
+      let total = sources_total c.args.input.now in
+      let same = ap total_len c.new-sources.ensures.sources in
+      omega arith;
+  within = omega arith;
+  same_reference = refl;
+  listed = ([], [], sym c.new-sources.ensures.sources, refl, refl, c.new-lines.ensures.stored);
+}
+
+pub loop-source-preserved : goal.loop-source-preserved
+loop-source-preserved c =
+    let done = c.loop-source.invariant.listed in
+    let source = source_view c.in-Some.source in
+    let added = c.push_source-used.ensures.added in
+    let new = c.push_source-used.new.bytes in
+    let more = c.push_source-used.result in
+    let fits : more ≤ length new = omega (arith, c.push_source-used.ensures.within, c.push_source-used.auto.bytes) in
+    let written =
+    part_written c.loop-source.used (length c.loop-source.bytes - c.loop-source.used) more c.loop-source.bytes new
+    c.loop-source.invariant.within fits in
+    let len : length (decoded_of source) ≡ more =
+    sym (ap length c.push_source-used.ensures.decoded) ∙ length-take-le more new fits in
+    let used : length (flat_map decoded_of done.0) ≡ c.loop-source.used =
+    sym (ap length done.3) ∙ length-take-le c.loop-source.used c.loop-source.bytes c.loop-source.invariant.within in
+    let place : c.saturating_add-in-Some.result ≡ length c.loop-source.digits + length (flat_map decoded_of done.0) =
+    omega (arith, c.saturating_add-in-Some.ensures, used, c.loop-source.auto.digits, c.loop-source.auto.bytes) in
+    record {
+      room =
+          let few = decoded_within source in
+          let left = ap total_len c.in-Some.ensures in
+          omega arith;
+      within = written.1;
+      same_reference = c.push_source-used.ensures.same_reference ∙ c.loop-source.invariant.same_reference;
+      listed = (
+        done.0 ++ source ∷ [],
+        done.1 ++ added.0,
+        done.2
+            ∙ (ap (λ (rest : List SourceView). done.0 ++ rest) c.in-Some.ensures
+            ∙ sym (append_assoc done.0 (source ∷ []) _)),
+        written.0 ∙ decoded-snoc done.0 source _ _ done.3 c.push_source-used.ensures.decoded,
+        subst (λ n. AreLines n (done.0 ++ source ∷ []) (done.1 ++ added.0)) (sym c.push_source-used.auto.digits)
+            (AreLines-snoc (length c.loop-source.digits) done.0 source done.1 added.0 done.4
+            (subst (λ n. AreLinesOfSource n source added.0) place added.1)),
+        added.2 c.args.lines.now done.1 done.5,
+      );
+    }
+
+-- after the last source all is decoded
+decoded : (c : In_default)
+    → IsDecodedAt (length c.args.room.now / 2 - 1) c.args.input.now (c.loop-source.digits ++ c.loop-source.bytes)
+decoded c =
+    let done = c.loop-source.invariant.listed in
+    decoded_all _ c.loop-source.used c.args.input.now c.loop-source.digits c.loop-source.bytes done.0 (omega arith)
+    c.loop-source.invariant.within
+    (done.2 ∙ ap (λ (rest : List SourceView). done.0 ++ rest) c.in_default.ensures.0) done.3
+
+pub returns-then-count-most-clause-decoded : goal.returns-then-count-most-clause-decoded
+returns-then-count-most-clause-decoded c room = decoded (goal.at.returns-then-count-most-clause-decoded c).In_default
+
+pub returns-else-count-most-clause-decoded : goal.returns-else-count-most-clause-decoded
+returns-else-count-most-clause-decoded c room = decoded (goal.at.returns-else-count-most-clause-decoded c).In_default
