@@ -1,6 +1,6 @@
-//! Pictures of private keys, by `der_view`, that don't follow from the keys.
+//! Pictures of private keys in DER, by `der_view`, which don't follow from the keys.
 ghost use Rattle.std.specs.Prelude.{◌≡◌, ◌≤◌, ◌∷◌, ◌++◌, [], List, ℕ, length, map, take};
-ghost use Rattle.sec1_der.specs.Elements.{element};
+ghost use Rattle.sec1_der.specs.Elements.{element, header};
 ghost use Rattle.der_view.specs.Headers.{max_content_len};
 ghost use Rattle.der_view.specs.OpenLaws.{AreAsLong, IsRootOf, SamePictures};
 ghost use Rattle.der_view.specs.OpenLaws.{container_bytes, integers, number_bytes};
@@ -9,16 +9,16 @@ use der_view::laws;
 
 /// Two RSA keys of two primes with the same public numbers have the same picture.
 pub fn pictures_of_rsa_keys()
-    ensures { (root : List ℕ) (public x y : List (List ℕ))
-        → IsRootOf (number_bytes root 0 (public ++ x) []) root
+    ensures { (n : ℕ) (public x y : List (List ℕ)) → n ≤ max_content_len
         → AreAsLong (public ++ x) (public ++ y)
-        → SamePictures (number_bytes root 0 (public ++ x) [])
-        (number_bytes root 0 (public ++ y) []) }
+        → SamePictures (number_bytes (header 0x30 n) 0 (public ++ x) [])
+        (number_bytes (header 0x30 n) 0 (public ++ y) []) }
 {
+    laws::headers_are_roots();
     laws::numbers_are_unseen();
 }
 
-/// So have such keys after each number of their bytes.
+/// So have those of whose bytes so many are left, with any header of the root.
 pub fn pictures_of_cut_rsa_keys()
     ensures { (root : List ℕ) (n : ℕ) (x y : List (List ℕ))
         → IsRootOf (take n (number_bytes root 0 x [])) root → AreAsLong x y
@@ -30,45 +30,43 @@ pub fn pictures_of_cut_rsa_keys()
 
 /// Two private keys of Ed25519 in PKCS #8 have the same picture.
 pub fn pictures_of_curve_keys()
-    ensures { (root algorithm x y : List ℕ)
-        → IsRootOf (container_bytes root 0 algorithm (element 0x04 x) []) root
+    ensures { (n : ℕ) (algorithm x y : List ℕ) → n ≤ max_content_len
         → length algorithm ≤ max_content_len → length (element 0x04 x) ≤ max_content_len
         → length x ≡ 32 → length y ≡ 32
-        → SamePictures (container_bytes root 0 algorithm (element 0x04 x) [])
-        (container_bytes root 0 algorithm (element 0x04 y) []) }
+        → SamePictures (container_bytes (header 0x30 n) 0 algorithm (element 0x04 x) [])
+        (container_bytes (header 0x30 n) 0 algorithm (element 0x04 y) []) }
 {
+    laws::headers_are_roots();
     laws::contained_keys_are_unseen();
 }
 
 /// Two RSA keys in PKCS #8 have the same picture, also if attributes follow.
 pub fn pictures_of_contained_rsa_keys()
-    ensures { (root algorithm attributes : List ℕ) (x y : List (List ℕ))
-        → IsRootOf (container_bytes root 0 algorithm
-        (element 0x30 (integers ((0 ∷ []) ∷ x))) attributes) root
-        → length algorithm ≤ max_content_len
+    ensures { (n : ℕ) (algorithm attributes : List ℕ) (x y : List (List ℕ))
+        → n ≤ max_content_len → length algorithm ≤ max_content_len
         → length (element 0x30 (integers ((0 ∷ []) ∷ x))) ≤ max_content_len
         → map length x ≡ map length y
-        → SamePictures
-        (container_bytes root 0 algorithm (element 0x30 (integers ((0 ∷ []) ∷ x))) attributes)
-        (container_bytes root 0 algorithm (element 0x30 (integers ((0 ∷ []) ∷ y))) attributes) }
+        → SamePictures (container_bytes (header 0x30 n) 0 algorithm
+        (element 0x30 (integers ((0 ∷ []) ∷ x))) attributes)
+        (container_bytes (header 0x30 n) 0 algorithm
+        (element 0x30 (integers ((0 ∷ []) ∷ y))) attributes) }
 {
+    laws::headers_are_roots();
     laws::contained_keys_are_unseen();
 }
 
-/// So have two EC keys, after each number of their bytes.
+/// So have two EC keys in PKCS #8 of whose bytes so many are left after the root's header.
 pub fn pictures_of_cut_ec_keys()
-    ensures { (root algorithm fields x y : List ℕ) (n : ℕ)
-        → IsRootOf (take n (container_bytes root 0 algorithm
-        (element 0x30 (0x02 ∷ 0x01 ∷ 0x01 ∷ (element 0x04 x ++ fields))) [])) root
-        → length algorithm ≤ max_content_len
+    ensures { (n left : ℕ) (algorithm fields x y : List ℕ) → n ≤ max_content_len
+        → length (header 0x30 n) ≤ left → length algorithm ≤ max_content_len
         → length (element 0x30 (0x02 ∷ 0x01 ∷ 0x01 ∷ (element 0x04 x ++ fields)))
         ≤ max_content_len
         → length x ≡ length y
-        → SamePictures
-        (take n (container_bytes root 0 algorithm
+        → SamePictures (take left (container_bytes (header 0x30 n) 0 algorithm
         (element 0x30 (0x02 ∷ 0x01 ∷ 0x01 ∷ (element 0x04 x ++ fields))) []))
-        (take n (container_bytes root 0 algorithm
+        (take left (container_bytes (header 0x30 n) 0 algorithm
         (element 0x30 (0x02 ∷ 0x01 ∷ 0x01 ∷ (element 0x04 y ++ fields))) [])) }
 {
+    laws::headers_are_roots();
     laws::cut_containers_are_unseen();
 }
