@@ -1,31 +1,32 @@
 -- Containers of private keys (RFC 5958) that differ in the keys inside them.
-use Rattle.std.proofs.Common.{◌≡◌, ℕ, ◌+◌, ◌-◌, ◌<◌, ◌≤◌, ⊎_elim, Bool, true, false, List, [], ◌∷◌, ◌++◌, length, take}
-use Rattle.std.proofs.Common.{drop, refl}
-use Rattle.std.proofs.Common.{sym, ap, ap₂, ◌∙◌, arith, subst₂, map, All}
-use Rattle.std.proofs.lemmas.List.{append_assoc, append-nil, drop_at, length-append, length-take, take-append-le}
+use Rattle.std.proofs.Common.{Some, subst, ◌≡◌, ℕ, ◌+◌, ◌-◌, ◌<◌, ◌≤◌, ⊎_elim, Bool, true, false, List, [], ◌∷◌}
+use Rattle.std.proofs.Common.{◌++◌, length, take, drop, refl, sym, ap, ap₂, ◌∙◌, arith, subst₂}
 use Rattle.std.proofs.Math.Seq.{take-append-add}
 use Rattle.std.proofs.lemmas.Bool.{cases_lt}
-use Rattle.std.proofs.lemmas.List.Elements.{All-cons, All-nil}
+use Rattle.std.proofs.lemmas.List.{append_assoc, drop_at, length-append, length-take, take-append-le}
+use Rattle.std.proofs.lemmas.List.{take_at}
 use Rattle.sec1_der.proofs.LengthLaws.{len_1}
 use Rattle.sec1_der.specs.Elements.{element, header}
 use Rattle.der_view.proofs.ContainerPlanLemmas.{AreKeys, CutBefore, Splits, container_known, container_plan}
 use Rattle.der_view.proofs.ContainerPlanLemmas.{container_rest, keys_take, rest_take}
-use Rattle.der_view.proofs.HeaderLemmas.{header_within}
-use Rattle.der_view.proofs.KeyPlanLemmas.{Cuts, cuts, version_first}
 use Rattle.der_view.proofs.ContainerRowLemmas.{InnerRows, IsContainer, container_rows, leaf_inner, sequence_inner}
+use Rattle.der_view.proofs.HeaderLemmas.{header_within}
 use Rattle.der_view.proofs.KeyChildLemmas.{versioned}
-use Rattle.der_view.proofs.KeyInsideLemmas.{key_of, leaf_key, sequence_key}
-use Rattle.der_view.proofs.KeyLeafLemmas.{AreAlike, AreLeaves, alike_take, leaf_tag}
+use Rattle.der_view.proofs.KeyInsideLemmas.{key_of, leaf_exact, leaf_key, sequence_exact, sequence_key}
+use Rattle.der_view.proofs.KeyLeafLemmas.{AreAlike, AreLeaves, alike_append, alike_len, alike_take, leaf_tag}
+use Rattle.der_view.proofs.KeyLeafLemmas.{leaves_len}
 use Rattle.der_view.proofs.KeyLemmas.{no_string}
-use Rattle.der_view.proofs.KeyRowLemmas.{equal_pictures, root_moves, span}
+use Rattle.der_view.proofs.KeyPlanLemmas.{Cuts, cuts, version_first}
+use Rattle.der_view.proofs.KeyRowLemmas.{equal_pictures, root_moves, root_rest}
 use Rattle.der_view.proofs.NumberLemmas.{leaves_of, numbers_alike}
 use Rattle.der_view.proofs.OpenLemmas.{open_bytes_decide}
 use Rattle.der_view.specs.Headers.{max_content_len}
-use Rattle.der_view.specs.OpenLaws.{AreUnseenCut, AreUnseenInside, DifferUnseen, IsRootOf, OfCurveKeys, OfEcKeys}
-use Rattle.der_view.specs.OpenLaws.{OfNumber}
-use Rattle.der_view.specs.OpenLaws.{OfNumberKeys, SamePictures, container_bytes, integers}
+use Rattle.der_view.specs.OpenLaws.{AreAsLong, AreUnseenCut, AreUnseenInside, DifferUnseen, IsRootOf, OfCurveKeys}
+use Rattle.der_view.specs.OpenLaws.{OfEcKeys, OfNumber, OfNumberKeys, SamePictures, container_bytes, integers}
+use Rattle.der_view.specs.OpenLaws.{key_bytes, number_bytes}
 use Rattle.der_view.specs.Plans.{plan_of}
 use Rattle.der_view.specs.Rows.{Undrawn}
+use Rattle.der_view.specs.declared.field.Field.{Field}
 
 -- such keys, whose rows look the same
 pub record AreHidden (root q l m : List ℕ) (version n : ℕ) : Type 0 where
@@ -44,7 +45,8 @@ container_differs root q l m version n at short two =
     let a : List ℕ = root ++ s in
     let b : List ℕ = root ++ t in
     let other : IsRootOf b root = root_moves root s t at in
-    let known : IsContainer (plan_of a) (length root + 3 + length (element 0x30 q) + length (header 0x04 n)) =
+    let known : IsContainer (plan_of a) (length root + 3 + length (element 0x30 q) + length (header 0x04 n)) n
+    (root_rest a at.head) l =
     container_known root q l version n at.head at.is_header at.len at.node short two.keys.few in
     record {
       len =
@@ -105,7 +107,8 @@ cut_hidden : (root q l m : List ℕ) (version n j : ℕ) → AreKeys n l m → j
 cut_hidden root q l m version n j keys short = record {
   keys = keys_take n j l m keys;
   rows = λ u. record {
-    look = λ rows x level outer field are levels shallow hidden guarded none next other fits bytes some at in_a in_b.
+    look = λ rows x level outer field are levels shallow hidden guarded none next other key fits bytes some at in_a
+        in_b.
         absurd (omega (arith, ap length (at ∙ in_a), length-take j l));
   };
 }
@@ -173,242 +176,137 @@ unseen_cut x y two root q rest version n at short few =
     rw (c.is_old, c.is_new) (cut_after x y root q rest version c.k two short few here))
     (cuts w version u v))
 
--- a key that is one leaf
-leaf_hidden : (string : Bool) (x y : List ℕ) → length x ≡ length y → (root q rest : List ℕ) (version : ℕ)
-    → length (element (leaf_tag string) x) ≤ max_content_len
-    → AreHidden root q (element (leaf_tag string) x ++ rest) (element (leaf_tag string) y ++ rest) version
-    (length (element (leaf_tag string) x))
-leaf_hidden string x y size root q rest version few =
-    let front : List ℕ = header (leaf_tag string) (length x) in
-    let l : List ℕ = element (leaf_tag string) x ++ rest in
-    let m : List ℕ = element (leaf_tag string) y ++ rest in
-    let new : element (leaf_tag string) y ≡ front ++ y = ap (λ (k : ℕ). header (leaf_tag string) k ++ y) (sym size) in
-    let x_len : length (element (leaf_tag string) x) ≡ length front + length x = length-append front x in
-    let y_len : length (element (leaf_tag string) y) ≡ length front + length y = ap length new
-    ∙ length-append front y in
-    let same_len : length (element (leaf_tag string) y) ≡ length (element (leaf_tag string) x) = omega arith in
-    let two : AreLeaves string (length x) l m (x ++ rest) (y ++ rest) = record {
-      old = append_assoc front x rest;
-      new = ap (λ (bytes : List ℕ). bytes ++ rest) new ∙ append_assoc front y rest;
-      size = omega (arith, length-append x rest, length-append y rest);
-      few = omega arith;
-    } in
-    let after : drop (length x) (x ++ rest) ≡ drop (length x) (y ++ rest) =
-    drop_at x rest (length x) refl ∙ sym (drop_at y rest (length x) (sym size)) in
-    let alike : AreAlike ((string, length x) ∷ []) l m = (x ++ rest, y ++ rest, two, after) in
-    record {
-      keys = record {
-        size = omega (
-          arith,
-          length-append (element (leaf_tag string) x) rest,
-          length-append (element (leaf_tag string)
-              y) rest,
-        );
-        after =
-            drop_at (element (leaf_tag string) x) rest (length (element (leaf_tag string) x)) refl
-            ∙ sym (drop_at (element (leaf_tag string) y) rest (length (element (leaf_tag string) x)) same_len);
-        few = few;
-        key = λ k fits.
-            let cut = alike_take k ((string, length x) ∷ []) l m alike in
-            leaf_key cut.0 (take k l) (take k m) cut.1;
-      };
-      rows = λ u. leaf_inner _ _ l m (x ++ rest) (y ++ rest) string (length x) (length (element (leaf_tag string) x)) u
-          two
-          x_len after;
-    }
-
-element_len : (tag : ℕ) (x y : List ℕ) → length x ≡ length y → length (element tag x) ≡ length (element tag y)
-element_len tag x y size =
-    length-append (header tag (length x)) x
-    ∙ (ap₂ (λ (i j : ℕ). length (header tag i) + j) size size ∙ sym (length-append (header tag (length y)) y))
-
-leaf_keys : (string : Bool) (x y : List ℕ) → length x ≡ length y
-    → AreHiddenKeys (element (leaf_tag string) x) (element (leaf_tag string) y)
-leaf_keys string x y size = record {
-  size = element_len (leaf_tag string) x y size;
-  hidden = leaf_hidden string x y size;
+-- the rows of a key, if it is one
+inner_if : (a b : List ℕ) (n : ℕ) (l m : List ℕ) (u : Undrawn)
+    → ((field : Field) → key_of (take n l) ≡ Some field → InnerRows a b n l m u) → InnerRows a b n l m u
+inner_if a b n l m u rows = record {
+  look = λ later x level outer field are levels shallow hidden guarded none next other key fits bytes some at in_a in_b.
+      (rows field key).look later x level outer field are levels shallow hidden guarded none next other key fits bytes
+      some
+      at in_a in_b;
 }
 
--- a key that is a SEQUENCE of a version and leaves
-record AreContents (s t : List ℕ) (leaves : List (Bool × ℕ)) : Type 0 where
-  size : length s ≡ length t
-  alike : (rest : List ℕ) → AreAlike leaves (s ++ rest) (t ++ rest)
-  span : span leaves ≤ length s
+-- what keys are, with any bytes after them
+keys_around : (x y rest : List ℕ) → length x ≡ length y → length x ≤ max_content_len
+    → ((j : ℕ) → key_of (take j x) ≡ key_of (take j y)) → AreKeys (length x) (x ++ rest) (y ++ rest)
+keys_around x y rest size few same = record {
+  size = length-append x rest ∙ (ap (λ (k : ℕ). k + length rest) size ∙ sym (length-append y rest));
+  after = drop_at x rest (length x) refl ∙ sym (drop_at y rest (length x) (sym size));
+  few = few;
+  key = λ j fits.
+      ap (λ (bytes : List ℕ). key_of bytes) (take-append-le j x rest fits)
+      ∙ (same j ∙ sym (ap (λ (bytes : List ℕ). key_of bytes) (take-append-le j y rest (omega (arith, size)))));
+}
 
-sequence_hidden : (s t : List ℕ) (version : ℕ) (leaves : List (Bool × ℕ)) → AreContents s t leaves
-    → (root q rest : List ℕ) (outer : ℕ) → length (element 0x30 (0x02 ∷ 0x01 ∷ version ∷ s)) ≤ max_content_len
-    → AreHidden root q (element 0x30 (0x02 ∷ 0x01 ∷ version ∷ s) ++ rest)
-    (element 0x30 (0x02 ∷ 0x01 ∷ version ∷ t) ++ rest) outer (length (element 0x30 (0x02 ∷ 0x01 ∷ version ∷ s)))
-sequence_hidden s t version leaves c root q rest outer few =
-    let x : List ℕ = 0x02 ∷ 0x01 ∷ version ∷ s in
-    let y : List ℕ = 0x02 ∷ 0x01 ∷ version ∷ t in
-    let k : ℕ = length x in
-    let front : List ℕ = header 0x30 k in
-    let old : List ℕ = element 0x30 x in
-    let new : List ℕ = element 0x30 y in
-    let size : length y ≡ k = omega (arith, c.size) in
-    let new_is : new ≡ front ++ y = ap (λ (n : ℕ). header 0x30 n ++ y) size in
-    let x_len : length old ≡ length front + k = length-append front x in
-    let y_len : length new ≡ length front + k = ap length new_is ∙ (length-append front y ∙ omega (arith, size)) in
-    let alike : AreAlike leaves s t =
-    subst₂ (λ (v w : List ℕ). AreAlike leaves v w) (append-nil s) (append-nil t) (c.alike []) in
-    let old_is : front ++ (0x02 ∷ 0x01 ∷ version ∷ (s ++ rest)) ≡ old ++ rest = sym (append_assoc front x rest) in
-    let other_is : front ++ (0x02 ∷ 0x01 ∷ version ∷ (t ++ rest)) ≡ new ++ rest =
-    sym (append_assoc front y rest) ∙ ap (λ (bytes : List ℕ). bytes ++ rest) (sym new_is) in
-    let within : 3 + span leaves ≤ k = omega (arith, c.span) in
+-- a key that is one leaf
+leaf_keys : (string : Bool) (s t : List ℕ) (k : ℕ) → k ≤ max_content_len → length s ≡ length t → drop k s ≡ drop k t
+    → AreHiddenKeys (header (leaf_tag string) k ++ s) (header (leaf_tag string) k ++ t)
+leaf_keys string s t k small size after =
+    let front : List ℕ = header (leaf_tag string) k in
+    let x : List ℕ = front ++ s in
+    let y : List ℕ = front ++ t in
+    let two : AreLeaves string k x y s t = record { old = refl; new = refl; size = size; few = small } in
+    let alike : AreAlike ((string, k) ∷ []) x y = (s, t, two, after) in
+    let sizes : length x ≡ length y = leaves_len string k x y s t two in
     record {
-      keys = record {
-        size = length-append old rest ∙ (omega arith ∙ sym (length-append new rest));
-        after = drop_at old rest (length old) refl ∙ sym (drop_at new rest (length old) (omega arith));
-        few = few;
-        key = λ j fits.
-            ap (λ (bytes : List ℕ). key_of bytes) (take-append-le j old rest fits)
-            ∙ (sequence_key k version j s t leaves (omega arith) alike refl (omega arith)
-            ∙ sym (ap (λ (bytes : List ℕ). key_of bytes)
-            (take-append-le j new rest (omega arith) ∙ ap (λ (bytes : List ℕ). take j bytes) new_is)));
+      size = sizes;
+      hidden = λ root q rest version few. record {
+        keys = keys_around x y rest sizes few (λ j.
+            let cut = alike_take j ((string, k) ∷ []) x y alike in
+            leaf_key cut.0 (take j x) (take j y) cut.1);
+        rows = λ u. inner_if _ _ (length x) (x ++ rest) (y ++ rest) u (λ field key.
+            let exact : k ≡ length s =
+            leaf_exact string k s field small
+            (subst (λ (bytes : List ℕ). key_of bytes ≡ Some field) (take_at x rest (length x) refl) key) in
+            let more : AreLeaves string k (x ++ rest) (y ++ rest) (s ++ rest) (t ++ rest) = record {
+              old = append_assoc front s rest;
+              new = append_assoc front t rest;
+              size = length-append s rest ∙ (ap (λ (n : ℕ). n + length rest) size ∙ sym (length-append t rest));
+              few = small;
+            } in
+            leaf_inner _ _ (x ++ rest) (y ++ rest) (s ++ rest) (t ++ rest) string k (length x) u more
+            (length-append front s ∙ ap (λ (n : ℕ). length front + n) (sym exact))
+            (drop_at s rest k (sym exact) ∙ sym (drop_at t rest k (omega (arith, exact, size)))));
       };
-      rows = λ u.
-          let a : List ℕ = versioned root outer (container_rest q (length old) (old ++ rest)) in
-          let b : List ℕ = versioned root outer (container_rest q (length old) (new ++ rest)) in
-          subst₂ (λ (v w : List ℕ). InnerRows a b (length old) v w u) old_is other_is
-          (sequence_inner a b (s ++ rest) (t ++ rest) version k (length old) leaves u (omega arith) (c.alike rest)
-          within
-          (omega (arith, length-append s rest)) x_len);
     }
 
-sequence_keys : (s t : List ℕ) (version : ℕ) (leaves : List (Bool × ℕ)) → length s ≡ length t
-    → (length s ≤ max_content_len → AreContents s t leaves)
-    → AreHiddenKeys (element 0x30 (0x02 ∷ 0x01 ∷ version ∷ s)) (element 0x30 (0x02 ∷ 0x01 ∷ version ∷ t))
-sequence_keys s t version leaves size contents =
-    let x : List ℕ = 0x02 ∷ 0x01 ∷ version ∷ s in
-    let y : List ℕ = 0x02 ∷ 0x01 ∷ version ∷ t in
+-- a key that is a SEQUENCE of a version and leaves
+sequence_keys : (s t : List ℕ) (version k : ℕ) (leaves : List (Bool × ℕ)) → k ≤ max_content_len → AreAlike leaves s t
+    → AreHiddenKeys (header 0x30 k ++ (0x02 ∷ 0x01 ∷ version ∷ s)) (header 0x30 k ++ (0x02 ∷ 0x01 ∷ version ∷ t))
+sequence_keys s t version k leaves small alike =
+    let front : List ℕ = header 0x30 k in
+    let v : List ℕ = 0x02 ∷ 0x01 ∷ version ∷ s in
+    let w : List ℕ = 0x02 ∷ 0x01 ∷ version ∷ t in
+    let x : List ℕ = front ++ v in
+    let y : List ℕ = front ++ w in
+    let inner_len : length v ≡ length w = omega (arith, alike_len leaves s t alike) in
+    let sizes : length x ≡ length y =
+    length-append front v ∙ (ap (λ (n : ℕ). length front + n) inner_len ∙ sym (length-append front w)) in
     record {
-      size = element_len 0x30 x y (omega (arith, size));
-      hidden = λ root q rest outer few.
-          sequence_hidden s t version leaves (contents (omega (arith, length-append (header 0x30 (length x)) x))) root q
-          rest outer few;
+      size = sizes;
+      hidden = λ root q rest outer few. record {
+        keys = keys_around x y rest sizes few (λ j. sequence_key k version j s t leaves small alike);
+        rows = λ u. inner_if _ _ (length x) (x ++ rest) (y ++ rest) u (λ field key.
+            let whole = sequence_exact k version s t leaves field small alike
+            (subst (λ (bytes : List ℕ). key_of bytes ≡ Some field) (take_at x rest (length x) refl) key) in
+            let exact : k ≡ length v = whole.0 in
+            subst₂ (λ (l m : List ℕ). InnerRows (versioned root outer (container_rest q (length x) (x ++ rest)))
+            (versioned root outer (container_rest q (length x) (y ++ rest))) (length x) l m u)
+            (sym (append_assoc front v rest)) (sym (append_assoc front w rest))
+            (sequence_inner _ _ (s ++ rest) (t ++ rest) version k (length x) leaves u small
+            (alike_append leaves s t rest alike whole.1) (omega (arith, whole.1)) (omega (arith, length-append s rest))
+            (length-append front v ∙ ap (λ (n : ℕ). length front + n) (sym exact))));
+      };
     }
 
 -- an ECPrivateKey
-ec_contents : (x y fields : List ℕ) → length x ≡ length y → length (element 0x04 x ++ fields) ≤ max_content_len
-    → AreContents (element 0x04 x ++ fields) (element 0x04 y ++ fields) ((true, length x) ∷ [])
-ec_contents x y fields size small =
-    let front : List ℕ = header 0x04 (length x) in
-    let new : element 0x04 y ≡ front ++ y = ap (λ (n : ℕ). header 0x04 n ++ y) (sym size) in
-    let x_len : length (element 0x04 x) ≡ length front + length x = length-append front x in
-    let y_len : length (element 0x04 y) ≡ length front + length y = ap length new ∙ length-append front y in
-    record {
-      size =
-          length-append (element 0x04 x) fields
-          ∙ (omega arith ∙ sym (length-append (element 0x04 y) fields));
-      alike = λ rest.
-          let l : List ℕ = x ++ (fields ++ rest) in
-          let m : List ℕ = y ++ (fields ++ rest) in
-          let two : AreLeaves true (length x) ((element 0x04 x ++ fields) ++ rest) ((element 0x04 y ++ fields) ++ rest)
-          l
-          m = record {
-            old = append_assoc (element 0x04 x) fields rest ∙ append_assoc front x (fields ++ rest);
-            new =
-                append_assoc (element 0x04 y) fields rest
-                ∙ (ap (λ (bytes : List ℕ). bytes ++ (fields ++ rest)) new ∙ append_assoc front y (fields ++ rest));
-            size = omega (arith, length-append x (fields ++ rest), length-append y (fields ++ rest));
-            few = omega (arith, length-append (element 0x04 x) fields);
-          } in
-          let after : drop (length x) l ≡ drop (length x) m =
-          drop_at x (fields ++ rest) (length x) refl ∙ sym (drop_at y (fields ++ rest) (length x) (sym size)) in
-          (l, m, two, after);
-      span = omega (arith, length-append (element 0x04 x) fields);
-    }
-
-ec_keys : (x y fields : List ℕ) (version : ℕ) → length x ≡ length y
-    → AreHiddenKeys (element 0x30 (0x02 ∷ 0x01 ∷ version ∷ (element 0x04 x ++ fields)))
-    (element 0x30 (0x02 ∷ 0x01 ∷ version ∷ (element 0x04 y ++ fields)))
-ec_keys x y fields version size =
-    let sizes : length (element 0x04 x ++ fields) ≡ length (element 0x04 y ++ fields) =
-    length-append (element 0x04 x) fields
-    ∙ (ap (λ (k : ℕ). k + length fields) (element_len 0x04 x y size) ∙ sym (length-append (element 0x04 y) fields)) in
-    sequence_keys (element 0x04 x ++ fields) (element 0x04 y ++ fields) version ((true, length x) ∷ []) sizes
-    (λ few. ec_contents x y fields size few)
+ec_keys : (x y : List ℕ) (version n len : ℕ) → n ≤ max_content_len → len ≤ max_content_len → length x ≡ length y
+    → drop n x ≡ drop n y → AreHiddenKeys (key_bytes (header 0x30 len) version n x) (key_bytes (header 0x30 len) version
+    n y)
+unfolding key_bytes
+ec_keys x y version n len few small size after =
+    sequence_keys (header 0x04 n ++ x) (header 0x04 n ++ y) version len ((true, n) ∷ []) small
+    (x, y, record { old = refl; new = refl; size = size; few = few }, after)
 
 -- numbers
-numbers_span : (x : List (List ℕ)) → span (leaves_of x) ≡ length (integers x)
-unfolding integers
-numbers_span [] = refl
-numbers_span (c ∷ x) =
-    let more : span (leaves_of x) ≡ length (integers x) = numbers_span x in
-    omega (
-      arith,
-      length-append (element 0x02 c) (integers x),
-      length-append (header 0x02 (length c)) c,
-    )
+number_is : (root rest : List ℕ) (version : ℕ) (x : List (List ℕ))
+    → number_bytes root version x rest ≡ root ++ (0x02 ∷ 0x01 ∷ version ∷ (integers x ++ rest))
+unfolding number_bytes integers
+number_is root rest version x =
+    ap (λ (octets : List ℕ). root ++ ((((0x02 ∷ octets) ++ (version ∷ [])) ++ integers x) ++ rest))
+    (len_1 1 (omega arith))
 
-numbers_few : (most : ℕ) (x : List (List ℕ)) → length (integers x) ≤ most → All (λ content. length content ≤ most) x
-unfolding integers
-numbers_few most [] few = All-nil (λ content. length content ≤ most)
-numbers_few most (c ∷ x) few =
-    let here : length c ≤ most =
-    omega (
-      arith,
-      length-append (element 0x02 c) (integers x),
-      length-append (header 0x02 (length c)) c,
-    ) in
-    All-cons (λ content. length content ≤ most) c x here
-    (numbers_few most x (omega (arith, length-append (element 0x02 c) (integers x))))
-
-numbers_len : (x y : List (List ℕ)) → map length x ≡ map length y → length (integers x) ≡ length (integers y)
-unfolding integers
-numbers_len [] [] same = refl
-numbers_len [] (d ∷ y) same = absurd (cc same)
-numbers_len (c ∷ x) [] same = absurd (cc same)
-numbers_len (c ∷ x) (d ∷ y) same =
-    let size : length c ≡ length d = cc in
-    let sizes : map length x ≡ map length y = cc in
-    length-append (element 0x02 c) (integers x)
-    ∙ (ap₂ (λ (i j : ℕ). i + j) (element_len 0x02 c d size) (numbers_len x y sizes)
-    ∙ sym (length-append (element 0x02 d) (integers y)))
-
-numbers_contents : (x y : List (List ℕ)) → map length x ≡ map length y → length (integers x) ≤ max_content_len
-    → AreContents (integers x) (integers y) (leaves_of x)
-numbers_contents x y same few = record {
-  size = numbers_len x y same;
-  alike = λ rest. numbers_alike rest x y same (numbers_few max_content_len x few);
-  span = omega (arith, numbers_span x);
-}
-
-version_is : (version : ℕ) (x : List (List ℕ)) → integers ((version ∷ []) ∷ x) ≡ 0x02 ∷ 0x01 ∷ version ∷ integers x
-unfolding integers
-version_is version x =
-    ap (λ (octets : List ℕ). ((0x02 ∷ octets) ++ (version ∷ [])) ++ integers x) (len_1 1 (omega arith))
-
-number_keys : (x y : List (List ℕ)) (version : ℕ) → map length x ≡ map length y
-    → AreHiddenKeys (element 0x30 (integers ((version ∷ []) ∷ x))) (element 0x30 (integers ((version ∷ []) ∷ y)))
-number_keys x y version same =
-    subst₂ (λ (v w : List ℕ). AreHiddenKeys (element 0x30 v) (element 0x30 w)) (sym (version_is version x))
-    (sym (version_is version y))
-    (sequence_keys (integers x) (integers y) version (leaves_of x) (numbers_len x y same)
-    (λ few. numbers_contents x y same few))
+number_keys : (x y : List (List ℕ)) (rest : List ℕ) (version len : ℕ) → len ≤ max_content_len → AreAsLong x y
+    → AreHiddenKeys (number_bytes (header 0x30 len) version x rest) (number_bytes (header 0x30 len) version y rest)
+number_keys x y rest version len small long =
+    subst₂ (λ (v w : List ℕ). AreHiddenKeys v w) (sym (number_is (header 0x30 len) rest version x))
+    (sym (number_is (header 0x30 len) rest version y))
+    (sequence_keys (integers x ++ rest) (integers y ++ rest) version len (leaves_of x) small
+    (numbers_alike rest x y long.lengths long.few))
 
 -- the laws
 pub contained_curve_keys : OfCurveKeys AreUnseenInside
-contained_curve_keys x y size = unseen_inside (element 0x04 x) (element 0x04 y) (leaf_keys true x y size)
+contained_curve_keys x y n few size after = unseen_inside _ _ (leaf_keys true x y n few size after)
 
 pub contained_number : OfNumber AreUnseenInside
-contained_number x y size = unseen_inside (element 0x02 x) (element 0x02 y) (leaf_keys false x y size)
+contained_number x y n few size after = unseen_inside _ _ (leaf_keys false x y n few size after)
 
 pub contained_ec_keys : OfEcKeys AreUnseenInside
-contained_ec_keys x y fields version size = unseen_inside _ _ (ec_keys x y fields version size)
+contained_ec_keys x y version n len few small size after =
+    unseen_inside _ _ (ec_keys x y version n len few small size after)
 
 pub contained_number_keys : OfNumberKeys AreUnseenInside
-contained_number_keys x y version same = unseen_inside _ _ (number_keys x y version same)
+contained_number_keys x y rest version len small long =
+    unseen_inside _ _ (number_keys x y rest version len small long)
 
 pub cut_curve_keys : OfCurveKeys AreUnseenCut
-cut_curve_keys x y size = unseen_cut (element 0x04 x) (element 0x04 y) (leaf_keys true x y size)
+cut_curve_keys x y n few size after = unseen_cut _ _ (leaf_keys true x y n few size after)
 
 pub cut_number : OfNumber AreUnseenCut
-cut_number x y size = unseen_cut (element 0x02 x) (element 0x02 y) (leaf_keys false x y size)
+cut_number x y n few size after = unseen_cut _ _ (leaf_keys false x y n few size after)
 
 pub cut_ec_keys : OfEcKeys AreUnseenCut
-cut_ec_keys x y fields version size = unseen_cut _ _ (ec_keys x y fields version size)
+cut_ec_keys x y version n len few small size after = unseen_cut _ _ (ec_keys x y version n len few small size after)
 
 pub cut_number_keys : OfNumberKeys AreUnseenCut
-cut_number_keys x y version same = unseen_cut _ _ (number_keys x y version same)
+cut_number_keys x y rest version len small long = unseen_cut _ _ (number_keys x y rest version len small long)

@@ -18,7 +18,9 @@ use Rattle.der_view.proofs.KeyChildLemmas.{SameChild, SameChildren, after_header
 use Rattle.der_view.proofs.KeyChildLemmas.{at_version, child_bounds, child_version, children_same_from, is_leaf_child}
 use Rattle.der_view.proofs.KeyChildLemmas.{leaf_child, leaf_child_if, leaf_children, rest_children, versioned}
 use Rattle.der_view.proofs.KeyInsideLemmas.{key_of}
+use Rattle.der_view.proofs.KeyRowLemmas.{root_rest}
 use Rattle.der_view.proofs.LeafRowLemmas.{is_version}
+use Rattle.der_view.proofs.SeenLemmas.{len_within-le}
 use Rattle.der_view.proofs.KeyLeafLemmas.{AreAlike, AreLeaves, drop_take, leaves_len}
 use Rattle.der_view.proofs.KeyPlanLemmas.{Cuts, cuts, first_of, guarded_first, guarded_version}
 use Rattle.der_view.proofs.KeyPlanLemmas.{no_integers, no_string, plan_of_children_same, same_root, version_first}
@@ -144,14 +146,21 @@ sequence_children false leaves most may a b q w v at few is in_a in_b alike =
       rw (in_a, in_b) refl,
     ))
 
--- the third child has the same key in both, and isn't later than this
-record IsThird (a b : List ℕ) (most : ℕ) (child : Child) : Type 0 where
+-- the third child has the same key in both, which is that of so many bytes if they are there, or none; and it isn't
+-- later than this
+record IsThird (a b l : List ℕ) (n most : ℕ) (child : Child) : Type 0 where
   key : key_in child a ≡ key_in child b
   at : child.at ≤ most
+  is : n ≤ length l → (key_in child a ≡ None) ⊎ (key_in child a ≡ key_of (take n l))
+
+no_key : key_of [] ≡ None
+unfolding is_tree
+no_key = refl
 
 third_leaf : (cut may : Bool) (a b l m : List ℕ) (at n : ℕ) → nat_lt (length l) n ≡ cut
     → drop at a ≡ header 0x04 n ++ l → drop at b ≡ header 0x04 n ++ m → AreKeys n l m
-    → IsThird a b at (if cut then (if may then leaf_child true at n (length l) else none_at at) else leaf_child true at
+    → IsThird a b l n at (if cut then (if may then leaf_child true at n (length l) else none_at at) else leaf_child true
+    at
     n n)
 unfolding key_in
 third_leaf true true a b l m at n is in_a in_b keys =
@@ -161,33 +170,43 @@ third_leaf true true a b l m at n is in_a in_b keys =
     let old : drop start a ≡ l = ap (λ (k : ℕ). drop k a) (sym sum) ∙ after_header true n 0 at a l in_a in
     let new : drop start b ≡ m = ap (λ (k : ℕ). drop k b) (sym sum) ∙ after_header true n 0 at b m in_b in
     let few : length l ≤ n = grind (arith, nat_tests) in
-    record { key = rw (len, old, new) (keys.key (length l) few); at = omega arith }
+    let short : length l < n = grind (arith, nat_tests) in
+    record {
+      key = rw (len, old, new) (keys.key (length l) few);
+      at = omega arith;
+      is = λ there. absurd (omega arith);
+    }
 third_leaf true false a b l m at n is in_a in_b keys =
     let none : at - at ≡ 0 = omega arith in
-    record { key = rw none refl; at = omega arith }
+    record { key = rw none refl; at = omega arith; is = λ there. inl (rw none no_key) }
 third_leaf false may a b l m at n is in_a in_b keys =
     let start : ℕ = at + (1 + length (length_octets n)) in
     let len : start + n - start ≡ n = omega arith in
     let sum : start + 0 ≡ start = omega arith in
     let old : drop start a ≡ l = ap (λ (k : ℕ). drop k a) (sym sum) ∙ after_header true n 0 at a l in_a in
     let new : drop start b ≡ m = ap (λ (k : ℕ). drop k b) (sym sum) ∙ after_header true n 0 at b m in_b in
-    record { key = rw (len, old, new) (keys.key n (omega arith)); at = omega arith }
+    record {
+      key = rw (len, old, new) (keys.key n (omega arith));
+      at = omega arith;
+      is = λ there. inr (rw (len, old) refl);
+    }
 
-third_none : (a b : List ℕ) (at most : ℕ) → at ≤ most → IsThird a b most (none_at at)
+third_none : (a b l : List ℕ) (n at most : ℕ) → at ≤ most → IsThird a b l n most (none_at at)
 unfolding key_in
-third_none a b at most fits =
+third_none a b l n at most fits =
     let none : at - at ≡ 0 = omega arith in
-    record { key = rw none refl; at = fits }
+    record { key = rw none refl; at = fits; is = λ there. inl (rw none no_key) }
 
-third_more : (a b : List ℕ) (at most : ℕ) (child : Child) → at ≤ most → IsThird a b at child → IsThird a b most child
-third_more a b at most child fits is =
+third_more : (a b l : List ℕ) (n at most : ℕ) (child : Child) → at ≤ most → IsThird a b l n at child
+    → IsThird a b l n most child
+third_more a b l n at most child fits is =
     let here : child.at ≤ at = is.at in
-    record { key = is.key; at = omega arith }
+    record { key = is.key; at = omega arith; is = is.is }
 
 third_child : (is_whole may : Bool) (a b q l m : List ℕ) (at n : ℕ) → length q ≤ max_content_len
     → is_tree (element 0x30 q) ≡ is_whole → drop at a ≡ element 0x30 q ++ (header 0x04 n ++ l)
     → drop at b ≡ element 0x30 q ++ (header 0x04 n ++ m) → AreKeys n l m
-    → IsThird a b (at + length (element 0x30 q)) (child_at may a (child_at may a at).end)
+    → IsThird a b l n (at + length (element 0x30 q)) (child_at may a (child_at may a at).end)
 unfolding child_at
 third_child true may a b q l m at n few is in_a in_b keys =
     let end : ℕ = (sequence_child at q).end in
@@ -199,15 +218,15 @@ third_child true may a b q l m at n few is in_a in_b keys =
     let child : child_at may a end ≡ leaf_child_if may true end n (length l) =
     ap (λ (bytes : List ℕ). child_after may end bytes (header_of bytes)) old
     ∙ is_leaf_child may true end n l keys.few in
-    subst (λ (c : Child). IsThird a b (at + length (element 0x30 q)) (child_at may a c.end)) (sym first)
-    (subst (λ (c : Child). IsThird a b (at + length (element 0x30 q)) c) (sym child)
-    (third_more a b end (at + length (element 0x30 q)) (leaf_child_if may true end n (length l)) (omega arith)
+    subst (λ (c : Child). IsThird a b l n (at + length (element 0x30 q)) (child_at may a c.end)) (sym first)
+    (subst (λ (c : Child). IsThird a b l n (at + length (element 0x30 q)) c) (sym child)
+    (third_more a b l n end (at + length (element 0x30 q)) (leaf_child_if may true end n (length l)) (omega arith)
     (third_leaf (nat_lt (length l) n) may a b l m end n refl old new keys)))
 third_child false may a b q l m at n few is in_a in_b keys =
     let first : child_at may a at ≡ none_at at = sequence_at false may a q (header 0x04 n ++ l) at few is in_a in
-    subst (λ (c : Child). IsThird a b (at + length (element 0x30 q)) (child_at may a c.end)) (sym first)
-    (subst (λ (c : Child). IsThird a b (at + length (element 0x30 q)) c) (sym first)
-    (third_none a b at (at + length (element 0x30 q)) (omega arith)))
+    subst (λ (c : Child). IsThird a b l n (at + length (element 0x30 q)) (child_at may a c.end)) (sym first)
+    (subst (λ (c : Child). IsThird a b l n (at + length (element 0x30 q)) c) (sym first)
+    (third_none a b l n at (at + length (element 0x30 q)) (omega arith)))
 
 nth_third : (P : Child → Type 0) (first second third : Child) (children : List Child) (count : ℕ) → P no_child → P third
     → P (nth (take count (first ∷ second ∷ third ∷ children)) 2)
@@ -217,9 +236,9 @@ nth_third P first second third children (suc zero) none is = none
 nth_third P first second third children (suc (suc zero)) none is = none
 nth_third P first second third children (suc (suc (suc count))) none is = is
 
-no_third : (a b : List ℕ) (most : ℕ) → IsThird a b most no_child
+no_third : (a b l : List ℕ) (n most : ℕ) → IsThird a b l n most no_child
 unfolding key_in
-no_third a b most = record { key = refl; at = omega arith }
+no_third a b l n most = record { key = refl; at = omega arith; is = λ there. inl no_key }
 
 -- the bytes after a version, of a container
 abbrev pub container_rest : List ℕ → ℕ → List ℕ → List ℕ
@@ -227,7 +246,7 @@ container_rest q n l = element 0x30 q ++ (header 0x04 n ++ l)
 
 third_known : (front q l m : List ℕ) (version n : ℕ) (indefinite is_cut : Bool) → length q ≤ max_content_len
     → AreKeys n l m
-    → IsThird (versioned front version (container_rest q n l)) (versioned front version (container_rest q n m))
+    → IsThird (versioned front version (container_rest q n l)) (versioned front version (container_rest q n m)) l n
     (length front + 3 + length (element 0x30 q))
     (children_of (versioned front version (container_rest q n l)) (length front) indefinite is_cut).third
 unfolding children_of children_at
@@ -237,12 +256,12 @@ third_known front q l m version n indefinite is_cut few keys =
     let p : ℕ = length front in
     let most : ℕ = p + 3 + length (element 0x30 q) in
     let sum : p + 2 + 1 + length (element 0x30 q) ≡ most = omega arith in
-    let here : IsThird a b most (child_at is_cut a (child_at is_cut a (p + 2 + 1)).end) =
-    subst (λ (k : ℕ). IsThird a b k (child_at is_cut a (child_at is_cut a (p + 2 + 1)).end)) sum
+    let here : IsThird a b l n most (child_at is_cut a (child_at is_cut a (p + 2 + 1)).end) =
+    subst (λ (k : ℕ). IsThird a b l n k (child_at is_cut a (child_at is_cut a (p + 2 + 1)).end)) sum
     (third_child (is_tree (element 0x30 q)) is_cut a b q l m (p + 2 + 1) n few refl
     (after_version front (container_rest q n l) version) (after_version front (container_rest q n m) version) keys) in
-    nth_third (IsThird a b most) _ _ _ _ _ (no_third a b most)
-    (subst (λ (c : Child). IsThird a b most (child_at is_cut a (child_at is_cut a c.end).end))
+    nth_third (IsThird a b l n most) _ _ _ _ _ (no_third a b l n most)
+    (subst (λ (c : Child). IsThird a b l n most (child_at is_cut a (child_at is_cut a c.end).end))
     (sym (child_version is_cut front (container_rest q n l) version)) here)
 
 -- so the same is inside
@@ -347,10 +366,11 @@ inside_by true at offset (Some f) field is = place_by (at == offset) refl is
 inside_at : (bytes : List ℕ) (x : Children) (offset : ℕ) (field : Field)
     → field_at_offset (inside_of bytes x) offset ≡ Some field
     → ((x.third.tag == 0x04) ≡ true) × (x.third.at ≡ offset) × (is_version field ≡ false)
+    × (key_in x.third bytes ≡ Some field)
 unfolding inside_of
 inside_at bytes x offset field is =
     let parts = inside_by (is_container (form_of x)) x.third.at offset (key_in x.third bytes) field is in
-    (container_third x parts.0, parts.1, key_field x.third bytes field parts.2)
+    (container_third x parts.0, parts.1, key_field x.third bytes field parts.2, parts.2)
 
 -- a child with a tag is there
 tag_there : (may : Bool) (bytes : List ℕ) (at : ℕ) → ((child_at may bytes at).tag == 0x04) ≡ true
@@ -579,17 +599,54 @@ third_bound front q l version n (suc (suc (suc k))) indefinite is_cut short few 
     omega arith)
     (rest_take k n q l l)
 
+-- a root that has all of the string
+whole_key : (front q l : List ℕ) (version n w : ℕ) (indefinite is_cut : Bool) (field : Field)
+    → length q ≤ max_content_len → n ≤ max_content_len
+    → 3 + length (element 0x30 q) + length (header 0x04 n) + n ≤ w → n ≤ length l
+    → key_in (third_of front q l version n w indefinite is_cut) (front ++ version_first (container_rest q n l) version
+    w)
+    ≡ Some field
+    → key_of (take n l) ≡ Some field
+whole_key front q l version n zero indefinite is_cut field short few enough there is = absurd (omega arith)
+whole_key front q l version n (suc zero) indefinite is_cut field short few enough there is = absurd (omega arith)
+whole_key front q l version n (suc (suc zero)) indefinite is_cut field short few enough there is =
+    absurd (omega arith)
+whole_key front q l version n (suc (suc (suc k))) indefinite is_cut field short few enough there is =
+    let before : List ℕ = element 0x30 q ++ header 0x04 n in
+    let size : length before ≡ length (element 0x30 q) + length (header 0x04 n) =
+    length-append (element 0x30 q) (header 0x04 n) in
+    let j : ℕ = k - length before in
+    let sum : k ≡ length before + j = omega arith in
+    let part : take k (container_rest q n l) ≡ container_rest q n (take j l) =
+    ap₂ (λ (i : ℕ) (s : List ℕ). take i s) sum (sym (append_assoc (element 0x30 q) (header 0x04 n) l))
+    ∙ (take-append-add before l j ∙ append_assoc (element 0x30 q) (header 0x04 n) (take j l)) in
+    let known = third_known front q (take j l) (take j l) version n indefinite is_cut short
+    (same_keys n (take j l) few) in
+    let here : key_in (children_of (versioned front version (container_rest q n (take j l))) (length front) indefinite
+    is_cut).third (versioned front version (container_rest q n (take j l)))
+    ≡ Some field =
+    subst (λ (bytes : List ℕ).
+    key_in (children_of (versioned front version bytes) (length front) indefinite is_cut).third
+    (versioned front version bytes)
+    ≡ Some field) part is in
+    let same : take n (take j l) ≡ take n l = take-take n j l (omega arith) in
+    ⊎_elim
+    (λ none. absurd (cc (none, here)))
+    (λ one. ap (λ (bytes : List ℕ). key_of bytes) (sym same) ∙ (sym one ∙ here))
+    (known.is (omega (arith, length-take j l)))
+
 -- what is inside follows a root's header, and isn't after the string's
 no_field : (o : Option Field) → ((field : Field) → o ≡ Some field → ⊥) → o ≡ None
 no_field None none = refl
 no_field (Some field) none = absurd (none field refl)
 
-known_root : (a front q l : List ℕ) (version n w : ℕ) (head : Header) → head.tag.constructed ≡ true
+known_root : (a front q l : List ℕ) (version n rest w : ℕ) (head : Header) → head.tag.constructed ≡ true
     → head.len ≡ length front → 2 ≤ length front → length q ≤ max_content_len → n ≤ max_content_len
+    → (n + rest ≤ length l → 3 + length (element 0x30 q) + length (header 0x04 n) + n ≤ w)
     → IsContainer (plan_of_root a head (front ++ version_first (container_rest q n l) version w))
-    (length front + 3 + length (element 0x30 q) + length (header 0x04 n))
+    (length front + 3 + length (element 0x30 q) + length (header 0x04 n)) n rest l
 unfolding guarded_plan plan_of_children
-known_root a front q l version n w head node len some short few =
+known_root a front q l version n rest w head node len some short few enough =
     let bytes : List ℕ = version_first (container_rest q n l) version w in
     let at : drop head.len (front ++ bytes) ≡ bytes = rw len (drop-append_seam front bytes) in
     let indefinite : Bool = is_none head.content_len in
@@ -605,13 +662,17 @@ known_root a front q l version n w head node len some short few =
           let found = inside_at (front ++ bytes) x offset field is in
           omega (arith, found.1, third_bound front q l version n w indefinite is_cut short few found.0));
       field = λ offset field is. (inside_at (front ++ bytes) x offset field is).2;
+      key = λ offset field is fits.
+          whole_key front q l version n w indefinite is_cut field short few (enough fits) (omega arith)
+          (inside_at (front ++ bytes) x offset field is).3;
     })
 
 pub container_known : (front q l : List ℕ) (version n : ℕ) (head : Header)
     → header_of (versioned front version (container_rest q n l)) ≡ Ok head → head.len ≡ length front
     → head.tag.constructed ≡ true → length q ≤ max_content_len → n ≤ max_content_len
     → IsContainer (plan_of (versioned front version (container_rest q n l)))
-    (length front + 3 + length (element 0x30 q) + length (header 0x04 n))
+    (length front + 3 + length (element 0x30 q) + length (header 0x04 n)) n
+    (root_rest (versioned front version (container_rest q n l)) head) l
 unfolding plan_of
 container_known front q l version n head is len node short few =
     let a : List ℕ = versioned front version (container_rest q n l) in
@@ -620,4 +681,15 @@ container_known front q l version n head is len node short few =
     let root : take (head.len + w) a ≡ front ++ version_first (container_rest q n l) version w =
     ap (λ (k : ℕ). take (k + w) a) len
     ∙ take-append-add front (0x02 ∷ 0x01 ∷ version ∷ container_rest q n l) w in
-    rw (is, root) (known_root a front q l version n w head node len some short few)
+    let size : length a ≡ length front + 3 + length (element 0x30 q) + length (header 0x04 n) + length l =
+    omega (
+      arith,
+      length-append front (0x02 ∷ 0x01 ∷ version ∷ container_rest q n l),
+      length-append (element 0x30 q) (header 0x04 n ++ l),
+      length-append (header 0x04 n) l,
+    ) in
+    let within : w ≤ length a - head.len = len_within-le head.content_len (length a - head.len) in
+    let rest : ℕ = root_rest a head in
+    let rest_is : rest ≡ length a - head.len - w = refl in
+    rw (is, root)
+    (known_root a front q l version n rest w head node len some short few (λ fits. omega (arith, rest_is)))

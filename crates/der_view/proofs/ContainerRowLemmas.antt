@@ -10,9 +10,10 @@ use Rattle.std.proofs.lemmas.List.Elements.{All-cons, All-nil}
 use Rattle.std.proofs.Math.Seq.{drop-append_seam}
 use Rattle.std.specs.Prelude.{nat_le, nat_lt, option_map}
 use Rattle.sec1_der.specs.Elements.{element, header}
-use Rattle.der_view.proofs.KeyLeafLemmas.{AreAlike, AreLeaves, leaf_header, leaf_tag}
+use Rattle.der_view.proofs.KeyInsideLemmas.{key_of}
+use Rattle.der_view.proofs.KeyLeafLemmas.{AreAlike, AreLeaves, leaf_header, leaf_tag, span}
 use Rattle.der_view.proofs.KeyRowLemmas.{NoneInside, after_leaf, after_three, ended_rows, left_after, none_inside}
-use Rattle.der_view.proofs.KeyRowLemmas.{root_rows, span, version_row, version_rows}
+use Rattle.der_view.proofs.KeyRowLemmas.{root_rest, root_rows, version_row, version_rows}
 use Rattle.der_view.proofs.LeafRowLemmas.{IsAfter, LookAlike, is_leaf, is_version, late_rows, leaf_closed, leaf_row}
 use Rattle.der_view.proofs.LeafRowLemmas.{component, integer_seen, next_found, no_rows, over_rows, still_few}
 use Rattle.der_view.proofs.LeafRowLemmas.{string_seen}
@@ -33,18 +34,21 @@ use Rattle.der_view.specs.declared.plan.Plan.{Plan}
 use Rattle.der_view.specs.declared.row.OpenRow.{OpenRow}
 
 -- what is known of the whole: a key is inside a string before this place, or none
-pub record IsContainer (plan : Plan) (from : ℕ) : Type 0 where
+pub record IsContainer (plan : Plan) (from n rest : ℕ) (l : List ℕ) : Type 0 where
   pub guarded : plan.guarded ≡ true
   pub first : field_at_offset plan.inside 0 ≡ None
   pub after : NoneInside plan from
   pub field : (offset : ℕ) (field : Field) → field_at_offset plan.inside offset ≡ Some field → is_version field ≡ false
+  pub key : (offset : ℕ) (field : Field) → field_at_offset plan.inside offset ≡ Some field → n + rest ≤ length l
+      → key_of (take n l) ≡ Some field
 
 -- the rows of a private key of so many bytes, inside a level that ends with them, look the same
 pub record InnerRows (a b : List ℕ) (n : ℕ) (l m : List ℕ) (u : Undrawn) : Type 0 where
   pub look : (rows : List OpenRow) (x : Undrawn) (level : Level) (outer : List Level) (field : Field)
       → AreRowsOf rows x u → x.levels ≡ level ∷ outer → length outer ≤ 2 → x.all ≡ false → x.plan.guarded ≡ true
-      → NoneInside x.plan x.offset → level.next ≡ Some field → is_version field ≡ false → n + level.rest ≡ length x.left
-      → 0 < n → 0 < x.offset → x.left ≡ drop x.offset a → drop x.offset a ≡ l → drop x.offset b ≡ m
+      → NoneInside x.plan x.offset → level.next ≡ Some field → is_version field ≡ false → key_of (take n l) ≡ Some field
+      → n + level.rest ≡ length x.left → 0 < n → 0 < x.offset → x.left ≡ drop x.offset a → drop x.offset a ≡ l
+      → drop x.offset b ≡ m
       → All (LooksSame true a b) rows
 
 -- the row of a string that isn't opened, and those after it
@@ -94,7 +98,7 @@ string_head n few =
 -- the rows of a string that is opened
 opened_rows : (a b l m : List ℕ) (n : ℕ) (rows : List OpenRow) (x y u : Undrawn) (r : OpenRow) (level outer : Level)
     (field : Field) → IsNext x r y → AreRowsOf rows y u → x.levels ≡ level ∷ outer ∷ [] → x.all ≡ false
-    → IsContainer x.plan (x.offset + length (header 0x04 n)) → 0 < x.offset → n ≤ max_content_len
+    → IsContainer x.plan (x.offset + length (header 0x04 n)) n level.rest l → 0 < x.offset → n ≤ max_content_len
     → drop n l ≡ drop n m → x.left ≡ drop x.offset a
     → drop x.offset a ≡ header 0x04 n ++ l → drop x.offset b ≡ header 0x04 n ++ m
     → length (header 0x04 n) + n + level.rest ≤ length x.left → field_inside (place_of x) ≡ Some field
@@ -103,6 +107,7 @@ unfolding field_inside
 opened_rows a b l m n rows x y u r level outer field is more levels hidden known some few same at in_a in_b fits inside
     inner =
     let front : List ℕ = header 0x04 n in
+    let sizes : length x.left ≡ length front + length l = ap length (at ∙ in_a) ∙ length-append front l in
     let opens : AreOpened (place_of x) level front (leaf_header true n) n l m = record {
       opening = inl (opens_string (place_of x) level n (take n l) field inside);
       look = λ leaf. string_seen x.plan.guarded n n _ l m known.guarded;
@@ -133,7 +138,8 @@ opened_rows a b l m n rows x y u r level outer field is more levels hidden known
     inner.look rows y on.0 (o.next ∷ outer ∷ []) field more (rw test at on.1) (omega arith) (is.all ∙ hidden)
     (rw is.plan known.guarded)
     (λ offset past. rw is.plan (known.after offset (omega (arith, o.offset))))
-    (on.4 ∙ inside) (known.field x.offset field inside) (omega (arith, on.2)) (omega arith)
+    (on.4 ∙ inside) (known.field x.offset field inside) (known.key x.offset field inside (omega (arith, sizes)))
+    (omega (arith, on.2)) (omega arith)
     (omega (arith, o.offset)) next old new)
     (λ none. empty none.0)
     o.levels)
@@ -143,7 +149,7 @@ opened_rows a b l m n rows x y u r level outer field is more levels hidden known
 
 string_by : (inside : Option Field) (a b l m : List ℕ) (n : ℕ) (rows : List OpenRow) (x y u : Undrawn) (r : OpenRow)
     (level outer : Level) → IsNext x r y → AreRowsOf rows y u → x.levels ≡ level ∷ outer ∷ [] → x.all ≡ false
-    → IsContainer x.plan (x.offset + length (header 0x04 n)) → 0 < x.offset → n ≤ max_content_len
+    → IsContainer x.plan (x.offset + length (header 0x04 n)) n level.rest l → 0 < x.offset → n ≤ max_content_len
     → drop n l ≡ drop n m → x.left ≡ drop x.offset a
     → drop x.offset a ≡ header 0x04 n ++ l → drop x.offset b ≡ header 0x04 n ++ m
     → field_inside (place_of x) ≡ inside → InnerRows a b n l m u → All (LooksSame true a b) (r ∷ rows)
@@ -167,7 +173,7 @@ string_by (Some field) a b l m n rows x y u r level outer is more levels hidden 
 -- the rows of the string, and those after it
 string_rows : (a b l m : List ℕ) (n : ℕ) (rows : List OpenRow) (x u : Undrawn) (level outer : Level)
     → AreRowsOf rows x u → x.levels ≡ level ∷ outer ∷ [] → x.all ≡ false
-    → IsContainer x.plan (x.offset + length (header 0x04 n)) → 0 < x.offset
+    → IsContainer x.plan (x.offset + length (header 0x04 n)) n level.rest l → 0 < x.offset
     → n ≤ max_content_len → drop n l ≡ drop n m → x.left ≡ drop x.offset a → drop x.offset a ≡ header 0x04 n ++ l
     → drop x.offset b ≡ header 0x04 n ++ m → InnerRows a b n l m u → All (LooksSame true a b) rows
 string_rows a b l m n [] x u level outer rows levels hidden known some few same at in_a in_b inner =
@@ -198,7 +204,7 @@ sequence_opens place level n l m fits =
 
 -- the rows after a SEQUENCE
 after_sequence : (a b l m : List ℕ) (n at : ℕ) (plan : Plan) (level outer : Level) (u : Undrawn)
-    → IsContainer plan (at + length (header 0x04 n))
+    → IsContainer plan (at + length (header 0x04 n)) n level.rest l
     → n ≤ max_content_len → drop n l ≡ drop n m → drop at a ≡ header 0x04 n ++ l → drop at b ≡ header 0x04 n ++ m
     → InnerRows a b n l m u → 0 < at → (later : List OpenRow) (y : Undrawn) → AreRowsOf later y u
     → y.levels ≡ still_open (length (header 0x04 n ++ l)) (level ∷ outer ∷ []) → y.all ≡ false → y.plan ≡ plan
@@ -249,7 +255,7 @@ cut_sequence a b alg w v rows x u level outer are levels within hidden some at i
 -- the rows of the algorithm, and those after them
 sequence_rows : (a b q l m : List ℕ) (n : ℕ) (rows : List OpenRow) (x u : Undrawn) (level outer : Level)
     → AreRowsOf rows x u → x.levels ≡ level ∷ outer ∷ [] → level.rest < length x.left → x.all ≡ false
-    → IsContainer x.plan (x.offset + length (element 0x30 q) + length (header 0x04 n)) → 0 < x.offset
+    → IsContainer x.plan (x.offset + length (element 0x30 q) + length (header 0x04 n)) n level.rest l → 0 < x.offset
     → length q ≤ max_content_len
     → n ≤ max_content_len → drop n l ≡ drop n m → x.left ≡ drop x.offset a
     → drop x.offset a ≡ element 0x30 q ++ (header 0x04 n ++ l)
@@ -290,7 +296,8 @@ sequence_rows a b q l m n (r ∷ rows) x u level outer (y, is, seen, more) level
     let goes_on : (later : List OpenRow) (z : Undrawn) → AreRowsOf later z u
     → z.levels ≡ still_open (length w) (o.next ∷ outer ∷ []) → z.all ≡ false → z.plan ≡ x.plan → z.offset ≡ end
     → z.left ≡ drop z.offset a → All (LooksSame true a b) later =
-    after_sequence a b l m n end x.plan o.next outer u known few same later_a later_b inner (omega arith) in
+    after_sequence a b l m n end x.plan o.next outer u (rw o.after.rest known) few same later_a later_b inner
+    (omega arith) in
     let empty : length q ≡ 0 → y.levels ≡ still_open (length y.left) (o.next ∷ outer ∷ [])
     → All (LooksSame true a b) rows =
     λ none levels_are.
@@ -329,7 +336,7 @@ sequence_rows a b q l m n (r ∷ rows) x u level outer (y, is, seen, more) level
 -- the rows of the version, and those after them
 versioned_rows : (a b q l m : List ℕ) (version n : ℕ) (rows : List OpenRow) (x u : Undrawn) (level outer : Level)
     → AreRowsOf rows x u → x.levels ≡ level ∷ outer ∷ [] → x.all ≡ false
-    → IsContainer x.plan (x.offset + 3 + length (element 0x30 q) + length (header 0x04 n)) → 0 < x.offset
+    → IsContainer x.plan (x.offset + 3 + length (element 0x30 q) + length (header 0x04 n)) n level.rest l → 0 < x.offset
     → length q ≤ max_content_len
     → n ≤ max_content_len → drop n l ≡ drop n m → x.left ≡ drop x.offset a
     → drop x.offset a ≡ 0x02 ∷ 0x01 ∷ version ∷ (element 0x30 q ++ (header 0x04 n ++ l))
@@ -347,7 +354,7 @@ versioned_rows a b q l m version n (r ∷ rows) x u level outer (y, is, seen, mo
     let rest : All (LooksSame true a b) rows = ⊎_elim
     (λ (on : (after : Level) × (y.levels ≡ after ∷ outer ∷ []) × (y.offset ≡ x.offset + 3)
     × IsAfter (header 0x02 1) level after × (after.rest < length y.left)).
-    sequence_rows a b q l m n rows y u on.0 outer more on.1 on.4 (is.all ∙ hidden) (rw (is.plan, on.2) known)
+    sequence_rows a b q l m n rows y u on.0 outer more on.1 on.4 (is.all ∙ hidden) (rw (is.plan, on.2, on.3.rest) known)
     (omega (arith, on.2)) short few same next (after_three x.offset y.offset version a w in_a on.2)
     (after_three x.offset y.offset version b v in_b on.2) inner)
     (λ over. over_rows true a b rows y u more over.0 (omega (arith, is.offset)) (is.all ∙ hidden))
@@ -359,7 +366,8 @@ pub container_rows : (a b front q l m : List ℕ) (version n : ℕ) (rows : List
     → a ≡ front ++ (0x02 ∷ 0x01 ∷ version ∷ (element 0x30 q ++ (header 0x04 n ++ l)))
     → b ≡ front ++ (0x02 ∷ 0x01 ∷ version ∷ (element 0x30 q ++ (header 0x04 n ++ m))) → AreRowsOf rows x u
     → x.levels ≡ input_level x.plan.root ∷ [] → x.all ≡ false
-    → IsContainer x.plan (length front + 3 + length (element 0x30 q) + length (header 0x04 n)) → x.offset ≡ 0
+    → IsContainer x.plan (length front + 3 + length (element 0x30 q) + length (header 0x04 n)) n (root_rest a head) l
+    → x.offset ≡ 0
     → x.left ≡ a → header_of a ≡ Ok head
     → head.len ≡ length front → head.tag.constructed ≡ true → length q ≤ max_content_len → n ≤ max_content_len
     → drop n l ≡ drop n m → InnerRows a b n l m u → All (LooksSame true a b) rows
@@ -370,8 +378,9 @@ container_rows a b front q l m version n rows x u head in_a in_b are levels hidd
     root_rows a b front (0x02 ∷ 0x01 ∷ version ∷ (element 0x30 q ++ (header 0x04 n ++ l)))
     (0x02 ∷ 0x01 ∷ version ∷ (element 0x30 q ++ (header 0x04 n ++ m))) rows x u head in_a in_b are levels hidden
     (rw offset known.first) offset left is len node
-    (λ later y level outer more two fresh shown plan start at some old new.
-    versioned_rows a b q l m version n later y u level outer more two shown (rw (plan, start) known) some short few same
+    (λ later y level outer more two fresh shown plan start at some old new rest.
+    versioned_rows a b q l m version n later y u level outer more two shown (rw (plan, start, rest) known) some short
+    few same
     at
     old new inner)
 
@@ -392,13 +401,14 @@ leaf_inner a b l m s t string k n u two size same = record { look = inner_rows a
         → n ≡ length (header (leaf_tag string) k) + k → drop k s ≡ drop k t → (rows : List OpenRow) (x : Undrawn)
         (level : Level) (outer : List Level) (field : Field) → AreRowsOf rows x u → x.levels ≡ level ∷ outer
         → length outer ≤ 2 → x.all ≡ false → x.plan.guarded ≡ true → NoneInside x.plan x.offset
-        → level.next ≡ Some field → is_version field ≡ false → n + level.rest ≡ length x.left → 0 < n → 0 < x.offset
+        → level.next ≡ Some field → is_version field ≡ false → key_of (take n l) ≡ Some field
+        → n + level.rest ≡ length x.left → 0 < n → 0 < x.offset
         → x.left ≡ drop x.offset a → drop x.offset a ≡ l → drop x.offset b ≡ m → All (LooksSame true a b) rows
     inner_rows a b l m s t string k n u two size same [] x level outer field rows levels shallow hidden guarded none
-        next other fits bytes some at in_a in_b =
+        next other key fits bytes some at in_a in_b =
         All-nil (LooksSame true a b)
     inner_rows a b l m s t string k n u two size same (r ∷ rows) x level outer field (y, is, seen, more) levels shallow
-        hidden guarded none next other fits bytes some at in_a in_b =
+        hidden guarded none next other key fits bytes some at in_a in_b =
         let front : List ℕ = header (leaf_tag string) k in
         let looks : LookAlike (place_of x) level front (leaf_header string k) k s t = record {
           look = λ j within. inner_look string x.plan.guarded k j level field s t guarded next other;
@@ -434,14 +444,15 @@ sequence_inner a b s t version k n leaves u few alike inside there size =
         → (rows : List OpenRow) (x : Undrawn) (level : Level) (outer : List Level) (field : Field) → AreRowsOf rows x u
         → x.levels ≡ level ∷ outer → length outer ≤ 2 → x.all ≡ false → x.plan.guarded ≡ true
         → NoneInside x.plan x.offset → level.next ≡ Some field → is_version field ≡ false
+        → key_of (take n (header 0x30 k ++ (0x02 ∷ 0x01 ∷ version ∷ s))) ≡ Some field
         → n + level.rest ≡ length x.left → 0 < n → 0 < x.offset → x.left ≡ drop x.offset a
         → drop x.offset a ≡ header 0x30 k ++ (0x02 ∷ 0x01 ∷ version ∷ s)
         → drop x.offset b ≡ header 0x30 k ++ (0x02 ∷ 0x01 ∷ version ∷ t) → All (LooksSame true a b) rows
     inner_rows a b s t version k n leaves u few alike inside there size [] x level outer field rows levels shallow
-        hidden guarded none next other fits bytes some at in_a in_b =
+        hidden guarded none next other key fits bytes some at in_a in_b =
         All-nil (LooksSame true a b)
     inner_rows a b s t version k n leaves u few alike inside there size (r ∷ rows) x level outer field
-        (y, is, seen, more) levels shallow hidden guarded none next other fits bytes some at in_a in_b =
+        (y, is, seen, more) levels shallow hidden guarded none next other key fits bytes some at in_a in_b =
         let front : List ℕ = header 0x30 k in
         let l : List ℕ = 0x02 ∷ 0x01 ∷ version ∷ s in
         let m : List ℕ = 0x02 ∷ 0x01 ∷ version ∷ t in

@@ -2,9 +2,9 @@
 use Rattle.std.proofs.Common.{◌≡◌, ℕ, zero, suc, ◌+◌, ◌-◌, ◌<◌, ◌≤◌, ⊎_elim, Bool, true, false}
 use Rattle.std.proofs.Common.{List, [], ◌∷◌, ◌++◌, length, take, drop, if◌then◌else◌, refl, sym, ap, ap₂, ◌∙◌, subst₂}
 use Rattle.std.proofs.Common.{arith}
-use Rattle.std.proofs.Common.{Option, Some, None, is_none}
+use Rattle.std.proofs.Common.{Option, Some, None, is_none, subst}
 use Rattle.std.proofs.lemmas.Bool.{cases_lt}
-use Rattle.std.proofs.lemmas.List.{length-append, length-drop, length-take, take-append-le, take_all}
+use Rattle.std.proofs.lemmas.List.{length-append, length-drop, take-append-le, take_all}
 use Rattle.std.proofs.Math.Seq.{take-append-add}
 use Rattle.std.specs.Option.{option_or}
 use Rattle.std.specs.Prelude.{nat_lt}
@@ -12,11 +12,11 @@ use Rattle.sec1_der.proofs.ElementFaultLemmas.{any_short}
 use Rattle.sec1_der.proofs.FaultLaws.{any_room}
 use Rattle.sec1_der.proofs.LengthLaws.{len_1}
 use Rattle.sec1_der.specs.Elements.{IsHeader, header, length_octets}
-use Rattle.sec1_der.specs.Faults.{Fault, any_fault, end_fault, forest_fault, nested_fault}
+use Rattle.sec1_der.specs.Faults.{Fault, any_fault, end_fault, forest_fault, nested_fault, tree_fault}
 use Rattle.sec1_der.specs.Trees.{max_tree_depth}
 use Rattle.sec1_der.specs.declared.error.ErrorKind.{ErrorKind}
 use Rattle.sec1_der.specs.declared.error.ErrorKind.TheVariants.{Depth}
-use Rattle.der_view.proofs.KeyLeafLemmas.{AreAlike, AreLeaves, alike_len, alike_take, leaf_tag, leaves_len}
+use Rattle.der_view.proofs.KeyLeafLemmas.{AreAlike, AreLeaves, alike_len, alike_take, leaf_tag, leaves_len, span}
 use Rattle.der_view.proofs.HeaderLemmas.{header_within}
 use Rattle.der_view.proofs.KeyChildLemmas.{children_same}
 use Rattle.der_view.proofs.OpenedRowLemmas.{sequence_head, sequence_header}
@@ -158,15 +158,6 @@ sequence_tree n x y leaves few alike =
     (λ s t some e. forest_same some (length (header 0x30 n ++ x)) 2 s t e) alike
     ∙ ap (λ (k : ℕ). any_fault (nested_fault (forest_fault k 2)) end_fault (header 0x30 n ++ y)) size)
 
--- fewer bytes than announced are no tree
-short_tree : (n : ℕ) (x : List ℕ) → n ≤ max_content_len → length x < n → is_tree (header 0x30 n ++ x) ≡ false
-unfolding is_tree
-short_tree n x few short =
-    ap (λ (fault : Option (Option ErrorKind)). is_none fault)
-    (any_short (nested_fault (forest_fault (length (header 0x30 n ++ x)) 2)) end_fault 0x30 n _ x (sequence_is n few)
-    refl
-    short)
-
 -- which key it is
 two_bytes : (n : ℕ) → n ≤ max_content_len → 2 ≤ length (header 0x30 n)
 two_bytes n few =
@@ -197,29 +188,20 @@ sequence_whole n version s t leaves few alike =
 
 -- a part of it
 sequence_part : (n version j : ℕ) (s t : List ℕ) (leaves : List (Bool × ℕ)) → n ≤ max_content_len → AreAlike leaves s t
-    → n ≡ length (0x02 ∷ 0x01 ∷ version ∷ s) → j ≤ n
     → key_of (header 0x30 n ++ take j (0x02 ∷ 0x01 ∷ version ∷ s))
     ≡ key_of (header 0x30 n ++ take j (0x02 ∷ 0x01 ∷ version ∷ t))
-sequence_part n version j s t leaves few alike size within =
-    let x : List ℕ = 0x02 ∷ 0x01 ∷ version ∷ s in
-    let y : List ℕ = 0x02 ∷ 0x01 ∷ version ∷ t in
-    let sizes : length x ≡ length y = omega (arith, alike_len leaves s t alike) in
-    ⊎_elim
-    (λ (short : j < n).
-    let old : is_tree (header 0x30 n ++ take j x) ≡ false =
-    short_tree n (take j x) few (omega (arith, length-take j x)) in
-    let new : is_tree (header 0x30 n ++ take j y) ≡ false =
-    short_tree n (take j y) few (omega (arith, length-take j y)) in
-    rw (old, new) refl)
-    (λ (all : n ≤ j).
-    rw (take_all j x (omega arith), take_all j y (omega arith)) (sequence_whole n version s t leaves few alike))
-    (cases_lt j n)
+sequence_part n version zero s t leaves few alike = refl
+sequence_part n version (suc zero) s t leaves few alike = refl
+sequence_part n version (suc (suc zero)) s t leaves few alike = refl
+sequence_part n version (suc (suc (suc j))) s t leaves few alike =
+    let part = alike_take j leaves s t alike in
+    sequence_whole n version (take j s) (take j t) part.0 few part.1
 
 pub sequence_key : (n version k : ℕ) (s t : List ℕ) (leaves : List (Bool × ℕ)) → n ≤ max_content_len
-    → AreAlike leaves s t → n ≡ length (0x02 ∷ 0x01 ∷ version ∷ s) → k ≤ length (header 0x30 n) + n
+    → AreAlike leaves s t
     → key_of (take k (header 0x30 n ++ (0x02 ∷ 0x01 ∷ version ∷ s)))
     ≡ key_of (take k (header 0x30 n ++ (0x02 ∷ 0x01 ∷ version ∷ t)))
-sequence_key n version k s t leaves few alike size within =
+sequence_key n version k s t leaves few alike =
     let x : List ℕ = 0x02 ∷ 0x01 ∷ version ∷ s in
     let y : List ℕ = 0x02 ∷ 0x01 ∷ version ∷ t in
     let front : List ℕ = header 0x30 n in
@@ -233,6 +215,107 @@ sequence_key n version k s t leaves few alike size within =
     let part : (bytes : List ℕ) → take k (front ++ bytes) ≡ front ++ take j bytes =
     λ bytes. ap (λ (i : ℕ). take i (front ++ bytes)) sum ∙ take-append-add front bytes j in
     ap (λ (bytes : List ℕ). key_of bytes) (part x)
-    ∙ (sequence_part n version j s t leaves few alike size (omega arith)
+    ∙ (sequence_part n version j s t leaves few alike
     ∙ sym (ap (λ (bytes : List ℕ). key_of bytes) (part y))))
     (cases_lt k (length front))
+
+-- ---- a key is whole
+
+tree_if : (test : Bool) (o : Option Field) (field : Field) → (if test then o else None) ≡ Some field → test ≡ true
+tree_if true o field is = refl
+tree_if false o field is = absurd (cc is)
+
+none_is : (fault : Option (Option ErrorKind)) → is_none fault ≡ true → fault ≡ None
+none_is None is = refl
+none_is (Some kind) is = absurd (cc is)
+
+no_fault : (bytes : List ℕ) (field : Field) → key_of bytes ≡ Some field → tree_fault bytes ≡ None
+unfolding is_tree
+no_fault bytes field is =
+    none_is (tree_fault bytes) (tree_if (is_tree bytes) (key_of_tag (first_tag bytes) bytes) field is)
+
+end_none : (bytes : List ℕ) → end_fault bytes ≡ None → length bytes ≡ 0
+end_none [] is = refl
+end_none (byte ∷ bytes) is = absurd (cc is)
+
+both_none : (a b : Option (Option ErrorKind)) → option_or a b ≡ None → (a ≡ None) × (b ≡ None)
+both_none None b is = (refl, is)
+both_none (Some kind) b is = absurd (cc is)
+
+no_short : (fault : Option (Option ErrorKind)) (kind : Option ErrorKind) → fault ≡ Some kind → fault ≡ None → ⊥
+no_short fault kind is none = cc
+
+pub leaf_exact : (string : Bool) (n : ℕ) (x : List ℕ) (field : Field) → n ≤ max_content_len
+    → key_of (header (leaf_tag string) n ++ x) ≡ Some field → n ≡ length x
+leaf_exact string n x field few is =
+    let u : List ℕ = header (leaf_tag string) n ++ x in
+    let f : Fault = forest_fault (length u) 2 in
+    let none : any_fault (nested_fault f) end_fault u ≡ None = no_fault u field is in
+    ⊎_elim
+    (λ (short : length x < n).
+    absurd (no_short _ _ (any_short (nested_fault f) end_fault (leaf_tag string) n u x (leaf_is string n few) refl
+    short)
+    none))
+    (λ (fits : n ≤ length x).
+    let rest : length (drop n x) ≡ 0 =
+    end_none (drop n x) (sym (leaf_room string n u x f end_fault few refl fits) ∙ none) in
+    omega (arith, length-drop n x))
+    (cases_lt (length x) n)
+
+else_none : (test : Bool) (kind : Option ErrorKind) (o : Option (Option ErrorKind))
+    → (if test then Some kind else o) ≡ None → o ≡ None
+else_none true kind o is = absurd (cc is)
+else_none false kind o is = is
+
+-- elements without a fault are whole
+forest_whole : (leaves : List (Bool × ℕ)) (most level : ℕ) (u v : List ℕ) → AreAlike leaves u v → length u ≤ most
+    → forest_fault most level u ≡ None → span leaves ≤ length u
+forest_whole [] most level u v same few none = omega arith
+forest_whole ((string, n) ∷ leaves) zero level u v (l, m, is, more) few none =
+    absurd (omega (arith, ap length is.old))
+forest_whole ((string, n) ∷ leaves) (suc most) level u v (l, m, is, more) few none =
+    let front : List ℕ = header (leaf_tag string) n in
+    let s : List ℕ = front ++ l in
+    let f : Fault = forest_fault most (level + 1) in
+    let g : Fault = forest_fault most level in
+    let size : length u ≡ length front + length l = ap length is.old ∙ length-append front l in
+    let here : forest_fault (suc most) level s ≡ None =
+    subst (λ (bytes : List ℕ). forest_fault (suc most) level bytes ≡ None) is.old none in
+    let inside : any_fault (nested_fault f) g s ≡ None =
+    else_none (nat_lt max_tree_depth level) (Some Depth) (any_fault (nested_fault f) g s) here in
+    ⊎_elim
+    (λ (short : length l < n).
+    absurd (no_short _ _ (any_short (nested_fault f) g (leaf_tag string) n s l (leaf_is string n is.few) refl short)
+    inside))
+    (λ (fits : n ≤ length l).
+    let after : forest_fault most level (drop n l) ≡ None =
+    sym (leaf_room string n s l f g is.few refl fits) ∙ inside in
+    let rest : span leaves ≤ length (drop n l) =
+    forest_whole leaves most level (drop n l) (drop n m) more (omega (arith, length-drop n l)) after in
+    omega (arith, length-drop n l))
+    (cases_lt (length l) n)
+
+pub sequence_exact : (n version : ℕ) (s t : List ℕ) (leaves : List (Bool × ℕ)) (field : Field) → n ≤ max_content_len
+    → AreAlike leaves s t → key_of (header 0x30 n ++ (0x02 ∷ 0x01 ∷ version ∷ s)) ≡ Some field
+    → (n ≡ length (0x02 ∷ 0x01 ∷ version ∷ s)) × (span leaves ≤ length s)
+sequence_exact n version s t leaves field few alike is =
+    let x : List ℕ = 0x02 ∷ 0x01 ∷ version ∷ s in
+    let u : List ℕ = header 0x30 n ++ x in
+    let f : Fault = forest_fault (length u) 2 in
+    let none : any_fault (nested_fault f) end_fault u ≡ None = no_fault u field is in
+    let h : IsHeader 0x30 n = sequence_is n few in
+    ⊎_elim
+    (λ (short : length x < n).
+    absurd (no_short _ _ (any_short (nested_fault f) end_fault 0x30 n u x h refl short) none))
+    (λ (fits : n ≤ length x).
+    let both = both_none (f (take n x)) (end_fault (drop n x))
+    (sym (any_room (nested_fault f) end_fault 0x30 n u x h refl fits) ∙ none) in
+    let rest : length (drop n x) ≡ 0 = end_none (drop n x) both.1 in
+    let exact : n ≡ length x = omega (arith, length-drop n x) in
+    let inside : forest_fault (length u) 2 x ≡ None =
+    subst (λ (bytes : List ℕ). forest_fault (length u) 2 bytes ≡ None) (take_all n x (omega arith)) both.0 in
+    let all : span ((false, 1) ∷ leaves) ≤ length x =
+    forest_whole ((false, 1) ∷ leaves) (length u) 2 x (0x02 ∷ 0x01 ∷ version ∷ t)
+    (version_alike version leaves s t alike) (omega (arith, length-append (header 0x30 n) x)) inside in
+    (exact, omega (arith, ap length (len_1 1 (omega arith)))))
+    (cases_lt (length x) n)

@@ -2,7 +2,9 @@
 use Rattle.std.proofs.Common.{◌≡◌, ℕ, ◌+◌, ◌-◌, ◌<◌, ◌≤◌, ⊎_elim, Bool, true, false}
 use Rattle.std.proofs.Common.{List, [], ◌∷◌, ◌++◌, length, take, drop, min, sym, ap, ap₂, ◌∙◌, arith}
 use Rattle.std.proofs.lemmas.Bool.{cases_lt}
-use Rattle.std.proofs.lemmas.List.{drop-take, drop_all, length-append, length-take, take-append-le}
+use Rattle.std.proofs.lemmas.List.{append_assoc, drop-append-le, drop-take, drop_all, length-append, length-drop}
+use Rattle.std.proofs.lemmas.List.{length-take}
+use Rattle.std.proofs.lemmas.List.{take-append-le}
 use Rattle.std.proofs.Math.Seq.{take-append-add}
 use Rattle.std.specs.Prelude.{Some}
 use Rattle.sec1_der.specs.Elements.{header, length_octets}
@@ -95,3 +97,30 @@ pub alike_first : (string : Bool) (n : ℕ) (leaves : List (Bool × ℕ)) (u v :
     → AreAlike ((string, n) ∷ leaves) u v → (first_tag u ≡ leaf_tag string) × (first_tag v ≡ leaf_tag string)
 alike_first string n leaves u v (l, m, is, more) =
     (ap (λ (bytes : List ℕ). first_tag bytes) is.old, ap (λ (bytes : List ℕ). first_tag bytes) is.new)
+
+-- how many bytes leaves are of
+abbrev pub span : List (Bool × ℕ) → ℕ
+span [] = 0
+span ((string, n) ∷ leaves) = length (header (leaf_tag string) n) + n + span leaves
+
+-- the same of bytes with others after them, if these elements are whole
+pub alike_append : (leaves : List (Bool × ℕ)) (u v rest : List ℕ) → AreAlike leaves u v → span leaves ≤ length u
+    → AreAlike leaves (u ++ rest) (v ++ rest)
+alike_append [] u v rest same fits = ap (λ (bytes : List ℕ). bytes ++ rest) same
+alike_append ((string, n) ∷ leaves) u v rest (l, m, is, more) fits =
+    let front : List ℕ = header (leaf_tag string) n in
+    let size : length u ≡ length front + length l = ap length is.old ∙ length-append front l in
+    let enough : n ≤ length l = omega arith in
+    let other : n ≤ length m = omega (arith, is.size) in
+    let after : AreAlike leaves (drop n l ++ rest) (drop n m ++ rest) =
+    alike_append leaves (drop n l) (drop n m) rest more (omega (arith, length-drop n l)) in (
+      l ++ rest,
+      m ++ rest,
+      record {
+        old = ap (λ (bytes : List ℕ). bytes ++ rest) is.old ∙ append_assoc front l rest;
+        new = ap (λ (bytes : List ℕ). bytes ++ rest) is.new ∙ append_assoc front m rest;
+        size = length-append l rest ∙ (ap (λ (k : ℕ). k + length rest) is.size ∙ sym (length-append m rest));
+        few = is.few;
+      },
+      rw (drop-append-le n l rest enough, drop-append-le n m rest other) after,
+    )

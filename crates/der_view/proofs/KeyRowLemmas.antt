@@ -4,7 +4,7 @@ use Rattle.std.proofs.Common.{List, [], ◌∷◌, ◌++◌, length, take, drop,
 use Rattle.std.proofs.Common.{subst₂, arith}
 use Rattle.std.proofs.Common.{All, Option, Some, None, Result, Ok, is_none, is_some, not, ◌&&◌, ◌||◌}
 use Rattle.std.proofs.Common.{eqb-true}
-use Rattle.std.proofs.lemmas.List.{drop-drop, length-append, length-drop}
+use Rattle.std.proofs.lemmas.List.{drop-drop, length-append, length-drop, length-take-le}
 use Rattle.std.proofs.lemmas.List.{take_all, take_at}
 use Rattle.std.proofs.lemmas.List.Elements.{All-cons, All-nil}
 use Rattle.std.proofs.Math.Seq.{drop-append-add, drop-append_seam}
@@ -15,12 +15,14 @@ use Rattle.sec1_der.specs.Elements.{header, length_octets}
 use Rattle.der_view.proofs.HeaderLemmas.{header_front, header_within}
 use Rattle.der_view.proofs.KeyLemmas.{key_moves}
 use Rattle.der_view.proofs.KeyChildLemmas.{versioned}
-use Rattle.der_view.proofs.KeyLeafLemmas.{AreAlike, AreLeaves, alike_len, leaf_header, leaf_tag}
+use Rattle.der_view.proofs.KeyLeafLemmas.{AreAlike, AreLeaves, alike_len, leaf_header, leaf_tag, span}
 use Rattle.der_view.proofs.KeyPlanLemmas.{IsClosed, key_closed, key_plan}
 use Rattle.der_view.proofs.LeafRowLemmas.{IsAfter, IsPast, After, LookAlike, integer_closed, is_leaf, late_rows}
 use Rattle.der_view.proofs.LeafRowLemmas.{leaf_closed, leaf_row, leaf_seen, no_rows, over_rows, past_after}
 use Rattle.der_view.proofs.LeafRowLemmas.{past_first, rest_row, still_few, still_on}
 use Rattle.der_view.proofs.OpenLemmas.{open_bytes_decide}
+use Rattle.der_view.proofs.RegionLemmas.{inner_rest}
+use Rattle.der_view.proofs.SeenLemmas.{len_within-le}
 use Rattle.der_view.specs.Children.{first_tag}
 use Rattle.der_view.specs.Headers.{header_of, max_content_len}
 use Rattle.der_view.specs.Levels.{followed, input_level, level_after, opened_in, still_open}
@@ -30,6 +32,7 @@ use Rattle.der_view.specs.Openings.{field_at_offset, field_inside, opened_by, op
 use Rattle.der_view.specs.Pictures.{AreRows, AreRowsOf}
 use Rattle.der_view.specs.Places.{IsDrawn, IsElement, IsInside, IsRest, IsStep}
 use Rattle.der_view.specs.Places.{inside_of, is_drawn, level_inside}
+use Rattle.der_view.specs.Places.{len_within}
 use Rattle.der_view.specs.Plans.{plan_of}
 use Rattle.der_view.specs.Rows.{IsNext, Undrawn, place_of, row_len}
 use Rattle.der_view.specs.declared.field.Field.{Field}
@@ -51,11 +54,6 @@ none_inside x from none past = none x.offset past
 
 closed_inside : (plan : Plan) → plan.inside ≡ None → NoneInside plan 0
 closed_inside plan none = λ offset past. rw none refl
-
--- how many bytes leaves are of
-abbrev pub span : List (Bool × ℕ) → ℕ
-span [] = 0
-span ((string, n) ∷ leaves) = length (header (leaf_tag string) n) + n + span leaves
 
 -- they are within the level, or nothing is drawn after it
 abbrev AreWithin : List (Bool × ℕ) → Level → List Level → ℕ → Type 0
@@ -243,9 +241,14 @@ no_leaf : (constructed : Bool) → constructed ≡ true → constructed ≡ fals
 no_leaf constructed node leaf = cc
 
 -- the level inside the root, which is closed, or one level at most
-abbrev RootLevels : List Level → Type 0
-RootLevels levels =
-    ((inner : Level) × (outer : Level) × (levels ≡ inner ∷ outer ∷ []) × (inner.next ≡ None)) ⊎ (length levels ≤ 1)
+abbrev RootLevels : ℕ → List Level → Type 0
+RootLevels rest levels =
+    ((inner : Level) × (outer : Level) × (levels ≡ inner ∷ outer ∷ []) × (inner.next ≡ None) × (inner.rest ≡ rest))
+    ⊎ (length levels ≤ 1)
+
+-- how many bytes are after it
+abbrev pub root_rest : List ℕ → Header → ℕ
+root_rest bytes head = length bytes - head.len - len_within head.content_len (length bytes - head.len)
 
 inner_next : (place : Place) (left : ℕ) (head : Header) (field : Option Field) (len : ℕ) (opened : Option ℕ)
     (inner : Level) → field_inside place ≡ None
@@ -256,12 +259,14 @@ inner_next place left head field len (Some own) inner none is =
     let same : level_inside place left head field len ≡ inner = cc in
     ap (λ (l : Level). l.next) (sym same) ∙ none
 
-root_levels : (left : ℕ) (next : Level) (opened : Option Level) (levels : List Level)
-    → ((inner : Level) → opened ≡ Some inner → inner.next ≡ None)
-    → levels ≡ still_open left (opened_in opened (next ∷ [])) → RootLevels levels
-root_levels left next None levels fresh is = inr (rw is (still_few left (next ∷ [])))
-root_levels left next (Some inner) levels fresh is = ⊎_elim
-    (λ (on : still_open left (inner ∷ next ∷ []) ≡ inner ∷ next ∷ []). inl (inner, next, is ∙ on, fresh inner refl))
+root_levels : (left rest : ℕ) (next : Level) (opened : Option Level) (levels : List Level)
+    → ((inner : Level) → opened ≡ Some inner → (inner.next ≡ None) × (inner.rest ≡ rest))
+    → levels ≡ still_open left (opened_in opened (next ∷ [])) → RootLevels rest levels
+root_levels left rest next None levels fresh is = inr (rw is (still_few left (next ∷ [])))
+root_levels left rest next (Some inner) levels fresh is = ⊎_elim
+    (λ (on : still_open left (inner ∷ next ∷ []) ≡ inner ∷ next ∷ []).
+    let known = fresh inner refl in
+    inl (inner, next, is ∙ on, known.0, known.1))
     (λ (few : length (still_open left (inner ∷ next ∷ [])) ≤ 1). inr (rw is few))
     (still_on (nat_lt inner.rest left) left inner (next ∷ []))
 
@@ -270,7 +275,7 @@ root_step : (a b front u : List ℕ) (x y : Undrawn) (r : OpenRow) (level : Leve
     → x.levels ≡ level ∷ [] → x.offset ≡ 0 → x.left ≡ a → a ≡ front ++ u → take (length front) b ≡ front
     → head.len ≡ length front → head.tag.constructed ≡ true → head.len ≤ length a → field_inside (place_of x) ≡ None
     → IsElement (place_of x) (length a) level a head is.step
-    → LooksSame true a b r × (y.offset ≡ length front) × RootLevels y.levels
+    → LooksSame true a b r × (y.offset ≡ length front) × RootLevels (root_rest a head) y.levels
 root_step a b front u x y r level head is levels offset left at other len node within inside e =
     let header : is.step.row.header.now ≡ front =
     e.header
@@ -292,27 +297,37 @@ root_step a b front u x y r level head is levels offset left at other len node w
       header = rw (start, row_header) other;
       content = rw kind (λ leaf. absurd (no_leaf head.tag.constructed node leaf));
     } in
+    let w : ℕ = len_within head.content_len (length a - head.len) in
+    let few : w ≤ length a - head.len = len_within-le head.content_len (length a - head.len) in
+    let content_len : length e.element.content.now ≡ w =
+    ap length e.is_element.content
+    ∙ length-take-le w (drop head.len a) (omega (arith, length-drop head.len a)) in
     let next : Level = level_after level e.element.passed head.tag e.element.seen.now in
     let ended : y.levels ≡ still_open (length y.left) (opened_in is.step.opened (next ∷ [])) =
     is.levels
     ∙ (λ i. still_open (length y.left) (opened_in is.step.opened (followed (e.outer i) (levels i)))) in (
       looks,
       is.offset ∙ (ap₂ (λ (p q : ℕ). p + q) offset taken ∙ omega arith),
-      root_levels (length y.left) next is.step.opened y.levels
-          (λ inner opened. inner_next (place_of x) (length a) head e.element.field (length e.element.content.now)
-          (opened_by (place_of x) e.opening) inner inside (sym e.inner ∙ opened)) ended,
+      root_levels (length y.left) (root_rest a head) next is.step.opened y.levels
+          (λ inner opened. (
+            inner_next (place_of x) (length a) head e.element.field (length e.element.content.now)
+                (opened_by (place_of x) e.opening) inner inside (sym e.inner ∙ opened),
+            inner_rest (place_of x) (length a) head e.element.field (length e.element.content.now)
+                (opened_by (place_of x) e.opening) inner (sym e.inner ∙ opened)
+                ∙ ap (λ (n : ℕ). length a - head.len - n) content_len,
+          )) ended,
     )
 
 -- the first row: the root, or all that is left
-abbrev FirstRow : List ℕ → List ℕ → ℕ → OpenRow → Undrawn → Type 0
-FirstRow a b n r y =
-    LooksSame true a b r × ((length y.left ≡ 0) ⊎ ((y.offset ≡ n) × RootLevels y.levels))
+abbrev FirstRow : List ℕ → List ℕ → ℕ → ℕ → OpenRow → Undrawn → Type 0
+FirstRow a b n rest r y =
+    LooksSame true a b r × ((length y.left ≡ 0) ⊎ ((y.offset ≡ n) × RootLevels rest y.levels))
 
 first_drawn : (drawn : Bool) (a b front u : List ℕ) (x y : Undrawn) (r : OpenRow) (level : Level) (head : Header)
     (is : IsNext x r y) → x.levels ≡ level ∷ [] → level.rest ≡ 0 → x.offset ≡ 0 → x.left ≡ a → a ≡ front ++ u
     → take (length front) b ≡ front → header_of a ≡ Ok head → head.len ≡ length front
     → head.tag.constructed ≡ true → field_inside (place_of x) ≡ None → IsDrawn drawn (place_of x) level a is.step
-    → FirstRow a b (length front) r y
+    → FirstRow a b (length front) (root_rest a head) r y
 first_drawn false a b front u x y r level head is levels last offset left at other known len node closed e =
     let rest = rest_row true a b x y r is
     (subst (λ (bytes : List ℕ). IsRest (place_of x) bytes is.step) (sym left) e) in
@@ -330,7 +345,8 @@ first_drawn true a b front u x y r level head is levels last offset left at othe
 first_row : (a b front u : List ℕ) (x y : Undrawn) (r : OpenRow) (level : Level) (head : Header) → IsNext x r y
     → x.levels ≡ level ∷ [] → level.rest ≡ 0 → x.offset ≡ 0 → x.left ≡ a → a ≡ front ++ u
     → take (length front) b ≡ front → header_of a ≡ Ok head → head.len ≡ length front
-    → head.tag.constructed ≡ true → field_inside (place_of x) ≡ None → FirstRow a b (length front) r y
+    → head.tag.constructed ≡ true → field_inside (place_of x) ≡ None
+    → FirstRow a b (length front) (root_rest a head) r y
 first_row a b front u x y r level head is levels last offset left at other known len node closed =
     let first : slice_get x.levels 0 ≡ Some level = ap (λ (ls : List Level). slice_get ls 0) levels in
     let here : IsStep (place_of x) a (Some level) is.step =
@@ -347,14 +363,14 @@ pub root_rows : (a b front s t : List ℕ) (rows : List OpenRow) (x u : Undrawn)
     → ((later : List OpenRow) (y : Undrawn) (inner outer : Level) → AreRowsOf later y u
     → y.levels ≡ inner ∷ outer ∷ [] → inner.next ≡ None → y.all ≡ false → y.plan ≡ x.plan → y.offset ≡ length front
     → y.left ≡ drop y.offset a → 0 < y.offset → drop y.offset a ≡ s → drop y.offset b ≡ t
-    → All (LooksSame true a b) later)
+    → inner.rest ≡ root_rest a head → All (LooksSame true a b) later)
     → All (LooksSame true a b) rows
 root_rows a b front s t [] x u head in_a in_b rows levels hidden closed offset left known len node more =
     All-nil (LooksSame true a b)
 root_rows a b front s t (r ∷ rows) x u head in_a in_b (y, is, _, later) levels hidden closed offset left known len node
     more =
     let some : 0 < length front = omega (arith, (header_within a head known).0) in
-    let row : FirstRow a b (length front) r y =
+    let row : FirstRow a b (length front) (root_rest a head) r y =
     first_row a b front s x y r (input_level x.plan.root) head is levels refl offset left in_a
     (ap (λ (bytes : List ℕ). take (length front) bytes) in_b ∙ take_at front t (length front) refl) known len node
     closed in
@@ -362,12 +378,13 @@ root_rows a b front s t (r ∷ rows) x u head in_a in_b (y, is, _, later) levels
     let next : y.left ≡ drop y.offset a = is.left ∙ rw (at, is.offset) (drop-drop (row_len r) x.offset a) in
     let rest : All (LooksSame true a b) rows = ⊎_elim
     (λ (done : length y.left ≡ 0). no_rows (LooksSame true a b) rows y u later done)
-    (λ (on : (y.offset ≡ length front) × RootLevels y.levels).
+    (λ (on : (y.offset ≡ length front) × RootLevels (root_rest a head) y.levels).
     ⊎_elim
-    (λ (two : (inner : Level) × (outer : Level) × (y.levels ≡ inner ∷ outer ∷ []) × (inner.next ≡ None)).
+    (λ (two : (inner : Level) × (outer : Level) × (y.levels ≡ inner ∷ outer ∷ []) × (inner.next ≡ None)
+    × (inner.rest ≡ root_rest a head)).
     more rows y two.0 two.1 later two.2 two.3 (is.all ∙ hidden) is.plan on.0 next (omega (arith, on.0))
     (ap₂ (λ (k : ℕ) (bytes : List ℕ). drop k bytes) on.0 in_a ∙ drop-append_seam front s)
-    (ap₂ (λ (k : ℕ) (bytes : List ℕ). drop k bytes) on.0 in_b ∙ drop-append_seam front t))
+    (ap₂ (λ (k : ℕ) (bytes : List ℕ). drop k bytes) on.0 in_b ∙ drop-append_seam front t) two.4)
     (λ (none : length y.levels ≤ 1).
     over_rows true a b rows y u later none (omega (arith, on.0)) (is.all ∙ hidden))
     on.1)
@@ -383,7 +400,7 @@ first_rows front s t version leaves rows x u head alike are levels hidden closed
     root_rows (versioned front version s) (versioned front version t) front (0x02 ∷ 0x01 ∷ version ∷ s)
     (0x02 ∷ 0x01 ∷ version ∷ t) rows x u head refl refl are levels hidden
     (none_inside x 0 (closed_inside x.plan closed.inside) (omega arith)) offset left known len node
-    (λ later y inner outer more two fresh shown plan start at some in_a in_b.
+    (λ later y inner outer more two fresh shown plan start at some in_a in_b rest.
     version_rows (versioned front version s) (versioned front version t) s t version leaves later y u inner (outer ∷ [])
     alike more two shown (rw plan closed.guarded)
     (λ from past. rw plan (closed_inside x.plan closed.inside from (omega arith))) fresh some (inl (omega arith)) at

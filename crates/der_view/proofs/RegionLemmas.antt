@@ -89,7 +89,7 @@ kept_level : (level : Level) (passed : ℕ) (tag : Tag) (content : List ℕ)
 unfolding level_after
 kept_level level passed tag content = (refl, refl)
 
-inner_rest : (place : Place) (left : ℕ) (head : Header) (field : Option Field) (len : ℕ) (opened : Option ℕ)
+pub inner_rest : (place : Place) (left : ℕ) (head : Header) (field : Option Field) (len : ℕ) (opened : Option ℕ)
     (inner : Level) → option_map (λ own. level_inside place left head field len) opened ≡ Some inner
     → inner.rest ≡ left - head.len - len
 unfolding level_inside

@@ -155,31 +155,33 @@ AreUnseenCut x y =
     → SamePictures (take n (container_bytes root version algorithm x rest))
     (take n (container_bytes root version algorithm y rest))
 
--- It holds of two keys of RFC 8410 section 7, as of Ed25519 or X25519, each an OCTET STRING.
+-- It holds of bytes that begin as two keys of RFC 8410 section 7 do, as of Ed25519, each an OCTET
+-- STRING of n bytes, and differ in these.
 abbrev pub OfCurveKeys : (List ℕ → List ℕ → Type 0) → Type 0
 OfCurveKeys Holds =
-    (x y : List ℕ) → length x ≡ length y → Holds (element 0x04 x) (element 0x04 y)
+    (x y : List ℕ) (n : ℕ) → n ≤ max_content_len → length x ≡ length y → drop n x ≡ drop n y
+    → Holds (header 0x04 n ++ x) (header 0x04 n ++ y)
 
--- It holds of two numbers, as DSA keys are.
+-- It holds of bytes that begin as two INTEGERs of n bytes do, as DSA keys are, and differ in these.
 abbrev pub OfNumber : (List ℕ → List ℕ → Type 0) → Type 0
 OfNumber Holds =
-    (x y : List ℕ) → length x ≡ length y → Holds (element 0x02 x) (element 0x02 y)
+    (x y : List ℕ) (n : ℕ) → n ≤ max_content_len → length x ≡ length y → drop n x ≡ drop n y
+    → Holds (header 0x02 n ++ x) (header 0x02 n ++ y)
 
--- It holds of two ECPrivateKeys (RFC 5915 section 3), with a version of one byte, that differ in
--- the private key.
+-- It holds of bytes that begin as two ECPrivateKeys do, and differ in the private keys.
 abbrev pub OfEcKeys : (List ℕ → List ℕ → Type 0) → Type 0
 OfEcKeys Holds =
-    (x y fields : List ℕ) (version : ℕ) → length x ≡ length y
-    → Holds (element 0x30 (0x02 ∷ 0x01 ∷ version ∷ (element 0x04 x ++ fields)))
-    (element 0x30 (0x02 ∷ 0x01 ∷ version ∷ (element 0x04 y ++ fields)))
+    (x y : List ℕ) (version n len : ℕ) → n ≤ max_content_len → len ≤ max_content_len
+    → length x ≡ length y → drop n x ≡ drop n y
+    → Holds (key_bytes (header 0x30 len) version n x) (key_bytes (header 0x30 len) version n y)
 
--- It holds of two keys as RSAPrivateKey (RFC 8017 appendix A.1.2), which differ in the numbers
--- after the version.
+-- It holds of bytes that begin as two keys of numbers do, and differ in those after the version.
 abbrev pub OfNumberKeys : (List ℕ → List ℕ → Type 0) → Type 0
 OfNumberKeys Holds =
-    (x y : List (List ℕ)) (version : ℕ) → map length x ≡ map length y
-    → Holds (element 0x30 (integers ((version ∷ []) ∷ x)))
-    (element 0x30 (integers ((version ∷ []) ∷ y)))
+    (x y : List (List ℕ)) (rest : List ℕ) (version len : ℕ) → len ≤ max_content_len
+    → AreAsLong x y
+    → Holds (number_bytes (header 0x30 len) version x rest)
+    (number_bytes (header 0x30 len) version y rest)
 
 -- The header of a SEQUENCE in DER is a root's, before these bytes.
 abbrev pub IsRootBefore : (List ℕ → List ℕ) → Type 0

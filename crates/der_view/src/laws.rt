@@ -98,8 +98,8 @@ pub fn numbers_are_unseen()
 {}
 
 /// Bytes that begin as a container of a private key does (RFC 5958 section 2) have the same
-/// picture, and the same status, whatever the key inside its privateKey, if it is as long: with any
-/// bytes inside the algorithm, and any after the privateKey.
+/// picture, and the same status, whatever key its privateKey begins with, if that is as long:
+/// however the privateKey goes on, with any bytes inside the algorithm, and any after all.
 pub fn contained_keys_are_unseen()
     ensures curve_key { OfCurveKeys AreUnseenInside }
     ensures ec_key { OfEcKeys AreUnseenInside }
