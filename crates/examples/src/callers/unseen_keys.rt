@@ -1,9 +1,9 @@
 //! Pictures of private keys in DER, by `der_view`, which don't follow from the keys.
-ghost use Rattle.std.specs.Prelude.{◌≡◌, ◌≤◌, ◌∷◌, ◌++◌, [], List, ℕ, length, map, take};
-ghost use Rattle.sec1_der.specs.Elements.{element, header};
+ghost use Rattle.std.specs.Prelude.{◌≡◌, ◌≤◌, ◌++◌, [], List, ℕ, drop, length, take};
+ghost use Rattle.sec1_der.specs.Elements.{header};
 ghost use Rattle.der_view.specs.Headers.{max_content_len};
 ghost use Rattle.der_view.specs.OpenLaws.{AreAsLong, IsRootOf, SamePictures};
-ghost use Rattle.der_view.specs.OpenLaws.{container_bytes, integers, number_bytes};
+ghost use Rattle.der_view.specs.OpenLaws.{container_bytes, key_bytes, number_bytes};
 
 use der_view::laws;
 
@@ -31,10 +31,10 @@ pub fn pictures_of_cut_rsa_keys()
 /// Two private keys of Ed25519 in PKCS #8 have the same picture.
 pub fn pictures_of_curve_keys()
     ensures { (n : ℕ) (algorithm x y : List ℕ) → n ≤ max_content_len
-        → length algorithm ≤ max_content_len → length (element 0x04 x) ≤ max_content_len
-        → length x ≡ 32 → length y ≡ 32
-        → SamePictures (container_bytes (header 0x30 n) 0 algorithm (element 0x04 x) [])
-        (container_bytes (header 0x30 n) 0 algorithm (element 0x04 y) []) }
+        → length algorithm ≤ max_content_len → length (header 0x04 32 ++ x) ≤ max_content_len
+        → length x ≡ length y → drop 32 x ≡ drop 32 y
+        → SamePictures (container_bytes (header 0x30 n) 0 algorithm (header 0x04 32 ++ x) [])
+        (container_bytes (header 0x30 n) 0 algorithm (header 0x04 32 ++ y) []) }
 {
     laws::headers_are_roots();
     laws::contained_keys_are_unseen();
@@ -42,14 +42,13 @@ pub fn pictures_of_curve_keys()
 
 /// Two RSA keys in PKCS #8 have the same picture, also if attributes follow.
 pub fn pictures_of_contained_rsa_keys()
-    ensures { (n : ℕ) (algorithm attributes : List ℕ) (x y : List (List ℕ))
-        → n ≤ max_content_len → length algorithm ≤ max_content_len
-        → length (element 0x30 (integers ((0 ∷ []) ∷ x))) ≤ max_content_len
-        → map length x ≡ map length y
+    ensures { (n inner : ℕ) (algorithm attributes : List ℕ) (x y : List (List ℕ))
+        → n ≤ max_content_len → inner ≤ max_content_len → length algorithm ≤ max_content_len
+        → length (number_bytes (header 0x30 inner) 0 x []) ≤ max_content_len → AreAsLong x y
         → SamePictures (container_bytes (header 0x30 n) 0 algorithm
-        (element 0x30 (integers ((0 ∷ []) ∷ x))) attributes)
+        (number_bytes (header 0x30 inner) 0 x []) attributes)
         (container_bytes (header 0x30 n) 0 algorithm
-        (element 0x30 (integers ((0 ∷ []) ∷ y))) attributes) }
+        (number_bytes (header 0x30 inner) 0 y []) attributes) }
 {
     laws::headers_are_roots();
     laws::contained_keys_are_unseen();
@@ -57,15 +56,15 @@ pub fn pictures_of_contained_rsa_keys()
 
 /// So have two EC keys in PKCS #8 of whose bytes so many are left after the root's header.
 pub fn pictures_of_cut_ec_keys()
-    ensures { (n left : ℕ) (algorithm fields x y : List ℕ) → n ≤ max_content_len
-        → length (header 0x30 n) ≤ left → length algorithm ≤ max_content_len
-        → length (element 0x30 (0x02 ∷ 0x01 ∷ 0x01 ∷ (element 0x04 x ++ fields)))
-        ≤ max_content_len
-        → length x ≡ length y
+    ensures { (n inner left : ℕ) (algorithm x y : List ℕ) → n ≤ max_content_len
+        → inner ≤ max_content_len → length (header 0x30 n) ≤ left
+        → length algorithm ≤ max_content_len
+        → length (key_bytes (header 0x30 inner) 1 32 x) ≤ max_content_len
+        → length x ≡ length y → drop 32 x ≡ drop 32 y
         → SamePictures (take left (container_bytes (header 0x30 n) 0 algorithm
-        (element 0x30 (0x02 ∷ 0x01 ∷ 0x01 ∷ (element 0x04 x ++ fields))) []))
+        (key_bytes (header 0x30 inner) 1 32 x) []))
         (take left (container_bytes (header 0x30 n) 0 algorithm
-        (element 0x30 (0x02 ∷ 0x01 ∷ 0x01 ∷ (element 0x04 y ++ fields))) [])) }
+        (key_bytes (header 0x30 inner) 1 32 y) [])) }
 {
     laws::headers_are_roots();
     laws::cut_containers_are_unseen();
