@@ -29,9 +29,9 @@ use Rattle.der_view.specs.Rows.{Undrawn}
 use Rattle.der_view.specs.declared.field.Field.{Field}
 
 -- such keys, whose rows look the same
-pub record AreHidden (root q l m : List ℕ) (version n : ℕ) : Type 0 where
-  pub keys : AreKeys n l m
-  pub rows : (u : Undrawn)
+record AreHidden (root q l m : List ℕ) (version n : ℕ) : Type 0 where
+  keys : AreKeys n l m
+  rows : (u : Undrawn)
       → InnerRows (versioned root version (container_rest q n l)) (versioned root version (container_rest q n m)) n l m
       u
 
