@@ -183,7 +183,7 @@ pub record IsListed (before : ℕ) (input : List ℕ) (old new : List PictureLin
   pub short : length old < length lines → result ≡ 7
 
 -- what is decoded of the sources of an input is in memory, one source's bytes after the other's,
--- behind so many other bytes
+-- after so many other bytes
 abbrev pub IsDecodedAt : ℕ → List ℕ → List ℕ → Type 0
 IsDecodedAt before input memory =
     let bytes = flat_map decoded_of (sources_of input) in
