@@ -42,7 +42,7 @@ expected_kept m more c e =
     let some : is_none m.first ≡ false = ap is_none e in
     rw some e
 
--- a second mark stays, behind a first one
+-- a second mark stays, after a first one
 second_by : (first second more : Option Mark) (c d : Mark) → first ≡ Some c → second ≡ Some d
     → (marks_by first second more).second ≡ Some d
 second_by None second more c d e f = cc

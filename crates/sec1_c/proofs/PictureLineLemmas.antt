@@ -95,7 +95,7 @@ pub Adds-join : (a b c : List PictureLine) (i j k : ℕ) (lines more : List Pict
 Adds-join a b c i j k lines more one two first before held =
     rw (← append_assoc before lines more) (two first (before ++ lines) (one first before held))
 
--- rows that there are end behind their beginning
+-- rows that there are end after their beginning
 rows_after : (rows : List OpenRow) (old new : Undrawn) → AreRowsOf rows old new → old.offset ≤ new.offset
 rows_after [] old new same = let at = ap (λ (state : Undrawn). state.offset) same in omega arith
 rows_after (row ∷ rows) old new (between, next, seen, more) =
@@ -108,9 +108,9 @@ pub is_whole-snoc : (plan : Plan) (rows : List OpenRow) (row : OpenRow) (old mid
 is_whole-snoc plan [] row old mid new zero same next =
     let at : row.offset ≡ 0 = next.at ∙ (ap (λ (state : Undrawn). state.offset) (sym same) ∙ zero) in rw at refl
 is_whole-snoc plan (first ∷ rows) row old mid new zero (between, one, seen, more) next =
-    let behind : 0 < row.offset =
+    let past : 0 < row.offset =
     omega (arith, next.at, one.offset, one.bytes.some, rows_after rows between mid more) in
-    rw (lt-ltb 0 row.offset behind) (and-true (plan.complete && is_none first.marks.first))
+    rw (lt-ltb 0 row.offset past) (and-true (plan.complete && is_none first.marks.first))
 
 -- the lines of one more row
 pub rows_lines-snoc : (plan : Plan) (rows : List OpenRow) (row : OpenRow)
@@ -124,8 +124,8 @@ rows_lines-snoc plan (first ∷ rows) row =
 -- whether rows are whole, by what is looked at
 pub whole_by_offset : (old new bare : Bool) (offset : ℕ) → old ≡ true → 0 < offset → new ≡ nat_lt 0 offset
     → new ≡ (old && (nat_lt 0 offset || bare))
-whole_by_offset old new bare offset was behind is =
-    rw (was, lt-ltb 0 offset behind) (is ∙ lt-ltb 0 offset behind)
+whole_by_offset old new bare offset was past is =
+    rw (was, lt-ltb 0 offset past) (is ∙ lt-ltb 0 offset past)
 
 pub whole_by_marks : (old new bare empty : Bool) (offset : ℕ) → old ≡ true → offset ≤ 0 → new ≡ empty → empty ≡ bare
     → new ≡ (old && (nat_lt 0 offset || bare))
