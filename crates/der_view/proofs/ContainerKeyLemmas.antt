@@ -78,7 +78,7 @@ container_unseen : (root q l m : List ℕ) (version n : ℕ)
 container_unseen root q l m version n at short two =
     open_bytes_decide _ _ (container_differs root q l m version n at short two)
 
--- a container of a whole key
+-- the bytes of a container
 bytes_are : (root q key rest : List ℕ) (version : ℕ)
     → container_bytes root version q key rest
     ≡ versioned root version (container_rest q (length key) (key ++ rest))

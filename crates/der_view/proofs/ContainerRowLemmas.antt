@@ -33,7 +33,8 @@ use Rattle.der_view.specs.declared.place.Place.{Place}
 use Rattle.der_view.specs.declared.plan.Plan.{Plan}
 use Rattle.der_view.specs.declared.row.OpenRow.{OpenRow}
 
--- what is known of the whole: a key is inside a string before this place, or none
+-- What is known of the whole: a key is inside a string that begins before this place, or none is. If all of the string
+-- of n bytes is in the root, after which so many bytes are left, these bytes say which key it is.
 pub record IsContainer (plan : Plan) (from n rest : ℕ) (l : List ℕ) : Type 0 where
   pub guarded : plan.guarded ≡ true
   pub first : field_at_offset plan.inside 0 ≡ None

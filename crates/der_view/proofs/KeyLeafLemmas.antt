@@ -103,7 +103,7 @@ abbrev pub span : List (Bool × ℕ) → ℕ
 span [] = 0
 span ((string, n) ∷ leaves) = length (header (leaf_tag string) n) + n + span leaves
 
--- the same of bytes with others after them, if these elements are whole
+-- they are alike with other bytes after them, if these elements are whole
 pub alike_append : (leaves : List (Bool × ℕ)) (u v rest : List ℕ) → AreAlike leaves u v → span leaves ≤ length u
     → AreAlike leaves (u ++ rest) (v ++ rest)
 alike_append [] u v rest same fits = ap (λ (bytes : List ℕ). bytes ++ rest) same

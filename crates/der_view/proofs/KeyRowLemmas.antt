@@ -171,7 +171,7 @@ version_row a b s t version x y r level outer is levels hidden guarded at in_a i
     (leaf_row a b first l m version_header 1 x y r level outer is levels hidden guarded at old new
     (is_leaf false 1 (omega arith)) looks)
 
--- so many bytes later
+-- the bytes after it
 pub after_three : (at to version : ℕ) (a s : List ℕ) → drop at a ≡ 0x02 ∷ 0x01 ∷ version ∷ s → to ≡ at + 3
     → drop to a ≡ s
 after_three at to version a s here end =
