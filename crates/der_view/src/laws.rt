@@ -58,8 +58,8 @@ pub fn open_bytes_decide()
 {}
 
 /// Bytes that begin as an ECPrivateKey does (RFC 5915 section 3) have the same picture, and the
-/// same status, whatever the private key: also if they are damaged or cut off after its header. For
-/// its bytes aren't shown.
+/// same status, whatever the private key, of which no byte is shown: also if they are damaged or
+/// cut off after its header.
 pub fn key_is_unseen()
     ensures pictures { KeyIsUnseen }
     ensures unseen { (a b : List ℕ) → DifferInKey a b → DifferUnseen a b }
