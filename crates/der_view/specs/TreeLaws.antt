@@ -1,6 +1,6 @@
 -- What the law of trees says of rows.
 use Rattle.std.specs.Prelude.{◌≡◌, ℕ, ◌+◌, ◌<◌, nat_le, if◌then◌else◌, List, [], ◌∷◌, length}
-use Rattle.std.specs.Prelude.{◌≢◌, Bool, true, false, All, Option, Some, None}
+use Rattle.std.specs.Prelude.{◌≢◌, get_or, Bool, true, false, All, Option, Some, None}
 use Rattle.der_view.specs.Rows.{row_len}
 use Rattle.der_view.specs.declared.mark.ElementFault.TheVariants as faults
 use Rattle.der_view.specs.declared.mark.Mark.{Mark}
@@ -60,6 +60,10 @@ pub record AreWhole (rows : List OpenRow) : Type 0 where
   pub outer : outer_rows 0 rows ≡ root ∷ inner
   pub root_whole : IsWhole root
   pub inner_whole : All IsWholeInside inner
+
+-- each element is a byte, as the type of a slice says it
+abbrev pub IsBytes : List ℕ → Type 0
+IsBytes bytes = (i : ℕ) → get_or bytes i 0 < 256
 
 -- The row is drawn. It isn't of bytes that begin with 20, the tag of a constructed end-of-contents,
 -- which X.690 section 8.1.5 reserves, and which is a tag to `check_tree`.

@@ -15,7 +15,7 @@ ghost use Rattle.der_view.specs.Plans.{plan_of};
 ghost use Rattle.der_view.specs.RowLaws.{HidesContent, IsSameRow};
 ghost use Rattle.der_view.specs.Rows.{IsNext, IsOpen, Undrawn, bytes_of_rows};
 ghost use Rattle.der_view.specs.Sources.{is_text, is_utf16, sources_of};
-ghost use Rattle.der_view.specs.TreeLaws.{AreWhole, MayBeWhole, outer_rows};
+ghost use Rattle.der_view.specs.TreeLaws.{AreWhole, IsBytes, MayBeWhole, outer_rows};
 ghost use Rattle.der_view.specs.declared.row.OpenRow.{OpenRow};
 
 /// The bytes of all rows, in order, are the input, and those of some rows and then those that have
@@ -68,22 +68,22 @@ pub fn key_is_unseen()
 /// `check_tree` accepts what is drawn whole: one root, where no row outside opened strings has a
 /// mark of an element's structure or a tag number above 30. What it accepts is drawn whole, if all
 /// of it is drawn, no tag is 20, and it has at most 16,777,215 bytes.
-pub fn trees_are_whole(input: &[u8])
-    ensures tree { (all : Bool) (rows : List OpenRow) → AreRows all input.now rows
-        → AreWhole rows → tree_fault input.now ≡ None }
-    ensures whole { (all : Bool) (rows : List OpenRow) → length input.now ≤ max_content_len
-        → AreRows all input.now rows → All MayBeWhole (outer_rows 0 rows)
-        → tree_fault input.now ≡ None → AreWhole rows }
+pub fn trees_are_whole()
+    ensures tree { (all : Bool) (input : List ℕ) (rows : List OpenRow) → IsBytes input
+        → AreRows all input rows → AreWhole rows → tree_fault input ≡ None }
+    ensures whole { (all : Bool) (input : List ℕ) (rows : List OpenRow) → IsBytes input
+        → length input ≤ max_content_len → AreRows all input rows
+        → All MayBeWhole (outer_rows 0 rows) → tree_fault input ≡ None → AreWhole rows }
 {}
 
-/// What `check_tree` has accepted is drawn whole, as [`trees_are_whole`] says.
+/// What `check_tree` has accepted is drawn whole, as [`trees_are_whole`] says of any bytes.
 pub fn accepted_is_whole(input: &[u8])
     requires { tree_fault input.now ≡ None }
     ensures { (all : Bool) (rows : List OpenRow) → length input.now ≤ max_content_len
         → AreRows all input.now rows → All MayBeWhole (outer_rows 0 rows) → AreWhole rows }
 {}
 
-/// What `check_tree` has refused isn't drawn whole, as [`trees_are_whole`] says.
+/// What `check_tree` has refused isn't drawn whole, as [`trees_are_whole`] says of any bytes.
 pub fn refused_is_not_whole(input: &[u8])
     requires { tree_fault input.now ≢ None }
     ensures { (all : Bool) (rows : List OpenRow) → AreRows all input.now rows → ¬ AreWhole rows }

@@ -11,7 +11,7 @@ ghost use Rattle.der_view.specs.Plans.{plan_of};
 ghost use Rattle.der_view.specs.RowLaws.{HidesContent, IsSameRow};
 ghost use Rattle.der_view.specs.Rows.{Undrawn, bytes_of_rows};
 ghost use Rattle.der_view.specs.Sources.{Der, is_text, is_utf16, source_view, sources_of};
-ghost use Rattle.der_view.specs.TreeLaws.{AreWhole, MayBeWhole, outer_rows};
+ghost use Rattle.der_view.specs.TreeLaws.{AreWhole, IsBytes, MayBeWhole, outer_rows};
 ghost use Rattle.der_view.specs.declared.row.OpenRow.{OpenRow};
 
 use der_view::{OpenRow, Rows, Source, Sources, laws};
@@ -179,10 +179,14 @@ pub fn count_whole(input: &[u8]) -> Result<usize>
     }
 }
 
-/// What is drawn whole is a tree.
-pub fn whole_trees(input: &[u8])
-    ensures { (all : Bool) (rows : List OpenRow) → AreRows all input.now rows → AreWhole rows
-        → tree_fault input.now ≡ None }
+/// What is drawn whole is a tree, which `check_tree` accepts, and a tree is drawn whole if each of
+/// its rows may be.
+pub fn whole_trees()
+    ensures tree { (all : Bool) (input : List ℕ) (rows : List OpenRow) → IsBytes input
+        → AreRows all input rows → AreWhole rows → tree_fault input ≡ None }
+    ensures whole { (all : Bool) (input : List ℕ) (rows : List OpenRow) → IsBytes input
+        → length input ≤ max_content_len → AreRows all input rows
+        → All MayBeWhole (outer_rows 0 rows) → tree_fault input ≡ None → AreWhole rows }
 {
-    laws::trees_are_whole(input);
+    laws::trees_are_whole();
 }
