@@ -43,18 +43,20 @@ pub fn contents_are_hidden()
         → All (HidesContent (plan_of input).guarded input) rows }
 {}
 
-/// Inputs that differ only in bytes which aren't shown have the same picture, and the same status:
-/// so `draw` writes the same text of two of them that are no text, and returns the same.
+/// Inputs that differ only in bytes which aren't shown have the same picture, and the same status.
 pub fn open_bytes_decide()
-    ensures pictures { OpenBytesDecide }
-    ensures text { (a b x y : List ℕ) (is_key is_other : Bool) → DifferUnseen a b
-        → is_text a ≡ false → is_utf16 a ≡ false → is_text b ≡ false → is_utf16 b ≡ false
-        → ArePictures false (sources_of a) x is_key → ArePictures false (sources_of b) y is_other
-        → x ≡ y }
-    ensures status { (a b x y : List ℕ) (is_key is_other : Bool) → DifferUnseen a b
-        → is_text a ≡ false → is_utf16 a ≡ false → is_text b ≡ false → is_utf16 b ≡ false
-        → ArePictures false (sources_of a) x is_key → ArePictures false (sources_of b) y is_other
-        → is_key ≡ is_other }
+    ensures { OpenBytesDecide }
+{}
+
+/// Of two such inputs that are no text, `draw` has written the same and returned the same, as
+/// [`open_bytes_decide`] says: of `a` the text `x` and `is_key`, and of `b` the others.
+pub fn drawn_alike(a: &[u8], b: &[u8], x: &[u8], y: &[u8], is_key: bool, is_other: bool)
+    requires first { ArePictures false (sources_of a.now) x.now is_key }
+    requires second { ArePictures false (sources_of b.now) y.now is_other }
+    ensures text { is_text a.now ≡ false → is_utf16 a.now ≡ false → is_text b.now ≡ false
+        → is_utf16 b.now ≡ false → DifferUnseen a.now b.now → x.now ≡ y.now }
+    ensures status { is_text a.now ≡ false → is_utf16 a.now ≡ false → is_text b.now ≡ false
+        → is_utf16 b.now ≡ false → DifferUnseen a.now b.now → is_key ≡ is_other }
 {}
 
 /// Bytes that begin as an ECPrivateKey does (RFC 5915 section 3) have the same picture, and the

@@ -14,8 +14,10 @@ ghost use Rattle.der_view.specs.Sources.{Der, is_text, is_utf16, source_view, so
 ghost use Rattle.der_view.specs.TreeLaws.{AreWhole, IsBytes, MayBeWhole, outer_rows};
 ghost use Rattle.der_view.specs.declared.row.OpenRow.{OpenRow};
 
-use der_view::{OpenRow, Rows, Source, Sources, laws};
+use der_view::{OpenRow, Rows, Source, Sources, draw, laws, room_len};
 use sec1_der::{Result, check_tree};
+use std::alloc::Global;
+use std::io;
 
 /// Returns the first source of an input. What is no text is its own source.
 pub fn first_source(input: &[u8]) -> Option<Source<'_>>
@@ -134,21 +136,43 @@ pub fn pictures_of_keys()
     laws::key_is_unseen();
 }
 
-/// Two private keys that differ in the key alone differ in bytes which aren't shown, and what
-/// `draw` writes of two such inputs, which are no text, is the same, as is what it returns.
-pub fn texts_of_keys()
-    ensures keys { (a b : List ℕ) → DifferInKey a b → DifferUnseen a b }
-    ensures texts { (a b x y : List ℕ) (is_key is_other : Bool) → DifferUnseen a b
-        → is_text a ≡ false → is_utf16 a ≡ false → is_text b ≡ false → is_utf16 b ≡ false
-        → ArePictures false (sources_of a) x is_key → ArePictures false (sources_of b) y is_other
-        → x ≡ y }
-    ensures status { (a b x y : List ℕ) (is_key is_other : Bool) → DifferUnseen a b
-        → is_text a ≡ false → is_utf16 a ≡ false → is_text b ≡ false → is_utf16 b ≡ false
-        → ArePictures false (sources_of a) x is_key → ArePictures false (sources_of b) y is_other
-        → is_key ≡ is_other }
+/// Returns the picture of an input without the contents, and whether some part of it is a key.
+///
+/// # Errors
+///
+/// Out of memory.
+pub fn picture(alloc: Global, input: &[u8]) -> io::Result<(Vec<u8>, bool)>
+    ensures { IfOk result
+        (λ drawn. ArePictures false (sources_of input.now) drawn.0.items drawn.1) }
+{
+    let mut room = vec![in alloc; 0u8; room_len(input)]?;
+    let mut text = Vec::new(alloc);
+    let has_key = draw(&mut text, input, room.as_mut_slice(), false)?;
+    Ok((text, has_key))
+}
+
+/// Returns the pictures of two inputs, which are the same if they are no text and differ only in
+/// bytes that aren't shown.
+///
+/// # Errors
+///
+/// Out of memory.
+pub fn two_pictures(alloc: Global, a: &[u8], b: &[u8]) -> io::Result<(Vec<u8>, Vec<u8>)>
+    ensures { IfOk result (λ drawn. is_text a.now ≡ false → is_utf16 a.now ≡ false
+        → is_text b.now ≡ false → is_utf16 b.now ≡ false → DifferUnseen a.now b.now
+        → drawn.0.items ≡ drawn.1.items) }
+{
+    let (first, is_key) = picture(alloc, a)?;
+    let (second, is_other) = picture(alloc, b)?;
+    laws::drawn_alike(a, b, &first, &second, is_key, is_other);
+    Ok((first, second))
+}
+
+/// Two private keys that differ in the key alone differ in bytes which aren't shown.
+pub fn unseen_keys()
+    ensures { (a b : List ℕ) → DifferInKey a b → DifferUnseen a b }
 {
     laws::key_is_unseen();
-    laws::open_bytes_decide();
 }
 
 /// Inputs of which one is drawn otherwise differ in a byte that is shown.
