@@ -240,6 +240,17 @@ FAULTS = [
 
 MEMORY_OF_64_BITS = "--experimental-wasm-memory64"
 
+# Ends the tests where the first of them fails; node's own go on.
+STOP = """
+let last = Promise.resolve();
+export default function test(name, call) {
+  last = last.then(call).catch((error) => {
+    console.error(name, error);
+    process.exit(1);
+  });
+}
+"""
+
 
 def command():
     """Returns the command that runs the tests, with the option that some versions of Node need."""
@@ -249,7 +260,14 @@ def command():
 
 def copy(folder):
     """Copies the package, with files in place of links, which lead to others of the repository."""
-    return shutil.copytree(HERE, folder / "package")
+    sources = shutil.copytree(HERE, folder / "package")
+    tests = sources / "tests/test.js"
+    whole = tests.read_text(encoding="utf-8")
+    given = "import test from 'node:test';"
+    assert whole.count(given) == 1
+    tests.write_text(whole.replace(given, "import test from './stop.js';"), encoding="utf-8")
+    tests.with_name("stop.js").write_text(STOP, encoding="utf-8")
+    return sources
 
 
 def run(sources):

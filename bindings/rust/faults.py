@@ -227,7 +227,7 @@ CARGO = """cargo test --offline --no-run --message-format=json-render-diagnostic
 EXAMPLE = "cargo build --offline --features std -p bridgeacacia-sec1 --example view".split()
 
 # What takes most of the time, compared in many draws, is run where all else passes.
-SLOW = ["against_", "openssl"]
+SLOW = ["openssl", "against_"]
 FAST = [word for name in SLOW for word in ("--skip", name)]
 
 
@@ -241,21 +241,32 @@ def copy(folder):
     return folder / "rust/sec1/src"
 
 
-def run(sources):
-    """Returns whether the tests of a copy pass."""
-    folder = sources.parents[1]
+def build(folder, command):
+    """Builds in a copy, and returns what the command printed."""
     more = {"CARGO_TARGET_DIR": str(folder / "target"), "CARGO_PROFILE_DEV_DEBUG": "0"}
-    for command in (EXAMPLE, CARGO):
-        is_built, said = plant.passes(folder, command, 600, {**os.environ, **more})
-        if not is_built:
-            raise plant.Unreadable("".join(re.findall(r"^error.*$", said, re.M)[:1]))
-    programs = re.findall(r'"executable":"([^"]+)"', said)
+    is_built, said = plant.passes(folder, command, 600, {**os.environ, **more})
+    if not is_built:
+        raise plant.Unreadable("".join(re.findall(r"^error.*$", said, re.M)[:1]))
+    return said
+
+
+def draws(folder):
+    """Returns whether the example of a copy draws what a second reader draws."""
+    build(folder, EXAMPLE)
     example = folder / "target/debug/examples/view"
-    return all(
-        plant.passes(folder, [it, "--test-threads=1", *words], 600)[0]
-        for words in (FAST, SLOW)
-        for it in programs
-    ) and plant.passes(folder, [sys.executable, "-B", PROGRAMS, "--several", example], 600)[0]
+    return plant.passes(folder, [sys.executable, "-B", PROGRAMS, "--several", example], 600)[0]
+
+
+def run(sources):
+    """Returns whether the tests of a copy pass, the quickest first."""
+    folder = sources.parents[1]
+    programs = re.findall(r'"executable":"([^"]+)"', build(folder, CARGO))
+
+    def passes(*words):
+        commands = ([it, "--test-threads=1", *words] for it in programs)
+        return all(plant.passes(folder, it, 600)[0] for it in commands)
+
+    return passes(*FAST) and draws(folder) and all(passes(it) for it in SLOW)
 
 
 if __name__ == "__main__":
