@@ -184,10 +184,10 @@ def own_texts(name):
 
 
 def link_or_copy(file, to):
-    """Gives a checked module a second name on the same file system, and copies any other file: a
-    check replaces a module, and never writes into it."""
+    """Gives a checked module, or a file of a built library, a second name on the same file system,
+    and copies any other file: a check replaces these, and never writes into them."""
     with contextlib.suppress(OSError):
-        if str(file).endswith(".oantt"):
+        if str(file).endswith(".oantt") or "/out/rlib/" in str(file):
             return os.link(file, to)
     return shutil.copy2(file, to)
 
