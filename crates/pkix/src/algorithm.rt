@@ -6,11 +6,11 @@ ghost use Rattle.sec1_der.specs.PartLaws.{element_begins};
 ghost use Rattle.sec1_der.specs.Faults.{element_fault};
 ghost use Rattle.pkix.specs.Records.{algorithm_content, algorithm_fault};
 
-use crate::in_place::{ReadInPlace, read_record};
+use crate::in_place::{ReadInPlace, read_part, read_record};
 use der_types::{Any, ObjectIdentifierRef, OptionalPart};
 use sec1_der::{
     BackWriter, DecodePart, Distinct, EncodePart, Length, Part, Record, Required, Result,
-    SliceReader, UniquePart, component_len, decode_component,
+    SliceReader, UniquePart, component_len,
 };
 
 /// An AlgorithmIdentifier (RFC 5280 section 4.1.1.2). Its parameters are any element, NULL among
@@ -77,13 +77,16 @@ impl EncodePart for AlgorithmIdentifier<'_> {
 
 impl<'a> DecodePart<'a> for AlgorithmIdentifier<'a> {
     fn decode_part(reader: &mut SliceReader<'a>) -> Result<Self> {
-        decode_component(reader)
+        read_part(reader)
     }
 }
 
 impl<'a> ReadInPlace<'a> for AlgorithmIdentifier<'a> {
     fn empty() -> Self {
-        Self::from_parts(ReadInPlace::empty())
+        AlgorithmIdentifier {
+            algorithm: ObjectIdentifierRef::default(),
+            parameters: None,
+        }
     }
 
     fn read_in_place(&mut self, reader: &mut SliceReader<'a>) -> Result<()> {

@@ -8,13 +8,12 @@ ghost use Rattle.pkix.specs.Records.{certificate_content, certificate_fault};
 ghost use Rattle.sec1_der.specs.Readers.{ReadsElement};
 ghost use Rattle.pkix.specs.Records.{tbs_content, tbs_fault};
 
-use crate::in_place::{ReadInPlace, read_record, read_whole};
+use crate::in_place::{ReadInPlace, read_part, read_record, read_whole};
 use crate::{AlgorithmIdentifier, Extension, LaterVersion, Name, SubjectPublicKeyInfo, Validity};
 use der_types::{Bits, Implicit, Integer, SequenceOf};
 use sec1_der::{
     BackWriter, Context0, Context3, DecodePart, Distinct, EncodePart, Explicit, Length, Optional,
     Part, Primitive1, Primitive2, Record, Required, Result, SliceReader, UniquePart, component_len,
-    decode_component,
 };
 
 /// A TBSCertificate (RFC 5280 section 4.1.2).
@@ -172,13 +171,24 @@ impl EncodePart for TbsCertificate<'_> {
 
 impl<'a> DecodePart<'a> for TbsCertificate<'a> {
     fn decode_part(reader: &mut SliceReader<'a>) -> Result<Self> {
-        decode_component(reader)
+        read_part(reader)
     }
 }
 
 impl<'a> ReadInPlace<'a> for TbsCertificate<'a> {
     fn empty() -> Self {
-        Self::from_parts(ReadInPlace::empty())
+        TbsCertificate {
+            version: None,
+            serial_number: Integer::default(),
+            signature: AlgorithmIdentifier::empty(),
+            issuer: Name::default(),
+            validity: Validity::empty(),
+            subject: Name::default(),
+            public_key: SubjectPublicKeyInfo::empty(),
+            issuer_unique_id: None,
+            subject_unique_id: None,
+            extensions: None,
+        }
     }
 
     fn read_in_place(&mut self, reader: &mut SliceReader<'a>) -> Result<()> {

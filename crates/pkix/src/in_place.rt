@@ -122,6 +122,22 @@ where
     }
 }
 
+/// Reads a part into a place of its own, and returns it. Requires that the reader hasn't failed.
+///
+/// # Errors
+///
+/// Those of [`DecodePart::decode_part`].
+pub(crate) fn read_part<'a, P: ReadInPlace<'a>>(reader: &mut SliceReader<'a>) -> Result<P>
+    requires { (reader.old.failed ≡ false) × (length reader.old.unread ≤ max_length) }
+    ensures { ReadsPart P.bytes P.and_then P.tags result reader.old reader.new }
+{
+    let mut part = P::empty();
+    match part.read_in_place(reader) {
+        Ok(()) => Ok(part),
+        Err(e) => Err(e),
+    }
+}
+
 /// Reads the parts of a record, which are all of the remaining input, into a place.
 fn read_parts<'a, P: ReadInPlace<'a>>(place: &mut P, reader: &mut SliceReader<'a>) -> Result<()>
     requires distinct { P.tags.distinct ≡ true }

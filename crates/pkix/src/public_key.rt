@@ -8,11 +8,11 @@ ghost use Rattle.pkix.specs.Records.{public_key_content, public_key_fault};
 ghost use Rattle.sec1_der.specs.Readers.{ReadsElement};
 
 use crate::AlgorithmIdentifier;
-use crate::in_place::{ReadInPlace, read_record, read_whole};
+use crate::in_place::{ReadInPlace, read_part, read_record, read_whole};
 use der_types::Bits;
 use sec1_der::{
     BackWriter, DecodePart, Distinct, EncodePart, Length, Part, Record, Required, Result,
-    SliceReader, UniquePart, component_len, decode_component,
+    SliceReader, UniquePart, component_len,
 };
 
 /// A SubjectPublicKeyInfo (RFC 5280 section 4.1).
@@ -74,13 +74,16 @@ impl EncodePart for SubjectPublicKeyInfo<'_> {
 
 impl<'a> DecodePart<'a> for SubjectPublicKeyInfo<'a> {
     fn decode_part(reader: &mut SliceReader<'a>) -> Result<Self> {
-        decode_component(reader)
+        read_part(reader)
     }
 }
 
 impl<'a> ReadInPlace<'a> for SubjectPublicKeyInfo<'a> {
     fn empty() -> Self {
-        Self::from_parts(ReadInPlace::empty())
+        SubjectPublicKeyInfo {
+            algorithm: AlgorithmIdentifier::empty(),
+            public_key: Bits::default(),
+        }
     }
 
     fn read_in_place(&mut self, reader: &mut SliceReader<'a>) -> Result<()> {

@@ -6,11 +6,11 @@ ghost use Rattle.sec1_der.specs.PartLaws.{element_begins};
 ghost use Rattle.sec1_der.specs.Faults.{element_fault};
 ghost use Rattle.pkix.specs.Records.{validity_content, validity_fault};
 
-use crate::in_place::{ReadInPlace, read_record};
+use crate::in_place::{ReadInPlace, read_part, read_record};
 use der_types::{Choice, GeneralizedTime, UtcTime};
 use sec1_der::{
     BackWriter, DecodePart, Distinct, EncodePart, Length, Part, Record, Required, Result,
-    SliceReader, UniquePart, component_len, decode_component,
+    SliceReader, UniquePart, component_len,
 };
 
 /// A Time (RFC 5280 section 4.1).
@@ -72,13 +72,16 @@ impl EncodePart for Validity<'_> {
 
 impl<'a> DecodePart<'a> for Validity<'a> {
     fn decode_part(reader: &mut SliceReader<'a>) -> Result<Self> {
-        decode_component(reader)
+        read_part(reader)
     }
 }
 
 impl<'a> ReadInPlace<'a> for Validity<'a> {
     fn empty() -> Self {
-        Self::from_parts(ReadInPlace::empty())
+        Validity {
+            not_before: Time::empty(),
+            not_after: Time::empty(),
+        }
     }
 
     fn read_in_place(&mut self, reader: &mut SliceReader<'a>) -> Result<()> {
