@@ -1,5 +1,5 @@
 //! What is printed of errors.
-use crate::helpers::{assert_equal, assert_printed};
+use crate::helpers::{assert_equal, assert_shows};
 use sec1::Error;
 use sec1::der::{self, ErrorKind};
 
@@ -26,7 +26,7 @@ static TEXTS: [(Error, &str); 6] = [
 #[test]
 fn prints_errors(rt: HostRuntime) {
     for (error, text) in TEXTS.iter() {
-        assert_printed(&rt, format!(in rt.alloc(); "{error}"), text);
+        assert_shows(&rt, error, text);
     }
     let refused_growth = Error::from(der::Error::from(ErrorKind::Memory));
     assert_equal(&rt, &refused_growth, &Error::Memory);

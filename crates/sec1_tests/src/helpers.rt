@@ -135,3 +135,26 @@ pub fn assert_displayed<R: Abort + AllocGlobal>(rt: &R, value: &impl Display, te
     );
     assert_printed_alike(rt, texts, text);
 }
+
+/// Fails the test unless these are the texts by `{:?}`, with a width, a precision, a sign and
+/// zeros, one after the other, and the lines by `{:#?}`: those that rustc prints of a derived
+/// `Debug` of the same fields.
+pub fn assert_debug_options<R: Abort + AllocGlobal, T: Debug>(
+    rt: &R,
+    value: &T,
+    texts: &str,
+    lines: &str,
+) {
+    let alloc = rt.alloc();
+    let printed = format!(in alloc; "{value:?}|{value:5?}|{value:.1?}|{value:+?}|{value:05?}");
+    assert_printed(rt, printed, texts);
+    assert_printed(rt, format!(in alloc; "{value:#?}"), lines);
+}
+
+/// Fails the test unless this is the text by `{:?}`, whatever options are set.
+pub fn assert_debugged<R: Abort + AllocGlobal, T: Debug>(rt: &R, value: &T, text: &str) {
+    let printed = format!(in rt.alloc();
+        "{value:?}|{value:>20?}|{value:.3?}|{value:*^20?}|{value:+?}|{value:05?}|{value:>99?}"
+    );
+    assert_printed_alike(rt, printed, text);
+}

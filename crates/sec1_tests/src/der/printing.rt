@@ -1,6 +1,6 @@
 //! What is printed of values by `{:?}`, and by `{:#?}` as a derived `Debug` prints it; and by `{}`,
 //! whatever options are set.
-use crate::helpers::{assert_displayed, assert_printed, assert_printed_alike};
+use crate::helpers::{assert_debug_options, assert_debugged, assert_displayed, assert_printed};
 use sec1_der::{
     AnyRef, BitStringRef, Context0, Error, ErrorKind, Explicit, Header, IoFault, Length,
     ObjectIdentifier, OctetStringRef, Optional, Required, SmallInteger, Tag, VersionOne,
@@ -8,21 +8,6 @@ use sec1_der::{
 use std::fmt::Debug;
 use std::process::Abort;
 use std::test::Fail;
-
-/// Fails the test unless these are the texts by `{:?}`, with a width, a precision, a sign and
-/// zeros, one after the other, and the lines by `{:#?}`: those that rustc prints of a derived
-/// `Debug` of the same fields.
-fn assert_debug_options<R: Abort + AllocGlobal, T: Debug>(
-    rt: &R,
-    value: &T,
-    texts: &str,
-    lines: &str,
-) {
-    let alloc = rt.alloc();
-    let printed = format!(in alloc; "{value:?}|{value:5?}|{value:.1?}|{value:+?}|{value:05?}");
-    assert_printed(rt, printed, texts);
-    assert_printed(rt, format!(in alloc; "{value:#?}"), lines);
-}
 
 /// Returns the length.
 fn length(rt: &impl Abort, bytes: usize) -> Length {
@@ -128,14 +113,6 @@ fn prints_names(rt: HostRuntime) {
     assert_name(&rt, &VersionOne, "VersionOne");
     assert_name(&rt, &IoFault, "IoFault");
     assert_name(&rt, &ErrorKind::TrailingData, "TrailingData");
-}
-
-/// Fails the test unless this is the text by `{:?}`, whatever options are set.
-fn assert_debugged<R: Abort + AllocGlobal, T: Debug>(rt: &R, value: &T, text: &str) {
-    let printed = format!(in rt.alloc();
-        "{value:?}|{value:>20?}|{value:.3?}|{value:*^20?}|{value:+?}|{value:05?}|{value:>99?}"
-    );
-    assert_printed_alike(rt, printed, text);
 }
 
 #[test]

@@ -114,7 +114,11 @@ type Values = (InnerValues, Option<InnerValues>);
 fn read_pair(rt: &impl Abort, alloc: Global, bytes: &[u8]) -> sec1_der::Result<Values> {
     let pair: Pair = read_and_write(rt, alloc, bytes)?;
     let (first, second) = (pair.first, pair.second);
-    Ok((first.values(), second.map(|inner| inner.values())))
+    let second = match second {
+        Some(inner) => Some(inner.values()),
+        None => None,
+    };
+    Ok((first.values(), second))
 }
 
 /// Returns the identifier whose content is this byte.
