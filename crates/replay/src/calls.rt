@@ -4,6 +4,7 @@
 //! controlled by requests of sizes that no allocator grants. Without it nothing is refused, and
 //! each call is made once.
 
+use crate::words::joined;
 use std::alloc::{AllocError, Global};
 
 /// What a call gave: the length of some bytes and their sum, or the name of an error.
@@ -70,6 +71,25 @@ fn ends<F: FnMut() -> Outcome>(alloc: Global, mut call: F) -> Counts
     ends
 }
 
+/// Returns how many requests were refused that ended the call with Memory, with success and with
+/// another error; nothing if none was refused.
+fn refused(alloc: Global, ends: Counts) -> Result<String, AllocError> {
+    if ends.memory == 0 && ends.granted == 0 && ends.wrong == 0 {
+        return "".to_string(alloc);
+    }
+    format!(in alloc; " {}+{}+{}", ends.memory, ends.granted, ends.wrong)
+}
+
+/// Returns the text of the call of this name that ended so.
+fn told(alloc: Global, name: &str, ends: Counts) -> Result<String, AllocError> {
+    let last = match ends.last {
+        Outcome::Bytes(len, sum) => format!(in alloc; " {name} {len} {sum}"),
+        Outcome::Memory => format!(in alloc; " {name} memory"),
+        Outcome::Other => format!(in alloc; " {name} other"),
+    };
+    joined(alloc, "", [last, refused(alloc, ends)])
+}
+
 /// Returns a text of the call: its name, the length and sum of what it gave, and, where requests
 /// were refused, how many of them ended it with Memory, with success and with another error.
 pub fn tried<F: FnMut() -> Outcome>(
@@ -79,15 +99,5 @@ pub fn tried<F: FnMut() -> Outcome>(
 ) -> Result<String, AllocError>
     requires { F.IsAlwaysCallable call }
 {
-    let ends = ends(alloc, call);
-    let refused = if ends.memory == 0 && ends.granted == 0 && ends.wrong == 0 {
-        "".to_string(alloc)?
-    } else {
-        format!(in alloc; " {}+{}+{}", ends.memory, ends.granted, ends.wrong)?
-    };
-    match ends.last {
-        Outcome::Bytes(len, sum) => format!(in alloc; " {name} {len} {sum}{refused}"),
-        Outcome::Memory => format!(in alloc; " {name} memory{refused}"),
-        Outcome::Other => format!(in alloc; " {name} other{refused}"),
-    }
+    told(alloc, name, ends(alloc, call))
 }

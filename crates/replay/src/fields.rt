@@ -1,5 +1,6 @@
 //! The fields of each structure, separated by blanks.
 
+use crate::words::joined;
 use der_types::{Any, Bits, Choice, Implicit, Unsigned};
 use hex::ToHex;
 use pkix::{
@@ -28,8 +29,8 @@ fn element_or_none(alloc: Global, element: &Option<Any>) -> Result<String, Alloc
 /// Returns the digits of a bit string's content: the number of unused bits, and the bytes.
 fn bits(alloc: Global, bits: &Bits) -> Result<String, AllocError> {
     let unused = bits.unused_bits();
-    let bytes: String = bits.raw_bytes().encode_hex(alloc)?;
-    format!(in alloc; "{unused:02x}{bytes}")
+    let unused = format!(in alloc; "{unused:02x}");
+    joined(alloc, "", [unused, bits.raw_bytes().encode_hex(alloc)])
 }
 
 /// Returns the digits of a bit string's content, or `-` if it is absent.
@@ -50,9 +51,9 @@ fn number(alloc: Global, number: &Unsigned) -> Result<String, AllocError> {
 
 /// Returns the identifier of an algorithm and its parameters.
 fn algorithm(alloc: Global, value: &AlgorithmIdentifier) -> Result<String, AllocError> {
-    let identifier = digits(alloc, value.algorithm.as_bytes())?;
-    let parameters = element_or_none(alloc, &value.parameters)?;
-    format!(in alloc; "{identifier}:{parameters}")
+    let identifier = digits(alloc, value.algorithm.as_bytes());
+    let parameters = element_or_none(alloc, &value.parameters);
+    joined(alloc, ":", [identifier, parameters])
 }
 
 /// Returns the type of a time and its characters.
@@ -78,23 +79,25 @@ fn key_digits(alloc: Global, bytes: &[u8]) -> Result<String, AllocError> {
 /// Returns the private key, the curve and the public key of an EC private key, the last two `none`
 /// if absent.
 pub(crate) fn ec_private_key(alloc: Global, key: &EcPrivateKey) -> Result<String, AllocError> {
-    let private_key = key_digits(alloc, key.private_key)?;
+    let private_key = key_digits(alloc, key.private_key);
     let curve = match key.parameters {
-        Some(EcParameters::NamedCurve(curve)) => format!(in alloc; "{curve}")?,
-        None => "none".to_string(alloc)?,
+        Some(EcParameters::NamedCurve(curve)) => curve.to_string(alloc),
+        None => "none".to_string(alloc),
     };
     let public_key = match key.public_key {
-        Some(bytes) => key_digits(alloc, bytes)?,
-        None => "none".to_string(alloc)?,
+        Some(bytes) => key_digits(alloc, bytes),
+        None => "none".to_string(alloc),
     };
-    format!(in alloc; "{private_key} {curve} {public_key}")
+    joined(alloc, " ", [private_key, curve, public_key])
 }
 
 /// Returns the fields of a signature.
 pub(crate) fn signature(alloc: Global, value: &EcdsaSigValue) -> Result<String, AllocError> {
-    let r = number(alloc, &value.r)?;
-    let s = number(alloc, &value.s)?;
-    format!(in alloc; "{r} {s}")
+    joined(
+        alloc,
+        " ",
+        [number(alloc, &value.r), number(alloc, &value.s)],
+    )
 }
 
 /// Returns the fields of a public key.
@@ -102,10 +105,10 @@ pub(crate) fn public_key_info(
     alloc: Global,
     value: &SubjectPublicKeyInfo,
 ) -> Result<String, AllocError> {
-    let identifier = digits(alloc, value.algorithm.algorithm.as_bytes())?;
-    let parameters = element_or_none(alloc, &value.algorithm.parameters)?;
-    let bits = bits(alloc, &value.public_key)?;
-    format!(in alloc; "{identifier} {parameters} {bits}")
+    let identifier = digits(alloc, value.algorithm.algorithm.as_bytes());
+    let parameters = element_or_none(alloc, &value.algorithm.parameters);
+    let bits = bits(alloc, &value.public_key);
+    joined(alloc, " ", [identifier, parameters, bits])
 }
 
 /// Returns the digits of the attributes of a container, or `-` if they are absent.
@@ -116,16 +119,39 @@ fn attributes(alloc: Global, value: &Option<Attributes>) -> Result<String, Alloc
     }
 }
 
+/// Returns the fields that containers of both versions have.
+fn container(
+    alloc: Global,
+    algorithm: &AlgorithmIdentifier,
+    key: &[u8],
+    value: &Option<Attributes>,
+) -> Result<String, AllocError> {
+    let identifier = digits(alloc, algorithm.algorithm.as_bytes());
+    let parameters = element_or_none(alloc, &algorithm.parameters);
+    let key = digits(alloc, key);
+    joined(
+        alloc,
+        " ",
+        [identifier, parameters, key, attributes(alloc, value)],
+    )
+}
+
 /// Returns the fields of a container of version 0.
 pub(crate) fn private_key_info(
     alloc: Global,
     value: &PrivateKeyInfo,
 ) -> Result<String, AllocError> {
-    let identifier = digits(alloc, value.algorithm.algorithm.as_bytes())?;
-    let parameters = element_or_none(alloc, &value.algorithm.parameters)?;
-    let key = digits(alloc, value.private_key.bytes)?;
-    let attributes = attributes(alloc, &value.attributes)?;
-    format!(in alloc; "0 {identifier} {parameters} {key} {attributes} -")
+    let fields = container(
+        alloc,
+        &value.algorithm,
+        value.private_key.bytes,
+        &value.attributes,
+    );
+    joined(
+        alloc,
+        " ",
+        ["0".to_string(alloc), fields, "-".to_string(alloc)],
+    )
 }
 
 /// Returns the fields of a container of version 1.
@@ -133,12 +159,14 @@ pub(crate) fn one_asymmetric_key(
     alloc: Global,
     value: &OneAsymmetricKey,
 ) -> Result<String, AllocError> {
-    let identifier = digits(alloc, value.algorithm.algorithm.as_bytes())?;
-    let parameters = element_or_none(alloc, &value.algorithm.parameters)?;
-    let key = digits(alloc, value.private_key.bytes)?;
-    let attributes = attributes(alloc, &value.attributes)?;
-    let public_key = bits_or_none(alloc, &value.public_key)?;
-    format!(in alloc; "1 {identifier} {parameters} {key} {attributes} {public_key}")
+    let fields = container(
+        alloc,
+        &value.algorithm,
+        value.private_key.bytes,
+        &value.attributes,
+    );
+    let public_key = bits_or_none(alloc, &value.public_key);
+    joined(alloc, " ", ["1".to_string(alloc), fields, public_key])
 }
 
 /// Returns the number of the version of a certificate, from 1 to 3.
@@ -154,51 +182,51 @@ fn version(value: &TbsCertificate) -> u8 {
 
 /// Returns the fields from the version to the algorithm of the signature.
 fn front(alloc: Global, value: &TbsCertificate) -> Result<String, AllocError> {
-    let version = version(value);
-    let serial = digits(alloc, value.serial_number.as_bytes())?;
-    let signature = algorithm(alloc, &value.signature)?;
-    format!(in alloc; "{version} {serial} {signature}")
+    let version = version(value).to_string(alloc);
+    let serial = digits(alloc, value.serial_number.as_bytes());
+    joined(
+        alloc,
+        " ",
+        [version, serial, algorithm(alloc, &value.signature)],
+    )
 }
 
 /// Returns the times in which a certificate is valid.
 fn validity(alloc: Global, value: &TbsCertificate) -> Result<String, AllocError> {
-    let not_before = time(alloc, &value.validity.not_before)?;
-    let not_after = time(alloc, &value.validity.not_after)?;
-    format!(in alloc; "{not_before} {not_after}")
+    let not_before = time(alloc, &value.validity.not_before);
+    let not_after = time(alloc, &value.validity.not_after);
+    joined(alloc, " ", [not_before, not_after])
 }
 
 /// Returns the fields from the version to the subject.
 fn names(alloc: Global, value: &TbsCertificate) -> Result<String, AllocError> {
-    let front = front(alloc, value)?;
-    let issuer = digits(alloc, value.issuer.as_bytes())?;
-    let validity = validity(alloc, value)?;
-    let subject = digits(alloc, value.subject.as_bytes())?;
-    format!(in alloc; "{front} {issuer} {validity} {subject}")
+    let front = front(alloc, value);
+    let issuer = digits(alloc, value.issuer.as_bytes());
+    let subject = digits(alloc, value.subject.as_bytes());
+    joined(alloc, " ", [front, issuer, validity(alloc, value), subject])
 }
 
 /// Returns the unique identifiers and the extensions.
 fn additions(alloc: Global, value: &TbsCertificate) -> Result<String, AllocError> {
-    let issuer = bits_or_none(alloc, &value.issuer_unique_id)?;
-    let subject = bits_or_none(alloc, &value.subject_unique_id)?;
+    let issuer = bits_or_none(alloc, &value.issuer_unique_id);
+    let subject = bits_or_none(alloc, &value.subject_unique_id);
     let extensions = match &value.extensions {
-        Some(extensions) => digits(alloc, extensions.value.as_bytes())?,
-        None => "-".to_string(alloc)?,
+        Some(extensions) => digits(alloc, extensions.value.as_bytes()),
+        None => "-".to_string(alloc),
     };
-    format!(in alloc; "{issuer} {subject} {extensions}")
+    joined(alloc, " ", [issuer, subject, extensions])
 }
 
 /// Returns the algorithm and the value of the signature of a certificate.
 fn signed(alloc: Global, value: &Certificate) -> Result<String, AllocError> {
-    let algorithm = algorithm(alloc, &value.signature_algorithm)?;
-    let signature = bits(alloc, &value.signature)?;
-    format!(in alloc; "{algorithm} {signature}")
+    let algorithm = algorithm(alloc, &value.signature_algorithm);
+    joined(alloc, " ", [algorithm, bits(alloc, &value.signature)])
 }
 
 /// Returns the fields of a certificate.
 pub(crate) fn certificate(alloc: Global, value: &Certificate) -> Result<String, AllocError> {
-    let names = names(alloc, &value.tbs_certificate)?;
-    let key = public_key_info(alloc, &value.tbs_certificate.public_key)?;
-    let additions = additions(alloc, &value.tbs_certificate)?;
-    let signed = signed(alloc, value)?;
-    format!(in alloc; "{names} {key} {additions} {signed}")
+    let names = names(alloc, &value.tbs_certificate);
+    let key = public_key_info(alloc, &value.tbs_certificate.public_key);
+    let additions = additions(alloc, &value.tbs_certificate);
+    joined(alloc, " ", [names, key, additions, signed(alloc, value)])
 }

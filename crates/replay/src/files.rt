@@ -1,19 +1,19 @@
 //! Keys and documents in files.
 
-use crate::calls::{Outcome, sum_of, tried};
+use crate::calls::tried;
 use crate::keys::{Copied, of_der, of_der_written, of_key, of_written, pattern};
-use crate::streams::error_name;
-use crate::words::{number, word};
+use crate::streams::{der_end, end, error_name, kind_name, moved};
+use crate::words::{joined, number, word};
 use sec1::der::SecretDocument;
 use sec1::{DecodeEcPrivateKey, EcPrivateKey, EncodeEcPrivateKey, Error};
 use std::alloc::{AllocError, Global};
 use std::rt::Files;
 
-/// Returns the text of the bytes of a file.
-fn found(alloc: Global, bytes: &[u8]) -> Result<String, AllocError> {
-    match sum_of(bytes) {
-        Outcome::Bytes(len, sum) => format!(in alloc; "{len} {sum}"),
-        _ => "other".to_string(alloc),
+/// Returns the text of the key in a file.
+fn read_key<H: Files>(rt: &H, alloc: Global, path: &str) -> Result<String, AllocError> {
+    match Copied::read_sec1_der_file(rt, alloc, path) {
+        Ok(key) => moved(alloc, &key.bytes),
+        Err(error) => error_name(alloc, &error),
     }
 }
 
@@ -24,14 +24,11 @@ pub fn read<H: Files>(rt: &H, alloc: Global, rest: &[u8]) -> Result<String, Allo
         return "not a text".to_string(alloc);
     };
     if kind == b"key".as_slice() {
-        return match Copied::read_sec1_der_file(rt, alloc, path) {
-            Ok(key) => found(alloc, &key.bytes),
-            Err(error) => error_name(alloc, &error),
-        };
+        return read_key(rt, alloc, path);
     }
     match SecretDocument::read_der_file(rt, alloc, path) {
-        Ok(document) => found(alloc, document.as_bytes()),
-        Err(error) => format!(in alloc; "{:?}", error.kind),
+        Ok(document) => moved(alloc, document.as_bytes()),
+        Err(error) => kind_name(alloc, &error),
     }
 }
 
@@ -52,6 +49,17 @@ fn document_of(alloc: Global, private_len: &[u8]) -> sec1::Result<SecretDocument
     key.document(alloc)
 }
 
+/// Returns how the bytes of the document are written as a key.
+fn write_key<H: Files>(
+    rt: &H,
+    alloc: Global,
+    document: &SecretDocument,
+    path: &str,
+) -> Result<String, AllocError> {
+    let bytes = Vec::from_slice(alloc, document.as_bytes())?;
+    end(alloc, Copied { bytes }.write_sec1_der_file(rt, alloc, path))
+}
+
 /// Returns the line for a file into which a `document` or a `key` is written.
 pub fn write<H: Files>(rt: &H, alloc: Global, rest: &[u8]) -> Result<String, AllocError> {
     let (kind, rest) = word(rest);
@@ -63,18 +71,9 @@ pub fn write<H: Files>(rt: &H, alloc: Global, rest: &[u8]) -> Result<String, All
         return "not written".to_string(alloc);
     };
     if kind == b"key".as_slice() {
-        let key = Copied {
-            bytes: Vec::from_slice(alloc, document.as_bytes())?,
-        };
-        return match key.write_sec1_der_file(rt, alloc, path) {
-            Ok(()) => "Ok".to_string(alloc),
-            Err(error) => error_name(alloc, &error),
-        };
+        return write_key(rt, alloc, &document, path);
     }
-    match document.write_der_file(rt, path) {
-        Ok(()) => "Ok".to_string(alloc),
-        Err(error) => format!(in alloc; "{:?}", error.kind),
-    }
+    der_end(alloc, document.write_der_file(rt, path))
 }
 
 /// Returns the line for the calls on a file of a key. `rest` has the length of its private key and
@@ -94,21 +93,21 @@ pub fn answer<H: Files>(rt: &H, alloc: Global, rest: &[u8]) -> Result<String, Al
         alloc,
         "write_sec1_der_file",
         || of_written(key.write_sec1_der_file(rt, alloc, path)),
-    )?;
+    );
     let read = tried(
         alloc,
         "read_sec1_der_file",
         || of_key(Copied::read_sec1_der_file(rt, alloc, path)),
-    )?;
+    );
     let put = tried(
         alloc,
         "write_der_file",
         || of_der_written(document.write_der_file(rt, path)),
-    )?;
+    );
     let got = tried(
         alloc,
         "read_der_file",
         || of_der(SecretDocument::read_der_file(rt, alloc, path)),
-    )?;
-    format!(in alloc; "file{wrote}{read}{put}{got}")
+    );
+    joined(alloc, "", ["file".to_string(alloc), wrote, read, put, got])
 }

@@ -2,7 +2,7 @@
 ghost use Rattle.std.specs.Prelude.{◌≡◌, ⊤};
 
 use crate::calls::{Outcome, sum_of, tried};
-use crate::words::{number, word};
+use crate::words::{joined, number, word};
 use sec1::der::{ErrorKind, ObjectIdentifier, SecretDocument, StdReader, StdWriter};
 use sec1::{DecodeEcPrivateKey, EcParameters, EcPrivateKey, EncodeEcPrivateKey, Error};
 use std::alloc::{AllocError, Global};
@@ -119,19 +119,19 @@ fn cloned_document(alloc: Global, key: &EcPrivateKey) -> Outcome {
 
 /// Returns the ends of the calls of the key alone.
 fn ends(alloc: Global, key: &EcPrivateKey) -> Result<String, AllocError> {
-    let der = tried(alloc, "to_der", || of_bytes(key.to_der(alloc)))?;
+    let der = tried(alloc, "to_der", || of_bytes(key.to_der(alloc)));
     let borrowed = tried(
         alloc,
         "document_ref",
         || of_document(key.document_ref(alloc)),
-    )?;
-    let cloned = tried(alloc, "document", || cloned_document(alloc, key))?;
+    );
+    let cloned = tried(alloc, "document", || cloned_document(alloc, key));
     let encoded = tried(
         alloc,
         "encode_msg",
         || of_der(SecretDocument::encode_msg(alloc, key)),
-    )?;
-    format!(in alloc; "{der}{borrowed}{cloned}{encoded}")
+    );
+    joined(alloc, "", [der, borrowed, cloned, encoded])
 }
 
 /// Returns what is read from this reader, and what is left in it.
@@ -152,15 +152,15 @@ fn read_ends(alloc: Global, bytes: &[u8]) -> Result<String, AllocError> {
         alloc,
         "from_der",
         || of_der(SecretDocument::from_der(alloc, bytes)),
-    )?;
-    let read = tried(alloc, "read_der_from", || read_document(alloc, bytes))?;
+    );
+    let read = tried(alloc, "read_der_from", || read_document(alloc, bytes));
     let copied = tried(
         alloc,
         "from_sec1_der",
         || of_key(Copied::from_sec1_der(alloc, bytes)),
-    )?;
-    let streamed = tried(alloc, "read_sec1_der_from", || read_key(alloc, bytes))?;
-    format!(in alloc; "{taken}{read}{copied}{streamed}")
+    );
+    let streamed = tried(alloc, "read_sec1_der_from", || read_key(alloc, bytes));
+    joined(alloc, "", [taken, read, copied, streamed])
 }
 
 /// Returns what the key writes, into a vector that has the room for it.
@@ -180,14 +180,14 @@ fn write_ends(alloc: Global, bytes: &[u8]) -> Result<String, AllocError> {
     let key = Copied {
         bytes: Vec::from_slice(alloc, bytes)?,
     };
-    let document = tried(alloc, "to_sec1_der", || of_document(key.to_sec1_der(alloc)))?;
+    let document = tried(alloc, "to_sec1_der", || of_document(key.to_sec1_der(alloc)));
     let mut room = Vec::from_slice(alloc, bytes)?;
     let streamed = tried(
         alloc,
         "write_sec1_der_to",
         || written(alloc, &key, &mut room),
-    )?;
-    format!(in alloc; "{document}{streamed}")
+    );
+    joined(alloc, "", [document, streamed])
 }
 
 /// The parts of a key that a line describes.
@@ -241,11 +241,10 @@ fn public_key_of(alloc: Global, len: &[u8]) -> Result<Option<Vec<u8>>, AllocErro
 pub fn answer(alloc: Global, rest: &[u8]) -> Result<String, AllocError> {
     let described = Described::read(alloc, rest)?;
     let key = described.key();
-    let ends = ends(alloc, &key)?;
+    let ends = ends(alloc, &key);
     let Ok(der) = key.to_der(alloc) else {
         return "not written".to_string(alloc);
     };
-    let read = read_ends(alloc, &der)?;
-    let written = write_ends(alloc, &der)?;
-    format!(in alloc; "key{ends}{read}{written}")
+    let (read, written) = (read_ends(alloc, &der), write_ends(alloc, &der));
+    joined(alloc, "", ["key".to_string(alloc), ends, read, written])
 }

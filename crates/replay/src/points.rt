@@ -3,7 +3,7 @@ ghost use Rattle.std.specs.Prelude.{◌<◌, ◌^◌};
 ghost use Rattle.sec1.specs.Points.{Fits};
 
 use crate::calls::{Outcome, sum_of, tried};
-use crate::words::{number, word};
+use crate::words::{joined, number, word};
 use sec1::{EncodedPoint, Error};
 use serde_json::Value;
 use std::alloc::{AllocError, Global};
@@ -44,15 +44,19 @@ fn ends<const N: usize, const L: usize>(
     let bytes = tried(alloc, "to_bytes", || match point.to_bytes(alloc) {
         Ok(bytes) => sum_of(bytes.as_slice()),
         Err(error) => failed(error),
-    })?;
-    let lower = tried(alloc, "to_lower_hex", || of_text(point.to_lower_hex(alloc)))?;
-    let upper = tried(alloc, "to_upper_hex", || of_text(point.to_upper_hex(alloc)))?;
-    let json = tried(alloc, "to_json", || of_json(point.to_json(alloc)))?;
+    });
+    let lower = tried(alloc, "to_lower_hex", || of_text(point.to_lower_hex(alloc)));
+    let upper = tried(alloc, "to_upper_hex", || of_text(point.to_upper_hex(alloc)));
+    let json = tried(alloc, "to_json", || of_json(point.to_json(alloc)));
     let shown = tried(alloc, "Display", || match format!(in alloc; "{point}") {
         Ok(text) => sum_of(text.as_bytes()),
         Err(_) => Outcome::Memory,
-    })?;
-    format!(in alloc; "point{bytes}{lower}{upper}{json}{shown}")
+    });
+    joined(
+        alloc,
+        "",
+        ["point".to_string(alloc), bytes, lower, upper, json, shown],
+    )
 }
 
 /// Returns the ends of the calls of the point with these bytes.
@@ -72,19 +76,24 @@ fn ends_of<const N: usize, const L: usize>(
 /// Returns the line for a point.
 pub fn answer(alloc: Global, rest: &[u8]) -> Result<String, AllocError> {
     let (size, digits) = word(rest);
-    let Ok(bytes) = hex::decode(alloc, digits) else {
-        return "not hexadecimal".to_string(alloc);
-    };
-    match number(size) {
-        5 => ends_of::<5, 11>(alloc, &bytes),
-        20 => ends_of::<20, 41>(alloc, &bytes),
-        24 => ends_of::<24, 49>(alloc, &bytes),
-        28 => ends_of::<28, 57>(alloc, &bytes),
-        32 => ends_of::<32, 65>(alloc, &bytes),
-        40 => ends_of::<40, 81>(alloc, &bytes),
-        48 => ends_of::<48, 97>(alloc, &bytes),
-        64 => ends_of::<64, 129>(alloc, &bytes),
-        66 => ends_of::<66, 133>(alloc, &bytes),
+    match hex::decode(alloc, digits) {
+        Ok(bytes) => ends_at(alloc, number(size), &bytes),
+        Err(_) => "not hexadecimal".to_string(alloc),
+    }
+}
+
+/// Returns the ends of the calls of the point with these bytes, at field elements of `size` bytes.
+fn ends_at(alloc: Global, size: usize, bytes: &[u8]) -> Result<String, AllocError> {
+    match size {
+        5 => ends_of::<5, 11>(alloc, bytes),
+        20 => ends_of::<20, 41>(alloc, bytes),
+        24 => ends_of::<24, 49>(alloc, bytes),
+        28 => ends_of::<28, 57>(alloc, bytes),
+        32 => ends_of::<32, 65>(alloc, bytes),
+        40 => ends_of::<40, 81>(alloc, bytes),
+        48 => ends_of::<48, 97>(alloc, bytes),
+        64 => ends_of::<64, 129>(alloc, bytes),
+        66 => ends_of::<66, 133>(alloc, bytes),
         _ => "no such size".to_string(alloc),
     }
 }

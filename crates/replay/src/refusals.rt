@@ -1,7 +1,8 @@
 //! A key type that refuses by errors of its own, over memory, streams and files.
 ghost use Rattle.std.specs.Prelude.{◌≡◌, ⊤};
 
-use crate::streams::error_name;
+use crate::streams::end;
+use crate::words::joined;
 use sec1::der::{SecretDocument, StdReader, StdWriter};
 use sec1::{DecodeEcPrivateKey, EncodeEcPrivateKey, Error};
 use std::alloc::{AllocError, Global};
@@ -31,31 +32,24 @@ impl EncodeEcPrivateKey for Refused {
     }
 }
 
-/// Returns the name of what the call ended with.
-fn end<T: Drop>(alloc: Global, res: sec1::Result<T>) -> Result<String, AllocError> {
-    match res {
-        Ok(_) => "Ok".to_string(alloc),
-        Err(error) => error_name(alloc, &error),
-    }
-}
-
 /// Returns how it is read from memory and from streams.
 fn read(alloc: Global) -> Result<String, AllocError> {
-    let from = end(alloc, Refused::from_sec1_der(alloc, b"\x04\x01\xAA"))?;
+    let from = end(alloc, Refused::from_sec1_der(alloc, b"\x04\x01\xAA"));
     let mut reader = StdReader::new(b"\x04\x01\xAA".as_slice());
-    let read = end(alloc, Refused::read_sec1_der_from(alloc, &mut reader))?;
-    let left = reader.into_inner().len();
+    let read = end(alloc, Refused::read_sec1_der_from(alloc, &mut reader));
+    let left = reader.into_inner().len().to_string(alloc);
     let mut reader = StdReader::new(b"\x04\x02\xAA".as_slice());
-    let short = end(alloc, Refused::read_sec1_der_from(alloc, &mut reader))?;
-    format!(in alloc; "{from} {read} {left} {short}")
+    let short = end(alloc, Refused::read_sec1_der_from(alloc, &mut reader));
+    joined(alloc, " ", [from, read, left, short])
 }
 
 /// Returns how it is written into memory and into a stream.
 fn written(alloc: Global) -> Result<String, AllocError> {
-    let to = end(alloc, Refused.to_sec1_der(alloc))?;
+    let to = end(alloc, Refused.to_sec1_der(alloc));
     let mut writer = StdWriter::new(Vec::new(alloc));
-    let written = end(alloc, Refused.write_sec1_der_to(alloc, &mut writer))?;
-    format!(in alloc; "{to} {written} {}", writer.into_inner().len())
+    let written = end(alloc, Refused.write_sec1_der_to(alloc, &mut writer));
+    let len = writer.into_inner().len().to_string(alloc);
+    joined(alloc, " ", [to, written, len])
 }
 
 /// Returns the line for this key type over memory, a stream and the file at this path.
@@ -63,9 +57,13 @@ pub fn answer<H: Files>(rt: &H, alloc: Global, rest: &[u8]) -> Result<String, Al
     let Ok(path) = str::from_utf8(rest) else {
         return "not a text".to_string(alloc);
     };
-    let read = read(alloc)?;
-    let file = end(alloc, Refused::read_sec1_der_file(rt, alloc, path))?;
-    let written = written(alloc)?;
-    let filed = end(alloc, Refused.write_sec1_der_file(rt, alloc, path))?;
-    format!(in alloc; "refuse {read} {file} {written} {filed}")
+    let read = read(alloc);
+    let file = end(alloc, Refused::read_sec1_der_file(rt, alloc, path));
+    let written = written(alloc);
+    let filed = end(alloc, Refused.write_sec1_der_file(rt, alloc, path));
+    joined(
+        alloc,
+        " ",
+        ["refuse".to_string(alloc), read, file, written, filed],
+    )
 }

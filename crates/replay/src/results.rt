@@ -3,11 +3,9 @@ ghost use Rattle.std.specs.Prelude.{◌<◌, ◌^◌};
 ghost use Rattle.sec1.specs.Points.{Fits};
 
 use crate::keys::pattern;
-use crate::streams::error_name;
-use crate::words::{number, word};
-use sec1::der::{
-    Error, Length, OctetStringRef, SecretDocument, SliceReader, StdReader, check_tree,
-};
+use crate::streams::{der_end, error_name, kind_name};
+use crate::words::{joined, number, word};
+use sec1::der::{self, Length, OctetStringRef, SecretDocument, SliceReader, StdReader, check_tree};
 use sec1::{EcPrivateKey, EncodedPoint};
 use serde_json::Value;
 use std::alloc::{AllocError, Global};
@@ -32,18 +30,20 @@ pub fn encode(alloc: Global, rest: &[u8]) -> Result<String, AllocError> {
     let mut buffer = pattern(alloc, number(room))?;
     buffer.fill(0xAA);
     let wrote = match key.encode_to_slice(&mut buffer) {
-        Ok(count) => format!(in alloc; "{count}")?,
-        Err(error) => error_name(alloc, &error)?,
+        Ok(count) => count.to_string(alloc),
+        Err(error) => error_name(alloc, &error),
     };
     let is_read = EcPrivateKey::try_from(buffer.as_slice()).is_ok();
-    format!(in alloc; "encode {wrote} {} read {is_read}", digits(alloc, &buffer)?)
+    let read = format!(in alloc; "read {is_read}");
+    let bytes = digits(alloc, &buffer);
+    joined(alloc, " ", ["encode".to_string(alloc), wrote, bytes, read])
 }
 
-/// Returns the name of the kind of the error, or `Ok`.
-fn end<T: Drop>(alloc: Global, res: Result<T, Error>) -> Result<String, AllocError> {
-    match res {
-        Ok(_) => "Ok".to_string(alloc),
-        Err(error) => format!(in alloc; "{:?}", error.kind),
+/// Returns the length of the document, or the name of the kind of the error.
+fn length(alloc: Global, made: der::Result<SecretDocument>) -> Result<String, AllocError> {
+    match made {
+        Ok(document) => document.len().to_string(alloc),
+        Err(error) => kind_name(alloc, &error),
     }
 }
 
@@ -53,28 +53,33 @@ pub fn document(alloc: Global, rest: &[u8]) -> Result<String, AllocError> {
         return "not hexadecimal".to_string(alloc);
     };
     let tree = match check_tree(&bytes) {
-        Ok(count) => format!(in alloc; "{count}")?,
-        Err(error) => format!(in alloc; "{:?}", error.kind)?,
+        Ok(count) => count.to_string(alloc),
+        Err(error) => kind_name(alloc, &error),
     };
     let mut reader = StdReader::new(bytes.as_slice());
-    let streamed = match SecretDocument::read_der_from(alloc, &mut reader) {
-        Ok(document) => format!(in alloc; "{}", document.len())?,
-        Err(error) => format!(in alloc; "{:?}", error.kind)?,
-    };
-    match SecretDocument::from_der(alloc, &bytes) {
-        Ok(document) => format!(in alloc; "document {} {tree} {streamed}", document.len()),
-        Err(error) => format!(in alloc; "document {:?} {tree} {streamed}", error.kind),
-    }
+    let streamed = length(alloc, SecretDocument::read_der_from(alloc, &mut reader));
+    let taken = length(alloc, SecretDocument::from_der(alloc, &bytes));
+    joined(
+        alloc,
+        " ",
+        ["document".to_string(alloc), taken, tree, streamed],
+    )
+}
+
+/// Returns whether the reader has failed, and the tag byte that is next.
+fn state(alloc: Global, reader: &SliceReader) -> Result<String, AllocError> {
+    let (is_failed, peeked) = (reader.is_failed(), reader.peek_tag_byte());
+    format!(in alloc; "{is_failed} {peeked:?}")
 }
 
 /// Returns how each call of a reader ends.
 fn ends(alloc: Global, reader: &mut SliceReader, one: Length) -> Result<String, AllocError> {
-    let string = end(alloc, reader.decode::<OctetStringRef>())?;
-    let field = end(alloc, reader.context_specific::<OctetStringRef>(0))?;
-    let slice = end(alloc, reader.read_slice(one))?;
-    let nested = end(alloc, reader.read_nested(one))?;
-    let finished = end(alloc, reader.finish())?;
-    format!(in alloc; "{string} {field} {slice} {nested} {finished}")
+    let string = der_end(alloc, reader.decode::<OctetStringRef>());
+    let field = der_end(alloc, reader.context_specific::<OctetStringRef>(0));
+    let slice = der_end(alloc, reader.read_slice(one));
+    let nested = der_end(alloc, reader.read_nested(one));
+    let finished = der_end(alloc, reader.finish());
+    joined(alloc, " ", [string, field, slice, nested, finished])
 }
 
 /// Returns the line for a reader over these bytes that reads an octet string, and of which each
@@ -87,13 +92,16 @@ pub fn failed(alloc: Global, rest: &[u8]) -> Result<String, AllocError> {
         return "no length".to_string(alloc);
     };
     let mut reader = SliceReader::new(&bytes);
-    let first = end(alloc, reader.decode::<OctetStringRef>())?;
-    let is_failed = reader.is_failed();
+    let first = der_end(alloc, reader.decode::<OctetStringRef>());
     let left = reader.remaining_len();
-    let peeked = reader.peek_tag_byte();
-    let ends = ends(alloc, &mut reader, one)?;
-    let same = reader.remaining_len() == left;
-    format!(in alloc; "failed {first} {is_failed} {peeked:?} {ends} {same}")
+    let state = state(alloc, &reader);
+    let ends = ends(alloc, &mut reader, one);
+    let same = (reader.remaining_len() == left).to_string(alloc);
+    joined(
+        alloc,
+        " ",
+        ["failed".to_string(alloc), first, state, ends, same],
+    )
 }
 
 /// Returns the digits of a coordinate, or `none`.
@@ -119,33 +127,37 @@ fn parts_of<const N: usize, const L: usize>(
         Ok(point) => point,
         Err(error) => return error_name(alloc, &error),
     };
-    let tag = point.tag();
-    let len = point.len();
-    let x = coordinate(alloc, point.x())?;
-    let y = coordinate(alloc, point.y())?;
-    let compressed = digits(alloc, point.compress().as_bytes())?;
-    let hybrid = digits(alloc, point.to_hybrid().as_bytes())?;
-    format!(in alloc; "parts {tag:?} {len} {x} {y} {compressed} {hybrid}")
+    let (tag, len) = (point.tag(), point.len());
+    let front = format!(in alloc; "parts {tag:?} {len}");
+    let (x, y) = (coordinate(alloc, point.x()), coordinate(alloc, point.y()));
+    let compressed = digits(alloc, point.compress().as_bytes());
+    let hybrid = digits(alloc, point.to_hybrid().as_bytes());
+    joined(alloc, " ", [front, x, y, compressed, hybrid])
 }
 
 /// Returns the line for the parts of a point.
 pub fn parts(alloc: Global, rest: &[u8]) -> Result<String, AllocError> {
     let (size, point) = word(rest);
-    let Ok(bytes) = hex::decode(alloc, point) else {
-        return "not hexadecimal".to_string(alloc);
-    };
-    match number(size) {
-        1 => parts_of::<1, 3>(alloc, &bytes),
-        2 => parts_of::<2, 5>(alloc, &bytes),
-        5 => parts_of::<5, 11>(alloc, &bytes),
-        20 => parts_of::<20, 41>(alloc, &bytes),
-        24 => parts_of::<24, 49>(alloc, &bytes),
-        28 => parts_of::<28, 57>(alloc, &bytes),
-        32 => parts_of::<32, 65>(alloc, &bytes),
-        40 => parts_of::<40, 81>(alloc, &bytes),
-        48 => parts_of::<48, 97>(alloc, &bytes),
-        64 => parts_of::<64, 129>(alloc, &bytes),
-        66 => parts_of::<66, 133>(alloc, &bytes),
+    match hex::decode(alloc, point) {
+        Ok(bytes) => parts_at(alloc, number(size), &bytes),
+        Err(_) => "not hexadecimal".to_string(alloc),
+    }
+}
+
+/// Returns the parts of the point with these bytes, at field elements of `size` bytes.
+fn parts_at(alloc: Global, size: usize, bytes: &[u8]) -> Result<String, AllocError> {
+    match size {
+        1 => parts_of::<1, 3>(alloc, bytes),
+        2 => parts_of::<2, 5>(alloc, bytes),
+        5 => parts_of::<5, 11>(alloc, bytes),
+        20 => parts_of::<20, 41>(alloc, bytes),
+        24 => parts_of::<24, 49>(alloc, bytes),
+        28 => parts_of::<28, 57>(alloc, bytes),
+        32 => parts_of::<32, 65>(alloc, bytes),
+        40 => parts_of::<40, 81>(alloc, bytes),
+        48 => parts_of::<48, 97>(alloc, bytes),
+        64 => parts_of::<64, 129>(alloc, bytes),
+        66 => parts_of::<66, 133>(alloc, bytes),
         _ => "no such size".to_string(alloc),
     }
 }
@@ -161,18 +173,30 @@ fn found<const N: usize, const L: usize>(
     }
 }
 
-/// Returns the text by `{}`, or `different` if another is printed with options.
-fn printed<T: Display>(alloc: Global, value: &T) -> Result<String, AllocError> {
-    let plain = format!(in alloc; "{value}")?;
-    let texts = format!(in alloc;
+/// Returns the texts by `{}` with options.
+fn styled<T: Display>(alloc: Global, value: &T) -> Result<String, AllocError> {
+    format!(in alloc;
         "{value:#}|{value:.1}|{value:.3}|{value:>9}|{value:<+09}|{value:>60}|{value:>200}"
-    )?;
+    )
+}
+
+/// Returns `true` if each text between two `|` of `texts` is this one.
+fn are_all(texts: &str, wanted: &str) -> bool {
     for text in texts.split('|') {
-        if text != plain.as_str() {
-            return "different".to_string(alloc);
+        if text != wanted {
+            return false;
         }
     }
-    Ok(plain)
+    true
+}
+
+/// Returns the text by `{}`, or `different` if another is printed with options.
+fn printed<T: Display>(alloc: Global, value: &T) -> Result<String, AllocError> {
+    let plain = value.to_string(alloc)?;
+    if are_all(&styled(alloc, value)?, &plain) {
+        return Ok(plain);
+    }
+    "different".to_string(alloc)
 }
 
 /// Returns what this text is as a point, and what a string of it in JSON is; then what the point
@@ -183,12 +207,21 @@ fn text_of<const N: usize, const L: usize>(alloc: Global, text: &str) -> Result<
 {
     let read = EncodedPoint::<N, L>::from_str(text);
     let shown = match &read {
-        Ok(point) => printed(alloc, point)?,
-        Err(_) => "none".to_string(alloc)?,
+        Ok(point) => printed(alloc, point),
+        Err(_) => "none".to_string(alloc),
     };
     let json = Value::from(String::from_str(alloc, text)?);
-    let from_json = found(alloc, EncodedPoint::<N, L>::from_json(&json))?;
-    format!(in alloc; "text {} {from_json} {shown}", found(alloc, read)?)
+    let from_json = found(alloc, EncodedPoint::<N, L>::from_json(&json));
+    joined(
+        alloc,
+        " ",
+        [
+            "text".to_string(alloc),
+            found(alloc, read),
+            from_json,
+            shown,
+        ],
+    )
 }
 
 /// Returns the line for a text that is read as a point.

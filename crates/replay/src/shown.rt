@@ -3,9 +3,19 @@ ghost use Rattle.std.specs.Prelude.{◌<◌, ◌^◌};
 ghost use Rattle.sec1.specs.Points.{Fits};
 
 use crate::keys::Described;
-use crate::words::{number, word};
+use crate::words::{joined, number, word};
+use sec1::der::SecretDocument;
 use sec1::{EcPrivateKey, EncodedPoint};
 use std::alloc::{AllocError, Global};
+
+/// Returns the texts of a key and of its document.
+fn texts(
+    alloc: Global,
+    key: &EcPrivateKey,
+    document: &SecretDocument,
+) -> Result<String, AllocError> {
+    format!(in alloc; "{key:?}\n{key:#?}\n{document:?}\n{document:#?}")
+}
 
 /// Returns the line for the texts of a key and of its document, in hexadecimal.
 pub fn key(alloc: Global, rest: &[u8]) -> Result<String, AllocError> {
@@ -14,15 +24,14 @@ pub fn key(alloc: Global, rest: &[u8]) -> Result<String, AllocError> {
     let Ok(document) = key.document_ref(alloc) else {
         return "not written".to_string(alloc);
     };
-    let text = format!(in alloc; "{key:?}\n{key:#?}\n{document:?}\n{document:#?}")?;
-    hex::encode(alloc, text.as_bytes())
+    hex::encode(alloc, texts(alloc, &key, &document)?.as_bytes())
 }
 
 /// Returns the texts of the key by `{:?}` with a width, a precision and other options.
 fn styled(alloc: Global, key: &EcPrivateKey) -> Result<String, AllocError> {
-    let widths = format!(in alloc; "{key:1?}|{key:>9?}|{key:<90?}|{key:*^7?}|{key:09?}")?;
-    let others = format!(in alloc; "{key:.1?}|{key:+?}|{key:#1?}|{key:#.1?}|{key:+#09.1?}")?;
-    format!(in alloc; "{widths}|{others}")
+    let widths = format!(in alloc; "{key:1?}|{key:>9?}|{key:<90?}|{key:*^7?}|{key:09?}");
+    let others = format!(in alloc; "{key:.1?}|{key:+?}|{key:#1?}|{key:#.1?}|{key:+#09.1?}");
+    joined(alloc, "|", [widths, others])
 }
 
 /// Returns the line for the texts of a key by options: whether they are those of a key that has no
@@ -56,19 +65,24 @@ fn texts_of<const N: usize, const L: usize>(
 /// Returns the line for the text of a point.
 pub fn point(alloc: Global, rest: &[u8]) -> Result<String, AllocError> {
     let (size, digits) = word(rest);
-    let Ok(bytes) = hex::decode(alloc, digits) else {
-        return "not hexadecimal".to_string(alloc);
-    };
-    match number(size) {
-        5 => texts_of::<5, 11>(alloc, &bytes),
-        20 => texts_of::<20, 41>(alloc, &bytes),
-        24 => texts_of::<24, 49>(alloc, &bytes),
-        28 => texts_of::<28, 57>(alloc, &bytes),
-        32 => texts_of::<32, 65>(alloc, &bytes),
-        40 => texts_of::<40, 81>(alloc, &bytes),
-        48 => texts_of::<48, 97>(alloc, &bytes),
-        64 => texts_of::<64, 129>(alloc, &bytes),
-        66 => texts_of::<66, 133>(alloc, &bytes),
+    match hex::decode(alloc, digits) {
+        Ok(bytes) => texts_at(alloc, number(size), &bytes),
+        Err(_) => "not hexadecimal".to_string(alloc),
+    }
+}
+
+/// Returns the texts of the point with these bytes, at field elements of `size` bytes.
+fn texts_at(alloc: Global, size: usize, bytes: &[u8]) -> Result<String, AllocError> {
+    match size {
+        5 => texts_of::<5, 11>(alloc, bytes),
+        20 => texts_of::<20, 41>(alloc, bytes),
+        24 => texts_of::<24, 49>(alloc, bytes),
+        28 => texts_of::<28, 57>(alloc, bytes),
+        32 => texts_of::<32, 65>(alloc, bytes),
+        40 => texts_of::<40, 81>(alloc, bytes),
+        48 => texts_of::<48, 97>(alloc, bytes),
+        64 => texts_of::<64, 129>(alloc, bytes),
+        66 => texts_of::<66, 133>(alloc, bytes),
         _ => "no such size".to_string(alloc),
     }
 }

@@ -3,7 +3,7 @@
 
 use crate::calls::{Outcome, sum_of};
 use crate::keys::{Copied, pattern};
-use crate::words::{number, word};
+use crate::words::{joined, number, word};
 use sec1::der::{Error, SecretDocument, StdReader, StdWriter};
 use sec1::{DecodeEcPrivateKey, EcPrivateKey, EncodeEcPrivateKey};
 use std::alloc::{AllocError, Global};
@@ -158,7 +158,7 @@ impl io::Write for Target {
 }
 
 /// Returns the text of what bytes were moved.
-fn moved(alloc: Global, bytes: &[u8]) -> Result<String, AllocError> {
+pub fn moved(alloc: Global, bytes: &[u8]) -> Result<String, AllocError> {
     match sum_of(bytes) {
         Outcome::Bytes(len, sum) => format!(in alloc; "{len} {sum}"),
         _ => "other".to_string(alloc),
@@ -168,8 +168,29 @@ fn moved(alloc: Global, bytes: &[u8]) -> Result<String, AllocError> {
 /// Returns the name of the error.
 pub fn error_name(alloc: Global, error: &sec1::Error) -> Result<String, AllocError> {
     match error {
-        sec1::Error::Asn1(Error { kind, .. }) => format!(in alloc; "{kind:?}"),
+        sec1::Error::Asn1(error) => kind_name(alloc, error),
         other => format!(in alloc; "{other:?}"),
+    }
+}
+
+/// Returns the name of the kind of the error.
+pub fn kind_name(alloc: Global, error: &Error) -> Result<String, AllocError> {
+    format!(in alloc; "{:?}", error.kind)
+}
+
+/// Returns `Ok`, or the name of the error.
+pub fn end<T: Drop>(alloc: Global, res: sec1::Result<T>) -> Result<String, AllocError> {
+    match res {
+        Ok(_) => "Ok".to_string(alloc),
+        Err(error) => error_name(alloc, &error),
+    }
+}
+
+/// Returns `Ok`, or the name of the kind of the error.
+pub fn der_end<T: Drop>(alloc: Global, res: Result<T, Error>) -> Result<String, AllocError> {
+    match res {
+        Ok(_) => "Ok".to_string(alloc),
+        Err(error) => kind_name(alloc, &error),
     }
 }
 
@@ -180,12 +201,12 @@ fn document_read(alloc: Global, bytes: &[u8], breaks: Break) -> Result<String, A
         moved: 0,
         breaks,
     });
-    let result = SecretDocument::read_der_from(alloc, &mut reader);
+    let text = match SecretDocument::read_der_from(alloc, &mut reader) {
+        Ok(document) => moved(alloc, document.as_bytes()),
+        Err(error) => kind_name(alloc, &error),
+    };
     let count = reader.into_inner().moved;
-    match result {
-        Ok(document) => format!(in alloc; "{} of {count}", moved(alloc, document.as_bytes())?),
-        Err(error) => format!(in alloc; "{:?} of {count}", error.kind),
-    }
+    joined(alloc, " of ", [text, count.to_string(alloc)])
 }
 
 /// Returns the text of what is read as a key.
@@ -195,12 +216,12 @@ fn key_read(alloc: Global, bytes: &[u8], breaks: Break) -> Result<String, AllocE
         moved: 0,
         breaks,
     });
-    let result = Copied::read_sec1_der_from(alloc, &mut reader);
+    let text = match Copied::read_sec1_der_from(alloc, &mut reader) {
+        Ok(key) => moved(alloc, &key.bytes),
+        Err(error) => error_name(alloc, &error),
+    };
     let count = reader.into_inner().moved;
-    match result {
-        Ok(key) => format!(in alloc; "{} of {count}", moved(alloc, &key.bytes)?),
-        Err(error) => format!(in alloc; "{} of {count}", error_name(alloc, &error)?),
-    }
+    joined(alloc, " of ", [text, count.to_string(alloc)])
 }
 
 /// Returns the text of what a document writes.
@@ -212,12 +233,8 @@ fn document_written(alloc: Global, bytes: &[u8], breaks: Break) -> Result<String
         taken: Vec::new(alloc),
         breaks,
     });
-    let result = document.write_der_to(&mut writer);
-    let taken = moved(alloc, &writer.into_inner().taken)?;
-    match result {
-        Ok(()) => format!(in alloc; "Ok {taken}"),
-        Err(error) => format!(in alloc; "{:?} {taken}", error.kind),
-    }
+    let end = der_end(alloc, document.write_der_to(&mut writer));
+    joined(alloc, " ", [end, moved(alloc, &writer.into_inner().taken)])
 }
 
 /// Returns the text of what a key writes.
@@ -229,21 +246,17 @@ fn key_written(alloc: Global, bytes: &[u8], breaks: Break) -> Result<String, All
         taken: Vec::new(alloc),
         breaks,
     });
-    let result = key.write_sec1_der_to(alloc, &mut writer);
-    let taken = moved(alloc, &writer.into_inner().taken)?;
-    match result {
-        Ok(()) => format!(in alloc; "Ok {taken}"),
-        Err(error) => format!(in alloc; "{} {taken}", error_name(alloc, &error)?),
-    }
+    let end = end(alloc, key.write_sec1_der_to(alloc, &mut writer));
+    joined(alloc, " ", [end, moved(alloc, &writer.into_inner().taken)])
 }
 
 /// Returns what these bytes give as a document and as a key, read and written.
 fn found(alloc: Global, bytes: &[u8], breaks: Break) -> Result<String, AllocError> {
-    let document = document_read(alloc, bytes, breaks)?;
-    let key = key_read(alloc, bytes, breaks)?;
-    let document_written = document_written(alloc, bytes, breaks)?;
-    let key_written = key_written(alloc, bytes, breaks)?;
-    format!(in alloc; "{document}, {key}, {document_written}, {key_written}")
+    let document = document_read(alloc, bytes, breaks);
+    let key = key_read(alloc, bytes, breaks);
+    let document_written = document_written(alloc, bytes, breaks);
+    let key_written = key_written(alloc, bytes, breaks);
+    joined(alloc, ", ", [document, key, document_written, key_written])
 }
 
 /// Returns what the streams do that the line names, and the rest of the line.
@@ -269,7 +282,11 @@ pub fn answer(alloc: Global, line: &[u8]) -> Result<String, AllocError> {
         public_key: None,
     };
     match key.to_der(alloc) {
-        Ok(der) => format!(in alloc; "break, {}", found(alloc, &der, breaks)?),
+        Ok(der) => joined(
+            alloc,
+            ", ",
+            ["break".to_string(alloc), found(alloc, &der, breaks)],
+        ),
         Err(_) => "not written".to_string(alloc),
     }
 }
@@ -288,6 +305,6 @@ pub fn pieces(alloc: Global, line: &[u8]) -> Result<String, AllocError> {
     let Ok(bytes) = hex::decode(alloc, digits) else {
         return "not hexadecimal".to_string(alloc);
     };
-    let copied = copied(alloc, &bytes)?;
-    format!(in alloc; "pieces, {copied}, {}", found(alloc, &bytes, breaks)?)
+    let (copied, found) = (copied(alloc, &bytes), found(alloc, &bytes, breaks));
+    joined(alloc, ", ", ["pieces".to_string(alloc), copied, found])
 }

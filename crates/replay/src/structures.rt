@@ -6,6 +6,7 @@ use crate::fields::{
     certificate, ec_private_key, one_asymmetric_key, private_key_info, public_key_info, signature,
 };
 use crate::streams::error_name;
+use crate::words::joined;
 use pkix::{Certificate, EcdsaSigValue, OneAsymmetricKey, PrivateKeyInfo, SubjectPublicKeyInfo};
 use sec1::EcPrivateKey;
 use sec1_der::{EncodeValue, ErrorKind, Tagged, to_der};
@@ -19,19 +20,20 @@ fn written<T: EncodeValue + Tagged>(alloc: Global, value: &T, bytes: &[u8]) -> &
     }
 }
 
+/// Returns `true` if the key is written into a slice as these bytes.
+fn fills_slice(alloc: Global, key: &EcPrivateKey, bytes: &[u8]) -> bool {
+    let Ok(mut room) = bytes.to_vec(alloc) else {
+        return false;
+    };
+    room.fill(0xAA);
+    key.encode_to_slice(&mut room) == Ok(bytes.len()) && room.as_slice() == bytes
+}
+
 /// Returns `same` if the key is written as these bytes, both into a slice and into a vector,
 /// otherwise `different`.
 fn written_key(alloc: Global, key: &EcPrivateKey, bytes: &[u8]) -> &'static str {
-    let Ok(mut room) = bytes.to_vec(alloc) else {
-        return "different";
-    };
-    room.fill(0xAA);
-    match key.encode_to_slice(&mut room) {
-        Ok(count) if count == bytes.len() && room.as_slice() == bytes => {}
-        _ => return "different",
-    }
     match key.to_der(alloc) {
-        Ok(der) if der.as_slice() == bytes => "same",
+        Ok(der) if der.as_slice() == bytes && fills_slice(alloc, key, bytes) => "same",
         _ => "different",
     }
 }
@@ -43,7 +45,11 @@ fn line<T: EncodeValue + Tagged>(
     value: &T,
     bytes: &[u8],
 ) -> Result<String, AllocError> {
-    format!(in alloc; "{} {}", fields?, written(alloc, value, bytes))
+    joined(
+        alloc,
+        " ",
+        [fields, written(alloc, value, bytes).to_string(alloc)],
+    )
 }
 
 /// Returns the line for a structure that is refused.
@@ -55,11 +61,14 @@ fn refused(alloc: Global, kind: ErrorKind) -> Result<String, AllocError> {
 fn ec_private_key_line(alloc: Global, bytes: &[u8]) -> Result<String, AllocError> {
     match EcPrivateKey::try_from(bytes) {
         Ok(key) => {
-            let fields = ec_private_key(alloc, &key)?;
-            let written = written_key(alloc, &key, bytes);
-            format!(in alloc; "{fields} {written}")
+            let written = written_key(alloc, &key, bytes).to_string(alloc);
+            joined(alloc, " ", [ec_private_key(alloc, &key), written])
         }
-        Err(error) => format!(in alloc; "refused: {}", error_name(alloc, &error)?),
+        Err(error) => joined(
+            alloc,
+            " ",
+            ["refused:".to_string(alloc), error_name(alloc, &error)],
+        ),
     }
 }
 
@@ -107,15 +116,20 @@ fn signature_line(alloc: Global, bytes: &[u8]) -> Result<String, AllocError> {
 
 /// Returns the line for a structure with this name. `rest` has its digits.
 pub fn answer(alloc: Global, name: &[u8], rest: &[u8]) -> Result<String, AllocError> {
-    let Ok(bytes) = hex::decode(alloc, rest) else {
-        return "no such line".to_string(alloc);
-    };
+    match hex::decode(alloc, rest) {
+        Ok(bytes) => line_of(alloc, name, &bytes),
+        Err(_) => "no such line".to_string(alloc),
+    }
+}
+
+/// Returns the line for a structure with this name and these bytes.
+fn line_of(alloc: Global, name: &[u8], bytes: &[u8]) -> Result<String, AllocError> {
     match name {
-        b"ec-private-key" => ec_private_key_line(alloc, &bytes),
-        b"certificate" => certificate_line(alloc, &bytes),
-        b"public-key-info" => public_key_line(alloc, &bytes),
-        b"private-key-info" => private_key_line(alloc, &bytes),
-        b"signature" => signature_line(alloc, &bytes),
+        b"ec-private-key" => ec_private_key_line(alloc, bytes),
+        b"certificate" => certificate_line(alloc, bytes),
+        b"public-key-info" => public_key_line(alloc, bytes),
+        b"private-key-info" => private_key_line(alloc, bytes),
+        b"signature" => signature_line(alloc, bytes),
         _ => "no such line".to_string(alloc),
     }
 }

@@ -1,5 +1,7 @@
 //! The words of a line.
 
+use std::alloc::{AllocError, Global};
+
 /// Returns the bytes before the first blank, and those after it.
 pub fn word(line: &[u8]) -> (&[u8], &[u8]) {
     for count in 0..line.len() {
@@ -21,4 +23,22 @@ pub fn number(digits: &[u8]) -> usize {
         }
     }
     value
+}
+
+/// Returns the texts with the separator between each two of them, or the first of their errors.
+pub fn joined<const N: usize>(
+    alloc: Global,
+    separator: &str,
+    texts: [Result<String, AllocError>; N],
+) -> Result<String, AllocError> {
+    let (mut line, mut before) = (String::new(alloc), "");
+    for text in texts.iter() {
+        line.push_str(before)?;
+        match text {
+            Ok(text) => line.push_str(text)?,
+            Err(error) => return Err(*error),
+        }
+        before = separator;
+    }
+    Ok(line)
 }
