@@ -1,5 +1,5 @@
 //! The place at which a certificate is refused (RFC 5280 section 4.1).
-ghost use Rattle.std.specs.Prelude.{◌≡◌, ◌≤◌, ◌∷◌, [], length, Some, None, IfOk, IfSome};
+ghost use Rattle.std.specs.Prelude.{◌≡◌, ◌≤◌, ◌-◌, ◌∷◌, [], length, Some, None, IfOk, IfSome};
 ghost use Rattle.std.specs.Prelude.{MatchResult, option_map};
 ghost use Rattle.der_view.specs.CertificatePlaces.{certificate_place, critical_fault};
 ghost use Rattle.der_view.specs.CertificatePlaces.{extension_place, later_version_place};
@@ -16,7 +16,8 @@ ghost use Rattle.sec1_der.specs.Faults.{element_fault, end_fault};
 
 use crate::faults::Position;
 use crate::faults::element::{
-    CheckContent, Step, before, check_element, finish, optional_value, tagged_element, value,
+    CheckContent, Element, Step, before, check_element, finish, only_element, only_value,
+    optional_value, tagged_element, value,
 };
 use crate::faults::public_key::{algorithm, info};
 use der_types::{
@@ -61,8 +62,7 @@ fn components(end: usize, bytes: &[u8]) -> Step<()>
 {
     let rest = check_element::<TbsCertificate>(end, bytes)?;
     let rest = algorithm(end, rest)?;
-    let rest = value::<Bits>(end, rest)?;
-    finish(end, rest)
+    only_value::<Bits>(end, rest)
 }
 
 impl CheckContent for TbsCertificate<'_> {
@@ -99,9 +99,7 @@ fn version(end: usize, bytes: &[u8]) -> Step<&[u8]>
         return Ok(bytes);
     }
     let field = tagged_element(Tag::CONTEXT_0, end, bytes)?;
-    let inside = end - field.rest.len();
-    let rest = check_element::<LaterVersion>(inside, field.content)?;
-    finish(inside, rest)?;
+    only_element::<LaterVersion>(end - field.rest.len(), field.content)?;
     Ok(field.rest)
 }
 
@@ -204,10 +202,23 @@ fn extensions(end: usize, bytes: &[u8]) -> Step<&[u8]>
         return Ok(bytes);
     }
     let field = tagged_element(Tag::CONTEXT_3, end, bytes)?;
+    extension_row(end, &field)?;
+    Ok(field.rest)
+}
+
+/// Checks that a row of extensions is in their field, and no more.
+fn extension_row(end: usize, field: &Element) -> Step<()>
+    requires rest { length field.now.rest.now ≤ end }
+    requires content { length field.now.content.now ≤ end - length field.now.rest.now }
+    ensures { MatchResult result
+        (λ _. element_place 0x30 (sequence_place 0x30 extension_place) end_place
+        (end - length field.now.rest.now) field.now.content.now ≡ None)
+        (λ fault. element_place 0x30 (sequence_place 0x30 extension_place) end_place
+        (end - length field.now.rest.now) field.now.content.now ≡ Some fault) }
+{
     let inside = end - field.rest.len();
     let rest = check_element::<SequenceOf<Extension>>(inside, field.content)?;
-    finish(inside, rest)?;
-    Ok(field.rest)
+    finish(inside, rest)
 }
 
 impl CheckContent for Extension<'_> {
@@ -221,8 +232,7 @@ impl CheckContent for Extension<'_> {
     {
         let rest = value::<ObjectIdentifierRef>(end, bytes)?;
         let rest = critical(end, rest)?;
-        let rest = value::<Octets>(end, rest)?;
-        finish(end, rest)
+        only_value::<Octets>(end, rest)
     }
 }
 

@@ -62,12 +62,11 @@ pub(crate) fn any_element(end: usize, bytes: &[u8]) -> Step<Element<'_>>
     if Tag::from_byte(*first).is_err() {
         return Err(before(end, bytes, ErrorKind::Tag));
     }
-    let mut reader = SliceReader::new(bytes);
-    match AnyRef::decode(&mut reader) {
-        Ok(any) => Ok(Element {
+    match AnyRef::split(bytes) {
+        Ok((any, after)) => Ok(Element {
             tag: any.tag().byte(),
             content: any.value(),
-            rest: reader.remaining_input(),
+            rest: after,
         }),
         Err(e) => Err(before(end, rest, e.kind)),
     }
@@ -125,6 +124,25 @@ pub(crate) fn value<'a, T: DecodeValue<'a> + Tagged + Drop>(
     }
 }
 
+/// Checks that the bytes are the element of a value of T, and no more.
+///
+/// # Errors
+///
+/// Those of [`value`], then those of [`finish`].
+pub(crate) fn only_value<'a, T: DecodeValue<'a> + Tagged + Drop>(
+    end: usize,
+    bytes: &'a [u8],
+) -> Step<()>
+    requires { SaysKinds T.fault × (length bytes.now ≤ end) }
+    ensures { MatchResult result
+        (λ _. element_place T.tag_byte (at_first T.fault) end_place end bytes.now ≡ None)
+        (λ fault. element_place T.tag_byte (at_first T.fault) end_place end bytes.now
+        ≡ Some fault) }
+{
+    let rest = value::<T>(end, bytes)?;
+    finish(end, rest)
+}
+
 /// Reads the element of a value of T as [`value`] does, if its tag is next. Returns the bytes after
 /// it.
 ///
@@ -180,6 +198,21 @@ pub(crate) fn check_element<T: CheckContent>(end: usize, bytes: &[u8]) -> Step<&
     let field = tagged_element(T::fixed_tag(), end, bytes)?;
     T::check_content(end - field.rest.len(), field.content)?;
     Ok(field.rest)
+}
+
+/// Checks that the bytes are the element of T, and no more.
+///
+/// # Errors
+///
+/// Those of [`check_element`], then those of [`finish`].
+pub(crate) fn only_element<T: CheckContent>(end: usize, bytes: &[u8]) -> Step<()>
+    requires { length bytes.now ≤ end }
+    ensures { MatchResult result
+        (λ _. element_place T.tag_byte T.place end_place end bytes.now ≡ None)
+        (λ fault. element_place T.tag_byte T.place end_place end bytes.now ≡ Some fault) }
+{
+    let rest = check_element::<T>(end, bytes)?;
+    finish(end, rest)
 }
 
 /// Checks elements of T in a row up to the end of the bytes.

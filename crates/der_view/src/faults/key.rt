@@ -1,5 +1,5 @@
 //! The place at which a key is refused.
-ghost use Rattle.std.specs.Prelude.{◌≡◌, ◌≤◌, length, Some, None, IfOk, IfSome, MatchResult};
+ghost use Rattle.std.specs.Prelude.{◌≡◌, ◌≤◌, ◌-◌, length, Some, None, IfOk, IfSome, MatchResult};
 ghost use Rattle.std.specs.Prelude.{option_map};
 ghost use Rattle.sec1.specs.KeyFaults as faults;
 ghost use Rattle.der_view.specs.FaultPlaces.{Place, components_place, element_place, end_place};
@@ -8,7 +8,7 @@ ghost use Rattle.der_view.specs.FaultPlaces.{whole_bits_field_place};
 ghost use Rattle.sec1_der.specs.Contents.{identifier_fault};
 
 use crate::faults::Position;
-use crate::faults::element::{Step, finish, tagged_element, value};
+use crate::faults::element::{Element, Step, finish, only_value, tagged_element, value};
 use sec1_der::{BitStringRef, IdentifierRef, Octets, SmallInteger, Tag, WholeBits};
 
 /// Returns the first fault of the bytes as a key's, from left to right; `None` if they are a key's.
@@ -63,10 +63,23 @@ pub(crate) fn parameters(end: usize, bytes: &[u8]) -> Step<&[u8]>
         return Ok(bytes);
     }
     let field = tagged_element(Tag::CONTEXT_0, end, bytes)?;
+    curve_name(end, &field)?;
+    Ok(field.rest)
+}
+
+/// Checks that an identifier is in the field of the parameters, and no more.
+fn curve_name(end: usize, field: &Element) -> Step<()>
+    requires rest { length field.now.rest.now ≤ end }
+    requires content { length field.now.content.now ≤ end - length field.now.rest.now }
+    ensures { MatchResult result
+        (λ _. element_place 0x06 (at_first identifier_fault) end_place
+        (end - length field.now.rest.now) field.now.content.now ≡ None)
+        (λ fault. element_place 0x06 (at_first identifier_fault) end_place
+        (end - length field.now.rest.now) field.now.content.now ≡ Some fault) }
+{
     let inside = end - field.rest.len();
     let rest = value::<IdentifierRef>(inside, field.content)?;
-    finish(inside, rest)?;
-    Ok(field.rest)
+    finish(inside, rest)
 }
 
 /// Checks the public key, if present, and returns the bytes after it.
@@ -93,8 +106,7 @@ fn whole_bits(end: usize, bytes: &[u8]) -> Step<()>
     ensures { MatchResult result (λ _. whole_bits_field_place end bytes.now ≡ None)
         (λ fault. whole_bits_field_place end bytes.now ≡ Some fault) }
 {
-    let rest = value::<BitStringRef>(end, bytes)?;
-    finish(end, rest)?;
+    only_value::<BitStringRef>(end, bytes)?;
     value::<WholeBits>(end, bytes)?;
     Ok(())
 }

@@ -10,7 +10,7 @@ ghost use Rattle.pkix.specs.Records as records;
 ghost use Rattle.sec1_der.specs.Faults.{element_fault, end_fault};
 
 use crate::faults::Position;
-use crate::faults::element::{Step, any_element, finish, tagged_element, value};
+use crate::faults::element::{Step, any_element, finish, only_value, tagged_element, value};
 use der_types::{Alternative, Any, Bits, ObjectIdentifierRef};
 use sec1_der::Tag;
 
@@ -62,8 +62,7 @@ fn info_components(end: usize, bytes: &[u8]) -> Step<()>
         (λ fault. info_place end bytes.now ≡ Some fault) }
 {
     let rest = algorithm(end, bytes)?;
-    let rest = value::<Bits>(end, rest)?;
-    finish(end, rest)
+    only_value::<Bits>(end, rest)
 }
 
 /// Checks the AlgorithmIdentifier at the beginning of the bytes, and returns those after it.

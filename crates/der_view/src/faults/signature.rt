@@ -6,7 +6,7 @@ ghost use Rattle.pkix.specs.Records as records;
 ghost use Rattle.sec1_der.specs.Faults.{element_fault, end_fault};
 
 use crate::faults::Position;
-use crate::faults::element::{Step, finish, tagged_element, value};
+use crate::faults::element::{Step, finish, only_value, tagged_element, value};
 use der_types::Unsigned;
 use sec1_der::Tag;
 
@@ -43,6 +43,5 @@ fn numbers(end: usize, bytes: &[u8]) -> Step<()>
         (λ fault. numbers_place end bytes.now ≡ Some fault) }
 {
     let rest = value::<Unsigned>(end, bytes)?;
-    let rest = value::<Unsigned>(end, rest)?;
-    finish(end, rest)
+    only_value::<Unsigned>(end, rest)
 }

@@ -1,5 +1,4 @@
 use Rattle.std.proofs.Common.{rules, ◌∙◌}
-use Rattle.der_view.specs.FaultPlaces.{end_place}
 use Rattle.der_view.proofs.CertificateLemmas.{signature_place, signed_by_place}
 use Rattle.der_view.proofs.faults.certificate.components.Goals as goal
 
@@ -14,16 +13,7 @@ returns-in_err-rest-2 c =
     ∙ (c.in_err-rest-2.ensures.place signature_place) in
     search rules
 
-pub returns-in_err-rest-3 : goal.returns-in_err-rest-3
-returns-in_err-rest-3 c =
-    let e = c.in_ok-rest.ensures.place signed_by_place
-    ∙ (c.in_ok-rest-2.ensures.place signature_place
-    ∙ (c.in_err-rest-3.ensures.place end_place)) in
-    search rules
-
 pub returns : goal.returns
 returns c =
-    let same = c.in_ok-rest.ensures.place signed_by_place
-    ∙ (c.in_ok-rest-2.ensures.place signature_place
-    ∙ (c.in_ok-rest-3.ensures.place end_place)) in
-    rw same c.finish.ensures
+    let same = c.in_ok-rest.ensures.place signed_by_place ∙ c.in_ok-rest-2.ensures.place signature_place in
+    rw same c.only_value.ensures

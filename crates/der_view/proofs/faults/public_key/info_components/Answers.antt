@@ -1,11 +1,7 @@
-use Rattle.std.proofs.Common.{◌∙◌}
 use Rattle.sec1_der.specs.Contents.{bit_string_fault}
 use Rattle.der_view.specs.FaultPlaces.{at_first, element_place, end_place}
 use Rattle.der_view.proofs.faults.public_key.info_components.Goals as goal
 
 pub returns : goal.returns
 returns c =
-    let same =
-    c.in_ok-rest.ensures.place (element_place 0x03 (at_first bit_string_fault) end_place)
-    ∙ c.in_ok-rest-2.ensures.place end_place in
-    rw same c.finish.ensures
+    rw (c.in_ok-rest.ensures.place (element_place 0x03 (at_first bit_string_fault) end_place)) c.only_value.ensures
