@@ -2,8 +2,9 @@
 ghost use Rattle.std.specs.Prelude.{◌≡◌, ◌≤◌, length, take};
 ghost use Rattle.der_view.specs.Marks.{is_string, length_mark, marks_of_header, string_mark};
 ghost use Rattle.der_view.specs.Marks.{tag_mark};
-ghost use Rattle.der_view.specs.Seen.{IsFirst, IsShown, is_point, point_by, public_len, seen_len};
-ghost use Rattle.der_view.specs.Seen.{shown_bits, shown_by, shown_view, whole_or_count};
+ghost use Rattle.der_view.specs.Seen.{IsFirst, IsShown, is_point, is_valued_type, point_by};
+ghost use Rattle.der_view.specs.Seen.{public_len, seen_len, shown_bits, shown_by, shown_of_type};
+ghost use Rattle.der_view.specs.Seen.{shown_view, whole_or_count};
 
 use crate::field::Field;
 use crate::header::{Class, Header, Tag, length_len};
@@ -198,13 +199,34 @@ pub(crate) fn shown_of<'a>(tag: Tag, field: Option<Field>, len: usize, seen: &'a
     ensures seen { IsShown len seen.now result }
     ensures exact { shown_view result ≡ shown_by tag field len seen.now }
 {
-    match (tag.class, tag.number) {
-        (Class::Universal, 3) => shown_bits(field, len, seen),
-        (Class::Universal, 5) if len == 0 => Shown::Nothing,
-        (Class::Universal, 1 | 2 | 6 | 10 | 12 | 18..=28 | 30) => whole_or_count(len, seen),
+    match tag.class {
+        Class::Universal => shown_of_type(tag.number, field, len, seen),
         _ if len > 0 => whole_or_count(len, seen),
         _ => Shown::Count,
     }
+}
+
+/// Returns what is shown of a content of this length of a type of X.680, of which this is seen.
+fn shown_of_type<'a>(number: u32, field: Option<Field>, len: usize, seen: &'a [u8]) -> Shown<'a>
+    ensures seen { IsShown len seen.now result }
+    ensures exact { shown_view result ≡ shown_of_type number field len seen.now }
+{
+    if number == 3 {
+        shown_bits(field, len, seen)
+    } else if number == 5 && len == 0 {
+        Shown::Nothing
+    } else if is_valued_type(number) || len > 0 {
+        whole_or_count(len, seen)
+    } else {
+        Shown::Count
+    }
+}
+
+/// Returns `true` if the contents of the type of X.680 with this tag number are shown.
+fn is_valued_type(number: u32) -> bool
+    ensures { result ≡ is_valued_type number }
+{
+    matches!(number, 1 | 2 | 5 | 6 | 10 | 12 | 18..=28 | 30)
 }
 
 /// Returns what is shown of a BIT STRING's content of this length, of which this is seen.
