@@ -1,10 +1,12 @@
 //! The characters of a string.
 ghost use Rattle.std.specs.Prelude.{◌≡◌, ◌==◌, ◌<◌, ◌+◌, ◌-◌, ◌*◌, [], ◌∷◌, IfSome, MatchOption};
 ghost use Rattle.std.specs.Prelude.{length, option_map};
-ghost use Rattle.std.specs.Prelude.{◌&&◌};
+ghost use Rattle.std.specs.Prelude.{◌&&◌, None, Some, if◌then◌else◌};
+ghost use Rattle.sec1_der.specs.Elements.{number_of};
 ghost use Rattle.std.specs.Char.Utf16.{is_high_surrogate, is_low_surrogate};
 ghost use Rattle.der_view.specs.Characters.{are_characters, codes_by, codes_of, encoding_of};
-ghost use Rattle.der_view.specs.Characters.{is_utf16, is_utf32, string_codes, units_of};
+ghost use Rattle.der_view.specs.Characters.{is_utf16, is_utf32, scalar_or_none, string_codes};
+ghost use Rattle.der_view.specs.Characters.{units_of};
 
 use der_types::kind::{Ia5String, Kind, NumericString, PrintableString, Utf8String, VisibleString};
 
@@ -228,13 +230,24 @@ fn split_utf32(bytes: &[u8]) -> Option<(u32, &[u8])>
     let [a, b, c, d, rest @ ..] = bytes else {
         return None;
     };
-    let code = 0x100_0000 * u32::from(*a)
-        + 0x1_0000 * u32::from(*b)
-        + 0x100 * u32::from(*c)
-        + u32::from(*d);
-    if (code >= 0xD800 && code < 0xE000) || code >= 0x11_0000 {
-        None
-    } else {
+    let code = number(*a, *b, *c, *d);
+    if is_scalar(code) {
         Some((code, rest))
+    } else {
+        None
     }
+}
+
+/// Returns the number of these four digits of eight bits.
+fn number(a: u8, b: u8, c: u8, d: u8) -> u32
+    ensures { result ≡ number_of (a ∷ b ∷ c ∷ d ∷ []) }
+{
+    0x100_0000 * u32::from(a) + 0x1_0000 * u32::from(b) + 0x100 * u32::from(c) + u32::from(d)
+}
+
+/// Returns `true` if a character has this code: none is above 10FFFF, or that of a surrogate.
+fn is_scalar(code: u32) -> bool
+    ensures { scalar_or_none code ≡ (if result then Some code else None) }
+{
+    !((code >= 0xD800 && code < 0xE000) || code >= 0x11_0000)
 }
