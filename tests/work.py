@@ -413,21 +413,21 @@ def count(passed, failed):
 # ---- proofs
 
 
-# About how many seconds of one processor the proofs of some crates took. Only the order in which
-# crates begin depends on it.
+# About how many seconds of one processor the proofs of some crates took, and the scripts that wait
+# for them alone. Only the order in which crates begin depends on it.
 TOOK = {
     "sec1_der": 400,
     "der_types": 190,
-    "sec1": 240,
-    "pkix": 360,
-    "der_view": 940,
-    "sec1_inspect": 210,
-    "sec1_dump": 170,
-    "sec1_c": 410,
+    "sec1": 250,
+    "pkix": 330,
+    "der_view": 850,
+    "sec1_inspect": 230,
+    "sec1_dump": 300,
+    "sec1_c": 500,
     "examples": 380,
-    "sec1_tests": 450,
-    "pkix_tests": 300,
-    "replay": 580,
+    "sec1_tests": 380,
+    "pkix_tests": 320,
+    "replay": 380,
 }
 
 
