@@ -325,43 +325,44 @@ def chains_of(tasks):
     return {key: length(key) for key in tasks}
 
 
-def share(free, others, is_longest):
-    """Returns how many of the free processors a task gets beside others that could run."""
-    if free > others + 1:
-        return free - others
-    return 2 if is_longest and free > 1 else 1
-
-
-def call(task, ended, given, is_first):
-    """Runs a task, which gives way to another unless it is the first."""
-    way.given = () if is_first else ("nice", "-n", "5")
+def call(task, ended, given, is_urgent):
+    """Runs a task, which gives way to urgent ones if it isn't."""
+    way.given = () if is_urgent else ("nice", "-n", "5")
     return task.call(ended, given)
 
 
 def run_all(tasks, number):
     """Runs tasks over a number of processors, those of the longest chain first, and returns what
-    each returned, by key. One of the longest chain takes all processors that it can use, where there
-    is memory for it beside the others, which take what it leaves."""
+    each returned, by key. As a check uses one alone where it begins and where it ends, half as many
+    more are given away as there are, where there is memory for it.
+
+    A task is urgent if its chain takes longer than all that is left would, shared out. The first of
+    these uses all processors, and each other two, if there is memory for it."""
+    memory = memory_for()
+    every = number + max(0, min(number // 2, memory - 2 * number))
     chains, left, ended, now, first = chains_of(tasks), dict(tasks), {}, {}, None
-    most = min(number, memory_for() - number)
-    with ThreadPoolExecutor(number) as pool:
+    with ThreadPoolExecutor(every) as pool:
         while left or now:
             ready = [key for key, it in left.items() if all(use in ended for use in it.waits)]
             ready.sort(key=lambda key: -chains[key])
-            for place, key in enumerate(ready):
-                free = number - sum(given for _, given in now.values())
+            for place, key in enumerate(ready, 1):
+                free = every - sum(given for _, given, _ in now.values())
                 if free < 1 or stopped.is_set():
                     break
-                work = sum(it.weight for it in left.values()) / number
-                is_longest = chains[key] > work
-                given = used = share(free, len(ready) - place - 1, is_longest)
-                if is_longest and first is None:
-                    first, used = key, max(given, most)
-                now[pool.submit(call, left.pop(key), ended, used, key == first)] = key, given
+                is_urgent = chains[key] > sum(it.weight for it in left.values()) / number
+                others = len(ready) - place
+                given = max(1, min(free - others, number if is_urgent else 2))
+                wanted = given
+                if is_urgent:
+                    wanted = max(given, 2 if first else number)
+                    first = first or key
+                used = max(1, min(wanted, memory - sum(it for _, _, it in now.values())))
+                job = pool.submit(call, left.pop(key), ended, used, is_urgent)
+                now[job] = key, given, used
             if stopped.is_set() and not now:
                 break
             for it in wait(now, return_when=FIRST_COMPLETED).done:
-                key, _ = now.pop(it)
+                key, _, _ = now.pop(it)
                 ended[key] = it.result()
                 first = None if key == first else first
     return ended
