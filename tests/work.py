@@ -8,7 +8,7 @@ checkout. Rooms are made in TMPDIR, and are gone when the script ends, also by a
 
     RT      the command `rt`
     JOBS    how many processors to use; without it all that there is memory for
-    BESIDE  set where something else needs half of the memory
+    GATE    a folder in which `rt ci` has proved the same files, whose libraries rooms then take
     DONE    a folder, which gets a file for each crate that is done with
 """
 
@@ -17,6 +17,8 @@ import ctypes
 import fcntl
 import functools
 import hashlib
+import importlib.machinery
+import importlib.util
 import os
 import re
 import shutil
@@ -53,7 +55,7 @@ def memory_for():
     """Returns for how many checks there is memory; if that isn't known, for one a processor."""
     with contextlib.suppress(OSError, TypeError):
         free = int(re.search(r"MemAvailable:\s+(\d+)", Path("/proc/meminfo").read_text())[1])
-        return free // (2 * MEMORY if os.environ.get("BESIDE") else MEMORY)
+        return free // MEMORY
     return PROCESSORS
 
 
@@ -180,6 +182,40 @@ def own_texts(name):
     return [(TOP / "tests" / it).read_text() for it in (name, "work.py")]
 
 
+# ---- libraries that `rt ci` built
+
+
+@functools.lru_cache(maxsize=None)
+def gate():
+    """Returns the checkout in which `rt ci` has built the libraries, where `rt` takes them from
+    there, or None.
+
+    `rt ci` leaves no stamp in a library, by which `rt` knows from what it was built, since others
+    may stand below it later. They are the same here, so it is given the stamp that `rt` gives."""
+    if not os.environ.get("GATE"):
+        return None
+    top = Path(os.environ["GATE"])
+    with contextlib.suppress(Exception, SystemExit):
+        rt = module_of_kit()
+        for name in {used for uses in uses_of(top).values() for used in uses}:
+            crate = rt.rtlib.Crate(str(Crate(top, name).folder), str(top), {})
+            (Crate(top, name).out / "rlib/stamp").write_text(crate.stamp())
+            if not crate.is_built():
+                raise ValueError(name)
+        return top
+    say("the libraries that rt ci built can't be used, so they are proved once more")
+    return None
+
+
+def module_of_kit():
+    """Returns the command `rt` as a module."""
+    file = os.path.realpath(shutil.which(RT[-1]))
+    loader = importlib.machinery.SourceFileLoader("rt_of_kit", file)
+    made = importlib.util.module_from_spec(importlib.util.spec_from_loader("rt_of_kit", loader))
+    loader.exec_module(made)
+    return made
+
+
 # ---- rooms
 
 
@@ -219,7 +255,8 @@ def copy_crate(crate, to, kept):
 
 @contextlib.contextmanager
 def room_of(top, name, kept):
-    """Gives the crate in a room of its own, over the libraries below it as they are built."""
+    """Gives the crate in a room of its own, over the libraries below it as they are built, there or
+    by `rt ci`."""
     below = below_of(top, name)
     with tempfile.TemporaryDirectory(prefix=f"{name}-") as made:
         room = Path(made)
@@ -227,7 +264,7 @@ def room_of(top, name, kept):
         (room / "crates.txt").write_text("".join(f"{it}\n" for it in uses))
         shutil.copy2(top / "HANDLES", room)
         for used in below:
-            copy_crate(Crate(top, used), room / "crates" / used, ["rlib"])
+            copy_crate(Crate(gate() or top, used), room / "crates" / used, ["rlib"])
         copy_crate(Crate(top, name), room / "crates" / name, kept)
         yield Crate(room, name)
 
@@ -242,6 +279,15 @@ def bring_back(crate, top):
             if old.is_dir():
                 shutil.rmtree(old)
             shutil.move(made, old)
+
+
+def keep_proofs(crate, top):
+    """Keeps what a check in a room proved, where the checkout has no proofs of the crate."""
+    to = Crate(top, crate.name).out
+    with locked(to.parent):
+        if not (to / "incremental").exists() and (crate.out / "incremental").exists():
+            to.mkdir(exist_ok=True)
+            shutil.move(crate.out / "incremental", to)
 
 
 def outs(crate):
@@ -425,9 +471,9 @@ TOOK = {
     "sec1_inspect": 230,
     "sec1_dump": 300,
     "sec1_c": 500,
-    "examples": 380,
+    "examples": 370,
     "sec1_tests": 380,
-    "pkix_tests": 320,
+    "pkix_tests": 360,
     "replay": 380,
 }
 
