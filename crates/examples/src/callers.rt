@@ -34,5 +34,3 @@ pub mod writers;
 // What follows from the laws.
 pub mod contents;
 pub mod laws;
-#[cfg(test)]
-mod tests;

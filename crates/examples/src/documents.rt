@@ -2,8 +2,6 @@
 //! own below the line `#![tactic(auto)]`.
 
 pub mod algorithm;
-#[cfg(test)]
-mod algorithm_test;
 pub mod certificate;
 pub mod curve_names;
 pub mod first_calls;

@@ -1,10 +1,13 @@
-//! Tests of the callers: keys in containers that were made by OpenSSL, a hash value, and a point
-//! that is read again.
-use super::key_store::{KeyStore, find, find_by_public_key, keep};
-use super::open_kinds::{Even, even_bytes};
-use super::own_record::{DigestInfo, read_digest};
-use super::points::{from_own_bytes, from_own_json, from_own_lower_hex, from_own_upper_hex};
-use super::reading::{read_private_key, read_public_key};
+//! Tests of the callers in `examples`: keys in containers that were made by OpenSSL, a hash value,
+//! and a point that is read again.
+use crate::assert_equal;
+use examples::callers::key_store::{KeyStore, find, find_by_public_key, keep};
+use examples::callers::open_kinds::{Even, even_bytes};
+use examples::callers::own_record::{DigestInfo, read_digest};
+use examples::callers::points::{
+    from_own_bytes, from_own_json, from_own_lower_hex, from_own_upper_hex,
+};
+use examples::callers::reading::{read_private_key, read_public_key};
 use pkix::SubjectPublicKeyInfo;
 use sec1::der::{
     Containing, DecodeValue, EncodeValue, ErrorKind, SecretDocument, Tagged, encode_to_slice,
@@ -14,15 +17,8 @@ use sec1::point::Coordinates::Compressed;
 use sec1::point::EncodedPoint32;
 use sec1::{EcPrivateKey, EncodedPoint, Error};
 use std::alloc::Global;
-use std::fmt::Debug;
 use std::process::Abort;
 use std::test::Fail;
-
-/// Fails the test unless the two are equal.
-// A call of this takes the prover a fraction of the time that `assert_eq!` takes in line.
-fn assert_equal<T: PartialEq + Debug>(rt: &impl Abort, found: &T, wanted: &T) {
-    assert_eq!(rt; *found, *wanted);
-}
 
 /// A public key on the curve P-256: `openssl ec -pubout -outform DER`.
 static INFO: [u8; 91] = [
